@@ -1,0 +1,106 @@
+-- What an entry spells is read as that entry.
+use Rattle.std.proofs.Common.{◌≡◌, ℕ, zero, suc, ◌≤◌, ◌<◌, ◌^◌, Bool, true, false, cond, List, [], ◌∷◌, ◌++◌, length, map, refl, ap, ◌∙◌, Ok, Err, arith, codes}
+use Rattle.std.proofs.lemmas.Grind.{common_steps}
+use Rattle.std.proofs.lemmas.List.{length-map}
+use Rattle.std.specs.Prelude.{decimal, nat_lt}
+use Rattle.std.specs.List.{AllByRecursion}
+use Rattle.hub_base.specs.declared.case.Case.{Case}
+use Rattle.hub_base.specs.declared.case.Case.TheVariants.{Send, Recv}
+use Rattle.hub_base.specs.declared.entry.Entry.{Entry}
+use Rattle.hub_base.specs.declared.entry.Step.{Step}
+use Rattle.hub_base.specs.declared.entry.Step.TheVariants.{Make, Call, Close, Exit}
+use Rattle.hub_base.specs.declared.text.faults.Kind.TheVariants.{BadStep}
+use Rattle.hub_base.specs.Lines.Draft.{Sends, Receives}
+use Rattle.hub_base.specs.Lines.{numeral, ◌>>=◌, Draft, read_select, read_fields, choose, step_fields, call_fields, select_fields, default_field, case_field, case_of, cases_of, draft_of, drafts_of, send_draft, recv_draft, spelled, ends_default, last_default, same_text, by, call}
+use Rattle.hub_base.specs.Text.{Fits, CaseFits, CallFits, StepFits, fields_of}
+use Rattle.hub_base.proofs.Takes.{send-field}
+use Rattle.hub_base.proofs.Gathered.{ends-step}
+use Rattle.hub_base.proofs.Numerals.{numeral-again, pieces-more, pieces-last, decimal-lacks-colon}
+
+abbrev pub draft_for : Case → Draft
+draft_for (Send p v) = Sends (decimal p.0) (decimal v.0)
+draft_for (Recv p) = Receives (decimal p.0)
+
+below : (n most : ℕ) → n ≤ most → most < 2 ^ 64 → n < 2 ^ 64
+below n most h k = omega arith
+
+pub draft-again : (c : Case) → CaseFits c → draft_of (case_field c) ≡ Ok (draft_for c)
+draft-again (Send p v) fits =
+    let port = decimal-lacks-colon p.0 (below p.0 65535 fits.0 (omega arith)) in
+    let value = decimal-lacks-colon v.0 (below v.0 18446744073709551615 fits.1 (omega arith)) in
+    ap draft_of (send-field p.0 v.0) ∙ ap send_draft (pieces-more 58 (decimal p.0) (decimal v.0) port ∙ ap (λ ps. decimal p.0 ∷ ps) (pieces-last 58 (decimal v.0) value))
+draft-again (Recv p) fits =
+    ap recv_draft (pieces-last 58 (decimal p.0) (decimal-lacks-colon p.0 (below p.0 65535 fits (omega arith))))
+
+pub drafts-again : (cs : List Case) → AllByRecursion CaseFits cs → drafts_of (map case_field cs) ≡ Ok (map draft_for cs)
+drafts-again [] fits = refl
+drafts-again (c ∷ cs) fits = rw (draft-again c fits.0, drafts-again cs fits.1) refl
+
+pub case-again : (c : Case) → CaseFits c → case_of (draft_for c) ≡ Ok c
+case-again (Send p v) fits = rw (numeral-again 65535 p.0 (omega arith) fits.0, numeral-again 18446744073709551615 v.0 (omega arith) fits.1) refl
+case-again (Recv p) fits = rw (numeral-again 65535 p.0 (omega arith) fits) refl
+
+pub cases-again : (cs : List Case) → AllByRecursion CaseFits cs → cases_of (map draft_for cs) ≡ Ok cs
+cases-again [] fits = refl
+cases-again (c ∷ cs) fits = rw (case-again c fits.0, cases-again cs fits.1) refl
+
+no-default : (c : Case) → same_text (case_field c) (codes "default") ≡ false
+no-default (Send p v) = refl
+no-default (Recv p) = refl
+
+not-last : (c : Case) (fs : List (List ℕ)) → last_default (case_field c) fs ≡ false
+not-last c [] = no-default c
+not-last c (f ∷ fs) = refl
+
+pub ends-again : (cs : List Case) (d : Bool) → ends_default (map case_field cs ++ default_field d) ≡ (map case_field cs, d)
+ends-again [] true = refl
+ends-again [] false = refl
+ends-again (c ∷ cs) d =
+    ends-step (case_field c) (map case_field cs ++ default_field d) (not-last c (map case_field cs ++ default_field d))
+    ∙ ap (λ (r : (List (List ℕ)) × Bool). (case_field c ∷ r.0, r.1)) (ends-again cs d)
+
+few : (n : ℕ) → n ≤ 16 → nat_lt 16 n ≡ false
+few n h = grind (arith, common_steps)
+
+pub select-again : (pid : ℕ) (cs : List Case) (d : Bool) (w : ℕ) → pid ≤ 255 → CallFits cs w → spelled cs d w ≡ Ok (call cs d w) → call_fields cs d w ≡ select_fields cs d w →
+    read_fields (decimal pid ∷ call_fields cs d w) ≡ Ok (by pid (call cs d w))
+select-again pid cs d w small fits whole fields =
+    let ends = ends-again cs d in
+    let count : nat_lt 16 (length (map draft_for cs)) ≡ false = (let n = length-map cs draft_for in few (length (map draft_for cs)) (omega (arith, n, fits.few))) in
+    ap (λ gs. read_fields (decimal pid ∷ gs)) fields
+    ∙ ap (read_select (decimal pid) (decimal w)) ends
+    ∙ ap (λ r. r >>= λ ds. cond (nat_lt 16 (length ds)) (Err BadStep) (choose (decimal pid) (decimal w) (cases_of ds) d)) (drafts-again cs fits.each)
+    ∙ ap (λ b. cond b (Err BadStep) (choose (decimal pid) (decimal w) (cases_of (map draft_for cs)) d)) count
+    ∙ ap (λ r. choose (decimal pid) (decimal w) r d) (cases-again cs fits.each)
+    ∙ ap (λ r. r >>= λ pid. numeral 18446744073709551615 (decimal w) >>= λ word. spelled cs d word >>= λ step. Ok (by pid step)) (numeral-again 255 pid (omega arith) small)
+    ∙ ap (λ r. r >>= λ word. spelled cs d word >>= λ step. Ok (by pid step)) (numeral-again 18446744073709551615 w (omega arith) fits.word_fits)
+    ∙ ap (λ r. r >>= λ step. Ok (by pid step)) whole
+
+pub call-again : (pid : ℕ) (cs : List Case) (d : Bool) (w : ℕ) → pid ≤ 255 → CallFits cs w → read_fields (decimal pid ∷ call_fields cs d w) ≡ Ok (by pid (call cs d w))
+call-again pid [] d w small fits = select-again pid [] d w small fits refl refl
+call-again pid (Send p v ∷ []) true w small fits = select-again pid (Send p v ∷ []) true w small fits refl refl
+call-again pid (Send p v ∷ []) false zero small fits =
+    ap (λ r. r >>= λ pid. case_of (Sends (decimal p.0) (decimal v.0)) >>= λ c. Ok (by pid (call (c ∷ []) false 0))) (numeral-again 255 pid (omega arith) small)
+    ∙ ap (λ r. r >>= λ c. Ok (by pid (call (c ∷ []) false 0))) (case-again (Send p v) fits.each.0)
+call-again pid (Send p v ∷ []) false (suc w) small fits = select-again pid (Send p v ∷ []) false (suc w) small fits refl refl
+call-again pid (Recv p ∷ []) true w small fits = select-again pid (Recv p ∷ []) true w small fits refl refl
+call-again pid (Recv p ∷ []) false zero small fits =
+    ap (λ r. r >>= λ pid. case_of (Receives (decimal p.0)) >>= λ c. Ok (by pid (call (c ∷ []) false 0))) (numeral-again 255 pid (omega arith) small)
+    ∙ ap (λ r. r >>= λ c. Ok (by pid (call (c ∷ []) false 0))) (case-again (Recv p) fits.each.0)
+call-again pid (Recv p ∷ []) false (suc w) small fits = select-again pid (Recv p ∷ []) false (suc w) small fits refl refl
+call-again pid (Send p v ∷ c ∷ cs) d w small fits = select-again pid (Send p v ∷ c ∷ cs) d w small fits refl refl
+call-again pid (Recv p ∷ c ∷ cs) d w small fits = select-again pid (Recv p ∷ c ∷ cs) d w small fits refl refl
+
+step-again : (pid : ℕ) (step : Step) → pid ≤ 255 → StepFits step → read_fields (decimal pid ∷ step_fields step) ≡ Ok (by pid step)
+step-again pid (Make cap) small fits =
+    ap (λ r. r >>= λ pid. numeral 4294967295 (decimal cap) >>= λ cap. Ok (by pid (Make cap))) (numeral-again 255 pid (omega arith) small)
+    ∙ ap (λ r. r >>= λ cap. Ok (by pid (Make cap))) (numeral-again 4294967295 cap (omega arith) fits)
+step-again pid (Call cases d w) small fits = call-again pid cases.items d w small fits
+step-again pid (Close p) small fits =
+    ap (λ r. r >>= λ pid. numeral 65535 (decimal p.0) >>= λ p. Ok (by pid (Close (record { 0 = p })))) (numeral-again 255 pid (omega arith) small)
+    ∙ ap (λ r. r >>= λ p. Ok (by pid (Close (record { 0 = p })))) (numeral-again 65535 p.0 (omega arith) fits)
+step-again pid Exit small fits = ap (λ r. r >>= λ pid. Ok (by pid Exit)) (numeral-again 255 pid (omega arith) small)
+
+-- what an entry spells is read as that entry
+pub fields-again : (e : Entry) → Fits e → read_fields (fields_of e) ≡ Ok e
+fields-again e fits = step-again e.pid.0 e.step fits.pid fits.step

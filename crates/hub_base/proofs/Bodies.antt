@@ -1,0 +1,109 @@
+-- A line of an entry holds no space but between its fields, and no newline but at its end.
+use Rattle.std.proofs.Common.{◌≡◌, ℕ, zero, suc, ◌≤◌, ◌<◌, ◌^◌, Bool, true, false, List, [], ◌∷◌, ◌++◌, map, refl, ap, ◌∙◌, Ok, arith, codes, not, ◌==◌, ◌&&◌, append_assoc}
+use Rattle.std.proofs.lemmas.Grind.{common_steps}
+use Rattle.std.specs.Prelude.{decimal, nat_le}
+use Rattle.std.specs.List.{AllByRecursion, list_all, flat_map}
+use Rattle.hub_base.specs.declared.case.Case.{Case}
+use Rattle.hub_base.specs.declared.case.Case.TheVariants.{Send, Recv}
+use Rattle.hub_base.specs.declared.entry.Entry.{Entry}
+use Rattle.hub_base.specs.declared.entry.Step.{Step}
+use Rattle.hub_base.specs.declared.entry.Step.TheVariants.{Make, Call, Close, Exit}
+use Rattle.hub_base.specs.Lines.{step_fields, call_fields, select_fields, default_field, case_field, read_fields, pieces, line}
+use Rattle.hub_base.specs.Reading.{rows, front}
+use Rattle.hub_base.specs.Text.{Fits, CaseFits, CallFits, StepFits, fields_of, body, row_of}
+use Rattle.hub_base.proofs.Numerals.{lacks, all_lack, lacks-append, decimal-lacks, pieces-joined, lacks-joined}
+use Rattle.hub_base.proofs.Again.{fields-again}
+
+both : (a b : Bool) → a ≡ true → b ≡ true → (a && b) ≡ true
+both true true h k = refl
+both true false h k = cc
+both false b h k = cc
+
+high : (m c : ℕ) → m < 48 → nat_le 48 c ≡ true → not (c == m) ≡ true
+high m c low h = grind (arith, common_steps)
+
+split : (a b : Bool) → (a && b) ≡ true → (a ≡ true) × (b ≡ true)
+split true b h = (refl, h)
+split false b h = cc
+
+pub lacks-high : (m : ℕ) (xs : List ℕ) → m < 48 → list_all (nat_le 48) xs ≡ true → lacks m xs ≡ true
+lacks-high m [] low h = refl
+lacks-high m (x ∷ xs) low h =
+    let s = split (nat_le 48 x) (list_all (nat_le 48) xs) h in
+    both (not (x == m)) (lacks m xs) (high m x low s.0) (lacks-high m xs low s.1)
+
+small : (n most : ℕ) → n ≤ most → most < 2 ^ 64 → n < 2 ^ 64
+small n most h k = omega arith
+
+case-lacks : (m : ℕ) (c : Case) → m < 48 → CaseFits c → lacks m (case_field c) ≡ true
+case-lacks m (Send p v) low fits =
+    let port = decimal-lacks m p.0 low (small p.0 65535 fits.0 (omega arith)) in
+    let value = decimal-lacks m v.0 low (small v.0 18446744073709551615 fits.1 (omega arith)) in
+    both (not (115 == m)) (lacks m (decimal p.0 ++ 58 ∷ decimal v.0)) (high m 115 low refl)
+    (lacks-append m (decimal p.0) (58 ∷ decimal v.0) port (both (not (58 == m)) (lacks m (decimal v.0)) (high m 58 low refl) value))
+case-lacks m (Recv p) low fits =
+    both (not (114 == m)) (lacks m (decimal p.0)) (high m 114 low refl) (decimal-lacks m p.0 low (small p.0 65535 fits (omega arith)))
+
+default-lacks : (m : ℕ) (d : Bool) → m < 48 → all_lack m (default_field d) ≡ true
+default-lacks m true low = both (lacks m (codes "default")) true (lacks-high m (codes "default") low refl) refl
+default-lacks m false low = refl
+
+cases-lack : (m : ℕ) (cs : List Case) (d : Bool) → m < 48 → AllByRecursion CaseFits cs → all_lack m (map case_field cs ++ default_field d) ≡ true
+cases-lack m [] d low fits = default-lacks m d low
+cases-lack m (c ∷ cs) d low fits = both (lacks m (case_field c)) (all_lack m (map case_field cs ++ default_field d)) (case-lacks m c low fits.0) (cases-lack m cs d low fits.1)
+
+select-lacks : (m : ℕ) (cs : List Case) (d : Bool) (w : ℕ) → m < 48 → CallFits cs w → all_lack m (select_fields cs d w) ≡ true
+select-lacks m cs d w low fits =
+    both (lacks m (codes "select")) (all_lack m (decimal w ∷ map case_field cs ++ default_field d)) (lacks-high m (codes "select") low refl)
+    (both (lacks m (decimal w)) (all_lack m (map case_field cs ++ default_field d)) (decimal-lacks m w low (small w 18446744073709551615 fits.word_fits (omega arith))) (cases-lack m cs d low fits.each))
+
+one-lacks : (m most n : ℕ) → m < 48 → most < 2 ^ 64 → n ≤ most → all_lack m (decimal n ∷ []) ≡ true
+one-lacks m most n low wide fits = both (lacks m (decimal n)) true (decimal-lacks m n low (small n most fits wide)) refl
+
+named : (m : ℕ) (name : List ℕ) (fs : List (List ℕ)) → m < 48 → list_all (nat_le 48) name ≡ true → all_lack m fs ≡ true → all_lack m (name ∷ fs) ≡ true
+named m name fs low h k = both (lacks m name) (all_lack m fs) (lacks-high m name low h) k
+
+call-lacks : (m : ℕ) (cs : List Case) (d : Bool) (w : ℕ) → m < 48 → CallFits cs w → all_lack m (call_fields cs d w) ≡ true
+call-lacks m [] d w low fits = select-lacks m [] d w low fits
+call-lacks m (Send p v ∷ []) true w low fits = select-lacks m (Send p v ∷ []) true w low fits
+call-lacks m (Send p v ∷ []) false zero low fits =
+    named m (codes "send") (decimal p.0 ∷ decimal v.0 ∷ []) low refl
+    (both (lacks m (decimal p.0)) (all_lack m (decimal v.0 ∷ [])) (decimal-lacks m p.0 low (small p.0 65535 fits.each.0.0 (omega arith))) (one-lacks m 18446744073709551615 v.0 low (omega arith) fits.each.0.1))
+call-lacks m (Send p v ∷ []) false (suc w) low fits = select-lacks m (Send p v ∷ []) false (suc w) low fits
+call-lacks m (Recv p ∷ []) true w low fits = select-lacks m (Recv p ∷ []) true w low fits
+call-lacks m (Recv p ∷ []) false zero low fits = named m (codes "recv") (decimal p.0 ∷ []) low refl (one-lacks m 65535 p.0 low (omega arith) fits.each.0)
+call-lacks m (Recv p ∷ []) false (suc w) low fits = select-lacks m (Recv p ∷ []) false (suc w) low fits
+call-lacks m (Send p v ∷ c ∷ cs) d w low fits = select-lacks m (Send p v ∷ c ∷ cs) d w low fits
+call-lacks m (Recv p ∷ c ∷ cs) d w low fits = select-lacks m (Recv p ∷ c ∷ cs) d w low fits
+
+step-lacks : (m : ℕ) (step : Step) → m < 48 → StepFits step → all_lack m (step_fields step) ≡ true
+step-lacks m (Make cap) low fits = named m (codes "make") (decimal cap ∷ []) low refl (one-lacks m 4294967295 cap low (omega arith) fits)
+step-lacks m (Call cases d w) low fits = call-lacks m cases.items d w low fits
+step-lacks m (Close p) low fits = named m (codes "close") (decimal p.0 ∷ []) low refl (one-lacks m 65535 p.0 low (omega arith) fits)
+step-lacks m Exit low fits = named m (codes "exit") [] low refl refl
+
+pub fields-lack : (m : ℕ) (e : Entry) → m < 48 → Fits e → all_lack m (fields_of e) ≡ true
+fields-lack m e low fits = both (lacks m (decimal e.pid.0)) (all_lack m (step_fields e.step)) (decimal-lacks m e.pid.0 low (small e.pid.0 255 fits.pid (omega arith))) (step-lacks m e.step low fits.step)
+
+pub body-again : (e : Entry) → Fits e → read_fields (pieces 32 (body e)) ≡ Ok e
+body-again e fits = ap read_fields (pieces-joined 32 (decimal e.pid.0) (step_fields e.step) (fields-lack 32 e (omega arith) fits)) ∙ fields-again e fits
+
+not-true : (b : Bool) → not b ≡ true → b ≡ false
+not-true true h = cc
+not-true false h = refl
+
+pub rows-line : (b rest : List ℕ) → lacks 10 b ≡ true → rows (b ++ 10 ∷ rest) ≡ record { bytes = b; whole = true } ∷ rows rest
+rows-line [] rest h = refl
+rows-line (c ∷ cs) rest h =
+    let s = split (not (c == 10)) (lacks 10 cs) h in
+    rw (not-true (c == 10) s.0) (ap (front c) (rows-line cs rest s.1))
+
+pub rows-entry : (e : Entry) (rest : List ℕ) → Fits e → rows (line e ++ rest) ≡ row_of e ∷ rows rest
+rows-entry e rest fits =
+    ap rows (append_assoc (body e) (codes "\n") rest)
+    ∙ rows-line (body e) rest (lacks-joined 10 (decimal e.pid.0) (step_fields e.step) refl (fields-lack 10 e (omega arith) fits))
+
+pub rows-entries : (es : List Entry) (rest : List ℕ) → AllByRecursion Fits es → rows (flat_map line es ++ rest) ≡ map row_of es ++ rows rest
+rows-entries [] rest fits = refl
+rows-entries (e ∷ es) rest fits =
+    ap rows (append_assoc (line e) (flat_map line es) rest) ∙ rows-entry e (flat_map line es ++ rest) fits.0 ∙ ap (λ rs. row_of e ∷ rs) (rows-entries es rest fits.1)

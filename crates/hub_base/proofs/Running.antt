@@ -1,0 +1,244 @@
+-- The lines of entries are read as these entries, and nothing else is.
+use Rattle.std.proofs.Common.{◌≡◌, ℕ, ◌+◌, ◌≤◌, Bool, true, false, cond, List, [], ◌∷◌, ◌++◌, length, map, refl, ap, ◌∙◌, sym, subst, Option, Some, None, Result, Ok, Err, arith, codes, not, ◌&&◌, length-append}
+use Rattle.std.proofs.lemmas.Grind.{common_steps}
+use Rattle.std.specs.Prelude.{nat_lt, nat_le}
+use Rattle.std.specs.List.{join_with_byte, AllByRecursion, flat_map}
+use Rattle.hub_base.specs.declared.entry.Entry.{Entry}
+use Rattle.hub_base.specs.declared.text.faults.Kind.{Kind}
+use Rattle.hub_base.specs.declared.text.faults.Kind.TheVariants.{CutLine, TooLong}
+use Rattle.std.proofs.Common.{◌⊎◌, inl, inr}
+use Rattle.hub_base.specs.Lines.{read_fields, pieces, line}
+use Rattle.hub_base.specs.Reading.{Row, Reading, Reads, Faulty, entries_from, row_fault, faulty_or, end_of, over, counted, with_entry, entry_says, is_exit}
+use Rattle.hub_base.specs.Answers.{behind}
+use Rattle.hub_base.specs.Text.{Fits, fields_of, body, row_of, one_step, steps_of, EntryFails, entry_fault, first_fault, fault_of_entry}
+use Rattle.hub_base.proofs.Bodies.{body-again}
+use Rattle.hub_base.proofs.Takes.{fields-take}
+use Rattle.hub_base.proofs.Pieces.{pieces-some}
+use Rattle.hub_base.proofs.Numerals.{joined-pieces}
+
+behind-nil : (x : Reading) → x ≡ behind [] x
+behind-nil (Reads n es) = refl
+behind-nil (Faulty k kind) = refl
+
+with-behind : (e : Entry) (es : List Entry) (x : Reading) → with_entry e (behind es x) ≡ behind (e ∷ es) x
+with-behind e es (Reads n fs) = refl
+with-behind e es (Faulty k kind) = refl
+
+within-limit : (n : ℕ) → n ≤ 67108864 → nat_lt 67108864 n ≡ false
+within-limit n h = grind (arith, common_steps)
+
+row-fine : (end : ℕ) (b : List ℕ) → end ≤ 67108864 → row_fault end (record { bytes = b; whole = true }) ≡ None
+row-fine end b h = ap (λ t. cond t (Some TooLong) None) (within-limit end h)
+
+not-over : (x : Bool) (steps : ℕ) → steps + cond x 0 1 ≤ 1000000 → (not x && nat_le 1000000 steps) ≡ false
+not-over true steps h = refl
+not-over false steps h = grind (arith, common_steps)
+
+count : (x : Bool) (steps : ℕ) → cond x steps (steps + 1) ≡ steps + cond x 0 1
+count true steps = omega arith
+count false steps = refl
+
+line-length : (e : Entry) → length (line e) ≡ length (body e) + 1
+line-length e = length-append (body e) (codes "\n")
+
+same-from : (n k k' start start' steps steps' : ℕ) (rs : List Row) → k ≡ k' → start ≡ start' → steps ≡ steps' → entries_from n k start steps rs ≡ entries_from n k' start' steps' rs
+same-from n k k' start start' steps steps' rs a b c = ap (λ k. entries_from n k start steps rs) a ∙ ap (λ start. entries_from n k' start steps rs) b ∙ ap (λ steps. entries_from n k' start' steps rs) c
+
+pub entries-again : (n : ℕ) (es : List Entry) (rest : List Row) (k start steps k' start' steps' : ℕ) → AllByRecursion Fits es →
+    k' ≡ k + length es → start' ≡ start + length (flat_map line es) → steps' ≡ steps + steps_of es → start' ≤ 67108864 → steps' ≤ 1000000 →
+    entries_from n k start steps (map row_of es ++ rest) ≡ behind es (entries_from n k' start' steps' rest)
+entries-again n [] rest k start steps k' start' steps' fits a b c lim most =
+    same-from n k k' start start' steps steps' rest (omega arith) (omega arith) (omega arith) ∙ behind-nil (entries_from n k' start' steps' rest)
+entries-again n (e ∷ es) rest k start steps k' start' steps' fits a b c lim most =
+    let end = start + length (body e) + 1 in
+    let all : length (flat_map line (e ∷ es)) ≡ length (line e) + length (flat_map line es) = length-append (line e) (flat_map line es) in
+    let here : length (line e) ≡ length (body e) + 1 = line-length e in
+    let goes : Entry → Reading = λ f. entries_from n (k + 1) end (counted steps f) (map row_of es ++ rest) in
+    let small : end ≤ 67108864 = omega (arith, all, here) in
+    let few : over steps e ≡ false = not-over (is_exit e.step) steps (omega arith) in
+    let next : counted steps e ≡ steps + one_step e = count (is_exit e.step) steps in
+    ap (faulty_or k (entry_says k steps (read_fields (pieces 32 (body e))) goes)) (row-fine end (body e) small)
+    ∙ ap (λ r. entry_says k steps r goes) (body-again e fits.0)
+    ∙ ap (λ t. cond t (Faulty k TooLong) (with_entry e (goes e))) few
+    ∙ ap (λ s. with_entry e (entries_from n (k + 1) end s (map row_of es ++ rest))) next
+    ∙ ap (with_entry e) (entries-again n es rest (k + 1) end (steps + one_step e) k' start' steps' fits.1 (omega arith) (omega (arith, all, here)) (omega arith) lim most)
+    ∙ with-behind e es (entries_from n k' start' steps' rest)
+
+-- ---- and back
+pub record Took (n start steps : ℕ) (rs : List Row) (m : ℕ) (es : List Entry) : Type 0 where
+  pub procs : n ≡ m
+  pub lines : rs ≡ map row_of es
+  pub fits : AllByRecursion Fits es
+  pub bytes_fit : start + length (flat_map line es) ≤ 67108864
+  pub steps_fit : steps + steps_of es ≤ 1000000
+
+pub said-reads : (k : ℕ) (said : Reading) (o : Option Kind) (m : ℕ) (es : List Entry) → faulty_or k said o ≡ Reads m es → (o ≡ None) × (said ≡ Reads m es)
+said-reads k said None m es h = (refl, h)
+said-reads k said (Some kind) m es h = cc
+
+fault-none : (a w : Bool) → cond a (Some TooLong) (cond w None (Some CutLine)) ≡ None → (a ≡ false) × (w ≡ true)
+fault-none true w h = cc
+fault-none false true h = (refl, refl)
+fault-none false false h = cc
+
+limit-of : (n : ℕ) → nat_lt 67108864 n ≡ false → n ≤ 67108864
+limit-of n h = grind (arith, common_steps)
+
+pub record Whole (end : ℕ) (r : Row) : Type 0 where
+  pub fits : end ≤ 67108864
+  pub whole : r.whole ≡ true
+
+pub row-none : (end : ℕ) (r : Row) → row_fault end r ≡ None → Whole end r
+row-none end r h = let o = fault-none (nat_lt 67108864 end) r.whole h in record { fits = limit-of end o.0; whole = o.1 }
+
+pub record Went (steps : ℕ) (res : Result Entry Kind) (goes : Entry → Reading) (m : ℕ) (es : List Entry) : Type 0 where
+  pub e : Entry
+  pub rest : List Entry
+  pub read : res ≡ Ok e
+  pub few : over steps e ≡ false
+  pub later : goes e ≡ Reads m rest
+  pub is : e ∷ rest ≡ es
+
+with-reads : (e : Entry) (x : Reading) (m : ℕ) (es : List Entry) → with_entry e x ≡ Reads m es → (rest : List Entry) × (x ≡ Reads m rest) × (e ∷ rest ≡ es)
+with-reads e (Reads n rest) m es h = let is : n ≡ m = cc in (rest, ap (λ n. Reads n rest) is, cc)
+with-reads e (Faulty k kind) m es h = cc
+
+not-faulty : (b : Bool) (k : ℕ) (x : Reading) (m : ℕ) (es : List Entry) → cond b (Faulty k TooLong) x ≡ Reads m es → (b ≡ false) × (x ≡ Reads m es)
+not-faulty true k x m es h = cc
+not-faulty false k x m es h = (refl, h)
+
+went : (k steps : ℕ) (res : Result Entry Kind) (goes : Entry → Reading) (m : ℕ) (es : List Entry) → entry_says k steps res goes ≡ Reads m es → Went steps res goes m es
+went k steps (Err kind) goes m es h = cc
+went k steps (Ok e) goes m es h =
+    let a = not-faulty (over steps e) k (with_entry e (goes e)) m es h in
+    let b = with-reads e (goes e) m es a.1 in
+    record { e = e; rest = b.0; read = refl; few = a.0; later = b.1; is = b.2 }
+
+few-steps : (x : Bool) (steps : ℕ) → steps ≤ 1000000 → (not x && nat_le 1000000 steps) ≡ false → steps + cond x 0 1 ≤ 1000000
+few-steps true steps lim h = omega arith
+few-steps false steps lim h = grind (arith, common_steps)
+
+bytes-are : (bs : List ℕ) (e : Entry) → pieces 32 bs ≡ fields_of e → bs ≡ body e
+bytes-are bs e fields = sym (joined-pieces 32 bs (pieces-some 32)) ∙ ap (join_with_byte 32) fields
+
+pub row-is : (r : Row) (e : Entry) → r.whole ≡ true → pieces 32 r.bytes ≡ fields_of e → r ≡ row_of e
+row-is r e whole fields = ap (λ b. record { bytes = b; whole = r.whole }) (bytes-are r.bytes e fields) ∙ ap (λ w. record { bytes = body e; whole = w }) whole
+
+pub end-is : (start : ℕ) (r : Row) (e : Entry) → r ≡ row_of e → end_of start r ≡ start + length (line e)
+end-is start r e is = let l = line-length e in ap (end_of start) is ∙ (omega (arith, l))
+
+pub entries-take : (n m : ℕ) (rs : List Row) (es : List Entry) (k start steps : ℕ) → start ≤ 67108864 → steps ≤ 1000000 → entries_from n k start steps rs ≡ Reads m es → Took n start steps rs m es
+entries-take n m [] es k start steps lim most h =
+    let P : List Entry → Type 0 = Took n start steps [] m in
+    let none : [] ≡ es = cc in
+    let procs : n ≡ m = cc in
+    subst P none (record { procs = procs; lines = refl; fits = tt; bytes_fit = omega arith; steps_fit = omega arith })
+entries-take n m (r ∷ rs) es k start steps lim most h =
+    let goes : Entry → Reading = λ e. entries_from n (k + 1) (end_of start r) (counted steps e) rs in
+    let a = said-reads k (entry_says k steps (read_fields (pieces 32 r.bytes)) goes) (row_fault (end_of start r) r) m es h in
+    let w = row-none (end_of start r) r a.0 in
+    let g = went k steps (read_fields (pieces 32 r.bytes)) goes m es a.1 in
+    let spells = fields-take (pieces 32 r.bytes) g.e g.read in
+    let here : r ≡ row_of g.e = row-is r g.e w.whole spells.0 in
+    let end : end_of start r ≡ start + length (line g.e) = end-is start r g.e here in
+    let next : counted steps g.e ≡ steps + one_step g.e = count (is_exit g.e.step) steps in
+    let some : steps + one_step g.e ≤ 1000000 = few-steps (is_exit g.e.step) steps most g.few in
+    let t = entries-take n m rs g.rest (k + 1) (end_of start r) (counted steps g.e) w.fits (omega (arith, next, some)) g.later in
+    let all : length (flat_map line (g.e ∷ g.rest)) ≡ length (line g.e) + length (flat_map line g.rest) = length-append (line g.e) (flat_map line g.rest) in
+    let P : List Entry → Type 0 = Took n start steps (r ∷ rs) m in
+    subst P g.is (record {
+      procs = t.procs;
+      lines = ap (λ r. r ∷ rs) here ∙ ap (λ rs. row_of g.e ∷ rs) t.lines;
+      fits = (spells.1, t.fits);
+      bytes_fit = (let f = t.bytes_fit in omega (arith, all, end, f));
+      steps_fit = (let f = t.steps_fit in omega (arith, next, f));
+    })
+
+-- ---- a faulty line
+pub record GoesOn (steps k : ℕ) (o : Option Kind) (res : Result Entry Kind) (goes : Entry → Reading) (faulty : ℕ) (kind : Kind) : Type 0 where
+  pub e : Entry
+  pub fine : o ≡ None
+  pub read : res ≡ Ok e
+  pub few : over steps e ≡ false
+  pub later : goes e ≡ Faulty faulty kind
+
+abbrev pub Here : ℕ → ℕ → Option Kind → Result Entry Kind → ℕ → Kind → Type 0
+Here steps k o res faulty kind = (first_fault o (fault_of_entry steps res) ≡ Some kind) × (k ≡ faulty)
+
+with-faulty : (e : Entry) (x : Reading) (k : ℕ) (kind : Kind) → with_entry e x ≡ Faulty k kind → x ≡ Faulty k kind
+with-faulty e (Reads n es) k kind h = cc
+with-faulty e (Faulty j other) k kind h = h
+
+ended-here : (b : Bool) (k faulty : ℕ) (kind : Kind) (x : Reading) → cond b (Faulty k TooLong) x ≡ Faulty faulty kind → ((cond b (Some TooLong) None ≡ Some kind) × (k ≡ faulty)) ⊎ ((b ≡ false) × (x ≡ Faulty faulty kind))
+ended-here true k faulty kind x h = inl (let same : TooLong ≡ kind = cc in ap (λ k. Some k) same, cc)
+ended-here false k faulty kind x h = inr (refl, h)
+
+pub at-first : (k steps : ℕ) (o : Option Kind) (res : Result Entry Kind) (goes : Entry → Reading) (faulty : ℕ) (kind : Kind) → faulty_or k (entry_says k steps res goes) o ≡ Faulty faulty kind →
+    Here steps k o res faulty kind ⊎ GoesOn steps k o res goes faulty kind
+at-first k steps (Some other) res goes faulty kind h = inl (let same : other ≡ kind = cc in ap (λ k. Some k) same, cc)
+at-first k steps None (Err other) goes faulty kind h = inl (let same : other ≡ kind = cc in ap (λ k. Some k) same, cc)
+at-first k steps None (Ok e) goes faulty kind h =
+    elim (ended-here (over steps e) k faulty kind (with_entry e (goes e)) h) [
+      | inl a ↦ inl a
+      | inr a ↦ inr (record { e = e; fine = refl; read = refl; few = a.0; later = with-faulty e (goes e) faulty kind a.1 })
+    ]
+
+fault-at : (place place' steps steps' : ℕ) (r : Row) (kind : Kind) → place ≡ place' → steps ≡ steps' → entry_fault place steps r ≡ Some kind → entry_fault place' steps' r ≡ Some kind
+fault-at place place' steps steps' r kind a b h = sym (ap (λ p. entry_fault p steps r) a ∙ ap (λ s. entry_fault place' s r) b) ∙ h
+
+pub entries-fail : (n : ℕ) (rs : List Row) (k start steps faulty : ℕ) (kind : Kind) → start ≤ 67108864 → steps ≤ 1000000 → entries_from n k start steps rs ≡ Faulty faulty kind → EntryFails start steps k rs faulty kind
+entries-fail n [] k start steps faulty kind lim most h = cc
+entries-fail n (r ∷ rs) k start steps faulty kind lim most h =
+    let goes : Entry → Reading = λ e. entries_from n (k + 1) (end_of start r) (counted steps e) rs in
+    let res = read_fields (pieces 32 r.bytes) in
+    elim (at-first k steps (row_fault (end_of start r) r) (read_fields (pieces 32 r.bytes)) goes faulty kind h) as (λ _. EntryFails start steps k (r ∷ rs) faulty kind) [
+      | inl a ↦ (let is = a.1 in record {
+        es = [];
+        bad = r;
+        more = rs;
+        lines = refl;
+        count = (omega (arith, is));
+        fits = tt;
+        bytes_fit = omega arith;
+        steps_fit = omega arith;
+        fault = fault-at start (start + length {A = ℕ} []) steps (steps + 0) r kind (omega arith) (omega arith) a.0;
+      })
+      | inr g ↦ (
+          let w = row-none (end_of start r) r g.fine in
+          let spells = fields-take (pieces 32 r.bytes) g.e g.read in
+          let here : r ≡ row_of g.e = row-is r g.e w.whole spells.0 in
+          let end : end_of start r ≡ start + length (line g.e) = end-is start r g.e here in
+          let next : counted steps g.e ≡ steps + one_step g.e = count (is_exit g.e.step) steps in
+          let some : steps + one_step g.e ≤ 1000000 = few-steps (is_exit g.e.step) steps most g.few in
+          let t = entries-fail n rs (k + 1) (end_of start r) (counted steps g.e) faulty kind w.fits (omega (arith, next, some)) g.later in
+          let all : length (flat_map line (g.e ∷ t.es)) ≡ length (line g.e) + length (flat_map line t.es) = length-append (line g.e) (flat_map line t.es) in
+          record {
+            es = g.e ∷ t.es;
+            bad = t.bad;
+            more = t.more;
+            lines = ap (λ r. r ∷ rs) here ∙ ap (λ rs. row_of g.e ∷ rs) t.lines;
+            count = (let c = t.count in omega (arith, c));
+            fits = (spells.1, t.fits);
+            bytes_fit = (let f = t.bytes_fit in omega (arith, all, end, f));
+            steps_fit = (let f = t.steps_fit in omega (arith, next, f));
+            fault = fault-at _ _ _ _ t.bad kind (omega (arith, all, end)) (omega (arith, next)) t.fault;
+          })
+    ]
+
+over-faulty : (b : Bool) (k : ℕ) (kind : Kind) (x : Reading) → cond b (Some TooLong) None ≡ Some kind → cond b (Faulty k TooLong) x ≡ Faulty k kind
+over-faulty true k kind x h = let same : TooLong ≡ kind = cc in ap (Faulty k) same
+over-faulty false k kind x h = cc
+
+faulty-again : (k steps : ℕ) (o : Option Kind) (res : Result Entry Kind) (goes : Entry → Reading) (kind : Kind) → first_fault o (fault_of_entry steps res) ≡ Some kind → faulty_or k (entry_says k steps res goes) o ≡ Faulty k kind
+faulty-again k steps (Some other) res goes kind h = let same : other ≡ kind = cc in ap (Faulty k) same
+faulty-again k steps None (Err other) goes kind h = let same : other ≡ kind = cc in ap (Faulty k) same
+faulty-again k steps None (Ok e) goes kind h = over-faulty (over steps e) k kind (with_entry e (goes e)) h
+
+pub entries-fail-again : (n : ℕ) (rs : List Row) (k start steps faulty : ℕ) (kind : Kind) → EntryFails start steps k rs faulty kind → entries_from n k start steps rs ≡ Faulty faulty kind
+entries-fail-again n rs k start steps faulty kind f =
+    let place = start + length (flat_map line f.es) in
+    let done = steps + steps_of f.es in
+    let goes : Entry → Reading = λ e. entries_from n (faulty + 1) (end_of place f.bad) (counted done e) f.more in
+    ap (entries_from n k start steps) f.lines
+    ∙ entries-again n f.es (f.bad ∷ f.more) k start steps faulty place done f.fits f.count refl refl f.bytes_fit f.steps_fit
+    ∙ ap (behind f.es) (faulty-again faulty done (row_fault (end_of place f.bad) f.bad) (read_fields (pieces 32 f.bad.bytes)) goes kind f.fault)

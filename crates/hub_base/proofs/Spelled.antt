@@ -1,0 +1,17 @@
+-- Fields joined by spaces, and fields each behind a space.
+use Rattle.std.proofs.Common.{◌≡◌, ℕ, List, [], ◌∷◌, ◌++◌, map, refl, ap, ◌∙◌, sym, append_assoc, append-nil}
+use Rattle.std.specs.List.{join_with_byte}
+use Rattle.hub_base.specs.declared.case.Case.{Case}
+use Rattle.hub_base.specs.Lines.{case_field}
+use Rattle.hub_base.specs.Writing.{spaced, spaced_cases}
+
+pub join-spaced : (f : List ℕ) (fs : List (List ℕ)) → join_with_byte 32 (f ∷ fs) ≡ f ++ spaced fs
+join-spaced f [] = sym (append-nil f)
+join-spaced f (g ∷ fs) = ap (λ r. f ++ 32 ∷ r) (join-spaced g fs)
+
+pub spaced-select : (cs : List Case) (gs : List (List ℕ)) → spaced (map case_field cs ++ gs) ≡ spaced_cases cs ++ spaced gs
+spaced-select [] gs = refl
+spaced-select (c ∷ cs) gs = ap (λ r. 32 ∷ (case_field c ++ r)) (spaced-select cs gs) ∙ ap (λ r. 32 ∷ r) (sym (append_assoc (case_field c) (spaced_cases cs) (spaced gs)))
+
+pub grown-more : (x y z : List ℕ) → (a : List ℕ) × (y ≡ x ++ a) → (b : List ℕ) × (z ≡ y ++ b) → (r : List ℕ) × (z ≡ x ++ r)
+grown-more x y z (a, e) (b, f) = (a ++ b, f ∙ ap (λ y. y ++ b) e ∙ append_assoc x a b)

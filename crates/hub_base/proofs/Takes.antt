@@ -1,0 +1,260 @@
+-- What fields say is what they spell.
+use Rattle.std.proofs.Common.{◌≡◌, ℕ, zero, suc, ◌≤◌, Bool, true, false, cond, List, [], ◌∷◌, ◌++◌, length, map, refl, ap, ◌∙◌, sym, subst, Result, Ok, Err, arith, codes, ◌==◌}
+use Rattle.std.proofs.lemmas.Grind.{common_steps}
+use Rattle.std.specs.Prelude.{decimal, nat_lt}
+use Rattle.std.specs.List.{join_with_byte, AllByRecursion}
+use Rattle.hub_base.specs.declared.case.Case.{Case}
+use Rattle.hub_base.specs.declared.case.Case.TheVariants.{Send, Recv}
+use Rattle.hub_base.specs.declared.entry.Entry.{Entry}
+use Rattle.hub_base.specs.declared.entry.Step.{Step}
+use Rattle.hub_base.specs.declared.entry.Step.TheVariants.{Make, Close, Exit}
+use Rattle.hub_base.specs.declared.text.faults.Kind.{Kind}
+use Rattle.hub_base.specs.declared.text.faults.Kind.TheVariants.{BadStep}
+use Rattle.hub_base.specs.Lines.Draft.{Sends, Receives}
+use Rattle.hub_base.specs.Lines.{numeral, ◌>>=◌, Draft, read_close, read_make, read_exit, read_send, read_recv, read_choice, read_select, read_step, read_fields, choose, step_fields, call_fields, select_fields, default_field, case_field, case_of, cases_of, draft_of, drafts_of, send_draft, recv_draft, spelled, ends_default, same_text, by, call, pieces}
+use Rattle.hub_base.specs.Text.{CaseFits, StepFits, Spells}
+use Rattle.hub_base.proofs.Bound.{bind_ok, numeral-ok}
+use Rattle.hub_base.proofs.Pieces.{pieces-some}
+use Rattle.hub_base.proofs.Numerals.{same-true, joined-pieces}
+
+one-field : (word : List ℕ) (pid p : List ℕ) (m n : ℕ) (step : Step) (e : Entry) → (step_fields step ≡ word ∷ decimal n ∷ []) → StepFits step →
+    (pid ≡ decimal m) × (m ≤ 255) → p ≡ decimal n → by m step ≡ e → Spells (pid ∷ word ∷ p ∷ []) e
+one-field word pid p m n step e fields fits a b is =
+    subst (Spells (pid ∷ word ∷ p ∷ [])) is
+    (ap (λ f. f ∷ word ∷ p ∷ []) a.0 ∙ ap (λ f. decimal m ∷ word ∷ f ∷ []) b ∙ ap (λ fs. decimal m ∷ fs) (sym fields), record { pid = a.1; step = fits })
+
+pub make-takes : (pid : List ℕ) (fs : List (List ℕ)) (e : Entry) → read_make pid fs ≡ Ok e → Spells (pid ∷ codes "make" ∷ fs) e
+make-takes pid [] e h = cc
+make-takes pid (p ∷ []) e h =
+    let a = bind_ok (numeral 255 pid) (λ pid. numeral 4294967295 p >>= λ p. Ok (by pid (Make p))) e h in
+    let b = bind_ok (numeral 4294967295 p) (λ p. Ok (by a.0 (Make p))) e a.2 in
+    let y = numeral-ok 4294967295 p b.0 (omega arith) b.1 in
+    one-field (codes "make") pid p a.0 b.0 (Make b.0) e refl y.1 (numeral-ok 255 pid a.0 (omega arith) a.1) y.0 (cc)
+make-takes pid (p ∷ q ∷ fs) e h = cc
+
+pub close-spells : (pid : List ℕ) (fs : List (List ℕ)) (e : Entry) → read_close pid fs ≡ Ok e → Spells (pid ∷ codes "close" ∷ fs) e
+close-spells pid [] e h = cc
+close-spells pid (p ∷ []) e h =
+    let a = bind_ok (numeral 255 pid) (λ pid. numeral 65535 p >>= λ p. Ok (by pid (Close (record { 0 = p })))) e h in
+    let b = bind_ok (numeral 65535 p) (λ p. Ok (by a.0 (Close (record { 0 = p })))) e a.2 in
+    let y = numeral-ok 65535 p b.0 (omega arith) b.1 in
+    one-field (codes "close") pid p a.0 b.0 (Close (record { 0 = b.0 })) e refl y.1 (numeral-ok 255 pid a.0 (omega arith) a.1) y.0 (cc)
+close-spells pid (p ∷ q ∷ fs) e h = cc
+
+pub exit-takes : (pid : List ℕ) (fs : List (List ℕ)) (e : Entry) → read_exit pid fs ≡ Ok e → Spells (pid ∷ codes "exit" ∷ fs) e
+exit-takes pid [] e h =
+    let a = bind_ok (numeral 255 pid) (λ pid. Ok (by pid Exit)) e h in
+    let x = numeral-ok 255 pid a.0 (omega arith) a.1 in
+    let is : by a.0 Exit ≡ e = cc in
+    subst (Spells (pid ∷ codes "exit" ∷ [])) is (ap (λ f. f ∷ codes "exit" ∷ []) x.0, record { pid = x.1; step = omega arith })
+exit-takes pid (q ∷ fs) e h = cc
+
+-- a draft as a field
+abbrev pub draft_field : Draft → List ℕ
+draft_field (Sends p v) = 115 ∷ (p ++ 58 ∷ v)
+draft_field (Receives p) = 114 ∷ p
+
+pub record SendSpelled (p v : List ℕ) (c : Case) : Type 0 where
+  pub port : ℕ
+  pub value : ℕ
+  pub port_is : p ≡ decimal port
+  pub value_is : v ≡ decimal value
+  pub is : Send (record { 0 = port }) (record { 0 = value }) ≡ c
+  pub port_fits : port ≤ 65535
+  pub value_fits : value ≤ 18446744073709551615
+
+pub sends-takes : (p v : List ℕ) (c : Case) → case_of (Sends p v) ≡ Ok c → SendSpelled p v c
+sends-takes p v c h =
+    let a = bind_ok (numeral 65535 p) (λ p. numeral 18446744073709551615 v >>= λ v. Ok (Send (record { 0 = p }) (record { 0 = v }))) c h in
+    let b = bind_ok (numeral 18446744073709551615 v) (λ v. Ok (Send (record { 0 = a.0 }) (record { 0 = v }))) c a.2 in
+    let x = numeral-ok 65535 p a.0 (omega arith) a.1 in
+    let y = numeral-ok 18446744073709551615 v b.0 (omega arith) b.1 in
+    record { port = a.0; value = b.0; port_is = x.0; value_is = y.0; is = cc; port_fits = x.1; value_fits = y.1 }
+
+pub record RecvSpelled (p : List ℕ) (c : Case) : Type 0 where
+  pub port : ℕ
+  pub port_is : p ≡ decimal port
+  pub is : Recv (record { 0 = port }) ≡ c
+  pub port_fits : port ≤ 65535
+
+pub receives-takes : (p : List ℕ) (c : Case) → case_of (Receives p) ≡ Ok c → RecvSpelled p c
+receives-takes p c h =
+    let a = bind_ok (numeral 65535 p) (λ p. Ok (Recv (record { 0 = p }))) c h in
+    let x = numeral-ok 65535 p a.0 (omega arith) a.1 in
+    record { port = a.0; port_is = x.0; is = cc; port_fits = x.1 }
+
+pub send-field : (p v : ℕ) → case_field (Send (record { 0 = p }) (record { 0 = v })) ≡ 115 ∷ (decimal p ++ 58 ∷ decimal v)
+send-field p v = refl
+
+pub case-takes : (d : Draft) (c : Case) → case_of d ≡ Ok c → (draft_field d ≡ case_field c) × CaseFits c
+case-takes (Sends p v) c h =
+    let s = sends-takes p v c h in
+    let P : Case → Type 0 = λ c. (draft_field (Sends p v) ≡ case_field c) × CaseFits c in
+    subst P s.is (ap (λ p. 115 ∷ (p ++ 58 ∷ v)) s.port_is ∙ ap (λ v. 115 ∷ (decimal s.port ++ 58 ∷ v)) s.value_is ∙ sym (send-field s.port s.value), (s.port_fits, s.value_fits))
+case-takes (Receives p) c h =
+    let s = receives-takes p c h in
+    let P : Case → Type 0 = λ c. (draft_field (Receives p) ≡ case_field c) × CaseFits c in
+    subst P s.is (ap (λ p. 114 ∷ p) s.port_is, s.port_fits)
+
+pub cases-take : (ds : List Draft) (cs : List Case) → cases_of ds ≡ Ok cs → (map draft_field ds ≡ map case_field cs) × AllByRecursion CaseFits cs × (length ds ≡ length cs)
+cases-take [] cs h =
+    let P : List Case → Type 0 = λ cs. (map draft_field [] ≡ map case_field cs) × AllByRecursion CaseFits cs × (length {A = Draft} [] ≡ length cs) in
+    let is : [] ≡ cs = cc in
+    subst P is (refl, tt, refl)
+cases-take (d ∷ ds) cs h =
+    let a = bind_ok (case_of d) (λ c. cases_of ds >>= λ cs. Ok (c ∷ cs)) cs h in
+    let b = bind_ok (cases_of ds) (λ cs. Ok (a.0 ∷ cs)) cs a.2 in
+    let x = case-takes d a.0 a.1 in
+    let y = cases-take ds b.0 b.1 in
+    let P : List Case → Type 0 = λ cs. (map draft_field (d ∷ ds) ≡ map case_field cs) × AllByRecursion CaseFits cs × (length (d ∷ ds) ≡ length cs) in
+    let is : a.0 ∷ b.0 ≡ cs = cc in
+    subst P is (ap (λ f. f ∷ map draft_field ds) x.0 ∙ ap (λ fs. case_field a.0 ∷ fs) y.0, (x.1, y.1), ap suc y.2)
+
+two-parts : (cs : List ℕ) (ps : List (List ℕ)) (d : Draft) → join_with_byte 58 ps ≡ cs → send_draft ps ≡ Ok d → 115 ∷ cs ≡ draft_field d
+two-parts cs [] d j h = cc
+two-parts cs (p ∷ []) d j h = cc
+two-parts cs (p ∷ v ∷ []) d j h = let is : Sends p v ≡ d = cc in ap (λ cs. 115 ∷ cs) (sym j) ∙ ap draft_field is
+two-parts cs (p ∷ v ∷ q ∷ ps) d j h = cc
+
+one-part : (cs : List ℕ) (ps : List (List ℕ)) (d : Draft) → join_with_byte 58 ps ≡ cs → recv_draft ps ≡ Ok d → 114 ∷ cs ≡ draft_field d
+one-part cs [] d j h = cc
+one-part cs (p ∷ []) d j h = let is : Receives p ≡ d = cc in ap (λ cs. 114 ∷ cs) (sym j) ∙ ap draft_field is
+one-part cs (p ∷ v ∷ ps) d j h = cc
+
+letter : (c : ℕ) (cs : List ℕ) (d : Draft) (s r : Bool) (a b : Result Draft Kind) → (c == 115) ≡ s → (c == 114) ≡ r → (a ≡ Ok d → 115 ∷ cs ≡ draft_field d) → (b ≡ Ok d → 114 ∷ cs ≡ draft_field d) →
+    cond s a (cond r b (Err BadStep)) ≡ Ok d → c ∷ cs ≡ draft_field d
+letter c cs d true r a b is other f g h = let here : c ≡ 115 = grind (arith, common_steps) in ap (λ c. c ∷ cs) here ∙ f h
+letter c cs d false true a b is other f g h = let here : c ≡ 114 = grind (arith, common_steps) in ap (λ c. c ∷ cs) here ∙ g h
+letter c cs d false false a b is other f g h = cc
+
+pub draft-takes : (f : List ℕ) (d : Draft) → draft_of f ≡ Ok d → f ≡ draft_field d
+draft-takes [] d h = cc
+draft-takes (c ∷ cs) d h =
+    let j = joined-pieces 58 cs (pieces-some 58) in
+    letter c cs d (c == 115) (c == 114) (send_draft (pieces 58 cs)) (recv_draft (pieces 58 cs)) refl refl (two-parts cs (pieces 58 cs) d j) (one-part cs (pieces 58 cs) d j) h
+
+pub drafts-take : (fs : List (List ℕ)) (ds : List Draft) → drafts_of fs ≡ Ok ds → fs ≡ map draft_field ds
+drafts-take [] ds h = let is : [] ≡ ds = cc in ap (map draft_field) is
+drafts-take (f ∷ fs) ds h =
+    let a = bind_ok (draft_of f) (λ d. drafts_of fs >>= λ ds. Ok (d ∷ ds)) ds h in
+    let b = bind_ok (drafts_of fs) (λ ds. Ok (a.0 ∷ ds)) ds a.2 in
+    let is : a.0 ∷ b.0 ≡ ds = cc in
+    ap (λ f. f ∷ fs) (draft-takes f a.0 a.1) ∙ ap (λ fs. draft_field a.0 ∷ fs) (drafts-take fs b.0 b.1) ∙ ap (map draft_field) is
+
+-- the case fields, and a last `default` behind them
+abbrev ended : List ℕ → Bool → (List (List ℕ)) × Bool
+ended f b = cond b ([], true) (f ∷ [], false)
+
+ends-cons : (f : List ℕ) (b : Bool) → same_text f (codes "default") ≡ b → f ∷ [] ≡ (ended f b).0 ++ default_field (ended f b).1
+ends-cons f true h = ap (λ f. f ∷ []) (same-true f (codes "default") h)
+ends-cons f false h = refl
+
+pub ends-split : (fs : List (List ℕ)) → fs ≡ (ends_default fs).0 ++ default_field (ends_default fs).1
+ends-split [] = refl
+ends-split (f ∷ []) = ends-cons f (same_text f (codes "default")) refl
+ends-split (f ∷ g ∷ fs) = ap (λ r. f ∷ r) (ends-split (g ∷ fs))
+
+pub record Whole (cs : List Case) (d : Bool) (w : ℕ) (step : Step) : Type 0 where
+  pub step_is : call cs d w ≡ step
+  pub fields_are : call_fields cs d w ≡ select_fields cs d w
+
+pub spelled-takes : (cs : List Case) (d : Bool) (w : ℕ) (step : Step) → spelled cs d w ≡ Ok step → Whole cs d w step
+spelled-takes [] d w step h = record { step_is = cc; fields_are = refl }
+spelled-takes (Send p v ∷ []) true w step h = record { step_is = cc; fields_are = refl }
+spelled-takes (Send p v ∷ []) false zero step h = cc
+spelled-takes (Send p v ∷ []) false (suc w) step h = record { step_is = cc; fields_are = refl }
+spelled-takes (Recv p ∷ []) true w step h = record { step_is = cc; fields_are = refl }
+spelled-takes (Recv p ∷ []) false zero step h = cc
+spelled-takes (Recv p ∷ []) false (suc w) step h = record { step_is = cc; fields_are = refl }
+spelled-takes (Send p v ∷ c ∷ cs) d w step h = record { step_is = cc; fields_are = refl }
+spelled-takes (Recv p ∷ c ∷ cs) d w step h = record { step_is = cc; fields_are = refl }
+
+few-ok : (b : Bool) (x : Result Entry Kind) (e : Entry) → cond b (Err BadStep) x ≡ Ok e → (b ≡ false) × (x ≡ Ok e)
+few-ok true x e h = cc
+few-ok false x e h = (refl, h)
+
+few-le : (n : ℕ) → nat_lt 16 n ≡ false → n ≤ 16
+few-le n h = grind (arith, common_steps)
+
+pub select-takes : (pid word : List ℕ) (fs : List (List ℕ)) (e : Entry) → read_select pid word (ends_default fs) ≡ Ok e → Spells (pid ∷ codes "select" ∷ word ∷ fs) e
+select-takes pid word fs e h =
+    let d = (ends_default fs).1 in
+    let o = bind_ok (drafts_of (ends_default fs).0) (λ ds. cond (nat_lt 16 (length ds)) (Err BadStep) (choose pid word (cases_of ds) d)) e h in
+    let ds = o.0 in
+    let few = few-ok (nat_lt 16 (length ds)) (choose pid word (cases_of ds) d) e o.2 in
+    let a = bind_ok (numeral 255 pid) (λ pid. numeral 18446744073709551615 word >>= λ word. cases_of ds >>= λ cases. spelled cases d word >>= λ step. Ok (by pid step)) e few.1 in
+    let b = bind_ok (numeral 18446744073709551615 word) (λ word. cases_of ds >>= λ cases. spelled cases d word >>= λ step. Ok (by a.0 step)) e a.2 in
+    let c = bind_ok (cases_of ds) (λ cases. spelled cases d b.0 >>= λ step. Ok (by a.0 step)) e b.2 in
+    let s = bind_ok (spelled c.0 d b.0) (λ step. Ok (by a.0 step)) e c.2 in
+    let x = numeral-ok 255 pid a.0 (omega arith) a.1 in
+    let y = numeral-ok 18446744073709551615 word b.0 (omega arith) b.1 in
+    let cases = cases-take ds c.0 c.1 in
+    let w = spelled-takes c.0 d b.0 s.0 s.1 in
+    let is : by a.0 (call c.0 d b.0) ≡ e = ap (by a.0) w.step_is ∙ (cc) in
+    let fields : fs ≡ map case_field c.0 ++ default_field d = ends-split fs ∙ ap (λ gs. gs ++ default_field d) (drafts-take (ends_default fs).0 ds o.1 ∙ cases.0) in
+    subst (Spells (pid ∷ codes "select" ∷ word ∷ fs)) is (
+      ap (λ f. f ∷ codes "select" ∷ word ∷ fs) x.0 ∙ ap (λ f. decimal a.0 ∷ codes "select" ∷ f ∷ fs) y.0
+          ∙ ap (λ gs. decimal a.0 ∷ codes "select" ∷ decimal b.0 ∷ gs) fields ∙ ap (λ gs. decimal a.0 ∷ gs) (sym w.fields_are),
+      record { pid = x.1; step = record { few = (let n = few-le (length ds) few.0 in omega (arith, cases.2)); each = cases.1; word_fits = y.1 } },
+    )
+
+pub choice-takes : (pid : List ℕ) (fs : List (List ℕ)) (e : Entry) → read_choice pid fs ≡ Ok e → Spells (pid ∷ codes "select" ∷ fs) e
+choice-takes pid [] e h = cc
+choice-takes pid (word ∷ fs) e h = select-takes pid word fs e h
+
+pub send-takes : (pid : List ℕ) (fs : List (List ℕ)) (e : Entry) → read_send pid fs ≡ Ok e → Spells (pid ∷ codes "send" ∷ fs) e
+send-takes pid [] e h = cc
+send-takes pid (p ∷ []) e h = cc
+send-takes pid (p ∷ v ∷ []) e h =
+    let a = bind_ok (numeral 255 pid) (λ pid. case_of (Sends p v) >>= λ c. Ok (by pid (call (c ∷ []) false 0))) e h in
+    let b = bind_ok (case_of (Sends p v)) (λ c. Ok (by a.0 (call (c ∷ []) false 0))) e a.2 in
+    let x = numeral-ok 255 pid a.0 (omega arith) a.1 in
+    let s = sends-takes p v b.0 b.1 in
+    let last : by a.0 (call (b.0 ∷ []) false 0) ≡ e = cc in
+    let is : by a.0 (call (Send (record { 0 = s.port }) (record { 0 = s.value }) ∷ []) false 0) ≡ e = ap (λ c. by a.0 (call (c ∷ []) false 0)) s.is ∙ last in
+    subst (Spells (pid ∷ codes "send" ∷ p ∷ v ∷ [])) is (
+      ap (λ f. f ∷ codes "send" ∷ p ∷ v ∷ []) x.0 ∙ ap (λ f. decimal a.0 ∷ codes "send" ∷ f ∷ v ∷ []) s.port_is ∙ ap (λ f. decimal a.0 ∷ codes "send" ∷ decimal s.port ∷ f ∷ []) s.value_is,
+      record { pid = x.1; step = record { few = omega arith; each = ((s.port_fits, s.value_fits), tt); word_fits = omega arith } },
+    )
+send-takes pid (p ∷ v ∷ q ∷ fs) e h = cc
+
+pub recv-takes : (pid : List ℕ) (fs : List (List ℕ)) (e : Entry) → read_recv pid fs ≡ Ok e → Spells (pid ∷ codes "recv" ∷ fs) e
+recv-takes pid [] e h = cc
+recv-takes pid (p ∷ []) e h =
+    let a = bind_ok (numeral 255 pid) (λ pid. case_of (Receives p) >>= λ c. Ok (by pid (call (c ∷ []) false 0))) e h in
+    let b = bind_ok (case_of (Receives p)) (λ c. Ok (by a.0 (call (c ∷ []) false 0))) e a.2 in
+    let x = numeral-ok 255 pid a.0 (omega arith) a.1 in
+    let s = receives-takes p b.0 b.1 in
+    let last : by a.0 (call (b.0 ∷ []) false 0) ≡ e = cc in
+    let is : by a.0 (call (Recv (record { 0 = s.port }) ∷ []) false 0) ≡ e = ap (λ c. by a.0 (call (c ∷ []) false 0)) s.is ∙ last in
+    subst (Spells (pid ∷ codes "recv" ∷ p ∷ [])) is (
+      ap (λ f. f ∷ codes "recv" ∷ p ∷ []) x.0 ∙ ap (λ f. decimal a.0 ∷ codes "recv" ∷ f ∷ []) s.port_is,
+      record { pid = x.1; step = record { few = omega arith; each = (s.port_fits, tt); word_fits = omega arith } },
+    )
+recv-takes pid (p ∷ q ∷ fs) e h = cc
+
+under : (pid word name : List ℕ) (fs : List (List ℕ)) (e : Entry) → same_text word name ≡ true → Spells (pid ∷ name ∷ fs) e → Spells (pid ∷ word ∷ fs) e
+under pid word name fs e same s = (ap (λ w. pid ∷ w ∷ fs) (same-true word name same) ∙ s.0, s.1)
+
+test : (b : Bool) (x y : Result Entry Kind) (e : Entry) (P : Type 0) → (b ≡ true → x ≡ Ok e → P) → (y ≡ Ok e → P) → cond b x y ≡ Ok e → P
+test true x y e P f g h = f refl h
+test false x y e P f g h = g h
+
+none : (e : Entry) (P : Type 0) → Err BadStep ≡ Ok e → P
+none e P h = cc
+
+pub step-takes : (pid word : List ℕ) (fs : List (List ℕ)) (e : Entry) → read_step pid word fs ≡ Ok e → Spells (pid ∷ word ∷ fs) e
+step-takes pid word fs e h =
+    let P : Type 0 = Spells (pid ∷ word ∷ fs) e in
+    test (same_text word (codes "make")) _ _ e P (λ b x. under pid word (codes "make") fs e b (make-takes pid fs e x))
+    (test (same_text word (codes "send")) _ _ e P (λ b x. under pid word (codes "send") fs e b (send-takes pid fs e x))
+    (test (same_text word (codes "recv")) _ _ e P (λ b x. under pid word (codes "recv") fs e b (recv-takes pid fs e x))
+    (test (same_text word (codes "select")) _ _ e P (λ b x. under pid word (codes "select") fs e b (choice-takes pid fs e x))
+    (test (same_text word (codes "close")) _ _ e P (λ b x. under pid word (codes "close") fs e b (close-spells pid fs e x))
+    (test (same_text word (codes "exit")) _ _ e P (λ b x. under pid word (codes "exit") fs e b (exit-takes pid fs e x)) (none e P)))))) h
+
+-- what fields say is what they spell
+pub fields-take : (fs : List (List ℕ)) (e : Entry) → read_fields fs ≡ Ok e → Spells fs e
+fields-take [] e h = cc
+fields-take (pid ∷ []) e h = cc
+fields-take (pid ∷ word ∷ fs) e h = step-takes pid word fs e h

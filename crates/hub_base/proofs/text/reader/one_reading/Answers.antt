@@ -1,0 +1,14 @@
+use Rattle.hub_base.proofs.Heads.{is-either, one-text, one-fault, apart}
+use Rattle.hub_base.proofs.text.reader.one_reading.Goals as goal
+
+pub returns-clause-some : goal.returns-clause-some
+returns-clause-some c = is-either
+
+pub returns-clause-text : goal.returns-clause-text
+returns-clause-text c = one-text
+
+pub returns-clause-fault : goal.returns-clause-fault
+returns-clause-fault c = one-fault
+
+pub returns-clause-apart : goal.returns-clause-apart
+returns-clause-apart c = apart

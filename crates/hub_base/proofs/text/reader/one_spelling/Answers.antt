@@ -1,0 +1,5 @@
+use Rattle.hub_base.proofs.Heads.{one-spelling}
+use Rattle.hub_base.proofs.text.reader.one_spelling.Goals as goal
+
+pub returns : goal.returns
+returns c = one-spelling

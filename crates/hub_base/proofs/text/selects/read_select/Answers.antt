@@ -1,0 +1,30 @@
+use Rattle.std.proofs.Common.{sym, ◌∙◌, ap, arith, ◌∷◌}
+use Rattle.hub_base.specs.Lines.{read_choice}
+use Rattle.hub_base.proofs.Gathered.{so_far, goes-ok, goes-late, goes-err, goes-many}
+use Rattle.hub_base.proofs.text.selects.read_select.Goals as goal
+
+pub returns-then-count-eq16 : goal.returns-then-count-eq16
+returns-then-count-eq16 c =
+    sym (ap (read_choice c.args.pid.now) c.in-Some.ensures
+    ∙ goes-many c.args.pid.now c.in-Some.word.now c.in-Some-next_field.field.now c.loop-field.fields c.next_field-in-loop-field.new.self c.loop-field.count (so_far c.loop-field.fine c.loop-field.cases.items) (read_choice c.args.pid.now (c.in-Some.word.now ∷ c.next_field.new.self)) c.in_ok-case.case c.loop-field.invariant.same c.in-Some-next_field.ensures (sym c.is_last_default.ensures ∙ c.if-is_last_default.false) (sym c.in_ok-case.was ∙ c.read_case.ensures) c.if-count-eq16.true)
+
+pub loop-field-preserved-then-fine : goal.loop-field-preserved-then-fine
+loop-field-preserved-then-fine c = record {
+  same = goes-ok c.args.pid.now c.in-Some.word.now c.in-Some-next_field.field.now c.loop-field.fields c.next_field-in-loop-field.new.self c.loop-field.count c.loop-field.fine c.loop-field.cases.items c.push.new.self.items (read_choice c.args.pid.now (c.in-Some.word.now ∷ c.next_field.new.self)) c.in_ok-case.case c.in-Ok.case c.loop-field.invariant.same c.in-Some-next_field.ensures (sym c.is_last_default.ensures ∙ c.if-is_last_default.false) (sym c.in_ok-case.was ∙ c.read_case.ensures) c.in-Ok.is c.push.ensures.items;
+  room = omega arith;
+  few = omega arith;
+}
+
+pub loop-field-preserved-else-fine : goal.loop-field-preserved-else-fine
+loop-field-preserved-else-fine c = record {
+  same = goes-late c.args.pid.now c.in-Some.word.now c.in-Some-next_field.field.now c.loop-field.fields c.next_field-in-loop-field.new.self c.loop-field.count c.loop-field.fine c.loop-field.cases.items (read_choice c.args.pid.now (c.in-Some.word.now ∷ c.next_field.new.self)) c.in_ok-case.case c.in-Ok.case c.loop-field.invariant.same c.in-Some-next_field.ensures (sym c.is_last_default.ensures ∙ c.if-is_last_default.false) (sym c.in_ok-case.was ∙ c.read_case.ensures) c.in-Ok.is c.if-fine.false;
+  room = omega arith;
+  few = omega arith;
+}
+
+pub loop-field-preserved : goal.loop-field-preserved
+loop-field-preserved c = record {
+  same = goes-err c.args.pid.now c.in-Some.word.now c.in-Some-next_field.field.now c.loop-field.fields c.next_field-in-loop-field.new.self c.loop-field.count c.loop-field.fine c.loop-field.cases.items (read_choice c.args.pid.now (c.in-Some.word.now ∷ c.next_field.new.self)) c.in_ok-case.case c.in-Err._number c.loop-field.invariant.same c.in-Some-next_field.ensures (sym c.is_last_default.ensures ∙ c.if-is_last_default.false) (sym c.in_ok-case.was ∙ c.read_case.ensures) c.in-Err.is;
+  room = omega arith;
+  few = omega arith;
+}

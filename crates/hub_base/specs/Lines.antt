@@ -1,0 +1,190 @@
+-- The fields of an entry's line, and what fields say.
+use Rattle.std.specs.Prelude.{ℕ, zero, ◌==◌, ◌&&◌, ◌||◌, not, nat_lt, nat_le, Bool, true, false, List, [], ◌∷◌, ◌++◌, length, map, codes, decimal, Option, None, Some, Result, Ok, Err, if◌then◌else◌}
+use Rattle.std.specs.List.{list_all, join_with_byte}
+use Rattle.std.specs.Char.{is_ascii_digit}
+use Rattle.std.specs.Str.Parse.{digits_value}
+use Rattle.hub_base.specs.declared.case.Case.{Case}
+use Rattle.hub_base.specs.declared.case.Case.TheVariants.{Send, Recv}
+use Rattle.hub_base.specs.declared.entry.Step.{Step}
+use Rattle.hub_base.specs.declared.entry.Step.TheVariants.{Make, Call, Close, Exit}
+use Rattle.hub_base.specs.declared.entry.Entry.{Entry}
+use Rattle.hub_base.specs.Value.{value_of, value_field}
+use Rattle.hub_base.specs.declared.text.faults.Kind.{Kind}
+use Rattle.hub_base.specs.declared.text.faults.Kind.TheVariants.{BadStep, BadNumber}
+
+-- ---- writing; 58 is the colon
+abbrev pub case_field : Case → List ℕ
+case_field (Send p v) = codes "s" ++ (decimal p.0 ++ 58 ∷ value_field v)
+case_field (Recv p) = codes "r" ++ decimal p.0
+
+abbrev pub default_field : Bool → List (List ℕ)
+default_field true = codes "default" ∷ []
+default_field false = []
+
+abbrev pub select_fields : List Case → Bool → ℕ → List (List ℕ)
+select_fields cases default word = codes "select" ∷ decimal word ∷ map case_field cases ++ default_field default
+
+-- a call of one case without default and with word 0 has a short form
+abbrev pub call_fields : List Case → Bool → ℕ → List (List ℕ)
+call_fields (Send p v ∷ []) false zero = codes "send" ∷ decimal p.0 ∷ value_field v ∷ []
+call_fields (Recv p ∷ []) false zero = codes "recv" ∷ decimal p.0 ∷ []
+call_fields cases default word = select_fields cases default word
+
+abbrev pub step_fields : Step → List (List ℕ)
+step_fields (Make cap) = codes "make" ∷ decimal cap ∷ []
+step_fields (Call cases default word) = call_fields cases.items default word
+step_fields (Close p) = codes "close" ∷ decimal p.0 ∷ []
+step_fields Exit = codes "exit" ∷ []
+
+abbrev pub line : Entry → List ℕ
+line e = join_with_byte 32 (decimal e.pid.0 ∷ step_fields e.step) ++ codes "\n"
+
+-- ---- reading
+abbrev pub same_text : List ℕ → List ℕ → Bool
+same_text [] [] = true
+same_text (x ∷ xs) (y ∷ ys) = (x == y) && same_text xs ys
+same_text [] (y ∷ ys) = false
+same_text (x ∷ xs) [] = false
+
+abbrev pub one_number : Bool → ℕ → ℕ → Option ℕ
+one_number false n most = None
+one_number true n most = if nat_le n most then Some n else None
+
+-- `0`, or a digit from 1 to 9 followed by digits, at most `most`
+abbrev pub is_numeral : List ℕ → Bool
+is_numeral [] = false
+is_numeral (c ∷ cs) = list_all is_ascii_digit (c ∷ cs) && (not (c == 48) || (length cs == 0))
+
+abbrev pub number : ℕ → List ℕ → Option ℕ
+number most bs = one_number (is_numeral bs) (digits_value 10 bs) most
+
+infixl 10 ◌>>=◌
+abbrev pub ◌>>=◌ : {A B : Type 0} → Result A Kind → (A → Result B Kind) → Result B Kind
+(Ok x) >>= f = f x
+(Err e) >>= f = Err e
+
+abbrev pub must : {A : Type 0} → Kind → Option A → Result A Kind
+must kind None = Err kind
+must kind (Some x) = Ok x
+
+abbrev pub numeral : ℕ → List ℕ → Result ℕ Kind
+numeral most bs = must BadNumber (number most bs)
+
+-- the pieces between single bytes of this kind: at least one
+abbrev pub join_front : ℕ → List (List ℕ) → List (List ℕ)
+join_front c [] = (c ∷ []) ∷ []
+join_front c (piece ∷ pieces) = (c ∷ piece) ∷ pieces
+
+-- these bytes put before the first piece
+abbrev pub joins : List ℕ → List (List ℕ) → List (List ℕ)
+joins xs [] = xs ∷ []
+joins xs (piece ∷ pieces) = (xs ++ piece) ∷ pieces
+
+abbrev pub pieces : ℕ → List ℕ → List (List ℕ)
+pieces mark [] = [] ∷ []
+pieces mark (c ∷ cs) = if c == mark then [] ∷ pieces mark cs else join_front c (pieces mark cs)
+
+-- a case as it stands: a letter, and its parts
+pub data Draft : Type 0 where
+  Sends : List ℕ → List ℕ → Draft
+  Receives : List ℕ → Draft
+
+abbrev pub send_draft : List (List ℕ) → Result Draft Kind
+send_draft (p ∷ v ∷ []) = Ok (Sends p v)
+send_draft other = Err BadStep
+
+abbrev pub recv_draft : List (List ℕ) → Result Draft Kind
+recv_draft (p ∷ []) = Ok (Receives p)
+recv_draft other = Err BadStep
+
+abbrev pub draft_of : List ℕ → Result Draft Kind
+draft_of [] = Err BadStep
+draft_of (c ∷ cs) = if c == 115 then send_draft (pieces 58 cs) else if c == 114 then recv_draft (pieces 58 cs) else Err BadStep
+
+abbrev pub drafts_of : List (List ℕ) → Result (List Draft) Kind
+drafts_of [] = Ok []
+drafts_of (f ∷ fs) = draft_of f >>= λ d. drafts_of fs >>= λ ds. Ok (d ∷ ds)
+
+abbrev pub case_of : Draft → Result Case Kind
+case_of (Sends p v) = numeral 65535 p >>= λ p. numeral 18446744073709551615 v >>= λ v. Ok (Send (record { 0 = p }) (value_of v))
+case_of (Receives p) = numeral 65535 p >>= λ p. Ok (Recv (record { 0 = p }))
+
+-- a fault of its shape, or else what its numbers say
+abbrev pub case_read : List ℕ → Result (Result Case Kind) Kind
+case_read field = draft_of field >>= λ draft. Ok (case_of draft)
+
+abbrev pub cases_of : List Draft → Result (List Case) Kind
+cases_of [] = Ok []
+cases_of (d ∷ ds) = case_of d >>= λ c. cases_of ds >>= λ cs. Ok (c ∷ cs)
+
+-- whether a field is a `default` with no field behind it
+abbrev pub last_default : List ℕ → List (List ℕ) → Bool
+last_default f [] = same_text f (codes "default")
+last_default f (g ∷ fs) = false
+
+-- the case fields, and whether a last `default` stands behind them
+abbrev pub ends_default : List (List ℕ) → (List (List ℕ)) × Bool
+ends_default [] = ([], false)
+ends_default (f ∷ []) = if same_text f (codes "default") then ([], true) else (f ∷ [], false)
+ends_default (f ∷ g ∷ fs) = (f ∷ (ends_default (g ∷ fs)).0, (ends_default (g ∷ fs)).1)
+
+abbrev pub by : ℕ → Step → Entry
+by pid step = record { pid = record { 0 = pid }; step = step }
+
+abbrev pub call : List Case → Bool → ℕ → Step
+call cases default word = Call (record { items = cases }) default word
+
+-- the second spelling of a call that has a short form
+abbrev pub spelled : List Case → Bool → ℕ → Result Step Kind
+spelled (c ∷ []) false zero = Err BadStep
+spelled cases default word = Ok (call cases default word)
+
+-- the numbers of a select, and then its spelling
+abbrev pub choose : List ℕ → List ℕ → Result (List Case) Kind → Bool → Result Entry Kind
+choose pid word cases default =
+    numeral 255 pid >>= λ pid. numeral 18446744073709551615 word >>= λ word.
+    cases >>= λ cases. spelled cases default word >>= λ step. Ok (by pid step)
+
+abbrev pub read_select : List ℕ → List ℕ → (List (List ℕ)) × Bool → Result Entry Kind
+read_select pid word fields =
+    drafts_of fields.0 >>= λ drafts.
+    if nat_lt 16 (length drafts) then Err BadStep else choose pid word (cases_of drafts) fields.1
+
+abbrev pub read_make : List ℕ → List (List ℕ) → Result Entry Kind
+read_make pid (cap ∷ []) = numeral 255 pid >>= λ pid. numeral 4294967295 cap >>= λ cap. Ok (by pid (Make cap))
+read_make pid other = Err BadStep
+
+abbrev pub read_send : List ℕ → List (List ℕ) → Result Entry Kind
+read_send pid (p ∷ v ∷ []) = numeral 255 pid >>= λ pid. case_of (Sends p v) >>= λ c. Ok (by pid (call (c ∷ []) false 0))
+read_send pid other = Err BadStep
+
+abbrev pub read_recv : List ℕ → List (List ℕ) → Result Entry Kind
+read_recv pid (p ∷ []) = numeral 255 pid >>= λ pid. case_of (Receives p) >>= λ c. Ok (by pid (call (c ∷ []) false 0))
+read_recv pid other = Err BadStep
+
+abbrev pub read_close : List ℕ → List (List ℕ) → Result Entry Kind
+read_close pid (p ∷ []) = numeral 255 pid >>= λ pid. numeral 65535 p >>= λ p. Ok (by pid (Close (record { 0 = p })))
+read_close pid other = Err BadStep
+
+abbrev pub read_exit : List ℕ → List (List ℕ) → Result Entry Kind
+read_exit pid [] = numeral 255 pid >>= λ pid. Ok (by pid Exit)
+read_exit pid other = Err BadStep
+
+abbrev pub read_choice : List ℕ → List (List ℕ) → Result Entry Kind
+read_choice pid [] = Err BadStep
+read_choice pid (word ∷ fields) = read_select pid word (ends_default fields)
+
+abbrev pub read_step : List ℕ → List ℕ → List (List ℕ) → Result Entry Kind
+read_step pid word rest =
+    if same_text word (codes "make") then read_make pid rest
+    else if same_text word (codes "send") then read_send pid rest
+    else if same_text word (codes "recv") then read_recv pid rest
+    else if same_text word (codes "select") then read_choice pid rest
+    else if same_text word (codes "close") then read_close pid rest
+    else if same_text word (codes "exit") then read_exit pid rest
+    else Err BadStep
+
+-- what the fields of a line say
+abbrev pub read_fields : List (List ℕ) → Result Entry Kind
+read_fields (pid ∷ word ∷ rest) = read_step pid word rest
+read_fields other = Err BadStep

@@ -1,0 +1,15 @@
+-- What every reader keeps.
+use Rattle.std.specs.Prelude.{ℕ, ◌≤◌, ◌+◌, length}
+use Rattle.hub_base.specs.declared.text.reader.Reader.TheInside.{Inside}
+use Rattle.hub_base.specs.Reading.{Reading, entries_from, rows}
+
+-- what the lines that are left say
+abbrev pub left_of : Inside → Reading
+left_of r = entries_from r.procs r.line r.place r.steps (rows r.rest.now)
+
+pub record ReaderKeeps (r : Inside) : Type 0 where
+  pub some : 1 ≤ r.procs
+  pub few : r.procs ≤ 64
+  pub place : r.place ≤ 67108864
+  pub line : r.line ≤ r.place + 3
+  pub steps : r.steps ≤ 1000000

@@ -1,0 +1,110 @@
+-- A whole text.
+use Rattle.std.specs.Prelude.{ℕ, ◌+◌, ◌==◌, ◌&&◌, not, nat_lt, nat_le, Bool, true, false, List, [], ◌∷◌, ◌++◌, length, codes, decimal, Option, None, Some, Result, Ok, Err, if◌then◌else◌}
+use Rattle.std.specs.List.{flat_map}
+use Rattle.hub_base.specs.declared.entry.Step.{Step}
+use Rattle.hub_base.specs.declared.entry.Step.TheVariants.{Make, Call, Close, Exit}
+use Rattle.hub_base.specs.declared.entry.Entry.{Entry}
+use Rattle.hub_base.specs.declared.text.faults.Kind.{Kind}
+use Rattle.hub_base.specs.declared.text.faults.Kind.TheVariants.{BadHeader, BadProcs, CutLine, TooLong}
+use Rattle.hub_base.specs.Lines.{line, pieces, read_fields, number, same_text}
+
+-- the second line without its newline
+abbrev pub procs_line : ℕ → List ℕ
+procs_line n = codes "procs " ++ decimal n
+
+abbrev pub head : ℕ → List ℕ
+head n = codes "chanhub journal 1\n" ++ (procs_line n ++ codes "\n")
+
+abbrev pub text : ℕ → List Entry → List ℕ
+text n es = head n ++ flat_map line es
+
+-- a line without its newline, and whether it has one
+pub record Row : Type 0 where
+  pub bytes : List ℕ
+  pub whole : Bool
+
+abbrev pub front : ℕ → List Row → List Row
+front c [] = record { bytes = c ∷ []; whole = false } ∷ []
+front c (r ∷ rs) = record { bytes = c ∷ r.bytes; whole = r.whole } ∷ rs
+
+-- the lines of a text
+abbrev pub rows : List ℕ → List Row
+rows [] = []
+rows (c ∷ cs) = if c == 10 then record { bytes = []; whole = true } ∷ rows cs else front c (rows cs)
+
+abbrev pub is_exit : Step → Bool
+is_exit (Make cap) = false
+is_exit (Call cases default word) = false
+is_exit (Close p) = false
+is_exit Exit = true
+
+-- the first fault, by its line
+pub data Reading : Type 0 where
+  Reads : ℕ → List Entry → Reading
+  Faulty : ℕ → Kind → Reading
+
+abbrev pub end_of : ℕ → Row → ℕ
+end_of start r = start + length r.bytes + (if r.whole then 1 else 0)
+
+-- what is wrong with the first line before anything is read of it
+abbrev pub row_fault : ℕ → Row → Option Kind
+row_fault end r = if nat_lt 67108864 end then Some TooLong else if r.whole then None else Some CutLine
+
+abbrev pub line_fault : ℕ → List Row → Option Kind
+line_fault start [] = None
+line_fault start (r ∷ rs) = row_fault (end_of start r) r
+
+abbrev pub faulty_or : ℕ → Reading → Option Kind → Reading
+faulty_or k said None = said
+faulty_or k said (Some kind) = Faulty k kind
+
+-- a line that passes the limit of bytes, or has no newline; else what it says
+abbrev pub within : ℕ → ℕ → Row → Reading → Reading
+within end k r said = faulty_or k said (row_fault end r)
+
+abbrev pub with_entry : Entry → Reading → Reading
+with_entry e (Reads n es) = Reads n (e ∷ es)
+with_entry e (Faulty k kind) = Faulty k kind
+
+abbrev pub counted : ℕ → Entry → ℕ
+counted steps e = if is_exit e.step then steps else steps + 1
+
+abbrev pub over : ℕ → Entry → Bool
+over steps e = not (is_exit e.step) && nat_le 1000000 steps
+
+-- goes: what the lines from the k-th on say, where the k-th begins at this byte and so many steps stand before it
+abbrev pub entry_says : ℕ → ℕ → Result Entry Kind → (Entry → Reading) → Reading
+entry_says k steps (Err kind) goes = Faulty k kind
+entry_says k steps (Ok e) goes = if over steps e then Faulty k TooLong else with_entry e (goes e)
+
+abbrev pub entries_from : ℕ → ℕ → ℕ → ℕ → List Row → Reading
+entries_from n k start steps [] = Reads n []
+entries_from n k start steps (r ∷ rs) =
+    within (end_of start r) k r (entry_says k steps (read_fields (pieces 32 r.bytes)) (λ e. entries_from n (k + 1) (end_of start r) (counted steps e) rs))
+
+abbrev pub procs_field : List (List ℕ) → Option ℕ
+procs_field (w ∷ n ∷ []) = if same_text w (codes "procs") then number 64 n else None
+procs_field other = None
+
+abbrev pub above_zero : Option ℕ → Option ℕ
+above_zero None = None
+above_zero (Some n) = if n == 0 then None else Some n
+
+-- the number of processes that the second line says
+abbrev pub procs_number : List ℕ → Option ℕ
+procs_number bytes = above_zero (procs_field (pieces 32 bytes))
+
+abbrev pub procs_say : Option ℕ → ℕ → List Row → Reading
+procs_say None start rs = Faulty 2 BadProcs
+procs_say (Some n) start rs = entries_from n 3 start 0 rs
+
+abbrev pub procs_from : ℕ → List Row → Reading
+procs_from start [] = Faulty 2 BadProcs
+procs_from start (r ∷ rs) = within (end_of start r) 2 r (procs_say (procs_number r.bytes) (end_of start r) rs)
+
+abbrev pub reading : List Row → Reading
+reading [] = Faulty 1 BadHeader
+reading (r ∷ rs) = within (end_of 0 r) 1 r (if same_text r.bytes (codes "chanhub journal 1") then procs_from (end_of 0 r) rs else Faulty 1 BadHeader)
+
+abbrev pub read_text : List ℕ → Reading
+read_text bs = reading (rows bs)

@@ -1,0 +1,41 @@
+-- Whole runs.
+use Rattle.std.specs.Prelude.{ℕ, List, [], ◌∷◌, ◌++◌, Option, None, Some}
+use Rattle.hub_base.specs.declared.entry.Entry.{Entry}
+use Rattle.hub_base.specs.declared.fault.Fault.{Fault}
+use Rattle.hub_base.specs.declared.event.Event.{Event}
+use Rattle.hub_base.specs.declared.event.What.TheVariants as what
+use Rattle.hub_base.specs.State.{State, opening}
+use Rattle.hub_base.specs.Steps.{Change, turn, refusal, tells}
+
+-- one entry, which is passed over where it is refused
+abbrev pub admits : State → Entry → Option Fault → Change
+admits s e None = turn s e
+admits s e (Some f) = record { state = s; events = tells e.pid (what.Fault f) ∷ [] }
+
+abbrev pub moves : State → Entry → Change
+moves s e = admits s e (refusal s e.pid)
+
+abbrev pub state_after : State → List Entry → State
+state_after s [] = s
+state_after s (e ∷ es) = state_after (moves s e).state es
+
+abbrev pub events_after : State → List Entry → List Event
+events_after s [] = []
+events_after s (e ∷ es) = (moves s e).events ++ events_after (moves s e).state es
+
+abbrev pub keeps : Option Fault → Entry → List Entry → List Entry
+keeps None e es = e ∷ es
+keeps (Some f) e es = es
+
+abbrev pub kept_after : State → List Entry → List Entry
+kept_after s [] = []
+kept_after s (e ∷ es) = keeps (refusal s e.pid) e (kept_after (moves s e).state es)
+
+abbrev pub state : ℕ → List Entry → State
+state n es = state_after (opening n) es
+
+abbrev pub events : ℕ → List Entry → List Event
+events n es = events_after (opening n) es
+
+abbrev pub kept : ℕ → List Entry → List Entry
+kept n es = kept_after (opening n) es

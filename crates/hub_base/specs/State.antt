@@ -1,0 +1,42 @@
+-- What a hub is at a moment: its processes, the calls that wait, and each channel's whole history.
+-- There is no buffer and no queue in it: those are the code's. Go: "Channel types".
+use Rattle.std.specs.Prelude.{ℕ, ◌-◌, ◌==◌, Bool, List, [], Option, None, drop, slice_get, slice_set, if◌then◌else◌}
+use Rattle.hub_base.specs.declared.value.Pid.{Pid}
+use Rattle.hub_base.specs.declared.value.Port.{Port}
+use Rattle.hub_base.specs.declared.value.Value.{Value}
+use Rattle.hub_base.specs.declared.case.Case.{Case}
+
+-- a call that waits
+pub record OpenCall : Type 0 where
+  pub pid : Pid
+  pub cases : List Case
+
+-- a channel: the values of all completed sends, oldest first, and how many of them were received
+pub record Channel : Type 0 where
+  pub cap : ℕ
+  pub closed : Bool
+  pub done : List Value
+  pub taken : ℕ
+
+-- the number of processes, those that have exited, the calls that wait in order of arrival, and the
+-- channels in order of making
+pub record State : Type 0 where
+  pub procs : ℕ
+  pub gone : List Pid
+  pub parked : List OpenCall
+  pub channels : List Channel
+
+-- n processes, and nothing made, gone or open
+abbrev pub opening : ℕ → State
+opening n = record { procs = n; gone = []; parked = []; channels = [] }
+
+-- the channel of a port. Ports are numbered from 1; port 0 is nil
+abbrev pub channel_at : State → Port → Option Channel
+channel_at s p = if p.0 == 0 then None else slice_get s.channels (p.0 - 1)
+
+abbrev pub with_channel : State → Port → Channel → State
+with_channel s p c = record s { channels = slice_set s.channels (p.0 - 1) c }
+
+-- what was sent and not yet received, oldest first
+abbrev pub buffer_of : Channel → List Value
+buffer_of c = drop c.taken c.done

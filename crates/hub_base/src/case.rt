@@ -1,0 +1,23 @@
+//! The communications of a call.
+
+use crate::{Port, Value};
+use arrayvec::ArrayVec;
+
+/// One communication of a call. Go: "Send statements", "Receive operator", "Select statements".
+#[derive(Clone, Copy, Debug, PartialEq, Eq)]
+pub enum Case {
+    /// Sends the value on the port.
+    Send(Port, Value),
+    /// Receives a value from the port.
+    Recv(Port),
+}
+
+/// A receive on the nil channel, which is never ready.
+impl Default for Case {
+    fn default() -> Case {
+        Case::Recv(Port(0))
+    }
+}
+
+/// The cases of a call, in order and numbered from 0. An entry holds up to 16; a call may have up to 8.
+pub type Cases = ArrayVec<Case, 16>;

@@ -1,0 +1,78 @@
+//! What a process asks of a hub.
+
+ghost use Rattle.std.specs.Prelude.{◌≡◌, ◌≤◌};
+
+use crate::{Cases, Pid, Port};
+
+/// One step of a process.
+#[derive(Debug, Drop, PartialEq, Eq)]
+pub enum Step {
+    /// Makes a port of this capacity, 0 for an unbuffered one. Above 1,024 the answer is `Fault::BadCap`.
+    Make(u32),
+    /// Sends or receives: one of the cases that can proceed fires, or the default is taken, or the call waits.
+    /// A plain send or receive is a call of one case without default and with word 0.
+    /// Go: "Select statements".
+    Call {
+        /// The communications, in order.
+        cases: Cases,
+        /// Whether there is a default.
+        default: bool,
+        /// Of `k` cases that can proceed, number `word mod k` fires, counted from 0 in case order.
+        word: u64,
+    },
+    /// Closes a port. Go: "Close".
+    Close(Port),
+    /// Ends the process: no later step of it is admitted.
+    Exit,
+}
+
+/// A step and the process that makes it.
+#[derive(Debug, Drop, PartialEq, Eq)]
+pub struct Entry {
+    pub pid: Pid,
+    pub step: Step,
+}
+
+impl Entry {
+    /// An equal entry. It takes no memory.
+    pub fn copy(&self) -> Entry
+        ensures { result ≡ self.now }
+    {
+        Entry {
+            pid: self.pid,
+            step: self.step.copy(),
+        }
+    }
+}
+
+impl Step {
+    fn copy(&self) -> Step
+        ensures { result ≡ self.now }
+    {
+        match self {
+            Step::Make(cap) => Step::Make(*cap),
+            Step::Call {
+                cases,
+                default,
+                word,
+            } => Step::Call {
+                cases: copy_cases(cases),
+                default: *default,
+                word: *word,
+            },
+            Step::Close(port) => Step::Close(*port),
+            Step::Exit => Step::Exit,
+        }
+    }
+}
+
+/// Equal cases. It takes no memory.
+pub fn copy_cases(cases: &Cases) -> Cases
+    ensures { result ≡ cases.now }
+{
+    let mut copy = Cases::new();
+    match copy.try_extend_from_slice(cases.as_slice()) {
+        Ok(()) => copy,
+        Err(_full) => unreachable!(),
+    }
+}

@@ -1,0 +1,56 @@
+//! What processes are told.
+
+use crate::{Fault, Pid, Port, Value};
+use arrayvec::ArrayVec;
+
+/// How a communication ended.
+#[derive(Clone, Copy, Debug, PartialEq, Eq)]
+pub enum Outcome {
+    /// A send: the value joined those sent.
+    Sent,
+    /// A receive: the oldest value not yet received.
+    Got(Value),
+    /// A receive on a closed and drained port. Go: the zero value, and false ("Receive operator").
+    Drained,
+    /// A send on a closed port. Go: it panics ("Send statements").
+    Closed,
+}
+
+/// What a process is told of its step, or of its open call when it ends.
+#[derive(Clone, Copy, Debug, PartialEq, Eq)]
+pub enum What {
+    /// The port was made.
+    Made(Port),
+    /// This case of the call fired.
+    Fired { case: u8, outcome: Outcome },
+    /// No case could proceed, and the call has a default. Go: "Select statements".
+    Default,
+    /// The close or the exit is done.
+    Done,
+    /// No case can proceed: the call is open, and another event ends it.
+    Parked,
+    /// Every process that has not exited waits, so no call could ever end.
+    Stalled,
+    /// The step had no effect.
+    Fault(Fault),
+}
+
+/// What one process is told.
+#[derive(Clone, Copy, Debug, PartialEq, Eq)]
+pub struct Event {
+    pub pid: Pid,
+    pub what: What,
+}
+
+impl Default for Event {
+    fn default() -> Event {
+        Event {
+            pid: Pid(0),
+            what: What::Done,
+        }
+    }
+}
+
+/// The events of one step: the caller's answer, then the calls that ended with it in order of arrival. A
+/// park after which 64 processes stall gives 65.
+pub type Events = ArrayVec<Event, 65>;

@@ -1,0 +1,58 @@
+//! Why a step had no effect.
+
+ghost use Rattle.std.specs.Prelude.{◌≡◌};
+
+use thiserror::Error;
+
+/// Why a step had no effect.
+///
+/// They are tested in the order 10, 1, 2, 3, 11, then those of 4 to 9 that apply, by number. Faults 4 to 9
+/// are answers to journaled steps, which change no channel and no open call. The others are refusals: the
+/// step is not journaled and nothing changes.
+#[derive(Clone, Copy, Debug, PartialEq, Eq, Error)]
+pub enum Fault {
+    /// 1: the process number is not below the number of processes.
+    #[error("no such process")]
+    NoProcess,
+    /// 2: the process has exited.
+    #[error("the process has exited")]
+    Gone,
+    /// 3: the process has an open call.
+    #[error("the process has an open call")]
+    Busy,
+    /// 4: a call has more than 8 cases.
+    #[error("too many cases")]
+    TooManyCases,
+    /// 5: a case or a close names a port other than 0 that was not made.
+    #[error("no such port")]
+    NoPort,
+    /// 6: a capacity above 1,024.
+    #[error("the capacity is too large")]
+    BadCap,
+    /// 7: 64 ports are made already.
+    #[error("too many ports")]
+    TooManyPorts,
+    /// 8: a close of port 0. Go: a close of the nil channel panics ("Close").
+    #[error("close of the nil port")]
+    NilClose,
+    /// 9: a close of a closed port. Go: it panics ("Close").
+    #[error("close of a closed port")]
+    AlreadyClosed,
+    /// 10: a step other than `Step::Exit`, where the journal holds as many of them as its limit allows.
+    #[error("the journal is full")]
+    JournalFull,
+    /// 11: a growth was refused.
+    #[error("out of memory")]
+    NoMemory,
+}
+
+impl Fault {
+    ghost use Rattle.hub_base.specs.Faults.{fault_number};
+
+    /// The fault's number, 1 to 11, as event texts print it.
+    pub fn number(self) -> u8
+        ensures { result ≡ fault_number self }
+    {
+        self as u8 + 1
+    }
+}

@@ -1,0 +1,28 @@
+//! The words of a hub of channels: values, steps and events, what they mean, and their texts.
+//!
+//! What a hub does is defined in `specs/`: `State` (what a hub is), `Ready` (which cases can proceed),
+//! `Steps` (what one step does), `Runs` (lists of steps) and `Values` (what was sent and received). What a
+//! journal's text says is defined in `Lines`, `Text` and `Reading`, and an event's text in `EventText`.
+#![tactic(auto)]
+
+mod case;
+mod counts;
+mod entry;
+mod event;
+mod fault;
+mod journal;
+#[cfg(test)]
+mod tests;
+mod text;
+mod value;
+
+pub use case::{Case, Cases};
+pub use counts::{Counts, Look};
+pub use entry::{Entry, Step, copy_cases};
+pub use event::{Event, Events, Outcome, What};
+pub use fault::Fault;
+pub use journal::Journal;
+pub use text::faults::{Kind, NoMemory, ReadFault, TextFault};
+pub use text::reader::{Reader, one_reading, one_spelling, read_journal};
+pub use text::writer::{write_entry, write_event, write_head};
+pub use value::{Pid, Port, Value};

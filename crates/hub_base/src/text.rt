@@ -1,0 +1,10 @@
+//! Texts of journals and of events.
+
+pub mod faults;
+pub mod fields;
+pub mod lines;
+pub mod numbers;
+pub mod reader;
+pub mod selects;
+pub mod steps;
+pub mod writer;

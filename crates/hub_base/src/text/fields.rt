@@ -1,0 +1,62 @@
+//! The fields of a line.
+ghost use Rattle.std.specs.Prelude.{◌≡◌, ◌∷◌, [], MatchOption, List, ◌++◌, ℕ, ◌↔◌, IsTrue};
+ghost use Rattle.hub_base.specs.Lines.{pieces, join_front};
+
+use std::marker::Model;
+
+/// The fields that are left, seen as their list.
+#[derive(Drop)]
+pub struct Fields<'a> {
+    mark: u8,
+    rest: Option<&'a [u8]>,
+}
+
+impl<'a> Model for Fields<'a> {
+    ghost use Rattle.std.specs.Prelude.{List, ℕ};
+    ghost use Rattle.hub_base.specs.Left.{pieces_left};
+
+    ghost Value = { List (List ℕ) };
+
+    ghost view = { λ f. pieces_left f.mark f.rest };
+}
+
+/// The piece before the first mark, and what stands behind that mark.
+fn cut(bytes: &[u8], mark: u8) -> (&[u8], Option<&[u8]>)
+    ensures { MatchOption result.1 (pieces mark bytes.now ≡ result.0.now ∷ []) (λ rest. pieces mark bytes.now ≡ result.0.now ∷ pieces mark rest.now) }
+{
+    for (i, b) in bytes.iter().enumerate() {
+        if *b == mark {
+            return (&bytes[..i], Some(&bytes[i + 1..]));
+        }
+    }
+    (bytes, None)
+}
+
+impl<'a> Fields<'a> {
+    /// The fields of a line.
+    pub fn of(bytes: &'a [u8], mark: u8) -> Fields<'a>
+        ensures { result ≡ pieces mark bytes.now }
+    {
+        Fields {
+            mark,
+            rest: Some(bytes),
+        }
+    }
+
+    /// The next field.
+    pub fn next_field(&mut self) -> Option<&'a [u8]>
+        ensures { MatchOption result ((self.old ≡ []) × (self.new ≡ [])) (λ field. self.old ≡ field.now ∷ self.new) }
+    {
+        let rest = self.rest?;
+        let (field, left) = cut(rest, self.mark);
+        self.rest = left;
+        Some(field)
+    }
+
+    /// Whether no field is left.
+    pub fn is_done(&self) -> bool
+        ensures { IsTrue result ↔ (self.now ≡ []) }
+    {
+        self.rest.is_none()
+    }
+}

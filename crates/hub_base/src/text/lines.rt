@@ -1,0 +1,50 @@
+//! The lines of a text.
+ghost use Rattle.std.specs.Prelude.{◌≡◌, ◌+◌, ◌<◌, ◌≤◌, ◌∷◌, [], ℕ, length, MatchOption, IfOk, IfErr, IfSome, Some, true, false};
+ghost use Rattle.hub_base.specs.Reading.{rows, line_fault};
+
+use crate::Kind;
+use memchr::memchr;
+
+/// The most bytes of a text.
+pub const MOST_BYTES: usize = 67108864;
+
+/// The first line, and what stands behind its newline.
+fn cut_line(bytes: &[u8]) -> Option<(&[u8], &[u8])>
+    requires { 0 < length bytes.now }
+    ensures rows { MatchOption result
+        (rows bytes.now ≡ record { bytes = bytes.now; whole = false } ∷ [])
+        (λ x. rows bytes.now ≡ record { bytes = x.0.now; whole = true } ∷ rows x.1.now) }
+    ensures left { IfSome result (λ x. length x.0.now + length x.1.now + 1 ≡ length bytes.now) }
+{
+    match memchr(b'\n', bytes) {
+        Some(end) => Some((&bytes[..end], &bytes[end + 1..])),
+        None => None,
+    }
+}
+
+/// The first line, and what stands behind it, where the line begins at this place.
+pub fn line_at(bytes: &[u8], place: usize) -> Result<(&[u8], &[u8]), Kind>
+    requires some { 0 < length bytes.now }
+    requires place { place ≤ 67108864 }
+    ensures line { IfOk result (λ x. rows bytes.now ≡ record { bytes = x.0.now; whole = true } ∷ rows x.1.now) }
+    ensures left { IfOk result (λ x. length x.0.now + length x.1.now + 1 ≡ length bytes.now) }
+    ensures fits { IfOk result (λ x. place + length x.0.now + 1 ≤ 67108864) }
+    ensures fault { IfErr result (λ kind. line_fault place (rows bytes.now) ≡ Some kind) }
+{
+    match cut_line(bytes) {
+        Some((line, rest)) => {
+            if line.len() < MOST_BYTES - place {
+                Ok((line, rest))
+            } else {
+                Err(Kind::TooLong)
+            }
+        }
+        None => {
+            if bytes.len() <= MOST_BYTES - place {
+                Err(Kind::CutLine)
+            } else {
+                Err(Kind::TooLong)
+            }
+        }
+    }
+}

@@ -1,0 +1,232 @@
+//! Reading a journal: entry by entry, and whole.
+//!
+//! A text is cut into lines. The first faulty line decides, and of its faults the first in the order of
+//! tests: too many bytes, no newline, the head lines, the shape of a step, its numbers, its spelling, too
+//! many steps.
+
+ghost use Rattle.std.specs.Prelude.{◌≡◌, ◌≤◌, ℕ, IfOk, IfErr, List, ◌++◌, MatchResult};
+ghost use Rattle.hub_base.specs.Lines.{line};
+ghost use Rattle.hub_base.specs.Reading.{read_text, procs_number, procs_from, rows, is_exit};
+ghost use Rattle.hub_base.specs.Answers.{Gives, IsFaultOf};
+ghost use Rattle.hub_base.specs.Text.{IsText, IsFaulty, IsEither, Fits};
+ghost use Rattle.hub_base.specs.Reading.Reading.{Reads, Faulty};
+ghost use Rattle.hub_base.specs.Reader.{ReadsOn};
+ghost use Rattle.hub_base.specs.declared.entry.Entry.{Entry};
+ghost use Rattle.hub_base.specs.declared.text.faults.Kind.{Kind};
+
+use crate::text::fields::Fields;
+use crate::text::lines::line_at;
+use crate::text::numbers::number;
+use crate::text::steps::{read_line, same_text};
+use crate::{Entry, Journal, Kind, ReadFault, Step, TextFault};
+use std::alloc::Global;
+use std::marker::Model;
+
+/// The most steps of a journal that are no exits.
+const MOST_STEPS: u32 = 1_000_000;
+
+/// Whether the entry is an exit.
+fn is_exit(entry: &Entry) -> bool
+    ensures { result ≡ is_exit entry.now.step }
+{
+    matches!(&entry.step, Step::Exit)
+}
+
+/// The number of processes that the second line says.
+fn procs_number(line: &[u8]) -> Option<u8>
+    ensures value { result ≡ procs_number line.now }
+{
+    let mut fields = Fields::of(line, b' ');
+    let Some(word) = fields.next_field() else {
+        return None;
+    };
+    let Some(procs) = fields.next_field() else {
+        return None;
+    };
+    if fields.next_field().is_some() || !same_text(word, b"procs") {
+        return None;
+    }
+    match number(procs, 64) {
+        Some(procs) => { if procs == 0 { None } else { Some(procs as u8) } }
+        None => None,
+    }
+}
+
+/// Reads a journal's text, one entry at a time, and takes no memory.
+#[derive(Drop)]
+pub struct Reader<'a> {
+    procs: u8,
+    /// What is left to be read; its first line has this number, and begins at this place of the text.
+    rest: &'a [u8],
+    line: u32,
+    place: usize,
+    /// How many entries that are no exits were read.
+    steps: u32,
+}
+
+impl<'a> Model for Reader<'a> {
+    ghost use Rattle.std.specs.Prelude.{length};
+    ghost use Rattle.hub_base.specs.Reader.{ReaderView};
+
+    ghost Value = { ReaderView };
+
+    ghost use Rattle.hub_base.specs.ReaderKeeps.{ReaderKeeps, left_of};
+
+    ghost view = { λ r. record { procs = r.procs; left = left_of r; bytes = length r.rest.now } };
+
+    ghost invariant = { λ r. ReaderKeeps r };
+}
+
+/// The reader behind the second line, which begins at this place.
+fn open_entries(bytes: &[u8], place: usize) -> Result<Reader<'_>, Kind>
+    requires place { place ≤ 67108864 }
+    ensures { MatchResult result (λ r. procs_from place (rows bytes.now) ≡ r.left) (λ kind. procs_from place (rows bytes.now) ≡ Faulty 2 kind) }
+{
+    if bytes.is_empty() {
+        return Err(Kind::BadProcs);
+    }
+    let (line, rest) = match line_at(bytes, place) {
+        Ok(parts) => parts,
+        Err(kind) => return Err(kind),
+    };
+    match procs_number(line) {
+        None => Err(Kind::BadProcs),
+        Some(procs) => Ok(Reader {
+            procs,
+            rest,
+            line: 3,
+            place: place + line.len() + 1,
+            steps: 0,
+        }),
+    }
+}
+
+impl<'a> Reader<'a> {
+    /// Reads the two head lines.
+    pub fn open(bytes: &'a [u8]) -> Result<Reader<'a>, TextFault>
+        ensures ok { IfOk result (λ r. read_text bytes.now ≡ r.left) }
+        ensures fault { IfErr result (λ f. read_text bytes.now ≡ Faulty f.line f.kind) }
+    {
+        if bytes.is_empty() {
+            return Err(TextFault {
+                line: 1,
+                kind: Kind::BadHeader,
+            });
+        }
+        let (line, rest) = match line_at(bytes, 0) {
+            Ok(parts) => parts,
+            Err(kind) => return Err(TextFault { line: 1, kind }),
+        };
+        if !same_text(line, b"chanhub journal 1") {
+            return Err(TextFault {
+                line: 1,
+                kind: Kind::BadHeader,
+            });
+        }
+        match open_entries(rest, line.len() + 1) {
+            Ok(reader) => Ok(reader),
+            Err(kind) => Err(TextFault { line: 2, kind }),
+        }
+    }
+
+    /// The number of processes.
+    pub fn procs(&self) -> u8
+        ensures value { result ≡ self.now.procs }
+        ensures range { (1 ≤ result) × (result ≤ 64) }
+    {
+        self.procs
+    }
+
+    /// The next entry, or `None` at the end of the text. After a fault the reader stays where it is.
+    pub fn next_entry(&mut self) -> Result<Option<Entry>, TextFault>
+        ensures { ReadsOn self.old self.new result }
+    {
+        if self.rest.is_empty() {
+            return Ok(None);
+        }
+        let (text, after) = match line_at(self.rest, self.place) {
+            Ok(parts) => parts,
+            Err(kind) => return Err(TextFault {
+                line: self.line,
+                kind,
+            }),
+        };
+        let entry = match read_line(text) {
+            Ok(entry) => entry,
+            Err(kind) => return Err(TextFault {
+                line: self.line,
+                kind,
+            }),
+        };
+        if !is_exit(&entry) {
+            if self.steps == MOST_STEPS {
+                return Err(TextFault {
+                    line: self.line,
+                    kind: Kind::TooLong,
+                });
+            }
+            self.steps += 1;
+        }
+        self.place += text.len() + 1;
+        self.line += 1;
+        self.rest = after;
+        Ok(Some(entry))
+    }
+}
+
+/// The journal of the entries that are left.
+fn collect_entries(alloc: Global, mut reader: Reader) -> Result<Journal, ReadFault>
+    ensures { Gives result reader.entry.left }
+{
+    let procs = reader.procs();
+    let mut entries = Vec::new(alloc);
+    loop {
+        match reader.next_entry() {
+            Ok(Some(entry)) => {
+                if entries.push(entry).is_err() {
+                    return Err(ReadFault::NoMemory);
+                }
+            }
+            Ok(None) => return Ok(Journal::of(procs, entries)),
+            Err(fault) => return Err(ReadFault::Text(fault)),
+        }
+    }
+}
+
+fn read_all(alloc: Global, bytes: &[u8]) -> Result<Journal, ReadFault>
+    ensures { Gives result (read_text bytes.now) }
+{
+    match Reader::open(bytes) {
+        Ok(reader) => collect_entries(alloc, reader),
+        Err(fault) => Err(ReadFault::Text(fault)),
+    }
+}
+
+/// The journal that a text says.
+pub fn read_journal(alloc: Global, bytes: &[u8]) -> Result<Journal, ReadFault>
+    // What is read is so spelled, each byte of it.
+    ensures found { IfOk result (λ j. IsText bytes.now j.procs j.entries) }
+    // What is so spelled is read, unless memory is refused.
+    ensures only { (n : ℕ) (es : List Entry) → IsText bytes.now n es → Gives result (Reads n es) }
+    // A fault is the first one.
+    ensures faulty { IfErr result (λ f. IsFaultOf bytes.now f) }
+    // What is faulty is refused for its first fault, unless memory is refused.
+    ensures refused { (k : ℕ) (kind : Kind) → IsFaulty bytes.now k kind → Gives result (Faulty k kind) }
+    // What is answered is computed so.
+    ensures exact { Gives result (read_text bytes.now) }
+{
+    read_all(alloc, bytes)
+}
+
+/// Each list of bytes is a text or faulty, and not both, in one way.
+pub fn one_reading()
+    ensures some { (bytes : List ℕ) → IsEither bytes }
+    ensures text { (bytes : List ℕ) (n m : ℕ) (es fs : List Entry) → IsText bytes n es → IsText bytes m fs → (n ≡ m) × (es ≡ fs) }
+    ensures fault { (bytes : List ℕ) (j k : ℕ) (kind other : Kind) → IsFaulty bytes j kind → IsFaulty bytes k other → (j ≡ k) × (kind ≡ other) }
+    ensures apart { (bytes : List ℕ) (n k : ℕ) (es : List Entry) (kind : Kind) → IsText bytes n es → IsFaulty bytes k kind → ⊥ }
+{}
+
+/// No spelling begins another.
+pub fn one_spelling()
+    ensures { (e f : Entry) (x y : List ℕ) → Fits e → Fits f → line e ++ x ≡ line f ++ y → (e ≡ f) × (x ≡ y) }
+{}

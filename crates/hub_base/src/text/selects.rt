@@ -1,0 +1,97 @@
+//! Reading a select.
+ghost use Rattle.std.specs.Prelude.{◌≡◌, ◌≤◌, Result, Ok, Err, if◌then◌else◌, ◌<◌};
+ghost use Rattle.hub_base.specs.Lines.{read_choice, case_read, choose, last_default};
+ghost use Rattle.hub_base.specs.declared.text.faults.Kind.TheVariants.{BadNumber};
+ghost use Rattle.arrayvec.specs.ArrayVec.{array_vec_len};
+
+use crate::text::fields::Fields;
+use crate::text::steps::{numeral, recv_of, same_text, send_of};
+use crate::{Case, Cases, Entry, Kind, Pid, Step};
+
+/// What a case field says: a fault of its shape, or else a case or a fault of its numbers.
+fn read_case(field: &[u8]) -> Result<Result<Case, Kind>, Kind>
+    ensures { result ≡ case_read field.now }
+{
+    let Some((letter, parts)) = field.split_first() else {
+        return Err(Kind::BadStep);
+    };
+    let mut parts = Fields::of(parts, b':');
+    let Some(port) = parts.next_field() else {
+        return Err(Kind::BadStep);
+    };
+    if *letter == b's' {
+        let Some(value) = parts.next_field() else {
+            return Err(Kind::BadStep);
+        };
+        if parts.next_field().is_some() {
+            return Err(Kind::BadStep);
+        }
+        Ok(send_of(port, value))
+    } else if *letter == b'r' {
+        if parts.next_field().is_some() {
+            return Err(Kind::BadStep);
+        }
+        Ok(recv_of(port))
+    } else {
+        Err(Kind::BadStep)
+    }
+}
+
+/// Whether the field is a `default` with no field behind it.
+fn is_last_default(field: &[u8], fields: &Fields) -> bool
+    ensures { result ≡ last_default field.now fields.now }
+{
+    fields.is_done() && same_text(field, b"default")
+}
+
+/// The call whose fields have the right shape.
+fn choose(pid: &[u8], word: &[u8], cases: Cases, fine: bool, default: bool) -> Result<Entry, Kind>
+    ensures { result ≡ choose pid.now word.now (if fine then Ok cases.items else Err BadNumber) default }
+{
+    let pid = numeral(pid, 255)?;
+    let word = numeral(word, 18446744073709551615)?;
+    if !fine {
+        return Err(Kind::BadNumber);
+    }
+    if cases.len() == 1 && !default && word == 0 {
+        return Err(Kind::BadStep);
+    }
+    Ok(Entry {
+        pid: Pid(pid as u8),
+        step: Step::Call {
+            cases,
+            default,
+            word,
+        },
+    })
+}
+
+pub fn read_select(pid: &[u8], fields: &mut Fields) -> Result<Entry, Kind>
+    ensures { result ≡ read_choice pid.now fields.old }
+{
+    let Some(word) = fields.next_field() else {
+        return Err(Kind::BadStep);
+    };
+    let mut cases = Cases::new();
+    let mut fine = true;
+    let mut count: u8 = 0;
+    while let Some(field) = fields.next_field() {
+        if is_last_default(field, fields) {
+            return choose(pid, word, cases, fine, true);
+        }
+        let case = read_case(field)?;
+        if count == 16 {
+            return Err(Kind::BadStep);
+        }
+        count += 1;
+        match case {
+            Ok(case) => {
+                if fine {
+                    cases.push(case);
+                }
+            }
+            Err(_number) => fine = false,
+        }
+    }
+    choose(pid, word, cases, fine, false)
+}

@@ -1,0 +1,167 @@
+//! Reading an entry from its fields.
+ghost use Rattle.std.specs.Prelude.{◌≡◌, ◌^◌, ◌≤◌, ◌<◌, ◌∷◌, [], false, IfOk};
+ghost use Rattle.hub_base.specs.Lines.{numeral, read_close, read_make, read_exit, read_send, read_recv, read_step, read_fields, pieces, case_of, by, call, same_text};
+ghost use Rattle.hub_base.specs.Lines.Draft.{Sends, Receives};
+
+use crate::text::fields::Fields;
+use crate::text::numbers::number;
+use crate::text::selects::read_select;
+use crate::{Case, Cases, Entry, Kind, Pid, Port, Step, Value};
+
+pub fn numeral(bytes: &[u8], most: u64) -> Result<u64, Kind>
+    ensures value { result ≡ numeral most bytes.now }
+    ensures bound { IfOk result (λ n. n ≤ most) }
+{
+    number(bytes, most).ok_or(Kind::BadNumber)
+}
+
+pub fn same_text(a: &[u8], b: &[u8]) -> bool
+    ensures { result ≡ same_text a.now b.now }
+{
+    a == b
+}
+
+/// The case that sends.
+pub fn send_of(port: &[u8], value: &[u8]) -> Result<Case, Kind>
+    ensures { result ≡ case_of (Sends port.now value.now) }
+{
+    let port = numeral(port, 65535)?;
+    let value = numeral(value, 18446744073709551615)?;
+    Ok(Case::Send(Port(port as u16), Value::num(value)))
+}
+
+/// The case that receives.
+pub fn recv_of(port: &[u8]) -> Result<Case, Kind>
+    ensures { result ≡ case_of (Receives port.now) }
+{
+    let port = numeral(port, 65535)?;
+    Ok(Case::Recv(Port(port as u16)))
+}
+
+/// A call of one case.
+fn lone(pid: u8, case: Case) -> Entry
+    ensures { result ≡ by pid (call (case ∷ []) false 0) }
+{
+    let mut cases = Cases::new();
+    cases.push(case);
+    Entry {
+        pid: Pid(pid),
+        step: Step::Call {
+            cases,
+            default: false,
+            word: 0,
+        },
+    }
+}
+
+fn read_make(pid: &[u8], fields: &mut Fields) -> Result<Entry, Kind>
+    ensures { result ≡ read_make pid.now fields.old }
+{
+    let Some(cap) = fields.next_field() else {
+        return Err(Kind::BadStep);
+    };
+    if fields.next_field().is_some() {
+        return Err(Kind::BadStep);
+    }
+    let pid = numeral(pid, 255)?;
+    let cap = numeral(cap, 4294967295)?;
+    Ok(Entry {
+        pid: Pid(pid as u8),
+        step: Step::Make(cap as u32),
+    })
+}
+
+fn read_send(pid: &[u8], fields: &mut Fields) -> Result<Entry, Kind>
+    ensures { result ≡ read_send pid.now fields.old }
+{
+    let Some(port) = fields.next_field() else {
+        return Err(Kind::BadStep);
+    };
+    let Some(value) = fields.next_field() else {
+        return Err(Kind::BadStep);
+    };
+    if fields.next_field().is_some() {
+        return Err(Kind::BadStep);
+    }
+    let pid = numeral(pid, 255)?;
+    let case = send_of(port, value)?;
+    Ok(lone(pid as u8, case))
+}
+
+fn read_recv(pid: &[u8], fields: &mut Fields) -> Result<Entry, Kind>
+    ensures { result ≡ read_recv pid.now fields.old }
+{
+    let Some(port) = fields.next_field() else {
+        return Err(Kind::BadStep);
+    };
+    if fields.next_field().is_some() {
+        return Err(Kind::BadStep);
+    }
+    let pid = numeral(pid, 255)?;
+    let case = recv_of(port)?;
+    Ok(lone(pid as u8, case))
+}
+
+fn read_close(pid: &[u8], fields: &mut Fields) -> Result<Entry, Kind>
+    ensures { result ≡ read_close pid.now fields.old }
+{
+    let Some(port) = fields.next_field() else {
+        return Err(Kind::BadStep);
+    };
+    if fields.next_field().is_some() {
+        return Err(Kind::BadStep);
+    }
+    let pid = numeral(pid, 255)?;
+    let port = numeral(port, 65535)?;
+    Ok(Entry {
+        pid: Pid(pid as u8),
+        step: Step::Close(Port(port as u16)),
+    })
+}
+
+fn read_exit(pid: &[u8], fields: &mut Fields) -> Result<Entry, Kind>
+    ensures { result ≡ read_exit pid.now fields.old }
+{
+    if fields.next_field().is_some() {
+        return Err(Kind::BadStep);
+    }
+    let pid = numeral(pid, 255)?;
+    Ok(Entry {
+        pid: Pid(pid as u8),
+        step: Step::Exit,
+    })
+}
+
+fn read_step(pid: &[u8], word: &[u8], fields: &mut Fields) -> Result<Entry, Kind>
+    ensures { result ≡ read_step pid.now word.now fields.old }
+{
+    if same_text(word, b"make") {
+        read_make(pid, fields)
+    } else if same_text(word, b"send") {
+        read_send(pid, fields)
+    } else if same_text(word, b"recv") {
+        read_recv(pid, fields)
+    } else if same_text(word, b"select") {
+        read_select(pid, fields)
+    } else if same_text(word, b"close") {
+        read_close(pid, fields)
+    } else if same_text(word, b"exit") {
+        read_exit(pid, fields)
+    } else {
+        Err(Kind::BadStep)
+    }
+}
+
+/// What a line without its newline says.
+pub fn read_line(line: &[u8]) -> Result<Entry, Kind>
+    ensures { result ≡ read_fields (pieces 32 line.now) }
+{
+    let mut fields = Fields::of(line, b' ');
+    let Some(pid) = fields.next_field() else {
+        return Err(Kind::BadStep);
+    };
+    let Some(word) = fields.next_field() else {
+        return Err(Kind::BadStep);
+    };
+    read_step(pid, word, &mut fields)
+}

@@ -1,0 +1,234 @@
+//! Writing journals and events: each function appends exactly one spelling, or changes nothing.
+
+ghost use Rattle.std.specs.Prelude.{◌≡◌, ◌++◌, ◌∷◌, [], codes, decimal, OnOk, OnErr, take, length, is_ok, if◌then◌else◌, ℕ, ◌^◌, ◌<◌, ◌≤◌, Contains, List};
+ghost use Rattle.hub_base.specs.EventText.{event_line, what_text, outcome_text};
+ghost use Rattle.hub_base.specs.Faults.{fault_number};
+ghost use Rattle.hub_base.specs.Lines.{case_field, select_fields, call_fields, step_fields, line};
+ghost use Rattle.hub_base.specs.Reading.{head};
+ghost use Rattle.hub_base.specs.Writing.{spaced, spaced_cases};
+ghost use Rattle.hub_base.specs.Value.{value_field};
+
+use crate::{Case, Entry, Event, NoMemory, Outcome, Step, Value, What};
+use itoa::Buffer;
+use std::alloc::AllocError;
+
+fn put(out: &mut Vec<u8>, bytes: &[u8]) -> Result<(), AllocError>
+    ensures { out.new.items ≡ (if is_ok result then out.old.items ++ bytes.now else out.old.items) }
+{
+    out.extend_from_slice(bytes)
+}
+
+fn put_number(out: &mut Vec<u8>, n: u64) -> Result<(), AllocError>
+    ensures { out.new.items ≡ (if is_ok result then out.old.items ++ decimal n else out.old.items) }
+{
+    let mut buffer = Buffer::new();
+    put(out, buffer.format(n).as_bytes())
+}
+
+/// The value as its text spells it.
+fn put_value(out: &mut Vec<u8>, value: Value) -> Result<(), AllocError>
+    ensures { out.new.items ≡ (if is_ok result then out.old.items ++ value_field value else out.old.items) }
+{
+    put_number(out, value.number())
+}
+
+fn put_outcome(out: &mut Vec<u8>, outcome: Outcome) -> Result<(), AllocError>
+    ensures ok { OnOk result (out.new.items ≡ out.old.items ++ outcome_text outcome) }
+    ensures err { OnErr result ((rest : List ℕ) × (out.new.items ≡ out.old.items ++ rest)) }
+{
+    match outcome {
+        Outcome::Sent => put(out, b" sent"),
+        Outcome::Got(value) => {
+            put(out, b" got ")?;
+            put_value(out, value)
+        }
+        Outcome::Drained => put(out, b" drained"),
+        Outcome::Closed => put(out, b" closed"),
+    }
+}
+
+fn put_what(out: &mut Vec<u8>, what: What) -> Result<(), AllocError>
+    ensures ok { OnOk result (out.new.items ≡ out.old.items ++ what_text what) }
+    ensures err { OnErr result ((rest : List ℕ) × (out.new.items ≡ out.old.items ++ rest)) }
+{
+    match what {
+        What::Made(port) => {
+            put(out, b" made ")?;
+            put_number(out, port.0.into())
+        }
+        What::Fired { case, outcome } => {
+            put(out, b" case ")?;
+            put_number(out, case.into())?;
+            put_outcome(out, outcome)
+        }
+        What::Default => put(out, b" default"),
+        What::Done => put(out, b" done"),
+        What::Parked => put(out, b" parked"),
+        What::Stalled => put(out, b" stalled"),
+        What::Fault(fault) => {
+            put(out, b" fault ")?;
+            put_number(out, fault.number().into())
+        }
+    }
+}
+
+fn put_event(out: &mut Vec<u8>, event: &Event) -> Result<(), AllocError>
+    ensures ok { OnOk result (out.new.items ≡ out.old.items ++ event_line event.now) }
+    ensures err { OnErr result ((rest : List ℕ) × (out.new.items ≡ out.old.items ++ rest)) }
+{
+    put_number(out, event.pid.0.into())?;
+    put_what(out, event.what)?;
+    put(out, b"\n")
+}
+
+/// Appends the event's line, or nothing.
+pub fn write_event(out: &mut Vec<u8>, event: &Event) -> Result<(), NoMemory>
+    ensures ok { OnOk result (out.new.items ≡ out.old.items ++ event_line event.now) }
+    ensures err { OnErr result (out.new.items ≡ out.old.items) }
+{
+    let before = out.len();
+    match put_event(out, event) {
+        Ok(()) => Ok(()),
+        Err(AllocError) => {
+            out.truncate(before);
+            Err(NoMemory)
+        }
+    }
+}
+
+fn put_case(out: &mut Vec<u8>, case: Case) -> Result<(), AllocError>
+    ensures ok { OnOk result (out.new.items ≡ out.old.items ++ codes " " ++ case_field case) }
+    ensures err { OnErr result ((rest : List ℕ) × (out.new.items ≡ out.old.items ++ rest)) }
+{
+    match case {
+        Case::Send(port, value) => {
+            put(out, b" s")?;
+            put_number(out, port.0.into())?;
+            put(out, b":")?;
+            put_value(out, value)
+        }
+        Case::Recv(port) => {
+            put(out, b" r")?;
+            put_number(out, port.0.into())
+        }
+    }
+}
+
+fn put_cases(out: &mut Vec<u8>, cases: &[Case]) -> Result<(), AllocError>
+    ensures ok { OnOk result (out.new.items ≡ out.old.items ++ spaced_cases cases.now) }
+    ensures err { OnErr result ((rest : List ℕ) × (out.new.items ≡ out.old.items ++ rest)) }
+{
+    for case in cases {
+        match put_case(out, *case) {
+            Ok(()) => {}
+            Err(AllocError) => return Err(AllocError),
+        }
+    }
+    Ok(())
+}
+
+fn put_select(out: &mut Vec<u8>, cases: &[Case], default: bool, word: u64) -> Result<(), AllocError>
+    ensures ok { OnOk result (out.new.items ≡ out.old.items ++ spaced (select_fields cases.now default word)) }
+    ensures err { OnErr result ((rest : List ℕ) × (out.new.items ≡ out.old.items ++ rest)) }
+{
+    put(out, b" select ")?;
+    put_number(out, word)?;
+    put_cases(out, cases)?;
+    if default {
+        put(out, b" default")?;
+    }
+    Ok(())
+}
+
+fn put_call(out: &mut Vec<u8>, cases: &[Case], default: bool, word: u64) -> Result<(), AllocError>
+    ensures ok { OnOk result (out.new.items ≡ out.old.items ++ spaced (call_fields cases.now default word)) }
+    ensures err { OnErr result ((rest : List ℕ) × (out.new.items ≡ out.old.items ++ rest)) }
+{
+    if cases.len() != 1 || default || word != 0 {
+        return put_select(out, cases, default, word);
+    }
+    match cases[0] {
+        Case::Send(port, value) => {
+            put(out, b" send ")?;
+            put_number(out, port.0.into())?;
+            put(out, b" ")?;
+            put_value(out, value)
+        }
+        Case::Recv(port) => {
+            put(out, b" recv ")?;
+            put_number(out, port.0.into())
+        }
+    }
+}
+
+fn put_step(out: &mut Vec<u8>, step: &Step) -> Result<(), AllocError>
+    ensures ok { OnOk result (out.new.items ≡ out.old.items ++ spaced (step_fields step.now)) }
+    ensures err { OnErr result ((rest : List ℕ) × (out.new.items ≡ out.old.items ++ rest)) }
+{
+    match step {
+        Step::Make(cap) => {
+            put(out, b" make ")?;
+            put_number(out, (*cap).into())
+        }
+        Step::Call {
+            cases,
+            default,
+            word,
+        } => put_call(out, cases.as_slice(), *default, *word),
+        Step::Close(port) => {
+            put(out, b" close ")?;
+            put_number(out, port.0.into())
+        }
+        Step::Exit => put(out, b" exit"),
+    }
+}
+
+fn put_entry(out: &mut Vec<u8>, entry: &Entry) -> Result<(), AllocError>
+    ensures ok { OnOk result (out.new.items ≡ out.old.items ++ line entry.now) }
+    ensures err { OnErr result ((rest : List ℕ) × (out.new.items ≡ out.old.items ++ rest)) }
+{
+    put_number(out, entry.pid.0.into())?;
+    put_step(out, &entry.step)?;
+    put(out, b"\n")
+}
+
+/// Appends the entry's line, or nothing.
+pub fn write_entry(out: &mut Vec<u8>, entry: &Entry) -> Result<(), NoMemory>
+    ensures ok { OnOk result (out.new.items ≡ out.old.items ++ line entry.now) }
+    ensures err { OnErr result (out.new.items ≡ out.old.items) }
+{
+    let before = out.len();
+    match put_entry(out, entry) {
+        Ok(()) => Ok(()),
+        Err(AllocError) => {
+            out.truncate(before);
+            Err(NoMemory)
+        }
+    }
+}
+
+fn put_head(out: &mut Vec<u8>, procs: u8) -> Result<(), AllocError>
+    ensures ok { OnOk result (out.new.items ≡ out.old.items ++ head procs) }
+    ensures err { OnErr result ((rest : List ℕ) × (out.new.items ≡ out.old.items ++ rest)) }
+{
+    put(out, b"chanhub journal 1\n")?;
+    put(out, b"procs ")?;
+    put_number(out, procs.into())?;
+    put(out, b"\n")
+}
+
+/// Appends the first two lines of a journal, or nothing.
+pub fn write_head(out: &mut Vec<u8>, procs: u8) -> Result<(), NoMemory>
+    requires { (1 ≤ procs) × (procs ≤ 64) }
+    ensures ok { OnOk result (out.new.items ≡ out.old.items ++ head procs) }
+    ensures err { OnErr result (out.new.items ≡ out.old.items) }
+{
+    let before = out.len();
+    match put_head(out, procs) {
+        Ok(()) => Ok(()),
+        Err(AllocError) => {
+            out.truncate(before);
+            Err(NoMemory)
+        }
+    }
+}

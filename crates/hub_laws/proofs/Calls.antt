@@ -1,0 +1,182 @@
+-- Lists of open calls: what stays when some of them end, and when one more parks.
+use Rattle.std.proofs.Common.{◌≡◌, ℕ, ◌+◌, ◌==◌, Bool, true, false, cond, suc, List, [], ◌∷◌, ◌++◌, filter, refl, ◌∙◌, sym, subst, Option, Some, None, arith, ◌||◌, inl, inr, ◌⊎◌}
+use Rattle.std.specs.Prelude.{slice_get, is_some}
+use Rattle.std.specs.List.{list_any, AllByRecursion}
+use Rattle.std.specs.Option.{option_map}
+use Rattle.std.proofs.lemmas.Grind.{common_steps}
+use Rattle.hub_base.specs.declared.value.Port.{Port}
+use Rattle.hub_base.specs.declared.value.Pid.{Pid}
+use Rattle.hub_base.specs.declared.case.Case.{Case}
+use Rattle.hub_base.specs.State.{OpenCall}
+use Rattle.hub_base.specs.Ready.{is_send_on, is_recv_on, Placed, Ending, or_else, lowest, lowest_from, first_with}
+use Rattle.hub_laws.specs.Sound.{some_call, is_among, Apart, Alone, CallFits}
+
+-- Bool
+
+pub or_left : (x y : Bool) → x ≡ true → (x || y) ≡ true
+or_left true y e = refl
+or_left false y e = cc
+
+pub or_right : (x y : Bool) → y ≡ true → (x || y) ≡ true
+or_right true y e = refl
+or_right false y e = e
+
+pub or_none : (x y : Bool) → (x || y) ≡ false → (x ≡ false) × (y ≡ false)
+or_none true y e = cc
+or_none false y e = (refl, e)
+
+pub none_or : (x y : Bool) → x ≡ false → y ≡ false → (x || y) ≡ false
+none_or true y d e = d
+none_or false y d e = e
+
+pub or_some : (x y : Bool) → (x || y) ≡ true → (x ≡ true) ⊎ (y ≡ true)
+or_some true y e = inl refl
+or_some false y e = inr e
+
+pub not_true : (x : Bool) → (x ≡ true → ⊥) → x ≡ false
+not_true true h = absurd (h refl)
+not_true false h = refl
+
+pub same_number : (a : ℕ) → (a == a) ≡ true
+same_number a = grind (arith, common_steps)
+
+pub differ-sym : (a b : ℕ) → (a == b) ≡ false → (b == a) ≡ false
+differ-sym a b e = grind (arith, common_steps)
+
+-- What stays when some of the calls end
+
+pub record Fewer (kept calls : List OpenCall) : Type 0 where
+  pub some : (test : Case → Bool) → some_call test kept ≡ true → some_call test calls ≡ true
+  pub among : (q : ℕ) → is_among q kept ≡ true → is_among q calls ≡ true
+  pub apart : Apart calls → Apart kept
+  pub alone : (p : Port) → Alone p calls → Alone p kept
+  pub each : (n : ℕ) → AllByRecursion (CallFits n) calls → AllByRecursion (CallFits n) kept
+
+pub fewer-none : (calls : List OpenCall) → Fewer [] calls
+fewer-none calls = record { some = λ test e. cc; among = λ q e. cc; apart = λ a. tt; alone = λ p a. tt; each = λ n a. tt }
+
+pub fewer-same : (calls : List OpenCall) → Fewer calls calls
+fewer-same calls = record { some = λ test e. e; among = λ q e. e; apart = λ a. a; alone = λ p a. a; each = λ n a. a }
+
+any_kept : {A : Type 0} (test keep : A → Bool) (xs : List A) → list_any test (filter keep xs) ≡ true → list_any test xs ≡ true
+any_kept test keep [] e = e
+any_kept test keep (x ∷ xs) e =
+    let P : Bool → Type 0 = λ b. list_any test (cond b (x ∷ filter keep xs) (filter keep xs)) ≡ true → (test x || list_any test xs) ≡ true in
+    let at : (b : Bool) → P b = λ b. elim b as P [
+      | true ↦ λ h. elim (or_some (test x) (list_any test (filter keep xs)) h) [ inl l ↦ or_left (test x) (list_any test xs) l | inr r ↦ or_right (test x) (list_any test xs) (any_kept test keep xs r) ]
+      | false ↦ λ h. or_right (test x) (list_any test xs) (any_kept test keep xs h)
+    ] in
+    at (keep x) e
+
+pub none_kept : {A : Type 0} (test keep : A → Bool) (xs : List A) → list_any test xs ≡ false → list_any test (filter keep xs) ≡ false
+none_kept test keep xs e = not_true (list_any test (filter keep xs)) (λ h. let t = any_kept test keep xs h in cc)
+
+apart_kept : (keep : OpenCall → Bool) (calls : List OpenCall) → Apart calls → Apart (filter keep calls)
+apart_kept keep [] a = tt
+apart_kept keep (call ∷ calls) a =
+    elim (keep call) as (λ b. Apart (cond b (call ∷ filter keep calls) (filter keep calls)))
+    [ true ↦ (none_kept (λ c. c.pid.0 == call.pid.0) keep calls a.0, apart_kept keep calls a.1) | false ↦ apart_kept keep calls a.1 ]
+
+alone_kept : (p : Port) (keep : OpenCall → Bool) (calls : List OpenCall) → Alone p calls → Alone p (filter keep calls)
+alone_kept p keep [] a = tt
+alone_kept p keep (call ∷ calls) a =
+    elim (keep call) as (λ b. Alone p (cond b (call ∷ filter keep calls) (filter keep calls))) [
+      | true ↦ (λ r. none_kept (λ c. list_any (is_send_on p) c.cases) keep calls (a.0 r), λ w. none_kept (λ c. list_any (is_recv_on p) c.cases) keep calls (a.1 w), alone_kept p keep calls a.2)
+      | false ↦ alone_kept p keep calls a.2
+    ]
+
+pub all_kept : {A : Type 0} (P : A → Type 0) (keep : A → Bool) (xs : List A) → AllByRecursion P xs → AllByRecursion P (filter keep xs)
+all_kept P keep [] a = tt
+all_kept P keep (x ∷ xs) a =
+    elim (keep x) as (λ b. AllByRecursion P (cond b (x ∷ filter keep xs) (filter keep xs))) [ true ↦ (a.0, all_kept P keep xs a.1) | false ↦ all_kept P keep xs a.1 ]
+
+pub fewer-filter : (keep : OpenCall → Bool) (calls : List OpenCall) → Fewer (filter keep calls) calls
+fewer-filter keep calls = record {
+  some = λ test. any_kept (λ c. list_any test c.cases) keep calls;
+  among = λ q. any_kept (λ c. c.pid.0 == q) keep calls;
+  apart = apart_kept keep calls;
+  alone = λ p. alone_kept p keep calls;
+  each = λ n. all_kept (CallFits n) keep calls;
+}
+
+-- One more call
+
+pub any_snoc : {A : Type 0} (test : A → Bool) (xs : List A) (x : A) → list_any test (xs ++ x ∷ []) ≡ (list_any test xs || test x)
+any_snoc test [] x = elim (test x) as (λ b. (b || false) ≡ b) [ true ↦ refl | false ↦ refl ]
+any_snoc test (y ∷ ys) x = elim (test y) as (λ b. (b || list_any test (ys ++ x ∷ [])) ≡ ((b || list_any test ys) || test x)) [ true ↦ refl | false ↦ any_snoc test ys x ]
+
+pub all_snoc : {A : Type 0} (P : A → Type 0) (xs : List A) (x : A) → AllByRecursion P xs → P x → AllByRecursion P (xs ++ x ∷ [])
+all_snoc P [] x a p = (p, tt)
+all_snoc P (y ∷ ys) x a p = (a.0, all_snoc P ys x a.1 p)
+
+pub apart_snoc : (calls : List OpenCall) (call : OpenCall) → Apart calls → is_among call.pid.0 calls ≡ false → Apart (calls ++ call ∷ [])
+apart_snoc [] call a free = (refl, tt)
+apart_snoc (c ∷ cs) call a free =
+    let f = or_none (c.pid.0 == call.pid.0) (is_among call.pid.0 cs) free in
+    (any_snoc (λ x. x.pid.0 == c.pid.0) cs call ∙ none_or (is_among c.pid.0 cs) (call.pid.0 == c.pid.0) a.0 (differ-sym c.pid.0 call.pid.0 f.0), apart_snoc cs call a.1 f.1)
+
+pub alone_snoc : (p : Port) (calls : List OpenCall) (call : OpenCall) → Alone p calls →
+    (list_any (is_recv_on p) call.cases ≡ true → some_call (is_send_on p) calls ≡ false) →
+    (list_any (is_send_on p) call.cases ≡ true → some_call (is_recv_on p) calls ≡ false) → Alone p (calls ++ call ∷ [])
+alone_snoc p [] call a r w = (λ e. refl, λ e. refl, tt)
+alone_snoc p (c ∷ cs) call a r w = (
+  λ e. any_snoc (λ x. list_any (is_send_on p) x.cases) cs call ∙ none_or (some_call (is_send_on p) cs) (list_any (is_send_on p) call.cases) (a.0 e)
+      (not_true (list_any (is_send_on p) call.cases) (λ t. let f = or_none (list_any (is_recv_on p) c.cases) (some_call (is_recv_on p) cs) (w t) in let g : list_any (is_recv_on p) c.cases ≡ false = f.0 in cc)),
+  λ e. any_snoc (λ x. list_any (is_recv_on p) x.cases) cs call ∙ none_or (some_call (is_recv_on p) cs) (list_any (is_recv_on p) call.cases) (a.1 e)
+      (not_true (list_any (is_recv_on p) call.cases) (λ t. let f = or_none (list_any (is_send_on p) c.cases) (some_call (is_send_on p) cs) (r t) in let g : list_any (is_send_on p) c.cases ≡ false = f.0 in cc)),
+  alone_snoc p cs call a.2 (λ t. (or_none (list_any (is_send_on p) c.cases) (some_call (is_send_on p) cs) (r t)).1) (λ t. (or_none (list_any (is_recv_on p) c.cases) (some_call (is_recv_on p) cs) (w t)).1),
+)
+
+-- The first call with a case that passes
+
+pub lowest-some : (i : ℕ) (test : Case → Bool) (cases : List Case) → is_some (lowest_from i test cases) ≡ list_any test cases
+lowest-some i test [] = refl
+lowest-some i test (c ∷ cs) = elim (test c) as (λ b. is_some (cond b (Some (record { index = i; case = c })) (lowest_from (i + 1) test cs)) ≡ (b || list_any test cs)) [ true ↦ refl | false ↦ lowest-some (i + 1) test cs ]
+
+first_or : (o : Option Ending) (t b : Bool) (x : Option Placed) (pid : Pid) → is_some x ≡ t → is_some o ≡ b → is_some (or_else (option_map (λ c. record { pid = pid; at = c }) x) o) ≡ (t || b)
+first_or o t b None pid d e = rw (sym d) e
+first_or o t b (Some x) pid d e = rw (sym d) refl
+
+pub first-some : (test : Case → Bool) (calls : List OpenCall) → is_some (first_with test calls) ≡ some_call test calls
+first-some test [] = refl
+first-some test (call ∷ calls) = first_or (first_with test calls) (list_any test call.cases) (some_call test calls) (lowest test call.cases) call.pid (lowest-some 0 test call.cases) (first-some test calls)
+
+-- where a case stands in a list that is numbered from `i`
+abbrev pub StandsAt : ℕ → List Case → Placed → Type 0
+StandsAt i cases at = (k : ℕ) × (at.index ≡ i + k) × (slice_get cases k ≡ Some at.case)
+
+placed : (b : Bool) (i : ℕ) (test : Case → Bool) (c : Case) (cs : List Case) (at : Placed) → b ≡ test c → cond b (Some (record { index = i; case = c })) (lowest_from (i + 1) test cs) ≡ Some at →
+    (lowest_from (i + 1) test cs ≡ Some at → (test at.case ≡ true) × StandsAt (i + 1) cs at) → (test at.case ≡ true) × StandsAt i (c ∷ cs) at
+placed true i test c cs at is e rest =
+    let P : Placed → Type 0 = λ x. (test x.case ≡ true) × StandsAt i (c ∷ cs) x in
+    let h : record { index = i; case = c } ≡ at = cc in
+    subst P h (sym is, (0, omega arith, refl))
+placed false i test c cs at is e rest = let r = rest e in (r.0, (suc r.1.0, omega (arith, r.1.1), r.1.2))
+
+pub lowest-at : (i : ℕ) (test : Case → Bool) (cases : List Case) (at : Placed) → lowest_from i test cases ≡ Some at → (test at.case ≡ true) × StandsAt i cases at
+lowest-at i test [] at e = cc
+lowest-at i test (c ∷ cs) at e = placed (test c) i test c cs at refl e (lowest-at (i + 1) test cs at)
+
+-- the call that ends, with what is known of each
+pub record Found (P : OpenCall → Type 0) (test : Case → Bool) (calls : List OpenCall) (e : Ending) : Type 0 where
+  pub call : OpenCall
+  pub known : P call
+  pub pid : call.pid ≡ e.pid
+  pub passes : test e.at.case ≡ true
+  pub stands : slice_get call.cases e.at.index ≡ Some e.at.case
+  pub among : is_among e.pid.0 calls ≡ true
+
+found_here : (P : OpenCall → Type 0) (test : Case → Bool) (call : OpenCall) (calls : List OpenCall) (e : Ending) (o : Option Placed) → o ≡ lowest test call.cases →
+    or_else (option_map (λ c. record { pid = call.pid; at = c }) o) (first_with test calls) ≡ Some e → P call → (first_with test calls ≡ Some e → Found P test calls e) → Found P test (call ∷ calls) e
+found_here P test call calls e None is h known rest =
+    let r = rest h in
+    record { call = r.call; known = r.known; pid = r.pid; passes = r.passes; stands = r.stands; among = or_right (call.pid.0 == e.pid.0) (is_among e.pid.0 calls) r.among }
+found_here P test call calls e (Some at) is h known rest =
+    let same : record { pid = call.pid; at = at } ≡ e = cc in
+    let l = lowest-at 0 test call.cases at (sym is) in
+    let k : at.index ≡ l.1.0 = omega (arith, l.1.1) in
+    subst (Found P test (call ∷ calls)) same (record { call = call; known = known; pid = refl; passes = l.0; stands = rw k l.1.2; among = or_left (call.pid.0 == call.pid.0) (is_among call.pid.0 calls) (same_number call.pid.0) })
+
+pub first-found : (P : OpenCall → Type 0) (test : Case → Bool) (calls : List OpenCall) (e : Ending) → AllByRecursion P calls → first_with test calls ≡ Some e → Found P test calls e
+first-found P test [] e all h = cc
+first-found P test (call ∷ calls) e all h = found_here P test call calls e (lowest test call.cases) refl h all.0 (first-found P test calls e all.1)

@@ -1,0 +1,90 @@
+-- The laws, of every run.
+use Rattle.std.proofs.Common.{◌<◌, ◌≡◌, ℕ, ◌≤◌, ◌==◌, true, false, List, [], ◌∷◌, length, map, drop, refl, arith, eqb, zero, suc}
+use Rattle.std.specs.List.{list_any, AllByRecursion, IsDistinct}
+use Rattle.std.proofs.lemmas.Grind.{common_steps}
+use Rattle.std.proofs.lemmas.List.{length-drop, length-map}
+use Rattle.std.proofs.lemmas.Map.Steps.{length-le_from_distinct_below}
+use Rattle.hub_base.specs.declared.value.Port.{Port}
+use Rattle.hub_base.specs.declared.value.Pid.{Pid}
+use Rattle.hub_base.specs.declared.case.Case.{Case}
+use Rattle.hub_base.specs.declared.entry.Entry.{Entry}
+use Rattle.hub_base.specs.State.{State, Channel, OpenCall}
+use Rattle.hub_base.specs.Ready.{is_send_on, is_recv_on, is_on}
+use Rattle.hub_base.specs.Runs.{state}
+use Rattle.hub_laws.specs.Sound.{some_call, is_among, Apart, PortSound, IsSound}
+use Rattle.hub_laws.specs.Laws.{PortLaws, StateLaws, ValuesLaw, OnceLaw, AfterCloseLaw}
+use Rattle.hub_laws.proofs.Calls.{or_none, none_or}
+use Rattle.hub_laws.proofs.Rules.{state-sound}
+use Rattle.hub_laws.proofs.Values.{values-law}
+use Rattle.hub_laws.proofs.Once.{once-law}
+use Rattle.hub_laws.proofs.AfterClose.{after_close-law}
+
+drop_all : {A : Type 0} (xs : List A) (n : ℕ) → n ≡ length xs → drop n xs ≡ []
+drop_all [] zero e = refl
+drop_all [] (suc n) e = refl
+drop_all (x ∷ xs) zero e = absurd (omega arith)
+drop_all (x ∷ xs) (suc n) e = drop_all xs n (omega arith)
+
+on_none : (p : Port) (calls : List OpenCall) → some_call (is_recv_on p) calls ≡ false → some_call (is_send_on p) calls ≡ false → some_call (is_on p) calls ≡ false
+on_none p [] r w = refl
+on_none p (call ∷ calls) r w =
+    let r' = or_none (list_any (is_recv_on p) call.cases) (some_call (is_recv_on p) calls) r in
+    let w' = or_none (list_any (is_send_on p) call.cases) (some_call (is_send_on p) calls) w in
+    none_or (list_any (is_on p) call.cases) (some_call (is_on p) calls) (cases_none p call.cases r'.0 w'.0) (on_none p calls r'.1 w'.1)
+  where
+    cases_none : (p : Port) (cases : List Case) → list_any (is_recv_on p) cases ≡ false → list_any (is_send_on p) cases ≡ false → list_any (is_on p) cases ≡ false
+    cases_none p [] r w = refl
+    cases_none p (c ∷ cs) r w =
+        let r' = or_none (is_recv_on p c) (list_any (is_recv_on p) cs) r in
+        let w' = or_none (is_send_on p c) (list_any (is_send_on p) cs) w in
+        none_or (is_on p c) (list_any (is_on p) cs) (none_or (is_send_on p c) (is_recv_on p c) w'.0 r'.0) (cases_none p cs r'.1 w'.1)
+
+port-laws : (p : Port) (c : Channel) (calls : List OpenCall) → PortSound p c calls → PortLaws p c calls
+port-laws p c calls f = record {
+  fits = omega (arith, f.fits, length-drop c.taken c.done);
+  receivers = λ r. drop_all c.done c.taken (f.receivers r);
+  senders = λ w. omega (arith, f.senders w, length-drop c.taken c.done);
+  closed = λ h. on_none p calls (f.ended h).0 (f.ended h).1;
+  both = λ r w. omega (arith, f.receivers r, f.senders w);
+  alone = f.alone;
+}
+
+-- no more calls wait than there are processes
+
+abbrev pids : List OpenCall → List ℕ
+pids calls = map (λ call. call.pid.0) calls
+
+distinct : (calls : List OpenCall) → Apart calls → IsDistinct eqb (pids calls)
+unfolding IsDistinct
+distinct [] a = tt
+distinct (call ∷ calls) a = (apart_from call.pid.0 calls a.0, distinct calls a.1)
+  where
+    apart_from : (q : ℕ) (calls : List OpenCall) → is_among q calls ≡ false → AllByRecursion (λ y. (q == y) ≡ false) (pids calls)
+    apart_from q [] e = tt
+    apart_from q (call ∷ calls) e = let f = or_none (call.pid.0 == q) (is_among q calls) e in (grind (arith, common_steps, f.0), apart_from q calls f.1)
+
+among : (q : ℕ) (calls : List OpenCall) → list_any (eqb q) (pids calls) ≡ true → is_among q calls ≡ true
+among q [] e = e
+among q (call ∷ calls) e = grind (arith, common_steps, among q calls)
+
+pub count-below : (procs : ℕ) (calls : List OpenCall) → Apart calls → ((q : ℕ) → is_among q calls ≡ true → q < procs) → length calls ≤ procs
+count-below procs calls apart below =
+    let most : length (pids calls) ≤ procs = length-le_from_distinct_below (pids calls) procs (distinct calls apart) (λ q e. below q (among q calls e)) in
+    omega (arith, length-map calls (λ (call : OpenCall). call.pid.0))
+
+pub count-law : (s : State) → IsSound s → length s.parked ≤ s.procs
+count-law s sound = count-below s.procs s.parked sound.apart (λ q e. (sound.present q e).0)
+
+pub state-laws : (n : ℕ) (es : List Entry) → StateLaws (state n es)
+state-laws n es =
+    let sound = state-sound n es in
+    record { apart = sound.apart; present = sound.present; calls = sound.calls; ports = λ p c e. port-laws p c (state n es).parked (sound.ports p c e); count = count-law (state n es) sound }
+
+pub values_hold : (n : ℕ) (es : List Entry) → ValuesLaw n es
+values_hold n es = values-law n es
+
+pub once_holds : (n : ℕ) (es : List Entry) → OnceLaw n es
+once_holds n es = once-law n es
+
+pub after_close_holds : (n : ℕ) (es : List Entry) (pid : Pid) (p : Port) (fs : List Entry) → AfterCloseLaw n es pid p fs
+after_close_holds n es pid p fs h = after_close-law n es fs pid p h

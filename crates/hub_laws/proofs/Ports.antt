@@ -1,0 +1,71 @@
+-- The channel of a port, after one channel or one more was written.
+use Rattle.std.proofs.Common.{◌≡◌, ℕ, ◌+◌, ◌-◌, ◌<◌, ◌==◌, Bool, true, false, cond, zero, suc, List, [], ◌∷◌, ◌++◌, length, refl, ap, sym, Some, None, arith, inl, inr, ◌⊎◌}
+use Rattle.std.specs.Prelude.{slice_get, slice_set}
+use Rattle.std.proofs.lemmas.Grind.{common_steps}
+use Rattle.hub_base.specs.declared.value.Port.{Port}
+use Rattle.hub_base.specs.State.{State, Channel, channel_at}
+
+pub record Made (s : State) (p : Port) (c : Channel) : Type 0 where
+  pub number : 0 < p.0
+  pub channel : slice_get s.channels (p.0 - 1) ≡ Some c
+
+made_by : (b : Bool) (s : State) (p : Port) (c : Channel) → b ≡ (p.0 == 0) → cond b None (slice_get s.channels (p.0 - 1)) ≡ Some c → Made s p c
+made_by true s p c is e = cc
+made_by false s p c is e = record { number = grind (arith, common_steps); channel = e }
+
+pub made : (s : State) (p : Port) (c : Channel) → channel_at s p ≡ Some c → Made s p c
+made s p c e = made_by (p.0 == 0) s p c refl e
+
+pub at_made : (s : State) (p : Port) (c : Channel) → Made s p c → channel_at s p ≡ Some c
+at_made s p c m = let b : (p.0 == 0) ≡ false = grind (arith, common_steps, m.number) in rw b m.channel
+
+set_at : (xs : List Channel) (i j : ℕ) (d x : Channel) → slice_get (slice_set xs i d) j ≡ Some x → ((i ≡ j) × (x ≡ d)) ⊎ ((i ≡ j → ⊥) × (slice_get xs j ≡ Some x))
+set_at [] i j d x e = cc
+set_at (y ∷ ys) zero zero d x e = inl (refl, cc)
+set_at (y ∷ ys) zero (suc j) d x e = inr (λ h. absurd (omega arith), e)
+set_at (y ∷ ys) (suc i) zero d x e = inr (λ h. absurd (omega arith), e)
+set_at (y ∷ ys) (suc i) (suc j) d x e = elim (set_at ys i j d x e) [ inl l ↦ inl (ap suc l.0, l.1) | inr r ↦ inr (λ h. r.0 (omega arith), r.1) ]
+
+pub same_port : (p q : Port) → p.0 ≡ q.0 → p ≡ q
+same_port p q h = let f : ℕ → Port = λ n. record { 0 = n } in ap f h
+
+-- after the channel of port p was written
+pub set_port : (s t : State) (p q : Port) (c d x : Channel) → t.channels ≡ slice_set s.channels (p.0 - 1) d → channel_at s p ≡ Some c → channel_at t q ≡ Some x → ((p ≡ q) × (x ≡ d)) ⊎ ((p.0 ≡ q.0 → ⊥) × (channel_at s q ≡ Some x))
+set_port s t p q c d x is e h =
+    let m = made s p c e in
+    let n = made t q x h in
+    elim (set_at s.channels (p.0 - 1) (q.0 - 1) d x (rw (sym is) n.channel)) [
+      | inl l ↦ inl (same_port p q (omega (arith, m.number, n.number, l.0)), l.1)
+      | inr r ↦ inr (λ same. r.0 (omega (arith, same)), at_made s q x (record { number = n.number; channel = r.1 }))
+    ]
+
+-- after one channel more was made
+snoc_at : (xs : List Channel) (i : ℕ) (d x : Channel) → slice_get (xs ++ d ∷ []) i ≡ Some x → ((i ≡ length xs) × (x ≡ d)) ⊎ (slice_get xs i ≡ Some x)
+snoc_at [] zero d x e = inl (refl, cc)
+snoc_at [] (suc i) d x e = cc
+snoc_at (y ∷ ys) zero d x e = inr e
+snoc_at (y ∷ ys) (suc i) d x e = elim (snoc_at ys i d x e) [ inl l ↦ inl (ap suc l.0, l.1) | inr r ↦ inr r ]
+
+pub new_port : (s t : State) (q : Port) (d x : Channel) → t.channels ≡ s.channels ++ d ∷ [] → channel_at t q ≡ Some x → ((q.0 ≡ length s.channels + 1) × (x ≡ d)) ⊎ (channel_at s q ≡ Some x)
+new_port s t q d x is h =
+    let n = made t q x h in
+    elim (snoc_at s.channels (q.0 - 1) d x (rw (sym is) n.channel)) [
+      | inl l ↦ inl (omega (arith, n.number, l.0), l.1)
+      | inr r ↦ inr (at_made s q x (record { number = n.number; channel = r }))
+    ]
+
+-- the channel that was written stands there
+get_set : (xs : List Channel) (i : ℕ) (c d : Channel) → slice_get xs i ≡ Some c → slice_get (slice_set xs i d) i ≡ Some d
+get_set [] i c d e = cc
+get_set (y ∷ ys) zero c d e = refl
+get_set (y ∷ ys) (suc i) c d e = get_set ys i c d e
+
+pub written : (s t : State) (p : Port) (c d : Channel) → t.channels ≡ slice_set s.channels (p.0 - 1) d → channel_at s p ≡ Some c → channel_at t p ≡ Some d
+written s t p c d is e = let m = made s p c e in at_made t p d (record { number = m.number; channel = rw is (get_set s.channels (p.0 - 1) c d m.channel) })
+
+pub get_set_other : (xs : List Channel) (i j : ℕ) (d : Channel) → (i ≡ j → ⊥) → slice_get (slice_set xs i d) j ≡ slice_get xs j
+get_set_other [] i j d h = refl
+get_set_other (y ∷ ys) zero zero d h = absurd (h refl)
+get_set_other (y ∷ ys) zero (suc j) d h = refl
+get_set_other (y ∷ ys) (suc i) zero d h = refl
+get_set_other (y ∷ ys) (suc i) (suc j) d h = get_set_other ys i j d (λ e. h (ap suc e))

@@ -1,0 +1,95 @@
+-- The cases of a call that can proceed, and why an entry is admitted.
+use Rattle.std.proofs.Common.{◌≡◌, ℕ, ◌+◌, ◌%◌, ◌<◌, ◌==◌, nat_lt, Bool, true, false, cond, not, zero, suc, List, [], ◌∷◌, length, filter, refl, sym, subst, Option, Some, None, arith, inl, inr, ◌||◌}
+use Rattle.std.specs.Prelude.{slice_get}
+use Rattle.std.specs.List.{list_any, enumerate_from}
+use Rattle.std.specs.Option.{option_map_or}
+use Rattle.std.proofs.lemmas.Grind.{common_steps}
+use Rattle.hub_base.specs.declared.value.Port.{Port}
+use Rattle.hub_base.specs.declared.value.Pid.{Pid}
+use Rattle.hub_base.specs.declared.case.Case.{Case}
+use Rattle.hub_base.specs.declared.case.Case.TheVariants.{Send, Recv}
+use Rattle.hub_base.specs.declared.fault.Fault.TheVariants as fault
+use Rattle.hub_base.specs.State.{State, Channel, channel_at}
+use Rattle.hub_base.specs.Ready.{is_send_on, is_recv_on, can_proceed, send_can, recv_can}
+use Rattle.hub_base.specs.Steps.{refusal, has_gone, is_waiting}
+use Rattle.hub_laws.proofs.Calls.{StandsAt, or_none, or_some}
+use Rattle.hub_laws.proofs.Ports.{same_port}
+use Rattle.hub_laws.proofs.Fires.{get_none, same_true}
+
+pub ready_none : (xs : List (ℕ × Case)) (word : ℕ) → slice_get xs (word % length xs) ≡ None → xs ≡ []
+ready_none [] word e = refl
+ready_none (x ∷ xs) word e = absurd (get_none (x ∷ xs) (word % length (x ∷ xs)) e (omega arith))
+
+none_can_by : (b : Bool) (i : ℕ) (c : Case) (rest : List (ℕ × Case)) (t : Bool) → cond b ((i, c) ∷ rest) rest ≡ [] → (rest ≡ [] → t ≡ false) → (b || t) ≡ false
+none_can_by true i c rest t e h = cc
+none_can_by false i c rest t e h = h e
+
+-- where no case is listed none can proceed
+pub none_can : (i : ℕ) (can : Case → Bool) (cases : List Case) → filter (λ x. can x.1) (enumerate_from i cases) ≡ [] → list_any can cases ≡ false
+none_can i can [] e = refl
+none_can i can (c ∷ cs) e = none_can_by (can c) i c (filter (λ x. can x.1) (enumerate_from (i + 1) cs)) (list_any can cs) e (none_can (i + 1) can cs)
+
+-- a listed case can proceed, and stands in its place
+pub record Chosen (can : Case → Bool) (i : ℕ) (cases : List Case) (x : ℕ × Case) : Type 0 where
+  pub ready : can x.1 ≡ true
+  pub stands : StandsAt i cases (record { index = x.0; case = x.1 })
+
+chosen_later : (can : Case → Bool) (i : ℕ) (c : Case) (cs : List Case) (x : ℕ × Case) → Chosen can (i + 1) cs x → Chosen can i (c ∷ cs) x
+chosen_later can i c cs x h = record { ready = h.ready; stands = (suc h.stands.0, omega (arith, h.stands.1), h.stands.2) }
+
+chosen_by : (b : Bool) (can : Case → Bool) (i k : ℕ) (c : Case) (cs : List Case) (x : ℕ × Case) → b ≡ can c → slice_get (cond b ((i, c) ∷ filter (λ x. can x.1) (enumerate_from (i + 1) cs)) (filter (λ x. can x.1) (enumerate_from (i + 1) cs))) k ≡ Some x →
+    ((j : ℕ) → slice_get (filter (λ x. can x.1) (enumerate_from (i + 1) cs)) j ≡ Some x → Chosen can (i + 1) cs x) → Chosen can i (c ∷ cs) x
+chosen_by true can i zero c cs x is e rest =
+    let h : (i, c) ≡ x = cc in
+    subst (Chosen can i (c ∷ cs)) h (record { ready = sym is; stands = (0, omega arith, refl) })
+chosen_by true can i (suc k) c cs x is e rest = chosen_later can i c cs x (rest k e)
+chosen_by false can i k c cs x is e rest = chosen_later can i c cs x (rest k e)
+
+pub chosen : (can : Case → Bool) (i k : ℕ) (cases : List Case) (x : ℕ × Case) → slice_get (filter (λ x. can x.1) (enumerate_from i cases)) k ≡ Some x → Chosen can i cases x
+chosen can i k [] x e = cc
+chosen can i k (c ∷ cs) x e = chosen_by (can c) can i k c cs x refl e (λ j. chosen can (i + 1) j cs x)
+
+-- where no case of a call can proceed, neither can such a case
+pub no_recv : (s : State) (p : Port) (c : Channel) (cases : List Case) → channel_at s p ≡ Some c → list_any (can_proceed s) cases ≡ false → list_any (is_recv_on p) cases ≡ true → recv_can s p c ≡ false
+no_recv s p c [] e none some = cc
+no_recv s p c (Send q v ∷ cs) e none some = no_recv s p c cs e (or_none (can_proceed s (Send q v)) (list_any (can_proceed s) cs) none).1 some
+no_recv s p c (Recv q ∷ cs) e none some =
+    let f = or_none (can_proceed s (Recv q)) (list_any (can_proceed s) cs) none in
+    elim (or_some (q.0 == p.0) (list_any (is_recv_on p) cs) some) [
+      | inl l ↦ let P : Port → Type 0 = λ r. option_map_or (recv_can s r) (channel_at s r) false ≡ false in
+          let g : option_map_or (recv_can s p) (channel_at s p) false ≡ false = subst P (same_port q p (same_true q.0 p.0 l)) f.0 in
+          rw e at g
+      | inr r ↦ no_recv s p c cs e f.1 r
+    ]
+
+pub no_send : (s : State) (p : Port) (c : Channel) (cases : List Case) → channel_at s p ≡ Some c → list_any (can_proceed s) cases ≡ false → list_any (is_send_on p) cases ≡ true → send_can s p c ≡ false
+no_send s p c [] e none some = cc
+no_send s p c (Recv q ∷ cs) e none some = no_send s p c cs e (or_none (can_proceed s (Recv q)) (list_any (can_proceed s) cs) none).1 some
+no_send s p c (Send q v ∷ cs) e none some =
+    let f = or_none (can_proceed s (Send q v)) (list_any (can_proceed s) cs) none in
+    elim (or_some (q.0 == p.0) (list_any (is_send_on p) cs) some) [
+      | inl l ↦ let P : Port → Type 0 = λ r. option_map_or (send_can s r) (channel_at s r) false ≡ false in
+          let g : option_map_or (send_can s p) (channel_at s p) false ≡ false = subst P (same_port q p (same_true q.0 p.0 l)) f.0 in
+          rw e at g
+      | inr r ↦ no_send s p c cs e f.1 r
+    ]
+
+-- an entry that is admitted
+pub record Admitted (s : State) (pid : Pid) : Type 0 where
+  pub below : pid.0 < s.procs
+  pub here : has_gone s pid.0 ≡ false
+  pub free : is_waiting s pid.0 ≡ false
+
+pub none_false : {A : Type 0} (t : Bool) (x : A) (o : Option A) → cond t (Some x) o ≡ None → (t ≡ false) × (o ≡ None)
+none_false true x o e = cc
+none_false false x o e = (refl, e)
+
+below : (a b : ℕ) → not (nat_lt a b) ≡ false → a < b
+below a b e = grind (arith, common_steps)
+
+pub admitted : (s : State) (pid : Pid) → refusal s pid ≡ None → Admitted s pid
+admitted s pid h =
+    let a = none_false (not (nat_lt pid.0 s.procs)) fault.NoProcess (cond (has_gone s pid.0) (Some fault.Gone) (cond (is_waiting s pid.0) (Some fault.Busy) None)) h in
+    let b = none_false (has_gone s pid.0) fault.Gone (cond (is_waiting s pid.0) (Some fault.Busy) None) a.1 in
+    let d = none_false (is_waiting s pid.0) fault.Busy None b.1 in
+    record { below = below pid.0 s.procs a.0; here = b.0; free = d.0 }

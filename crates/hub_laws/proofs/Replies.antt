@@ -1,0 +1,162 @@
+-- Entries of others leave a process alone that has no open call.
+use Rattle.std.proofs.Common.{◌≡◌, ℕ, ◌%◌, ◌==◌, Bool, true, false, cond, not, List, [], ◌∷◌, ◌++◌, length, filter, refl, ap, ◌∙◌, sym, subst, Option, Some, None, ◌&&◌, append-nil, append_assoc}
+use Rattle.std.specs.Prelude.{slice_get}
+use Rattle.std.specs.List.{list_any, AllByRecursion, filter_map, cons_option}
+use Rattle.std.specs.Option.{option_map}
+use Rattle.std.proofs.lemmas.List.Elements.{filter-append}
+use Rattle.hub_base.specs.declared.value.Port.{Port}
+use Rattle.hub_base.specs.declared.value.Pid.{Pid}
+use Rattle.hub_base.specs.declared.value.Value.{Value}
+use Rattle.hub_base.specs.declared.case.Case.{Case}
+use Rattle.hub_base.specs.declared.case.Case.TheVariants.{Send, Recv}
+use Rattle.hub_base.specs.declared.entry.Step.{Step}
+use Rattle.hub_base.specs.declared.entry.Step.TheVariants.{Make, Call, Close, Exit}
+use Rattle.hub_base.specs.declared.entry.Entry.{Entry}
+use Rattle.hub_base.specs.declared.event.Event.{Event}
+use Rattle.hub_base.specs.declared.fault.Fault.{Fault}
+use Rattle.hub_base.specs.declared.event.Outcome.TheVariants.{Sent, Closed}
+use Rattle.hub_base.specs.declared.event.What.TheVariants as what
+use Rattle.hub_base.specs.State.{State, Channel, OpenCall, channel_at, opening}
+use Rattle.hub_base.specs.Ready.{is_send_on, is_recv_on, is_on, ready, port_of, first_with, Ending, Placed, without, lowest}
+use Rattle.hub_base.specs.Steps.{fires, proceeds, chooses, calls, closes, effect, stalls, all_wait, Change, sent, next_value, with_sent, send_meets, recv_takes, recv_meets, fired, tells, closing_event, closing_outcome, fault_of, answers, refusal, is_waiting}
+use Rattle.hub_base.specs.Runs.{admits, moves, state_after, events_after, state, events}
+use Rattle.hub_laws.specs.Sound.{is_among}
+use Rattle.hub_laws.specs.Replies.{own, last_from, is_parked, RepliesLaw}
+use Rattle.hub_laws.proofs.Calls.{first-found, or_none, none_or}
+use Rattle.hub_laws.proofs.Stands.{effect-stands, stalls-stands}
+
+-- what holds of the process that steps and of those that wait holds of all that are told
+module _ (C : ℕ → Type 0) where
+  abbrev Waiting : List OpenCall → Type 0
+  Waiting calls = AllByRecursion (λ call. C call.pid.0) calls
+
+  abbrev Told : List Event → Type 0
+  Told es = AllByRecursion (λ e. C e.pid.0) es
+
+  ended_told : (test : Case → Bool) (calls : List OpenCall) (x : Ending) → Waiting calls → first_with test calls ≡ Some x → C x.pid.0
+  ended_told test calls x all e = let f = first-found (λ call. C call.pid.0) test calls x all e in subst (λ (p : Pid). C p.0) f.pid f.known
+
+  send_told : (s : State) (pid : Pid) (i : ℕ) (p : Port) (c : Channel) (o : Option Ending) → Waiting s.parked → C pid.0 → o ≡ first_with (is_recv_on p) s.parked → Told (proceeds s pid i (Some (send_meets s p c o))).events
+  send_told s pid i p c None all me is = (me, tt)
+  send_told s pid i p c (Some x) all me is = (me, (ended_told (is_recv_on p) s.parked x all (sym is), tt))
+
+  takes_told : (s t : State) (pid : Pid) (i : ℕ) (p : Port) (c : Channel) (ended : List Event) (o : Option Value) → Told ended → C pid.0 → Told (proceeds s pid i (Some (recv_takes t p c ended o))).events
+  takes_told s t pid i p c ended None all me = (me, all)
+  takes_told s t pid i p c ended (Some v) all me = (me, all)
+
+  recv_told : (s : State) (pid : Pid) (i : ℕ) (p : Port) (c : Channel) (o : Option Ending) → Waiting s.parked → C pid.0 → o ≡ first_with (is_send_on p) s.parked → Told (proceeds s pid i (Some (recv_meets s p c o))).events
+  recv_told s pid i p c None all me is = takes_told s s pid i p c [] (next_value c) tt me
+  recv_told s pid i p c (Some x) all me is =
+      takes_told s (record s { parked = without x.pid s.parked }) pid i p (with_sent x.at.case c) (fired x.pid x.at.index Sent ∷ []) (next_value (with_sent x.at.case c)) (ended_told (is_send_on p) s.parked x all (sym is), tt) me
+
+  fires_told : (s : State) (pid : Pid) (i : ℕ) (k : Case) (o : Option Channel) → Waiting s.parked → C pid.0 → Told (proceeds s pid i (fires s k o)).events
+  fires_told s pid i (Send p v) None all me = tt
+  fires_told s pid i (Recv p) None all me = tt
+  fires_told s pid i (Send p v) (Some c) all me =
+      elim c.closed as (λ b. Told (proceeds s pid i (Some (cond b (record { outcome = Closed; state = s; ended = [] }) (send_meets s p (sent v c) (first_with (is_recv_on p) s.parked))))).events)
+      [ true ↦ (me, tt) | false ↦ send_told s pid i p (sent v c) (first_with (is_recv_on p) s.parked) all me refl ]
+  fires_told s pid i (Recv p) (Some c) all me = recv_told s pid i p c (first_with (is_send_on p) s.parked) all me refl
+
+  chooses_told : (s : State) (pid : Pid) (cases : List Case) (default : Bool) (o : Option (ℕ × Case)) → Waiting s.parked → C pid.0 → Told (chooses s pid cases default o).events
+  chooses_told s pid cases true None all me = (me, tt)
+  chooses_told s pid cases false None all me = (me, tt)
+  chooses_told s pid cases default (Some x) all me = fires_told s pid x.0 x.1 (channel_at s (port_of x.1)) all me
+
+  closing_one : (call : OpenCall) (o : Option Placed) (rest : List Event) → C call.pid.0 → Told rest → Told (cons_option (option_map (λ c. fired call.pid c.index (closing_outcome c.case)) o) rest)
+  closing_one call None rest here all = all
+  closing_one call (Some a) rest here all = (here, all)
+
+  closing_told : (p : Port) (calls : List OpenCall) → Waiting calls → Told (filter_map (closing_event p) calls)
+  closing_told p [] all = tt
+  closing_told p (call ∷ calls) all = closing_one call (lowest (is_on p) call.cases) (filter_map (closing_event p) calls) all.0 (closing_told p calls all.1)
+
+  closes_told : (s : State) (pid : Pid) (p : Port) (o : Option Channel) → Waiting s.parked → C pid.0 → Told (closes s pid p o).events
+  closes_told s pid p None all me = tt
+  closes_told s pid p (Some c) all me = (me, closing_told p s.parked all)
+
+  effect_told : (s : State) (pid : Pid) (step : Step) → Waiting s.parked → C pid.0 → Told (effect s pid step).events
+  effect_told s pid (Make cap) all me = (me, tt)
+  effect_told s pid (Call cases default word) all me = chooses_told s pid cases.items default (slice_get (ready s cases.items) (word % length (ready s cases.items))) all me
+  effect_told s pid (Close p) all me = closes_told s pid p (channel_at s p) all me
+  effect_told s pid Exit all me = (me, tt)
+
+  stalled_told : (calls : List OpenCall) → Waiting calls → Told (filter_map (λ call. Some (tells call.pid what.Stalled)) calls)
+  stalled_told [] all = tt
+  stalled_told (call ∷ calls) all = (all.0, stalled_told calls all.1)
+
+  append_told : (xs ys : List Event) → Told xs → Told ys → Told (xs ++ ys)
+  append_told [] ys a b = b
+  append_told (x ∷ xs) ys a b = (a.0, append_told xs ys a.1 b)
+
+  stalls_told : (c : Change) → Told c.events → Waiting c.state.parked → Told (stalls c).events
+  stalls_told c told all =
+      elim (all_wait c.state) as (λ b. Told (cond b (record { state = record c.state { parked = [] }; events = c.events ++ filter_map (λ call. Some (tells call.pid what.Stalled)) c.state.parked }) c).events)
+      [ true ↦ append_told c.events (filter_map (λ call. Some (tells call.pid what.Stalled)) c.state.parked) told (stalled_told c.state.parked all) | false ↦ told ]
+
+  record Quietly (c : Change) : Type 0 where
+    told : Told c.events
+    waiting : Waiting c.state.parked
+
+  answers_told : (s : State) (e : Entry) (o : Option Fault) → Waiting s.parked → C e.pid.0 → Quietly (answers s e o)
+  answers_told s e None all me =
+      let after : Waiting (effect s e.pid e.step).state.parked = effect-stands (λ call. C call.pid.0) s e.pid e.step [] all me in
+      record { told = stalls_told (effect s e.pid e.step) (effect_told s e.pid e.step all me) after; waiting = stalls-stands (λ call. C call.pid.0) (effect s e.pid e.step) after }
+  answers_told s e (Some f) all me = record { told = (me, tt); waiting = all }
+
+  admits_told : (s : State) (e : Entry) (o : Option Fault) → Waiting s.parked → C e.pid.0 → Quietly (admits s e o)
+  admits_told s e None all me = answers_told s e (fault_of s e.step) all me
+  admits_told s e (Some f) all me = record { told = (me, tt); waiting = all }
+
+  events_told : (s : State) (fs : List Entry) → Waiting s.parked → AllByRecursion (λ e. C e.pid.0) fs → (Told (events_after s fs)) × (Waiting (state_after s fs).parked)
+  events_told s [] all by = (tt, all)
+  events_told s (e ∷ fs) all by =
+      let q = admits_told s e (refusal s e.pid) all by.0 in
+      let rest = events_told (moves s e).state fs q.waiting by.1 in
+      (append_told (moves s e).events (events_after (moves s e).state fs) q.told rest.0, rest.1)
+
+-- a process apart from these
+
+abbrev Not : ℕ → ℕ → Type 0
+Not q n = (n == q) ≡ false
+
+none_waiting : (q : ℕ) (calls : List OpenCall) → is_among q calls ≡ false → AllByRecursion (λ call. Not q call.pid.0) calls
+none_waiting q [] e = tt
+none_waiting q (call ∷ calls) e = let f = or_none (call.pid.0 == q) (is_among q calls) e in (f.0, none_waiting q calls f.1)
+
+waiting_none : (q : ℕ) (calls : List OpenCall) → AllByRecursion (λ call. Not q call.pid.0) calls → is_among q calls ≡ false
+waiting_none q [] a = refl
+waiting_none q (call ∷ calls) a = none_or (call.pid.0 == q) (is_among q calls) a.0 (waiting_none q calls a.1)
+
+none_by : (q : ℕ) (fs : List Entry) → list_any (λ e. e.pid.0 == q) fs ≡ false → AllByRecursion (λ e. Not q e.pid.0) fs
+none_by q [] e = tt
+none_by q (f ∷ fs) e = let g = or_none (f.pid.0 == q) (list_any (λ e. e.pid.0 == q) fs) e in (g.0, none_by q fs g.1)
+
+own_none : (q : ℕ) (fs : List Entry) → AllByRecursion (λ e. Not q e.pid.0) fs → own q fs ≡ []
+own_none q [] a = refl
+own_none q (f ∷ fs) a = rw a.0 (own_none q fs a.1)
+
+told_none : (q : ℕ) (es : List Event) → AllByRecursion (λ e. Not q e.pid.0) es → filter (λ e. (e.pid.0 == q) && not (is_parked e.what)) es ≡ []
+told_none q [] a = refl
+told_none q (e ∷ es) a = rw a.0 (told_none q es a.1)
+
+-- a run that goes on
+pub events_after-append : (s : State) (es fs : List Entry) → events_after s (es ++ fs) ≡ events_after s es ++ events_after (state_after s es) fs
+events_after-append s [] fs = refl
+events_after-append s (e ∷ es) fs = ap (λ xs. (moves s e).events ++ xs) (events_after-append (moves s e).state es fs) ∙ sym (append_assoc (moves s e).events (events_after (moves s e).state es) (events_after (state_after (moves s e).state es) fs))
+
+pub state_after-append : (s : State) (es fs : List Entry) → state_after s (es ++ fs) ≡ state_after (state_after s es) fs
+state_after-append s [] fs = refl
+state_after-append s (e ∷ es) fs = state_after-append (moves s e).state es fs
+
+pub replies-law : (n : ℕ) (es : List Entry) (q : ℕ) (fs : List Entry) → RepliesLaw n es q fs
+replies-law n es q fs free others =
+    let by : AllByRecursion (λ e. Not q e.pid.0) fs = none_by q fs others in
+    let after = events_told (Not q) (state n es) fs (none_waiting q (state n es).parked free) by in
+    let mine : Event → Bool = λ e. (e.pid.0 == q) && not (is_parked e.what) in
+    let grown : filter mine (events n (es ++ fs)) ≡ filter mine (events n es) =
+    ap (filter mine) (events_after-append (opening n) es fs) ∙ filter-append mine (events n es) (events_after (state n es) fs) ∙ ap (λ xs. filter mine (events n es) ++ xs) (told_none q (events_after (state n es) fs) after.0) ∙ append-nil (filter mine (events n es)) in
+    record {
+      own = filter-append (λ (e : Entry). e.pid.0 == q) es fs ∙ ap (λ xs. own q es ++ xs) (own_none q fs by) ∙ append-nil (own q es);
+      reply = ap (λ xs. last_from None xs) grown;
+      free = ap (λ (s : State). is_waiting s q) (state_after-append (opening n) es fs) ∙ waiting_none q (state_after (state n es) fs).parked after.1;
+    }

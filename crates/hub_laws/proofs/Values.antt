@@ -1,0 +1,70 @@
+-- The values received, and then those in the buffer, are the values sent.
+use Rattle.std.proofs.Common.{◌≡◌, ℕ, ◌==◌, ◌-◌, Bool, true, false, cond, List, [], ◌∷◌, ◌++◌, take, drop, refl, ap, ◌∙◌, sym, Option, Some, None, append-nil, append_assoc, take-append-drop}
+use Rattle.std.specs.Prelude.{slice_get}
+use Rattle.std.specs.Option.{option_map_or}
+use Rattle.hub_base.specs.declared.value.Port.{Port}
+use Rattle.hub_base.specs.declared.case.Case.{Case}
+use Rattle.hub_base.specs.declared.event.Outcome.{Outcome}
+use Rattle.hub_base.specs.declared.entry.Entry.{Entry}
+use Rattle.hub_base.specs.State.{State, Channel, channel_at, opening}
+use Rattle.hub_base.specs.Runs.{moves, state_after, state}
+use Rattle.hub_base.specs.Values.{Turned, turns_after, values_from, sent_on, got_on, sent_values, received_values}
+use Rattle.hub_laws.specs.Sound.{IsSound}
+use Rattle.hub_laws.specs.Deeds.{deed_of, told, at}
+use Rattle.hub_laws.proofs.Kept.{sound-opening}
+use Rattle.hub_laws.proofs.Rules.{moves-sound}
+use Rattle.hub_laws.proofs.Does.{Knows}
+use Rattle.hub_laws.proofs.Totals.{total, told-picks, sent-does, got-does}
+use Rattle.hub_laws.proofs.Turns.{in_force, moves-turn}
+
+-- a list that grows at each turn by what a reading tells is, after a run, what the reading tells of the run
+grows : {A : Type 0} (f : Channel → List A) (pick : Option Case → Outcome → Option A) (p : Port) →
+    ((s : State) (e : Entry) (ts : List Turned) → IsSound s → Knows (in_force ts) s.parked →
+    total f (moves s e).state.channels p ≡ total f s.channels p ++ told pick (in_force (ts ++ record { entry = e; events = (moves s e).events } ∷ [])) (moves s e).events) →
+    (s : State) (ts : List Turned) (es : List Entry) → IsSound s → Knows (in_force ts) s.parked →
+    total f (state_after s es).channels p ≡ total f s.channels p ++ values_from pick ts (turns_after s es)
+grows f pick p one s ts [] sound knows = sym (append-nil (total f s.channels p))
+grows f pick p one s ts (e ∷ es) sound knows =
+    let t : Turned = record { entry = e; events = (moves s e).events } in
+    grows f pick p one (moves s e).state (ts ++ t ∷ []) es (moves-sound s e sound) (moves-turn s e ts sound knows).knows
+    ∙ ap (λ xs. xs ++ values_from pick (ts ++ t ∷ []) (turns_after (moves s e).state es)) (one s e ts sound knows)
+    ∙ append_assoc (total f s.channels p) (told pick (in_force (ts ++ t ∷ [])) t.events) (values_from pick (ts ++ t ∷ []) (turns_after (moves s e).state es))
+
+pub sent-after : (s : State) (ts : List Turned) (es : List Entry) (p : Port) → IsSound s → Knows (in_force ts) s.parked →
+    total (λ c. c.done) (state_after s es).channels p ≡ total (λ c. c.done) s.channels p ++ values_from (sent_on p) ts (turns_after s es)
+sent-after s ts es p = grows (λ c. c.done) (sent_on p) p (λ s e ts sound knows.
+    let t : Turned = record { entry = e; events = (moves s e).events } in
+    sent-does s.channels (moves s e).state.channels (told deed_of (in_force (ts ++ t ∷ [])) (moves s e).events) p (moves-turn s e ts sound knows).does
+    ∙ ap (λ xs. total (λ c. c.done) s.channels p ++ xs) (sym (told-picks (sent_on p) (in_force (ts ++ t ∷ [])) (moves s e).events (λ o. refl)))) s ts es
+
+pub got-after : (s : State) (ts : List Turned) (es : List Entry) (p : Port) → IsSound s → Knows (in_force ts) s.parked →
+    total (λ c. take c.taken c.done) (state_after s es).channels p ≡ total (λ c. take c.taken c.done) s.channels p ++ values_from (got_on p) ts (turns_after s es)
+got-after s ts es p = grows (λ c. take c.taken c.done) (got_on p) p (λ s e ts sound knows.
+    let t : Turned = record { entry = e; events = (moves s e).events } in
+    got-does s.channels (moves s e).state.channels (told deed_of (in_force (ts ++ t ∷ [])) (moves s e).events) p (λ c h. (sound.ports p c h).taken) (moves-turn s e ts sound knows).does
+    ∙ ap (λ xs. total (λ c. take c.taken c.done) s.channels p ++ xs) (sym (told-picks (got_on p) (in_force (ts ++ t ∷ [])) (moves s e).events (λ o. refl)))) s ts es
+
+-- before anything is made
+no_total : {A : Type 0} (f : Channel → List A) (p : Port) → total f [] p ≡ []
+no_total f p = by (p.0 == 0)
+  where
+    by : (b : Bool) → option_map_or f (cond b None (slice_get {X = Channel} [] (p.0 - 1))) [] ≡ []
+    by true = refl
+    by false = refl
+
+total_at : {A : Type 0} (f : Channel → List A) (s : State) (p : Port) (c : Channel) → channel_at s p ≡ Some c → total f s.channels p ≡ f c
+total_at f s p c e = let h : at s.channels p ≡ Some c = e in rw h refl
+
+pub sent-law : (n : ℕ) (es : List Entry) (p : Port) (c : Channel) → channel_at (state n es) p ≡ Some c → sent_values n es p ≡ c.done
+sent-law n es p c e =
+    let h = sent-after (opening n) [] es p (sound-opening n) tt in
+    sym (sym (total_at (λ c. c.done) (state n es) p c e) ∙ h ∙ ap (λ xs. xs ++ sent_values n es p) (no_total (λ c. c.done) p))
+
+pub received-law : (n : ℕ) (es : List Entry) (p : Port) (c : Channel) → channel_at (state n es) p ≡ Some c → received_values n es p ≡ take c.taken c.done
+received-law n es p c e =
+    let h = got-after (opening n) [] es p (sound-opening n) tt in
+    sym (sym (total_at (λ c. take c.taken c.done) (state n es) p c e) ∙ h ∙ ap (λ xs. xs ++ received_values n es p) (no_total (λ c. take c.taken c.done) p))
+
+-- the values received, then those in the buffer, are the values sent
+pub values-law : (n : ℕ) (es : List Entry) (p : Port) (c : Channel) → channel_at (state n es) p ≡ Some c → received_values n es p ++ drop c.taken c.done ≡ sent_values n es p
+values-law n es p c e = ap (λ xs. xs ++ drop c.taken c.done) (received-law n es p c e) ∙ take-append-drop c.taken c.done ∙ sym (sent-law n es p c e)

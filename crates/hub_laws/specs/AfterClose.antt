@@ -1,0 +1,50 @@
+-- After a close: from entries and events alone, but for the buffer that the close left.
+use Rattle.std.specs.Prelude.{◌≡◌, ◌==◌, ℕ, Bool, true, false, List, [], ◌∷◌, Option, Some, None, drop, if◌then◌else◌}
+use Rattle.hub_base.specs.declared.value.Port.{Port}
+use Rattle.hub_base.specs.declared.value.Value.{Value}
+use Rattle.hub_base.specs.declared.case.Case.{Case}
+use Rattle.hub_base.specs.declared.case.Case.TheVariants.{Recv}
+use Rattle.hub_base.specs.declared.entry.Entry.{Entry}
+use Rattle.hub_base.specs.declared.event.Event.{Event}
+use Rattle.hub_base.specs.declared.event.Outcome.{Outcome}
+use Rattle.hub_base.specs.declared.event.Outcome.TheVariants.{Sent, Got, Drained}
+use Rattle.hub_base.specs.declared.event.What.{What}
+use Rattle.hub_base.specs.declared.event.What.TheVariants as what
+use Rattle.hub_base.specs.State.{Channel, channel_at, opening}
+use Rattle.hub_base.specs.Ready.{port_of}
+use Rattle.hub_base.specs.Runs.{state}
+use Rattle.hub_base.specs.Values.{turns_after, values_from}
+
+-- the cases on p that were answered `Sent`
+abbrev pub sent_at : Port → Option Case → Outcome → Option Case
+sent_at p (Some k) Sent = if (port_of k).0 == p.0 then Some k else None
+sent_at p k outcome = None
+
+-- the outcomes of receives on p
+abbrev pub heard : Port → Option Case → Outcome → Option Outcome
+heard p (Some (Recv q)) outcome = if q.0 == p.0 then Some outcome else None
+heard p k outcome = None
+
+-- receives that get these values, in order, and from then on `Drained`
+abbrev pub Drains : List Value → List Outcome → Type 0
+Drains vs [] = Unit
+Drains [] (o ∷ os) = (o ≡ Drained) × Drains [] os
+Drains (v ∷ vs) (o ∷ os) = (o ≡ Got v) × Drains vs os
+
+-- whether the answer was `Done`
+abbrev pub is_done : What → Bool
+is_done what.Done = true
+is_done w = false
+
+abbrev pub answers_done : List Event → Bool
+answers_done [] = false
+answers_done (e ∷ es) = is_done e.what
+
+-- what a reading tells of the entries `fs` that follow the entries `es`
+abbrev pub told_later : {A : Type 0} → (Option Case → Outcome → Option A) → ℕ → List Entry → List Entry → List A
+told_later pick n es fs = values_from pick (turns_after (opening n) es) (turns_after (state n es) fs)
+
+-- of a port that the last of the entries `es` closed
+pub record StaysClosed (n : ℕ) (es fs : List Entry) (p : Port) : Type 0 where
+  pub sent : told_later (sent_at p) n es fs ≡ []
+  pub heard : (c : Channel) → channel_at (state n es) p ≡ Some c → Drains (drop c.taken c.done) (told_later (heard p) n es fs)

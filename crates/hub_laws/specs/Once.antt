@@ -1,0 +1,57 @@
+-- Each admitted call has at most one event besides `Parked`: from entries and events alone.
+use Rattle.std.specs.Prelude.{◌≡◌, ◌≤◌, ◌==◌, ◌&&◌, ℕ, Bool, true, false, not, List, [], ◌∷◌, ◌++◌, length, filter, if◌then◌else◌}
+use Rattle.hub_base.specs.declared.entry.Step.{Step}
+use Rattle.hub_base.specs.declared.entry.Step.TheVariants.{Make, Call, Close, Exit}
+use Rattle.hub_base.specs.declared.event.Event.{Event}
+use Rattle.hub_base.specs.declared.fault.Fault.{Fault}
+use Rattle.hub_base.specs.declared.fault.Fault.TheVariants as fault
+use Rattle.hub_base.specs.declared.event.What.{What}
+use Rattle.hub_base.specs.declared.event.What.TheVariants as what
+use Rattle.hub_base.specs.Values.{Turned}
+
+abbrev pub is_call : Step → Bool
+is_call (Make cap) = false
+is_call (Call cases default word) = true
+is_call (Close p) = false
+is_call Exit = false
+
+-- the faults of entries that are not admitted
+abbrev pub refuses_entry : Fault → Bool
+refuses_entry fault.NoProcess = true
+refuses_entry fault.Gone = true
+refuses_entry fault.Busy = true
+refuses_entry f = false
+
+abbrev pub is_refusal : What → Bool
+is_refusal (what.Fault f) = refuses_entry f
+is_refusal w = false
+
+-- whether an entry with these events was admitted
+abbrev pub was_admitted : List Event → Bool
+was_admitted [] = true
+was_admitted (e ∷ es) = not (is_refusal e.what)
+
+abbrev pub is_busy : Fault → Bool
+is_busy fault.Busy = true
+is_busy f = false
+
+-- an event that counts: neither `Parked` nor the answer `Busy`
+abbrev pub counts : What → Bool
+counts what.Parked = false
+counts (what.Fault f) = not (is_busy f)
+counts w = true
+
+-- the events of process q that count
+abbrev pub endings : ℕ → List Event → List Event
+endings q events = filter (λ e. counts e.what && (e.pid.0 == q)) events
+
+-- those in these turns, up to the next admitted entry of q
+abbrev pub endings_until : ℕ → List Turned → List Event
+endings_until q [] = []
+endings_until q (t ∷ ts) = if was_admitted t.events && (t.entry.pid.0 == q) then [] else endings q t.events ++ endings_until q ts
+
+-- each admitted call has at most one event that counts, from its own answer up to the next admitted entry of its process
+abbrev pub AtMostOnce : List Turned → Type 0
+AtMostOnce [] = Unit
+AtMostOnce (t ∷ ts) =
+    (is_call t.entry.step ≡ true → was_admitted t.events ≡ true → length (endings t.entry.pid.0 t.events ++ endings_until t.entry.pid.0 ts) ≤ 1) × AtMostOnce ts

@@ -1,0 +1,232 @@
+-- What every board keeps, through each call.
+use Rattle.std.proofs.Common.{◌≡◌, ◌≢◌, ℕ, ◌+◌, ◌-◌, ◌*◌, ◌<◌, ◌≤◌, ◌==◌, Bool, true, false, not, cond, List, [], ◌∷◌, ◌++◌, length, filter, find, set, refl, ap, ◌∙◌, sym, arith, Option, Some, None, subst, suc, inl, inr, length-append}
+use Rattle.std.specs.List.{AllByRecursion}
+use Rattle.std.proofs.lemmas.Bool.{ne_eqb, cases_eq, cases_lt}
+use Rattle.std.proofs.lemmas.List.{length-set, get_or-set_same, get_or-set_other, get_or_append_left, get_or_push}
+use Rattle.circular_buffer.specs.Buffer.{Buffer, buffer}
+use Rattle.hub_base.specs.declared.value.Pid.{Pid}
+use Rattle.hub_base.specs.declared.value.Port.{Port}
+use Rattle.hub_base.specs.declared.case.Case.{Case}
+use Rattle.hub_base.specs.declared.case.Case.TheVariants.{Send, Recv}
+use Rattle.hub_base.specs.Ready.{port_of}
+use Rattle.hub_parts.specs.declared.side.Side.{Side}
+use Rattle.hub_parts.specs.declared.side.Side.TheVariants as side
+use Rattle.hub_parts.specs.declared.queue.Waiter.{Waiter}
+use Rattle.hub_parts.specs.Records.{Ticketed, Calls, ChannelLists}
+use Rattle.hub_parts.specs.Queues.{lives, roomy, joined, taken, waiters, waiters_from, waiter_at}
+use Rattle.hub_parts.specs.Lists.{queue_of, channel_of, line_of, with_queue, with_call, ticketed, all_roomy, all_joined, CanJoin, no_channel, new_port, passes}
+use Rattle.hub_parts.specs.Keeps.{QueueKeeps, CallsKeep, BoardKeeps, joins, AllMade, Ascending, without_call}
+use Rattle.hub_parts.proofs.Lines.{queue_with_cases, length-with_cases}
+use Rattle.hub_parts.proofs.Endings.{ended_keeps, taken_keeps, none_keeps, all_filter, ascending_filter}
+use Rattle.hub_parts.proofs.Rooms.{Ready, ready_after, roomy_has, joined_after, parked_keeps, can_join}
+use Rattle.hub_parts.proofs.Firsts.{Found, Tells, tells, line_finds}
+
+shorter_calls : (keep : Ticketed → Bool) (ws : List Ticketed) → length (filter keep ws) ≤ length ws
+shorter_calls keep [] = omega arith
+shorter_calls keep (w ∷ ws) = elim (keep w) as (λ b. length (cond b (w ∷ filter keep ws) (filter keep ws)) ≤ suc (length ws)) [ true ↦ omega (arith, shorter_calls keep ws) | false ↦ omega (arith, shorter_calls keep ws) ]
+
+pub calls_ended : (pid : Pid) (c : Calls) (n : ℕ) → CallsKeep c n → CallsKeep (without_call pid c) n
+calls_ended pid c n k =
+    let keep = λ (w : Ticketed). not (w.call.pid.0 == pid.0) in
+    record {
+      few = omega (arith, shorter_calls keep c.waiting, k.few);
+      small = all_filter (λ w. length w.call.cases ≤ 8) keep c.waiting k.small;
+      made = all_filter (λ w. AllMade n w.call.cases) keep c.waiting k.made;
+      ascending = ascending_filter keep c.waiting k.ascending;
+      below = all_filter (λ w. w.ticket < c.next_ticket) keep c.waiting k.below;
+    }
+
+-- every queue where a call ended
+pub queues_ended : (pid : Pid) (c : Calls) (cs : List ChannelLists) → BoardKeeps c cs → BoardKeeps (without_call pid c) cs
+queues_ended pid c cs k = record {
+  calls = calls_ended pid c (length cs) k.calls;
+  queues = λ s p positive within. ended_keeps (joins s p) c (queue_of s (channel_of cs p)) pid k.calls.ascending (k.queues s p positive within);
+}
+
+changed_queue : (f : Buffer Waiter → Buffer Waiter) (s t : Side) (p : Port) (c : Calls) (ch : ChannelLists) → QueueKeeps (joins t p) c (queue_of t ch) → QueueKeeps (joins s p) c (f (queue_of s ch)) → QueueKeeps (joins t p) c (queue_of t (with_queue f s ch))
+changed_queue f side.Send side.Send p c ch stay change = change
+changed_queue f side.Send side.Recv p c ch stay change = stay
+changed_queue f side.Send side.Any p c ch stay change = stay
+changed_queue f side.Recv side.Send p c ch stay change = stay
+changed_queue f side.Recv side.Recv p c ch stay change = change
+changed_queue f side.Recv side.Any p c ch stay change = change
+changed_queue f side.Any side.Send p c ch stay change = stay
+changed_queue f side.Any side.Recv p c ch stay change = change
+changed_queue f side.Any side.Any p c ch stay change = change
+
+abbrev to_port : ℕ → Port
+to_port n = record { 0 = n }
+
+same_port : (p q : Port) → p.0 ≡ q.0 → p ≡ q
+same_port p q e = ap to_port e
+
+-- a board where one queue changed
+pub board_changed : (f : Buffer Waiter → Buffer Waiter) (s : Side) (q : Port) (c : Calls) (cs : List ChannelLists) → 0 < q.0 → q.0 ≤ length cs → BoardKeeps c cs → QueueKeeps (joins s q) c (f (queue_of s (channel_of cs q))) → BoardKeeps c (set cs (q.0 - 1) (with_queue f s (channel_of cs q)))
+board_changed f s q c cs positive within k change =
+    let long = length-set cs (q.0 - 1) (with_queue f s (channel_of cs q)) in
+    record {
+      calls = rw long k.calls;
+      queues = λ t p above inside0.
+          let inside : p.0 ≤ length cs = rw long at inside0 in
+          elim (cases_eq p.0 q.0) [
+            | inl same ↦
+                (let here : p ≡ q = same_port p q same in
+                subst (λ r. QueueKeeps (joins t r) c (queue_of t (channel_of (set cs (q.0 - 1) (with_queue f s (channel_of cs q))) r))) (sym here)
+                (rw (get_or-set_same cs (q.0 - 1) (with_queue f s (channel_of cs q)) no_channel (omega arith)) (changed_queue f s t q c (channel_of cs q) (k.queues t q positive within) change)))
+            | inr ne ↦
+                (let apart : p.0 - 1 ≢ q.0 - 1 = (λ e. ne (omega arith)) in
+                rw (get_or-set_other cs (q.0 - 1) (p.0 - 1) (with_queue f s (channel_of cs q)) no_channel apart) (k.queues t p above inside))
+          ];
+    }
+
+same_queues : (t : Side) (q : Port) (c : Calls) (ch old : ChannelLists) → ch.senders ≡ old.senders → ch.receivers ≡ old.receivers → QueueKeeps (joins t q) c (queue_of t old) → QueueKeeps (joins t q) c (queue_of t ch)
+same_queues side.Send q c ch old es er k = rw es k
+same_queues side.Recv q c ch old es er k = rw er k
+same_queues side.Any q c ch old es er k = rw er k
+
+-- a board where one port changed, and no queue
+pub board_lists : (q : Port) (ch : ChannelLists) (c : Calls) (cs : List ChannelLists) → 0 < q.0 → q.0 ≤ length cs → ch.senders ≡ (channel_of cs q).senders → ch.receivers ≡ (channel_of cs q).receivers → BoardKeeps c cs → BoardKeeps c (set cs (q.0 - 1) ch)
+board_lists q ch c cs positive within es er k =
+    let long = length-set cs (q.0 - 1) ch in
+    record {
+      calls = rw long k.calls;
+      queues = λ t p above inside0.
+          let inside : p.0 ≤ length cs = rw long at inside0 in
+          elim (cases_eq p.0 q.0) [
+            | inl same ↦
+                subst (λ r. QueueKeeps (joins t r) c (queue_of t (channel_of (set cs (q.0 - 1) ch) r))) (sym (same_port p q same))
+                (rw (get_or-set_same cs (q.0 - 1) ch no_channel (omega arith)) (same_queues t q c ch (channel_of cs q) es er (k.queues t q positive within)))
+            | inr ne ↦
+                (let apart : p.0 - 1 ≢ q.0 - 1 = (λ e. ne (omega arith)) in
+                rw (get_or-set_other cs (q.0 - 1) (p.0 - 1) ch no_channel apart) (k.queues t p above inside))
+          ];
+    }
+
+more_made : (n m : ℕ) (cases : List Case) → n ≤ m → AllMade n cases → AllMade m cases
+more_made n m [] le a = tt
+more_made n m (c ∷ cases) le a = let le0 : (port_of c).0 ≤ n = a.0 in (omega arith, more_made n m cases le a.1)
+
+all_more_made : (n m : ℕ) (ws : List Ticketed) → n ≤ m → AllByRecursion (λ w. AllMade n w.call.cases) ws → AllByRecursion (λ w. AllMade m w.call.cases) ws
+all_more_made n m [] le a = tt
+all_more_made n m (w ∷ ws) le a = (more_made n m w.call.cases le a.0, all_more_made n m ws le a.1)
+
+-- no call has a case on a port that was not made
+no_join : (s : Side) (p : Port) (n : ℕ) (c : Case) → (port_of c).0 ≤ n → n < p.0 → joins s p c ≡ false
+no_join side.Send p n (Send q v) le more = ne_eqb q.0 p.0 (λ e. omega arith)
+no_join side.Send p n (Recv q) le more = refl
+no_join side.Recv p n (Send q v) le more = refl
+no_join side.Recv p n (Recv q) le more = ne_eqb q.0 p.0 (λ e. omega arith)
+no_join side.Any p n (Send q v) le more = refl
+no_join side.Any p n (Recv q) le more = ne_eqb q.0 p.0 (λ e. omega arith)
+
+no_waiters_from : (s : Side) (p : Port) (n : ℕ) (pid : Pid) (ticket i : ℕ) (cases : List Case) → AllMade n cases → n < p.0 → waiters_from (joins s p) pid ticket i cases ≡ []
+no_waiters_from s p n pid ticket i [] a more = refl
+no_waiters_from s p n pid ticket i (c ∷ cases) a more = rw (no_join s p n c a.0 more) (no_waiters_from s p n pid ticket (i + 1) cases a.1 more)
+
+no_waiters : (s : Side) (p : Port) (n : ℕ) (ws : List Ticketed) → AllByRecursion (λ w. AllMade n w.call.cases) ws → n < p.0 → waiters (joins s p) ws ≡ []
+no_waiters s p n [] a more = refl
+no_waiters s p n (w ∷ ws) a more = rw (no_waiters_from s p n w.call.pid w.ticket 0 w.call.cases a.0 more) (no_waiters s p n ws a.1 more)
+
+abbrev pub fresh : ℕ → ℕ → ChannelLists
+fresh cap procs = record { lists = new_port cap; senders = buffer [] (16 * procs); receivers = buffer [] (16 * procs) }
+
+fresh_queue : (s : Side) (cap procs : ℕ) → queue_of s (fresh cap procs) ≡ buffer [] (16 * procs)
+fresh_queue side.Send cap procs = refl
+fresh_queue side.Recv cap procs = refl
+fresh_queue side.Any cap procs = refl
+
+-- a board with one more port
+pub board_made : (cap : ℕ) (c : Calls) (cs : List ChannelLists) → BoardKeeps c cs → BoardKeeps c (cs ++ fresh cap c.procs ∷ [])
+board_made cap c cs k =
+    let long = length-append cs (fresh cap c.procs ∷ []) in
+    record {
+      calls = record {
+        few = k.calls.few;
+        small = k.calls.small;
+        made = all_more_made (length cs) (length (cs ++ fresh cap c.procs ∷ [])) c.waiting (omega (arith, long)) k.calls.made;
+        ascending = k.calls.ascending;
+        below = k.calls.below;
+      };
+      queues = λ t p above inside.
+          elim (cases_lt (p.0 - 1) (length cs)) [
+            | inl less ↦ rw (get_or_append_left cs (fresh cap c.procs ∷ []) no_channel (p.0 - 1) less) (k.queues t p above (omega arith))
+            | inr more ↦
+                (let at : length cs ≡ p.0 - 1 = omega (arith, long) in
+                rw (get_or_push cs (fresh cap c.procs) no_channel (p.0 - 1) at, fresh_queue t cap c.procs)
+                (record {
+                  live = sym (no_waiters t p (length cs) c.waiting k.calls.made (omega arith));
+                  below = tt;
+                  places = refl;
+                  fits = omega arith;
+                }))
+          ];
+    }
+
+-- what a taking tells and leaves
+pub taken_tells : (s : Side) (p : Port) (c : Calls) (cs : List ChannelLists) (o : Option Waiter) → 0 < p.0 → p.0 ≤ length cs → BoardKeeps c cs → o ≡ find (lives c.waiting) (queue_of (line_of s c.waiting (channel_of cs p)) (channel_of cs p)).items → Tells (passes p s) c.waiting o
+taken_tells s p c cs o positive within k e =
+    rw (e ∙ line_finds s p c (channel_of cs p) k.calls.ascending (k.queues side.Send p positive within) (k.queues side.Recv p positive within)) (tells (passes p s) c.waiting k.calls.ascending)
+
+pub board_taken : (s : Side) (p : Port) (c : Calls) (cs : List ChannelLists) (entry : Waiter) → 0 < p.0 → p.0 ≤ length cs → BoardKeeps c cs
+    → Some entry ≡ find (lives c.waiting) (queue_of (line_of s c.waiting (channel_of cs p)) (channel_of cs p)).items
+    → BoardKeeps (without_call entry.pid c) (set cs (p.0 - 1) (with_queue (taken c.waiting) (line_of s c.waiting (channel_of cs p)) (channel_of cs p)))
+board_taken s p c cs entry positive within k e =
+    let line = line_of s c.waiting (channel_of cs p) in
+    let found : Found (passes p s) c.waiting entry = taken_tells s p c cs (Some entry) positive within k e in
+    board_changed (taken c.waiting) line p (without_call entry.pid c) cs positive within (queues_ended entry.pid c cs k)
+    (taken_keeps (joins line p) c (queue_of line (channel_of cs p)) entry.pid entry k.calls.ascending (sym e) found.dies (k.queues line p positive within))
+
+pub board_untaken : (s : Side) (p : Port) (c : Calls) (cs : List ChannelLists) → 0 < p.0 → p.0 ≤ length cs → BoardKeeps c cs
+    → None ≡ find (lives c.waiting) (queue_of (line_of s c.waiting (channel_of cs p)) (channel_of cs p)).items
+    → BoardKeeps c (set cs (p.0 - 1) (with_queue (taken c.waiting) (line_of s c.waiting (channel_of cs p)) (channel_of cs p)))
+board_untaken s p c cs positive within k e =
+    let line = line_of s c.waiting (channel_of cs p) in
+    board_changed (taken c.waiting) line p c cs positive within k
+    (none_keeps (joins line p) c (queue_of line (channel_of cs p)) (sym e) (k.queues line p positive within))
+
+all_snoc : (P : Ticketed → Type 0) (ws : List Ticketed) (w : Ticketed) → AllByRecursion P ws → P w → AllByRecursion P (ws ++ w ∷ [])
+all_snoc P [] w a p = (p, tt)
+all_snoc P (v ∷ ws) w a p = (a.0, all_snoc P ws w a.1 p)
+
+ascending_snoc : (ws : List Ticketed) (w : Ticketed) (n : ℕ) → n ≤ w.ticket → AllByRecursion (λ v. v.ticket < n) ws → Ascending ws → Ascending (ws ++ w ∷ [])
+ascending_snoc [] w n le b a = (tt, tt)
+ascending_snoc (v ∷ ws) w n le b a = let less : v.ticket < n = b.0 in (all_snoc (λ u. v.ticket < u.ticket) ws w a.0 (omega arith), ascending_snoc ws w n le b.1 a.1)
+
+all_below : (n m : ℕ) (ws : List Ticketed) → n ≤ m → AllByRecursion (λ w. w.ticket < n) ws → AllByRecursion (λ w. w.ticket < m) ws
+all_below n m [] le a = tt
+all_below n m (w ∷ ws) le a = let less : w.ticket < n = a.0 in (omega arith, all_below n m ws le a.1)
+
+pub calls_opened : (pid : Pid) (ticket : ℕ) (cases : List Case) (c : Calls) (n : ℕ) → CallsKeep c n → c.next_ticket ≤ ticket → length cases ≤ 8 → AllMade n cases → length (c.waiting ++ ticketed pid ticket cases ∷ []) ≤ c.procs → CallsKeep (with_call pid ticket cases c) n
+calls_opened pid ticket cases c n k later small made few = record {
+  few = few;
+  small = all_snoc (λ w. length w.call.cases ≤ 8) c.waiting (ticketed pid ticket cases) k.small small;
+  made = all_snoc (λ w. AllMade n w.call.cases) c.waiting (ticketed pid ticket cases) k.made made;
+  ascending = ascending_snoc c.waiting (ticketed pid ticket cases) c.next_ticket later k.below k.ascending;
+  below = all_snoc (λ w. w.ticket < ticket + 1) c.waiting (ticketed pid ticket cases) (all_below c.next_ticket (ticket + 1) c.waiting (omega arith) k.below) (omega arith);
+}
+
+-- a queue after room was made for a call
+queue_ready : (s : Side) (p : Port) (c : Calls) (cs : List ChannelLists) (cases : List Case) → 0 < p.0 → p.0 ≤ length cs → BoardKeeps c cs → 0 < c.procs → length cases ≤ 8 → Ready (joins s p) c (queue_of s (channel_of (all_roomy c.waiting cs cases) p)) cases
+queue_ready s p c cs cases positive within k free small =
+    rw (queue_with_cases (λ i. roomy c.waiting) 0 cs cases s p positive within)
+    (ready_after (joins s p) c 0 (queue_of s (channel_of cs p)) cases (k.queues s p positive within) (roomy_has (joins s p) c (queue_of s (channel_of cs p)) free k.calls.few k.calls.small (k.queues s p positive within)) small)
+
+pub roomy_can_join : (pid : Pid) (ticket : ℕ) (c : Calls) (cs : List ChannelLists) (cases : List Case) → BoardKeeps c cs → 0 < c.procs → length cases ≤ 8 → AllMade (length cs) cases → CanJoin pid ticket 0 (all_roomy c.waiting cs cases) cases
+roomy_can_join pid ticket c cs cases k free small made =
+    let long = length-with_cases (λ i. roomy c.waiting) 0 cs cases in
+    can_join pid ticket 0 (all_roomy c.waiting cs cases) cases (subst (λ n. AllMade n cases) (sym long) made)
+    (λ s p positive within. (queue_ready s p c cs cases positive (rw long at within) k free small).room)
+
+pub board_parked : (pid : Pid) (ticket : ℕ) (c : Calls) (cs : List ChannelLists) (cases : List Case) → BoardKeeps c cs → 0 < c.procs → length cases ≤ 8 → AllMade (length cs) cases → c.next_ticket ≤ ticket → length (c.waiting ++ ticketed pid ticket cases ∷ []) ≤ c.procs
+    → BoardKeeps (with_call pid ticket cases c) (all_joined pid ticket 0 (all_roomy c.waiting cs cases) cases)
+board_parked pid ticket c cs cases k free small made later few =
+    let roomy_long = length-with_cases (λ i. roomy c.waiting) 0 cs cases in
+    let long = length-with_cases (λ i. joined (waiter_at pid ticket i)) 0 (all_roomy c.waiting cs cases) cases in
+    record {
+      calls = rw (long, roomy_long) (calls_opened pid ticket cases c (length cs) k.calls later small made few);
+      queues = λ s p positive within0.
+          let within1 : p.0 ≤ length (all_roomy c.waiting cs cases) = rw long at within0 in
+          let within : p.0 ≤ length cs = rw roomy_long at within1 in
+          rw (queue_with_cases (λ i. joined (waiter_at pid ticket i)) 0 (all_roomy c.waiting cs cases) cases s p positive within1, joined_after (joins s p) pid ticket 0 (queue_of s (channel_of (all_roomy c.waiting cs cases) p)) cases)
+          (parked_keeps (joins s p) c (queue_of s (channel_of (all_roomy c.waiting cs cases) p)) pid ticket cases later (queue_ready s p c cs cases positive within k free small));
+    }

@@ -1,0 +1,65 @@
+-- The entries of queues, and which of them are live.
+use Rattle.std.specs.Prelude.{ℕ, ◌==◌, ◌+◌, ◌-◌, nat_lt, ◌&&◌, ◌||◌, Bool, List, [], ◌∷◌, ◌++◌, if◌then◌else◌, filter, length, Option, None, slice_get}
+use Rattle.std.specs.List.{list_any, flat_map}
+use Rattle.circular_buffer.specs.Buffer.{Buffer, buffer}
+use Rattle.hub_base.specs.declared.value.Pid.{Pid}
+use Rattle.hub_base.specs.declared.case.Case.{Case}
+use Rattle.hub_parts.specs.declared.queue.Waiter.{Waiter}
+use Rattle.hub_parts.specs.Records.{Ticketed}
+
+-- an open call has this ticket
+abbrev pub is_live : List Ticketed → ℕ → Bool
+is_live ws ticket = list_any (λ w. w.ticket == ticket) ws
+
+abbrev pub lives : List Ticketed → Waiter → Bool
+lives ws entry = is_live ws entry.ticket
+
+-- the entries whose ticket is live
+abbrev pub live_of : List Ticketed → List Waiter → List Waiter
+live_of ws q = filter (lives ws) q
+
+-- what stands behind the first that passes
+abbrev pub after_first : {X : Type 0} → (X → Bool) → List X → List X
+after_first test [] = []
+after_first test (x ∷ xs) = if test x then xs else after_first test xs
+
+-- the first to the end where it passes, and else away
+abbrev pub turned : {X : Type 0} → (X → Bool) → List X → List X
+turned test [] = []
+turned test (x ∷ xs) = if test x then xs ++ x ∷ [] else xs
+
+-- the queue without what stands before the first live entry, and without that
+abbrev pub taken : List Ticketed → Buffer Waiter → Buffer Waiter
+taken ws q = buffer (after_first (lives ws) q.items) q.capacity
+
+abbrev pub joined : Waiter → Buffer Waiter → Buffer Waiter
+joined entry q = buffer (q.items ++ entry ∷ []) q.capacity
+
+-- where fewer than 8 places are free, the live entries alone
+abbrev pub roomy : List Ticketed → Buffer Waiter → Buffer Waiter
+roomy ws q = if nat_lt (q.capacity - length q.items) 8 then buffer (live_of ws q.items) q.capacity else q
+
+abbrev pub waiter_at : Pid → ℕ → ℕ → Waiter
+waiter_at pid ticket i = record { pid = pid; ticket = ticket; case = i }
+
+-- the entries of a call's cases that pass, from number i on
+abbrev pub waiters_from : (Case → Bool) → Pid → ℕ → ℕ → List Case → List Waiter
+waiters_from test pid ticket i [] = []
+waiters_from test pid ticket i (c ∷ cs) =
+    if test c then waiter_at pid ticket i ∷ waiters_from test pid ticket (i + 1) cs else waiters_from test pid ticket (i + 1) cs
+
+abbrev pub waiters_of : (Case → Bool) → Ticketed → List Waiter
+waiters_of test w = waiters_from test w.call.pid w.ticket 0 w.call.cases
+
+-- the entries of the open calls' cases that pass, oldest call first
+abbrev pub waiters : (Case → Bool) → List Ticketed → List Waiter
+waiters test ws = flat_map (waiters_of test) ws
+
+-- the case of this number in the call under this ticket
+abbrev pub case_at : List Ticketed → ℕ → ℕ → Option Case
+case_at [] ticket i = None
+case_at (w ∷ ws) ticket i = if w.ticket == ticket then slice_get w.call.cases i else case_at ws ticket i
+
+-- the older of two entries: by ticket, and in one call by case
+abbrev pub is_before : Waiter → Waiter → Bool
+is_before a b = nat_lt a.ticket b.ticket || ((a.ticket == b.ticket) && nat_lt a.case b.case)

@@ -1,0 +1,69 @@
+//! The buffer of a channel.
+ghost use Rattle.std.specs.Prelude.{◌≡◌, ◌≤◌, ◌<◌, ◌++◌, ◌∷◌, [], length, IfOk, drop, slice_get, option_copied, ◌^◌};
+ghost use Rattle.circular_buffer.specs.Buffer.{buffer};
+
+use circular_buffer::HeapCircularBuffer;
+use hub_base::Value;
+use std::alloc::{AllocError, Global};
+use std::marker::Model;
+
+/// A queue of at most `cap` values.
+#[derive(Drop)]
+pub struct Ring {
+    values: HeapCircularBuffer<Value>,
+}
+
+impl Model for Ring {
+    ghost use Rattle.circular_buffer.specs.Buffer.{Buffer};
+    ghost use Rattle.hub_base.specs.declared.value.Value.{Value as Held};
+    ghost use Rattle.std.specs.Prelude.{◌≤◌, length};
+
+    ghost Value = { Buffer Held };
+
+    ghost view = { λ r. r.values };
+
+    ghost invariant = { λ r. length r.values.items ≤ r.values.capacity };
+}
+
+impl Ring {
+    /// An empty ring.
+    pub fn new(alloc: Global, cap: u32) -> Result<Ring, AllocError>
+        requires { 1 ≤ cap }
+        ensures { IfOk result (λ r. r ≡ buffer [] cap) }
+    {
+        Ok(Ring {
+            values: HeapCircularBuffer::with_capacity(alloc, cap as usize)?,
+        })
+    }
+
+    /// Adds the newest value. There must be room.
+    pub fn push(&mut self, value: Value)
+        requires { length self.old.items < self.old.capacity }
+        ensures { self.new ≡ buffer (self.old.items ++ value ∷ []) self.old.capacity }
+    {
+        let _pushed = self.values.try_push_back(value);
+    }
+
+    /// Removes the oldest value.
+    pub fn pop(&mut self) -> Option<Value>
+        ensures oldest { result ≡ slice_get self.old.items 0 }
+        ensures left { self.new ≡ buffer (drop 1 self.old.items) self.old.capacity }
+    {
+        self.values.pop_front()
+    }
+
+    /// How many values there are.
+    pub fn len(&self) -> usize
+        ensures len { result ≡ length self.now.items }
+        ensures fits { result ≤ self.now.capacity }
+    {
+        self.values.len()
+    }
+
+    /// The value at a place, 0 the oldest.
+    pub fn item(&self, i: usize) -> Option<Value>
+        ensures { result ≡ slice_get self.now.items i }
+    {
+        self.values.get(i).copied()
+    }
+}

@@ -1,5 +1,5 @@
 -- What the calls of a board leave, as the code has it: a channel is read, changed and written back.
-use Rattle.std.proofs.Common.{◌≡◌, ℕ, ◌-◌, ◌<◌, ◌≤◌, List, length, map, find, get_or, set, refl, ap, ◌∙◌, sym, arith, Option, Some, None, subst}
+use Rattle.std.proofs.Common.{◌≡◌, ℕ, ◌-◌, ◌<◌, ◌≤◌, List, length, map, find, get_or, set, refl, ap, ◌∙◌, sym, arith, Option, Some, None, subst, true}
 use Rattle.std.specs.Option.{is_some}
 use Rattle.std.proofs.lemmas.List.{length-map, map-set, set-get_or, get_or_default}
 use Rattle.circular_buffer.specs.Buffer.{Buffer}
@@ -87,6 +87,10 @@ some_is x y e = cc
 
 pub ending_told : (s : Side) (p : Port) (c : Calls) (entry : Waiter) (case : Case) → Found (passes p s) c.waiting entry → Some case ≡ case_at c.waiting entry.ticket entry.case → Some (record { pid = entry.pid; at = record { index = entry.case; case = case } }) ≡ first_with (passes p s) (open_calls c.waiting)
 ending_told s p c entry case f e = let same : case ≡ f.case = some_is case f.case (e ∙ f.at) in rw same (sym f.first)
+
+-- the case that is told is one of that side on that port
+pub case_passes : (s : Side) (p : Port) (c : Calls) (entry : Waiter) (case : Case) → Found (passes p s) c.waiting entry → Some case ≡ case_at c.waiting entry.ticket entry.case → passes p s case ≡ true
+case_passes s p c entry case f e = let same : case ≡ f.case = some_is case f.case (e ∙ f.at) in rw same f.passes
 
 pub case_is : (s : Side) (p : Port) (c : Calls) (entry : Waiter) → Found (passes p s) c.waiting entry → None ≡ case_at c.waiting entry.ticket entry.case → ⊥
 case_is s p c entry f e = let impossible : None ≡ Some f.case = e ∙ f.at in cc

@@ -1,5 +1,5 @@
 //! The board: ports, and the open calls.
-ghost use Rattle.std.specs.Prelude.{◌≡◌, ◌∷◌, ◌≤◌, ◌<◌, ◌+◌, ◌-◌, [], length, IfOk, OnErr, ◌==◌, ◌^◌, false, slice_get, is_some};
+ghost use Rattle.std.specs.Prelude.{◌≡◌, ◌∷◌, ◌≤◌, ◌<◌, ◌+◌, ◌-◌, [], length, IfOk, IfSome, OnErr, ◌==◌, ◌^◌, true, false, slice_get, is_some};
 ghost use Rattle.std.specs.Option.{option_map};
 ghost use Rattle.std.specs.List.{list_any};
 ghost use Rattle.hub_base.specs.Ready.{first_with};
@@ -150,6 +150,7 @@ impl Board {
     pub fn take(&mut self, port: Port, side: Side) -> Option<Ended>
         requires { IsMade self.old port }
         ensures taken { option_map ending_of result ≡ first_with (passes port side) (open_calls self.old.waiting) }
+        ensures side { IfSome result (λ e. passes port side e.case ≡ true) }
         ensures left { self.new ≡ after_taking result self.old }
     {
         let channel = &mut self.ports[port.0 as usize - 1];

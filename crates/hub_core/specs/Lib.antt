@@ -1,0 +1,6 @@
+pub mod Records
+pub mod ListReady
+pub mod ListKeeps
+pub mod ListSteps
+pub mod Follows
+pub mod Agrees

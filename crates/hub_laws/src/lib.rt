@@ -5,6 +5,7 @@ ghost use Rattle.hub_laws.specs.Laws.{StateLaws, ValuesLaw, OnceLaw, AfterCloseL
 ghost use Rattle.hub_base.specs.Runs.{state, moves, kept};
 ghost use Rattle.std.specs.Prelude.{◌≡◌, ◌≤◌, ◌+◌, length};
 ghost use Rattle.hub_laws.specs.Replies.{RepliesLaw};
+ghost use Rattle.hub_laws.specs.Counts.{CountsLaw};
 
 use hub_base::{Entry, Pid, Port};
 
@@ -42,4 +43,10 @@ pub fn events_fit(procs: u8, before: &[Entry], entry: &Entry)
 pub fn journals_are_legal(procs: u8, entries: &[Entry])
     ensures same { state procs (kept procs entries.now) ≡ state procs entries.now }
     ensures legal { kept procs (kept procs entries.now) ≡ kept procs entries.now }
+{}
+
+/// No channel of a run has received more than it sent, or sent more than the run's admitted entries that are
+/// no exits.
+pub fn counts_are_bounded(procs: u8, entries: &[Entry])
+    ensures { CountsLaw procs entries.now }
 {}

@@ -6,6 +6,8 @@ ghost use Rattle.hub_base.specs.Runs.{state, moves, kept};
 ghost use Rattle.std.specs.Prelude.{◌≡◌, ◌≤◌, ◌+◌, length};
 ghost use Rattle.hub_laws.specs.Replies.{RepliesLaw};
 ghost use Rattle.hub_laws.specs.Counts.{CountsLaw};
+ghost use Rattle.hub_laws.specs.OnePort.{OnePortLaw};
+ghost use Rattle.hub_laws.specs.Tells.{AnswersLaw, PassedOverLaw};
 
 use hub_base::{Entry, Pid, Port};
 
@@ -49,4 +51,15 @@ pub fn journals_are_legal(procs: u8, entries: &[Entry])
 /// no exits.
 pub fn counts_are_bounded(procs: u8, entries: &[Entry])
     ensures { CountsLaw procs entries.now }
+{}
+
+/// One entry writes the channel of at most one port: the one that its answer names.
+pub fn one_port_moves(procs: u8, before: &[Entry], entry: &Entry)
+    ensures { OnePortLaw procs before.now entry.now }
+{}
+
+/// An admitted entry is answered first, and calls that ended follow; any other gives one fault alone.
+pub fn entries_are_answered(procs: u8, before: &[Entry], entry: &Entry)
+    ensures admitted { AnswersLaw procs before.now entry.now }
+    ensures refused { PassedOverLaw procs before.now entry.now }
 {}

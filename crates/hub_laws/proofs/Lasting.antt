@@ -1,5 +1,5 @@
 -- A step leaves the number of processes, and only an exit adds to those that have exited.
-use Rattle.std.proofs.Common.{append-nil, if◌then◌else◌, ◌≡◌, ℕ, ◌%◌, ◌==◌, Bool, true, false, cond, List, [], ◌∷◌, ◌++◌, length, refl, ap, ◌∙◌, sym, Option, Some, None, inl, inr, ◌⊎◌, ◌||◌}
+use Rattle.std.proofs.Common.{append-nil, if◌then◌else◌, ◌≡◌, ℕ, ◌%◌, ◌==◌, Bool, true, false, cond, List, [], ◌∷◌, ◌++◌, length, refl, ap, ◌∙◌, sym, Option, Some, None, inl, inr, ◌⊎◌, ◌||◌, ◌&&◌}
 use Rattle.std.specs.Prelude.{slice_get}
 use Rattle.std.specs.List.{list_any, filter_map}
 use Rattle.hub_base.specs.declared.value.Port.{Port}
@@ -19,7 +19,8 @@ use Rattle.hub_base.specs.Ready.{is_send_on, is_recv_on, ready, port_of, first_w
 use Rattle.hub_base.specs.Steps.{fires, proceeds, chooses, closes, effect, stalls, all_wait, Change, sent, next_value, with_sent, send_meets, recv_takes, recv_meets, fired, tells, fault_of, answers, turn, refusal, has_gone}
 use Rattle.hub_base.specs.Runs.{admits, moves, state_after}
 use Rattle.hub_base.specs.Reading.{is_exit}
-use Rattle.hub_laws.proofs.Calls.{any_snoc}
+use Rattle.std.proofs.Math.Bool.{and-false, or-false}
+use Rattle.std.proofs.lemmas.List.Folds.{list_any-append}
 
 -- nobody has exited in between
 pub record Stays (s t : State) : Type 0 where
@@ -91,18 +92,18 @@ answers_lasts s e (Some f) is = rw (exits_clear s e.step f (sym is)) (lasts s s 
 pub turn-lasts : (s : State) (e : Entry) → Lasts s (turn s e).state (leavers e)
 turn-lasts s e = answers_lasts s e (fault_of s e.step) refl
 
+-- who has exited after it
+pub turn-leaves : (q : ℕ) (s : State) (e : Entry) → has_gone (turn s e).state q ≡ (has_gone s q || (is_exit e.step && (e.pid.0 == q)))
+turn-leaves q s e = ap (λ xs. list_any (λ (g : Pid). g.0 == q) xs) (turn-lasts s e).gone ∙ list_any-append (λ (g : Pid). g.0 == q) s.gone (leavers e) ∙ by (is_exit e.step)
+  where
+    by : (b : Bool) → (has_gone s q || list_any (λ (g : Pid). g.0 == q) (cond b (e.pid ∷ []) [])) ≡ (has_gone s q || (b && (e.pid.0 == q)))
+    by true = ap (λ b. has_gone s q || b) (or-false (e.pid.0 == q))
+    by false = refl
+
 -- of a process that did not exit by it
 pub turn-gone : (q : ℕ) (s : State) (e : Entry) → (is_exit e.step ≡ false) ⊎ ((e.pid.0 == q) ≡ false) → has_gone (turn s e).state q ≡ has_gone s q
-turn-gone q s e (inl l) = let h = (turn-lasts s e).gone in let k : (turn s e).state.gone ≡ s.gone ++ [] = rw l at h in ap (λ xs. list_any (λ (g : Pid). g.0 == q) xs) (k ∙ append-nil s.gone)
-turn-gone q s e (inr r) = ap (λ xs. list_any (λ (g : Pid). g.0 == q) xs) (turn-lasts s e).gone ∙ by (is_exit e.step)
-  where
-    or_false : (b : Bool) → (b || false) ≡ b
-    or_false true = refl
-    or_false false = refl
-
-    by : (b : Bool) → list_any (λ (g : Pid). g.0 == q) (s.gone ++ cond b (e.pid ∷ []) []) ≡ has_gone s q
-    by true = any_snoc (λ (g : Pid). g.0 == q) s.gone e.pid ∙ rw r (or_false (has_gone s q))
-    by false = rw append-nil refl
+turn-gone q s e (inl l) = turn-leaves q s e ∙ rw l (or-false (has_gone s q))
+turn-gone q s e (inr r) = turn-leaves q s e ∙ rw (r, and-false (is_exit e.step)) (or-false (has_gone s q))
 
 -- any entry
 pub procs-entry : (s : State) (e : Entry) (o : Option Fault) → (admits s e o).state.procs ≡ s.procs

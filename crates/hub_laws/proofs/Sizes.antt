@@ -25,7 +25,7 @@ use Rattle.hub_laws.specs.Sound.{IsSound, is_among, CallFits}
 use Rattle.hub_laws.proofs.Calls.{first-found, lowest-some, or_some}
 use Rattle.hub_laws.proofs.Ready.{Admitted, admitted}
 use Rattle.hub_laws.proofs.Rules.{state-sound}
-use Rattle.hub_laws.proofs.Laws.{count-below}
+use Rattle.hub_laws.proofs.Distinct.{count-below}
 use Rattle.hub_laws.proofs.Fires.{same_true}
 
 -- how many calls a step leaves and how many events it tells

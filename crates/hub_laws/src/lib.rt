@@ -6,6 +6,7 @@ ghost use Rattle.hub_base.specs.Runs.{state, moves, kept};
 ghost use Rattle.std.specs.Prelude.{◌≡◌, ◌≤◌, ◌+◌, length};
 ghost use Rattle.hub_laws.specs.Replies.{RepliesLaw};
 ghost use Rattle.hub_laws.specs.Counts.{CountsLaw};
+ghost use Rattle.hub_laws.specs.Limits.{LimitsLaw};
 ghost use Rattle.hub_laws.specs.OnePort.{OnePortLaw};
 ghost use Rattle.hub_laws.specs.Tells.{AnswersLaw, PassedOverLaw};
 
@@ -62,4 +63,9 @@ pub fn one_port_moves(procs: u8, before: &[Entry], entry: &Entry)
 pub fn entries_are_answered(procs: u8, before: &[Entry], entry: &Entry)
     ensures admitted { AnswersLaw procs before.now entry.now }
     ensures refused { PassedOverLaw procs before.now entry.now }
+{}
+
+/// A journal holds at most one exit of each process, and none of any other.
+pub fn journals_are_short(procs: u8, entries: &[Entry])
+    ensures { LimitsLaw procs entries.now }
 {}

@@ -4,7 +4,7 @@
 ghost use Rattle.hub_laws.specs.Laws.{StateLaws, ValuesLaw, OnceLaw, AfterCloseLaw};
 ghost use Rattle.hub_base.specs.Runs.{state, moves, kept};
 ghost use Rattle.std.specs.Prelude.{◌≡◌, ◌≤◌, ◌+◌, length};
-ghost use Rattle.hub_laws.specs.Replies.{RepliesLaw};
+ghost use Rattle.hub_laws.specs.Replies.{RepliesLaw, RepliedLaw};
 ghost use Rattle.hub_laws.specs.Counts.{CountsLaw};
 ghost use Rattle.hub_laws.specs.Limits.{LimitsLaw};
 ghost use Rattle.hub_laws.specs.OnePort.{OnePortLaw};
@@ -68,4 +68,9 @@ pub fn entries_are_answered(procs: u8, before: &[Entry], entry: &Entry)
 /// A journal holds at most one exit of each process, and none of any other.
 pub fn journals_are_short(procs: u8, entries: &[Entry])
     ensures { LimitsLaw procs entries.now }
+{}
+
+/// Right after an admitted entry its events but for `Parked` are their processes' replies.
+pub fn replies_come(procs: u8, before: &[Entry], entry: &Entry)
+    ensures { RepliedLaw procs before.now entry.now }
 {}

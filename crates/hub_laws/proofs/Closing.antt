@@ -11,7 +11,7 @@ use Rattle.hub_base.specs.Steps.{fired, closing_event, closing_outcome}
 use Rattle.hub_laws.specs.Sound.{is_among, Apart}
 use Rattle.hub_laws.proofs.Calls.{lowest-some, not_true, or_left, or_right, same_number}
 use Rattle.hub_laws.proofs.Fires.{same_true}
-use Rattle.hub_laws.proofs.Once.{without_none}
+use Rattle.hub_laws.proofs.Balance.{without_none}
 
 -- the open calls with no case on the port
 abbrev pub off_port : Port → List OpenCall → List OpenCall

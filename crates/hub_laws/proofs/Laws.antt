@@ -1,9 +1,7 @@
 -- The laws, of every run.
-use Rattle.std.proofs.Common.{◌<◌, ◌≡◌, ℕ, ◌≤◌, ◌==◌, true, false, List, [], ◌∷◌, length, map, drop, refl, arith, eqb, zero, suc}
-use Rattle.std.specs.List.{list_any, AllByRecursion, IsDistinct}
-use Rattle.std.proofs.lemmas.Grind.{common_steps}
-use Rattle.std.proofs.lemmas.List.{length-drop, length-map}
-use Rattle.std.proofs.lemmas.Map.Steps.{length-le_from_distinct_below}
+use Rattle.std.proofs.Common.{◌≡◌, ℕ, ◌≤◌, false, List, [], ◌∷◌, length, drop, refl, arith, zero, suc}
+use Rattle.std.specs.List.{list_any}
+use Rattle.std.proofs.lemmas.List.{length-drop}
 use Rattle.hub_base.specs.declared.value.Port.{Port}
 use Rattle.hub_base.specs.declared.value.Pid.{Pid}
 use Rattle.hub_base.specs.declared.case.Case.{Case}
@@ -11,9 +9,10 @@ use Rattle.hub_base.specs.declared.entry.Entry.{Entry}
 use Rattle.hub_base.specs.State.{State, Channel, OpenCall}
 use Rattle.hub_base.specs.Ready.{is_send_on, is_recv_on, is_on}
 use Rattle.hub_base.specs.Runs.{state}
-use Rattle.hub_laws.specs.Sound.{some_call, is_among, Apart, PortSound, IsSound}
+use Rattle.hub_laws.specs.Sound.{some_call, PortSound, IsSound}
 use Rattle.hub_laws.specs.Laws.{PortLaws, StateLaws, ValuesLaw, OnceLaw, AfterCloseLaw}
 use Rattle.hub_laws.proofs.Calls.{or_none, none_or}
+use Rattle.hub_laws.proofs.Distinct.{count-below}
 use Rattle.hub_laws.proofs.Rules.{state-sound}
 use Rattle.hub_laws.proofs.Values.{values-law}
 use Rattle.hub_laws.proofs.Once.{once-law}
@@ -48,29 +47,6 @@ port-laws p c calls f = record {
   both = λ r w. omega (arith, f.receivers r, f.senders w);
   alone = f.alone;
 }
-
--- no more calls wait than there are processes
-
-abbrev pids : List OpenCall → List ℕ
-pids calls = map (λ call. call.pid.0) calls
-
-distinct : (calls : List OpenCall) → Apart calls → IsDistinct eqb (pids calls)
-unfolding IsDistinct
-distinct [] a = tt
-distinct (call ∷ calls) a = (apart_from call.pid.0 calls a.0, distinct calls a.1)
-  where
-    apart_from : (q : ℕ) (calls : List OpenCall) → is_among q calls ≡ false → AllByRecursion (λ y. (q == y) ≡ false) (pids calls)
-    apart_from q [] e = tt
-    apart_from q (call ∷ calls) e = let f = or_none (call.pid.0 == q) (is_among q calls) e in (grind (arith, common_steps, f.0), apart_from q calls f.1)
-
-among : (q : ℕ) (calls : List OpenCall) → list_any (eqb q) (pids calls) ≡ true → is_among q calls ≡ true
-among q [] e = e
-among q (call ∷ calls) e = grind (arith, common_steps, among q calls)
-
-pub count-below : (procs : ℕ) (calls : List OpenCall) → Apart calls → ((q : ℕ) → is_among q calls ≡ true → q < procs) → length calls ≤ procs
-count-below procs calls apart below =
-    let most : length (pids calls) ≤ procs = length-le_from_distinct_below (pids calls) procs (distinct calls apart) (λ q e. below q (among q calls e)) in
-    omega (arith, length-map calls (λ (call : OpenCall). call.pid.0))
 
 pub count-law : (s : State) → IsSound s → length s.parked ≤ s.procs
 count-law s sound = count-below s.procs s.parked sound.apart (λ q e. (sound.present q e).0)

@@ -1,5 +1,5 @@
 -- Entries of others leave a process alone that has no open call.
-use Rattle.std.proofs.Common.{◌≡◌, ℕ, ◌%◌, ◌==◌, Bool, true, false, cond, not, List, [], ◌∷◌, ◌++◌, length, filter, refl, ap, ◌∙◌, sym, subst, Option, Some, None, ◌&&◌, append-nil, append_assoc}
+use Rattle.std.proofs.Common.{◌≡◌, ℕ, ◌%◌, ◌==◌, Bool, true, false, cond, not, List, [], ◌∷◌, ◌++◌, length, refl, ap, ◌∙◌, sym, subst, Option, Some, None, ◌&&◌, append-nil, append_assoc}
 use Rattle.std.specs.Prelude.{slice_get}
 use Rattle.std.specs.List.{list_any, AllByRecursion, filter_map, cons_option}
 use Rattle.std.specs.Option.{option_map}
@@ -21,8 +21,8 @@ use Rattle.hub_base.specs.Ready.{is_send_on, is_recv_on, is_on, ready, port_of, 
 use Rattle.hub_base.specs.Steps.{fires, proceeds, chooses, calls, closes, effect, stalls, all_wait, Change, sent, next_value, with_sent, send_meets, recv_takes, recv_meets, fired, tells, closing_event, closing_outcome, fault_of, answers, refusal, is_waiting}
 use Rattle.hub_base.specs.Runs.{admits, moves, state_after, events_after, state, events}
 use Rattle.hub_laws.specs.Sound.{is_among}
-use Rattle.hub_laws.specs.Replies.{own, last_from, is_parked, RepliesLaw}
-use Rattle.hub_laws.proofs.Calls.{first-found, or_none, none_or}
+use Rattle.hub_laws.specs.Replies.{own, reply, last_from, is_parked, told_to, is_told, RepliesLaw}
+use Rattle.hub_laws.proofs.Calls.{first-found, or_none, none_or, same_number}
 use Rattle.hub_laws.proofs.Stands.{effect-stands, stalls-stands}
 
 -- what holds of the process that steps and of those that wait holds of all that are told
@@ -135,9 +135,13 @@ own_none : (q : ℕ) (fs : List Entry) → AllByRecursion (λ e. Not q e.pid.0) 
 own_none q [] a = refl
 own_none q (f ∷ fs) a = rw a.0 (own_none q fs a.1)
 
-told_none : (q : ℕ) (es : List Event) → AllByRecursion (λ e. Not q e.pid.0) es → filter (λ e. (e.pid.0 == q) && not (is_parked e.what)) es ≡ []
-told_none q [] a = refl
-told_none q (e ∷ es) a = rw a.0 (told_none q es a.1)
+pub told_none : (q : ℕ) (es : List Event) → is_told q es ≡ false → told_to q es ≡ []
+told_none q [] e = refl
+told_none q (x ∷ xs) e = let f = or_none (x.pid.0 == q) (is_told q xs) e in rw f.0 (told_none q xs f.1)
+
+untold : (q : ℕ) (es : List Event) → AllByRecursion (λ e. Not q e.pid.0) es → is_told q es ≡ false
+untold q [] a = refl
+untold q (e ∷ es) a = none_or (e.pid.0 == q) (is_told q es) a.0 (untold q es a.1)
 
 -- a run that goes on
 pub events_after-append : (s : State) (es fs : List Entry) → events_after s (es ++ fs) ≡ events_after s es ++ events_after (state_after s es) fs
@@ -148,15 +152,27 @@ pub state_after-append : (s : State) (es fs : List Entry) → state_after s (es 
 state_after-append s [] fs = refl
 state_after-append s (e ∷ es) fs = state_after-append (moves s e).state es fs
 
+-- what a process was told by a run that goes on
+pub told_to-append : (q n : ℕ) (es fs : List Entry) → told_to q (events n (es ++ fs)) ≡ told_to q (events n es) ++ told_to q (events_after (state n es) fs)
+told_to-append q n es fs = ap (told_to q) (events_after-append (opening n) es fs) ∙ filter-append (λ (e : Event). (e.pid.0 == q) && not (is_parked e.what)) (events n es) (events_after (state n es) fs)
+
+-- a process that is not told anything keeps its reply
+pub reply-untold : (q n : ℕ) (es fs : List Entry) → is_told q (events_after (state n es) fs) ≡ false → reply q n (es ++ fs) ≡ reply q n es
+reply-untold q n es fs e = ap (λ xs. last_from None xs) (told_to-append q n es fs ∙ ap (λ xs. told_to q (events n es) ++ xs) (told_none q (events_after (state n es) fs) e) ∙ append-nil (told_to q (events n es)))
+
+pub own-others : (q : ℕ) (es fs : List Entry) → list_any (λ e. e.pid.0 == q) fs ≡ false → own q (es ++ fs) ≡ own q es
+own-others q es fs e = filter-append (λ (e : Entry). e.pid.0 == q) es fs ∙ ap (λ xs. own q es ++ xs) (own_none q fs (none_by q fs e)) ∙ append-nil (own q es)
+
+pub own-mine : (es : List Entry) (e : Entry) → own e.pid.0 (es ++ e ∷ []) ≡ own e.pid.0 es ++ e ∷ []
+own-mine es e = filter-append (λ (x : Entry). x.pid.0 == e.pid.0) es (e ∷ []) ∙ ap (λ xs. own e.pid.0 es ++ xs) (let h : own e.pid.0 (e ∷ []) ≡ e ∷ [] = rw (same_number e.pid.0) refl in h)
+
 pub replies-law : (n : ℕ) (es : List Entry) (q : ℕ) (fs : List Entry) → RepliesLaw n es q fs
 replies-law n es q fs free others =
-    let by : AllByRecursion (λ e. Not q e.pid.0) fs = none_by q fs others in
-    let after = events_told (Not q) (state n es) fs (none_waiting q (state n es).parked free) by in
-    let mine : Event → Bool = λ e. (e.pid.0 == q) && not (is_parked e.what) in
-    let grown : filter mine (events n (es ++ fs)) ≡ filter mine (events n es) =
-    ap (filter mine) (events_after-append (opening n) es fs) ∙ filter-append mine (events n es) (events_after (state n es) fs) ∙ ap (λ xs. filter mine (events n es) ++ xs) (told_none q (events_after (state n es) fs) after.0) ∙ append-nil (filter mine (events n es)) in
+    let after = events_told (Not q) (state n es) fs (none_waiting q (state n es).parked free) (none_by q fs others) in
+    let quiet : is_told q (events_after (state n es) fs) ≡ false = untold q (events_after (state n es) fs) after.0 in
     record {
-      own = filter-append (λ (e : Entry). e.pid.0 == q) es fs ∙ ap (λ xs. own q es ++ xs) (own_none q fs by) ∙ append-nil (own q es);
-      reply = ap (λ xs. last_from None xs) grown;
+      own = own-others q es fs others;
+      untold = quiet;
+      reply = reply-untold q n es fs quiet;
       free = ap (λ (s : State). is_waiting s q) (state_after-append (opening n) es fs) ∙ waiting_none q (state_after (state n es) fs).parked after.1;
     }

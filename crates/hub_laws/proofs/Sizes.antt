@@ -1,5 +1,5 @@
 -- One step tells no more events than there are processes, and one.
-use Rattle.std.proofs.Common.{◌≡◌, ℕ, ◌+◌, ◌%◌, ◌<◌, ◌≤◌, ◌==◌, Bool, true, false, cond, not, List, [], ◌∷◌, ◌++◌, length, filter, refl, ◌∙◌, sym, subst, Option, Some, None, arith, ◌||◌, inl, inr}
+use Rattle.std.proofs.Common.{◌≡◌, ℕ, ◌+◌, ◌%◌, ◌<◌, ◌≤◌, ◌==◌, Bool, true, false, cond, not, List, [], ◌∷◌, ◌++◌, length, filter, refl, sym, subst, Option, Some, None, arith, ◌||◌, inl, inr}
 use Rattle.std.specs.Prelude.{slice_get, is_some}
 use Rattle.std.specs.List.{list_any, filter_map, cons_option}
 use Rattle.std.specs.Option.{option_map}
@@ -19,14 +19,13 @@ use Rattle.hub_base.specs.declared.event.What.TheVariants as what
 use Rattle.hub_base.specs.State.{State, Channel, OpenCall, channel_at, opening}
 use Rattle.hub_base.specs.Ready.{is_send_on, is_recv_on, is_on, ready, port_of, first_with, Ending, Placed, without, lowest}
 use Rattle.hub_base.specs.Steps.{fires, proceeds, chooses, calls, closes, effect, stalls, all_wait, Change, sent, next_value, with_sent, send_meets, recv_takes, recv_meets, fired, tells, closing_event, closing_outcome, fault_of, answers, refusal}
-use Rattle.hub_base.specs.Runs.{admits, moves, state, state_after}
-use Rattle.std.proofs.lemmas.Grind.{common_steps}
-use Rattle.hub_laws.proofs.Once.{lasts_answers}
+use Rattle.hub_base.specs.Runs.{admits, moves, state}
+use Rattle.hub_laws.proofs.Lasting.{procs-after}
 use Rattle.hub_laws.specs.Sound.{IsSound, is_among, CallFits}
 use Rattle.hub_laws.proofs.Calls.{first-found, lowest-some, or_some}
 use Rattle.hub_laws.proofs.Ready.{Admitted, admitted}
 use Rattle.hub_laws.proofs.Rules.{state-sound}
-use Rattle.hub_laws.proofs.Laws.{count-below}
+use Rattle.hub_laws.proofs.Distinct.{count-below}
 use Rattle.hub_laws.proofs.Fires.{same_true}
 
 -- how many calls a step leaves and how many events it tells
@@ -123,18 +122,6 @@ answers_size s e (Some f) sound adm = omega arith
 admits_size : (s : State) (e : Entry) (o : Option Fault) → o ≡ refusal s e.pid → IsSound s → length (admits s e o).events ≤ s.procs + 1
 admits_size s e None is sound = answers_size s e (fault_of s e.step) sound (admitted s e.pid (sym is))
 admits_size s e (Some f) is sound = omega arith
-
--- the number of processes stays
-next_differs : (n : ℕ) → (n == n + 1) ≡ false
-next_differs n = grind (arith, common_steps)
-
-admits_procs : (s : State) (e : Entry) (o : Option Fault) → (admits s e o).state.procs ≡ s.procs
-admits_procs s e None = (lasts_answers (e.pid.0 + 1) s e (fault_of s e.step) (inr (next_differs e.pid.0))).procs
-admits_procs s e (Some f) = refl
-
-pub procs-after : (s : State) (es : List Entry) → (state_after s es).procs ≡ s.procs
-procs-after s [] = refl
-procs-after s (e ∷ es) = procs-after (moves s e).state es ∙ admits_procs s e (refusal s e.pid)
 
 pub events-law : (n : ℕ) (es : List Entry) (e : Entry) → length (moves (state n es) e).events ≤ n + 1
 events-law n es e = omega (arith, admits_size (state n es) e (refusal (state n es) e.pid) refl (state-sound n es), procs-after (opening n) es)

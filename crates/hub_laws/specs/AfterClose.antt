@@ -1,5 +1,5 @@
 -- After a close: from entries and events alone, but for the buffer that the close left.
-use Rattle.std.specs.Prelude.{◌≡◌, ◌==◌, ℕ, Bool, true, false, List, [], ◌∷◌, Option, Some, None, drop, if◌then◌else◌}
+use Rattle.std.specs.Prelude.{◌≡◌, ◌==◌, ℕ, Bool, true, false, List, [], ◌∷◌, Option, Some, None, if◌then◌else◌}
 use Rattle.hub_base.specs.declared.value.Port.{Port}
 use Rattle.hub_base.specs.declared.value.Value.{Value}
 use Rattle.hub_base.specs.declared.case.Case.{Case}
@@ -10,7 +10,7 @@ use Rattle.hub_base.specs.declared.event.Outcome.{Outcome}
 use Rattle.hub_base.specs.declared.event.Outcome.TheVariants.{Sent, Got, Drained}
 use Rattle.hub_base.specs.declared.event.What.{What}
 use Rattle.hub_base.specs.declared.event.What.TheVariants as what
-use Rattle.hub_base.specs.State.{Channel, channel_at, opening}
+use Rattle.hub_base.specs.State.{Channel, channel_at, opening, buffer_of}
 use Rattle.hub_base.specs.Ready.{port_of}
 use Rattle.hub_base.specs.Runs.{state}
 use Rattle.hub_base.specs.Values.{turns_after, values_from}
@@ -47,4 +47,4 @@ told_later pick n es fs = values_from pick (turns_after (opening n) es) (turns_a
 -- of a port that the last of the entries `es` closed
 pub record StaysClosed (n : ℕ) (es fs : List Entry) (p : Port) : Type 0 where
   pub sent : told_later (sent_at p) n es fs ≡ []
-  pub heard : (c : Channel) → channel_at (state n es) p ≡ Some c → Drains (drop c.taken c.done) (told_later (heard p) n es fs)
+  pub heard : (c : Channel) → channel_at (state n es) p ≡ Some c → Drains (buffer_of c) (told_later (heard p) n es fs)

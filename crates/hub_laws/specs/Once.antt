@@ -3,24 +3,16 @@ use Rattle.std.specs.Prelude.{◌≡◌, ◌≤◌, ◌==◌, ◌&&◌, ℕ, Boo
 use Rattle.hub_base.specs.declared.entry.Step.{Step}
 use Rattle.hub_base.specs.declared.entry.Step.TheVariants.{Make, Call, Close, Exit}
 use Rattle.hub_base.specs.declared.event.Event.{Event}
-use Rattle.hub_base.specs.declared.fault.Fault.{Fault}
-use Rattle.hub_base.specs.declared.fault.Fault.TheVariants as fault
 use Rattle.hub_base.specs.declared.event.What.{What}
 use Rattle.hub_base.specs.declared.event.What.TheVariants as what
 use Rattle.hub_base.specs.Values.{Turned}
+use Rattle.hub_laws.specs.Faults.{refuses_entry, is_busy}
 
 abbrev pub is_call : Step → Bool
 is_call (Make cap) = false
 is_call (Call cases default word) = true
 is_call (Close p) = false
 is_call Exit = false
-
--- the faults of entries that are not admitted
-abbrev pub refuses_entry : Fault → Bool
-refuses_entry fault.NoProcess = true
-refuses_entry fault.Gone = true
-refuses_entry fault.Busy = true
-refuses_entry f = false
 
 abbrev pub is_refusal : What → Bool
 is_refusal (what.Fault f) = refuses_entry f
@@ -30,10 +22,6 @@ is_refusal w = false
 abbrev pub was_admitted : List Event → Bool
 was_admitted [] = true
 was_admitted (e ∷ es) = not (is_refusal e.what)
-
-abbrev pub is_busy : Fault → Bool
-is_busy fault.Busy = true
-is_busy f = false
 
 -- an event that counts: neither `Parked` nor the answer `Busy`
 abbrev pub counts : What → Bool

@@ -4,7 +4,11 @@
 ghost use Rattle.hub_laws.specs.Laws.{StateLaws, ValuesLaw, OnceLaw, AfterCloseLaw};
 ghost use Rattle.hub_base.specs.Runs.{state, moves, kept};
 ghost use Rattle.std.specs.Prelude.{◌≡◌, ◌≤◌, ◌+◌, length};
-ghost use Rattle.hub_laws.specs.Replies.{RepliesLaw};
+ghost use Rattle.hub_laws.specs.Replies.{RepliesLaw, RepliedLaw};
+ghost use Rattle.hub_laws.specs.Counts.{CountsLaw};
+ghost use Rattle.hub_laws.specs.Limits.{LimitsLaw};
+ghost use Rattle.hub_laws.specs.OnePort.{OnePortLaw};
+ghost use Rattle.hub_laws.specs.Tells.{AnswersLaw, PassedOverLaw};
 
 use hub_base::{Entry, Pid, Port};
 
@@ -42,4 +46,31 @@ pub fn events_fit(procs: u8, before: &[Entry], entry: &Entry)
 pub fn journals_are_legal(procs: u8, entries: &[Entry])
     ensures same { state procs (kept procs entries.now) ≡ state procs entries.now }
     ensures legal { kept procs (kept procs entries.now) ≡ kept procs entries.now }
+{}
+
+/// No channel of a run has received more than it sent, or sent more than the run's admitted entries that are
+/// no exits.
+pub fn counts_are_bounded(procs: u8, entries: &[Entry])
+    ensures { CountsLaw procs entries.now }
+{}
+
+/// One entry writes the channel of at most one port: the one that its answer names.
+pub fn one_port_moves(procs: u8, before: &[Entry], entry: &Entry)
+    ensures { OnePortLaw procs before.now entry.now }
+{}
+
+/// An admitted entry is answered first, and calls that ended follow; any other gives one fault alone.
+pub fn entries_are_answered(procs: u8, before: &[Entry], entry: &Entry)
+    ensures admitted { AnswersLaw procs before.now entry.now }
+    ensures refused { PassedOverLaw procs before.now entry.now }
+{}
+
+/// A journal holds at most one exit of each process, and none of any other.
+pub fn journals_are_short(procs: u8, entries: &[Entry])
+    ensures { LimitsLaw procs entries.now }
+{}
+
+/// Right after an admitted entry its events but for `Parked` are their processes' replies.
+pub fn replies_come(procs: u8, before: &[Entry], entry: &Entry)
+    ensures { RepliedLaw procs before.now entry.now }
 {}

@@ -10,23 +10,23 @@ use Rattle.hub_base.specs.Reading.{read_text, Reads, Faulty}
 pub every_kind_of_line :
     read_text (codes "chanhub journal 1\nprocs 64\n255 make 4294967295\n0 send 65535 18446744073709551615\n0 recv 65535\n1 select 18446744073709551615 s65535:18446744073709551615 r65535 default\n2 close 65535\n3 exit\n")
     ≡ Reads 64 (
-      make 255 4294967295
-      ∷ send 0 65535 18446744073709551615
-      ∷ recv 0 65535
-      ∷ select 1 18446744073709551615 (s 65535 18446744073709551615 ∷ r 65535 ∷ []) true
-      ∷ close 2 65535
-      ∷ exit 3 ∷ [])
+    make 255 4294967295
+    ∷ send 0 65535 18446744073709551615
+    ∷ recv 0 65535
+    ∷ select 1 18446744073709551615 (s 65535 18446744073709551615 ∷ r 65535 ∷ []) true
+    ∷ close 2 65535
+    ∷ exit 3 ∷ [])
 every_kind_of_line = refl
 
 -- selects of no case, of one case that has no short form, and of sixteen
 pub few_and_many_cases :
     read_text (codes "chanhub journal 1\nprocs 1\n0 select 0\n0 select 0 default\n0 select 7 s1:2\n0 select 0 r1 default\n0 select 0 r0 r1 r2 r3 r4 r5 r6 r7 r8 r9 r10 r11 r12 r13 r14 r15\n")
     ≡ Reads 1 (
-      select 0 0 [] false
-      ∷ select 0 0 [] true
-      ∷ select 0 7 (s 1 2 ∷ []) false
-      ∷ select 0 0 (r 1 ∷ []) true
-      ∷ select 0 0 (r 0 ∷ r 1 ∷ r 2 ∷ r 3 ∷ r 4 ∷ r 5 ∷ r 6 ∷ r 7 ∷ r 8 ∷ r 9 ∷ r 10 ∷ r 11 ∷ r 12 ∷ r 13 ∷ r 14 ∷ r 15 ∷ []) false ∷ [])
+    select 0 0 [] false
+    ∷ select 0 0 [] true
+    ∷ select 0 7 (s 1 2 ∷ []) false
+    ∷ select 0 0 (r 1 ∷ []) true
+    ∷ select 0 0 (r 0 ∷ r 1 ∷ r 2 ∷ r 3 ∷ r 4 ∷ r 5 ∷ r 6 ∷ r 7 ∷ r 8 ∷ r 9 ∷ r 10 ∷ r 11 ∷ r 12 ∷ r 13 ∷ r 14 ∷ r 15 ∷ []) false ∷ [])
 few_and_many_cases = refl
 
 -- a journal of no entries

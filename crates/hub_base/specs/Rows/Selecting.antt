@@ -58,7 +58,7 @@ lowest_case_fires = refl
 -- a call has at most eight cases
 pub eight_cases_at_most :
     events 1 (
-      select 0 0 (r 0 ∷ r 0 ∷ r 0 ∷ r 0 ∷ r 0 ∷ r 0 ∷ r 0 ∷ r 0 ∷ []) true
-      ∷ select 0 0 (r 0 ∷ r 0 ∷ r 0 ∷ r 0 ∷ r 0 ∷ r 0 ∷ r 0 ∷ r 0 ∷ r 0 ∷ []) true ∷ [])
+    select 0 0 (r 0 ∷ r 0 ∷ r 0 ∷ r 0 ∷ r 0 ∷ r 0 ∷ r 0 ∷ r 0 ∷ []) true
+    ∷ select 0 0 (r 0 ∷ r 0 ∷ r 0 ∷ r 0 ∷ r 0 ∷ r 0 ∷ r 0 ∷ r 0 ∷ r 0 ∷ []) true ∷ [])
     ≡ defaulted 0 ∷ faulted 0 TooManyCases ∷ []
 eight_cases_at_most = refl

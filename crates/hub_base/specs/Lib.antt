@@ -5,6 +5,7 @@ pub mod Ready
 pub mod Steps
 pub mod Runs
 pub mod Values
+pub mod Notation
 pub mod Rows
 pub mod EventText
 pub mod Lines

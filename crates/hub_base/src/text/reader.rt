@@ -218,9 +218,12 @@ pub fn read_journal(alloc: Global, bytes: &[u8]) -> Result<Journal, ReadFault>
     read_all(alloc, bytes)
 }
 
-/// Each list of bytes is a text or faulty, and not both, in one way.
+/// Each list of bytes is a text or faulty, and not both, in one way; and what the computed reading of it says,
+/// it is.
 pub fn one_reading()
     ensures some { (bytes : List ℕ) → IsEither bytes }
+    ensures reads { (bytes : List ℕ) (n : ℕ) (es : List Entry) → read_text bytes ≡ Reads n es → IsText bytes n es }
+    ensures faults { (bytes : List ℕ) (k : ℕ) (kind : Kind) → read_text bytes ≡ Faulty k kind → IsFaulty bytes k kind }
     ensures text { (bytes : List ℕ) (n m : ℕ) (es fs : List Entry) → IsText bytes n es → IsText bytes m fs → (n ≡ m) × (es ≡ fs) }
     ensures fault { (bytes : List ℕ) (j k : ℕ) (kind other : Kind) → IsFaulty bytes j kind → IsFaulty bytes k other → (j ≡ k) × (kind ≡ other) }
     ensures apart { (bytes : List ℕ) (n k : ℕ) (es : List Entry) (kind : Kind) → IsText bytes n es → IsFaulty bytes k kind → ⊥ }

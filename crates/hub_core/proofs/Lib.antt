@@ -6,3 +6,7 @@ pub mod Firings
 pub mod Readiness
 pub mod Answering
 pub mod Effects
+pub mod Stalls
+pub mod Kept
+pub mod Following
+pub mod Reached

@@ -20,7 +20,7 @@ use Rattle.hub_core.specs.Follows.{lists_of, Matches}
 use Rattle.hub_core.proofs.Ports.{port-lists_of}
 
 -- ---- a port that is named and is not nil is made
-get_within : {A : Type 0} (xs : List A) (i : ℕ) → i < length xs → (x : A) × (slice_get xs i ≡ Some x)
+pub get_within : {A : Type 0} (xs : List A) (i : ℕ) → i < length xs → (x : A) × (slice_get xs i ≡ Some x)
 get_within [] i h = absurd (omega arith)
 get_within (x ∷ xs) zero h = (x, refl)
 get_within (x ∷ xs) (suc i) h = get_within xs i (omega arith)
@@ -45,7 +45,7 @@ is_made s m p h named made =
     (n.0, omega (arith, n.1, count-ports s m h))
 
 -- ---- one case
-length-buffer_of : (c : Channel) → length (buffer_of c) ≡ length c.done - c.taken
+pub length-buffer_of : (c : Channel) → length (buffer_of c) ≡ length c.done - c.taken
 length-buffer_of c = length-drop c.taken c.done
 
 some_left : (a b : ℕ) → nat_lt 0 (a - b) ≡ nat_lt b a

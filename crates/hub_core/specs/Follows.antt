@@ -6,10 +6,10 @@ use Rattle.hub_base.specs.declared.entry.Step.{Step}
 use Rattle.hub_base.specs.declared.entry.Step.TheVariants.{Make, Call, Close, Exit}
 use Rattle.hub_base.specs.declared.entry.Entry.{Entry}
 use Rattle.hub_base.specs.declared.event.Event.{Event}
-use Rattle.hub_base.specs.declared.event.What.TheVariants as what
 use Rattle.hub_base.specs.declared.fault.Fault.{Fault}
+use Rattle.hub_base.specs.declared.fault.Fault.TheVariants as fault
 use Rattle.hub_base.specs.State.{State, Channel, OpenCall, buffer_of}
-use Rattle.hub_base.specs.Steps.{has_gone, refusal, tells}
+use Rattle.hub_base.specs.Steps.{has_gone, refusal}
 use Rattle.hub_base.specs.Runs.{state, kept, moves}
 use Rattle.hub_parts.specs.Records.{PortLists, Ticketed}
 use Rattle.hub_parts.specs.Lists.{open_calls}
@@ -64,3 +64,14 @@ pub record Admits (n : ℕ) (es : List Entry) (e : Entry) (m : MachineLists) (to
 pub record Answers (n : ℕ) (es : List Entry) (e : Entry) (m : MachineLists) (told : List Event) : Type 0 where
   pub events : told ≡ (moves (state n es) e).events
   pub follows : Follows n (es ++ e ∷ []) m
+
+abbrev pub IsMake : Step → Type 0
+IsMake (Make cap) = Unit {0}
+IsMake (Call cases default word) = ⊥
+IsMake (Close p) = ⊥
+IsMake Exit = ⊥
+
+-- why an entry is refused: memory, which only a make asks for, or because it is not admitted
+abbrev pub RefusesFor : ℕ → List Entry → Entry → Fault → Type 0
+RefusesFor n es e fault.NoMemory = IsMake e.step × (refusal (state n es) e.pid ≡ None)
+RefusesFor n es e f = refusal (state n es) e.pid ≡ Some f

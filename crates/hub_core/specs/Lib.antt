@@ -4,3 +4,5 @@ pub mod ListKeeps
 pub mod ListSteps
 pub mod Follows
 pub mod Agrees
+pub mod Parts
+pub mod MachineKeeps

@@ -22,6 +22,5 @@ pub record CanCount (ts : List Tally) (p : Port) : Type 0 where
 -- what each made port keeps
 pub record PortsKeep (b : Lists) (ts : List Tally) : Type 0 where
   pub count : length ts ≡ length b.ports
-  pub few : length b.ports ≤ 64
   pub fits : (p : Port) → IsMade b p → BufferFits b p
   pub counts : (p : Port) → IsMade b p → CanCount ts p

@@ -202,15 +202,16 @@ abbrev pub answers_on : MachineLists → Entry → Option Fault → ListChange
 answers_on m e None = stalls_on (effect_on m e.pid e.step)
 answers_on m e (Some f) = record { machine = m; events = tells e.pid (what.Fault f) ∷ [] }
 
-abbrev pub counted : ListChange → ListChange
-counted c =
+-- the n-th admitted entry is counted
+abbrev pub counted : ℕ → ListChange → ListChange
+counted n c =
     record {
-      machine = record { board = c.machine.board; gone = c.machine.gone; counts = c.machine.counts; steps = c.machine.steps + 1 };
+      machine = record { board = c.machine.board; gone = c.machine.gone; counts = c.machine.counts; steps = n + 1 };
       events = c.events;
     }
 
 abbrev pub turn_on : MachineLists → Entry → ListChange
-turn_on m e = counted (answers_on m e (fault_on m.board e.step))
+turn_on m e = counted m.steps (answers_on m e (fault_on m.board e.step))
 
 -- why an entry is not admitted
 abbrev pub refusal_of : Lists → List Bool → Pid → Option Fault

@@ -4,9 +4,11 @@
 mod calling;
 mod closing;
 mod firing;
+mod machine;
 mod ready_cases;
 mod refusals;
 mod stalling;
 mod tally;
 
+pub use machine::Machine;
 pub use tally::Tally;

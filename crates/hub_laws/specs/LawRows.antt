@@ -4,7 +4,7 @@ use Rattle.hub_base.specs.declared.entry.Entry.{Entry}
 use Rattle.hub_base.specs.declared.event.Outcome.TheVariants.{Drained}
 use Rattle.hub_base.specs.Runs.{state, moves}
 use Rattle.hub_base.specs.Values.{turns_after}
-use Rattle.hub_base.specs.Rows.{port, s, r, make, send, recv, close, select, case, got}
+use Rattle.hub_base.specs.Notation.{port, s, r, make, send, recv, close, select, case, got}
 use Rattle.hub_laws.specs.Once.{endings, endings_until}
 use Rattle.hub_laws.specs.AfterClose.{told_later, sent_at, heard, answers_done}
 

@@ -14,6 +14,11 @@ pub enum Case {
 
 /// A receive on the nil channel, which is never ready.
 impl Default for Case {
+    ghost use Rattle.std.specs.Prelude.{◌≡◌};
+    ghost use Rattle.hub_base.specs.Notation.{r};
+
+    ghost is_default = { λ case. case ≡ r 0 };
+
     fn default() -> Case {
         Case::Recv(Port(0))
     }

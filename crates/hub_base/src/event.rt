@@ -42,7 +42,13 @@ pub struct Event {
     pub what: What,
 }
 
+/// That process 0 is told `Done`. It fills the places of a list of events that hold none yet.
 impl Default for Event {
+    ghost use Rattle.std.specs.Prelude.{◌≡◌};
+    ghost use Rattle.hub_base.specs.Notation.{done};
+
+    ghost is_default = { λ event. event ≡ done 0 };
+
     fn default() -> Event {
         Event {
             pid: Pid(0),

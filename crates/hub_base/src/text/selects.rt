@@ -8,6 +8,9 @@ use crate::text::fields::Fields;
 use crate::text::steps::{numeral, recv_of, same_text, send_of};
 use crate::{Case, Cases, Entry, Kind, Pid, Step};
 
+/// The most cases of a select.
+const MOST_CASES: u8 = 16;
+
 /// What a case field says: a fault of its shape, or else a case or a fault of its numbers.
 fn read_case(field: &[u8]) -> Result<Result<Case, Kind>, Kind>
     ensures { result ≡ case_read field.now }
@@ -80,7 +83,7 @@ pub fn read_select(pid: &[u8], fields: &mut Fields) -> Result<Entry, Kind>
             return choose(pid, word, cases, fine, true);
         }
         let case = read_case(field)?;
-        if count == 16 {
+        if count == MOST_CASES {
             return Err(Kind::BadStep);
         }
         count += 1;

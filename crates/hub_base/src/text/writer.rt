@@ -1,6 +1,6 @@
 //! Writing journals and events: each function appends exactly one spelling, or changes nothing.
 
-ghost use Rattle.std.specs.Prelude.{◌≡◌, ◌++◌, ◌∷◌, [], codes, decimal, OnOk, OnErr, take, length, is_ok, if◌then◌else◌, ℕ, ◌^◌, ◌<◌, ◌≤◌, Contains, List};
+ghost use Rattle.std.specs.Prelude.{◌≡◌, ◌++◌, ◌∷◌, [], codes, decimal, OnOk, OnErr, IsOk, ◌↔◌, take, length, is_ok, if◌then◌else◌, ℕ, ◌^◌, ◌<◌, ◌≤◌, Contains, List};
 ghost use Rattle.hub_base.specs.EventText.{event_line, what_text, outcome_text};
 ghost use Rattle.hub_base.specs.Faults.{fault_number};
 ghost use Rattle.hub_base.specs.Lines.{case_field, select_fields, call_fields, step_fields, line};
@@ -30,6 +30,25 @@ fn put_value(out: &mut Vec<u8>, value: Value) -> Result<(), AllocError>
     ensures { out.new.items ≡ (if is_ok result then out.old.items ++ value_field value else out.old.items) }
 {
     put_number(out, value.number())
+}
+
+/// Takes back the bytes from this place on where a growth was refused.
+fn undo_if_refused(
+    out: &mut Vec<u8>,
+    before: usize,
+    done: Result<(), AllocError>,
+) -> Result<(), NoMemory>
+    ensures same { IsOk result ↔ IsOk done }
+    ensures ok { OnOk result (out.new.items ≡ out.old.items) }
+    ensures err { OnErr result (out.new.items ≡ take before out.old.items) }
+{
+    match done {
+        Ok(()) => Ok(()),
+        Err(AllocError) => {
+            out.truncate(before);
+            Err(NoMemory)
+        }
+    }
 }
 
 fn put_outcome(out: &mut Vec<u8>, outcome: Outcome) -> Result<(), AllocError>
@@ -87,13 +106,8 @@ pub fn write_event(out: &mut Vec<u8>, event: &Event) -> Result<(), NoMemory>
     ensures err { OnErr result (out.new.items ≡ out.old.items) }
 {
     let before = out.len();
-    match put_event(out, event) {
-        Ok(()) => Ok(()),
-        Err(AllocError) => {
-            out.truncate(before);
-            Err(NoMemory)
-        }
-    }
+    let done = put_event(out, event);
+    undo_if_refused(out, before, done)
 }
 
 fn put_case(out: &mut Vec<u8>, case: Case) -> Result<(), AllocError>
@@ -198,13 +212,8 @@ pub fn write_entry(out: &mut Vec<u8>, entry: &Entry) -> Result<(), NoMemory>
     ensures err { OnErr result (out.new.items ≡ out.old.items) }
 {
     let before = out.len();
-    match put_entry(out, entry) {
-        Ok(()) => Ok(()),
-        Err(AllocError) => {
-            out.truncate(before);
-            Err(NoMemory)
-        }
-    }
+    let done = put_entry(out, entry);
+    undo_if_refused(out, before, done)
 }
 
 fn put_head(out: &mut Vec<u8>, procs: u8) -> Result<(), AllocError>
@@ -224,11 +233,6 @@ pub fn write_head(out: &mut Vec<u8>, procs: u8) -> Result<(), NoMemory>
     ensures err { OnErr result (out.new.items ≡ out.old.items) }
 {
     let before = out.len();
-    match put_head(out, procs) {
-        Ok(()) => Ok(()),
-        Err(AllocError) => {
-            out.truncate(before);
-            Err(NoMemory)
-        }
-    }
+    let done = put_head(out, procs);
+    undo_if_refused(out, before, done)
 }

@@ -42,7 +42,7 @@ kept_by : (s : State) (e : Entry) (es fs : List Entry) (o : Option Fault) → ((
 kept_by s e es fs None rest = ap (λ xs. e ∷ xs) (rest (moves s e).state)
 kept_by s e es fs (Some f) rest = rest (moves s e).state
 
-kept_after-append : (s : State) (es fs : List Entry) → kept_after s (es ++ fs) ≡ kept_after s es ++ kept_after (state_after s es) fs
+pub kept_after-append : (s : State) (es fs : List Entry) → kept_after s (es ++ fs) ≡ kept_after s es ++ kept_after (state_after s es) fs
 kept_after-append s [] fs = refl
 kept_after-append s (e ∷ es) fs = kept_by s e es fs (refusal s e.pid) (λ t. kept_after-append t es fs)
 

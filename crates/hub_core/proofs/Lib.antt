@@ -12,3 +12,4 @@ pub mod Following
 pub mod Reached
 pub mod Shown
 pub mod Hubs
+pub mod Journeys

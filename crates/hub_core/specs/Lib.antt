@@ -9,3 +9,4 @@ pub mod Parts
 pub mod MachineKeeps
 pub mod HubView
 pub mod HubKeeps
+pub mod RunsTo

@@ -68,9 +68,11 @@ def check_section(crate, text):
         cells = [cell.strip() for cell in line.strip('|').split('|')]
         if not line.startswith('|') or len(cells) < 4 or cells[-3] in ('', 'Clause') or cells[-3].startswith('--'):
             continue
-        current = [name for name in TICKED.findall(cells[0])] or current
+        # a row on a type tells what its invariant keeps, and has no call
+        names = [name for name in TICKED.findall(cells[0]) if '::' in name or name.islower()]
+        current = names or current
         labels = TICKED.findall(cells[-3]) + ['–'] * cells[-3].startswith('–')
-        for name in TICKED.findall(cells[0]):
+        for name in names:
             named.add(name)
             if name not in calls:
                 yield 'CLAIMS: %s has no public call %s' % (crate, name)

@@ -25,6 +25,7 @@ use Rattle.hub_base.specs.Steps.{fires, proceeds, chooses, calls, closes, effect
 use Rattle.hub_laws.specs.Sound.{IsSound, is_among, Apart, CallFits}
 use Rattle.hub_laws.specs.Once.{counts, endings}
 use Rattle.hub_laws.proofs.Faults.{journaled}
+use Rattle.hub_laws.proofs.Events.{fault_counts}
 use Rattle.hub_laws.proofs.Calls.{first-found, or_none, lowest-some}
 use Rattle.hub_laws.proofs.Fires.{same_true}
 use Rattle.hub_laws.proofs.Ready.{chosen, none_false}
@@ -162,7 +163,7 @@ stalls_balance q s pid c e =
 
 answers_balance : (q : ℕ) (s : State) (e : Entry) (o : Option Fault) → IsSound s → o ≡ fault_of s e.step → Balance q s e.pid (answers s e o)
 answers_balance q s e None sound is = stalls_balance q s e.pid (effect s e.pid e.step) (effect_balance q s e.pid e.step sound (sym is))
-answers_balance q s e (Some f) sound is = omega (arith, ends_one q e.pid (what.Fault f) (ap (λ b. not b) (journaled s e.step f (sym is)).free))
+answers_balance q s e (Some f) sound is = omega (arith, ends_one q e.pid (what.Fault f) (ap (λ b. not b) (fault_counts e.step f (journaled s e.step f (sym is)))))
 
 -- every admitted entry: each process gets one event for its entry and one for each call of its that ends
 pub turn-balance : (q : ℕ) (s : State) (e : Entry) → IsSound s → Balance q s e.pid (turn s e)

@@ -155,7 +155,7 @@ stalls_tells s pid step c h =
 
 answers_tells : (s : State) (e : Entry) (o : Option Fault) → o ≡ fault_of s e.step → Telling s e.pid e.step (answers s e o)
 answers_tells s e None is = stalls_tells s e.pid e.step (effect s e.pid e.step) (effect_tells s e.pid e.step (sym is))
-answers_tells s e (Some f) is = record { told = record { own = refl; fits = (journaled s e.step f (sym is)).fits; ends = tt }; others = λ q h. refl }
+answers_tells s e (Some f) is = record { told = record { own = refl; fits = journaled s e.step f (sym is); ends = tt }; others = λ q h. refl }
 
 -- an admitted entry
 pub turn-tells : (s : State) (e : Entry) → Telling s e.pid e.step (turn s e)

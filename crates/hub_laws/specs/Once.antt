@@ -1,7 +1,9 @@
 -- Each admitted call has at most one event besides `Parked`: from entries and events alone.
 use Rattle.std.specs.Prelude.{◌≡◌, ◌≤◌, ◌==◌, ◌&&◌, ℕ, Bool, true, false, not, List, [], ◌∷◌, ◌++◌, length, filter, if◌then◌else◌}
+use Rattle.std.specs.List.{AllByRecursion}
 use Rattle.hub_base.specs.declared.entry.Step.{Step}
 use Rattle.hub_base.specs.declared.entry.Step.TheVariants.{Make, Call, Close, Exit}
+use Rattle.hub_base.specs.declared.fault.Fault.TheVariants as fault
 use Rattle.hub_base.specs.declared.event.Event.{Event}
 use Rattle.hub_base.specs.declared.event.What.{What}
 use Rattle.hub_base.specs.declared.event.What.TheVariants as what
@@ -38,8 +40,22 @@ abbrev pub endings_until : ℕ → List Turned → List Event
 endings_until q [] = []
 endings_until q (t ∷ ts) = if was_admitted t.events && (t.entry.pid.0 == q) then [] else endings q t.events ++ endings_until q ts
 
--- each admitted call has at most one event that counts, from its own answer up to the next admitted entry of its process
+-- the events that end a call: a case fired, the default, the stall of all, and the two faults of calls
+abbrev pub ends_call : What → Bool
+ends_call (what.Fired i outcome) = true
+ends_call what.Default = true
+ends_call what.Stalled = true
+ends_call (what.Fault fault.TooManyCases) = true
+ends_call (what.Fault fault.NoPort) = true
+ends_call other = false
+
+-- at most one event, and it ends a call
+pub record EndsOnce (events : List Event) : Type 0 where
+  pub most : length events ≤ 1
+  pub each : AllByRecursion (λ e. ends_call e.what ≡ true) events
+
+-- each admitted call has at most one event that counts, from its own answer up to the next admitted entry of its
+-- process, and by this event it ended
 abbrev pub AtMostOnce : List Turned → Type 0
 AtMostOnce [] = Unit
-AtMostOnce (t ∷ ts) =
-    (is_call t.entry.step ≡ true → was_admitted t.events ≡ true → length (endings t.entry.pid.0 t.events ++ endings_until t.entry.pid.0 ts) ≤ 1) × AtMostOnce ts
+AtMostOnce (t ∷ ts) = (is_call t.entry.step ≡ true → was_admitted t.events ≡ true → EndsOnce (endings t.entry.pid.0 t.events ++ endings_until t.entry.pid.0 ts)) × AtMostOnce ts

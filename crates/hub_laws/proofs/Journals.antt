@@ -9,7 +9,7 @@ use Rattle.hub_base.specs.State.{State, opening}
 use Rattle.hub_base.specs.Steps.{refusal, turn}
 use Rattle.hub_base.specs.Runs.{admits, moves, keeps, kept_after, kept, state_after, state, events_after}
 use Rattle.hub_laws.specs.Once.{is_refusal}
-use Rattle.hub_laws.specs.Tells.{ends_waiting, IsAnswered}
+use Rattle.hub_laws.specs.Answers.{ends_waiting, IsAnswered}
 use Rattle.hub_laws.specs.Journals.{JournalLaw, Grows, Begins}
 use Rattle.hub_laws.proofs.Events.{answer_admits, ends_admits}
 use Rattle.hub_laws.proofs.Faults.{refusal-refuses}

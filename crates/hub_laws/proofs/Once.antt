@@ -14,7 +14,7 @@ use Rattle.hub_base.specs.Runs.{admits, moves}
 use Rattle.hub_base.specs.Values.{turns_after}
 use Rattle.hub_laws.specs.Sound.{IsSound}
 use Rattle.hub_laws.specs.Once.{is_call, was_admitted, counts, endings, endings_until, ends_call, EndsOnce, AtMostOnce}
-use Rattle.hub_laws.specs.Tells.{ends_waiting, IsAnswered}
+use Rattle.hub_laws.specs.Answers.{ends_waiting, IsAnswered}
 use Rattle.std.specs.List.{AllByRecursion}
 use Rattle.std.proofs.Math.Bool.{and-false}
 use Rattle.hub_laws.proofs.Events.{answered_admits, answer_ends, waiting_ends}

@@ -7,7 +7,7 @@ use Rattle.hub_base.specs.State.{State, channel_at}
 use Rattle.hub_base.specs.Steps.{refusal}
 use Rattle.hub_base.specs.Runs.{admits, moves, state}
 use Rattle.hub_laws.specs.OnePort.{port_touched, is_port, OnePortLaw}
-use Rattle.hub_laws.specs.Tells.{IsAnswered, AnswersLaw, PassedOverLaw}
+use Rattle.hub_laws.specs.Answers.{IsAnswered, AnswersLaw, PassedOverLaw}
 use Rattle.hub_laws.proofs.Faults.{refusal-refuses}
 use Rattle.hub_laws.proofs.Telling.{turn-tells}
 

@@ -12,7 +12,7 @@ use Rattle.hub_base.specs.Steps.{refusal, is_waiting}
 use Rattle.hub_base.specs.Runs.{admits, moves, events, state}
 use Rattle.hub_laws.specs.Sound.{IsSound, is_among}
 use Rattle.hub_laws.specs.Once.{endings}
-use Rattle.hub_laws.specs.Tells.{ends_waiting, IsAnswered}
+use Rattle.hub_laws.specs.Answers.{ends_waiting, IsAnswered}
 use Rattle.hub_laws.specs.Replies.{is_parked, last_from, reply, told_to, is_told, IsReply, IsLeft, AreReplied, RepliedLaw}
 use Rattle.hub_laws.proofs.Calls.{same_number, or_none}
 use Rattle.hub_laws.proofs.Fires.{same_true}

@@ -21,9 +21,9 @@ use Rattle.hub_base.specs.declared.event.What.TheVariants as what
 use Rattle.hub_base.specs.State.{State, Channel, OpenCall, channel_at, with_channel}
 use Rattle.hub_base.specs.Ready.{is_send_on, is_recv_on, is_on, can_proceed, ready, port_of, first_with, Ending, Placed, without, lowest, send_can, recv_can}
 use Rattle.hub_base.specs.Steps.{fires, proceeds, chooses, calls, closes, makes, effect, stalls, all_wait, Change, sent, received, next_value, with_sent, send_meets, recv_takes, recv_meets, fired, tells, closing_event, closing_outcome, fault_of, close_fault, is_unmade, answers, turn, shut}
-use Rattle.hub_laws.specs.Deeds.{at}
+use Rattle.hub_laws.proofs.Deeds.{at}
 use Rattle.hub_laws.specs.OnePort.{port_touched_by, port_touched, is_port}
-use Rattle.hub_laws.specs.Tells.{is_answer_to, ends_waiting, IsAnswered}
+use Rattle.hub_laws.specs.Answers.{is_answer_to, ends_waiting, IsAnswered}
 use Rattle.hub_laws.proofs.Ready.{chosen, none_false}
 use Rattle.hub_laws.proofs.Faults.{journaled}
 use Rattle.hub_laws.proofs.Does.{wrote-set}

@@ -18,7 +18,7 @@ use Rattle.hub_base.specs.State.{Channel}
 use Rattle.hub_base.specs.Ready.{port_of}
 use Rattle.hub_base.specs.Steps.{sent, received, next_value, closing_outcome}
 use Rattle.hub_base.specs.Values.{sent_on, got_on, of_what}
-use Rattle.hub_laws.specs.Deeds.{Deed, deed_of, told, picks, at, IsClosing, Moved, Quiet, Wrote, Does, buffers, hands, fetches, gives, drains, refuses, shuts, quiet, wrote}
+use Rattle.hub_laws.proofs.Deeds.{Deed, deed_of, told, picks, at, IsClosing, Moved, Quiet, Wrote, Does, buffers, hands, fetches, gives, drains, refuses, shuts, quiet, wrote}
 use Rattle.hub_laws.proofs.Calls.{same_number}
 use Rattle.hub_laws.proofs.Ports.{same_port}
 use Rattle.hub_laws.proofs.Fires.{same_true}

@@ -16,7 +16,7 @@ use Rattle.hub_base.specs.Steps.{fires, Firing, proceeds, chooses, calls, closes
 use Rattle.hub_base.specs.Runs.{admits, moves}
 use Rattle.hub_base.specs.Values.{Turned, refused, cases_or, latest, last_call}
 use Rattle.hub_laws.specs.Sound.{IsSound, is_among}
-use Rattle.hub_laws.specs.Deeds.{deed_of, told, Does, quiet}
+use Rattle.hub_laws.proofs.Deeds.{deed_of, told, Does, quiet}
 use Rattle.hub_laws.proofs.Calls.{differ-sym, or_none, same_number}
 use Rattle.hub_laws.proofs.Ready.{Admitted, admitted}
 use Rattle.hub_laws.proofs.Does.{Knows, quiet-same, stalls-does}

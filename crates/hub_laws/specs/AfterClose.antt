@@ -1,9 +1,12 @@
--- After a close: from entries and events alone, but for the buffer that the close left.
-use Rattle.std.specs.Prelude.{◌≡◌, ◌==◌, ℕ, Bool, true, false, List, [], ◌∷◌, Option, Some, None, if◌then◌else◌}
+-- After a close no case on the port is sent, and its receivers drain the buffer, then learn of the close: from
+-- entries and events alone, but for the buffer that the close left. Go: "Close", "Receive operator".
+use Rattle.std.specs.Prelude.{◌≡◌, ◌==◌, ℕ, Bool, true, false, List, [], ◌∷◌, ◌++◌, Option, Some, None, if◌then◌else◌}
 use Rattle.hub_base.specs.declared.value.Port.{Port}
+use Rattle.hub_base.specs.declared.value.Pid.{Pid}
 use Rattle.hub_base.specs.declared.value.Value.{Value}
 use Rattle.hub_base.specs.declared.case.Case.{Case}
 use Rattle.hub_base.specs.declared.case.Case.TheVariants.{Recv}
+use Rattle.hub_base.specs.declared.entry.Step.TheVariants.{Close}
 use Rattle.hub_base.specs.declared.entry.Entry.{Entry}
 use Rattle.hub_base.specs.declared.event.Event.{Event}
 use Rattle.hub_base.specs.declared.event.Outcome.{Outcome}
@@ -12,7 +15,7 @@ use Rattle.hub_base.specs.declared.event.What.{What}
 use Rattle.hub_base.specs.declared.event.What.TheVariants as what
 use Rattle.hub_base.specs.State.{Channel, channel_at, opening, buffer_of}
 use Rattle.hub_base.specs.Ready.{port_of}
-use Rattle.hub_base.specs.Runs.{state}
+use Rattle.hub_base.specs.Runs.{state, moves}
 use Rattle.hub_base.specs.Values.{turns_after, values_from}
 
 -- the cases on p that were answered `Sent`
@@ -48,3 +51,8 @@ told_later pick n es fs = values_from pick (turns_after (opening n) es) (turns_a
 pub record StaysClosed (n : ℕ) (es fs : List Entry) (p : Port) : Type 0 where
   pub sent : told_later (sent_at p) n es fs ≡ []
   pub heard : (c : Channel) → channel_at (state n es) p ≡ Some c → Drains (buffer_of c) (told_later (heard p) n es fs)
+
+-- after a close that was answered `Done`, whatever entries follow
+abbrev pub AfterCloseLaw : ℕ → List Entry → Pid → Port → List Entry → Type 0
+AfterCloseLaw n es pid p fs =
+    answers_done (moves (state n es) (record { pid = pid; step = Close p })).events ≡ true → StaysClosed n (es ++ record { pid = pid; step = Close p } ∷ []) fs p

@@ -1,13 +1,17 @@
--- Each admitted call has at most one event besides `Parked`: from entries and events alone.
+-- Each admitted call has at most one event besides `Parked`, and by this event it ends: from entries and events
+-- alone. Its events are those of its process from its own answer up to the next admitted entry of that process; the
+-- answer `Busy` to an entry in between is not of the call. Go: "Select statements".
 use Rattle.std.specs.Prelude.{◌≡◌, ◌≤◌, ◌==◌, ◌&&◌, ℕ, Bool, true, false, not, List, [], ◌∷◌, ◌++◌, length, filter, if◌then◌else◌}
 use Rattle.std.specs.List.{AllByRecursion}
 use Rattle.hub_base.specs.declared.entry.Step.{Step}
 use Rattle.hub_base.specs.declared.entry.Step.TheVariants.{Make, Call, Close, Exit}
+use Rattle.hub_base.specs.declared.entry.Entry.{Entry}
 use Rattle.hub_base.specs.declared.fault.Fault.TheVariants as fault
 use Rattle.hub_base.specs.declared.event.Event.{Event}
 use Rattle.hub_base.specs.declared.event.What.{What}
 use Rattle.hub_base.specs.declared.event.What.TheVariants as what
-use Rattle.hub_base.specs.Values.{Turned}
+use Rattle.hub_base.specs.State.{opening}
+use Rattle.hub_base.specs.Values.{Turned, turns_after}
 use Rattle.hub_laws.specs.Faults.{refuses_entry, is_busy}
 
 abbrev pub is_call : Step → Bool
@@ -59,3 +63,7 @@ pub record EndsOnce (events : List Event) : Type 0 where
 abbrev pub AtMostOnce : List Turned → Type 0
 AtMostOnce [] = Unit
 AtMostOnce (t ∷ ts) = (is_call t.entry.step ≡ true → was_admitted t.events ≡ true → EndsOnce (endings t.entry.pid.0 t.events ++ endings_until t.entry.pid.0 ts)) × AtMostOnce ts
+
+-- of a whole run
+abbrev pub OnceLaw : ℕ → List Entry → Type 0
+OnceLaw n es = AtMostOnce (turns_after (opening n) es)

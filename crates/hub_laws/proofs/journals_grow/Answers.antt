@@ -1,5 +1,0 @@
-use Rattle.hub_laws.proofs.Journals.{grows-law}
-use Rattle.hub_laws.proofs.journals_grow.Goals as goal
-
-pub returns : goal.returns
-returns c = grows-law c.args.procs c.args.before.now c.args.entry.now

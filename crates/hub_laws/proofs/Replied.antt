@@ -20,7 +20,7 @@ use Rattle.hub_laws.proofs.Ready.{admitted}
 use Rattle.hub_laws.proofs.Rules.{state-sound}
 use Rattle.hub_laws.proofs.Events.{Counted, answered_counts, ends_clear}
 use Rattle.hub_laws.proofs.Balance.{one, open_calls, ends, open_none, open_most, Balance, turn-balance}
-use Rattle.hub_laws.proofs.OnePort.{moves-answered}
+use Rattle.hub_laws.proofs.Answered.{moves-answered}
 use Rattle.hub_laws.proofs.Replies.{state_after-append, told_to-append, told_none, reply-untold, own-others}
 
 -- Counting

@@ -1,4 +1,4 @@
-use Rattle.hub_laws.proofs.OnePort.{answers-law, passed_over-law}
+use Rattle.hub_laws.proofs.Answered.{answers-law, passed_over-law}
 use Rattle.hub_laws.proofs.first_answers.entries_are_answered.Goals as goal
 
 pub returns : goal.returns

@@ -12,6 +12,7 @@ use Rattle.hub_laws.specs.Sound.{some_call, PortSound, IsSound}
 use Rattle.hub_laws.specs.States.{PortLaws, StateLaws}
 use Rattle.hub_laws.proofs.Calls.{or_none, none_or}
 use Rattle.hub_laws.proofs.Distinct.{count-below}
+use Rattle.hub_laws.proofs.Lasting.{ports-law}
 use Rattle.hub_laws.proofs.Rules.{state-sound}
 
 drop_all : {A : Type 0} (xs : List A) (n : ℕ) → n ≡ length xs → drop n xs ≡ []
@@ -50,4 +51,4 @@ count-law s sound = count-below s.procs s.parked sound.apart (λ q e. (sound.pre
 pub state-laws : (n : ℕ) (es : List Entry) → StateLaws (state n es)
 state-laws n es =
     let sound = state-sound n es in
-    record { apart = sound.apart; present = sound.present; calls = sound.calls; ports = λ p c e. port-laws p c (state n es).parked (sound.ports p c e); count = count-law (state n es) sound }
+    record { apart = sound.apart; present = sound.present; calls = sound.calls; ports = λ p c e. port-laws p c (state n es).parked (sound.ports p c e); few = ports-law n es; count = count-law (state n es) sound }

@@ -24,5 +24,6 @@ pub record StateLaws (s : State) : Type 0 where
   pub present : (q : ℕ) → is_waiting s q ≡ true → (q < s.procs) × (has_gone s q ≡ false)
   pub calls : AllByRecursion (CallFits (length s.channels)) s.parked
   pub ports : (p : Port) (c : Channel) → channel_at s p ≡ Some c → PortLaws p c s.parked
-  -- no more calls wait than there are processes
+  -- at most 64 ports are made, and no more calls wait than there are processes
+  pub few : length s.channels ≤ 64
   pub count : length s.parked ≤ s.procs

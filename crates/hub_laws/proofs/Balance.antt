@@ -5,6 +5,7 @@ use Rattle.std.specs.List.{list_any, filter_map, cons_option}
 use Rattle.std.specs.Option.{option_map_or, option_map}
 use Rattle.std.proofs.lemmas.List.{length-append}
 use Rattle.std.proofs.lemmas.List.Elements.{filter-append}
+use Rattle.std.proofs.lemmas.Bool.{or_parts}
 use Rattle.hub_base.specs.declared.value.Port.{Port}
 use Rattle.hub_base.specs.declared.value.Pid.{Pid}
 use Rattle.hub_base.specs.declared.value.Value.{Value}
@@ -26,7 +27,7 @@ use Rattle.hub_laws.specs.Sound.{IsSound, is_among, Apart, CallFits}
 use Rattle.hub_laws.specs.Once.{counts, endings}
 use Rattle.hub_laws.proofs.Faults.{journaled}
 use Rattle.hub_laws.proofs.Events.{fault_counts}
-use Rattle.hub_laws.proofs.Calls.{first-found, or_none, lowest-some}
+use Rattle.hub_laws.proofs.Calls.{first-found, lowest-some}
 use Rattle.hub_laws.proofs.Fires.{same_true}
 use Rattle.hub_laws.proofs.Ready.{chosen, none_false}
 
@@ -56,7 +57,7 @@ open_snoc q (c ∷ cs) call = omega (arith, open_snoc q cs call)
 
 pub open_none : (q : ℕ) (calls : List OpenCall) → is_among q calls ≡ false → open_calls q calls ≡ 0
 open_none q [] e = refl
-open_none q (call ∷ calls) e = let f = or_none (call.pid.0 == q) (is_among q calls) e in rw (f.0, open_none q calls f.1) refl
+open_none q (call ∷ calls) e = let f = or_parts (call.pid.0 == q) (is_among q calls) e in rw (f.0, open_none q calls f.1) refl
 
 open_one : (b : Bool) (n : ℕ) → (b ≡ true → n ≡ 0) → n ≤ 1 → one b + n ≤ 1
 open_one true n h most = omega (arith, h refl)
@@ -69,7 +70,7 @@ open_most q (call ∷ calls) a = open_one (call.pid.0 == q) (open_calls q calls)
 
 pub without_none : (pid : Pid) (calls : List OpenCall) → is_among pid.0 calls ≡ false → without pid calls ≡ calls
 without_none pid [] e = refl
-without_none pid (call ∷ calls) e = let f = or_none (call.pid.0 == pid.0) (is_among pid.0 calls) e in rw f.0 (ap (λ cs. call ∷ cs) (without_none pid calls f.1))
+without_none pid (call ∷ calls) e = let f = or_parts (call.pid.0 == pid.0) (is_among pid.0 calls) e in rw f.0 (ap (λ cs. call ∷ cs) (without_none pid calls f.1))
 
 without_by : (b : Bool) (q : ℕ) (pid : Pid) (call : OpenCall) (calls : List OpenCall) → b ≡ (call.pid.0 == pid.0) → is_among call.pid.0 calls ≡ false → (b || is_among pid.0 calls) ≡ true →
     (is_among pid.0 calls ≡ true → open_calls q (without pid calls) + one (pid.0 == q) ≡ open_calls q calls) →

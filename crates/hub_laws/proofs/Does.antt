@@ -5,6 +5,7 @@ use Rattle.std.specs.List.{AllByRecursion, filter_map, cons_option}
 use Rattle.std.specs.Option.{option_map}
 use Rattle.std.proofs.lemmas.Grind.{common_steps}
 use Rattle.std.proofs.lemmas.List.Elements.{filter_map-append}
+use Rattle.std.proofs.lemmas.Bool.{or_cases, false_from_ne_true}
 use Rattle.hub_base.specs.declared.value.Port.{Port}
 use Rattle.hub_base.specs.declared.value.Pid.{Pid}
 use Rattle.hub_base.specs.declared.value.Value.{Value}
@@ -23,7 +24,7 @@ use Rattle.hub_base.specs.Steps.{is_unmade, fires, proceeds, chooses, calls, wai
 use Rattle.hub_base.specs.Values.{cases_or}
 use Rattle.hub_laws.specs.Sound.{some_call, IsSound}
 use Rattle.hub_laws.proofs.Deeds.{deed_of, told, IsClosing, Quiet, Wrote, Does, buffers, hands, fetches, gives, drains, refuses, shuts, quiet, wrote}
-use Rattle.hub_laws.proofs.Calls.{not_true, first-found, Found, lowest-at, or_some}
+use Rattle.hub_laws.proofs.Calls.{first-found, Found, lowest-at}
 use Rattle.hub_laws.proofs.Ports.{made, at_made, same_port, written, get_set_other, new_port}
 use Rattle.hub_laws.proofs.Fires.{same_true, is_send, some_first, longer}
 use Rattle.hub_laws.proofs.Ready.{chosen, none_false}
@@ -111,7 +112,7 @@ recv_meets_does s L pid i p c (Some x) sound knows mine e is =
     let found = first-found (λ call. L call.pid ≡ call.cases) (is_send_on p) s.parked x knows (sym is) in
     let u = is_send p x.at.case found.passes in
     let some : some_call (is_send_on p) s.parked ≡ true = sym (some_first (is_send_on p) s.parked (Some x) is) in
-    let live : c.closed ≡ false = not_true c.closed (λ h. let g = ((sound.ports p c e).ended h).1 in cc) in
+    let live : c.closed ≡ false = false_from_ne_true c.closed (λ h. let g = ((sound.ports p c e).ended h).1 in cc) in
     let next = next_sent s p u.0 c sound e in
     let theirs : slice_get (L x.pid) x.at.index ≡ Some (Send p u.0) = ended_case L (is_send_on p) s.parked x found ∙ ap (λ k. Some k) u.1 in
     rw (u.1, next.1) (wrote p c (received (sent u.0 c)) (wrote-set s p c (received (sent u.0 c)) e) (fetches u.0 next.0 live next.1 refl
@@ -146,7 +147,7 @@ call_does s L pid cases default word sound knows mine =
 -- A close
 
 is_on_port : (p : Port) (c : Case) → is_on p c ≡ true → port_of c ≡ p
-is_on_port p (Send q v) e = elim (or_some (q.0 == p.0) false e) [ inl l ↦ same_port q p (same_true q.0 p.0 l) | inr r ↦ absurd (let g : ⊥ = cc in g) ]
+is_on_port p (Send q v) e = elim (or_cases (q.0 == p.0) false e) [ inl l ↦ same_port q p (same_true q.0 p.0 l) | inr r ↦ absurd (let g : ⊥ = cc in g) ]
 is_on_port p (Recv q) e = same_port q p (same_true q.0 p.0 e)
 
 closing_one : (p : Port) (L : Pid → List Case) (call : OpenCall) (o : Option Placed) (rest : List Event) → o ≡ lowest (is_on p) call.cases → L call.pid ≡ call.cases → AllByRecursion (IsClosing p) (told deed_of L rest) →

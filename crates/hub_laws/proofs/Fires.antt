@@ -4,6 +4,7 @@ use Rattle.std.specs.Prelude.{slice_get, is_some}
 use Rattle.std.proofs.lemmas.Grind.{common_steps}
 use Rattle.std.proofs.lemmas.Option.{slice_get_within}
 use Rattle.std.proofs.lemmas.List.{length-append}
+use Rattle.std.proofs.lemmas.Bool.{false_from_ne_true}
 use Rattle.hub_base.specs.declared.value.Port.{Port}
 use Rattle.hub_base.specs.declared.value.Value.{Value}
 use Rattle.hub_base.specs.declared.case.Case.{Case}
@@ -14,7 +15,7 @@ use Rattle.hub_base.specs.State.{State, Channel, OpenCall, channel_at}
 use Rattle.hub_base.specs.Ready.{is_send_on, is_recv_on, first_with, Ending, without, send_can}
 use Rattle.hub_base.specs.Steps.{sent, received, next_value, send_meets, send_fires, recv_takes, recv_meets, recv_fires, fired}
 use Rattle.hub_laws.specs.Sound.{some_call, CallFits, PortSound, IsSound}
-use Rattle.hub_laws.proofs.Calls.{Fewer, not_true, fewer-same, fewer-filter, first-some, first-found}
+use Rattle.hub_laws.proofs.Calls.{Fewer, fewer-same, fewer-filter, first-some, first-found}
 use Rattle.hub_laws.proofs.Ports.{same_port}
 use Rattle.hub_laws.proofs.Kept.{port-fewer, sound-written}
 
@@ -110,7 +111,7 @@ recv_meets_sound s p c (Some x) sound e is =
     let found = first-found (CallFits (length s.channels)) (is_send_on p) s.parked x sound.calls (sym is) in
     let u = is_send p x.at.case found.passes in
     let some : some_call (is_send_on p) s.parked ≡ true = sym (some_first (is_send_on p) s.parked (Some x) is) in
-    let live : c.closed ≡ false = not_true c.closed (λ h. let g = (f.ended h).1 in cc) in
+    let live : c.closed ≡ false = false_from_ne_true c.closed (λ h. let g = (f.ended h).1 in cc) in
     let through : PortSound p (received (sent u.0 c)) (without x.pid s.parked) = port-through p u.0 c (without x.pid s.parked) (port-fewer p c (without x.pid s.parked) s.parked fewer f) live in
     rw u.1 (takes_sound s p c (fired x.pid x.at.index Sent ∷ []) (without x.pid s.parked) (sent u.0 c) (next_value (sent u.0 c)) sound e fewer
     (λ h. absurd (get_none (c.done ++ u.0 ∷ []) c.taken h (omega (arith, longer u.0 c, f.taken))))

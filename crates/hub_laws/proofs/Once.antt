@@ -17,6 +17,7 @@ use Rattle.hub_laws.specs.Once.{is_call, was_admitted, counts, endings, endings_
 use Rattle.hub_laws.specs.Answers.{ends_waiting, IsAnswered}
 use Rattle.std.specs.List.{AllByRecursion}
 use Rattle.std.proofs.Math.Bool.{and-false}
+use Rattle.std.proofs.lemmas.Bool.{and_parts}
 use Rattle.hub_laws.proofs.Events.{answered_admits, answer_ends, waiting_ends}
 use Rattle.hub_laws.proofs.Telling.{turn-tells}
 use Rattle.hub_base.specs.Reading.{is_exit}
@@ -56,26 +57,18 @@ ended_each : (q : ℕ) (events : List Event) → AllByRecursion (λ x. ends_wait
 ended_each q [] a = tt
 ended_each q (x ∷ xs) a = each_by q x xs (counts x.what && (x.pid.0 == q)) refl (λ h. waiting_ends x.what a.0) (ended_each q xs a.1)
 
-and_left : (x y : Bool) → (x && y) ≡ true → x ≡ true
-and_left true y e = refl
-and_left false y e = e
-
-and_right : (x y : Bool) → (x && y) ≡ true → y ≡ true
-and_right true y e = e
-and_right false y e = cc
-
 -- a call's own step
 own_each : (e : Entry) (events : List Event) → is_call e.step ≡ true → IsAnswered e.pid e.step events → EachEnds (endings e.pid.0 events)
 own_each e [] call a = tt
 own_each e (x ∷ xs) call a =
-    each_by e.pid.0 x xs (counts x.what && (x.pid.0 == e.pid.0)) refl (λ h. answer_ends e.step x.what call a.fits (and_left (counts x.what) (x.pid.0 == e.pid.0) h)) (ended_each e.pid.0 xs a.ends)
+    each_by e.pid.0 x xs (counts x.what && (x.pid.0 == e.pid.0)) refl (λ h. answer_ends e.step x.what call a.fits ((and_parts (counts x.what) (x.pid.0 == e.pid.0) h).0)) (ended_each e.pid.0 xs a.ends)
 
 -- the step of another process
 other_each : (q : ℕ) (e : Entry) (events : List Event) → (e.pid.0 == q) ≡ false → IsAnswered e.pid e.step events → EachEnds (endings q events)
 other_each q e [] other a = tt
 other_each q e (x ∷ xs) other a =
     let not_mine : (x.pid.0 == q) ≡ false = ap (λ (p : Pid). p.0 == q) a.own ∙ other in
-    each_by q x xs (counts x.what && (x.pid.0 == q)) refl (λ h. absurd (let mine = and_right (counts x.what) (x.pid.0 == q) h in let g : ⊥ = cc in g)) (ended_each q xs a.ends)
+    each_by q x xs (counts x.what && (x.pid.0 == q)) refl (λ h. absurd (let mine = (and_parts (counts x.what) (x.pid.0 == q) h).1 in let g : ⊥ = cc in g)) (ended_each q xs a.ends)
 
 -- Up to the next admitted entry
 

@@ -4,6 +4,7 @@ use Rattle.std.specs.Prelude.{slice_get}
 use Rattle.std.specs.List.{AllByRecursion}
 use Rattle.std.proofs.Math.Bool.{and-false, and-true}
 use Rattle.std.proofs.lemmas.Grind.{common_steps}
+use Rattle.std.proofs.lemmas.Bool.{or_parts}
 use Rattle.hub_base.specs.declared.value.Pid.{Pid}
 use Rattle.hub_base.specs.declared.entry.Entry.{Entry}
 use Rattle.hub_base.specs.declared.event.Event.{Event}
@@ -14,7 +15,7 @@ use Rattle.hub_laws.specs.Sound.{IsSound, is_among}
 use Rattle.hub_laws.specs.Once.{endings}
 use Rattle.hub_laws.specs.Answers.{ends_waiting, IsAnswered}
 use Rattle.hub_laws.specs.Replies.{is_parked, last_from, reply, told_to, is_told, IsReply, IsLeft, AreReplied, RepliedLaw}
-use Rattle.hub_laws.proofs.Calls.{same_number, or_none}
+use Rattle.hub_laws.proofs.Calls.{same_number}
 use Rattle.hub_laws.proofs.Fires.{same_true}
 use Rattle.hub_laws.proofs.Ready.{admitted}
 use Rattle.hub_laws.proofs.Rules.{state-sound}
@@ -144,7 +145,7 @@ replied_by n es e (x ∷ xs) is a each waits left = record {
   answered = each 0 x refl;
   parked = λ parked untold. waits (rw (parked, and-false (x.pid.0 == e.pid.0)) (told_none e.pid.0 xs untold));
   ends = ended_replies xs a.ends (λ i y e. each (suc i) y e);
-  others = λ q untold. left q (ap (λ (p : Pid). p.0 == q) (sym a.own) ∙ (or_none (x.pid.0 == q) (is_told q xs) untold).0) untold;
+  others = λ q untold. left q (ap (λ (p : Pid). p.0 == q) (sym a.own) ∙ (or_parts (x.pid.0 == q) (is_told q xs) untold).0) untold;
 }
   where
     ended_replies : (xs : List Event) → AllByRecursion (λ x. ends_waiting x.what ≡ true) xs → ((i : ℕ) (x : Event) → slice_get xs i ≡ Some x → is_parked x.what ≡ false → IsReply n (es ++ e ∷ []) x) → AllByRecursion (IsReply n (es ++ e ∷ [])) xs

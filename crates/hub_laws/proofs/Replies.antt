@@ -4,6 +4,7 @@ use Rattle.std.specs.Prelude.{slice_get}
 use Rattle.std.specs.List.{list_any, AllByRecursion, filter_map, cons_option}
 use Rattle.std.specs.Option.{option_map}
 use Rattle.std.proofs.lemmas.List.Elements.{filter-append}
+use Rattle.std.proofs.lemmas.Bool.{or_parts, or_from}
 use Rattle.hub_base.specs.declared.value.Port.{Port}
 use Rattle.hub_base.specs.declared.value.Pid.{Pid}
 use Rattle.hub_base.specs.declared.value.Value.{Value}
@@ -22,7 +23,7 @@ use Rattle.hub_base.specs.Steps.{fires, proceeds, chooses, calls, closes, effect
 use Rattle.hub_base.specs.Runs.{admits, moves, state_after, events_after, state, events}
 use Rattle.hub_laws.specs.Sound.{is_among}
 use Rattle.hub_laws.specs.Replies.{own, reply, last_from, is_parked, told_to, is_told, RepliesLaw}
-use Rattle.hub_laws.proofs.Calls.{first-found, or_none, none_or, same_number}
+use Rattle.hub_laws.proofs.Calls.{first-found, same_number}
 use Rattle.hub_laws.proofs.Stands.{effect-stands, stalls-stands}
 
 -- what holds of the process that steps and of those that wait holds of all that are told
@@ -121,15 +122,15 @@ Not q n = (n == q) ≡ false
 
 none_waiting : (q : ℕ) (calls : List OpenCall) → is_among q calls ≡ false → AllByRecursion (λ call. Not q call.pid.0) calls
 none_waiting q [] e = tt
-none_waiting q (call ∷ calls) e = let f = or_none (call.pid.0 == q) (is_among q calls) e in (f.0, none_waiting q calls f.1)
+none_waiting q (call ∷ calls) e = let f = or_parts (call.pid.0 == q) (is_among q calls) e in (f.0, none_waiting q calls f.1)
 
 waiting_none : (q : ℕ) (calls : List OpenCall) → AllByRecursion (λ call. Not q call.pid.0) calls → is_among q calls ≡ false
 waiting_none q [] a = refl
-waiting_none q (call ∷ calls) a = none_or (call.pid.0 == q) (is_among q calls) a.0 (waiting_none q calls a.1)
+waiting_none q (call ∷ calls) a = or_from (call.pid.0 == q) (is_among q calls) a.0 (waiting_none q calls a.1)
 
 none_by : (q : ℕ) (fs : List Entry) → list_any (λ e. e.pid.0 == q) fs ≡ false → AllByRecursion (λ e. Not q e.pid.0) fs
 none_by q [] e = tt
-none_by q (f ∷ fs) e = let g = or_none (f.pid.0 == q) (list_any (λ e. e.pid.0 == q) fs) e in (g.0, none_by q fs g.1)
+none_by q (f ∷ fs) e = let g = or_parts (f.pid.0 == q) (list_any (λ e. e.pid.0 == q) fs) e in (g.0, none_by q fs g.1)
 
 own_none : (q : ℕ) (fs : List Entry) → AllByRecursion (λ e. Not q e.pid.0) fs → own q fs ≡ []
 own_none q [] a = refl
@@ -137,11 +138,11 @@ own_none q (f ∷ fs) a = rw a.0 (own_none q fs a.1)
 
 pub told_none : (q : ℕ) (es : List Event) → is_told q es ≡ false → told_to q es ≡ []
 told_none q [] e = refl
-told_none q (x ∷ xs) e = let f = or_none (x.pid.0 == q) (is_told q xs) e in rw f.0 (told_none q xs f.1)
+told_none q (x ∷ xs) e = let f = or_parts (x.pid.0 == q) (is_told q xs) e in rw f.0 (told_none q xs f.1)
 
 untold : (q : ℕ) (es : List Event) → AllByRecursion (λ e. Not q e.pid.0) es → is_told q es ≡ false
 untold q [] a = refl
-untold q (e ∷ es) a = none_or (e.pid.0 == q) (is_told q es) a.0 (untold q es a.1)
+untold q (e ∷ es) a = or_from (e.pid.0 == q) (is_told q es) a.0 (untold q es a.1)
 
 -- a run that goes on
 pub events_after-append : (s : State) (es fs : List Entry) → events_after s (es ++ fs) ≡ events_after s es ++ events_after (state_after s es) fs

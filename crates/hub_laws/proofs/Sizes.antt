@@ -4,6 +4,7 @@ use Rattle.std.specs.Prelude.{slice_get, is_some}
 use Rattle.std.specs.List.{list_any, filter_map, cons_option}
 use Rattle.std.specs.Option.{option_map}
 use Rattle.std.proofs.lemmas.List.{length-append}
+use Rattle.std.proofs.lemmas.Bool.{or_cases}
 use Rattle.hub_base.specs.declared.value.Port.{Port}
 use Rattle.hub_base.specs.declared.value.Pid.{Pid}
 use Rattle.hub_base.specs.declared.value.Value.{Value}
@@ -22,7 +23,7 @@ use Rattle.hub_base.specs.Steps.{fires, proceeds, chooses, calls, closes, effect
 use Rattle.hub_base.specs.Runs.{admits, moves, state}
 use Rattle.hub_laws.proofs.Lasting.{procs-after}
 use Rattle.hub_laws.specs.Sound.{IsSound, is_among, CallFits}
-use Rattle.hub_laws.proofs.Calls.{first-found, lowest-some, or_some}
+use Rattle.hub_laws.proofs.Calls.{first-found, lowest-some}
 use Rattle.hub_laws.proofs.Ready.{Admitted, admitted}
 use Rattle.hub_laws.proofs.Rules.{state-sound}
 use Rattle.hub_laws.proofs.Distinct.{count-below}
@@ -112,7 +113,7 @@ stalls_size s c h =
 pub room-law : (s : State) (pid : Pid) → IsSound s → Admitted s pid → length s.parked < s.procs
 room-law s pid sound adm =
     let most : length (record { pid = pid; cases = [] } ∷ s.parked) ≤ s.procs = count-below s.procs (record { pid = pid; cases = [] } ∷ s.parked) (adm.free, sound.apart) (λ q e.
-    elim (or_some (pid.0 == q) (is_among q s.parked) e) [ inl l ↦ subst (λ (n : ℕ). n < s.procs) (same_true pid.0 q l) adm.below | inr r ↦ (sound.present q r).0 ]) in
+    elim (or_cases (pid.0 == q) (is_among q s.parked) e) [ inl l ↦ subst (λ (n : ℕ). n < s.procs) (same_true pid.0 q l) adm.below | inr r ↦ (sound.present q r).0 ]) in
     omega arith
 
 answers_size : (s : State) (e : Entry) (o : Option Fault) → IsSound s → Admitted s e.pid → length (answers s e o).events ≤ s.procs + 1

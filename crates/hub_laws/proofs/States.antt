@@ -2,6 +2,7 @@
 use Rattle.std.proofs.Common.{◌≡◌, ℕ, ◌≤◌, false, List, [], ◌∷◌, length, drop, refl, arith, zero, suc}
 use Rattle.std.specs.List.{list_any}
 use Rattle.std.proofs.lemmas.List.{length-drop}
+use Rattle.std.proofs.lemmas.Bool.{or_parts, or_from}
 use Rattle.hub_base.specs.declared.value.Port.{Port}
 use Rattle.hub_base.specs.declared.case.Case.{Case}
 use Rattle.hub_base.specs.declared.entry.Entry.{Entry}
@@ -10,7 +11,6 @@ use Rattle.hub_base.specs.Ready.{is_send_on, is_recv_on, is_on}
 use Rattle.hub_base.specs.Runs.{state}
 use Rattle.hub_laws.specs.Sound.{some_call, PortSound, IsSound}
 use Rattle.hub_laws.specs.States.{PortLaws, StateLaws}
-use Rattle.hub_laws.proofs.Calls.{or_none, none_or}
 use Rattle.hub_laws.proofs.Distinct.{count-below}
 use Rattle.hub_laws.proofs.Lasting.{ports-law}
 use Rattle.hub_laws.proofs.Rules.{state-sound}
@@ -24,16 +24,16 @@ drop_all (x ∷ xs) (suc n) e = drop_all xs n (omega arith)
 on_none : (p : Port) (calls : List OpenCall) → some_call (is_recv_on p) calls ≡ false → some_call (is_send_on p) calls ≡ false → some_call (is_on p) calls ≡ false
 on_none p [] r w = refl
 on_none p (call ∷ calls) r w =
-    let r' = or_none (list_any (is_recv_on p) call.cases) (some_call (is_recv_on p) calls) r in
-    let w' = or_none (list_any (is_send_on p) call.cases) (some_call (is_send_on p) calls) w in
-    none_or (list_any (is_on p) call.cases) (some_call (is_on p) calls) (cases_none p call.cases r'.0 w'.0) (on_none p calls r'.1 w'.1)
+    let r' = or_parts (list_any (is_recv_on p) call.cases) (some_call (is_recv_on p) calls) r in
+    let w' = or_parts (list_any (is_send_on p) call.cases) (some_call (is_send_on p) calls) w in
+    or_from (list_any (is_on p) call.cases) (some_call (is_on p) calls) (cases_none p call.cases r'.0 w'.0) (on_none p calls r'.1 w'.1)
   where
     cases_none : (p : Port) (cases : List Case) → list_any (is_recv_on p) cases ≡ false → list_any (is_send_on p) cases ≡ false → list_any (is_on p) cases ≡ false
     cases_none p [] r w = refl
     cases_none p (c ∷ cs) r w =
-        let r' = or_none (is_recv_on p c) (list_any (is_recv_on p) cs) r in
-        let w' = or_none (is_send_on p c) (list_any (is_send_on p) cs) w in
-        none_or (is_on p c) (list_any (is_on p) cs) (none_or (is_send_on p c) (is_recv_on p c) w'.0 r'.0) (cases_none p cs r'.1 w'.1)
+        let r' = or_parts (is_recv_on p c) (list_any (is_recv_on p) cs) r in
+        let w' = or_parts (is_send_on p c) (list_any (is_send_on p) cs) w in
+        or_from (is_on p c) (list_any (is_on p) cs) (or_from (is_send_on p c) (is_recv_on p c) w'.0 r'.0) (cases_none p cs r'.1 w'.1)
 
 port-laws : (p : Port) (c : Channel) (calls : List OpenCall) → PortSound p c calls → PortLaws p c calls
 port-laws p c calls f = record {

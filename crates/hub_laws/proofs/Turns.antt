@@ -2,6 +2,7 @@
 use Rattle.std.proofs.Common.{◌≡◌, ℕ, ◌%◌, ◌==◌, Bool, true, false, cond, List, [], ◌∷◌, ◌++◌, length, refl, ◌∙◌, sym, Option, Some, None}
 use Rattle.std.specs.Prelude.{slice_get}
 use Rattle.std.specs.List.{filter_map}
+use Rattle.std.proofs.lemmas.Bool.{or_parts}
 use Rattle.hub_base.specs.declared.value.Pid.{Pid}
 use Rattle.hub_base.specs.declared.case.Case.{Case}
 use Rattle.hub_base.specs.declared.entry.Step.{Step}
@@ -17,7 +18,7 @@ use Rattle.hub_base.specs.Runs.{admits, moves}
 use Rattle.hub_base.specs.Values.{Turned, refused, cases_or, latest, last_call}
 use Rattle.hub_laws.specs.Sound.{IsSound, is_among}
 use Rattle.hub_laws.proofs.Deeds.{deed_of, told, Does, quiet}
-use Rattle.hub_laws.proofs.Calls.{differ-sym, or_none, same_number}
+use Rattle.hub_laws.proofs.Calls.{differ-sym, same_number}
 use Rattle.hub_laws.proofs.Ready.{Admitted, admitted}
 use Rattle.hub_laws.proofs.Does.{Knows, quiet-same, stalls-does}
 use Rattle.hub_laws.proofs.Stands.{effect-stands, stalls-stands}
@@ -81,7 +82,7 @@ knows_more L M (call ∷ calls) same k = (same call.pid ∙ k.0, knows_more L M 
 knows_others : (L M : Pid → List Case) (q : ℕ) (calls : List OpenCall) → is_among q calls ≡ false → ((pid : Pid) → (q == pid.0) ≡ false → M pid ≡ L pid) → Knows L calls → Knows M calls
 knows_others L M q [] free same k = tt
 knows_others L M q (call ∷ calls) free same k =
-    let f = or_none (call.pid.0 == q) (is_among q calls) free in
+    let f = or_parts (call.pid.0 == q) (is_among q calls) free in
     (same call.pid (differ-sym call.pid.0 q f.0) ∙ k.0, knows_others L M q calls f.1 same k.1)
 
 -- A turn

@@ -2,6 +2,7 @@
 use Rattle.std.proofs.Common.{◌≡◌, ℕ, ◌==◌, Bool, true, false, cond, zero, suc, List, [], ◌∷◌, ◌++◌, drop, refl, ap, ◌∙◌, sym, subst, Option, Some, None, append-nil, append_assoc, add-one}
 use Rattle.std.specs.Prelude.{slice_get}
 use Rattle.std.specs.List.{filter_map}
+use Rattle.std.proofs.lemmas.Bool.{eqb-true}
 use Rattle.hub_base.specs.declared.value.Port.{Port}
 use Rattle.hub_base.specs.declared.value.Pid.{Pid}
 use Rattle.hub_base.specs.declared.case.Case.{Case}
@@ -23,7 +24,6 @@ use Rattle.hub_laws.proofs.Deeds.{Deed, deed_of, told, picks, at, Moved, Wrote, 
 use Rattle.hub_laws.specs.AfterClose.{sent_at, heard, Drains, answers_done, StaysClosed}
 use Rattle.hub_laws.proofs.Calls.{same_number}
 use Rattle.hub_laws.proofs.Ports.{same_port}
-use Rattle.hub_laws.proofs.Fires.{same_true}
 use Rattle.hub_laws.proofs.Ready.{none_false}
 use Rattle.hub_laws.proofs.Kept.{sound-opening}
 use Rattle.hub_laws.proofs.Rules.{moves-sound, state-sound}
@@ -85,7 +85,7 @@ stays_moved p c d ts deeds new over (shuts live is all) = cc
 
 stays_wrote : (p q : Port) (c x d : Channel) (cs ts : List Channel) (deeds : List Deed) (b : Bool) → b ≡ (q.0 == p.0) → at cs p ≡ Some c → c.closed ≡ true → Wrote cs ts q x d → Moved q x d deeds → Stays p c ts deeds
 stays_wrote p q c x d cs ts deeds true is old over w m =
-    let same : q ≡ p = same_port q p (same_true q.0 p.0 (sym is)) in
+    let same : q ≡ p = same_port q p (eqb-true q.0 p.0 (sym is)) in
     let there : at cs p ≡ Some x = subst (λ (r : Port). at cs r ≡ Some x) same w.old in
     let one : x ≡ c = cc in
     let moved : Moved p x d deeds = subst (λ (r : Port). Moved r x d deeds) same m in

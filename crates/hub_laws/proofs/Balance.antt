@@ -5,7 +5,7 @@ use Rattle.std.specs.List.{list_any, filter_map, cons_option}
 use Rattle.std.specs.Option.{option_map_or, option_map}
 use Rattle.std.proofs.lemmas.List.{length-append}
 use Rattle.std.proofs.lemmas.List.Elements.{filter-append}
-use Rattle.std.proofs.lemmas.Bool.{or_parts}
+use Rattle.std.proofs.lemmas.Bool.{or_parts, eqb-true}
 use Rattle.hub_base.specs.declared.value.Port.{Port}
 use Rattle.hub_base.specs.declared.value.Pid.{Pid}
 use Rattle.hub_base.specs.declared.value.Value.{Value}
@@ -28,7 +28,6 @@ use Rattle.hub_laws.specs.Once.{counts, endings}
 use Rattle.hub_laws.proofs.Faults.{journaled}
 use Rattle.hub_laws.proofs.Events.{fault_counts}
 use Rattle.hub_laws.proofs.Calls.{first-found, lowest-some}
-use Rattle.hub_laws.proofs.Fires.{same_true}
 use Rattle.hub_laws.proofs.Ready.{chosen, none_false}
 
 -- Counting
@@ -66,7 +65,7 @@ open_one false n h most = omega arith
 -- no process has two open calls
 pub open_most : (q : ℕ) (calls : List OpenCall) → Apart calls → open_calls q calls ≤ 1
 open_most q [] a = omega arith
-open_most q (call ∷ calls) a = open_one (call.pid.0 == q) (open_calls q calls) (λ e. open_none q calls (subst (λ (n : ℕ). is_among n calls ≡ false) (same_true call.pid.0 q e) a.0)) (open_most q calls a.1)
+open_most q (call ∷ calls) a = open_one (call.pid.0 == q) (open_calls q calls) (λ e. open_none q calls (subst (λ (n : ℕ). is_among n calls ≡ false) (eqb-true call.pid.0 q e) a.0)) (open_most q calls a.1)
 
 pub without_none : (pid : Pid) (calls : List OpenCall) → is_among pid.0 calls ≡ false → without pid calls ≡ calls
 without_none pid [] e = refl
@@ -76,7 +75,7 @@ without_by : (b : Bool) (q : ℕ) (pid : Pid) (call : OpenCall) (calls : List Op
     (is_among pid.0 calls ≡ true → open_calls q (without pid calls) + one (pid.0 == q) ≡ open_calls q calls) →
     open_calls q (cond (not b) (call ∷ without pid calls) (without pid calls)) + one (pid.0 == q) ≡ one (call.pid.0 == q) + open_calls q calls
 without_by true q pid call calls is apart among rest =
-    let same : call.pid.0 ≡ pid.0 = same_true call.pid.0 pid.0 (sym is) in
+    let same : call.pid.0 ≡ pid.0 = eqb-true call.pid.0 pid.0 (sym is) in
     rw (without_none pid calls (subst (λ (n : ℕ). is_among n calls ≡ false) same apart), same) (omega arith)
 without_by false q pid call calls is apart among rest = omega (arith, rest among)
 

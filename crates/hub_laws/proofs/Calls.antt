@@ -1,5 +1,5 @@
 -- Lists of open calls: what stays when some of them end, and when one more parks.
-use Rattle.std.proofs.Common.{◌≡◌, ℕ, ◌+◌, ◌==◌, Bool, true, false, cond, suc, List, [], ◌∷◌, ◌++◌, filter, refl, ◌∙◌, sym, subst, Option, Some, None, arith, ◌||◌, inl, inr, ◌⊎◌}
+use Rattle.std.proofs.Common.{◌≡◌, ℕ, ◌+◌, ◌==◌, Bool, true, false, cond, suc, List, [], ◌∷◌, ◌++◌, filter, refl, ◌∙◌, sym, subst, Option, Some, None, arith, ◌||◌, inl, inr}
 use Rattle.std.specs.Prelude.{slice_get, is_some}
 use Rattle.std.specs.List.{list_any, AllByRecursion}
 use Rattle.std.specs.Option.{option_map}
@@ -85,6 +85,14 @@ any_snoc test (y ∷ ys) x = elim (test y) as (λ b. (b || list_any test (ys ++ 
 pub all_snoc : {A : Type 0} (P : A → Type 0) (xs : List A) (x : A) → AllByRecursion P xs → P x → AllByRecursion P (xs ++ x ∷ [])
 all_snoc P [] x a p = (p, tt)
 all_snoc P (y ∷ ys) x a p = (a.0, all_snoc P ys x a.1 p)
+
+pub all_append : {A : Type 0} (P : A → Type 0) (xs ys : List A) → AllByRecursion P xs → AllByRecursion P ys → AllByRecursion P (xs ++ ys)
+all_append P [] ys a b = b
+all_append P (x ∷ xs) ys a b = (a.0, all_append P xs ys a.1 b)
+
+pub all_more : {A : Type 0} (P Q : A → Type 0) (xs : List A) → ((x : A) → P x → Q x) → AllByRecursion P xs → AllByRecursion Q xs
+all_more P Q [] imp a = tt
+all_more P Q (x ∷ xs) imp a = (imp x a.0, all_more P Q xs imp a.1)
 
 pub apart_snoc : (calls : List OpenCall) (call : OpenCall) → Apart calls → is_among call.pid.0 calls ≡ false → Apart (calls ++ call ∷ [])
 apart_snoc [] call a free = (refl, tt)

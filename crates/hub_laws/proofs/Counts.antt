@@ -3,6 +3,7 @@ use Rattle.std.proofs.Common.{◌≡◌, ℕ, ◌+◌, ◌-◌, ◌≤◌, ◌==
 use Rattle.std.specs.Prelude.{slice_get}
 use Rattle.std.specs.List.{filter_map}
 use Rattle.std.specs.Option.{option_map_or}
+use Rattle.std.proofs.lemmas.Bool.{eqb-true}
 use Rattle.hub_base.specs.declared.value.Port.{Port}
 use Rattle.hub_base.specs.declared.value.Pid.{Pid}
 use Rattle.hub_base.specs.declared.entry.Step.{Step}
@@ -19,7 +20,7 @@ use Rattle.hub_laws.specs.Sound.{IsSound}
 use Rattle.hub_laws.proofs.Deeds.{Deed, deed_of, told, at, Moved, Quiet, Wrote, Does, buffers, hands, fetches, gives, drains, refuses, shuts, quiet, wrote}
 use Rattle.hub_laws.specs.Counts.{CountsLaw}
 use Rattle.hub_laws.proofs.Ports.{same_port}
-use Rattle.hub_laws.proofs.Fires.{longer, same_true}
+use Rattle.hub_laws.proofs.Fires.{longer}
 use Rattle.hub_laws.proofs.Kept.{sound-opening}
 use Rattle.hub_laws.proofs.Rules.{moves-sound, state-sound}
 use Rattle.hub_laws.proofs.Does.{Knows}
@@ -47,7 +48,7 @@ quiet_sends cs ts p None (Some d) is to q = rw (q.fresh p d (sym is) (sym to)).0
 
 wrote_sends : (cs ts : List Channel) (p q : Port) (c d : Channel) (deeds : List Deed) (b : Bool) → b ≡ (q.0 == p.0) → Wrote cs ts q c d → Moved q c d deeds → sends_of (at ts p) ≤ sends_of (at cs p) + 1
 wrote_sends cs ts p q c d deeds true is w m =
-    let same : q ≡ p = same_port q p (same_true q.0 p.0 (sym is)) in
+    let same : q ≡ p = same_port q p (eqb-true q.0 p.0 (sym is)) in
     let new : at ts p ≡ Some d = subst (λ (r : Port). at ts r ≡ Some d) same w.new in
     let old : at cs p ≡ Some c = subst (λ (r : Port). at cs r ≡ Some c) same w.old in
     rw (new, old) (moved_sends q c d deeds m)

@@ -3,9 +3,9 @@ use Rattle.std.proofs.Common.{◌≡◌, ℕ, ◌-◌, ◌%◌, ◌<◌, ◌==�
 use Rattle.std.specs.Prelude.{slice_get, slice_set}
 use Rattle.std.specs.List.{AllByRecursion, filter_map, cons_option}
 use Rattle.std.specs.Option.{option_map}
-use Rattle.std.proofs.lemmas.Grind.{common_steps}
 use Rattle.std.proofs.lemmas.List.Elements.{filter_map-append}
-use Rattle.std.proofs.lemmas.Bool.{or_cases, false_from_ne_true}
+use Rattle.std.proofs.lemmas.Bool.{or_cases, false_from_ne_true, eqb-true, eqb-false}
+use Rattle.hub_laws.proofs.Ports.{above_zero}
 use Rattle.hub_base.specs.declared.value.Port.{Port}
 use Rattle.hub_base.specs.declared.value.Pid.{Pid}
 use Rattle.hub_base.specs.declared.value.Value.{Value}
@@ -26,7 +26,7 @@ use Rattle.hub_laws.specs.Sound.{some_call, IsSound}
 use Rattle.hub_laws.proofs.Deeds.{deed_of, told, IsClosing, Quiet, Wrote, Does, buffers, hands, fetches, gives, drains, refuses, shuts, quiet, wrote}
 use Rattle.hub_laws.proofs.Calls.{first-found, Found, lowest-at}
 use Rattle.hub_laws.proofs.Ports.{made, at_made, same_port, written, get_set_other, new_port}
-use Rattle.hub_laws.proofs.Fires.{same_true, is_send, some_first, longer}
+use Rattle.hub_laws.proofs.Fires.{is_send, some_first, longer}
 use Rattle.hub_laws.proofs.Ready.{chosen, none_false}
 
 -- every open call's cases are those in force of its process
@@ -39,17 +39,11 @@ other_by : (b : Bool) (cs : List Channel) (i : ℕ) (d : Channel) (p : Port) →
 other_by true cs i d p is h = refl
 other_by false cs i d p is h = get_set_other cs i (p.0 - 1) d (h refl)
 
-number_false : (a : ℕ) → (a == 0) ≡ false → 0 < a
-number_false a e = grind (arith, common_steps)
-
-differ : (a b : ℕ) → (a == b) ≡ false → a ≡ b → ⊥
-differ a b e h = grind (arith, common_steps)
-
 pub wrote-set : (s : State) (q : Port) (c d : Channel) → channel_at s q ≡ Some c → Wrote s.channels (slice_set s.channels (q.0 - 1) d) q c d
 wrote-set s q c d e = record {
   old = e;
   new = written s (with_channel s q d) q c d refl e;
-  others = λ p h. other_by (p.0 == 0) s.channels (q.0 - 1) d p refl (λ b same. let n = (made s q c e).number in let m = number_false p.0 (b) in differ q.0 p.0 h (omega arith));
+  others = λ p h. other_by (p.0 == 0) s.channels (q.0 - 1) d p refl (λ b same. let n = (made s q c e).number in let m = above_zero p.0 (b) in eqb-false q.0 p.0 h (omega arith));
 }
 
 wrote-same : (s : State) (q : Port) (c : Channel) → channel_at s q ≡ Some c → Wrote s.channels s.channels q c c
@@ -71,7 +65,7 @@ told_fired L pid i c o rest e = rw e refl
 
 pub is_recv : (p : Port) (c : Case) → is_recv_on p c ≡ true → c ≡ Recv p
 is_recv p (Send q v) e = cc
-is_recv p (Recv q) e = ap (λ (r : Port). Recv r) (same_port q p (same_true q.0 p.0 e))
+is_recv p (Recv q) e = ap (λ (r : Port). Recv r) (same_port q p (eqb-true q.0 p.0 e))
 
 -- the case at which an open call ends is in force
 ended_case : (L : Pid → List Case) (test : Case → Bool) (calls : List OpenCall) (x : Ending) → Found (λ call. L call.pid ≡ call.cases) test calls x → slice_get (L x.pid) x.at.index ≡ Some x.at.case
@@ -147,8 +141,8 @@ call_does s L pid cases default word sound knows mine =
 -- A close
 
 is_on_port : (p : Port) (c : Case) → is_on p c ≡ true → port_of c ≡ p
-is_on_port p (Send q v) e = elim (or_cases (q.0 == p.0) false e) [ inl l ↦ same_port q p (same_true q.0 p.0 l) | inr r ↦ absurd (let g : ⊥ = cc in g) ]
-is_on_port p (Recv q) e = same_port q p (same_true q.0 p.0 e)
+is_on_port p (Send q v) e = elim (or_cases (q.0 == p.0) false e) [ inl l ↦ same_port q p (eqb-true q.0 p.0 l) | inr r ↦ absurd (let g : ⊥ = cc in g) ]
+is_on_port p (Recv q) e = same_port q p (eqb-true q.0 p.0 e)
 
 closing_one : (p : Port) (L : Pid → List Case) (call : OpenCall) (o : Option Placed) (rest : List Event) → o ≡ lowest (is_on p) call.cases → L call.pid ≡ call.cases → AllByRecursion (IsClosing p) (told deed_of L rest) →
     AllByRecursion (IsClosing p) (told deed_of L (cons_option (option_map (λ c. fired call.pid c.index (closing_outcome c.case)) o) rest))

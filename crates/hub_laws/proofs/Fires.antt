@@ -4,7 +4,7 @@ use Rattle.std.specs.Prelude.{slice_get, is_some}
 use Rattle.std.proofs.lemmas.Grind.{common_steps}
 use Rattle.std.proofs.lemmas.Option.{slice_get_within}
 use Rattle.std.proofs.lemmas.List.{length-append}
-use Rattle.std.proofs.lemmas.Bool.{false_from_ne_true}
+use Rattle.std.proofs.lemmas.Bool.{false_from_ne_true, eqb-true}
 use Rattle.hub_base.specs.declared.value.Port.{Port}
 use Rattle.hub_base.specs.declared.value.Value.{Value}
 use Rattle.hub_base.specs.declared.case.Case.{Case}
@@ -88,9 +88,6 @@ takes_sound : (s : State) (p : Port) (c : Channel) (ended : List Event) (kept : 
 takes_sound s p c ended kept d None sound e fewer none some = sound-written s kept p c d sound fewer e (none refl)
 takes_sound s p c ended kept d (Some v) sound e fewer none some = sound-written s kept p c (received d) sound fewer e (some v refl)
 
-pub same_true : (a b : ℕ) → (a == b) ≡ true → a ≡ b
-same_true a b e = grind (arith, common_steps)
-
 pub get_none : {A : Type 0} (xs : List A) (i : ℕ) → slice_get xs i ≡ None → i < length xs → ⊥
 get_none [] i e h = omega arith
 get_none (x ∷ xs) zero e h = cc
@@ -98,7 +95,7 @@ get_none (x ∷ xs) (suc i) e h = get_none xs i e (omega arith)
 
 -- the oldest sender's case is a send
 pub is_send : (p : Port) (c : Case) → is_send_on p c ≡ true → (v : Value) × (c ≡ Send p v)
-is_send p (Send q v) e = (v, ap (λ (r : Port). Send r v) (same_port q p (same_true q.0 p.0 e)))
+is_send p (Send q v) e = (v, ap (λ (r : Port). Send r v) (same_port q p (eqb-true q.0 p.0 e)))
 is_send p (Recv q) e = cc
 
 recv_meets_sound : (s : State) (p : Port) (c : Channel) (o : Option Ending) → IsSound s → channel_at s p ≡ Some c → o ≡ first_with (is_send_on p) s.parked → IsSound (recv_meets s p c o).state

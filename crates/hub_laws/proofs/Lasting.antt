@@ -4,9 +4,9 @@ use Rattle.std.specs.Prelude.{slice_get}
 use Rattle.std.specs.List.{list_any, filter_map}
 use Rattle.std.proofs.Math.Bool.{and-false, or-false}
 use Rattle.std.proofs.Math.ListN.{length-set}
-use Rattle.std.proofs.lemmas.Grind.{common_steps}
 use Rattle.std.proofs.lemmas.List.{length-append}
 use Rattle.std.proofs.lemmas.List.Folds.{list_any-append}
+use Rattle.std.proofs.lemmas.Bool.{ltb-false}
 use Rattle.hub_base.specs.declared.value.Port.{Port}
 use Rattle.hub_base.specs.declared.value.Pid.{Pid}
 use Rattle.hub_base.specs.declared.value.Value.{Value}
@@ -82,10 +82,7 @@ room_for_port : (s : State) (cap : ℕ) → fault_of s (Make cap) ≡ None → l
 room_for_port s cap h =
     let a = none_false (nat_lt 1024 cap) fault.BadCap (cond (nat_lt 63 (length s.channels)) (Some fault.TooManyPorts) None) h in
     let b = none_false (nat_lt 63 (length s.channels)) fault.TooManyPorts None a.1 in
-    most (length s.channels) b.0
-  where
-    most : (n : ℕ) → nat_lt 63 n ≡ false → n ≤ 63
-    most n e = grind (arith, common_steps)
+    ltb-false 63 (length s.channels) b.0
 
 effect_lasts : (s : State) (pid : Pid) (step : Step) → fault_of s step ≡ None → Lasts s (effect s pid step).state (leavers (record { pid = pid; step = step }))
 effect_lasts s pid (Make cap) h = record {

@@ -17,7 +17,8 @@ use Rattle.hub_laws.specs.Once.{is_call, was_admitted, counts, endings, endings_
 use Rattle.hub_laws.specs.Answers.{ends_waiting, IsAnswered}
 use Rattle.std.specs.List.{AllByRecursion}
 use Rattle.std.proofs.Math.Bool.{and-false}
-use Rattle.std.proofs.lemmas.Bool.{and_parts}
+use Rattle.std.proofs.lemmas.Bool.{and_parts, eqb-true}
+use Rattle.hub_laws.proofs.Calls.{all_append}
 use Rattle.hub_laws.proofs.Events.{answered_admits, answer_ends, waiting_ends}
 use Rattle.hub_laws.proofs.Telling.{turn-tells}
 use Rattle.hub_base.specs.Reading.{is_exit}
@@ -26,7 +27,6 @@ use Rattle.hub_laws.proofs.Faults.{refusal-refuses, refusal-busy}
 use Rattle.hub_laws.proofs.Balance.{open_calls, ends, open_none, turn-balance}
 use Rattle.hub_laws.proofs.Lasting.{turn-lasts, turn-gone}
 use Rattle.hub_laws.proofs.Calls.{same_number}
-use Rattle.hub_laws.proofs.Fires.{same_true}
 use Rattle.hub_laws.proofs.Ready.{admitted}
 use Rattle.hub_laws.proofs.Kept.{sound-opening}
 use Rattle.hub_laws.proofs.Rules.{moves-sound}
@@ -40,12 +40,8 @@ pub record AtMost (n : ℕ) (events : List Event) : Type 0 where
   pub most : length events ≤ n
   pub each : EachEnds events
 
-each_append : (xs ys : List Event) → EachEnds xs → EachEnds ys → EachEnds (xs ++ ys)
-each_append [] ys a b = b
-each_append (x ∷ xs) ys a b = (a.0, each_append xs ys a.1 b)
-
 joined : (n m : ℕ) (xs ys : List Event) → EachEnds xs → AtMost m ys → length xs + m ≤ n → AtMost n (xs ++ ys)
-joined n m xs ys each rest fits = record { most = omega (arith, length-append xs ys, rest.most, fits); each = each_append xs ys each rest.each }
+joined n m xs ys each rest fits = record { most = omega (arith, length-append xs ys, rest.most, fits); each = all_append (λ x. ends_call x.what ≡ true) xs ys each rest.each }
 
 -- Which events of a process count
 
@@ -92,7 +88,7 @@ until_refused : (q : ℕ) (s : State) (e : Entry) (f : Fault) (rest : List Event
     AtMost (open_calls q s.parked) (cond (not (refuses_entry f) && (e.pid.0 == q)) [] (endings q (tells e.pid (what.Fault f) ∷ []) ++ rest))
 until_refused q s e f rest is below here after =
     let none : endings q (tells e.pid (what.Fault f) ∷ []) ≡ [] = no_end q e.pid f (e.pid.0 == q) refl (λ m.
-    let same : e.pid.0 ≡ q = same_true e.pid.0 q m in
+    let same : e.pid.0 ≡ q = eqb-true e.pid.0 q m in
     refusal-busy s e.pid f (omega (arith, same)) (subst (λ (n : ℕ). has_gone s n ≡ false) (sym same) here) is) in
     rw (refusal-refuses s e.pid f is, none) after
 

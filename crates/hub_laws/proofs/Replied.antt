@@ -4,7 +4,7 @@ use Rattle.std.specs.Prelude.{slice_get}
 use Rattle.std.specs.List.{AllByRecursion}
 use Rattle.std.proofs.Math.Bool.{and-false, and-true}
 use Rattle.std.proofs.lemmas.Grind.{common_steps}
-use Rattle.std.proofs.lemmas.Bool.{or_parts}
+use Rattle.std.proofs.lemmas.Bool.{or_parts, eqb-true}
 use Rattle.hub_base.specs.declared.value.Pid.{Pid}
 use Rattle.hub_base.specs.declared.entry.Entry.{Entry}
 use Rattle.hub_base.specs.declared.event.Event.{Event}
@@ -16,7 +16,6 @@ use Rattle.hub_laws.specs.Once.{endings}
 use Rattle.hub_laws.specs.Answers.{ends_waiting, IsAnswered}
 use Rattle.hub_laws.specs.Replies.{is_parked, last_from, reply, told_to, is_told, IsReply, IsLeft, AreReplied, RepliedLaw}
 use Rattle.hub_laws.proofs.Calls.{same_number}
-use Rattle.hub_laws.proofs.Fires.{same_true}
 use Rattle.hub_laws.proofs.Ready.{admitted}
 use Rattle.hub_laws.proofs.Rules.{state-sound}
 use Rattle.hub_laws.proofs.Events.{Counted, answered_counts, ends_clear}
@@ -43,7 +42,7 @@ one_told q s e sound is = by (e.pid.0 == q) refl
   where
     by : (b : Bool) → b ≡ (e.pid.0 == q) → ends q (moves s e).events + open_calls q (moves s e).state.parked ≤ 1
     by true m =
-        let none : open_calls q s.parked ≡ 0 = open_none q s.parked (subst (λ (n : ℕ). is_among n s.parked ≡ false) (same_true e.pid.0 q (sym m)) (admitted s e.pid is).free) in
+        let none : open_calls q s.parked ≡ 0 = open_none q s.parked (subst (λ (n : ℕ). is_among n s.parked ≡ false) (eqb-true e.pid.0 q (sym m)) (admitted s e.pid is).free) in
         let bal : ends q (moves s e).events + open_calls q (moves s e).state.parked ≡ open_calls q s.parked + 1 = rw (sym m) at (moves-balance q s e sound is) in
         omega (arith, bal, none)
     by false m =

@@ -5,6 +5,7 @@ use Rattle.std.specs.List.{list_any, AllByRecursion, filter_map, cons_option}
 use Rattle.std.specs.Option.{option_map}
 use Rattle.std.proofs.lemmas.List.Elements.{filter-append}
 use Rattle.std.proofs.lemmas.Bool.{or_parts, or_from}
+use Rattle.hub_laws.proofs.Calls.{all_append}
 use Rattle.hub_base.specs.declared.value.Port.{Port}
 use Rattle.hub_base.specs.declared.value.Pid.{Pid}
 use Rattle.hub_base.specs.declared.value.Value.{Value}
@@ -85,14 +86,10 @@ module _ (C : ℕ → Type 0) where
   stalled_told [] all = tt
   stalled_told (call ∷ calls) all = (all.0, stalled_told calls all.1)
 
-  append_told : (xs ys : List Event) → Told xs → Told ys → Told (xs ++ ys)
-  append_told [] ys a b = b
-  append_told (x ∷ xs) ys a b = (a.0, append_told xs ys a.1 b)
-
   stalls_told : (c : Change) → Told c.events → Waiting c.state.parked → Told (stalls c).events
   stalls_told c told all =
       elim (all_wait c.state) as (λ b. Told (cond b (record { state = record c.state { parked = [] }; events = c.events ++ filter_map (λ call. Some (tells call.pid what.Stalled)) c.state.parked }) c).events)
-      [ true ↦ append_told c.events (filter_map (λ call. Some (tells call.pid what.Stalled)) c.state.parked) told (stalled_told c.state.parked all) | false ↦ told ]
+      [ true ↦ all_append (λ e. C e.pid.0) c.events (filter_map (λ call. Some (tells call.pid what.Stalled)) c.state.parked) told (stalled_told c.state.parked all) | false ↦ told ]
 
   record Quietly (c : Change) : Type 0 where
     told : Told c.events
@@ -113,7 +110,7 @@ module _ (C : ℕ → Type 0) where
   events_told s (e ∷ fs) all by =
       let q = admits_told s e (refusal s e.pid) all by.0 in
       let rest = events_told (moves s e).state fs q.waiting by.1 in
-      (append_told (moves s e).events (events_after (moves s e).state fs) q.told rest.0, rest.1)
+      (all_append (λ e. C e.pid.0) (moves s e).events (events_after (moves s e).state fs) q.told rest.0, rest.1)
 
 -- a process apart from these
 

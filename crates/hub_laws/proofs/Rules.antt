@@ -3,9 +3,9 @@ use Rattle.std.proofs.Common.{◌≡◌, ℕ, ◌+◌, ◌-◌, ◌%◌, ◌<◌
 use Rattle.std.specs.Prelude.{slice_get, is_some}
 use Rattle.std.specs.List.{list_any, AllByRecursion}
 use Rattle.std.specs.Option.{option_map_or}
-use Rattle.std.proofs.lemmas.Grind.{common_steps}
 use Rattle.std.proofs.lemmas.List.{length-append}
-use Rattle.std.proofs.lemmas.Bool.{or_left, or_right, or_parts, or_from, or_cases, false_from_ne_true}
+use Rattle.std.proofs.lemmas.Bool.{or_left, or_right, or_parts, or_from, or_cases, false_from_ne_true, eqb-true, ltb-true, ltb-false, lt-ltb}
+use Rattle.hub_laws.proofs.Calls.{all_more}
 use Rattle.hub_base.specs.declared.value.Port.{Port}
 use Rattle.hub_base.specs.declared.value.Pid.{Pid}
 use Rattle.hub_base.specs.declared.case.Case.{Case}
@@ -23,7 +23,7 @@ use Rattle.hub_laws.specs.Sound.{some_call, Alone, CallFits, PortSound, IsSound}
 use Rattle.hub_laws.proofs.Calls.{Fewer, fewer-filter, fewer-none, first-some, any_snoc, all_snoc, apart_snoc, alone_snoc}
 use Rattle.hub_laws.proofs.Ports.{new_port}
 use Rattle.hub_laws.proofs.Kept.{sound-written, sound-fewer, sound-opening}
-use Rattle.hub_laws.proofs.Fires.{send-sound, recv-sound, same_true}
+use Rattle.hub_laws.proofs.Fires.{send-sound, recv-sound}
 use Rattle.hub_laws.proofs.Ready.{ready_none, none_can, chosen, no_recv, no_send, Admitted, admitted, none_false}
 
 -- A call that parks
@@ -32,9 +32,6 @@ or3_none : (x y z : Bool) → (x || y || z) ≡ false → (x ≡ false) × (y �
 or3_none true y z e = cc
 or3_none false true z e = cc
 or3_none false false z e = (refl, refl, e)
-
-ltb_none : (a b : ℕ) → nat_lt a b ≡ false → b ≤ a
-ltb_none a b e = grind (arith, common_steps)
 
 park_port : (s : State) (pid : Pid) (cases : List Case) (p : Port) (c : Channel) → channel_at s p ≡ Some c → list_any (can_proceed s) cases ≡ false → PortSound p c s.parked → PortSound p c (s.parked ++ record { pid = pid; cases = cases } ∷ [])
 park_port s pid cases p c e none f =
@@ -46,8 +43,8 @@ park_port s pid cases p c e none f =
     record {
       taken = f.taken;
       fits = f.fits;
-      receivers = λ h. elim (or_cases (some_call (is_recv_on p) s.parked) (list_any (is_recv_on p) cases) (sym recvs ∙ h)) [ inl l ↦ f.receivers l | inr r ↦ omega (arith, f.taken, ltb_none c.taken (length c.done) (recv r).1) ];
-      senders = λ h. elim (or_cases (some_call (is_send_on p) s.parked) (list_any (is_send_on p) cases) (sym sends ∙ h)) [ inl l ↦ f.senders l | inr r ↦ omega (arith, f.fits, f.taken, ltb_none (length c.done - c.taken) c.cap (send r).2) ];
+      receivers = λ h. elim (or_cases (some_call (is_recv_on p) s.parked) (list_any (is_recv_on p) cases) (sym recvs ∙ h)) [ inl l ↦ f.receivers l | inr r ↦ omega (arith, f.taken, ltb-false c.taken (length c.done) (recv r).1) ];
+      senders = λ h. elim (or_cases (some_call (is_send_on p) s.parked) (list_any (is_send_on p) cases) (sym sends ∙ h)) [ inl l ↦ f.senders l | inr r ↦ omega (arith, f.fits, f.taken, ltb-false (length c.done - c.taken) c.cap (send r).2) ];
       ended = λ h. (
         recvs ∙ or_from (some_call (is_recv_on p) s.parked) (list_any (is_recv_on p) cases) (f.ended h).0 (false_from_ne_true (list_any (is_recv_on p) cases) (λ r. let g = (recv r).2 in cc)),
         sends ∙ or_from (some_call (is_send_on p) s.parked) (list_any (is_send_on p) cases) (f.ended h).1 (false_from_ne_true (list_any (is_send_on p) cases) (λ r. let g = (send r).0 in cc)),
@@ -61,7 +58,7 @@ park-sound s pid cases sound adm fits none = record {
   apart = apart_snoc s.parked (record { pid = pid; cases = cases }) sound.apart adm.free;
   present = λ q h. elim (or_cases (is_waiting s q) (pid.0 == q) (sym (any_snoc (λ call. call.pid.0 == q) s.parked (record { pid = pid; cases = cases })) ∙ h)) [
     | inl l ↦ sound.present q l
-    | inr r ↦ let P : ℕ → Type 0 = λ n. (n < s.procs) × (has_gone s n ≡ false) in subst P (same_true pid.0 q r) (adm.below, adm.here)
+    | inr r ↦ let P : ℕ → Type 0 = λ n. (n < s.procs) × (has_gone s n ≡ false) in subst P (eqb-true pid.0 q r) (adm.below, adm.here)
   ];
   calls = all_snoc (CallFits (length s.channels)) s.parked (record { pid = pid; cases = cases }) sound.calls fits;
   ports = λ p c e. park_port s pid cases p c e none (sound.ports p c e);
@@ -130,20 +127,10 @@ close-sound s pid p (Some c) sound is =
 
 -- A make
 
-all_more : {A : Type 0} (P Q : A → Type 0) (xs : List A) → ((x : A) → P x → Q x) → AllByRecursion P xs → AllByRecursion Q xs
-all_more P Q [] imp a = tt
-all_more P Q (x ∷ xs) imp a = (imp x a.0, all_more P Q xs imp a.1)
-
-ltb_less : (n m x : ℕ) → n ≤ m → nat_lt m x ≡ true → nat_lt n x ≡ true
-ltb_less n m x h e = grind (arith, common_steps)
-
-ltb_true : (n x : ℕ) → n < x → nat_lt n x ≡ true
-ltb_true n x h = grind (arith, common_steps)
-
 fits_more : (n m : ℕ) (call : OpenCall) → n ≤ m → CallFits n call → CallFits m call
 fits_more n m call h f = record {
   few = f.few;
-  made = false_from_ne_true (list_any (λ c. nat_lt m (port_of c).0) call.cases) (λ e. let g = any_more (λ c. nat_lt m (port_of c).0) (λ c. nat_lt n (port_of c).0) call.cases (λ c. ltb_less n m (port_of c).0 h) e in let k = f.made in cc);
+  made = false_from_ne_true (list_any (λ c. nat_lt m (port_of c).0) call.cases) (λ e. let g = any_more (λ c. nat_lt m (port_of c).0) (λ c. nat_lt n (port_of c).0) call.cases (λ c e. lt-ltb n (port_of c).0 (omega (arith, h, ltb-true m (port_of c).0 e))) e in let k = f.made in cc);
 }
 
 -- nobody waits on a port that was not made
@@ -160,11 +147,11 @@ alone-none p (call ∷ calls) r w =
 
 recv_unmade : (n : ℕ) (p : Port) (c : Case) → n < p.0 → is_recv_on p c ≡ true → nat_lt n (port_of c).0 ≡ true
 recv_unmade n p (Send q v) h e = cc
-recv_unmade n p (Recv q) h e = ltb_true n q.0 (let g = same_true q.0 p.0 e in omega arith)
+recv_unmade n p (Recv q) h e = lt-ltb n q.0 (let g = eqb-true q.0 p.0 e in omega arith)
 
 send_unmade : (n : ℕ) (p : Port) (c : Case) → n < p.0 → is_send_on p c ≡ true → nat_lt n (port_of c).0 ≡ true
 send_unmade n p (Recv q) h e = cc
-send_unmade n p (Send q v) h e = ltb_true n q.0 (let g = same_true q.0 p.0 e in omega arith)
+send_unmade n p (Send q v) h e = lt-ltb n q.0 (let g = eqb-true q.0 p.0 e in omega arith)
 
 make-sound : (s : State) (pid : Pid) (cap : ℕ) → IsSound s → IsSound (makes s pid cap).state
 make-sound s pid cap sound =
@@ -200,7 +187,7 @@ exit-sound s pid sound adm = record {
     (sound.present q h).0,
     any_snoc (λ g. g.0 == q) s.gone pid ∙ or_from (has_gone s q) (pid.0 == q) (sound.present q h).1 (false_from_ne_true (pid.0 == q) (λ e.
         let P : ℕ → Type 0 = λ n. is_waiting s n ≡ false in
-        let free : is_waiting s q ≡ false = subst P (same_true pid.0 q e) adm.free in cc)),
+        let free : is_waiting s q ≡ false = subst P (eqb-true pid.0 q e) adm.free in cc)),
   );
   calls = sound.calls;
   ports = sound.ports;
@@ -221,7 +208,7 @@ fitting : (s : State) (pid : Pid) (cases : _) (default : Bool) (word : ℕ) → 
 fitting s pid cases default word h =
     let a = none_false (nat_lt 8 (length cases.items)) fault.TooManyCases (cond (list_any (λ c. is_unmade s (port_of c)) cases.items) (Some fault.NoPort) None) h in
     let b = none_false (list_any (λ c. is_unmade s (port_of c)) cases.items) fault.NoPort None a.1 in
-    record { few = ltb_none 8 (length cases.items) a.0; made = b.0 }
+    record { few = ltb-false 8 (length cases.items) a.0; made = b.0 }
 
 effect-sound : (s : State) (pid : Pid) (step : Step) → IsSound s → Admitted s pid → fault_of s step ≡ None → IsSound (effect s pid step).state
 effect-sound s pid (Make cap) sound adm h = make-sound s pid cap sound

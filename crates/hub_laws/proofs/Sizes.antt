@@ -4,7 +4,7 @@ use Rattle.std.specs.Prelude.{slice_get, is_some}
 use Rattle.std.specs.List.{list_any, filter_map, cons_option}
 use Rattle.std.specs.Option.{option_map}
 use Rattle.std.proofs.lemmas.List.{length-append}
-use Rattle.std.proofs.lemmas.Bool.{or_cases}
+use Rattle.std.proofs.lemmas.Bool.{or_cases, eqb-true}
 use Rattle.hub_base.specs.declared.value.Port.{Port}
 use Rattle.hub_base.specs.declared.value.Pid.{Pid}
 use Rattle.hub_base.specs.declared.value.Value.{Value}
@@ -27,7 +27,6 @@ use Rattle.hub_laws.proofs.Calls.{first-found, lowest-some}
 use Rattle.hub_laws.proofs.Ready.{Admitted, admitted}
 use Rattle.hub_laws.proofs.Rules.{state-sound}
 use Rattle.hub_laws.proofs.Distinct.{count-below}
-use Rattle.hub_laws.proofs.Fires.{same_true}
 
 -- how many calls a step leaves and how many events it tells
 abbrev Size : State → Change → Type 0
@@ -113,7 +112,7 @@ stalls_size s c h =
 pub room-law : (s : State) (pid : Pid) → IsSound s → Admitted s pid → length s.parked < s.procs
 room-law s pid sound adm =
     let most : length (record { pid = pid; cases = [] } ∷ s.parked) ≤ s.procs = count-below s.procs (record { pid = pid; cases = [] } ∷ s.parked) (adm.free, sound.apart) (λ q e.
-    elim (or_cases (pid.0 == q) (is_among q s.parked) e) [ inl l ↦ subst (λ (n : ℕ). n < s.procs) (same_true pid.0 q l) adm.below | inr r ↦ (sound.present q r).0 ]) in
+    elim (or_cases (pid.0 == q) (is_among q s.parked) e) [ inl l ↦ subst (λ (n : ℕ). n < s.procs) (eqb-true pid.0 q l) adm.below | inr r ↦ (sound.present q r).0 ]) in
     omega arith
 
 answers_size : (s : State) (e : Entry) (o : Option Fault) → IsSound s → Admitted s e.pid → length (answers s e o).events ≤ s.procs + 1

@@ -7,7 +7,9 @@ use Rattle.std.proofs.lemmas.Option.{slice_get_within}
 use Rattle.hub_laws.proofs.Ports.{made}
 use Rattle.std.specs.List.{AllByRecursion, filter_map, cons_option}
 use Rattle.std.specs.Option.{option_map, option_map_or}
-use Rattle.std.proofs.lemmas.Grind.{common_steps}
+use Rattle.std.proofs.lemmas.Bool.{eqb-false}
+use Rattle.hub_laws.proofs.Ports.{above_zero}
+use Rattle.hub_laws.proofs.Calls.{all_append}
 use Rattle.hub_base.specs.declared.value.Port.{Port}
 use Rattle.hub_base.specs.declared.value.Pid.{Pid}
 use Rattle.hub_base.specs.declared.value.Value.{Value}
@@ -135,13 +137,7 @@ new_other (x ∷ xs) (suc i) d h = new_other xs i d (λ e. h (ap suc e))
 
 made_other : (b : Bool) (xs : List Channel) (q : Port) (d : Channel) → b ≡ (q.0 == 0) → (length xs + 1 == q.0) ≡ false → cond b None (slice_get (xs ++ d ∷ []) (q.0 - 1)) ≡ cond b None (slice_get xs (q.0 - 1))
 made_other true xs q d is h = refl
-made_other false xs q d is h = new_other xs (q.0 - 1) d (λ e. let n : 0 < q.0 = number q.0 (sym is) in absurd (differ (length xs + 1) q.0 h (omega arith)))
-  where
-    number : (a : ℕ) → (a == 0) ≡ false → 0 < a
-    number a e = grind (arith, common_steps)
-
-    differ : (a b : ℕ) → (a == b) ≡ false → a ≡ b → ⊥
-    differ a b e h = grind (arith, common_steps)
+made_other false xs q d is h = new_other xs (q.0 - 1) d (λ e. let n : 0 < q.0 = above_zero q.0 (sym is) in absurd (eqb-false (length xs + 1) q.0 h (omega arith)))
 
 makes_tells : (s : State) (pid : Pid) (cap : ℕ) → Telling s pid (Make cap) (makes s pid cap)
 makes_tells s pid cap = record {
@@ -168,14 +164,10 @@ stalled_ends : (calls : List OpenCall) → Ends (filter_map (λ call. Some (tell
 stalled_ends [] = tt
 stalled_ends (call ∷ calls) = (refl, stalled_ends calls)
 
-ends_append : (xs ys : List Event) → Ends xs → Ends ys → Ends (xs ++ ys)
-ends_append [] ys a b = b
-ends_append (x ∷ xs) ys a b = (a.0, ends_append xs ys a.1 b)
-
 -- what follows the answer changes neither
 more_tells : (s t : State) (pid : Pid) (step : Step) (xs ys : List Event) → Telling s pid step (record { state = t; events = xs }) → Ends ys → Telling s pid step (record { state = record t { parked = [] }; events = xs ++ ys })
 more_tells s t pid step [] ys h ends = absurd h.told
-more_tells s t pid step (x ∷ xs) ys h ends = record { told = record { own = h.told.own; fits = h.told.fits; ends = ends_append xs ys h.told.ends ends }; made = h.made; others = h.others }
+more_tells s t pid step (x ∷ xs) ys h ends = record { told = record { own = h.told.own; fits = h.told.fits; ends = all_append (λ x. ends_waiting x.what ≡ true) xs ys h.told.ends ends }; made = h.made; others = h.others }
 
 stalls_tells : (s : State) (pid : Pid) (step : Step) (c : Change) → Telling s pid step c → Telling s pid step (stalls c)
 stalls_tells s pid step c h =

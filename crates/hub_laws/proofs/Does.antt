@@ -5,6 +5,7 @@ use Rattle.std.specs.List.{AllByRecursion, filter_map, cons_option}
 use Rattle.std.specs.Option.{option_map}
 use Rattle.std.proofs.lemmas.List.Elements.{filter_map-append}
 use Rattle.std.proofs.lemmas.Bool.{or_cases, false_from_ne_true, eqb-true, eqb-false}
+use Rattle.hub_laws.proofs.Branches.{by-closed, by-stall, stall_events}
 use Rattle.hub_laws.proofs.Ports.{above_zero}
 use Rattle.hub_base.specs.declared.value.Port.{Port}
 use Rattle.hub_base.specs.declared.value.Pid.{Pid}
@@ -17,10 +18,9 @@ use Rattle.hub_base.specs.declared.event.Event.{Event}
 use Rattle.hub_base.specs.declared.fault.Fault.TheVariants as fault
 use Rattle.hub_base.specs.declared.event.Outcome.{Outcome}
 use Rattle.hub_base.specs.declared.event.Outcome.TheVariants.{Sent, Got, Drained, Closed}
-use Rattle.hub_base.specs.declared.event.What.TheVariants as what
 use Rattle.hub_base.specs.State.{State, Channel, OpenCall, channel_at, with_channel}
 use Rattle.hub_base.specs.Ready.{is_send_on, is_recv_on, is_on, can_proceed, ready, port_of, first_with, Ending, Placed, lowest}
-use Rattle.hub_base.specs.Steps.{is_unmade, fires, proceeds, chooses, calls, waits, closes, makes, effect, stalls, all_wait, Change, shut, fault_of, close_fault, fired, tells, sent, received, next_value, outcome_of, send_meets, send_fires, recv_takes, recv_meets, closing_event, closing_outcome}
+use Rattle.hub_base.specs.Steps.{is_unmade, fires, proceeds, chooses, calls, waits, closes, makes, effect, stalls, Change, shut, fault_of, close_fault, fired, sent, received, next_value, outcome_of, send_meets, send_fires, recv_takes, recv_meets, closing_event, closing_outcome}
 use Rattle.hub_base.specs.Values.{cases_or}
 use Rattle.hub_laws.specs.Sound.{some_call, IsSound}
 use Rattle.hub_laws.proofs.Deeds.{deed_of, told, IsClosing, Quiet, Wrote, Does, buffers, hands, fetches, gives, drains, refuses, shuts, quiet, wrote}
@@ -86,13 +86,10 @@ meets_does s L pid i p v c (Some x) sound knows mine e live is =
 
 send_does : (s : State) (L : Pid → List Case) (pid : Pid) (i : ℕ) (p : Port) (v : Value) (c : Channel) → IsSound s → Knows L s.parked → slice_get (L pid) i ≡ Some (Send p v) → channel_at s p ≡ Some c →
     Does s.channels (proceeds s pid i (Some (send_fires s p v c))).state.channels (told deed_of L (proceeds s pid i (Some (send_fires s p v c))).events)
-send_does s L pid i p v c sound knows mine e = by_closed c.closed refl
-  where
-    by_closed : (b : Bool) → b ≡ c.closed →
-        Does s.channels (proceeds s pid i (Some (cond b (record { outcome = Closed; state = s; ended = [] }) (send_meets s p (sent v c) (first_with (is_recv_on p) s.parked))))).state.channels
-        (told deed_of L (proceeds s pid i (Some (cond b (record { outcome = Closed; state = s; ended = [] }) (send_meets s p (sent v c) (first_with (is_recv_on p) s.parked))))).events)
-    by_closed true is = wrote p c c (wrote-same s p c e) (refuses v (sym is) refl (told_fired L pid i (Send p v) Closed [] mine))
-    by_closed false is = meets_does s L pid i p v c (first_with (is_recv_on p) s.parked) sound knows mine e (sym is) refl
+send_does s L pid i p v c sound knows mine e =
+    by-closed (λ f. Does s.channels (proceeds s pid i (Some f)).state.channels (told deed_of L (proceeds s pid i (Some f)).events)) s p v c
+    (λ over. wrote p c c (wrote-same s p c e) (refuses v over refl (told_fired L pid i (Send p v) Closed [] mine)))
+    (λ live. meets_does s L pid i p v c (first_with (is_recv_on p) s.parked) sound knows mine e live refl)
 
 takes_does : (s : State) (L : Pid → List Case) (pid : Pid) (i : ℕ) (p : Port) (c : Channel) (o : Option Value) → slice_get (L pid) i ≡ Some (Recv p) → channel_at s p ≡ Some c → o ≡ next_value c →
     Does s.channels (proceeds s pid i (Some (recv_takes s p c [] o))).state.channels (told deed_of L (proceeds s pid i (Some (recv_takes s p c [] o))).events)
@@ -180,17 +177,14 @@ make_does s L pid cap =
 
 -- A stall
 
-told_stalled : (L : Pid → List Case) (calls : List OpenCall) → told deed_of L (filter_map (λ call. Some (tells call.pid what.Stalled)) calls) ≡ []
+told_stalled : (L : Pid → List Case) (calls : List OpenCall) → told deed_of L (stall_events calls) ≡ []
 told_stalled L [] = refl
 told_stalled L (call ∷ calls) = told_stalled L calls
 
-stalls_by : (b : Bool) (cs : List Channel) (L : Pid → List Case) (c : Change) → Does cs c.state.channels (told deed_of L c.events) →
-    Does cs (cond b (record { state = record c.state { parked = [] }; events = c.events ++ filter_map (λ call. Some (tells call.pid what.Stalled)) c.state.parked }) c).state.channels
-    (told deed_of L (cond b (record { state = record c.state { parked = [] }; events = c.events ++ filter_map (λ call. Some (tells call.pid what.Stalled)) c.state.parked }) c).events)
-stalls_by true cs L c does =
+stalls_does : (cs : List Channel) (L : Pid → List Case) (c : Change) → Does cs c.state.channels (told deed_of L c.events) → Does cs (stalls c).state.channels (told deed_of L (stalls c).events)
+stalls_does cs L c does =
     let same : told deed_of L c.events ++ [] ≡ told deed_of L c.events = append-nil (told deed_of L c.events) in
-    rw (filter_map-append, told_stalled L c.state.parked, same) does
-stalls_by false cs L c does = does
+    by-stall (λ (d : Change). Does cs d.state.channels (told deed_of L d.events)) c (rw (filter_map-append, told_stalled L c.state.parked, same) does) does
 
 -- A step
 
@@ -210,4 +204,4 @@ effect_does s L pid Exit before sound knows mine h = quiet (quiet-same s.channel
 
 pub stalls-does : (s : State) (L : Pid → List Case) (pid : Pid) (step : Step) (before : List Case) → IsSound s → Knows L s.parked → L pid ≡ cases_or step before → fault_of s step ≡ None →
     Does s.channels (stalls (effect s pid step)).state.channels (told deed_of L (stalls (effect s pid step)).events)
-stalls-does s L pid step before sound knows mine h = stalls_by (all_wait (effect s pid step).state) s.channels L (effect s pid step) (effect_does s L pid step before sound knows mine h)
+stalls-does s L pid step before sound knows mine h = stalls_does s.channels L (effect s pid step) (effect_does s L pid step before sound knows mine h)

@@ -1,5 +1,5 @@
 -- A case that fires keeps soundness.
-use Rattle.std.proofs.Common.{◌≡◌, ℕ, ◌+◌, ◌-◌, ◌<◌, ◌==◌, nat_lt, Bool, true, false, cond, not, zero, suc, List, [], ◌∷◌, ◌++◌, length, refl, ap, ◌∙◌, sym, Option, Some, None, arith, ◌||◌}
+use Rattle.std.proofs.Common.{◌≡◌, ℕ, ◌+◌, ◌-◌, ◌<◌, ◌==◌, nat_lt, Bool, true, false, not, zero, suc, List, [], ◌∷◌, ◌++◌, length, refl, ap, ◌∙◌, sym, Option, Some, None, arith, ◌||◌}
 use Rattle.std.specs.Prelude.{slice_get, is_some}
 use Rattle.std.proofs.lemmas.Grind.{common_steps}
 use Rattle.std.proofs.lemmas.Option.{slice_get_within}
@@ -10,11 +10,12 @@ use Rattle.hub_base.specs.declared.value.Value.{Value}
 use Rattle.hub_base.specs.declared.case.Case.{Case}
 use Rattle.hub_base.specs.declared.case.Case.TheVariants.{Send, Recv}
 use Rattle.hub_base.specs.declared.event.Event.{Event}
-use Rattle.hub_base.specs.declared.event.Outcome.TheVariants.{Sent, Closed}
+use Rattle.hub_base.specs.declared.event.Outcome.TheVariants.{Sent}
 use Rattle.hub_base.specs.State.{State, Channel, OpenCall, channel_at}
 use Rattle.hub_base.specs.Ready.{is_send_on, is_recv_on, first_with, Ending, without, send_can}
 use Rattle.hub_base.specs.Steps.{sent, received, next_value, send_meets, send_fires, recv_takes, recv_meets, recv_fires, fired}
 use Rattle.hub_laws.specs.Sound.{some_call, CallFits, PortSound, IsSound}
+use Rattle.hub_laws.proofs.Branches.{by-closed}
 use Rattle.hub_laws.proofs.Calls.{Fewer, fewer-same, fewer-filter, first-some, first-found}
 use Rattle.hub_laws.proofs.Ports.{same_port}
 use Rattle.hub_laws.proofs.Kept.{port-fewer, sound-written}
@@ -76,11 +77,7 @@ meets_sound s p v c (Some x) sound e can live is =
     sound-written s (without x.pid s.parked) p c (received (sent v c)) sound fewer e (port-through p v c (without x.pid s.parked) (port-fewer p c (without x.pid s.parked) s.parked fewer (sound.ports p c e)) live)
 
 pub send-sound : (s : State) (p : Port) (v : Value) (c : Channel) → IsSound s → channel_at s p ≡ Some c → send_can s p c ≡ true → IsSound (send_fires s p v c).state
-send-sound s p v c sound e can = by_closed c.closed refl
-  where
-    by_closed : (b : Bool) → b ≡ c.closed → IsSound (cond b (record { outcome = Closed; state = s; ended = [] }) (send_meets s p (sent v c) (first_with (is_recv_on p) s.parked))).state
-    by_closed true is = sound
-    by_closed false is = meets_sound s p v c (first_with (is_recv_on p) s.parked) sound e can (sym is) refl
+send-sound s p v c sound e can = by-closed (λ f. IsSound f.state) s p v c (λ over. sound) (λ live. meets_sound s p v c (first_with (is_recv_on p) s.parked) sound e can live refl)
 
 -- a receive
 takes_sound : (s : State) (p : Port) (c : Channel) (ended : List Event) (kept : List OpenCall) (d : Channel) (o : Option Value) → IsSound s → channel_at s p ≡ Some c → Fewer kept s.parked →

@@ -1,7 +1,7 @@
 -- A step leaves the number of processes, only an exit adds to those that have exited, and only a make to the ports.
 use Rattle.std.proofs.Common.{append-nil, if◌then◌else◌, ◌≡◌, ◌≤◌, ℕ, ◌-◌, ◌%◌, ◌==◌, nat_lt, not, Bool, true, false, cond, List, [], ◌∷◌, ◌++◌, length, filter, refl, ap, ◌∙◌, sym, Option, Some, None, arith, inl, inr, ◌⊎◌, ◌||◌, ◌&&◌}
 use Rattle.std.specs.Prelude.{slice_get}
-use Rattle.std.specs.List.{list_any, filter_map}
+use Rattle.std.specs.List.{list_any}
 use Rattle.std.proofs.Math.Bool.{and-false, or-false}
 use Rattle.std.proofs.Math.ListN.{length-set}
 use Rattle.std.proofs.lemmas.List.{length-append}
@@ -18,13 +18,13 @@ use Rattle.hub_base.specs.declared.entry.Entry.{Entry}
 use Rattle.hub_base.specs.declared.event.Event.{Event}
 use Rattle.hub_base.specs.declared.fault.Fault.{Fault}
 use Rattle.hub_base.specs.declared.fault.Fault.TheVariants as fault
-use Rattle.hub_base.specs.declared.event.Outcome.TheVariants.{Sent, Closed}
-use Rattle.hub_base.specs.declared.event.What.TheVariants as what
+use Rattle.hub_base.specs.declared.event.Outcome.TheVariants.{Sent}
 use Rattle.hub_base.specs.State.{State, Channel, OpenCall, channel_at, with_channel, opening}
 use Rattle.hub_base.specs.Ready.{is_send_on, is_recv_on, is_on, ready, port_of, first_with, Ending, without}
-use Rattle.hub_base.specs.Steps.{fires, proceeds, chooses, closes, shut, effect, stalls, all_wait, Change, sent, received, next_value, with_sent, send_meets, recv_takes, recv_meets, fired, tells, fault_of, answers, turn, refusal, has_gone}
+use Rattle.hub_base.specs.Steps.{fires, proceeds, chooses, closes, shut, effect, stalls, Change, sent, received, next_value, with_sent, send_meets, recv_takes, recv_meets, fired, fault_of, answers, turn, refusal, has_gone}
 use Rattle.hub_base.specs.Runs.{admits, moves, state_after, state}
 use Rattle.hub_base.specs.Reading.{is_exit}
+use Rattle.hub_laws.proofs.Branches.{by-closed, by-stall}
 use Rattle.hub_laws.proofs.Ready.{none_false}
 
 -- nobody has exited in between
@@ -53,8 +53,7 @@ fires_stays : (s : State) (pid : Pid) (i : ℕ) (k : Case) (o : Option Channel) 
 fires_stays s pid i (Send p v) None = record { procs = refl; gone = refl; ports = refl }
 fires_stays s pid i (Recv p) None = record { procs = refl; gone = refl; ports = refl }
 fires_stays s pid i (Send p v) (Some c) =
-    elim c.closed as (λ b. Stays s (proceeds s pid i (Some (cond b (record { outcome = Closed; state = s; ended = [] }) (send_meets s p (sent v c) (first_with (is_recv_on p) s.parked))))).state)
-    [ true ↦ record { procs = refl; gone = refl; ports = refl } | false ↦ send_stays s p (sent v c) (first_with (is_recv_on p) s.parked) ]
+    by-closed (λ f. Stays s (proceeds s pid i (Some f)).state) s p v c (λ over. record { procs = refl; gone = refl; ports = refl }) (λ live. send_stays s p (sent v c) (first_with (is_recv_on p) s.parked))
 fires_stays s pid i (Recv p) (Some c) = recv_stays s p c (first_with (is_send_on p) s.parked)
 
 chooses_stays : (s : State) (pid : Pid) (cases : List Case) (default : Bool) (o : Option (ℕ × Case)) → Stays s (chooses s pid cases default o).state
@@ -96,8 +95,7 @@ effect_lasts s pid Exit h = record { procs = refl; gone = refl; few = λ few. fe
 
 stalls_lasts : (s : State) (c : Change) (left : List Pid) → Lasts s c.state left → Lasts s (stalls c).state left
 stalls_lasts s c left l =
-    elim (all_wait c.state) as (λ b. Lasts s (cond b (record { state = record c.state { parked = [] }; events = c.events ++ filter_map (λ call. Some (tells call.pid what.Stalled)) c.state.parked }) c).state left)
-    [ true ↦ record { procs = l.procs; gone = l.gone; few = l.few } | false ↦ l ]
+    by-stall (λ (d : Change). Lasts s d.state left) c (record { procs = l.procs; gone = l.gone; few = l.few }) l
 
 exits_clear : (s : State) (step : Step) (f : Fault) → fault_of s step ≡ Some f → is_exit step ≡ false
 exits_clear s (Make cap) f e = refl

@@ -1,10 +1,11 @@
 -- Entries of others leave a process alone that has no open call.
-use Rattle.std.proofs.Common.{◌≡◌, ℕ, ◌%◌, ◌==◌, Bool, true, false, cond, not, List, [], ◌∷◌, ◌++◌, length, refl, ap, ◌∙◌, sym, subst, Option, Some, None, ◌&&◌, append-nil, append_assoc}
+use Rattle.std.proofs.Common.{◌≡◌, ℕ, ◌%◌, ◌==◌, Bool, true, false, not, List, [], ◌∷◌, ◌++◌, length, refl, ap, ◌∙◌, sym, subst, Option, Some, None, ◌&&◌, append-nil, append_assoc}
 use Rattle.std.specs.Prelude.{slice_get}
 use Rattle.std.specs.List.{list_any, AllByRecursion, filter_map, cons_option}
 use Rattle.std.specs.Option.{option_map}
 use Rattle.std.proofs.lemmas.List.Elements.{filter-append}
 use Rattle.std.proofs.lemmas.Bool.{or_parts, or_from}
+use Rattle.hub_laws.proofs.Branches.{by-closed, by-stall, stall_events}
 use Rattle.hub_laws.proofs.Calls.{all_append}
 use Rattle.hub_base.specs.declared.value.Port.{Port}
 use Rattle.hub_base.specs.declared.value.Pid.{Pid}
@@ -16,11 +17,10 @@ use Rattle.hub_base.specs.declared.entry.Step.TheVariants.{Make, Call, Close, Ex
 use Rattle.hub_base.specs.declared.entry.Entry.{Entry}
 use Rattle.hub_base.specs.declared.event.Event.{Event}
 use Rattle.hub_base.specs.declared.fault.Fault.{Fault}
-use Rattle.hub_base.specs.declared.event.Outcome.TheVariants.{Sent, Closed}
-use Rattle.hub_base.specs.declared.event.What.TheVariants as what
+use Rattle.hub_base.specs.declared.event.Outcome.TheVariants.{Sent}
 use Rattle.hub_base.specs.State.{State, Channel, OpenCall, channel_at, opening}
 use Rattle.hub_base.specs.Ready.{is_send_on, is_recv_on, is_on, ready, port_of, first_with, Ending, Placed, without, lowest}
-use Rattle.hub_base.specs.Steps.{fires, proceeds, chooses, calls, closes, effect, stalls, all_wait, Change, sent, next_value, with_sent, send_meets, recv_takes, recv_meets, fired, tells, closing_event, closing_outcome, fault_of, answers, refusal, is_waiting}
+use Rattle.hub_base.specs.Steps.{fires, proceeds, chooses, calls, closes, effect, stalls, Change, sent, next_value, with_sent, send_meets, recv_takes, recv_meets, fired, closing_event, closing_outcome, fault_of, answers, refusal, is_waiting}
 use Rattle.hub_base.specs.Runs.{admits, moves, state_after, events_after, state, events}
 use Rattle.hub_laws.specs.Sound.{is_among}
 use Rattle.hub_laws.specs.Replies.{own, reply, last_from, is_parked, told_to, is_told, RepliesLaw}
@@ -55,8 +55,7 @@ module _ (C : ℕ → Type 0) where
   fires_told s pid i (Send p v) None all me = tt
   fires_told s pid i (Recv p) None all me = tt
   fires_told s pid i (Send p v) (Some c) all me =
-      elim c.closed as (λ b. Told (proceeds s pid i (Some (cond b (record { outcome = Closed; state = s; ended = [] }) (send_meets s p (sent v c) (first_with (is_recv_on p) s.parked))))).events)
-      [ true ↦ (me, tt) | false ↦ send_told s pid i p (sent v c) (first_with (is_recv_on p) s.parked) all me refl ]
+      by-closed (λ f. Told (proceeds s pid i (Some f)).events) s p v c (λ over. (me, tt)) (λ live. send_told s pid i p (sent v c) (first_with (is_recv_on p) s.parked) all me refl)
   fires_told s pid i (Recv p) (Some c) all me = recv_told s pid i p c (first_with (is_send_on p) s.parked) all me refl
 
   chooses_told : (s : State) (pid : Pid) (cases : List Case) (default : Bool) (o : Option (ℕ × Case)) → Waiting s.parked → C pid.0 → Told (chooses s pid cases default o).events
@@ -82,14 +81,13 @@ module _ (C : ℕ → Type 0) where
   effect_told s pid (Close p) all me = closes_told s pid p (channel_at s p) all me
   effect_told s pid Exit all me = (me, tt)
 
-  stalled_told : (calls : List OpenCall) → Waiting calls → Told (filter_map (λ call. Some (tells call.pid what.Stalled)) calls)
+  stalled_told : (calls : List OpenCall) → Waiting calls → Told (stall_events calls)
   stalled_told [] all = tt
   stalled_told (call ∷ calls) all = (all.0, stalled_told calls all.1)
 
   stalls_told : (c : Change) → Told c.events → Waiting c.state.parked → Told (stalls c).events
   stalls_told c told all =
-      elim (all_wait c.state) as (λ b. Told (cond b (record { state = record c.state { parked = [] }; events = c.events ++ filter_map (λ call. Some (tells call.pid what.Stalled)) c.state.parked }) c).events)
-      [ true ↦ all_append (λ e. C e.pid.0) c.events (filter_map (λ call. Some (tells call.pid what.Stalled)) c.state.parked) told (stalled_told c.state.parked all) | false ↦ told ]
+      by-stall (λ (d : Change). Told d.events) c (all_append (λ e. C e.pid.0) c.events (stall_events c.state.parked) told (stalled_told c.state.parked all)) told
 
   record Quietly (c : Change) : Type 0 where
     told : Told c.events

@@ -5,6 +5,7 @@ use Rattle.std.specs.List.{list_any, AllByRecursion}
 use Rattle.std.specs.Option.{option_map_or}
 use Rattle.std.proofs.lemmas.List.{length-append}
 use Rattle.std.proofs.lemmas.Bool.{or_left, or_right, or_parts, or_from, or_cases, false_from_ne_true, eqb-true, ltb-true, ltb-false, lt-ltb}
+use Rattle.hub_laws.proofs.Branches.{by-stall}
 use Rattle.hub_laws.proofs.Calls.{all_more}
 use Rattle.hub_base.specs.declared.value.Port.{Port}
 use Rattle.hub_base.specs.declared.value.Pid.{Pid}
@@ -17,7 +18,7 @@ use Rattle.hub_base.specs.declared.fault.Fault.{Fault}
 use Rattle.hub_base.specs.declared.fault.Fault.TheVariants as fault
 use Rattle.hub_base.specs.State.{State, Channel, OpenCall, channel_at, opening}
 use Rattle.hub_base.specs.Ready.{is_send_on, is_recv_on, is_on, can_proceed, send_can, ready, port_of, first_with}
-use Rattle.hub_base.specs.Steps.{refusal, has_gone, is_waiting, is_unmade, fires, proceeds, chooses, calls, waits, closes, makes, exits, effect, stalls, all_wait, Change, shut, fault_of, answers}
+use Rattle.hub_base.specs.Steps.{refusal, has_gone, is_waiting, is_unmade, fires, proceeds, chooses, calls, waits, closes, makes, exits, effect, stalls, Change, shut, fault_of, answers}
 use Rattle.hub_base.specs.Runs.{admits, moves, state_after, state}
 use Rattle.hub_laws.specs.Sound.{some_call, Alone, CallFits, PortSound, IsSound}
 use Rattle.hub_laws.proofs.Calls.{Fewer, fewer-filter, fewer-none, first-some, any_snoc, all_snoc, apart_snoc, alone_snoc}
@@ -195,12 +196,8 @@ exit-sound s pid sound adm = record {
 
 -- A stall
 
-stalls_by : (b : Bool) (c : Change) (told : _) → IsSound c.state → IsSound (cond b (record { state = record c.state { parked = [] }; events = told }) c).state
-stalls_by true c told sound = sound-fewer c.state [] sound (fewer-none c.state.parked)
-stalls_by false c told sound = sound
-
 pub stalls-sound : (c : Change) → IsSound c.state → IsSound (stalls c).state
-stalls-sound c sound = stalls_by (all_wait c.state) c _ sound
+stalls-sound c sound = by-stall (λ (d : Change). IsSound d.state) c (sound-fewer c.state [] sound (fewer-none c.state.parked)) sound
 
 -- A step
 

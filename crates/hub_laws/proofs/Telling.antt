@@ -4,6 +4,7 @@ use Rattle.std.specs.Prelude.{slice_get, slice_set}
 use Rattle.std.proofs.Math.ListN.{length-set}
 use Rattle.std.proofs.lemmas.List.{length-append}
 use Rattle.std.proofs.lemmas.Option.{slice_get_within}
+use Rattle.hub_laws.proofs.Branches.{by-closed, by-stall, stall_events}
 use Rattle.hub_laws.proofs.Ports.{made}
 use Rattle.std.specs.List.{AllByRecursion, filter_map, cons_option}
 use Rattle.std.specs.Option.{option_map, option_map_or}
@@ -27,7 +28,7 @@ use Rattle.hub_base.specs.declared.event.What.{What}
 use Rattle.hub_base.specs.declared.event.What.TheVariants as what
 use Rattle.hub_base.specs.State.{State, Channel, OpenCall, channel_at, with_channel}
 use Rattle.hub_base.specs.Ready.{is_send_on, is_recv_on, is_on, can_proceed, ready, port_of, first_with, Ending, Placed, without, lowest, send_can, recv_can}
-use Rattle.hub_base.specs.Steps.{fires, proceeds, chooses, calls, closes, makes, exits, waits, effect, stalls, all_wait, Change, sent, received, next_value, with_sent, send_meets, recv_takes, recv_meets, fired, tells, closing_event, closing_outcome, fault_of, close_fault, is_unmade, answers, turn, shut}
+use Rattle.hub_base.specs.Steps.{fires, proceeds, chooses, calls, closes, makes, exits, waits, effect, stalls, Change, sent, received, next_value, with_sent, send_meets, recv_takes, recv_meets, fired, tells, closing_event, closing_outcome, fault_of, close_fault, is_unmade, answers, turn, shut}
 use Rattle.hub_laws.proofs.Deeds.{at}
 use Rattle.hub_laws.specs.OnePort.{port_touched_by, port_touched, is_port, IsMade}
 use Rattle.hub_laws.specs.Answers.{is_answer_to, ends_waiting, IsAnswered}
@@ -88,8 +89,7 @@ fires_tells : (s : State) (pid : Pid) (step : Step) (i : ℕ) (k : Case) (o : Op
 fires_tells s pid step i (Send p v) None fits names is can = let h : option_map_or (send_can s p) (channel_at s p) false ≡ true = can in let g : false ≡ true = rw (sym is) at h in cc
 fires_tells s pid step i (Recv p) None fits names is can = let h : option_map_or (recv_can s p) (channel_at s p) false ≡ true = can in let g : false ≡ true = rw (sym is) at h in cc
 fires_tells s pid step i (Send p v) (Some c) fits names is can =
-    elim c.closed as (λ b. Telling s pid step (proceeds s pid i (Some (cond b (record { outcome = Closed; state = s; ended = [] }) (send_meets s p (sent v c) (first_with (is_recv_on p) s.parked))))))
-    [ true ↦ fired_tells s pid step i p fits names s Closed [] tt (is_made s p c (sym is)) (λ q h. refl) | false ↦ send_tells s pid step i p fits names c (sent v c) (first_with (is_recv_on p) s.parked) (sym is) ]
+    by-closed (λ f. Telling s pid step (proceeds s pid i (Some f))) s p v c (λ over. fired_tells s pid step i p fits names s Closed [] tt (is_made s p c (sym is)) (λ q h. refl)) (λ live. send_tells s pid step i p fits names c (sent v c) (first_with (is_recv_on p) s.parked) (sym is))
 fires_tells s pid step i (Recv p) (Some c) fits names is can = recv_tells s pid step i p fits names c (first_with (is_send_on p) s.parked) (sym is)
 
 -- the case that fires stands in its place, and can proceed
@@ -160,7 +160,7 @@ effect_tells s pid Exit h = silent s (exits s pid).state pid Exit what.Done [] r
 
 -- A stall
 
-stalled_ends : (calls : List OpenCall) → Ends (filter_map (λ call. Some (tells call.pid what.Stalled)) calls)
+stalled_ends : (calls : List OpenCall) → Ends (stall_events calls)
 stalled_ends [] = tt
 stalled_ends (call ∷ calls) = (refl, stalled_ends calls)
 
@@ -171,8 +171,7 @@ more_tells s t pid step (x ∷ xs) ys h ends = record { told = record { own = h.
 
 stalls_tells : (s : State) (pid : Pid) (step : Step) (c : Change) → Telling s pid step c → Telling s pid step (stalls c)
 stalls_tells s pid step c h =
-    elim (all_wait c.state) as (λ b. Telling s pid step (cond b (record { state = record c.state { parked = [] }; events = c.events ++ filter_map (λ call. Some (tells call.pid what.Stalled)) c.state.parked }) c))
-    [ true ↦ more_tells s c.state pid step c.events (filter_map (λ call. Some (tells call.pid what.Stalled)) c.state.parked) h (stalled_ends c.state.parked) | false ↦ h ]
+    by-stall (λ (d : Change). Telling s pid step d) c (more_tells s c.state pid step c.events (stall_events c.state.parked) h (stalled_ends c.state.parked)) h
 
 pub fault_names_none : (step : Step) (f : Fault) → port_touched_by step (what.Fault f) ≡ None
 fault_names_none (Make cap) f = refl

@@ -1,7 +1,6 @@
 -- One entry of a run: what it does to the channels, and which cases are then in force.
 use Rattle.std.proofs.Common.{◌≡◌, ℕ, ◌%◌, ◌==◌, Bool, true, false, cond, List, [], ◌∷◌, ◌++◌, length, refl, ◌∙◌, sym, Option, Some, None}
 use Rattle.std.specs.Prelude.{slice_get}
-use Rattle.std.specs.List.{filter_map}
 use Rattle.std.proofs.lemmas.Bool.{or_parts}
 use Rattle.hub_base.specs.declared.value.Pid.{Pid}
 use Rattle.hub_base.specs.declared.case.Case.{Case}
@@ -13,10 +12,11 @@ use Rattle.hub_base.specs.declared.fault.Fault.{Fault}
 use Rattle.hub_base.specs.declared.event.What.TheVariants as what
 use Rattle.hub_base.specs.State.{State, Channel, OpenCall, channel_at}
 use Rattle.hub_base.specs.Ready.{ready, port_of}
-use Rattle.hub_base.specs.Steps.{fires, Firing, proceeds, chooses, calls, closes, effect, stalls, all_wait, Change, tells, fault_of, answers, refusal}
+use Rattle.hub_base.specs.Steps.{fires, Firing, proceeds, chooses, calls, closes, effect, stalls, Change, tells, fault_of, answers, refusal}
 use Rattle.hub_base.specs.Runs.{admits, moves}
 use Rattle.hub_base.specs.Values.{Turned, refused, cases_or, latest, last_call}
 use Rattle.hub_laws.specs.Sound.{IsSound, is_among}
+use Rattle.hub_laws.proofs.Branches.{by-stall, stall_events}
 use Rattle.hub_laws.proofs.Deeds.{deed_of, told, Does, quiet}
 use Rattle.hub_laws.proofs.Calls.{differ-sym, same_number}
 use Rattle.hub_laws.proofs.Ready.{Admitted, admitted}
@@ -33,7 +33,7 @@ refused_append : (xs ys : List Event) → refused xs ≡ false → refused ys �
 refused_append [] ys d e = e
 refused_append (x ∷ xs) ys d e = d
 
-refused_stalled : (calls : List OpenCall) → refused (filter_map (λ call. Some (tells call.pid what.Stalled)) calls) ≡ false
+refused_stalled : (calls : List OpenCall) → refused (stall_events calls) ≡ false
 refused_stalled [] = refl
 refused_stalled (call ∷ calls) = refl
 
@@ -58,8 +58,7 @@ effect_clear s pid Exit = refl
 
 pub stalls_clear : (c : Change) → refused c.events ≡ false → refused (stalls c).events ≡ false
 stalls_clear c e =
-    elim (all_wait c.state) as (λ b. refused (cond b (record { state = record c.state { parked = [] }; events = c.events ++ filter_map (λ call. Some (tells call.pid what.Stalled)) c.state.parked }) c).events ≡ false)
-    [ true ↦ refused_append c.events (filter_map (λ call. Some (tells call.pid what.Stalled)) c.state.parked) e (refused_stalled c.state.parked) | false ↦ e ]
+    by-stall (λ (d : Change). refused d.events ≡ false) c (refused_append c.events (stall_events c.state.parked) e (refused_stalled c.state.parked)) e
 
 -- Which cases are in force
 

@@ -165,7 +165,4 @@ after_close-law n es fs pid p h =
     let c = close-closes (state n es) pid p h in
     let there : channel_at (state n all) p ≡ Some c.0 = ap (λ (s : State). channel_at s p) (state_after-snoc (opening n) es e) ∙ c.1 in
     let l = later p c.0 (turns_after (opening n) all) (state n all) fs (state-sound n all) (state-knows n all) there c.2 in
-    record {
-      sent = l.none;
-      heard = λ d same. let one : d ≡ c.0 = cc in rw one l.drains;
-    }
+    record { left = c.0; made = there; closed = c.2; sent = l.none; heard = l.drains }

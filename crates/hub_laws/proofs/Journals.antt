@@ -121,5 +121,6 @@ begin_after s (e ∷ es) fs h =
 pub begins-law : (n : ℕ) (es fs : List Entry) → Begins n es fs
 begins-law n es fs = record {
   legal = λ h. (begin_after (opening n) es fs h).0;
+  goes_on = λ e legal is. (grows-law n es e).admitted is ∙ ap (λ xs. xs ++ e ∷ []) legal;
   next = λ e h. (first_kept (state n es) e fs (refusal (state n es) e.pid) (begin_after (opening n) es (e ∷ fs) h).1).0;
 }

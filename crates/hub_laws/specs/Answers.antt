@@ -1,4 +1,5 @@
--- What one admitted entry tells: the answer of its process first, then the calls that ended with it.
+-- What one entry tells: its process's answer first, then the calls that ended with it. An entry that
+-- is not admitted gives one fault, and changes nothing.
 use Rattle.std.specs.Prelude.{◌≡◌, ℕ, Bool, true, false, List, [], ◌∷◌, Some, None}
 use Rattle.std.specs.List.{AllByRecursion}
 use Rattle.hub_base.specs.declared.value.Pid.{Pid}
@@ -30,6 +31,7 @@ ends_waiting (what.Fired i outcome) = true
 ends_waiting what.Stalled = true
 ends_waiting other = false
 
+-- an answer to this step of this process, and what follows it
 pub record Answered (pid : Pid) (step : Step) (answer : Event) (ended : List Event) : Type 0 where
   pub own : answer.pid ≡ pid
   pub fits : is_answer_to step answer.what ≡ true
@@ -42,7 +44,8 @@ IsAnswered pid step (answer ∷ ended) = Answered pid step answer ended
 
 -- an admitted entry is answered so
 abbrev pub AnswersLaw : ℕ → List Entry → Entry → Type 0
-AnswersLaw n es e = refusal (state n es) e.pid ≡ None → IsAnswered e.pid e.step (moves (state n es) e).events
+AnswersLaw n es e =
+    refusal (state n es) e.pid ≡ None → IsAnswered e.pid e.step (moves (state n es) e).events
 
 -- an entry that is not admitted gives one event, a fault of its process, and changes nothing
 pub record PassedOver (n : ℕ) (es : List Entry) (e : Entry) (f : Fault) : Type 0 where
@@ -51,4 +54,5 @@ pub record PassedOver (n : ℕ) (es : List Entry) (e : Entry) (f : Fault) : Type
   pub refuses : refuses_entry f ≡ true
 
 abbrev pub PassedOverLaw : ℕ → List Entry → Entry → Type 0
-PassedOverLaw n es e = (f : Fault) → refusal (state n es) e.pid ≡ Some f → PassedOver n es e f
+PassedOverLaw n es e =
+    (f : Fault) → refusal (state n es) e.pid ≡ Some f → PassedOver n es e f

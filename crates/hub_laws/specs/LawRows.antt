@@ -19,7 +19,7 @@ use Rattle.hub_laws.specs.Answers.{is_answer_to}
 use Rattle.hub_laws.specs.Replies.{own, reply}
 use Rattle.hub_laws.specs.Journals.{IsLegal}
 use Rattle.hub_laws.specs.Limits.{exits_of}
-use Rattle.hub_laws.specs.OnePort.{port_touched}
+use Rattle.hub_laws.specs.OnePort.{touched, number_of}
 
 -- ---- states
 
@@ -57,18 +57,31 @@ done_row = refl
 
 -- ---- at most one event
 
--- a select that waits on two ports fires at one of them, once; while it waits, its process is told `Busy`
-pub once_row : endings 1 (moves (state 3 (make 0 0 ∷ make 0 0 ∷ [])) (select 1 0 (r 1 ∷ r 2 ∷ []) false)).events ≡ []
+-- a select that waits on two ports fires at one of them, once; while it waits, its process is told
+-- `Busy`
+abbrev two_ports : List Entry
+two_ports = make 0 0 ∷ make 0 0 ∷ []
+
+abbrev either : Entry
+either = select 1 0 (r 1 ∷ r 2 ∷ []) false
+
+abbrev then_sent : List Entry
+then_sent = recv 1 1 ∷ send 0 2 8 ∷ send 0 1 9 ∷ recv 1 1 ∷ send 0 2 3 ∷ []
+
+pub once_row : endings 1 (moves (state 3 two_ports) either).events ≡ []
 once_row = refl
 
-pub until_row : endings_until 1 (turns_after (state 3 (make 0 0 ∷ make 0 0 ∷ select 1 0 (r 1 ∷ r 2 ∷ []) false ∷ [])) (recv 1 1 ∷ send 0 2 8 ∷ send 0 1 9 ∷ recv 1 1 ∷ send 0 2 3 ∷ [])) ≡ case 1 1 (got 8) ∷ []
+pub until_row : endings_until 1 (turns_after (moves (state 3 two_ports) either).state then_sent) ≡ case 1 1 (got 8) ∷ []
 until_row = refl
 
 -- a call that parks and stalls in one step, one that takes its default, and one that is faulty
 pub stalled_row : endings 0 (moves (state 1 (make 0 0 ∷ [])) (recv 0 1)).events ≡ told 0 what.Stalled ∷ []
 stalled_row = refl
 
-pub default_row : endings 0 (moves (state 1 (make 0 0 ∷ [])) (select 0 0 (r 1 ∷ []) true)).events ≡ told 0 what.Default ∷ []
+abbrev try_recv : Entry
+try_recv = select 0 0 (r 1 ∷ []) true
+
+pub default_row : endings 0 (moves (state 1 (make 0 0 ∷ [])) try_recv).events ≡ told 0 what.Default ∷ []
 default_row = refl
 
 pub faulty_row : endings 0 (moves (state 1 []) (recv 0 1)).events ≡ told 0 (what.Fault fault.NoPort) ∷ []
@@ -87,29 +100,36 @@ no_answer_row = refl
 
 -- ---- the one port that is written
 
-pub fired_row : port_touched (select 0 0 (r 1 ∷ r 2 ∷ []) false).step (moves (state 1 (make 0 1 ∷ make 0 1 ∷ send 0 2 5 ∷ [])) (select 0 0 (r 1 ∷ r 2 ∷ []) false)).events ≡ Some (port 2)
+pub fired_row : touched 2 (make 0 1 ∷ make 0 1 ∷ send 0 2 5 ∷ []) either ≡ Some (port 2)
 fired_row = refl
 
-pub made_row : port_touched (make 0 3).step (moves (state 1 (make 0 1 ∷ [])) (make 0 3)).events ≡ Some (port 2)
+pub made_row : touched 1 (make 0 1 ∷ []) (make 0 3) ≡ Some (port 2)
 made_row = refl
 
-pub shut_row : port_touched (close 0 1).step (moves (state 1 (make 0 1 ∷ [])) (close 0 1)).events ≡ Some (port 1)
+pub shut_row : touched 1 (make 0 1 ∷ []) (close 0 1) ≡ Some (port 1)
 shut_row = refl
 
-pub parked_row : port_touched (recv 1 1).step (moves (state 2 (make 0 1 ∷ [])) (recv 1 1)).events ≡ None
+pub parked_row : touched 2 (make 0 1 ∷ []) (recv 1 1) ≡ None
 parked_row = refl
 
-pub passed_row : port_touched (select 0 0 (r 1 ∷ []) true).step (moves (state 1 (make 0 0 ∷ [])) (select 0 0 (r 1 ∷ []) true)).events ≡ None
+pub passed_row : touched 1 (make 0 0 ∷ []) try_recv ≡ None
 passed_row = refl
 
-pub gone_row : port_touched (exit 0).step (moves (state 1 []) (exit 0)).events ≡ None
+-- who waits for ever is told so, and no port is written
+pub stalls_row : touched 2 (make 0 0 ∷ recv 1 1 ∷ []) (recv 0 1) ≡ None
+stalls_row = refl
+
+pub gone_row : touched 1 [] (exit 0) ≡ None
 gone_row = refl
 
-pub fault_row : port_touched (close 0 1).step (moves (state 1 []) (close 0 1)).events ≡ None
+pub fault_row : touched 1 [] (close 0 1) ≡ None
 fault_row = refl
 
-pub refused_row : port_touched (make 0 1).step (moves (state 1 (exit 0 ∷ [])) (make 0 1)).events ≡ None
+pub refused_row : touched 1 (exit 0 ∷ []) (make 0 1) ≡ None
 refused_row = refl
+
+pub number_row : number_of (touched 1 (exit 0 ∷ []) (make 0 1)) ≡ 0
+number_row = refl
 
 -- ---- replies
 
@@ -158,11 +178,14 @@ length_row = refl
 pub exits_row : exits_of 0 (kept 2 (exit 0 ∷ exit 0 ∷ exit 1 ∷ [])) ≡ exit 0 ∷ []
 exits_row = refl
 
-pub steps_row : steps_of (kept 2 (make 0 2 ∷ send 0 1 7 ∷ send 0 1 8 ∷ recv 1 1 ∷ exit 1 ∷ [])) ≡ 4
+abbrev two_sent : List Entry
+two_sent = make 0 2 ∷ send 0 1 7 ∷ send 0 1 8 ∷ recv 1 1 ∷ exit 1 ∷ []
+
+pub steps_row : steps_of (kept 2 two_sent) ≡ 4
 steps_row = refl
 
-pub count_row : option_map (λ c. length c.done) (channel_at (state 2 (make 0 2 ∷ send 0 1 7 ∷ send 0 1 8 ∷ recv 1 1 ∷ exit 1 ∷ [])) (port 1)) ≡ Some 2
+pub count_row : option_map (λ c. length c.done) (channel_at (state 2 two_sent) (port 1)) ≡ Some 2
 count_row = refl
 
-pub buffer_row : option_map (λ c. buffer_of c) (channel_at (state 2 (make 0 2 ∷ send 0 1 7 ∷ send 0 1 8 ∷ recv 1 1 ∷ exit 1 ∷ [])) (port 1)) ≡ Some (value_of 8 ∷ [])
+pub buffer_row : option_map (λ c. buffer_of c) (channel_at (state 2 two_sent) (port 1)) ≡ Some (value_of 8 ∷ [])
 buffer_row = refl

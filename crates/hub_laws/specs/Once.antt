@@ -1,6 +1,7 @@
--- Each admitted call has at most one event besides `Parked`, and by this event it ends: from entries and events
--- alone. Its events are those of its process from its own answer up to the next admitted entry of that process; the
--- answer `Busy` to an entry in between is not of the call. Go: "Select statements".
+-- Each admitted call has at most one event besides `Parked`, and by this event it ends: from entries
+-- and events alone. Its events are those of its process from its own answer up to the next admitted
+-- entry of that process; the answer `Busy` to an entry in between is not of the call.
+-- Go: "Select statements".
 use Rattle.std.specs.Prelude.{◌≡◌, ◌≤◌, ◌==◌, ◌&&◌, ℕ, Bool, true, false, not, List, [], ◌∷◌, ◌++◌, length, filter, if◌then◌else◌}
 use Rattle.std.specs.List.{AllByRecursion}
 use Rattle.hub_base.specs.declared.entry.Step.{Step}
@@ -42,9 +43,14 @@ endings q events = filter (λ e. counts e.what && (e.pid.0 == q)) events
 -- those in these turns, up to the next admitted entry of q
 abbrev pub endings_until : ℕ → List Turned → List Event
 endings_until q [] = []
-endings_until q (t ∷ ts) = if was_admitted t.events && (t.entry.pid.0 == q) then [] else endings q t.events ++ endings_until q ts
+endings_until q (t ∷ ts) =
+    if was_admitted t.events && (t.entry.pid.0 == q) then [] else endings q t.events ++ endings_until q ts
 
--- the events that end a call: a case fired, the default, the stall of all, and the two faults of calls
+-- the events of this turn's call, where those turns follow
+abbrev pub events_of_call : Turned → List Turned → List Event
+events_of_call t ts = endings t.entry.pid.0 t.events ++ endings_until t.entry.pid.0 ts
+
+-- what ends a call: a case that fired, the default, the stall of all, and the two faults of calls
 abbrev pub ends_call : What → Bool
 ends_call (what.Fired i outcome) = true
 ends_call what.Default = true
@@ -58,11 +64,12 @@ pub record EndsOnce (events : List Event) : Type 0 where
   pub most : length events ≤ 1
   pub each : AllByRecursion (λ e. ends_call e.what ≡ true) events
 
--- each admitted call has at most one event that counts, from its own answer up to the next admitted entry of its
--- process, and by this event it ended
+-- of each of these turns that is an admitted call
 abbrev pub AtMostOnce : List Turned → Type 0
 AtMostOnce [] = Unit
-AtMostOnce (t ∷ ts) = (is_call t.entry.step ≡ true → was_admitted t.events ≡ true → EndsOnce (endings t.entry.pid.0 t.events ++ endings_until t.entry.pid.0 ts)) × AtMostOnce ts
+AtMostOnce (t ∷ ts) =
+    (is_call t.entry.step ≡ true → was_admitted t.events ≡ true → EndsOnce (events_of_call t ts))
+    × AtMostOnce ts
 
 -- of a whole run
 abbrev pub OnceLaw : ℕ → List Entry → Type 0

@@ -1,5 +1,6 @@
--- What holds of every state that a run reaches. A receiver waits only where the buffer is empty, a sender only where
--- it is full, and nobody on a closed port. No process has two open calls, and none that has exited has one.
+-- What holds of every state that a run reaches. A receiver waits only where the buffer is empty, a
+-- sender only where it is full, and nobody on a closed port. No process has two open calls, and none
+-- that has exited has one.
 use Rattle.std.specs.Prelude.{◌≡◌, ◌≤◌, ◌<◌, ℕ, true, false, List, [], length, Some}
 use Rattle.std.specs.List.{AllByRecursion}
 use Rattle.hub_base.specs.declared.value.Port.{Port}
@@ -14,8 +15,9 @@ pub record PortLaws (p : Port) (c : Channel) (calls : List OpenCall) : Type 0 wh
   pub receivers : some_call (is_recv_on p) calls ≡ true → buffer_of c ≡ []
   pub senders : some_call (is_send_on p) calls ≡ true → length (buffer_of c) ≡ c.cap
   pub closed : c.closed ≡ true → some_call (is_on p) calls ≡ false
-  pub both : some_call (is_recv_on p) calls ≡ true → some_call (is_send_on p) calls ≡ true → c.cap ≡ 0
-  -- both together stand only in one call
+  -- both wait only on capacity 0, and only in one call
+  pub both :
+      some_call (is_recv_on p) calls ≡ true → some_call (is_send_on p) calls ≡ true → c.cap ≡ 0
   pub alone : Alone p calls
 
 -- what holds of a state that a run reaches

@@ -6,8 +6,8 @@ ghost use Rattle.hub_laws.specs.Answers.{AnswersLaw, PassedOverLaw};
 
 use hub_base::Entry;
 
-/// An admitted entry is answered first, and the calls that ended with it follow. Any other gives one fault, and
-/// changes nothing.
+/// An admitted entry is answered first, and the calls that ended with it follow. Any other gives one
+/// fault, and changes nothing.
 pub fn entries_are_answered(procs: u8, before: &[Entry], entry: &Entry)
     ensures admitted { AnswersLaw procs before.now entry.now }
     ensures refused { PassedOverLaw procs before.now entry.now }

@@ -4,7 +4,8 @@ ghost use Rattle.hub_laws.specs.Values.{ValuesLaw};
 
 use hub_base::Entry;
 
-/// The values received on a port, and then those in its buffer, are the values sent, in order of completion.
+/// The values received on a port, and then those in its buffer, are the values sent, in order of
+/// completion.
 pub fn values_are_kept(procs: u8, entries: &[Entry])
     ensures { ValuesLaw procs entries.now }
 {}

@@ -4,8 +4,8 @@ ghost use Rattle.hub_laws.specs.Replies.{RepliedLaw, RepliesLaw};
 
 use hub_base::{Entry, Pid};
 
-/// Right after an admitted entry each of its events, but for `Parked`, is its process's reply, and that process
-/// has no open call. All other processes have the reply that they had.
+/// Right after an admitted entry each of its events, but for `Parked`, is its process's reply, and
+/// that process has no open call. All other processes have the reply that they had.
 pub fn replies_come(procs: u8, before: &[Entry], entry: &Entry)
     ensures { RepliedLaw procs before.now entry.now }
 {}

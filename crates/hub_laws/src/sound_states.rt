@@ -1,5 +1,5 @@
-//! What holds of a state: a receiver waits only where the buffer is empty, a sender only where it is full, and
-//! nobody on a closed port.
+//! States: a receiver waits only where the buffer is empty, a sender only where it is full, and nobody
+//! on a closed port.
 
 ghost use Rattle.hub_base.specs.Runs.{state};
 ghost use Rattle.hub_laws.specs.States.{StateLaws};

@@ -1,7 +1,7 @@
 -- After a close no case on the port is sent, and receives drain the buffer.
-use Rattle.std.proofs.Common.{◌≡◌, ℕ, ◌==◌, Bool, true, false, cond, zero, suc, List, [], ◌∷◌, ◌++◌, drop, refl, ap, ◌∙◌, sym, subst, Option, Some, None, append-nil, append_assoc, add-one}
+use Rattle.std.proofs.Common.{◌≡◌, ℕ, ◌==◌, Bool, true, false, zero, suc, List, [], ◌∷◌, ◌++◌, drop, refl, ap, ◌∙◌, sym, subst, Option, Some, None, append-nil, append_assoc, add-one}
 use Rattle.std.specs.Prelude.{slice_get}
-use Rattle.std.specs.List.{filter_map}
+use Rattle.std.proofs.lemmas.Bool.{eqb-true}
 use Rattle.hub_base.specs.declared.value.Port.{Port}
 use Rattle.hub_base.specs.declared.value.Pid.{Pid}
 use Rattle.hub_base.specs.declared.case.Case.{Case}
@@ -12,18 +12,17 @@ use Rattle.hub_base.specs.declared.fault.Fault.{Fault}
 use Rattle.hub_base.specs.declared.fault.Fault.TheVariants as fault
 use Rattle.hub_base.specs.declared.event.Outcome.{Outcome}
 use Rattle.hub_base.specs.declared.event.Outcome.TheVariants.{Sent}
-use Rattle.hub_base.specs.declared.event.What.TheVariants as what
 use Rattle.hub_base.specs.State.{State, Channel, channel_at, opening}
 use Rattle.hub_base.specs.Ready.{port_of}
-use Rattle.hub_base.specs.Steps.{received, shut, Change, stalls, all_wait, closes, close_fault, is_unmade, fault_of, answers, refusal, tells}
+use Rattle.hub_base.specs.Steps.{received, shut, Change, stalls, closes, close_fault, is_unmade, fault_of, answers, refusal}
 use Rattle.hub_base.specs.Runs.{admits, moves, state_after, state}
 use Rattle.hub_base.specs.Values.{Turned, turns_after, values_from}
 use Rattle.hub_laws.specs.Sound.{IsSound}
-use Rattle.hub_laws.specs.Deeds.{Deed, deed_of, told, picks, at, Moved, Wrote, Does, buffers, hands, fetches, gives, drains, refuses, shuts, quiet, wrote}
+use Rattle.hub_laws.proofs.Branches.{by-stall}
+use Rattle.hub_laws.proofs.Deeds.{Deed, deed_of, told, picks, at, Moved, Wrote, Does, buffers, hands, fetches, gives, drains, refuses, shuts, quiet, wrote}
 use Rattle.hub_laws.specs.AfterClose.{sent_at, heard, Drains, answers_done, StaysClosed}
 use Rattle.hub_laws.proofs.Calls.{same_number}
 use Rattle.hub_laws.proofs.Ports.{same_port}
-use Rattle.hub_laws.proofs.Fires.{same_true}
 use Rattle.hub_laws.proofs.Ready.{none_false}
 use Rattle.hub_laws.proofs.Kept.{sound-opening}
 use Rattle.hub_laws.proofs.Rules.{moves-sound, state-sound}
@@ -85,7 +84,7 @@ stays_moved p c d ts deeds new over (shuts live is all) = cc
 
 stays_wrote : (p q : Port) (c x d : Channel) (cs ts : List Channel) (deeds : List Deed) (b : Bool) → b ≡ (q.0 == p.0) → at cs p ≡ Some c → c.closed ≡ true → Wrote cs ts q x d → Moved q x d deeds → Stays p c ts deeds
 stays_wrote p q c x d cs ts deeds true is old over w m =
-    let same : q ≡ p = same_port q p (same_true q.0 p.0 (sym is)) in
+    let same : q ≡ p = same_port q p (eqb-true q.0 p.0 (sym is)) in
     let there : at cs p ≡ Some x = subst (λ (r : Port). at cs r ≡ Some x) same w.old in
     let one : x ≡ c = cc in
     let moved : Moved p x d deeds = subst (λ (r : Port). Moved r x d deeds) same m in
@@ -127,8 +126,7 @@ closed_by s pid p (Some c) is h = (shut c, stalled (closes s pid p (Some c)) (wr
   where
     stalled : (d : Change) → channel_at d.state p ≡ Some (shut c) → channel_at (stalls d).state p ≡ Some (shut c)
     stalled d e =
-        elim (all_wait d.state) as (λ b. channel_at (cond b (record { state = record d.state { parked = [] }; events = d.events ++ filter_map (λ call. Some (tells call.pid what.Stalled)) d.state.parked }) d).state p ≡ Some (shut c))
-        [ true ↦ e | false ↦ e ]
+        by-stall (λ (x : Change). channel_at x.state p ≡ Some (shut c)) d e e
 
 closed_answers : (s : State) (pid : Pid) (p : Port) (o : Option Fault) → o ≡ fault_of s (Close p) → answers_done (answers s (record { pid = pid; step = Close p }) o).events ≡ true →
     (c : Channel) × (channel_at (answers s (record { pid = pid; step = Close p }) o).state p ≡ Some c) × (c.closed ≡ true)
@@ -167,7 +165,4 @@ after_close-law n es fs pid p h =
     let c = close-closes (state n es) pid p h in
     let there : channel_at (state n all) p ≡ Some c.0 = ap (λ (s : State). channel_at s p) (state_after-snoc (opening n) es e) ∙ c.1 in
     let l = later p c.0 (turns_after (opening n) all) (state n all) fs (state-sound n all) (state-knows n all) there c.2 in
-    record {
-      sent = l.none;
-      heard = λ d same. let one : d ≡ c.0 = cc in rw one l.drains;
-    }
+    record { left = c.0; made = there; closed = c.2; sent = l.none; heard = l.drains }

@@ -10,7 +10,7 @@ use Rattle.hub_base.specs.State.{State, Channel, channel_at, opening}
 use Rattle.hub_base.specs.Runs.{moves, state_after, state}
 use Rattle.hub_base.specs.Values.{Turned, turns_after, values_from, sent_on, got_on, sent_values, received_values}
 use Rattle.hub_laws.specs.Sound.{IsSound}
-use Rattle.hub_laws.specs.Deeds.{deed_of, told, at}
+use Rattle.hub_laws.proofs.Deeds.{deed_of, told, at}
 use Rattle.hub_laws.proofs.Kept.{sound-opening}
 use Rattle.hub_laws.proofs.Rules.{moves-sound}
 use Rattle.hub_laws.proofs.Does.{Knows}

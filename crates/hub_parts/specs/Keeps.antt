@@ -35,6 +35,7 @@ abbrev pub AllMade : ℕ → List Case → Type 0
 AllMade n cases = AllByRecursion (λ c. (port_of c).0 ≤ n) cases
 
 pub record CallsKeep (c : Calls) (ports : ℕ) : Type 0 where
+  pub counted : ports ≤ 64
   pub few : length c.waiting ≤ c.procs
   pub small : AllByRecursion (λ w. length w.call.cases ≤ 8) c.waiting
   pub made : AllByRecursion (λ w. AllMade ports w.call.cases) c.waiting

@@ -80,9 +80,7 @@ impl Board {
         requires { IsMade self.now port }
         ensures { result ≡ is_some (first_with (passes port side) (open_calls self.now.waiting)) }
     {
-        self.ports[port.0 as usize - 1]
-            .first(side, &self.calls)
-            .is_some()
+        self.calls.waits(port, side)
     }
 
     /// Whether the port is closed.

@@ -11,7 +11,7 @@ use Rattle.hub_base.specs.declared.case.Case.TheVariants.{Send, Recv}
 use Rattle.hub_base.specs.Ready.{port_of}
 use Rattle.hub_parts.specs.declared.side.Side.{Side}
 use Rattle.hub_parts.specs.declared.side.Side.TheVariants as side
-use Rattle.hub_parts.specs.declared.queue.Waiter.{Waiter}
+use Rattle.hub_parts.specs.declared.wait_queue.Waiter.{Waiter}
 use Rattle.hub_parts.specs.Records.{Ticketed, Calls, ChannelLists}
 use Rattle.hub_parts.specs.Queues.{lives, roomy, joined, taken, waiters, waiters_from, waiter_at}
 use Rattle.hub_parts.specs.Lists.{queue_of, channel_of, line_of, with_queue, with_call, ticketed, all_roomy, all_joined, CanJoin, no_channel, new_port, passes}

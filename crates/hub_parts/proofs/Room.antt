@@ -5,7 +5,7 @@ use Rattle.std.proofs.lemmas.Grind.{common_steps}
 use Rattle.std.proofs.lemmas.List.{length-map}
 use Rattle.std.proofs.lemmas.Map.Steps.{length-le_from_distinct_below}
 use Rattle.hub_parts.specs.declared.tickets.Opened.{Opened}
-use Rattle.hub_parts.specs.Fits.{pids, AreApart}
+use Rattle.hub_parts.specs.Tickets.{pids, AreApart}
 
 apart : (os : List Opened) (pid : ℕ) → list_any (λ o. o.pid.0 == pid) os ≡ false → AllByRecursion (λ y. (pid == y) ≡ false) (pids os)
 apart [] pid e = tt

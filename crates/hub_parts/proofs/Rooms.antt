@@ -13,7 +13,7 @@ use Rattle.hub_base.specs.declared.case.Case.TheVariants.{Send, Recv}
 use Rattle.hub_base.specs.Ready.{port_of}
 use Rattle.hub_parts.specs.declared.side.Side.{Side}
 use Rattle.hub_parts.specs.declared.side.Side.TheVariants as side
-use Rattle.hub_parts.specs.declared.queue.Waiter.{Waiter}
+use Rattle.hub_parts.specs.declared.wait_queue.Waiter.{Waiter}
 use Rattle.hub_parts.specs.Records.{Ticketed, Calls, ChannelLists}
 use Rattle.hub_parts.specs.Queues.{is_live, lives, live_of, roomy, joined, waiters, waiters_of, waiters_from, waiter_at}
 use Rattle.hub_parts.specs.Lists.{queue_of, channel_of, with_call, ticketed, with_case, CanJoin, CaseFits}

@@ -8,7 +8,7 @@ use Rattle.hub_base.specs.declared.value.Port.{Port}
 use Rattle.hub_base.specs.declared.case.Case.{Case}
 use Rattle.hub_base.specs.Ready.{first_with}
 use Rattle.hub_parts.specs.declared.side.Side.{Side}
-use Rattle.hub_parts.specs.declared.queue.Waiter.{Waiter}
+use Rattle.hub_parts.specs.declared.wait_queue.Waiter.{Waiter}
 use Rattle.hub_parts.specs.Records.{Calls, ChannelLists, PortLists}
 use Rattle.hub_parts.specs.Queues.{lives, roomy, joined, taken, waiter_at, case_at}
 use Rattle.hub_parts.specs.Lists.{IsMade, queue_of, channel_of, line_of, with_queue, with_call, with_port, port_at, parked, ended_by, all_roomy, all_joined, no_channel, passes, open_calls}

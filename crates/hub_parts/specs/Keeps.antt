@@ -8,7 +8,7 @@ use Rattle.hub_base.specs.declared.case.Case.{Case}
 use Rattle.hub_base.specs.Ready.{is_send_on, is_recv_on, port_of}
 use Rattle.hub_parts.specs.declared.side.Side.{Side}
 use Rattle.hub_parts.specs.declared.side.Side.TheVariants as side
-use Rattle.hub_parts.specs.declared.queue.Waiter.{Waiter}
+use Rattle.hub_parts.specs.declared.wait_queue.Waiter.{Waiter}
 use Rattle.hub_parts.specs.Records.{Ticketed, Calls, ChannelLists, Lists}
 use Rattle.hub_parts.specs.Queues.{live_of, waiters}
 use Rattle.hub_parts.specs.Lists.{queue_of, channel_of, still_open}

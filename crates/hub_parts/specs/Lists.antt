@@ -10,7 +10,7 @@ use Rattle.hub_base.specs.Ready.{is_send_on, is_recv_on, is_on, Ending}
 use Rattle.hub_parts.specs.declared.side.Side.{Side}
 use Rattle.hub_parts.specs.declared.side.Side.TheVariants as side
 use Rattle.hub_parts.specs.declared.side.Ended.{Ended}
-use Rattle.hub_parts.specs.declared.queue.Waiter.{Waiter}
+use Rattle.hub_parts.specs.declared.wait_queue.Waiter.{Waiter}
 use Rattle.hub_base.specs.declared.value.Value.{Value}
 use Rattle.hub_parts.specs.Records.{PortLists, Ticketed, Calls, ChannelLists, Lists}
 use Rattle.hub_parts.specs.Queues.{lives, is_before, joined, roomy, waiter_at}

@@ -1,6 +1,6 @@
 use Rattle.std.proofs.Common.{◌≡◌, drop}
-use Rattle.hub_parts.specs.Tally.{all_changed, AllAllow, one_more, HasRoom}
-use Rattle.hub_parts.proofs.tickets.tally.Tally.add.Given as goal
+use Rattle.hub_parts.specs.CaseCounts.{all_changed, AllAllow, one_more, HasRoom}
+use Rattle.hub_parts.proofs.tickets.case_counts.CaseCounts.add.Given as goal
 
 abbrev pub invariant-loop-case : goal.invariant-loop-case
 invariant-loop-case l =

@@ -3,7 +3,7 @@
 //! `sends[p]` is how many cases of open calls send on port `p`, and `recvs[p]` how many receive from it,
 //! port 0 among them. A case on a port above the last is not counted.
 ghost use Rattle.std.specs.Prelude.{◌≡◌, ◌≤◌, replicate};
-ghost use Rattle.hub_parts.specs.Tally.{raised, lowered, with_raised, with_lowered, Raises, Lowers, CanRaise, CanLower, has_case};
+ghost use Rattle.hub_parts.specs.CaseCounts.{raised, lowered, with_raised, with_lowered, Raises, Lowers, CanRaise, CanLower, has_case};
 
 use crate::Side;
 use hub_base::{Case, Port};
@@ -16,7 +16,7 @@ type Counts = [u16; LAST_PORT + 1];
 
 /// How many cases of open calls are on each side of each port.
 #[derive(Drop)]
-pub(crate) struct Tally {
+pub(crate) struct CaseCounts {
     sends: Counts,
     recvs: Counts,
 }
@@ -39,12 +39,12 @@ fn lower(counts: &mut Counts, port: Port)
     }
 }
 
-impl Tally {
-    pub(crate) fn new() -> Tally
+impl CaseCounts {
+    pub(crate) fn new() -> CaseCounts
         ensures sends { result.sends ≡ replicate 65 0 }
         ensures recvs { result.recvs ≡ replicate 65 0 }
     {
-        Tally {
+        CaseCounts {
             sends: [0; LAST_PORT + 1],
             recvs: [0; LAST_PORT + 1],
         }

@@ -13,13 +13,13 @@ use Rattle.hub_base.specs.declared.case.Case.{Case}
 use Rattle.hub_base.specs.declared.case.Case.TheVariants.{Send, Recv}
 use Rattle.hub_base.specs.Ready.{is_send_on, is_recv_on, is_on, first_with, lowest_from, or_else}
 use Rattle.hub_parts.specs.declared.tickets.Opened.{Opened}
-use Rattle.hub_parts.specs.declared.tickets.tally.Tally.{Tally}
+use Rattle.hub_parts.specs.declared.tickets.case_counts.CaseCounts.{CaseCounts}
 use Rattle.hub_parts.specs.declared.side.Side.{Side}
 use Rattle.hub_parts.specs.declared.side.Side.TheVariants as side
 use Rattle.hub_parts.specs.Records.{Ticketed}
 use Rattle.hub_parts.specs.Lists.{open_calls, passes}
-use Rattle.hub_parts.specs.Tally.{changed, with_changed, all_changed, CaseAllows, AllAllow, one_more, one_less, with_raised, with_lowered, CanRaise, CanLower, HasRoom, has_case}
-use Rattle.hub_parts.specs.Fits.{passing, all_passing, Counts, IsTallyOf, AreApart, pids, calls_of, cases_of}
+use Rattle.hub_parts.specs.CaseCounts.{changed, with_changed, all_changed, CaseAllows, AllAllow, one_more, one_less, with_raised, with_lowered, CanRaise, CanLower, HasRoom, has_case, passing, all_passing, CountsCases, IsCountOf}
+use Rattle.hub_parts.specs.Tickets.{AreApart, pids, calls_of, cases_of}
 
 abbrev iterate : (ℕ → ℕ) → ℕ → ℕ → ℕ
 iterate f zero x = x
@@ -46,29 +46,29 @@ changed_at f q p xs within =
     ]
 
 -- the sends, or the receives, with the test of which cases are counted there
-pub record IsHalf (f : ℕ → ℕ) (half : Tally → List ℕ) (test : Port → Case → Bool) : Type 0 where
-  pub step : (t : Tally) (c : Case) (p : Port) → p.0 < length (half t) → slice_index (half (with_changed f t c)) p.0 ≡ cond (test p c) (f (slice_index (half t) p.0)) (slice_index (half t) p.0)
-  pub long : (t : Tally) (c : Case) → length (half (with_changed f t c)) ≡ length (half t)
+pub record IsHalf (f : ℕ → ℕ) (half : CaseCounts → List ℕ) (test : Port → Case → Bool) : Type 0 where
+  pub step : (t : CaseCounts) (c : Case) (p : Port) → p.0 < length (half t) → slice_index (half (with_changed f t c)) p.0 ≡ cond (test p c) (f (slice_index (half t) p.0)) (slice_index (half t) p.0)
+  pub long : (t : CaseCounts) (c : Case) → length (half (with_changed f t c)) ≡ length (half t)
 
-abbrev sends_of : Tally → List ℕ
+abbrev sends_of : CaseCounts → List ℕ
 sends_of t = t.sends
 
-abbrev recvs_of : Tally → List ℕ
+abbrev recvs_of : CaseCounts → List ℕ
 recvs_of t = t.recvs
 
-send_step : (f : ℕ → ℕ) (t : Tally) (c : Case) (p : Port) → p.0 < length t.sends → slice_index (sends_of (with_changed f t c)) p.0 ≡ cond (is_send_on p c) (f (slice_index t.sends p.0)) (slice_index t.sends p.0)
+send_step : (f : ℕ → ℕ) (t : CaseCounts) (c : Case) (p : Port) → p.0 < length t.sends → slice_index (sends_of (with_changed f t c)) p.0 ≡ cond (is_send_on p c) (f (slice_index t.sends p.0)) (slice_index t.sends p.0)
 send_step f t (Send q v) p within = changed_at f q p t.sends within
 send_step f t (Recv q) p within = refl
 
-recv_step : (f : ℕ → ℕ) (t : Tally) (c : Case) (p : Port) → p.0 < length t.recvs → slice_index (recvs_of (with_changed f t c)) p.0 ≡ cond (is_recv_on p c) (f (slice_index t.recvs p.0)) (slice_index t.recvs p.0)
+recv_step : (f : ℕ → ℕ) (t : CaseCounts) (c : Case) (p : Port) → p.0 < length t.recvs → slice_index (recvs_of (with_changed f t c)) p.0 ≡ cond (is_recv_on p c) (f (slice_index t.recvs p.0)) (slice_index t.recvs p.0)
 recv_step f t (Send q v) p within = refl
 recv_step f t (Recv q) p within = changed_at f q p t.recvs within
 
-sends_long : (f : ℕ → ℕ) (t : Tally) (c : Case) → length (sends_of (with_changed f t c)) ≡ length t.sends
+sends_long : (f : ℕ → ℕ) (t : CaseCounts) (c : Case) → length (sends_of (with_changed f t c)) ≡ length t.sends
 sends_long f t (Send q v) = length-changed f q t.sends
 sends_long f t (Recv q) = refl
 
-recvs_long : (f : ℕ → ℕ) (t : Tally) (c : Case) → length (recvs_of (with_changed f t c)) ≡ length t.recvs
+recvs_long : (f : ℕ → ℕ) (t : CaseCounts) (c : Case) → length (recvs_of (with_changed f t c)) ≡ length t.recvs
 recvs_long f t (Send q v) = refl
 recvs_long f t (Recv q) = length-changed f q t.recvs
 
@@ -78,12 +78,12 @@ sends_half f = record { step = send_step f; long = sends_long f }
 recvs_half : (f : ℕ → ℕ) → IsHalf f recvs_of is_recv_on
 recvs_half f = record { step = recv_step f; long = recvs_long f }
 
-length-all_changed : (f : ℕ → ℕ) (half : Tally → List ℕ) (test : Port → Case → Bool) → IsHalf f half test → (t : Tally) (cases : List Case) → length (half (all_changed f t cases)) ≡ length (half t)
+length-all_changed : (f : ℕ → ℕ) (half : CaseCounts → List ℕ) (test : Port → Case → Bool) → IsHalf f half test → (t : CaseCounts) (cases : List Case) → length (half (all_changed f t cases)) ≡ length (half t)
 length-all_changed f half test h t [] = refl
 length-all_changed f half test h t (c ∷ cases) = length-all_changed f half test h (with_changed f t c) cases ∙ h.long t c
 
 -- a count after the cases of a call: changed once for each that passes
-all_changed_at : (f : ℕ → ℕ) (half : Tally → List ℕ) (test : Port → Case → Bool) → IsHalf f half test → (t : Tally) (cases : List Case) (p : Port) → p.0 < length (half t) → slice_index (half (all_changed f t cases)) p.0 ≡ iterate f (passing (test p) cases) (slice_index (half t) p.0)
+all_changed_at : (f : ℕ → ℕ) (half : CaseCounts → List ℕ) (test : Port → Case → Bool) → IsHalf f half test → (t : CaseCounts) (cases : List Case) (p : Port) → p.0 < length (half t) → slice_index (half (all_changed f t cases)) p.0 ≡ iterate f (passing (test p) cases) (slice_index (half t) p.0)
 all_changed_at f half test h t [] p within = refl
 all_changed_at f half test h t (c ∷ cases) p within =
     all_changed_at f half test h (with_changed f t c) cases p (rw (h.long t c) within)
@@ -91,7 +91,7 @@ all_changed_at f half test h t (c ∷ cases) p within =
     (elim (test p c) as (λ b. iterate f (passing (test p) cases) (cond b (f (slice_index (half t) p.0)) (slice_index (half t) p.0)) ≡ iterate f (cond b (suc (passing (test p) cases)) (passing (test p) cases)) (slice_index (half t) p.0)) [ true ↦ refl | false ↦ refl ])
 
 -- each count fits the number of cases that are still to come
-pub record Enough (R : ℕ → ℕ → Type 0) (t : Tally) (cases : List Case) : Type 0 where
+pub record Enough (R : ℕ → ℕ → Type 0) (t : CaseCounts) (cases : List Case) : Type 0 where
   pub sends : (p : Port) → p.0 < length t.sends → R (passing (is_send_on p) cases) (slice_index t.sends p.0)
   pub recvs : (p : Port) → p.0 < length t.recvs → R (passing (is_recv_on p) cases) (slice_index t.recvs p.0)
 
@@ -99,11 +99,11 @@ enough_less : (R : ℕ → ℕ → Type 0) (f : ℕ → ℕ) (n x : ℕ) (b : Bo
 enough_less R f n x true next r = next r
 enough_less R f n x false next r = r
 
-case_allows : (R : ℕ → ℕ → Type 0) (P : ℕ → Type 0) → ((n x : ℕ) → R (suc n) x → P x) → (t : Tally) (c : Case) (cases : List Case) → Enough R t (c ∷ cases) → CaseAllows P t c
+case_allows : (R : ℕ → ℕ → Type 0) (P : ℕ → Type 0) → ((n x : ℕ) → R (suc n) x → P x) → (t : CaseCounts) (c : Case) (cases : List Case) → Enough R t (c ∷ cases) → CaseAllows P t c
 case_allows R P allows t (Send q v) cases e = λ within. allows (passing (is_send_on q) cases) _ (rw (eq-eqb q.0 q.0 refl) at (e.sends q within))
 case_allows R P allows t (Recv q) cases e = λ within. allows (passing (is_recv_on q) cases) _ (rw (eq-eqb q.0 q.0 refl) at (e.recvs q within))
 
-all_allow : (f : ℕ → ℕ) (P : ℕ → Type 0) (R : ℕ → ℕ → Type 0) → ((n x : ℕ) → R (suc n) x → P x) → ((n x : ℕ) → R (suc n) x → R n (f x)) → (t : Tally) (cases : List Case) → Enough R t cases → AllAllow f P t cases
+all_allow : (f : ℕ → ℕ) (P : ℕ → Type 0) (R : ℕ → ℕ → Type 0) → ((n x : ℕ) → R (suc n) x → P x) → ((n x : ℕ) → R (suc n) x → R n (f x)) → (t : CaseCounts) (cases : List Case) → Enough R t cases → AllAllow f P t cases
 all_allow f P R allows next t [] e = tt
 all_allow f P R allows next t (c ∷ cases) e = (
   case_allows R P allows t c cases e,
@@ -134,7 +134,7 @@ abbrev Covering : ℕ → ℕ → Type 0
 Covering n x = n ≤ x
 
 -- 255 calls of 16 cases fit
-pub can_raise : (t : Tally) (ws : List Ticketed) (cases : List Case) → IsTallyOf t ws → AllByRecursion (λ w. length w.call.cases ≤ 16) ws → length ws < 256 → length cases ≤ 16 → CanRaise t cases
+pub can_raise : (t : CaseCounts) (ws : List Ticketed) (cases : List Case) → IsCountOf t ws → AllByRecursion (λ w. length w.call.cases ≤ 16) ws → length ws < 256 → length cases ≤ 16 → CanRaise t cases
 can_raise t ws cases k few most small =
     all_allow one_more HasRoom Fitting (λ n x r. omega arith) (λ n x r. omega arith) t cases (record {
       sends = λ p within. rw (k.sends p (rw k.sends_length at within)) (omega (arith, all_passing-le (is_send_on p) ws few, passing-le (is_send_on p) cases));
@@ -145,7 +145,7 @@ all_passing-snoc : (test : Case → Bool) (ws : List Ticketed) (w : Ticketed) �
 all_passing-snoc test [] w = omega arith
 all_passing-snoc test (v ∷ ws) w = omega (arith, all_passing-snoc test ws w)
 
-raised_counts : (half : Tally → List ℕ) (test : Port → Case → Bool) (t : Tally) (ws : List Ticketed) (w : Ticketed) → IsHalf one_more half test → length (half t) ≡ 65 → Counts test (half t) ws → Counts test (half (with_raised t w.call.cases)) (ws ++ w ∷ [])
+raised_counts : (half : CaseCounts → List ℕ) (test : Port → Case → Bool) (t : CaseCounts) (ws : List Ticketed) (w : Ticketed) → IsHalf one_more half test → length (half t) ≡ 65 → CountsCases test (half t) ws → CountsCases test (half (with_raised t w.call.cases)) (ws ++ w ∷ [])
 raised_counts half test t ws w h long k = λ p within.
     let inside : p.0 < length (half t) = rw long within in
     all_changed_at one_more half test h t w.call.cases p inside
@@ -153,8 +153,8 @@ raised_counts half test t ws w h long k = λ p within.
     ∙ ap (λ n. n + passing (test p) w.call.cases) (k p within)
     ∙ sym (all_passing-snoc (test p) ws w)
 
-pub tally_opened : (t : Tally) (ws : List Ticketed) (w : Ticketed) → IsTallyOf t ws → IsTallyOf (with_raised t w.call.cases) (ws ++ w ∷ [])
-tally_opened t ws w k = record {
+pub counts_opened : (t : CaseCounts) (ws : List Ticketed) (w : Ticketed) → IsCountOf t ws → IsCountOf (with_raised t w.call.cases) (ws ++ w ∷ [])
+counts_opened t ws w k = record {
   sends = raised_counts sends_of is_send_on t ws w (sends_half one_more) k.sends_length k.sends;
   recvs = raised_counts recvs_of is_recv_on t ws w (recvs_half one_more) k.recvs_length k.recvs;
   sends_length = length-all_changed one_more sends_of is_send_on (sends_half one_more) t w.call.cases ∙ k.sends_length;
@@ -185,14 +185,14 @@ all_passing-ended : (test : Case → Bool) (places : List (ArrayVec Case)) (pid 
 all_passing-ended test places pid [] apart any = cc
 all_passing-ended test places pid (o ∷ os) apart any = ended_step test places pid o os (o.pid.0 == pid.0) refl apart.0 (all_passing-ended test places pid os apart.1) any
 
-pub can_lower : (t : Tally) (places : List (ArrayVec Case)) (pid : Pid) (os : List Opened) → IsTallyOf t (calls_of places os) → AreApart (pids os) → list_any (λ o. o.pid.0 == pid.0) os ≡ true → CanLower t (cases_of places pid)
+pub can_lower : (t : CaseCounts) (places : List (ArrayVec Case)) (pid : Pid) (os : List Opened) → IsCountOf t (calls_of places os) → AreApart (pids os) → list_any (λ o. o.pid.0 == pid.0) os ≡ true → CanLower t (cases_of places pid)
 can_lower t places pid os k apart any =
     all_allow one_less (λ n. 0 < n) Covering (λ n x r. omega arith) (λ n x r. omega arith) t (cases_of places pid) (record {
       sends = λ p within. rw (k.sends p (rw k.sends_length at within)) (omega (arith, all_passing-ended (is_send_on p) places pid os apart any));
       recvs = λ p within. rw (k.recvs p (rw k.recvs_length at within)) (omega (arith, all_passing-ended (is_recv_on p) places pid os apart any));
     })
 
-lowered_counts : (half : Tally → List ℕ) (test : Port → Case → Bool) (t : Tally) (places : List (ArrayVec Case)) (pid : Pid) (os : List Opened) → IsHalf one_less half test → length (half t) ≡ 65 → AreApart (pids os) → list_any (λ o. o.pid.0 == pid.0) os ≡ true → Counts test (half t) (calls_of places os) → Counts test (half (with_lowered t (cases_of places pid))) (calls_of places (others pid os))
+lowered_counts : (half : CaseCounts → List ℕ) (test : Port → Case → Bool) (t : CaseCounts) (places : List (ArrayVec Case)) (pid : Pid) (os : List Opened) → IsHalf one_less half test → length (half t) ≡ 65 → AreApart (pids os) → list_any (λ o. o.pid.0 == pid.0) os ≡ true → CountsCases test (half t) (calls_of places os) → CountsCases test (half (with_lowered t (cases_of places pid))) (calls_of places (others pid os))
 lowered_counts half test t places pid os h long apart any k = λ p within.
     let inside : p.0 < length (half t) = rw long within in
     all_changed_at one_less half test h t (cases_of places pid) p inside
@@ -200,8 +200,8 @@ lowered_counts half test t places pid os h long apart any k = λ p within.
     ∙ ap (λ n. n - passing (test p) (cases_of places pid)) (k p within)
     ∙ omega (arith, all_passing-ended (test p) places pid os apart any)
 
-pub tally_ended : (t : Tally) (places : List (ArrayVec Case)) (pid : Pid) (os : List Opened) → AreApart (pids os) → list_any (λ o. o.pid.0 == pid.0) os ≡ true → IsTallyOf t (calls_of places os) → IsTallyOf (with_lowered t (cases_of places pid)) (calls_of places (others pid os))
-tally_ended t places pid os apart any k = record {
+pub counts_ended : (t : CaseCounts) (places : List (ArrayVec Case)) (pid : Pid) (os : List Opened) → AreApart (pids os) → list_any (λ o. o.pid.0 == pid.0) os ≡ true → IsCountOf t (calls_of places os) → IsCountOf (with_lowered t (cases_of places pid)) (calls_of places (others pid os))
+counts_ended t places pid os apart any k = record {
   sends = lowered_counts sends_of is_send_on t places pid os (sends_half one_less) k.sends_length apart any k.sends;
   recvs = lowered_counts recvs_of is_recv_on t places pid os (recvs_half one_less) k.recvs_length apart any k.recvs;
   sends_length = length-all_changed one_less sends_of is_send_on (sends_half one_less) t (cases_of places pid) ∙ k.sends_length;
@@ -244,13 +244,13 @@ all_passing-on p (w ∷ ws) = omega (arith, passing-on p w.call.cases, all_passi
 pub some_waits_on : (p : Port) (ws : List Ticketed) → (not (all_passing (is_send_on p) ws == 0) || not (all_passing (is_recv_on p) ws == 0)) ≡ is_some (first_with (is_on p) (open_calls ws))
 some_waits_on p ws = some_of_two (all_passing (is_send_on p) ws) (all_passing (is_recv_on p) ws) ∙ ap (λ n. not (n == 0)) (sym (all_passing-on p ws)) ∙ some_waits (is_on p) ws
 
-pub tally_tells : (s : Side) (p : Port) (t : Tally) (ws : List Ticketed) → IsTallyOf t ws → p.0 ≤ 64 → has_case t p s ≡ is_some (first_with (passes p s) (open_calls ws))
-tally_tells side.Send p t ws k within = rw (k.sends p (omega arith)) (some_waits (is_send_on p) ws)
-tally_tells side.Recv p t ws k within = rw (k.recvs p (omega arith)) (some_waits (is_recv_on p) ws)
-tally_tells side.Any p t ws k within = rw (k.sends p (omega arith), k.recvs p (omega arith)) (some_waits_on p ws)
+pub counts_tell : (s : Side) (p : Port) (t : CaseCounts) (ws : List Ticketed) → IsCountOf t ws → p.0 ≤ 64 → has_case t p s ≡ is_some (first_with (passes p s) (open_calls ws))
+counts_tell side.Send p t ws k within = rw (k.sends p (omega arith)) (some_waits (is_send_on p) ws)
+counts_tell side.Recv p t ws k within = rw (k.recvs p (omega arith)) (some_waits (is_recv_on p) ws)
+counts_tell side.Any p t ws k within = rw (k.sends p (omega arith), k.recvs p (omega arith)) (some_waits_on p ws)
 
-pub no_tally : (t : Tally) → t.sends ≡ replicate 65 0 → t.recvs ≡ replicate 65 0 → IsTallyOf t []
-no_tally t s r = record {
+pub no_counts : (t : CaseCounts) → t.sends ≡ replicate 65 0 → t.recvs ≡ replicate 65 0 → IsCountOf t []
+no_counts t s r = record {
   sends = λ p within. rw s (get_or-replicate 65 p.0 0 0 within);
   recvs = λ p within. rw r (get_or-replicate 65 p.0 0 0 within);
   sends_length = rw s (length-replicate {A = ℕ} 65 0);

@@ -14,7 +14,9 @@ use Rattle.hub_parts.specs.declared.side.Side.TheVariants as side
 use Rattle.hub_parts.specs.declared.wait_queue.Waiter.{Waiter}
 use Rattle.hub_parts.specs.Records.{Ticketed, Calls, ChannelLists}
 use Rattle.hub_parts.specs.Queues.{lives, roomy, joined, taken, waiters, waiters_from, waiter_at}
-use Rattle.hub_parts.specs.Lists.{queue_of, channel_of, line_of, with_queue, with_call, ticketed, all_roomy, all_joined, CanJoin, no_channel, new_port, passes}
+use Rattle.hub_parts.specs.Lists.{with_call, ticketed, new_port, passes}
+use Rattle.hub_parts.specs.Channels.{queue_of, channel_of, line_of, with_queue, no_channel}
+use Rattle.hub_parts.specs.Parking.{all_roomy, all_joined, CanJoin}
 use Rattle.hub_parts.specs.Keeps.{QueueKeeps, CallsKeep, BoardKeeps, joins, AllMade, Ascending, without_call}
 use Rattle.hub_parts.proofs.Lines.{queue_with_cases, length-with_cases}
 use Rattle.hub_parts.proofs.Endings.{ended_keeps, taken_keeps, none_keeps, all_filter, ascending_filter}

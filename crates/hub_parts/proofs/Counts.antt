@@ -18,7 +18,7 @@ use Rattle.hub_parts.specs.declared.side.Side.{Side}
 use Rattle.hub_parts.specs.declared.side.Side.TheVariants as side
 use Rattle.hub_parts.specs.Records.{Ticketed}
 use Rattle.hub_parts.specs.Lists.{open_calls, passes}
-use Rattle.hub_parts.specs.CaseCounts.{changed, with_changed, all_changed, CaseAllows, AllAllow, one_more, one_less, with_raised, with_lowered, CanRaise, CanLower, HasRoom, has_case, passing, all_passing, CountsCases, IsCountOf}
+use Rattle.hub_parts.specs.CaseCounts.{changed, with_changed, all_changed, CaseAllows, AllAllow, one_more, one_less, with_raised, with_lowered, CanRaise, CanLower, CanGrow, has_case, passing, all_passing, CountsCases, IsCountOf}
 use Rattle.hub_parts.specs.Tickets.{AreApart, pids, calls_of, cases_of}
 
 abbrev iterate : (ℕ → ℕ) → ℕ → ℕ → ℕ
@@ -136,7 +136,7 @@ Covering n x = n ≤ x
 -- 255 calls of 16 cases fit
 pub can_raise : (t : CaseCounts) (ws : List Ticketed) (cases : List Case) → IsCountOf t ws → AllByRecursion (λ w. length w.call.cases ≤ 16) ws → length ws < 256 → length cases ≤ 16 → CanRaise t cases
 can_raise t ws cases k few most small =
-    all_allow one_more HasRoom Fitting (λ n x r. omega arith) (λ n x r. omega arith) t cases (record {
+    all_allow one_more CanGrow Fitting (λ n x r. omega arith) (λ n x r. omega arith) t cases (record {
       sends = λ p within. rw (k.sends p (rw k.sends_length at within)) (omega (arith, all_passing-le (is_send_on p) ws few, passing-le (is_send_on p) cases));
       recvs = λ p within. rw (k.recvs p (rw k.recvs_length at within)) (omega (arith, all_passing-le (is_recv_on p) ws few, passing-le (is_recv_on p) cases));
     })

@@ -1,9 +1,10 @@
 -- The calls in their list and in their places, as contracts see them.
-use Rattle.std.proofs.Common.{◌≡◌, ◌≢◌, ℕ, ◌+◌, ◌++◌, Bool, List, [], ◌∷◌, refl, Option, Some, None, arith, drop, take, length, get_or, set, ◌<◌, suc, not, ◌==◌, ◌||◌, filter, slice_get, true, false, find, zero, cond, append_assoc, ap, ◌∙◌}
+use Rattle.std.proofs.Common.{◌≡◌, ◌≢◌, ℕ, ◌+◌, ◌++◌, Bool, List, [], ◌∷◌, refl, Option, Some, None, arith, drop, take, length, get_or, set, ◌<◌, suc, not, ◌==◌, ◌||◌, filter, slice_get, true, false, inl, inr, eq-eqb, replicate, find, zero, cond, append_assoc, ap, sym, ◌∙◌}
 use Rattle.std.specs.List.{AllByRecursion, list_any}
 use Rattle.std.specs.Option.{option_map}
-use Rattle.std.proofs.lemmas.Bool.{eqb-false}
-use Rattle.std.proofs.lemmas.List.{drop_more, append-nil, get_or-set_same, get_or-set_other, map-append, get_or_default}
+use Rattle.std.proofs.lemmas.Bool.{eqb-false, ne_eqb, cases_eq}
+use Rattle.std.proofs.lemmas.Bool.Decides.{nat_tests}
+use Rattle.std.proofs.lemmas.List.{drop_more, append-nil, get_or-set_same, get_or-set_other, map-append, get_or_default, length-set, get_or-replicate, length-replicate}
 use Rattle.std.proofs.lemmas.List.Elements.{filter_more}
 use Rattle.std.proofs.lemmas.Grind.{common_steps}
 use Rattle.arrayvec.specs.ArrayVec.{ArrayVec}
@@ -11,7 +12,7 @@ use Rattle.hub_base.specs.declared.value.Pid.{Pid}
 use Rattle.hub_base.specs.declared.case.Case.{Case}
 use Rattle.hub_parts.specs.declared.tickets.Opened.{Opened}
 use Rattle.hub_parts.specs.Records.{Ticketed}
-use Rattle.hub_parts.specs.Tickets.{calls_of, call_of, cases_of, pids}
+use Rattle.hub_parts.specs.Tickets.{IsMarked, calls_of, call_of, cases_of, pids}
 use Rattle.hub_parts.specs.Lists.{still_open, ticketed}
 use Rattle.hub_parts.specs.Queues.{case_at, turned, is_live}
 
@@ -79,3 +80,53 @@ none_to_end pid (w ∷ ws) free =
     let apart : (w.call.pid.0 == pid.0) ≡ false = grind (arith, common_steps) in
     let rest : list_any (λ w. w.call.pid.0 == pid.0) ws ≡ false = grind (arith, common_steps) in
     rw (apart, none_to_end pid ws rest) refl
+
+both_true : (b : Bool) → true ≡ cond b true true
+both_true true = refl
+both_true false = refl
+
+marked_new : (os : List Opened) (o : Opened) (q : ℕ) (b : Bool) → (o.pid.0 == q) ≡ b → list_any (λ o. o.pid.0 == q) (os ++ o ∷ []) ≡ cond b true (list_any (λ o. o.pid.0 == q) os)
+marked_new [] o q true e = rw e refl
+marked_new [] o q false e = rw e refl
+marked_new (v ∷ os) o q b e = elim (v.pid.0 == q) as (λ a. (a || list_any (λ o. o.pid.0 == q) (os ++ o ∷ [])) ≡ cond b true (a || list_any (λ o. o.pid.0 == q) os)) [ true ↦ both_true b | false ↦ marked_new os o q b e ]
+
+pub marked_opened : (marks : List Bool) (os : List Opened) (o : Opened) → o.pid.0 < 256 → IsMarked marks os → IsMarked (set marks o.pid.0 true) (os ++ o ∷ [])
+marked_opened marks os o small k = record {
+  told = λ q within.
+      elim (cases_eq o.pid.0 q) [
+        | inl same ↦ rw (marked_new os o q true (eq-eqb o.pid.0 q same), same) (get_or-set_same marks q true false (rw k.long within))
+        | inr apart ↦ rw (marked_new os o q false (ne_eqb o.pid.0 q apart), get_or-set_other marks o.pid.0 q true false (λ e. apart (sym e))) (k.told q within)
+      ];
+  long = length-set marks o.pid.0 true ∙ k.long;
+}
+
+ended_step : (pid : Pid) (o : Opened) (os : List Opened) (q : ℕ) (b : Bool) → (o.pid.0 == pid.0) ≡ b → (q == pid.0) ≡ false → list_any (λ o. o.pid.0 == q) (filter (λ o. not (o.pid.0 == pid.0)) os) ≡ list_any (λ o. o.pid.0 == q) os → list_any (λ o. o.pid.0 == q) (cond (not b) (o ∷ filter (λ o. not (o.pid.0 == pid.0)) os) (filter (λ o. not (o.pid.0 == pid.0)) os)) ≡ list_any (λ o. o.pid.0 == q) (o ∷ os)
+ended_step pid o os q true e other ih =
+    let not_this : (o.pid.0 == q) ≡ false = grind (arith, nat_tests) in
+    rw not_this ih
+ended_step pid o os q false e other ih = ap (λ b. (o.pid.0 == q) || b) ih
+
+marked_others : (pid : Pid) (os : List Opened) (q : ℕ) → (q == pid.0) ≡ false → list_any (λ o. o.pid.0 == q) (filter (λ o. not (o.pid.0 == pid.0)) os) ≡ list_any (λ o. o.pid.0 == q) os
+marked_others pid [] q other = refl
+marked_others pid (o ∷ os) q other = ended_step pid o os q (o.pid.0 == pid.0) refl other (marked_others pid os q other)
+
+unmarked_step : (pid : Pid) (o : Opened) (os : List Opened) (b : Bool) → (o.pid.0 == pid.0) ≡ b → list_any (λ o. o.pid.0 == pid.0) (filter (λ o. not (o.pid.0 == pid.0)) os) ≡ false → list_any (λ o. o.pid.0 == pid.0) (cond (not b) (o ∷ filter (λ o. not (o.pid.0 == pid.0)) os) (filter (λ o. not (o.pid.0 == pid.0)) os)) ≡ false
+unmarked_step pid o os true e ih = ih
+unmarked_step pid o os false e ih = rw e ih
+
+unmarked : (pid : Pid) (os : List Opened) → list_any (λ o. o.pid.0 == pid.0) (filter (λ o. not (o.pid.0 == pid.0)) os) ≡ false
+unmarked pid [] = refl
+unmarked pid (o ∷ os) = unmarked_step pid o os (o.pid.0 == pid.0) refl (unmarked pid os)
+
+pub marked_ended : (marks : List Bool) (os : List Opened) (pid : Pid) → IsMarked marks os → IsMarked (set marks pid.0 false) (filter (λ o. not (o.pid.0 == pid.0)) os)
+marked_ended marks os pid k = record {
+  told = λ q within.
+      elim (cases_eq q pid.0) [
+        | inl same ↦ rw (same, unmarked pid os) (get_or-set_same marks pid.0 false false (rw (k.long, ← same) within))
+        | inr apart ↦ rw (marked_others pid os q (ne_eqb q pid.0 apart), get_or-set_other marks pid.0 q false false apart) (k.told q within)
+      ];
+  long = length-set marks pid.0 false ∙ k.long;
+}
+
+pub none_marked : IsMarked (replicate 256 false) []
+none_marked = record { told = λ q within. get_or-replicate 256 q false false within; long = length-replicate 256 false }

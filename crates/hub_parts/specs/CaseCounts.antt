@@ -53,23 +53,23 @@ abbrev pub with_lowered : CaseCounts → List Case → CaseCounts
 with_lowered t cases = all_changed one_less t cases
 
 -- one more fits
-abbrev pub HasRoom : ℕ → Type 0
-HasRoom n = n + 1 < 65536
+abbrev pub CanGrow : ℕ → Type 0
+CanGrow n = n + 1 < 65536
 
-abbrev pub IsSome : ℕ → Type 0
-IsSome n = 0 < n
+abbrev pub IsPositive : ℕ → Type 0
+IsPositive n = 0 < n
 
 abbrev pub Raises : List ℕ → Port → Type 0
-Raises xs p = Allows HasRoom xs p
+Raises xs p = Allows CanGrow xs p
 
 abbrev pub Lowers : List ℕ → Port → Type 0
-Lowers xs p = Allows IsSome xs p
+Lowers xs p = Allows IsPositive xs p
 
 abbrev pub CanRaise : CaseCounts → List Case → Type 0
-CanRaise t cases = AllAllow one_more HasRoom t cases
+CanRaise t cases = AllAllow one_more CanGrow t cases
 
 abbrev pub CanLower : CaseCounts → List Case → Type 0
-CanLower t cases = AllAllow one_less IsSome t cases
+CanLower t cases = AllAllow one_less IsPositive t cases
 
 -- some case is counted on this side of the port
 abbrev pub has_case : CaseCounts → Port → Side → Bool

@@ -11,7 +11,8 @@ use Rattle.hub_parts.specs.declared.side.Side.TheVariants as side
 use Rattle.hub_parts.specs.declared.wait_queue.Waiter.{Waiter}
 use Rattle.hub_parts.specs.Records.{Ticketed, Calls, ChannelLists, Lists}
 use Rattle.hub_parts.specs.Queues.{live_of, waiters}
-use Rattle.hub_parts.specs.Lists.{queue_of, channel_of, still_open}
+use Rattle.hub_parts.specs.Lists.{still_open}
+use Rattle.hub_parts.specs.Channels.{queue_of, channel_of}
 
 -- the cases of which a queue has the entries
 abbrev pub joins : Side → Port → Case → Bool

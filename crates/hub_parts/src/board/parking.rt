@@ -1,7 +1,7 @@
 //! The queues of a call's cases.
 ghost use Rattle.std.specs.Prelude.{◌≡◌, ◌≤◌, ◌<◌, ◌+◌, length};
 ghost use Rattle.hub_parts.specs.Queues.{roomy, joined, waiter_at};
-ghost use Rattle.hub_parts.specs.Lists.{with_line, with_case, all_roomy, all_joined, IsWithin, HasPlace, CaseFits, CanJoin};
+ghost use Rattle.hub_parts.specs.Parking.{with_line, with_case, all_roomy, all_joined, IsWithin, HasPlace, CaseFits, CanJoin};
 ghost use Rattle.hub_parts.specs.Keeps.{AllMade};
 ghost use Rattle.hub_base.specs.Ready.{port_of};
 

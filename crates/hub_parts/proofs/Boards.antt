@@ -11,10 +11,12 @@ use Rattle.hub_base.specs.declared.case.Case.TheVariants.{Send, Recv}
 use Rattle.hub_base.specs.Ready.{port_of}
 use Rattle.hub_parts.specs.declared.side.Side.{Side}
 use Rattle.hub_parts.specs.declared.side.Side.TheVariants as side
-use Rattle.hub_parts.specs.declared.queue.Waiter.{Waiter}
+use Rattle.hub_parts.specs.declared.wait_queue.Waiter.{Waiter}
 use Rattle.hub_parts.specs.Records.{Ticketed, Calls, ChannelLists}
 use Rattle.hub_parts.specs.Queues.{lives, roomy, joined, taken, waiters, waiters_from, waiter_at}
-use Rattle.hub_parts.specs.Lists.{queue_of, channel_of, line_of, with_queue, with_call, ticketed, all_roomy, all_joined, CanJoin, no_channel, new_port, passes}
+use Rattle.hub_parts.specs.Lists.{with_call, ticketed, new_port, passes}
+use Rattle.hub_parts.specs.Channels.{queue_of, channel_of, line_of, with_queue, no_channel}
+use Rattle.hub_parts.specs.Parking.{all_roomy, all_joined, CanJoin}
 use Rattle.hub_parts.specs.Keeps.{QueueKeeps, CallsKeep, BoardKeeps, joins, AllMade, Ascending, without_call}
 use Rattle.hub_parts.proofs.Lines.{queue_with_cases, length-with_cases}
 use Rattle.hub_parts.proofs.Endings.{ended_keeps, taken_keeps, none_keeps, all_filter, ascending_filter}
@@ -29,6 +31,7 @@ pub calls_ended : (pid : Pid) (c : Calls) (n : ℕ) → CallsKeep c n → CallsK
 calls_ended pid c n k =
     let keep = λ (w : Ticketed). not (w.call.pid.0 == pid.0) in
     record {
+      counted = k.counted;
       few = omega (arith, shorter_calls keep c.waiting, k.few);
       small = all_filter (λ w. length w.call.cases ≤ 8) keep c.waiting k.small;
       made = all_filter (λ w. AllMade n w.call.cases) keep c.waiting k.made;
@@ -136,11 +139,12 @@ fresh_queue side.Recv cap procs = refl
 fresh_queue side.Any cap procs = refl
 
 -- a board with one more port
-pub board_made : (cap : ℕ) (c : Calls) (cs : List ChannelLists) → BoardKeeps c cs → BoardKeeps c (cs ++ fresh cap c.procs ∷ [])
-board_made cap c cs k =
+pub board_made : (cap : ℕ) (c : Calls) (cs : List ChannelLists) → BoardKeeps c cs → length cs < 64 → BoardKeeps c (cs ++ fresh cap c.procs ∷ [])
+board_made cap c cs k fewer =
     let long = length-append cs (fresh cap c.procs ∷ []) in
     record {
       calls = record {
+        counted = omega (arith, long);
         few = k.calls.few;
         small = k.calls.small;
         made = all_more_made (length cs) (length (cs ++ fresh cap c.procs ∷ [])) c.waiting (omega (arith, long)) k.calls.made;
@@ -198,6 +202,7 @@ all_below n m (w ∷ ws) le a = let less : w.ticket < n = a.0 in (omega arith, a
 
 pub calls_opened : (pid : Pid) (ticket : ℕ) (cases : List Case) (c : Calls) (n : ℕ) → CallsKeep c n → c.next_ticket ≤ ticket → length cases ≤ 8 → AllMade n cases → length (c.waiting ++ ticketed pid ticket cases ∷ []) ≤ c.procs → CallsKeep (with_call pid ticket cases c) n
 calls_opened pid ticket cases c n k later small made few = record {
+  counted = k.counted;
   few = few;
   small = all_snoc (λ w. length w.call.cases ≤ 8) c.waiting (ticketed pid ticket cases) k.small small;
   made = all_snoc (λ w. AllMade n w.call.cases) c.waiting (ticketed pid ticket cases) k.made made;

@@ -13,10 +13,12 @@ use Rattle.hub_base.specs.declared.case.Case.TheVariants.{Send, Recv}
 use Rattle.hub_base.specs.Ready.{port_of}
 use Rattle.hub_parts.specs.declared.side.Side.{Side}
 use Rattle.hub_parts.specs.declared.side.Side.TheVariants as side
-use Rattle.hub_parts.specs.declared.queue.Waiter.{Waiter}
+use Rattle.hub_parts.specs.declared.wait_queue.Waiter.{Waiter}
 use Rattle.hub_parts.specs.Records.{Ticketed, Calls, ChannelLists}
 use Rattle.hub_parts.specs.Queues.{is_live, lives, live_of, roomy, joined, waiters, waiters_of, waiters_from, waiter_at}
-use Rattle.hub_parts.specs.Lists.{queue_of, channel_of, with_call, ticketed, with_case, CanJoin, CaseFits}
+use Rattle.hub_parts.specs.Lists.{with_call, ticketed}
+use Rattle.hub_parts.specs.Channels.{queue_of, channel_of}
+use Rattle.hub_parts.specs.Parking.{with_case, CanJoin, CaseFits}
 use Rattle.hub_parts.specs.Keeps.{QueueKeeps, joins, AllMade}
 use Rattle.hub_parts.proofs.Lines.{with_if, queue_after, queue_with_case, length-with_case}
 use Rattle.hub_parts.proofs.Endings.{filter_within}

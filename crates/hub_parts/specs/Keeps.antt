@@ -8,10 +8,11 @@ use Rattle.hub_base.specs.declared.case.Case.{Case}
 use Rattle.hub_base.specs.Ready.{is_send_on, is_recv_on, port_of}
 use Rattle.hub_parts.specs.declared.side.Side.{Side}
 use Rattle.hub_parts.specs.declared.side.Side.TheVariants as side
-use Rattle.hub_parts.specs.declared.queue.Waiter.{Waiter}
+use Rattle.hub_parts.specs.declared.wait_queue.Waiter.{Waiter}
 use Rattle.hub_parts.specs.Records.{Ticketed, Calls, ChannelLists, Lists}
 use Rattle.hub_parts.specs.Queues.{live_of, waiters}
-use Rattle.hub_parts.specs.Lists.{queue_of, channel_of, still_open}
+use Rattle.hub_parts.specs.Lists.{still_open}
+use Rattle.hub_parts.specs.Channels.{queue_of, channel_of}
 
 -- the cases of which a queue has the entries
 abbrev pub joins : Side → Port → Case → Bool
@@ -35,6 +36,7 @@ abbrev pub AllMade : ℕ → List Case → Type 0
 AllMade n cases = AllByRecursion (λ c. (port_of c).0 ≤ n) cases
 
 pub record CallsKeep (c : Calls) (ports : ℕ) : Type 0 where
+  pub counted : ports ≤ 64
   pub few : length c.waiting ≤ c.procs
   pub small : AllByRecursion (λ w. length w.call.cases ≤ 8) c.waiting
   pub made : AllByRecursion (λ w. AllMade ports w.call.cases) c.waiting

@@ -6,9 +6,11 @@ ghost use Rattle.hub_base.specs.Ready.{first_with};
 ghost use Rattle.hub_parts.specs.Lists.{open_calls, parked, with_new, IsMade, port_at, with_port, pushed, popped, closed_now, passes, ending_of, after_taking, after_stop, opened};
 ghost use Rattle.hub_parts.specs.Keeps.{AllMade};
 
-use crate::joining::{join, make_room};
+mod parking;
+
 use crate::{Channel, Ended, Side, Tickets};
 use hub_base::{Cases, Pid, Port, Value};
+use parking::{join, make_room};
 use std::alloc::{AllocError, Global};
 use std::marker::Model;
 
@@ -80,9 +82,7 @@ impl Board {
         requires { IsMade self.now port }
         ensures { result ≡ is_some (first_with (passes port side) (open_calls self.now.waiting)) }
     {
-        self.ports[port.0 as usize - 1]
-            .first(side, &self.calls)
-            .is_some()
+        self.calls.waits(port, side)
     }
 
     /// Whether the port is closed.

@@ -13,8 +13,8 @@ pub mod Reading
 pub mod Text
 pub mod TextRows
 pub mod Journal
-pub mod Left
+pub mod Fields
 pub mod Writing
-pub mod Answers
+pub mod ReadJournal
 pub mod Reader
 pub mod ReaderKeeps

@@ -5,6 +5,7 @@ use Rattle.hub_base.specs.declared.entry.Entry.{Entry}
 use Rattle.hub_base.specs.declared.text.faults.TextFault.{TextFault}
 use Rattle.hub_base.specs.Reading.{Reading, Reads, Faulty, with_entry}
 
+-- a reader
 pub record ReaderView : Type 0 where
   pub procs : ℕ
   pub left : Reading

@@ -19,9 +19,11 @@ abbrev pub is_recv_on : Port → Case → Bool
 is_recv_on p (Send q v) = false
 is_recv_on p (Recv q) = q.0 == p.0
 
+-- the case communicates on the port
 abbrev pub is_on : Port → Case → Bool
 is_on p c = is_send_on p c || is_recv_on p c
 
+-- the port of a case
 abbrev pub port_of : Case → Port
 port_of (Send p v) = p
 port_of (Recv p) = p
@@ -31,6 +33,7 @@ pub record Placed : Type 0 where
   pub index : ℕ
   pub case : Case
 
+-- the first, where there is one, else the other
 abbrev pub or_else : {A : Type 0} → Option A → Option A → Option A
 or_else None other = other
 or_else (Some x) other = Some x
@@ -40,6 +43,7 @@ abbrev pub lowest_from : ℕ → (Case → Bool) → List Case → Option Placed
 lowest_from i test [] = None
 lowest_from i test (c ∷ cs) = if test c then Some (record { index = i; case = c }) else lowest_from (i + 1) test cs
 
+-- the lowest-numbered case that passes
 abbrev pub lowest : (Case → Bool) → List Case → Option Placed
 lowest test cases = lowest_from 0 test cases
 

@@ -13,7 +13,7 @@ pub struct Fields<'a> {
 
 impl<'a> Model for Fields<'a> {
     ghost use Rattle.std.specs.Prelude.{List, ℕ};
-    ghost use Rattle.hub_base.specs.Left.{pieces_left};
+    ghost use Rattle.hub_base.specs.Fields.{pieces_left};
 
     ghost Value = { List (List ℕ) };
 

@@ -7,7 +7,7 @@
 ghost use Rattle.std.specs.Prelude.{◌≡◌, ◌≤◌, ℕ, IfOk, IfErr, List, ◌++◌, MatchResult};
 ghost use Rattle.hub_base.specs.Lines.{line};
 ghost use Rattle.hub_base.specs.Reading.{read_text, procs_number, procs_from, rows, is_exit};
-ghost use Rattle.hub_base.specs.Answers.{Gives, IsFaultOf};
+ghost use Rattle.hub_base.specs.ReadJournal.{Gives, IsFaultOf};
 ghost use Rattle.hub_base.specs.Text.{IsText, IsFaulty, IsEither, Fits};
 ghost use Rattle.hub_base.specs.Reading.Reading.{Reads, Faulty};
 ghost use Rattle.hub_base.specs.Reader.{ReadsOn};

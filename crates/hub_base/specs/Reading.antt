@@ -9,6 +9,7 @@ use Rattle.hub_base.specs.declared.entry.Entry.{Entry}
 use Rattle.hub_base.specs.declared.text.faults.Kind.{Kind}
 use Rattle.hub_base.specs.declared.text.faults.Kind.TheVariants.{BadHeader, BadProcs, CutLine, TooLong}
 use Rattle.hub_base.specs.Lines.{line, pieces, read_fields, number, same_text}
+use Rattle.hub_base.specs.Limits.{most_bytes, most_procs, most_steps}
 
 -- the second line without its newline
 abbrev pub procs_line : ℕ → List ℕ
@@ -55,7 +56,7 @@ end_of start r = start + length r.bytes + (if r.whole then 1 else 0)
 
 -- what is wrong with a line that ends before this place, before anything is read of it
 abbrev pub row_fault : ℕ → Row → Option Kind
-row_fault end r = if nat_lt 67108864 end then Some TooLong else if r.whole then None else Some CutLine
+row_fault end r = if nat_lt most_bytes end then Some TooLong else if r.whole then None else Some CutLine
 
 -- the same of the first line
 abbrev pub line_fault : ℕ → List Row → Option Kind
@@ -87,7 +88,7 @@ counted steps e = if is_exit e.step then steps else steps + 1
 
 -- this entry is one step too many
 abbrev pub over : ℕ → Entry → Bool
-over steps e = not (is_exit e.step) && nat_le 1000000 steps
+over steps e = not (is_exit e.step) && nat_le most_steps steps
 
 -- what line k says, and the lines behind it: `goes` tells those, by the entry
 abbrev pub entry_says : ℕ → ℕ → Result Entry Kind → (Entry → Reading) → Reading
@@ -102,7 +103,7 @@ entries_from n k start steps (r ∷ rs) =
 
 -- `procs`, and a number up to 64
 abbrev pub procs_field : List (List ℕ) → Option ℕ
-procs_field (w ∷ n ∷ []) = if same_text w (codes "procs") then number 64 n else None
+procs_field (w ∷ n ∷ []) = if same_text w (codes "procs") then number most_procs n else None
 procs_field other = None
 
 -- not 0

@@ -12,28 +12,29 @@ use Rattle.hub_base.specs.declared.text.faults.Kind.{Kind}
 use Rattle.hub_base.specs.declared.text.faults.Kind.TheVariants.{BadHeader, BadProcs, TooLong}
 use Rattle.hub_base.specs.Lines.{line, step_fields, pieces, read_fields, same_text}
 use Rattle.hub_base.specs.Reading.{text, head, procs_line, Row, rows, is_exit, row_fault, end_of, over, procs_number}
+use Rattle.hub_base.specs.Limits.{greatest_cap, greatest_pid, greatest_port, greatest_value, greatest_word, most_bytes, most_cases, most_procs, most_steps}
 
 -- the numbers of a case are such as a text can hold
 abbrev pub CaseFits : Case → Type 0
-CaseFits (Send p v) = (p.0 ≤ 65535) × (number_of v ≤ 18446744073709551615)
-CaseFits (Recv p) = p.0 ≤ 65535
+CaseFits (Send p v) = (p.0 ≤ greatest_port) × (number_of v ≤ greatest_value)
+CaseFits (Recv p) = p.0 ≤ greatest_port
 
 -- a call of at most 16 cases, with such numbers
 pub record CallFits (cases : List Case) (word : ℕ) : Type 0 where
-  pub few : length cases ≤ 16
+  pub few : length cases ≤ most_cases
   pub each : AllByRecursion CaseFits cases
-  pub word_fits : word ≤ 18446744073709551615
+  pub word_fits : word ≤ greatest_word
 
 -- the same of a step
 abbrev pub StepFits : Step → Type 0
-StepFits (Make cap) = cap ≤ 4294967295
+StepFits (Make cap) = cap ≤ greatest_cap
 StepFits (Call cases default word) = CallFits cases.items word
-StepFits (Close p) = p.0 ≤ 65535
+StepFits (Close p) = p.0 ≤ greatest_port
 StepFits Exit = 0 ≤ 0
 
 -- and of an entry
 pub record Fits (e : Entry) : Type 0 where
-  pub pid : e.pid.0 ≤ 255
+  pub pid : e.pid.0 ≤ greatest_pid
   pub step : StepFits e.step
 
 -- 1 for a step, 0 for an exit
@@ -49,10 +50,10 @@ steps_of (e ∷ es) = one_step e + steps_of es
 pub record IsText (bytes : List ℕ) (n : ℕ) (es : List Entry) : Type 0 where
   pub spelled : bytes ≡ text n es
   pub some : 1 ≤ n
-  pub few : n ≤ 64
+  pub few : n ≤ most_procs
   pub fits : AllByRecursion Fits es
-  pub bytes_fit : length bytes ≤ 67108864
-  pub steps_fit : steps_of es ≤ 1000000
+  pub bytes_fit : length bytes ≤ most_bytes
+  pub steps_fit : steps_of es ≤ most_steps
 
 -- the fields of an entry's line
 abbrev pub fields_of : Entry → List (List ℕ)
@@ -93,8 +94,8 @@ pub record EntryFails (place steps k : ℕ) (rs : List Row) (faulty : ℕ) (kind
   pub lines : rs ≡ map row_of es ++ bad ∷ more
   pub count : faulty ≡ k + length es
   pub fits : AllByRecursion Fits es
-  pub bytes_fit : place + length (flat_map line es) ≤ 67108864
-  pub steps_fit : steps + steps_of es ≤ 1000000
+  pub bytes_fit : place + length (flat_map line es) ≤ most_bytes
+  pub steps_fit : steps + steps_of es ≤ most_steps
   pub fault : entry_fault (place + length (flat_map line es)) (steps + steps_of es) bad ≡ Some kind
 
 -- ---- the head
@@ -142,7 +143,7 @@ pub record FaultyEntry (rs : List Row) (k : ℕ) (kind : Kind) : Type 0 where
   pub more : List Row
   pub lines : rs ≡ header_row ∷ procs_row n ∷ more
   pub some : 1 ≤ n
-  pub few : n ≤ 64
+  pub few : n ≤ most_procs
   pub fails : EntryFails (length (head n)) 0 3 more k kind
 
 -- the lines before the k-th are head lines and spellings within the limits, and of the k-th this is the first fault

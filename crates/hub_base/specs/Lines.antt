@@ -1,5 +1,5 @@
--- The line of an entry: the fields that spell it, and what the fields of any line say. Each entry has one
--- spelling. Numbers are decimal, without sign and without a leading zero.
+-- The line of an entry: the fields that spell it, and what the fields of any line say. Each entry
+-- has one spelling. Numbers are decimal, without sign and without a leading zero.
 use Rattle.std.specs.Prelude.{ℕ, zero, ◌==◌, ◌&&◌, ◌||◌, not, nat_lt, nat_le, Bool, true, false, List, [], ◌∷◌, ◌++◌, length, map, codes, decimal, Option, None, Some, Result, Ok, Err, if◌then◌else◌}
 use Rattle.std.specs.List.{list_all, join_with_byte}
 use Rattle.std.specs.Char.{is_ascii_digit}
@@ -27,7 +27,8 @@ default_field false = []
 
 -- a select: its word, its cases, and perhaps a default
 abbrev pub select_fields : List Case → Bool → ℕ → List (List ℕ)
-select_fields cases default word = codes "select" ∷ decimal word ∷ map case_field cases ++ default_field default
+select_fields cases default word =
+    codes "select" ∷ decimal word ∷ map case_field cases ++ default_field default
 
 -- a call of one case without default and with word 0 has a short form
 abbrev pub call_fields : List Case → Bool → ℕ → List (List ℕ)
@@ -116,7 +117,10 @@ recv_draft other = Err BadStep
 -- a case field; 115 is the letter s, and 114 is r
 abbrev pub draft_of : List ℕ → Result Draft Kind
 draft_of [] = Err BadStep
-draft_of (c ∷ cs) = if c == 115 then send_draft (pieces 58 cs) else if c == 114 then recv_draft (pieces 58 cs) else Err BadStep
+draft_of (c ∷ cs) =
+    if c == 115 then send_draft (pieces 58 cs)
+    else if c == 114 then recv_draft (pieces 58 cs)
+    else Err BadStep
 
 -- all case fields of a select
 abbrev pub drafts_of : List (List ℕ) → Result (List Draft) Kind
@@ -125,7 +129,9 @@ drafts_of (f ∷ fs) = draft_of f >>= λ d. drafts_of fs >>= λ ds. Ok (d ∷ ds
 
 -- the case of such a field, where its parts are numbers
 abbrev pub case_of : Draft → Result Case Kind
-case_of (Sends p v) = numeral greatest_port p >>= λ p. numeral greatest_value v >>= λ v. Ok (Send (record { 0 = p }) (value_of v))
+case_of (Sends p v) =
+    numeral greatest_port p >>= λ p. numeral greatest_value v >>= λ v.
+    Ok (Send (record { 0 = p }) (value_of v))
 case_of (Receives p) = numeral greatest_port p >>= λ p. Ok (Recv (record { 0 = p }))
 
 -- a fault of its shape, or else what its numbers say
@@ -171,26 +177,34 @@ choose pid word cases default =
 abbrev pub read_select : List ℕ → List ℕ → (List (List ℕ)) × Bool → Result Entry Kind
 read_select pid word fields =
     drafts_of fields.0 >>= λ drafts.
-    if nat_lt most_cases (length drafts) then Err BadStep else choose pid word (cases_of drafts) fields.1
+    if nat_lt most_cases (length drafts) then Err BadStep
+    else choose pid word (cases_of drafts) fields.1
 
 -- `P make C`
 abbrev pub read_make : List ℕ → List (List ℕ) → Result Entry Kind
-read_make pid (cap ∷ []) = numeral greatest_pid pid >>= λ pid. numeral greatest_cap cap >>= λ cap. Ok (by pid (Make cap))
+read_make pid (cap ∷ []) =
+    numeral greatest_pid pid >>= λ pid. numeral greatest_cap cap >>= λ cap. Ok (by pid (Make cap))
 read_make pid other = Err BadStep
 
 -- `P send PORT V`
 abbrev pub read_send : List ℕ → List (List ℕ) → Result Entry Kind
-read_send pid (p ∷ v ∷ []) = numeral greatest_pid pid >>= λ pid. case_of (Sends p v) >>= λ c. Ok (by pid (call (c ∷ []) false 0))
+read_send pid (p ∷ v ∷ []) =
+    numeral greatest_pid pid >>= λ pid. case_of (Sends p v) >>= λ c.
+    Ok (by pid (call (c ∷ []) false 0))
 read_send pid other = Err BadStep
 
 -- `P recv PORT`
 abbrev pub read_recv : List ℕ → List (List ℕ) → Result Entry Kind
-read_recv pid (p ∷ []) = numeral greatest_pid pid >>= λ pid. case_of (Receives p) >>= λ c. Ok (by pid (call (c ∷ []) false 0))
+read_recv pid (p ∷ []) =
+    numeral greatest_pid pid >>= λ pid. case_of (Receives p) >>= λ c.
+    Ok (by pid (call (c ∷ []) false 0))
 read_recv pid other = Err BadStep
 
 -- `P close PORT`
 abbrev pub read_close : List ℕ → List (List ℕ) → Result Entry Kind
-read_close pid (p ∷ []) = numeral greatest_pid pid >>= λ pid. numeral greatest_port p >>= λ p. Ok (by pid (Close (record { 0 = p })))
+read_close pid (p ∷ []) =
+    numeral greatest_pid pid >>= λ pid. numeral greatest_port p >>= λ p.
+    Ok (by pid (Close (record { 0 = p })))
 read_close pid other = Err BadStep
 
 -- `P exit`

@@ -1,5 +1,5 @@
--- Short words for entries and events, in which the worked rows are written: `send 0 1 7` is process 0 that
--- sends 7 on port 1, and `case 0 0 (got 7)` tells it that case 0 of its call got 7.
+-- Short words for entries and events, in which the worked rows are written: `send 0 1 7` is process
+-- 0 that sends 7 on port 1, and `case 0 0 (got 7)` tells it that case 0 of its call got 7.
 use Rattle.std.specs.Prelude.{ℕ, Bool, false, List, [], ◌∷◌}
 use Rattle.hub_base.specs.declared.value.Port.{Port}
 use Rattle.hub_base.specs.declared.case.Case.{Case}

@@ -1,6 +1,7 @@
--- A whole text: how it is spelled, and what any list of bytes says when its lines are read in order. The first
--- faulty line decides, and of its faults the first in this order: a byte past the limit, no newline, the head
--- lines, the shape of a step, its numbers, its spelling, one step too many.
+-- A whole text: how it is spelled, and what any list of bytes says when its lines are read in
+-- order. The first faulty line decides, and of its faults the first in this order: a byte past the
+-- limit, no newline, the head lines, the shape of a step, its numbers, its spelling, one step too
+-- many.
 use Rattle.std.specs.Prelude.{ℕ, ◌+◌, ◌==◌, ◌&&◌, not, nat_lt, nat_le, Bool, true, false, List, [], ◌∷◌, ◌++◌, length, codes, decimal, Option, None, Some, Result, Ok, Err, if◌then◌else◌}
 use Rattle.std.specs.List.{flat_map}
 use Rattle.hub_base.specs.declared.entry.Step.{Step}
@@ -33,7 +34,8 @@ abbrev pub front : ℕ → List Row → List Row
 front c [] = record { bytes = c ∷ []; whole = false } ∷ []
 front c (r ∷ rs) = record { bytes = c ∷ r.bytes; whole = r.whole } ∷ rs
 
--- the lines of a text: it is cut behind each newline, and a last part without one is a line if it is not empty
+-- the lines of a text: it is cut behind each newline, and a last part without one is a line if it
+-- is not empty
 abbrev pub rows : List ℕ → List Row
 rows [] = []
 rows (c ∷ cs) = if c == 10 then record { bytes = []; whole = true } ∷ rows cs else front c (rows cs)
@@ -45,7 +47,8 @@ is_exit (Call cases default word) = false
 is_exit (Close p) = false
 is_exit Exit = true
 
--- what a text says: so many processes and these entries, or its first faulty line, counted from 1, and the fault
+-- what a text says: so many processes and these entries, or its first faulty line, counted from 1,
+-- and the fault
 pub data Reading : Type 0 where
   Reads : ℕ → List Entry → Reading
   Faulty : ℕ → Kind → Reading
@@ -56,7 +59,8 @@ end_of start r = start + length r.bytes + (if r.whole then 1 else 0)
 
 -- what is wrong with a line that ends before this place, before anything is read of it
 abbrev pub row_fault : ℕ → Row → Option Kind
-row_fault end r = if nat_lt most_bytes end then Some TooLong else if r.whole then None else Some CutLine
+row_fault end r =
+    if nat_lt most_bytes end then Some TooLong else if r.whole then None else Some CutLine
 
 -- the same of the first line
 abbrev pub line_fault : ℕ → List Row → Option Kind
@@ -95,11 +99,14 @@ abbrev pub entry_says : ℕ → ℕ → Result Entry Kind → (Entry → Reading
 entry_says k steps (Err kind) goes = Faulty k kind
 entry_says k steps (Ok e) goes = if over steps e then Faulty k TooLong else with_entry e (goes e)
 
--- what the lines from the k-th on say, where the k-th begins at this place and so many steps stand before it
+-- what the lines from the k-th on say, where the k-th begins at this place and so many steps stand
+-- before it
 abbrev pub entries_from : ℕ → ℕ → ℕ → ℕ → List Row → Reading
 entries_from n k start steps [] = Reads n []
 entries_from n k start steps (r ∷ rs) =
-    within (end_of start r) k r (entry_says k steps (read_fields (pieces 32 r.bytes)) (λ e. entries_from n (k + 1) (end_of start r) (counted steps e) rs))
+    within (end_of start r) k r (
+    entry_says k steps (read_fields (pieces 32 r.bytes)) (
+    λ e. entries_from n (k + 1) (end_of start r) (counted steps e) rs))
 
 -- `procs`, and a number up to 64
 abbrev pub procs_field : List (List ℕ) → Option ℕ
@@ -123,12 +130,16 @@ procs_say (Some n) start rs = entries_from n 3 start 0 rs
 -- what the lines from the second on say
 abbrev pub procs_from : ℕ → List Row → Reading
 procs_from start [] = Faulty 2 BadProcs
-procs_from start (r ∷ rs) = within (end_of start r) 2 r (procs_say (procs_number r.bytes) (end_of start r) rs)
+procs_from start (r ∷ rs) =
+    within (end_of start r) 2 r (procs_say (procs_number r.bytes) (end_of start r) rs)
 
 -- what all lines say
 abbrev pub reading : List Row → Reading
 reading [] = Faulty 1 BadHeader
-reading (r ∷ rs) = within (end_of 0 r) 1 r (if same_text r.bytes (codes "chanhub journal 1") then procs_from (end_of 0 r) rs else Faulty 1 BadHeader)
+reading (r ∷ rs) =
+    within (end_of 0 r) 1 r (
+    if same_text r.bytes (codes "chanhub journal 1") then procs_from (end_of 0 r) rs
+    else Faulty 1 BadHeader)
 
 -- what a text says
 abbrev pub read_text : List ℕ → Reading

@@ -1,4 +1,5 @@
--- Lists of entries: the state after them, the events that they give, and which of them are admitted.
+-- Lists of entries: the state after them, the events that they give, and which of them are
+-- admitted.
 use Rattle.std.specs.Prelude.{ℕ, List, [], ◌∷◌, ◌++◌, Option, None, Some}
 use Rattle.hub_base.specs.declared.entry.Entry.{Entry}
 use Rattle.hub_base.specs.declared.fault.Fault.{Fault}

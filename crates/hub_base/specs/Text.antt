@@ -1,5 +1,6 @@
--- What a journal's text is, and where other bytes are faulty, said of whole lines and their spellings. How
--- bytes are read is no part of it: that both agree is what `read_journal` and `one_reading` promise.
+-- What a journal's text is, and where other bytes are faulty, said of whole lines and their
+-- spellings. How bytes are read is no part of it: that both agree is what `read_journal` and
+-- `one_reading` promise.
 use Rattle.std.specs.Prelude.{◌≡◌, ℕ, ◌+◌, ◌≤◌, true, List, [], ◌∷◌, ◌++◌, ◌⊎◌, length, map, codes, decimal, Option, None, Some, Result, Ok, Err, if◌then◌else◌}
 use Rattle.std.specs.List.{flat_map, AllByRecursion, join_with_byte}
 use Rattle.hub_base.specs.declared.case.Case.{Case}
@@ -83,10 +84,11 @@ first_fault (Some kind) other = Some kind
 
 -- what is wrong with a further line that begins at this place: the first fault that applies
 abbrev pub entry_fault : ℕ → ℕ → Row → Option Kind
-entry_fault place steps r = first_fault (row_fault (end_of place r) r) (fault_of_entry steps (read_fields (pieces 32 r.bytes)))
+entry_fault place steps r =
+    first_fault (row_fault (end_of place r) r) (fault_of_entry steps (read_fields (pieces 32 r.bytes)))
 
--- lines of entries within the limits, and then a faulty line: the first of these lines has number k and
--- begins at this place, and so many lines before it are no exits
+-- lines of entries within the limits, and then a faulty line: the first of these lines has number k
+-- and begins at this place, and so many lines before it are no exits
 pub record EntryFails (place steps k : ℕ) (rs : List Row) (faulty : ℕ) (kind : Kind) : Type 0 where
   pub es : List Entry
   pub bad : Row
@@ -109,7 +111,9 @@ procs_row n = record { bytes = procs_line n; whole = true }
 
 -- what is wrong with the first line
 abbrev pub header_fault : Row → Option Kind
-header_fault r = first_fault (row_fault (end_of 0 r) r) (if same_text r.bytes (codes "chanhub journal 1") then None else Some BadHeader)
+header_fault r =
+    first_fault (row_fault (end_of 0 r) r) (
+    if same_text r.bytes (codes "chanhub journal 1") then None else Some BadHeader)
 
 -- it says no number of processes
 abbrev pub fault_of_procs : Option ℕ → Option Kind
@@ -146,10 +150,15 @@ pub record FaultyEntry (rs : List Row) (k : ℕ) (kind : Kind) : Type 0 where
   pub few : n ≤ most_procs
   pub fails : EntryFails (length (head n)) 0 3 more k kind
 
--- the lines before the k-th are head lines and spellings within the limits, and of the k-th this is the first fault
+-- the lines before the k-th are head lines and spellings within the limits, and of the k-th this is
+-- the first fault
 abbrev pub IsFaulty : List ℕ → ℕ → Kind → Type 0
-IsFaulty bytes k kind = FaultyFirst (rows bytes) k kind ⊎ (FaultySecond (rows bytes) k kind ⊎ FaultyEntry (rows bytes) k kind)
+IsFaulty bytes k kind =
+    FaultyFirst (rows bytes) k kind
+    ⊎ (FaultySecond (rows bytes) k kind ⊎ FaultyEntry (rows bytes) k kind)
 
 -- each list of bytes is a text or faulty
 abbrev pub IsEither : List ℕ → Type 0
-IsEither bytes = ((n : ℕ) × (es : List Entry) × IsText bytes n es) ⊎ ((k : ℕ) × (kind : Kind) × IsFaulty bytes k kind)
+IsEither bytes =
+    ((n : ℕ) × (es : List Entry) × IsText bytes n es)
+    ⊎ ((k : ℕ) × (kind : Kind) × IsFaulty bytes k kind)

@@ -1,5 +1,6 @@
--- What was sent and received on a port, told from entries and events alone: the values of the sends that were
--- answered `Sent`, and those of the receives that were answered `Got`, in order of the answers.
+-- What was sent and received on a port, told from entries and events alone: the values of the sends
+-- that were answered `Sent`, and those of the receives that were answered `Got`, in order of the
+-- answers.
 use Rattle.std.specs.Prelude.{ℕ, ◌==◌, Bool, true, false, List, [], ◌∷◌, ◌++◌, Option, None, Some, slice_get, if◌then◌else◌}
 use Rattle.std.specs.List.{filter_map}
 use Rattle.hub_base.specs.declared.value.Pid.{Pid}
@@ -26,7 +27,8 @@ pub record Turned : Type 0 where
 -- these entries, each with its events
 abbrev pub turns_after : State → List Entry → List Turned
 turns_after s [] = []
-turns_after s (e ∷ es) = record { entry = e; events = (moves s e).events } ∷ turns_after (moves s e).state es
+turns_after s (e ∷ es) =
+    record { entry = e; events = (moves s e).events } ∷ turns_after (moves s e).state es
 
 -- the process is told of a fault
 abbrev pub is_fault : What → Bool
@@ -52,7 +54,10 @@ cases_or Exit before = before
 
 -- the cases of the last call of a process that was not refused, after this turn
 abbrev pub latest : Pid → List Case → Turned → List Case
-latest pid before t = if t.entry.pid.0 == pid.0 then (if refused t.events then before else cases_or t.entry.step before) else before
+latest pid before t =
+    if t.entry.pid.0 == pid.0
+    then (if refused t.events then before else cases_or t.entry.step before)
+    else before
 
 -- the cases of the last such call in these turns, in order
 abbrev pub last_call : Pid → List Case → List Turned → List Case
@@ -80,10 +85,12 @@ of_what pick cases what.Stalled = None
 of_what pick cases (what.Fault f) = None
 
 -- what these turns tell by `pick`, where before them stand those turns
-abbrev pub values_from : {A : Type 0} → (Option Case → Outcome → Option A) → List Turned → List Turned → List A
+abbrev pub values_from :
+    {A : Type 0} → (Option Case → Outcome → Option A) → List Turned → List Turned → List A
 values_from pick before [] = []
 values_from pick before (t ∷ ts) =
-    filter_map (λ e. of_what pick (last_call e.pid [] (before ++ t ∷ [])) e.what) t.events ++ values_from pick (before ++ t ∷ []) ts
+    filter_map (λ e. of_what pick (last_call e.pid [] (before ++ t ∷ [])) e.what) t.events
+    ++ values_from pick (before ++ t ∷ []) ts
 
 -- the values that were sent on a port
 abbrev pub sent_values : ℕ → List Entry → Port → List Value

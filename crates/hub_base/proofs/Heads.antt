@@ -11,7 +11,7 @@ use Rattle.hub_base.specs.Reading.{Row, rows, front, Reading, Reads, Faulty, tex
 use Rattle.hub_base.specs.declared.text.faults.ReadFault.{ReadFault}
 use Rattle.hub_base.specs.declared.text.faults.ReadFault.TheVariants as fault
 use Rattle.hub_base.specs.Journal.{JournalView}
-use Rattle.hub_base.specs.Answers.{Gives, IsFaultOf}
+use Rattle.hub_base.specs.ReadJournal.{Gives, IsFaultOf}
 use Rattle.hub_base.specs.Text.{Fits, IsText, row_of, steps_of, header_row, procs_row, header_fault, procs_fault, fault_of_procs, fault_of_first, first_fault, FaultyFirst, FaultySecond, FaultyEntry, IsFaulty, EntryFails, IsEither}
 use Rattle.hub_base.proofs.Bodies.{rows-line, rows-entries, rows-entry, body-again}
 use Rattle.hub_base.proofs.Bound.{number-ok}

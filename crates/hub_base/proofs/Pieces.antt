@@ -2,7 +2,7 @@
 use Rattle.std.proofs.Common.{◌≡◌, ℕ, ◌==◌, Bool, true, false, cond, List, [], ◌∷◌, refl, ◌∙◌, sym, Option, None, Some}
 use Rattle.std.specs.Prelude.{IsTrue, not, is_some}
 use Rattle.std.specs.Borrow.{Bor}
-use Rattle.hub_base.specs.Left.{pieces_left}
+use Rattle.hub_base.specs.Fields.{pieces_left}
 use Rattle.hub_base.specs.Lines.{pieces, joins, join_front}
 
 front-nil : (c : ℕ) (ps : List (List ℕ)) → joins [] (join_front c ps) ≡ join_front c ps

@@ -9,7 +9,7 @@ use Rattle.hub_base.specs.declared.text.faults.Kind.TheVariants.{CutLine, TooLon
 use Rattle.std.proofs.Common.{◌⊎◌, inl, inr}
 use Rattle.hub_base.specs.Lines.{read_fields, pieces, line}
 use Rattle.hub_base.specs.Reading.{Row, Reading, Reads, Faulty, entries_from, row_fault, faulty_or, end_of, over, counted, with_entry, entry_says, is_exit}
-use Rattle.hub_base.specs.Answers.{behind}
+use Rattle.hub_base.specs.Reading.{behind}
 use Rattle.hub_base.specs.Text.{Fits, fields_of, body, row_of, one_step, steps_of, EntryFails, entry_fault, first_fault, fault_of_entry}
 use Rattle.hub_base.proofs.Bodies.{body-again}
 use Rattle.hub_base.proofs.Takes.{fields-take}

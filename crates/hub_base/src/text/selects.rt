@@ -1,4 +1,8 @@
-//! Reading a select.
+//! Reading a select, in one pass over its fields.
+//!
+//! A fault of shape ends it at once. A fault of a number waits until all shapes were looked at, and
+//! the second spelling of a send or a receive is looked for last.
+
 ghost use Rattle.std.specs.Prelude.{◌≡◌, ◌≤◌, Result, Ok, Err, if◌then◌else◌, ◌<◌};
 ghost use Rattle.hub_base.specs.Lines.{read_choice, case_read, choose, last_default};
 ghost use Rattle.hub_base.specs.declared.text.faults.Kind.TheVariants.{BadNumber};
@@ -47,12 +51,14 @@ fn is_last_default(field: &[u8], fields: &Fields) -> bool
     fields.is_done() && same_text(field, b"default")
 }
 
-/// The call whose fields have the right shape.
+/// The call of a select whose fields have the right shape; `fine` tells whether all numbers of its
+/// cases are numbers, and then these are its cases.
 fn choose(pid: &[u8], word: &[u8], cases: Cases, fine: bool, default: bool) -> Result<Entry, Kind>
-    ensures { result ≡ choose pid.now word.now (if fine then Ok cases.items else Err BadNumber) default }
+    ensures { result
+        ≡ choose pid.now word.now (if fine then Ok cases.items else Err BadNumber) default }
 {
-    let pid = numeral(pid, 255)?;
-    let word = numeral(word, 18446744073709551615)?;
+    let pid = numeral(pid, u8::MAX.into())?;
+    let word = numeral(word, u64::MAX)?;
     if !fine {
         return Err(Kind::BadNumber);
     }
@@ -69,6 +75,7 @@ fn choose(pid: &[u8], word: &[u8], cases: Cases, fine: bool, default: bool) -> R
     })
 }
 
+/// What `P select W CASE.. [default]` says, from the field of the word on.
 pub fn read_select(pid: &[u8], fields: &mut Fields) -> Result<Entry, Kind>
     ensures { result ≡ read_choice pid.now fields.old }
 {
@@ -83,6 +90,7 @@ pub fn read_select(pid: &[u8], fields: &mut Fields) -> Result<Entry, Kind>
             return choose(pid, word, cases, fine, true);
         }
         let case = read_case(field)?;
+        // One case too many is a fault of shape, as any in the fields behind it would be.
         if count == MOST_CASES {
             return Err(Kind::BadStep);
         }

@@ -1,4 +1,5 @@
-//! Reading an entry from its fields.
+//! Reading an entry from the fields of its line: first their number, then what they spell.
+
 ghost use Rattle.std.specs.Prelude.{◌≡◌, ◌^◌, ◌≤◌, ◌<◌, ◌∷◌, [], false, IfOk};
 ghost use Rattle.hub_base.specs.Lines.{numeral, read_close, read_make, read_exit, read_send, read_recv, read_step, read_fields, pieces, case_of, by, call, same_text};
 ghost use Rattle.hub_base.specs.Lines.Draft.{Sends, Receives};
@@ -8,6 +9,7 @@ use crate::text::numbers::number;
 use crate::text::selects::read_select;
 use crate::{Case, Cases, Entry, Kind, Pid, Port, Step, Value};
 
+/// The number that a field spells.
 pub fn numeral(bytes: &[u8], most: u64) -> Result<u64, Kind>
     ensures value { result ≡ numeral most bytes.now }
     ensures bound { IfOk result (λ n. n ≤ most) }
@@ -15,6 +17,7 @@ pub fn numeral(bytes: &[u8], most: u64) -> Result<u64, Kind>
     number(bytes, most).ok_or(Kind::BadNumber)
 }
 
+/// Whether two fields are the same bytes.
 pub fn same_text(a: &[u8], b: &[u8]) -> bool
     ensures { result ≡ same_text a.now b.now }
 {
@@ -25,8 +28,8 @@ pub fn same_text(a: &[u8], b: &[u8]) -> bool
 pub fn send_of(port: &[u8], value: &[u8]) -> Result<Case, Kind>
     ensures { result ≡ case_of (Sends port.now value.now) }
 {
-    let port = numeral(port, 65535)?;
-    let value = numeral(value, 18446744073709551615)?;
+    let port = numeral(port, u16::MAX.into())?;
+    let value = numeral(value, u64::MAX)?;
     Ok(Case::Send(Port(port as u16), Value::num(value)))
 }
 
@@ -34,11 +37,11 @@ pub fn send_of(port: &[u8], value: &[u8]) -> Result<Case, Kind>
 pub fn recv_of(port: &[u8]) -> Result<Case, Kind>
     ensures { result ≡ case_of (Receives port.now) }
 {
-    let port = numeral(port, 65535)?;
+    let port = numeral(port, u16::MAX.into())?;
     Ok(Case::Recv(Port(port as u16)))
 }
 
-/// A call of one case.
+/// A call of one case, without default and with word 0.
 fn lone(pid: u8, case: Case) -> Entry
     ensures { result ≡ by pid (call (case ∷ []) false 0) }
 {
@@ -63,8 +66,8 @@ fn read_make(pid: &[u8], fields: &mut Fields) -> Result<Entry, Kind>
     if fields.next_field().is_some() {
         return Err(Kind::BadStep);
     }
-    let pid = numeral(pid, 255)?;
-    let cap = numeral(cap, 4294967295)?;
+    let pid = numeral(pid, u8::MAX.into())?;
+    let cap = numeral(cap, u32::MAX.into())?;
     Ok(Entry {
         pid: Pid(pid as u8),
         step: Step::Make(cap as u32),
@@ -83,7 +86,7 @@ fn read_send(pid: &[u8], fields: &mut Fields) -> Result<Entry, Kind>
     if fields.next_field().is_some() {
         return Err(Kind::BadStep);
     }
-    let pid = numeral(pid, 255)?;
+    let pid = numeral(pid, u8::MAX.into())?;
     let case = send_of(port, value)?;
     Ok(lone(pid as u8, case))
 }
@@ -97,7 +100,7 @@ fn read_recv(pid: &[u8], fields: &mut Fields) -> Result<Entry, Kind>
     if fields.next_field().is_some() {
         return Err(Kind::BadStep);
     }
-    let pid = numeral(pid, 255)?;
+    let pid = numeral(pid, u8::MAX.into())?;
     let case = recv_of(port)?;
     Ok(lone(pid as u8, case))
 }
@@ -111,8 +114,8 @@ fn read_close(pid: &[u8], fields: &mut Fields) -> Result<Entry, Kind>
     if fields.next_field().is_some() {
         return Err(Kind::BadStep);
     }
-    let pid = numeral(pid, 255)?;
-    let port = numeral(port, 65535)?;
+    let pid = numeral(pid, u8::MAX.into())?;
+    let port = numeral(port, u16::MAX.into())?;
     Ok(Entry {
         pid: Pid(pid as u8),
         step: Step::Close(Port(port as u16)),
@@ -125,7 +128,7 @@ fn read_exit(pid: &[u8], fields: &mut Fields) -> Result<Entry, Kind>
     if fields.next_field().is_some() {
         return Err(Kind::BadStep);
     }
-    let pid = numeral(pid, 255)?;
+    let pid = numeral(pid, u8::MAX.into())?;
     Ok(Entry {
         pid: Pid(pid as u8),
         step: Step::Exit,

@@ -27,7 +27,8 @@ fn put_number(out: &mut Vec<u8>, n: u64) -> Result<(), AllocError>
 
 /// The value as its text spells it.
 fn put_value(out: &mut Vec<u8>, value: Value) -> Result<(), AllocError>
-    ensures { out.new.items ≡ (if is_ok result then out.old.items ++ value_field value else out.old.items) }
+    ensures { out.new.items
+        ≡ (if is_ok result then out.old.items ++ value_field value else out.old.items) }
 {
     put_number(out, value.number())
 }
@@ -142,7 +143,8 @@ fn put_cases(out: &mut Vec<u8>, cases: &[Case]) -> Result<(), AllocError>
 }
 
 fn put_select(out: &mut Vec<u8>, cases: &[Case], default: bool, word: u64) -> Result<(), AllocError>
-    ensures ok { OnOk result (out.new.items ≡ out.old.items ++ spaced (select_fields cases.now default word)) }
+    ensures ok { OnOk result (
+        out.new.items ≡ out.old.items ++ spaced (select_fields cases.now default word)) }
     ensures err { OnErr result ((rest : List ℕ) × (out.new.items ≡ out.old.items ++ rest)) }
 {
     put(out, b" select ")?;
@@ -155,7 +157,8 @@ fn put_select(out: &mut Vec<u8>, cases: &[Case], default: bool, word: u64) -> Re
 }
 
 fn put_call(out: &mut Vec<u8>, cases: &[Case], default: bool, word: u64) -> Result<(), AllocError>
-    ensures ok { OnOk result (out.new.items ≡ out.old.items ++ spaced (call_fields cases.now default word)) }
+    ensures ok { OnOk result (
+        out.new.items ≡ out.old.items ++ spaced (call_fields cases.now default word)) }
     ensures err { OnErr result ((rest : List ℕ) × (out.new.items ≡ out.old.items ++ rest)) }
 {
     if cases.len() != 1 || default || word != 0 {

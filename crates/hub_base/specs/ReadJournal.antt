@@ -1,5 +1,6 @@
--- What a reader answers.
-use Rattle.std.specs.Prelude.{◌≡◌, ℕ, List, ◌++◌, Result, Ok, Err}
+-- What `read_journal` answers, by what the text says. A refusal of memory may come in place of any
+-- answer.
+use Rattle.std.specs.Prelude.{◌≡◌, ℕ, List, Result, Ok, Err}
 use Rattle.hub_base.specs.declared.entry.Entry.{Entry}
 use Rattle.hub_base.specs.declared.text.faults.ReadFault.{ReadFault}
 use Rattle.hub_base.specs.declared.text.faults.ReadFault.TheVariants as fault
@@ -7,6 +8,7 @@ use Rattle.hub_base.specs.Journal.{JournalView}
 use Rattle.hub_base.specs.Text.{IsFaulty}
 use Rattle.hub_base.specs.Reading.{Reading, Reads, Faulty}
 
+-- a fault of the text is the reading's fault
 abbrev pub Fails : ReadFault → Reading → Type 0
 Fails (fault.Text f) reading = reading ≡ Faulty f.line f.kind
 Fails fault.NoMemory reading = Unit {0}
@@ -16,12 +18,7 @@ abbrev pub Gives : Result JournalView ReadFault → Reading → Type 0
 Gives (Ok j) reading = reading ≡ Reads j.procs j.entries
 Gives (Err f) reading = Fails f reading
 
--- a reading that goes on behind these entries
-abbrev pub behind : List Entry → Reading → Reading
-behind es (Reads n fs) = Reads n (es ++ fs)
-behind es (Faulty k kind) = Faulty k kind
-
--- a fault of the text is its first one
+-- a fault of the text is its first one, as the definition of faulty texts has it
 abbrev pub IsFaultOf : List ℕ → ReadFault → Type 0
 IsFaultOf bytes (fault.Text f) = IsFaulty bytes f.line f.kind
 IsFaultOf bytes fault.NoMemory = Unit {0}

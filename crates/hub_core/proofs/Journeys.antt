@@ -13,7 +13,7 @@ use Rattle.hub_base.specs.Reading.{is_exit}
 use Rattle.hub_base.specs.Text.{steps_of}
 use Rattle.hub_laws.proofs.Journals.{state-kept}
 use Rattle.hub_laws.proofs.Replies.{events_after-append}
-use Rattle.hub_laws.proofs.Laws.{values_hold}
+use Rattle.hub_laws.proofs.Values.{values-law}
 use Rattle.hub_core.specs.HubView.{HubView, state_of, HasRoom, IsFullFor}
 use Rattle.hub_base.specs.declared.fault.Fault.{Fault}
 use Rattle.hub_base.specs.declared.fault.Fault.TheVariants as fault
@@ -112,7 +112,7 @@ pub never_full : (n most : ℕ) (es : List Entry) (i : ℕ) (hub : HubView) (tol
 never_full n most es i hub told r is j = λ full. r.room j (omega (arith, get_below es j full.entry full.stands)) full
 
 pub values_kept : (n most : ℕ) (es : List Entry) (hub : HubView) (told : List Event) → RunsTo n most es hub told → KeepsValues n es hub
-values_kept n most es hub told r = λ p c h. values_hold n es p c (subst (λ (s : State). channel_at s p ≡ Some c) (state_of-run n most es hub told r) h)
+values_kept n most es hub told r = λ p c h. values-law n es p c (subst (λ (s : State). channel_at s p ≡ Some c) (state_of-run n most es hub told r) h)
 
 pub run_opening : (n most : ℕ) (es : List Entry) (hub : HubView) → hub.procs ≡ n → hub.limit ≡ most → hub.journal ≡ [] → RunSoFar n most es 0 hub []
 run_opening n most es hub procs limit journal = record { run = record { procs = procs; limit = limit; events = refl; journal = journal }; room = λ j h. absurd (omega arith) }

@@ -4,7 +4,8 @@ ghost use Rattle.std.specs.Prelude.{◌≡◌, ◌++◌, ◌∷◌, [], List, �
 ghost use Rattle.hub_base.specs.declared.entry.Entry.{Entry};
 ghost use Rattle.hub_base.specs.declared.value.Pid.{Pid};
 ghost use Rattle.hub_base.specs.declared.value.Port.{Port};
-ghost use Rattle.hub_laws.specs.Laws.{OnceLaw, AfterCloseLaw};
+ghost use Rattle.hub_laws.specs.Once.{OnceLaw};
+ghost use Rattle.hub_laws.specs.AfterClose.{AfterCloseLaw};
 ghost use Rattle.hub_core.specs.RunsTo.{RunsTo, TellsOn, StopsAt, KeepsValues, RefusesRun, IsFullAt, close_of};
 
 use crate::{Hub, OpenFault};

@@ -1,5 +1,6 @@
 use Rattle.std.proofs.Common.{◌≡◌, ◌<◌, length, arith, rules}
-use Rattle.hub_laws.proofs.Laws.{once_holds, after_close_holds}
+use Rattle.hub_laws.proofs.Once.{once-law}
+use Rattle.hub_laws.proofs.AfterClose.{after_close-law}
 use Rattle.hub_core.proofs.Journeys.{run_on, refuses_at, entry_at, run_whole, never_full, values_kept}
 use Rattle.hub_core.proofs.runs.run.Goals as goal
 
@@ -18,10 +19,10 @@ returns-clause-received_then_buffered c =
     values_kept c.args.procs c.args.limit c.args.entries.now _ _ (run_whole c.args.procs c.args.limit c.args.entries.now c.loop-index.index _ _ c.loop-index.invariant (omega arith))
 
 pub returns-clause-at_most_one_case : goal.returns-clause-at_most_one_case
-returns-clause-at_most_one_case c = once_holds c.args.procs c.args.entries.now
+returns-clause-at_most_one_case c = once-law c.args.procs c.args.entries.now
 
 pub returns-clause-after_close : goal.returns-clause-after_close
-returns-clause-after_close c = λ before pid port later is. after_close_holds c.args.procs before pid port later
+returns-clause-after_close c = λ before pid port later is. after_close-law c.args.procs before later pid port
 
 pub returns-clause-never_full : goal.returns-clause-never_full
 returns-clause-never_full c = never_full c.args.procs c.args.limit c.args.entries.now c.loop-index.index _ _ c.loop-index.invariant (omega arith)

@@ -10,3 +10,4 @@ pub mod Stalls
 pub mod Kept
 pub mod Following
 pub mod Reached
+pub mod Shown

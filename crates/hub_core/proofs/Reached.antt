@@ -40,7 +40,7 @@ use Rattle.hub_core.proofs.Stalls.{refusal_of-as, count-calls}
 use Rattle.hub_core.proofs.Kept.{effect-procs}
 
 -- ---- the ports
-count-counts : (s : State) (m : MachineLists) → Matches s m → length m.counts ≡ length s.channels
+pub count-counts : (s : State) (m : MachineLists) → Matches s m → length m.counts ≡ length s.channels
 count-counts s m h = ap length h.counts ∙ length-map s.channels tally_of
 
 channel_made : (s : State) (m : MachineLists) (p : Port) → Matches s m → IsMade m.board p → (c : Channel) × (channel_at s p ≡ Some c)
@@ -56,7 +56,7 @@ at_most_one : (b : Bool) → cond b 0 1 ≤ 1
 at_most_one true = omega arith
 at_most_one false = omega arith
 
-steps-length : (es : List Entry) → steps_of es ≤ length es
+pub steps-length : (es : List Entry) → steps_of es ≤ length es
 steps-length [] = omega arith
 steps-length (e ∷ es) = omega (arith, at_most_one (is_exit e.step), steps-length es)
 

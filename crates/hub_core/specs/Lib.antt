@@ -4,5 +4,6 @@ pub mod ListKeeps
 pub mod ListSteps
 pub mod Follows
 pub mod Agrees
+pub mod Looks
 pub mod Parts
 pub mod MachineKeeps

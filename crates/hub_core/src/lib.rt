@@ -4,6 +4,7 @@
 mod calling;
 mod closing;
 mod firing;
+mod looking;
 mod machine;
 mod ready_cases;
 mod refusals;

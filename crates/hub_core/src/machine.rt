@@ -12,16 +12,19 @@ ghost use Rattle.hub_parts.specs.Lists.{open_calls};
 ghost use Rattle.hub_core.specs.Records.{MachineLists};
 ghost use Rattle.hub_core.specs.ListKeeps.{PortsKeep};
 ghost use Rattle.hub_core.specs.ListSteps.{effect_on, answers_on, refusal_of, fault_on};
-ghost use Rattle.hub_base.specs.Steps.{tells};
+ghost use Rattle.hub_base.specs.Steps.{tells, refusal};
+ghost use Rattle.hub_base.specs.Runs.{state};
+ghost use Rattle.hub_core.specs.Looks.{look_at, value_at};
 ghost use Rattle.hub_core.specs.Follows.{Follows, Admits, Answers, IsMake, RefusesFor};
 ghost use Rattle.hub_core.specs.Parts.{parts, IsReached};
 
 use crate::calling::call;
 use crate::closing::close;
+use crate::looking::{buffered, look};
 use crate::refusals::{fault_of, refusal};
 use crate::stalling::{all_wait, stop_all};
 use crate::tally::Tallies;
-use hub_base::{Entry, Event, Events, Fault, Pid, Step, What};
+use hub_base::{Entry, Event, Events, Fault, Look, Pid, Port, Step, Value, What};
 use hub_parts::Board;
 use std::alloc::{AllocError, Global};
 use std::marker::Model;
@@ -123,6 +126,28 @@ impl Machine {
                 Ok(())
             }
         }
+    }
+
+    /// Why a step of this process would be refused now: fault 1, 2 or 3, or `None`.
+    pub fn refusal(&self, pid: Pid) -> Option<Fault>
+        ensures { (n : ℕ) (es : List Entry) → Follows n es self.now → result ≡ refusal (state n es) pid }
+    {
+        refusal(&self.board, &self.gone, self.procs, pid)
+    }
+
+    /// The capacity and the counts of a port, or `None` for port 0 and for a port that was not made.
+    pub fn look(&self, port: Port) -> Option<Look>
+        ensures { (n : ℕ) (es : List Entry) → Follows n es self.now → result ≡ look_at (state n es) port }
+    {
+        look(&self.board, &self.tallies, port)
+    }
+
+    /// The value at a place of a port's buffer, 0 the oldest. `None` past its end, for port 0 and for a port
+    /// that was not made.
+    pub fn buffered(&self, port: Port, place: u32) -> Option<Value>
+        ensures { (n : ℕ) (es : List Entry) → Follows n es self.now → result ≡ value_at (state n es) port place }
+    {
+        buffered(&self.board, port, place)
     }
 }
 

@@ -4,7 +4,7 @@
 //! tests: too many bytes, no newline, the head lines, the shape of a step, its numbers, its spelling, too
 //! many steps.
 
-ghost use Rattle.std.specs.Prelude.{◌≡◌, ◌≤◌, ℕ, IfOk, IfErr, List, ◌++◌, MatchResult};
+ghost use Rattle.std.specs.Prelude.{◌≡◌, ◌≤◌, ℕ, length, IfOk, IfErr, List, ◌++◌, MatchResult};
 ghost use Rattle.hub_base.specs.Lines.{line};
 ghost use Rattle.hub_base.specs.Reading.{read_text, procs_number, procs_from, rows, is_exit};
 ghost use Rattle.hub_base.specs.Answers.{Gives, IsFaultOf};
@@ -80,7 +80,8 @@ impl<'a> Model for Reader<'a> {
 /// The reader behind the second line, which begins at this place.
 fn open_entries(bytes: &[u8], place: usize) -> Result<Reader<'_>, Kind>
     requires place { place ≤ 67108864 }
-    ensures { MatchResult result (λ r. procs_from place (rows bytes.now) ≡ r.left) (λ kind. procs_from place (rows bytes.now) ≡ Faulty 2 kind) }
+    ensures read { MatchResult result (λ r. procs_from place (rows bytes.now) ≡ r.left) (λ kind. procs_from place (rows bytes.now) ≡ Faulty 2 kind) }
+    ensures bytes { IfOk result (λ r. r.bytes ≤ length bytes.now) }
 {
     if bytes.is_empty() {
         return Err(Kind::BadProcs);
@@ -105,6 +106,7 @@ impl<'a> Reader<'a> {
     /// Reads the two head lines.
     pub fn open(bytes: &'a [u8]) -> Result<Reader<'a>, TextFault>
         ensures ok { IfOk result (λ r. read_text bytes.now ≡ r.left) }
+        ensures bytes { IfOk result (λ r. r.bytes ≤ length bytes.now) }
         ensures fault { IfErr result (λ f. read_text bytes.now ≡ Faulty f.line f.kind) }
     {
         if bytes.is_empty() {

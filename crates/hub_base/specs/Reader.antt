@@ -1,6 +1,6 @@
 -- What contracts see of a reader: the number of processes, what the rest of the text says, and in
 -- how many bytes it stands.
-use Rattle.std.specs.Prelude.{ℕ, ◌≤◌, ◌<◌, ◌≡◌, ◌+◌, List, [], length, Option, None, Some, Result, Ok, Err}
+use Rattle.std.specs.Prelude.{ℕ, ◌<◌, ◌≡◌, [], Option, None, Some, Result, Ok, Err}
 use Rattle.hub_base.specs.declared.entry.Entry.{Entry}
 use Rattle.hub_base.specs.declared.text.faults.TextFault.{TextFault}
 use Rattle.hub_base.specs.Reading.{Reading, Reads, Faulty, with_entry}

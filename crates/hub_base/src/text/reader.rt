@@ -4,7 +4,7 @@
 //! bytes, no newline, the head lines, the shape of a step, its numbers, its spelling, too many
 //! steps.
 
-ghost use Rattle.std.specs.Prelude.{◌≡◌, ◌≤◌, ℕ, IfOk, IfErr, List, ◌++◌, MatchResult};
+ghost use Rattle.std.specs.Prelude.{◌≡◌, ◌≤◌, ℕ, IfOk, IfErr, List, ◌++◌};
 ghost use Rattle.hub_base.specs.Limits.{most_bytes};
 ghost use Rattle.hub_base.specs.Lines.{line};
 ghost use Rattle.hub_base.specs.Reading.{read_text, procs_number, procs_from, rows, is_exit};

@@ -3,10 +3,10 @@
 //! A fault of shape ends it at once. A fault of a number waits until all shapes were looked at, and
 //! the second spelling of a send or a receive is looked for last.
 
-ghost use Rattle.std.specs.Prelude.{◌≡◌, ◌≤◌, Result, Ok, Err, if◌then◌else◌, ◌<◌};
+ghost use Rattle.std.specs.Prelude.{◌≡◌, Result, Ok, Err, if◌then◌else◌, ◌<◌};
 ghost use Rattle.hub_base.specs.Lines.{read_choice, case_read, choose, last_default};
 ghost use Rattle.hub_base.specs.declared.text.faults.Kind.TheVariants.{BadNumber};
-ghost use Rattle.arrayvec.specs.ArrayVec.{array_vec_len};
+
 
 use crate::text::fields::Fields;
 use crate::text::steps::{numeral, recv_of, same_text, send_of};

@@ -1,6 +1,6 @@
 //! Reading an entry from the fields of its line: first their number, then what they spell.
 
-ghost use Rattle.std.specs.Prelude.{◌≡◌, ◌^◌, ◌≤◌, ◌<◌, ◌∷◌, [], false, IfOk};
+ghost use Rattle.std.specs.Prelude.{◌≡◌, ◌≤◌, ◌<◌, ◌∷◌, [], false, IfOk};
 ghost use Rattle.hub_base.specs.Lines.{numeral, read_close, read_make, read_exit, read_send, read_recv, read_step, read_fields, pieces, case_of, by, call, same_text};
 ghost use Rattle.hub_base.specs.Lines.Draft.{Sends, Receives};
 
@@ -57,6 +57,7 @@ fn lone(pid: u8, case: Case) -> Entry
     }
 }
 
+/// What `P make C` says, from the field behind the word on.
 fn read_make(pid: &[u8], fields: &mut Fields) -> Result<Entry, Kind>
     ensures { result ≡ read_make pid.now fields.old }
 {
@@ -74,6 +75,7 @@ fn read_make(pid: &[u8], fields: &mut Fields) -> Result<Entry, Kind>
     })
 }
 
+/// What `P send PORT V` says, from the field behind the word on.
 fn read_send(pid: &[u8], fields: &mut Fields) -> Result<Entry, Kind>
     ensures { result ≡ read_send pid.now fields.old }
 {
@@ -91,6 +93,7 @@ fn read_send(pid: &[u8], fields: &mut Fields) -> Result<Entry, Kind>
     Ok(lone(pid as u8, case))
 }
 
+/// What `P recv PORT` says, from the field behind the word on.
 fn read_recv(pid: &[u8], fields: &mut Fields) -> Result<Entry, Kind>
     ensures { result ≡ read_recv pid.now fields.old }
 {
@@ -105,6 +108,7 @@ fn read_recv(pid: &[u8], fields: &mut Fields) -> Result<Entry, Kind>
     Ok(lone(pid as u8, case))
 }
 
+/// What `P close PORT` says, from the field behind the word on.
 fn read_close(pid: &[u8], fields: &mut Fields) -> Result<Entry, Kind>
     ensures { result ≡ read_close pid.now fields.old }
 {
@@ -122,6 +126,7 @@ fn read_close(pid: &[u8], fields: &mut Fields) -> Result<Entry, Kind>
     })
 }
 
+/// What `P exit` says, from the field behind the word on.
 fn read_exit(pid: &[u8], fields: &mut Fields) -> Result<Entry, Kind>
     ensures { result ≡ read_exit pid.now fields.old }
 {
@@ -135,6 +140,7 @@ fn read_exit(pid: &[u8], fields: &mut Fields) -> Result<Entry, Kind>
     })
 }
 
+/// What a line says, by its second field.
 fn read_step(pid: &[u8], word: &[u8], fields: &mut Fields) -> Result<Entry, Kind>
     ensures { result ≡ read_step pid.now word.now fields.old }
 {

@@ -44,6 +44,7 @@ second-fail (r ∷ rs) k kind h =
           }))
     ]
 
+-- where reading stops at a fault, a line is faulty
 pub head-fail : (rs : List Row) (k : ℕ) (kind : Kind) → reading rs ≡ Faulty k kind → FaultyFirst rs k kind ⊎ (FaultySecond rs k kind ⊎ FaultyEntry rs k kind)
 head-fail [] k kind h = inl (record { number = cc; fault = (let same : BadHeader ≡ kind = cc in ap (λ k. Some k) same) })
 head-fail (r ∷ rs) k kind h =
@@ -58,6 +59,7 @@ head-fail (r ∷ rs) k kind h =
           inr (subst P (sym is) (second-fail rs k kind (ap (λ p. procs_from p rs) (sym place) ∙ a.2))))
     ]
 
+-- what is refused is faulty there
 pub fault-take : (bytes : List ℕ) (k : ℕ) (kind : Kind) → read_text bytes ≡ Faulty k kind → IsFaulty bytes k kind
 fault-take bytes k kind h = head-fail (rows bytes) k kind h
 
@@ -81,6 +83,7 @@ second-faulty (r ∷ rs) kind h = go (row_fault (end_of 18 r) r) (procs_number r
 head-fits : (n : ℕ) (rs : List Row) (k : ℕ) (kind : Kind) → EntryFails (length (head n)) 0 3 rs k kind → length (head n) ≤ 67108864
 head-fits n rs k kind f = let l = f.bytes_fit in omega (arith, l)
 
+-- what is faulty is refused there, for that fault
 pub fault-again : (bytes : List ℕ) (k : ℕ) (kind : Kind) → IsFaulty bytes k kind → read_text bytes ≡ Faulty k kind
 fault-again bytes k kind f =
     elim f as (λ _. read_text bytes ≡ Faulty k kind) [

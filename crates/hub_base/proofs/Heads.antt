@@ -20,6 +20,7 @@ small n h = omega arith
 above : (n : ℕ) → 1 ≤ n → (n == 0) ≡ false
 above n h = grind (arith, common_steps)
 
+-- the second line is read as it is spelled
 pub procs-again : (n : ℕ) → 1 ≤ n → n ≤ 64 → procs_number (procs_line n) ≡ Some n
 procs-again n some few =
     ap (λ ps. above_zero (procs_field (codes "procs" ∷ ps))) (pieces-last 32 (decimal n) (decimal-lacks 32 n (omega arith) (small n few)))
@@ -42,11 +43,13 @@ positive (Some m) n h = go (m == 0) refl h where
   go true z h = cc
   go false z h = let is : m ≡ n = cc in (h, grind (arith, common_steps))
 
+-- a second line of n processes
 pub record ProcsSpelled (bytes : List ℕ) (n : ℕ) : Type 0 where
   pub spelled : bytes ≡ procs_line n
   pub some : 1 ≤ n
   pub few : n ≤ 64
 
+-- what says n processes is their spelling
 pub procs-take : (bytes : List ℕ) (n : ℕ) → procs_number bytes ≡ Some n → ProcsSpelled bytes n
 procs-take bytes n h =
     let a = positive (procs_field (pieces 32 bytes)) n h in
@@ -87,6 +90,7 @@ text-rows n es few fits =
 text-length : (n : ℕ) (es : List Entry) → length (text n es) ≡ length (head n) + length (flat_map line es)
 text-length n es = length-append (head n) (flat_map line es)
 
+-- a text is read as its entries
 pub text-again : (bytes : List ℕ) (n : ℕ) (es : List Entry) → IsText bytes n es → read_text bytes ≡ Reads n es
 text-again bytes n es t =
     let l : length bytes ≡ length (head n) + length (flat_map line es) = ap length t.spelled ∙ text-length n es in
@@ -110,6 +114,7 @@ unrow-step : (c : ℕ) (cs : List ℕ) (b : Bool) → (c == 10) ≡ b → flat_m
 unrow-step c cs true is h = let here : c ≡ 10 = grind (arith, common_steps) in ap (λ r. 10 ∷ r) h ∙ ap (λ c. c ∷ cs) (sym here)
 unrow-step c cs false is h = unfront c (rows cs) ∙ ap (λ r. c ∷ r) h
 
+-- lines put together again are the text
 pub unrows : (bs : List ℕ) → flat_map row_bytes (rows bs) ≡ bs
 unrows [] = refl
 unrows (c ∷ cs) = unrow-step c cs (c == 10) refl (unrows cs)
@@ -118,6 +123,7 @@ unrows-entries : (es : List Entry) → flat_map row_bytes (map row_of es) ≡ fl
 unrows-entries [] = refl
 unrows-entries (e ∷ es) = ap (λ r. line e ++ r) (unrows-entries es)
 
+-- two head lines and the lines of entries, within the limits
 pub record HeadTook (rs : List Row) (n : ℕ) (es : List Entry) : Type 0 where
   pub lines : rs ≡ header_row ∷ procs_row n ∷ map row_of es
   pub some : 1 ≤ n
@@ -126,6 +132,7 @@ pub record HeadTook (rs : List Row) (n : ℕ) (es : List Entry) : Type 0 where
   pub bytes_fit : length (head n) + length (flat_map line es) ≤ 67108864
   pub steps_fit : steps_of es ≤ 1000000
 
+-- a line is its bytes and a newline
 pub whole-row : (r : Row) (bytes : List ℕ) → r.bytes ≡ bytes → r.whole ≡ true → r ≡ record { bytes = bytes; whole = true }
 whole-row r bytes b w = ap (λ b. record { bytes = b; whole = r.whole }) b ∙ ap (λ w. record { bytes = bytes; whole = w }) w
 
@@ -133,6 +140,7 @@ header-said : (b : Bool) (x : Reading) (n : ℕ) (es : List Entry) → cond b x 
 header-said true x n es h = (refl, h)
 header-said false x n es h = cc
 
+-- a second line that was read, and what the lines behind it say
 pub record Second (start : ℕ) (rs : List Row) (n : ℕ) (es : List Entry) : Type 0 where
   pub first : Row
   pub more : List Row
@@ -153,9 +161,11 @@ second start (r ∷ rs) n es h =
     let b = procs-said (procs_number r.bytes) (end_of start r) rs n es a.1 in
     record { first = r; more = rs; lines = refl; fine = a.0; procs = b.0; procs_is = b.1; said = b.2 }
 
+-- where the second line ends
 pub second-place : (r : Row) (n : ℕ) → r ≡ procs_row n → end_of 18 r ≡ length (head n)
 second-place r n is = ap (end_of 18) is ∙ sym (head-length n)
 
+-- what is read without a fault is head lines and lines of entries
 pub head-take : (rs : List Row) (n : ℕ) (es : List Entry) → reading rs ≡ Reads n es → HeadTook rs n es
 head-take [] n es h = cc
 head-take (r ∷ rs) n es h =
@@ -180,6 +190,7 @@ head-take (r ∷ rs) n es h =
       steps_fit = (let f = t.steps_fit in omega (arith, f));
     })
 
+-- what is read without a fault is a text
 pub text-take : (bytes : List ℕ) (n : ℕ) (es : List Entry) → read_text bytes ≡ Reads n es → IsText bytes n es
 text-take bytes n es h =
     let t = head-take (rows bytes) n es h in

@@ -7,7 +7,6 @@ ghost use Rattle.std.specs.Prelude.{◌≡◌, Result, Ok, Err, if◌then◌else
 ghost use Rattle.hub_base.specs.Lines.{read_choice, case_read, choose, last_default};
 ghost use Rattle.hub_base.specs.declared.text.faults.Kind.TheVariants.{BadNumber};
 
-
 use crate::text::fields::Fields;
 use crate::text::steps::{numeral, recv_of, same_text, send_of};
 use crate::{Case, Cases, Entry, Kind, Pid, Step};

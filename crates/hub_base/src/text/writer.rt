@@ -3,7 +3,6 @@
 
 ghost use Rattle.std.specs.Prelude.{◌≡◌, ◌++◌, codes, decimal, OnOk, OnErr, IsOk, ◌↔◌, take, is_ok, if◌then◌else◌, ℕ, ◌<◌, ◌≤◌, List};
 ghost use Rattle.hub_base.specs.EventText.{event_line, what_text, outcome_text};
-
 ghost use Rattle.hub_base.specs.Lines.{case_field, select_fields, call_fields, step_fields, line};
 ghost use Rattle.hub_base.specs.Reading.{head};
 ghost use Rattle.hub_base.specs.Writing.{spaced, spaced_cases};

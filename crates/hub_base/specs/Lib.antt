@@ -17,5 +17,6 @@ pub mod Journal
 pub mod Fields
 pub mod Writing
 pub mod ReadJournal
+pub mod Filling
 pub mod Reader
 pub mod ReaderKeeps

@@ -1,7 +1,6 @@
 -- What `read_journal` answers, by what the text says. A refusal of memory may come in place of any
 -- answer.
 use Rattle.std.specs.Prelude.{◌≡◌, ℕ, List, Result, Ok, Err}
-use Rattle.hub_base.specs.declared.entry.Entry.{Entry}
 use Rattle.hub_base.specs.declared.text.faults.ReadFault.{ReadFault}
 use Rattle.hub_base.specs.declared.text.faults.ReadFault.TheVariants as fault
 use Rattle.hub_base.specs.Journal.{JournalView}

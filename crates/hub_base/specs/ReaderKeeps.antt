@@ -1,5 +1,5 @@
 -- What every reader keeps: the limits of a text hold of what was read.
-use Rattle.std.specs.Prelude.{ℕ, ◌≤◌, ◌+◌, length}
+use Rattle.std.specs.Prelude.{◌≤◌, ◌+◌}
 use Rattle.hub_base.specs.declared.text.reader.Reader.TheInside.{Inside}
 use Rattle.hub_base.specs.Reading.{Reading, entries_from, rows}
 use Rattle.hub_base.specs.Limits.{most_bytes, most_procs, most_steps}

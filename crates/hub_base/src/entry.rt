@@ -1,6 +1,6 @@
 //! What a process asks of a hub.
 
-ghost use Rattle.std.specs.Prelude.{◌≡◌, ◌≤◌};
+ghost use Rattle.std.specs.Prelude.{◌≡◌};
 
 use crate::{Cases, Pid, Port};
 

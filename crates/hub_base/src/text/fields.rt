@@ -1,8 +1,8 @@
 //! The fields of a line, or the parts of a case: the pieces between single marks, one after the
 //! other.
 
-ghost use Rattle.std.specs.Prelude.{◌≡◌, ◌∷◌, [], MatchOption, List, ◌++◌, ℕ, ◌↔◌, IsTrue};
-ghost use Rattle.hub_base.specs.Lines.{pieces, join_front};
+ghost use Rattle.std.specs.Prelude.{◌≡◌, ◌∷◌, [], MatchOption, List, ℕ, ◌↔◌, IsTrue};
+ghost use Rattle.hub_base.specs.Lines.{pieces};
 
 use std::marker::Model;
 

@@ -1,6 +1,6 @@
 //! The lines of a text, and their limit of bytes.
 
-ghost use Rattle.std.specs.Prelude.{◌≡◌, ◌+◌, ◌<◌, ◌≤◌, ◌∷◌, [], ℕ, length, MatchOption, IfOk, IfErr, IfSome, Some, true, false};
+ghost use Rattle.std.specs.Prelude.{◌≡◌, ◌+◌, ◌<◌, ◌≤◌, ◌∷◌, [], length, MatchOption, IfOk, IfErr, IfSome, Some, true, false};
 ghost use Rattle.hub_base.specs.Limits.{most_bytes};
 ghost use Rattle.hub_base.specs.Reading.{rows, line_fault};
 

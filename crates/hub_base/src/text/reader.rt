@@ -4,14 +4,14 @@
 //! bytes, no newline, the head lines, the shape of a step, its numbers, its spelling, too many
 //! steps.
 
-ghost use Rattle.std.specs.Prelude.{◌≡◌, ◌≤◌, ℕ, length, IfOk, IfErr, List, ◌++◌, MatchResult};
+ghost use Rattle.std.specs.Prelude.{◌≡◌, ◌≤◌, ℕ, length, IfOk, IfErr, List, ◌++◌};
 ghost use Rattle.hub_base.specs.Limits.{most_bytes};
 ghost use Rattle.hub_base.specs.Lines.{line};
 ghost use Rattle.hub_base.specs.Reading.{read_text, procs_number, procs_from, rows, is_exit};
 ghost use Rattle.hub_base.specs.ReadJournal.{Gives, IsFaultOf};
 ghost use Rattle.hub_base.specs.Text.{IsText, IsFaulty, IsEither, Fits};
 ghost use Rattle.hub_base.specs.Reading.Reading.{Reads, Faulty};
-ghost use Rattle.hub_base.specs.Reader.{ReadsOn};
+ghost use Rattle.hub_base.specs.Reader.{ReadsOn, FillsOn};
 ghost use Rattle.hub_base.specs.declared.entry.Entry.{Entry};
 ghost use Rattle.hub_base.specs.declared.text.faults.Kind.{Kind};
 
@@ -19,7 +19,7 @@ use crate::text::fields::Fields;
 use crate::text::lines::line_at;
 use crate::text::numbers::number;
 use crate::text::steps::{read_line, same_text};
-use crate::{Entry, Journal, Kind, ReadFault, Step, TextFault};
+use crate::{Entry, Journal, Kind, Pid, ReadFault, Step, TextFault};
 use std::alloc::Global;
 use std::marker::Model;
 
@@ -128,34 +128,49 @@ impl<'a> Reader<'a> {
         self.procs
     }
 
-    /// The next entry, or `None` at the end of the text. At the end and at a fault the reader stays
-    /// where it is, so that each further call answers the same.
-    pub fn next_entry(&mut self) -> Result<Option<Entry>, TextFault>
-        ensures { ReadsOn self.old self.new result }
+    /// Reads the next entry into the place of this one, and answers `false` at the end of the text. After a
+    /// fault the reader stays where it is, and the entry is any.
+    ///
+    /// An entry is some 290 bytes, so a loop over a long text reads them all into one.
+    pub fn read_into(&mut self, entry: &mut Entry) -> Result<bool, TextFault>
+        ensures { FillsOn self.old self.new entry.new result }
     {
         if self.rest.is_empty() {
-            return Ok(None);
+            return Ok(false);
         }
-        let line = self.line;
         let (text, after) = match line_at(self.rest, self.place) {
             Ok(parts) => parts,
-            Err(kind) => return Err(TextFault { line, kind }),
+            Err(kind) => return Err(TextFault { line: self.line, kind }),
         };
-        let entry = match read_line(text) {
-            Ok(entry) => entry,
-            Err(kind) => return Err(TextFault { line, kind }),
-        };
-        if !is_exit(&entry) {
+        match read_line(text, entry) {
+            Ok(()) => {}
+            Err(kind) => return Err(TextFault { line: self.line, kind }),
+        }
+        if !is_exit(entry) {
             if self.steps == MOST_STEPS {
-                let kind = Kind::TooLong;
-                return Err(TextFault { line, kind });
+                return Err(TextFault { line: self.line, kind: Kind::TooLong });
             }
             self.steps += 1;
         }
         self.place += text.len() + 1;
         self.line += 1;
         self.rest = after;
-        Ok(Some(entry))
+        Ok(true)
+    }
+
+    /// The next entry, or `None` at the end of the text. After a fault the reader stays where it is.
+    pub fn next_entry(&mut self) -> Result<Option<Entry>, TextFault>
+        ensures { ReadsOn self.old self.new result }
+    {
+        let mut entry = Entry {
+            pid: Pid(0),
+            step: Step::Exit,
+        };
+        match self.read_into(&mut entry) {
+            Ok(true) => Ok(Some(entry)),
+            Ok(false) => Ok(None),
+            Err(fault) => Err(fault),
+        }
     }
 }
 

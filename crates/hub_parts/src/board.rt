@@ -8,7 +8,7 @@ ghost use Rattle.hub_parts.specs.Keeps.{AllMade};
 
 mod parking;
 
-use crate::{Channel, Ended, Side, Tickets};
+use crate::{Channel, Ended, MOST_CASES, MOST_PORTS, Side, Tickets};
 use hub_base::{Cases, Pid, Port, Value};
 use parking::{join, make_room};
 use std::alloc::{AllocError, Global};
@@ -45,7 +45,7 @@ impl Board {
 
     /// Makes a port.
     pub fn make(&mut self, cap: u32) -> Result<Port, AllocError>
-        requires { length self.old.ports < 64 }
+        requires { length self.old.ports < MOST_PORTS }
         ensures made { IfOk result (λ p. (p.0 ≡ length self.old.ports + 1) × (self.new ≡ with_new cap self.old)) }
         ensures err { OnErr result (self.new ≡ self.old) }
     {
@@ -66,7 +66,7 @@ impl Board {
     pub fn park(&mut self, pid: Pid, ticket: u32, cases: Cases)
         requires below { pid.0 < self.old.procs }
         requires free { list_any (λ w. w.call.pid.0 == pid.0) self.old.waiting ≡ false }
-        requires few { length cases.items ≤ 8 }
+        requires few { length cases.items ≤ MOST_CASES }
         requires made { AllMade (length self.old.ports) cases.items }
         requires later { self.old.next_ticket ≤ ticket }
         requires ticket { ticket < 2 ^ 32 - 1 }

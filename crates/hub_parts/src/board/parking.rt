@@ -5,7 +5,7 @@ ghost use Rattle.hub_parts.specs.Parking.{with_line, with_case, all_roomy, all_j
 ghost use Rattle.hub_parts.specs.Keeps.{AllMade};
 ghost use Rattle.hub_base.specs.Ready.{port_of};
 
-use crate::{Channel, Side, Tickets, Waiter};
+use crate::{Channel, MOST_CASES, Side, Tickets, Waiter};
 use hub_base::{Case, Pid, Port};
 
 /// Makes room in the queue of a side of a port; port 0 has none.
@@ -67,7 +67,7 @@ fn join_for(ports: &mut Vec<Channel>, case: Case, waiter: Waiter)
 
 /// Adds each case to its queue.
 pub(crate) fn join(ports: &mut Vec<Channel>, pid: Pid, ticket: u32, cases: &[Case])
-    requires few { length cases.now ≤ 16 }
+    requires few { length cases.now ≤ MOST_CASES }
     requires fits { CanJoin pid ticket 0 ports.old.items cases.now }
     ensures { ports.new.items ≡ all_joined pid ticket 0 ports.old.items cases.now }
 {

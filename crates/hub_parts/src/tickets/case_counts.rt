@@ -5,14 +5,14 @@
 ghost use Rattle.std.specs.Prelude.{◌≡◌, ◌≤◌, replicate};
 ghost use Rattle.hub_parts.specs.CaseCounts.{raised, lowered, with_raised, with_lowered, Raises, Lowers, CanRaise, CanLower, has_case};
 
-use crate::Side;
+use crate::{MOST_PORTS, Side};
 use hub_base::{Case, Port};
 
-/// The greatest number of a port that is counted.
-pub(crate) const LAST_PORT: usize = 64;
+/// The ports, and port 0.
+const PORT_NUMBERS: usize = MOST_PORTS + 1;
 
-/// One number for each port, and one for port 0.
-type Counts = [u16; LAST_PORT + 1];
+/// A number for each of them.
+type Counts = [u16; PORT_NUMBERS];
 
 /// How many cases of open calls are on each side of each port.
 #[derive(Drop)]
@@ -41,12 +41,12 @@ fn lower(counts: &mut Counts, port: Port)
 
 impl CaseCounts {
     pub(crate) fn new() -> CaseCounts
-        ensures sends { result.sends ≡ replicate 65 0 }
-        ensures recvs { result.recvs ≡ replicate 65 0 }
+        ensures sends { result.sends ≡ replicate PORT_NUMBERS 0 }
+        ensures recvs { result.recvs ≡ replicate PORT_NUMBERS 0 }
     {
         CaseCounts {
-            sends: [0; LAST_PORT + 1],
-            recvs: [0; LAST_PORT + 1],
+            sends: [0; PORT_NUMBERS],
+            recvs: [0; PORT_NUMBERS],
         }
     }
 
@@ -78,7 +78,7 @@ impl CaseCounts {
 
     /// Whether some case is on this side of the port.
     pub(crate) fn has(&self, port: Port, side: Side) -> bool
-        requires { port.0 ≤ 64 }
+        requires { port.0 ≤ MOST_PORTS }
         ensures { result ≡ has_case self.now port side }
     {
         let place = port.0 as usize;

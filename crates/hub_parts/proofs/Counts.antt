@@ -12,6 +12,7 @@ use Rattle.hub_base.specs.declared.value.Port.{Port}
 use Rattle.hub_base.specs.declared.case.Case.{Case}
 use Rattle.hub_base.specs.declared.case.Case.TheVariants.{Send, Recv}
 use Rattle.hub_base.specs.Ready.{is_send_on, is_recv_on, is_on, first_with, lowest_from, or_else}
+use Rattle.hub_parts.specs.declared.limits.TheConstants.{MOST_PORTS}
 use Rattle.hub_parts.specs.declared.tickets.Opened.{Opened}
 use Rattle.hub_parts.specs.declared.tickets.case_counts.CaseCounts.{CaseCounts}
 use Rattle.hub_parts.specs.declared.side.Side.{Side}
@@ -137,17 +138,17 @@ Covering n x = n ≤ x
 pub can_raise : (t : CaseCounts) (ws : List Ticketed) (cases : List Case) → IsCountOf t ws → AllByRecursion (λ w. length w.call.cases ≤ 16) ws → length ws < 256 → length cases ≤ 16 → CanRaise t cases
 can_raise t ws cases k few most small =
     all_allow one_more CanGrow Fitting (λ n x r. omega arith) (λ n x r. omega arith) t cases (record {
-      sends = λ p within. rw (k.sends p (rw k.sends_length at within)) (omega (arith, all_passing-le (is_send_on p) ws few, passing-le (is_send_on p) cases));
-      recvs = λ p within. rw (k.recvs p (rw k.recvs_length at within)) (omega (arith, all_passing-le (is_recv_on p) ws few, passing-le (is_recv_on p) cases));
+      sends = λ p within. rw (k.sends p (omega (arith, k.sends_length))) (omega (arith, all_passing-le (is_send_on p) ws few, passing-le (is_send_on p) cases));
+      recvs = λ p within. rw (k.recvs p (omega (arith, k.recvs_length))) (omega (arith, all_passing-le (is_recv_on p) ws few, passing-le (is_recv_on p) cases));
     })
 
 all_passing-snoc : (test : Case → Bool) (ws : List Ticketed) (w : Ticketed) → all_passing test (ws ++ w ∷ []) ≡ all_passing test ws + passing test w.call.cases
 all_passing-snoc test [] w = omega arith
 all_passing-snoc test (v ∷ ws) w = omega (arith, all_passing-snoc test ws w)
 
-raised_counts : (half : CaseCounts → List ℕ) (test : Port → Case → Bool) (t : CaseCounts) (ws : List Ticketed) (w : Ticketed) → IsHalf one_more half test → length (half t) ≡ 65 → CountsCases test (half t) ws → CountsCases test (half (with_raised t w.call.cases)) (ws ++ w ∷ [])
+raised_counts : (half : CaseCounts → List ℕ) (test : Port → Case → Bool) (t : CaseCounts) (ws : List Ticketed) (w : Ticketed) → IsHalf one_more half test → length (half t) ≡ MOST_PORTS + 1 → CountsCases test (half t) ws → CountsCases test (half (with_raised t w.call.cases)) (ws ++ w ∷ [])
 raised_counts half test t ws w h long k = λ p within.
-    let inside : p.0 < length (half t) = rw long within in
+    let inside : p.0 < length (half t) = omega (arith, long) in
     all_changed_at one_more half test h t w.call.cases p inside
     ∙ iterate-more (passing (test p) w.call.cases) (slice_index (half t) p.0)
     ∙ ap (λ n. n + passing (test p) w.call.cases) (k p within)
@@ -188,13 +189,13 @@ all_passing-ended test places pid (o ∷ os) apart any = ended_step test places 
 pub can_lower : (t : CaseCounts) (places : List (ArrayVec Case)) (pid : Pid) (os : List Opened) → IsCountOf t (calls_of places os) → AreApart (pids os) → list_any (λ o. o.pid.0 == pid.0) os ≡ true → CanLower t (cases_of places pid)
 can_lower t places pid os k apart any =
     all_allow one_less (λ n. 0 < n) Covering (λ n x r. omega arith) (λ n x r. omega arith) t (cases_of places pid) (record {
-      sends = λ p within. rw (k.sends p (rw k.sends_length at within)) (omega (arith, all_passing-ended (is_send_on p) places pid os apart any));
-      recvs = λ p within. rw (k.recvs p (rw k.recvs_length at within)) (omega (arith, all_passing-ended (is_recv_on p) places pid os apart any));
+      sends = λ p within. rw (k.sends p (omega (arith, k.sends_length))) (omega (arith, all_passing-ended (is_send_on p) places pid os apart any));
+      recvs = λ p within. rw (k.recvs p (omega (arith, k.recvs_length))) (omega (arith, all_passing-ended (is_recv_on p) places pid os apart any));
     })
 
-lowered_counts : (half : CaseCounts → List ℕ) (test : Port → Case → Bool) (t : CaseCounts) (places : List (ArrayVec Case)) (pid : Pid) (os : List Opened) → IsHalf one_less half test → length (half t) ≡ 65 → AreApart (pids os) → list_any (λ o. o.pid.0 == pid.0) os ≡ true → CountsCases test (half t) (calls_of places os) → CountsCases test (half (with_lowered t (cases_of places pid))) (calls_of places (others pid os))
+lowered_counts : (half : CaseCounts → List ℕ) (test : Port → Case → Bool) (t : CaseCounts) (places : List (ArrayVec Case)) (pid : Pid) (os : List Opened) → IsHalf one_less half test → length (half t) ≡ MOST_PORTS + 1 → AreApart (pids os) → list_any (λ o. o.pid.0 == pid.0) os ≡ true → CountsCases test (half t) (calls_of places os) → CountsCases test (half (with_lowered t (cases_of places pid))) (calls_of places (others pid os))
 lowered_counts half test t places pid os h long apart any k = λ p within.
-    let inside : p.0 < length (half t) = rw long within in
+    let inside : p.0 < length (half t) = omega (arith, long) in
     all_changed_at one_less half test h t (cases_of places pid) p inside
     ∙ iterate-less (passing (test p) (cases_of places pid)) (slice_index (half t) p.0)
     ∙ ap (λ n. n - passing (test p) (cases_of places pid)) (k p within)
@@ -244,15 +245,15 @@ all_passing-on p (w ∷ ws) = omega (arith, passing-on p w.call.cases, all_passi
 pub some_waits_on : (p : Port) (ws : List Ticketed) → (not (all_passing (is_send_on p) ws == 0) || not (all_passing (is_recv_on p) ws == 0)) ≡ is_some (first_with (is_on p) (open_calls ws))
 some_waits_on p ws = some_of_two (all_passing (is_send_on p) ws) (all_passing (is_recv_on p) ws) ∙ ap (λ n. not (n == 0)) (sym (all_passing-on p ws)) ∙ some_waits (is_on p) ws
 
-pub counts_tell : (s : Side) (p : Port) (t : CaseCounts) (ws : List Ticketed) → IsCountOf t ws → p.0 ≤ 64 → has_case t p s ≡ is_some (first_with (passes p s) (open_calls ws))
-counts_tell side.Send p t ws k within = rw (k.sends p (omega arith)) (some_waits (is_send_on p) ws)
-counts_tell side.Recv p t ws k within = rw (k.recvs p (omega arith)) (some_waits (is_recv_on p) ws)
-counts_tell side.Any p t ws k within = rw (k.sends p (omega arith), k.recvs p (omega arith)) (some_waits_on p ws)
+pub counts_tell : (s : Side) (p : Port) (t : CaseCounts) (ws : List Ticketed) → IsCountOf t ws → p.0 ≤ MOST_PORTS → has_case t p s ≡ is_some (first_with (passes p s) (open_calls ws))
+counts_tell side.Send p t ws k within = rw (k.sends p within) (some_waits (is_send_on p) ws)
+counts_tell side.Recv p t ws k within = rw (k.recvs p within) (some_waits (is_recv_on p) ws)
+counts_tell side.Any p t ws k within = rw (k.sends p within, k.recvs p within) (some_waits_on p ws)
 
-pub no_counts : (t : CaseCounts) → t.sends ≡ replicate 65 0 → t.recvs ≡ replicate 65 0 → IsCountOf t []
+pub no_counts : (t : CaseCounts) → t.sends ≡ replicate (MOST_PORTS + 1) 0 → t.recvs ≡ replicate (MOST_PORTS + 1) 0 → IsCountOf t []
 no_counts t s r = record {
-  sends = λ p within. rw s (get_or-replicate 65 p.0 0 0 within);
-  recvs = λ p within. rw r (get_or-replicate 65 p.0 0 0 within);
-  sends_length = rw s (length-replicate {A = ℕ} 65 0);
-  recvs_length = rw r (length-replicate {A = ℕ} 65 0);
+  sends = λ p within. rw s (get_or-replicate (MOST_PORTS + 1) p.0 0 0 (omega arith));
+  recvs = λ p within. rw r (get_or-replicate (MOST_PORTS + 1) p.0 0 0 (omega arith));
+  sends_length = rw s (length-replicate {A = ℕ} (MOST_PORTS + 1) 0);
+  recvs_length = rw r (length-replicate {A = ℕ} (MOST_PORTS + 1) 0);
 }

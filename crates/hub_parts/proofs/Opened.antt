@@ -1,20 +1,20 @@
 -- The calls in their list and in their places, as contracts see them.
-use Rattle.std.proofs.Common.{◌≡◌, ◌≢◌, ℕ, ◌+◌, ◌++◌, Bool, List, [], ◌∷◌, refl, Option, Some, None, arith, drop, take, length, get_or, set, ◌<◌, suc, not, ◌==◌, ◌||◌, filter, slice_get, true, false, inl, inr, eq-eqb, replicate, find, zero, cond, append_assoc, ap, sym, ◌∙◌}
+use Rattle.std.proofs.Common.{◌≡◌, ◌≢◌, ℕ, ◌++◌, Bool, List, [], ◌∷◌, refl, Option, Some, None, arith, length, get_or, set, ◌<◌, not, ◌==◌, ◌||◌, filter, slice_get, true, false, inl, inr, eq-eqb, replicate, find, cond, ap, sym, ◌∙◌}
 use Rattle.std.specs.List.{AllByRecursion, list_any}
 use Rattle.std.specs.Option.{option_map}
 use Rattle.std.proofs.lemmas.Bool.{eqb-false, ne_eqb, cases_eq}
 use Rattle.std.proofs.lemmas.Bool.Decides.{nat_tests}
-use Rattle.std.proofs.lemmas.List.{drop_more, append-nil, get_or-set_same, get_or-set_other, map-append, get_or_default, length-set, get_or-replicate, length-replicate}
-use Rattle.std.proofs.lemmas.List.Elements.{filter_more}
+use Rattle.std.proofs.lemmas.List.{get_or-set_same, get_or-set_other, map-append, get_or_default, length-set, get_or-replicate, length-replicate}
 use Rattle.std.proofs.lemmas.Grind.{common_steps}
 use Rattle.arrayvec.specs.ArrayVec.{ArrayVec}
 use Rattle.hub_base.specs.declared.value.Pid.{Pid}
 use Rattle.hub_base.specs.declared.case.Case.{Case}
+use Rattle.hub_parts.specs.declared.tickets.TheConstants.{PIDS}
 use Rattle.hub_parts.specs.declared.tickets.Opened.{Opened}
 use Rattle.hub_parts.specs.Records.{Ticketed}
 use Rattle.hub_parts.specs.Tickets.{IsMarked, calls_of, call_of, cases_of, pids}
 use Rattle.hub_parts.specs.Lists.{still_open, ticketed}
-use Rattle.hub_parts.specs.Queues.{case_at, turned, is_live}
+use Rattle.hub_parts.specs.Queues.{case_at, is_live}
 
 abbrev Places : Type 0
 Places = List (ArrayVec Case)
@@ -90,7 +90,7 @@ marked_new [] o q true e = rw e refl
 marked_new [] o q false e = rw e refl
 marked_new (v ∷ os) o q b e = elim (v.pid.0 == q) as (λ a. (a || list_any (λ o. o.pid.0 == q) (os ++ o ∷ [])) ≡ cond b true (a || list_any (λ o. o.pid.0 == q) os)) [ true ↦ both_true b | false ↦ marked_new os o q b e ]
 
-pub marked_opened : (marks : List Bool) (os : List Opened) (o : Opened) → o.pid.0 < 256 → IsMarked marks os → IsMarked (set marks o.pid.0 true) (os ++ o ∷ [])
+pub marked_opened : (marks : List Bool) (os : List Opened) (o : Opened) → o.pid.0 < PIDS → IsMarked marks os → IsMarked (set marks o.pid.0 true) (os ++ o ∷ [])
 marked_opened marks os o small k = record {
   told = λ q within.
       elim (cases_eq o.pid.0 q) [
@@ -128,5 +128,5 @@ marked_ended marks os pid k = record {
   long = length-set marks pid.0 false ∙ k.long;
 }
 
-pub none_marked : IsMarked (replicate 256 false) []
-none_marked = record { told = λ q within. get_or-replicate 256 q false false within; long = length-replicate 256 false }
+pub none_marked : IsMarked (replicate PIDS false) []
+none_marked = record { told = λ q within. get_or-replicate PIDS q false false within; long = length-replicate PIDS false }

@@ -1,9 +1,10 @@
 -- Counts of the cases of open calls, for each side of each port.
-use Rattle.std.specs.Prelude.{ℕ, suc, ◌≡◌, Bool, not, ◌==◌, ◌||◌, ◌+◌, ◌-◌, ◌<◌, nat_lt, List, [], ◌∷◌, length, slice_index, slice_set, if◌then◌else◌}
+use Rattle.std.specs.Prelude.{ℕ, suc, ◌≡◌, Bool, not, ◌==◌, ◌||◌, ◌+◌, ◌-◌, ◌<◌, ◌≤◌, nat_lt, List, [], ◌∷◌, length, slice_index, slice_set, if◌then◌else◌}
 use Rattle.hub_base.specs.declared.value.Port.{Port}
 use Rattle.hub_base.specs.declared.case.Case.{Case}
 use Rattle.hub_base.specs.declared.case.Case.TheVariants.{Send, Recv}
 use Rattle.hub_base.specs.Ready.{is_send_on, is_recv_on}
+use Rattle.hub_parts.specs.declared.limits.TheConstants.{MOST_PORTS}
 use Rattle.hub_parts.specs.Records.{Ticketed}
 use Rattle.hub_parts.specs.declared.side.Side.{Side}
 use Rattle.hub_parts.specs.declared.side.Side.TheVariants as side
@@ -89,10 +90,10 @@ all_passing test (w ∷ ws) = passing test w.call.cases + all_passing test ws
 
 -- each count is the number of cases on its port
 abbrev pub CountsCases : (Port → Case → Bool) → List ℕ → List Ticketed → Type 0
-CountsCases test counts ws = (p : Port) → p.0 < 65 → slice_index counts p.0 ≡ all_passing (test p) ws
+CountsCases test counts ws = (p : Port) → p.0 ≤ MOST_PORTS → slice_index counts p.0 ≡ all_passing (test p) ws
 
 pub record IsCountOf (t : CaseCounts) (ws : List Ticketed) : Type 0 where
   pub sends : CountsCases is_send_on t.sends ws
   pub recvs : CountsCases is_recv_on t.recvs ws
-  pub sends_length : length t.sends ≡ 65
-  pub recvs_length : length t.recvs ≡ 65
+  pub sends_length : length t.sends ≡ MOST_PORTS + 1
+  pub recvs_length : length t.recvs ≡ MOST_PORTS + 1

@@ -1,19 +1,15 @@
 -- The words of the contracts.
-use Rattle.std.specs.Prelude.{ℕ, ◌==◌, ◌+◌, not, Bool, List, [], filter, map, length, slice_index_or, slice_set, false, true, ◌≤◌, ◌<◌, ◌-◌, ◌∷◌, ◌++◌, drop, Option, None, Some, find, if◌then◌else◌}
-use Rattle.circular_buffer.specs.Buffer.{Buffer, buffer}
+use Rattle.std.specs.Prelude.{ℕ, ◌==◌, ◌+◌, not, Bool, List, [], filter, map, length, slice_index_or, slice_set, false, true, ◌≤◌, ◌<◌, ◌-◌, ◌∷◌, ◌++◌, drop, Option, None, Some}
 use Rattle.hub_base.specs.declared.value.Port.{Port}
 use Rattle.hub_base.specs.declared.value.Pid.{Pid}
 use Rattle.hub_base.specs.declared.case.Case.{Case}
-use Rattle.hub_base.specs.declared.case.Case.TheVariants.{Send, Recv}
 use Rattle.hub_base.specs.State.{OpenCall}
 use Rattle.hub_base.specs.Ready.{is_send_on, is_recv_on, is_on, Ending}
 use Rattle.hub_parts.specs.declared.side.Side.{Side}
 use Rattle.hub_parts.specs.declared.side.Side.TheVariants as side
 use Rattle.hub_parts.specs.declared.side.Ended.{Ended}
-use Rattle.hub_parts.specs.declared.wait_queue.Waiter.{Waiter}
 use Rattle.hub_base.specs.declared.value.Value.{Value}
-use Rattle.hub_parts.specs.Records.{PortLists, Ticketed, Calls, ChannelLists, Lists}
-use Rattle.hub_parts.specs.Queues.{lives, is_before, joined, roomy, waiter_at}
+use Rattle.hub_parts.specs.Records.{PortLists, Ticketed, Calls, Lists}
 
 abbrev pub passes : Port → Side → Case → Bool
 passes p side.Send c = is_send_on p c

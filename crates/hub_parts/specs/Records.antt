@@ -1,5 +1,5 @@
 -- What contracts see of a board and of its pieces.
-use Rattle.std.specs.Prelude.{ℕ, Bool, List, [], Option, None, Some, ◌≡◌, ◌≤◌, length}
+use Rattle.std.specs.Prelude.{ℕ, Bool, List}
 use Rattle.circular_buffer.specs.Buffer.{Buffer}
 use Rattle.hub_base.specs.declared.value.Value.{Value}
 use Rattle.hub_base.specs.State.{OpenCall}

@@ -1,11 +1,15 @@
-//! The queues of a call's cases.
-ghost use Rattle.std.specs.Prelude.{◌≡◌, ◌≤◌, ◌<◌, ◌+◌, length};
-ghost use Rattle.hub_parts.specs.Queues.{roomy, joined, waiter_at};
+//! Parking: what a call that waits does to the queues of its cases.
+//!
+//! First room is made in each queue, and only then the entries join. Were both done case by case, the call's own
+//! entries, whose ticket is not live yet, would be cleared away as dead ones.
+
+ghost use Rattle.std.specs.Prelude.{◌≡◌, ◌≤◌, length};
+ghost use Rattle.hub_base.specs.Ready.{port_of};
+ghost use Rattle.hub_parts.specs.Queues.{roomy, joined};
 ghost use Rattle.hub_parts.specs.Parking.{with_line, with_case, all_roomy, all_joined, IsWithin, HasPlace, CaseFits, CanJoin};
 ghost use Rattle.hub_parts.specs.Keeps.{AllMade};
-ghost use Rattle.hub_base.specs.Ready.{port_of};
 
-use crate::{Channel, Side, Tickets, Waiter};
+use crate::{Channel, MOST_CASES, Side, Tickets, Waiter};
 use hub_base::{Case, Pid, Port};
 
 /// Makes room in the queue of a side of a port; port 0 has none.
@@ -31,7 +35,7 @@ fn room_for(ports: &mut Vec<Channel>, tickets: &Tickets, case: Case)
     }
 }
 
-/// Makes room in the queue of each case.
+/// Makes room in the queue of each case. Where two cases have one queue, the second time changes nothing.
 pub(crate) fn make_room(ports: &mut Vec<Channel>, tickets: &Tickets, cases: &[Case])
     requires { AllMade (length ports.old.items) cases.now }
     ensures { ports.new.items ≡ all_roomy tickets.now.waiting ports.old.items cases.now }
@@ -65,9 +69,9 @@ fn join_for(ports: &mut Vec<Channel>, case: Case, waiter: Waiter)
     }
 }
 
-/// Adds each case to its queue.
+/// Adds an entry for each case to its queue, in case order.
 pub(crate) fn join(ports: &mut Vec<Channel>, pid: Pid, ticket: u32, cases: &[Case])
-    requires few { length cases.now ≤ 16 }
+    requires few { length cases.now ≤ MOST_CASES }
     requires fits { CanJoin pid ticket 0 ports.old.items cases.now }
     ensures { ports.new.items ≡ all_joined pid ticket 0 ports.old.items cases.now }
 {

@@ -1,26 +1,28 @@
-//! Counts of the cases of open calls.
+//! Counts of the cases of open calls, so that nobody has to look for a case on a port.
 //!
-//! `sends[p]` is how many cases of open calls send on port `p`, and `recvs[p]` how many receive from it,
-//! port 0 among them. A case on a port above the last is not counted.
+//! `sends` has for each port how many cases of open calls send on it, and `recvs` how many receive from it; port 0
+//! is counted like any other. A case on a port above the last is not counted.
+
 ghost use Rattle.std.specs.Prelude.{◌≡◌, ◌≤◌, replicate};
 ghost use Rattle.hub_parts.specs.CaseCounts.{raised, lowered, with_raised, with_lowered, Raises, Lowers, CanRaise, CanLower, has_case};
 
-use crate::Side;
+use crate::{MOST_PORTS, Side};
 use hub_base::{Case, Port};
 
-/// The greatest number of a port that is counted.
-pub(crate) const LAST_PORT: usize = 64;
+/// The ports, and port 0.
+const PORT_NUMBERS: usize = MOST_PORTS + 1;
 
-/// One number for each port, and one for port 0.
-type Counts = [u16; LAST_PORT + 1];
+/// A number for each of them.
+type Counts = [u16; PORT_NUMBERS];
 
-/// How many cases of open calls are on each side of each port.
+/// How many cases of open calls there are on each side of each port.
 #[derive(Drop)]
 pub(crate) struct CaseCounts {
     sends: Counts,
     recvs: Counts,
 }
 
+/// One case more is on the port.
 fn raise(counts: &mut Counts, port: Port)
     requires { Raises counts.old port }
     ensures { counts.new ≡ raised port counts.old }
@@ -30,6 +32,7 @@ fn raise(counts: &mut Counts, port: Port)
     }
 }
 
+/// One case fewer is on the port.
 fn lower(counts: &mut Counts, port: Port)
     requires { Lowers counts.old port }
     ensures { counts.new ≡ lowered port counts.old }
@@ -40,13 +43,14 @@ fn lower(counts: &mut Counts, port: Port)
 }
 
 impl CaseCounts {
+    /// No case.
     pub(crate) fn new() -> CaseCounts
-        ensures sends { result.sends ≡ replicate 65 0 }
-        ensures recvs { result.recvs ≡ replicate 65 0 }
+        ensures sends { result.sends ≡ replicate PORT_NUMBERS 0 }
+        ensures recvs { result.recvs ≡ replicate PORT_NUMBERS 0 }
     {
         CaseCounts {
-            sends: [0; LAST_PORT + 1],
-            recvs: [0; LAST_PORT + 1],
+            sends: [0; PORT_NUMBERS],
+            recvs: [0; PORT_NUMBERS],
         }
     }
 
@@ -63,7 +67,7 @@ impl CaseCounts {
         }
     }
 
-    /// Counts the cases of a call that ends no longer.
+    /// Counts the cases of a call that ends no more.
     pub(crate) fn remove(&mut self, cases: &[Case])
         requires { CanLower self.old cases.now }
         ensures { self.new ≡ with_lowered self.old cases.now }
@@ -78,7 +82,7 @@ impl CaseCounts {
 
     /// Whether some case is on this side of the port.
     pub(crate) fn has(&self, port: Port, side: Side) -> bool
-        requires { port.0 ≤ 64 }
+        requires { port.0 ≤ MOST_PORTS }
         ensures { result ≡ has_case self.now port side }
     {
         let place = port.0 as usize;

@@ -29,6 +29,7 @@ use Rattle.hub_laws.proofs.Rules.{moves-sound, state-sound}
 use Rattle.hub_laws.proofs.Does.{Knows, wrote-set}
 use Rattle.hub_laws.proofs.Totals.{told-picks, others-none}
 use Rattle.hub_laws.proofs.Turns.{in_force, moves-turn}
+use Rattle.hub_laws.proofs.Longer.{state-entry}
 
 sent_none : (p : Port) (k : Case) (o : Outcome) → ((port_of k).0 == p.0) ≡ false → sent_at p (Some k) o ≡ None
 sent_none p k Sent e = rw e refl
@@ -144,10 +145,6 @@ close-closes s pid p h = closed_admits s pid p (refusal s pid) h
 
 -- Runs
 
-pub state_after-snoc : (s : State) (es : List Entry) (e : Entry) → state_after s (es ++ e ∷ []) ≡ (moves (state_after s es) e).state
-state_after-snoc s [] e = refl
-state_after-snoc s (x ∷ es) e = state_after-snoc (moves s x).state es e
-
 knows_after : (s : State) (ts : List Turned) (es : List Entry) → IsSound s → Knows (in_force ts) s.parked → Knows (in_force (ts ++ turns_after s es)) (state_after s es).parked
 knows_after s ts [] sound knows = rw append-nil knows
 knows_after s ts (e ∷ es) sound knows =
@@ -163,6 +160,6 @@ after_close-law n es fs pid p h =
     let e : Entry = record { pid = pid; step = Close p } in
     let all : List Entry = es ++ e ∷ [] in
     let c = close-closes (state n es) pid p h in
-    let there : channel_at (state n all) p ≡ Some c.0 = ap (λ (s : State). channel_at s p) (state_after-snoc (opening n) es e) ∙ c.1 in
+    let there : channel_at (state n all) p ≡ Some c.0 = ap (λ (s : State). channel_at s p) (state-entry n es e) ∙ c.1 in
     let l = later p c.0 (turns_after (opening n) all) (state n all) fs (state-sound n all) (state-knows n all) there c.2 in
     record { left = c.0; made = there; closed = c.2; sent = l.none; heard = l.drains }

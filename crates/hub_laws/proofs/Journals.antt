@@ -14,6 +14,7 @@ use Rattle.hub_laws.specs.Journals.{JournalLaw, Grows, Begins}
 use Rattle.hub_laws.proofs.Events.{answer_admits, ends_admits}
 use Rattle.hub_laws.proofs.Faults.{refusal-refuses}
 use Rattle.hub_laws.proofs.Telling.{turn-tells}
+use Rattle.hub_laws.proofs.Longer.{kept-entry}
 
 -- The state, and which entries are admitted
 
@@ -76,17 +77,6 @@ pub journal-law : (n : ℕ) (es : List Entry) → JournalLaw n es
 journal-law n es = record { legal = kept-kept n es; state = state-kept n es; events = events_after-kept (opening n) es }
 
 -- A further entry
-
-pub kept_after-append : (s : State) (es fs : List Entry) → kept_after s (es ++ fs) ≡ kept_after s es ++ kept_after (state_after s es) fs
-kept_after-append s [] fs = refl
-kept_after-append s (e ∷ es) fs = ap (keeps (refusal s e.pid) e) (kept_after-append (moves s e).state es fs) ∙ by (refusal s e.pid)
-  where
-    by : (o : Option Fault) → keeps o e (kept_after (moves s e).state es ++ kept_after (state_after (moves s e).state es) fs) ≡ keeps o e (kept_after (moves s e).state es) ++ kept_after (state_after (moves s e).state es) fs
-    by None = refl
-    by (Some f) = refl
-
-pub kept-entry : (n : ℕ) (es : List Entry) (e : Entry) → kept n (es ++ e ∷ []) ≡ kept n es ++ keeps (refusal (state n es) e.pid) e []
-kept-entry n es e = kept_after-append (opening n) es (e ∷ [])
 
 pub grows-law : (n : ℕ) (es : List Entry) (e : Entry) → Grows n es e
 grows-law n es e = record {

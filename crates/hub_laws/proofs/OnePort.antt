@@ -9,7 +9,7 @@ use Rattle.hub_base.specs.Runs.{admits, moves, state}
 use Rattle.std.specs.Option.{option_map_or}
 use Rattle.hub_laws.specs.OnePort.{port_touched, is_port, IsMade, OnePortLaw}
 use Rattle.hub_laws.proofs.Telling.{turn-tells, fault_names_none}
-use Rattle.hub_laws.proofs.Replies.{state_after-append}
+use Rattle.hub_laws.proofs.Longer.{state_after-append}
 
 admits_others : (s : State) (e : Entry) (o : Option Fault) (p : Port) → is_port (port_touched e.step (admits s e o).events) p ≡ false → channel_at (admits s e o).state p ≡ channel_at s p
 admits_others s e None p h = (turn-tells s e).others p h

@@ -1,5 +1,5 @@
 -- The events of an admitted entry are replies.
-use Rattle.std.proofs.Common.{◌≡◌, ℕ, ◌+◌, ◌≤◌, ◌==◌, nat_lt, Bool, true, false, cond, not, zero, suc, List, [], ◌∷◌, ◌++◌, length, filter, refl, ap, ◌∙◌, sym, subst, Option, Some, None, arith, ◌&&◌, ◌||◌, append-nil}
+use Rattle.std.proofs.Common.{◌≡◌, ℕ, ◌+◌, ◌≤◌, ◌==◌, nat_lt, Bool, true, false, cond, not, zero, suc, List, [], ◌∷◌, ◌++◌, length, filter, refl, ap, ◌∙◌, sym, subst, Some, None, arith, ◌&&◌, ◌||◌, append-nil}
 use Rattle.std.specs.Prelude.{slice_get}
 use Rattle.std.specs.List.{AllByRecursion}
 use Rattle.std.proofs.Math.Bool.{and-false, and-true}
@@ -8,9 +8,9 @@ use Rattle.std.proofs.lemmas.Bool.{or_parts, eqb-true}
 use Rattle.hub_base.specs.declared.value.Pid.{Pid}
 use Rattle.hub_base.specs.declared.entry.Entry.{Entry}
 use Rattle.hub_base.specs.declared.event.Event.{Event}
-use Rattle.hub_base.specs.State.{State, OpenCall, opening}
+use Rattle.hub_base.specs.State.{State, OpenCall}
 use Rattle.hub_base.specs.Steps.{refusal, is_waiting}
-use Rattle.hub_base.specs.Runs.{admits, moves, events, state}
+use Rattle.hub_base.specs.Runs.{admits, moves, state}
 use Rattle.hub_laws.specs.Sound.{IsSound, is_among}
 use Rattle.hub_laws.specs.Once.{endings}
 use Rattle.hub_laws.specs.Answers.{ends_waiting, IsAnswered}
@@ -21,7 +21,9 @@ use Rattle.hub_laws.proofs.Rules.{state-sound}
 use Rattle.hub_laws.proofs.Events.{Counted, answered_counts, ends_clear}
 use Rattle.hub_laws.proofs.Balance.{one, open_calls, ends, open_none, open_most, Balance, turn-balance}
 use Rattle.hub_laws.proofs.Answered.{moves-answered}
-use Rattle.hub_laws.proofs.Replies.{state_after-append, told_to-append, told_none, reply-untold, own-others}
+use Rattle.hub_laws.proofs.Replies.{told_none, reply-untold, own-others}
+use Rattle.hub_laws.proofs.Longer.{state-entry}
+use Rattle.hub_laws.proofs.Replies.{reply-entry}
 
 -- Counting
 
@@ -78,18 +80,11 @@ one_left test (y ∷ ys) (suc i) x at passes most = by (test y) (one_left test y
     by true rest h = let k : filter test ys ≡ x ∷ [] = rest (omega arith) in absurd (let l : length (filter test ys) ≡ 1 = ap length k in omega arith)
     by false rest h = rest h
 
-last_snoc : {A : Type 0} (o : Option A) (xs : List A) (x : A) → last_from o (xs ++ x ∷ []) ≡ Some x
-last_snoc o [] x = refl
-last_snoc o (y ∷ ys) x = last_snoc (Some y) ys x
-
 -- Replies
 
--- the state and what was told after one entry more
+-- who waits after one entry more
 after_entry : (q n : ℕ) (es : List Entry) (e : Entry) → is_waiting (state n (es ++ e ∷ [])) q ≡ is_among q (moves (state n es) e).state.parked
-after_entry q n es e = ap (λ (s : State). is_waiting s q) (state_after-append (opening n) es (e ∷ []))
-
-told_entry : (q n : ℕ) (es : List Entry) (e : Entry) → reply q n (es ++ e ∷ []) ≡ last_from None (told_to q (events n es) ++ told_to q (moves (state n es) e).events)
-told_entry q n es e = ap (λ xs. last_from None xs) (told_to-append q n es (e ∷ []) ∙ ap (λ xs. told_to q (events n es) ++ told_to q xs) (append-nil (moves (state n es) e).events))
+after_entry q n es e = ap (λ (s : State). is_waiting s q) (state-entry n es e)
 
 -- a process that was told of its call does not wait
 free_from : (q : ℕ) (s : State) (e : Entry) → IsSound s → refusal s e.pid ≡ None → ends q (moves s e).events ≡ 1 → is_among q (moves s e).state.parked ≡ false
@@ -107,7 +102,7 @@ event_replies n es e is counted i x at clear =
     let here : ((x.pid.0 == q) && not (is_parked x.what)) ≡ true = rw (same_number x.pid.0, clear) refl in
     let one : told_to q (moves s e).events ≡ x ∷ [] = one_left (λ y. (y.pid.0 == q) && not (is_parked y.what)) (moves s e).events i x at here most in
     record {
-      reply = told_entry q n es e ∙ ap (λ xs. last_from None (told_to q (events n es) ++ xs)) one ∙ last_snoc None (told_to q (events n es)) x;
+      reply = reply-entry q n es e ∙ ap (λ xs. last_from (reply q n es) xs) one;
       free = after_entry q n es e ∙ free_from q s e (state-sound n es) is (ap length (sym same ∙ one));
     }
 

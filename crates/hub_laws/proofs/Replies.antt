@@ -1,5 +1,5 @@
 -- Entries of others leave a process alone that has no open call.
-use Rattle.std.proofs.Common.{◌≡◌, ℕ, ◌%◌, ◌==◌, Bool, true, false, not, List, [], ◌∷◌, ◌++◌, length, refl, ap, ◌∙◌, sym, subst, Option, Some, None, ◌&&◌, append-nil, append_assoc}
+use Rattle.std.proofs.Common.{◌≡◌, ℕ, ◌%◌, ◌==◌, Bool, true, false, not, List, [], ◌∷◌, ◌++◌, length, refl, ap, ◌∙◌, sym, subst, Option, Some, None, ◌&&◌, append-nil}
 use Rattle.std.specs.Prelude.{slice_get}
 use Rattle.std.specs.List.{list_any, AllByRecursion, filter_map, cons_option}
 use Rattle.std.specs.Option.{option_map}
@@ -26,6 +26,7 @@ use Rattle.hub_laws.specs.Sound.{is_among}
 use Rattle.hub_laws.specs.Replies.{own, reply, last_from, is_parked, told_to, is_told, RepliesLaw}
 use Rattle.hub_laws.proofs.Calls.{first-found, same_number}
 use Rattle.hub_laws.proofs.Stands.{effect-stands, stalls-stands}
+use Rattle.hub_laws.proofs.Longer.{events-entry, events_after-append, state_after-append}
 
 -- what holds of the process that steps and of those that wait holds of all that are told
 module _ (C : ℕ → Type 0) where
@@ -139,15 +140,6 @@ untold : (q : ℕ) (es : List Event) → AllByRecursion (λ e. Not q e.pid.0) es
 untold q [] a = refl
 untold q (e ∷ es) a = or_from (e.pid.0 == q) (is_told q es) a.0 (untold q es a.1)
 
--- a run that goes on
-pub events_after-append : (s : State) (es fs : List Entry) → events_after s (es ++ fs) ≡ events_after s es ++ events_after (state_after s es) fs
-events_after-append s [] fs = refl
-events_after-append s (e ∷ es) fs = ap (λ xs. (moves s e).events ++ xs) (events_after-append (moves s e).state es fs) ∙ sym (append_assoc (moves s e).events (events_after (moves s e).state es) (events_after (state_after (moves s e).state es) fs))
-
-pub state_after-append : (s : State) (es fs : List Entry) → state_after s (es ++ fs) ≡ state_after (state_after s es) fs
-state_after-append s [] fs = refl
-state_after-append s (e ∷ es) fs = state_after-append (moves s e).state es fs
-
 -- what a process was told by a run that goes on
 pub told_to-append : (q n : ℕ) (es fs : List Entry) → told_to q (events n (es ++ fs)) ≡ told_to q (events n es) ++ told_to q (events_after (state n es) fs)
 told_to-append q n es fs = ap (told_to q) (events_after-append (opening n) es fs) ∙ filter-append (λ (e : Event). (e.pid.0 == q) && not (is_parked e.what)) (events n es) (events_after (state n es) fs)
@@ -155,6 +147,17 @@ told_to-append q n es fs = ap (told_to q) (events_after-append (opening n) es fs
 -- a process that is not told anything keeps its reply
 pub reply-untold : (q n : ℕ) (es fs : List Entry) → is_told q (events_after (state n es) fs) ≡ false → reply q n (es ++ fs) ≡ reply q n es
 reply-untold q n es fs e = ap (λ xs. last_from None xs) (told_to-append q n es fs ∙ ap (λ xs. told_to q (events n es) ++ xs) (told_none q (events_after (state n es) fs) e) ∙ append-nil (told_to q (events n es)))
+
+last_append : {A : Type 0} (o : Option A) (xs ys : List A) → last_from o (xs ++ ys) ≡ last_from (last_from o xs) ys
+last_append o [] ys = refl
+last_append o (x ∷ xs) ys = last_append (Some x) xs ys
+
+-- one entry more: the last of its events for the process, or what it had
+pub reply-entry : (q n : ℕ) (es : List Entry) (e : Entry) → reply q n (es ++ e ∷ []) ≡ last_from (reply q n es) (told_to q (moves (state n es) e).events)
+reply-entry q n es e =
+    ap (λ xs. last_from None (told_to q xs)) (events-entry n es e)
+    ∙ ap (λ xs. last_from None xs) (filter-append (λ (x : Event). (x.pid.0 == q) && not (is_parked x.what)) (events n es) (moves (state n es) e).events)
+    ∙ last_append None (told_to q (events n es)) (told_to q (moves (state n es) e).events)
 
 pub own-others : (q : ℕ) (es fs : List Entry) → list_any (λ e. e.pid.0 == q) fs ≡ false → own q (es ++ fs) ≡ own q es
 own-others q es fs e = filter-append (λ (e : Entry). e.pid.0 == q) es fs ∙ ap (λ xs. own q es ++ xs) (own_none q fs (none_by q fs e)) ∙ append-nil (own q es)

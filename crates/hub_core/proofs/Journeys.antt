@@ -12,13 +12,12 @@ use Rattle.hub_base.specs.Values.{sent_values, received_values}
 use Rattle.hub_base.specs.Reading.{is_exit}
 use Rattle.hub_base.specs.Text.{steps_of}
 use Rattle.hub_laws.proofs.Journals.{state-kept}
-use Rattle.hub_laws.proofs.Replies.{events_after-append}
+use Rattle.hub_laws.proofs.Longer.{events-entry, kept-entry}
 use Rattle.hub_laws.proofs.Values.{values-law}
 use Rattle.hub_core.specs.HubView.{HubView, state_of, HasRoom, IsFullFor}
 use Rattle.hub_base.specs.declared.fault.Fault.{Fault}
 use Rattle.hub_base.specs.declared.fault.Fault.TheVariants as fault
 use Rattle.hub_core.specs.RunsTo.{RunsTo, TellsOn, StopsAt, IsFullAt, IsFirstFull, IsOpenUpTo, RefusesAt, KeepsValues}
-use Rattle.hub_core.proofs.Following.{kept_after-append}
 
 -- the run so far, and no place so far where the journal was full
 pub record RunSoFar (n most : ℕ) (es : List Entry) (i : ℕ) (hub : HubView) (told : List Event) : Type 0 where
@@ -29,20 +28,11 @@ take_one : (es : List Entry) (i : ℕ) (e : Entry) → slice_get es i ≡ Some e
 take_one es i e h = ap (λ k. take k es) (suc-of i) ∙ take_suc es i e h where
   suc-of : (i : ℕ) → i + 1 ≡ suc i
   suc-of i = omega arith
+
   take_suc : (es : List Entry) (i : ℕ) (e : Entry) → slice_get es i ≡ Some e → take (suc i) es ≡ take i es ++ e ∷ []
   take_suc [] i e h = cc
   take_suc (x ∷ es) zero e h = let same : x ≡ e = cc in ap (λ y. y ∷ []) same
   take_suc (x ∷ es) (suc i) e h = ap (λ ys. x ∷ ys) (take_suc es i e h)
-
-append-nothing : {A : Type 0} (xs : List A) → xs ++ [] ≡ xs
-append-nothing [] = refl
-append-nothing (x ∷ xs) = ap (λ ys. x ∷ ys) (append-nothing xs)
-
-events-snoc : (n : ℕ) (es : List Entry) (e : Entry) → events n (es ++ e ∷ []) ≡ events n es ++ (moves (state n es) e).events
-events-snoc n es e = events_after-append (opening n) es (e ∷ []) ∙ ap (λ xs. events n es ++ xs) (append-nothing (moves (state n es) e).events)
-
-kept-snoc : (n : ℕ) (es : List Entry) (e : Entry) → kept n (es ++ e ∷ []) ≡ kept n es ++ keeps (refusal (state n es) e.pid) e []
-kept-snoc n es e = kept_after-append (opening n) es (e ∷ [])
 
 -- the hub's state is the run's
 pub state_of-run : (n most : ℕ) (es : List Entry) (hub : HubView) (told : List Event) → RunsTo n most es hub told → state_of hub ≡ state n es
@@ -74,17 +64,17 @@ run_on n most es i e old new before after r h t =
         procs = t.procs ∙ r.run.procs;
         limit = t.limit ∙ r.run.limit;
         events =
-          t.events
-          ∙ ap (λ xs. xs ++ (moves (state_of old) e).events) r.run.events
-          ∙ ap (λ (s : State). events n (take i es) ++ (moves s e).events) same
-          ∙ sym (events-snoc n (take i es) e)
-          ∙ ap (events n) (sym grown);
+            t.events
+            ∙ ap (λ xs. xs ++ (moves (state_of old) e).events) r.run.events
+            ∙ ap (λ (s : State). events n (take i es) ++ (moves s e).events) same
+            ∙ sym (events-entry n (take i es) e)
+            ∙ ap (events n) (sym grown);
         journal =
-          t.journal
-          ∙ ap (λ xs. xs ++ keeps (refusal (state_of old) e.pid) e []) r.run.journal
-          ∙ ap (λ (s : State). kept n (take i es) ++ keeps (refusal s e.pid) e []) same
-          ∙ sym (kept-snoc n (take i es) e)
-          ∙ ap (kept n) (sym grown);
+            t.journal
+            ∙ ap (λ xs. xs ++ keeps (refusal (state_of old) e.pid) e []) r.run.journal
+            ∙ ap (λ (s : State). kept n (take i es) ++ keeps (refusal s e.pid) e []) same
+            ∙ sym (kept-entry n (take i es) e)
+            ∙ ap (kept n) (sym grown);
       };
       room = more_room n most es i r.room (not_full n most es i e old before r.run h t.room);
     }

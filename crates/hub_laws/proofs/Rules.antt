@@ -207,7 +207,7 @@ fitting s pid cases default word h =
     let b = none_false (list_any (λ c. is_unmade s (port_of c)) cases.items) fault.NoPort None a.1 in
     record { few = ltb-false 8 (length cases.items) a.0; made = b.0 }
 
-effect-sound : (s : State) (pid : Pid) (step : Step) → IsSound s → Admitted s pid → fault_of s step ≡ None → IsSound (effect s pid step).state
+pub effect-sound : (s : State) (pid : Pid) (step : Step) → IsSound s → Admitted s pid → fault_of s step ≡ None → IsSound (effect s pid step).state
 effect-sound s pid (Make cap) sound adm h = make-sound s pid cap sound
 effect-sound s pid (Call cases default word) sound adm h = call-sound s pid cases.items default word sound adm (fitting s pid cases default word h)
 effect-sound s pid (Close p) sound adm h = close-sound s pid p (channel_at s p) sound refl

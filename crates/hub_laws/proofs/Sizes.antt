@@ -29,7 +29,7 @@ use Rattle.hub_laws.proofs.Rules.{state-sound}
 use Rattle.hub_laws.proofs.Distinct.{count-below}
 
 -- how many calls a step leaves and how many events it tells
-abbrev Size : State → Change → Type 0
+abbrev pub Size : State → Change → Type 0
 Size s c = length c.events + length c.state.parked ≤ length s.parked + 2
 
 kept_by : {A : Type 0} (b : Bool) (x : A) (xs : List A) (n : ℕ) → length xs ≤ n → length (cond b (x ∷ xs) xs) ≤ n + 1
@@ -92,7 +92,7 @@ closes_size : (s : State) (pid : Pid) (p : Port) (o : Option Channel) → Size s
 closes_size s pid p None = omega arith
 closes_size s pid p (Some c) = omega (arith, closing_size p s.parked)
 
-effect_size : (s : State) (pid : Pid) (step : Step) → IsSound s → Size s (effect s pid step)
+pub effect_size : (s : State) (pid : Pid) (step : Step) → IsSound s → Size s (effect s pid step)
 effect_size s pid (Make cap) sound = omega arith
 effect_size s pid (Call cases default word) sound = chooses_size s pid cases.items default (slice_get (ready s cases.items) (word % length (ready s cases.items))) sound
 effect_size s pid (Close p) sound = closes_size s pid p (channel_at s p)

@@ -11,7 +11,7 @@ use Rattle.hub_base.specs.Runs.{state, moves, events, kept}
 use Rattle.hub_base.specs.Values.{turns_after}
 use Rattle.hub_base.specs.Text.{steps_of}
 use Rattle.hub_base.specs.Value.{value_of}
-use Rattle.hub_base.specs.Rows.{port, s, r, make, send, recv, close, exit, select, case, told, got}
+use Rattle.hub_base.specs.Notation.{port, s, r, make, send, recv, close, exit, select, case, told, got}
 use Rattle.hub_laws.specs.Sound.{some_call}
 use Rattle.hub_laws.specs.Once.{endings, endings_until, ends_call, is_refusal}
 use Rattle.hub_laws.specs.AfterClose.{told_later, sent_at, heard, answers_done}

@@ -9,10 +9,11 @@ use Rattle.hub_base.specs.declared.case.Case.TheVariants.{Send, Recv}
 use Rattle.hub_base.specs.Ready.{is_send_on, is_recv_on, is_on, lowest, lowest_from, first_with, or_else, Placed}
 use Rattle.hub_parts.specs.declared.side.Side.{Side}
 use Rattle.hub_parts.specs.declared.side.Side.TheVariants as side
-use Rattle.hub_parts.specs.declared.queue.Waiter.{Waiter}
+use Rattle.hub_parts.specs.declared.wait_queue.Waiter.{Waiter}
 use Rattle.hub_parts.specs.Records.{Ticketed, Calls, ChannelLists}
 use Rattle.hub_parts.specs.Queues.{is_live, lives, live_of, waiters, waiters_of, waiters_from, waiter_at, case_at, is_before}
-use Rattle.hub_parts.specs.Lists.{queue_of, line_of, older, open_calls, still_open, passes}
+use Rattle.hub_parts.specs.Lists.{open_calls, still_open, passes}
+use Rattle.hub_parts.specs.Channels.{queue_of, line_of, older}
 use Rattle.hub_parts.specs.Keeps.{QueueKeeps, joins, Ascending}
 use Rattle.hub_parts.proofs.Endings.{dead_below, all_filter}
 
@@ -34,14 +35,14 @@ first_append (x ∷ xs) ys = refl
 -- the first entry of one call is its lowest case
 pub data Lowest (test : Case → Bool) (pid : Pid) (ticket i : ℕ) (cases : List Case) : Type 0 where
   none : lowest_from i test cases ≡ None → waiters_from test pid ticket i cases ≡ [] → Lowest test pid ticket i cases
-  some : (at : Placed) (rest : List Waiter) → lowest_from i test cases ≡ Some at → waiters_from test pid ticket i cases ≡ waiter_at pid ticket at.index ∷ rest → i ≤ at.index → slice_get cases (at.index - i) ≡ Some at.case → Lowest test pid ticket i cases
+  some : (at : Placed) (rest : List Waiter) → lowest_from i test cases ≡ Some at → waiters_from test pid ticket i cases ≡ waiter_at pid ticket at.index ∷ rest → i ≤ at.index → slice_get cases (at.index - i) ≡ Some at.case → test at.case ≡ true → Lowest test pid ticket i cases
 
 lowest_step : (test : Case → Bool) (pid : Pid) (ticket i : ℕ) (c : Case) (cases : List Case) (b : Bool) → test c ≡ b → Lowest test pid ticket (i + 1) cases → Lowest test pid ticket i (c ∷ cases)
-lowest_step test pid ticket i c cases true e l = some (record { index = i; case = c }) (waiters_from test pid ticket (i + 1) cases) (rw e refl) (rw e refl) (omega arith) (let same : i - i ≡ 0 = omega arith in rw same refl)
+lowest_step test pid ticket i c cases true e l = some (record { index = i; case = c }) (waiters_from test pid ticket (i + 1) cases) (rw e refl) (rw e refl) (omega arith) (let same : i - i ≡ 0 = omega arith in rw same refl) e
 lowest_step test pid ticket i c cases false e (none l w) = none (rw e l) (rw e w)
-lowest_step test pid ticket i c cases false e (some at rest l w le s) =
+lowest_step test pid ticket i c cases false e (some at rest l w le s t) =
     let later : at.index - i ≡ suc (at.index - (i + 1)) = omega arith in
-    some at rest (rw e l) (rw e w) (omega arith) (rw later s)
+    some at rest (rw e l) (rw e w) (omega arith) (rw later s) t
 
 pub lowest_of : (test : Case → Bool) (pid : Pid) (ticket i : ℕ) (cases : List Case) → Lowest test pid ticket i cases
 lowest_of test pid ticket i [] = none refl refl
@@ -51,6 +52,7 @@ lowest_of test pid ticket i (c ∷ cases) = lowest_step test pid ticket i c case
 pub record Found (test : Case → Bool) (ws : List Ticketed) (e : Waiter) : Type 0 where
   pub case : Case
   pub at : case_at ws e.ticket e.case ≡ Some case
+  pub passes : test case ≡ true
   pub first : first_with test (open_calls ws) ≡ Some (record { pid = e.pid; at = record { index = e.case; case = case } })
   pub dies : is_live (still_open e.pid ws) e.ticket ≡ false
   pub known : (t : ℕ) → AllByRecursion (λ v. t < v.ticket) ws → t < e.ticket
@@ -74,15 +76,17 @@ tells_later test w ws (Some e) above l t =
     record {
       case = t.case;
       at = rw (later_other w.ticket e.ticket less) t.at;
+      passes = t.passes;
       first = rw l t.first;
       dies = dies_later w ws e less t.dies;
       known = λ n a. t.known n a.1;
     }
 
-tells_here : (test : Case → Bool) (w : Ticketed) (ws : List Ticketed) (at : Placed) → AllByRecursion (λ v. w.ticket < v.ticket) ws → lowest test w.call.cases ≡ Some at → slice_get w.call.cases at.index ≡ Some at.case → Found test (w ∷ ws) (waiter_at w.call.pid w.ticket at.index)
-tells_here test w ws at above l s = record {
+tells_here : (test : Case → Bool) (w : Ticketed) (ws : List Ticketed) (at : Placed) → AllByRecursion (λ v. w.ticket < v.ticket) ws → lowest test w.call.cases ≡ Some at → slice_get w.call.cases at.index ≡ Some at.case → test at.case ≡ true → Found test (w ∷ ws) (waiter_at w.call.pid w.ticket at.index)
+tells_here test w ws at above l s t = record {
   case = at.case;
   at = rw (eq-eqb w.ticket w.ticket refl) s;
+  passes = t;
   first = rw l refl;
   dies = rw (eq-eqb w.call.pid.0 w.call.pid.0 refl) (dead_below w.ticket (still_open w.call.pid ws) (all_filter (λ v. w.ticket < v.ticket) (λ v. not (v.call.pid.0 == w.call.pid.0)) ws above));
   known = λ n a. a.0;
@@ -90,9 +94,9 @@ tells_here test w ws at above l s = record {
 
 tells_step : (test : Case → Bool) (w : Ticketed) (ws : List Ticketed) → AllByRecursion (λ v. w.ticket < v.ticket) ws → Lowest test w.call.pid w.ticket 0 w.call.cases → Tells test ws (first (waiters test ws)) → Tells test (w ∷ ws) (first (waiters test (w ∷ ws)))
 tells_step test w ws above (none l e) t = rw e (tells_later test w ws (first (waiters test ws)) above l t)
-tells_step test w ws above (some at rest l e le s) t =
+tells_step test w ws above (some at rest l e le s p) t =
     let from0 : at.index - 0 ≡ at.index = omega arith in
-    rw e (tells_here test w ws at above l (rw from0 at s))
+    rw e (tells_here test w ws at above l (rw from0 at s) p)
 
 pub tells : (test : Case → Bool) (ws : List Ticketed) → Ascending ws → Tells test ws (first (waiters test ws))
 tells test [] a = refl
@@ -114,7 +118,7 @@ Above t (Some e) = t < e.ticket
 
 at_least : (test : Case → Bool) (pid : Pid) (ticket i : ℕ) (cases : List Case) → Lowest test pid ticket i cases → AtLeast i ticket (first (waiters_from test pid ticket i cases))
 at_least test pid ticket i cases (none l e) = rw e tt
-at_least test pid ticket i cases (some at rest l e le s) = rw e (le, refl)
+at_least test pid ticket i cases (some at rest l e le s t) = rw e (le, refl)
 
 above : (test : Case → Bool) (t : ℕ) (ws : List Ticketed) (o : Option Waiter) → AllByRecursion (λ v. t < v.ticket) ws → Tells test ws o → Above t o
 above test t ws None a f = tt

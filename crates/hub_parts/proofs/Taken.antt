@@ -1,5 +1,5 @@
 -- What the calls of a board leave, as the code has it: a channel is read, changed and written back.
-use Rattle.std.proofs.Common.{◌≡◌, ℕ, ◌-◌, ◌<◌, ◌≤◌, List, length, map, find, get_or, set, refl, ap, ◌∙◌, sym, arith, Option, Some, None, subst}
+use Rattle.std.proofs.Common.{◌≡◌, ℕ, ◌-◌, ◌<◌, ◌≤◌, List, length, map, find, get_or, set, refl, ap, ◌∙◌, sym, arith, Option, Some, None, subst, true}
 use Rattle.std.specs.Option.{is_some}
 use Rattle.std.proofs.lemmas.List.{length-map, map-set, set-get_or, get_or_default}
 use Rattle.circular_buffer.specs.Buffer.{Buffer}
@@ -8,10 +8,12 @@ use Rattle.hub_base.specs.declared.value.Port.{Port}
 use Rattle.hub_base.specs.declared.case.Case.{Case}
 use Rattle.hub_base.specs.Ready.{first_with}
 use Rattle.hub_parts.specs.declared.side.Side.{Side}
-use Rattle.hub_parts.specs.declared.queue.Waiter.{Waiter}
+use Rattle.hub_parts.specs.declared.wait_queue.Waiter.{Waiter}
 use Rattle.hub_parts.specs.Records.{Calls, ChannelLists, PortLists}
 use Rattle.hub_parts.specs.Queues.{lives, roomy, joined, taken, waiter_at, case_at}
-use Rattle.hub_parts.specs.Lists.{IsMade, queue_of, channel_of, line_of, with_queue, with_call, with_port, port_at, parked, ended_by, all_roomy, all_joined, no_channel, passes, open_calls}
+use Rattle.hub_parts.specs.Lists.{IsMade, with_call, with_port, port_at, parked, ended_by, passes, open_calls}
+use Rattle.hub_parts.specs.Channels.{queue_of, channel_of, line_of, with_queue, no_channel}
+use Rattle.hub_parts.specs.Parking.{all_roomy, all_joined}
 use Rattle.hub_parts.specs.Keeps.{BoardKeeps, AllMade, without_call, board_lists as lists}
 use Rattle.hub_parts.proofs.Lines.{lists_of, get_or-map, lists-with_queue, lists-with_cases}
 use Rattle.hub_parts.proofs.Firsts.{Found, Tells}
@@ -87,6 +89,10 @@ some_is x y e = cc
 
 pub ending_told : (s : Side) (p : Port) (c : Calls) (entry : Waiter) (case : Case) → Found (passes p s) c.waiting entry → Some case ≡ case_at c.waiting entry.ticket entry.case → Some (record { pid = entry.pid; at = record { index = entry.case; case = case } }) ≡ first_with (passes p s) (open_calls c.waiting)
 ending_told s p c entry case f e = let same : case ≡ f.case = some_is case f.case (e ∙ f.at) in rw same (sym f.first)
+
+-- the case that is told is one of that side on that port
+pub case_passes : (s : Side) (p : Port) (c : Calls) (entry : Waiter) (case : Case) → Found (passes p s) c.waiting entry → Some case ≡ case_at c.waiting entry.ticket entry.case → passes p s case ≡ true
+case_passes s p c entry case f e = let same : case ≡ f.case = some_is case f.case (e ∙ f.at) in rw same f.passes
 
 pub case_is : (s : Side) (p : Port) (c : Calls) (entry : Waiter) → Found (passes p s) c.waiting entry → None ≡ case_at c.waiting entry.ticket entry.case → ⊥
 case_is s p c entry f e = let impossible : None ≡ Some f.case = e ∙ f.at in cc

@@ -12,7 +12,7 @@ use Rattle.hub_base.specs.declared.fault.Fault.{Fault}
 use Rattle.hub_base.specs.declared.fault.Fault.TheVariants as fault
 use Rattle.hub_base.specs.declared.event.Outcome.{Outcome}
 use Rattle.hub_base.specs.declared.event.Outcome.TheVariants.{Sent}
-use Rattle.hub_base.specs.State.{State, Channel, channel_at, opening}
+use Rattle.hub_base.specs.State.{State, Channel, channel_at, opening, buffer_of}
 use Rattle.hub_base.specs.Ready.{port_of}
 use Rattle.hub_base.specs.Steps.{received, shut, Change, stalls, closes, close_fault, is_unmade, fault_of, answers, refusal}
 use Rattle.hub_base.specs.Runs.{admits, moves, state_after, state}
@@ -57,7 +57,7 @@ pub record Stays (p : Port) (c : Channel) (ts : List Channel) (deeds : List Deed
   pub stands : at ts p ≡ Some after
   pub closed : after.closed ≡ true
   pub none : picks (sent_at p) deeds ≡ []
-  pub drains : (os : List Outcome) → Drains (drop after.taken after.done) os → Drains (drop c.taken c.done) (picks (heard p) deeds ++ os)
+  pub drains : (os : List Outcome) → Drains (buffer_of after) os → Drains (buffer_of c) (picks (heard p) deeds ++ os)
 
 stays_same : (p : Port) (c : Channel) (ts : List Channel) (deeds : List Deed) → at ts p ≡ Some c → c.closed ≡ true → picks (sent_at p) deeds ≡ [] → picks (heard p) deeds ≡ [] → Stays p c ts deeds
 stays_same p c ts deeds new over none silent = record { after = c; stands = new; closed = over; none = none; drains = λ os h. rw silent h }
@@ -78,7 +78,7 @@ stays_moved p c d ts deeds new over (drains next is e) = record {
   stands = new ∙ ap (λ x. Some x) is;
   closed = over;
   none = rw e refl;
-  drains = λ os h. let k : drop c.taken c.done ≡ [] = drop_end c.done c.taken next in rw (e, same_number p.0, k) (refl, rw k at h);
+  drains = λ os h. let k : buffer_of c ≡ [] = drop_end c.done c.taken next in rw (e, same_number p.0, k) (refl, rw k at h);
 }
 stays_moved p c d ts deeds new over (refuses v closed is e) = stays_same p c ts deeds (new ∙ ap (λ x. Some x) is) over (rw e refl) (rw e refl)
 stays_moved p c d ts deeds new over (shuts live is all) = cc
@@ -101,7 +101,7 @@ stays-does p c cs ts deeds old over (wrote q x d w m) = stays_wrote p q c x d cs
 
 pub record Later (p : Port) (c : Channel) (ts : List Turned) (s : State) (es : List Entry) : Type 0 where
   pub none : values_from (sent_at p) ts (turns_after s es) ≡ []
-  pub drains : Drains (drop c.taken c.done) (values_from (heard p) ts (turns_after s es))
+  pub drains : Drains (buffer_of c) (values_from (heard p) ts (turns_after s es))
 
 later : (p : Port) (c : Channel) (ts : List Turned) (s : State) (es : List Entry) → IsSound s → Knows (in_force ts) s.parked → channel_at s p ≡ Some c → c.closed ≡ true → Later p c ts s es
 later p c ts s [] sound knows old over = record { none = refl; drains = tt }

@@ -17,11 +17,13 @@ fn value_of(bytes: &[u8], most: u64) -> Option<u64>
         if !byte.is_ascii_digit() {
             return None;
         }
-        let next = u128::from(value) * 10 + u128::from(*byte - b'0');
-        if next > u128::from(most) {
+        if value > u64::MAX / 10 {
             return None;
         }
-        value = next as u64;
+        match (value * 10).checked_add(u64::from(*byte - b'0')) {
+            Some(next) if next <= most => value = next,
+            _ => return None,
+        }
     }
     Some(value)
 }

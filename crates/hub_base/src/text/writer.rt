@@ -19,10 +19,13 @@ fn put(out: &mut Vec<u8>, bytes: &[u8]) -> Result<(), AllocError>
     out.extend_from_slice(bytes)
 }
 
-/// Appends a number in decimal digits.
+/// Appends a number in decimal digits. Most have one: they number processes, ports and cases.
 fn put_number(out: &mut Vec<u8>, n: u64) -> Result<(), AllocError>
     ensures { out.new.items ≡ (if is_ok result then out.old.items ++ decimal n else out.old.items) }
 {
+    if n < 10 {
+        return put(out, &[b'0' + n as u8]);
+    }
     let mut buffer = Buffer::new();
     put(out, buffer.format(n).as_bytes())
 }

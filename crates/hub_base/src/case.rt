@@ -14,10 +14,16 @@ pub enum Case {
 
 /// A receive on the nil channel, which is never ready.
 impl Default for Case {
+    ghost use Rattle.std.specs.Prelude.{◌≡◌};
+    ghost use Rattle.hub_base.specs.Notation.{r};
+
+    ghost is_default = { λ case. case ≡ r 0 };
+
     fn default() -> Case {
         Case::Recv(Port(0))
     }
 }
 
-/// The cases of a call, in order and numbered from 0. An entry holds up to 16; a call may have up to 8.
+/// The cases of a call, in order and numbered from 0. An entry holds up to 16; a call may have up
+/// to 8.
 pub type Cases = ArrayVec<Case, 16>;

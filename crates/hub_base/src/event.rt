@@ -42,7 +42,13 @@ pub struct Event {
     pub what: What,
 }
 
+/// That process 0 is told `Done`. It fills the places of a list of events that hold none yet.
 impl Default for Event {
+    ghost use Rattle.std.specs.Prelude.{◌≡◌};
+    ghost use Rattle.hub_base.specs.Notation.{done};
+
+    ghost is_default = { λ event. event ≡ done 0 };
+
     fn default() -> Event {
         Event {
             pid: Pid(0),
@@ -51,6 +57,6 @@ impl Default for Event {
     }
 }
 
-/// The events of one step: the caller's answer, then the calls that ended with it in order of arrival. A
-/// park after which 64 processes stall gives 65.
+/// The events of one step: the caller's answer, then the calls that ended with it in order of
+/// arrival. A park after which 64 processes stall gives 65.
 pub type Events = ArrayVec<Event, 65>;

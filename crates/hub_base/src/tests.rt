@@ -1,1 +1,5 @@
-//! Tests through the public calls.
+//! Tests through the public calls. Expected values are worked out by hand from the rules.
+
+mod malformed;
+mod values;
+mod written;

@@ -77,14 +77,14 @@ impl Board {
     }
 
     /// Opens a call, the newest, which waits on all of its cases. A case on port 0 is never served.
-    pub fn park(&mut self, pid: Pid, ticket: u32, cases: Cases)
+    pub fn park(&mut self, pid: Pid, ticket: u32, cases: &Cases)
         requires below { pid.0 < self.old.procs }
         requires free { list_any (λ w. w.call.pid.0 == pid.0) self.old.waiting ≡ false }
-        requires few { length cases.items ≤ MOST_CASES }
-        requires made { AllMade (length self.old.ports) cases.items }
+        requires few { length cases.now.items ≤ MOST_CASES }
+        requires made { AllMade (length self.old.ports) cases.now.items }
         requires later { self.old.next_ticket ≤ ticket }
         requires ticket { ticket < 2 ^ 32 - 1 }
-        ensures { self.new ≡ parked pid ticket cases.items self.old }
+        ensures { self.new ≡ parked pid ticket cases.now.items self.old }
     {
         make_room(&mut self.ports, &self.calls, cases.as_slice());
         join(&mut self.ports, pid, ticket, cases.as_slice());

@@ -1,13 +1,15 @@
-//! Numbers.
-ghost use Rattle.std.specs.Prelude.{◌≡◌, ◌≤◌, ◌^◌, ◌<◌, IfSome};
+//! Numbers: `0`, or a digit from 1 to 9 followed by digits.
+
+ghost use Rattle.std.specs.Prelude.{◌≡◌, ◌≤◌, ◌<◌, IfSome};
 ghost use Rattle.std.specs.List.{list_all};
 ghost use Rattle.std.specs.Char.{is_ascii_digit};
 ghost use Rattle.hub_base.specs.Lines.{number as number_of, one_number};
 ghost use Rattle.std.specs.Str.Parse.{digits_value};
 
-/// The value of decimal digits, where it is at most `most`.
+/// The value of decimal digits, leading zeros among them, where it is at most `most`.
 fn value_of(bytes: &[u8], most: u64) -> Option<u64>
-    ensures value { result ≡ one_number (list_all is_ascii_digit bytes.now) (digits_value 10 bytes.now) most }
+    ensures value { result
+        ≡ one_number (list_all is_ascii_digit bytes.now) (digits_value 10 bytes.now) most }
     ensures bound { IfSome result (λ n. n ≤ most) }
 {
     let mut value: u64 = 0;
@@ -15,11 +17,13 @@ fn value_of(bytes: &[u8], most: u64) -> Option<u64>
         if !byte.is_ascii_digit() {
             return None;
         }
-        let next = u128::from(value) * 10 + u128::from(*byte - b'0');
-        if next > u128::from(most) {
+        if value > u64::MAX / 10 {
             return None;
         }
-        value = next as u64;
+        match (value * 10).checked_add(u64::from(*byte - b'0')) {
+            Some(next) if next <= most => value = next,
+            _ => return None,
+        }
     }
     Some(value)
 }

@@ -43,7 +43,7 @@ fn dead_entries_go_when_room_is_short(rt: HostRuntime) {
         board.park(
             Pid(1),
             ticket,
-            cases_of(Case::Recv(first), Case::Recv(second)),
+            &cases_of(Case::Recv(first), Case::Recv(second)),
         );
         if let Some(entries) = entries_after(selects) {
             assert_eq!(rt;
@@ -80,9 +80,9 @@ fn the_oldest_of_both_sides_is_taken(rt: HostRuntime) {
     let port = board.make(0).expect(&rt, "memory for a port");
     let recv = Case::Recv(port);
     let send = Case::Send(port, Value::num(7));
-    board.park(Pid(2), 0, cases_of(Case::Recv(Port(0)), recv));
-    board.park(Pid(0), 4, cases_of(send, recv));
-    board.park(Pid(1), 5, cases_of(send, send));
+    board.park(Pid(2), 0, &cases_of(Case::Recv(Port(0)), recv));
+    board.park(Pid(0), 4, &cases_of(send, recv));
+    board.park(Pid(1), 5, &cases_of(send, send));
     let sender = Ended {
         pid: Pid(0),
         index: 0,

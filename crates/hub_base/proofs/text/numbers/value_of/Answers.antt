@@ -4,8 +4,20 @@ use Rattle.std.specs.Char.{is_ascii_digit}
 use Rattle.hub_base.proofs.Valued.{valued-past}
 use Rattle.hub_base.proofs.text.numbers.value_of.Goals as goal
 
-pub returns-then-next-from-clause-value : goal.returns-then-next-from-clause-value
-returns-then-next-from-clause-value c =
+pub returns-then-value-clause-value : goal.returns-then-value-clause-value
+returns-then-value-clause-value c =
+    let digit : is_ascii_digit (get_or c.args.bytes.now c.loop-byte.byte-index 0) ≡ true = grind (arith, common_steps) in
+    let big : c.args.most < c.loop-byte.value * 10 + (get_or c.args.bytes.now c.loop-byte.byte-index 0 - 48) = omega arith in
+    sym (c.loop-byte.invariant.same ∙ valued-past c.args.most c.loop-byte.value c.args.bytes.now c.loop-byte.byte-index (omega arith) digit big)
+
+pub returns-in_default-clause-value : goal.returns-in_default-clause-value
+returns-in_default-clause-value c =
+    let digit : is_ascii_digit (get_or c.args.bytes.now c.loop-byte.byte-index 0) ≡ true = grind (arith, common_steps) in
+    let big : c.args.most < c.loop-byte.value * 10 + (get_or c.args.bytes.now c.loop-byte.byte-index 0 - 48) = omega arith in
+    sym (c.loop-byte.invariant.same ∙ valued-past c.args.most c.loop-byte.value c.args.bytes.now c.loop-byte.byte-index (omega arith) digit big)
+
+pub returns-in_default-2-clause-value : goal.returns-in_default-2-clause-value
+returns-in_default-2-clause-value c =
     let digit : is_ascii_digit (get_or c.args.bytes.now c.loop-byte.byte-index 0) ≡ true = grind (arith, common_steps) in
     let big : c.args.most < c.loop-byte.value * 10 + (get_or c.args.bytes.now c.loop-byte.byte-index 0 - 48) = omega arith in
     sym (c.loop-byte.invariant.same ∙ valued-past c.args.most c.loop-byte.value c.args.bytes.now c.loop-byte.byte-index (omega arith) digit big)

@@ -1,0 +1,85 @@
+//! Texts that are written: journals, which are read again, and events.
+
+use crate::{
+    Event, Fault, Journal, Outcome, Pid, Port, Value, What, read_journal, write_entry, write_event,
+    write_head,
+};
+use std::test::Fail;
+
+const EVERY_LINE: &[u8] = b"chanhub journal 1\n\
+    procs 64\n\
+    0 make 0\n\
+    255 make 4294967295\n\
+    0 send 0 0\n\
+    0 send 65535 18446744073709551615\n\
+    9 recv 0\n\
+    10 recv 65535\n\
+    1 select 0\n\
+    1 select 0 default\n\
+    1 select 18446744073709551615 s65535:18446744073709551615\n\
+    1 select 1 r0\n\
+    1 select 0 s1:2 default\n\
+    1 select 0 r1 default\n\
+    1 select 3 s1:2 r1\n\
+    1 select 0 r0 s1:1 r2 s3:3 r4 s5:5 r6 s7:7 r8 s9:9 r10 s11:11 r12 s13:13 r14 s15:15\n\
+    1 select 7 r0 r0 r0 r0 r0 r0 r0 r0 r0 r0 r0 r0 r0 r0 r0 r0 default\n\
+    2 close 0\n\
+    2 close 65535\n\
+    3 exit\n";
+
+#[test]
+fn what_is_read_is_written_again(rt: HostRuntime) -> Result<(), Fail> {
+    let journal = read_journal(rt.alloc(), EVERY_LINE)?;
+    assert_eq!(rt; journal.entries().len(), 18);
+    let mut copies = Vec::new(rt.alloc());
+    for entry in journal.entries() {
+        copies.push(entry.copy())?;
+    }
+    let copied = Journal::of(journal.procs(), copies);
+    for journal in [&journal, &copied] {
+        let mut out = Vec::new(rt.alloc());
+        let procs = journal.procs();
+        assert!(rt; 1 <= procs && procs <= 64);
+        write_head(&mut out, procs)?;
+        for entry in journal.entries() {
+            write_entry(&mut out, entry)?;
+        }
+        assert_eq!(rt; out.as_slice(), EVERY_LINE);
+    }
+    Ok(())
+}
+
+#[test]
+fn each_event_has_its_line(rt: HostRuntime) -> Result<(), Fail> {
+    let fired = |case, outcome| What::Fired { case, outcome };
+    for (pid, what, line) in [
+        (0, What::Made(Port(1)), "0 made 1\n"),
+        (255, What::Made(Port(65535)), "255 made 65535\n"),
+        (0, fired(0, Outcome::Sent), "0 case 0 sent\n"),
+        (1, fired(7, Outcome::Got(Value::num(0))), "1 case 7 got 0\n"),
+        (
+            2,
+            fired(255, Outcome::Got(Value::num(u64::MAX))),
+            "2 case 255 got 18446744073709551615\n",
+        ),
+        (63, fired(1, Outcome::Drained), "63 case 1 drained\n"),
+        (64, fired(2, Outcome::Closed), "64 case 2 closed\n"),
+        (10, What::Default, "10 default\n"),
+        (20, What::Done, "20 done\n"),
+        (30, What::Parked, "30 parked\n"),
+        (40, What::Stalled, "40 stalled\n"),
+        (50, What::Fault(Fault::NoProcess), "50 fault 1\n"),
+        (60, What::Fault(Fault::NoMemory), "60 fault 11\n"),
+    ] {
+        let event = Event {
+            pid: Pid(pid),
+            what,
+        };
+        let mut out = Vec::new(rt.alloc());
+        write_event(&mut out, &event)?;
+        assert_eq!(rt; out.as_slice(), line.as_bytes(), "{line}");
+        write_event(&mut out, &event)?;
+        assert_eq!(rt; out.len(), 2 * line.len(), "appended: {line}");
+    }
+    Ok(())
+}

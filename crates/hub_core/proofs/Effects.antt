@@ -1,0 +1,125 @@
+-- A make, a close, an exit, and so each step, is on the lists what it is in the meaning.
+use Rattle.std.proofs.Common.{◌≡◌, ℕ, zero, suc, ◌+◌, ◌-◌, ◌==◌, ◌≤◌, ◌<◌, ◌||◌, ◌≢◌, not, nat_lt, Bool, true, false, cond, List, [], ◌∷◌, ◌++◌, length, map, filter, refl, ap, ◌∙◌, sym, subst, Option, Some, None, arith}
+use Rattle.std.specs.Prelude.{slice_get, slice_set}
+use Rattle.std.specs.List.{list_any, filter_map}
+use Rattle.std.proofs.lemmas.Grind.{common_steps}
+use Rattle.std.proofs.lemmas.List.{map-append, get_or-set_same, get_or-set_other}
+use Rattle.hub_base.specs.declared.value.Pid.{Pid}
+use Rattle.hub_base.specs.declared.value.Port.{Port}
+use Rattle.hub_base.specs.declared.case.Case.{Case}
+use Rattle.hub_base.specs.declared.entry.Step.{Step}
+use Rattle.hub_base.specs.declared.entry.Step.TheVariants.{Make, Call, Close, Exit}
+use Rattle.hub_base.specs.declared.fault.Fault.{Fault}
+use Rattle.hub_base.specs.declared.fault.Fault.TheVariants as fault
+use Rattle.hub_base.specs.declared.event.Event.{Event}
+use Rattle.hub_base.specs.declared.event.What.TheVariants as what
+use Rattle.hub_base.specs.State.{State, Channel, OpenCall, channel_at}
+use Rattle.hub_base.specs.Ready.{is_on, port_of}
+use Rattle.hub_base.specs.Steps.{Change, shut, closes, makes, exits, effect, tells, closing_event, has_gone, is_unmade, fault_of, close_fault}
+use Rattle.hub_laws.specs.Sound.{IsSound}
+use Rattle.hub_laws.proofs.Calls.{any_snoc}
+use Rattle.hub_laws.proofs.Ready.{none_false}
+use Rattle.std.proofs.lemmas.Bool.{eqb-true}
+use Rattle.hub_parts.specs.Records.{PortLists, Ticketed}
+use Rattle.hub_parts.specs.Lists.{open_calls, port_at, closed_now, new_port}
+use Rattle.hub_core.specs.Records.{MachineLists, no_tally}
+use Rattle.hub_core.specs.ListSteps.{off_port, closing_events, closes_on, makes_on, exits_on, effect_on, gone_on, is_unmade_on, call_fault_on, fault_on}
+use Rattle.hub_core.specs.Follows.{lists_of, tally_of, Matches}
+use Rattle.hub_core.specs.Agrees.{StepsAs}
+use Rattle.hub_core.proofs.Ports.{port-lists_of, ports-set, counts-same}
+use Rattle.hub_core.proofs.Readiness.{count-ports, made_channel}
+use Rattle.hub_core.proofs.Answering.{calls_on-as}
+
+-- ---- a close
+open_calls-off_port : (p : Port) (ws : List Ticketed) → open_calls (off_port p ws) ≡ filter (λ call. not (list_any (is_on p) call.cases)) (open_calls ws)
+open_calls-off_port p [] = refl
+open_calls-off_port p (w ∷ ws) = grind (arith, common_steps, open_calls-off_port p ws)
+
+closes_on-as : (s : State) (m : MachineLists) (pid : Pid) (p : Port) (o : Option Channel) → Matches s m → o ≡ channel_at s p → close_fault o ≡ None → StepsAs (closes s pid p o) (closes_on m pid p)
+closes_on-as s m pid p None h is fine = cc
+closes_on-as s m pid p (Some c) h is fine = record {
+  events = ap (λ calls. tells pid what.Done ∷ filter_map (closing_event p) calls) h.calls;
+  state = record {
+    procs = h.procs;
+    calls = open_calls-off_port p m.board.waiting ∙ ap (filter (λ call. not (list_any (is_on p) call.cases))) h.calls;
+    ports = ports-set s m p (shut c) _ h (ap closed_now (port-lists_of s m p c h (sym is)));
+    counts = counts-same s m p c (shut c) h (sym is) refl;
+    gone = h.gone;
+  };
+}
+
+-- ---- a make
+makes_on-as : (s : State) (m : MachineLists) (pid : Pid) (cap : ℕ) → Matches s m → StepsAs (makes s pid cap) (makes_on m pid cap)
+makes_on-as s m pid cap h = record {
+  events = ap (λ n. tells pid (what.Made (record { 0 = n + 1 })) ∷ []) (count-ports s m h);
+  state = record {
+    procs = h.procs;
+    calls = h.calls;
+    ports = ap (λ ps. ps ++ new_port cap ∷ []) h.ports ∙ sym (map-append lists_of s.channels (record { cap = cap; closed = false; done = []; taken = 0 } ∷ []));
+    counts = ap (λ ts. ts ++ no_tally ∷ []) h.counts ∙ sym (map-append tally_of s.channels (record { cap = cap; closed = false; done = []; taken = 0 } ∷ []));
+    gone = h.gone;
+  };
+}
+
+-- ---- an exit
+gone_by : (gone : List Bool) (given : List Pid) (pid : Pid) (q : ℕ) (same : Bool) → pid.0 < length gone → (pid.0 == q) ≡ same → gone_on gone q ≡ list_any (λ g. g.0 == q) given →
+    gone_on (slice_set gone pid.0 true) q ≡ list_any (λ g. g.0 == q) given || same
+gone_by gone given pid q true room is rest =
+    let here : gone_on (slice_set gone pid.0 true) pid.0 ≡ true = get_or-set_same gone pid.0 true false room in
+    subst (λ (n : ℕ). gone_on (slice_set gone pid.0 true) n ≡ true) (eqb-true pid.0 q is) here ∙ sym (always (list_any (λ g. g.0 == q) given)) where
+      always : (b : Bool) → (b || true) ≡ true
+      always true = refl
+      always false = refl
+gone_by gone given pid q false room is rest =
+    let other : q ≢ pid.0 = λ e. differs pid.0 q is e in
+    get_or-set_other gone pid.0 q true false other ∙ rest ∙ sym (never (list_any (λ g. g.0 == q) given)) where
+      never : (b : Bool) → (b || false) ≡ b
+      never true = refl
+      never false = refl
+
+      differs : (a b : ℕ) → (a == b) ≡ false → b ≡ a → ⊥
+      differs a b is e = grind (arith, common_steps)
+
+exits_on-as : (s : State) (m : MachineLists) (pid : Pid) → Matches s m → pid.0 < length m.gone → StepsAs (exits s pid) (exits_on m pid)
+exits_on-as s m pid h room = record {
+  events = refl;
+  state = record {
+    procs = h.procs;
+    calls = h.calls;
+    ports = h.ports;
+    counts = h.counts;
+    gone = λ q below. gone_by m.gone s.gone pid q (pid.0 == q) room refl (h.gone q below) ∙ sym (any_snoc (λ g. g.0 == q) s.gone pid);
+  };
+}
+
+-- ---- the faults that are journaled
+unmade-as : (s : State) (m : MachineLists) (p : Port) → Matches s m → is_unmade_on m.board p ≡ is_unmade s p
+unmade-as s m p h = ap (λ n. nat_lt n p.0) (count-ports s m h)
+
+call_fault-as : (s : State) (m : MachineLists) (cases : List Case) → Matches s m →
+    call_fault_on m.board cases ≡ cond (nat_lt 8 (length cases)) (Some fault.TooManyCases) (cond (list_any (λ c. is_unmade s (port_of c)) cases) (Some fault.NoPort) None)
+call_fault-as s m cases h = rw (count-ports s m h) refl
+
+close_fault_by : (s : State) (m : MachineLists) (p : Port) (unmade nil : Bool) → Matches s m → is_unmade s p ≡ unmade → (p.0 == 0) ≡ nil →
+    cond unmade (Some fault.NoPort) (cond nil (Some fault.NilClose) (cond (port_at m.board p).closed (Some fault.AlreadyClosed) None)) ≡ cond unmade (Some fault.NoPort) (close_fault (channel_at s p))
+close_fault_by s m p true nil h named is = refl
+close_fault_by s m p false true h named is = rw is refl
+close_fault_by s m p false false h named is =
+    let found = made_channel s p named is in
+    rw (port-lists_of s m p found.0 h found.1, found.1) refl
+
+pub fault_on-as : (s : State) (m : MachineLists) (step : Step) → Matches s m → fault_on m.board step ≡ fault_of s step
+fault_on-as s m (Make cap) h = rw (count-ports s m h) refl
+fault_on-as s m (Call cases default word) h = call_fault-as s m cases.items h
+fault_on-as s m (Close p) h = rw (unmade-as s m p h) (close_fault_by s m p (is_unmade s p) (p.0 == 0) h refl refl)
+fault_on-as s m Exit h = refl
+
+-- ---- a step that has no fault
+named_cases : (s : State) (cases : List Case) (many : Bool) → cond many (Some fault.TooManyCases) (cond (list_any (λ c. is_unmade s (port_of c)) cases) (Some fault.NoPort) None) ≡ None → list_any (λ c. is_unmade s (port_of c)) cases ≡ false
+named_cases s cases many e = (none_false (list_any (λ c. is_unmade s (port_of c)) cases) fault.NoPort None (none_false many fault.TooManyCases _ e).1).0
+
+pub effect_on-as : (s : State) (m : MachineLists) (pid : Pid) (step : Step) → IsSound s → Matches s m → pid.0 < length m.gone → fault_of s step ≡ None → StepsAs (effect s pid step) (effect_on m pid step)
+effect_on-as s m pid (Make cap) sound h room fine = makes_on-as s m pid cap h
+effect_on-as s m pid (Call cases default word) sound h room fine = calls_on-as s m pid cases.items default word sound h (named_cases s cases.items (nat_lt 8 (length cases.items)) fine)
+effect_on-as s m pid (Close p) sound h room fine = closes_on-as s m pid p (channel_at s p) h refl (none_false (is_unmade s p) fault.NoPort (close_fault (channel_at s p)) fine).1
+effect_on-as s m pid Exit sound h room fine = exits_on-as s m pid h room

@@ -1,0 +1,161 @@
+-- A case that fires on the lists fires as in the meaning.
+use Rattle.std.proofs.Common.{◌≡◌, ℕ, ◌+◌, Bool, true, false, cond, List, [], ◌∷◌, ◌++◌, length, refl, ap, ◌∙◌, sym, subst, Option, Some, None, arith}
+use Rattle.std.specs.Prelude.{slice_get, is_some}
+use Rattle.std.specs.Option.{option_to_list}
+use Rattle.hub_base.specs.declared.value.Pid.{Pid}
+use Rattle.hub_base.specs.declared.value.Port.{Port}
+use Rattle.hub_base.specs.declared.value.Value.{Value}
+use Rattle.hub_base.specs.declared.case.Case.{Case}
+use Rattle.hub_base.specs.declared.case.Case.TheVariants.{Send, Recv}
+use Rattle.hub_base.specs.declared.event.Outcome.TheVariants.{Sent, Got, Drained, Closed}
+use Rattle.hub_base.specs.declared.event.Event.{Event}
+use Rattle.hub_base.specs.State.{State, Channel, OpenCall, channel_at, with_channel}
+use Rattle.hub_base.specs.Ready.{Ending, first_with, is_recv_on, is_send_on, without}
+use Rattle.hub_base.specs.Steps.{Firing, sent, received, next_value, outcome_of, send_fires, send_meets, recv_fires, recv_meets, recv_takes, with_sent, fired}
+use Rattle.hub_laws.specs.Sound.{IsSound, PortSound, some_call, CallFits}
+use Rattle.hub_laws.proofs.Fires.{some_first, is_send}
+use Rattle.hub_laws.proofs.Calls.{first-found}
+use Rattle.hub_parts.specs.Records.{Lists, PortLists, Ticketed}
+use Rattle.hub_parts.specs.Lists.{port_at, with_port, pushed, popped, ended_by, open_calls, still_open}
+use Rattle.hub_core.specs.declared.tally.Tally.{Tally}
+use Rattle.hub_core.specs.Records.{MachineLists, tally_at, one_sent, one_received, one_handed}
+use Rattle.hub_core.specs.ListSteps.{ListFiring, with_board, send_on, send_to, recv_on, recv_from, take_on, let_in, fetch_on}
+use Rattle.hub_core.specs.Follows.{lists_of, tally_of, Matches}
+use Rattle.hub_core.specs.Agrees.{FiresAs}
+use Rattle.hub_core.proofs.Endings.{open_calls-still_open}
+use Rattle.hub_core.proofs.Ports.{port-lists_of, tally-tally_of, ports-set, ports-same, counts-set, counts-same, first-next_value, pushed-lists_of, popped-lists_of, popped-drained, through-lists_of, next-through, shifted-lists_of, next-shifted, next_none}
+
+-- the tally of a port that sent, received, or both
+abbrev sent_tally : Tally → Tally
+sent_tally t = record { sent = t.sent + 1; received = t.received }
+
+abbrev received_tally : Tally → Tally
+received_tally t = record { sent = t.sent; received = t.received + 1 }
+
+abbrev handed_tally : Tally → Tally
+handed_tally t = record { sent = t.sent + 1; received = t.received + 1 }
+
+length-snoc : (xs : List Value) (x : Value) → length xs + 1 ≡ length (xs ++ x ∷ [])
+length-snoc [] x = refl
+length-snoc (y ∷ ys) x = omega (arith, length-snoc ys x)
+
+sent-tally_of : (v : Value) (c : Channel) → sent_tally (tally_of c) ≡ tally_of (sent v c)
+sent-tally_of v c = ap (λ n. record { sent = n; received = c.taken }) (length-snoc c.done v)
+
+handed-tally_of : (v : Value) (c : Channel) → handed_tally (tally_of c) ≡ tally_of (received (sent v c))
+handed-tally_of v c = ap (λ n. record { sent = n; received = c.taken + 1 }) (length-snoc c.done v)
+
+-- the open calls without the one that ends
+calls_left : (s : State) (m : MachineLists) (pid : Pid) → Matches s m → open_calls (still_open pid m.board.waiting) ≡ without pid s.parked
+calls_left s m pid h = open_calls-still_open pid m.board.waiting ∙ ap (without pid) h.calls
+
+-- ---- sends
+send_to-as : (s : State) (m : MachineLists) (p : Port) (v : Value) (c : Channel) (o : Option Ending) → PortSound p c s.parked → Matches s m → channel_at s p ≡ Some c → o ≡ first_with (is_recv_on p) s.parked →
+    FiresAs (send_meets s p (sent v c) o) m (send_to m.board m.counts p v o)
+send_to-as s m p v c None sound h e is = record {
+  outcome = refl;
+  ended = refl;
+  state = record {
+    procs = h.procs;
+    calls = h.calls;
+    ports = ports-set s m p (sent v c) _ h (ap (pushed v) (port-lists_of s m p c h e) ∙ pushed-lists_of v c sound.taken);
+    counts = counts-set s m p (sent v c) _ h (ap sent_tally (tally-tally_of s m p c h e) ∙ sent-tally_of v c);
+    gone = h.gone;
+  };
+}
+send_to-as s m p v c (Some x) sound h e is =
+    let met : some_call (is_recv_on p) s.parked ≡ true = sym (some_first (is_recv_on p) s.parked (Some x) is) in
+    let empty : c.taken ≡ length c.done = sound.receivers met in
+    record {
+      outcome = refl;
+      ended = ap (λ o. fired x.pid x.at.index (outcome_of o) ∷ []) (sym (next-through v c empty));
+      state = record {
+        procs = h.procs;
+        calls = calls_left s m x.pid h;
+        ports = ports-same s m p c (received (sent v c)) h e (through-lists_of v c empty);
+        counts = counts-set s m p (received (sent v c)) _ h (ap handed_tally (tally-tally_of s m p c h e) ∙ handed-tally_of v c);
+        gone = h.gone;
+      };
+    }
+
+send_by : (closed : Bool) (s : State) (m : MachineLists) (p : Port) (v : Value) (c : Channel) (o : Option Ending) → PortSound p c s.parked → Matches s m → channel_at s p ≡ Some c → o ≡ first_with (is_recv_on p) s.parked →
+    FiresAs (cond closed (record { outcome = Closed; state = s; ended = [] }) (send_meets s p (sent v c) o)) m (cond closed (record { outcome = Closed; board = m.board; counts = m.counts; ended = None }) (send_to m.board m.counts p v o))
+send_by true s m p v c o sound h e is = record { outcome = refl; ended = refl; state = record { procs = h.procs; calls = h.calls; ports = h.ports; counts = h.counts; gone = h.gone } }
+send_by false s m p v c o sound h e is = send_to-as s m p v c o sound h e is
+
+pub send-as : (s : State) (m : MachineLists) (p : Port) (v : Value) (c : Channel) → IsSound s → Matches s m → channel_at s p ≡ Some c → FiresAs (send_fires s p v c) m (send_on m.board m.counts p v)
+send-as s m p v c sound h e =
+    let same : (port_at m.board p).closed ≡ c.closed = ap (λ (q : PortLists). q.closed) (port-lists_of s m p c h e) in
+    rw (same, h.calls) (send_by c.closed s m p v c (first_with (is_recv_on p) s.parked) (sound.ports p c e) h e refl)
+
+-- ---- receives
+take_on-as : (s : State) (m : MachineLists) (p : Port) (c : Channel) (o : Option Value) → PortSound p c s.parked → Matches s m → channel_at s p ≡ Some c → o ≡ next_value c →
+    FiresAs (recv_takes s p c [] o) m (take_on m.board m.counts p o)
+take_on-as s m p c None sound h e is = record {
+  outcome = refl;
+  ended = refl;
+  state = record {
+    procs = h.procs;
+    calls = h.calls;
+    ports = ports-set s m p c _ h (ap popped (port-lists_of s m p c h e) ∙ popped-drained c (sym is) sound.taken);
+    counts = counts-same s m p c c h e refl;
+    gone = h.gone;
+  };
+}
+take_on-as s m p c (Some v) sound h e is = record {
+  outcome = refl;
+  ended = refl;
+  state = record {
+    procs = h.procs;
+    calls = h.calls;
+    ports = ports-set s m p (received c) _ h (ap popped (port-lists_of s m p c h e) ∙ popped-lists_of c);
+    counts = counts-set s m p (received c) _ h (ap received_tally (tally-tally_of s m p c h e));
+    gone = h.gone;
+  };
+}
+
+fetch_on-as : (s : State) (m : MachineLists) (p : Port) (c : Channel) (x : Ending) (u : Value) (o : Option Value) → PortSound p c s.parked → Matches s m → channel_at s p ≡ Some c → o ≡ next_value c →
+    FiresAs (recv_takes (record s { parked = without x.pid s.parked }) p (sent u c) (fired x.pid x.at.index Sent ∷ []) (next_value (sent u c))) m (fetch_on m.board m.counts p x u o)
+fetch_on-as s m p c x u None sound h e is =
+    let empty : c.taken ≡ length c.done = next_none c (sym is) sound.taken in
+    rw (next-through u c empty) (record {
+      outcome = refl;
+      ended = refl;
+      state = record {
+        procs = h.procs;
+        calls = calls_left s m x.pid h;
+        ports = ports-set s m p (received (sent u c)) _ h (ap popped (port-lists_of s m p c h e) ∙ popped-drained c (sym is) sound.taken ∙ sym (through-lists_of u c empty));
+        counts = counts-set s m p (received (sent u c)) _ h (ap handed_tally (tally-tally_of s m p c h e) ∙ handed-tally_of u c);
+        gone = h.gone;
+      };
+    })
+fetch_on-as s m p c x u (Some v) sound h e is =
+    rw (next-shifted u c v (sym is)) (record {
+      outcome = refl;
+      ended = refl;
+      state = record {
+        procs = h.procs;
+        calls = calls_left s m x.pid h;
+        ports = ports-set s m p (received (sent u c)) _ h (ap (λ (q : PortLists). pushed u (popped q)) (port-lists_of s m p c h e) ∙ shifted-lists_of u c v (sym is));
+        counts = counts-set s m p (received (sent u c)) _ h (ap handed_tally (tally-tally_of s m p c h e) ∙ handed-tally_of u c);
+        gone = h.gone;
+      };
+    })
+
+first_at : (s : State) (m : MachineLists) (p : Port) (c : Channel) → Matches s m → channel_at s p ≡ Some c → slice_get (port_at m.board p).buffer 0 ≡ next_value c
+first_at s m p c h e = ap (λ (q : PortLists). slice_get q.buffer 0) (port-lists_of s m p c h e) ∙ first-next_value c
+
+let_in-as : (s : State) (m : MachineLists) (p : Port) (c : Channel) (x : Ending) (k : Case) → is_send_on p k ≡ true → PortSound p c s.parked → Matches s m → channel_at s p ≡ Some c →
+    FiresAs (recv_takes (record s { parked = without x.pid s.parked }) p (with_sent k c) (fired x.pid x.at.index Sent ∷ []) (next_value (with_sent k c))) m (let_in m.board m.counts p x k)
+let_in-as s m p c x (Send q u) is sound h e = fetch_on-as s m p c x u (slice_get (port_at m.board p).buffer 0) sound h e (first_at s m p c h e)
+let_in-as s m p c x (Recv q) is sound h e = cc
+
+recv_from-as : (s : State) (m : MachineLists) (p : Port) (c : Channel) (o : Option Ending) → IsSound s → Matches s m → channel_at s p ≡ Some c → o ≡ first_with (is_send_on p) s.parked →
+    FiresAs (recv_meets s p c o) m (recv_from m.board m.counts p o)
+recv_from-as s m p c None sound h e is = rw (first_at s m p c h e) (take_on-as s m p c (next_value c) (sound.ports p c e) h e refl)
+recv_from-as s m p c (Some x) sound h e is =
+    let f = first-found (CallFits (length s.channels)) (is_send_on p) s.parked x sound.calls (sym is) in
+    let_in-as s m p c x x.at.case f.passes (sound.ports p c e) h e
+
+pub recv-as : (s : State) (m : MachineLists) (p : Port) (c : Channel) → IsSound s → Matches s m → channel_at s p ≡ Some c → FiresAs (recv_fires s p c) m (recv_on m.board m.counts p)
+recv-as s m p c sound h e = rw h.calls (recv_from-as s m p c (first_with (is_send_on p) s.parked) sound h e refl)

@@ -1,0 +1,181 @@
+-- A machine that follows a run follows it by one entry more.
+use Rattle.std.proofs.Common.{◌≡◌, ℕ, zero, suc, ◌+◌, ◌-◌, ◌==◌, ◌≤◌, ◌<◌, ◌^◌, Bool, true, false, cond, not, List, [], ◌∷◌, ◌++◌, length, map, append-nil, refl, ap, ◌∙◌, sym, subst, Option, Some, None, arith}
+use Rattle.std.specs.Prelude.{slice_get, replicate}
+use Rattle.std.specs.List.{AllByRecursion, list_any}
+use Rattle.std.proofs.lemmas.Grind.{common_steps}
+use Rattle.std.proofs.lemmas.List.{length-map}
+use Rattle.hub_base.specs.declared.value.Pid.{Pid}
+use Rattle.hub_base.specs.declared.value.Port.{Port}
+use Rattle.hub_base.specs.declared.case.Case.{Case}
+use Rattle.hub_base.specs.declared.entry.Step.{Step}
+use Rattle.hub_base.specs.declared.entry.Step.TheVariants.{Make, Call, Close, Exit}
+use Rattle.hub_base.specs.declared.entry.Entry.{Entry}
+use Rattle.hub_base.specs.declared.fault.Fault.{Fault}
+use Rattle.hub_base.specs.declared.fault.Fault.TheVariants as fault
+use Rattle.hub_base.specs.declared.event.Event.{Event}
+use Rattle.hub_base.specs.declared.event.What.TheVariants as what
+use Rattle.hub_base.specs.State.{State, Channel, OpenCall, opening, channel_at}
+use Rattle.hub_base.specs.Steps.{Change, tells, refusal, turn, fault_of, answers, effect, is_unmade}
+use Rattle.hub_base.specs.Runs.{admits, moves, keeps, kept_after, kept, state_after, state}
+use Rattle.hub_laws.specs.Sound.{IsSound, PortSound, Apart}
+use Rattle.hub_laws.proofs.Rules.{state-sound}
+use Rattle.hub_laws.proofs.Longer.{state-entry, kept-entry}
+use Rattle.hub_laws.proofs.Ready.{Admitted, admitted}
+use Rattle.hub_parts.specs.Records.{Lists, Ticketed}
+use Rattle.hub_parts.specs.Lists.{open_calls, opened, ticketed}
+use Rattle.hub_core.specs.declared.tally.Tally.{Tally}
+use Rattle.hub_core.specs.Records.{MachineLists}
+use Rattle.hub_core.specs.Parts.{parts, IsReached}
+use Rattle.hub_core.specs.ListSteps.{ListChange, turn_on, answers_on, effect_on, fault_on, stalls_on, refusal_of, gone_on}
+use Rattle.hub_core.specs.Follows.{Matches, HasCases, IsEntryOf, TicketsAre, Follows, Admits, Answers, RefusesFor}
+use Rattle.hub_core.specs.Agrees.{StepsAs}
+use Rattle.hub_core.proofs.Effects.{fault_on-as, effect_on-as}
+use Rattle.hub_core.proofs.Stalls.{stalls_on-as, refusal_of-as}
+use Rattle.hub_core.proofs.Kept.{Leaves, Opens, answers_on_leaves}
+
+-- ---- a run goes on by one entry
+pub kept-admitted : (n : ℕ) (es : List Entry) (e : Entry) → refusal (state n es) e.pid ≡ None → kept n (es ++ e ∷ []) ≡ kept n es ++ e ∷ []
+kept-admitted n es e h = kept-entry n es e ∙ ap (λ o. kept n es ++ keeps o e []) h
+
+pub kept-refused : (n : ℕ) (es : List Entry) (e : Entry) (f : Fault) → refusal (state n es) e.pid ≡ Some f → kept n (es ++ e ∷ []) ≡ kept n es
+kept-refused n es e f h = kept-entry n es e ∙ ap (λ o. kept n es ++ keeps o e []) h ∙ append-nil (kept n es)
+
+pub moves-admitted : (s : State) (e : Entry) → refusal s e.pid ≡ None → moves s e ≡ turn s e
+moves-admitted s e h = ap (admits s e) h
+
+pub moves-refused : (s : State) (e : Entry) (f : Fault) → refusal s e.pid ≡ Some f → moves s e ≡ record { state = s; events = tells e.pid (what.Fault f) ∷ [] }
+moves-refused s e f h = ap (admits s e) h
+
+-- ---- one admitted entry
+answers_by : (s : State) (m : MachineLists) (e : Entry) (o : Option Fault) → IsSound s → Matches s m → e.pid.0 < length m.gone → o ≡ fault_of s e.step → StepsAs (answers s e o) (answers_on m e o)
+answers_by s m e None sound h room is = stalls_on-as (effect s e.pid e.step) (effect_on m e.pid e.step) (effect_on-as s m e.pid e.step sound h room (sym is))
+answers_by s m e (Some f) sound h room is = record { events = refl; state = h }
+
+pub answers_on-as : (s : State) (m : MachineLists) (e : Entry) → IsSound s → Matches s m → e.pid.0 < length m.gone → StepsAs (turn s e) (answers_on m e (fault_on m.board e.step))
+answers_on-as s m e sound h room = rw (fault_on-as s m e.step h) (answers_by s m e (fault_of s e.step) sound h room refl)
+
+-- ---- tickets
+get_longer : (xs : List Entry) (x : Entry) (i : ℕ) (call : OpenCall) → IsEntryOf (slice_get xs i) call → IsEntryOf (slice_get (xs ++ x ∷ []) i) call
+get_longer [] x i call h = absurd h
+get_longer (y ∷ ys) x zero call h = h
+get_longer (y ∷ ys) x (suc i) call h = get_longer ys x i call h
+
+get_last : (xs : List Entry) (x : Entry) → slice_get (xs ++ x ∷ []) (length xs) ≡ Some x
+get_last [] x = refl
+get_last (y ∷ ys) x = get_last ys x
+
+tickets_longer : (journal : List Entry) (e : Entry) (ws : List Ticketed) → TicketsAre journal ws → TicketsAre (journal ++ e ∷ []) ws
+tickets_longer journal e [] h = tt
+tickets_longer journal e (w ∷ ws) h = (get_longer journal e w.ticket w.call h.0, tickets_longer journal e ws h.1)
+
+-- the call that this entry would open has its place as ticket
+abbrev IsTicket : List Entry → Ticketed → Type 0
+IsTicket journal w = IsEntryOf (slice_get journal w.ticket) w.call
+
+opens_by : (journal : List Entry) (n : ℕ) (pid : Pid) (step : Step) → slice_get journal n ≡ Some (record { pid = pid; step = step }) → Opens (IsTicket journal) n pid step
+opens_by journal n pid (Make cap) h = tt
+opens_by journal n pid (Call cases default word) h = rw h (refl, refl)
+opens_by journal n pid (Close p) h = tt
+opens_by journal n pid Exit h = tt
+
+-- ---- Follows
+length-snoc : (xs : List Entry) (x : Entry) → length xs + 1 ≡ length (xs ++ x ∷ [])
+length-snoc [] x = refl
+length-snoc (y ∷ ys) x = omega (arith, length-snoc ys x)
+
+pub follows_on : (n : ℕ) (es : List Entry) (e : Entry) (m : MachineLists) → Follows n es m → refusal (state n es) e.pid ≡ None → e.pid.0 < length m.gone →
+    Admits n es e (turn_on m e).machine (turn_on m e).events
+follows_on n es e m h adm room =
+    let same = answers_on-as (state n es) m e (state-sound n es) h.matches room in
+    let moved = moves-admitted (state n es) e adm in
+    let grown = kept-admitted n es e adm in
+    let last : slice_get (kept n (es ++ e ∷ [])) m.steps ≡ Some e = rw (grown, h.steps) (get_last (kept n es) e) in
+    let left = answers_on_leaves (IsTicket (kept n (es ++ e ∷ []))) m.steps m e (fault_on m.board e.step) refl (opens_by (kept n (es ++ e ∷ [])) m.steps e.pid e.step last) in
+    record {
+      admitted = adm;
+      events = same.events ∙ ap (λ (c : Change). c.events) (sym moved);
+      follows = record {
+        matches = subst (λ (s : State). Matches s (turn_on m e).machine) (sym (state-entry n es e ∙ ap (λ (c : Change). c.state) moved))
+            (record { procs = same.state.procs; calls = same.state.calls; ports = same.state.ports; counts = same.state.counts; gone = same.state.gone });
+        steps = ap (λ k. k + 1) h.steps ∙ length-snoc (kept n es) e ∙ ap length (sym grown);
+        later = left.next h.later;
+        tickets = left.waiting (subst (λ (j : List Entry). TicketsAre j m.board.waiting) (sym grown) (tickets_longer (kept n es) e m.board.waiting h.tickets));
+      };
+    }
+
+pub follows_refused : (n : ℕ) (es : List Entry) (e : Entry) (m : MachineLists) (f : Fault) → Follows n es m → refusal (state n es) e.pid ≡ Some f → Answers n es e m (tells e.pid (what.Fault f) ∷ [])
+follows_refused n es e m f h is =
+    let moved = moves-refused (state n es) e f is in
+    let same : state n (es ++ e ∷ []) ≡ state n es = state-entry n es e ∙ ap (λ (c : Change). c.state) moved in
+    let stays = kept-refused n es e f is in
+    record {
+      events = ap (λ (c : Change). c.events) (sym moved);
+      follows = record {
+        matches = subst (λ (s : State). Matches s m) (sym same) h.matches;
+        steps = h.steps ∙ ap length (sym stays);
+        later = h.later;
+        tickets = subst (λ (j : List Entry). TicketsAre j m.board.waiting) (sym stays) h.tickets;
+      };
+    }
+
+-- ---- refusals
+never_memory : (a b c : Bool) → cond a (Some fault.NoProcess) (cond b (Some fault.Gone) (cond c (Some fault.Busy) None)) ≡ Some fault.NoMemory → ⊥
+never_memory true b c h = cc
+never_memory false true c h = cc
+never_memory false false true h = cc
+never_memory false false false h = cc
+
+refuses_by : (n : ℕ) (es : List Entry) (e : Entry) (f : Fault) → refusal (state n es) e.pid ≡ Some f → RefusesFor n es e f
+refuses_by n es e fault.NoMemory h = absurd (never_memory _ _ _ h)
+refuses_by n es e f h = h
+
+pub refuses_for : (n : ℕ) (es : List Entry) (e : Entry) (m : MachineLists) (f : Fault) → Follows n es m → Some f ≡ refusal_of m.board m.gone e.pid → RefusesFor n es e f
+refuses_for n es e m f h is = refuses_by n es e f (sym (refusal_of-as (state n es) m e.pid h.matches) ∙ sym is)
+
+pub refused_as : (n : ℕ) (es : List Entry) (e : Entry) (f : Fault) → (f ≡ fault.NoMemory → ⊥) → RefusesFor n es e f → refusal (state n es) e.pid ≡ Some f
+refused_as n es e fault.NoMemory other h = absurd (other refl)
+refused_as n es e f other h = h
+
+pub admitted_as : (n : ℕ) (es : List Entry) (e : Entry) (m : MachineLists) → Follows n es m → refusal_of m.board m.gone e.pid ≡ None → refusal (state n es) e.pid ≡ None
+admitted_as n es e m h is = sym (refusal_of-as (state n es) m e.pid h.matches) ∙ is
+
+-- ---- the opening
+none-gone : (k q : ℕ) → gone_on (replicate k false) q ≡ false
+none-gone zero q = refl
+none-gone (suc k) zero = refl
+none-gone (suc k) (suc q) = none-gone k q
+
+pub follows_opening : (n : ℕ) → Follows n [] (record { board = opened n; gone = replicate 64 false; counts = []; steps = 0 })
+follows_opening n = record {
+  matches = record { procs = refl; calls = refl; ports = refl; counts = refl; gone = λ q below. none-gone 64 q };
+  steps = refl;
+  later = omega arith;
+  tickets = tt;
+}
+
+-- ---- a step of a machine's parts
+pub record Turned (b : Lists) (gone : List Bool) (ts : List Tally) (k : ℕ) (e : Entry) (b' : Lists) (gone' : List Bool) (ts' : List Tally) (told : List Event) : Type 0 where
+  pub board : b' ≡ (answers_on (parts b gone ts k) e (fault_on b e.step)).machine.board
+  pub left : gone' ≡ (answers_on (parts b gone ts k) e (fault_on b e.step)).machine.gone
+  pub counts : ts' ≡ (answers_on (parts b gone ts k) e (fault_on b e.step)).machine.counts
+  pub events : told ≡ (answers_on (parts b gone ts k) e (fault_on b e.step)).events
+
+pub follows_turned : (n : ℕ) (es : List Entry) (e : Entry) (b b' : Lists) (gone gone' : List Bool) (ts ts' : List Tally) (k : ℕ) (told : List Event) →
+    Follows n es (parts b gone ts k) → refusal_of b gone e.pid ≡ None → b.procs ≤ 64 → length gone ≡ 64 → Turned b gone ts k e b' gone' ts' told → Admits n es e (parts b' gone' ts' (k + 1)) told
+follows_turned n es e b b' gone gone' ts ts' k told h free few places t =
+    let adm = admitted_as n es e (parts b gone ts k) h free in
+    let below = (admitted (state n es) e.pid adm).below in
+    let room : e.pid.0 < length gone = omega (arith, below, h.matches.procs, few, places) in
+    let on = follows_on n es e (parts b gone ts k) h adm room in
+    rw (t.board, t.left, t.counts, t.events) on
+
+-- the same, told of the machine as contracts see it
+pub follows_self : (n : ℕ) (es : List Entry) (e : Entry) (old : MachineLists) (b b' : Lists) (gone gone' : List Bool) (ts ts' : List Tally) (k : ℕ) (told : List Event) → parts b gone ts k ≡ old →
+    refusal_of b gone e.pid ≡ None → b.procs ≤ 64 → length gone ≡ 64 → Turned b gone ts k e b' gone' ts' told → Follows n es old → Admits n es e (parts b' gone' ts' (k + 1)) told
+follows_self n es e old b b' gone gone' ts ts' k told is free few places t h =
+    follows_turned n es e b b' gone gone' ts ts' k told (subst (Follows n es) (sym is) h) free few places t
+
+pub reached_next : (e : Entry) (b b' : Lists) (gone gone' : List Bool) (ts ts' : List Tally) (k : ℕ) (told : List Event) →
+    IsReached (parts b gone ts k) → refusal_of b gone e.pid ≡ None → b.procs ≤ 64 → length gone ≡ 64 → Turned b gone ts k e b' gone' ts' told → IsReached (parts b' gone' ts' (k + 1))
+reached_next e b b' gone gone' ts ts' k told r free few places t =
+    (r.0, r.1 ++ e ∷ [], (follows_turned r.0 r.1 e b b' gone gone' ts ts' k told r.2 free few places t).follows)

@@ -1,0 +1,15 @@
+pub mod Boards
+pub mod Endings
+pub mod Choices
+pub mod Ports
+pub mod Firings
+pub mod Readiness
+pub mod Answering
+pub mod Effects
+pub mod Stalls
+pub mod Kept
+pub mod Following
+pub mod Reached
+pub mod Shown
+pub mod Hubs
+pub mod Journeys

@@ -1,0 +1,122 @@
+-- What is known of a machine that some run leads to.
+use Rattle.std.proofs.Common.{◌≡◌, ℕ, zero, suc, ◌+◌, ◌-◌, ◌==◌, ◌≤◌, ◌<◌, ◌^◌, Bool, true, false, cond, not, nat_lt, List, [], ◌∷◌, ◌++◌, length, map, refl, ap, ◌∙◌, sym, subst, Option, Some, None, arith}
+use Rattle.std.specs.Prelude.{slice_get}
+use Rattle.std.specs.List.{AllByRecursion, list_any}
+use Rattle.std.proofs.lemmas.Grind.{common_steps}
+use Rattle.std.proofs.lemmas.List.{length-map}
+use Rattle.hub_base.specs.declared.value.Pid.{Pid}
+use Rattle.hub_base.specs.declared.value.Port.{Port}
+use Rattle.hub_base.specs.declared.case.Case.{Case}
+use Rattle.hub_base.specs.declared.entry.Step.{Step}
+use Rattle.hub_base.specs.declared.entry.Step.TheVariants.{Make, Call, Close, Exit}
+use Rattle.hub_base.specs.declared.entry.Entry.{Entry}
+use Rattle.hub_base.specs.declared.fault.Fault.TheVariants as fault
+use Rattle.hub_base.specs.State.{State, Channel, OpenCall, opening, channel_at}
+use Rattle.hub_base.specs.Ready.{port_of}
+use Rattle.hub_base.specs.Steps.{refusal, fault_of, effect}
+use Rattle.hub_base.specs.Runs.{state, kept}
+use Rattle.hub_base.specs.Text.{steps_of}
+use Rattle.hub_base.specs.Reading.{is_exit}
+use Rattle.hub_laws.specs.Sound.{IsSound, PortSound, Apart}
+use Rattle.std.proofs.lemmas.Bool.{or_parts}
+use Rattle.hub_laws.proofs.Counts.{counts-law}
+use Rattle.hub_laws.proofs.Rules.{state-sound, effect-sound}
+use Rattle.hub_laws.proofs.Ready.{Admitted, admitted, none_false}
+use Rattle.hub_laws.proofs.Sizes.{effect_size, room-law}
+use Rattle.hub_parts.specs.Records.{Lists, PortLists, Ticketed}
+use Rattle.hub_parts.specs.Lists.{open_calls, port_at, IsMade}
+use Rattle.hub_parts.specs.Keeps.{AllMade}
+use Rattle.hub_core.specs.declared.tally.Tally.{Tally}
+use Rattle.hub_core.specs.Records.{MachineLists, tally_at}
+use Rattle.hub_core.specs.ListReady.{BufferFits}
+use Rattle.hub_core.specs.ListKeeps.{CanCount, PortsKeep}
+use Rattle.hub_core.specs.ListSteps.{effect_on, fault_on, call_fault_on, is_unmade_on, refusal_of}
+use Rattle.hub_core.specs.Follows.{tally_of, lists_of, Matches, Follows}
+use Rattle.hub_core.specs.Parts.{IsReached}
+use Rattle.hub_core.proofs.Ports.{port-lists_of, tally-tally_of}
+use Rattle.hub_core.proofs.Readiness.{count-ports, get_within, length-buffer_of}
+use Rattle.hub_core.proofs.Effects.{fault_on-as, effect_on-as}
+use Rattle.hub_core.proofs.Stalls.{refusal_of-as, count-calls}
+use Rattle.hub_core.proofs.Kept.{effect-procs}
+
+-- ---- the ports
+pub count-counts : (s : State) (m : MachineLists) → Matches s m → length m.counts ≡ length s.channels
+count-counts s m h = ap length h.counts ∙ length-map s.channels tally_of
+
+channel_made : (s : State) (m : MachineLists) (p : Port) → Matches s m → IsMade m.board p → (c : Channel) × (channel_at s p ≡ Some c)
+channel_made s m p h made =
+    let here : (p.0 == 0) ≡ false = grind (arith, common_steps, made.0) in
+    let found = get_within s.channels (p.0 - 1) (omega (arith, made.0, made.1, count-ports s m h)) in
+    (found.0, rw here found.1)
+
+fits_by : (s : State) (m : MachineLists) (p : Port) (c : Channel) → IsSound s → Matches s m → channel_at s p ≡ Some c → BufferFits m.board p
+fits_by s m p c sound h e = rw (port-lists_of s m p c h e) (omega (arith, length-buffer_of c, (sound.ports p c e).fits))
+
+at_most_one : (b : Bool) → cond b 0 1 ≤ 1
+at_most_one true = omega arith
+at_most_one false = omega arith
+
+pub steps-length : (es : List Entry) → steps_of es ≤ length es
+steps-length [] = omega arith
+steps-length (e ∷ es) = omega (arith, at_most_one (is_exit e.step), steps-length es)
+
+can_count : (n : ℕ) (es : List Entry) (m : MachineLists) (p : Port) (c : Channel) → Follows n es m → m.steps < 2 ^ 32 - 1 → channel_at (state n es) p ≡ Some c → CanCount m.counts p
+can_count n es m p c h few e =
+    let within = counts-law n es p c e in
+    let short = steps-length (kept n es) in
+    let tally : tally_at m.counts p ≡ tally_of c = tally-tally_of (state n es) m p c h.matches e in
+    record {
+      sent = rw tally (omega (arith, within.sent, short, h.steps));
+      received = rw tally (omega (arith, within.received, within.sent, short, h.steps));
+    }
+
+pub ports_keep : (m : MachineLists) → IsReached m → m.steps < 2 ^ 32 - 1 → PortsKeep m.board m.counts
+ports_keep m r few =
+    let s = state r.0 r.1 in
+    record {
+      count = count-counts s m r.2.matches ∙ sym (count-ports s m r.2.matches);
+      fits = λ p made. let found = channel_made s m p r.2.matches made in fits_by s m p found.0 (state-sound r.0 r.1) r.2.matches found.1;
+      counts = λ p made. let found = channel_made s m p r.2.matches made in can_count r.0 r.1 m p found.0 r.2 few found.1;
+    }
+
+-- ---- the open calls
+pub calls_apart : (m : MachineLists) → IsReached m → Apart (open_calls m.board.waiting)
+calls_apart m r = subst Apart (sym r.2.matches.calls) (state-sound r.0 r.1).apart
+
+is_admitted : (m : MachineLists) (pid : Pid) (r : IsReached m) → refusal_of m.board m.gone pid ≡ None → Admitted (state r.0 r.1) pid
+is_admitted m pid r h = admitted (state r.0 r.1) pid (sym (refusal_of-as (state r.0 r.1) m pid r.2.matches) ∙ h)
+
+pub room_left : (m : MachineLists) (pid : Pid) → IsReached m → refusal_of m.board m.gone pid ≡ None → m.board.procs ≤ 64 → length m.board.waiting < 64
+room_left m pid r h few =
+    let s = state r.0 r.1 in
+    omega (arith, room-law s pid (state-sound r.0 r.1) (is_admitted m pid r h), count-calls s m r.2.matches, r.2.matches.procs)
+
+-- what is known behind a step, before the stall rule
+pub record AfterEffect (m : MachineLists) (pid : Pid) (step : Step) : Type 0 where
+  pub apart : Apart (open_calls (effect_on m pid step).machine.board.waiting)
+  pub room : length (effect_on m pid step).events + length (effect_on m pid step).machine.board.waiting ≤ 65
+  pub procs : (effect_on m pid step).machine.board.procs ≡ m.board.procs
+
+pub after_effect : (m : MachineLists) (pid : Pid) (step : Step) → IsReached m → refusal_of m.board m.gone pid ≡ None → fault_on m.board step ≡ None → m.board.procs ≤ 64 → length m.gone ≡ 64 → AfterEffect m pid step
+after_effect m pid step r h fine few places =
+    let s = state r.0 r.1 in
+    let sound = state-sound r.0 r.1 in
+    let adm = is_admitted m pid r h in
+    let faultless : fault_of s step ≡ None = sym (fault_on-as s m step r.2.matches) ∙ fine in
+    let same = effect_on-as s m pid step sound r.2.matches (omega (arith, adm.below, r.2.matches.procs)) faultless in
+    record {
+      apart = subst Apart (sym same.state.calls) (effect-sound s pid step sound adm faultless).apart;
+      room = omega (arith, effect_size s pid step sound, ap length same.events, count-calls (effect s pid step).state (effect_on m pid step).machine same.state, room-law s pid sound adm, r.2.matches.procs);
+      procs = effect-procs m pid step;
+    }
+
+-- ---- the ports of a call that has no fault
+named_by : (ports : ℕ) (cases : List Case) → list_any (λ c. nat_lt ports (port_of c).0) cases ≡ false → AllMade ports cases
+named_by ports [] h = tt
+named_by ports (c ∷ cases) h =
+    let parts = or_parts (nat_lt ports (port_of c).0) (list_any (λ c. nat_lt ports (port_of c).0) cases) h in
+    (grind (arith, common_steps, parts.0), named_by ports cases parts.1)
+
+pub call_named : (b : Lists) (cases : List Case) → call_fault_on b cases ≡ None → AllMade (length b.ports) cases
+call_named b cases h =
+    named_by (length b.ports) cases (none_false (list_any (λ c. is_unmade_on b (port_of c)) cases) fault.NoPort None (none_false (nat_lt 8 (length cases)) fault.TooManyCases _ h).1).0

@@ -1,0 +1,77 @@
+-- How a machine's lists stand for a state, and what it means that a machine follows a run.
+use Rattle.std.specs.Prelude.{◌≡◌, ◌≤◌, ◌<◌, ℕ, Bool, List, [], ◌∷◌, ◌++◌, length, map, Option, None, Some, slice_get}
+use Rattle.std.specs.List.{AllByRecursion}
+use Rattle.hub_base.specs.declared.case.Case.{Case}
+use Rattle.hub_base.specs.declared.entry.Step.{Step}
+use Rattle.hub_base.specs.declared.entry.Step.TheVariants.{Make, Call, Close, Exit}
+use Rattle.hub_base.specs.declared.entry.Entry.{Entry}
+use Rattle.hub_base.specs.declared.event.Event.{Event}
+use Rattle.hub_base.specs.declared.fault.Fault.{Fault}
+use Rattle.hub_base.specs.declared.fault.Fault.TheVariants as fault
+use Rattle.hub_base.specs.State.{State, Channel, OpenCall, buffer_of}
+use Rattle.hub_base.specs.Steps.{has_gone, refusal}
+use Rattle.hub_base.specs.Runs.{state, kept, moves}
+use Rattle.hub_parts.specs.Records.{PortLists, Ticketed}
+use Rattle.hub_parts.specs.Lists.{open_calls}
+use Rattle.hub_core.specs.declared.tally.Tally.{Tally}
+use Rattle.hub_core.specs.Records.{MachineLists}
+use Rattle.hub_core.specs.ListSteps.{gone_on}
+
+-- what a board shows of a channel: its buffer is what was sent and not yet received
+abbrev pub lists_of : Channel → PortLists
+lists_of c = record { cap = c.cap; closed = c.closed; buffer = buffer_of c }
+
+abbrev pub tally_of : Channel → Tally
+tally_of c = record { sent = length c.done; received = c.taken }
+
+-- the machine shows the state: its open calls in order, its buffers, its counts, and who has exited
+pub record Matches (s : State) (m : MachineLists) : Type 0 where
+  pub procs : m.board.procs ≡ s.procs
+  pub calls : open_calls m.board.waiting ≡ s.parked
+  pub ports : m.board.ports ≡ map lists_of s.channels
+  pub counts : m.counts ≡ map tally_of s.channels
+  pub gone : (q : ℕ) → q < s.procs → gone_on m.gone q ≡ has_gone s q
+
+abbrev pub HasCases : Step → List Case → Type 0
+HasCases (Make cap) cases = ⊥
+HasCases (Call given default word) cases = given.items ≡ cases
+HasCases (Close p) cases = ⊥
+HasCases Exit cases = ⊥
+
+-- the entry is the one that opened this call
+abbrev pub IsEntryOf : Option Entry → OpenCall → Type 0
+IsEntryOf None call = ⊥
+IsEntryOf (Some e) call = (e.pid ≡ call.pid) × HasCases e.step call.cases
+
+-- each open call's ticket is the place of its entry in the journal
+abbrev pub TicketsAre : List Entry → List Ticketed → Type 0
+TicketsAre journal ws = AllByRecursion (λ w. IsEntryOf (slice_get journal w.ticket) w.call) ws
+
+-- the machine is what n processes and these entries, admitted or not, lead to
+pub record Follows (n : ℕ) (es : List Entry) (m : MachineLists) : Type 0 where
+  pub matches : Matches (state n es) m
+  pub steps : m.steps ≡ length (kept n es)
+  pub later : m.board.next_ticket ≤ m.steps
+  pub tickets : TicketsAre (kept n es) m.board.waiting
+
+-- what an admitted entry leads to
+pub record Admits (n : ℕ) (es : List Entry) (e : Entry) (m : MachineLists) (told : List Event) : Type 0 where
+  pub admitted : refusal (state n es) e.pid ≡ None
+  pub events : told ≡ (moves (state n es) e).events
+  pub follows : Follows n (es ++ e ∷ []) m
+
+-- what any entry leads to
+pub record Answers (n : ℕ) (es : List Entry) (e : Entry) (m : MachineLists) (told : List Event) : Type 0 where
+  pub events : told ≡ (moves (state n es) e).events
+  pub follows : Follows n (es ++ e ∷ []) m
+
+abbrev pub IsMake : Step → Type 0
+IsMake (Make cap) = Unit {0}
+IsMake (Call cases default word) = ⊥
+IsMake (Close p) = ⊥
+IsMake Exit = ⊥
+
+-- why an entry is refused: memory, which only a make asks for, or because it is not admitted
+abbrev pub RefusesFor : ℕ → List Entry → Entry → Fault → Type 0
+RefusesFor n es e fault.NoMemory = IsMake e.step × (refusal (state n es) e.pid ≡ None)
+RefusesFor n es e f = refusal (state n es) e.pid ≡ Some f

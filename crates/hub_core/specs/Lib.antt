@@ -1,0 +1,12 @@
+pub mod Records
+pub mod ListReady
+pub mod ListKeeps
+pub mod ListSteps
+pub mod Follows
+pub mod Agrees
+pub mod Looks
+pub mod Parts
+pub mod MachineKeeps
+pub mod HubView
+pub mod HubKeeps
+pub mod RunsTo

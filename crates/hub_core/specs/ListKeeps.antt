@@ -1,0 +1,26 @@
+-- What the parts of a step ask of a machine's lists.
+use Rattle.std.specs.Prelude.{ℕ, ◌≤◌, ◌<◌, ◌-◌, ◌^◌, ◌≡◌, true, List, length, Option, None, Some}
+use Rattle.hub_base.specs.declared.value.Port.{Port}
+use Rattle.hub_base.specs.declared.case.Case.{Case}
+use Rattle.hub_base.specs.declared.case.Case.TheVariants.{Send, Recv}
+use Rattle.hub_base.specs.Ready.{port_of}
+use Rattle.hub_core.specs.declared.tally.Tally.{Tally}
+use Rattle.hub_core.specs.Records.{tally_at}
+use Rattle.hub_core.specs.ListReady.{SendFits, BufferFits, can_on}
+use Rattle.hub_parts.specs.Records.{Lists}
+use Rattle.hub_parts.specs.Lists.{IsMade}
+
+-- the case's port was made, or is nil
+abbrev pub IsNamed : Lists → Case → Type 0
+IsNamed b c = (port_of c).0 ≤ length b.ports
+
+-- one more value can be counted on the port
+pub record CanCount (ts : List Tally) (p : Port) : Type 0 where
+  pub sent : (tally_at ts p).sent < 2 ^ 32 - 1
+  pub received : (tally_at ts p).received < 2 ^ 32 - 1
+
+-- what each made port keeps
+pub record PortsKeep (b : Lists) (ts : List Tally) : Type 0 where
+  pub count : length ts ≡ length b.ports
+  pub fits : (p : Port) → IsMade b p → BufferFits b p
+  pub counts : (p : Port) → IsMade b p → CanCount ts p

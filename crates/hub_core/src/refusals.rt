@@ -1,0 +1,91 @@
+//! Why a step is not admitted, and the faults that are answers to admitted steps.
+
+ghost use Rattle.std.specs.Prelude.{◌≡◌, ◌≤◌, ◌<◌};
+ghost use Rattle.std.specs.List.{list_any};
+ghost use Rattle.hub_base.specs.Ready.{port_of};
+ghost use Rattle.hub_core.specs.ListSteps.{refusal_of, fault_on, call_fault_on, is_unmade_on};
+
+use crate::stalling::has_gone;
+use hub_base::{Case, Fault, Pid, Port, Step};
+use hub_parts::Board;
+
+/// Why a step of this process is not admitted.
+pub(crate) fn refusal(board: &Board, gone: &[bool; 64], procs: u8, pid: Pid) -> Option<Fault>
+    requires procs { board.now.procs ≡ procs }
+    requires few { procs ≤ 64 }
+    ensures { result ≡ refusal_of board.now gone.now pid }
+{
+    if pid.0 >= procs {
+        Some(Fault::NoProcess)
+    } else if has_gone(gone, pid.0) {
+        Some(Fault::Gone)
+    } else if board.open(pid) {
+        Some(Fault::Busy)
+    } else {
+        None
+    }
+}
+
+fn is_unmade(board: &Board, port: Port) -> bool
+    ensures { result ≡ is_unmade_on board.now port }
+{
+    board.ports() < port.0 as usize
+}
+
+fn port_of(case: Case) -> Port
+    ensures { result ≡ port_of case }
+{
+    match case {
+        Case::Send(port, _value) => port,
+        Case::Recv(port) => port,
+    }
+}
+
+fn names_unmade(board: &Board, cases: &[Case]) -> bool
+    ensures { result ≡ list_any (λ c. is_unmade_on board.now (port_of c)) cases.now }
+{
+    cases.iter().any(|case| is_unmade(board, port_of(*case)))
+}
+
+/// The fault of a call of these cases.
+fn call_fault(board: &Board, cases: &[Case]) -> Option<Fault>
+    ensures { result ≡ call_fault_on board.now cases.now }
+{
+    if cases.len() > 8 {
+        Some(Fault::TooManyCases)
+    } else if names_unmade(board, cases) {
+        Some(Fault::NoPort)
+    } else {
+        None
+    }
+}
+
+/// The fault that an admitted step is answered with, the lowest that applies.
+pub(crate) fn fault_of(board: &Board, step: &Step) -> Option<Fault>
+    ensures { result ≡ fault_on board.now step.now }
+{
+    match step {
+        Step::Make(cap) => {
+            if *cap > 1024 {
+                Some(Fault::BadCap)
+            } else if board.ports() > 63 {
+                Some(Fault::TooManyPorts)
+            } else {
+                None
+            }
+        }
+        Step::Call { cases, .. } => call_fault(board, cases.as_slice()),
+        Step::Close(port) => {
+            if is_unmade(board, *port) {
+                Some(Fault::NoPort)
+            } else if port.0 == 0 {
+                Some(Fault::NilClose)
+            } else if board.closed(*port) {
+                Some(Fault::AlreadyClosed)
+            } else {
+                None
+            }
+        }
+        Step::Exit => None,
+    }
+}

@@ -1,0 +1,52 @@
+//! The stall rule: where every process that has not exited waits, no call could ever end, so all end.
+
+ghost use Rattle.std.specs.Prelude.{◌≡◌, ◌≤◌, ◌<◌, ◌+◌, ◌++◌, ◌||◌, length};
+ghost use Rattle.std.specs.List.{list_all, range_with_len};
+ghost use Rattle.arrayvec.specs.ArrayVec.{array_vec_len};
+ghost use Rattle.hub_laws.specs.Sound.{Apart};
+ghost use Rattle.hub_parts.specs.Lists.{open_calls};
+ghost use Rattle.hub_core.specs.ListSteps.{gone_on, open_on, all_wait_on, none_open, stalled_events};
+
+use hub_base::{Event, Events, Pid, What};
+use hub_parts::Board;
+
+/// Whether the process has exited.
+pub(crate) fn has_gone(gone: &[bool; 64], pid: u8) -> bool
+    requires { pid < 64 }
+    ensures { result ≡ gone_on gone.now pid }
+{
+    gone[pid as usize]
+}
+
+/// Whether every process has exited or has an open call.
+fn each_gone_or_open(board: &Board, gone: &[bool; 64], procs: u8) -> bool
+    requires { procs ≤ 64 }
+    ensures { result
+        ≡ list_all (λ q. gone_on gone.now q || open_on board.now.waiting q) (range_with_len 0 procs) }
+{
+    (0..procs).all(|pid| has_gone(gone, pid) || board.open(Pid(pid)))
+}
+
+/// Whether some call is open, and every process that has not exited has one.
+pub(crate) fn all_wait(board: &Board, gone: &[bool; 64], procs: u8) -> bool
+    requires procs { board.now.procs ≡ procs }
+    requires few { procs ≤ 64 }
+    ensures { result ≡ all_wait_on board.now gone.now }
+{
+    board.open_count() != 0 && each_gone_or_open(board, gone, procs)
+}
+
+/// Ends every open call, oldest first.
+pub(crate) fn stop_all(board: &mut Board, events: &mut Events)
+    requires apart { Apart (open_calls board.old.waiting) }
+    requires room { array_vec_len events.old + length board.old.waiting ≤ 65 }
+    ensures board { board.new ≡ none_open board.old }
+    ensures events { events.new.items ≡ events.old.items ++ stalled_events board.old.waiting }
+{
+    while let Some(pid) = board.stop() {
+        events.push(Event {
+            pid,
+            what: What::Stalled,
+        });
+    }
+}

@@ -1,0 +1,109 @@
+-- No more values are sent on a port than there are admitted entries that are no exits.
+use Rattle.std.proofs.Common.{◌≡◌, ℕ, ◌+◌, ◌-◌, ◌≤◌, ◌==◌, Bool, true, false, cond, List, [], ◌∷◌, ◌++◌, length, refl, ◌∙◌, sym, subst, Option, Some, None, arith}
+use Rattle.std.specs.Prelude.{slice_get}
+use Rattle.std.specs.Option.{option_map_or}
+use Rattle.std.proofs.lemmas.Bool.{eqb-true}
+use Rattle.hub_base.specs.declared.value.Port.{Port}
+use Rattle.hub_base.specs.declared.value.Pid.{Pid}
+use Rattle.hub_base.specs.declared.entry.Step.{Step}
+use Rattle.hub_base.specs.declared.entry.Step.TheVariants.{Make, Call, Close, Exit}
+use Rattle.hub_base.specs.declared.entry.Entry.{Entry}
+use Rattle.hub_base.specs.declared.fault.Fault.{Fault}
+use Rattle.hub_base.specs.State.{State, Channel, channel_at, opening}
+use Rattle.hub_base.specs.Steps.{Change, stalls, fault_of, answers, refusal}
+use Rattle.hub_base.specs.Runs.{admits, moves, state_after, kept_after, keeps, state}
+use Rattle.hub_base.specs.Values.{Turned}
+use Rattle.hub_base.specs.Text.{one_step, steps_of}
+use Rattle.hub_laws.specs.Sound.{IsSound}
+use Rattle.hub_laws.proofs.Branches.{by-stall}
+use Rattle.hub_laws.proofs.Deeds.{Deed, deed_of, told, at, Moved, Quiet, Wrote, Does, buffers, hands, fetches, gives, drains, refuses, shuts, quiet, wrote}
+use Rattle.hub_laws.specs.Counts.{CountsLaw}
+use Rattle.hub_laws.proofs.Ports.{same_port}
+use Rattle.hub_laws.proofs.Fires.{longer}
+use Rattle.hub_laws.proofs.Kept.{sound-opening}
+use Rattle.hub_laws.proofs.Rules.{moves-sound, state-sound}
+use Rattle.hub_laws.proofs.Does.{Knows}
+use Rattle.hub_laws.proofs.Turns.{in_force, moves-turn}
+
+-- how many values were sent on a port
+abbrev pub sends_of : Option Channel → ℕ
+sends_of o = option_map_or (λ c. length c.done) o 0
+
+-- One step sends at most one
+
+moved_sends : (q : Port) (c d : Channel) (deeds : List Deed) → Moved q c d deeds → length d.done ≤ length c.done + 1
+moved_sends q c d deeds (buffers v live is e) = rw is (omega (arith, longer v c))
+moved_sends q c d deeds (hands v w live next is e) = rw is (omega (arith, longer v c))
+moved_sends q c d deeds (fetches v w live next is e) = rw is (omega (arith, longer v c))
+moved_sends q c d deeds (gives w next is e) = rw is (omega arith)
+moved_sends q c d deeds (drains next is e) = rw is (omega arith)
+moved_sends q c d deeds (refuses v over is e) = rw is (omega arith)
+moved_sends q c d deeds (shuts live is all) = rw is (omega arith)
+
+quiet_sends : (cs ts : List Channel) (p : Port) (o x : Option Channel) → o ≡ at cs p → x ≡ at ts p → Quiet cs ts → sends_of x ≤ sends_of o
+quiet_sends cs ts p (Some c) x is to q = rw (to ∙ q.same p c (sym is)) (omega arith)
+quiet_sends cs ts p None None is to q = omega arith
+quiet_sends cs ts p None (Some d) is to q = rw (q.fresh p d (sym is) (sym to)).0 (omega arith)
+
+wrote_sends : (cs ts : List Channel) (p q : Port) (c d : Channel) (deeds : List Deed) (b : Bool) → b ≡ (q.0 == p.0) → Wrote cs ts q c d → Moved q c d deeds → sends_of (at ts p) ≤ sends_of (at cs p) + 1
+wrote_sends cs ts p q c d deeds true is w m =
+    let same : q ≡ p = same_port q p (eqb-true q.0 p.0 (sym is)) in
+    let new : at ts p ≡ Some d = subst (λ (r : Port). at ts r ≡ Some d) same w.new in
+    let old : at cs p ≡ Some c = subst (λ (r : Port). at cs r ≡ Some c) same w.old in
+    rw (new, old) (moved_sends q c d deeds m)
+wrote_sends cs ts p q c d deeds false is w m = rw (w.others p (sym is)) (omega arith)
+
+does_sends : (cs ts : List Channel) (deeds : List Deed) (p : Port) → Does cs ts deeds → sends_of (at ts p) ≤ sends_of (at cs p) + 1
+does_sends cs ts deeds p (quiet q e) = omega (arith, quiet_sends cs ts p (at cs p) (at ts p) refl refl q)
+does_sends cs ts deeds p (wrote q c d w m) = wrote_sends cs ts p q c d deeds (q.0 == p.0) refl w m
+
+-- and an exit none
+
+stalls_channels : (c : Change) → (stalls c).state.channels ≡ c.state.channels
+stalls_channels c =
+    by-stall (λ (d : Change). d.state.channels ≡ c.state.channels) c refl refl
+
+step_sends : (s : State) (pid : Pid) (step : Step) (o : Option Fault) (p : Port) → sends_of (channel_at (answers s (record { pid = pid; step = step }) o).state p) ≤ sends_of (channel_at s p) + 1 →
+    sends_of (channel_at (answers s (record { pid = pid; step = step }) o).state p) ≤ sends_of (channel_at s p) + one_step (record { pid = pid; step = step })
+step_sends s pid (Make cap) o p most = most
+step_sends s pid (Call cases default word) o p most = most
+step_sends s pid (Close q) o p most = most
+step_sends s pid Exit None p most = rw stalls_channels (omega arith)
+step_sends s pid Exit (Some f) p most = omega arith
+
+-- Runs
+
+entry_sends : (s : State) (e : Entry) (o : Option Fault) (p : Port) → sends_of (channel_at (admits s e o).state p) ≤ sends_of (channel_at s p) + 1 →
+    sends_of (channel_at (admits s e o).state p) ≤ sends_of (channel_at s p) + steps_of (keeps o e [])
+entry_sends s e None p most = omega (arith, step_sends s e.pid e.step (fault_of s e.step) p most)
+entry_sends s e (Some f) p most = omega arith
+
+keeps_steps : (o : Option Fault) (e : Entry) (es : List Entry) → steps_of (keeps o e es) ≡ steps_of (keeps o e []) + steps_of es
+keeps_steps None e es = omega arith
+keeps_steps (Some f) e es = omega arith
+
+-- a run from a state
+sends_after : (s : State) (ts : List Turned) (es : List Entry) (p : Port) → IsSound s → Knows (in_force ts) s.parked → sends_of (channel_at (state_after s es) p) ≤ sends_of (channel_at s p) + steps_of (kept_after s es)
+sends_after s ts [] p sound knows = omega arith
+sends_after s ts (e ∷ es) p sound knows =
+    let t : Turned = record { entry = e; events = (moves s e).events } in
+    let laws = moves-turn s e ts sound knows in
+    let most = does_sends s.channels (moves s e).state.channels (told deed_of (in_force (ts ++ t ∷ [])) (moves s e).events) p laws.does in
+    omega (
+      arith,
+      entry_sends s e (refusal s e.pid) p most,
+      keeps_steps (refusal s e.pid) e (kept_after (moves s e).state es),
+      sends_after (moves s e).state (ts ++ t ∷ []) es p (moves-sound s e sound) laws.knows,
+    )
+
+no_sends : (b : Bool) (i : ℕ) → sends_of (cond b None (slice_get {X = Channel} [] i)) ≡ 0
+no_sends true i = refl
+no_sends false i = refl
+
+-- no count of a run passes the number of its admitted entries that are no exits
+pub counts-law : (n : ℕ) (es : List Entry) → CountsLaw n es
+counts-law n es p c e =
+    let most = sends_after (opening n) [] es p (sound-opening n) tt in
+    let here : sends_of (channel_at (state n es) p) ≡ length c.done = rw e refl in
+    let none : sends_of (channel_at (opening n) p) ≡ 0 = no_sends (p.0 == 0) (p.0 - 1) in
+    record { received = ((state-sound n es).ports p c e).taken; sent = omega (arith, most, here, none) }

@@ -1,0 +1,110 @@
+-- A journal holds at most one exit of each process.
+use Rattle.std.proofs.Common.{◌≡◌, ℕ, ◌+◌, ◌≤◌, ◌<◌, ◌==◌, Bool, true, false, cond, List, [], ◌∷◌, ◌++◌, append-nil, length, refl, ap, ◌∙◌, sym, subst, Option, Some, None, arith, inl, inr, ◌||◌, ◌&&◌}
+use Rattle.std.specs.List.{AllByRecursion}
+use Rattle.std.proofs.lemmas.List.{length-append}
+use Rattle.std.proofs.lemmas.Bool.{or_cases, and_parts, eqb-true}
+use Rattle.hub_base.specs.declared.entry.Entry.{Entry}
+use Rattle.hub_base.specs.declared.fault.Fault.{Fault}
+use Rattle.hub_base.specs.State.{State, opening}
+use Rattle.hub_base.specs.Steps.{has_gone, refusal, turn}
+use Rattle.hub_base.specs.Runs.{admits, moves, keeps, kept_after, state_after, state}
+use Rattle.hub_base.specs.Reading.{is_exit}
+use Rattle.hub_base.specs.Text.{one_step, steps_of}
+use Rattle.hub_laws.specs.Limits.{exits_of, LimitsLaw}
+use Rattle.hub_laws.proofs.Ready.{Admitted, admitted}
+use Rattle.hub_laws.proofs.Balance.{one}
+use Rattle.hub_laws.proofs.Distinct.{Different, different_snoc, count-different}
+use Rattle.hub_laws.proofs.Lasting.{leavers, turn-lasts, turn-leaves, procs-entry, procs-after}
+
+-- Once
+
+once_by : (b g : Bool) (e : Entry) (es : List Entry) → (b ≡ true → g ≡ false) → length es + one (g || b) ≤ 1 → length (cond b (e ∷ es) es) + one g ≤ 1
+once_by true true e es free most = absurd (let h : true ≡ false = free refl in cc)
+once_by true false e es free most = omega arith
+once_by false true e es free most = most
+once_by false false e es free most = most
+
+once_entry : (q : ℕ) (s : State) (e : Entry) (es : List Entry) (o : Option Fault) → o ≡ refusal s e.pid → length (exits_of q es) + one (has_gone (admits s e o).state q) ≤ 1 → length (exits_of q (keeps o e es)) + one (has_gone s q) ≤ 1
+once_entry q s e es None is most =
+    let after = turn-leaves q s e in
+    let rest : length (exits_of q es) + one (has_gone s q || (is_exit e.step && (e.pid.0 == q))) ≤ 1 = rw after at most in
+    once_by (is_exit e.step && (e.pid.0 == q)) (has_gone s q) e (exits_of q es)
+    (λ b. subst (λ (n : ℕ). has_gone s n ≡ false) (eqb-true e.pid.0 q (and_parts (is_exit e.step) (e.pid.0 == q) b).1) (admitted s e.pid (sym is)).here) rest
+once_entry q s e es (Some f) is most = most
+
+-- who has exited does not exit again, and nobody exits twice
+once_after : (q : ℕ) (s : State) (es : List Entry) → length (exits_of q (kept_after s es)) + one (has_gone s q) ≤ 1
+once_after q s [] = at (has_gone s q)
+  where
+    at : (b : Bool) → 0 + one b ≤ 1
+    at true = omega arith
+    at false = omega arith
+once_after q s (e ∷ es) = once_entry q s e (kept_after (moves s e).state es) (refusal s e.pid) refl (once_after q (moves s e).state es)
+
+-- Below
+
+below_entry : (n : ℕ) (s : State) (e : Entry) (es : List Entry) (o : Option Fault) → s.procs ≡ n → o ≡ refusal s e.pid → AllByRecursion (λ e. e.pid.0 < n) es → AllByRecursion (λ e. e.pid.0 < n) (keeps o e es)
+below_entry n s e es None procs is all = (omega (arith, (admitted s e.pid (sym is)).below), all)
+below_entry n s e es (Some f) procs is all = all
+
+below_after : (n : ℕ) (s : State) (es : List Entry) → s.procs ≡ n → AllByRecursion (λ e. e.pid.0 < n) (kept_after s es)
+below_after n s [] procs = tt
+below_after n s (e ∷ es) procs = below_entry n s e (kept_after (moves s e).state es) (refusal s e.pid) procs refl (below_after n (moves s e).state es (procs-entry s e (refusal s e.pid) ∙ procs))
+
+-- Length
+
+-- no process has exited twice, and none that there is not
+pub record GoneSound (s : State) : Type 0 where
+  pub apart : Different s.gone
+  pub below : (q : ℕ) → has_gone s q ≡ true → q < s.procs
+
+gone_turn : (s : State) (e : Entry) → GoneSound s → Admitted s e.pid → GoneSound (turn s e).state
+gone_turn s e sound adm = record {
+  apart = subst Different (sym (turn-lasts s e).gone) (by (is_exit e.step));
+  below = λ q h.
+      let b : q < s.procs = elim (or_cases (has_gone s q) (is_exit e.step && (e.pid.0 == q)) (sym (turn-leaves q s e) ∙ h)) [
+        | inl l ↦ sound.below q l
+        | inr r ↦ subst (λ (n : ℕ). n < s.procs) (eqb-true e.pid.0 q (and_parts (is_exit e.step) (e.pid.0 == q) r).1) adm.below
+      ] in
+      omega (arith, b, (turn-lasts s e).procs);
+}
+  where
+    by : (b : Bool) → Different (s.gone ++ cond b (e.pid ∷ []) [])
+    by true = different_snoc s.gone e.pid sound.apart adm.here
+    by false = rw append-nil sound.apart
+
+gone_entry : (s : State) (e : Entry) (o : Option Fault) → o ≡ refusal s e.pid → GoneSound s → GoneSound (admits s e o).state
+gone_entry s e None is sound = gone_turn s e sound (admitted s e.pid (sym is))
+gone_entry s e (Some f) is sound = sound
+
+gone_after : (s : State) (es : List Entry) → GoneSound s → GoneSound (state_after s es)
+gone_after s [] sound = sound
+gone_after s (e ∷ es) sound = gone_after (moves s e).state es (gone_entry s e (refusal s e.pid) refl sound)
+
+one_entry : (e : Entry) → one_step e + length (leavers e) ≡ 1
+one_entry e = by (is_exit e.step)
+  where
+    by : (b : Bool) → cond b 0 1 + length (cond b (e.pid ∷ []) []) ≡ 1
+    by true = omega arith
+    by false = omega arith
+
+length_entry : (s : State) (e : Entry) (es : List Entry) (total : ℕ) (o : Option Fault) → length es + length (admits s e o).state.gone ≡ steps_of es + total → length (keeps o e es) + length s.gone ≡ steps_of (keeps o e es) + total
+length_entry s e es total None rest = omega (arith, rest, one_entry e, ap length (turn-lasts s e).gone, length-append s.gone (leavers e))
+length_entry s e es total (Some f) rest = rest
+
+length_after : (s : State) (es : List Entry) → length (kept_after s es) + length s.gone ≡ steps_of (kept_after s es) + length (state_after s es).gone
+length_after s [] = omega arith
+length_after s (e ∷ es) = length_entry s e (kept_after (moves s e).state es) (length (state_after (moves s e).state es).gone) (refusal s e.pid) (length_after (moves s e).state es)
+
+-- no more processes have exited than there are
+pub gone-law : (n : ℕ) (es : List Entry) → length (state n es).gone ≤ n
+gone-law n es =
+    let sound = gone_after (opening n) es (record { apart = tt; below = λ q e. absurd (let g : ⊥ = cc in g) }) in
+    count-different n (state n es).gone sound.apart (λ q e. omega (arith, sound.below q e, procs-after (opening n) es))
+
+pub limits-law : (n : ℕ) (es : List Entry) → LimitsLaw n es
+limits-law n es = record {
+  once = λ q. omega (arith, once_after q (opening n) es);
+  below = below_after n (opening n) es refl;
+  length = omega (arith, length_after (opening n) es, gone-law n es);
+}

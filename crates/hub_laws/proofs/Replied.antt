@@ -1,0 +1,153 @@
+-- The events of an admitted entry are replies.
+use Rattle.std.proofs.Common.{◌≡◌, ℕ, ◌+◌, ◌≤◌, ◌==◌, nat_lt, Bool, true, false, cond, not, zero, suc, List, [], ◌∷◌, ◌++◌, length, filter, refl, ap, ◌∙◌, sym, subst, Some, None, arith, ◌&&◌, ◌||◌, append-nil}
+use Rattle.std.specs.Prelude.{slice_get}
+use Rattle.std.specs.List.{AllByRecursion}
+use Rattle.std.proofs.Math.Bool.{and-false, and-true}
+use Rattle.std.proofs.lemmas.Grind.{common_steps}
+use Rattle.std.proofs.lemmas.Bool.{or_parts, eqb-true}
+use Rattle.hub_base.specs.declared.value.Pid.{Pid}
+use Rattle.hub_base.specs.declared.entry.Entry.{Entry}
+use Rattle.hub_base.specs.declared.event.Event.{Event}
+use Rattle.hub_base.specs.State.{State, OpenCall}
+use Rattle.hub_base.specs.Steps.{refusal, is_waiting}
+use Rattle.hub_base.specs.Runs.{admits, moves, state}
+use Rattle.hub_laws.specs.Sound.{IsSound, is_among}
+use Rattle.hub_laws.specs.Once.{endings}
+use Rattle.hub_laws.specs.Answers.{ends_waiting, IsAnswered}
+use Rattle.hub_laws.specs.Replies.{is_parked, last_from, reply, told_to, is_told, IsReply, IsLeft, AreReplied, RepliedLaw}
+use Rattle.hub_laws.proofs.Calls.{same_number}
+use Rattle.hub_laws.proofs.Ready.{admitted}
+use Rattle.hub_laws.proofs.Rules.{state-sound}
+use Rattle.hub_laws.proofs.Events.{Counted, answered_counts, ends_clear}
+use Rattle.hub_laws.proofs.Balance.{one, open_calls, ends, open_none, open_most, Balance, turn-balance}
+use Rattle.hub_laws.proofs.Answered.{moves-answered}
+use Rattle.hub_laws.proofs.Replies.{told_none, reply-untold, own-others}
+use Rattle.hub_laws.proofs.Longer.{state-entry}
+use Rattle.hub_laws.proofs.Replies.{reply-entry}
+
+-- Counting
+
+among-count : (q : ℕ) (calls : List OpenCall) → is_among q calls ≡ nat_lt 0 (open_calls q calls)
+among-count q [] = refl
+among-count q (call ∷ calls) = by (call.pid.0 == q) (among-count q calls)
+  where
+    by : (b : Bool) → is_among q calls ≡ nat_lt 0 (open_calls q calls) → (b || is_among q calls) ≡ nat_lt 0 (one b + open_calls q calls)
+    by true e = grind (arith, common_steps)
+    by false e = let same : open_calls q calls ≡ 0 + open_calls q calls = omega arith in e ∙ ap (λ n. nat_lt 0 n) same
+
+moves-balance : (q : ℕ) (s : State) (e : Entry) → IsSound s → refusal s e.pid ≡ None → Balance q s e.pid (moves s e)
+moves-balance q s e sound is = subst (λ o. Balance q s e.pid (admits s e o)) (sym is) (turn-balance q s e sound)
+
+-- after an admitted entry a process was told at most one event that counts, and then it does not wait
+one_told : (q : ℕ) (s : State) (e : Entry) → IsSound s → refusal s e.pid ≡ None → ends q (moves s e).events + open_calls q (moves s e).state.parked ≤ 1
+one_told q s e sound is = by (e.pid.0 == q) refl
+  where
+    by : (b : Bool) → b ≡ (e.pid.0 == q) → ends q (moves s e).events + open_calls q (moves s e).state.parked ≤ 1
+    by true m =
+        let none : open_calls q s.parked ≡ 0 = open_none q s.parked (subst (λ (n : ℕ). is_among n s.parked ≡ false) (eqb-true e.pid.0 q (sym m)) (admitted s e.pid is).free) in
+        let bal : ends q (moves s e).events + open_calls q (moves s e).state.parked ≡ open_calls q s.parked + 1 = rw (sym m) at (moves-balance q s e sound is) in
+        omega (arith, bal, none)
+    by false m =
+        let bal : ends q (moves s e).events + open_calls q (moves s e).state.parked ≡ open_calls q s.parked + 0 = rw (sym m) at (moves-balance q s e sound is) in
+        omega (arith, bal, open_most q s.parked sound.apart)
+
+-- What a process is told is what counts
+
+told_endings : (q : ℕ) (events : List Event) → AllByRecursion Counted events → told_to q events ≡ endings q events
+told_endings q [] a = refl
+told_endings q (x ∷ xs) a = rw (told_endings q xs a.1, a.0, and_swap (x.pid.0 == q) (not (is_parked x.what))) refl
+  where
+    and_swap : (a b : Bool) → (a && b) ≡ (b && a)
+    and_swap true b = sym (and-true b)
+    and_swap false b = sym (and-false b)
+
+-- One event alone
+
+nothing_left : {A : Type 0} (xs : List A) → length xs ≤ 0 → xs ≡ []
+nothing_left [] h = refl
+nothing_left (x ∷ xs) h = absurd (omega arith)
+
+pub one_left : {A : Type 0} (test : A → Bool) (xs : List A) (i : ℕ) (x : A) → slice_get xs i ≡ Some x → test x ≡ true → length (filter test xs) ≤ 1 → filter test xs ≡ x ∷ []
+one_left test [] i x at passes most = cc
+one_left test (y ∷ ys) zero x at passes most =
+    let same : y ≡ x = cc in
+    let here : test y ≡ true = rw same passes in
+    let none : filter test ys ≡ [] = nothing_left (filter test ys) (let k : length (y ∷ filter test ys) ≤ 1 = rw here at most in omega arith) in
+    rw (here, none) (ap (λ z. z ∷ []) same)
+one_left test (y ∷ ys) (suc i) x at passes most = by (test y) (one_left test ys i x at passes) most
+  where
+    by : (b : Bool) → (length (filter test ys) ≤ 1 → filter test ys ≡ x ∷ []) → length (cond b (y ∷ filter test ys) (filter test ys)) ≤ 1 → cond b (y ∷ filter test ys) (filter test ys) ≡ x ∷ []
+    by true rest h = let k : filter test ys ≡ x ∷ [] = rest (omega arith) in absurd (let l : length (filter test ys) ≡ 1 = ap length k in omega arith)
+    by false rest h = rest h
+
+-- Replies
+
+-- who waits after one entry more
+after_entry : (q n : ℕ) (es : List Entry) (e : Entry) → is_waiting (state n (es ++ e ∷ [])) q ≡ is_among q (moves (state n es) e).state.parked
+after_entry q n es e = ap (λ (s : State). is_waiting s q) (state-entry n es e)
+
+-- a process that was told of its call does not wait
+free_from : (q : ℕ) (s : State) (e : Entry) → IsSound s → refusal s e.pid ≡ None → ends q (moves s e).events ≡ 1 → is_among q (moves s e).state.parked ≡ false
+free_from q s e sound is told =
+    let none : open_calls q (moves s e).state.parked ≡ 0 = omega (arith, told, one_told q s e sound is) in
+    among-count q (moves s e).state.parked ∙ ap (λ n. nat_lt 0 n) none
+
+event_replies : (n : ℕ) (es : List Entry) (e : Entry) → refusal (state n es) e.pid ≡ None → AllByRecursion Counted (moves (state n es) e).events →
+    (i : ℕ) (x : Event) → slice_get (moves (state n es) e).events i ≡ Some x → is_parked x.what ≡ false → IsReply n (es ++ e ∷ []) x
+event_replies n es e is counted i x at clear =
+    let q : ℕ = x.pid.0 in
+    let s : State = state n es in
+    let same : told_to q (moves s e).events ≡ endings q (moves s e).events = told_endings q (moves s e).events counted in
+    let most : length (told_to q (moves s e).events) ≤ 1 = omega (arith, ap length same, one_told q s e (state-sound n es) is) in
+    let here : ((x.pid.0 == q) && not (is_parked x.what)) ≡ true = rw (same_number x.pid.0, clear) refl in
+    let one : told_to q (moves s e).events ≡ x ∷ [] = one_left (λ y. (y.pid.0 == q) && not (is_parked y.what)) (moves s e).events i x at here most in
+    record {
+      reply = reply-entry q n es e ∙ ap (λ xs. last_from (reply q n es) xs) one;
+      free = after_entry q n es e ∙ free_from q s e (state-sound n es) is (ap length (sym same ∙ one));
+    }
+
+-- a process that was told nothing
+untold_left : (n : ℕ) (es : List Entry) (e : Entry) (q : ℕ) → refusal (state n es) e.pid ≡ None → AllByRecursion Counted (moves (state n es) e).events → (e.pid.0 == q) ≡ false → is_told q (moves (state n es) e).events ≡ false → IsLeft n es e q
+untold_left n es e q is counted other untold =
+    let s : State = state n es in
+    let none : endings q (moves s e).events ≡ [] = sym (told_endings q (moves s e).events counted) ∙ told_none q (moves s e).events untold in
+    let bal : ends q (moves s e).events + open_calls q (moves s e).state.parked ≡ open_calls q s.parked + 0 = rw other at (moves-balance q s e (state-sound n es) is) in
+    let count : open_calls q (moves s e).state.parked ≡ open_calls q s.parked = omega (arith, bal, ap length none) in
+    record {
+      own = own-others q es (e ∷ []) (rw other refl);
+      reply = reply-untold q n es (e ∷ []) (rw append-nil untold);
+      waits = after_entry q n es e ∙ among-count q (moves s e).state.parked ∙ ap (λ n. nat_lt 0 n) count ∙ sym (among-count q s.parked);
+    }
+
+-- a caller that was told `Parked` alone
+parked_waits : (n : ℕ) (es : List Entry) (e : Entry) → refusal (state n es) e.pid ≡ None → AllByRecursion Counted (moves (state n es) e).events → told_to e.pid.0 (moves (state n es) e).events ≡ [] → is_waiting (state n (es ++ e ∷ [])) e.pid.0 ≡ true
+parked_waits n es e is counted none =
+    let s : State = state n es in
+    let bal : ends e.pid.0 (moves s e).events + open_calls e.pid.0 (moves s e).state.parked ≡ open_calls e.pid.0 s.parked + 1 = rw (same_number e.pid.0) at (moves-balance e.pid.0 s e (state-sound n es) is) in
+    let free : open_calls e.pid.0 s.parked ≡ 0 = open_none e.pid.0 s.parked (admitted s e.pid is).free in
+    let zero_ends : endings e.pid.0 (moves s e).events ≡ [] = sym (told_endings e.pid.0 (moves s e).events counted) ∙ none in
+    let one : open_calls e.pid.0 (moves s e).state.parked ≡ 1 = omega (arith, bal, free, ap length zero_ends) in
+    after_entry e.pid.0 n es e ∙ among-count e.pid.0 (moves s e).state.parked ∙ ap (λ n. nat_lt 0 n) one
+
+replied_by : (n : ℕ) (es : List Entry) (e : Entry) (events : List Event) → events ≡ (moves (state n es) e).events → IsAnswered e.pid e.step events →
+    ((i : ℕ) (x : Event) → slice_get events i ≡ Some x → is_parked x.what ≡ false → IsReply n (es ++ e ∷ []) x) →
+    (told_to e.pid.0 events ≡ [] → is_waiting (state n (es ++ e ∷ [])) e.pid.0 ≡ true) →
+    ((q : ℕ) → (e.pid.0 == q) ≡ false → is_told q events ≡ false → IsLeft n es e q) → AreReplied n es e events
+replied_by n es e [] is a each waits left = a
+replied_by n es e (x ∷ xs) is a each waits left = record {
+  caller = a.own;
+  answered = each 0 x refl;
+  parked = λ parked untold. waits (rw (parked, and-false (x.pid.0 == e.pid.0)) (told_none e.pid.0 xs untold));
+  ends = ended_replies xs a.ends (λ i y e. each (suc i) y e);
+  others = λ q untold. left q (ap (λ (p : Pid). p.0 == q) (sym a.own) ∙ (or_parts (x.pid.0 == q) (is_told q xs) untold).0) untold;
+}
+  where
+    ended_replies : (xs : List Event) → AllByRecursion (λ x. ends_waiting x.what ≡ true) xs → ((i : ℕ) (x : Event) → slice_get xs i ≡ Some x → is_parked x.what ≡ false → IsReply n (es ++ e ∷ []) x) → AllByRecursion (IsReply n (es ++ e ∷ [])) xs
+    ended_replies [] ends each = tt
+    ended_replies (x ∷ xs) ends each = (each 0 x refl (ends_clear x.what ends.0), ended_replies xs ends.1 (λ i y e. each (suc i) y e))
+
+pub replied-law : (n : ℕ) (es : List Entry) (e : Entry) → RepliedLaw n es e
+replied-law n es e is =
+    let answered = moves-answered (state n es) e is in
+    let counted = answered_counts e (moves (state n es) e).events answered in
+    replied_by n es e (moves (state n es) e).events refl answered (event_replies n es e is counted) (parked_waits n es e is counted) (λ q. untold_left n es e q is counted)

@@ -1,0 +1,19 @@
+-- How many values a run can send and receive on a port: no more than the entries of its journal that
+-- are no exits. So where a journal has at most 1,000,000 of these, no count passes 1,000,000.
+use Rattle.std.specs.Prelude.{◌≡◌, ◌≤◌, ℕ, List, length, Some}
+use Rattle.hub_base.specs.declared.value.Port.{Port}
+use Rattle.hub_base.specs.declared.entry.Entry.{Entry}
+use Rattle.hub_base.specs.State.{Channel, channel_at}
+use Rattle.hub_base.specs.Runs.{state, kept}
+use Rattle.hub_base.specs.Text.{steps_of}
+
+-- a channel that received no more than it sent, and that sent at most so many
+pub record CountsWithin (c : Channel) (most : ℕ) : Type 0 where
+  pub received : c.taken ≤ length c.done
+  pub sent : length c.done ≤ most
+
+-- each channel of a run, against the run's admitted entries that are no exits
+abbrev pub CountsLaw : ℕ → List Entry → Type 0
+CountsLaw n es =
+    (p : Port) (c : Channel) → channel_at (state n es) p ≡ Some c →
+    CountsWithin c (steps_of (kept n es))

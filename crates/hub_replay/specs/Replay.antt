@@ -1,0 +1,65 @@
+-- What a replay does to the bytes of its source and of its sink, where those tell them.
+-- What a journal's text is and what a hub does are hub_base's; nothing here says how either is computed.
+use Rattle.std.specs.Prelude.{◌≡◌, ℕ, ◌≤◌, List, length, Option}
+use Rattle.std.specs.List.{flat_map}
+use Rattle.std.specs.Io.KnownBytes.{Consumes, Appends, IsAtEnd}
+use Rattle.hub_base.specs.declared.entry.Entry.{Entry}
+use Rattle.hub_base.specs.declared.text.faults.TextFault.{TextFault}
+use Rattle.hub_base.specs.EventText.{event_line}
+use Rattle.hub_base.specs.Runs.{events}
+use Rattle.hub_base.specs.Text.{IsText, IsFaulty}
+use Rattle.hub_replay.specs.declared.fault.SourceFault.{SourceFault}
+use Rattle.hub_replay.specs.declared.fault.SourceFault.TheVariants as source
+use Rattle.hub_replay.specs.declared.fault.ReplayFault.{ReplayFault}
+use Rattle.hub_replay.specs.declared.fault.ReplayFault.TheVariants as replay
+use Rattle.hub_replay.specs.Devices.{AppendsBeginning}
+
+-- the lines of the events that follow these entries, for so many processes
+abbrev pub event_lines : ℕ → List Entry → List ℕ
+event_lines procs entries = flat_map event_line (events procs entries)
+
+-- the first bytes are a journal's text, and the others its event text
+pub record IsEventText (journal text : List ℕ) : Type 0 where
+  pub procs : ℕ
+  pub entries : List Entry
+  pub spelled : IsText journal procs entries
+  pub lines : text ≡ event_lines procs entries
+
+-- these bytes were read: all that there are, or more than a journal may have
+pub record ReadsWhole (old new : Option (List ℕ)) (bytes : List ℕ) : Type 0 where
+  pub consumed : Consumes old new bytes
+  pub end : length bytes ≤ 67108864 → IsAtEnd new
+
+-- a journal was read, and its event text was written and nothing else
+pub record Replays (unread left held holds : Option (List ℕ)) : Type 0 where
+  pub journal : List ℕ
+  pub text : List ℕ
+  pub read : ReadsWhole unread left journal
+  pub is : IsEventText journal text
+  pub written : Appends held holds text
+
+-- a journal was read, and a beginning of its event text was written and nothing else
+pub record BeginsReplay (unread left held holds : Option (List ℕ)) : Type 0 where
+  pub journal : List ℕ
+  pub text : List ℕ
+  pub read : ReadsWhole unread left journal
+  pub is : IsEventText journal text
+  pub written : AppendsBeginning held holds text
+
+-- what was read has this as its first fault
+pub record ReadsFaulty (unread left : Option (List ℕ)) (fault : TextFault) : Type 0 where
+  pub bytes : List ℕ
+  pub read : ReadsWhole unread left bytes
+  pub faulty : IsFaulty bytes fault.line fault.kind
+
+-- why these bytes have no event text: their first fault, or memory
+abbrev pub HasNone : List ℕ → ReplayFault → Type 0
+HasNone bytes (replay.Text fault) = IsFaulty bytes fault.line fault.kind
+HasNone bytes replay.Read = ⊥
+HasNone bytes replay.Write = ⊥
+HasNone bytes replay.NoMemory = Unit {0}
+
+-- what a source that gave no bytes is to a replay
+abbrev pub replay_fault : SourceFault → ReplayFault
+replay_fault source.Read = replay.Read
+replay_fault source.NoMemory = replay.NoMemory

@@ -1,0 +1,17 @@
+//! Replays a journal: from bytes that are read to the events of its steps, which are written.
+//!
+//! Bytes come and go through devices, which may fail at any call. What a device does to its bytes is said
+//! in `specs/Devices`, what a whole replay does to both ends in `specs/Replay`.
+#![tactic(auto)]
+
+mod device;
+mod fault;
+mod pieces;
+mod replayer;
+#[cfg(test)]
+mod tests;
+
+pub use device::{Counted, Sink, Source};
+pub use fault::{ReplayFault, SourceFault, WriteFailed};
+pub use pieces::{CHUNK, read_up_to, write_whole};
+pub use replayer::replay;

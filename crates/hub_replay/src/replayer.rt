@@ -1,0 +1,91 @@
+//! From a journal that is read to its events, which are written.
+//!
+//! The whole event text is made before a byte of it is written, so a malformed journal writes nothing. The
+//! entries are stepped as they are read, and none is kept.
+
+ghost use Rattle.std.specs.Prelude.{◌≡◌, ℕ, ◌-◌, ◌^◌, ◌<◌, ◌++◌, List, length, IfOk, IfErr, OnOk, IsErrOf};
+ghost use Rattle.std.specs.List.{flat_map};
+ghost use Rattle.hub_base.specs.declared.text.faults.TextFault.{TextFault};
+ghost use Rattle.hub_base.specs.EventText.{event_line};
+ghost use Rattle.hub_replay.specs.Devices.{Failed};
+ghost use Rattle.hub_replay.specs.Replay.{IsEventText, HasNone, Replays, BeginsReplay, ReadsFaulty};
+
+use crate::pieces::{read_up_to, write_whole};
+use crate::{ReplayFault, Sink, Source};
+use hub_base::{
+    Entry, Event, Events, NoMemory, Pid, Reader, Step, one_reading, write_event,
+};
+use hub_core::Machine;
+use std::alloc::Global;
+
+/// The most bytes of a journal.
+const MOST_BYTES: usize = 67_108_864;
+
+fn write_events(text: &mut Vec<u8>, events: &[Event]) -> Result<(), NoMemory>
+    ensures { OnOk result (text.new.items ≡ text.old.items ++ flat_map event_line events.now) }
+{
+    for event in events {
+        write_event(text, event)?;
+    }
+    Ok(())
+}
+
+/// The event text of the journal that these bytes are the text of.
+fn event_text(alloc: Global, bytes: &[u8]) -> Result<Vec<u8>, ReplayFault>
+    requires { length bytes.now < 2 ^ 32 - 1 }
+    ensures ok { IfOk result (λ text. IsEventText bytes.now text.items) }
+    ensures err { IfErr result (HasNone bytes.now) }
+{
+    // Its clauses say of which journal the reader's answers speak.
+    one_reading();
+    let mut reader = Reader::open(bytes)?;
+    let mut machine = Machine::open(alloc, reader.procs())?;
+    let mut events = Events::new();
+    let mut text = Vec::new(alloc);
+    // One entry is read into again and again, since it is large.
+    let mut entry = Entry {
+        pid: Pid(0),
+        step: Step::Exit,
+    };
+    while reader.read_into(&mut entry)? {
+        machine.answer(&entry, &mut events)?;
+        write_events(&mut text, &events)?;
+    }
+    Ok(text)
+}
+
+/// Reads a journal to its end, or until more than 67,108,864 bytes have come, makes the event text of its
+/// run, and writes that text. Nothing is tried again.
+pub fn replay<S: Source, W: Sink>(
+    alloc: Global,
+    source: &mut S,
+    sink: &mut W,
+) -> Result<(), ReplayFault>
+    ensures ok { OnOk result (Replays (S.remaining source.old) (S.remaining source.new)
+        (W.contents sink.old) (W.contents sink.new)) }
+
+    // Nothing is written where the journal is malformed, a read fails or memory is refused.
+    ensures text { (fault : TextFault) → IsErrOf result (ReplayFault.Text fault)
+        → ReadsFaulty (S.remaining source.old) (S.remaining source.new) fault
+        × (sink.new ≡ sink.old) }
+    ensures read { IsErrOf result ReplayFault.Read
+        → Failed (S.failures source.old) (S.failures source.new) × (sink.new ≡ sink.old) }
+    ensures memory { IsErrOf result ReplayFault.NoMemory → sink.new ≡ sink.old }
+
+    // A beginning of the event text is written where a write fails.
+    ensures write { IsErrOf result ReplayFault.Write
+        → Failed (W.failures sink.old) (W.failures sink.new)
+        × BeginsReplay (S.remaining source.old) (S.remaining source.new)
+        (W.contents sink.old) (W.contents sink.new) }
+
+    // No other call of either device failed.
+    ensures reads_once { ¬ IsErrOf result ReplayFault.Read
+        → S.failures source.new ≡ S.failures source.old }
+    ensures writes_once { ¬ IsErrOf result ReplayFault.Write
+        → W.failures sink.new ≡ W.failures sink.old }
+{
+    let bytes = read_up_to(alloc, source, MOST_BYTES)?;
+    let text = event_text(alloc, &bytes)?;
+    write_whole(sink, &text)?;
+    Ok(())
+}

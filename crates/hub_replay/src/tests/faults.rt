@@ -1,0 +1,43 @@
+//! The texts of faults.
+
+use crate::{ReplayFault, SourceFault, WriteFailed};
+use hub_base::{Kind, TextFault};
+use std::test::Fail;
+
+#[test]
+fn faults_have_texts(rt: HostRuntime) -> Result<(), Fail> {
+    let at = |line, kind| ReplayFault::Text(TextFault { line, kind });
+    for (fault, text) in [
+        (at(1, Kind::BadHeader), "line 1: bad header"),
+        (at(2, Kind::BadProcs), "line 2: bad procs"),
+        (at(3, Kind::BadStep), "line 3: bad step"),
+        (at(4, Kind::BadNumber), "line 4: bad number"),
+        (at(5, Kind::CutLine), "line 5: cut line"),
+        (at(4294967295, Kind::TooLong), "line 4294967295: too long"),
+        (ReplayFault::Read, "read failed"),
+        (ReplayFault::Write, "write failed"),
+        (ReplayFault::NoMemory, "out of memory"),
+    ] {
+        assert_eq!(rt; format!(in rt.alloc(); "{fault}")?.as_str(), text);
+    }
+    let source = SourceFault::Read;
+    assert_eq!(rt; format!(in rt.alloc(); "{source}")?.as_str(), "read failed");
+    let memory = SourceFault::NoMemory;
+    assert_eq!(rt;
+        format!(in rt.alloc(); "{memory}")?.as_str(),
+        "out of memory"
+    );
+    let sink = WriteFailed;
+    assert_eq!(rt; format!(in rt.alloc(); "{sink}")?.as_str(), "write failed");
+    Ok(())
+}
+
+#[test]
+fn faults_of_devices_are_faults_of_replays(rt: HostRuntime) {
+    assert_eq!(rt; ReplayFault::from(SourceFault::Read), ReplayFault::Read);
+    assert_eq!(rt;
+        ReplayFault::from(SourceFault::NoMemory),
+        ReplayFault::NoMemory
+    );
+    assert_eq!(rt; ReplayFault::from(WriteFailed), ReplayFault::Write);
+}

@@ -1,5 +1,5 @@
 -- What every board keeps, through each call.
-use Rattle.std.proofs.Common.{◌≡◌, ◌≢◌, ℕ, ◌+◌, ◌-◌, ◌*◌, ◌<◌, ◌≤◌, ◌==◌, Bool, true, false, not, cond, List, [], ◌∷◌, ◌++◌, length, filter, find, set, refl, ap, ◌∙◌, sym, arith, Option, Some, None, subst, suc, inl, inr, length-append}
+use Rattle.std.proofs.Common.{◌≡◌, ◌≢◌, ℕ, ◌+◌, ◌-◌, ◌*◌, ◌<◌, ◌≤◌, ◌==◌, Bool, true, false, not, cond, List, [], ◌∷◌, ◌++◌, length, filter, set, refl, ap, ◌∙◌, sym, arith, Option, Some, None, subst, suc, inl, inr, length-append}
 use Rattle.std.specs.List.{AllByRecursion}
 use Rattle.std.proofs.lemmas.Bool.{ne_eqb, cases_eq, cases_lt}
 use Rattle.std.proofs.lemmas.List.{length-set, get_or-set_same, get_or-set_other, get_or_append_left, get_or_push}
@@ -14,9 +14,9 @@ use Rattle.hub_parts.specs.declared.side.Side.{Side}
 use Rattle.hub_parts.specs.declared.side.Side.TheVariants as side
 use Rattle.hub_parts.specs.declared.wait_queue.Waiter.{Waiter}
 use Rattle.hub_parts.specs.Records.{Ticketed, Calls, ChannelLists}
-use Rattle.hub_parts.specs.Queues.{lives, roomy, joined, taken, waiters, waiters_from, waiter_at}
-use Rattle.hub_parts.specs.Lists.{with_call, ticketed, new_port, passes}
-use Rattle.hub_parts.specs.Channels.{queue_of, channel_of, line_of, with_queue, no_channel}
+use Rattle.hub_parts.specs.Queues.{roomy, joined, taken, waiters, waiters_from, waiter_at}
+use Rattle.hub_parts.specs.Lists.{with_call, ticketed, passes}
+use Rattle.hub_parts.specs.Channels.{queue_of, channel_of, line_of, first_on, without_first, new_channel, with_queue, no_channel}
 use Rattle.hub_parts.specs.Parking.{all_roomy, all_joined, CanJoin}
 use Rattle.hub_parts.specs.Keeps.{QueueKeeps, CallsKeep, BoardKeeps, joins, AllMade, Ascending, without_call}
 use Rattle.hub_parts.proofs.Lines.{queue_with_cases, length-with_cases}
@@ -131,33 +131,30 @@ no_waiters : (s : Side) (p : Port) (n : ℕ) (ws : List Ticketed) → AllByRecur
 no_waiters s p n [] a more = refl
 no_waiters s p n (w ∷ ws) a more = rw (no_waiters_from s p n w.call.pid w.ticket 0 w.call.cases a.0 more) (no_waiters s p n ws a.1 more)
 
-abbrev pub fresh : ℕ → ℕ → ChannelLists
-fresh cap procs = record { lists = new_port cap; senders = buffer [] (PLACES * procs); receivers = buffer [] (PLACES * procs) }
-
-fresh_queue : (s : Side) (cap procs : ℕ) → queue_of s (fresh cap procs) ≡ buffer [] (PLACES * procs)
+fresh_queue : (s : Side) (cap procs : ℕ) → queue_of s (new_channel cap procs) ≡ buffer [] (PLACES * procs)
 fresh_queue side.Send cap procs = refl
 fresh_queue side.Recv cap procs = refl
 fresh_queue side.Any cap procs = refl
 
 -- a board with one more port
-pub board_made : (cap : ℕ) (c : Calls) (cs : List ChannelLists) → BoardKeeps c cs → length cs < MOST_PORTS → BoardKeeps c (cs ++ fresh cap c.procs ∷ [])
+pub board_made : (cap : ℕ) (c : Calls) (cs : List ChannelLists) → BoardKeeps c cs → length cs < MOST_PORTS → BoardKeeps c (cs ++ new_channel cap c.procs ∷ [])
 board_made cap c cs k fewer =
-    let long = length-append cs (fresh cap c.procs ∷ []) in
+    let long = length-append cs (new_channel cap c.procs ∷ []) in
     record {
       calls = record {
         counted = omega (arith, long);
         few = k.calls.few;
         small = k.calls.small;
-        made = all_more_made (length cs) (length (cs ++ fresh cap c.procs ∷ [])) c.waiting (omega (arith, long)) k.calls.made;
+        made = all_more_made (length cs) (length (cs ++ new_channel cap c.procs ∷ [])) c.waiting (omega (arith, long)) k.calls.made;
         ascending = k.calls.ascending;
         below = k.calls.below;
       };
       queues = λ t p above inside.
           elim (cases_lt (p.0 - 1) (length cs)) [
-            | inl less ↦ rw (get_or_append_left cs (fresh cap c.procs ∷ []) no_channel (p.0 - 1) less) (k.queues t p above (omega arith))
+            | inl less ↦ rw (get_or_append_left cs (new_channel cap c.procs ∷ []) no_channel (p.0 - 1) less) (k.queues t p above (omega arith))
             | inr more ↦
                 (let at : length cs ≡ p.0 - 1 = omega (arith, long) in
-                rw (get_or_push cs (fresh cap c.procs) no_channel (p.0 - 1) at, fresh_queue t cap c.procs)
+                rw (get_or_push cs (new_channel cap c.procs) no_channel (p.0 - 1) at, fresh_queue t cap c.procs)
                 (record {
                   live = sym (no_waiters t p (length cs) c.waiting k.calls.made (omega arith));
                   below = tt;
@@ -168,13 +165,13 @@ board_made cap c cs k fewer =
     }
 
 -- what a taking tells and leaves
-pub taken_tells : (s : Side) (p : Port) (c : Calls) (cs : List ChannelLists) (o : Option Waiter) → 0 < p.0 → p.0 ≤ length cs → BoardKeeps c cs → o ≡ find (lives c.waiting) (queue_of (line_of s c.waiting (channel_of cs p)) (channel_of cs p)).items → Tells (passes p s) c.waiting o
+pub taken_tells : (s : Side) (p : Port) (c : Calls) (cs : List ChannelLists) (o : Option Waiter) → 0 < p.0 → p.0 ≤ length cs → BoardKeeps c cs → o ≡ first_on s c.waiting (channel_of cs p) → Tells (passes p s) c.waiting o
 taken_tells s p c cs o positive within k e =
     rw (e ∙ line_finds s p c (channel_of cs p) k.calls.ascending (k.queues side.Send p positive within) (k.queues side.Recv p positive within)) (tells (passes p s) c.waiting k.calls.ascending)
 
 pub board_taken : (s : Side) (p : Port) (c : Calls) (cs : List ChannelLists) (entry : Waiter) → 0 < p.0 → p.0 ≤ length cs → BoardKeeps c cs
-    → Some entry ≡ find (lives c.waiting) (queue_of (line_of s c.waiting (channel_of cs p)) (channel_of cs p)).items
-    → BoardKeeps (without_call entry.pid c) (set cs (p.0 - 1) (with_queue (taken c.waiting) (line_of s c.waiting (channel_of cs p)) (channel_of cs p)))
+    → Some entry ≡ first_on s c.waiting (channel_of cs p)
+    → BoardKeeps (without_call entry.pid c) (set cs (p.0 - 1) (without_first s c.waiting (channel_of cs p)))
 board_taken s p c cs entry positive within k e =
     let line = line_of s c.waiting (channel_of cs p) in
     let found : Found (passes p s) c.waiting entry = taken_tells s p c cs (Some entry) positive within k e in
@@ -182,8 +179,8 @@ board_taken s p c cs entry positive within k e =
     (taken_keeps (joins line p) c (queue_of line (channel_of cs p)) entry.pid entry k.calls.ascending (sym e) found.dies (k.queues line p positive within))
 
 pub board_untaken : (s : Side) (p : Port) (c : Calls) (cs : List ChannelLists) → 0 < p.0 → p.0 ≤ length cs → BoardKeeps c cs
-    → None ≡ find (lives c.waiting) (queue_of (line_of s c.waiting (channel_of cs p)) (channel_of cs p)).items
-    → BoardKeeps c (set cs (p.0 - 1) (with_queue (taken c.waiting) (line_of s c.waiting (channel_of cs p)) (channel_of cs p)))
+    → None ≡ first_on s c.waiting (channel_of cs p)
+    → BoardKeeps c (set cs (p.0 - 1) (without_first s c.waiting (channel_of cs p)))
 board_untaken s p c cs positive within k e =
     let line = line_of s c.waiting (channel_of cs p) in
     board_changed (taken c.waiting) line p c cs positive within k

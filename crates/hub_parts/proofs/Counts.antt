@@ -20,7 +20,7 @@ use Rattle.hub_parts.specs.declared.side.Side.TheVariants as side
 use Rattle.hub_parts.specs.Records.{Ticketed}
 use Rattle.hub_parts.specs.Lists.{open_calls, passes}
 use Rattle.hub_parts.specs.CaseCounts.{changed, with_changed, all_changed, CaseAllows, AllAllow, one_more, one_less, with_raised, with_lowered, CanRaise, CanLower, CanGrow, has_case, passing, all_passing, CountsCases, IsCountOf}
-use Rattle.hub_parts.specs.Tickets.{AreApart, pids, calls_of, cases_of}
+use Rattle.hub_parts.specs.Tickets.{most_held, AreApart, pids, calls_of, cases_of}
 
 abbrev iterate : (ℕ → ℕ) → ℕ → ℕ → ℕ
 iterate f zero x = x
@@ -122,10 +122,10 @@ passing-le : (test : Case → Bool) (cases : List Case) → passing test cases �
 passing-le test [] = omega arith
 passing-le test (c ∷ cases) = elim (test c) as (λ b. cond b (suc (passing test cases)) (passing test cases) ≤ suc (length cases)) [ true ↦ omega (arith, passing-le test cases) | false ↦ omega (arith, passing-le test cases) ]
 
-all_passing-le : (test : Case → Bool) (ws : List Ticketed) → AllByRecursion (λ w. length w.call.cases ≤ 16) ws → all_passing test ws ≤ 16 * length ws
+all_passing-le : (test : Case → Bool) (ws : List Ticketed) → AllByRecursion (λ w. length w.call.cases ≤ most_held) ws → all_passing test ws ≤ most_held * length ws
 all_passing-le test [] a = omega arith
 all_passing-le test (w ∷ ws) a =
-    let here : length w.call.cases ≤ 16 = a.0 in
+    let here : length w.call.cases ≤ most_held = a.0 in
     omega (arith, passing-le test w.call.cases, all_passing-le test ws a.1)
 
 abbrev Fitting : ℕ → ℕ → Type 0
@@ -134,8 +134,8 @@ Fitting n x = x + n < 65536
 abbrev Covering : ℕ → ℕ → Type 0
 Covering n x = n ≤ x
 
--- 255 calls of 16 cases fit
-pub can_raise : (t : CaseCounts) (ws : List Ticketed) (cases : List Case) → IsCountOf t ws → AllByRecursion (λ w. length w.call.cases ≤ 16) ws → length ws < 256 → length cases ≤ 16 → CanRaise t cases
+-- the calls of 255 processes fit
+pub can_raise : (t : CaseCounts) (ws : List Ticketed) (cases : List Case) → IsCountOf t ws → AllByRecursion (λ w. length w.call.cases ≤ most_held) ws → length ws < 256 → length cases ≤ most_held → CanRaise t cases
 can_raise t ws cases k few most small =
     all_allow one_more CanGrow Fitting (λ n x r. omega arith) (λ n x r. omega arith) t cases (record {
       sends = λ p within. rw (k.sends p (omega (arith, k.sends_length))) (omega (arith, all_passing-le (is_send_on p) ws few, passing-le (is_send_on p) cases));

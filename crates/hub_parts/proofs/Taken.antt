@@ -1,5 +1,5 @@
 -- What the calls of a board leave, as the code has it: a channel is read, changed and written back.
-use Rattle.std.proofs.Common.{◌≡◌, ℕ, ◌-◌, ◌<◌, ◌≤◌, List, length, map, find, get_or, set, refl, ap, ◌∙◌, sym, arith, Option, Some, None, subst, true}
+use Rattle.std.proofs.Common.{◌≡◌, ℕ, ◌-◌, ◌<◌, ◌≤◌, List, length, map, get_or, set, refl, ap, ◌∙◌, sym, arith, Option, Some, None, subst, true}
 use Rattle.std.specs.Option.{is_some}
 use Rattle.std.proofs.lemmas.List.{length-map, map-set, set-get_or, get_or_default}
 use Rattle.circular_buffer.specs.Buffer.{Buffer}
@@ -10,9 +10,9 @@ use Rattle.hub_base.specs.Ready.{first_with}
 use Rattle.hub_parts.specs.declared.side.Side.{Side}
 use Rattle.hub_parts.specs.declared.wait_queue.Waiter.{Waiter}
 use Rattle.hub_parts.specs.Records.{Calls, ChannelLists, PortLists}
-use Rattle.hub_parts.specs.Queues.{lives, roomy, joined, taken, waiter_at, case_at}
+use Rattle.hub_parts.specs.Queues.{roomy, joined, taken, waiter_at, case_at}
 use Rattle.hub_parts.specs.Lists.{IsMade, with_call, with_port, port_at, parked, ended_by, passes, open_calls}
-use Rattle.hub_parts.specs.Channels.{queue_of, channel_of, line_of, with_queue, no_channel}
+use Rattle.hub_parts.specs.Channels.{channel_of, line_of, first_on, without_first, with_queue, no_channel}
 use Rattle.hub_parts.specs.Parking.{all_roomy, all_joined}
 use Rattle.hub_parts.specs.Keeps.{BoardKeeps, AllMade, without_call, board_lists as lists}
 use Rattle.hub_parts.proofs.Lines.{lists_of, get_or-map, lists-with_queue, lists-with_cases}
@@ -50,19 +50,12 @@ kept_changed change p c cs old ch made at e k =
     (ap (λ (d : ChannelLists). d.receivers) e ∙ ap (λ (d : ChannelLists). d.receivers) (read c cs p old made at))
     k
 
--- what a taking found
-abbrev pub finds : Side → Calls → ChannelLists → Option Waiter
-finds s c ch = find (lives c.waiting) (queue_of (line_of s c.waiting ch) ch).items
-
-abbrev pub without_first : Side → Calls → ChannelLists → ChannelLists
-without_first s c ch = with_queue (taken c.waiting) (line_of s c.waiting ch) ch
-
-pub kept_taken : (s : Side) (p : Port) (c d : Calls) (cs : List ChannelLists) (old ch : ChannelLists) (entry : Waiter) → IsMade (lists c cs) p → old ≡ get_or cs (p.0 - 1) old → Some entry ≡ finds s c old → ch ≡ without_first s c old → d ≡ without_call entry.pid c → BoardKeeps c cs → BoardKeeps d (set cs (p.0 - 1) ch)
+pub kept_taken : (s : Side) (p : Port) (c d : Calls) (cs : List ChannelLists) (old ch : ChannelLists) (entry : Waiter) → IsMade (lists c cs) p → old ≡ get_or cs (p.0 - 1) old → Some entry ≡ first_on s c.waiting old → ch ≡ without_first s c.waiting old → d ≡ without_call entry.pid c → BoardKeeps c cs → BoardKeeps d (set cs (p.0 - 1) ch)
 kept_taken s p c d cs old ch entry made at found left ended k =
     let r = read c cs p old made at in
     rw (ended, left, r) (board_taken s p c cs entry made.0 (within c cs p made) k (rw r at found))
 
-pub kept_untaken : (s : Side) (p : Port) (c : Calls) (cs : List ChannelLists) (old ch : ChannelLists) → IsMade (lists c cs) p → old ≡ get_or cs (p.0 - 1) old → None ≡ finds s c old → ch ≡ without_first s c old → BoardKeeps c cs → BoardKeeps c (set cs (p.0 - 1) ch)
+pub kept_untaken : (s : Side) (p : Port) (c : Calls) (cs : List ChannelLists) (old ch : ChannelLists) → IsMade (lists c cs) p → old ≡ get_or cs (p.0 - 1) old → None ≡ first_on s c.waiting old → ch ≡ without_first s c.waiting old → BoardKeeps c cs → BoardKeeps c (set cs (p.0 - 1) ch)
 kept_untaken s p c cs old ch made at found left k =
     let r = read c cs p old made at in
     rw (left, r) (board_untaken s p c cs made.0 (within c cs p made) k (rw r at found))
@@ -73,15 +66,15 @@ same_lists f s p c cs old ch made at left =
     ∙ ap (set (map lists_of cs) (p.0 - 1)) (ap lists_of left ∙ lists-with_queue f s old ∙ ap lists_of (read c cs p old made at) ∙ sym (get_or-map lists_of cs (p.0 - 1) no_channel))
     ∙ set-get_or (map lists_of cs) (p.0 - 1) (lists_of no_channel)
 
-pub lists_taken : (s : Side) (p : Port) (c d : Calls) (cs : List ChannelLists) (old ch : ChannelLists) (pid : Pid) → IsMade (lists c cs) p → old ≡ get_or cs (p.0 - 1) old → ch ≡ without_first s c old → d ≡ without_call pid c → lists d (set cs (p.0 - 1) ch) ≡ ended_by pid (lists c cs)
+pub lists_taken : (s : Side) (p : Port) (c d : Calls) (cs : List ChannelLists) (old ch : ChannelLists) (pid : Pid) → IsMade (lists c cs) p → old ≡ get_or cs (p.0 - 1) old → ch ≡ without_first s c.waiting old → d ≡ without_call pid c → lists d (set cs (p.0 - 1) ch) ≡ ended_by pid (lists c cs)
 lists_taken s p c d cs old ch pid made at left ended =
     rw (ended, same_lists (taken c.waiting) (line_of s c.waiting old) p c cs old ch made at left) refl
 
-pub lists_untaken : (s : Side) (p : Port) (c : Calls) (cs : List ChannelLists) (old ch : ChannelLists) → IsMade (lists c cs) p → old ≡ get_or cs (p.0 - 1) old → ch ≡ without_first s c old → lists c (set cs (p.0 - 1) ch) ≡ lists c cs
+pub lists_untaken : (s : Side) (p : Port) (c : Calls) (cs : List ChannelLists) (old ch : ChannelLists) → IsMade (lists c cs) p → old ≡ get_or cs (p.0 - 1) old → ch ≡ without_first s c.waiting old → lists c (set cs (p.0 - 1) ch) ≡ lists c cs
 lists_untaken s p c cs old ch made at left =
     rw (same_lists (taken c.waiting) (line_of s c.waiting old) p c cs old ch made at left) refl
 
-pub told : (s : Side) (p : Port) (c : Calls) (cs : List ChannelLists) (old : ChannelLists) (o : Option Waiter) → IsMade (lists c cs) p → old ≡ get_or cs (p.0 - 1) old → o ≡ finds s c old → BoardKeeps c cs → Tells (passes p s) c.waiting o
+pub told : (s : Side) (p : Port) (c : Calls) (cs : List ChannelLists) (old : ChannelLists) (o : Option Waiter) → IsMade (lists c cs) p → old ≡ get_or cs (p.0 - 1) old → o ≡ first_on s c.waiting old → BoardKeeps c cs → Tells (passes p s) c.waiting o
 told s p c cs old o made at found k = taken_tells s p c cs o made.0 (within c cs p made) k (rw (read c cs p old made at) at found)
 
 some_is : {X : Type 0} (x y : X) → Some x ≡ Some y → x ≡ y

@@ -1,4 +1,5 @@
--- What every board keeps: the live entries of a queue are the cases of the open calls on its port and side.
+-- What every board keeps: in each queue the live entries are the cases of the open calls on its side of its port,
+-- and there is room for the cases of one call more.
 use Rattle.std.specs.Prelude.{ℕ, ◌≤◌, ◌<◌, ◌≡◌, ◌*◌, Bool, List, [], ◌∷◌, length, map}
 use Rattle.std.specs.List.{AllByRecursion}
 use Rattle.circular_buffer.specs.Buffer.{Buffer}
@@ -15,12 +16,13 @@ use Rattle.hub_parts.specs.Queues.{live_of, waiters}
 use Rattle.hub_parts.specs.Lists.{still_open}
 use Rattle.hub_parts.specs.Channels.{queue_of, channel_of}
 
--- the cases of which a queue has the entries
+-- the cases of which a queue has the entries; for both sides those of the receivers
 abbrev pub joins : Side → Port → Case → Bool
 joins side.Send p c = is_send_on p c
 joins side.Recv p c = is_recv_on p c
 joins side.Any p c = is_recv_on p c
 
+-- a queue's live entries are those of the calls' cases that pass; no entry has a ticket that is still to come
 pub record QueueKeeps (test : Case → Bool) (c : Calls) (q : Buffer Waiter) : Type 0 where
   pub live : live_of c.waiting q.items ≡ waiters test c.waiting
   pub below : AllByRecursion (λ entry. entry.ticket < c.next_ticket) q.items
@@ -36,6 +38,8 @@ Ascending (w ∷ ws) = AllByRecursion (λ v. w.ticket < v.ticket) ws × Ascendin
 abbrev pub AllMade : ℕ → List Case → Type 0
 AllMade n cases = AllByRecursion (λ c. (port_of c).0 ≤ n) cases
 
+-- the ports and the open calls are few, and so are the cases of each call, which are on ports that were made;
+-- tickets rise and are below the next
 pub record CallsKeep (c : Calls) (ports : ℕ) : Type 0 where
   pub counted : ports ≤ MOST_PORTS
   pub few : length c.waiting ≤ c.procs
@@ -44,13 +48,16 @@ pub record CallsKeep (c : Calls) (ports : ℕ) : Type 0 where
   pub ascending : Ascending c.waiting
   pub below : AllByRecursion (λ w. w.ticket < c.next_ticket) c.waiting
 
+-- both queues of every port keep it
 abbrev pub QueuesKeep : Calls → List ChannelLists → Type 0
 QueuesKeep c cs = (s : Side) (p : Port) → 0 < p.0 → p.0 ≤ length cs → QueueKeeps (joins s p) c (queue_of s (channel_of cs p))
 
+-- the open calls and the queues of a board
 pub record BoardKeeps (c : Calls) (cs : List ChannelLists) : Type 0 where
   pub calls : CallsKeep c (length cs)
   pub queues : QueuesKeep c cs
 
+-- the calls but for that of a process
 abbrev pub without_call : Pid → Calls → Calls
 without_call pid c = record { procs = c.procs; waiting = still_open pid c.waiting; next_ticket = c.next_ticket }
 

@@ -1,4 +1,5 @@
--- The entries of queues, and which of them are live.
+-- The entries of a queue: which are live, what a taking, a joining and a making of room leave, and which entries
+-- the open calls have.
 use Rattle.std.specs.Prelude.{ℕ, ◌==◌, ◌+◌, ◌-◌, nat_lt, ◌&&◌, ◌||◌, Bool, List, [], ◌∷◌, ◌++◌, if◌then◌else◌, filter, length, Option, None, slice_get}
 use Rattle.std.specs.List.{list_any, flat_map}
 use Rattle.circular_buffer.specs.Buffer.{Buffer, buffer}
@@ -12,6 +13,7 @@ use Rattle.hub_parts.specs.Records.{Ticketed}
 abbrev pub is_live : List Ticketed → ℕ → Bool
 is_live ws ticket = list_any (λ w. w.ticket == ticket) ws
 
+-- the entry is live
 abbrev pub lives : List Ticketed → Waiter → Bool
 lives ws entry = is_live ws entry.ticket
 
@@ -24,7 +26,7 @@ abbrev pub after_first : {X : Type 0} → (X → Bool) → List X → List X
 after_first test [] = []
 after_first test (x ∷ xs) = if test x then xs else after_first test xs
 
--- the first to the end where it passes, and else away
+-- the first moved to the end where it passes, and else left out
 abbrev pub turned : {X : Type 0} → (X → Bool) → List X → List X
 turned test [] = []
 turned test (x ∷ xs) = if test x then xs ++ x ∷ [] else xs
@@ -33,13 +35,23 @@ turned test (x ∷ xs) = if test x then xs ++ x ∷ [] else xs
 abbrev pub taken : List Ticketed → Buffer Waiter → Buffer Waiter
 taken ws q = buffer (after_first (lives ws) q.items) q.capacity
 
+-- the queue after its first entry was turned
+abbrev pub one_turn : List Ticketed → Buffer Waiter → Buffer Waiter
+one_turn ws q = buffer (turned (lives ws) q.items) q.capacity
+
+-- the queue without its dead entries
+abbrev pub all_live : List Ticketed → Buffer Waiter → Buffer Waiter
+all_live ws q = buffer (live_of ws q.items) q.capacity
+
+-- the queue with one entry more, the newest
 abbrev pub joined : Waiter → Buffer Waiter → Buffer Waiter
 joined entry q = buffer (q.items ++ entry ∷ []) q.capacity
 
--- where fewer than MOST_CASES places are free, the live entries alone
+-- where fewer places are free than a call may have cases, the live entries alone
 abbrev pub roomy : List Ticketed → Buffer Waiter → Buffer Waiter
-roomy ws q = if nat_lt (q.capacity - length q.items) MOST_CASES then buffer (live_of ws q.items) q.capacity else q
+roomy ws q = if nat_lt (q.capacity - length q.items) MOST_CASES then all_live ws q else q
 
+-- the entry of case number i of a call
 abbrev pub waiter_at : Pid → ℕ → ℕ → Waiter
 waiter_at pid ticket i = record { pid = pid; ticket = ticket; case = i }
 
@@ -49,6 +61,7 @@ waiters_from test pid ticket i [] = []
 waiters_from test pid ticket i (c ∷ cs) =
     if test c then waiter_at pid ticket i ∷ waiters_from test pid ticket (i + 1) cs else waiters_from test pid ticket (i + 1) cs
 
+-- the entries of a call's cases that pass, in case order
 abbrev pub waiters_of : (Case → Bool) → Ticketed → List Waiter
 waiters_of test w = waiters_from test w.call.pid w.ticket 0 w.call.cases
 
@@ -61,6 +74,6 @@ abbrev pub case_at : List Ticketed → ℕ → ℕ → Option Case
 case_at [] ticket i = None
 case_at (w ∷ ws) ticket i = if w.ticket == ticket then slice_get w.call.cases i else case_at ws ticket i
 
--- the older of two entries: by ticket, and in one call by case
+-- an entry comes before another: by ticket, and in one call by case
 abbrev pub is_before : Waiter → Waiter → Bool
 is_before a b = nat_lt a.ticket b.ticket || ((a.ticket == b.ticket) && nat_lt a.case b.case)

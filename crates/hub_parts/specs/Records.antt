@@ -1,11 +1,12 @@
--- What contracts see of a board and of its pieces.
+-- What contracts see of a board and of its parts: lists, oldest first, and no ring, queue or place.
+-- Only a channel shows its queues, as lists of entries.
 use Rattle.std.specs.Prelude.{ℕ, Bool, List}
 use Rattle.circular_buffer.specs.Buffer.{Buffer}
 use Rattle.hub_base.specs.declared.value.Value.{Value}
 use Rattle.hub_base.specs.State.{OpenCall}
 use Rattle.hub_parts.specs.declared.wait_queue.Waiter.{Waiter}
 
--- a port: its buffer, oldest first
+-- a port: its capacity, whether it is closed, and its buffer, oldest first
 pub record PortLists : Type 0 where
   pub cap : ℕ
   pub closed : Bool
@@ -16,18 +17,20 @@ pub record Ticketed : Type 0 where
   pub ticket : ℕ
   pub call : OpenCall
 
--- the open calls, oldest first, and the least ticket that may come next
+-- the number of processes, the open calls, oldest first, and the least ticket that may come next
 pub record Calls : Type 0 where
   pub procs : ℕ
   pub waiting : List Ticketed
   pub next_ticket : ℕ
 
--- a port, with the entries of its two queues
+-- a channel: what a board shows of it, and the entries of its two queues
 pub record ChannelLists : Type 0 where
   pub lists : PortLists
   pub senders : Buffer Waiter
   pub receivers : Buffer Waiter
 
+-- a board: the number of processes, the ports in order of making, the open calls, oldest first, and the least
+-- ticket that may come next
 pub record Lists : Type 0 where
   pub procs : ℕ
   pub ports : List PortLists

@@ -17,6 +17,7 @@ use Rattle.hub_base.proofs.Takes.{send-field}
 use Rattle.hub_base.proofs.Gathered.{ends-step}
 use Rattle.hub_base.proofs.Numerals.{numeral-again, pieces-more, pieces-last, decimal-lacks-colon}
 
+-- the shape of a case's field
 abbrev pub draft_for : Case → Draft
 draft_for (Send p v) = Sends (decimal p.0) (decimal v.0)
 draft_for (Recv p) = Receives (decimal p.0)
@@ -24,6 +25,7 @@ draft_for (Recv p) = Receives (decimal p.0)
 below : (n most : ℕ) → n ≤ most → most < 2 ^ 64 → n < 2 ^ 64
 below n most h k = omega arith
 
+-- the field of a case has its shape
 pub draft-again : (c : Case) → CaseFits c → draft_of (case_field c) ≡ Ok (draft_for c)
 draft-again (Send p v) fits =
     let port = decimal-lacks-colon p.0 (below p.0 65535 fits.0 (omega arith)) in
@@ -32,14 +34,17 @@ draft-again (Send p v) fits =
 draft-again (Recv p) fits =
     ap recv_draft (pieces-last 58 (decimal p.0) (decimal-lacks-colon p.0 (below p.0 65535 fits (omega arith))))
 
+-- and so have all of a select
 pub drafts-again : (cs : List Case) → AllByRecursion CaseFits cs → drafts_of (map case_field cs) ≡ Ok (map draft_for cs)
 drafts-again [] fits = refl
 drafts-again (c ∷ cs) fits = rw (draft-again c fits.0, drafts-again cs fits.1) refl
 
+-- the numbers of that shape are the case
 pub case-again : (c : Case) → CaseFits c → case_of (draft_for c) ≡ Ok c
 case-again (Send p v) fits = rw (numeral-again 65535 p.0 (omega arith) fits.0, numeral-again 18446744073709551615 v.0 (omega arith) fits.1) refl
 case-again (Recv p) fits = rw (numeral-again 65535 p.0 (omega arith) fits) refl
 
+-- and all of a select are its cases
 pub cases-again : (cs : List Case) → AllByRecursion CaseFits cs → cases_of (map draft_for cs) ≡ Ok cs
 cases-again [] fits = refl
 cases-again (c ∷ cs) fits = rw (case-again c fits.0, cases-again cs fits.1) refl
@@ -52,6 +57,7 @@ not-last : (c : Case) (fs : List (List ℕ)) → last_default (case_field c) fs 
 not-last c [] = no-default c
 not-last c (f ∷ fs) = refl
 
+-- the cases of a select end where its default stands
 pub ends-again : (cs : List Case) (d : Bool) → ends_default (map case_field cs ++ default_field d) ≡ (map case_field cs, d)
 ends-again [] true = refl
 ends-again [] false = refl
@@ -62,6 +68,7 @@ ends-again (c ∷ cs) d =
 few : (n : ℕ) → n ≤ 16 → nat_lt 16 n ≡ false
 few n h = grind (arith, common_steps)
 
+-- a select is read as it is spelled
 pub select-again : (pid : ℕ) (cs : List Case) (d : Bool) (w : ℕ) → pid ≤ 255 → CallFits cs w → spelled cs d w ≡ Ok (call cs d w) → call_fields cs d w ≡ select_fields cs d w →
     read_fields (decimal pid ∷ call_fields cs d w) ≡ Ok (by pid (call cs d w))
 select-again pid cs d w small fits whole fields =
@@ -76,6 +83,7 @@ select-again pid cs d w small fits whole fields =
     ∙ ap (λ r. r >>= λ word. spelled cs d word >>= λ step. Ok (by pid step)) (numeral-again 18446744073709551615 w (omega arith) fits.word_fits)
     ∙ ap (λ r. r >>= λ step. Ok (by pid step)) whole
 
+-- a call is read as it is spelled, in its short form or as a select
 pub call-again : (pid : ℕ) (cs : List Case) (d : Bool) (w : ℕ) → pid ≤ 255 → CallFits cs w → read_fields (decimal pid ∷ call_fields cs d w) ≡ Ok (by pid (call cs d w))
 call-again pid [] d w small fits = select-again pid [] d w small fits refl refl
 call-again pid (Send p v ∷ []) true w small fits = select-again pid (Send p v ∷ []) true w small fits refl refl

@@ -26,6 +26,7 @@ split : (a b : Bool) → (a && b) ≡ true → (a ≡ true) × (b ≡ true)
 split true b h = (refl, h)
 split false b h = cc
 
+-- a mark below the digits stands in no bytes from the digits on
 pub lacks-high : (m : ℕ) (xs : List ℕ) → m < 48 → list_all (nat_le 48) xs ≡ true → lacks m xs ≡ true
 lacks-high m [] low h = refl
 lacks-high m (x ∷ xs) low h =
@@ -82,9 +83,11 @@ step-lacks m (Call cases d w) low fits = call-lacks m cases.items d w low fits
 step-lacks m (Close p) low fits = named m (codes "close") (decimal p.0 ∷ []) low refl (one-lacks m 65535 p.0 low (omega arith) fits)
 step-lacks m Exit low fits = named m (codes "exit") [] low refl refl
 
+-- no field of an entry holds such a mark
 pub fields-lack : (m : ℕ) (e : Entry) → m < 48 → Fits e → all_lack m (fields_of e) ≡ true
 fields-lack m e low fits = both (lacks m (decimal e.pid.0)) (all_lack m (step_fields e.step)) (decimal-lacks m e.pid.0 low (small e.pid.0 255 fits.pid (omega arith))) (step-lacks m e.step low fits.step)
 
+-- a line without its newline is read as its entry
 pub body-again : (e : Entry) → Fits e → read_fields (pieces 32 (body e)) ≡ Ok e
 body-again e fits = ap read_fields (pieces-joined 32 (decimal e.pid.0) (step_fields e.step) (fields-lack 32 e (omega arith) fits)) ∙ fields-again e fits
 
@@ -92,17 +95,20 @@ not-true : (b : Bool) → not b ≡ true → b ≡ false
 not-true true h = cc
 not-true false h = refl
 
+-- a line ends at its newline
 pub rows-line : (b rest : List ℕ) → lacks 10 b ≡ true → rows (b ++ 10 ∷ rest) ≡ record { bytes = b; whole = true } ∷ rows rest
 rows-line [] rest h = refl
 rows-line (c ∷ cs) rest h =
     let s = split (not (c == 10)) (lacks 10 cs) h in
     rw (not-true (c == 10) s.0) (ap (front c) (rows-line cs rest s.1))
 
+-- the line of an entry is one line
 pub rows-entry : (e : Entry) (rest : List ℕ) → Fits e → rows (line e ++ rest) ≡ row_of e ∷ rows rest
 rows-entry e rest fits =
     ap rows (append_assoc (body e) (codes "\n") rest)
     ∙ rows-line (body e) rest (lacks-joined 10 (decimal e.pid.0) (step_fields e.step) refl (fields-lack 10 e (omega arith) fits))
 
+-- and the lines of entries are as many
 pub rows-entries : (es : List Entry) (rest : List ℕ) → AllByRecursion Fits es → rows (flat_map line es ++ rest) ≡ map row_of es ++ rows rest
 rows-entries [] rest fits = refl
 rows-entries (e ∷ es) rest fits =

@@ -7,6 +7,7 @@ use Rattle.hub_base.specs.declared.text.faults.Kind.{Kind}
 use Rattle.hub_base.specs.Lines.{number, one_number, is_numeral, numeral, ◌>>=◌}
 use Rattle.hub_base.proofs.Decimals.{spelled}
 
+-- a reading of two parts that answers Ok did so at both
 pub bind_ok : {A B : Type 0} (r : Result A Kind) (f : A → Result B Kind) (y : B) → (r >>= f) ≡ Ok y → (x : A) × (r ≡ Ok x) × (f x ≡ Ok y)
 bind_ok (Ok x) f y e = (x, refl, e)
 bind_ok (Err k) f y e = cc
@@ -19,11 +20,13 @@ one-some : (t : Bool) (v n most : ℕ) → one_number t v most ≡ Some n → (t
 one-some false v n most e = cc
 one-some true v n most e = grind (arith, common_steps)
 
+-- what is read as a number is its spelling
 pub number-ok : (most : ℕ) (bs : List ℕ) (n : ℕ) → most < 2 ^ 64 → number most bs ≡ Some n → (bs ≡ decimal n) × (n ≤ most)
 number-ok most bs n wide some =
     let o = one-some (is_numeral bs) (digits_value 10 bs) n most some in
     (is-spelled bs o.0 (omega arith) ∙ ap decimal o.1, o.2)
 
+-- and so is a field
 pub numeral-ok : (most : ℕ) (bs : List ℕ) (n : ℕ) → most < 2 ^ 64 → numeral most bs ≡ Ok n → (bs ≡ decimal n) × (n ≤ most)
 numeral-ok most bs n wide e =
     let some : number most bs ≡ Some n = (grind (arith, common_steps)) in

@@ -13,9 +13,11 @@ use Rattle.hub_base.specs.Lines.{◌>>=◌, Draft, draft_of, send_draft, recv_dr
 abbrev pub so_far : Bool → List Case → Result (List Case) Kind
 so_far fine cases = cond fine (Ok cases) (Err BadNumber)
 
+-- the cases of two parts of a select, one after the other
 abbrev pub joined : Result (List Case) Kind → Result (List Case) Kind → Result (List Case) Kind
 joined acc r = acc >>= λ a. r >>= λ b. Ok (a ++ b)
 
+-- a select of which so many cases were read, and what their numbers say
 abbrev pub rest_of : List ℕ → List ℕ → ℕ → Result (List Case) Kind → (List (List ℕ)) × Bool → Result Entry Kind
 rest_of pid word n acc fields =
     drafts_of fields.0 >>= λ ds. cond (nat_lt 16 (n + length ds)) (Err BadStep) (choose pid word (joined acc (cases_of ds)) fields.1)
@@ -43,6 +45,7 @@ cases-first (Ok c) (Ok cs) = refl
 cases-first (Ok c) (Err k) = refl
 cases-first (Err k) rs = refl
 
+-- at first none
 pub rest-init : (pid word : List ℕ) (fs : (List (List ℕ)) × Bool) → read_select pid word fs ≡ rest_of pid word 0 (Ok []) fs
 rest-init pid word fs = init pid word (drafts_of fs.0) fs.1 where
   init : (pid word : List ℕ) (ds : Result (List Draft) Kind) (d : Bool) →
@@ -53,6 +56,7 @@ rest-init pid word fs = init pid word (drafts_of fs.0) fs.1 where
 small : (n : ℕ) → n ≤ 16 → nat_lt 16 (n + 0) ≡ false
 small n h = grind (arith, common_steps)
 
+-- at the end all
 pub rest-end : (pid word : List ℕ) (n : ℕ) (acc : Result (List Case) Kind) (d : Bool) → n ≤ 16 → rest_of pid word n acc ([], d) ≡ choose pid word acc d
 rest-end pid word n acc d h = rw (small n h) (ap (λ r. choose pid word r d) (joined-none acc))
 
@@ -67,10 +71,12 @@ after-draft pid word n acc f (Ok ds) d =
     ap (λ m. cond (nat_lt 16 m) (Err BadStep) (choose pid word (joined acc (cases_of (f ∷ ds))) d)) more
     ∙ ap (λ r. cond (nat_lt 16 ((n + 1) + length ds)) (Err BadStep) (choose pid word r d)) cases
 
+-- behind one more field of the right shape
 pub rest-step : (pid word : List ℕ) (n : ℕ) (acc : Result (List Case) Kind) (f : List ℕ) (draft : Draft) (fs : (List (List ℕ)) × Bool) → draft_of f ≡ Ok draft →
     rest_of pid word n acc (f ∷ fs.0, fs.1) ≡ rest_of pid word (n + 1) (joined acc (one (case_of draft))) fs
 rest-step pid word n acc f draft fs e = rw e (after-draft pid word n acc draft (drafts_of fs.0) fs.1)
 
+-- behind a field of a wrong shape
 pub rest-bad : (pid word : List ℕ) (n : ℕ) (acc : Result (List Case) Kind) (f : List ℕ) (fs : (List (List ℕ)) × Bool) (k : Kind) → draft_of f ≡ Err k →
     rest_of pid word n acc (f ∷ fs.0, fs.1) ≡ Err k
 rest-bad pid word n acc f fs k e = rw e refl
@@ -92,6 +98,7 @@ letter-bad true r a b k f g e = f k e
 letter-bad false true a b k f g e = g k e
 letter-bad false false a b k f g e = cc
 
+-- a wrong shape is a bad step
 pub draft-bad : (f : List ℕ) (k : Kind) → draft_of f ≡ Err k → k ≡ BadStep
 draft-bad [] k e = cc
 draft-bad (c ∷ cs) k e = letter-bad (c == 115) (c == 114) (send_draft (pieces 58 cs)) (recv_draft (pieces 58 cs)) k (send-bad (pieces 58 cs)) (recv-bad (pieces 58 cs)) e
@@ -101,6 +108,7 @@ two-bad (Ok d) (Ok ds) k f g e = cc
 two-bad (Ok d) (Err j) k f g e = g k (cc)
 two-bad (Err j) rs k f g e = f k (cc)
 
+-- in any field
 pub drafts-bad : (fs : List (List ℕ)) (k : Kind) → drafts_of fs ≡ Err k → k ≡ BadStep
 drafts-bad [] k e = cc
 drafts-bad (f ∷ fs) k e = two-bad (draft_of f) (drafts_of fs) k (draft-bad f) (drafts-bad fs) e
@@ -110,6 +118,7 @@ many : (ds : Result (List Draft) Kind) (draft : Draft) (x : List Draft → Resul
 many (Ok ds) draft x h = let big : nat_lt 16 (16 + length (draft ∷ ds)) ≡ true = grind (arith, common_steps) in rw big refl
 many (Err k) draft x h = ap (λ k. Err k) (h k refl)
 
+-- a case behind sixteen is a bad step
 pub rest-many : (pid word : List ℕ) (acc : Result (List Case) Kind) (f : List ℕ) (draft : Draft) (fs : (List (List ℕ)) × Bool) → draft_of f ≡ Ok draft →
     rest_of pid word 16 acc (f ∷ fs.0, fs.1) ≡ Err BadStep
 rest-many pid word acc f draft fs e = rw e (many (drafts_of fs.0) draft (λ ds. choose pid word (joined acc (cases_of ds)) fs.1) (drafts-bad fs.0))
@@ -127,14 +136,17 @@ both-bad : {A : Type 0} (r s : Result ℕ Kind) (f : ℕ → ℕ → A) (k : Kin
 both-bad (Ok x) s f k h g e = one-bad s (f x) k g e
 both-bad (Err j) s f k h g e = h k (cc)
 
+-- a wrong number is a bad number
 pub case-bad : (d : Draft) (k : Kind) → case_of d ≡ Err k → k ≡ BadNumber
 case-bad (Sends p v) k e = both-bad (numeral 65535 p) (numeral 18446744073709551615 v) _ k (must-bad (number 65535 p)) (must-bad (number 18446744073709551615 v)) e
 case-bad (Receives p) k e = one-bad (numeral 65535 p) _ k (must-bad (number 65535 p)) e
 
+-- one more case
 pub joined-ok : (fine : Bool) (cases : List Case) (c : Case) → joined (so_far fine cases) (one (Ok c)) ≡ so_far fine (cases ++ c ∷ [])
 joined-ok true cases c = refl
 joined-ok false cases c = refl
 
+-- a case whose numbers are wrong
 pub joined-err : (fine : Bool) (cases : List Case) (d : Draft) (k : Kind) → case_of d ≡ Err k → joined (so_far fine cases) (one (case_of d)) ≡ so_far false cases
 joined-err true cases d k e = rw e (ap (λ k. Err k) (case-bad d k e))
 joined-err false cases d k e = refl
@@ -144,16 +156,19 @@ pub ends-step : (f : List ℕ) (fs : List (List ℕ)) → last_default f fs ≡ 
 ends-step f [] h = rw h refl
 ends-step f (g ∷ fs) h = refl
 
+-- a last default ends the cases
 pub ends-last : (f : List ℕ) (fs : List (List ℕ)) → last_default f fs ≡ true → ends_default (f ∷ fs) ≡ ([], true)
 ends-last f [] h = rw h refl
 ends-last f (g ∷ fs) h = cc
 
+-- a field of the right shape
 pub read-of : (f : List ℕ) (r : Result Case Kind) → case_read f ≡ Ok r → (draft : Draft) × (draft_of f ≡ Ok draft) × (case_of draft ≡ r)
 read-of f r e = go (draft_of f) r e where
   go : (ds : Result Draft Kind) (r : Result Case Kind) → (ds >>= λ d. Ok (case_of d)) ≡ Ok r → (draft : Draft) × (ds ≡ Ok draft) × (case_of draft ≡ r)
   go (Ok d) r e = (d, refl, cc)
   go (Err k) r e = cc
 
+-- a field of a wrong shape
 pub read-bad : (f : List ℕ) (k : Kind) → case_read f ≡ Err k → draft_of f ≡ Err k
 read-bad f k e = go (draft_of f) k e where
   go : (ds : Result Draft Kind) (k : Kind) → (ds >>= λ d. Ok (case_of d)) ≡ Err k → ds ≡ Err k
@@ -167,6 +182,8 @@ goes pid word f fields rest n acc next whole draft same is plain d now =
     same ∙ ap (λ fs. rest_of pid word n acc (ends_default fs)) is ∙ ap (rest_of pid word n acc) (ends-step f rest plain)
     ∙ rest-step pid word n acc f draft (ends_default rest) d ∙ ap (λ r. rest_of pid word (n + 1) r (ends_default rest)) now
 
+-- ---- one turn of the loop, by what its field is
+-- a case
 pub goes-ok : (pid word f : List ℕ) (fields rest : List (List ℕ)) (n : ℕ) (fine : Bool) (cases new : List Case) (whole : Result Entry Kind) (r : Result Case Kind) (c : Case) →
     whole ≡ rest_of pid word n (so_far fine cases) (ends_default fields) → fields ≡ f ∷ rest → last_default f rest ≡ false → Ok r ≡ case_read f → r ≡ Ok c → new ≡ cases ++ c ∷ [] →
     whole ≡ rest_of pid word (n + 1) (so_far fine new) (ends_default rest)
@@ -175,6 +192,7 @@ goes-ok pid word f fields rest n fine cases new whole r c same is plain read ok 
     goes pid word f fields rest n (so_far fine cases) (so_far fine new) whole d.0 same is plain d.1
     (ap (λ r. joined (so_far fine cases) (one r)) (d.2 ∙ ok) ∙ joined-ok fine cases c ∙ ap (so_far fine) (sym grown))
 
+-- a case behind one whose numbers are wrong
 pub goes-late : (pid word f : List ℕ) (fields rest : List (List ℕ)) (n : ℕ) (fine : Bool) (cases : List Case) (whole : Result Entry Kind) (r : Result Case Kind) (c : Case) →
     whole ≡ rest_of pid word n (so_far fine cases) (ends_default fields) → fields ≡ f ∷ rest → last_default f rest ≡ false → Ok r ≡ case_read f → r ≡ Ok c → fine ≡ false →
     whole ≡ rest_of pid word (n + 1) (so_far fine cases) (ends_default rest)
@@ -184,6 +202,7 @@ goes-late pid word f fields rest n fine cases whole r c same is plain read ok la
     (ap (λ r. joined (so_far fine cases) (one r)) (d.2 ∙ ok) ∙ joined-ok fine cases c
     ∙ ap (λ b. so_far b (cases ++ c ∷ [])) late ∙ sym (ap (λ b. so_far b cases) late))
 
+-- a case whose numbers are wrong
 pub goes-err : (pid word f : List ℕ) (fields rest : List (List ℕ)) (n : ℕ) (fine : Bool) (cases : List Case) (whole : Result Entry Kind) (r : Result Case Kind) (k : Kind) →
     whole ≡ rest_of pid word n (so_far fine cases) (ends_default fields) → fields ≡ f ∷ rest → last_default f rest ≡ false → Ok r ≡ case_read f → r ≡ Err k →
     whole ≡ rest_of pid word (n + 1) (Err BadNumber) (ends_default rest)
@@ -191,6 +210,7 @@ goes-err pid word f fields rest n fine cases whole r k same is plain read bad =
     let d = read-of f r (sym read) in
     goes pid word f fields rest n (so_far fine cases) (Err BadNumber) whole d.0 same is plain d.1 (joined-err fine cases d.0 k (d.2 ∙ bad))
 
+-- a seventeenth case
 pub goes-many : (pid word f : List ℕ) (fields rest : List (List ℕ)) (n : ℕ) (acc : Result (List Case) Kind) (whole : Result Entry Kind) (r : Result Case Kind) →
     whole ≡ rest_of pid word n acc (ends_default fields) → fields ≡ f ∷ rest → last_default f rest ≡ false → Ok r ≡ case_read f → n ≡ 16 → whole ≡ Err BadStep
 goes-many pid word f fields rest n acc whole r same is plain read full =
@@ -198,12 +218,14 @@ goes-many pid word f fields rest n acc whole r same is plain read full =
     same ∙ ap (λ fs. rest_of pid word n acc (ends_default fs)) is ∙ ap (rest_of pid word n acc) (ends-step f rest plain)
     ∙ ap (λ n. rest_of pid word n acc (f ∷ (ends_default rest).0, (ends_default rest).1)) full ∙ rest-many pid word acc f d.0 (ends_default rest) d.1
 
+-- a field of a wrong shape
 pub goes-bad : (pid word f : List ℕ) (fields rest : List (List ℕ)) (n : ℕ) (acc : Result (List Case) Kind) (whole : Result Entry Kind) (k : Kind) →
     whole ≡ rest_of pid word n acc (ends_default fields) → fields ≡ f ∷ rest → last_default f rest ≡ false → Err k ≡ case_read f → whole ≡ Err k
 goes-bad pid word f fields rest n acc whole k same is plain read =
     same ∙ ap (λ fs. rest_of pid word n acc (ends_default fs)) is ∙ ap (rest_of pid word n acc) (ends-step f rest plain)
     ∙ rest-bad pid word n acc f (ends_default rest) k (read-bad f k (sym read))
 
+-- a last default
 pub goes-last : (pid word f : List ℕ) (fields rest : List (List ℕ)) (n : ℕ) (acc : Result (List Case) Kind) (whole : Result Entry Kind) →
     whole ≡ rest_of pid word n acc (ends_default fields) → fields ≡ f ∷ rest → last_default f rest ≡ true → n ≤ 16 → whole ≡ choose pid word acc true
 goes-last pid word f fields rest n acc whole same is last few =

@@ -1,23 +1,18 @@
--- Whole texts.
-use Rattle.std.proofs.Common.{◌≡◌, ℕ, ◌+◌, ◌≤◌, ◌<◌, ◌^◌, Bool, true, false, cond, List, [], ◌∷◌, ◌++◌, ◌⊎◌, inl, inr, length, map, refl, ap, ◌∙◌, sym, subst, Option, Some, None, Result, Ok, Err, arith, codes, ◌==◌, append_assoc, append-nil, length-append}
+-- The two head lines, and whole texts: a text is read as its entries, and what is read is such a text.
+use Rattle.std.proofs.Common.{◌≡◌, ℕ, ◌+◌, ◌≤◌, ◌<◌, ◌^◌, Bool, true, false, cond, List, [], ◌∷◌, ◌++◌, length, map, refl, ap, ◌∙◌, sym, subst, Option, Some, None, arith, codes, ◌==◌, append_assoc, append-nil, length-append}
 use Rattle.std.proofs.lemmas.Grind.{common_steps}
-use Rattle.std.specs.Prelude.{decimal, nat_lt, IfOk, IfErr}
+use Rattle.std.specs.Prelude.{decimal, nat_lt}
 use Rattle.std.specs.List.{join_with_byte, AllByRecursion, flat_map}
 use Rattle.hub_base.specs.declared.entry.Entry.{Entry}
-use Rattle.hub_base.specs.declared.text.faults.Kind.{Kind}
-use Rattle.hub_base.specs.declared.text.faults.Kind.TheVariants.{BadHeader, BadProcs, TooLong}
-use Rattle.hub_base.specs.Lines.{number, pieces, line, same_text, read_fields}
+use Rattle.hub_base.specs.declared.text.faults.Kind.TheVariants.{BadHeader, TooLong}
+use Rattle.hub_base.specs.Lines.{number, pieces, line, same_text}
 use Rattle.hub_base.specs.Reading.{Row, rows, front, Reading, Reads, Faulty, text, head, procs_line, entries_from, row_fault, faulty_or, end_of, procs_field, above_zero, procs_number, procs_say, procs_from, reading, read_text}
-use Rattle.hub_base.specs.declared.text.faults.ReadFault.{ReadFault}
-use Rattle.hub_base.specs.declared.text.faults.ReadFault.TheVariants as fault
-use Rattle.hub_base.specs.Journal.{JournalView}
-use Rattle.hub_base.specs.Answers.{Gives, IsFaultOf}
-use Rattle.hub_base.specs.Text.{Fits, IsText, row_of, steps_of, header_row, procs_row, header_fault, procs_fault, fault_of_procs, fault_of_first, first_fault, FaultyFirst, FaultySecond, FaultyEntry, IsFaulty, EntryFails, IsEither}
-use Rattle.hub_base.proofs.Bodies.{rows-line, rows-entries, rows-entry, body-again}
+use Rattle.hub_base.specs.Text.{Fits, IsText, row_of, steps_of, header_row, procs_row}
+use Rattle.hub_base.proofs.Bodies.{rows-line, rows-entries}
 use Rattle.hub_base.proofs.Bound.{number-ok}
 use Rattle.hub_base.proofs.Numerals.{number-again, pieces-last, decimal-lacks, lacks, same-true, joined-pieces, lacks-append}
 use Rattle.hub_base.proofs.Pieces.{pieces-some}
-use Rattle.hub_base.proofs.Running.{entries-again, entries-take, entries-fail, entries-fail-again, said-reads, row-none}
+use Rattle.hub_base.proofs.Running.{entries-again, entries-take, said-reads, row-none}
 
 small : (n : ℕ) → n ≤ 64 → n < 2 ^ 64
 small n h = omega arith
@@ -25,6 +20,7 @@ small n h = omega arith
 above : (n : ℕ) → 1 ≤ n → (n == 0) ≡ false
 above n h = grind (arith, common_steps)
 
+-- the second line is read as it is spelled
 pub procs-again : (n : ℕ) → 1 ≤ n → n ≤ 64 → procs_number (procs_line n) ≡ Some n
 procs-again n some few =
     ap (λ ps. above_zero (procs_field (codes "procs" ∷ ps))) (pieces-last 32 (decimal n) (decimal-lacks 32 n (omega arith) (small n few)))
@@ -47,11 +43,13 @@ positive (Some m) n h = go (m == 0) refl h where
   go true z h = cc
   go false z h = let is : m ≡ n = cc in (h, grind (arith, common_steps))
 
+-- a second line of n processes
 pub record ProcsSpelled (bytes : List ℕ) (n : ℕ) : Type 0 where
   pub spelled : bytes ≡ procs_line n
   pub some : 1 ≤ n
   pub few : n ≤ 64
 
+-- what says n processes is their spelling
 pub procs-take : (bytes : List ℕ) (n : ℕ) → procs_number bytes ≡ Some n → ProcsSpelled bytes n
 procs-take bytes n h =
     let a = positive (procs_field (pieces 32 bytes)) n h in
@@ -72,7 +70,7 @@ first-place : end_of 0 header_row ≡ 18
 first-place = refl
 
 -- ---- a text is read
-heads-again : (n : ℕ) (rs : List Row) → 1 ≤ n → n ≤ 64 → length (head n) ≤ 67108864 → reading (header_row ∷ procs_row n ∷ rs) ≡ entries_from n 3 (length (head n)) 0 rs
+pub heads-again : (n : ℕ) (rs : List Row) → 1 ≤ n → n ≤ 64 → length (head n) ≤ 67108864 → reading (header_row ∷ procs_row n ∷ rs) ≡ entries_from n 3 (length (head n)) 0 rs
 heads-again n rs some few lim =
     let place : end_of 18 (procs_row n) ≡ length (head n) = sym (head-length n) in
     let fits : nat_lt 67108864 (end_of 18 (procs_row n)) ≡ false = (let l = head-length n in grind (arith, common_steps)) in
@@ -92,6 +90,7 @@ text-rows n es few fits =
 text-length : (n : ℕ) (es : List Entry) → length (text n es) ≡ length (head n) + length (flat_map line es)
 text-length n es = length-append (head n) (flat_map line es)
 
+-- a text is read as its entries
 pub text-again : (bytes : List ℕ) (n : ℕ) (es : List Entry) → IsText bytes n es → read_text bytes ≡ Reads n es
 text-again bytes n es t =
     let l : length bytes ≡ length (head n) + length (flat_map line es) = ap length t.spelled ∙ text-length n es in
@@ -115,6 +114,7 @@ unrow-step : (c : ℕ) (cs : List ℕ) (b : Bool) → (c == 10) ≡ b → flat_m
 unrow-step c cs true is h = let here : c ≡ 10 = grind (arith, common_steps) in ap (λ r. 10 ∷ r) h ∙ ap (λ c. c ∷ cs) (sym here)
 unrow-step c cs false is h = unfront c (rows cs) ∙ ap (λ r. c ∷ r) h
 
+-- lines put together again are the text
 pub unrows : (bs : List ℕ) → flat_map row_bytes (rows bs) ≡ bs
 unrows [] = refl
 unrows (c ∷ cs) = unrow-step c cs (c == 10) refl (unrows cs)
@@ -123,6 +123,7 @@ unrows-entries : (es : List Entry) → flat_map row_bytes (map row_of es) ≡ fl
 unrows-entries [] = refl
 unrows-entries (e ∷ es) = ap (λ r. line e ++ r) (unrows-entries es)
 
+-- two head lines and the lines of entries, within the limits
 pub record HeadTook (rs : List Row) (n : ℕ) (es : List Entry) : Type 0 where
   pub lines : rs ≡ header_row ∷ procs_row n ∷ map row_of es
   pub some : 1 ≤ n
@@ -131,13 +132,15 @@ pub record HeadTook (rs : List Row) (n : ℕ) (es : List Entry) : Type 0 where
   pub bytes_fit : length (head n) + length (flat_map line es) ≤ 67108864
   pub steps_fit : steps_of es ≤ 1000000
 
-whole-row : (r : Row) (bytes : List ℕ) → r.bytes ≡ bytes → r.whole ≡ true → r ≡ record { bytes = bytes; whole = true }
+-- a line is its bytes and a newline
+pub whole-row : (r : Row) (bytes : List ℕ) → r.bytes ≡ bytes → r.whole ≡ true → r ≡ record { bytes = bytes; whole = true }
 whole-row r bytes b w = ap (λ b. record { bytes = b; whole = r.whole }) b ∙ ap (λ w. record { bytes = bytes; whole = w }) w
 
 header-said : (b : Bool) (x : Reading) (n : ℕ) (es : List Entry) → cond b x (Faulty 1 BadHeader) ≡ Reads n es → (b ≡ true) × (x ≡ Reads n es)
 header-said true x n es h = (refl, h)
 header-said false x n es h = cc
 
+-- a second line that was read, and what the lines behind it say
 pub record Second (start : ℕ) (rs : List Row) (n : ℕ) (es : List Entry) : Type 0 where
   pub first : Row
   pub more : List Row
@@ -158,9 +161,11 @@ second start (r ∷ rs) n es h =
     let b = procs-said (procs_number r.bytes) (end_of start r) rs n es a.1 in
     record { first = r; more = rs; lines = refl; fine = a.0; procs = b.0; procs_is = b.1; said = b.2 }
 
-second-place : (r : Row) (n : ℕ) → r ≡ procs_row n → end_of 18 r ≡ length (head n)
+-- where the second line ends
+pub second-place : (r : Row) (n : ℕ) → r ≡ procs_row n → end_of 18 r ≡ length (head n)
 second-place r n is = ap (end_of 18) is ∙ sym (head-length n)
 
+-- what is read without a fault is head lines and lines of entries
 pub head-take : (rs : List Row) (n : ℕ) (es : List Entry) → reading rs ≡ Reads n es → HeadTook rs n es
 head-take [] n es h = cc
 head-take (r ∷ rs) n es h =
@@ -185,152 +190,10 @@ head-take (r ∷ rs) n es h =
       steps_fit = (let f = t.steps_fit in omega (arith, f));
     })
 
+-- what is read without a fault is a text
 pub text-take : (bytes : List ℕ) (n : ℕ) (es : List Entry) → read_text bytes ≡ Reads n es → IsText bytes n es
 text-take bytes n es h =
     let t = head-take (rows bytes) n es h in
     let spelled : bytes ≡ text n es = sym (unrows bytes) ∙ ap (flat_map row_bytes) t.lines ∙ ap (λ x. codes "chanhub journal 1\n" ++ ((procs_line n ++ codes "\n") ++ x)) (unrows-entries es) in
     let l : length bytes ≡ length (head n) + length (flat_map line es) = ap length spelled ∙ text-length n es in
     record { spelled = spelled; some = t.some; few = t.few; fits = t.fits; bytes_fit = (let f = t.bytes_fit in omega (arith, l, f)); steps_fit = t.steps_fit }
-
--- ---- a faulty text
-header-faulty : (o : Option Kind) (b : Bool) (x : Reading) (k : ℕ) (kind : Kind) → faulty_or 1 (cond b x (Faulty 1 BadHeader)) o ≡ Faulty k kind →
-    ((k ≡ 1) × (first_fault o (cond b None (Some BadHeader)) ≡ Some kind)) ⊎ ((o ≡ None) × (b ≡ true) × (x ≡ Faulty k kind))
-header-faulty (Some other) b x k kind h = inl (cc, let same : other ≡ kind = cc in ap (λ k. Some k) same)
-header-faulty None true x k kind h = inr (refl, refl, h)
-header-faulty None false x k kind h = inl (cc, let same : BadHeader ≡ kind = cc in ap (λ k. Some k) same)
-
-procs-faulty : (o : Option Kind) (p : Option ℕ) (end : ℕ) (rs : List Row) (k : ℕ) (kind : Kind) → faulty_or 2 (procs_say p end rs) o ≡ Faulty k kind →
-    ((k ≡ 2) × (first_fault o (fault_of_procs p) ≡ Some kind)) ⊎ ((n : ℕ) × (o ≡ None) × (p ≡ Some n) × (entries_from n 3 end 0 rs ≡ Faulty k kind))
-procs-faulty (Some other) p end rs k kind h = inl (cc, let same : other ≡ kind = cc in ap (λ k. Some k) same)
-procs-faulty None None end rs k kind h = inl (cc, let same : BadProcs ≡ kind = cc in ap (λ k. Some k) same)
-procs-faulty None (Some n) end rs k kind h = inr (n, refl, refl, h)
-
-fails-at : (place place' : ℕ) (rs : List Row) (k : ℕ) (kind : Kind) → place ≡ place' → EntryFails place 0 3 rs k kind → EntryFails place' 0 3 rs k kind
-fails-at place place' rs k kind e f = let P : ℕ → Type 0 = λ p. EntryFails p 0 3 rs k kind in subst P e f
-
-second-fail : (rs : List Row) (k : ℕ) (kind : Kind) → procs_from 18 rs ≡ Faulty k kind → FaultySecond (header_row ∷ rs) k kind ⊎ FaultyEntry (header_row ∷ rs) k kind
-second-fail [] k kind h = inl (record { more = []; lines = refl; number = cc; fault = (let same : BadProcs ≡ kind = cc in ap (λ k. Some k) same) })
-second-fail (r ∷ rs) k kind h =
-    elim (procs-faulty (row_fault (end_of 18 r) r) (procs_number r.bytes) (end_of 18 r) rs k kind h) as (λ _. FaultySecond (header_row ∷ r ∷ rs) k kind ⊎ FaultyEntry (header_row ∷ r ∷ rs) k kind) [
-      | inl a ↦ inl (record { more = r ∷ rs; lines = refl; number = a.0; fault = a.1 })
-      | inr a ↦ (
-          let v = row-none (end_of 18 r) r a.1 in
-          let p = procs-take r.bytes a.0 a.2 in
-          let row : r ≡ procs_row a.0 = whole-row r (procs_line a.0) p.spelled v.whole in
-          let end : end_of 18 r ≡ length (head a.0) = second-place r a.0 row in
-          inr (record {
-            n = a.0;
-            more = rs;
-            lines = ap (λ r. header_row ∷ r ∷ rs) row;
-            some = p.some;
-            few = p.few;
-            fails = fails-at (end_of 18 r) (length (head a.0)) rs k kind end (entries-fail a.0 rs 3 (end_of 18 r) 0 k kind v.fits (omega arith) a.3);
-          }))
-    ]
-
-pub head-fail : (rs : List Row) (k : ℕ) (kind : Kind) → reading rs ≡ Faulty k kind → FaultyFirst rs k kind ⊎ (FaultySecond rs k kind ⊎ FaultyEntry rs k kind)
-head-fail [] k kind h = inl (record { number = cc; fault = (let same : BadHeader ≡ kind = cc in ap (λ k. Some k) same) })
-head-fail (r ∷ rs) k kind h =
-    elim (header-faulty (row_fault (end_of 0 r) r) (same_text r.bytes (codes "chanhub journal 1")) (procs_from (end_of 0 r) rs) k kind h)
-    as (λ _. FaultyFirst (r ∷ rs) k kind ⊎ (FaultySecond (r ∷ rs) k kind ⊎ FaultyEntry (r ∷ rs) k kind)) [
-      | inl a ↦ inl (record { number = a.0; fault = a.1 })
-      | inr a ↦ (
-          let w = row-none (end_of 0 r) r a.0 in
-          let is : r ≡ header_row = whole-row r (codes "chanhub journal 1") (same-true r.bytes (codes "chanhub journal 1") a.1) w.whole in
-          let place : end_of 0 r ≡ 18 = ap (end_of 0) is in
-          let P : Row → Type 0 = λ r. FaultySecond (r ∷ rs) k kind ⊎ FaultyEntry (r ∷ rs) k kind in
-          inr (subst P (sym is) (second-fail rs k kind (ap (λ p. procs_from p rs) (sym place) ∙ a.2))))
-    ]
-
-pub fault-take : (bytes : List ℕ) (k : ℕ) (kind : Kind) → read_text bytes ≡ Faulty k kind → IsFaulty bytes k kind
-fault-take bytes k kind h = head-fail (rows bytes) k kind h
-
--- ---- and back
-first-faulty : (rs : List Row) (kind : Kind) → fault_of_first header_fault BadHeader rs ≡ Some kind → reading rs ≡ Faulty 1 kind
-first-faulty [] kind h = let same : BadHeader ≡ kind = cc in ap (Faulty 1) same
-first-faulty (r ∷ rs) kind h = go (row_fault (end_of 0 r) r) (same_text r.bytes (codes "chanhub journal 1")) h where
-  go : (o : Option Kind) (b : Bool) → first_fault o (cond b None (Some BadHeader)) ≡ Some kind → faulty_or 1 (cond b (procs_from (end_of 0 r) rs) (Faulty 1 BadHeader)) o ≡ Faulty 1 kind
-  go (Some other) b h = let same : other ≡ kind = cc in ap (Faulty 1) same
-  go None true h = cc
-  go None false h = let same : BadHeader ≡ kind = cc in ap (Faulty 1) same
-
-second-faulty : (rs : List Row) (kind : Kind) → fault_of_first procs_fault BadProcs rs ≡ Some kind → procs_from 18 rs ≡ Faulty 2 kind
-second-faulty [] kind h = let same : BadProcs ≡ kind = cc in ap (Faulty 2) same
-second-faulty (r ∷ rs) kind h = go (row_fault (end_of 18 r) r) (procs_number r.bytes) h where
-  go : (o : Option Kind) (p : Option ℕ) → first_fault o (fault_of_procs p) ≡ Some kind → faulty_or 2 (procs_say p (end_of 18 r) rs) o ≡ Faulty 2 kind
-  go (Some other) p h = let same : other ≡ kind = cc in ap (Faulty 2) same
-  go None None h = let same : BadProcs ≡ kind = cc in ap (Faulty 2) same
-  go None (Some n) h = cc
-
-head-fits : (n : ℕ) (rs : List Row) (k : ℕ) (kind : Kind) → EntryFails (length (head n)) 0 3 rs k kind → length (head n) ≤ 67108864
-head-fits n rs k kind f = let l = f.bytes_fit in omega (arith, l)
-
-pub fault-again : (bytes : List ℕ) (k : ℕ) (kind : Kind) → IsFaulty bytes k kind → read_text bytes ≡ Faulty k kind
-fault-again bytes k kind f =
-    elim f as (λ _. read_text bytes ≡ Faulty k kind) [
-      | inl a ↦ first-faulty (rows bytes) kind a.fault ∙ ap (λ k. Faulty k kind) (sym a.number)
-      | inr b ↦ elim b as (λ _. read_text bytes ≡ Faulty k kind) [
-        | inl a ↦ ap reading a.lines ∙ second-faulty a.more kind a.fault ∙ ap (λ k. Faulty k kind) (sym a.number)
-        | inr a ↦ ap reading a.lines ∙ heads-again a.n a.more a.some a.few (head-fits a.n a.more k kind a.fails) ∙ entries-fail-again a.n a.more 3 (length (head a.n)) 0 k kind a.fails
-      ]
-    ]
-
--- ---- for the calls
-either : (bytes : List ℕ) (r : Reading) → read_text bytes ≡ r → IsEither bytes
-either bytes (Reads n es) h = inl (n, es, text-take bytes n es h)
-either bytes (Faulty k kind) h = inr (k, kind, fault-take bytes k kind h)
-
-pub is-either : (bytes : List ℕ) → IsEither bytes
-is-either bytes = either bytes (read_text bytes) refl
-
-reads-one : (n m : ℕ) (es fs : List Entry) → Reads n es ≡ Reads m fs → (n ≡ m) × (es ≡ fs)
-reads-one n m es fs h = (cc, cc)
-
-faulty-one : (j k : ℕ) (kind other : Kind) → Faulty j kind ≡ Faulty k other → (j ≡ k) × (kind ≡ other)
-faulty-one j k kind other h = (cc, cc)
-
-reads-faulty : (n k : ℕ) (es : List Entry) (kind : Kind) → Reads n es ≡ Faulty k kind → ⊥
-reads-faulty n k es kind h = cc
-
-pub one-text : (bytes : List ℕ) (n m : ℕ) (es fs : List Entry) → IsText bytes n es → IsText bytes m fs → (n ≡ m) × (es ≡ fs)
-one-text bytes n m es fs s t = reads-one n m es fs (sym (text-again bytes n es s) ∙ text-again bytes m fs t)
-
-pub one-fault : (bytes : List ℕ) (j k : ℕ) (kind other : Kind) → IsFaulty bytes j kind → IsFaulty bytes k other → (j ≡ k) × (kind ≡ other)
-one-fault bytes j k kind other s t = faulty-one j k kind other (sym (fault-again bytes j kind s) ∙ fault-again bytes k other t)
-
-pub apart : (bytes : List ℕ) (n k : ℕ) (es : List Entry) (kind : Kind) → IsText bytes n es → IsFaulty bytes k kind → ⊥
-apart bytes n k es kind s t = reads-faulty n k es kind (sym (text-again bytes n es s) ∙ fault-again bytes k kind t)
-
-abbrev told : Entry → Result Entry Kind
-told e = Ok e
-
-ok-one : (e f : Entry) → told e ≡ told f → e ≡ f
-ok-one e f h = cc
-
-rows-one : (r s : Row) (rs ss : List Row) → r ∷ rs ≡ s ∷ ss → (r ≡ s) × (rs ≡ ss)
-rows-one r s rs ss h = (cc, cc)
-
-pub one-spelling : (e f : Entry) (x y : List ℕ) → Fits e → Fits f → line e ++ x ≡ line f ++ y → (e ≡ f) × (x ≡ y)
-one-spelling e f x y fe ff h =
-    let both = rows-one (row_of e) (row_of f) (rows x) (rows y) (sym (rows-entry e x fe) ∙ ap rows h ∙ rows-entry f y ff) in (
-      ok-one e f (sym (body-again e fe) ∙ ap (λ (r : Row). read_fields (pieces 32 r.bytes)) both.0 ∙ body-again f ff),
-      sym (unrows x) ∙ ap (flat_map row_bytes) both.1 ∙ unrows y,
-    )
-
-pub gives-text : (bytes : List ℕ) (r : Result JournalView ReadFault) → Gives r (read_text bytes) → (n : ℕ) (es : List Entry) → IsText bytes n es → Gives r (Reads n es)
-gives-text bytes r g n es t = let P : Reading → Type 0 = λ x. Gives r x in subst P (text-again bytes n es t) g
-
-pub gives-fault : (bytes : List ℕ) (r : Result JournalView ReadFault) → Gives r (read_text bytes) → (k : ℕ) (kind : Kind) → IsFaulty bytes k kind → Gives r (Faulty k kind)
-gives-fault bytes r g k kind f = let P : Reading → Type 0 = λ x. Gives r x in subst P (fault-again bytes k kind f) g
-
-pub found-text : (bytes : List ℕ) (r : Result JournalView ReadFault) → Gives r (read_text bytes) → IfOk r (λ j. IsText bytes j.procs j.entries)
-found-text bytes (Ok j) g = text-take bytes j.procs j.entries g
-found-text bytes (Err f) g = tt
-
-fault-of : (bytes : List ℕ) (f : ReadFault) → Gives (Err f) (read_text bytes) → IsFaultOf bytes f
-fault-of bytes (fault.Text f) g = fault-take bytes f.line f.kind g
-fault-of bytes fault.NoMemory g = tt
-
-pub found-fault : (bytes : List ℕ) (r : Result JournalView ReadFault) → Gives r (read_text bytes) → IfErr r (λ f. IsFaultOf bytes f)
-found-fault bytes (Ok j) g = tt
-found-fault bytes (Err f) g = fault-of bytes f g

@@ -17,6 +17,7 @@ numeral-shape (c ∷ d ∷ cs) some ds lead = let first : c ≢ 48 = lead (omega
 one-fits : (v n most : ℕ) → v ≡ n → n ≤ most → one_number true v most ≡ Some n
 one-fits v n most e h = grind (arith, common_steps)
 
+-- a decimal is read as its number
 pub number-again : (most n : ℕ) → most < 2 ^ 64 → n ≤ most → number most (decimal n) ≡ Some n
 number-again most n wide fits =
     let small : n < 2 ^ 64 = omega arith in
@@ -24,6 +25,7 @@ number-again most n wide fits =
     let value : digits_value 10 (decimal n) ≡ n = value-of (decimal n) n small refl in
     ap (λ b. one_number b (digits_value 10 (decimal n)) most) shape ∙ one-fits (digits_value 10 (decimal n)) n most value fits
 
+-- and so is a field of one
 pub numeral-again : (most n : ℕ) → most < 2 ^ 64 → n ≤ most → numeral most (decimal n) ≡ Ok n
 numeral-again most n wide fits = ap (must BadNumber) (number-again most n wide fits)
 
@@ -31,6 +33,7 @@ and-true : (a b : Bool) → (a && b) ≡ true → (a ≡ true) × (b ≡ true)
 and-true true b h = (refl, h)
 and-true false b h = cc
 
+-- the same bytes
 pub same-true : (xs ys : List ℕ) → same_text xs ys ≡ true → xs ≡ ys
 same-true [] [] h = refl
 same-true [] (y ∷ ys) h = cc
@@ -45,6 +48,7 @@ abbrev pub lacks : ℕ → List ℕ → Bool
 lacks mark [] = true
 lacks mark (c ∷ cs) = not (c == mark) && lacks mark cs
 
+-- a mark in neither part is not in the whole
 pub lacks-append : (mark : ℕ) (xs ys : List ℕ) → lacks mark xs ≡ true → lacks mark ys ≡ true → lacks mark (xs ++ ys) ≡ true
 lacks-append mark [] ys h k = k
 lacks-append mark (x ∷ xs) ys h k =
@@ -63,9 +67,11 @@ no-mark mark low c d = grind (arith, common_steps)
 no-colon : (c : ℕ) → is_ascii_digit c ≡ true → not (c == 58) ≡ true
 no-colon c d = grind (arith, common_steps)
 
+-- no mark below the digits stands in a decimal
 pub decimal-lacks : (mark n : ℕ) → mark < 48 → n < 2 ^ 64 → lacks mark (decimal n) ≡ true
 decimal-lacks mark n low small = digits-lack mark (decimal n) (no-mark mark low) (digits-of (decimal n) n small refl)
 
+-- and no colon
 pub decimal-lacks-colon : (n : ℕ) → n < 2 ^ 64 → lacks 58 (decimal n) ≡ true
 decimal-lacks-colon n small = digits-lack 58 (decimal n) no-colon (digits-of (decimal n) n small refl)
 
@@ -73,6 +79,7 @@ not-true : (b : Bool) → not b ≡ true → b ≡ false
 not-true true h = cc
 not-true false h = refl
 
+-- without a mark there is one piece
 pub pieces-last : (mark : ℕ) (bs : List ℕ) → lacks mark bs ≡ true → pieces mark bs ≡ bs ∷ []
 pieces-last mark [] h = refl
 pieces-last mark (c ∷ cs) h =
@@ -82,16 +89,19 @@ pieces-last mark (c ∷ cs) h =
 same-byte : (m : ℕ) → (m == m) ≡ true
 same-byte m = grind (arith, common_steps)
 
+-- before a mark ends a piece
 pub pieces-more : (mark : ℕ) (bs rest : List ℕ) → lacks mark bs ≡ true → pieces mark (bs ++ mark ∷ rest) ≡ bs ∷ pieces mark rest
 pieces-more mark [] rest h = rw (same-byte mark) refl
 pieces-more mark (c ∷ cs) rest h =
     let both = and-true (not (c == mark)) (lacks mark cs) h in
     rw (not-true (c == mark) both.0) (ap (join_front c) (pieces-more mark cs rest both.1))
 
+-- the mark stands in none of these
 abbrev pub all_lack : ℕ → List (List ℕ) → Bool
 all_lack mark [] = true
 all_lack mark (f ∷ fs) = lacks mark f && all_lack mark fs
 
+-- what was joined by marks is cut into the same
 pub pieces-joined : (mark : ℕ) (f : List ℕ) (fs : List (List ℕ)) → all_lack mark (f ∷ fs) ≡ true → pieces mark (join_with_byte mark (f ∷ fs)) ≡ f ∷ fs
 pieces-joined mark f [] h = pieces-last mark f (and-true (lacks mark f) true h).0
 pieces-joined mark f (g ∷ gs) h =
@@ -108,10 +118,12 @@ joined-step mark c cs b [] e some h = absurd (some refl)
 joined-step mark c cs true (p ∷ ps) e some h = let is : c ≡ mark = grind (arith, common_steps) in ap (λ r. mark ∷ r) h ∙ ap (λ m. m ∷ cs) (sym is)
 joined-step mark c cs false (p ∷ ps) e some h = joined-front mark c p ps ∙ ap (λ r. c ∷ r) h
 
+-- what was cut is joined to the same
 pub joined-pieces : (mark : ℕ) (bs : List ℕ) (some : (cs : List ℕ) → pieces mark cs ≢ []) → join_with_byte mark (pieces mark bs) ≡ bs
 joined-pieces mark [] some = refl
 joined-pieces mark (c ∷ cs) some = joined-step mark c cs (c == mark) (pieces mark cs) refl (some cs) (joined-pieces mark cs some)
 
+-- another mark stands in no such text
 pub lacks-joined : (m : ℕ) (f : List ℕ) (fs : List (List ℕ)) → (32 == m) ≡ false → all_lack m (f ∷ fs) ≡ true → lacks m (join_with_byte 32 (f ∷ fs)) ≡ true
 lacks-joined m f [] other h = (and-true (lacks m f) true h).0
 lacks-joined m f (g ∷ gs) other h =

@@ -9,7 +9,7 @@ use Rattle.hub_base.specs.declared.text.faults.Kind.TheVariants.{CutLine, TooLon
 use Rattle.std.proofs.Common.{◌⊎◌, inl, inr}
 use Rattle.hub_base.specs.Lines.{read_fields, pieces, line}
 use Rattle.hub_base.specs.Reading.{Row, Reading, Reads, Faulty, entries_from, row_fault, faulty_or, end_of, over, counted, with_entry, entry_says, is_exit}
-use Rattle.hub_base.specs.Answers.{behind}
+use Rattle.hub_base.specs.Reading.{behind}
 use Rattle.hub_base.specs.Text.{Fits, fields_of, body, row_of, one_step, steps_of, EntryFails, entry_fault, first_fault, fault_of_entry}
 use Rattle.hub_base.proofs.Bodies.{body-again}
 use Rattle.hub_base.proofs.Takes.{fields-take}
@@ -44,6 +44,7 @@ line-length e = length-append (body e) (codes "\n")
 same-from : (n k k' start start' steps steps' : ℕ) (rs : List Row) → k ≡ k' → start ≡ start' → steps ≡ steps' → entries_from n k start steps rs ≡ entries_from n k' start' steps' rs
 same-from n k k' start start' steps steps' rs a b c = ap (λ k. entries_from n k start steps rs) a ∙ ap (λ start. entries_from n k' start steps rs) b ∙ ap (λ steps. entries_from n k' start' steps rs) c
 
+-- lines of entries are read as these, and the lines behind them go on
 pub entries-again : (n : ℕ) (es : List Entry) (rest : List Row) (k start steps k' start' steps' : ℕ) → AllByRecursion Fits es →
     k' ≡ k + length es → start' ≡ start + length (flat_map line es) → steps' ≡ steps + steps_of es → start' ≤ 67108864 → steps' ≤ 1000000 →
     entries_from n k start steps (map row_of es ++ rest) ≡ behind es (entries_from n k' start' steps' rest)
@@ -72,6 +73,7 @@ pub record Took (n start steps : ℕ) (rs : List Row) (m : ℕ) (es : List Entry
   pub bytes_fit : start + length (flat_map line es) ≤ 67108864
   pub steps_fit : steps + steps_of es ≤ 1000000
 
+-- a journal is said only where the line itself is fine
 pub said-reads : (k : ℕ) (said : Reading) (o : Option Kind) (m : ℕ) (es : List Entry) → faulty_or k said o ≡ Reads m es → (o ≡ None) × (said ≡ Reads m es)
 said-reads k said None m es h = (refl, h)
 said-reads k said (Some kind) m es h = cc
@@ -84,13 +86,16 @@ fault-none false false h = cc
 limit-of : (n : ℕ) → nat_lt 67108864 n ≡ false → n ≤ 67108864
 limit-of n h = grind (arith, common_steps)
 
+-- a line with its newline, within the limit of bytes
 pub record Whole (end : ℕ) (r : Row) : Type 0 where
   pub fits : end ≤ 67108864
   pub whole : r.whole ≡ true
 
+-- a line of which nothing is wrong before it is read
 pub row-none : (end : ℕ) (r : Row) → row_fault end r ≡ None → Whole end r
 row-none end r h = let o = fault-none (nat_lt 67108864 end) r.whole h in record { fits = limit-of end o.0; whole = o.1 }
 
+-- a line that was read as an entry, and what the lines behind it said
 pub record Went (steps : ℕ) (res : Result Entry Kind) (goes : Entry → Reading) (m : ℕ) (es : List Entry) : Type 0 where
   pub e : Entry
   pub rest : List Entry
@@ -121,12 +126,15 @@ few-steps false steps lim h = grind (arith, common_steps)
 bytes-are : (bs : List ℕ) (e : Entry) → pieces 32 bs ≡ fields_of e → bs ≡ body e
 bytes-are bs e fields = sym (joined-pieces 32 bs (pieces-some 32)) ∙ ap (join_with_byte 32) fields
 
+-- a line whose fields spell an entry is that entry's line
 pub row-is : (r : Row) (e : Entry) → r.whole ≡ true → pieces 32 r.bytes ≡ fields_of e → r ≡ row_of e
 row-is r e whole fields = ap (λ b. record { bytes = b; whole = r.whole }) (bytes-are r.bytes e fields) ∙ ap (λ w. record { bytes = body e; whole = w }) whole
 
+-- and ends where it ends
 pub end-is : (start : ℕ) (r : Row) (e : Entry) → r ≡ row_of e → end_of start r ≡ start + length (line e)
 end-is start r e is = let l = line-length e in ap (end_of start) is ∙ (omega (arith, l))
 
+-- what is read without a fault is lines of entries, within the limits
 pub entries-take : (n m : ℕ) (rs : List Row) (es : List Entry) (k start steps : ℕ) → start ≤ 67108864 → steps ≤ 1000000 → entries_from n k start steps rs ≡ Reads m es → Took n start steps rs m es
 entries-take n m [] es k start steps lim most h =
     let P : List Entry → Type 0 = Took n start steps [] m in
@@ -162,6 +170,7 @@ pub record GoesOn (steps k : ℕ) (o : Option Kind) (res : Result Entry Kind) (g
   pub few : over steps e ≡ false
   pub later : goes e ≡ Faulty faulty kind
 
+-- the fault stands in this line
 abbrev pub Here : ℕ → ℕ → Option Kind → Result Entry Kind → ℕ → Kind → Type 0
 Here steps k o res faulty kind = (first_fault o (fault_of_entry steps res) ≡ Some kind) × (k ≡ faulty)
 
@@ -173,6 +182,7 @@ ended-here : (b : Bool) (k faulty : ℕ) (kind : Kind) (x : Reading) → cond b 
 ended-here true k faulty kind x h = inl (let same : TooLong ≡ kind = cc in ap (λ k. Some k) same, cc)
 ended-here false k faulty kind x h = inr (refl, h)
 
+-- a fault stands in this line, or in those behind a line that was read
 pub at-first : (k steps : ℕ) (o : Option Kind) (res : Result Entry Kind) (goes : Entry → Reading) (faulty : ℕ) (kind : Kind) → faulty_or k (entry_says k steps res goes) o ≡ Faulty faulty kind →
     Here steps k o res faulty kind ⊎ GoesOn steps k o res goes faulty kind
 at-first k steps (Some other) res goes faulty kind h = inl (let same : other ≡ kind = cc in ap (λ k. Some k) same, cc)
@@ -186,6 +196,7 @@ at-first k steps None (Ok e) goes faulty kind h =
 fault-at : (place place' steps steps' : ℕ) (r : Row) (kind : Kind) → place ≡ place' → steps ≡ steps' → entry_fault place steps r ≡ Some kind → entry_fault place' steps' r ≡ Some kind
 fault-at place place' steps steps' r kind a b h = sym (ap (λ p. entry_fault p steps r) a ∙ ap (λ s. entry_fault place' s r) b) ∙ h
 
+-- where reading stops at a fault there stand lines of entries, and then a faulty line
 pub entries-fail : (n : ℕ) (rs : List Row) (k start steps faulty : ℕ) (kind : Kind) → start ≤ 67108864 → steps ≤ 1000000 → entries_from n k start steps rs ≡ Faulty faulty kind → EntryFails start steps k rs faulty kind
 entries-fail n [] k start steps faulty kind lim most h = cc
 entries-fail n (r ∷ rs) k start steps faulty kind lim most h =
@@ -234,6 +245,7 @@ faulty-again k steps (Some other) res goes kind h = let same : other ≡ kind = 
 faulty-again k steps None (Err other) goes kind h = let same : other ≡ kind = cc in ap (Faulty k) same
 faulty-again k steps None (Ok e) goes kind h = over-faulty (over steps e) k kind (with_entry e (goes e)) h
 
+-- and where such lines stand, reading stops there
 pub entries-fail-again : (n : ℕ) (rs : List Row) (k start steps faulty : ℕ) (kind : Kind) → EntryFails start steps k rs faulty kind → entries_from n k start steps rs ≡ Faulty faulty kind
 entries-fail-again n rs k start steps faulty kind f =
     let place = start + length (flat_map line f.es) in

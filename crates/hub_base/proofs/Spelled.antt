@@ -5,13 +5,16 @@ use Rattle.hub_base.specs.declared.case.Case.{Case}
 use Rattle.hub_base.specs.Lines.{case_field}
 use Rattle.hub_base.specs.Writing.{spaced, spaced_cases}
 
+-- fields joined by spaces are the first, and the others each behind a space
 pub join-spaced : (f : List ℕ) (fs : List (List ℕ)) → join_with_byte 32 (f ∷ fs) ≡ f ++ spaced fs
 join-spaced f [] = sym (append-nil f)
 join-spaced f (g ∷ fs) = ap (λ r. f ++ 32 ∷ r) (join-spaced g fs)
 
+-- the cases of a select, and then the others
 pub spaced-select : (cs : List Case) (gs : List (List ℕ)) → spaced (map case_field cs ++ gs) ≡ spaced_cases cs ++ spaced gs
 spaced-select [] gs = refl
 spaced-select (c ∷ cs) gs = ap (λ r. 32 ∷ (case_field c ++ r)) (spaced-select cs gs) ∙ ap (λ r. 32 ∷ r) (sym (append_assoc (case_field c) (spaced_cases cs) (spaced gs)))
 
+-- what grew twice grew
 pub grown-more : (x y z : List ℕ) → (a : List ℕ) × (y ≡ x ++ a) → (b : List ℕ) × (z ≡ y ++ b) → (r : List ℕ) × (z ≡ x ++ r)
 grown-more x y z (a, e) (b, f) = (a ++ b, f ∙ ap (λ y. y ++ b) e ∙ append_assoc x a b)

@@ -23,6 +23,7 @@ one-field word pid p m n step e fields fits a b is =
     subst (Spells (pid ∷ word ∷ p ∷ [])) is
     (ap (λ f. f ∷ word ∷ p ∷ []) a.0 ∙ ap (λ f. decimal m ∷ word ∷ f ∷ []) b ∙ ap (λ fs. decimal m ∷ fs) (sym fields), record { pid = a.1; step = fits })
 
+-- a make that was read was so spelled
 pub make-takes : (pid : List ℕ) (fs : List (List ℕ)) (e : Entry) → read_make pid fs ≡ Ok e → Spells (pid ∷ codes "make" ∷ fs) e
 make-takes pid [] e h = cc
 make-takes pid (p ∷ []) e h =
@@ -32,6 +33,7 @@ make-takes pid (p ∷ []) e h =
     one-field (codes "make") pid p a.0 b.0 (Make b.0) e refl y.1 (numeral-ok 255 pid a.0 (omega arith) a.1) y.0 (cc)
 make-takes pid (p ∷ q ∷ fs) e h = cc
 
+-- a close
 pub close-spells : (pid : List ℕ) (fs : List (List ℕ)) (e : Entry) → read_close pid fs ≡ Ok e → Spells (pid ∷ codes "close" ∷ fs) e
 close-spells pid [] e h = cc
 close-spells pid (p ∷ []) e h =
@@ -41,6 +43,7 @@ close-spells pid (p ∷ []) e h =
     one-field (codes "close") pid p a.0 b.0 (Close (record { 0 = b.0 })) e refl y.1 (numeral-ok 255 pid a.0 (omega arith) a.1) y.0 (cc)
 close-spells pid (p ∷ q ∷ fs) e h = cc
 
+-- an exit
 pub exit-takes : (pid : List ℕ) (fs : List (List ℕ)) (e : Entry) → read_exit pid fs ≡ Ok e → Spells (pid ∷ codes "exit" ∷ fs) e
 exit-takes pid [] e h =
     let a = bind_ok (numeral 255 pid) (λ pid. Ok (by pid Exit)) e h in
@@ -54,6 +57,7 @@ abbrev pub draft_field : Draft → List ℕ
 draft_field (Sends p v) = 115 ∷ (p ++ 58 ∷ v)
 draft_field (Receives p) = 114 ∷ p
 
+-- the spelling of a case that sends
 pub record SendSpelled (p v : List ℕ) (c : Case) : Type 0 where
   pub port : ℕ
   pub value : ℕ
@@ -63,6 +67,7 @@ pub record SendSpelled (p v : List ℕ) (c : Case) : Type 0 where
   pub port_fits : port ≤ 65535
   pub value_fits : value ≤ 18446744073709551615
 
+-- a sending case that was read was so spelled
 pub sends-takes : (p v : List ℕ) (c : Case) → case_of (Sends p v) ≡ Ok c → SendSpelled p v c
 sends-takes p v c h =
     let a = bind_ok (numeral 65535 p) (λ p. numeral 18446744073709551615 v >>= λ v. Ok (Send (record { 0 = p }) (record { 0 = v }))) c h in
@@ -71,21 +76,25 @@ sends-takes p v c h =
     let y = numeral-ok 18446744073709551615 v b.0 (omega arith) b.1 in
     record { port = a.0; value = b.0; port_is = x.0; value_is = y.0; is = cc; port_fits = x.1; value_fits = y.1 }
 
+-- the spelling of a case that receives
 pub record RecvSpelled (p : List ℕ) (c : Case) : Type 0 where
   pub port : ℕ
   pub port_is : p ≡ decimal port
   pub is : Recv (record { 0 = port }) ≡ c
   pub port_fits : port ≤ 65535
 
+-- a receiving case
 pub receives-takes : (p : List ℕ) (c : Case) → case_of (Receives p) ≡ Ok c → RecvSpelled p c
 receives-takes p c h =
     let a = bind_ok (numeral 65535 p) (λ p. Ok (Recv (record { 0 = p }))) c h in
     let x = numeral-ok 65535 p a.0 (omega arith) a.1 in
     record { port = a.0; port_is = x.0; is = cc; port_fits = x.1 }
 
+-- the field of a sending case, byte by byte
 pub send-field : (p v : ℕ) → case_field (Send (record { 0 = p }) (record { 0 = v })) ≡ 115 ∷ (decimal p ++ 58 ∷ decimal v)
 send-field p v = refl
 
+-- a case of either kind
 pub case-takes : (d : Draft) (c : Case) → case_of d ≡ Ok c → (draft_field d ≡ case_field c) × CaseFits c
 case-takes (Sends p v) c h =
     let s = sends-takes p v c h in
@@ -96,6 +105,7 @@ case-takes (Receives p) c h =
     let P : Case → Type 0 = λ c. (draft_field (Receives p) ≡ case_field c) × CaseFits c in
     subst P s.is (ap (λ p. 114 ∷ p) s.port_is, s.port_fits)
 
+-- all cases of a select
 pub cases-take : (ds : List Draft) (cs : List Case) → cases_of ds ≡ Ok cs → (map draft_field ds ≡ map case_field cs) × AllByRecursion CaseFits cs × (length ds ≡ length cs)
 cases-take [] cs h =
     let P : List Case → Type 0 = λ cs. (map draft_field [] ≡ map case_field cs) × AllByRecursion CaseFits cs × (length {A = Draft} [] ≡ length cs) in
@@ -127,12 +137,14 @@ letter c cs d true r a b is other f g h = let here : c ≡ 115 = grind (arith, c
 letter c cs d false true a b is other f g h = let here : c ≡ 114 = grind (arith, common_steps) in ap (λ c. c ∷ cs) here ∙ g h
 letter c cs d false false a b is other f g h = cc
 
+-- a field of a case has its letter and its parts
 pub draft-takes : (f : List ℕ) (d : Draft) → draft_of f ≡ Ok d → f ≡ draft_field d
 draft-takes [] d h = cc
 draft-takes (c ∷ cs) d h =
     let j = joined-pieces 58 cs (pieces-some 58) in
     letter c cs d (c == 115) (c == 114) (send_draft (pieces 58 cs)) (recv_draft (pieces 58 cs)) refl refl (two-parts cs (pieces 58 cs) d j) (one-part cs (pieces 58 cs) d j) h
 
+-- all such fields
 pub drafts-take : (fs : List (List ℕ)) (ds : List Draft) → drafts_of fs ≡ Ok ds → fs ≡ map draft_field ds
 drafts-take [] ds h = let is : [] ≡ ds = cc in ap (map draft_field) is
 drafts-take (f ∷ fs) ds h =
@@ -149,15 +161,18 @@ ends-cons : (f : List ℕ) (b : Bool) → same_text f (codes "default") ≡ b �
 ends-cons f true h = ap (λ f. f ∷ []) (same-true f (codes "default") h)
 ends-cons f false h = refl
 
+-- the cases and the default are the fields
 pub ends-split : (fs : List (List ℕ)) → fs ≡ (ends_default fs).0 ++ default_field (ends_default fs).1
 ends-split [] = refl
 ends-split (f ∷ []) = ends-cons f (same_text f (codes "default")) refl
 ends-split (f ∷ g ∷ fs) = ap (λ r. f ∷ r) (ends-split (g ∷ fs))
 
+-- a call that a select may spell
 pub record Whole (cs : List Case) (d : Bool) (w : ℕ) (step : Step) : Type 0 where
   pub step_is : call cs d w ≡ step
   pub fields_are : call_fields cs d w ≡ select_fields cs d w
 
+-- a call that was read from a select has no short form
 pub spelled-takes : (cs : List Case) (d : Bool) (w : ℕ) (step : Step) → spelled cs d w ≡ Ok step → Whole cs d w step
 spelled-takes [] d w step h = record { step_is = cc; fields_are = refl }
 spelled-takes (Send p v ∷ []) true w step h = record { step_is = cc; fields_are = refl }
@@ -176,6 +191,7 @@ few-ok false x e h = (refl, h)
 few-le : (n : ℕ) → nat_lt 16 n ≡ false → n ≤ 16
 few-le n h = grind (arith, common_steps)
 
+-- a select behind its word
 pub select-takes : (pid word : List ℕ) (fs : List (List ℕ)) (e : Entry) → read_select pid word (ends_default fs) ≡ Ok e → Spells (pid ∷ codes "select" ∷ word ∷ fs) e
 select-takes pid word fs e h =
     let d = (ends_default fs).1 in
@@ -198,10 +214,12 @@ select-takes pid word fs e h =
       record { pid = x.1; step = record { few = (let n = few-le (length ds) few.0 in omega (arith, cases.2)); each = cases.1; word_fits = y.1 } },
     )
 
+-- a select
 pub choice-takes : (pid : List ℕ) (fs : List (List ℕ)) (e : Entry) → read_choice pid fs ≡ Ok e → Spells (pid ∷ codes "select" ∷ fs) e
 choice-takes pid [] e h = cc
 choice-takes pid (word ∷ fs) e h = select-takes pid word fs e h
 
+-- a send
 pub send-takes : (pid : List ℕ) (fs : List (List ℕ)) (e : Entry) → read_send pid fs ≡ Ok e → Spells (pid ∷ codes "send" ∷ fs) e
 send-takes pid [] e h = cc
 send-takes pid (p ∷ []) e h = cc
@@ -218,6 +236,7 @@ send-takes pid (p ∷ v ∷ []) e h =
     )
 send-takes pid (p ∷ v ∷ q ∷ fs) e h = cc
 
+-- a receive
 pub recv-takes : (pid : List ℕ) (fs : List (List ℕ)) (e : Entry) → read_recv pid fs ≡ Ok e → Spells (pid ∷ codes "recv" ∷ fs) e
 recv-takes pid [] e h = cc
 recv-takes pid (p ∷ []) e h =
@@ -243,6 +262,7 @@ test false x y e P f g h = g h
 none : (e : Entry) (P : Type 0) → Err BadStep ≡ Ok e → P
 none e P h = cc
 
+-- a line, by its second field
 pub step-takes : (pid word : List ℕ) (fs : List (List ℕ)) (e : Entry) → read_step pid word fs ≡ Ok e → Spells (pid ∷ word ∷ fs) e
 step-takes pid word fs e h =
     let P : Type 0 = Spells (pid ∷ word ∷ fs) e in

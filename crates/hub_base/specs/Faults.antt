@@ -1,7 +1,9 @@
+-- The numbers of faults, as event texts print them.
 use Rattle.std.specs.Prelude.{ℕ}
 use Rattle.hub_base.specs.declared.fault.Fault.{Fault}
 use Rattle.hub_base.specs.declared.fault.Fault.TheVariants.{NoProcess, Gone, Busy, TooManyCases, NoPort, BadCap, TooManyPorts, NilClose, AlreadyClosed, JournalFull, NoMemory}
 
+-- the number of a fault
 abbrev pub fault_number : Fault → ℕ
 fault_number NoProcess = 1
 fault_number Gone = 2

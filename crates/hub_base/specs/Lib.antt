@@ -8,13 +8,15 @@ pub mod Values
 pub mod Notation
 pub mod Rows
 pub mod EventText
+pub mod Limits
 pub mod Lines
 pub mod Reading
 pub mod Text
 pub mod TextRows
 pub mod Journal
-pub mod Left
+pub mod Fields
 pub mod Writing
-pub mod Answers
+pub mod ReadJournal
+pub mod Filling
 pub mod Reader
 pub mod ReaderKeeps

@@ -1,4 +1,5 @@
--- The fields of an entry's line, and what fields say.
+-- The line of an entry: the fields that spell it, and what the fields of any line say. Each entry
+-- has one spelling. Numbers are decimal, without sign and without a leading zero.
 use Rattle.std.specs.Prelude.{ℕ, zero, ◌==◌, ◌&&◌, ◌||◌, not, nat_lt, nat_le, Bool, true, false, List, [], ◌∷◌, ◌++◌, length, map, codes, decimal, Option, None, Some, Result, Ok, Err, if◌then◌else◌}
 use Rattle.std.specs.List.{list_all, join_with_byte}
 use Rattle.std.specs.Char.{is_ascii_digit}
@@ -11,18 +12,23 @@ use Rattle.hub_base.specs.declared.entry.Entry.{Entry}
 use Rattle.hub_base.specs.Value.{value_of, value_field}
 use Rattle.hub_base.specs.declared.text.faults.Kind.{Kind}
 use Rattle.hub_base.specs.declared.text.faults.Kind.TheVariants.{BadStep, BadNumber}
+use Rattle.hub_base.specs.Limits.{greatest_cap, greatest_pid, greatest_port, greatest_value, greatest_word, most_cases}
 
--- ---- writing; 58 is the colon
+-- ---- writing
+-- a case of a select: `s1:7` or `r1`; 58 is the colon
 abbrev pub case_field : Case → List ℕ
 case_field (Send p v) = codes "s" ++ (decimal p.0 ++ 58 ∷ value_field v)
 case_field (Recv p) = codes "r" ++ decimal p.0
 
+-- the field of a default, if there is one
 abbrev pub default_field : Bool → List (List ℕ)
 default_field true = codes "default" ∷ []
 default_field false = []
 
+-- a select: its word, its cases, and perhaps a default
 abbrev pub select_fields : List Case → Bool → ℕ → List (List ℕ)
-select_fields cases default word = codes "select" ∷ decimal word ∷ map case_field cases ++ default_field default
+select_fields cases default word =
+    codes "select" ∷ decimal word ∷ map case_field cases ++ default_field default
 
 -- a call of one case without default and with word 0 has a short form
 abbrev pub call_fields : List Case → Bool → ℕ → List (List ℕ)
@@ -30,89 +36,109 @@ call_fields (Send p v ∷ []) false zero = codes "send" ∷ decimal p.0 ∷ valu
 call_fields (Recv p ∷ []) false zero = codes "recv" ∷ decimal p.0 ∷ []
 call_fields cases default word = select_fields cases default word
 
+-- the fields of a step, behind that of the process
 abbrev pub step_fields : Step → List (List ℕ)
 step_fields (Make cap) = codes "make" ∷ decimal cap ∷ []
 step_fields (Call cases default word) = call_fields cases.items default word
 step_fields (Close p) = codes "close" ∷ decimal p.0 ∷ []
 step_fields Exit = codes "exit" ∷ []
 
+-- the fields with single spaces between them, and a newline
 abbrev pub line : Entry → List ℕ
 line e = join_with_byte 32 (decimal e.pid.0 ∷ step_fields e.step) ++ codes "\n"
 
 -- ---- reading
+-- whether two lists of bytes are the same
 abbrev pub same_text : List ℕ → List ℕ → Bool
 same_text [] [] = true
 same_text (x ∷ xs) (y ∷ ys) = (x == y) && same_text xs ys
 same_text [] (y ∷ ys) = false
 same_text (x ∷ xs) [] = false
 
+-- the number, where it is a numeral at all and at most `most`
 abbrev pub one_number : Bool → ℕ → ℕ → Option ℕ
 one_number false n most = None
 one_number true n most = if nat_le n most then Some n else None
 
--- `0`, or a digit from 1 to 9 followed by digits, at most `most`
+-- `0`, or a digit from 1 to 9 followed by digits; 48 is the zero
 abbrev pub is_numeral : List ℕ → Bool
 is_numeral [] = false
 is_numeral (c ∷ cs) = list_all is_ascii_digit (c ∷ cs) && (not (c == 48) || (length cs == 0))
 
+-- the number that these bytes spell, where it is at most `most`
 abbrev pub number : ℕ → List ℕ → Option ℕ
 number most bs = one_number (is_numeral bs) (digits_value 10 bs) most
 
+-- the next reading, unless there is a fault already
 infixl 10 ◌>>=◌
 abbrev pub ◌>>=◌ : {A B : Type 0} → Result A Kind → (A → Result B Kind) → Result B Kind
 (Ok x) >>= f = f x
 (Err e) >>= f = Err e
 
+-- what has to be there, or this fault
 abbrev pub must : {A : Type 0} → Kind → Option A → Result A Kind
 must kind None = Err kind
 must kind (Some x) = Ok x
 
+-- a field that has to be a number
 abbrev pub numeral : ℕ → List ℕ → Result ℕ Kind
 numeral most bs = must BadNumber (number most bs)
 
--- the pieces between single bytes of this kind: at least one
+-- the first piece with this byte before it
 abbrev pub join_front : ℕ → List (List ℕ) → List (List ℕ)
 join_front c [] = (c ∷ []) ∷ []
 join_front c (piece ∷ pieces) = (c ∷ piece) ∷ pieces
 
--- these bytes put before the first piece
+-- the first piece with these bytes before it
 abbrev pub joins : List ℕ → List (List ℕ) → List (List ℕ)
 joins xs [] = xs ∷ []
 joins xs (piece ∷ pieces) = (xs ++ piece) ∷ pieces
 
+-- the pieces between single marks: at least one, and a piece may be empty
 abbrev pub pieces : ℕ → List ℕ → List (List ℕ)
 pieces mark [] = [] ∷ []
 pieces mark (c ∷ cs) = if c == mark then [] ∷ pieces mark cs else join_front c (pieces mark cs)
 
--- a case as it stands: a letter, and its parts
+-- a case field that has the right shape: by its letter, its parts, which may be no numbers
 pub data Draft : Type 0 where
   Sends : List ℕ → List ℕ → Draft
   Receives : List ℕ → Draft
 
+-- behind an `s`: a port and a value, with one colon between them
 abbrev pub send_draft : List (List ℕ) → Result Draft Kind
 send_draft (p ∷ v ∷ []) = Ok (Sends p v)
 send_draft other = Err BadStep
 
+-- behind an `r`: a port, without a colon
 abbrev pub recv_draft : List (List ℕ) → Result Draft Kind
 recv_draft (p ∷ []) = Ok (Receives p)
 recv_draft other = Err BadStep
 
+-- a case field; 115 is the letter s, and 114 is r
 abbrev pub draft_of : List ℕ → Result Draft Kind
 draft_of [] = Err BadStep
-draft_of (c ∷ cs) = if c == 115 then send_draft (pieces 58 cs) else if c == 114 then recv_draft (pieces 58 cs) else Err BadStep
+draft_of (c ∷ cs) =
+    if c == 115 then send_draft (pieces 58 cs)
+    else if c == 114 then recv_draft (pieces 58 cs)
+    else Err BadStep
 
+-- all case fields of a select
 abbrev pub drafts_of : List (List ℕ) → Result (List Draft) Kind
 drafts_of [] = Ok []
 drafts_of (f ∷ fs) = draft_of f >>= λ d. drafts_of fs >>= λ ds. Ok (d ∷ ds)
 
+-- the case of such a field, where its parts are numbers
 abbrev pub case_of : Draft → Result Case Kind
-case_of (Sends p v) = numeral 65535 p >>= λ p. numeral 18446744073709551615 v >>= λ v. Ok (Send (record { 0 = p }) (value_of v))
-case_of (Receives p) = numeral 65535 p >>= λ p. Ok (Recv (record { 0 = p }))
+case_of (Sends p v) =
+    numeral greatest_port p >>= λ p. numeral greatest_value v >>= λ v.
+    Ok (Send (record { 0 = p }) (value_of v))
+case_of (Receives p) = numeral greatest_port p >>= λ p. Ok (Recv (record { 0 = p }))
 
 -- a fault of its shape, or else what its numbers say
 abbrev pub case_read : List ℕ → Result (Result Case Kind) Kind
 case_read field = draft_of field >>= λ draft. Ok (case_of draft)
 
+-- the cases of such fields
 abbrev pub cases_of : List Draft → Result (List Case) Kind
 cases_of [] = Ok []
 cases_of (d ∷ ds) = case_of d >>= λ c. cases_of ds >>= λ cs. Ok (c ∷ cs)
@@ -128,52 +154,70 @@ ends_default [] = ([], false)
 ends_default (f ∷ []) = if same_text f (codes "default") then ([], true) else (f ∷ [], false)
 ends_default (f ∷ g ∷ fs) = (f ∷ (ends_default (g ∷ fs)).0, (ends_default (g ∷ fs)).1)
 
+-- a step of this process
 abbrev pub by : ℕ → Step → Entry
 by pid step = record { pid = record { 0 = pid }; step = step }
 
+-- a call of these cases
 abbrev pub call : List Case → Bool → ℕ → Step
 call cases default word = Call (record { items = cases }) default word
 
--- the second spelling of a call that has a short form
+-- a call that was spelled as a select; one that has a short form is no select
 abbrev pub spelled : List Case → Bool → ℕ → Result Step Kind
 spelled (c ∷ []) false zero = Err BadStep
 spelled cases default word = Ok (call cases default word)
 
--- the numbers of a select, and then its spelling
+-- a select whose fields have the right shape: its numbers, and then its spelling
 abbrev pub choose : List ℕ → List ℕ → Result (List Case) Kind → Bool → Result Entry Kind
 choose pid word cases default =
-    numeral 255 pid >>= λ pid. numeral 18446744073709551615 word >>= λ word.
+    numeral greatest_pid pid >>= λ pid. numeral greatest_word word >>= λ word.
     cases >>= λ cases. spelled cases default word >>= λ step. Ok (by pid step)
 
+-- the fields behind the word of a select: all shapes are looked at before any number
 abbrev pub read_select : List ℕ → List ℕ → (List (List ℕ)) × Bool → Result Entry Kind
 read_select pid word fields =
     drafts_of fields.0 >>= λ drafts.
-    if nat_lt 16 (length drafts) then Err BadStep else choose pid word (cases_of drafts) fields.1
+    if nat_lt most_cases (length drafts) then Err BadStep
+    else choose pid word (cases_of drafts) fields.1
 
+-- `P make C`
 abbrev pub read_make : List ℕ → List (List ℕ) → Result Entry Kind
-read_make pid (cap ∷ []) = numeral 255 pid >>= λ pid. numeral 4294967295 cap >>= λ cap. Ok (by pid (Make cap))
+read_make pid (cap ∷ []) =
+    numeral greatest_pid pid >>= λ pid. numeral greatest_cap cap >>= λ cap. Ok (by pid (Make cap))
 read_make pid other = Err BadStep
 
+-- `P send PORT V`
 abbrev pub read_send : List ℕ → List (List ℕ) → Result Entry Kind
-read_send pid (p ∷ v ∷ []) = numeral 255 pid >>= λ pid. case_of (Sends p v) >>= λ c. Ok (by pid (call (c ∷ []) false 0))
+read_send pid (p ∷ v ∷ []) =
+    numeral greatest_pid pid >>= λ pid. case_of (Sends p v) >>= λ c.
+    Ok (by pid (call (c ∷ []) false 0))
 read_send pid other = Err BadStep
 
+-- `P recv PORT`
 abbrev pub read_recv : List ℕ → List (List ℕ) → Result Entry Kind
-read_recv pid (p ∷ []) = numeral 255 pid >>= λ pid. case_of (Receives p) >>= λ c. Ok (by pid (call (c ∷ []) false 0))
+read_recv pid (p ∷ []) =
+    numeral greatest_pid pid >>= λ pid. case_of (Receives p) >>= λ c.
+    Ok (by pid (call (c ∷ []) false 0))
 read_recv pid other = Err BadStep
 
+-- `P close PORT`
 abbrev pub read_close : List ℕ → List (List ℕ) → Result Entry Kind
-read_close pid (p ∷ []) = numeral 255 pid >>= λ pid. numeral 65535 p >>= λ p. Ok (by pid (Close (record { 0 = p })))
+read_close pid (p ∷ []) =
+    numeral greatest_pid pid >>= λ pid. numeral greatest_port p >>= λ p.
+    Ok (by pid (Close (record { 0 = p })))
 read_close pid other = Err BadStep
 
+-- `P exit`
 abbrev pub read_exit : List ℕ → List (List ℕ) → Result Entry Kind
-read_exit pid [] = numeral 255 pid >>= λ pid. Ok (by pid Exit)
+read_exit pid [] = numeral greatest_pid pid >>= λ pid. Ok (by pid Exit)
 read_exit pid other = Err BadStep
 
+-- `P select W CASE.. [default]`
 abbrev pub read_choice : List ℕ → List (List ℕ) → Result Entry Kind
 read_choice pid [] = Err BadStep
 read_choice pid (word ∷ fields) = read_select pid word (ends_default fields)
 
+-- the second field says which step it is
 abbrev pub read_step : List ℕ → List ℕ → List (List ℕ) → Result Entry Kind
 read_step pid word rest =
     if same_text word (codes "make") then read_make pid rest

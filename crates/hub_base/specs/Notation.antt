@@ -1,11 +1,10 @@
--- Short words for entries and events, in which the worked rows are written: `send 0 1 7` is process 0 that
--- sends 7 on port 1, and `case 0 0 (got 7)` tells it that case 0 of its call got 7.
+-- Short words for entries and events, in which the worked rows are written: `send 0 1 7` is process
+-- 0 that sends 7 on port 1, and `case 0 0 (got 7)` tells it that case 0 of its call got 7.
 use Rattle.std.specs.Prelude.{ℕ, Bool, false, List, [], ◌∷◌}
 use Rattle.hub_base.specs.declared.value.Port.{Port}
 use Rattle.hub_base.specs.declared.case.Case.{Case}
 use Rattle.hub_base.specs.declared.case.Case.TheVariants.{Send, Recv}
-use Rattle.hub_base.specs.declared.entry.Step.{Step}
-use Rattle.hub_base.specs.declared.entry.Step.TheVariants.{Make, Call, Close, Exit}
+use Rattle.hub_base.specs.declared.entry.Step.TheVariants.{Make, Close, Exit}
 use Rattle.hub_base.specs.declared.entry.Entry.{Entry}
 use Rattle.hub_base.specs.declared.event.Outcome.{Outcome}
 use Rattle.hub_base.specs.declared.event.Outcome.TheVariants.{Got}
@@ -14,6 +13,7 @@ use Rattle.hub_base.specs.declared.event.What.TheVariants as what
 use Rattle.hub_base.specs.declared.event.Event.{Event}
 use Rattle.hub_base.specs.declared.fault.Fault.{Fault}
 use Rattle.hub_base.specs.Value.{value_of}
+use Rattle.hub_base.specs.Lines.{by, call}
 
 -- ---- cases
 -- the port of this number
@@ -29,17 +29,13 @@ abbrev pub r : ℕ → Case
 r p = Recv (port p)
 
 -- ---- entries; the process comes first
--- a step of this process
-abbrev pub by : ℕ → Step → Entry
-by pid step = record { pid = record { 0 = pid }; step = step }
-
 -- makes a port of this capacity
 abbrev pub make : ℕ → ℕ → Entry
 make pid cap = by pid (Make cap)
 
 -- a call with this word, these cases and perhaps a default
 abbrev pub select : ℕ → ℕ → List Case → Bool → Entry
-select pid word cases default = by pid (Call (record { items = cases }) default word)
+select pid word cases default = by pid (call cases default word)
 
 -- sends a number on a port
 abbrev pub send : ℕ → ℕ → ℕ → Entry

@@ -1,19 +1,22 @@
--- What contracts see of a reader: the number of processes, what the rest of the text says, and in how many
--- bytes it stands.
-use Rattle.std.specs.Prelude.{ℕ, ◌≤◌, ◌<◌, ◌≡◌, ◌+◌, List, [], length, Option, None, Some, Result, Ok, Err}
+-- What contracts see of a reader: the number of processes, what the rest of the text says, and in
+-- how many bytes it stands.
+use Rattle.std.specs.Prelude.{ℕ, ◌<◌, ◌≡◌, [], Option, None, Some, Result, Ok, Err, Bool, true, false}
 use Rattle.hub_base.specs.declared.entry.Entry.{Entry}
 use Rattle.hub_base.specs.declared.text.faults.TextFault.{TextFault}
 use Rattle.hub_base.specs.Reading.{Reading, Reads, Faulty, with_entry}
 
+-- a reader
 pub record ReaderView : Type 0 where
   pub procs : ℕ
   pub left : Reading
   pub bytes : ℕ
 
--- where nothing is left the text ends; else what is left is this entry and what the reader says after it
+-- where nothing is left the text ends; else what is left is this entry and what the reader says
+-- after it
 abbrev pub Continues : ReaderView → ReaderView → Option Entry → Type 0
 Continues old new None = (old.left ≡ Reads old.procs []) × (new ≡ old)
-Continues old new (Some e) = (old.left ≡ with_entry e new.left) × (new.procs ≡ old.procs) × (new.bytes < old.bytes)
+Continues old new (Some e) =
+    (old.left ≡ with_entry e new.left) × (new.procs ≡ old.procs) × (new.bytes < old.bytes)
 
 -- the first fault of what is left; the reader stays where it is
 pub record StopsAt (old new : ReaderView) (at : TextFault) : Type 0 where
@@ -24,3 +27,9 @@ pub record StopsAt (old new : ReaderView) (at : TextFault) : Type 0 where
 abbrev pub ReadsOn : ReaderView → ReaderView → Result (Option Entry) TextFault → Type 0
 ReadsOn old new (Ok next) = Continues old new next
 ReadsOn old new (Err fault) = StopsAt old new fault
+
+-- the same, where the entry was read into a given place
+abbrev pub FillsOn : ReaderView → ReaderView → Entry → Result Bool TextFault → Type 0
+FillsOn old new entry (Ok true) = Continues old new (Some entry)
+FillsOn old new entry (Ok false) = Continues old new None
+FillsOn old new entry (Err fault) = StopsAt old new fault

@@ -1,15 +1,17 @@
--- What every reader keeps.
-use Rattle.std.specs.Prelude.{ℕ, ◌≤◌, ◌+◌, length}
+-- What every reader keeps: the limits of a text hold of what was read.
+use Rattle.std.specs.Prelude.{◌≤◌, ◌+◌}
 use Rattle.hub_base.specs.declared.text.reader.Reader.TheInside.{Inside}
 use Rattle.hub_base.specs.Reading.{Reading, entries_from, rows}
+use Rattle.hub_base.specs.Limits.{most_bytes, most_procs, most_steps}
 
 -- what the lines that are left say
 abbrev pub left_of : Inside → Reading
 left_of r = entries_from r.procs r.line r.place r.steps (rows r.rest.now)
 
+-- there are 1 to 64 processes, and what was read is within the limits
 pub record ReaderKeeps (r : Inside) : Type 0 where
   pub some : 1 ≤ r.procs
-  pub few : r.procs ≤ 64
-  pub place : r.place ≤ 67108864
+  pub few : r.procs ≤ most_procs
+  pub place : r.place ≤ most_bytes
   pub line : r.line ≤ r.place + 3
-  pub steps : r.steps ≤ 1000000
+  pub steps : r.steps ≤ most_steps

@@ -1,4 +1,7 @@
--- A whole text.
+-- A whole text: how it is spelled, and what any list of bytes says when its lines are read in
+-- order. The first faulty line decides, and of its faults the first in this order: a byte past the
+-- limit, no newline, the head lines, the shape of a step, its numbers, its spelling, one step too
+-- many.
 use Rattle.std.specs.Prelude.{ℕ, ◌+◌, ◌==◌, ◌&&◌, not, nat_lt, nat_le, Bool, true, false, List, [], ◌∷◌, ◌++◌, length, codes, decimal, Option, None, Some, Result, Ok, Err, if◌then◌else◌}
 use Rattle.std.specs.List.{flat_map}
 use Rattle.hub_base.specs.declared.entry.Step.{Step}
@@ -7,14 +10,17 @@ use Rattle.hub_base.specs.declared.entry.Entry.{Entry}
 use Rattle.hub_base.specs.declared.text.faults.Kind.{Kind}
 use Rattle.hub_base.specs.declared.text.faults.Kind.TheVariants.{BadHeader, BadProcs, CutLine, TooLong}
 use Rattle.hub_base.specs.Lines.{line, pieces, read_fields, number, same_text}
+use Rattle.hub_base.specs.Limits.{most_bytes, most_procs, most_steps}
 
 -- the second line without its newline
 abbrev pub procs_line : ℕ → List ℕ
 procs_line n = codes "procs " ++ decimal n
 
+-- the two head lines
 abbrev pub head : ℕ → List ℕ
 head n = codes "chanhub journal 1\n" ++ (procs_line n ++ codes "\n")
 
+-- the text of n processes and these entries
 abbrev pub text : ℕ → List Entry → List ℕ
 text n es = head n ++ flat_map line es
 
@@ -23,37 +29,45 @@ pub record Row : Type 0 where
   pub bytes : List ℕ
   pub whole : Bool
 
+-- the first line with this byte before it
 abbrev pub front : ℕ → List Row → List Row
 front c [] = record { bytes = c ∷ []; whole = false } ∷ []
 front c (r ∷ rs) = record { bytes = c ∷ r.bytes; whole = r.whole } ∷ rs
 
--- the lines of a text
+-- the lines of a text: it is cut behind each newline, and a last part without one is a line if it
+-- is not empty
 abbrev pub rows : List ℕ → List Row
 rows [] = []
 rows (c ∷ cs) = if c == 10 then record { bytes = []; whole = true } ∷ rows cs else front c (rows cs)
 
+-- the step is an exit; all others count as steps
 abbrev pub is_exit : Step → Bool
 is_exit (Make cap) = false
 is_exit (Call cases default word) = false
 is_exit (Close p) = false
 is_exit Exit = true
 
--- the first fault, by its line
+-- what a text says: so many processes and these entries, or its first faulty line, counted from 1,
+-- and the fault
 pub data Reading : Type 0 where
   Reads : ℕ → List Entry → Reading
   Faulty : ℕ → Kind → Reading
 
+-- the place behind a line that begins at this place
 abbrev pub end_of : ℕ → Row → ℕ
 end_of start r = start + length r.bytes + (if r.whole then 1 else 0)
 
--- what is wrong with the first line before anything is read of it
+-- what is wrong with a line that ends before this place, before anything is read of it
 abbrev pub row_fault : ℕ → Row → Option Kind
-row_fault end r = if nat_lt 67108864 end then Some TooLong else if r.whole then None else Some CutLine
+row_fault end r =
+    if nat_lt most_bytes end then Some TooLong else if r.whole then None else Some CutLine
 
+-- the same of the first line
 abbrev pub line_fault : ℕ → List Row → Option Kind
 line_fault start [] = None
 line_fault start (r ∷ rs) = row_fault (end_of start r) r
 
+-- the fault of line k, or else what was said
 abbrev pub faulty_or : ℕ → Reading → Option Kind → Reading
 faulty_or k said None = said
 faulty_or k said (Some kind) = Faulty k kind
@@ -62,30 +76,44 @@ faulty_or k said (Some kind) = Faulty k kind
 abbrev pub within : ℕ → ℕ → Row → Reading → Reading
 within end k r said = faulty_or k said (row_fault end r)
 
+-- what is said, behind this entry
 abbrev pub with_entry : Entry → Reading → Reading
 with_entry e (Reads n es) = Reads n (e ∷ es)
 with_entry e (Faulty k kind) = Faulty k kind
 
+-- what is said, behind these entries
+abbrev pub behind : List Entry → Reading → Reading
+behind es (Reads n fs) = Reads n (es ++ fs)
+behind es (Faulty k kind) = Faulty k kind
+
+-- how many steps stand up to this entry, where so many stand before it
 abbrev pub counted : ℕ → Entry → ℕ
 counted steps e = if is_exit e.step then steps else steps + 1
 
+-- this entry is one step too many
 abbrev pub over : ℕ → Entry → Bool
-over steps e = not (is_exit e.step) && nat_le 1000000 steps
+over steps e = not (is_exit e.step) && nat_le most_steps steps
 
--- goes: what the lines from the k-th on say, where the k-th begins at this byte and so many steps stand before it
+-- what line k says, and the lines behind it: `goes` tells those, by the entry
 abbrev pub entry_says : ℕ → ℕ → Result Entry Kind → (Entry → Reading) → Reading
 entry_says k steps (Err kind) goes = Faulty k kind
 entry_says k steps (Ok e) goes = if over steps e then Faulty k TooLong else with_entry e (goes e)
 
+-- what the lines from the k-th on say, where the k-th begins at this place and so many steps stand
+-- before it
 abbrev pub entries_from : ℕ → ℕ → ℕ → ℕ → List Row → Reading
 entries_from n k start steps [] = Reads n []
 entries_from n k start steps (r ∷ rs) =
-    within (end_of start r) k r (entry_says k steps (read_fields (pieces 32 r.bytes)) (λ e. entries_from n (k + 1) (end_of start r) (counted steps e) rs))
+    within (end_of start r) k r (
+    entry_says k steps (read_fields (pieces 32 r.bytes)) (
+    λ e. entries_from n (k + 1) (end_of start r) (counted steps e) rs))
 
+-- `procs`, and a number up to 64
 abbrev pub procs_field : List (List ℕ) → Option ℕ
-procs_field (w ∷ n ∷ []) = if same_text w (codes "procs") then number 64 n else None
+procs_field (w ∷ n ∷ []) = if same_text w (codes "procs") then number most_procs n else None
 procs_field other = None
 
+-- not 0
 abbrev pub above_zero : Option ℕ → Option ℕ
 above_zero None = None
 above_zero (Some n) = if n == 0 then None else Some n
@@ -94,17 +122,25 @@ above_zero (Some n) = if n == 0 then None else Some n
 abbrev pub procs_number : List ℕ → Option ℕ
 procs_number bytes = above_zero (procs_field (pieces 32 bytes))
 
+-- the lines behind the second, where it says so
 abbrev pub procs_say : Option ℕ → ℕ → List Row → Reading
 procs_say None start rs = Faulty 2 BadProcs
 procs_say (Some n) start rs = entries_from n 3 start 0 rs
 
+-- what the lines from the second on say
 abbrev pub procs_from : ℕ → List Row → Reading
 procs_from start [] = Faulty 2 BadProcs
-procs_from start (r ∷ rs) = within (end_of start r) 2 r (procs_say (procs_number r.bytes) (end_of start r) rs)
+procs_from start (r ∷ rs) =
+    within (end_of start r) 2 r (procs_say (procs_number r.bytes) (end_of start r) rs)
 
+-- what all lines say
 abbrev pub reading : List Row → Reading
 reading [] = Faulty 1 BadHeader
-reading (r ∷ rs) = within (end_of 0 r) 1 r (if same_text r.bytes (codes "chanhub journal 1") then procs_from (end_of 0 r) rs else Faulty 1 BadHeader)
+reading (r ∷ rs) =
+    within (end_of 0 r) 1 r (
+    if same_text r.bytes (codes "chanhub journal 1") then procs_from (end_of 0 r) rs
+    else Faulty 1 BadHeader)
 
+-- what a text says
 abbrev pub read_text : List ℕ → Reading
 read_text bs = reading (rows bs)

@@ -1,5 +1,5 @@
--- Worked rows: short journals with the events that the definition gives for them, worked out by hand from the
--- rules. Each is computed from `events`.
+-- Worked rows: short journals with the events that the definition gives for them, worked out by
+-- hand from the rules. Each is computed from `events`.
 pub mod Buffering
 pub mod Waiting
 pub mod Closing

@@ -34,6 +34,7 @@ opening n = record { procs = n; gone = []; parked = []; channels = [] }
 abbrev pub channel_at : State → Port → Option Channel
 channel_at s p = if p.0 == 0 then None else slice_get s.channels (p.0 - 1)
 
+-- the same hub with this channel at a port that was made
 abbrev pub with_channel : State → Port → Channel → State
 with_channel s p c = record s { channels = slice_set s.channels (p.0 - 1) c }
 

@@ -1,4 +1,6 @@
--- What a journal's text is, apart from how it is read.
+-- What a journal's text is, and where other bytes are faulty, said of whole lines and their
+-- spellings. How bytes are read is no part of it: that both agree is what `read_journal` and
+-- `one_reading` promise.
 use Rattle.std.specs.Prelude.{◌≡◌, ℕ, ◌+◌, ◌≤◌, true, List, [], ◌∷◌, ◌++◌, ◌⊎◌, length, map, codes, decimal, Option, None, Some, Result, Ok, Err, if◌then◌else◌}
 use Rattle.std.specs.List.{flat_map, AllByRecursion, join_with_byte}
 use Rattle.hub_base.specs.declared.case.Case.{Case}
@@ -11,44 +13,50 @@ use Rattle.hub_base.specs.declared.text.faults.Kind.{Kind}
 use Rattle.hub_base.specs.declared.text.faults.Kind.TheVariants.{BadHeader, BadProcs, TooLong}
 use Rattle.hub_base.specs.Lines.{line, step_fields, pieces, read_fields, same_text}
 use Rattle.hub_base.specs.Reading.{text, head, procs_line, Row, rows, is_exit, row_fault, end_of, over, procs_number}
+use Rattle.hub_base.specs.Limits.{greatest_cap, greatest_pid, greatest_port, greatest_value, greatest_word, most_bytes, most_cases, most_procs, most_steps}
 
--- numbers that a text can hold
+-- the numbers of a case are such as a text can hold
 abbrev pub CaseFits : Case → Type 0
-CaseFits (Send p v) = (p.0 ≤ 65535) × (number_of v ≤ 18446744073709551615)
-CaseFits (Recv p) = p.0 ≤ 65535
+CaseFits (Send p v) = (p.0 ≤ greatest_port) × (number_of v ≤ greatest_value)
+CaseFits (Recv p) = p.0 ≤ greatest_port
 
+-- a call of at most 16 cases, with such numbers
 pub record CallFits (cases : List Case) (word : ℕ) : Type 0 where
-  pub few : length cases ≤ 16
+  pub few : length cases ≤ most_cases
   pub each : AllByRecursion CaseFits cases
-  pub word_fits : word ≤ 18446744073709551615
+  pub word_fits : word ≤ greatest_word
 
+-- the same of a step
 abbrev pub StepFits : Step → Type 0
-StepFits (Make cap) = cap ≤ 4294967295
+StepFits (Make cap) = cap ≤ greatest_cap
 StepFits (Call cases default word) = CallFits cases.items word
-StepFits (Close p) = p.0 ≤ 65535
+StepFits (Close p) = p.0 ≤ greatest_port
 StepFits Exit = 0 ≤ 0
 
+-- and of an entry
 pub record Fits (e : Entry) : Type 0 where
-  pub pid : e.pid.0 ≤ 255
+  pub pid : e.pid.0 ≤ greatest_pid
   pub step : StepFits e.step
 
--- how many entries are no exits
+-- 1 for a step, 0 for an exit
 abbrev pub one_step : Entry → ℕ
 one_step e = if is_exit e.step then 0 else 1
 
+-- how many entries are no exits
 abbrev pub steps_of : List Entry → ℕ
 steps_of [] = 0
 steps_of (e ∷ es) = one_step e + steps_of es
 
--- the bytes are the text of these processes and entries
+-- the bytes are the text of these processes and entries, and keep within its limits
 pub record IsText (bytes : List ℕ) (n : ℕ) (es : List Entry) : Type 0 where
   pub spelled : bytes ≡ text n es
   pub some : 1 ≤ n
-  pub few : n ≤ 64
+  pub few : n ≤ most_procs
   pub fits : AllByRecursion Fits es
-  pub bytes_fit : length bytes ≤ 67108864
-  pub steps_fit : steps_of es ≤ 1000000
+  pub bytes_fit : length bytes ≤ most_bytes
+  pub steps_fit : steps_of es ≤ most_steps
 
+-- the fields of an entry's line
 abbrev pub fields_of : Entry → List (List ℕ)
 fields_of e = decimal e.pid.0 ∷ step_fields e.step
 
@@ -56,6 +64,7 @@ fields_of e = decimal e.pid.0 ∷ step_fields e.step
 abbrev pub body : Entry → List ℕ
 body e = join_with_byte 32 (fields_of e)
 
+-- these fields spell this entry
 abbrev pub Spells : List (List ℕ) → Entry → Type 0
 Spells fields e = (fields ≡ fields_of e) × Fits e
 
@@ -63,21 +72,23 @@ Spells fields e = (fields ≡ fields_of e) × Fits e
 abbrev pub row_of : Entry → Row
 row_of e = record { bytes = body e; whole = true }
 
--- what is wrong with a further line: the first that applies
+-- what is wrong with what a further line says, where so many steps stand before it
 abbrev pub fault_of_entry : ℕ → Result Entry Kind → Option Kind
 fault_of_entry steps (Err kind) = Some kind
 fault_of_entry steps (Ok e) = if over steps e then Some TooLong else None
 
+-- the first of two faults
 abbrev pub first_fault : Option Kind → Option Kind → Option Kind
 first_fault None other = other
 first_fault (Some kind) other = Some kind
 
--- place: that of its first byte; steps: how many lines before it are no exits
+-- what is wrong with a further line that begins at this place: the first fault that applies
 abbrev pub entry_fault : ℕ → ℕ → Row → Option Kind
-entry_fault place steps r = first_fault (row_fault (end_of place r) r) (fault_of_entry steps (read_fields (pieces 32 r.bytes)))
+entry_fault place steps r =
+    first_fault (row_fault (end_of place r) r) (fault_of_entry steps (read_fields (pieces 32 r.bytes)))
 
--- lines of entries within the limits, and then a faulty line: the first of these lines has number k and
--- begins at this place, and so many lines before it are no exits
+-- lines of entries within the limits, and then a faulty line: the first of these lines has number k
+-- and begins at this place, and so many lines before it are no exits
 pub record EntryFails (place steps k : ℕ) (rs : List Row) (faulty : ℕ) (kind : Kind) : Type 0 where
   pub es : List Entry
   pub bad : Row
@@ -85,54 +96,69 @@ pub record EntryFails (place steps k : ℕ) (rs : List Row) (faulty : ℕ) (kind
   pub lines : rs ≡ map row_of es ++ bad ∷ more
   pub count : faulty ≡ k + length es
   pub fits : AllByRecursion Fits es
-  pub bytes_fit : place + length (flat_map line es) ≤ 67108864
-  pub steps_fit : steps + steps_of es ≤ 1000000
+  pub bytes_fit : place + length (flat_map line es) ≤ most_bytes
+  pub steps_fit : steps + steps_of es ≤ most_steps
   pub fault : entry_fault (place + length (flat_map line es)) (steps + steps_of es) bad ≡ Some kind
 
 -- ---- the head
+-- the first line
 abbrev pub header_row : Row
 header_row = record { bytes = codes "chanhub journal 1"; whole = true }
 
+-- the second line
 abbrev pub procs_row : ℕ → Row
 procs_row n = record { bytes = procs_line n; whole = true }
 
+-- what is wrong with the first line
 abbrev pub header_fault : Row → Option Kind
-header_fault r = first_fault (row_fault (end_of 0 r) r) (if same_text r.bytes (codes "chanhub journal 1") then None else Some BadHeader)
+header_fault r =
+    first_fault (row_fault (end_of 0 r) r) (
+    if same_text r.bytes (codes "chanhub journal 1") then None else Some BadHeader)
 
+-- it says no number of processes
 abbrev pub fault_of_procs : Option ℕ → Option Kind
 fault_of_procs None = Some BadProcs
 fault_of_procs (Some n) = None
 
+-- what is wrong with the second line; 18 is its place
 abbrev pub procs_fault : Row → Option Kind
 procs_fault r = first_fault (row_fault (end_of 18 r) r) (fault_of_procs (procs_number r.bytes))
 
--- the fault of the first of these lines, or of their want
+-- the fault of the first of these lines, or the fault that there is none
 abbrev pub fault_of_first : (Row → Option Kind) → Kind → List Row → Option Kind
 fault_of_first fault missing [] = Some missing
 fault_of_first fault missing (r ∷ rs) = fault r
 
+-- line 1 is faulty
 pub record FaultyFirst (rs : List Row) (k : ℕ) (kind : Kind) : Type 0 where
   pub number : k ≡ 1
   pub fault : fault_of_first header_fault BadHeader rs ≡ Some kind
 
+-- line 2 is, behind the header
 pub record FaultySecond (rs : List Row) (k : ℕ) (kind : Kind) : Type 0 where
   pub more : List Row
   pub lines : rs ≡ header_row ∷ more
   pub number : k ≡ 2
   pub fault : fault_of_first procs_fault BadProcs more ≡ Some kind
 
+-- a further line is, behind the head lines and lines of entries
 pub record FaultyEntry (rs : List Row) (k : ℕ) (kind : Kind) : Type 0 where
   pub n : ℕ
   pub more : List Row
   pub lines : rs ≡ header_row ∷ procs_row n ∷ more
   pub some : 1 ≤ n
-  pub few : n ≤ 64
+  pub few : n ≤ most_procs
   pub fails : EntryFails (length (head n)) 0 3 more k kind
 
--- the lines before the k-th are head lines and spellings within the limits, and of the k-th this is the first fault
+-- the lines before the k-th are head lines and spellings within the limits, and of the k-th this is
+-- the first fault
 abbrev pub IsFaulty : List ℕ → ℕ → Kind → Type 0
-IsFaulty bytes k kind = FaultyFirst (rows bytes) k kind ⊎ (FaultySecond (rows bytes) k kind ⊎ FaultyEntry (rows bytes) k kind)
+IsFaulty bytes k kind =
+    FaultyFirst (rows bytes) k kind
+    ⊎ (FaultySecond (rows bytes) k kind ⊎ FaultyEntry (rows bytes) k kind)
 
 -- each list of bytes is a text or faulty
 abbrev pub IsEither : List ℕ → Type 0
-IsEither bytes = ((n : ℕ) × (es : List Entry) × IsText bytes n es) ⊎ ((k : ℕ) × (kind : Kind) × IsFaulty bytes k kind)
+IsEither bytes =
+    ((n : ℕ) × (es : List Entry) × IsText bytes n es)
+    ⊎ ((k : ℕ) × (kind : Kind) × IsFaulty bytes k kind)

@@ -1,4 +1,5 @@
--- What a value is. Only texts, and the two functions that make a value and tell its number, look inside it.
+-- What a value is. Only texts, and the two functions that make a value and tell its number, look
+-- inside it.
 use Rattle.std.specs.Prelude.{ℕ, List, decimal}
 use Rattle.hub_base.specs.declared.value.Value.{Value}
 

@@ -1,4 +1,6 @@
--- What was sent and received, from events alone.
+-- What was sent and received on a port, told from entries and events alone: the values of the sends
+-- that were answered `Sent`, and those of the receives that were answered `Got`, in order of the
+-- answers.
 use Rattle.std.specs.Prelude.{ℕ, ◌==◌, Bool, true, false, List, [], ◌∷◌, ◌++◌, Option, None, Some, slice_get, if◌then◌else◌}
 use Rattle.std.specs.List.{filter_map}
 use Rattle.hub_base.specs.declared.value.Pid.{Pid}
@@ -10,7 +12,7 @@ use Rattle.hub_base.specs.declared.entry.Step.{Step}
 use Rattle.hub_base.specs.declared.entry.Step.TheVariants.{Make, Call, Close, Exit}
 use Rattle.hub_base.specs.declared.entry.Entry.{Entry}
 use Rattle.hub_base.specs.declared.event.Outcome.{Outcome}
-use Rattle.hub_base.specs.declared.event.Outcome.TheVariants.{Sent, Got, Drained, Closed}
+use Rattle.hub_base.specs.declared.event.Outcome.TheVariants.{Sent, Got}
 use Rattle.hub_base.specs.declared.event.What.{What}
 use Rattle.hub_base.specs.declared.event.What.TheVariants as what
 use Rattle.hub_base.specs.declared.event.Event.{Event}
@@ -22,10 +24,13 @@ pub record Turned : Type 0 where
   pub entry : Entry
   pub events : List Event
 
+-- these entries, each with its events
 abbrev pub turns_after : State → List Entry → List Turned
 turns_after s [] = []
-turns_after s (e ∷ es) = record { entry = e; events = (moves s e).events } ∷ turns_after (moves s e).state es
+turns_after s (e ∷ es) =
+    record { entry = e; events = (moves s e).events } ∷ turns_after (moves s e).state es
 
+-- the process is told of a fault
 abbrev pub is_fault : What → Bool
 is_fault (what.Fault f) = true
 is_fault (what.Made p) = false
@@ -40,6 +45,7 @@ abbrev pub refused : List Event → Bool
 refused [] = false
 refused (e ∷ es) = is_fault e.what
 
+-- the cases of a call; any other step leaves those before
 abbrev pub cases_or : Step → List Case → List Case
 cases_or (Make cap) before = before
 cases_or (Call cases default word) before = cases.items
@@ -48,21 +54,27 @@ cases_or Exit before = before
 
 -- the cases of the last call of a process that was not refused, after this turn
 abbrev pub latest : Pid → List Case → Turned → List Case
-latest pid before t = if t.entry.pid.0 == pid.0 then (if refused t.events then before else cases_or t.entry.step before) else before
+latest pid before t =
+    if t.entry.pid.0 == pid.0
+    then (if refused t.events then before else cases_or t.entry.step before)
+    else before
 
 -- the cases of the last such call in these turns, in order
 abbrev pub last_call : Pid → List Case → List Turned → List Case
 last_call pid before [] = before
 last_call pid before (t ∷ ts) = last_call pid (latest pid before t) ts
 
+-- the value that this case sent on the port, by its outcome
 abbrev pub sent_on : Port → Option Case → Outcome → Option Value
 sent_on p (Some (Send q v)) Sent = if q.0 == p.0 then Some v else None
 sent_on p other outcome = None
 
+-- the value that this case received from the port, by its outcome
 abbrev pub got_on : Port → Option Case → Outcome → Option Value
 got_on p (Some (Recv q)) (Got v) = if q.0 == p.0 then Some v else None
 got_on p other outcome = None
 
+-- what `pick` tells of the case that fired
 abbrev pub of_what : {A : Type 0} → (Option Case → Outcome → Option A) → List Case → What → Option A
 of_what pick cases (what.Fired i o) = pick (slice_get cases i) o
 of_what pick cases (what.Made p) = None
@@ -73,13 +85,17 @@ of_what pick cases what.Stalled = None
 of_what pick cases (what.Fault f) = None
 
 -- what these turns tell by `pick`, where before them stand those turns
-abbrev pub values_from : {A : Type 0} → (Option Case → Outcome → Option A) → List Turned → List Turned → List A
+abbrev pub values_from :
+    {A : Type 0} → (Option Case → Outcome → Option A) → List Turned → List Turned → List A
 values_from pick before [] = []
 values_from pick before (t ∷ ts) =
-    filter_map (λ e. of_what pick (last_call e.pid [] (before ++ t ∷ [])) e.what) t.events ++ values_from pick (before ++ t ∷ []) ts
+    filter_map (λ e. of_what pick (last_call e.pid [] (before ++ t ∷ [])) e.what) t.events
+    ++ values_from pick (before ++ t ∷ []) ts
 
+-- the values that were sent on a port
 abbrev pub sent_values : ℕ → List Entry → Port → List Value
 sent_values n es p = values_from (sent_on p) [] (turns_after (opening n) es)
 
+-- the values that were received from it
 abbrev pub received_values : ℕ → List Entry → Port → List Value
 received_values n es p = values_from (got_on p) [] (turns_after (opening n) es)

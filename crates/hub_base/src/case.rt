@@ -24,5 +24,6 @@ impl Default for Case {
     }
 }
 
-/// The cases of a call, in order and numbered from 0. An entry holds up to 16; a call may have up to 8.
+/// The cases of a call, in order and numbered from 0. An entry holds up to 16; a call may have up
+/// to 8.
 pub type Cases = ArrayVec<Case, 16>;

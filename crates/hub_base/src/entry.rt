@@ -1,16 +1,17 @@
 //! What a process asks of a hub.
 
-ghost use Rattle.std.specs.Prelude.{◌≡◌, ◌≤◌};
+ghost use Rattle.std.specs.Prelude.{◌≡◌};
 
 use crate::{Cases, Pid, Port};
 
 /// One step of a process.
 #[derive(Debug, Drop, PartialEq, Eq)]
 pub enum Step {
-    /// Makes a port of this capacity, 0 for an unbuffered one. Above 1,024 the answer is `Fault::BadCap`.
+    /// Makes a port of this capacity, 0 for an unbuffered one. Above 1,024 the answer is
+    /// `Fault::BadCap`.
     Make(u32),
-    /// Sends or receives: one of the cases that can proceed fires, or the default is taken, or the call waits.
-    /// A plain send or receive is a call of one case without default and with word 0.
+    /// Sends or receives: one of the cases that can proceed fires, or the default is taken, or the
+    /// call waits. A plain send or receive is a call of one case without default and with word 0.
     /// Go: "Select statements".
     Call {
         /// The communications, in order.

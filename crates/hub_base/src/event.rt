@@ -57,6 +57,6 @@ impl Default for Event {
     }
 }
 
-/// The events of one step: the caller's answer, then the calls that ended with it in order of arrival. A
-/// park after which 64 processes stall gives 65.
+/// The events of one step: the caller's answer, then the calls that ended with it in order of
+/// arrival. A park after which 64 processes stall gives 65.
 pub type Events = ArrayVec<Event, 65>;

@@ -6,9 +6,9 @@ use thiserror::Error;
 
 /// Why a step had no effect.
 ///
-/// They are tested in the order 10, 1, 2, 3, 11, then those of 4 to 9 that apply, by number. Faults 4 to 9
-/// are answers to journaled steps, which change no channel and no open call. The others are refusals: the
-/// step is not journaled and nothing changes.
+/// They are tested in the order 10, 1, 2, 3, 11, then those of 4 to 9 that apply, by number. Faults
+/// 4 to 9 are answers to journaled steps, which change no channel and no open call. The others are
+/// refusals: the step is not journaled and nothing changes.
 #[derive(Clone, Copy, Debug, PartialEq, Eq, Error)]
 pub enum Fault {
     /// 1: the process number is not below the number of processes.
@@ -38,7 +38,8 @@ pub enum Fault {
     /// 9: a close of a closed port. Go: it panics ("Close").
     #[error("close of a closed port")]
     AlreadyClosed,
-    /// 10: a step other than `Step::Exit`, where the journal holds as many of them as its limit allows.
+    /// 10: a step other than `Step::Exit`, where the journal holds as many of them as its limit
+    /// allows.
     #[error("the journal is full")]
     JournalFull,
     /// 11: a growth was refused.

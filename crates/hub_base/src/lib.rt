@@ -1,8 +1,10 @@
 //! The words of a hub of channels: values, steps and events, what they mean, and their texts.
 //!
-//! What a hub does is defined in `specs/`: `State` (what a hub is), `Ready` (which cases can proceed),
-//! `Steps` (what one step does), `Runs` (lists of steps) and `Values` (what was sent and received). What a
-//! journal's text says is defined in `Lines`, `Text` and `Reading`, and an event's text in `EventText`.
+//! What a hub does is defined in `specs/`: `State` (what a hub is), `Ready` (which cases can
+//! proceed), `Steps` (what one step does), `Runs` (lists of steps) and `Values` (what was sent and
+//! received), with worked rows in `Rows`. What a journal's text says is defined in `Lines` (the
+//! line of an entry), `Text` (what a text is, and where it is faulty) and `Reading` (how it is
+//! read), with worked texts in `TextRows`. An event's text is defined in `EventText`.
 #![tactic(auto)]
 
 mod case;

@@ -1,4 +1,5 @@
-//! Texts of journals and of events.
+//! Texts of journals and of events: reading goes from lines to fields to numbers, writing in one
+//! go.
 
 pub mod faults;
 pub mod fields;

@@ -5,8 +5,8 @@ ghost use Rattle.hub_base.specs.Value.{value_of, number_of};
 
 /// A value that a channel carries: a whole number of 64 bits.
 ///
-/// Only texts look inside it. A hub moves values and never reads one, so nothing that is proved of a hub
-/// depends on what a value is.
+/// Only texts look inside it. A hub moves values and never reads one, so nothing that is proved of
+/// a hub depends on what a value is.
 #[derive(Clone, Copy, Debug, Default, PartialEq, Eq)]
 pub struct Value(u64);
 
@@ -38,6 +38,7 @@ impl Value {
 #[derive(Clone, Copy, Debug, Default, PartialEq, Eq)]
 pub struct Port(pub u16);
 
-/// The number of a process, from 0. A hub has 1 to 64 of them; an entry may name any number up to 255.
+/// The number of a process, from 0. A hub has 1 to 64 of them; an entry may name any number up to
+/// 255.
 #[derive(Clone, Copy, Debug, Default, PartialEq, Eq)]
 pub struct Pid(pub u8);

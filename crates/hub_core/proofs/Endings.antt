@@ -11,8 +11,8 @@ use Rattle.hub_base.specs.State.{OpenCall}
 use Rattle.hub_base.specs.Ready.{is_on, Ending, Placed, or_else, lowest, first_with, without}
 use Rattle.hub_base.specs.Steps.{tells, fired, closing_outcome, closing_event}
 use Rattle.hub_laws.specs.Sound.{is_among, Apart}
-use Rattle.hub_laws.proofs.Calls.{lowest-some, not_true, or_none, same_number, fewer-filter}
-use Rattle.hub_laws.proofs.Fires.{same_true}
+use Rattle.hub_laws.proofs.Calls.{lowest-some, same_number, fewer-filter}
+use Rattle.std.proofs.lemmas.Bool.{or_parts, false_from_ne_true, eqb-true}
 use Rattle.hub_laws.proofs.Closing.{closes-next}
 use Rattle.hub_parts.specs.Records.{Ticketed}
 use Rattle.hub_parts.specs.Lists.{open_calls, still_open}
@@ -34,7 +34,7 @@ ends pid w ws e = rw e refl
 still_open-none : (pid : Pid) (ws : List Ticketed) → is_among pid.0 (open_calls ws) ≡ false → still_open pid ws ≡ ws
 still_open-none pid [] e = refl
 still_open-none pid (w ∷ ws) e =
-    let parts = or_none (w.call.pid.0 == pid.0) (is_among pid.0 (open_calls ws)) e in
+    let parts = or_parts (w.call.pid.0 == pid.0) (is_among pid.0 (open_calls ws)) e in
     passes_over pid w ws parts.0 ∙ ap (λ vs. w ∷ vs) (still_open-none pid ws parts.1)
 
 -- the first call's own end leaves the others
@@ -42,7 +42,7 @@ pub still_open-first : (w : Ticketed) (ws : List Ticketed) → is_among w.call.p
 still_open-first w ws e = ends w.call.pid w ws (same_number w.call.pid.0) ∙ still_open-none w.call.pid ws e
 
 other_pid : (pid : Pid) (w : Ticketed) (ws : List Ticketed) → is_among w.call.pid.0 (open_calls ws) ≡ false → is_among pid.0 (open_calls ws) ≡ true → (w.call.pid.0 == pid.0) ≡ false
-other_pid pid w ws apart among = not_true (w.call.pid.0 == pid.0) (λ h. let g : is_among pid.0 (open_calls ws) ≡ false = subst (λ (n : ℕ). is_among n (open_calls ws) ≡ false) (same_true w.call.pid.0 pid.0 h) apart in cc)
+other_pid pid w ws apart among = false_from_ne_true (w.call.pid.0 == pid.0) (λ h. let g : is_among pid.0 (open_calls ws) ≡ false = subst (λ (n : ℕ). is_among n (open_calls ws) ≡ false) (eqb-true w.call.pid.0 pid.0 h) apart in cc)
 
 -- one call fewer
 pub length-still_open : (pid : Pid) (ws : List Ticketed) → Apart (open_calls ws) → is_among pid.0 (open_calls ws) ≡ true → length (still_open pid ws) + 1 ≡ length ws
@@ -50,7 +50,7 @@ length-still_open pid [] apart e = cc
 length-still_open pid (w ∷ ws) apart e = length_by pid w ws apart (w.call.pid.0 == pid.0) refl e (λ h. length-still_open pid ws apart.1 h) where
   length_by : (pid : Pid) (w : Ticketed) (ws : List Ticketed) → Apart (open_calls (w ∷ ws)) → (b : Bool) → (w.call.pid.0 == pid.0) ≡ b → is_among pid.0 (open_calls (w ∷ ws)) ≡ true → (is_among pid.0 (open_calls ws) ≡ true → length (still_open pid ws) + 1 ≡ length ws) → length (still_open pid (w ∷ ws)) + 1 ≡ length (w ∷ ws)
   length_by pid w ws apart true is e ih =
-      let same : is_among pid.0 (open_calls ws) ≡ false = subst (λ (n : ℕ). is_among n (open_calls ws) ≡ false) (same_true w.call.pid.0 pid.0 is) apart.0 in
+      let same : is_among pid.0 (open_calls ws) ≡ false = subst (λ (n : ℕ). is_among n (open_calls ws) ≡ false) (eqb-true w.call.pid.0 pid.0 is) apart.0 in
       let kept : still_open pid (w ∷ ws) ≡ ws = ends pid w ws is ∙ still_open-none pid ws same in
       omega (arith, ap length kept)
   length_by pid w ws apart false is e ih =

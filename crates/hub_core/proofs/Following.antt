@@ -1,5 +1,5 @@
 -- A machine that follows a run follows it by one entry more.
-use Rattle.std.proofs.Common.{◌≡◌, ℕ, zero, suc, ◌+◌, ◌-◌, ◌==◌, ◌≤◌, ◌<◌, ◌^◌, Bool, true, false, cond, not, List, [], ◌∷◌, ◌++◌, length, map, refl, ap, ◌∙◌, sym, subst, Option, Some, None, arith}
+use Rattle.std.proofs.Common.{◌≡◌, ℕ, zero, suc, ◌+◌, ◌-◌, ◌==◌, ◌≤◌, ◌<◌, ◌^◌, Bool, true, false, cond, not, List, [], ◌∷◌, ◌++◌, length, map, append-nil, refl, ap, ◌∙◌, sym, subst, Option, Some, None, arith}
 use Rattle.std.specs.Prelude.{slice_get, replicate}
 use Rattle.std.specs.List.{AllByRecursion, list_any}
 use Rattle.std.proofs.lemmas.Grind.{common_steps}
@@ -19,7 +19,7 @@ use Rattle.hub_base.specs.Steps.{Change, tells, refusal, turn, fault_of, answers
 use Rattle.hub_base.specs.Runs.{admits, moves, keeps, kept_after, kept, state_after, state}
 use Rattle.hub_laws.specs.Sound.{IsSound, PortSound, Apart}
 use Rattle.hub_laws.proofs.Rules.{state-sound}
-use Rattle.hub_laws.proofs.Replies.{state_after-append}
+use Rattle.hub_laws.proofs.Longer.{state-entry, kept-entry}
 use Rattle.hub_laws.proofs.Ready.{Admitted, admitted}
 use Rattle.hub_parts.specs.Records.{Lists, Ticketed}
 use Rattle.hub_parts.specs.Lists.{open_calls, opened, ticketed}
@@ -34,27 +34,11 @@ use Rattle.hub_core.proofs.Stalls.{stalls_on-as, refusal_of-as}
 use Rattle.hub_core.proofs.Kept.{Leaves, Opens, answers_on_leaves}
 
 -- ---- a run goes on by one entry
-pub state-snoc : (n : ℕ) (es : List Entry) (e : Entry) → state n (es ++ e ∷ []) ≡ (moves (state n es) e).state
-state-snoc n es e = state_after-append (opening n) es (e ∷ [])
-
-kept_by : (s : State) (e : Entry) (es fs : List Entry) (o : Option Fault) → ((t : State) → kept_after t (es ++ fs) ≡ kept_after t es ++ kept_after (state_after t es) fs) →
-    keeps o e (kept_after (moves s e).state (es ++ fs)) ≡ keeps o e (kept_after (moves s e).state es) ++ kept_after (state_after (moves s e).state es) fs
-kept_by s e es fs None rest = ap (λ xs. e ∷ xs) (rest (moves s e).state)
-kept_by s e es fs (Some f) rest = rest (moves s e).state
-
-kept_after-append : (s : State) (es fs : List Entry) → kept_after s (es ++ fs) ≡ kept_after s es ++ kept_after (state_after s es) fs
-kept_after-append s [] fs = refl
-kept_after-append s (e ∷ es) fs = kept_by s e es fs (refusal s e.pid) (λ t. kept_after-append t es fs)
-
 pub kept-admitted : (n : ℕ) (es : List Entry) (e : Entry) → refusal (state n es) e.pid ≡ None → kept n (es ++ e ∷ []) ≡ kept n es ++ e ∷ []
-kept-admitted n es e h = kept_after-append (opening n) es (e ∷ []) ∙ ap (λ o. kept n es ++ keeps o e []) h
-
-append-nothing : (xs : List Entry) → xs ++ [] ≡ xs
-append-nothing [] = refl
-append-nothing (x ∷ xs) = ap (λ ys. x ∷ ys) (append-nothing xs)
+kept-admitted n es e h = kept-entry n es e ∙ ap (λ o. kept n es ++ keeps o e []) h
 
 pub kept-refused : (n : ℕ) (es : List Entry) (e : Entry) (f : Fault) → refusal (state n es) e.pid ≡ Some f → kept n (es ++ e ∷ []) ≡ kept n es
-kept-refused n es e f h = kept_after-append (opening n) es (e ∷ []) ∙ ap (λ o. kept n es ++ keeps o e []) h ∙ append-nothing (kept n es)
+kept-refused n es e f h = kept-entry n es e ∙ ap (λ o. kept n es ++ keeps o e []) h ∙ append-nil (kept n es)
 
 pub moves-admitted : (s : State) (e : Entry) → refusal s e.pid ≡ None → moves s e ≡ turn s e
 moves-admitted s e h = ap (admits s e) h
@@ -111,8 +95,8 @@ follows_on n es e m h adm room =
       admitted = adm;
       events = same.events ∙ ap (λ (c : Change). c.events) (sym moved);
       follows = record {
-        matches = subst (λ (s : State). Matches s (turn_on m e).machine) (sym (state-snoc n es e ∙ ap (λ (c : Change). c.state) moved))
-          (record { procs = same.state.procs; calls = same.state.calls; ports = same.state.ports; counts = same.state.counts; gone = same.state.gone });
+        matches = subst (λ (s : State). Matches s (turn_on m e).machine) (sym (state-entry n es e ∙ ap (λ (c : Change). c.state) moved))
+            (record { procs = same.state.procs; calls = same.state.calls; ports = same.state.ports; counts = same.state.counts; gone = same.state.gone });
         steps = ap (λ k. k + 1) h.steps ∙ length-snoc (kept n es) e ∙ ap length (sym grown);
         later = left.next h.later;
         tickets = left.waiting (subst (λ (j : List Entry). TicketsAre j m.board.waiting) (sym grown) (tickets_longer (kept n es) e m.board.waiting h.tickets));
@@ -122,7 +106,7 @@ follows_on n es e m h adm room =
 pub follows_refused : (n : ℕ) (es : List Entry) (e : Entry) (m : MachineLists) (f : Fault) → Follows n es m → refusal (state n es) e.pid ≡ Some f → Answers n es e m (tells e.pid (what.Fault f) ∷ [])
 follows_refused n es e m f h is =
     let moved = moves-refused (state n es) e f is in
-    let same : state n (es ++ e ∷ []) ≡ state n es = state-snoc n es e ∙ ap (λ (c : Change). c.state) moved in
+    let same : state n (es ++ e ∷ []) ≡ state n es = state-entry n es e ∙ ap (λ (c : Change). c.state) moved in
     let stays = kept-refused n es e f is in
     record {
       events = ap (λ (c : Change). c.events) (sym moved);

@@ -11,3 +11,5 @@ pub mod Kept
 pub mod Following
 pub mod Reached
 pub mod Shown
+pub mod Hubs
+pub mod Journeys

@@ -18,7 +18,7 @@ use Rattle.hub_base.specs.Runs.{state, kept}
 use Rattle.hub_base.specs.Text.{steps_of}
 use Rattle.hub_base.specs.Reading.{is_exit}
 use Rattle.hub_laws.specs.Sound.{IsSound, PortSound, Apart}
-use Rattle.hub_laws.proofs.Calls.{or_none}
+use Rattle.std.proofs.lemmas.Bool.{or_parts}
 use Rattle.hub_laws.proofs.Counts.{counts-law}
 use Rattle.hub_laws.proofs.Rules.{state-sound, effect-sound}
 use Rattle.hub_laws.proofs.Ready.{Admitted, admitted, none_false}
@@ -114,7 +114,7 @@ after_effect m pid step r h fine few places =
 named_by : (ports : ℕ) (cases : List Case) → list_any (λ c. nat_lt ports (port_of c).0) cases ≡ false → AllMade ports cases
 named_by ports [] h = tt
 named_by ports (c ∷ cases) h =
-    let parts = or_none (nat_lt ports (port_of c).0) (list_any (λ c. nat_lt ports (port_of c).0) cases) h in
+    let parts = or_parts (nat_lt ports (port_of c).0) (list_any (λ c. nat_lt ports (port_of c).0) cases) h in
     (grind (arith, common_steps, parts.0), named_by ports cases parts.1)
 
 pub call_named : (b : Lists) (cases : List Case) → call_fault_on b cases ≡ None → AllMade (length b.ports) cases

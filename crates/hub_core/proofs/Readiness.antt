@@ -11,7 +11,7 @@ use Rattle.hub_base.specs.declared.case.Case.TheVariants.{Send, Recv}
 use Rattle.hub_base.specs.State.{State, Channel, channel_at, buffer_of}
 use Rattle.hub_base.specs.Ready.{first_with, is_recv_on, is_send_on, port_of, can_proceed, send_can, recv_can, ready}
 use Rattle.hub_base.specs.Steps.{is_unmade}
-use Rattle.hub_laws.proofs.Calls.{or_none}
+use Rattle.std.proofs.lemmas.Bool.{or_parts}
 use Rattle.hub_parts.specs.Records.{Lists, PortLists}
 use Rattle.hub_parts.specs.Lists.{port_at, open_calls, IsMade}
 use Rattle.hub_core.specs.Records.{MachineLists}
@@ -83,5 +83,5 @@ pub ready_on-as : (s : State) (m : MachineLists) (i : ℕ) (cases : List Case) �
     ready_on m.board i cases ≡ map number_in (filter (λ x. can_proceed s x.1) (enumerate_from i cases))
 ready_on-as s m i [] h named = refl
 ready_on-as s m i (k ∷ cases) h named =
-    let parts = or_none (is_unmade s (port_of k)) (list_any (λ k. is_unmade s (port_of k)) cases) named in
+    let parts = or_parts (is_unmade s (port_of k)) (list_any (λ k. is_unmade s (port_of k)) cases) named in
     ready_by s m.board i k cases (can_proceed s k) (can_on-as s m k h parts.0) refl (ready_on-as s m (i + 1) cases h parts.1)

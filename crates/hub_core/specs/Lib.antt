@@ -7,3 +7,6 @@ pub mod Agrees
 pub mod Looks
 pub mod Parts
 pub mod MachineKeeps
+pub mod HubView
+pub mod HubKeeps
+pub mod RunsTo

@@ -10,9 +10,10 @@ ghost use Rattle.hub_core.specs.ListKeeps.{PortsKeep, IsNamed};
 ghost use Rattle.hub_core.specs.ListSteps.{waits_on, fires_on, calls_on, open_on};
 
 use crate::firing::fire;
-use crate::ready_cases::ready_cases;
+use crate::ready_cases::find_ready;
 use crate::tally::Tallies;
-use hub_base::{Case, Cases, Event, Events, Pid, What, copy_cases};
+use arrayvec::ArrayVec;
+use hub_base::{Case, Cases, Event, Events, Pid, What};
 use hub_parts::Board;
 
 /// The number of the case that the choice word names among those that can proceed.
@@ -50,34 +51,11 @@ fn wait(board: &mut Board, events: &mut Events, ticket: u32, pid: Pid, cases: &C
             what: What::Default,
         });
     } else {
-        board.park(pid, ticket, copy_cases(cases));
+        board.park(pid, ticket, cases);
         events.push(Event {
             pid,
             what: What::Parked,
         });
-    }
-}
-
-/// A case that can proceed fires.
-fn proceed(board: &mut Board, tallies: &mut Tallies, events: &mut Events, pid: Pid, index: u8, case: Case)
-    requires named { IsNamed board.old case }
-    requires keep { PortsKeep board.old tallies.old }
-    requires can { can_on board.old case ≡ true }
-    requires room { array_vec_len events.old < 64 }
-    ensures board { board.new ≡ (fires_on board.old tallies.old pid index (Some case)).board }
-    ensures counts { tallies.new ≡ (fires_on board.old tallies.old pid index (Some case)).counts }
-    ensures events { events.new.items ≡ events.old.items ++ (fires_on board.old tallies.old pid index (Some case)).events }
-{
-    let firing = fire(board, tallies, case);
-    events.push(Event {
-        pid,
-        what: What::Fired {
-            case: index,
-            outcome: firing.outcome,
-        },
-    });
-    if let Some(ended) = firing.ended {
-        events.push(ended);
     }
 }
 
@@ -104,11 +82,12 @@ pub(crate) fn call(
     ensures counts { tallies.new ≡ (calls_on board.old tallies.old ticket pid cases.now.items default word).counts }
     ensures events { events.new.items ≡ events.old.items ++ (calls_on board.old tallies.old ticket pid cases.now.items default word).events }
 {
-    let ready = ready_cases(board, cases.as_slice());
+    let mut ready = ArrayVec::new();
+    find_ready(board, cases.as_slice(), &mut ready);
     match choose(ready.as_slice(), word) {
         None => wait(board, events, ticket, pid, cases, default),
         Some(index) => match case_at(cases, index) {
-            Some(case) => proceed(board, tallies, events, pid, index, case),
+            Some(case) => fire(board, tallies, events, pid, index, case),
             None => unreachable!(),
         },
     }

@@ -4,12 +4,18 @@
 mod calling;
 mod closing;
 mod firing;
+mod hub;
 mod looking;
 mod machine;
+mod opening;
 mod ready_cases;
 mod refusals;
+mod runs;
 mod stalling;
 mod tally;
 
+pub use hub::Hub;
 pub use machine::Machine;
+pub use opening::OpenFault;
+pub use runs::{ListFault, run};
 pub use tally::Tally;

@@ -1,6 +1,6 @@
 //! Which cases of a call can proceed. Go: "Send statements", "Receive operator", "Select statements".
 
-ghost use Rattle.std.specs.Prelude.{◌≡◌, ◌≤◌, length};
+ghost use Rattle.std.specs.Prelude.{◌≡◌, ◌≤◌, [], length};
 ghost use Rattle.hub_parts.specs.Keeps.{AllMade};
 ghost use Rattle.hub_core.specs.ListReady.{can_on, ready_on};
 ghost use Rattle.hub_core.specs.ListKeeps.{IsNamed};
@@ -23,24 +23,22 @@ fn can_proceed(board: &Board, case: Case) -> bool
         }
         Case::Recv(port) => {
             port.0 != 0
-                && (board.waiting(port, Side::Send)
-                    || board.len(port) > 0
-                    || board.closed(port))
+                && (board.waiting(port, Side::Send) || board.len(port) > 0 || board.closed(port))
         }
     }
 }
 
-/// The numbers of the cases that can proceed, in order.
-pub(crate) fn ready_cases(board: &Board, cases: &[Case]) -> ArrayVec<u8, 16>
+/// Adds the numbers of the cases that can proceed, in order. The list that it adds to is not moved, since it
+/// is read at once.
+pub(crate) fn find_ready(board: &Board, cases: &[Case], ready: &mut ArrayVec<u8, 16>)
     requires few { length cases.now ≤ 16 }
     requires named { AllMade (length board.now.ports) cases.now }
-    ensures { result.items ≡ ready_on board.now 0 cases.now }
+    requires empty { ready.old.items ≡ [] }
+    ensures { ready.new.items ≡ ready_on board.now 0 cases.now }
 {
-    let mut ready = ArrayVec::new();
     for (i, case) in cases.iter().enumerate() {
         if can_proceed(board, *case) {
             ready.push(i as u8);
         }
     }
-    ready
 }

@@ -1,7 +1,7 @@
 -- After a close no case on the port is sent, and receives drain the buffer.
-use Rattle.std.proofs.Common.{◌≡◌, ℕ, ◌==◌, Bool, true, false, cond, zero, suc, List, [], ◌∷◌, ◌++◌, drop, refl, ap, ◌∙◌, sym, subst, Option, Some, None, append-nil, append_assoc, add-one}
+use Rattle.std.proofs.Common.{◌≡◌, ℕ, ◌==◌, Bool, true, false, zero, suc, List, [], ◌∷◌, ◌++◌, drop, refl, ap, ◌∙◌, sym, subst, Option, Some, None, append-nil, append_assoc, add-one}
 use Rattle.std.specs.Prelude.{slice_get}
-use Rattle.std.specs.List.{filter_map}
+use Rattle.std.proofs.lemmas.Bool.{eqb-true}
 use Rattle.hub_base.specs.declared.value.Port.{Port}
 use Rattle.hub_base.specs.declared.value.Pid.{Pid}
 use Rattle.hub_base.specs.declared.case.Case.{Case}
@@ -12,24 +12,24 @@ use Rattle.hub_base.specs.declared.fault.Fault.{Fault}
 use Rattle.hub_base.specs.declared.fault.Fault.TheVariants as fault
 use Rattle.hub_base.specs.declared.event.Outcome.{Outcome}
 use Rattle.hub_base.specs.declared.event.Outcome.TheVariants.{Sent}
-use Rattle.hub_base.specs.declared.event.What.TheVariants as what
-use Rattle.hub_base.specs.State.{State, Channel, channel_at, opening}
+use Rattle.hub_base.specs.State.{State, Channel, channel_at, opening, buffer_of}
 use Rattle.hub_base.specs.Ready.{port_of}
-use Rattle.hub_base.specs.Steps.{received, shut, Change, stalls, all_wait, closes, close_fault, is_unmade, fault_of, answers, refusal, tells}
+use Rattle.hub_base.specs.Steps.{received, shut, Change, stalls, closes, close_fault, is_unmade, fault_of, answers, refusal}
 use Rattle.hub_base.specs.Runs.{admits, moves, state_after, state}
 use Rattle.hub_base.specs.Values.{Turned, turns_after, values_from}
 use Rattle.hub_laws.specs.Sound.{IsSound}
-use Rattle.hub_laws.specs.Deeds.{Deed, deed_of, told, picks, at, Moved, Wrote, Does, buffers, hands, fetches, gives, drains, refuses, shuts, quiet, wrote}
+use Rattle.hub_laws.proofs.Branches.{by-stall}
+use Rattle.hub_laws.proofs.Deeds.{Deed, deed_of, told, picks, at, Moved, Wrote, Does, buffers, hands, fetches, gives, drains, refuses, shuts, quiet, wrote}
 use Rattle.hub_laws.specs.AfterClose.{sent_at, heard, Drains, answers_done, StaysClosed}
 use Rattle.hub_laws.proofs.Calls.{same_number}
 use Rattle.hub_laws.proofs.Ports.{same_port}
-use Rattle.hub_laws.proofs.Fires.{same_true}
 use Rattle.hub_laws.proofs.Ready.{none_false}
 use Rattle.hub_laws.proofs.Kept.{sound-opening}
 use Rattle.hub_laws.proofs.Rules.{moves-sound, state-sound}
 use Rattle.hub_laws.proofs.Does.{Knows, wrote-set}
 use Rattle.hub_laws.proofs.Totals.{told-picks, others-none}
 use Rattle.hub_laws.proofs.Turns.{in_force, moves-turn}
+use Rattle.hub_laws.proofs.Longer.{state-entry}
 
 sent_none : (p : Port) (k : Case) (o : Outcome) → ((port_of k).0 == p.0) ≡ false → sent_at p (Some k) o ≡ None
 sent_none p k Sent e = rw e refl
@@ -57,7 +57,7 @@ pub record Stays (p : Port) (c : Channel) (ts : List Channel) (deeds : List Deed
   pub stands : at ts p ≡ Some after
   pub closed : after.closed ≡ true
   pub none : picks (sent_at p) deeds ≡ []
-  pub drains : (os : List Outcome) → Drains (drop after.taken after.done) os → Drains (drop c.taken c.done) (picks (heard p) deeds ++ os)
+  pub drains : (os : List Outcome) → Drains (buffer_of after) os → Drains (buffer_of c) (picks (heard p) deeds ++ os)
 
 stays_same : (p : Port) (c : Channel) (ts : List Channel) (deeds : List Deed) → at ts p ≡ Some c → c.closed ≡ true → picks (sent_at p) deeds ≡ [] → picks (heard p) deeds ≡ [] → Stays p c ts deeds
 stays_same p c ts deeds new over none silent = record { after = c; stands = new; closed = over; none = none; drains = λ os h. rw silent h }
@@ -78,14 +78,14 @@ stays_moved p c d ts deeds new over (drains next is e) = record {
   stands = new ∙ ap (λ x. Some x) is;
   closed = over;
   none = rw e refl;
-  drains = λ os h. let k : drop c.taken c.done ≡ [] = drop_end c.done c.taken next in rw (e, same_number p.0, k) (refl, rw k at h);
+  drains = λ os h. let k : buffer_of c ≡ [] = drop_end c.done c.taken next in rw (e, same_number p.0, k) (refl, rw k at h);
 }
 stays_moved p c d ts deeds new over (refuses v closed is e) = stays_same p c ts deeds (new ∙ ap (λ x. Some x) is) over (rw e refl) (rw e refl)
 stays_moved p c d ts deeds new over (shuts live is all) = cc
 
 stays_wrote : (p q : Port) (c x d : Channel) (cs ts : List Channel) (deeds : List Deed) (b : Bool) → b ≡ (q.0 == p.0) → at cs p ≡ Some c → c.closed ≡ true → Wrote cs ts q x d → Moved q x d deeds → Stays p c ts deeds
 stays_wrote p q c x d cs ts deeds true is old over w m =
-    let same : q ≡ p = same_port q p (same_true q.0 p.0 (sym is)) in
+    let same : q ≡ p = same_port q p (eqb-true q.0 p.0 (sym is)) in
     let there : at cs p ≡ Some x = subst (λ (r : Port). at cs r ≡ Some x) same w.old in
     let one : x ≡ c = cc in
     let moved : Moved p x d deeds = subst (λ (r : Port). Moved r x d deeds) same m in
@@ -101,7 +101,7 @@ stays-does p c cs ts deeds old over (wrote q x d w m) = stays_wrote p q c x d cs
 
 pub record Later (p : Port) (c : Channel) (ts : List Turned) (s : State) (es : List Entry) : Type 0 where
   pub none : values_from (sent_at p) ts (turns_after s es) ≡ []
-  pub drains : Drains (drop c.taken c.done) (values_from (heard p) ts (turns_after s es))
+  pub drains : Drains (buffer_of c) (values_from (heard p) ts (turns_after s es))
 
 later : (p : Port) (c : Channel) (ts : List Turned) (s : State) (es : List Entry) → IsSound s → Knows (in_force ts) s.parked → channel_at s p ≡ Some c → c.closed ≡ true → Later p c ts s es
 later p c ts s [] sound knows old over = record { none = refl; drains = tt }
@@ -127,8 +127,7 @@ closed_by s pid p (Some c) is h = (shut c, stalled (closes s pid p (Some c)) (wr
   where
     stalled : (d : Change) → channel_at d.state p ≡ Some (shut c) → channel_at (stalls d).state p ≡ Some (shut c)
     stalled d e =
-        elim (all_wait d.state) as (λ b. channel_at (cond b (record { state = record d.state { parked = [] }; events = d.events ++ filter_map (λ call. Some (tells call.pid what.Stalled)) d.state.parked }) d).state p ≡ Some (shut c))
-        [ true ↦ e | false ↦ e ]
+        by-stall (λ (x : Change). channel_at x.state p ≡ Some (shut c)) d e e
 
 closed_answers : (s : State) (pid : Pid) (p : Port) (o : Option Fault) → o ≡ fault_of s (Close p) → answers_done (answers s (record { pid = pid; step = Close p }) o).events ≡ true →
     (c : Channel) × (channel_at (answers s (record { pid = pid; step = Close p }) o).state p ≡ Some c) × (c.closed ≡ true)
@@ -146,10 +145,6 @@ close-closes s pid p h = closed_admits s pid p (refusal s pid) h
 
 -- Runs
 
-pub state_after-snoc : (s : State) (es : List Entry) (e : Entry) → state_after s (es ++ e ∷ []) ≡ (moves (state_after s es) e).state
-state_after-snoc s [] e = refl
-state_after-snoc s (x ∷ es) e = state_after-snoc (moves s x).state es e
-
 knows_after : (s : State) (ts : List Turned) (es : List Entry) → IsSound s → Knows (in_force ts) s.parked → Knows (in_force (ts ++ turns_after s es)) (state_after s es).parked
 knows_after s ts [] sound knows = rw append-nil knows
 knows_after s ts (e ∷ es) sound knows =
@@ -165,9 +160,6 @@ after_close-law n es fs pid p h =
     let e : Entry = record { pid = pid; step = Close p } in
     let all : List Entry = es ++ e ∷ [] in
     let c = close-closes (state n es) pid p h in
-    let there : channel_at (state n all) p ≡ Some c.0 = ap (λ (s : State). channel_at s p) (state_after-snoc (opening n) es e) ∙ c.1 in
+    let there : channel_at (state n all) p ≡ Some c.0 = ap (λ (s : State). channel_at s p) (state-entry n es e) ∙ c.1 in
     let l = later p c.0 (turns_after (opening n) all) (state n all) fs (state-sound n all) (state-knows n all) there c.2 in
-    record {
-      sent = l.none;
-      heard = λ d same. let one : d ≡ c.0 = cc in rw one l.drains;
-    }
+    record { left = c.0; made = there; closed = c.2; sent = l.none; heard = l.drains }

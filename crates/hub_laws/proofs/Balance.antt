@@ -5,6 +5,7 @@ use Rattle.std.specs.List.{list_any, filter_map, cons_option}
 use Rattle.std.specs.Option.{option_map_or, option_map}
 use Rattle.std.proofs.lemmas.List.{length-append}
 use Rattle.std.proofs.lemmas.List.Elements.{filter-append}
+use Rattle.std.proofs.lemmas.Bool.{or_parts, eqb-true}
 use Rattle.hub_base.specs.declared.value.Port.{Port}
 use Rattle.hub_base.specs.declared.value.Pid.{Pid}
 use Rattle.hub_base.specs.declared.value.Value.{Value}
@@ -21,12 +22,13 @@ use Rattle.hub_base.specs.declared.event.What.{What}
 use Rattle.hub_base.specs.declared.event.What.TheVariants as what
 use Rattle.hub_base.specs.State.{State, Channel, OpenCall, channel_at}
 use Rattle.hub_base.specs.Ready.{is_send_on, is_recv_on, is_on, can_proceed, ready, port_of, first_with, Ending, Placed, without, lowest, send_can, recv_can}
-use Rattle.hub_base.specs.Steps.{fires, proceeds, chooses, calls, closes, effect, stalls, all_wait, Change, sent, next_value, with_sent, send_meets, recv_takes, recv_meets, fired, tells, closing_event, closing_outcome, outcome_of, fault_of, close_fault, is_unmade, answers, turn}
+use Rattle.hub_base.specs.Steps.{fires, proceeds, chooses, calls, closes, effect, stalls, Change, sent, next_value, with_sent, send_meets, recv_takes, recv_meets, fired, tells, closing_event, closing_outcome, outcome_of, fault_of, close_fault, is_unmade, answers, turn}
 use Rattle.hub_laws.specs.Sound.{IsSound, is_among, Apart, CallFits}
 use Rattle.hub_laws.specs.Once.{counts, endings}
+use Rattle.hub_laws.proofs.Branches.{by-closed, by-stall, stall_events}
 use Rattle.hub_laws.proofs.Faults.{journaled}
-use Rattle.hub_laws.proofs.Calls.{first-found, or_none, lowest-some}
-use Rattle.hub_laws.proofs.Fires.{same_true}
+use Rattle.hub_laws.proofs.Events.{fault_counts}
+use Rattle.hub_laws.proofs.Calls.{first-found, lowest-some}
 use Rattle.hub_laws.proofs.Ready.{chosen, none_false}
 
 -- Counting
@@ -55,7 +57,7 @@ open_snoc q (c ∷ cs) call = omega (arith, open_snoc q cs call)
 
 pub open_none : (q : ℕ) (calls : List OpenCall) → is_among q calls ≡ false → open_calls q calls ≡ 0
 open_none q [] e = refl
-open_none q (call ∷ calls) e = let f = or_none (call.pid.0 == q) (is_among q calls) e in rw (f.0, open_none q calls f.1) refl
+open_none q (call ∷ calls) e = let f = or_parts (call.pid.0 == q) (is_among q calls) e in rw (f.0, open_none q calls f.1) refl
 
 open_one : (b : Bool) (n : ℕ) → (b ≡ true → n ≡ 0) → n ≤ 1 → one b + n ≤ 1
 open_one true n h most = omega (arith, h refl)
@@ -64,17 +66,17 @@ open_one false n h most = omega arith
 -- no process has two open calls
 pub open_most : (q : ℕ) (calls : List OpenCall) → Apart calls → open_calls q calls ≤ 1
 open_most q [] a = omega arith
-open_most q (call ∷ calls) a = open_one (call.pid.0 == q) (open_calls q calls) (λ e. open_none q calls (subst (λ (n : ℕ). is_among n calls ≡ false) (same_true call.pid.0 q e) a.0)) (open_most q calls a.1)
+open_most q (call ∷ calls) a = open_one (call.pid.0 == q) (open_calls q calls) (λ e. open_none q calls (subst (λ (n : ℕ). is_among n calls ≡ false) (eqb-true call.pid.0 q e) a.0)) (open_most q calls a.1)
 
 pub without_none : (pid : Pid) (calls : List OpenCall) → is_among pid.0 calls ≡ false → without pid calls ≡ calls
 without_none pid [] e = refl
-without_none pid (call ∷ calls) e = let f = or_none (call.pid.0 == pid.0) (is_among pid.0 calls) e in rw f.0 (ap (λ cs. call ∷ cs) (without_none pid calls f.1))
+without_none pid (call ∷ calls) e = let f = or_parts (call.pid.0 == pid.0) (is_among pid.0 calls) e in rw f.0 (ap (λ cs. call ∷ cs) (without_none pid calls f.1))
 
 without_by : (b : Bool) (q : ℕ) (pid : Pid) (call : OpenCall) (calls : List OpenCall) → b ≡ (call.pid.0 == pid.0) → is_among call.pid.0 calls ≡ false → (b || is_among pid.0 calls) ≡ true →
     (is_among pid.0 calls ≡ true → open_calls q (without pid calls) + one (pid.0 == q) ≡ open_calls q calls) →
     open_calls q (cond (not b) (call ∷ without pid calls) (without pid calls)) + one (pid.0 == q) ≡ one (call.pid.0 == q) + open_calls q calls
 without_by true q pid call calls is apart among rest =
-    let same : call.pid.0 ≡ pid.0 = same_true call.pid.0 pid.0 (sym is) in
+    let same : call.pid.0 ≡ pid.0 = eqb-true call.pid.0 pid.0 (sym is) in
     rw (without_none pid calls (subst (λ (n : ℕ). is_among n calls ≡ false) same apart), same) (omega arith)
 without_by false q pid call calls is apart among rest = omega (arith, rest among)
 
@@ -115,8 +117,7 @@ fires_balance : (q : ℕ) (s : State) (pid : Pid) (i : ℕ) (k : Case) (o : Opti
 fires_balance q s pid i (Send p v) None sound is can = let h : option_map_or (send_can s p) (channel_at s p) false ≡ true = can in let g : false ≡ true = rw (sym is) at h in cc
 fires_balance q s pid i (Recv p) None sound is can = let h : option_map_or (recv_can s p) (channel_at s p) false ≡ true = can in let g : false ≡ true = rw (sym is) at h in cc
 fires_balance q s pid i (Send p v) (Some c) sound is can =
-    elim c.closed as (λ b. Balance q s pid (proceeds s pid i (Some (cond b (record { outcome = Closed; state = s; ended = [] }) (send_meets s p (sent v c) (first_with (is_recv_on p) s.parked))))))
-    [ true ↦ omega (arith, ends_one q pid (what.Fired i Closed) refl) | false ↦ send_balance q s pid i p (sent v c) (first_with (is_recv_on p) s.parked) sound refl ]
+    by-closed (λ f. Balance q s pid (proceeds s pid i (Some f))) s p v c (λ over. omega (arith, ends_one q pid (what.Fired i Closed) refl)) (λ live. send_balance q s pid i p (sent v c) (first_with (is_recv_on p) s.parked) sound refl)
 fires_balance q s pid i (Recv p) (Some c) sound is can = recv_balance q s pid i p c (first_with (is_send_on p) s.parked) sound refl
 
 chooses_balance : (q : ℕ) (s : State) (pid : Pid) (cases : List Case) (default : Bool) (o : Option (ℕ × Case)) → IsSound s → ((x : ℕ × Case) → o ≡ Some x → can_proceed s x.1 ≡ true) → Balance q s pid (chooses s pid cases default o)
@@ -151,18 +152,17 @@ effect_balance q s pid Exit sound h = omega (arith, ends_one q pid what.Done ref
 
 -- a stall
 
-stalled_ends : (q : ℕ) (calls : List OpenCall) → ends q (filter_map (λ call. Some (tells call.pid what.Stalled)) calls) ≡ open_calls q calls
+stalled_ends : (q : ℕ) (calls : List OpenCall) → ends q (stall_events calls) ≡ open_calls q calls
 stalled_ends q [] = refl
-stalled_ends q (call ∷ calls) = ends_cons q (tells call.pid what.Stalled) (filter_map (λ call. Some (tells call.pid what.Stalled)) calls) ∙ ap (λ n. one (call.pid.0 == q) + n) (stalled_ends q calls)
+stalled_ends q (call ∷ calls) = ends_cons q (tells call.pid what.Stalled) (stall_events calls) ∙ ap (λ n. one (call.pid.0 == q) + n) (stalled_ends q calls)
 
 stalls_balance : (q : ℕ) (s : State) (pid : Pid) (c : Change) → Balance q s pid c → Balance q s pid (stalls c)
 stalls_balance q s pid c e =
-    elim (all_wait c.state) as (λ b. Balance q s pid (cond b (record { state = record c.state { parked = [] }; events = c.events ++ filter_map (λ call. Some (tells call.pid what.Stalled)) c.state.parked }) c))
-    [ true ↦ omega (arith, ends_append q c.events (filter_map (λ call. Some (tells call.pid what.Stalled)) c.state.parked), stalled_ends q c.state.parked) | false ↦ e ]
+    by-stall (λ (d : Change). Balance q s pid d) c (omega (arith, ends_append q c.events (stall_events c.state.parked), stalled_ends q c.state.parked)) e
 
 answers_balance : (q : ℕ) (s : State) (e : Entry) (o : Option Fault) → IsSound s → o ≡ fault_of s e.step → Balance q s e.pid (answers s e o)
 answers_balance q s e None sound is = stalls_balance q s e.pid (effect s e.pid e.step) (effect_balance q s e.pid e.step sound (sym is))
-answers_balance q s e (Some f) sound is = omega (arith, ends_one q e.pid (what.Fault f) (ap (λ b. not b) (journaled s e.step f (sym is)).free))
+answers_balance q s e (Some f) sound is = omega (arith, ends_one q e.pid (what.Fault f) (ap (λ b. not b) (fault_counts e.step f (journaled s e.step f (sym is)))))
 
 -- every admitted entry: each process gets one event for its entry and one for each call of its that ends
 pub turn-balance : (q : ℕ) (s : State) (e : Entry) → IsSound s → Balance q s e.pid (turn s e)

@@ -1,9 +1,10 @@
 -- Lists of open calls: what stays when some of them end, and when one more parks.
-use Rattle.std.proofs.Common.{◌≡◌, ℕ, ◌+◌, ◌==◌, Bool, true, false, cond, suc, List, [], ◌∷◌, ◌++◌, filter, refl, ◌∙◌, sym, subst, Option, Some, None, arith, ◌||◌, inl, inr, ◌⊎◌}
+use Rattle.std.proofs.Common.{◌≡◌, ℕ, ◌+◌, ◌==◌, Bool, true, false, cond, suc, List, [], ◌∷◌, ◌++◌, filter, refl, ◌∙◌, sym, subst, Option, Some, None, arith, ◌||◌, inl, inr}
 use Rattle.std.specs.Prelude.{slice_get, is_some}
 use Rattle.std.specs.List.{list_any, AllByRecursion}
 use Rattle.std.specs.Option.{option_map}
 use Rattle.std.proofs.lemmas.Grind.{common_steps}
+use Rattle.std.proofs.lemmas.Bool.{or_left, or_right, or_parts, or_from, or_cases, false_from_ne_true}
 use Rattle.hub_base.specs.declared.value.Port.{Port}
 use Rattle.hub_base.specs.declared.value.Pid.{Pid}
 use Rattle.hub_base.specs.declared.case.Case.{Case}
@@ -11,31 +12,7 @@ use Rattle.hub_base.specs.State.{OpenCall}
 use Rattle.hub_base.specs.Ready.{is_send_on, is_recv_on, Placed, Ending, or_else, lowest, lowest_from, first_with}
 use Rattle.hub_laws.specs.Sound.{some_call, is_among, Apart, Alone, CallFits}
 
--- Bool
-
-pub or_left : (x y : Bool) → x ≡ true → (x || y) ≡ true
-or_left true y e = refl
-or_left false y e = cc
-
-pub or_right : (x y : Bool) → y ≡ true → (x || y) ≡ true
-or_right true y e = refl
-or_right false y e = e
-
-pub or_none : (x y : Bool) → (x || y) ≡ false → (x ≡ false) × (y ≡ false)
-or_none true y e = cc
-or_none false y e = (refl, e)
-
-pub none_or : (x y : Bool) → x ≡ false → y ≡ false → (x || y) ≡ false
-none_or true y d e = d
-none_or false y d e = e
-
-pub or_some : (x y : Bool) → (x || y) ≡ true → (x ≡ true) ⊎ (y ≡ true)
-or_some true y e = inl refl
-or_some false y e = inr e
-
-pub not_true : (x : Bool) → (x ≡ true → ⊥) → x ≡ false
-not_true true h = absurd (h refl)
-not_true false h = refl
+-- Numbers of processes
 
 pub same_number : (a : ℕ) → (a == a) ≡ true
 same_number a = grind (arith, common_steps)
@@ -63,13 +40,13 @@ any_kept test keep [] e = e
 any_kept test keep (x ∷ xs) e =
     let P : Bool → Type 0 = λ b. list_any test (cond b (x ∷ filter keep xs) (filter keep xs)) ≡ true → (test x || list_any test xs) ≡ true in
     let at : (b : Bool) → P b = λ b. elim b as P [
-      | true ↦ λ h. elim (or_some (test x) (list_any test (filter keep xs)) h) [ inl l ↦ or_left (test x) (list_any test xs) l | inr r ↦ or_right (test x) (list_any test xs) (any_kept test keep xs r) ]
+      | true ↦ λ h. elim (or_cases (test x) (list_any test (filter keep xs)) h) [ inl l ↦ or_left (test x) (list_any test xs) l | inr r ↦ or_right (test x) (list_any test xs) (any_kept test keep xs r) ]
       | false ↦ λ h. or_right (test x) (list_any test xs) (any_kept test keep xs h)
     ] in
     at (keep x) e
 
 pub none_kept : {A : Type 0} (test keep : A → Bool) (xs : List A) → list_any test xs ≡ false → list_any test (filter keep xs) ≡ false
-none_kept test keep xs e = not_true (list_any test (filter keep xs)) (λ h. let t = any_kept test keep xs h in cc)
+none_kept test keep xs e = false_from_ne_true (list_any test (filter keep xs)) (λ h. let t = any_kept test keep xs h in cc)
 
 apart_kept : (keep : OpenCall → Bool) (calls : List OpenCall) → Apart calls → Apart (filter keep calls)
 apart_kept keep [] a = tt
@@ -109,22 +86,30 @@ pub all_snoc : {A : Type 0} (P : A → Type 0) (xs : List A) (x : A) → AllByRe
 all_snoc P [] x a p = (p, tt)
 all_snoc P (y ∷ ys) x a p = (a.0, all_snoc P ys x a.1 p)
 
+pub all_append : {A : Type 0} (P : A → Type 0) (xs ys : List A) → AllByRecursion P xs → AllByRecursion P ys → AllByRecursion P (xs ++ ys)
+all_append P [] ys a b = b
+all_append P (x ∷ xs) ys a b = (a.0, all_append P xs ys a.1 b)
+
+pub all_more : {A : Type 0} (P Q : A → Type 0) (xs : List A) → ((x : A) → P x → Q x) → AllByRecursion P xs → AllByRecursion Q xs
+all_more P Q [] imp a = tt
+all_more P Q (x ∷ xs) imp a = (imp x a.0, all_more P Q xs imp a.1)
+
 pub apart_snoc : (calls : List OpenCall) (call : OpenCall) → Apart calls → is_among call.pid.0 calls ≡ false → Apart (calls ++ call ∷ [])
 apart_snoc [] call a free = (refl, tt)
 apart_snoc (c ∷ cs) call a free =
-    let f = or_none (c.pid.0 == call.pid.0) (is_among call.pid.0 cs) free in
-    (any_snoc (λ x. x.pid.0 == c.pid.0) cs call ∙ none_or (is_among c.pid.0 cs) (call.pid.0 == c.pid.0) a.0 (differ-sym c.pid.0 call.pid.0 f.0), apart_snoc cs call a.1 f.1)
+    let f = or_parts (c.pid.0 == call.pid.0) (is_among call.pid.0 cs) free in
+    (any_snoc (λ x. x.pid.0 == c.pid.0) cs call ∙ or_from (is_among c.pid.0 cs) (call.pid.0 == c.pid.0) a.0 (differ-sym c.pid.0 call.pid.0 f.0), apart_snoc cs call a.1 f.1)
 
 pub alone_snoc : (p : Port) (calls : List OpenCall) (call : OpenCall) → Alone p calls →
     (list_any (is_recv_on p) call.cases ≡ true → some_call (is_send_on p) calls ≡ false) →
     (list_any (is_send_on p) call.cases ≡ true → some_call (is_recv_on p) calls ≡ false) → Alone p (calls ++ call ∷ [])
 alone_snoc p [] call a r w = (λ e. refl, λ e. refl, tt)
 alone_snoc p (c ∷ cs) call a r w = (
-  λ e. any_snoc (λ x. list_any (is_send_on p) x.cases) cs call ∙ none_or (some_call (is_send_on p) cs) (list_any (is_send_on p) call.cases) (a.0 e)
-      (not_true (list_any (is_send_on p) call.cases) (λ t. let f = or_none (list_any (is_recv_on p) c.cases) (some_call (is_recv_on p) cs) (w t) in let g : list_any (is_recv_on p) c.cases ≡ false = f.0 in cc)),
-  λ e. any_snoc (λ x. list_any (is_recv_on p) x.cases) cs call ∙ none_or (some_call (is_recv_on p) cs) (list_any (is_recv_on p) call.cases) (a.1 e)
-      (not_true (list_any (is_recv_on p) call.cases) (λ t. let f = or_none (list_any (is_send_on p) c.cases) (some_call (is_send_on p) cs) (r t) in let g : list_any (is_send_on p) c.cases ≡ false = f.0 in cc)),
-  alone_snoc p cs call a.2 (λ t. (or_none (list_any (is_send_on p) c.cases) (some_call (is_send_on p) cs) (r t)).1) (λ t. (or_none (list_any (is_recv_on p) c.cases) (some_call (is_recv_on p) cs) (w t)).1),
+  λ e. any_snoc (λ x. list_any (is_send_on p) x.cases) cs call ∙ or_from (some_call (is_send_on p) cs) (list_any (is_send_on p) call.cases) (a.0 e)
+      (false_from_ne_true (list_any (is_send_on p) call.cases) (λ t. let f = or_parts (list_any (is_recv_on p) c.cases) (some_call (is_recv_on p) cs) (w t) in let g : list_any (is_recv_on p) c.cases ≡ false = f.0 in cc)),
+  λ e. any_snoc (λ x. list_any (is_recv_on p) x.cases) cs call ∙ or_from (some_call (is_recv_on p) cs) (list_any (is_recv_on p) call.cases) (a.1 e)
+      (false_from_ne_true (list_any (is_recv_on p) call.cases) (λ t. let f = or_parts (list_any (is_send_on p) c.cases) (some_call (is_send_on p) cs) (r t) in let g : list_any (is_send_on p) c.cases ≡ false = f.0 in cc)),
+  alone_snoc p cs call a.2 (λ t. (or_parts (list_any (is_send_on p) c.cases) (some_call (is_send_on p) cs) (r t)).1) (λ t. (or_parts (list_any (is_recv_on p) c.cases) (some_call (is_recv_on p) cs) (w t)).1),
 )
 
 -- The first call with a case that passes

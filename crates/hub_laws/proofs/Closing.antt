@@ -3,14 +3,14 @@ use Rattle.std.proofs.Common.{◌≡◌, ℕ, ◌==◌, Bool, true, false, not, 
 use Rattle.std.specs.Prelude.{is_some}
 use Rattle.std.specs.List.{list_any, filter_map}
 use Rattle.std.specs.Option.{option_map}
+use Rattle.std.proofs.lemmas.Bool.{or_left, or_right, false_from_ne_true, eqb-true}
 use Rattle.hub_base.specs.declared.value.Port.{Port}
 use Rattle.hub_base.specs.declared.value.Pid.{Pid}
 use Rattle.hub_base.specs.State.{OpenCall}
 use Rattle.hub_base.specs.Ready.{is_on, Ending, Placed, or_else, lowest, first_with, without}
 use Rattle.hub_base.specs.Steps.{fired, closing_event, closing_outcome}
 use Rattle.hub_laws.specs.Sound.{is_among, Apart}
-use Rattle.hub_laws.proofs.Calls.{lowest-some, not_true, or_left, or_right, same_number}
-use Rattle.hub_laws.proofs.Fires.{same_true}
+use Rattle.hub_laws.proofs.Calls.{lowest-some, same_number}
 use Rattle.hub_laws.proofs.Balance.{without_none}
 
 -- the open calls with no case on the port
@@ -29,7 +29,7 @@ keeps : (pid : Pid) (call : OpenCall) (calls : List OpenCall) → (call.pid.0 ==
 keeps pid call calls e = rw e refl
 
 other_pid : (pid : Pid) (call : OpenCall) (calls : List OpenCall) → is_among call.pid.0 calls ≡ false → is_among pid.0 calls ≡ true → (call.pid.0 == pid.0) ≡ false
-other_pid pid call calls apart among = not_true (call.pid.0 == pid.0) (λ h. let g : is_among pid.0 calls ≡ false = subst (λ (n : ℕ). is_among n calls ≡ false) (same_true call.pid.0 pid.0 h) apart in cc)
+other_pid pid call calls apart among = false_from_ne_true (call.pid.0 == pid.0) (λ h. let g : is_among pid.0 calls ≡ false = subst (λ (n : ℕ). is_among n calls ≡ false) (eqb-true call.pid.0 pid.0 h) apart in cc)
 
 without_head : (call : OpenCall) (calls : List OpenCall) → is_among call.pid.0 calls ≡ false → without call.pid (call ∷ calls) ≡ calls
 without_head call calls apart = rw (same_number call.pid.0) (without_none call.pid calls apart)

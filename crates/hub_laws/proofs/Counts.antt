@@ -1,25 +1,25 @@
 -- No more values are sent on a port than there are admitted entries that are no exits.
 use Rattle.std.proofs.Common.{◌≡◌, ℕ, ◌+◌, ◌-◌, ◌≤◌, ◌==◌, Bool, true, false, cond, List, [], ◌∷◌, ◌++◌, length, refl, ◌∙◌, sym, subst, Option, Some, None, arith}
 use Rattle.std.specs.Prelude.{slice_get}
-use Rattle.std.specs.List.{filter_map}
 use Rattle.std.specs.Option.{option_map_or}
+use Rattle.std.proofs.lemmas.Bool.{eqb-true}
 use Rattle.hub_base.specs.declared.value.Port.{Port}
 use Rattle.hub_base.specs.declared.value.Pid.{Pid}
 use Rattle.hub_base.specs.declared.entry.Step.{Step}
 use Rattle.hub_base.specs.declared.entry.Step.TheVariants.{Make, Call, Close, Exit}
 use Rattle.hub_base.specs.declared.entry.Entry.{Entry}
-use Rattle.hub_base.specs.declared.event.What.TheVariants as what
 use Rattle.hub_base.specs.declared.fault.Fault.{Fault}
 use Rattle.hub_base.specs.State.{State, Channel, channel_at, opening}
-use Rattle.hub_base.specs.Steps.{Change, stalls, all_wait, tells, fault_of, answers, refusal}
+use Rattle.hub_base.specs.Steps.{Change, stalls, fault_of, answers, refusal}
 use Rattle.hub_base.specs.Runs.{admits, moves, state_after, kept_after, keeps, state}
 use Rattle.hub_base.specs.Values.{Turned}
 use Rattle.hub_base.specs.Text.{one_step, steps_of}
 use Rattle.hub_laws.specs.Sound.{IsSound}
-use Rattle.hub_laws.specs.Deeds.{Deed, deed_of, told, at, Moved, Quiet, Wrote, Does, buffers, hands, fetches, gives, drains, refuses, shuts, quiet, wrote}
+use Rattle.hub_laws.proofs.Branches.{by-stall}
+use Rattle.hub_laws.proofs.Deeds.{Deed, deed_of, told, at, Moved, Quiet, Wrote, Does, buffers, hands, fetches, gives, drains, refuses, shuts, quiet, wrote}
 use Rattle.hub_laws.specs.Counts.{CountsLaw}
 use Rattle.hub_laws.proofs.Ports.{same_port}
-use Rattle.hub_laws.proofs.Fires.{longer, same_true}
+use Rattle.hub_laws.proofs.Fires.{longer}
 use Rattle.hub_laws.proofs.Kept.{sound-opening}
 use Rattle.hub_laws.proofs.Rules.{moves-sound, state-sound}
 use Rattle.hub_laws.proofs.Does.{Knows}
@@ -47,7 +47,7 @@ quiet_sends cs ts p None (Some d) is to q = rw (q.fresh p d (sym is) (sym to)).0
 
 wrote_sends : (cs ts : List Channel) (p q : Port) (c d : Channel) (deeds : List Deed) (b : Bool) → b ≡ (q.0 == p.0) → Wrote cs ts q c d → Moved q c d deeds → sends_of (at ts p) ≤ sends_of (at cs p) + 1
 wrote_sends cs ts p q c d deeds true is w m =
-    let same : q ≡ p = same_port q p (same_true q.0 p.0 (sym is)) in
+    let same : q ≡ p = same_port q p (eqb-true q.0 p.0 (sym is)) in
     let new : at ts p ≡ Some d = subst (λ (r : Port). at ts r ≡ Some d) same w.new in
     let old : at cs p ≡ Some c = subst (λ (r : Port). at cs r ≡ Some c) same w.old in
     rw (new, old) (moved_sends q c d deeds m)
@@ -61,8 +61,7 @@ does_sends cs ts deeds p (wrote q c d w m) = wrote_sends cs ts p q c d deeds (q.
 
 stalls_channels : (c : Change) → (stalls c).state.channels ≡ c.state.channels
 stalls_channels c =
-    elim (all_wait c.state) as (λ b. (cond b (record { state = record c.state { parked = [] }; events = c.events ++ filter_map (λ call. Some (tells call.pid what.Stalled)) c.state.parked }) c).state.channels ≡ c.state.channels)
-    [ true ↦ refl | false ↦ refl ]
+    by-stall (λ (d : Change). d.state.channels ≡ c.state.channels) c refl refl
 
 step_sends : (s : State) (pid : Pid) (step : Step) (o : Option Fault) (p : Port) → sends_of (channel_at (answers s (record { pid = pid; step = step }) o).state p) ≤ sends_of (channel_at s p) + 1 →
     sends_of (channel_at (answers s (record { pid = pid; step = step }) o).state p) ≤ sends_of (channel_at s p) + one_step (record { pid = pid; step = step })

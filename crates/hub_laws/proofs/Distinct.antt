@@ -4,10 +4,11 @@ use Rattle.std.specs.List.{list_any, AllByRecursion, IsDistinct}
 use Rattle.std.proofs.lemmas.Grind.{common_steps}
 use Rattle.std.proofs.lemmas.List.{length-map}
 use Rattle.std.proofs.lemmas.Map.Steps.{length-le_from_distinct_below}
+use Rattle.std.proofs.lemmas.Bool.{or_parts, or_from}
 use Rattle.hub_base.specs.declared.value.Pid.{Pid}
 use Rattle.hub_base.specs.State.{OpenCall}
 use Rattle.hub_laws.specs.Sound.{is_among, Apart}
-use Rattle.hub_laws.proofs.Calls.{or_none, none_or, any_snoc, differ-sym}
+use Rattle.hub_laws.proofs.Calls.{any_snoc, differ-sym}
 
 -- no process stands twice
 abbrev pub Different : List Pid → Type 0
@@ -17,8 +18,8 @@ Different (pid ∷ pids) = (list_any (λ g. g.0 == pid.0) pids ≡ false) × Dif
 pub different_snoc : (pids : List Pid) (pid : Pid) → Different pids → list_any (λ g. g.0 == pid.0) pids ≡ false → Different (pids ++ pid ∷ [])
 different_snoc [] pid d free = (refl, tt)
 different_snoc (p ∷ ps) pid d free =
-    let f = or_none (p.0 == pid.0) (list_any (λ g. g.0 == pid.0) ps) free in
-    (any_snoc (λ g. g.0 == p.0) ps pid ∙ none_or (list_any (λ g. g.0 == p.0) ps) (pid.0 == p.0) d.0 (differ-sym p.0 pid.0 f.0), different_snoc ps pid d.1 f.1)
+    let f = or_parts (p.0 == pid.0) (list_any (λ g. g.0 == pid.0) ps) free in
+    (any_snoc (λ g. g.0 == p.0) ps pid ∙ or_from (list_any (λ g. g.0 == p.0) ps) (pid.0 == p.0) d.0 (differ-sym p.0 pid.0 f.0), different_snoc ps pid d.1 f.1)
 
 abbrev numbers : List Pid → List ℕ
 numbers pids = map (λ p. p.0) pids
@@ -30,7 +31,7 @@ distinct (p ∷ ps) d = (apart_from p.0 ps d.0, distinct ps d.1)
   where
     apart_from : (q : ℕ) (pids : List Pid) → list_any (λ g. g.0 == q) pids ≡ false → AllByRecursion (λ y. (q == y) ≡ false) (numbers pids)
     apart_from q [] e = tt
-    apart_from q (p ∷ ps) e = let f = or_none (p.0 == q) (list_any (λ g. g.0 == q) ps) e in (differ-sym p.0 q f.0, apart_from q ps f.1)
+    apart_from q (p ∷ ps) e = let f = or_parts (p.0 == q) (list_any (λ g. g.0 == q) ps) e in (differ-sym p.0 q f.0, apart_from q ps f.1)
 
 found : (q : ℕ) (pids : List Pid) → list_any (eqb q) (numbers pids) ≡ true → list_any (λ g. g.0 == q) pids ≡ true
 found q [] e = e

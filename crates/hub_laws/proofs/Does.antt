@@ -3,8 +3,10 @@ use Rattle.std.proofs.Common.{◌≡◌, ℕ, ◌-◌, ◌%◌, ◌<◌, ◌==�
 use Rattle.std.specs.Prelude.{slice_get, slice_set}
 use Rattle.std.specs.List.{AllByRecursion, filter_map, cons_option}
 use Rattle.std.specs.Option.{option_map}
-use Rattle.std.proofs.lemmas.Grind.{common_steps}
 use Rattle.std.proofs.lemmas.List.Elements.{filter_map-append}
+use Rattle.std.proofs.lemmas.Bool.{or_cases, false_from_ne_true, eqb-true, eqb-false}
+use Rattle.hub_laws.proofs.Branches.{by-closed, by-stall, stall_events}
+use Rattle.hub_laws.proofs.Ports.{above_zero}
 use Rattle.hub_base.specs.declared.value.Port.{Port}
 use Rattle.hub_base.specs.declared.value.Pid.{Pid}
 use Rattle.hub_base.specs.declared.value.Value.{Value}
@@ -16,16 +18,15 @@ use Rattle.hub_base.specs.declared.event.Event.{Event}
 use Rattle.hub_base.specs.declared.fault.Fault.TheVariants as fault
 use Rattle.hub_base.specs.declared.event.Outcome.{Outcome}
 use Rattle.hub_base.specs.declared.event.Outcome.TheVariants.{Sent, Got, Drained, Closed}
-use Rattle.hub_base.specs.declared.event.What.TheVariants as what
 use Rattle.hub_base.specs.State.{State, Channel, OpenCall, channel_at, with_channel}
 use Rattle.hub_base.specs.Ready.{is_send_on, is_recv_on, is_on, can_proceed, ready, port_of, first_with, Ending, Placed, lowest}
-use Rattle.hub_base.specs.Steps.{is_unmade, fires, proceeds, chooses, calls, waits, closes, makes, effect, stalls, all_wait, Change, shut, fault_of, close_fault, fired, tells, sent, received, next_value, outcome_of, send_meets, send_fires, recv_takes, recv_meets, closing_event, closing_outcome}
+use Rattle.hub_base.specs.Steps.{is_unmade, fires, proceeds, chooses, calls, waits, closes, makes, effect, stalls, Change, shut, fault_of, close_fault, fired, sent, received, next_value, outcome_of, send_meets, send_fires, recv_takes, recv_meets, closing_event, closing_outcome}
 use Rattle.hub_base.specs.Values.{cases_or}
 use Rattle.hub_laws.specs.Sound.{some_call, IsSound}
-use Rattle.hub_laws.specs.Deeds.{deed_of, told, IsClosing, Quiet, Wrote, Does, buffers, hands, fetches, gives, drains, refuses, shuts, quiet, wrote}
-use Rattle.hub_laws.proofs.Calls.{not_true, first-found, Found, lowest-at, or_some}
+use Rattle.hub_laws.proofs.Deeds.{deed_of, told, IsClosing, Quiet, Wrote, Does, buffers, hands, fetches, gives, drains, refuses, shuts, quiet, wrote}
+use Rattle.hub_laws.proofs.Calls.{first-found, Found, lowest-at}
 use Rattle.hub_laws.proofs.Ports.{made, at_made, same_port, written, get_set_other, new_port}
-use Rattle.hub_laws.proofs.Fires.{same_true, is_send, some_first, longer}
+use Rattle.hub_laws.proofs.Fires.{is_send, some_first, longer}
 use Rattle.hub_laws.proofs.Ready.{chosen, none_false}
 
 -- every open call's cases are those in force of its process
@@ -38,17 +39,11 @@ other_by : (b : Bool) (cs : List Channel) (i : ℕ) (d : Channel) (p : Port) →
 other_by true cs i d p is h = refl
 other_by false cs i d p is h = get_set_other cs i (p.0 - 1) d (h refl)
 
-number_false : (a : ℕ) → (a == 0) ≡ false → 0 < a
-number_false a e = grind (arith, common_steps)
-
-differ : (a b : ℕ) → (a == b) ≡ false → a ≡ b → ⊥
-differ a b e h = grind (arith, common_steps)
-
 pub wrote-set : (s : State) (q : Port) (c d : Channel) → channel_at s q ≡ Some c → Wrote s.channels (slice_set s.channels (q.0 - 1) d) q c d
 wrote-set s q c d e = record {
   old = e;
   new = written s (with_channel s q d) q c d refl e;
-  others = λ p h. other_by (p.0 == 0) s.channels (q.0 - 1) d p refl (λ b same. let n = (made s q c e).number in let m = number_false p.0 (b) in differ q.0 p.0 h (omega arith));
+  others = λ p h. other_by (p.0 == 0) s.channels (q.0 - 1) d p refl (λ b same. let n = (made s q c e).number in let m = above_zero p.0 (b) in eqb-false q.0 p.0 h (omega arith));
 }
 
 wrote-same : (s : State) (q : Port) (c : Channel) → channel_at s q ≡ Some c → Wrote s.channels s.channels q c c
@@ -70,7 +65,7 @@ told_fired L pid i c o rest e = rw e refl
 
 pub is_recv : (p : Port) (c : Case) → is_recv_on p c ≡ true → c ≡ Recv p
 is_recv p (Send q v) e = cc
-is_recv p (Recv q) e = ap (λ (r : Port). Recv r) (same_port q p (same_true q.0 p.0 e))
+is_recv p (Recv q) e = ap (λ (r : Port). Recv r) (same_port q p (eqb-true q.0 p.0 e))
 
 -- the case at which an open call ends is in force
 ended_case : (L : Pid → List Case) (test : Case → Bool) (calls : List OpenCall) (x : Ending) → Found (λ call. L call.pid ≡ call.cases) test calls x → slice_get (L x.pid) x.at.index ≡ Some x.at.case
@@ -91,13 +86,10 @@ meets_does s L pid i p v c (Some x) sound knows mine e live is =
 
 send_does : (s : State) (L : Pid → List Case) (pid : Pid) (i : ℕ) (p : Port) (v : Value) (c : Channel) → IsSound s → Knows L s.parked → slice_get (L pid) i ≡ Some (Send p v) → channel_at s p ≡ Some c →
     Does s.channels (proceeds s pid i (Some (send_fires s p v c))).state.channels (told deed_of L (proceeds s pid i (Some (send_fires s p v c))).events)
-send_does s L pid i p v c sound knows mine e = by_closed c.closed refl
-  where
-    by_closed : (b : Bool) → b ≡ c.closed →
-        Does s.channels (proceeds s pid i (Some (cond b (record { outcome = Closed; state = s; ended = [] }) (send_meets s p (sent v c) (first_with (is_recv_on p) s.parked))))).state.channels
-        (told deed_of L (proceeds s pid i (Some (cond b (record { outcome = Closed; state = s; ended = [] }) (send_meets s p (sent v c) (first_with (is_recv_on p) s.parked))))).events)
-    by_closed true is = wrote p c c (wrote-same s p c e) (refuses v (sym is) refl (told_fired L pid i (Send p v) Closed [] mine))
-    by_closed false is = meets_does s L pid i p v c (first_with (is_recv_on p) s.parked) sound knows mine e (sym is) refl
+send_does s L pid i p v c sound knows mine e =
+    by-closed (λ f. Does s.channels (proceeds s pid i (Some f)).state.channels (told deed_of L (proceeds s pid i (Some f)).events)) s p v c
+    (λ over. wrote p c c (wrote-same s p c e) (refuses v over refl (told_fired L pid i (Send p v) Closed [] mine)))
+    (λ live. meets_does s L pid i p v c (first_with (is_recv_on p) s.parked) sound knows mine e live refl)
 
 takes_does : (s : State) (L : Pid → List Case) (pid : Pid) (i : ℕ) (p : Port) (c : Channel) (o : Option Value) → slice_get (L pid) i ≡ Some (Recv p) → channel_at s p ≡ Some c → o ≡ next_value c →
     Does s.channels (proceeds s pid i (Some (recv_takes s p c [] o))).state.channels (told deed_of L (proceeds s pid i (Some (recv_takes s p c [] o))).events)
@@ -111,7 +103,7 @@ recv_meets_does s L pid i p c (Some x) sound knows mine e is =
     let found = first-found (λ call. L call.pid ≡ call.cases) (is_send_on p) s.parked x knows (sym is) in
     let u = is_send p x.at.case found.passes in
     let some : some_call (is_send_on p) s.parked ≡ true = sym (some_first (is_send_on p) s.parked (Some x) is) in
-    let live : c.closed ≡ false = not_true c.closed (λ h. let g = ((sound.ports p c e).ended h).1 in cc) in
+    let live : c.closed ≡ false = false_from_ne_true c.closed (λ h. let g = ((sound.ports p c e).ended h).1 in cc) in
     let next = next_sent s p u.0 c sound e in
     let theirs : slice_get (L x.pid) x.at.index ≡ Some (Send p u.0) = ended_case L (is_send_on p) s.parked x found ∙ ap (λ k. Some k) u.1 in
     rw (u.1, next.1) (wrote p c (received (sent u.0 c)) (wrote-set s p c (received (sent u.0 c)) e) (fetches u.0 next.0 live next.1 refl
@@ -146,8 +138,8 @@ call_does s L pid cases default word sound knows mine =
 -- A close
 
 is_on_port : (p : Port) (c : Case) → is_on p c ≡ true → port_of c ≡ p
-is_on_port p (Send q v) e = elim (or_some (q.0 == p.0) false e) [ inl l ↦ same_port q p (same_true q.0 p.0 l) | inr r ↦ absurd (let g : ⊥ = cc in g) ]
-is_on_port p (Recv q) e = same_port q p (same_true q.0 p.0 e)
+is_on_port p (Send q v) e = elim (or_cases (q.0 == p.0) false e) [ inl l ↦ same_port q p (eqb-true q.0 p.0 l) | inr r ↦ absurd (let g : ⊥ = cc in g) ]
+is_on_port p (Recv q) e = same_port q p (eqb-true q.0 p.0 e)
 
 closing_one : (p : Port) (L : Pid → List Case) (call : OpenCall) (o : Option Placed) (rest : List Event) → o ≡ lowest (is_on p) call.cases → L call.pid ≡ call.cases → AllByRecursion (IsClosing p) (told deed_of L rest) →
     AllByRecursion (IsClosing p) (told deed_of L (cons_option (option_map (λ c. fired call.pid c.index (closing_outcome c.case)) o) rest))
@@ -185,17 +177,14 @@ make_does s L pid cap =
 
 -- A stall
 
-told_stalled : (L : Pid → List Case) (calls : List OpenCall) → told deed_of L (filter_map (λ call. Some (tells call.pid what.Stalled)) calls) ≡ []
+told_stalled : (L : Pid → List Case) (calls : List OpenCall) → told deed_of L (stall_events calls) ≡ []
 told_stalled L [] = refl
 told_stalled L (call ∷ calls) = told_stalled L calls
 
-stalls_by : (b : Bool) (cs : List Channel) (L : Pid → List Case) (c : Change) → Does cs c.state.channels (told deed_of L c.events) →
-    Does cs (cond b (record { state = record c.state { parked = [] }; events = c.events ++ filter_map (λ call. Some (tells call.pid what.Stalled)) c.state.parked }) c).state.channels
-    (told deed_of L (cond b (record { state = record c.state { parked = [] }; events = c.events ++ filter_map (λ call. Some (tells call.pid what.Stalled)) c.state.parked }) c).events)
-stalls_by true cs L c does =
+stalls_does : (cs : List Channel) (L : Pid → List Case) (c : Change) → Does cs c.state.channels (told deed_of L c.events) → Does cs (stalls c).state.channels (told deed_of L (stalls c).events)
+stalls_does cs L c does =
     let same : told deed_of L c.events ++ [] ≡ told deed_of L c.events = append-nil (told deed_of L c.events) in
-    rw (filter_map-append, told_stalled L c.state.parked, same) does
-stalls_by false cs L c does = does
+    by-stall (λ (d : Change). Does cs d.state.channels (told deed_of L d.events)) c (rw (filter_map-append, told_stalled L c.state.parked, same) does) does
 
 -- A step
 
@@ -215,4 +204,4 @@ effect_does s L pid Exit before sound knows mine h = quiet (quiet-same s.channel
 
 pub stalls-does : (s : State) (L : Pid → List Case) (pid : Pid) (step : Step) (before : List Case) → IsSound s → Knows L s.parked → L pid ≡ cases_or step before → fault_of s step ≡ None →
     Does s.channels (stalls (effect s pid step)).state.channels (told deed_of L (stalls (effect s pid step)).events)
-stalls-does s L pid step before sound knows mine h = stalls_by (all_wait (effect s pid step).state) s.channels L (effect s pid step) (effect_does s L pid step before sound knows mine h)
+stalls-does s L pid step before sound knows mine h = stalls_does s.channels L (effect s pid step) (effect_does s L pid step before sound knows mine h)

@@ -19,27 +19,25 @@ or_fault : (P : Fault → Type 0) (t : Bool) (x f : Fault) (o : Option Fault) �
 or_fault P true x f o px po e = let h : x ≡ f = cc in subst P h px
 or_fault P false x f o px po e = po e
 
--- the entry was admitted, and its step can have the fault
-pub record Journaled (step : Step) (f : Fault) : Type 0 where
-  pub free : is_busy f ≡ false
-  pub admitted : refuses_entry f ≡ false
-  pub fits : is_fault_of step f ≡ true
+abbrev Journaled : Step → Fault → Type 0
+Journaled step f = is_fault_of step f ≡ true
 
 last_fault : (step : Step) (t : Bool) (x f : Fault) → Journaled step x → cond t (Some x) None ≡ Some f → Journaled step f
 last_fault step t x f j e = or_fault (Journaled step) t x f None j (λ h. absurd (let g : ⊥ = cc in g)) e
 
 close_journaled : (p : Port) (o : Option Channel) (f : Fault) → close_fault o ≡ Some f → Journaled (Close p) f
-close_journaled p None f e = let h : fault.NilClose ≡ f = cc in subst (Journaled (Close p)) h (record { free = refl; admitted = refl; fits = refl })
-close_journaled p (Some c) f e = last_fault (Close p) c.closed fault.AlreadyClosed f (record { free = refl; admitted = refl; fits = refl }) e
+close_journaled p None f e = let h : fault.NilClose ≡ f = cc in subst (Journaled (Close p)) h refl
+close_journaled p (Some c) f e = last_fault (Close p) c.closed fault.AlreadyClosed f refl e
 
-pub journaled : (s : State) (step : Step) (f : Fault) → fault_of s step ≡ Some f → Journaled step f
+-- it is one of its step's faults
+pub journaled : (s : State) (step : Step) (f : Fault) → fault_of s step ≡ Some f → is_fault_of step f ≡ true
 journaled s (Make cap) f e =
-    or_fault (Journaled (Make cap)) (nat_lt 1024 cap) fault.BadCap f (cond (nat_lt 63 (length s.channels)) (Some fault.TooManyPorts) None) (record { free = refl; admitted = refl; fits = refl })
-    (last_fault (Make cap) (nat_lt 63 (length s.channels)) fault.TooManyPorts f (record { free = refl; admitted = refl; fits = refl })) e
+    or_fault (Journaled (Make cap)) (nat_lt 1024 cap) fault.BadCap f (cond (nat_lt 63 (length s.channels)) (Some fault.TooManyPorts) None) refl
+    (last_fault (Make cap) (nat_lt 63 (length s.channels)) fault.TooManyPorts f refl) e
 journaled s (Call cases default word) f e =
-    or_fault (Journaled (Call cases default word)) (nat_lt 8 (length cases.items)) fault.TooManyCases f (cond (list_any (λ c. is_unmade s (port_of c)) cases.items) (Some fault.NoPort) None) (record { free = refl; admitted = refl; fits = refl })
-    (last_fault (Call cases default word) (list_any (λ c. is_unmade s (port_of c)) cases.items) fault.NoPort f (record { free = refl; admitted = refl; fits = refl })) e
-journaled s (Close p) f e = or_fault (Journaled (Close p)) (is_unmade s p) fault.NoPort f (close_fault (channel_at s p)) (record { free = refl; admitted = refl; fits = refl }) (close_journaled p (channel_at s p) f) e
+    or_fault (Journaled (Call cases default word)) (nat_lt 8 (length cases.items)) fault.TooManyCases f (cond (list_any (λ c. is_unmade s (port_of c)) cases.items) (Some fault.NoPort) None) refl
+    (last_fault (Call cases default word) (list_any (λ c. is_unmade s (port_of c)) cases.items) fault.NoPort f refl) e
+journaled s (Close p) f e = or_fault (Journaled (Close p)) (is_unmade s p) fault.NoPort f (close_fault (channel_at s p)) refl (close_journaled p (channel_at s p) f) e
 journaled s Exit f e = absurd (let g : ⊥ = cc in g)
 
 -- Why an entry is not admitted

@@ -1,20 +1,22 @@
 -- A case that fires keeps soundness.
-use Rattle.std.proofs.Common.{◌≡◌, ℕ, ◌+◌, ◌-◌, ◌<◌, ◌==◌, nat_lt, Bool, true, false, cond, not, zero, suc, List, [], ◌∷◌, ◌++◌, length, refl, ap, ◌∙◌, sym, Option, Some, None, arith, ◌||◌}
+use Rattle.std.proofs.Common.{◌≡◌, ℕ, ◌+◌, ◌-◌, ◌<◌, ◌==◌, nat_lt, Bool, true, false, not, zero, suc, List, [], ◌∷◌, ◌++◌, length, refl, ap, ◌∙◌, sym, Option, Some, None, arith, ◌||◌}
 use Rattle.std.specs.Prelude.{slice_get, is_some}
 use Rattle.std.proofs.lemmas.Grind.{common_steps}
 use Rattle.std.proofs.lemmas.Option.{slice_get_within}
 use Rattle.std.proofs.lemmas.List.{length-append}
+use Rattle.std.proofs.lemmas.Bool.{false_from_ne_true, eqb-true}
 use Rattle.hub_base.specs.declared.value.Port.{Port}
 use Rattle.hub_base.specs.declared.value.Value.{Value}
 use Rattle.hub_base.specs.declared.case.Case.{Case}
 use Rattle.hub_base.specs.declared.case.Case.TheVariants.{Send, Recv}
 use Rattle.hub_base.specs.declared.event.Event.{Event}
-use Rattle.hub_base.specs.declared.event.Outcome.TheVariants.{Sent, Closed}
+use Rattle.hub_base.specs.declared.event.Outcome.TheVariants.{Sent}
 use Rattle.hub_base.specs.State.{State, Channel, OpenCall, channel_at}
 use Rattle.hub_base.specs.Ready.{is_send_on, is_recv_on, first_with, Ending, without, send_can}
 use Rattle.hub_base.specs.Steps.{sent, received, next_value, send_meets, send_fires, recv_takes, recv_meets, recv_fires, fired}
 use Rattle.hub_laws.specs.Sound.{some_call, CallFits, PortSound, IsSound}
-use Rattle.hub_laws.proofs.Calls.{Fewer, not_true, fewer-same, fewer-filter, first-some, first-found}
+use Rattle.hub_laws.proofs.Branches.{by-closed}
+use Rattle.hub_laws.proofs.Calls.{Fewer, fewer-same, fewer-filter, first-some, first-found}
 use Rattle.hub_laws.proofs.Ports.{same_port}
 use Rattle.hub_laws.proofs.Kept.{port-fewer, sound-written}
 
@@ -75,20 +77,13 @@ meets_sound s p v c (Some x) sound e can live is =
     sound-written s (without x.pid s.parked) p c (received (sent v c)) sound fewer e (port-through p v c (without x.pid s.parked) (port-fewer p c (without x.pid s.parked) s.parked fewer (sound.ports p c e)) live)
 
 pub send-sound : (s : State) (p : Port) (v : Value) (c : Channel) → IsSound s → channel_at s p ≡ Some c → send_can s p c ≡ true → IsSound (send_fires s p v c).state
-send-sound s p v c sound e can = by_closed c.closed refl
-  where
-    by_closed : (b : Bool) → b ≡ c.closed → IsSound (cond b (record { outcome = Closed; state = s; ended = [] }) (send_meets s p (sent v c) (first_with (is_recv_on p) s.parked))).state
-    by_closed true is = sound
-    by_closed false is = meets_sound s p v c (first_with (is_recv_on p) s.parked) sound e can (sym is) refl
+send-sound s p v c sound e can = by-closed (λ f. IsSound f.state) s p v c (λ over. sound) (λ live. meets_sound s p v c (first_with (is_recv_on p) s.parked) sound e can live refl)
 
 -- a receive
 takes_sound : (s : State) (p : Port) (c : Channel) (ended : List Event) (kept : List OpenCall) (d : Channel) (o : Option Value) → IsSound s → channel_at s p ≡ Some c → Fewer kept s.parked →
     (o ≡ None → PortSound p d kept) → ((v : Value) → o ≡ Some v → PortSound p (received d) kept) → IsSound (recv_takes (record s { parked = kept }) p d ended o).state
 takes_sound s p c ended kept d None sound e fewer none some = sound-written s kept p c d sound fewer e (none refl)
 takes_sound s p c ended kept d (Some v) sound e fewer none some = sound-written s kept p c (received d) sound fewer e (some v refl)
-
-pub same_true : (a b : ℕ) → (a == b) ≡ true → a ≡ b
-same_true a b e = grind (arith, common_steps)
 
 pub get_none : {A : Type 0} (xs : List A) (i : ℕ) → slice_get xs i ≡ None → i < length xs → ⊥
 get_none [] i e h = omega arith
@@ -97,7 +92,7 @@ get_none (x ∷ xs) (suc i) e h = get_none xs i e (omega arith)
 
 -- the oldest sender's case is a send
 pub is_send : (p : Port) (c : Case) → is_send_on p c ≡ true → (v : Value) × (c ≡ Send p v)
-is_send p (Send q v) e = (v, ap (λ (r : Port). Send r v) (same_port q p (same_true q.0 p.0 e)))
+is_send p (Send q v) e = (v, ap (λ (r : Port). Send r v) (same_port q p (eqb-true q.0 p.0 e)))
 is_send p (Recv q) e = cc
 
 recv_meets_sound : (s : State) (p : Port) (c : Channel) (o : Option Ending) → IsSound s → channel_at s p ≡ Some c → o ≡ first_with (is_send_on p) s.parked → IsSound (recv_meets s p c o).state
@@ -110,7 +105,7 @@ recv_meets_sound s p c (Some x) sound e is =
     let found = first-found (CallFits (length s.channels)) (is_send_on p) s.parked x sound.calls (sym is) in
     let u = is_send p x.at.case found.passes in
     let some : some_call (is_send_on p) s.parked ≡ true = sym (some_first (is_send_on p) s.parked (Some x) is) in
-    let live : c.closed ≡ false = not_true c.closed (λ h. let g = (f.ended h).1 in cc) in
+    let live : c.closed ≡ false = false_from_ne_true c.closed (λ h. let g = (f.ended h).1 in cc) in
     let through : PortSound p (received (sent u.0 c)) (without x.pid s.parked) = port-through p u.0 c (without x.pid s.parked) (port-fewer p c (without x.pid s.parked) s.parked fewer f) live in
     rw u.1 (takes_sound s p c (fired x.pid x.at.index Sent ∷ []) (without x.pid s.parked) (sent u.0 c) (next_value (sent u.0 c)) sound e fewer
     (λ h. absurd (get_none (c.done ++ u.0 ∷ []) c.taken h (omega (arith, longer u.0 c, f.taken))))

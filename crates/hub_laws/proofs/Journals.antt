@@ -1,10 +1,22 @@
--- The admitted entries alone give the same state, and are all admitted.
-use Rattle.std.proofs.Common.{◌≡◌, ℕ, List, [], ◌∷◌, refl, ap, ◌∙◌, sym, Option, Some, None}
+-- The admitted entries of a run alone: their state, their events, and what joins them.
+use Rattle.std.proofs.Common.{◌≡◌, ◌≤◌, ℕ, Bool, true, not, List, [], ◌∷◌, ◌++◌, length, filter, refl, ap, ◌∙◌, sym, Option, Some, None, arith, append-nil}
+use Rattle.std.specs.List.{AllByRecursion}
+use Rattle.std.proofs.lemmas.List.Elements.{filter-append}
 use Rattle.hub_base.specs.declared.entry.Entry.{Entry}
+use Rattle.hub_base.specs.declared.event.Event.{Event}
 use Rattle.hub_base.specs.declared.fault.Fault.{Fault}
 use Rattle.hub_base.specs.State.{State, opening}
-use Rattle.hub_base.specs.Steps.{refusal}
-use Rattle.hub_base.specs.Runs.{admits, moves, keeps, kept_after, kept, state_after, state}
+use Rattle.hub_base.specs.Steps.{refusal, turn}
+use Rattle.hub_base.specs.Runs.{admits, moves, keeps, kept_after, kept, state_after, state, events_after}
+use Rattle.hub_laws.specs.Once.{is_refusal}
+use Rattle.hub_laws.specs.Answers.{ends_waiting, IsAnswered}
+use Rattle.hub_laws.specs.Journals.{JournalLaw, Grows, Begins}
+use Rattle.hub_laws.proofs.Events.{answer_admits, ends_admits}
+use Rattle.hub_laws.proofs.Faults.{refusal-refuses}
+use Rattle.hub_laws.proofs.Telling.{turn-tells}
+use Rattle.hub_laws.proofs.Longer.{kept-entry}
+
+-- The state, and which entries are admitted
 
 -- an entry that is not admitted changes nothing
 passed_over : (s : State) (e : Entry) (f : Fault) → Some f ≡ refusal s e.pid → (moves s e).state ≡ s
@@ -33,3 +45,72 @@ state-kept n es = state_after-kept (opening n) es
 -- the journal of a run is legal
 pub kept-kept : (n : ℕ) (es : List Entry) → kept n (kept n es) ≡ kept n es
 kept-kept n es = kept_after-kept (opening n) es
+
+-- The events
+
+abbrev no_refusal : Event → Bool
+no_refusal x = not (is_refusal x.what)
+
+ended_pass : (events : List Event) → AllByRecursion (λ x. ends_waiting x.what ≡ true) events → filter no_refusal events ≡ events
+ended_pass [] a = refl
+ended_pass (x ∷ xs) a = rw (ends_admits x.what a.0, ended_pass xs a.1) refl
+
+answered_pass : (e : Entry) (events : List Event) → IsAnswered e.pid e.step events → filter no_refusal events ≡ events
+answered_pass e [] a = refl
+answered_pass e (x ∷ xs) a = rw (answer_admits e.step x.what a.fits, ended_pass xs a.ends) refl
+
+events_by : (s : State) (e : Entry) (es : List Entry) (o : Option Fault) → o ≡ refusal s e.pid → ((t : State) → events_after t (kept_after t es) ≡ filter no_refusal (events_after t es)) →
+    events_after s (keeps o e (kept_after (moves s e).state es)) ≡ filter no_refusal ((admits s e o).events ++ events_after (moves s e).state es)
+events_by s e es None is rest =
+    let same : moves s e ≡ turn s e = ap (admits s e) (sym is) in
+    ap (λ c. c.events ++ events_after (moves s e).state (kept_after (moves s e).state es)) same
+    ∙ ap (λ xs. (turn s e).events ++ xs) (rest (moves s e).state)
+    ∙ ap (λ xs. xs ++ filter no_refusal (events_after (moves s e).state es)) (sym (answered_pass e (turn s e).events (turn-tells s e).told))
+    ∙ sym (filter-append no_refusal (turn s e).events (events_after (moves s e).state es))
+events_by s e es (Some f) is rest = rw (refusal-refuses s e.pid f (sym is), passed_over s e f is) (rest s)
+
+events_after-kept : (s : State) (es : List Entry) → events_after s (kept_after s es) ≡ filter no_refusal (events_after s es)
+events_after-kept s [] = refl
+events_after-kept s (e ∷ es) = events_by s e es (refusal s e.pid) refl (λ t. events_after-kept t es)
+
+pub journal-law : (n : ℕ) (es : List Entry) → JournalLaw n es
+journal-law n es = record { legal = kept-kept n es; state = state-kept n es; events = events_after-kept (opening n) es }
+
+-- A further entry
+
+pub grows-law : (n : ℕ) (es : List Entry) (e : Entry) → Grows n es e
+grows-law n es e = record {
+  refused_alike = ap (λ s. refusal s e.pid) (state-kept n es);
+  moves_alike = ap (λ s. moves s e) (state-kept n es);
+  admitted = λ is. kept-entry n es e ∙ ap (λ o. kept n es ++ keeps o e []) is;
+  refused = λ f is. kept-entry n es e ∙ ap (λ o. kept n es ++ keeps o e []) is ∙ append-nil (kept n es);
+}
+
+-- A beginning
+
+kept_most : (s : State) (es : List Entry) → length (kept_after s es) ≤ length es
+kept_most s [] = omega arith
+kept_most s (e ∷ es) = by (refusal s e.pid) (kept_most (moves s e).state es)
+  where
+    by : (o : Option Fault) → length (kept_after (moves s e).state es) ≤ length es → length (keeps o e (kept_after (moves s e).state es)) ≤ length (e ∷ es)
+    by None most = omega arith
+    by (Some f) most = omega arith
+
+-- where all entries are kept the first is admitted, and so are the others
+first_kept : (s : State) (e : Entry) (es : List Entry) (o : Option Fault) → keeps o e (kept_after (moves s e).state es) ≡ e ∷ es → (o ≡ None) × (kept_after (moves s e).state es ≡ es)
+first_kept s e es None h = (refl, cc)
+first_kept s e es (Some f) h = absurd (let l : length (kept_after (moves s e).state es) ≡ length (e ∷ es) = ap length h in omega (arith, l, kept_most (moves s e).state es))
+
+begin_after : (s : State) (es fs : List Entry) → kept_after s (es ++ fs) ≡ es ++ fs → (kept_after s es ≡ es) × (kept_after (state_after s es) fs ≡ fs)
+begin_after s [] fs h = (refl, h)
+begin_after s (e ∷ es) fs h =
+    let f = first_kept s e (es ++ fs) (refusal s e.pid) h in
+    let rest = begin_after (moves s e).state es fs f.1 in
+    (ap (λ o. keeps o e (kept_after (moves s e).state es)) f.0 ∙ ap (λ xs. e ∷ xs) rest.0, rest.1)
+
+pub begins-law : (n : ℕ) (es fs : List Entry) → Begins n es fs
+begins-law n es fs = record {
+  legal = λ h. (begin_after (opening n) es fs h).0;
+  goes_on = λ e legal is. (grows-law n es e).admitted is ∙ ap (λ xs. xs ++ e ∷ []) legal;
+  next = λ e h. (first_kept (state n es) e fs (refusal (state n es) e.pid) (begin_after (opening n) es (e ∷ fs) h).1).0;
+}

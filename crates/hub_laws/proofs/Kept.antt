@@ -2,12 +2,13 @@
 use Rattle.std.proofs.Common.{◌≡◌, ℕ, ◌-◌, ◌==◌, Bool, true, false, cond, List, [], length, refl, subst, Some, None, inl, inr}
 use Rattle.std.specs.Prelude.{slice_get}
 use Rattle.std.proofs.Math.ListN.{length-set}
+use Rattle.std.proofs.lemmas.Bool.{false_from_ne_true}
 use Rattle.hub_base.specs.declared.value.Port.{Port}
 use Rattle.hub_base.specs.declared.case.Case.{Case}
 use Rattle.hub_base.specs.State.{State, Channel, OpenCall, channel_at, with_channel, opening}
 use Rattle.hub_base.specs.Ready.{is_send_on, is_recv_on}
 use Rattle.hub_laws.specs.Sound.{some_call, PortSound, IsSound}
-use Rattle.hub_laws.proofs.Calls.{Fewer, not_true}
+use Rattle.hub_laws.proofs.Calls.{Fewer}
 use Rattle.hub_laws.proofs.Ports.{set_port}
 
 -- at the opening
@@ -19,7 +20,7 @@ sound-opening n = record { apart = tt; present = λ q e. cc; calls = tt; ports =
     no_channel false i c e = cc
 
 none_fewer : (kept calls : List OpenCall) (test : Case → Bool) → Fewer kept calls → some_call test calls ≡ false → some_call test kept ≡ false
-none_fewer kept calls test fewer e = not_true (some_call test kept) (λ h. let t = fewer.some test h in cc)
+none_fewer kept calls test fewer e = false_from_ne_true (some_call test kept) (λ h. let t = fewer.some test h in cc)
 
 -- a channel that stays, while calls end
 pub port-fewer : (p : Port) (c : Channel) (kept calls : List OpenCall) → Fewer kept calls → PortSound p c calls → PortSound p c kept

@@ -2,6 +2,7 @@
 use Rattle.std.proofs.Common.{◌≡◌, ℕ, ◌+◌, ◌≤◌, ◌<◌, ◌==◌, Bool, true, false, cond, List, [], ◌∷◌, ◌++◌, append-nil, length, refl, ap, ◌∙◌, sym, subst, Option, Some, None, arith, inl, inr, ◌||◌, ◌&&◌}
 use Rattle.std.specs.List.{AllByRecursion}
 use Rattle.std.proofs.lemmas.List.{length-append}
+use Rattle.std.proofs.lemmas.Bool.{or_cases, and_parts, eqb-true}
 use Rattle.hub_base.specs.declared.entry.Entry.{Entry}
 use Rattle.hub_base.specs.declared.fault.Fault.{Fault}
 use Rattle.hub_base.specs.State.{State, opening}
@@ -10,18 +11,12 @@ use Rattle.hub_base.specs.Runs.{admits, moves, keeps, kept_after, state_after, s
 use Rattle.hub_base.specs.Reading.{is_exit}
 use Rattle.hub_base.specs.Text.{one_step, steps_of}
 use Rattle.hub_laws.specs.Limits.{exits_of, LimitsLaw}
-use Rattle.hub_laws.proofs.Calls.{or_some}
-use Rattle.hub_laws.proofs.Fires.{same_true}
 use Rattle.hub_laws.proofs.Ready.{Admitted, admitted}
 use Rattle.hub_laws.proofs.Balance.{one}
 use Rattle.hub_laws.proofs.Distinct.{Different, different_snoc, count-different}
 use Rattle.hub_laws.proofs.Lasting.{leavers, turn-lasts, turn-leaves, procs-entry, procs-after}
 
 -- Once
-
-and_true : (x y : Bool) → (x && y) ≡ true → y ≡ true
-and_true true y e = e
-and_true false y e = cc
 
 once_by : (b g : Bool) (e : Entry) (es : List Entry) → (b ≡ true → g ≡ false) → length es + one (g || b) ≤ 1 → length (cond b (e ∷ es) es) + one g ≤ 1
 once_by true true e es free most = absurd (let h : true ≡ false = free refl in cc)
@@ -34,7 +29,7 @@ once_entry q s e es None is most =
     let after = turn-leaves q s e in
     let rest : length (exits_of q es) + one (has_gone s q || (is_exit e.step && (e.pid.0 == q))) ≤ 1 = rw after at most in
     once_by (is_exit e.step && (e.pid.0 == q)) (has_gone s q) e (exits_of q es)
-    (λ b. subst (λ (n : ℕ). has_gone s n ≡ false) (same_true e.pid.0 q (and_true (is_exit e.step) (e.pid.0 == q) b)) (admitted s e.pid (sym is)).here) rest
+    (λ b. subst (λ (n : ℕ). has_gone s n ≡ false) (eqb-true e.pid.0 q (and_parts (is_exit e.step) (e.pid.0 == q) b).1) (admitted s e.pid (sym is)).here) rest
 once_entry q s e es (Some f) is most = most
 
 -- who has exited does not exit again, and nobody exits twice
@@ -67,9 +62,9 @@ gone_turn : (s : State) (e : Entry) → GoneSound s → Admitted s e.pid → Gon
 gone_turn s e sound adm = record {
   apart = subst Different (sym (turn-lasts s e).gone) (by (is_exit e.step));
   below = λ q h.
-      let b : q < s.procs = elim (or_some (has_gone s q) (is_exit e.step && (e.pid.0 == q)) (sym (turn-leaves q s e) ∙ h)) [
+      let b : q < s.procs = elim (or_cases (has_gone s q) (is_exit e.step && (e.pid.0 == q)) (sym (turn-leaves q s e) ∙ h)) [
         | inl l ↦ sound.below q l
-        | inr r ↦ subst (λ (n : ℕ). n < s.procs) (same_true e.pid.0 q (and_true (is_exit e.step) (e.pid.0 == q) r)) adm.below
+        | inr r ↦ subst (λ (n : ℕ). n < s.procs) (eqb-true e.pid.0 q (and_parts (is_exit e.step) (e.pid.0 == q) r).1) adm.below
       ] in
       omega (arith, b, (turn-lasts s e).procs);
 }

@@ -5,13 +5,16 @@ use Rattle.std.proofs.lemmas.Grind.{common_steps}
 use Rattle.hub_base.specs.declared.value.Port.{Port}
 use Rattle.hub_base.specs.State.{State, Channel, channel_at}
 
+pub above_zero : (n : ℕ) → (n == 0) ≡ false → 0 < n
+above_zero n e = grind (arith, common_steps)
+
 pub record Made (s : State) (p : Port) (c : Channel) : Type 0 where
   pub number : 0 < p.0
   pub channel : slice_get s.channels (p.0 - 1) ≡ Some c
 
 made_by : (b : Bool) (s : State) (p : Port) (c : Channel) → b ≡ (p.0 == 0) → cond b None (slice_get s.channels (p.0 - 1)) ≡ Some c → Made s p c
 made_by true s p c is e = cc
-made_by false s p c is e = record { number = grind (arith, common_steps); channel = e }
+made_by false s p c is e = record { number = above_zero p.0 (sym is); channel = e }
 
 pub made : (s : State) (p : Port) (c : Channel) → channel_at s p ≡ Some c → Made s p c
 made s p c e = made_by (p.0 == 0) s p c refl e

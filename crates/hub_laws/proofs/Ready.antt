@@ -4,6 +4,7 @@ use Rattle.std.specs.Prelude.{slice_get}
 use Rattle.std.specs.List.{list_any, enumerate_from}
 use Rattle.std.specs.Option.{option_map_or}
 use Rattle.std.proofs.lemmas.Grind.{common_steps}
+use Rattle.std.proofs.lemmas.Bool.{or_parts, or_cases, eqb-true}
 use Rattle.hub_base.specs.declared.value.Port.{Port}
 use Rattle.hub_base.specs.declared.value.Pid.{Pid}
 use Rattle.hub_base.specs.declared.case.Case.{Case}
@@ -12,9 +13,9 @@ use Rattle.hub_base.specs.declared.fault.Fault.TheVariants as fault
 use Rattle.hub_base.specs.State.{State, Channel, channel_at}
 use Rattle.hub_base.specs.Ready.{is_send_on, is_recv_on, can_proceed, send_can, recv_can}
 use Rattle.hub_base.specs.Steps.{refusal, has_gone, is_waiting}
-use Rattle.hub_laws.proofs.Calls.{StandsAt, or_none, or_some}
+use Rattle.hub_laws.proofs.Calls.{StandsAt}
 use Rattle.hub_laws.proofs.Ports.{same_port}
-use Rattle.hub_laws.proofs.Fires.{get_none, same_true}
+use Rattle.hub_laws.proofs.Fires.{get_none}
 
 pub ready_none : (xs : List (ℕ × Case)) (word : ℕ) → slice_get xs (word % length xs) ≡ None → xs ≡ []
 ready_none [] word e = refl
@@ -52,24 +53,24 @@ chosen can i k (c ∷ cs) x e = chosen_by (can c) can i k c cs x refl e (λ j. c
 -- where no case of a call can proceed, neither can such a case
 pub no_recv : (s : State) (p : Port) (c : Channel) (cases : List Case) → channel_at s p ≡ Some c → list_any (can_proceed s) cases ≡ false → list_any (is_recv_on p) cases ≡ true → recv_can s p c ≡ false
 no_recv s p c [] e none some = cc
-no_recv s p c (Send q v ∷ cs) e none some = no_recv s p c cs e (or_none (can_proceed s (Send q v)) (list_any (can_proceed s) cs) none).1 some
+no_recv s p c (Send q v ∷ cs) e none some = no_recv s p c cs e (or_parts (can_proceed s (Send q v)) (list_any (can_proceed s) cs) none).1 some
 no_recv s p c (Recv q ∷ cs) e none some =
-    let f = or_none (can_proceed s (Recv q)) (list_any (can_proceed s) cs) none in
-    elim (or_some (q.0 == p.0) (list_any (is_recv_on p) cs) some) [
+    let f = or_parts (can_proceed s (Recv q)) (list_any (can_proceed s) cs) none in
+    elim (or_cases (q.0 == p.0) (list_any (is_recv_on p) cs) some) [
       | inl l ↦ let P : Port → Type 0 = λ r. option_map_or (recv_can s r) (channel_at s r) false ≡ false in
-          let g : option_map_or (recv_can s p) (channel_at s p) false ≡ false = subst P (same_port q p (same_true q.0 p.0 l)) f.0 in
+          let g : option_map_or (recv_can s p) (channel_at s p) false ≡ false = subst P (same_port q p (eqb-true q.0 p.0 l)) f.0 in
           rw e at g
       | inr r ↦ no_recv s p c cs e f.1 r
     ]
 
 pub no_send : (s : State) (p : Port) (c : Channel) (cases : List Case) → channel_at s p ≡ Some c → list_any (can_proceed s) cases ≡ false → list_any (is_send_on p) cases ≡ true → send_can s p c ≡ false
 no_send s p c [] e none some = cc
-no_send s p c (Recv q ∷ cs) e none some = no_send s p c cs e (or_none (can_proceed s (Recv q)) (list_any (can_proceed s) cs) none).1 some
+no_send s p c (Recv q ∷ cs) e none some = no_send s p c cs e (or_parts (can_proceed s (Recv q)) (list_any (can_proceed s) cs) none).1 some
 no_send s p c (Send q v ∷ cs) e none some =
-    let f = or_none (can_proceed s (Send q v)) (list_any (can_proceed s) cs) none in
-    elim (or_some (q.0 == p.0) (list_any (is_send_on p) cs) some) [
+    let f = or_parts (can_proceed s (Send q v)) (list_any (can_proceed s) cs) none in
+    elim (or_cases (q.0 == p.0) (list_any (is_send_on p) cs) some) [
       | inl l ↦ let P : Port → Type 0 = λ r. option_map_or (send_can s r) (channel_at s r) false ≡ false in
-          let g : option_map_or (send_can s p) (channel_at s p) false ≡ false = subst P (same_port q p (same_true q.0 p.0 l)) f.0 in
+          let g : option_map_or (send_can s p) (channel_at s p) false ≡ false = subst P (same_port q p (eqb-true q.0 p.0 l)) f.0 in
           rw e at g
       | inr r ↦ no_send s p c cs e f.1 r
     ]

@@ -1,33 +1,29 @@
 -- The events of an admitted entry are replies.
-use Rattle.std.proofs.Common.{◌≡◌, ℕ, ◌+◌, ◌≤◌, ◌==◌, nat_lt, Bool, true, false, cond, not, zero, suc, List, [], ◌∷◌, ◌++◌, length, filter, refl, ap, ◌∙◌, sym, subst, Option, Some, None, arith, ◌&&◌, ◌||◌, append-nil}
+use Rattle.std.proofs.Common.{◌≡◌, ℕ, ◌+◌, ◌≤◌, ◌==◌, nat_lt, Bool, true, false, cond, not, zero, suc, List, [], ◌∷◌, ◌++◌, length, filter, refl, ap, ◌∙◌, sym, subst, Some, None, arith, ◌&&◌, ◌||◌, append-nil}
 use Rattle.std.specs.Prelude.{slice_get}
 use Rattle.std.specs.List.{AllByRecursion}
 use Rattle.std.proofs.Math.Bool.{and-false, and-true}
 use Rattle.std.proofs.lemmas.Grind.{common_steps}
-use Rattle.hub_base.specs.declared.entry.Step.{Step}
-use Rattle.hub_base.specs.declared.entry.Step.TheVariants.{Make, Call, Close, Exit}
+use Rattle.std.proofs.lemmas.Bool.{or_parts, eqb-true}
 use Rattle.hub_base.specs.declared.value.Pid.{Pid}
 use Rattle.hub_base.specs.declared.entry.Entry.{Entry}
 use Rattle.hub_base.specs.declared.event.Event.{Event}
-use Rattle.hub_base.specs.declared.fault.Fault.{Fault}
-use Rattle.hub_base.specs.declared.fault.Fault.TheVariants as fault
-use Rattle.hub_base.specs.declared.event.What.{What}
-use Rattle.hub_base.specs.declared.event.What.TheVariants as what
-use Rattle.hub_base.specs.State.{State, OpenCall, opening}
+use Rattle.hub_base.specs.State.{State, OpenCall}
 use Rattle.hub_base.specs.Steps.{refusal, is_waiting}
-use Rattle.hub_base.specs.Runs.{admits, moves, events, state}
+use Rattle.hub_base.specs.Runs.{admits, moves, state}
 use Rattle.hub_laws.specs.Sound.{IsSound, is_among}
-use Rattle.hub_laws.specs.Faults.{is_busy, is_fault_of}
-use Rattle.hub_laws.specs.Once.{counts, endings}
-use Rattle.hub_laws.specs.Tells.{is_answer_to, ends_waiting, IsAnswered}
+use Rattle.hub_laws.specs.Once.{endings}
+use Rattle.hub_laws.specs.Answers.{ends_waiting, IsAnswered}
 use Rattle.hub_laws.specs.Replies.{is_parked, last_from, reply, told_to, is_told, IsReply, IsLeft, AreReplied, RepliedLaw}
-use Rattle.hub_laws.proofs.Calls.{same_number, or_none}
-use Rattle.hub_laws.proofs.Fires.{same_true}
+use Rattle.hub_laws.proofs.Calls.{same_number}
 use Rattle.hub_laws.proofs.Ready.{admitted}
 use Rattle.hub_laws.proofs.Rules.{state-sound}
+use Rattle.hub_laws.proofs.Events.{Counted, answered_counts, ends_clear}
 use Rattle.hub_laws.proofs.Balance.{one, open_calls, ends, open_none, open_most, Balance, turn-balance}
-use Rattle.hub_laws.proofs.OnePort.{moves-answered}
-use Rattle.hub_laws.proofs.Replies.{state_after-append, told_to-append, told_none, reply-untold, own-others}
+use Rattle.hub_laws.proofs.Answered.{moves-answered}
+use Rattle.hub_laws.proofs.Replies.{told_none, reply-untold, own-others}
+use Rattle.hub_laws.proofs.Longer.{state-entry}
+use Rattle.hub_laws.proofs.Replies.{reply-entry}
 
 -- Counting
 
@@ -48,53 +44,15 @@ one_told q s e sound is = by (e.pid.0 == q) refl
   where
     by : (b : Bool) → b ≡ (e.pid.0 == q) → ends q (moves s e).events + open_calls q (moves s e).state.parked ≤ 1
     by true m =
-        let none : open_calls q s.parked ≡ 0 = open_none q s.parked (subst (λ (n : ℕ). is_among n s.parked ≡ false) (same_true e.pid.0 q (sym m)) (admitted s e.pid is).free) in
+        let none : open_calls q s.parked ≡ 0 = open_none q s.parked (subst (λ (n : ℕ). is_among n s.parked ≡ false) (eqb-true e.pid.0 q (sym m)) (admitted s e.pid is).free) in
         let bal : ends q (moves s e).events + open_calls q (moves s e).state.parked ≡ open_calls q s.parked + 1 = rw (sym m) at (moves-balance q s e sound is) in
         omega (arith, bal, none)
     by false m =
         let bal : ends q (moves s e).events + open_calls q (moves s e).state.parked ≡ open_calls q s.parked + 0 = rw (sym m) at (moves-balance q s e sound is) in
         omega (arith, bal, open_most q s.parked sound.apart)
 
--- Events of an admitted entry count but for `Parked`
+-- What a process is told is what counts
 
-fault_counts : (step : Step) (f : Fault) → is_fault_of step f ≡ true → is_busy f ≡ false
-fault_counts (Make cap) fault.Busy e = absurd (let g : ⊥ = cc in g)
-fault_counts (Call cases default word) fault.Busy e = absurd (let g : ⊥ = cc in g)
-fault_counts (Close p) fault.Busy e = absurd (let g : ⊥ = cc in g)
-fault_counts Exit fault.Busy e = absurd (let g : ⊥ = cc in g)
-fault_counts step f e = refl
-
-abbrev Counted : Event → Type 0
-Counted x = counts x.what ≡ not (is_parked x.what)
-
-answer_counts : (step : Step) (w : What) → is_answer_to step w ≡ true → counts w ≡ not (is_parked w)
-answer_counts step (what.Fault f) e = ap (λ b. not b) (fault_counts step f e)
-answer_counts step (what.Made p) e = refl
-answer_counts step (what.Fired i o) e = refl
-answer_counts step what.Default e = refl
-answer_counts step what.Done e = refl
-answer_counts step what.Parked e = refl
-answer_counts step what.Stalled e = refl
-
-pub ends_counts : (w : What) → ends_waiting w ≡ true → counts w ≡ not (is_parked w)
-ends_counts (what.Fired i o) e = refl
-ends_counts what.Stalled e = refl
-ends_counts w e = absurd (let g : ⊥ = cc in g)
-
-ends_clear : (w : What) → ends_waiting w ≡ true → is_parked w ≡ false
-ends_clear (what.Fired i o) e = refl
-ends_clear what.Stalled e = refl
-ends_clear w e = absurd (let g : ⊥ = cc in g)
-
-ended_counts : (events : List Event) → AllByRecursion (λ x. ends_waiting x.what ≡ true) events → AllByRecursion Counted events
-ended_counts [] a = tt
-ended_counts (x ∷ xs) a = (ends_counts x.what a.0, ended_counts xs a.1)
-
-answered_counts : (e : Entry) (events : List Event) → IsAnswered e.pid e.step events → AllByRecursion Counted events
-answered_counts e [] a = absurd a
-answered_counts e (x ∷ xs) a = (answer_counts e.step x.what a.fits, ended_counts xs a.ends)
-
--- so what a process is told is what counts
 told_endings : (q : ℕ) (events : List Event) → AllByRecursion Counted events → told_to q events ≡ endings q events
 told_endings q [] a = refl
 told_endings q (x ∷ xs) a = rw (told_endings q xs a.1, a.0, and_swap (x.pid.0 == q) (not (is_parked x.what))) refl
@@ -122,18 +80,11 @@ one_left test (y ∷ ys) (suc i) x at passes most = by (test y) (one_left test y
     by true rest h = let k : filter test ys ≡ x ∷ [] = rest (omega arith) in absurd (let l : length (filter test ys) ≡ 1 = ap length k in omega arith)
     by false rest h = rest h
 
-last_snoc : {A : Type 0} (o : Option A) (xs : List A) (x : A) → last_from o (xs ++ x ∷ []) ≡ Some x
-last_snoc o [] x = refl
-last_snoc o (y ∷ ys) x = last_snoc (Some y) ys x
-
 -- Replies
 
--- the state and what was told after one entry more
+-- who waits after one entry more
 after_entry : (q n : ℕ) (es : List Entry) (e : Entry) → is_waiting (state n (es ++ e ∷ [])) q ≡ is_among q (moves (state n es) e).state.parked
-after_entry q n es e = ap (λ (s : State). is_waiting s q) (state_after-append (opening n) es (e ∷ []))
-
-told_entry : (q n : ℕ) (es : List Entry) (e : Entry) → reply q n (es ++ e ∷ []) ≡ last_from None (told_to q (events n es) ++ told_to q (moves (state n es) e).events)
-told_entry q n es e = ap (λ xs. last_from None xs) (told_to-append q n es (e ∷ []) ∙ ap (λ xs. told_to q (events n es) ++ told_to q xs) (append-nil (moves (state n es) e).events))
+after_entry q n es e = ap (λ (s : State). is_waiting s q) (state-entry n es e)
 
 -- a process that was told of its call does not wait
 free_from : (q : ℕ) (s : State) (e : Entry) → IsSound s → refusal s e.pid ≡ None → ends q (moves s e).events ≡ 1 → is_among q (moves s e).state.parked ≡ false
@@ -151,7 +102,7 @@ event_replies n es e is counted i x at clear =
     let here : ((x.pid.0 == q) && not (is_parked x.what)) ≡ true = rw (same_number x.pid.0, clear) refl in
     let one : told_to q (moves s e).events ≡ x ∷ [] = one_left (λ y. (y.pid.0 == q) && not (is_parked y.what)) (moves s e).events i x at here most in
     record {
-      reply = told_entry q n es e ∙ ap (λ xs. last_from None (told_to q (events n es) ++ xs)) one ∙ last_snoc None (told_to q (events n es)) x;
+      reply = reply-entry q n es e ∙ ap (λ xs. last_from (reply q n es) xs) one;
       free = after_entry q n es e ∙ free_from q s e (state-sound n es) is (ap length (sym same ∙ one));
     }
 
@@ -188,7 +139,7 @@ replied_by n es e (x ∷ xs) is a each waits left = record {
   answered = each 0 x refl;
   parked = λ parked untold. waits (rw (parked, and-false (x.pid.0 == e.pid.0)) (told_none e.pid.0 xs untold));
   ends = ended_replies xs a.ends (λ i y e. each (suc i) y e);
-  others = λ q untold. left q (ap (λ (p : Pid). p.0 == q) (sym a.own) ∙ (or_none (x.pid.0 == q) (is_told q xs) untold).0) untold;
+  others = λ q untold. left q (ap (λ (p : Pid). p.0 == q) (sym a.own) ∙ (or_parts (x.pid.0 == q) (is_told q xs) untold).0) untold;
 }
   where
     ended_replies : (xs : List Event) → AllByRecursion (λ x. ends_waiting x.what ≡ true) xs → ((i : ℕ) (x : Event) → slice_get xs i ≡ Some x → is_parked x.what ≡ false → IsReply n (es ++ e ∷ []) x) → AllByRecursion (IsReply n (es ++ e ∷ [])) xs

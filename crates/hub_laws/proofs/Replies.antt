@@ -1,9 +1,12 @@
 -- Entries of others leave a process alone that has no open call.
-use Rattle.std.proofs.Common.{◌≡◌, ℕ, ◌%◌, ◌==◌, Bool, true, false, cond, not, List, [], ◌∷◌, ◌++◌, length, refl, ap, ◌∙◌, sym, subst, Option, Some, None, ◌&&◌, append-nil, append_assoc}
+use Rattle.std.proofs.Common.{◌≡◌, ℕ, ◌%◌, ◌==◌, Bool, true, false, not, List, [], ◌∷◌, ◌++◌, length, refl, ap, ◌∙◌, sym, subst, Option, Some, None, ◌&&◌, append-nil}
 use Rattle.std.specs.Prelude.{slice_get}
 use Rattle.std.specs.List.{list_any, AllByRecursion, filter_map, cons_option}
 use Rattle.std.specs.Option.{option_map}
 use Rattle.std.proofs.lemmas.List.Elements.{filter-append}
+use Rattle.std.proofs.lemmas.Bool.{or_parts, or_from}
+use Rattle.hub_laws.proofs.Branches.{by-closed, by-stall, stall_events}
+use Rattle.hub_laws.proofs.Calls.{all_append}
 use Rattle.hub_base.specs.declared.value.Port.{Port}
 use Rattle.hub_base.specs.declared.value.Pid.{Pid}
 use Rattle.hub_base.specs.declared.value.Value.{Value}
@@ -14,16 +17,16 @@ use Rattle.hub_base.specs.declared.entry.Step.TheVariants.{Make, Call, Close, Ex
 use Rattle.hub_base.specs.declared.entry.Entry.{Entry}
 use Rattle.hub_base.specs.declared.event.Event.{Event}
 use Rattle.hub_base.specs.declared.fault.Fault.{Fault}
-use Rattle.hub_base.specs.declared.event.Outcome.TheVariants.{Sent, Closed}
-use Rattle.hub_base.specs.declared.event.What.TheVariants as what
+use Rattle.hub_base.specs.declared.event.Outcome.TheVariants.{Sent}
 use Rattle.hub_base.specs.State.{State, Channel, OpenCall, channel_at, opening}
 use Rattle.hub_base.specs.Ready.{is_send_on, is_recv_on, is_on, ready, port_of, first_with, Ending, Placed, without, lowest}
-use Rattle.hub_base.specs.Steps.{fires, proceeds, chooses, calls, closes, effect, stalls, all_wait, Change, sent, next_value, with_sent, send_meets, recv_takes, recv_meets, fired, tells, closing_event, closing_outcome, fault_of, answers, refusal, is_waiting}
+use Rattle.hub_base.specs.Steps.{fires, proceeds, chooses, calls, closes, effect, stalls, Change, sent, next_value, with_sent, send_meets, recv_takes, recv_meets, fired, closing_event, closing_outcome, fault_of, answers, refusal, is_waiting}
 use Rattle.hub_base.specs.Runs.{admits, moves, state_after, events_after, state, events}
 use Rattle.hub_laws.specs.Sound.{is_among}
 use Rattle.hub_laws.specs.Replies.{own, reply, last_from, is_parked, told_to, is_told, RepliesLaw}
-use Rattle.hub_laws.proofs.Calls.{first-found, or_none, none_or, same_number}
+use Rattle.hub_laws.proofs.Calls.{first-found, same_number}
 use Rattle.hub_laws.proofs.Stands.{effect-stands, stalls-stands}
+use Rattle.hub_laws.proofs.Longer.{events-entry, events_after-append, state_after-append}
 
 -- what holds of the process that steps and of those that wait holds of all that are told
 module _ (C : ℕ → Type 0) where
@@ -53,8 +56,7 @@ module _ (C : ℕ → Type 0) where
   fires_told s pid i (Send p v) None all me = tt
   fires_told s pid i (Recv p) None all me = tt
   fires_told s pid i (Send p v) (Some c) all me =
-      elim c.closed as (λ b. Told (proceeds s pid i (Some (cond b (record { outcome = Closed; state = s; ended = [] }) (send_meets s p (sent v c) (first_with (is_recv_on p) s.parked))))).events)
-      [ true ↦ (me, tt) | false ↦ send_told s pid i p (sent v c) (first_with (is_recv_on p) s.parked) all me refl ]
+      by-closed (λ f. Told (proceeds s pid i (Some f)).events) s p v c (λ over. (me, tt)) (λ live. send_told s pid i p (sent v c) (first_with (is_recv_on p) s.parked) all me refl)
   fires_told s pid i (Recv p) (Some c) all me = recv_told s pid i p c (first_with (is_send_on p) s.parked) all me refl
 
   chooses_told : (s : State) (pid : Pid) (cases : List Case) (default : Bool) (o : Option (ℕ × Case)) → Waiting s.parked → C pid.0 → Told (chooses s pid cases default o).events
@@ -80,18 +82,13 @@ module _ (C : ℕ → Type 0) where
   effect_told s pid (Close p) all me = closes_told s pid p (channel_at s p) all me
   effect_told s pid Exit all me = (me, tt)
 
-  stalled_told : (calls : List OpenCall) → Waiting calls → Told (filter_map (λ call. Some (tells call.pid what.Stalled)) calls)
+  stalled_told : (calls : List OpenCall) → Waiting calls → Told (stall_events calls)
   stalled_told [] all = tt
   stalled_told (call ∷ calls) all = (all.0, stalled_told calls all.1)
 
-  append_told : (xs ys : List Event) → Told xs → Told ys → Told (xs ++ ys)
-  append_told [] ys a b = b
-  append_told (x ∷ xs) ys a b = (a.0, append_told xs ys a.1 b)
-
   stalls_told : (c : Change) → Told c.events → Waiting c.state.parked → Told (stalls c).events
   stalls_told c told all =
-      elim (all_wait c.state) as (λ b. Told (cond b (record { state = record c.state { parked = [] }; events = c.events ++ filter_map (λ call. Some (tells call.pid what.Stalled)) c.state.parked }) c).events)
-      [ true ↦ append_told c.events (filter_map (λ call. Some (tells call.pid what.Stalled)) c.state.parked) told (stalled_told c.state.parked all) | false ↦ told ]
+      by-stall (λ (d : Change). Told d.events) c (all_append (λ e. C e.pid.0) c.events (stall_events c.state.parked) told (stalled_told c.state.parked all)) told
 
   record Quietly (c : Change) : Type 0 where
     told : Told c.events
@@ -112,7 +109,7 @@ module _ (C : ℕ → Type 0) where
   events_told s (e ∷ fs) all by =
       let q = admits_told s e (refusal s e.pid) all by.0 in
       let rest = events_told (moves s e).state fs q.waiting by.1 in
-      (append_told (moves s e).events (events_after (moves s e).state fs) q.told rest.0, rest.1)
+      (all_append (λ e. C e.pid.0) (moves s e).events (events_after (moves s e).state fs) q.told rest.0, rest.1)
 
 -- a process apart from these
 
@@ -121,15 +118,15 @@ Not q n = (n == q) ≡ false
 
 none_waiting : (q : ℕ) (calls : List OpenCall) → is_among q calls ≡ false → AllByRecursion (λ call. Not q call.pid.0) calls
 none_waiting q [] e = tt
-none_waiting q (call ∷ calls) e = let f = or_none (call.pid.0 == q) (is_among q calls) e in (f.0, none_waiting q calls f.1)
+none_waiting q (call ∷ calls) e = let f = or_parts (call.pid.0 == q) (is_among q calls) e in (f.0, none_waiting q calls f.1)
 
 waiting_none : (q : ℕ) (calls : List OpenCall) → AllByRecursion (λ call. Not q call.pid.0) calls → is_among q calls ≡ false
 waiting_none q [] a = refl
-waiting_none q (call ∷ calls) a = none_or (call.pid.0 == q) (is_among q calls) a.0 (waiting_none q calls a.1)
+waiting_none q (call ∷ calls) a = or_from (call.pid.0 == q) (is_among q calls) a.0 (waiting_none q calls a.1)
 
 none_by : (q : ℕ) (fs : List Entry) → list_any (λ e. e.pid.0 == q) fs ≡ false → AllByRecursion (λ e. Not q e.pid.0) fs
 none_by q [] e = tt
-none_by q (f ∷ fs) e = let g = or_none (f.pid.0 == q) (list_any (λ e. e.pid.0 == q) fs) e in (g.0, none_by q fs g.1)
+none_by q (f ∷ fs) e = let g = or_parts (f.pid.0 == q) (list_any (λ e. e.pid.0 == q) fs) e in (g.0, none_by q fs g.1)
 
 own_none : (q : ℕ) (fs : List Entry) → AllByRecursion (λ e. Not q e.pid.0) fs → own q fs ≡ []
 own_none q [] a = refl
@@ -137,20 +134,11 @@ own_none q (f ∷ fs) a = rw a.0 (own_none q fs a.1)
 
 pub told_none : (q : ℕ) (es : List Event) → is_told q es ≡ false → told_to q es ≡ []
 told_none q [] e = refl
-told_none q (x ∷ xs) e = let f = or_none (x.pid.0 == q) (is_told q xs) e in rw f.0 (told_none q xs f.1)
+told_none q (x ∷ xs) e = let f = or_parts (x.pid.0 == q) (is_told q xs) e in rw f.0 (told_none q xs f.1)
 
 untold : (q : ℕ) (es : List Event) → AllByRecursion (λ e. Not q e.pid.0) es → is_told q es ≡ false
 untold q [] a = refl
-untold q (e ∷ es) a = none_or (e.pid.0 == q) (is_told q es) a.0 (untold q es a.1)
-
--- a run that goes on
-pub events_after-append : (s : State) (es fs : List Entry) → events_after s (es ++ fs) ≡ events_after s es ++ events_after (state_after s es) fs
-events_after-append s [] fs = refl
-events_after-append s (e ∷ es) fs = ap (λ xs. (moves s e).events ++ xs) (events_after-append (moves s e).state es fs) ∙ sym (append_assoc (moves s e).events (events_after (moves s e).state es) (events_after (state_after (moves s e).state es) fs))
-
-pub state_after-append : (s : State) (es fs : List Entry) → state_after s (es ++ fs) ≡ state_after (state_after s es) fs
-state_after-append s [] fs = refl
-state_after-append s (e ∷ es) fs = state_after-append (moves s e).state es fs
+untold q (e ∷ es) a = or_from (e.pid.0 == q) (is_told q es) a.0 (untold q es a.1)
 
 -- what a process was told by a run that goes on
 pub told_to-append : (q n : ℕ) (es fs : List Entry) → told_to q (events n (es ++ fs)) ≡ told_to q (events n es) ++ told_to q (events_after (state n es) fs)
@@ -159,6 +147,17 @@ told_to-append q n es fs = ap (told_to q) (events_after-append (opening n) es fs
 -- a process that is not told anything keeps its reply
 pub reply-untold : (q n : ℕ) (es fs : List Entry) → is_told q (events_after (state n es) fs) ≡ false → reply q n (es ++ fs) ≡ reply q n es
 reply-untold q n es fs e = ap (λ xs. last_from None xs) (told_to-append q n es fs ∙ ap (λ xs. told_to q (events n es) ++ xs) (told_none q (events_after (state n es) fs) e) ∙ append-nil (told_to q (events n es)))
+
+last_append : {A : Type 0} (o : Option A) (xs ys : List A) → last_from o (xs ++ ys) ≡ last_from (last_from o xs) ys
+last_append o [] ys = refl
+last_append o (x ∷ xs) ys = last_append (Some x) xs ys
+
+-- one entry more: the last of its events for the process, or what it had
+pub reply-entry : (q n : ℕ) (es : List Entry) (e : Entry) → reply q n (es ++ e ∷ []) ≡ last_from (reply q n es) (told_to q (moves (state n es) e).events)
+reply-entry q n es e =
+    ap (λ xs. last_from None (told_to q xs)) (events-entry n es e)
+    ∙ ap (λ xs. last_from None xs) (filter-append (λ (x : Event). (x.pid.0 == q) && not (is_parked x.what)) (events n es) (moves (state n es) e).events)
+    ∙ last_append None (told_to q (events n es)) (told_to q (moves (state n es) e).events)
 
 pub own-others : (q : ℕ) (es fs : List Entry) → list_any (λ e. e.pid.0 == q) fs ≡ false → own q (es ++ fs) ≡ own q es
 own-others q es fs e = filter-append (λ (e : Entry). e.pid.0 == q) es fs ∙ ap (λ xs. own q es ++ xs) (own_none q fs (none_by q fs e)) ∙ append-nil (own q es)

@@ -3,8 +3,10 @@ use Rattle.std.proofs.Common.{◌≡◌, ℕ, ◌+◌, ◌-◌, ◌%◌, ◌<◌
 use Rattle.std.specs.Prelude.{slice_get, is_some}
 use Rattle.std.specs.List.{list_any, AllByRecursion}
 use Rattle.std.specs.Option.{option_map_or}
-use Rattle.std.proofs.lemmas.Grind.{common_steps}
 use Rattle.std.proofs.lemmas.List.{length-append}
+use Rattle.std.proofs.lemmas.Bool.{or_left, or_right, or_parts, or_from, or_cases, false_from_ne_true, eqb-true, ltb-true, ltb-false, lt-ltb}
+use Rattle.hub_laws.proofs.Branches.{by-stall}
+use Rattle.hub_laws.proofs.Calls.{all_more}
 use Rattle.hub_base.specs.declared.value.Port.{Port}
 use Rattle.hub_base.specs.declared.value.Pid.{Pid}
 use Rattle.hub_base.specs.declared.case.Case.{Case}
@@ -16,13 +18,13 @@ use Rattle.hub_base.specs.declared.fault.Fault.{Fault}
 use Rattle.hub_base.specs.declared.fault.Fault.TheVariants as fault
 use Rattle.hub_base.specs.State.{State, Channel, OpenCall, channel_at, opening}
 use Rattle.hub_base.specs.Ready.{is_send_on, is_recv_on, is_on, can_proceed, send_can, ready, port_of, first_with}
-use Rattle.hub_base.specs.Steps.{refusal, has_gone, is_waiting, is_unmade, fires, proceeds, chooses, calls, waits, closes, makes, exits, effect, stalls, all_wait, Change, shut, fault_of, answers}
+use Rattle.hub_base.specs.Steps.{refusal, has_gone, is_waiting, is_unmade, fires, proceeds, chooses, calls, waits, closes, makes, exits, effect, stalls, Change, shut, fault_of, answers}
 use Rattle.hub_base.specs.Runs.{admits, moves, state_after, state}
 use Rattle.hub_laws.specs.Sound.{some_call, Alone, CallFits, PortSound, IsSound}
-use Rattle.hub_laws.proofs.Calls.{Fewer, not_true, fewer-filter, fewer-none, first-some, or_none, none_or, or_some, or_left, or_right, any_snoc, all_snoc, apart_snoc, alone_snoc}
+use Rattle.hub_laws.proofs.Calls.{Fewer, fewer-filter, fewer-none, first-some, any_snoc, all_snoc, apart_snoc, alone_snoc}
 use Rattle.hub_laws.proofs.Ports.{new_port}
 use Rattle.hub_laws.proofs.Kept.{sound-written, sound-fewer, sound-opening}
-use Rattle.hub_laws.proofs.Fires.{send-sound, recv-sound, same_true}
+use Rattle.hub_laws.proofs.Fires.{send-sound, recv-sound}
 use Rattle.hub_laws.proofs.Ready.{ready_none, none_can, chosen, no_recv, no_send, Admitted, admitted, none_false}
 
 -- A call that parks
@@ -31,9 +33,6 @@ or3_none : (x y z : Bool) → (x || y || z) ≡ false → (x ≡ false) × (y �
 or3_none true y z e = cc
 or3_none false true z e = cc
 or3_none false false z e = (refl, refl, e)
-
-ltb_none : (a b : ℕ) → nat_lt a b ≡ false → b ≤ a
-ltb_none a b e = grind (arith, common_steps)
 
 park_port : (s : State) (pid : Pid) (cases : List Case) (p : Port) (c : Channel) → channel_at s p ≡ Some c → list_any (can_proceed s) cases ≡ false → PortSound p c s.parked → PortSound p c (s.parked ++ record { pid = pid; cases = cases } ∷ [])
 park_port s pid cases p c e none f =
@@ -45,11 +44,11 @@ park_port s pid cases p c e none f =
     record {
       taken = f.taken;
       fits = f.fits;
-      receivers = λ h. elim (or_some (some_call (is_recv_on p) s.parked) (list_any (is_recv_on p) cases) (sym recvs ∙ h)) [ inl l ↦ f.receivers l | inr r ↦ omega (arith, f.taken, ltb_none c.taken (length c.done) (recv r).1) ];
-      senders = λ h. elim (or_some (some_call (is_send_on p) s.parked) (list_any (is_send_on p) cases) (sym sends ∙ h)) [ inl l ↦ f.senders l | inr r ↦ omega (arith, f.fits, f.taken, ltb_none (length c.done - c.taken) c.cap (send r).2) ];
+      receivers = λ h. elim (or_cases (some_call (is_recv_on p) s.parked) (list_any (is_recv_on p) cases) (sym recvs ∙ h)) [ inl l ↦ f.receivers l | inr r ↦ omega (arith, f.taken, ltb-false c.taken (length c.done) (recv r).1) ];
+      senders = λ h. elim (or_cases (some_call (is_send_on p) s.parked) (list_any (is_send_on p) cases) (sym sends ∙ h)) [ inl l ↦ f.senders l | inr r ↦ omega (arith, f.fits, f.taken, ltb-false (length c.done - c.taken) c.cap (send r).2) ];
       ended = λ h. (
-        recvs ∙ none_or (some_call (is_recv_on p) s.parked) (list_any (is_recv_on p) cases) (f.ended h).0 (not_true (list_any (is_recv_on p) cases) (λ r. let g = (recv r).2 in cc)),
-        sends ∙ none_or (some_call (is_send_on p) s.parked) (list_any (is_send_on p) cases) (f.ended h).1 (not_true (list_any (is_send_on p) cases) (λ r. let g = (send r).0 in cc)),
+        recvs ∙ or_from (some_call (is_recv_on p) s.parked) (list_any (is_recv_on p) cases) (f.ended h).0 (false_from_ne_true (list_any (is_recv_on p) cases) (λ r. let g = (recv r).2 in cc)),
+        sends ∙ or_from (some_call (is_send_on p) s.parked) (list_any (is_send_on p) cases) (f.ended h).1 (false_from_ne_true (list_any (is_send_on p) cases) (λ r. let g = (send r).0 in cc)),
       );
       alone = alone_snoc p s.parked (record { pid = pid; cases = cases }) f.alone (λ r. sym (first-some (is_send_on p) s.parked) ∙ (recv r).0) (λ r. sym (first-some (is_recv_on p) s.parked) ∙ (send r).1);
     }
@@ -58,9 +57,9 @@ pub park-sound : (s : State) (pid : Pid) (cases : List Case) → IsSound s → A
     IsSound (record s { parked = s.parked ++ record { pid = pid; cases = cases } ∷ [] })
 park-sound s pid cases sound adm fits none = record {
   apart = apart_snoc s.parked (record { pid = pid; cases = cases }) sound.apart adm.free;
-  present = λ q h. elim (or_some (is_waiting s q) (pid.0 == q) (sym (any_snoc (λ call. call.pid.0 == q) s.parked (record { pid = pid; cases = cases })) ∙ h)) [
+  present = λ q h. elim (or_cases (is_waiting s q) (pid.0 == q) (sym (any_snoc (λ call. call.pid.0 == q) s.parked (record { pid = pid; cases = cases })) ∙ h)) [
     | inl l ↦ sound.present q l
-    | inr r ↦ let P : ℕ → Type 0 = λ n. (n < s.procs) × (has_gone s n ≡ false) in subst P (same_true pid.0 q r) (adm.below, adm.here)
+    | inr r ↦ let P : ℕ → Type 0 = λ n. (n < s.procs) × (has_gone s n ≡ false) in subst P (eqb-true pid.0 q r) (adm.below, adm.here)
   ];
   calls = all_snoc (CallFits (length s.channels)) s.parked (record { pid = pid; cases = cases }) sound.calls fits;
   ports = λ p c e. park_port s pid cases p c e none (sound.ports p c e);
@@ -99,11 +98,11 @@ call-sound s pid cases default word sound adm fits =
 
 any_more : {A : Type 0} (t u : A → Bool) (xs : List A) → ((x : A) → t x ≡ true → u x ≡ true) → list_any t xs ≡ true → list_any u xs ≡ true
 any_more t u [] imp e = e
-any_more t u (x ∷ xs) imp e = elim (or_some (t x) (list_any t xs) e) [ inl l ↦ or_left (u x) (list_any u xs) (imp x l) | inr r ↦ or_right (u x) (list_any u xs) (any_more t u xs imp r) ]
+any_more t u (x ∷ xs) imp e = elim (or_cases (t x) (list_any t xs) e) [ inl l ↦ or_left (u x) (list_any u xs) (imp x l) | inr r ↦ or_right (u x) (list_any u xs) (any_more t u xs imp r) ]
 
 gone_by : (b : Bool) (t u : Case → Bool) (call : OpenCall) (rest : List OpenCall) → b ≡ list_any u call.cases → ((c : Case) → t c ≡ true → u c ≡ true) → some_call t rest ≡ false → some_call t (cond (not b) (call ∷ rest) rest) ≡ false
 gone_by true t u call rest is imp e = e
-gone_by false t u call rest is imp e = none_or (list_any t call.cases) (some_call t rest) (not_true (list_any t call.cases) (λ h. let g = any_more t u call.cases imp h in cc)) e
+gone_by false t u call rest is imp e = or_from (list_any t call.cases) (some_call t rest) (false_from_ne_true (list_any t call.cases) (λ h. let g = any_more t u call.cases imp h in cc)) e
 
 -- a close leaves no such call
 gone_on : (t u : Case → Bool) (calls : List OpenCall) → ((c : Case) → t c ≡ true → u c ≡ true) → some_call t (filter (λ call. not (list_any u call.cases)) calls) ≡ false
@@ -129,41 +128,31 @@ close-sound s pid p (Some c) sound is =
 
 -- A make
 
-all_more : {A : Type 0} (P Q : A → Type 0) (xs : List A) → ((x : A) → P x → Q x) → AllByRecursion P xs → AllByRecursion Q xs
-all_more P Q [] imp a = tt
-all_more P Q (x ∷ xs) imp a = (imp x a.0, all_more P Q xs imp a.1)
-
-ltb_less : (n m x : ℕ) → n ≤ m → nat_lt m x ≡ true → nat_lt n x ≡ true
-ltb_less n m x h e = grind (arith, common_steps)
-
-ltb_true : (n x : ℕ) → n < x → nat_lt n x ≡ true
-ltb_true n x h = grind (arith, common_steps)
-
 fits_more : (n m : ℕ) (call : OpenCall) → n ≤ m → CallFits n call → CallFits m call
 fits_more n m call h f = record {
   few = f.few;
-  made = not_true (list_any (λ c. nat_lt m (port_of c).0) call.cases) (λ e. let g = any_more (λ c. nat_lt m (port_of c).0) (λ c. nat_lt n (port_of c).0) call.cases (λ c. ltb_less n m (port_of c).0 h) e in let k = f.made in cc);
+  made = false_from_ne_true (list_any (λ c. nat_lt m (port_of c).0) call.cases) (λ e. let g = any_more (λ c. nat_lt m (port_of c).0) (λ c. nat_lt n (port_of c).0) call.cases (λ c e. lt-ltb n (port_of c).0 (omega (arith, h, ltb-true m (port_of c).0 e))) e in let k = f.made in cc);
 }
 
 -- nobody waits on a port that was not made
 unmade : (n : ℕ) (t : Case → Bool) (calls : List OpenCall) → AllByRecursion (CallFits n) calls → ((c : Case) → t c ≡ true → nat_lt n (port_of c).0 ≡ true) → some_call t calls ≡ false
 unmade n t [] a imp = refl
-unmade n t (call ∷ calls) a imp = none_or (list_any t call.cases) (some_call t calls) (not_true (list_any t call.cases) (λ h. let g = any_more t (λ c. nat_lt n (port_of c).0) call.cases imp h in let k = a.0.made in cc)) (unmade n t calls a.1 imp)
+unmade n t (call ∷ calls) a imp = or_from (list_any t call.cases) (some_call t calls) (false_from_ne_true (list_any t call.cases) (λ h. let g = any_more t (λ c. nat_lt n (port_of c).0) call.cases imp h in let k = a.0.made in cc)) (unmade n t calls a.1 imp)
 
 alone-none : (p : Port) (calls : List OpenCall) → some_call (is_recv_on p) calls ≡ false → some_call (is_send_on p) calls ≡ false → Alone p calls
 alone-none p [] r w = tt
 alone-none p (call ∷ calls) r w =
-    let r' = or_none (list_any (is_recv_on p) call.cases) (some_call (is_recv_on p) calls) r in
-    let w' = or_none (list_any (is_send_on p) call.cases) (some_call (is_send_on p) calls) w in
+    let r' = or_parts (list_any (is_recv_on p) call.cases) (some_call (is_recv_on p) calls) r in
+    let w' = or_parts (list_any (is_send_on p) call.cases) (some_call (is_send_on p) calls) w in
     (λ e. w'.1, λ e. r'.1, alone-none p calls r'.1 w'.1)
 
 recv_unmade : (n : ℕ) (p : Port) (c : Case) → n < p.0 → is_recv_on p c ≡ true → nat_lt n (port_of c).0 ≡ true
 recv_unmade n p (Send q v) h e = cc
-recv_unmade n p (Recv q) h e = ltb_true n q.0 (let g = same_true q.0 p.0 e in omega arith)
+recv_unmade n p (Recv q) h e = lt-ltb n q.0 (let g = eqb-true q.0 p.0 e in omega arith)
 
 send_unmade : (n : ℕ) (p : Port) (c : Case) → n < p.0 → is_send_on p c ≡ true → nat_lt n (port_of c).0 ≡ true
 send_unmade n p (Recv q) h e = cc
-send_unmade n p (Send q v) h e = ltb_true n q.0 (let g = same_true q.0 p.0 e in omega arith)
+send_unmade n p (Send q v) h e = lt-ltb n q.0 (let g = eqb-true q.0 p.0 e in omega arith)
 
 make-sound : (s : State) (pid : Pid) (cap : ℕ) → IsSound s → IsSound (makes s pid cap).state
 make-sound s pid cap sound =
@@ -197,9 +186,9 @@ exit-sound s pid sound adm = record {
   apart = sound.apart;
   present = λ q h. (
     (sound.present q h).0,
-    any_snoc (λ g. g.0 == q) s.gone pid ∙ none_or (has_gone s q) (pid.0 == q) (sound.present q h).1 (not_true (pid.0 == q) (λ e.
+    any_snoc (λ g. g.0 == q) s.gone pid ∙ or_from (has_gone s q) (pid.0 == q) (sound.present q h).1 (false_from_ne_true (pid.0 == q) (λ e.
         let P : ℕ → Type 0 = λ n. is_waiting s n ≡ false in
-        let free : is_waiting s q ≡ false = subst P (same_true pid.0 q e) adm.free in cc)),
+        let free : is_waiting s q ≡ false = subst P (eqb-true pid.0 q e) adm.free in cc)),
   );
   calls = sound.calls;
   ports = sound.ports;
@@ -207,12 +196,8 @@ exit-sound s pid sound adm = record {
 
 -- A stall
 
-stalls_by : (b : Bool) (c : Change) (told : _) → IsSound c.state → IsSound (cond b (record { state = record c.state { parked = [] }; events = told }) c).state
-stalls_by true c told sound = sound-fewer c.state [] sound (fewer-none c.state.parked)
-stalls_by false c told sound = sound
-
 pub stalls-sound : (c : Change) → IsSound c.state → IsSound (stalls c).state
-stalls-sound c sound = stalls_by (all_wait c.state) c _ sound
+stalls-sound c sound = by-stall (λ (d : Change). IsSound d.state) c (sound-fewer c.state [] sound (fewer-none c.state.parked)) sound
 
 -- A step
 
@@ -220,7 +205,7 @@ fitting : (s : State) (pid : Pid) (cases : _) (default : Bool) (word : ℕ) → 
 fitting s pid cases default word h =
     let a = none_false (nat_lt 8 (length cases.items)) fault.TooManyCases (cond (list_any (λ c. is_unmade s (port_of c)) cases.items) (Some fault.NoPort) None) h in
     let b = none_false (list_any (λ c. is_unmade s (port_of c)) cases.items) fault.NoPort None a.1 in
-    record { few = ltb_none 8 (length cases.items) a.0; made = b.0 }
+    record { few = ltb-false 8 (length cases.items) a.0; made = b.0 }
 
 pub effect-sound : (s : State) (pid : Pid) (step : Step) → IsSound s → Admitted s pid → fault_of s step ≡ None → IsSound (effect s pid step).state
 effect-sound s pid (Make cap) sound adm h = make-sound s pid cap sound

@@ -1,9 +1,10 @@
 -- One step tells no more events than there are processes, and one.
-use Rattle.std.proofs.Common.{◌≡◌, ℕ, ◌+◌, ◌%◌, ◌<◌, ◌≤◌, ◌==◌, Bool, true, false, cond, not, List, [], ◌∷◌, ◌++◌, length, filter, refl, sym, subst, Option, Some, None, arith, ◌||◌, inl, inr}
+use Rattle.std.proofs.Common.{◌≡◌, ℕ, ◌+◌, ◌%◌, ◌<◌, ◌≤◌, ◌==◌, Bool, true, false, cond, not, List, [], ◌∷◌, length, filter, refl, sym, subst, Option, Some, None, arith, ◌||◌, inl, inr}
 use Rattle.std.specs.Prelude.{slice_get, is_some}
 use Rattle.std.specs.List.{list_any, filter_map, cons_option}
 use Rattle.std.specs.Option.{option_map}
 use Rattle.std.proofs.lemmas.List.{length-append}
+use Rattle.std.proofs.lemmas.Bool.{or_cases, eqb-true}
 use Rattle.hub_base.specs.declared.value.Port.{Port}
 use Rattle.hub_base.specs.declared.value.Pid.{Pid}
 use Rattle.hub_base.specs.declared.value.Value.{Value}
@@ -14,19 +15,18 @@ use Rattle.hub_base.specs.declared.entry.Step.TheVariants.{Make, Call, Close, Ex
 use Rattle.hub_base.specs.declared.entry.Entry.{Entry}
 use Rattle.hub_base.specs.declared.event.Event.{Event}
 use Rattle.hub_base.specs.declared.fault.Fault.{Fault}
-use Rattle.hub_base.specs.declared.event.Outcome.TheVariants.{Sent, Closed}
-use Rattle.hub_base.specs.declared.event.What.TheVariants as what
+use Rattle.hub_base.specs.declared.event.Outcome.TheVariants.{Sent}
 use Rattle.hub_base.specs.State.{State, Channel, OpenCall, channel_at, opening}
 use Rattle.hub_base.specs.Ready.{is_send_on, is_recv_on, is_on, ready, port_of, first_with, Ending, Placed, without, lowest}
-use Rattle.hub_base.specs.Steps.{fires, proceeds, chooses, calls, closes, effect, stalls, all_wait, Change, sent, next_value, with_sent, send_meets, recv_takes, recv_meets, fired, tells, closing_event, closing_outcome, fault_of, answers, refusal}
+use Rattle.hub_base.specs.Steps.{fires, proceeds, chooses, calls, closes, effect, stalls, Change, sent, next_value, with_sent, send_meets, recv_takes, recv_meets, fired, closing_event, closing_outcome, fault_of, answers, refusal}
 use Rattle.hub_base.specs.Runs.{admits, moves, state}
+use Rattle.hub_laws.proofs.Branches.{by-closed, by-stall, stall_events}
 use Rattle.hub_laws.proofs.Lasting.{procs-after}
 use Rattle.hub_laws.specs.Sound.{IsSound, is_among, CallFits}
-use Rattle.hub_laws.proofs.Calls.{first-found, lowest-some, or_some}
+use Rattle.hub_laws.proofs.Calls.{first-found, lowest-some}
 use Rattle.hub_laws.proofs.Ready.{Admitted, admitted}
 use Rattle.hub_laws.proofs.Rules.{state-sound}
 use Rattle.hub_laws.proofs.Distinct.{count-below}
-use Rattle.hub_laws.proofs.Fires.{same_true}
 
 -- how many calls a step leaves and how many events it tells
 abbrev pub Size : State → Change → Type 0
@@ -68,8 +68,7 @@ fires_size : (s : State) (pid : Pid) (i : ℕ) (k : Case) (o : Option Channel) �
 fires_size s pid i (Send p v) None sound = omega arith
 fires_size s pid i (Recv p) None sound = omega arith
 fires_size s pid i (Send p v) (Some c) sound =
-    elim c.closed as (λ b. Size s (proceeds s pid i (Some (cond b (record { outcome = Closed; state = s; ended = [] }) (send_meets s p (sent v c) (first_with (is_recv_on p) s.parked))))))
-    [ true ↦ omega arith | false ↦ send_size s pid i p (sent v c) (first_with (is_recv_on p) s.parked) sound refl ]
+    by-closed (λ f. Size s (proceeds s pid i (Some f))) s p v c (λ over. omega arith) (λ live. send_size s pid i p (sent v c) (first_with (is_recv_on p) s.parked) sound refl)
 fires_size s pid i (Recv p) (Some c) sound = recv_size s pid i p c (first_with (is_send_on p) s.parked) sound refl
 
 chooses_size : (s : State) (pid : Pid) (cases : List Case) (default : Bool) (o : Option (ℕ × Case)) → IsSound s → Size s (chooses s pid cases default o)
@@ -99,20 +98,19 @@ effect_size s pid (Call cases default word) sound = chooses_size s pid cases.ite
 effect_size s pid (Close p) sound = closes_size s pid p (channel_at s p)
 effect_size s pid Exit sound = omega arith
 
-stalled_size : (calls : List OpenCall) → length (filter_map (λ call. Some (tells call.pid what.Stalled)) calls) ≡ length calls
+stalled_size : (calls : List OpenCall) → length (stall_events calls) ≡ length calls
 stalled_size [] = refl
 stalled_size (call ∷ calls) = omega (arith, stalled_size calls)
 
 stalls_size : (s : State) (c : Change) → Size s c → length (stalls c).events ≤ length s.parked + 2
 stalls_size s c h =
-    elim (all_wait c.state) as (λ b. length (cond b (record { state = record c.state { parked = [] }; events = c.events ++ filter_map (λ call. Some (tells call.pid what.Stalled)) c.state.parked }) c).events ≤ length s.parked + 2)
-    [ true ↦ omega (arith, length-append c.events (filter_map (λ call. Some (tells call.pid what.Stalled)) c.state.parked), stalled_size c.state.parked) | false ↦ omega arith ]
+    by-stall (λ (d : Change). length d.events ≤ length s.parked + 2) c (omega (arith, length-append c.events (stall_events c.state.parked), stalled_size c.state.parked)) (omega arith)
 
 -- beside a caller that is admitted there is room for its call
 pub room-law : (s : State) (pid : Pid) → IsSound s → Admitted s pid → length s.parked < s.procs
 room-law s pid sound adm =
     let most : length (record { pid = pid; cases = [] } ∷ s.parked) ≤ s.procs = count-below s.procs (record { pid = pid; cases = [] } ∷ s.parked) (adm.free, sound.apart) (λ q e.
-    elim (or_some (pid.0 == q) (is_among q s.parked) e) [ inl l ↦ subst (λ (n : ℕ). n < s.procs) (same_true pid.0 q l) adm.below | inr r ↦ (sound.present q r).0 ]) in
+    elim (or_cases (pid.0 == q) (is_among q s.parked) e) [ inl l ↦ subst (λ (n : ℕ). n < s.procs) (eqb-true pid.0 q l) adm.below | inr r ↦ (sound.present q r).0 ]) in
     omega arith
 
 answers_size : (s : State) (e : Entry) (o : Option Fault) → IsSound s → Admitted s e.pid → length (answers s e o).events ≤ s.procs + 1

@@ -1,7 +1,7 @@
 -- What holds of each open call after a step.
-use Rattle.std.proofs.Common.{ℕ, ◌%◌, ◌==◌, Bool, true, false, cond, not, List, [], ◌∷◌, ◌++◌, length, Option, Some, None}
+use Rattle.std.proofs.Common.{ℕ, ◌%◌, ◌==◌, Bool, true, false, not, List, [], ◌∷◌, length, Option, Some, None}
 use Rattle.std.specs.Prelude.{slice_get}
-use Rattle.std.specs.List.{list_any, AllByRecursion, filter_map}
+use Rattle.std.specs.List.{list_any, AllByRecursion}
 use Rattle.hub_base.specs.declared.value.Port.{Port}
 use Rattle.hub_base.specs.declared.value.Pid.{Pid}
 use Rattle.hub_base.specs.declared.value.Value.{Value}
@@ -10,12 +10,12 @@ use Rattle.hub_base.specs.declared.case.Case.TheVariants.{Send, Recv}
 use Rattle.hub_base.specs.declared.event.Event.{Event}
 use Rattle.hub_base.specs.declared.entry.Step.{Step}
 use Rattle.hub_base.specs.declared.entry.Step.TheVariants.{Make, Call, Close, Exit}
-use Rattle.hub_base.specs.declared.event.Outcome.TheVariants.{Sent, Closed}
+use Rattle.hub_base.specs.declared.event.Outcome.TheVariants.{Sent}
 use Rattle.hub_base.specs.State.{State, Channel, OpenCall, channel_at}
 use Rattle.hub_base.specs.Ready.{is_send_on, is_recv_on, is_on, ready, port_of, first_with, Ending, without}
-use Rattle.hub_base.specs.Steps.{fires, proceeds, chooses, closes, effect, stalls, all_wait, Change, sent, next_value, with_sent, send_meets, recv_takes, recv_meets, fired, tells}
-use Rattle.hub_base.specs.declared.event.What.TheVariants as what
+use Rattle.hub_base.specs.Steps.{fires, proceeds, chooses, closes, effect, stalls, Change, sent, next_value, with_sent, send_meets, recv_takes, recv_meets, fired}
 use Rattle.hub_base.specs.Values.{cases_or}
+use Rattle.hub_laws.proofs.Branches.{by-closed, by-stall}
 use Rattle.hub_laws.proofs.Calls.{all_kept, all_snoc}
 
 module _ (P : OpenCall → Type 0) where
@@ -35,8 +35,7 @@ module _ (P : OpenCall → Type 0) where
   fires_stands s pid i (Send p v) None all = all
   fires_stands s pid i (Recv p) None all = all
   fires_stands s pid i (Send p v) (Some c) all =
-      elim c.closed as (λ b. AllByRecursion P (proceeds s pid i (Some (cond b (record { outcome = Closed; state = s; ended = [] }) (send_meets s p (sent v c) (first_with (is_recv_on p) s.parked))))).state.parked)
-      [ true ↦ all | false ↦ send_stands s p (sent v c) (first_with (is_recv_on p) s.parked) all ]
+      by-closed (λ f. AllByRecursion P (proceeds s pid i (Some f)).state.parked) s p v c (λ over. all) (λ live. send_stands s p (sent v c) (first_with (is_recv_on p) s.parked) all)
   fires_stands s pid i (Recv p) (Some c) all = recv_stands s p c (first_with (is_send_on p) s.parked) all
 
   chooses_stands : (s : State) (pid : Pid) (cases : List Case) (default : Bool) (o : Option (ℕ × Case)) → AllByRecursion P s.parked → P (record { pid = pid; cases = cases }) → AllByRecursion P (chooses s pid cases default o).state.parked
@@ -57,5 +56,4 @@ module _ (P : OpenCall → Type 0) where
 
   pub stalls-stands : (c : Change) → AllByRecursion P c.state.parked → AllByRecursion P (stalls c).state.parked
   stalls-stands c all =
-      elim (all_wait c.state) as (λ b. AllByRecursion P (cond b (record { state = record c.state { parked = [] }; events = c.events ++ filter_map (λ call. Some (tells call.pid what.Stalled)) c.state.parked }) c).state.parked)
-      [ true ↦ tt | false ↦ all ]
+      by-stall (λ (d : Change). AllByRecursion P d.state.parked) c tt all

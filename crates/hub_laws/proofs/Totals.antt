@@ -4,6 +4,8 @@ use Rattle.std.specs.Prelude.{slice_get}
 use Rattle.std.specs.List.{AllByRecursion, cons_option}
 use Rattle.std.specs.Option.{option_map_or}
 use Rattle.std.proofs.lemmas.List.{take-append-le}
+use Rattle.std.proofs.lemmas.Bool.{eqb-true}
+use Rattle.hub_laws.proofs.Calls.{all_more}
 use Rattle.hub_base.specs.declared.value.Port.{Port}
 use Rattle.hub_base.specs.declared.value.Pid.{Pid}
 use Rattle.hub_base.specs.declared.value.Value.{Value}
@@ -18,10 +20,9 @@ use Rattle.hub_base.specs.State.{Channel}
 use Rattle.hub_base.specs.Ready.{port_of}
 use Rattle.hub_base.specs.Steps.{sent, received, next_value, closing_outcome}
 use Rattle.hub_base.specs.Values.{sent_on, got_on, of_what}
-use Rattle.hub_laws.specs.Deeds.{Deed, deed_of, told, picks, at, IsClosing, Moved, Quiet, Wrote, Does, buffers, hands, fetches, gives, drains, refuses, shuts, quiet, wrote}
+use Rattle.hub_laws.proofs.Deeds.{Deed, deed_of, told, picks, at, IsClosing, Moved, Quiet, Wrote, Does, buffers, hands, fetches, gives, drains, refuses, shuts, quiet, wrote}
 use Rattle.hub_laws.proofs.Calls.{same_number}
 use Rattle.hub_laws.proofs.Ports.{same_port}
-use Rattle.hub_laws.proofs.Fires.{same_true}
 
 -- a reading of events is a reading of deeds
 
@@ -44,10 +45,6 @@ told-picks pick L [] none = refl
 told-picks pick L (e ∷ es) none = pick_what pick (L e.pid) e.what (told pick L es) (told deed_of L es) none (told-picks pick L es none)
 
 -- the deeds of a step that moves one channel are all on its port
-
-all_more : {A : Type 0} (P Q : A → Type 0) (xs : List A) → ((x : A) → P x → Q x) → AllByRecursion P xs → AllByRecursion Q xs
-all_more P Q [] imp a = tt
-all_more P Q (x ∷ xs) imp a = (imp x a.0, all_more P Q xs imp a.1)
 
 abbrev OnPort : Port → Deed → Type 0
 OnPort q x = port_of x.case ≡ q
@@ -82,7 +79,7 @@ total_quiet f cs ts p None (Some d) is to q empty = let h = q.fresh p d (sym is)
 
 total_wrote : {A : Type 0} (f : Channel → List A) (cs ts : List Channel) (p q : Port) (c d : Channel) (xs : List A) (b : Bool) → b ≡ (q.0 == p.0) → Wrote cs ts q c d → (q ≡ p → f d ≡ f c ++ xs) → (b ≡ false → xs ≡ []) → total f ts p ≡ total f cs p ++ xs
 total_wrote f cs ts p q c d xs true is w here other =
-    let same : q ≡ p = same_port q p (same_true q.0 p.0 (sym is)) in
+    let same : q ≡ p = same_port q p (eqb-true q.0 p.0 (sym is)) in
     let new : at ts p ≡ Some d = subst (λ (r : Port). at ts r ≡ Some d) same w.new in
     let old : at cs p ≡ Some c = subst (λ (r : Port). at cs r ≡ Some c) same w.old in
     rw (new, old) (here same)

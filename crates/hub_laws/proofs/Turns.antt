@@ -1,7 +1,7 @@
 -- One entry of a run: what it does to the channels, and which cases are then in force.
 use Rattle.std.proofs.Common.{◌≡◌, ℕ, ◌%◌, ◌==◌, Bool, true, false, cond, List, [], ◌∷◌, ◌++◌, length, refl, ◌∙◌, sym, Option, Some, None}
 use Rattle.std.specs.Prelude.{slice_get}
-use Rattle.std.specs.List.{filter_map}
+use Rattle.std.proofs.lemmas.Bool.{or_parts}
 use Rattle.hub_base.specs.declared.value.Pid.{Pid}
 use Rattle.hub_base.specs.declared.case.Case.{Case}
 use Rattle.hub_base.specs.declared.entry.Step.{Step}
@@ -12,12 +12,13 @@ use Rattle.hub_base.specs.declared.fault.Fault.{Fault}
 use Rattle.hub_base.specs.declared.event.What.TheVariants as what
 use Rattle.hub_base.specs.State.{State, Channel, OpenCall, channel_at}
 use Rattle.hub_base.specs.Ready.{ready, port_of}
-use Rattle.hub_base.specs.Steps.{fires, Firing, proceeds, chooses, calls, closes, effect, stalls, all_wait, Change, tells, fault_of, answers, refusal}
+use Rattle.hub_base.specs.Steps.{fires, Firing, proceeds, chooses, calls, closes, effect, stalls, Change, tells, fault_of, answers, refusal}
 use Rattle.hub_base.specs.Runs.{admits, moves}
 use Rattle.hub_base.specs.Values.{Turned, refused, cases_or, latest, last_call}
 use Rattle.hub_laws.specs.Sound.{IsSound, is_among}
-use Rattle.hub_laws.specs.Deeds.{deed_of, told, Does, quiet}
-use Rattle.hub_laws.proofs.Calls.{differ-sym, or_none, same_number}
+use Rattle.hub_laws.proofs.Branches.{by-stall, stall_events}
+use Rattle.hub_laws.proofs.Deeds.{deed_of, told, Does, quiet}
+use Rattle.hub_laws.proofs.Calls.{differ-sym, same_number}
 use Rattle.hub_laws.proofs.Ready.{Admitted, admitted}
 use Rattle.hub_laws.proofs.Does.{Knows, quiet-same, stalls-does}
 use Rattle.hub_laws.proofs.Stands.{effect-stands, stalls-stands}
@@ -32,7 +33,7 @@ refused_append : (xs ys : List Event) → refused xs ≡ false → refused ys �
 refused_append [] ys d e = e
 refused_append (x ∷ xs) ys d e = d
 
-refused_stalled : (calls : List OpenCall) → refused (filter_map (λ call. Some (tells call.pid what.Stalled)) calls) ≡ false
+refused_stalled : (calls : List OpenCall) → refused (stall_events calls) ≡ false
 refused_stalled [] = refl
 refused_stalled (call ∷ calls) = refl
 
@@ -57,8 +58,7 @@ effect_clear s pid Exit = refl
 
 pub stalls_clear : (c : Change) → refused c.events ≡ false → refused (stalls c).events ≡ false
 stalls_clear c e =
-    elim (all_wait c.state) as (λ b. refused (cond b (record { state = record c.state { parked = [] }; events = c.events ++ filter_map (λ call. Some (tells call.pid what.Stalled)) c.state.parked }) c).events ≡ false)
-    [ true ↦ refused_append c.events (filter_map (λ call. Some (tells call.pid what.Stalled)) c.state.parked) e (refused_stalled c.state.parked) | false ↦ e ]
+    by-stall (λ (d : Change). refused d.events ≡ false) c (refused_append c.events (stall_events c.state.parked) e (refused_stalled c.state.parked)) e
 
 -- Which cases are in force
 
@@ -81,7 +81,7 @@ knows_more L M (call ∷ calls) same k = (same call.pid ∙ k.0, knows_more L M 
 knows_others : (L M : Pid → List Case) (q : ℕ) (calls : List OpenCall) → is_among q calls ≡ false → ((pid : Pid) → (q == pid.0) ≡ false → M pid ≡ L pid) → Knows L calls → Knows M calls
 knows_others L M q [] free same k = tt
 knows_others L M q (call ∷ calls) free same k =
-    let f = or_none (call.pid.0 == q) (is_among q calls) free in
+    let f = or_parts (call.pid.0 == q) (is_among q calls) free in
     (same call.pid (differ-sym call.pid.0 q f.0) ∙ k.0, knows_others L M q calls f.1 same k.1)
 
 -- A turn

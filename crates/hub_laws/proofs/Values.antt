@@ -1,16 +1,16 @@
 -- The values received, and then those in the buffer, are the values sent.
-use Rattle.std.proofs.Common.{◌≡◌, ℕ, ◌==◌, ◌-◌, Bool, true, false, cond, List, [], ◌∷◌, ◌++◌, take, drop, refl, ap, ◌∙◌, sym, Option, Some, None, append-nil, append_assoc, take-append-drop}
+use Rattle.std.proofs.Common.{◌≡◌, ℕ, ◌==◌, ◌-◌, Bool, true, false, cond, List, [], ◌∷◌, ◌++◌, take, refl, ap, ◌∙◌, sym, Option, Some, None, append-nil, append_assoc, take-append-drop}
 use Rattle.std.specs.Prelude.{slice_get}
 use Rattle.std.specs.Option.{option_map_or}
 use Rattle.hub_base.specs.declared.value.Port.{Port}
 use Rattle.hub_base.specs.declared.case.Case.{Case}
 use Rattle.hub_base.specs.declared.event.Outcome.{Outcome}
 use Rattle.hub_base.specs.declared.entry.Entry.{Entry}
-use Rattle.hub_base.specs.State.{State, Channel, channel_at, opening}
+use Rattle.hub_base.specs.State.{State, Channel, channel_at, opening, buffer_of}
 use Rattle.hub_base.specs.Runs.{moves, state_after, state}
 use Rattle.hub_base.specs.Values.{Turned, turns_after, values_from, sent_on, got_on, sent_values, received_values}
 use Rattle.hub_laws.specs.Sound.{IsSound}
-use Rattle.hub_laws.specs.Deeds.{deed_of, told, at}
+use Rattle.hub_laws.proofs.Deeds.{deed_of, told, at}
 use Rattle.hub_laws.proofs.Kept.{sound-opening}
 use Rattle.hub_laws.proofs.Rules.{moves-sound}
 use Rattle.hub_laws.proofs.Does.{Knows}
@@ -66,5 +66,5 @@ received-law n es p c e =
     sym (sym (total_at (λ c. take c.taken c.done) (state n es) p c e) ∙ h ∙ ap (λ xs. xs ++ received_values n es p) (no_total (λ c. take c.taken c.done) p))
 
 -- the values received, then those in the buffer, are the values sent
-pub values-law : (n : ℕ) (es : List Entry) (p : Port) (c : Channel) → channel_at (state n es) p ≡ Some c → received_values n es p ++ drop c.taken c.done ≡ sent_values n es p
-values-law n es p c e = ap (λ xs. xs ++ drop c.taken c.done) (received-law n es p c e) ∙ take-append-drop c.taken c.done ∙ sym (sent-law n es p c e)
+pub values-law : (n : ℕ) (es : List Entry) (p : Port) (c : Channel) → channel_at (state n es) p ≡ Some c → received_values n es p ++ buffer_of c ≡ sent_values n es p
+values-law n es p c e = ap (λ xs. xs ++ buffer_of c) (received-law n es p c e) ∙ take-append-drop c.taken c.done ∙ sym (sent-law n es p c e)

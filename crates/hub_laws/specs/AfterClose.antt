@@ -1,9 +1,13 @@
--- After a close: from entries and events alone, but for the buffer that the close left.
-use Rattle.std.specs.Prelude.{◌≡◌, ◌==◌, ℕ, Bool, true, false, List, [], ◌∷◌, Option, Some, None, if◌then◌else◌}
+-- After a close no case on the port is sent, and its receivers drain the buffer, then learn of the
+-- close: from entries and events alone, but for the buffer that the close left.
+-- Go: "Close", "Receive operator".
+use Rattle.std.specs.Prelude.{◌≡◌, ◌==◌, ℕ, Bool, true, false, List, [], ◌∷◌, ◌++◌, Option, Some, None, if◌then◌else◌}
 use Rattle.hub_base.specs.declared.value.Port.{Port}
+use Rattle.hub_base.specs.declared.value.Pid.{Pid}
 use Rattle.hub_base.specs.declared.value.Value.{Value}
 use Rattle.hub_base.specs.declared.case.Case.{Case}
 use Rattle.hub_base.specs.declared.case.Case.TheVariants.{Recv}
+use Rattle.hub_base.specs.declared.entry.Step.TheVariants.{Close}
 use Rattle.hub_base.specs.declared.entry.Entry.{Entry}
 use Rattle.hub_base.specs.declared.event.Event.{Event}
 use Rattle.hub_base.specs.declared.event.Outcome.{Outcome}
@@ -12,7 +16,7 @@ use Rattle.hub_base.specs.declared.event.What.{What}
 use Rattle.hub_base.specs.declared.event.What.TheVariants as what
 use Rattle.hub_base.specs.State.{Channel, channel_at, opening, buffer_of}
 use Rattle.hub_base.specs.Ready.{port_of}
-use Rattle.hub_base.specs.Runs.{state}
+use Rattle.hub_base.specs.Runs.{state, moves}
 use Rattle.hub_base.specs.Values.{turns_after, values_from}
 
 -- the cases on p that were answered `Sent`
@@ -41,10 +45,25 @@ answers_done [] = false
 answers_done (e ∷ es) = is_done e.what
 
 -- what a reading tells of the entries `fs` that follow the entries `es`
-abbrev pub told_later : {A : Type 0} → (Option Case → Outcome → Option A) → ℕ → List Entry → List Entry → List A
-told_later pick n es fs = values_from pick (turns_after (opening n) es) (turns_after (state n es) fs)
+abbrev pub told_later :
+    {A : Type 0} → (Option Case → Outcome → Option A) → ℕ → List Entry → List Entry → List A
+told_later pick n es fs =
+    values_from pick (turns_after (opening n) es) (turns_after (state n es) fs)
 
--- of a port that the last of the entries `es` closed
+-- of a port that the last of the entries `es` closed: the channel that this left, and what the
+-- entries `fs` tell
 pub record StaysClosed (n : ℕ) (es fs : List Entry) (p : Port) : Type 0 where
+  pub left : Channel
+  pub made : channel_at (state n es) p ≡ Some left
+  pub closed : left.closed ≡ true
   pub sent : told_later (sent_at p) n es fs ≡ []
-  pub heard : (c : Channel) → channel_at (state n es) p ≡ Some c → Drains (buffer_of c) (told_later (heard p) n es fs)
+  pub heard : Drains (buffer_of left) (told_later (heard p) n es fs)
+
+abbrev pub close_by : Pid → Port → Entry
+close_by pid p = record { pid = pid; step = Close p }
+
+-- after a close that was answered `Done`, whatever entries follow
+abbrev pub AfterCloseLaw : ℕ → List Entry → Pid → Port → List Entry → Type 0
+AfterCloseLaw n es pid p fs =
+    answers_done (moves (state n es) (close_by pid p)).events ≡ true →
+    StaysClosed n (es ++ close_by pid p ∷ []) fs p

@@ -1,5 +1,5 @@
--- How many values a run can send and receive on a port: no more than the entries of its journal that are no
--- exits. So where a journal has at most 1,000,000 of these, no count passes 1,000,000.
+-- How many values a run can send and receive on a port: no more than the entries of its journal that
+-- are no exits. So where a journal has at most 1,000,000 of these, no count passes 1,000,000.
 use Rattle.std.specs.Prelude.{◌≡◌, ◌≤◌, ℕ, List, length, Some}
 use Rattle.hub_base.specs.declared.value.Port.{Port}
 use Rattle.hub_base.specs.declared.entry.Entry.{Entry}
@@ -14,4 +14,6 @@ pub record CountsWithin (c : Channel) (most : ℕ) : Type 0 where
 
 -- each channel of a run, against the run's admitted entries that are no exits
 abbrev pub CountsLaw : ℕ → List Entry → Type 0
-CountsLaw n es = (p : Port) (c : Channel) → channel_at (state n es) p ≡ Some c → CountsWithin c (steps_of (kept n es))
+CountsLaw n es =
+    (p : Port) (c : Channel) → channel_at (state n es) p ≡ Some c →
+    CountsWithin c (steps_of (kept n es))

@@ -1,12 +1,39 @@
--- Worked rows of the words that the laws are stated in.
-use Rattle.std.specs.Prelude.{◌≡◌, true, false, List, [], ◌∷◌, refl}
+-- Worked rows of the words that the laws are stated in: none of them is empty.
+use Rattle.std.specs.Prelude.{◌≡◌, true, false, List, [], ◌∷◌, length, filter, not, Some, None, refl}
+use Rattle.std.specs.Option.{option_map}
 use Rattle.hub_base.specs.declared.entry.Entry.{Entry}
-use Rattle.hub_base.specs.declared.event.Outcome.TheVariants.{Drained}
-use Rattle.hub_base.specs.Runs.{state, moves}
+use Rattle.hub_base.specs.declared.event.Outcome.TheVariants.{Sent, Drained}
+use Rattle.hub_base.specs.declared.fault.Fault.TheVariants as fault
+use Rattle.hub_base.specs.declared.event.What.TheVariants as what
+use Rattle.hub_base.specs.State.{channel_at, buffer_of}
+use Rattle.hub_base.specs.Ready.{is_recv_on, is_send_on}
+use Rattle.hub_base.specs.Runs.{state, moves, events, kept}
 use Rattle.hub_base.specs.Values.{turns_after}
-use Rattle.hub_base.specs.Notation.{port, s, r, make, send, recv, close, select, case, got}
-use Rattle.hub_laws.specs.Once.{endings, endings_until}
+use Rattle.hub_base.specs.Text.{steps_of}
+use Rattle.hub_base.specs.Value.{value_of}
+use Rattle.hub_base.specs.Notation.{port, s, r, make, send, recv, close, exit, select, case, told, got}
+use Rattle.hub_laws.specs.Sound.{some_call}
+use Rattle.hub_laws.specs.Once.{endings, endings_until, ends_call, is_refusal}
 use Rattle.hub_laws.specs.AfterClose.{told_later, sent_at, heard, answers_done}
+use Rattle.hub_laws.specs.Answers.{is_answer_to}
+use Rattle.hub_laws.specs.Replies.{own, reply}
+use Rattle.hub_laws.specs.Journals.{IsLegal}
+use Rattle.hub_laws.specs.Limits.{exits_of}
+use Rattle.hub_laws.specs.OnePort.{touched, number_of}
+
+-- ---- states
+
+-- a call that waits in both directions of one port
+abbrev both_wait : List Entry
+both_wait = make 0 0 ∷ select 1 0 (s 1 4 ∷ r 1 ∷ []) false ∷ []
+
+pub receiver_row : some_call (is_recv_on (port 1)) (state 2 both_wait).parked ≡ true
+receiver_row = refl
+
+pub sender_row : some_call (is_send_on (port 1)) (state 2 both_wait).parked ≡ true
+sender_row = refl
+
+-- ---- after a close
 
 -- a port with two values, one of them received, that is closed and drained
 abbrev until_close : List Entry
@@ -28,9 +55,137 @@ sent_row = refl
 pub done_row : answers_done (moves (state 2 (make 0 2 ∷ [])) (close 0 1)).events ≡ true
 done_row = refl
 
--- a select that waits on two ports fires at one of them, once; while it waits, its process is told `Busy`
-pub once_row : endings 1 (moves (state 3 (make 0 0 ∷ make 0 0 ∷ [])) (select 1 0 (r 1 ∷ r 2 ∷ []) false)).events ≡ []
+-- ---- at most one event
+
+-- a select that waits on two ports fires at one of them, once; while it waits, its process is told
+-- `Busy`
+abbrev two_ports : List Entry
+two_ports = make 0 0 ∷ make 0 0 ∷ []
+
+abbrev either : Entry
+either = select 1 0 (r 1 ∷ r 2 ∷ []) false
+
+abbrev then_sent : List Entry
+then_sent = recv 1 1 ∷ send 0 2 8 ∷ send 0 1 9 ∷ recv 1 1 ∷ send 0 2 3 ∷ []
+
+pub once_row : endings 1 (moves (state 3 two_ports) either).events ≡ []
 once_row = refl
 
-pub until_row : endings_until 1 (turns_after (state 3 (make 0 0 ∷ make 0 0 ∷ select 1 0 (r 1 ∷ r 2 ∷ []) false ∷ [])) (recv 1 1 ∷ send 0 2 8 ∷ send 0 1 9 ∷ recv 1 1 ∷ send 0 2 3 ∷ [])) ≡ case 1 1 (got 8) ∷ []
+pub until_row : endings_until 1 (turns_after (moves (state 3 two_ports) either).state then_sent) ≡ case 1 1 (got 8) ∷ []
 until_row = refl
+
+-- a call that parks and stalls in one step, one that takes its default, and one that is faulty
+pub stalled_row : endings 0 (moves (state 1 (make 0 0 ∷ [])) (recv 0 1)).events ≡ told 0 what.Stalled ∷ []
+stalled_row = refl
+
+abbrev try_recv : Entry
+try_recv = select 0 0 (r 1 ∷ []) true
+
+pub default_row : endings 0 (moves (state 1 (make 0 0 ∷ [])) try_recv).events ≡ told 0 what.Default ∷ []
+default_row = refl
+
+pub faulty_row : endings 0 (moves (state 1 []) (recv 0 1)).events ≡ told 0 (what.Fault fault.NoPort) ∷ []
+faulty_row = refl
+
+pub no_end_row : ends_call what.Done ≡ false
+no_end_row = refl
+
+-- ---- answers
+
+pub answer_row : is_answer_to (recv 0 1).step what.Parked ≡ true
+answer_row = refl
+
+pub no_answer_row : is_answer_to (recv 0 1).step what.Done ≡ false
+no_answer_row = refl
+
+-- ---- the one port that is written
+
+pub fired_row : touched 2 (make 0 1 ∷ make 0 1 ∷ send 0 2 5 ∷ []) either ≡ Some (port 2)
+fired_row = refl
+
+pub made_row : touched 1 (make 0 1 ∷ []) (make 0 3) ≡ Some (port 2)
+made_row = refl
+
+pub shut_row : touched 1 (make 0 1 ∷ []) (close 0 1) ≡ Some (port 1)
+shut_row = refl
+
+pub parked_row : touched 2 (make 0 1 ∷ []) (recv 1 1) ≡ None
+parked_row = refl
+
+pub passed_row : touched 1 (make 0 0 ∷ []) try_recv ≡ None
+passed_row = refl
+
+-- who waits for ever is told so, and no port is written
+pub stalls_row : touched 2 (make 0 0 ∷ recv 1 1 ∷ []) (recv 0 1) ≡ None
+stalls_row = refl
+
+pub gone_row : touched 1 [] (exit 0) ≡ None
+gone_row = refl
+
+pub fault_row : touched 1 [] (close 0 1) ≡ None
+fault_row = refl
+
+pub refused_row : touched 1 (exit 0 ∷ []) (make 0 1) ≡ None
+refused_row = refl
+
+pub number_row : number_of (touched 1 (exit 0 ∷ []) (make 0 1)) ≡ 0
+number_row = refl
+
+-- ---- replies
+
+abbrev until_met : List Entry
+until_met = make 0 0 ∷ recv 1 1 ∷ send 0 1 5 ∷ []
+
+pub own_row : own 0 until_met ≡ make 0 0 ∷ send 0 1 5 ∷ []
+own_row = refl
+
+pub caller_row : reply 0 2 until_met ≡ Some (case 0 0 Sent)
+caller_row = refl
+
+pub ended_row : reply 1 2 until_met ≡ Some (case 1 0 (got 5))
+ended_row = refl
+
+-- while it waits it has none
+pub waits_row : reply 1 2 (make 0 0 ∷ recv 1 1 ∷ []) ≡ None
+waits_row = refl
+
+pub stall_row : reply 1 2 (make 0 0 ∷ recv 1 1 ∷ exit 0 ∷ []) ≡ Some (told 1 what.Stalled)
+stall_row = refl
+
+pub own_stall_row : reply 0 1 (make 0 0 ∷ recv 0 1 ∷ []) ≡ Some (told 0 what.Stalled)
+own_stall_row = refl
+
+-- ---- journals
+
+-- an entry of a process that waits, and one of a process that there is not
+abbrev with_refused : List Entry
+with_refused = make 0 0 ∷ recv 1 1 ∷ recv 1 1 ∷ exit 7 ∷ send 0 1 5 ∷ []
+
+pub kept_row : kept 2 with_refused ≡ until_met
+kept_row = refl
+
+pub legal_row : IsLegal 2 until_met
+legal_row = refl
+
+pub events_row : filter (λ x. not (is_refusal x.what)) (events 2 with_refused) ≡ events 2 until_met
+events_row = refl
+
+pub length_row : length (events 2 with_refused) ≡ 6
+length_row = refl
+
+-- ---- limits and counts
+
+pub exits_row : exits_of 0 (kept 2 (exit 0 ∷ exit 0 ∷ exit 1 ∷ [])) ≡ exit 0 ∷ []
+exits_row = refl
+
+abbrev two_sent : List Entry
+two_sent = make 0 2 ∷ send 0 1 7 ∷ send 0 1 8 ∷ recv 1 1 ∷ exit 1 ∷ []
+
+pub steps_row : steps_of (kept 2 two_sent) ≡ 4
+steps_row = refl
+
+pub count_row : option_map (λ c. length c.done) (channel_at (state 2 two_sent) (port 1)) ≡ Some 2
+count_row = refl
+
+pub buffer_row : option_map (λ c. buffer_of c) (channel_at (state 2 two_sent) (port 1)) ≡ Some (value_of 8 ∷ [])
+buffer_row = refl

@@ -1,5 +1,6 @@
--- How long a journal can be: each process exits at most once, and no other process does. So a journal has at most
--- as many entries more than its steps as there are processes.
+-- How long a journal can be: each process exits at most once, and no other process has an entry. So a
+-- journal has at most as many entries more than steps (entries that are no exits) as there are
+-- processes.
 use Rattle.std.specs.Prelude.{◌≤◌, ◌<◌, ◌+◌, ◌==◌, ◌&&◌, ℕ, List, length, filter}
 use Rattle.std.specs.List.{AllByRecursion}
 use Rattle.hub_base.specs.declared.entry.Entry.{Entry}

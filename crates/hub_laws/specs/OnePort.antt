@@ -1,8 +1,8 @@
--- One step writes the channel of at most one port, which its answer names: the port of the case that fired, the
--- port that was made, or the port that was closed. A call that waits or takes its default, an exit and a fault
--- write none.
-use Rattle.std.specs.Prelude.{◌≡◌, ◌==◌, ℕ, Bool, false, List, [], ◌∷◌, Option, Some, None, slice_get}
-use Rattle.std.specs.Option.{option_map}
+-- One step writes the channel of at most one port, which its answer names: the port of the case
+-- that fired, the port that was made, or the port that was closed. A call that waits or takes its
+-- default, an exit and a fault write none, and what follows an answer (calls that end) no other.
+use Rattle.std.specs.Prelude.{◌≡◌, ◌≤◌, ◌<◌, ◌==◌, ◌++◌, ℕ, Bool, false, List, [], ◌∷◌, length, Option, Some, None, slice_get}
+use Rattle.std.specs.Option.{option_map, option_map_or}
 use Rattle.hub_base.specs.declared.value.Port.{Port}
 use Rattle.hub_base.specs.declared.entry.Step.{Step}
 use Rattle.hub_base.specs.declared.entry.Step.TheVariants.{Make, Call, Close}
@@ -10,14 +10,14 @@ use Rattle.hub_base.specs.declared.entry.Entry.{Entry}
 use Rattle.hub_base.specs.declared.event.What.{What}
 use Rattle.hub_base.specs.declared.event.What.TheVariants as what
 use Rattle.hub_base.specs.declared.event.Event.{Event}
-use Rattle.hub_base.specs.State.{channel_at}
+use Rattle.hub_base.specs.State.{State, channel_at}
 use Rattle.hub_base.specs.Ready.{port_of}
 use Rattle.hub_base.specs.Runs.{state, moves}
 
 -- the port whose channel a step may write, from the step and its answer alone
 abbrev pub port_touched_by : Step → What → Option Port
 port_touched_by (Make cap) (what.Made p) = Some p
-port_touched_by (Call cases default word) (what.Fired i outcome) = option_map port_of (slice_get cases.items i)
+port_touched_by (Call cases default word) (what.Fired i o) = option_map port_of (slice_get cases.items i)
 port_touched_by (Close p) what.Done = Some p
 port_touched_by step answer = None
 
@@ -30,6 +30,30 @@ abbrev pub is_port : Option Port → Port → Bool
 is_port None p = false
 is_port (Some q) p = q.0 == p.0
 
--- every other port has the channel that it had: its capacity, whether it is closed, and its counts
-abbrev pub OnePortLaw : ℕ → List Entry → Entry → Type 0
-OnePortLaw n es e = (p : Port) → is_port (port_touched e.step (moves (state n es) e).events) p ≡ false → channel_at (moves (state n es) e).state p ≡ channel_at (state n es) p
+-- its number, and 0 where there is none
+abbrev pub number_of : Option Port → ℕ
+number_of o = option_map_or (λ p. p.0) o 0
+
+-- one of so many ports
+pub record IsMade (p : Port) (ports : ℕ) : Type 0 where
+  pub some : 0 < p.0
+  pub few : p.0 ≤ ports
+
+abbrev pub IsPort : Port → State → Type 0
+IsPort p s = IsMade p (length s.channels)
+
+-- ---- entry e after the entries es
+
+-- the port that its answer names
+abbrev pub touched : ℕ → List Entry → Entry → Option Port
+touched n es e = port_touched e.step (moves (state n es) e).events
+
+-- the port has the channel that it had: its capacity, whether it is closed, and its counts
+abbrev pub Untouched : ℕ → List Entry → Entry → Port → Type 0
+Untouched n es e p = channel_at (state n (es ++ e ∷ [])) p ≡ channel_at (state n es) p
+
+-- the port that is named is made, and every other one is as it was, also where it is told by numbers
+pub record OnePortLaw (n : ℕ) (es : List Entry) (e : Entry) : Type 0 where
+  pub made : (p : Port) → touched n es e ≡ Some p → IsPort p (state n (es ++ e ∷ []))
+  pub others : (p : Port) → is_port (touched n es e) p ≡ false → Untouched n es e p
+  pub numbers : (p : Port) → (number_of (touched n es e) == p.0) ≡ false → Untouched n es e p

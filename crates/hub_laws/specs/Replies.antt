@@ -1,5 +1,5 @@
--- What a process asked, and the answer to its last entry: this comes with the step that answers it or that ends
--- its call, and entries of others do not change it.
+-- What a process asked, and its reply, the answer to its last entry: this comes with the step that
+-- answers it or that ends its call, and entries of others do not change it.
 use Rattle.std.specs.Prelude.{◌≡◌, ◌==◌, ◌&&◌, ◌++◌, ℕ, Bool, true, false, not, List, [], ◌∷◌, filter, Option, None, Some}
 use Rattle.std.specs.List.{list_any, AllByRecursion}
 use Rattle.hub_base.specs.declared.entry.Entry.{Entry}
@@ -43,7 +43,9 @@ pub record Undisturbed (q n : ℕ) (es fs : List Entry) : Type 0 where
   pub free : is_waiting (state n (es ++ fs)) q ≡ false
 
 abbrev pub RepliesLaw : ℕ → List Entry → ℕ → List Entry → Type 0
-RepliesLaw n es q fs = is_waiting (state n es) q ≡ false → list_any (λ e. e.pid.0 == q) fs ≡ false → Undisturbed q n es fs
+RepliesLaw n es q fs =
+    is_waiting (state n es) q ≡ false → list_any (λ e. e.pid.0 == q) fs ≡ false →
+    Undisturbed q n es fs
 
 -- ---- the entry that brings a reply
 
@@ -59,11 +61,14 @@ pub record IsLeft (n : ℕ) (es : List Entry) (e : Entry) (q : ℕ) : Type 0 whe
   pub waits : is_waiting (state n (es ++ e ∷ [])) q ≡ is_waiting (state n es) q
 
 -- entry e after the entries es, its answer, and the events of the calls that ended
-pub record Replied (n : ℕ) (es : List Entry) (e : Entry) (answer : Event) (ended : List Event) : Type 0 where
+pub record Replied (n : ℕ) (es : List Entry) (e : Entry) (answer : Event) (ended : List Event) :
+    Type 0 where
   pub caller : answer.pid ≡ e.pid
   -- the answer is the caller's reply, unless its call waits
   pub answered : is_parked answer.what ≡ false → IsReply n (es ++ e ∷ []) answer
-  pub parked : is_parked answer.what ≡ true → is_told e.pid.0 ended ≡ false → is_waiting (state n (es ++ e ∷ [])) e.pid.0 ≡ true
+  pub parked :
+      is_parked answer.what ≡ true → is_told e.pid.0 ended ≡ false →
+      is_waiting (state n (es ++ e ∷ [])) e.pid.0 ≡ true
   -- an event that follows is the reply to the call that ended
   pub ends : AllByRecursion (IsReply n (es ++ e ∷ [])) ended
   pub others : (q : ℕ) → is_told q (answer ∷ ended) ≡ false → IsLeft n es e q
@@ -74,4 +79,5 @@ AreReplied n es e (answer ∷ ended) = Replied n es e answer ended
 
 -- of an admitted entry
 abbrev pub RepliedLaw : ℕ → List Entry → Entry → Type 0
-RepliedLaw n es e = refusal (state n es) e.pid ≡ None → AreReplied n es e (moves (state n es) e).events
+RepliedLaw n es e =
+    refusal (state n es) e.pid ≡ None → AreReplied n es e (moves (state n es) e).events

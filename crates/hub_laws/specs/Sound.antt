@@ -42,7 +42,9 @@ pub record PortSound (p : Port) (c : Channel) (calls : List OpenCall) : Type 0 w
   -- a sender waits only where the buffer is full
   pub senders : some_call (is_send_on p) calls ≡ true → length c.done ≡ c.taken + c.cap
   -- nobody waits on a closed port
-  pub ended : c.closed ≡ true → (some_call (is_recv_on p) calls ≡ false) × (some_call (is_send_on p) calls ≡ false)
+  pub ended :
+      c.closed ≡ true →
+      (some_call (is_recv_on p) calls ≡ false) × (some_call (is_send_on p) calls ≡ false)
   pub alone : Alone p calls
 
 pub record IsSound (s : State) : Type 0 where

@@ -1,76 +1,26 @@
-//! Laws of the definitions: what holds of every run of a hub of channels.
+//! Laws of a hub of channels: what holds of every run, whatever its processes and entries.
+//!
+//! A run is a number of processes and a list of entries, admitted or not. Each law is the `ensures` of
+//! a function without a body. What it says stands in `specs/`, over the definitions of `hub_base`; its
+//! proof is for all numbers of processes and all lists of entries. The crates above import the lemmas.
 #![tactic(auto)]
 
-ghost use Rattle.hub_laws.specs.Laws.{StateLaws, ValuesLaw, OnceLaw, AfterCloseLaw};
-ghost use Rattle.hub_base.specs.Runs.{state, moves, kept};
-ghost use Rattle.std.specs.Prelude.{◌≡◌, ◌≤◌, ◌+◌, length};
-ghost use Rattle.hub_laws.specs.Replies.{RepliesLaw, RepliedLaw};
-ghost use Rattle.hub_laws.specs.Counts.{CountsLaw};
-ghost use Rattle.hub_laws.specs.Limits.{LimitsLaw};
-ghost use Rattle.hub_laws.specs.OnePort.{OnePortLaw};
-ghost use Rattle.hub_laws.specs.Tells.{AnswersLaw, PassedOverLaw};
+mod bounded_counts;
+mod closed_ports;
+mod first_answers;
+mod kept_values;
+mod last_replies;
+mod legal_journals;
+mod one_ending;
+mod one_port;
+mod sound_states;
 
-use hub_base::{Entry, Pid, Port};
-
-/// Every state that a run reaches is sound.
-pub fn states_are_sound(procs: u8, entries: &[Entry])
-    ensures { StateLaws (state procs entries.now) }
-{}
-
-/// The values received on a port, and then those in its buffer, are the values sent.
-pub fn values_are_kept(procs: u8, entries: &[Entry])
-    ensures { ValuesLaw procs entries.now }
-{}
-
-/// Each admitted call completes at most one of its cases, once.
-pub fn calls_end_once(procs: u8, entries: &[Entry])
-    ensures { OnceLaw procs entries.now }
-{}
-
-/// After a close no send completes, and receives drain the buffer.
-pub fn closed_ports_drain(procs: u8, before: &[Entry], pid: Pid, port: Port, later: &[Entry])
-    ensures { AfterCloseLaw procs before.now pid port later.now }
-{}
-
-/// Entries of others do not change what a process without an open call was told.
-pub fn replies_stay(procs: u8, before: &[Entry], pid: Pid, later: &[Entry])
-    ensures { RepliesLaw procs before.now pid.0 later.now }
-{}
-
-/// One step tells at most one event more than there are processes.
-pub fn events_fit(procs: u8, before: &[Entry], entry: &Entry)
-    ensures { length (moves (state procs before.now) entry.now).events ≤ procs + 1 }
-{}
-
-/// The entries of a run that were admitted give its state, and all of them are admitted.
-pub fn journals_are_legal(procs: u8, entries: &[Entry])
-    ensures same { state procs (kept procs entries.now) ≡ state procs entries.now }
-    ensures legal { kept procs (kept procs entries.now) ≡ kept procs entries.now }
-{}
-
-/// No channel of a run has received more than it sent, or sent more than the run's admitted entries that are
-/// no exits.
-pub fn counts_are_bounded(procs: u8, entries: &[Entry])
-    ensures { CountsLaw procs entries.now }
-{}
-
-/// One entry writes the channel of at most one port: the one that its answer names.
-pub fn one_port_moves(procs: u8, before: &[Entry], entry: &Entry)
-    ensures { OnePortLaw procs before.now entry.now }
-{}
-
-/// An admitted entry is answered first, and calls that ended follow; any other gives one fault alone.
-pub fn entries_are_answered(procs: u8, before: &[Entry], entry: &Entry)
-    ensures admitted { AnswersLaw procs before.now entry.now }
-    ensures refused { PassedOverLaw procs before.now entry.now }
-{}
-
-/// A journal holds at most one exit of each process, and none of any other.
-pub fn journals_are_short(procs: u8, entries: &[Entry])
-    ensures { LimitsLaw procs entries.now }
-{}
-
-/// Right after an admitted entry its events but for `Parked` are their processes' replies.
-pub fn replies_come(procs: u8, before: &[Entry], entry: &Entry)
-    ensures { RepliedLaw procs before.now entry.now }
-{}
+pub use bounded_counts::counts_are_bounded;
+pub use closed_ports::closed_ports_drain;
+pub use first_answers::{entries_are_answered, events_fit};
+pub use kept_values::values_are_kept;
+pub use last_replies::{replies_come, replies_stay};
+pub use legal_journals::{journals_are_legal, journals_are_short, journals_begin, journals_grow};
+pub use one_ending::calls_end_once;
+pub use one_port::one_port_moves;
+pub use sound_states::states_are_sound;

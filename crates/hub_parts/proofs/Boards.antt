@@ -9,12 +9,15 @@ use Rattle.hub_base.specs.declared.value.Port.{Port}
 use Rattle.hub_base.specs.declared.case.Case.{Case}
 use Rattle.hub_base.specs.declared.case.Case.TheVariants.{Send, Recv}
 use Rattle.hub_base.specs.Ready.{port_of}
+use Rattle.hub_parts.specs.declared.limits.TheConstants.{MOST_CASES, MOST_PORTS, PLACES}
 use Rattle.hub_parts.specs.declared.side.Side.{Side}
 use Rattle.hub_parts.specs.declared.side.Side.TheVariants as side
-use Rattle.hub_parts.specs.declared.queue.Waiter.{Waiter}
+use Rattle.hub_parts.specs.declared.wait_queue.Waiter.{Waiter}
 use Rattle.hub_parts.specs.Records.{Ticketed, Calls, ChannelLists}
 use Rattle.hub_parts.specs.Queues.{lives, roomy, joined, taken, waiters, waiters_from, waiter_at}
-use Rattle.hub_parts.specs.Lists.{queue_of, channel_of, line_of, with_queue, with_call, ticketed, all_roomy, all_joined, CanJoin, no_channel, new_port, passes}
+use Rattle.hub_parts.specs.Lists.{with_call, ticketed, new_port, passes}
+use Rattle.hub_parts.specs.Channels.{queue_of, channel_of, line_of, with_queue, no_channel}
+use Rattle.hub_parts.specs.Parking.{all_roomy, all_joined, CanJoin}
 use Rattle.hub_parts.specs.Keeps.{QueueKeeps, CallsKeep, BoardKeeps, joins, AllMade, Ascending, without_call}
 use Rattle.hub_parts.proofs.Lines.{queue_with_cases, length-with_cases}
 use Rattle.hub_parts.proofs.Endings.{ended_keeps, taken_keeps, none_keeps, all_filter, ascending_filter}
@@ -29,8 +32,9 @@ pub calls_ended : (pid : Pid) (c : Calls) (n : ℕ) → CallsKeep c n → CallsK
 calls_ended pid c n k =
     let keep = λ (w : Ticketed). not (w.call.pid.0 == pid.0) in
     record {
+      counted = k.counted;
       few = omega (arith, shorter_calls keep c.waiting, k.few);
-      small = all_filter (λ w. length w.call.cases ≤ 8) keep c.waiting k.small;
+      small = all_filter (λ w. length w.call.cases ≤ MOST_CASES) keep c.waiting k.small;
       made = all_filter (λ w. AllMade n w.call.cases) keep c.waiting k.made;
       ascending = ascending_filter keep c.waiting k.ascending;
       below = all_filter (λ w. w.ticket < c.next_ticket) keep c.waiting k.below;
@@ -128,19 +132,20 @@ no_waiters s p n [] a more = refl
 no_waiters s p n (w ∷ ws) a more = rw (no_waiters_from s p n w.call.pid w.ticket 0 w.call.cases a.0 more) (no_waiters s p n ws a.1 more)
 
 abbrev pub fresh : ℕ → ℕ → ChannelLists
-fresh cap procs = record { lists = new_port cap; senders = buffer [] (16 * procs); receivers = buffer [] (16 * procs) }
+fresh cap procs = record { lists = new_port cap; senders = buffer [] (PLACES * procs); receivers = buffer [] (PLACES * procs) }
 
-fresh_queue : (s : Side) (cap procs : ℕ) → queue_of s (fresh cap procs) ≡ buffer [] (16 * procs)
+fresh_queue : (s : Side) (cap procs : ℕ) → queue_of s (fresh cap procs) ≡ buffer [] (PLACES * procs)
 fresh_queue side.Send cap procs = refl
 fresh_queue side.Recv cap procs = refl
 fresh_queue side.Any cap procs = refl
 
 -- a board with one more port
-pub board_made : (cap : ℕ) (c : Calls) (cs : List ChannelLists) → BoardKeeps c cs → BoardKeeps c (cs ++ fresh cap c.procs ∷ [])
-board_made cap c cs k =
+pub board_made : (cap : ℕ) (c : Calls) (cs : List ChannelLists) → BoardKeeps c cs → length cs < MOST_PORTS → BoardKeeps c (cs ++ fresh cap c.procs ∷ [])
+board_made cap c cs k fewer =
     let long = length-append cs (fresh cap c.procs ∷ []) in
     record {
       calls = record {
+        counted = omega (arith, long);
         few = k.calls.few;
         small = k.calls.small;
         made = all_more_made (length cs) (length (cs ++ fresh cap c.procs ∷ [])) c.waiting (omega (arith, long)) k.calls.made;
@@ -196,28 +201,29 @@ all_below : (n m : ℕ) (ws : List Ticketed) → n ≤ m → AllByRecursion (λ 
 all_below n m [] le a = tt
 all_below n m (w ∷ ws) le a = let less : w.ticket < n = a.0 in (omega arith, all_below n m ws le a.1)
 
-pub calls_opened : (pid : Pid) (ticket : ℕ) (cases : List Case) (c : Calls) (n : ℕ) → CallsKeep c n → c.next_ticket ≤ ticket → length cases ≤ 8 → AllMade n cases → length (c.waiting ++ ticketed pid ticket cases ∷ []) ≤ c.procs → CallsKeep (with_call pid ticket cases c) n
+pub calls_opened : (pid : Pid) (ticket : ℕ) (cases : List Case) (c : Calls) (n : ℕ) → CallsKeep c n → c.next_ticket ≤ ticket → length cases ≤ MOST_CASES → AllMade n cases → length (c.waiting ++ ticketed pid ticket cases ∷ []) ≤ c.procs → CallsKeep (with_call pid ticket cases c) n
 calls_opened pid ticket cases c n k later small made few = record {
+  counted = k.counted;
   few = few;
-  small = all_snoc (λ w. length w.call.cases ≤ 8) c.waiting (ticketed pid ticket cases) k.small small;
+  small = all_snoc (λ w. length w.call.cases ≤ MOST_CASES) c.waiting (ticketed pid ticket cases) k.small small;
   made = all_snoc (λ w. AllMade n w.call.cases) c.waiting (ticketed pid ticket cases) k.made made;
   ascending = ascending_snoc c.waiting (ticketed pid ticket cases) c.next_ticket later k.below k.ascending;
   below = all_snoc (λ w. w.ticket < ticket + 1) c.waiting (ticketed pid ticket cases) (all_below c.next_ticket (ticket + 1) c.waiting (omega arith) k.below) (omega arith);
 }
 
 -- a queue after room was made for a call
-queue_ready : (s : Side) (p : Port) (c : Calls) (cs : List ChannelLists) (cases : List Case) → 0 < p.0 → p.0 ≤ length cs → BoardKeeps c cs → 0 < c.procs → length cases ≤ 8 → Ready (joins s p) c (queue_of s (channel_of (all_roomy c.waiting cs cases) p)) cases
+queue_ready : (s : Side) (p : Port) (c : Calls) (cs : List ChannelLists) (cases : List Case) → 0 < p.0 → p.0 ≤ length cs → BoardKeeps c cs → 0 < c.procs → length cases ≤ MOST_CASES → Ready (joins s p) c (queue_of s (channel_of (all_roomy c.waiting cs cases) p)) cases
 queue_ready s p c cs cases positive within k free small =
     rw (queue_with_cases (λ i. roomy c.waiting) 0 cs cases s p positive within)
     (ready_after (joins s p) c 0 (queue_of s (channel_of cs p)) cases (k.queues s p positive within) (roomy_has (joins s p) c (queue_of s (channel_of cs p)) free k.calls.few k.calls.small (k.queues s p positive within)) small)
 
-pub roomy_can_join : (pid : Pid) (ticket : ℕ) (c : Calls) (cs : List ChannelLists) (cases : List Case) → BoardKeeps c cs → 0 < c.procs → length cases ≤ 8 → AllMade (length cs) cases → CanJoin pid ticket 0 (all_roomy c.waiting cs cases) cases
+pub roomy_can_join : (pid : Pid) (ticket : ℕ) (c : Calls) (cs : List ChannelLists) (cases : List Case) → BoardKeeps c cs → 0 < c.procs → length cases ≤ MOST_CASES → AllMade (length cs) cases → CanJoin pid ticket 0 (all_roomy c.waiting cs cases) cases
 roomy_can_join pid ticket c cs cases k free small made =
     let long = length-with_cases (λ i. roomy c.waiting) 0 cs cases in
     can_join pid ticket 0 (all_roomy c.waiting cs cases) cases (subst (λ n. AllMade n cases) (sym long) made)
     (λ s p positive within. (queue_ready s p c cs cases positive (rw long at within) k free small).room)
 
-pub board_parked : (pid : Pid) (ticket : ℕ) (c : Calls) (cs : List ChannelLists) (cases : List Case) → BoardKeeps c cs → 0 < c.procs → length cases ≤ 8 → AllMade (length cs) cases → c.next_ticket ≤ ticket → length (c.waiting ++ ticketed pid ticket cases ∷ []) ≤ c.procs
+pub board_parked : (pid : Pid) (ticket : ℕ) (c : Calls) (cs : List ChannelLists) (cases : List Case) → BoardKeeps c cs → 0 < c.procs → length cases ≤ MOST_CASES → AllMade (length cs) cases → c.next_ticket ≤ ticket → length (c.waiting ++ ticketed pid ticket cases ∷ []) ≤ c.procs
     → BoardKeeps (with_call pid ticket cases c) (all_joined pid ticket 0 (all_roomy c.waiting cs cases) cases)
 board_parked pid ticket c cs cases k free small made later few =
     let roomy_long = length-with_cases (λ i. roomy c.waiting) 0 cs cases in

@@ -9,10 +9,11 @@ use Rattle.hub_base.specs.declared.case.Case.TheVariants.{Send, Recv}
 use Rattle.hub_base.specs.Ready.{is_send_on, is_recv_on, is_on, lowest, lowest_from, first_with, or_else, Placed}
 use Rattle.hub_parts.specs.declared.side.Side.{Side}
 use Rattle.hub_parts.specs.declared.side.Side.TheVariants as side
-use Rattle.hub_parts.specs.declared.queue.Waiter.{Waiter}
+use Rattle.hub_parts.specs.declared.wait_queue.Waiter.{Waiter}
 use Rattle.hub_parts.specs.Records.{Ticketed, Calls, ChannelLists}
 use Rattle.hub_parts.specs.Queues.{is_live, lives, live_of, waiters, waiters_of, waiters_from, waiter_at, case_at, is_before}
-use Rattle.hub_parts.specs.Lists.{queue_of, line_of, older, open_calls, still_open, passes}
+use Rattle.hub_parts.specs.Lists.{open_calls, still_open, passes}
+use Rattle.hub_parts.specs.Channels.{queue_of, line_of, older}
 use Rattle.hub_parts.specs.Keeps.{QueueKeeps, joins, Ascending}
 use Rattle.hub_parts.proofs.Endings.{dead_below, all_filter}
 

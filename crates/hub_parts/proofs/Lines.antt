@@ -8,9 +8,10 @@ use Rattle.hub_base.specs.declared.case.Case.{Case}
 use Rattle.hub_base.specs.declared.case.Case.TheVariants.{Send, Recv}
 use Rattle.hub_parts.specs.declared.side.Side.{Side}
 use Rattle.hub_parts.specs.declared.side.Side.TheVariants as side
-use Rattle.hub_parts.specs.declared.queue.Waiter.{Waiter}
+use Rattle.hub_parts.specs.declared.wait_queue.Waiter.{Waiter}
 use Rattle.hub_parts.specs.Records.{ChannelLists, PortLists}
-use Rattle.hub_parts.specs.Lists.{queue_of, with_queue, channel_of, with_line, with_case, with_cases, no_channel}
+use Rattle.hub_parts.specs.Channels.{queue_of, with_queue, channel_of, no_channel}
+use Rattle.hub_parts.specs.Parking.{with_line, with_case, with_cases}
 use Rattle.hub_parts.specs.Keeps.{joins}
 
 abbrev Change : Type 0

@@ -1,41 +1,132 @@
--- The calls in a vector, as contracts see them.
-use Rattle.std.proofs.Common.{◌≡◌, ℕ, ◌+◌, ◌++◌, Bool, List, [], ◌∷◌, refl, Some, None, arith, drop, take, length, get_or, ◌<◌, drop-cons, suc, not, ◌==◌, filter, slice_get, true, false, eq-eqb, find, zero, cond, append_assoc}
-use Rattle.std.proofs.lemmas.List.{drop_more, append-nil}
-use Rattle.std.proofs.lemmas.List.Elements.{filter_more}
-use Rattle.hub_base.specs.declared.value.Pid.{Pid}
+-- The calls in their list and in their places, as contracts see them.
+use Rattle.std.proofs.Common.{◌≡◌, ◌≢◌, ℕ, ◌++◌, Bool, List, [], ◌∷◌, refl, Option, Some, None, arith, length, get_or, set, ◌<◌, not, ◌==◌, ◌||◌, filter, slice_get, true, false, inl, inr, eq-eqb, replicate, find, cond, ap, sym, ◌∙◌}
+use Rattle.std.specs.List.{AllByRecursion, list_any}
+use Rattle.std.specs.Option.{option_map}
+use Rattle.std.proofs.lemmas.Bool.{eqb-false, ne_eqb, cases_eq}
+use Rattle.std.proofs.lemmas.Bool.Decides.{nat_tests}
+use Rattle.std.proofs.lemmas.List.{get_or-set_same, get_or-set_other, map-append, get_or_default, length-set, get_or-replicate, length-replicate}
 use Rattle.std.proofs.lemmas.Grind.{common_steps}
-use Rattle.hub_parts.specs.declared.tickets.Waiting.{Waiting}
-use Rattle.hub_parts.specs.Fits.{all_waiting}
-use Rattle.hub_parts.specs.Lists.{still_open}
-use Rattle.hub_parts.specs.Queues.{case_at, turned}
+use Rattle.arrayvec.specs.ArrayVec.{ArrayVec}
+use Rattle.hub_base.specs.declared.value.Pid.{Pid}
+use Rattle.hub_base.specs.declared.case.Case.{Case}
+use Rattle.hub_parts.specs.declared.tickets.TheConstants.{PIDS}
+use Rattle.hub_parts.specs.declared.tickets.Opened.{Opened}
+use Rattle.hub_parts.specs.Records.{Ticketed}
+use Rattle.hub_parts.specs.Tickets.{IsMarked, calls_of, call_of, cases_of, pids}
+use Rattle.hub_parts.specs.Lists.{still_open, ticketed}
+use Rattle.hub_parts.specs.Queues.{case_at, is_live}
 
-pub case_here : (ws : List Waiting) (i : ℕ) (w : Waiting) (ticket index : ℕ) → i < length ws → get_or ws i w ≡ w → w.ticket ≡ ticket → case_at (all_waiting (drop i ws)) ticket index ≡ slice_get w.cases.items index
-case_here ws i w ticket index h here e = rw (drop-cons ws i w, here, eq-eqb w.ticket ticket e) refl
+abbrev Places : Type 0
+Places = List (ArrayVec Case)
 
-pub all_waiting-filter : (pid : Pid) (ws : List Waiting) → all_waiting (filter (λ w. not (w.pid.0 == pid.0)) ws) ≡ still_open pid (all_waiting ws)
-all_waiting-filter pid [] = refl
-all_waiting-filter pid (w ∷ ws) = grind (arith, common_steps, all_waiting-filter pid ws)
+pub live_calls : (places : Places) (os : List Opened) (ticket : ℕ) → is_live (calls_of places os) ticket ≡ list_any (λ o. o.ticket == ticket) os
+live_calls places [] ticket = refl
+live_calls places (o ∷ os) ticket = ap (λ b. (o.ticket == ticket) || b) (live_calls places os ticket)
 
-pub find_here : {X : Type 0} (test : X → Bool) (xs : List X) (i : ℕ) (x : X) → slice_get xs i ≡ Some x → test x ≡ true → find test (drop i xs) ≡ Some x
-find_here test [] i x e t = cc
-find_here test (y ∷ xs) zero x e t = let same : y ≡ x = cc in rw (same, t) refl
-find_here test (y ∷ xs) (suc i) x e t = find_here test xs i x e t
+pub open_calls_of : (places : Places) (os : List Opened) (pid : Pid) → list_any (λ w. w.call.pid.0 == pid.0) (calls_of places os) ≡ list_any (λ o. o.pid.0 == pid.0) os
+open_calls_of places [] pid = refl
+open_calls_of places (o ∷ os) pid = ap (λ b. (o.pid.0 == pid.0) || b) (open_calls_of places os pid)
 
-pub find_past : {X : Type 0} (test : X → Bool) (xs : List X) (i : ℕ) (x : X) → slice_get xs i ≡ Some x → test x ≡ false → find test (drop (suc i) xs) ≡ find test (drop i xs)
-find_past test [] i x e t = cc
-find_past test (y ∷ xs) zero x e t = let same : y ≡ x = cc in rw (same, t) refl
-find_past test (y ∷ xs) (suc i) x e t = find_past test xs i x e t
+-- the case of this number in the place of the process that was found
+abbrev pub case_in : Places → ℕ → Option Pid → Option Case
+case_in places index None = None
+case_in places index (Some pid) = slice_get (cases_of places pid) index
 
-pub find_none : {X : Type 0} (test : X → Bool) (xs : List X) (i : ℕ) → slice_get xs i ≡ None → find test (drop (suc i) xs) ≡ find test (drop i xs)
-find_none test [] zero e = refl
-find_none test [] (suc i) e = refl
-find_none test (y ∷ xs) zero e = cc
-find_none test (y ∷ xs) (suc i) e = find_none test xs i e
+pub case_told : (places : Places) (os : List Opened) (ticket index : ℕ) → case_at (calls_of places os) ticket index ≡ case_in places index (option_map (λ o. o.pid) (find (λ o. o.ticket == ticket) os))
+case_told places [] ticket index = refl
+case_told places (o ∷ os) ticket index =
+    elim (o.ticket == ticket) as (λ b. cond b (slice_get (cases_of places o.pid) index) (case_at (calls_of places os) ticket index) ≡ case_in places index (option_map (λ o. o.pid) (cond b (Some o) (find (λ o. o.ticket == ticket) os))))
+    [ true ↦ refl | false ↦ case_told places os ticket index ]
 
-turned_at : {X : Type 0} (test : X → Bool) (x : X) (rest front : List X) → turned test ((x ∷ rest) ++ filter test front) ≡ rest ++ (filter test front ++ cond (test x) (x ∷ []) [])
-turned_at test x rest front = elim (test x) as (λ b. cond b ((rest ++ filter test front) ++ x ∷ []) (rest ++ filter test front) ≡ rest ++ (filter test front ++ cond b (x ∷ []) [])) [ true ↦ rw append_assoc refl | false ↦ rw append-nil refl ]
+abbrev pub IsBelow : ℕ → Option Pid → Type 0
+IsBelow n None = Unit {0}
+IsBelow n (Some pid) = pid.0 < n
 
--- one turn of a list whose front was turned
-pub turned_more : {X : Type 0} (test : X → Bool) (xs : List X) (i : ℕ) → i < length xs → turned test (drop i xs ++ filter test (take i xs)) ≡ drop (i + 1) xs ++ filter test (take (i + 1) xs)
-turned_more test [] i h = absurd (omega arith)
-turned_more test (y ∷ xs) i h = rw (drop_more (y ∷ xs) i y h, filter_more test (y ∷ xs) i y h) (turned_at test (get_or (y ∷ xs) i y) (drop (i + 1) (y ∷ xs)) (take i (y ∷ xs)))
+pub found_below : (os : List Opened) (n : ℕ) (test : Opened → Bool) → AllByRecursion (λ q. q < n) (pids os) → IsBelow n (option_map (λ o. o.pid) (find test os))
+found_below [] n test a = tt
+found_below (o ∷ os) n test a = elim (test o) as (λ b. IsBelow n (option_map (λ o. o.pid) (cond b (Some o) (find test os)))) [ true ↦ a.0 | false ↦ found_below os n test a.1 ]
+
+pub calls_of-filter : (places : Places) (pid : Pid) (os : List Opened) → calls_of places (filter (λ o. not (o.pid.0 == pid.0)) os) ≡ still_open pid (calls_of places os)
+calls_of-filter places pid [] = refl
+calls_of-filter places pid (o ∷ os) = grind (arith, common_steps, calls_of-filter places pid os)
+
+cases_of-other : (places : Places) (pid q : Pid) (cases : ArrayVec Case) → q.0 ≢ pid.0 → cases_of (set places pid.0 cases) q ≡ cases_of places q
+cases_of-other places pid q cases ne = ap (λ (v : ArrayVec Case). v.items) (get_or-set_other places pid.0 q.0 cases (record { items = [] }) ne)
+
+cases_of-same : (places : Places) (pid : Pid) (cases : ArrayVec Case) → pid.0 < length places → cases_of (set places pid.0 cases) pid ≡ cases.items
+cases_of-same places pid cases within = ap (λ (v : ArrayVec Case). v.items) (get_or-set_same places pid.0 cases (record { items = [] }) within)
+
+-- the place of a process without an open call is no call's
+calls_of-set : (places : Places) (os : List Opened) (pid : Pid) (cases : ArrayVec Case) → list_any (λ o. o.pid.0 == pid.0) os ≡ false → calls_of (set places pid.0 cases) os ≡ calls_of places os
+calls_of-set places [] pid cases free = refl
+calls_of-set places (o ∷ os) pid cases free =
+    let apart : (o.pid.0 == pid.0) ≡ false = grind (arith, common_steps) in
+    let rest : list_any (λ o. o.pid.0 == pid.0) os ≡ false = grind (arith, common_steps) in
+    rw (cases_of-other places pid o.pid cases (eqb-false o.pid.0 pid.0 apart), calls_of-set places os pid cases rest) refl
+
+pub calls_opened_of : (places : Places) (os : List Opened) (pid : Pid) (ticket : ℕ) (cases : ArrayVec Case) → list_any (λ o. o.pid.0 == pid.0) os ≡ false → pid.0 < length places
+    → calls_of (set places pid.0 cases) (os ++ record { ticket = ticket; pid = pid } ∷ []) ≡ calls_of places os ++ ticketed pid ticket cases.items ∷ []
+calls_opened_of places os pid ticket cases free within =
+    map-append (call_of (set places pid.0 cases)) os (record { ticket = ticket; pid = pid } ∷ [])
+    ∙ rw (calls_of-set places os pid cases free, cases_of-same places pid cases within) refl
+
+-- what the code reads in the place of a process
+pub place_read : (places : Places) (pid : Pid) (v : ArrayVec Case) → v ≡ get_or places pid.0 v → pid.0 < length places → v.items ≡ cases_of places pid
+place_read places pid v e within = ap (λ (v : ArrayVec Case). v.items) (e ∙ get_or_default places pid.0 v (record { items = [] }) within)
+
+pub none_to_end : (pid : Pid) (ws : List Ticketed) → list_any (λ w. w.call.pid.0 == pid.0) ws ≡ false → still_open pid ws ≡ ws
+none_to_end pid [] free = refl
+none_to_end pid (w ∷ ws) free =
+    let apart : (w.call.pid.0 == pid.0) ≡ false = grind (arith, common_steps) in
+    let rest : list_any (λ w. w.call.pid.0 == pid.0) ws ≡ false = grind (arith, common_steps) in
+    rw (apart, none_to_end pid ws rest) refl
+
+both_true : (b : Bool) → true ≡ cond b true true
+both_true true = refl
+both_true false = refl
+
+marked_new : (os : List Opened) (o : Opened) (q : ℕ) (b : Bool) → (o.pid.0 == q) ≡ b → list_any (λ o. o.pid.0 == q) (os ++ o ∷ []) ≡ cond b true (list_any (λ o. o.pid.0 == q) os)
+marked_new [] o q true e = rw e refl
+marked_new [] o q false e = rw e refl
+marked_new (v ∷ os) o q b e = elim (v.pid.0 == q) as (λ a. (a || list_any (λ o. o.pid.0 == q) (os ++ o ∷ [])) ≡ cond b true (a || list_any (λ o. o.pid.0 == q) os)) [ true ↦ both_true b | false ↦ marked_new os o q b e ]
+
+pub marked_opened : (marks : List Bool) (os : List Opened) (o : Opened) → o.pid.0 < PIDS → IsMarked marks os → IsMarked (set marks o.pid.0 true) (os ++ o ∷ [])
+marked_opened marks os o small k = record {
+  told = λ q within.
+      elim (cases_eq o.pid.0 q) [
+        | inl same ↦ rw (marked_new os o q true (eq-eqb o.pid.0 q same), same) (get_or-set_same marks q true false (rw k.long within))
+        | inr apart ↦ rw (marked_new os o q false (ne_eqb o.pid.0 q apart), get_or-set_other marks o.pid.0 q true false (λ e. apart (sym e))) (k.told q within)
+      ];
+  long = length-set marks o.pid.0 true ∙ k.long;
+}
+
+ended_step : (pid : Pid) (o : Opened) (os : List Opened) (q : ℕ) (b : Bool) → (o.pid.0 == pid.0) ≡ b → (q == pid.0) ≡ false → list_any (λ o. o.pid.0 == q) (filter (λ o. not (o.pid.0 == pid.0)) os) ≡ list_any (λ o. o.pid.0 == q) os → list_any (λ o. o.pid.0 == q) (cond (not b) (o ∷ filter (λ o. not (o.pid.0 == pid.0)) os) (filter (λ o. not (o.pid.0 == pid.0)) os)) ≡ list_any (λ o. o.pid.0 == q) (o ∷ os)
+ended_step pid o os q true e other ih =
+    let not_this : (o.pid.0 == q) ≡ false = grind (arith, nat_tests) in
+    rw not_this ih
+ended_step pid o os q false e other ih = ap (λ b. (o.pid.0 == q) || b) ih
+
+marked_others : (pid : Pid) (os : List Opened) (q : ℕ) → (q == pid.0) ≡ false → list_any (λ o. o.pid.0 == q) (filter (λ o. not (o.pid.0 == pid.0)) os) ≡ list_any (λ o. o.pid.0 == q) os
+marked_others pid [] q other = refl
+marked_others pid (o ∷ os) q other = ended_step pid o os q (o.pid.0 == pid.0) refl other (marked_others pid os q other)
+
+unmarked_step : (pid : Pid) (o : Opened) (os : List Opened) (b : Bool) → (o.pid.0 == pid.0) ≡ b → list_any (λ o. o.pid.0 == pid.0) (filter (λ o. not (o.pid.0 == pid.0)) os) ≡ false → list_any (λ o. o.pid.0 == pid.0) (cond (not b) (o ∷ filter (λ o. not (o.pid.0 == pid.0)) os) (filter (λ o. not (o.pid.0 == pid.0)) os)) ≡ false
+unmarked_step pid o os true e ih = ih
+unmarked_step pid o os false e ih = rw e ih
+
+unmarked : (pid : Pid) (os : List Opened) → list_any (λ o. o.pid.0 == pid.0) (filter (λ o. not (o.pid.0 == pid.0)) os) ≡ false
+unmarked pid [] = refl
+unmarked pid (o ∷ os) = unmarked_step pid o os (o.pid.0 == pid.0) refl (unmarked pid os)
+
+pub marked_ended : (marks : List Bool) (os : List Opened) (pid : Pid) → IsMarked marks os → IsMarked (set marks pid.0 false) (filter (λ o. not (o.pid.0 == pid.0)) os)
+marked_ended marks os pid k = record {
+  told = λ q within.
+      elim (cases_eq q pid.0) [
+        | inl same ↦ rw (same, unmarked pid os) (get_or-set_same marks pid.0 false false (rw (k.long, ← same) within))
+        | inr apart ↦ rw (marked_others pid os q (ne_eqb q pid.0 apart), get_or-set_other marks pid.0 q false false apart) (k.told q within)
+      ];
+  long = length-set marks pid.0 false ∙ k.long;
+}
+
+pub none_marked : IsMarked (replicate PIDS false) []
+none_marked = record { told = λ q within. get_or-replicate PIDS q false false within; long = length-replicate PIDS false }

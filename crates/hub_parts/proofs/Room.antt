@@ -1,18 +1,15 @@
 -- A process without an open call leaves room for one.
-use Rattle.std.proofs.Common.{◌≡◌, ℕ, ◌<◌, ◌≤◌, ◌==◌, Bool, true, false, List, [], ◌∷◌, length, map, refl, ap, ◌∙◌, sym, arith, ◌||◌, eqb, ◌++◌, cond, subst, filter}
+use Rattle.std.proofs.Common.{◌≡◌, ℕ, ◌<◌, ◌≤◌, ◌==◌, Bool, true, false, List, [], ◌∷◌, length, arith, eqb, ◌++◌, cond, filter}
 use Rattle.std.specs.List.{IsDistinct, AllByRecursion, list_any}
 use Rattle.std.proofs.lemmas.Grind.{common_steps}
 use Rattle.std.proofs.lemmas.List.{length-map}
 use Rattle.std.proofs.lemmas.Map.Steps.{length-le_from_distinct_below}
-use Rattle.hub_base.specs.declared.value.Pid.{Pid}
-use Rattle.hub_parts.specs.declared.tickets.Waiting.{Waiting}
-use Rattle.hub_parts.specs.Lists.{still_open}
-use Rattle.hub_parts.specs.Records.{Ticketed}
-use Rattle.hub_parts.specs.Fits.{pids, AreApart, all_waiting}
+use Rattle.hub_parts.specs.declared.tickets.Opened.{Opened}
+use Rattle.hub_parts.specs.Tickets.{pids, AreApart}
 
-apart : (ws : List Waiting) (pid : ℕ) → list_any (λ w. w.pid.0 == pid) ws ≡ false → AllByRecursion (λ y. (pid == y) ≡ false) (pids ws)
+apart : (os : List Opened) (pid : ℕ) → list_any (λ o. o.pid.0 == pid) os ≡ false → AllByRecursion (λ y. (pid == y) ≡ false) (pids os)
 apart [] pid e = tt
-apart (w ∷ ws) pid e = (grind (arith, common_steps), apart ws pid (grind (arith, common_steps)))
+apart (o ∷ os) pid e = (grind (arith, common_steps), apart os pid (grind (arith, common_steps)))
 
 member_below : (xs : List ℕ) (n q : ℕ) → AllByRecursion (λ x. x < n) xs → list_any (eqb q) xs ≡ true → q < n
 member_below [] n q all e = cc
@@ -23,51 +20,36 @@ unfolding IsDistinct
 to_distinct [] a = tt
 to_distinct (x ∷ xs) a = (a.0, to_distinct xs a.1)
 
-pub room_left : (ws : List Waiting) (n pid : ℕ) → AreApart (pids ws) → AllByRecursion (λ q. q < n) (pids ws) → list_any (λ w. w.pid.0 == pid) ws ≡ false → pid < n → length ws < n
-room_left ws n pid distinct below free small =
-    let most : length (pid ∷ pids ws) ≤ n = length-le_from_distinct_below (pid ∷ pids ws) n (to_distinct (pid ∷ pids ws) (apart ws pid free, distinct)) (λ q e. member_below (pid ∷ pids ws) n q (small, below) e) in
-    omega (arith, length-map ws (λ (w : Waiting). w.pid.0))
+pub room_left : (os : List Opened) (n pid : ℕ) → AreApart (pids os) → AllByRecursion (λ q. q < n) (pids os) → list_any (λ o. o.pid.0 == pid) os ≡ false → pid < n → length os < n
+room_left os n pid distinct below free small =
+    let most : length (pid ∷ pids os) ≤ n = length-le_from_distinct_below (pid ∷ pids os) n (to_distinct (pid ∷ pids os) (apart os pid free, distinct)) (λ q e. member_below (pid ∷ pids os) n q (small, below) e) in
+    omega (arith, length-map os (λ (o : Opened). o.pid.0))
 
-pub all_snoc : (P : ℕ → Type 0) (ws : List Waiting) (w : Waiting) → AllByRecursion P (pids ws) → P w.pid.0 → AllByRecursion P (pids (ws ++ w ∷ []))
-all_snoc P [] w a p = (p, tt)
-all_snoc P (v ∷ ws) w a p = (a.0, all_snoc P ws w a.1 p)
+pub all_below_snoc : (P : ℕ → Type 0) (os : List Opened) (o : Opened) → AllByRecursion P (pids os) → P o.pid.0 → AllByRecursion P (pids (os ++ o ∷ []))
+all_below_snoc P [] o a p = (p, tt)
+all_below_snoc P (v ∷ os) o a p = (a.0, all_below_snoc P os o a.1 p)
 
-pub apart_snoc : (ws : List Waiting) (w : Waiting) → AreApart (pids ws) → list_any (λ v. v.pid.0 == w.pid.0) ws ≡ false → AreApart (pids (ws ++ w ∷ []))
-apart_snoc [] w a free = (tt, tt)
-apart_snoc (v ∷ ws) w a free = (all_snoc (λ y. (v.pid.0 == y) ≡ false) ws w a.0 (grind (arith, common_steps)), apart_snoc ws w a.1 (grind (arith, common_steps)))
+pub apart_snoc : (os : List Opened) (o : Opened) → AreApart (pids os) → list_any (λ v. v.pid.0 == o.pid.0) os ≡ false → AreApart (pids (os ++ o ∷ []))
+apart_snoc [] o a free = (tt, tt)
+apart_snoc (v ∷ os) o a free = (all_below_snoc (λ y. (v.pid.0 == y) ≡ false) os o a.0 (grind (arith, common_steps)), apart_snoc os o a.1 (grind (arith, common_steps)))
 
-tpids : List Ticketed → List ℕ
-tpids ts = map (λ t. t.call.pid.0) ts
-
-pids-tpids : (ws : List Waiting) → pids ws ≡ tpids (all_waiting ws)
-unfolding tpids
-pids-tpids [] = refl
-pids-tpids (w ∷ ws) = ap (λ qs. w.pid.0 ∷ qs) (pids-tpids ws)
-
-all_kept : (P : ℕ → Type 0) (test : Ticketed → Bool) (ts : List Ticketed) → AllByRecursion P (tpids ts) → AllByRecursion P (tpids (filter test ts))
-unfolding tpids
+pub all_kept : (P : ℕ → Type 0) (test : Opened → Bool) (os : List Opened) → AllByRecursion P (pids os) → AllByRecursion P (pids (filter test os))
 all_kept P test [] a = tt
-all_kept P test (t ∷ ts) a =
-    elim (test t) as (λ b. AllByRecursion P (map (λ t. t.call.pid.0) (cond b (t ∷ filter test ts) (filter test ts)))) [ true ↦ (a.0, all_kept P test ts a.1) | false ↦ all_kept P test ts a.1 ]
+all_kept P test (o ∷ os) a =
+    elim (test o) as (λ b. AllByRecursion P (pids (cond b (o ∷ filter test os) (filter test os)))) [ true ↦ (a.0, all_kept P test os a.1) | false ↦ all_kept P test os a.1 ]
 
-apart_kept : (test : Ticketed → Bool) (ts : List Ticketed) → AreApart (tpids ts) → AreApart (tpids (filter test ts))
-unfolding tpids
+pub apart_kept : (test : Opened → Bool) (os : List Opened) → AreApart (pids os) → AreApart (pids (filter test os))
 apart_kept test [] a = tt
-apart_kept test (t ∷ ts) a =
-    elim (test t) as (λ b. AreApart (map (λ t. t.call.pid.0) (cond b (t ∷ filter test ts) (filter test ts)))) [ true ↦ (all_kept (λ y. (t.call.pid.0 == y) ≡ false) test ts a.0, apart_kept test ts a.1) | false ↦ apart_kept test ts a.1 ]
+apart_kept test (o ∷ os) a =
+    elim (test o) as (λ b. AreApart (pids (cond b (o ∷ filter test os) (filter test os)))) [ true ↦ (all_kept (λ y. (o.pid.0 == y) ≡ false) test os a.0, apart_kept test os a.1) | false ↦ apart_kept test os a.1 ]
 
-pub apart_left : (ws vs : List Waiting) (pid : Pid) → all_waiting vs ≡ still_open pid (all_waiting ws) → AreApart (pids ws) → AreApart (pids vs)
-apart_left ws vs pid e a = subst AreApart (ap tpids (sym e) ∙ sym (pids-tpids vs)) (apart_kept _ (all_waiting ws) (subst AreApart (pids-tpids ws) a))
-
-pub below_left : (ws vs : List Waiting) (pid : Pid) (n : ℕ) → all_waiting vs ≡ still_open pid (all_waiting ws) → AllByRecursion (λ q. q < n) (pids ws) → AllByRecursion (λ q. q < n) (pids vs)
-below_left ws vs pid n e a = subst (AllByRecursion (λ q. q < n)) (ap tpids (sym e) ∙ sym (pids-tpids vs)) (all_kept (λ q. q < n) _ (all_waiting ws) (subst (AllByRecursion (λ q. q < n)) (pids-tpids ws) a))
-
-pub free_in : (ws : List Waiting) (pid : Pid) → list_any (λ w. w.call.pid.0 == pid.0) (all_waiting ws) ≡ list_any (λ w. w.pid.0 == pid.0) ws
-free_in [] pid = refl
-free_in (w ∷ ws) pid = ap (λ b. (w.pid.0 == pid.0) || b) (free_in ws pid)
+-- a process with an open call is below n
+pub opened_below : (os : List Opened) (n pid : ℕ) → AllByRecursion (λ q. q < n) (pids os) → list_any (λ o. o.pid.0 == pid) os ≡ true → pid < n
+opened_below [] n pid below e = cc
+opened_below (o ∷ os) n pid below e = grind (arith, common_steps, opened_below os n pid below.1, below.0)
 
 -- at most one call of each process
-pub count_fits : (ws : List Waiting) (n : ℕ) → AreApart (pids ws) → AllByRecursion (λ q. q < n) (pids ws) → length ws ≤ n
-count_fits ws n distinct below =
-    let most : length (pids ws) ≤ n = length-le_from_distinct_below (pids ws) n (to_distinct (pids ws) distinct) (λ q e. member_below (pids ws) n q below e) in
-    omega (arith, length-map ws (λ (w : Waiting). w.pid.0))
+pub count_fits : (os : List Opened) (n : ℕ) → AreApart (pids os) → AllByRecursion (λ q. q < n) (pids os) → length os ≤ n
+count_fits os n distinct below =
+    let most : length (pids os) ≤ n = length-le_from_distinct_below (pids os) n (to_distinct (pids os) distinct) (λ q e. member_below (pids os) n q below e) in
+    omega (arith, length-map os (λ (o : Opened). o.pid.0))

@@ -11,12 +11,15 @@ use Rattle.hub_base.specs.declared.value.Port.{Port}
 use Rattle.hub_base.specs.declared.case.Case.{Case}
 use Rattle.hub_base.specs.declared.case.Case.TheVariants.{Send, Recv}
 use Rattle.hub_base.specs.Ready.{port_of}
+use Rattle.hub_parts.specs.declared.limits.TheConstants.{MOST_CASES}
 use Rattle.hub_parts.specs.declared.side.Side.{Side}
 use Rattle.hub_parts.specs.declared.side.Side.TheVariants as side
-use Rattle.hub_parts.specs.declared.queue.Waiter.{Waiter}
+use Rattle.hub_parts.specs.declared.wait_queue.Waiter.{Waiter}
 use Rattle.hub_parts.specs.Records.{Ticketed, Calls, ChannelLists}
 use Rattle.hub_parts.specs.Queues.{is_live, lives, live_of, roomy, joined, waiters, waiters_of, waiters_from, waiter_at}
-use Rattle.hub_parts.specs.Lists.{queue_of, channel_of, with_call, ticketed, with_case, CanJoin, CaseFits}
+use Rattle.hub_parts.specs.Lists.{with_call, ticketed}
+use Rattle.hub_parts.specs.Channels.{queue_of, channel_of}
+use Rattle.hub_parts.specs.Parking.{with_case, CanJoin, CaseFits}
 use Rattle.hub_parts.specs.Keeps.{QueueKeeps, joins, AllMade}
 use Rattle.hub_parts.proofs.Lines.{with_if, queue_after, queue_with_case, length-with_case}
 use Rattle.hub_parts.proofs.Endings.{filter_within}
@@ -31,32 +34,32 @@ length-waiters_from test pid ticket i (c ∷ cases) =
     elim (test c) as (λ b. length (cond b (waiter_at pid ticket i ∷ waiters_from test pid ticket (i + 1) cases) (waiters_from test pid ticket (i + 1) cases)) ≡ length (cond b (c ∷ filter test cases) (filter test cases)))
     [ true ↦ ap suc (length-waiters_from test pid ticket (i + 1) cases) | false ↦ length-waiters_from test pid ticket (i + 1) cases ]
 
-most_waiters : (test : Case → Bool) (ws : List Ticketed) → AllByRecursion (λ w. length w.call.cases ≤ 8) ws → length (waiters test ws) ≤ 8 * length ws
+most_waiters : (test : Case → Bool) (ws : List Ticketed) → AllByRecursion (λ w. length w.call.cases ≤ MOST_CASES) ws → length (waiters test ws) ≤ MOST_CASES * length ws
 most_waiters test [] a = omega arith
 most_waiters test (w ∷ ws) a =
-    let here : length w.call.cases ≤ 8 = a.0 in
+    let here : length w.call.cases ≤ MOST_CASES = a.0 in
     omega (arith, length-append (waiters_of test w) (waiters test ws), length-waiters_from test w.call.pid w.ticket 0 w.call.cases, longest_filter test w.call.cases, most_waiters test ws a.1)
 
--- 8 places are free
-pub HasEight : Buffer Waiter → Type 0
-HasEight q = length q.items + 8 ≤ q.capacity
+-- the places for a call are free
+pub HasPlaces : Buffer Waiter → Type 0
+HasPlaces q = length q.items + MOST_CASES ≤ q.capacity
 
-roomy_step : (ws : List Ticketed) (q : Buffer Waiter) (b : Bool) → ltb (q.capacity - length q.items) 8 ≡ b → length q.items ≤ q.capacity → length (live_of ws q.items) + 8 ≤ q.capacity → HasEight (cond b (buffer (live_of ws q.items) q.capacity) q)
-unfolding HasEight
+roomy_step : (ws : List Ticketed) (q : Buffer Waiter) (b : Bool) → ltb (q.capacity - length q.items) MOST_CASES ≡ b → length q.items ≤ q.capacity → length (live_of ws q.items) + MOST_CASES ≤ q.capacity → HasPlaces (cond b (buffer (live_of ws q.items) q.capacity) q)
+unfolding HasPlaces
 roomy_step ws q true e fits few = few
-roomy_step ws q false e fits few = omega (arith, ltb-false (q.capacity - length q.items) 8 e)
+roomy_step ws q false e fits few = omega (arith, ltb-false (q.capacity - length q.items) MOST_CASES e)
 
-pub roomy_has : (test : Case → Bool) (c : Calls) (q : Buffer Waiter) → 0 < c.procs → length c.waiting ≤ c.procs → AllByRecursion (λ w. length w.call.cases ≤ 8) c.waiting → QueueKeeps test c q → HasEight (roomy c.waiting q)
+pub roomy_has : (test : Case → Bool) (c : Calls) (q : Buffer Waiter) → 0 < c.procs → length c.waiting ≤ c.procs → AllByRecursion (λ w. length w.call.cases ≤ MOST_CASES) c.waiting → QueueKeeps test c q → HasPlaces (roomy c.waiting q)
 roomy_has test c q some few small k =
-    let most : length (live_of c.waiting q.items) + 8 ≤ q.capacity = omega (arith, ap length k.live, most_waiters test c.waiting small, k.places) in
-    roomy_step c.waiting q (ltb (q.capacity - length q.items) 8) refl k.fits most
+    let most : length (live_of c.waiting q.items) + MOST_CASES ≤ q.capacity = omega (arith, ap length k.live, most_waiters test c.waiting small, k.places) in
+    roomy_step c.waiting q (ltb (q.capacity - length q.items) MOST_CASES) refl k.fits most
 
 all_entries : (P : Waiter → Type 0) (p : Waiter → Bool) (xs : List Waiter) → AllByRecursion P xs → AllByRecursion P (filter p xs)
 all_entries P p [] a = tt
 all_entries P p (x ∷ xs) a = elim (p x) as (λ b. AllByRecursion P (cond b (x ∷ filter p xs) (filter p xs))) [ true ↦ (a.0, all_entries P p xs a.1) | false ↦ all_entries P p xs a.1 ]
 
 pub roomy_keeps : (test : Case → Bool) (c : Calls) (q : Buffer Waiter) → QueueKeeps test c q → QueueKeeps test c (roomy c.waiting q)
-roomy_keeps test c q k = elim (ltb (q.capacity - length q.items) 8) as (λ b. QueueKeeps test c (cond b (buffer (live_of c.waiting q.items) q.capacity) q)) [
+roomy_keeps test c q k = elim (ltb (q.capacity - length q.items) MOST_CASES) as (λ b. QueueKeeps test c (cond b (buffer (live_of c.waiting q.items) q.capacity) q)) [
   | true ↦ record {
     live = filter_within (lives c.waiting) (lives c.waiting) q.items (λ e h. h) ∙ k.live;
     below = all_entries (λ entry. entry.ticket < c.next_ticket) (lives c.waiting) q.items k.below;
@@ -66,12 +69,12 @@ roomy_keeps test c q k = elim (ltb (q.capacity - length q.items) 8) as (λ b. Qu
   | false ↦ k
 ]
 
--- where 8 places are free, nothing is dropped
-stays_roomy : (ws : List Ticketed) (q : Buffer Waiter) → HasEight q → roomy ws q ≡ q
-unfolding HasEight
-stays_roomy ws q h = rw (le-ltb (q.capacity - length q.items) 8 (omega arith)) refl
+-- where the places for a call are free, nothing is dropped
+stays_roomy : (ws : List Ticketed) (q : Buffer Waiter) → HasPlaces q → roomy ws q ≡ q
+unfolding HasPlaces
+stays_roomy ws q h = rw (le-ltb (q.capacity - length q.items) MOST_CASES (omega arith)) refl
 
-stay_after : (ws : List Ticketed) (test : Case → Bool) (i : ℕ) (q : Buffer Waiter) (cases : List Case) → HasEight q → queue_after (λ i. roomy ws) test i q cases ≡ q
+stay_after : (ws : List Ticketed) (test : Case → Bool) (i : ℕ) (q : Buffer Waiter) (cases : List Case) → HasPlaces q → queue_after (λ i. roomy ws) test i q cases ≡ q
 stay_after ws test i q [] h = refl
 stay_after ws test i q (c ∷ cases) h =
     elim (test c) as (λ b. queue_after (λ i. roomy ws) test (i + 1) (with_if b (roomy ws) q) cases ≡ q) [
@@ -83,10 +86,10 @@ pub record Ready (test : Case → Bool) (c : Calls) (q : Buffer Waiter) (cases :
   pub keeps : QueueKeeps test c q
   pub room : length q.items + length (filter test cases) ≤ q.capacity
 
-ready_step : (test : Case → Bool) (c : Calls) (i : ℕ) (q : Buffer Waiter) (case : Case) (cases : List Case) (b : Bool) → test case ≡ b → QueueKeeps test c q → HasEight (roomy c.waiting q) → suc (length cases) ≤ 8
+ready_step : (test : Case → Bool) (c : Calls) (i : ℕ) (q : Buffer Waiter) (case : Case) (cases : List Case) (b : Bool) → test case ≡ b → QueueKeeps test c q → HasPlaces (roomy c.waiting q) → suc (length cases) ≤ MOST_CASES
     → Ready test c (queue_after (λ i. roomy c.waiting) test (i + 1) q cases) cases
     → Ready test c (queue_after (λ i. roomy c.waiting) test (i + 1) (with_if b (roomy c.waiting) q) cases) (case ∷ cases)
-unfolding HasEight
+unfolding HasPlaces
 ready_step test c i q case cases true e k h few ih =
     rw (stay_after c.waiting test (i + 1) (roomy c.waiting q) cases h) (record {
       keeps = roomy_keeps test c q k;
@@ -95,7 +98,7 @@ ready_step test c i q case cases true e k h few ih =
 ready_step test c i q case cases false e k h few ih = record { keeps = ih.keeps; room = rw e ih.room }
 
 -- after room was made for the cases of a call
-pub ready_after : (test : Case → Bool) (c : Calls) (i : ℕ) (q : Buffer Waiter) (cases : List Case) → QueueKeeps test c q → HasEight (roomy c.waiting q) → length cases ≤ 8 → Ready test c (queue_after (λ i. roomy c.waiting) test i q cases) cases
+pub ready_after : (test : Case → Bool) (c : Calls) (i : ℕ) (q : Buffer Waiter) (cases : List Case) → QueueKeeps test c q → HasPlaces (roomy c.waiting q) → length cases ≤ MOST_CASES → Ready test c (queue_after (λ i. roomy c.waiting) test i q cases) cases
 ready_after test c i q [] k h few = record { keeps = k; room = omega (arith, k.fits) }
 ready_after test c i q (case ∷ cases) k h few = ready_step test c i q case cases (test case) refl k h few (ready_after test c (i + 1) q cases k h (omega arith))
 

@@ -8,10 +8,12 @@ use Rattle.hub_base.specs.declared.value.Port.{Port}
 use Rattle.hub_base.specs.declared.case.Case.{Case}
 use Rattle.hub_base.specs.Ready.{first_with}
 use Rattle.hub_parts.specs.declared.side.Side.{Side}
-use Rattle.hub_parts.specs.declared.queue.Waiter.{Waiter}
+use Rattle.hub_parts.specs.declared.wait_queue.Waiter.{Waiter}
 use Rattle.hub_parts.specs.Records.{Calls, ChannelLists, PortLists}
 use Rattle.hub_parts.specs.Queues.{lives, roomy, joined, taken, waiter_at, case_at}
-use Rattle.hub_parts.specs.Lists.{IsMade, queue_of, channel_of, line_of, with_queue, with_call, with_port, port_at, parked, ended_by, all_roomy, all_joined, no_channel, passes, open_calls}
+use Rattle.hub_parts.specs.Lists.{IsMade, with_call, with_port, port_at, parked, ended_by, passes, open_calls}
+use Rattle.hub_parts.specs.Channels.{queue_of, channel_of, line_of, with_queue, no_channel}
+use Rattle.hub_parts.specs.Parking.{all_roomy, all_joined}
 use Rattle.hub_parts.specs.Keeps.{BoardKeeps, AllMade, without_call, board_lists as lists}
 use Rattle.hub_parts.proofs.Lines.{lists_of, get_or-map, lists-with_queue, lists-with_cases}
 use Rattle.hub_parts.proofs.Firsts.{Found, Tells}

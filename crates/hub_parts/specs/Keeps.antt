@@ -6,12 +6,14 @@ use Rattle.hub_base.specs.declared.value.Port.{Port}
 use Rattle.hub_base.specs.declared.value.Pid.{Pid}
 use Rattle.hub_base.specs.declared.case.Case.{Case}
 use Rattle.hub_base.specs.Ready.{is_send_on, is_recv_on, port_of}
+use Rattle.hub_parts.specs.declared.limits.TheConstants.{MOST_CASES, MOST_PORTS, PLACES}
 use Rattle.hub_parts.specs.declared.side.Side.{Side}
 use Rattle.hub_parts.specs.declared.side.Side.TheVariants as side
-use Rattle.hub_parts.specs.declared.queue.Waiter.{Waiter}
+use Rattle.hub_parts.specs.declared.wait_queue.Waiter.{Waiter}
 use Rattle.hub_parts.specs.Records.{Ticketed, Calls, ChannelLists, Lists}
 use Rattle.hub_parts.specs.Queues.{live_of, waiters}
-use Rattle.hub_parts.specs.Lists.{queue_of, channel_of, still_open}
+use Rattle.hub_parts.specs.Lists.{still_open}
+use Rattle.hub_parts.specs.Channels.{queue_of, channel_of}
 
 -- the cases of which a queue has the entries
 abbrev pub joins : Side → Port → Case → Bool
@@ -22,7 +24,7 @@ joins side.Any p c = is_recv_on p c
 pub record QueueKeeps (test : Case → Bool) (c : Calls) (q : Buffer Waiter) : Type 0 where
   pub live : live_of c.waiting q.items ≡ waiters test c.waiting
   pub below : AllByRecursion (λ entry. entry.ticket < c.next_ticket) q.items
-  pub places : q.capacity ≡ 16 * c.procs
+  pub places : q.capacity ≡ PLACES * c.procs
   pub fits : length q.items ≤ q.capacity
 
 -- the tickets rise
@@ -35,8 +37,9 @@ abbrev pub AllMade : ℕ → List Case → Type 0
 AllMade n cases = AllByRecursion (λ c. (port_of c).0 ≤ n) cases
 
 pub record CallsKeep (c : Calls) (ports : ℕ) : Type 0 where
+  pub counted : ports ≤ MOST_PORTS
   pub few : length c.waiting ≤ c.procs
-  pub small : AllByRecursion (λ w. length w.call.cases ≤ 8) c.waiting
+  pub small : AllByRecursion (λ w. length w.call.cases ≤ MOST_CASES) c.waiting
   pub made : AllByRecursion (λ w. AllMade ports w.call.cases) c.waiting
   pub ascending : Ascending c.waiting
   pub below : AllByRecursion (λ w. w.ticket < c.next_ticket) c.waiting

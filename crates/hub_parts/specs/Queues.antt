@@ -4,7 +4,8 @@ use Rattle.std.specs.List.{list_any, flat_map}
 use Rattle.circular_buffer.specs.Buffer.{Buffer, buffer}
 use Rattle.hub_base.specs.declared.value.Pid.{Pid}
 use Rattle.hub_base.specs.declared.case.Case.{Case}
-use Rattle.hub_parts.specs.declared.queue.Waiter.{Waiter}
+use Rattle.hub_parts.specs.declared.limits.TheConstants.{MOST_CASES}
+use Rattle.hub_parts.specs.declared.wait_queue.Waiter.{Waiter}
 use Rattle.hub_parts.specs.Records.{Ticketed}
 
 -- an open call has this ticket
@@ -35,9 +36,9 @@ taken ws q = buffer (after_first (lives ws) q.items) q.capacity
 abbrev pub joined : Waiter → Buffer Waiter → Buffer Waiter
 joined entry q = buffer (q.items ++ entry ∷ []) q.capacity
 
--- where fewer than 8 places are free, the live entries alone
+-- where fewer than MOST_CASES places are free, the live entries alone
 abbrev pub roomy : List Ticketed → Buffer Waiter → Buffer Waiter
-roomy ws q = if nat_lt (q.capacity - length q.items) 8 then buffer (live_of ws q.items) q.capacity else q
+roomy ws q = if nat_lt (q.capacity - length q.items) MOST_CASES then buffer (live_of ws q.items) q.capacity else q
 
 abbrev pub waiter_at : Pid → ℕ → ℕ → Waiter
 waiter_at pid ticket i = record { pid = pid; ticket = ticket; case = i }

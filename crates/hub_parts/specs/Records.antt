@@ -1,9 +1,9 @@
 -- What contracts see of a board and of its pieces.
-use Rattle.std.specs.Prelude.{ℕ, Bool, List, [], Option, None, Some, ◌≡◌, ◌≤◌, length}
+use Rattle.std.specs.Prelude.{ℕ, Bool, List}
 use Rattle.circular_buffer.specs.Buffer.{Buffer}
 use Rattle.hub_base.specs.declared.value.Value.{Value}
 use Rattle.hub_base.specs.State.{OpenCall}
-use Rattle.hub_parts.specs.declared.queue.Waiter.{Waiter}
+use Rattle.hub_parts.specs.declared.wait_queue.Waiter.{Waiter}
 
 -- a port: its buffer, oldest first
 pub record PortLists : Type 0 where
@@ -33,12 +33,3 @@ pub record Lists : Type 0 where
   pub ports : List PortLists
   pub waiting : List Ticketed
   pub next_ticket : ℕ
-
--- the buffer that a ring holds; a channel of capacity 0 has none
-abbrev pub ring_items : Option (Buffer Value) → List Value
-ring_items None = []
-ring_items (Some r) = r.items
-
-abbrev pub RingFits : ℕ → Option (Buffer Value) → Type 0
-RingFits cap None = cap ≡ 0
-RingFits cap (Some r) = (r.capacity ≡ cap) × (length r.items ≤ cap)

@@ -1,17 +1,32 @@
-//! The board: ports, and the open calls.
-ghost use Rattle.std.specs.Prelude.{◌≡◌, ◌∷◌, ◌≤◌, ◌<◌, ◌+◌, ◌-◌, [], length, IfOk, IfSome, OnErr, ◌==◌, ◌^◌, true, false, slice_get, is_some};
+//! The board: the ports and the open calls.
+//!
+//! In each queue of each port the live entries are the cases of the open calls on that side of that port: by
+//! ticket, and in one call in case order. Tickets rise along the list of open calls. Every entry's ticket, a dead
+//! one's too, is below the least that may come next, so a dead entry never becomes live. A queue has `PLACES`
+//! places for each process, and no process has more than one open call, of at most `MOST_CASES` cases: so the
+//! live entries leave room for one call more.
+
+ghost use Rattle.std.specs.Prelude.{◌≡◌, ◌≤◌, ◌<◌, ◌+◌, ◌-◌, [], length, IfOk, IfSome, OnErr, ◌==◌, ◌^◌, true, false, slice_get, is_some};
 ghost use Rattle.std.specs.Option.{option_map};
 ghost use Rattle.std.specs.List.{list_any};
 ghost use Rattle.hub_base.specs.Ready.{first_with};
 ghost use Rattle.hub_parts.specs.Lists.{open_calls, parked, with_new, IsMade, port_at, with_port, pushed, popped, closed_now, passes, ending_of, after_taking, after_stop, opened};
 ghost use Rattle.hub_parts.specs.Keeps.{AllMade};
 
-use crate::joining::{join, make_room};
-use crate::{Channel, Ended, Side, Tickets};
+mod parking;
+#[cfg(test)]
+mod tests;
+
+use crate::{Channel, Ended, MOST_CASES, MOST_PORTS, Side, Tickets};
 use hub_base::{Cases, Pid, Port, Value};
+use parking::{join, make_room};
 use std::alloc::{AllocError, Global};
 use std::marker::Model;
 
+/// The ports of a hub and its open calls.
+///
+/// A contract sees lists: of each port its capacity, whether it is closed, and its buffer; the open calls under
+/// their tickets, oldest first; and the least ticket that may come next. Only `new` and `make` take memory.
 #[derive(Drop)]
 pub struct Board {
     ports: Vec<Channel>,
@@ -31,7 +46,7 @@ impl Model for Board {
 }
 
 impl Board {
-    /// A board without ports.
+    /// A board without ports and open calls. It takes the memory for an open call of each process.
     pub fn new(alloc: Global, procs: u8) -> Result<Board, AllocError>
         ensures { IfOk result (λ b. b ≡ opened procs) }
     {
@@ -41,9 +56,10 @@ impl Board {
         })
     }
 
-    /// Makes a port.
+    /// Makes the next port, empty and open. It takes all the memory that the port will ever need; after an error
+    /// the board is as before. Go: "Making slices, maps and channels".
     pub fn make(&mut self, cap: u32) -> Result<Port, AllocError>
-        requires { length self.old.ports < 64 }
+        requires { length self.old.ports < MOST_PORTS }
         ensures made { IfOk result (λ p. (p.0 ≡ length self.old.ports + 1) × (self.new ≡ with_new cap self.old)) }
         ensures err { OnErr result (self.new ≡ self.old) }
     {
@@ -53,36 +69,34 @@ impl Board {
         Ok(port)
     }
 
-    /// How many ports were made.
+    /// How many ports were made. They are numbered from 1.
     pub fn ports(&self) -> usize
         ensures { result ≡ length self.now.ports }
     {
         self.ports.len()
     }
 
-    /// Adds a call.
-    pub fn park(&mut self, pid: Pid, ticket: u32, cases: Cases)
+    /// Opens a call, the newest, which waits on all of its cases. A case on port 0 is never served.
+    pub fn park(&mut self, pid: Pid, ticket: u32, cases: &Cases)
         requires below { pid.0 < self.old.procs }
         requires free { list_any (λ w. w.call.pid.0 == pid.0) self.old.waiting ≡ false }
-        requires few { length cases.items ≤ 8 }
-        requires made { AllMade (length self.old.ports) cases.items }
+        requires few { length cases.now.items ≤ MOST_CASES }
+        requires made { AllMade (length self.old.ports) cases.now.items }
         requires later { self.old.next_ticket ≤ ticket }
         requires ticket { ticket < 2 ^ 32 - 1 }
-        ensures { self.new ≡ parked pid ticket cases.items self.old }
+        ensures { self.new ≡ parked pid ticket cases.now.items self.old }
     {
         make_room(&mut self.ports, &self.calls, cases.as_slice());
         join(&mut self.ports, pid, ticket, cases.as_slice());
         self.calls.open(pid, ticket, cases);
     }
 
-    /// Whether some open call has such a case.
+    /// Whether some open call has a case on this side of the port. It looks at no call and no queue.
     pub fn waiting(&self, port: Port, side: Side) -> bool
         requires { IsMade self.now port }
         ensures { result ≡ is_some (first_with (passes port side) (open_calls self.now.waiting)) }
     {
-        self.ports[port.0 as usize - 1]
-            .first(side, &self.calls)
-            .is_some()
+        self.calls.waits(port, side)
     }
 
     /// Whether the port is closed.
@@ -93,7 +107,7 @@ impl Board {
         self.ports[port.0 as usize - 1].is_closed()
     }
 
-    /// The capacity of the port.
+    /// How many values the port's buffer can hold.
     pub fn cap(&self, port: Port) -> u32
         requires { IsMade self.now port }
         ensures { result ≡ (port_at self.now port).cap }
@@ -109,7 +123,7 @@ impl Board {
         self.ports[port.0 as usize - 1].len()
     }
 
-    /// The value at a place of the port's buffer, 0 the oldest.
+    /// The value at this place of the port's buffer, counted from the oldest.
     pub fn item(&self, port: Port, i: usize) -> Option<Value>
         requires { IsMade self.now port }
         ensures { result ≡ slice_get (port_at self.now port).buffer i }
@@ -127,7 +141,7 @@ impl Board {
         channel.push(value);
     }
 
-    /// Removes the oldest value of the port's buffer.
+    /// Removes and gives the oldest value of the port's buffer.
     pub fn pop(&mut self, port: Port) -> Option<Value>
         requires { IsMade self.old port }
         ensures oldest { result ≡ slice_get (port_at self.old port).buffer 0 }
@@ -137,7 +151,7 @@ impl Board {
         channel.pop()
     }
 
-    /// Closes the port.
+    /// Closes the port. What is buffered and who waits there stays. Go: "Close".
     pub fn shut(&mut self, port: Port)
         requires { IsMade self.old port }
         ensures { self.new ≡ with_port self.old port (closed_now (port_at self.old port)) }
@@ -146,7 +160,8 @@ impl Board {
         channel.shut();
     }
 
-    /// Ends the oldest open call with such a case.
+    /// Ends the oldest open call with a case on this side of the port, at its lowest such case. The call leaves
+    /// the queues of all its cases.
     pub fn take(&mut self, port: Port, side: Side) -> Option<Ended>
         requires { IsMade self.old port }
         ensures taken { option_map ending_of result ≡ first_with (passes port side) (open_calls self.old.waiting) }
@@ -170,7 +185,7 @@ impl Board {
         }
     }
 
-    /// Ends the oldest open call, on whatever ports.
+    /// Ends the oldest open call, on whatever ports. The call leaves the queues of all its cases.
     pub fn stop(&mut self) -> Option<Pid>
         ensures oldest { result ≡ option_map (λ w. w.call.pid) (slice_get self.old.waiting 0) }
         ensures left { self.new ≡ after_stop result self.old }
@@ -191,117 +206,11 @@ impl Board {
         self.calls.is_open(pid)
     }
 
-    /// How many open calls there are: at most one of each process.
+    /// How many open calls there are, at most one of each process.
     pub fn open_count(&self) -> u8
         ensures count { result ≡ length self.now.waiting }
         ensures fits { result ≤ self.now.procs }
     {
         self.calls.count()
-    }
-}
-
-#[cfg(test)]
-mod tests {
-    use super::*;
-    use hub_base::Case;
-
-    fn cases_of(first: Case, second: Case) -> Cases
-        ensures { result.items ≡ first ∷ second ∷ [] }
-    {
-        let mut cases = Cases::new();
-        cases.push(first);
-        cases.push(second);
-        cases
-    }
-
-    fn stored(board: &Board) -> usize
-        requires { 0 < length board.now.ports }
-    {
-        board.ports[0].stored(Side::Recv)
-    }
-
-    // A call that waits on two ports and is served on the second leaves a dead entry on the first.
-    #[test]
-    fn dead_entries_go_when_room_is_short(rt: HostRuntime) {
-        let Ok(mut board) = Board::new(rt.alloc(), 2) else {
-            return;
-        };
-        let Ok(first) = board.make(0) else {
-            return;
-        };
-        let Ok(second) = board.make(0) else {
-            return;
-        };
-        for i in 1..102 {
-            let ticket: u32 = i;
-            board.park(
-                Pid(1),
-                ticket,
-                cases_of(Case::Recv(first), Case::Recv(second)),
-            );
-            let entries = stored(&board);
-            if i == 25 || i == 100 {
-                assert!(rt; entries == 25);
-            }
-            if i == 26 || i == 101 {
-                assert!(rt; entries == 1);
-            }
-            let ended = board.take(second, Side::Recv);
-            assert!(rt;
-                ended
-                    == Some(Ended {
-                        pid: Pid(1),
-                        index: 1,
-                        case: Case::Recv(second)
-                    })
-            );
-            assert!(rt; !board.waiting(first, Side::Any));
-        }
-        assert!(rt; board.take(first, Side::Any) == None);
-        assert!(rt; stored(&board) == 0);
-    }
-
-    // Of the two queues of a port, the older call is served, and in one call the lower case.
-    #[test]
-    fn the_oldest_of_both_sides_is_taken(rt: HostRuntime) {
-        let Ok(mut board) = Board::new(rt.alloc(), 3) else {
-            return;
-        };
-        let Ok(port) = board.make(0) else {
-            return;
-        };
-        board.park(Pid(2), 0, cases_of(Case::Recv(Port(0)), Case::Recv(port)));
-        board.park(
-            Pid(0),
-            4,
-            cases_of(Case::Send(port, Value::num(7)), Case::Recv(port)),
-        );
-        board.park(
-            Pid(1),
-            5,
-            cases_of(
-                Case::Send(port, Value::num(8)),
-                Case::Send(port, Value::num(9)),
-            ),
-        );
-        assert!(rt;
-            board.take(port, Side::Send)
-                == Some(Ended {
-                    pid: Pid(0),
-                    index: 0,
-                    case: Case::Send(port, Value::num(7))
-                })
-        );
-        assert!(rt;
-            board.take(port, Side::Any)
-                == Some(Ended {
-                    pid: Pid(2),
-                    index: 1,
-                    case: Case::Recv(port)
-                })
-        );
-        assert!(rt; board.stop() == Some(Pid(1)));
-        assert!(rt; board.take(port, Side::Any) == None);
-        assert!(rt; board.open_count() == 0);
     }
 }

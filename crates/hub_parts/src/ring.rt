@@ -1,5 +1,6 @@
-//! The buffer of a channel.
-ghost use Rattle.std.specs.Prelude.{◌≡◌, ◌≤◌, ◌<◌, ◌++◌, ◌∷◌, [], length, IfOk, drop, slice_get, option_copied, ◌^◌};
+//! The buffer of a channel: its values, oldest first. Go: "Channel types".
+
+ghost use Rattle.std.specs.Prelude.{◌≡◌, ◌≤◌, ◌<◌, ◌++◌, ◌∷◌, [], length, IfOk, drop, slice_get};
 ghost use Rattle.circular_buffer.specs.Buffer.{buffer};
 
 use circular_buffer::HeapCircularBuffer;
@@ -7,7 +8,8 @@ use hub_base::Value;
 use std::alloc::{AllocError, Global};
 use std::marker::Model;
 
-/// A queue of at most `cap` values.
+/// A queue of values with room for as many as its channel's capacity. A contract sees the values, oldest first,
+/// and the capacity.
 #[derive(Drop)]
 pub struct Ring {
     values: HeapCircularBuffer<Value>,
@@ -26,7 +28,7 @@ impl Model for Ring {
 }
 
 impl Ring {
-    /// An empty ring.
+    /// An empty ring. It takes the memory for all of its values.
     pub fn new(alloc: Global, cap: u32) -> Result<Ring, AllocError>
         requires { 1 ≤ cap }
         ensures { IfOk result (λ r. r ≡ buffer [] cap) }
@@ -60,7 +62,7 @@ impl Ring {
         self.values.len()
     }
 
-    /// The value at a place, 0 the oldest.
+    /// The value at this place, counted from the oldest.
     pub fn item(&self, i: usize) -> Option<Value>
         ensures { result ≡ slice_get self.now.items i }
     {

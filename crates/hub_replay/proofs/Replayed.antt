@@ -4,10 +4,9 @@ use Rattle.std.proofs.lemmas.Grind.{flat_map-append}
 use Rattle.std.specs.List.{flat_map}
 use Rattle.hub_base.specs.declared.entry.Entry.{Entry}
 use Rattle.hub_base.specs.declared.event.Event.{Event}
-use Rattle.hub_base.specs.Answers.{behind}
 use Rattle.hub_base.specs.EventText.{event_line}
 use Rattle.hub_base.specs.Reader.{ReaderView, Continues}
-use Rattle.hub_base.specs.Reading.{Reading, Reads, Faulty, read_text, with_entry}
+use Rattle.hub_base.specs.Reading.{Reading, Reads, Faulty, read_text, with_entry, behind}
 use Rattle.hub_base.specs.Runs.{moves, state_after, state, events_after, events}
 use Rattle.hub_base.specs.State.{State, opening}
 use Rattle.hub_base.specs.Text.{IsText}

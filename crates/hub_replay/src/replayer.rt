@@ -12,7 +12,9 @@ ghost use Rattle.hub_replay.specs.Replay.{IsEventText, HasNone, Replays, BeginsR
 
 use crate::pieces::{read_up_to, write_whole};
 use crate::{ReplayFault, Sink, Source};
-use hub_base::{Event, Events, NoMemory, Reader, one_reading, write_event};
+use hub_base::{
+    Entry, Event, Events, NoMemory, Pid, Reader, Step, one_reading, write_event,
+};
 use hub_core::Machine;
 use std::alloc::Global;
 
@@ -40,7 +42,12 @@ fn event_text(alloc: Global, bytes: &[u8]) -> Result<Vec<u8>, ReplayFault>
     let mut machine = Machine::open(alloc, reader.procs())?;
     let mut events = Events::new();
     let mut text = Vec::new(alloc);
-    while let Some(entry) = reader.next_entry()? {
+    // One entry is read into again and again, since it is large.
+    let mut entry = Entry {
+        pid: Pid(0),
+        step: Step::Exit,
+    };
+    while reader.read_into(&mut entry)? {
         machine.answer(&entry, &mut events)?;
         write_events(&mut text, &events)?;
     }

@@ -1,4 +1,5 @@
--- Channels with a buffer: a queue of values, first in, first out. Go: "Channel types", "Send statements".
+-- Channels with a buffer: a queue of values, first in, first out. Go: "Channel types", "Send
+-- statements".
 use Rattle.std.specs.Prelude.{◌≡◌, [], ◌∷◌, refl}
 use Rattle.hub_base.specs.declared.event.Outcome.TheVariants.{Sent}
 use Rattle.hub_base.specs.Notation.{make, send, recv, made, case, got, parked}

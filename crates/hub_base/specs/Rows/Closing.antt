@@ -1,6 +1,6 @@
 -- What a close does: to values, to calls that wait, and to later calls.
 -- Go: "Close", "Receive operator", "Send statements".
-use Rattle.std.specs.Prelude.{◌≡◌, ℕ, true, false, List, [], ◌∷◌, Some, refl}
+use Rattle.std.specs.Prelude.{◌≡◌, true, false, List, [], ◌∷◌, Some, refl}
 use Rattle.hub_base.specs.declared.entry.Entry.{Entry}
 use Rattle.hub_base.specs.declared.event.Outcome.TheVariants.{Sent, Drained, Closed}
 use Rattle.hub_base.specs.declared.fault.Fault.TheVariants.{AlreadyClosed}
@@ -11,12 +11,15 @@ use Rattle.hub_base.specs.Runs.{events, state}
 
 -- a port that is closed with a value in it, drained, and used after that
 abbrev close_and_drain : List Entry
-close_and_drain = make 0 2 ∷ send 0 1 7 ∷ close 0 1 ∷ recv 0 1 ∷ recv 0 1 ∷ send 0 1 8 ∷ close 0 1 ∷ []
+close_and_drain =
+    make 0 2 ∷ send 0 1 7 ∷ close 0 1 ∷ recv 0 1 ∷ recv 0 1 ∷ send 0 1 8 ∷ close 0 1 ∷ []
 
--- a closed port gives what was sent before, then no more; a send is answered `Closed`, a second close is a fault
+-- a closed port gives what was sent before, then no more; a send is answered `Closed`, a second
+-- close is a fault
 pub close_then_drain :
     events 1 close_and_drain
-    ≡ made 0 1 ∷ case 0 0 Sent ∷ done 0 ∷ case 0 0 (got 7) ∷ case 0 0 Drained ∷ case 0 0 Closed ∷ faulted 0 AlreadyClosed ∷ []
+    ≡ made 0 1 ∷ case 0 0 Sent ∷ done 0 ∷ case 0 0 (got 7) ∷ case 0 0 Drained
+    ∷ case 0 0 Closed ∷ faulted 0 AlreadyClosed ∷ []
 close_then_drain = refl
 
 -- of it one value stays sent and received
@@ -34,7 +37,8 @@ close_ends_receivers = refl
 -- a sender that waits is answered `Closed`, and the buffer stays
 pub close_keeps_the_buffer :
     events 2 (make 0 1 ∷ send 1 1 3 ∷ send 1 1 4 ∷ close 0 1 ∷ recv 0 1 ∷ recv 0 1 ∷ [])
-    ≡ made 0 1 ∷ case 1 0 Sent ∷ parked 1 ∷ done 0 ∷ case 1 0 Closed ∷ case 0 0 (got 3) ∷ case 0 0 Drained ∷ []
+    ≡ made 0 1 ∷ case 1 0 Sent ∷ parked 1 ∷ done 0 ∷ case 1 0 Closed
+    ∷ case 0 0 (got 3) ∷ case 0 0 Drained ∷ []
 close_keeps_the_buffer = refl
 
 -- a select that waits ends at its lowest case on the port

@@ -1,5 +1,5 @@
--- Exits, and the stall rule: when everyone who has not exited waits, all waiting calls end. This is this
--- project's choice; Go's own program ends then.
+-- Exits, and the stall rule: when everyone who has not exited waits, all waiting calls end. This is
+-- this project's choice; Go's own program ends then.
 use Rattle.std.specs.Prelude.{◌≡◌, [], ◌∷◌, refl}
 use Rattle.hub_base.specs.declared.event.Outcome.TheVariants.{Sent}
 use Rattle.hub_base.specs.declared.fault.Fault.TheVariants.{NoProcess, Gone, NilClose}

@@ -1,6 +1,7 @@
--- Selects: which case fires, at once or after a wait. Go: "Select statements". That the word chooses, and that
--- a waiting call fires at its lowest case that fits, is this project's choice.
-use Rattle.std.specs.Prelude.{◌≡◌, true, false, [], ◌∷◌, refl}
+-- Selects: which case fires, at once or after a wait. Go: "Select statements". That the word
+-- chooses, and that a waiting call fires at its lowest case that fits, is this project's choice.
+use Rattle.std.specs.Prelude.{◌≡◌, true, false, List, [], ◌∷◌, refl}
+use Rattle.hub_base.specs.declared.entry.Entry.{Entry}
 use Rattle.hub_base.specs.declared.event.Outcome.TheVariants.{Sent}
 use Rattle.hub_base.specs.declared.fault.Fault.TheVariants.{TooManyCases}
 use Rattle.hub_base.specs.Value.{value_of}
@@ -10,32 +11,38 @@ use Rattle.hub_base.specs.Runs.{events}
 
 -- of two cases that can proceed the word 3 chooses the second: 3 mod 2 = 1
 pub word_chooses :
-    events 1 (make 0 1 ∷ make 0 1 ∷ send 0 1 1 ∷ send 0 2 2 ∷ select 0 3 (r 1 ∷ r 2 ∷ []) false ∷ [])
+    events 1 (
+    make 0 1 ∷ make 0 1 ∷ send 0 1 1 ∷ send 0 2 2 ∷ select 0 3 (r 1 ∷ r 2 ∷ []) false ∷ [])
     ≡ made 0 1 ∷ made 0 2 ∷ case 0 0 Sent ∷ case 0 0 Sent ∷ case 0 1 (got 2) ∷ []
 word_chooses = refl
 
 -- of three cases that can proceed the word 4 chooses the second: 4 mod 3 = 1
 pub word_chooses_of_three :
-    events 2 (make 0 0 ∷ make 0 0 ∷ select 1 0 (s 2 6 ∷ r 1 ∷ []) false ∷ select 0 4 (r 2 ∷ s 1 3 ∷ r 2 ∷ []) false ∷ [])
+    events 2 (
+    make 0 0 ∷ make 0 0 ∷ select 1 0 (s 2 6 ∷ r 1 ∷ []) false
+    ∷ select 0 4 (r 2 ∷ s 1 3 ∷ r 2 ∷ []) false ∷ [])
     ≡ made 0 1 ∷ made 0 2 ∷ parked 1 ∷ case 0 1 Sent ∷ case 1 1 (got 3) ∷ []
 word_chooses_of_three = refl
 
--- a select that waits ends once: the next sender finds nobody on its other port
+-- a select on two ports, and a sender on each of them
+abbrev select_on_two_ports : List Entry
+select_on_two_ports =
+    make 0 0 ∷ make 0 0 ∷ select 1 0 (r 1 ∷ r 2 ∷ []) false
+    ∷ send 0 2 8 ∷ send 0 1 9 ∷ recv 1 1 ∷ []
+
+-- a select that waits ends once: the second sender finds nobody
 pub select_ends_once :
-    events 3 (make 0 0 ∷ make 0 0 ∷ select 1 0 (r 1 ∷ r 2 ∷ []) false ∷ send 0 2 8 ∷ send 0 1 9 ∷ recv 1 1 ∷ [])
-    ≡ made 0 1 ∷ made 0 2 ∷ parked 1 ∷ case 0 0 Sent ∷ case 1 1 (got 8) ∷ parked 0 ∷ case 1 0 (got 9) ∷ case 0 0 Sent ∷ []
+    events 3 select_on_two_ports
+    ≡ made 0 1 ∷ made 0 2 ∷ parked 1 ∷ case 0 0 Sent ∷ case 1 1 (got 8)
+    ∷ parked 0 ∷ case 1 0 (got 9) ∷ case 0 0 Sent ∷ []
 select_ends_once = refl
 
--- of these steps port 1 was sent 9, and 8 was received from port 2
-pub select_sent :
-    sent_values 3 (make 0 0 ∷ make 0 0 ∷ select 1 0 (r 1 ∷ r 2 ∷ []) false ∷ send 0 2 8 ∷ send 0 1 9 ∷ recv 1 1 ∷ []) (port 1)
-    ≡ value_of 9 ∷ []
-select_sent = refl
+-- of these steps 9 was sent on port 1, and 8 was received from port 2
+pub sent_on_one_port : sent_values 3 select_on_two_ports (port 1) ≡ value_of 9 ∷ []
+sent_on_one_port = refl
 
-pub select_received :
-    received_values 3 (make 0 0 ∷ make 0 0 ∷ select 1 0 (r 1 ∷ r 2 ∷ []) false ∷ send 0 2 8 ∷ send 0 1 9 ∷ recv 1 1 ∷ []) (port 2)
-    ≡ value_of 8 ∷ []
-select_received = refl
+pub received_from_the_other : received_values 3 select_on_two_ports (port 2) ≡ value_of 8 ∷ []
+received_from_the_other = refl
 
 -- a default is taken where no case can proceed, and where there is no case
 pub default_where_nothing_can_proceed :

@@ -15,13 +15,15 @@ receiver_waits_for_a_sender = refl
 -- receivers are served in the order in which they came
 pub oldest_receiver_first :
     events 3 (make 0 0 ∷ recv 2 1 ∷ recv 1 1 ∷ send 0 1 5 ∷ send 0 1 6 ∷ [])
-    ≡ made 0 1 ∷ parked 2 ∷ parked 1 ∷ case 0 0 Sent ∷ case 2 0 (got 5) ∷ case 0 0 Sent ∷ case 1 0 (got 6) ∷ []
+    ≡ made 0 1 ∷ parked 2 ∷ parked 1 ∷ case 0 0 Sent ∷ case 2 0 (got 5)
+    ∷ case 0 0 Sent ∷ case 1 0 (got 6) ∷ []
 oldest_receiver_first = refl
 
 -- and so are senders
 pub oldest_sender_first :
     events 3 (make 0 0 ∷ send 2 1 7 ∷ send 1 1 8 ∷ recv 0 1 ∷ recv 0 1 ∷ [])
-    ≡ made 0 1 ∷ parked 2 ∷ parked 1 ∷ case 0 0 (got 7) ∷ case 2 0 Sent ∷ case 0 0 (got 8) ∷ case 1 0 Sent ∷ []
+    ≡ made 0 1 ∷ parked 2 ∷ parked 1 ∷ case 0 0 (got 7) ∷ case 2 0 Sent
+    ∷ case 0 0 (got 8) ∷ case 1 0 Sent ∷ []
 oldest_sender_first = refl
 
 -- a process makes no step while its call waits: the step is refused, and the call goes on

@@ -9,13 +9,15 @@ pub enum Kind {
     BadHeader,
     /// 2: line 2 is anything else than `procs N` with N from 1 to 64, or the text ends before it.
     BadProcs,
-    /// 3: a further line has not the shape of a step, or is the second spelling of one.
+    /// 3: a further line has not the shape of a step, or spells a plain send or receive as a select.
     BadStep,
-    /// 4: a number is not spelled as numbers are, or is above its greatest.
+    /// 4: a number is neither `0` nor a digit from 1 to 9 followed by digits, or is above its
+    /// greatest: 255 for a process, 65,535 for a port, 32 bits for a capacity, 64 for the others.
     BadNumber,
     /// 5: the line has no newline.
     CutLine,
-    /// 6: a byte at place 67,108,864 or later, or one step too many.
+    /// 6: a byte of the line, its newline included, stands at place 67,108,864 or later, counted
+    /// from 0; or the step is no exit, and 1,000,000 lines before it are none.
     TooLong,
 }
 
@@ -26,7 +28,7 @@ pub struct TextFault {
     pub kind: Kind,
 }
 
-/// Why a journal was not read.
+/// Why a journal was not read. Nothing is kept of it.
 #[derive(Clone, Copy, Debug, PartialEq, Eq)]
 pub enum ReadFault {
     /// The text is malformed.

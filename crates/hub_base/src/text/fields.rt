@@ -1,19 +1,22 @@
-//! The fields of a line.
-ghost use Rattle.std.specs.Prelude.{◌≡◌, ◌∷◌, [], MatchOption, List, ◌++◌, ℕ, ◌↔◌, IsTrue};
-ghost use Rattle.hub_base.specs.Lines.{pieces, join_front};
+//! The fields of a line, or the parts of a case: the pieces between single marks, one after the
+//! other.
+
+ghost use Rattle.std.specs.Prelude.{◌≡◌, ◌∷◌, [], MatchOption, List, ℕ, ◌↔◌, IsTrue};
+ghost use Rattle.hub_base.specs.Lines.{pieces};
 
 use std::marker::Model;
 
-/// The fields that are left, seen as their list.
+/// The fields that are left to be read. There is at least one at first, and a field may be empty.
 #[derive(Drop)]
 pub struct Fields<'a> {
     mark: u8,
+    /// What stands behind the last mark that was passed; `None` once the last field was read.
     rest: Option<&'a [u8]>,
 }
 
 impl<'a> Model for Fields<'a> {
     ghost use Rattle.std.specs.Prelude.{List, ℕ};
-    ghost use Rattle.hub_base.specs.Left.{pieces_left};
+    ghost use Rattle.hub_base.specs.Fields.{pieces_left};
 
     ghost Value = { List (List ℕ) };
 
@@ -22,7 +25,9 @@ impl<'a> Model for Fields<'a> {
 
 /// The piece before the first mark, and what stands behind that mark.
 fn cut(bytes: &[u8], mark: u8) -> (&[u8], Option<&[u8]>)
-    ensures { MatchOption result.1 (pieces mark bytes.now ≡ result.0.now ∷ []) (λ rest. pieces mark bytes.now ≡ result.0.now ∷ pieces mark rest.now) }
+    ensures { MatchOption result.1
+        (pieces mark bytes.now ≡ result.0.now ∷ [])
+        (λ rest. pieces mark bytes.now ≡ result.0.now ∷ pieces mark rest.now) }
 {
     for (i, b) in bytes.iter().enumerate() {
         if *b == mark {
@@ -33,7 +38,7 @@ fn cut(bytes: &[u8], mark: u8) -> (&[u8], Option<&[u8]>)
 }
 
 impl<'a> Fields<'a> {
-    /// The fields of a line.
+    /// The pieces of these bytes between single marks.
     pub fn of(bytes: &'a [u8], mark: u8) -> Fields<'a>
         ensures { result ≡ pieces mark bytes.now }
     {
@@ -45,7 +50,9 @@ impl<'a> Fields<'a> {
 
     /// The next field.
     pub fn next_field(&mut self) -> Option<&'a [u8]>
-        ensures { MatchOption result ((self.old ≡ []) × (self.new ≡ [])) (λ field. self.old ≡ field.now ∷ self.new) }
+        ensures { MatchOption result
+            ((self.old ≡ []) × (self.new ≡ []))
+            (λ field. self.old ≡ field.now ∷ self.new) }
     {
         let rest = self.rest?;
         let (field, left) = cut(rest, self.mark);

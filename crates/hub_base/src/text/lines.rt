@@ -1,14 +1,16 @@
-//! The lines of a text.
-ghost use Rattle.std.specs.Prelude.{◌≡◌, ◌+◌, ◌<◌, ◌≤◌, ◌∷◌, [], ℕ, length, MatchOption, IfOk, IfErr, IfSome, Some, true, false};
+//! The lines of a text, and their limit of bytes.
+
+ghost use Rattle.std.specs.Prelude.{◌≡◌, ◌+◌, ◌<◌, ◌≤◌, ◌∷◌, [], length, MatchOption, IfOk, IfErr, IfSome, Some, true, false};
+ghost use Rattle.hub_base.specs.Limits.{most_bytes};
 ghost use Rattle.hub_base.specs.Reading.{rows, line_fault};
 
 use crate::Kind;
 use memchr::memchr;
 
 /// The most bytes of a text.
-pub const MOST_BYTES: usize = 67108864;
+pub const MOST_BYTES: usize = 67_108_864;
 
-/// The first line, and what stands behind its newline.
+/// The first line without its newline, and what stands behind it; `None` where there is no newline.
 fn cut_line(bytes: &[u8]) -> Option<(&[u8], &[u8])>
     requires { 0 < length bytes.now }
     ensures rows { MatchOption result
@@ -22,17 +24,20 @@ fn cut_line(bytes: &[u8]) -> Option<(&[u8], &[u8])>
     }
 }
 
-/// The first line, and what stands behind it, where the line begins at this place.
+/// The same of a line that begins at this place of its text, unless it passes the limit or has no
+/// newline.
 pub fn line_at(bytes: &[u8], place: usize) -> Result<(&[u8], &[u8]), Kind>
     requires some { 0 < length bytes.now }
-    requires place { place ≤ 67108864 }
-    ensures line { IfOk result (λ x. rows bytes.now ≡ record { bytes = x.0.now; whole = true } ∷ rows x.1.now) }
+    requires place { place ≤ most_bytes }
+    ensures line { IfOk result (λ x.
+        rows bytes.now ≡ record { bytes = x.0.now; whole = true } ∷ rows x.1.now) }
     ensures left { IfOk result (λ x. length x.0.now + length x.1.now + 1 ≡ length bytes.now) }
-    ensures fits { IfOk result (λ x. place + length x.0.now + 1 ≤ 67108864) }
+    ensures fits { IfOk result (λ x. place + length x.0.now + 1 ≤ most_bytes) }
     ensures fault { IfErr result (λ kind. line_fault place (rows bytes.now) ≡ Some kind) }
 {
     match cut_line(bytes) {
         Some((line, rest)) => {
+            // The newline counts too, so the line itself has to be shorter.
             if line.len() < MOST_BYTES - place {
                 Ok((line, rest))
             } else {

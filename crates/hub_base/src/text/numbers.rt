@@ -1,13 +1,15 @@
-//! Numbers.
-ghost use Rattle.std.specs.Prelude.{◌≡◌, ◌≤◌, ◌^◌, ◌<◌, IfSome};
+//! Numbers: `0`, or a digit from 1 to 9 followed by digits.
+
+ghost use Rattle.std.specs.Prelude.{◌≡◌, ◌≤◌, ◌<◌, IfSome};
 ghost use Rattle.std.specs.List.{list_all};
 ghost use Rattle.std.specs.Char.{is_ascii_digit};
 ghost use Rattle.hub_base.specs.Lines.{number as number_of, one_number};
 ghost use Rattle.std.specs.Str.Parse.{digits_value};
 
-/// The value of decimal digits, where it is at most `most`.
+/// The value of decimal digits, leading zeros among them, where it is at most `most`.
 fn value_of(bytes: &[u8], most: u64) -> Option<u64>
-    ensures value { result ≡ one_number (list_all is_ascii_digit bytes.now) (digits_value 10 bytes.now) most }
+    ensures value { result
+        ≡ one_number (list_all is_ascii_digit bytes.now) (digits_value 10 bytes.now) most }
     ensures bound { IfSome result (λ n. n ≤ most) }
 {
     let mut value: u64 = 0;

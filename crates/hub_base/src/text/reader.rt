@@ -1,16 +1,17 @@
 //! Reading a journal: entry by entry, and whole.
 //!
-//! A text is cut into lines. The first faulty line decides, and of its faults the first in the order of
-//! tests: too many bytes, no newline, the head lines, the shape of a step, its numbers, its spelling, too
-//! many steps.
+//! The first faulty line decides, and of its faults the first in the order of tests: too many
+//! bytes, no newline, the head lines, the shape of a step, its numbers, its spelling, too many
+//! steps.
 
-ghost use Rattle.std.specs.Prelude.{◌≡◌, ◌≤◌, ℕ, length, IfOk, IfErr, List, ◌++◌, MatchResult};
+ghost use Rattle.std.specs.Prelude.{◌≡◌, ◌≤◌, ℕ, length, IfOk, IfErr, List, ◌++◌};
+ghost use Rattle.hub_base.specs.Limits.{most_bytes};
 ghost use Rattle.hub_base.specs.Lines.{line};
 ghost use Rattle.hub_base.specs.Reading.{read_text, procs_number, procs_from, rows, is_exit};
-ghost use Rattle.hub_base.specs.Answers.{Gives, IsFaultOf};
+ghost use Rattle.hub_base.specs.ReadJournal.{Gives, IsFaultOf};
 ghost use Rattle.hub_base.specs.Text.{IsText, IsFaulty, IsEither, Fits};
 ghost use Rattle.hub_base.specs.Reading.Reading.{Reads, Faulty};
-ghost use Rattle.hub_base.specs.Reader.{ReadsOn};
+ghost use Rattle.hub_base.specs.Reader.{ReadsOn, FillsOn};
 ghost use Rattle.hub_base.specs.declared.entry.Entry.{Entry};
 ghost use Rattle.hub_base.specs.declared.text.faults.Kind.{Kind};
 
@@ -18,7 +19,7 @@ use crate::text::fields::Fields;
 use crate::text::lines::line_at;
 use crate::text::numbers::number;
 use crate::text::steps::{read_line, same_text};
-use crate::{Entry, Journal, Kind, ReadFault, Step, TextFault};
+use crate::{Entry, Journal, Kind, Pid, ReadFault, Step, TextFault};
 use std::alloc::Global;
 use std::marker::Model;
 
@@ -37,30 +38,26 @@ fn procs_number(line: &[u8]) -> Option<u8>
     ensures value { result ≡ procs_number line.now }
 {
     let mut fields = Fields::of(line, b' ');
-    let Some(word) = fields.next_field() else {
-        return None;
-    };
-    let Some(procs) = fields.next_field() else {
-        return None;
-    };
+    let word = fields.next_field()?;
+    let procs = fields.next_field()?;
     if fields.next_field().is_some() || !same_text(word, b"procs") {
         return None;
     }
-    match number(procs, 64) {
-        Some(procs) => { if procs == 0 { None } else { Some(procs as u8) } }
-        None => None,
-    }
+    let procs = number(procs, 64)?;
+    if procs == 0 { None } else { Some(procs as u8) }
 }
 
 /// Reads a journal's text, one entry at a time, and takes no memory.
+///
+/// What is left is a list of whole lines, the first of which has number `line` and begins at byte
+/// `place`, and `steps` counts the entries before it that are no exits. All stay within the limits
+/// of a text.
 #[derive(Drop)]
 pub struct Reader<'a> {
     procs: u8,
-    /// What is left to be read; its first line has this number, and begins at this place of the text.
     rest: &'a [u8],
     line: u32,
     place: usize,
-    /// How many entries that are no exits were read.
     steps: u32,
 }
 
@@ -79,17 +76,15 @@ impl<'a> Model for Reader<'a> {
 
 /// The reader behind the second line, which begins at this place.
 fn open_entries(bytes: &[u8], place: usize) -> Result<Reader<'_>, Kind>
-    requires place { place ≤ 67108864 }
-    ensures read { MatchResult result (λ r. procs_from place (rows bytes.now) ≡ r.left) (λ kind. procs_from place (rows bytes.now) ≡ Faulty 2 kind) }
+    requires place { place ≤ most_bytes }
+    ensures ok { IfOk result (λ r. procs_from place (rows bytes.now) ≡ r.left) }
     ensures bytes { IfOk result (λ r. r.bytes ≤ length bytes.now) }
+    ensures fault { IfErr result (λ kind. procs_from place (rows bytes.now) ≡ Faulty 2 kind) }
 {
     if bytes.is_empty() {
         return Err(Kind::BadProcs);
     }
-    let (line, rest) = match line_at(bytes, place) {
-        Ok(parts) => parts,
-        Err(kind) => return Err(kind),
-    };
+    let (line, rest) = line_at(bytes, place)?;
     match procs_number(line) {
         None => Err(Kind::BadProcs),
         Some(procs) => Ok(Reader {
@@ -103,7 +98,7 @@ fn open_entries(bytes: &[u8], place: usize) -> Result<Reader<'_>, Kind>
 }
 
 impl<'a> Reader<'a> {
-    /// Reads the two head lines.
+    /// Reads the two head lines; an `Err` is a fault of one of them.
     pub fn open(bytes: &'a [u8]) -> Result<Reader<'a>, TextFault>
         ensures ok { IfOk result (λ r. read_text bytes.now ≡ r.left) }
         ensures bytes { IfOk result (λ r. r.bytes ≤ length bytes.now) }
@@ -115,23 +110,17 @@ impl<'a> Reader<'a> {
                 kind: Kind::BadHeader,
             });
         }
-        let (line, rest) = match line_at(bytes, 0) {
-            Ok(parts) => parts,
-            Err(kind) => return Err(TextFault { line: 1, kind }),
-        };
+        let (line, rest) = line_at(bytes, 0).map_err(|kind| TextFault { line: 1, kind })?;
         if !same_text(line, b"chanhub journal 1") {
             return Err(TextFault {
                 line: 1,
                 kind: Kind::BadHeader,
             });
         }
-        match open_entries(rest, line.len() + 1) {
-            Ok(reader) => Ok(reader),
-            Err(kind) => Err(TextFault { line: 2, kind }),
-        }
+        open_entries(rest, line.len() + 1).map_err(|kind| TextFault { line: 2, kind })
     }
 
-    /// The number of processes.
+    /// The number of processes, 1 to 64.
     pub fn procs(&self) -> u8
         ensures value { result ≡ self.now.procs }
         ensures range { (1 ≤ result) × (result ≤ 64) }
@@ -139,40 +128,49 @@ impl<'a> Reader<'a> {
         self.procs
     }
 
-    /// The next entry, or `None` at the end of the text. After a fault the reader stays where it is.
-    pub fn next_entry(&mut self) -> Result<Option<Entry>, TextFault>
-        ensures { ReadsOn self.old self.new result }
+    /// Reads the next entry into the place of this one, and answers `false` at the end of the text. After a
+    /// fault the reader stays where it is, and the entry is any.
+    ///
+    /// An entry is some 290 bytes, so a loop over a long text reads them all into one.
+    pub fn read_into(&mut self, entry: &mut Entry) -> Result<bool, TextFault>
+        ensures { FillsOn self.old self.new entry.new result }
     {
         if self.rest.is_empty() {
-            return Ok(None);
+            return Ok(false);
         }
         let (text, after) = match line_at(self.rest, self.place) {
             Ok(parts) => parts,
-            Err(kind) => return Err(TextFault {
-                line: self.line,
-                kind,
-            }),
+            Err(kind) => return Err(TextFault { line: self.line, kind }),
         };
-        let entry = match read_line(text) {
-            Ok(entry) => entry,
-            Err(kind) => return Err(TextFault {
-                line: self.line,
-                kind,
-            }),
-        };
-        if !is_exit(&entry) {
+        match read_line(text, entry) {
+            Ok(()) => {}
+            Err(kind) => return Err(TextFault { line: self.line, kind }),
+        }
+        if !is_exit(entry) {
             if self.steps == MOST_STEPS {
-                return Err(TextFault {
-                    line: self.line,
-                    kind: Kind::TooLong,
-                });
+                return Err(TextFault { line: self.line, kind: Kind::TooLong });
             }
             self.steps += 1;
         }
         self.place += text.len() + 1;
         self.line += 1;
         self.rest = after;
-        Ok(Some(entry))
+        Ok(true)
+    }
+
+    /// The next entry, or `None` at the end of the text. After a fault the reader stays where it is.
+    pub fn next_entry(&mut self) -> Result<Option<Entry>, TextFault>
+        ensures { ReadsOn self.old self.new result }
+    {
+        let mut entry = Entry {
+            pid: Pid(0),
+            step: Step::Exit,
+        };
+        match self.read_into(&mut entry) {
+            Ok(true) => Ok(Some(entry)),
+            Ok(false) => Ok(None),
+            Err(fault) => Err(fault),
+        }
     }
 }
 
@@ -195,6 +193,7 @@ fn collect_entries(alloc: Global, mut reader: Reader) -> Result<Journal, ReadFau
     }
 }
 
+/// The journal that the text says.
 fn read_all(alloc: Global, bytes: &[u8]) -> Result<Journal, ReadFault>
     ensures { Gives result (read_text bytes.now) }
 {
@@ -204,7 +203,10 @@ fn read_all(alloc: Global, bytes: &[u8]) -> Result<Journal, ReadFault>
     }
 }
 
-/// The journal that a text says.
+/// The journal that a text says: its number of processes, and its entries, whether or not a hub
+/// admits them.
+///
+/// `NoMemory` is answered only where a growth was refused, and `Text` for the first faulty line.
 pub fn read_journal(alloc: Global, bytes: &[u8]) -> Result<Journal, ReadFault>
     // What is read is so spelled, each byte of it.
     ensures found { IfOk result (λ j. IsText bytes.now j.procs j.entries) }
@@ -220,18 +222,24 @@ pub fn read_journal(alloc: Global, bytes: &[u8]) -> Result<Journal, ReadFault>
     read_all(alloc, bytes)
 }
 
-/// Each list of bytes is a text or faulty, and not both, in one way; and what the computed reading of it says,
-/// it is.
+/// A law: each list of bytes is a text or faulty, and not both, in one way; and what the computed
+/// reading of it says, it is.
 pub fn one_reading()
     ensures some { (bytes : List ℕ) → IsEither bytes }
-    ensures reads { (bytes : List ℕ) (n : ℕ) (es : List Entry) → read_text bytes ≡ Reads n es → IsText bytes n es }
-    ensures faults { (bytes : List ℕ) (k : ℕ) (kind : Kind) → read_text bytes ≡ Faulty k kind → IsFaulty bytes k kind }
-    ensures text { (bytes : List ℕ) (n m : ℕ) (es fs : List Entry) → IsText bytes n es → IsText bytes m fs → (n ≡ m) × (es ≡ fs) }
-    ensures fault { (bytes : List ℕ) (j k : ℕ) (kind other : Kind) → IsFaulty bytes j kind → IsFaulty bytes k other → (j ≡ k) × (kind ≡ other) }
-    ensures apart { (bytes : List ℕ) (n k : ℕ) (es : List Entry) (kind : Kind) → IsText bytes n es → IsFaulty bytes k kind → ⊥ }
+    ensures reads { (bytes : List ℕ) (n : ℕ) (es : List Entry)
+        → read_text bytes ≡ Reads n es → IsText bytes n es }
+    ensures faults { (bytes : List ℕ) (k : ℕ) (kind : Kind)
+        → read_text bytes ≡ Faulty k kind → IsFaulty bytes k kind }
+    ensures text { (bytes : List ℕ) (n m : ℕ) (es fs : List Entry)
+        → IsText bytes n es → IsText bytes m fs → (n ≡ m) × (es ≡ fs) }
+    ensures fault { (bytes : List ℕ) (j k : ℕ) (kind other : Kind)
+        → IsFaulty bytes j kind → IsFaulty bytes k other → (j ≡ k) × (kind ≡ other) }
+    ensures apart { (bytes : List ℕ) (n k : ℕ) (es : List Entry) (kind : Kind)
+        → IsText bytes n es → IsFaulty bytes k kind → ⊥ }
 {}
 
-/// No spelling begins another.
+/// A law: no spelling begins another, so a list of lines can be read in one way.
 pub fn one_spelling()
-    ensures { (e f : Entry) (x y : List ℕ) → Fits e → Fits f → line e ++ x ≡ line f ++ y → (e ≡ f) × (x ≡ y) }
+    ensures { (e f : Entry) (x y : List ℕ)
+        → Fits e → Fits f → line e ++ x ≡ line f ++ y → (e ≡ f) × (x ≡ y) }
 {}

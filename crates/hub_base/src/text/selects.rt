@@ -1,8 +1,12 @@
-//! Reading a select.
-ghost use Rattle.std.specs.Prelude.{◌≡◌, ◌≤◌, Result, Ok, Err, if◌then◌else◌, ◌<◌};
+//! Reading a select, in one pass over its fields.
+//!
+//! A fault of shape ends it at once. A fault of a number waits until all shapes were looked at, and
+//! the second spelling of a send or a receive is looked for last.
+
+ghost use Rattle.std.specs.Prelude.{◌≡◌, Result, Ok, Err, if◌then◌else◌, ◌<◌};
 ghost use Rattle.hub_base.specs.Lines.{read_choice, case_read, choose, last_default};
+ghost use Rattle.hub_base.specs.Filling.{Fills};
 ghost use Rattle.hub_base.specs.declared.text.faults.Kind.TheVariants.{BadNumber};
-ghost use Rattle.arrayvec.specs.ArrayVec.{array_vec_len};
 
 use crate::text::fields::Fields;
 use crate::text::steps::{numeral, recv_of, same_text, send_of};
@@ -47,30 +51,39 @@ fn is_last_default(field: &[u8], fields: &Fields) -> bool
     fields.is_done() && same_text(field, b"default")
 }
 
-/// The call whose fields have the right shape.
-fn choose(pid: &[u8], word: &[u8], cases: Cases, fine: bool, default: bool) -> Result<Entry, Kind>
-    ensures { result ≡ choose pid.now word.now (if fine then Ok cases.items else Err BadNumber) default }
+/// The call of a select whose fields have the right shape; `fine` tells whether all numbers of its
+/// cases are numbers, and then these are its cases.
+fn choose(
+    pid: &[u8],
+    word: &[u8],
+    cases: Cases,
+    fine: bool,
+    default: bool,
+    entry: &mut Entry,
+) -> Result<(), Kind>
+    ensures { Fills result entry.new
+        (choose pid.now word.now (if fine then Ok cases.items else Err BadNumber) default) }
 {
-    let pid = numeral(pid, 255)?;
-    let word = numeral(word, 18446744073709551615)?;
+    let pid = numeral(pid, u8::MAX.into())?;
+    let word = numeral(word, u64::MAX)?;
     if !fine {
         return Err(Kind::BadNumber);
     }
     if cases.len() == 1 && !default && word == 0 {
         return Err(Kind::BadStep);
     }
-    Ok(Entry {
-        pid: Pid(pid as u8),
-        step: Step::Call {
-            cases,
-            default,
-            word,
-        },
-    })
+    entry.pid = Pid(pid as u8);
+    entry.step = Step::Call {
+        cases,
+        default,
+        word,
+    };
+    Ok(())
 }
 
-pub fn read_select(pid: &[u8], fields: &mut Fields) -> Result<Entry, Kind>
-    ensures { result ≡ read_choice pid.now fields.old }
+/// What `P select W CASE.. [default]` says, from the field of the word on.
+pub fn read_select(pid: &[u8], fields: &mut Fields, entry: &mut Entry) -> Result<(), Kind>
+    ensures { Fills result entry.new (read_choice pid.now fields.old) }
 {
     let Some(word) = fields.next_field() else {
         return Err(Kind::BadStep);
@@ -80,9 +93,10 @@ pub fn read_select(pid: &[u8], fields: &mut Fields) -> Result<Entry, Kind>
     let mut count: u8 = 0;
     while let Some(field) = fields.next_field() {
         if is_last_default(field, fields) {
-            return choose(pid, word, cases, fine, true);
+            return choose(pid, word, cases, fine, true, entry);
         }
         let case = read_case(field)?;
+        // One case too many is a fault of shape, as any in the fields behind it would be.
         if count == MOST_CASES {
             return Err(Kind::BadStep);
         }
@@ -96,5 +110,5 @@ pub fn read_select(pid: &[u8], fields: &mut Fields) -> Result<Entry, Kind>
             Err(_number) => fine = false,
         }
     }
-    choose(pid, word, cases, fine, false)
+    choose(pid, word, cases, fine, false, entry)
 }

@@ -1,13 +1,16 @@
-//! Reading an entry from its fields.
-ghost use Rattle.std.specs.Prelude.{◌≡◌, ◌^◌, ◌≤◌, ◌<◌, ◌∷◌, [], false, IfOk};
+//! Reading an entry from the fields of its line: first their number, then what they spell.
+
+ghost use Rattle.std.specs.Prelude.{◌≡◌, ◌≤◌, ◌<◌, ◌∷◌, [], false, IfOk};
 ghost use Rattle.hub_base.specs.Lines.{numeral, read_close, read_make, read_exit, read_send, read_recv, read_step, read_fields, pieces, case_of, by, call, same_text};
 ghost use Rattle.hub_base.specs.Lines.Draft.{Sends, Receives};
+ghost use Rattle.hub_base.specs.Filling.{Fills};
 
 use crate::text::fields::Fields;
 use crate::text::numbers::number;
 use crate::text::selects::read_select;
 use crate::{Case, Cases, Entry, Kind, Pid, Port, Step, Value};
 
+/// The number that a field spells.
 pub fn numeral(bytes: &[u8], most: u64) -> Result<u64, Kind>
     ensures value { result ≡ numeral most bytes.now }
     ensures bound { IfOk result (λ n. n ≤ most) }
@@ -15,6 +18,7 @@ pub fn numeral(bytes: &[u8], most: u64) -> Result<u64, Kind>
     number(bytes, most).ok_or(Kind::BadNumber)
 }
 
+/// Whether two fields are the same bytes.
 pub fn same_text(a: &[u8], b: &[u8]) -> bool
     ensures { result ≡ same_text a.now b.now }
 {
@@ -25,8 +29,8 @@ pub fn same_text(a: &[u8], b: &[u8]) -> bool
 pub fn send_of(port: &[u8], value: &[u8]) -> Result<Case, Kind>
     ensures { result ≡ case_of (Sends port.now value.now) }
 {
-    let port = numeral(port, 65535)?;
-    let value = numeral(value, 18446744073709551615)?;
+    let port = numeral(port, u16::MAX.into())?;
+    let value = numeral(value, u64::MAX)?;
     Ok(Case::Send(Port(port as u16), Value::num(value)))
 }
 
@@ -34,28 +38,41 @@ pub fn send_of(port: &[u8], value: &[u8]) -> Result<Case, Kind>
 pub fn recv_of(port: &[u8]) -> Result<Case, Kind>
     ensures { result ≡ case_of (Receives port.now) }
 {
-    let port = numeral(port, 65535)?;
+    let port = numeral(port, u16::MAX.into())?;
     Ok(Case::Recv(Port(port as u16)))
 }
 
-/// A call of one case.
-fn lone(pid: u8, case: Case) -> Entry
-    ensures { result ≡ by pid (call (case ∷ []) false 0) }
+/// Makes the entry a call of one case, without default and with word 0, in the place of what it was. An
+/// entry is some 290 bytes; a call that stands there already is changed and not made anew.
+fn set_call(entry: &mut Entry, pid: u8, case: Case)
+    ensures { entry.new ≡ by pid (call (case ∷ []) false 0) }
 {
-    let mut cases = Cases::new();
-    cases.push(case);
-    Entry {
-        pid: Pid(pid),
-        step: Step::Call {
+    entry.pid = Pid(pid);
+    match &mut entry.step {
+        Step::Call {
             cases,
-            default: false,
-            word: 0,
-        },
+            default,
+            word,
+        } => {
+            cases.clear();
+            cases.push(case);
+            *default = false;
+            *word = 0;
+        }
+        _ => {
+            let mut cases = Cases::new();
+            cases.push(case);
+            entry.step = Step::Call {
+                cases,
+                default: false,
+                word: 0,
+            };
+        }
     }
 }
 
-fn read_make(pid: &[u8], fields: &mut Fields) -> Result<Entry, Kind>
-    ensures { result ≡ read_make pid.now fields.old }
+fn read_make(pid: &[u8], fields: &mut Fields, entry: &mut Entry) -> Result<(), Kind>
+    ensures { Fills result entry.new (read_make pid.now fields.old) }
 {
     let Some(cap) = fields.next_field() else {
         return Err(Kind::BadStep);
@@ -63,16 +80,16 @@ fn read_make(pid: &[u8], fields: &mut Fields) -> Result<Entry, Kind>
     if fields.next_field().is_some() {
         return Err(Kind::BadStep);
     }
-    let pid = numeral(pid, 255)?;
-    let cap = numeral(cap, 4294967295)?;
-    Ok(Entry {
-        pid: Pid(pid as u8),
-        step: Step::Make(cap as u32),
-    })
+    let pid = numeral(pid, u8::MAX.into())?;
+    let cap = numeral(cap, u32::MAX.into())?;
+    entry.pid = Pid(pid as u8);
+    entry.step = Step::Make(cap as u32);
+    Ok(())
 }
 
-fn read_send(pid: &[u8], fields: &mut Fields) -> Result<Entry, Kind>
-    ensures { result ≡ read_send pid.now fields.old }
+/// What `P send PORT V` says, from the field behind the word on.
+fn read_send(pid: &[u8], fields: &mut Fields, entry: &mut Entry) -> Result<(), Kind>
+    ensures { Fills result entry.new (read_send pid.now fields.old) }
 {
     let Some(port) = fields.next_field() else {
         return Err(Kind::BadStep);
@@ -83,13 +100,15 @@ fn read_send(pid: &[u8], fields: &mut Fields) -> Result<Entry, Kind>
     if fields.next_field().is_some() {
         return Err(Kind::BadStep);
     }
-    let pid = numeral(pid, 255)?;
+    let pid = numeral(pid, u8::MAX.into())?;
     let case = send_of(port, value)?;
-    Ok(lone(pid as u8, case))
+    set_call(entry, pid as u8, case);
+    Ok(())
 }
 
-fn read_recv(pid: &[u8], fields: &mut Fields) -> Result<Entry, Kind>
-    ensures { result ≡ read_recv pid.now fields.old }
+/// What `P recv PORT` says, from the field behind the word on.
+fn read_recv(pid: &[u8], fields: &mut Fields, entry: &mut Entry) -> Result<(), Kind>
+    ensures { Fills result entry.new (read_recv pid.now fields.old) }
 {
     let Some(port) = fields.next_field() else {
         return Err(Kind::BadStep);
@@ -97,13 +116,15 @@ fn read_recv(pid: &[u8], fields: &mut Fields) -> Result<Entry, Kind>
     if fields.next_field().is_some() {
         return Err(Kind::BadStep);
     }
-    let pid = numeral(pid, 255)?;
+    let pid = numeral(pid, u8::MAX.into())?;
     let case = recv_of(port)?;
-    Ok(lone(pid as u8, case))
+    set_call(entry, pid as u8, case);
+    Ok(())
 }
 
-fn read_close(pid: &[u8], fields: &mut Fields) -> Result<Entry, Kind>
-    ensures { result ≡ read_close pid.now fields.old }
+/// What `P close PORT` says, from the field behind the word on.
+fn read_close(pid: &[u8], fields: &mut Fields, entry: &mut Entry) -> Result<(), Kind>
+    ensures { Fills result entry.new (read_close pid.now fields.old) }
 {
     let Some(port) = fields.next_field() else {
         return Err(Kind::BadStep);
@@ -111,50 +132,55 @@ fn read_close(pid: &[u8], fields: &mut Fields) -> Result<Entry, Kind>
     if fields.next_field().is_some() {
         return Err(Kind::BadStep);
     }
-    let pid = numeral(pid, 255)?;
-    let port = numeral(port, 65535)?;
-    Ok(Entry {
-        pid: Pid(pid as u8),
-        step: Step::Close(Port(port as u16)),
-    })
+    let pid = numeral(pid, u8::MAX.into())?;
+    let port = numeral(port, u16::MAX.into())?;
+    entry.pid = Pid(pid as u8);
+    entry.step = Step::Close(Port(port as u16));
+    Ok(())
 }
 
-fn read_exit(pid: &[u8], fields: &mut Fields) -> Result<Entry, Kind>
-    ensures { result ≡ read_exit pid.now fields.old }
+/// What `P exit` says, from the field behind the word on.
+fn read_exit(pid: &[u8], fields: &mut Fields, entry: &mut Entry) -> Result<(), Kind>
+    ensures { Fills result entry.new (read_exit pid.now fields.old) }
 {
     if fields.next_field().is_some() {
         return Err(Kind::BadStep);
     }
-    let pid = numeral(pid, 255)?;
-    Ok(Entry {
-        pid: Pid(pid as u8),
-        step: Step::Exit,
-    })
+    let pid = numeral(pid, u8::MAX.into())?;
+    entry.pid = Pid(pid as u8);
+    entry.step = Step::Exit;
+    Ok(())
 }
 
-fn read_step(pid: &[u8], word: &[u8], fields: &mut Fields) -> Result<Entry, Kind>
-    ensures { result ≡ read_step pid.now word.now fields.old }
+/// What a line says, by its second field.
+fn read_step(
+    pid: &[u8],
+    word: &[u8],
+    fields: &mut Fields,
+    entry: &mut Entry,
+) -> Result<(), Kind>
+    ensures { Fills result entry.new (read_step pid.now word.now fields.old) }
 {
     if same_text(word, b"make") {
-        read_make(pid, fields)
+        read_make(pid, fields, entry)
     } else if same_text(word, b"send") {
-        read_send(pid, fields)
+        read_send(pid, fields, entry)
     } else if same_text(word, b"recv") {
-        read_recv(pid, fields)
+        read_recv(pid, fields, entry)
     } else if same_text(word, b"select") {
-        read_select(pid, fields)
+        read_select(pid, fields, entry)
     } else if same_text(word, b"close") {
-        read_close(pid, fields)
+        read_close(pid, fields, entry)
     } else if same_text(word, b"exit") {
-        read_exit(pid, fields)
+        read_exit(pid, fields, entry)
     } else {
         Err(Kind::BadStep)
     }
 }
 
 /// What a line without its newline says.
-pub fn read_line(line: &[u8]) -> Result<Entry, Kind>
-    ensures { result ≡ read_fields (pieces 32 line.now) }
+pub fn read_line(line: &[u8], entry: &mut Entry) -> Result<(), Kind>
+    ensures { Fills result entry.new (read_fields (pieces 32 line.now)) }
 {
     let mut fields = Fields::of(line, b' ');
     let Some(pid) = fields.next_field() else {
@@ -163,5 +189,5 @@ pub fn read_line(line: &[u8]) -> Result<Entry, Kind>
     let Some(word) = fields.next_field() else {
         return Err(Kind::BadStep);
     };
-    read_step(pid, word, &mut fields)
+    read_step(pid, word, &mut fields, entry)
 }

@@ -1,8 +1,8 @@
-//! Writing journals and events: each function appends exactly one spelling, or changes nothing.
+//! Writing journals and events. A private function that is refused may leave a part behind, which
+//! the public one takes back.
 
-ghost use Rattle.std.specs.Prelude.{◌≡◌, ◌++◌, ◌∷◌, [], codes, decimal, OnOk, OnErr, IsOk, ◌↔◌, take, length, is_ok, if◌then◌else◌, ℕ, ◌^◌, ◌<◌, ◌≤◌, Contains, List};
+ghost use Rattle.std.specs.Prelude.{◌≡◌, ◌++◌, codes, decimal, OnOk, OnErr, IsOk, ◌↔◌, take, is_ok, if◌then◌else◌, ℕ, ◌<◌, ◌≤◌, List};
 ghost use Rattle.hub_base.specs.EventText.{event_line, what_text, outcome_text};
-ghost use Rattle.hub_base.specs.Faults.{fault_number};
 ghost use Rattle.hub_base.specs.Lines.{case_field, select_fields, call_fields, step_fields, line};
 ghost use Rattle.hub_base.specs.Reading.{head};
 ghost use Rattle.hub_base.specs.Writing.{spaced, spaced_cases};
@@ -12,12 +12,14 @@ use crate::{Case, Entry, Event, NoMemory, Outcome, Step, Value, What};
 use itoa::Buffer;
 use std::alloc::AllocError;
 
+/// Appends these bytes.
 fn put(out: &mut Vec<u8>, bytes: &[u8]) -> Result<(), AllocError>
     ensures { out.new.items ≡ (if is_ok result then out.old.items ++ bytes.now else out.old.items) }
 {
     out.extend_from_slice(bytes)
 }
 
+/// Appends a number in decimal digits.
 fn put_number(out: &mut Vec<u8>, n: u64) -> Result<(), AllocError>
     ensures { out.new.items ≡ (if is_ok result then out.old.items ++ decimal n else out.old.items) }
 {
@@ -25,9 +27,10 @@ fn put_number(out: &mut Vec<u8>, n: u64) -> Result<(), AllocError>
     put(out, buffer.format(n).as_bytes())
 }
 
-/// The value as its text spells it.
+/// Appends a value.
 fn put_value(out: &mut Vec<u8>, value: Value) -> Result<(), AllocError>
-    ensures { out.new.items ≡ (if is_ok result then out.old.items ++ value_field value else out.old.items) }
+    ensures { out.new.items
+        ≡ (if is_ok result then out.old.items ++ value_field value else out.old.items) }
 {
     put_number(out, value.number())
 }
@@ -51,6 +54,7 @@ fn undo_if_refused(
     }
 }
 
+/// Appends how a communication ended, behind a space.
 fn put_outcome(out: &mut Vec<u8>, outcome: Outcome) -> Result<(), AllocError>
     ensures ok { OnOk result (out.new.items ≡ out.old.items ++ outcome_text outcome) }
     ensures err { OnErr result ((rest : List ℕ) × (out.new.items ≡ out.old.items ++ rest)) }
@@ -66,6 +70,7 @@ fn put_outcome(out: &mut Vec<u8>, outcome: Outcome) -> Result<(), AllocError>
     }
 }
 
+/// Appends what a process is told, behind a space.
 fn put_what(out: &mut Vec<u8>, what: What) -> Result<(), AllocError>
     ensures ok { OnOk result (out.new.items ≡ out.old.items ++ what_text what) }
     ensures err { OnErr result ((rest : List ℕ) × (out.new.items ≡ out.old.items ++ rest)) }
@@ -91,6 +96,7 @@ fn put_what(out: &mut Vec<u8>, what: What) -> Result<(), AllocError>
     }
 }
 
+/// Appends a line.
 fn put_event(out: &mut Vec<u8>, event: &Event) -> Result<(), AllocError>
     ensures ok { OnOk result (out.new.items ≡ out.old.items ++ event_line event.now) }
     ensures err { OnErr result ((rest : List ℕ) × (out.new.items ≡ out.old.items ++ rest)) }
@@ -100,7 +106,7 @@ fn put_event(out: &mut Vec<u8>, event: &Event) -> Result<(), AllocError>
     put(out, b"\n")
 }
 
-/// Appends the event's line, or nothing.
+/// Appends the event's line; `Err` where a growth was refused, with nothing appended.
 pub fn write_event(out: &mut Vec<u8>, event: &Event) -> Result<(), NoMemory>
     ensures ok { OnOk result (out.new.items ≡ out.old.items ++ event_line event.now) }
     ensures err { OnErr result (out.new.items ≡ out.old.items) }
@@ -110,6 +116,7 @@ pub fn write_event(out: &mut Vec<u8>, event: &Event) -> Result<(), NoMemory>
     undo_if_refused(out, before, done)
 }
 
+/// Appends a case of a select, behind a space.
 fn put_case(out: &mut Vec<u8>, case: Case) -> Result<(), AllocError>
     ensures ok { OnOk result (out.new.items ≡ out.old.items ++ codes " " ++ case_field case) }
     ensures err { OnErr result ((rest : List ℕ) × (out.new.items ≡ out.old.items ++ rest)) }
@@ -128,6 +135,7 @@ fn put_case(out: &mut Vec<u8>, case: Case) -> Result<(), AllocError>
     }
 }
 
+/// Appends the cases of a select, each behind a space.
 fn put_cases(out: &mut Vec<u8>, cases: &[Case]) -> Result<(), AllocError>
     ensures ok { OnOk result (out.new.items ≡ out.old.items ++ spaced_cases cases.now) }
     ensures err { OnErr result ((rest : List ℕ) × (out.new.items ≡ out.old.items ++ rest)) }
@@ -141,8 +149,10 @@ fn put_cases(out: &mut Vec<u8>, cases: &[Case]) -> Result<(), AllocError>
     Ok(())
 }
 
+/// Appends a call that has no short form.
 fn put_select(out: &mut Vec<u8>, cases: &[Case], default: bool, word: u64) -> Result<(), AllocError>
-    ensures ok { OnOk result (out.new.items ≡ out.old.items ++ spaced (select_fields cases.now default word)) }
+    ensures ok { OnOk result (
+        out.new.items ≡ out.old.items ++ spaced (select_fields cases.now default word)) }
     ensures err { OnErr result ((rest : List ℕ) × (out.new.items ≡ out.old.items ++ rest)) }
 {
     put(out, b" select ")?;
@@ -154,8 +164,10 @@ fn put_select(out: &mut Vec<u8>, cases: &[Case], default: bool, word: u64) -> Re
     Ok(())
 }
 
+/// Appends a call: one of one case without default and with word 0 has a short form.
 fn put_call(out: &mut Vec<u8>, cases: &[Case], default: bool, word: u64) -> Result<(), AllocError>
-    ensures ok { OnOk result (out.new.items ≡ out.old.items ++ spaced (call_fields cases.now default word)) }
+    ensures ok { OnOk result (
+        out.new.items ≡ out.old.items ++ spaced (call_fields cases.now default word)) }
     ensures err { OnErr result ((rest : List ℕ) × (out.new.items ≡ out.old.items ++ rest)) }
 {
     if cases.len() != 1 || default || word != 0 {
@@ -175,6 +187,7 @@ fn put_call(out: &mut Vec<u8>, cases: &[Case], default: bool, word: u64) -> Resu
     }
 }
 
+/// Appends a step, behind a space.
 fn put_step(out: &mut Vec<u8>, step: &Step) -> Result<(), AllocError>
     ensures ok { OnOk result (out.new.items ≡ out.old.items ++ spaced (step_fields step.now)) }
     ensures err { OnErr result ((rest : List ℕ) × (out.new.items ≡ out.old.items ++ rest)) }
@@ -197,6 +210,7 @@ fn put_step(out: &mut Vec<u8>, step: &Step) -> Result<(), AllocError>
     }
 }
 
+/// Appends a line.
 fn put_entry(out: &mut Vec<u8>, entry: &Entry) -> Result<(), AllocError>
     ensures ok { OnOk result (out.new.items ≡ out.old.items ++ line entry.now) }
     ensures err { OnErr result ((rest : List ℕ) × (out.new.items ≡ out.old.items ++ rest)) }
@@ -206,7 +220,8 @@ fn put_entry(out: &mut Vec<u8>, entry: &Entry) -> Result<(), AllocError>
     put(out, b"\n")
 }
 
-/// Appends the entry's line, or nothing.
+/// Appends the entry's one spelling, a line; `Err` where a growth was refused, with nothing
+/// appended. It is read again as this entry.
 pub fn write_entry(out: &mut Vec<u8>, entry: &Entry) -> Result<(), NoMemory>
     ensures ok { OnOk result (out.new.items ≡ out.old.items ++ line entry.now) }
     ensures err { OnErr result (out.new.items ≡ out.old.items) }
@@ -216,6 +231,7 @@ pub fn write_entry(out: &mut Vec<u8>, entry: &Entry) -> Result<(), NoMemory>
     undo_if_refused(out, before, done)
 }
 
+/// Appends the two head lines.
 fn put_head(out: &mut Vec<u8>, procs: u8) -> Result<(), AllocError>
     ensures ok { OnOk result (out.new.items ≡ out.old.items ++ head procs) }
     ensures err { OnErr result ((rest : List ℕ) × (out.new.items ≡ out.old.items ++ rest)) }
@@ -226,7 +242,8 @@ fn put_head(out: &mut Vec<u8>, procs: u8) -> Result<(), AllocError>
     put(out, b"\n")
 }
 
-/// Appends the first two lines of a journal, or nothing.
+/// Appends the first two lines of a journal of 1 to 64 processes; `Err` where a growth was refused,
+/// with nothing appended.
 pub fn write_head(out: &mut Vec<u8>, procs: u8) -> Result<(), NoMemory>
     requires { (1 ≤ procs) × (procs ≤ 64) }
     ensures ok { OnOk result (out.new.items ≡ out.old.items ++ head procs) }

@@ -1,6 +1,6 @@
 -- What was read and what is left say together what was left at first.
 use Rattle.std.proofs.Common.{◌≡◌}
-use Rattle.hub_base.specs.Answers.{behind}
+use Rattle.hub_base.specs.Reading.{behind}
 use Rattle.hub_base.proofs.text.reader.collect_entries.Given as goal
 
 abbrev pub invariant-loop-entry : goal.invariant-loop-entry

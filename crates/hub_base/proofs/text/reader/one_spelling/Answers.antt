@@ -1,4 +1,4 @@
-use Rattle.hub_base.proofs.Heads.{one-spelling}
+use Rattle.hub_base.proofs.OneReading.{one-spelling}
 use Rattle.hub_base.proofs.text.reader.one_spelling.Goals as goal
 
 pub returns : goal.returns

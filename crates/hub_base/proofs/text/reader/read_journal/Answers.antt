@@ -1,4 +1,4 @@
-use Rattle.hub_base.proofs.Heads.{gives-text, gives-fault, found-text, found-fault}
+use Rattle.hub_base.proofs.OneReading.{gives-text, gives-fault, found-text, found-fault}
 use Rattle.hub_base.proofs.text.reader.read_journal.Goals as goal
 
 pub returns-clause-found : goal.returns-clause-found

@@ -1,0 +1,84 @@
+-- What the calls that read a journal promise, and the laws of texts.
+use Rattle.std.proofs.Common.{◌≡◌, ℕ, List, ◌∷◌, ◌++◌, inl, inr, refl, ap, ◌∙◌, sym, subst, Result, Ok, Err}
+use Rattle.std.specs.Prelude.{IfOk, IfErr}
+use Rattle.std.specs.List.{flat_map}
+use Rattle.hub_base.specs.declared.entry.Entry.{Entry}
+use Rattle.hub_base.specs.declared.text.faults.Kind.{Kind}
+use Rattle.hub_base.specs.Lines.{pieces, line, read_fields}
+use Rattle.hub_base.specs.Reading.{Row, rows, Reading, Reads, Faulty, read_text}
+use Rattle.hub_base.specs.declared.text.faults.ReadFault.{ReadFault}
+use Rattle.hub_base.specs.declared.text.faults.ReadFault.TheVariants as fault
+use Rattle.hub_base.specs.Journal.{JournalView}
+use Rattle.hub_base.specs.ReadJournal.{Gives, IsFaultOf}
+use Rattle.hub_base.specs.Text.{Fits, IsText, row_of, IsFaulty, IsEither}
+use Rattle.hub_base.proofs.Bodies.{rows-entry, body-again}
+use Rattle.hub_base.proofs.Heads.{row_bytes, text-again, text-take, unrows}
+use Rattle.hub_base.proofs.FaultyTexts.{fault-again, fault-take}
+
+either : (bytes : List ℕ) (r : Reading) → read_text bytes ≡ r → IsEither bytes
+either bytes (Reads n es) h = inl (n, es, text-take bytes n es h)
+either bytes (Faulty k kind) h = inr (k, kind, fault-take bytes k kind h)
+
+-- each list of bytes is a text or faulty
+pub is-either : (bytes : List ℕ) → IsEither bytes
+is-either bytes = either bytes (read_text bytes) refl
+
+reads-one : (n m : ℕ) (es fs : List Entry) → Reads n es ≡ Reads m fs → (n ≡ m) × (es ≡ fs)
+reads-one n m es fs h = (cc, cc)
+
+faulty-one : (j k : ℕ) (kind other : Kind) → Faulty j kind ≡ Faulty k other → (j ≡ k) × (kind ≡ other)
+faulty-one j k kind other h = (cc, cc)
+
+reads-faulty : (n k : ℕ) (es : List Entry) (kind : Kind) → Reads n es ≡ Faulty k kind → ⊥
+reads-faulty n k es kind h = cc
+
+-- a text of one journal
+pub one-text : (bytes : List ℕ) (n m : ℕ) (es fs : List Entry) → IsText bytes n es → IsText bytes m fs → (n ≡ m) × (es ≡ fs)
+one-text bytes n m es fs s t = reads-one n m es fs (sym (text-again bytes n es s) ∙ text-again bytes m fs t)
+
+-- faulty at one line, for one fault
+pub one-fault : (bytes : List ℕ) (j k : ℕ) (kind other : Kind) → IsFaulty bytes j kind → IsFaulty bytes k other → (j ≡ k) × (kind ≡ other)
+one-fault bytes j k kind other s t = faulty-one j k kind other (sym (fault-again bytes j kind s) ∙ fault-again bytes k other t)
+
+-- and not both
+pub apart : (bytes : List ℕ) (n k : ℕ) (es : List Entry) (kind : Kind) → IsText bytes n es → IsFaulty bytes k kind → ⊥
+apart bytes n k es kind s t = reads-faulty n k es kind (sym (text-again bytes n es s) ∙ fault-again bytes k kind t)
+
+abbrev told : Entry → Result Entry Kind
+told e = Ok e
+
+ok-one : (e f : Entry) → told e ≡ told f → e ≡ f
+ok-one e f h = cc
+
+rows-one : (r s : Row) (rs ss : List Row) → r ∷ rs ≡ s ∷ ss → (r ≡ s) × (rs ≡ ss)
+rows-one r s rs ss h = (cc, cc)
+
+-- no spelling begins another
+pub one-spelling : (e f : Entry) (x y : List ℕ) → Fits e → Fits f → line e ++ x ≡ line f ++ y → (e ≡ f) × (x ≡ y)
+one-spelling e f x y fe ff h =
+    let both = rows-one (row_of e) (row_of f) (rows x) (rows y) (sym (rows-entry e x fe) ∙ ap rows h ∙ rows-entry f y ff) in (
+      ok-one e f (sym (body-again e fe) ∙ ap (λ (r : Row). read_fields (pieces 32 r.bytes)) both.0 ∙ body-again f ff),
+      sym (unrows x) ∙ ap (flat_map row_bytes) both.1 ∙ unrows y,
+    )
+
+-- what answers the reading answers the text
+pub gives-text : (bytes : List ℕ) (r : Result JournalView ReadFault) → Gives r (read_text bytes) → (n : ℕ) (es : List Entry) → IsText bytes n es → Gives r (Reads n es)
+gives-text bytes r g n es t = let P : Reading → Type 0 = λ x. Gives r x in subst P (text-again bytes n es t) g
+
+-- and the fault
+pub gives-fault : (bytes : List ℕ) (r : Result JournalView ReadFault) → Gives r (read_text bytes) → (k : ℕ) (kind : Kind) → IsFaulty bytes k kind → Gives r (Faulty k kind)
+gives-fault bytes r g k kind f = let P : Reading → Type 0 = λ x. Gives r x in subst P (fault-again bytes k kind f) g
+
+-- a journal that was answered is the text's
+pub found-text : (bytes : List ℕ) (r : Result JournalView ReadFault) → Gives r (read_text bytes) → IfOk r (λ j. IsText bytes j.procs j.entries)
+found-text bytes (Ok j) g = text-take bytes j.procs j.entries g
+found-text bytes (Err f) g = tt
+
+fault-of : (bytes : List ℕ) (f : ReadFault) → Gives (Err f) (read_text bytes) → IsFaultOf bytes f
+fault-of bytes (fault.Text f) g = fault-take bytes f.line f.kind g
+fault-of bytes fault.NoMemory g = tt
+
+-- a fault that was answered is the text's
+pub found-fault : (bytes : List ℕ) (r : Result JournalView ReadFault) → Gives r (read_text bytes) → IfErr r (λ f. IsFaultOf bytes f)
+found-fault bytes (Ok j) g = tt
+found-fault bytes (Err f) g = fault-of bytes f g

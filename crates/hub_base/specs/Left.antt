@@ -1,7 +1,0 @@
-use Rattle.std.specs.Prelude.{ℕ, List, [], Option, None, Some}
-use Rattle.std.specs.Borrow.{Bor}
-use Rattle.hub_base.specs.Lines.{pieces}
-
-abbrev pub pieces_left : ℕ → Option (Bor (List ℕ)) → List (List ℕ)
-pieces_left mark None = []
-pieces_left mark (Some rest) = pieces mark rest.now

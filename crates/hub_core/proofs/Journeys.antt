@@ -1,0 +1,119 @@
+-- A run, entry by entry.
+use Rattle.std.proofs.Common.{◌≡◌, ℕ, zero, suc, ◌+◌, ◌≤◌, ◌<◌, Bool, true, false, List, [], ◌∷◌, ◌++◌, length, take, get_or, refl, ap, ◌∙◌, sym, subst, Option, Some, None, arith, nat_lt}
+use Rattle.std.specs.Prelude.{slice_get}
+use Rattle.std.proofs.lemmas.Grind.{common_steps}
+use Rattle.hub_base.specs.declared.value.Port.{Port}
+use Rattle.hub_base.specs.declared.entry.Entry.{Entry}
+use Rattle.hub_base.specs.declared.event.Event.{Event}
+use Rattle.hub_base.specs.State.{State, Channel, opening, channel_at, buffer_of}
+use Rattle.hub_base.specs.Steps.{Change, refusal}
+use Rattle.hub_base.specs.Runs.{state, events, kept, keeps, moves, kept_after}
+use Rattle.hub_base.specs.Values.{sent_values, received_values}
+use Rattle.hub_base.specs.Reading.{is_exit}
+use Rattle.hub_base.specs.Text.{steps_of}
+use Rattle.hub_laws.proofs.Journals.{state-kept}
+use Rattle.hub_laws.proofs.Longer.{events-entry, kept-entry}
+use Rattle.hub_laws.proofs.Values.{values-law}
+use Rattle.hub_core.specs.HubView.{HubView, state_of, HasRoom, IsFullFor}
+use Rattle.hub_base.specs.declared.fault.Fault.{Fault}
+use Rattle.hub_base.specs.declared.fault.Fault.TheVariants as fault
+use Rattle.hub_core.specs.RunsTo.{RunsTo, TellsOn, StopsAt, IsFullAt, IsFirstFull, IsOpenUpTo, RefusesAt, KeepsValues}
+
+-- the run so far, and no place so far where the journal was full
+pub record RunSoFar (n most : ℕ) (es : List Entry) (i : ℕ) (hub : HubView) (told : List Event) : Type 0 where
+  pub run : RunsTo n most (take i es) hub told
+  pub room : (j : ℕ) → j < i → ¬ IsFullAt n most es j
+
+take_one : (es : List Entry) (i : ℕ) (e : Entry) → slice_get es i ≡ Some e → take (i + 1) es ≡ take i es ++ e ∷ []
+take_one es i e h = ap (λ k. take k es) (suc-of i) ∙ take_suc es i e h where
+  suc-of : (i : ℕ) → i + 1 ≡ suc i
+  suc-of i = omega arith
+
+  take_suc : (es : List Entry) (i : ℕ) (e : Entry) → slice_get es i ≡ Some e → take (suc i) es ≡ take i es ++ e ∷ []
+  take_suc [] i e h = cc
+  take_suc (x ∷ es) zero e h = let same : x ≡ e = cc in ap (λ y. y ∷ []) same
+  take_suc (x ∷ es) (suc i) e h = ap (λ ys. x ∷ ys) (take_suc es i e h)
+
+-- the hub's state is the run's
+pub state_of-run : (n most : ℕ) (es : List Entry) (hub : HubView) (told : List Event) → RunsTo n most es hub told → state_of hub ≡ state n es
+state_of-run n most es hub told r = ap (λ k. state k hub.journal) r.procs ∙ ap (state n) r.journal ∙ state-kept n es
+
+same_entry : (es : List Entry) (i : ℕ) (e f : Entry) → slice_get es i ≡ Some e → slice_get es i ≡ Some f → f ≡ e
+same_entry es i e f h g = cc
+
+not_full : (n most : ℕ) (es : List Entry) (i : ℕ) (e : Entry) (hub : HubView) (told : List Event) → RunsTo n most (take i es) hub told → slice_get es i ≡ Some e → HasRoom hub e → ¬ IsFullAt n most es i
+not_full n most es i e hub told r h room = λ full.
+    let same = same_entry es i e full.entry h full.stands in
+    let step : is_exit e.step ≡ false = ap (λ (f : Entry). is_exit f.step) (sym same) ∙ full.step in
+    absurd (omega (arith, room step, full.full, ap steps_of r.journal, r.limit))
+
+-- one entry more that is no place where the journal is full
+more_room : (n most : ℕ) (es : List Entry) (i : ℕ) → ((j : ℕ) → j < i → ¬ IsFullAt n most es j) → ¬ IsFullAt n most es i → (j : ℕ) → j < i + 1 → ¬ IsFullAt n most es j
+more_room n most es i before here j h = by_order (nat_lt j i) refl where
+  by_order : (b : Bool) → nat_lt j i ≡ b → ¬ IsFullAt n most es j
+  by_order true is = before j (grind (arith, common_steps))
+  by_order false is = let same : j ≡ i = grind (arith, common_steps) in subst (λ (k : ℕ). ¬ IsFullAt n most es k) (sym same) here
+
+pub run_on : (n most : ℕ) (es : List Entry) (i : ℕ) (e : Entry) (old new : HubView) (before after : List Event) → RunSoFar n most es i old before → slice_get es i ≡ Some e → TellsOn old e new before after →
+    RunSoFar n most es (i + 1) new after
+run_on n most es i e old new before after r h t =
+    let grown = take_one es i e h in
+    let same = state_of-run n most (take i es) old before r.run in
+    record {
+      run = record {
+        procs = t.procs ∙ r.run.procs;
+        limit = t.limit ∙ r.run.limit;
+        events =
+            t.events
+            ∙ ap (λ xs. xs ++ (moves (state_of old) e).events) r.run.events
+            ∙ ap (λ (s : State). events n (take i es) ++ (moves s e).events) same
+            ∙ sym (events-entry n (take i es) e)
+            ∙ ap (events n) (sym grown);
+        journal =
+            t.journal
+            ∙ ap (λ xs. xs ++ keeps (refusal (state_of old) e.pid) e []) r.run.journal
+            ∙ ap (λ (s : State). kept n (take i es) ++ keeps (refusal s e.pid) e []) same
+            ∙ sym (kept-entry n (take i es) e)
+            ∙ ap (kept n) (sym grown);
+      };
+      room = more_room n most es i r.room (not_full n most es i e old before r.run h t.room);
+    }
+
+pub first_full : (n most : ℕ) (es : List Entry) (i : ℕ) (e : Entry) (hub : HubView) (told : List Event) → RunSoFar n most es i hub told → slice_get es i ≡ Some e → IsFullFor hub e → IsFirstFull n most es i
+first_full n most es i e hub told r h full =
+    (record { entry = e; stands = h; step = full.0; full = omega (arith, full.1, ap steps_of r.run.journal, r.run.limit) }, r.room)
+
+get_below : (es : List Entry) (i : ℕ) (e : Entry) → slice_get es i ≡ Some e → i < length es
+get_below [] i e h = cc
+get_below (x ∷ es) zero e h = omega arith
+get_below (x ∷ es) (suc i) e h = omega (arith, get_below es i e h)
+
+pub room_up_to : (n most : ℕ) (es : List Entry) (i : ℕ) (e : Entry) (hub : HubView) (told : List Event) → RunSoFar n most es i hub told → slice_get es i ≡ Some e → HasRoom hub e → IsOpenUpTo n most es i
+room_up_to n most es i e hub told r h room = (get_below es i e h, more_room n most es i r.room (not_full n most es i e hub told r.run h room))
+
+take_all : (es : List Entry) → take (length es) es ≡ es
+take_all [] = refl
+take_all (e ∷ es) = ap (λ xs. e ∷ xs) (take_all es)
+
+pub run_whole : (n most : ℕ) (es : List Entry) (i : ℕ) (hub : HubView) (told : List Event) → RunSoFar n most es i hub told → i ≡ length es → RunsTo n most es hub told
+run_whole n most es i hub told r is = subst (λ (xs : List Entry). RunsTo n most xs hub told) (ap (λ k. take k es) is ∙ take_all es) r.run
+
+pub never_full : (n most : ℕ) (es : List Entry) (i : ℕ) (hub : HubView) (told : List Event) → RunSoFar n most es i hub told → i ≡ length es → (j : ℕ) → ¬ IsFullAt n most es j
+never_full n most es i hub told r is j = λ full. r.room j (omega (arith, get_below es j full.entry full.stands)) full
+
+pub values_kept : (n most : ℕ) (es : List Entry) (hub : HubView) (told : List Event) → RunsTo n most es hub told → KeepsValues n es hub
+values_kept n most es hub told r = λ p c h. values-law n es p c (subst (λ (s : State). channel_at s p ≡ Some c) (state_of-run n most es hub told r) h)
+
+pub run_opening : (n most : ℕ) (es : List Entry) (hub : HubView) → hub.procs ≡ n → hub.limit ≡ most → hub.journal ≡ [] → RunSoFar n most es 0 hub []
+run_opening n most es hub procs limit journal = record { run = record { procs = procs; limit = limit; events = refl; journal = journal }; room = λ j h. absurd (omega arith) }
+
+pub refuses_at : (n most : ℕ) (es : List Entry) (i : ℕ) (e : Entry) (hub : HubView) (told : List Event) (f : Fault) → RunSoFar n most es i hub told → slice_get es i ≡ Some e → StopsAt hub e f → RefusesAt n most es i f
+refuses_at n most es i e hub told fault.JournalFull r h stop = first_full n most es i e hub told r h stop
+refuses_at n most es i e hub told fault.NoMemory r h stop = room_up_to n most es i e hub told r h stop
+refuses_at n most es i e hub told other r h stop = absurd stop
+
+-- the entry that was read at a place
+pub entry_at : (es : List Entry) (i : ℕ) (e : Entry) → i < length es → e ≡ get_or es i e → slice_get es i ≡ Some e
+entry_at [] i e h is = absurd (omega arith)
+entry_at (x ∷ es) zero e h is = ap (λ y. Some y) (sym is)
+entry_at (x ∷ es) (suc i) e h is = entry_at es i e (omega arith) is

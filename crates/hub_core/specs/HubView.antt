@@ -1,0 +1,89 @@
+-- What contracts see of a hub, and what a step of it does. All else that a hub shows is a function of
+-- `state procs journal`.
+use Rattle.std.specs.Prelude.{◌≡◌, ◌≤◌, ◌<◌, ◌-◌, ◌⊎◌, ℕ, true, false, List, [], ◌∷◌, ◌++◌, None, Some, ◌+◌, Bool, not, ◌&&◌, nat_le, if◌then◌else◌}
+use Rattle.hub_base.specs.declared.entry.Step.{Step}
+use Rattle.hub_base.specs.declared.entry.Step.TheVariants.{Make, Call, Close, Exit}
+use Rattle.hub_base.specs.declared.entry.Entry.{Entry}
+use Rattle.hub_base.specs.declared.event.Event.{Event}
+use Rattle.hub_base.specs.declared.fault.Fault.{Fault}
+use Rattle.hub_base.specs.declared.fault.Fault.TheVariants as fault
+use Rattle.hub_base.specs.State.{State}
+use Rattle.hub_base.specs.Steps.{refusal}
+use Rattle.hub_base.specs.Runs.{state, moves}
+use Rattle.hub_base.specs.Reading.{is_exit}
+use Rattle.hub_base.specs.Text.{steps_of}
+use Rattle.hub_core.specs.Follows.{IsMake}
+use Rattle.hub_core.specs.declared.opening.OpenFault.{OpenFault}
+use Rattle.hub_core.specs.declared.opening.OpenFault.TheVariants as opening_fault
+
+pub record HubView : Type 0 where
+  pub procs : ℕ
+  -- how many entries that are no exits the journal may hold
+  pub limit : ℕ
+  pub journal : List Entry
+  -- how many steps other than makes take no memory
+  pub places : ℕ
+
+abbrev pub state_of : HubView → State
+state_of h = state h.procs h.journal
+
+-- the journal can take the entry: it is an exit, or fewer than `limit` entries are none
+abbrev pub HasRoom : HubView → Entry → Type 0
+HasRoom h e = is_exit e.step ≡ false → steps_of h.journal < h.limit
+
+abbrev pub IsFullFor : HubView → Entry → Type 0
+IsFullFor h e = (is_exit e.step ≡ false) × (h.limit ≤ steps_of h.journal)
+
+-- a journal with so many entries that are no exits can't take the step
+abbrev pub is_full : Step → ℕ → ℕ → Bool
+is_full step count limit = not (is_exit step) && nat_le limit count
+
+-- an exit is not counted
+abbrev pub count_after : Step → ℕ → ℕ
+count_after step count = if is_exit step then count else count + 1
+
+-- a close or a call takes one place
+abbrev pub places_after : Step → ℕ → ℕ
+places_after (Make cap) places = places
+places_after (Call cases default word) places = places - 1
+places_after (Close p) places = places - 1
+places_after Exit places = places
+
+-- what a step that was made leaves and tells
+pub record Steps (old : HubView) (e : Entry) (new : HubView) (told : List Event) : Type 0 where
+  pub room : HasRoom old e
+  pub admitted : refusal (state_of old) e.pid ≡ None
+  pub events : told ≡ (moves (state_of old) e).events
+  pub journal : new ≡ record { procs = old.procs; limit = old.limit; journal = old.journal ++ e ∷ []; places = places_after e.step old.places }
+
+-- a growth is asked for by a make, and by a close or a call where no place is left
+abbrev pub Grows : Step → ℕ → Type 0
+Grows (Make cap) places = Unit {0}
+Grows (Call cases default word) places = places ≡ 0
+Grows (Close p) places = places ≡ 0
+Grows Exit places = ⊥
+
+-- when each refusal comes: the tests stand in the order 10, 1, 2, 3, 11
+abbrev pub Refuses : HubView → Entry → Fault → Type 0
+Refuses h e fault.JournalFull = IsFullFor h e
+Refuses h e fault.NoProcess = HasRoom h e × (refusal (state_of h) e.pid ≡ Some fault.NoProcess)
+Refuses h e fault.Gone = HasRoom h e × (refusal (state_of h) e.pid ≡ Some fault.Gone)
+Refuses h e fault.Busy = HasRoom h e × (refusal (state_of h) e.pid ≡ Some fault.Busy)
+Refuses h e fault.NoMemory = HasRoom h e × (refusal (state_of h) e.pid ≡ None) × Grows e.step h.places
+Refuses h e other = ⊥
+
+-- a hub of n processes with this limit, at which nothing has happened
+abbrev pub opened_hub : ℕ → ℕ → HubView
+opened_hub n limit = record { procs = n; limit = limit; journal = []; places = 0 }
+
+abbrev pub IsProcs : ℕ → Type 0
+IsProcs n = (1 ≤ n) × (n ≤ 64)
+
+abbrev pub IsLimit : ℕ → Type 0
+IsLimit limit = (1 ≤ limit) × (limit ≤ 1000000)
+
+-- when each refusal of an opening comes
+abbrev pub RefusesOpening : ℕ → ℕ → OpenFault → Type 0
+RefusesOpening n limit opening_fault.BadProcs = (n ≡ 0) ⊎ (64 < n)
+RefusesOpening n limit opening_fault.BadLimit = IsProcs n × ((limit ≡ 0) ⊎ (1000000 < limit))
+RefusesOpening n limit opening_fault.NoMemory = IsProcs n × IsLimit limit

@@ -1,0 +1,201 @@
+//! A hub: a machine and its journal.
+//!
+//! The journal has room for the exit of each process from the opening on, and for the steps that were
+//! reserved; so neither an exit nor a reserved step asks for memory.
+
+ghost use Rattle.std.specs.Prelude.{◌≡◌, ◌≤◌, ◌<◌, ◌+◌, ◌-◌, ◌^◌, [], IfOk, IfErr, OnOk, OnErr, vec_len, max};
+ghost use Rattle.std.specs.Vec.{vec_capacity};
+ghost use Rattle.hub_base.specs.Reading.{is_exit};
+ghost use Rattle.hub_base.specs.Runs.{kept};
+ghost use Rattle.hub_core.specs.Looks.{look_at, value_at};
+ghost use Rattle.hub_core.specs.HubView.{HubView, Steps, Refuses, Grows, RefusesOpening, opened_hub, is_full, count_after, places_after, state_of, IsProcs, IsLimit};
+
+use crate::{Machine, OpenFault};
+use hub_base::{Entry, Events, Fault, Journal, Look, Port, Step, Value};
+use std::alloc::{AllocError, Global};
+use std::marker::Model;
+
+/// A hub of channels: makes the steps of its processes, tells what follows, and keeps the journal of them.
+#[derive(Drop)]
+pub struct Hub {
+    procs: u8,
+    limit: u32,
+    places: u32,
+    /// How many entries of the journal are no exits.
+    count: u32,
+    machine: Machine,
+    entries: Vec<Entry>,
+}
+
+impl Model for Hub {
+    ghost use Rattle.hub_core.specs.HubView.{HubView};
+
+    ghost Value = { HubView };
+
+    ghost use Rattle.hub_core.specs.HubKeeps.{HubKeeps};
+
+    ghost view = { λ h. record { procs = h.procs; limit = h.limit; journal = h.entries.items; places = h.places } };
+
+    ghost invariant = { λ h. HubKeeps h };
+}
+
+fn is_exit(step: &Step) -> bool
+    ensures { result ≡ is_exit step.now }
+{
+    matches!(step, Step::Exit)
+}
+
+/// Whether a journal with so many entries that are no exits can't take the step.
+fn is_full(step: &Step, count: u32, limit: u32) -> bool
+    ensures { result ≡ is_full step.now count limit }
+{
+    !is_exit(step) && count >= limit
+}
+
+/// How many entries are no exits, after this one.
+fn count_after(step: &Step, count: u32) -> u32
+    requires { count < 2 ^ 32 - 1 }
+    ensures { result ≡ count_after step.now count }
+{
+    if is_exit(step) { count } else { count + 1 }
+}
+
+/// How many steps other than makes take no memory after this one.
+fn places_after(step: &Step, places: u32) -> u32
+    ensures { result ≡ places_after step.now places }
+{
+    match step {
+        Step::Make(_) | Step::Exit => places,
+        Step::Call { .. } | Step::Close(_) => places.saturating_sub(1),
+    }
+}
+
+/// Makes room for one more entry beside the places and the exits, where the step may ask for memory.
+fn make_room(
+    entries: &mut Vec<Entry>,
+    step: &Step,
+    places: u32,
+    procs: u8,
+) -> Result<(), AllocError>
+    ensures same { entries.new.items ≡ entries.old.items }
+    ensures capacity { vec_capacity entries.old ≤ vec_capacity entries.new }
+    ensures room { OnOk result (Grows step.now places → vec_len entries.new + places + procs + 1 ≤ vec_capacity entries.new) }
+    ensures err { OnErr result (Grows step.now places) }
+{
+    let more = places as usize + procs as usize + 1;
+    match step {
+        Step::Make(_) => entries.reserve(more),
+        Step::Call { .. } | Step::Close(_) => {
+            if places == 0 {
+                entries.reserve(more)
+            } else {
+                Ok(())
+            }
+        }
+        Step::Exit => Ok(()),
+    }
+}
+
+impl Hub {
+    /// A hub of 1 to 64 processes whose journal may hold 1 to 1,000,000 entries that are no exits.
+    pub fn open(alloc: Global, procs: u8, limit: u32) -> Result<Hub, OpenFault>
+        ensures ok { IfOk result (λ h. h ≡ opened_hub procs limit) }
+        ensures bounds { OnOk result (IsProcs procs × IsLimit limit) }
+        ensures err { IfErr result (λ f. RefusesOpening procs limit f) }
+    {
+        if procs == 0 || procs > 64 {
+            return Err(OpenFault::BadProcs);
+        }
+        if limit == 0 || limit > 1_000_000 {
+            return Err(OpenFault::BadLimit);
+        }
+        let Ok(machine) = Machine::open(alloc, procs) else {
+            return Err(OpenFault::NoMemory);
+        };
+        let Ok(entries) = Vec::with_capacity(alloc, procs.into()) else {
+            return Err(OpenFault::NoMemory);
+        };
+        Ok(Hub {
+            procs,
+            limit,
+            places: 0,
+            count: 0,
+            machine,
+            entries,
+        })
+    }
+
+    /// Makes a step. The first event is the caller's answer; the calls that ended follow, in order of arrival.
+    ///
+    /// Refused by faults 10, 1, 2, 3 and 11 alone, tested in this order; the hub is then as before. An exit is
+    /// never refused by 10 or 11, and only a make, or a step for which no place is left, by 11.
+    pub fn step(&mut self, entry: Entry) -> Result<Events, Fault>
+        ensures ok { IfOk result (λ events. Steps self.old entry self.new events.items) }
+        ensures refused { IfErr result (λ f. Refuses self.old entry f) }
+        ensures unchanged { OnErr result (self.new ≡ self.old) }
+    {
+        if is_full(&entry.step, self.count, self.limit) {
+            return Err(Fault::JournalFull);
+        }
+        if let Some(fault) = self.machine.refusal(entry.pid) {
+            return Err(fault);
+        }
+        let Ok(()) = make_room(&mut self.entries, &entry.step, self.places, self.procs) else {
+            return Err(Fault::NoMemory);
+        };
+        let mut events = Events::new();
+        let Ok(()) = self.machine.step(&entry, &mut events) else {
+            return Err(Fault::NoMemory);
+        };
+        self.count = count_after(&entry.step, self.count);
+        self.places = places_after(&entry.step, self.places);
+        match self.entries.push(entry) {
+            Ok(()) => Ok(events),
+            Err(_full) => unreachable!(),
+        }
+    }
+
+    /// Makes room in the journal: after `Ok` the next `k` steps other than makes take no memory. After a
+    /// refusal the hub is as before.
+    pub fn reserve(&mut self, k: u32) -> Result<(), AllocError>
+        ensures ok { OnOk result (self.new ≡ record self.old { places = max self.old.places k }) }
+        ensures unchanged { OnErr result (self.new ≡ self.old) }
+    {
+        if k > self.places {
+            self.entries.reserve(k as usize + self.procs as usize)?;
+            self.places = k;
+        }
+        Ok(())
+    }
+
+    /// The capacity and the counts of a port, or `None` for port 0 and for a port that was not made.
+    pub fn look(&self, port: Port) -> Option<Look>
+        ensures { result ≡ look_at (state_of self.now) port }
+    {
+        self.machine.look(port)
+    }
+
+    /// The value at a place of a port's buffer, 0 the oldest. `None` past its end, for port 0 and for a port
+    /// that was not made.
+    pub fn buffered(&self, port: Port, place: u32) -> Option<Value>
+        ensures { result ≡ value_at (state_of self.now) port place }
+    {
+        self.machine.buffered(port, place)
+    }
+
+    /// The journal so far. It is legal: each of its entries was admitted when it came.
+    pub fn entries(&self) -> &[Entry]
+        ensures journal { result.now ≡ self.now.journal }
+        ensures legal { kept self.now.procs self.now.journal ≡ self.now.journal }
+    {
+        &self.entries
+    }
+
+    /// The journal.
+    pub fn into_journal(self) -> Journal
+        ensures journal { result ≡ record { procs = self.procs; entries = self.journal } }
+        ensures legal { kept self.procs self.journal ≡ self.journal }
+    {
+        Journal::of(self.procs, self.entries)
+    }
+}

@@ -1,0 +1,92 @@
+//! Runs: a hub is opened, and makes the steps of a list in order.
+
+ghost use Rattle.std.specs.Prelude.{◌≡◌, ◌++◌, ◌∷◌, [], List, ℕ, length, IfOk, IfErr, OnOk};
+ghost use Rattle.hub_base.specs.declared.entry.Entry.{Entry};
+ghost use Rattle.hub_base.specs.declared.value.Pid.{Pid};
+ghost use Rattle.hub_base.specs.declared.value.Port.{Port};
+ghost use Rattle.hub_laws.specs.Once.{OnceLaw};
+ghost use Rattle.hub_laws.specs.AfterClose.{AfterCloseLaw};
+ghost use Rattle.hub_core.specs.RunsTo.{RunsTo, TellsOn, StopsAt, KeepsValues, RefusesRun, IsFullAt, close_of};
+
+use crate::{Hub, OpenFault};
+use hub_base::{Entry, Event, Fault, What};
+use std::alloc::{AllocError, Global};
+
+/// Why a run of steps ended early. Nothing is kept of it.
+#[derive(Clone, Copy, Debug, PartialEq, Eq)]
+pub enum ListFault {
+    /// The hub was not opened.
+    Open(OpenFault),
+    /// The entry at this place, counted from 0, found the journal full (fault 10), or a growth was refused
+    /// at it (fault 11).
+    At { index: usize, fault: Fault },
+}
+
+/// Makes one step and appends what follows; a step that is not admitted is told as one fault.
+fn answer(hub: &mut Hub, events: &mut Vec<Event>, entry: &Entry) -> Result<(), Fault>
+    ensures ok { OnOk result (TellsOn hub.old entry.now hub.new events.old.items events.new.items) }
+    ensures err { IfErr result (λ f. StopsAt hub.old entry.now f) }
+{
+    match hub.step(entry.copy()) {
+        Ok(told) => match events.extend_from_slice(told.as_slice()) {
+            Ok(()) => Ok(()),
+            Err(AllocError) => Err(Fault::NoMemory),
+        },
+        Err(fault) => match fault {
+            Fault::JournalFull => Err(Fault::JournalFull),
+            Fault::NoMemory => Err(Fault::NoMemory),
+            fault => {
+                let told = Event {
+                    pid: entry.pid,
+                    what: What::Fault(fault),
+                };
+                match events.push(told) {
+                    Ok(()) => Ok(()),
+                    Err(_refused) => Err(Fault::NoMemory),
+                }
+            }
+        },
+    }
+}
+
+/// Opens a hub of so many processes with this limit, makes the steps in order, and gives the hub and the
+/// events of them all. A step refused by fault 1, 2 or 3 gives that fault as the event of its process, and the
+/// run goes on; a refusal by 10 or 11 ends it.
+pub fn run(
+    alloc: Global,
+    procs: u8,
+    limit: u32,
+    entries: &[Entry],
+) -> Result<(Hub, Vec<Event>), ListFault>
+    // The events are the definition's, and the journal holds the admitted entries.
+    ensures ok { IfOk result (λ r. RunsTo procs limit entries.now r.0 r.1.items) }
+
+    // On each port the values received, then those buffered, are those sent, in order of completion.
+    ensures received_then_buffered { IfOk result (λ r. KeepsValues procs entries.now r.0) }
+
+    // Each admitted call completes at most one of its cases, once.
+    ensures at_most_one_case { OnOk result (OnceLaw procs entries.now) }
+
+    // After a close no send completes on the port, and receives drain the buffer, then learn the close.
+    ensures after_close { OnOk result ((before : List Entry) (pid : Pid) (port : Port) (later : List Entry)
+        → entries.now ≡ before ++ close_of pid port ∷ later → AfterCloseLaw procs before pid port later) }
+
+    // The journal was never full at an entry that is no exit.
+    ensures never_full { OnOk result ((i : ℕ) → ¬ IsFullAt procs limit entries.now i) }
+
+    // A full journal is answered at the first place where it is full.
+    ensures refused { IfErr result (λ f. RefusesRun procs limit entries.now f) }
+{
+    let mut hub = match Hub::open(alloc, procs, limit) {
+        Ok(hub) => hub,
+        Err(fault) => return Err(ListFault::Open(fault)),
+    };
+    let mut events = Vec::new(alloc);
+    for (index, entry) in entries.iter().enumerate() {
+        match answer(&mut hub, &mut events, entry) {
+            Ok(()) => {}
+            Err(fault) => return Err(ListFault::At { index, fault }),
+        }
+    }
+    Ok((hub, events))
+}

@@ -1,0 +1,28 @@
+-- An admitted entry is answered first, and any other changes nothing.
+use Rattle.std.proofs.Common.{◌≡◌, ℕ, List, ap, Option, Some, None}
+use Rattle.hub_base.specs.declared.entry.Entry.{Entry}
+use Rattle.hub_base.specs.declared.fault.Fault.{Fault}
+use Rattle.hub_base.specs.State.{State}
+use Rattle.hub_base.specs.Steps.{refusal}
+use Rattle.hub_base.specs.Runs.{admits, moves, state}
+use Rattle.hub_laws.specs.Answers.{IsAnswered, AnswersLaw, PassedOverLaw}
+use Rattle.hub_laws.proofs.Faults.{refusal-refuses}
+use Rattle.hub_laws.proofs.Telling.{turn-tells}
+
+admits_answered : (s : State) (e : Entry) (o : Option Fault) → o ≡ None → IsAnswered e.pid e.step (admits s e o).events
+admits_answered s e None is = (turn-tells s e).told
+admits_answered s e (Some f) is = absurd (let g : ⊥ = cc in g)
+
+-- in any state
+pub moves-answered : (s : State) (e : Entry) → refusal s e.pid ≡ None → IsAnswered e.pid e.step (moves s e).events
+moves-answered s e is = admits_answered s e (refusal s e.pid) is
+
+pub answers-law : (n : ℕ) (es : List Entry) (e : Entry) → AnswersLaw n es e
+answers-law n es e is = moves-answered (state n es) e is
+
+pub passed_over-law : (n : ℕ) (es : List Entry) (e : Entry) → PassedOverLaw n es e
+passed_over-law n es e f is = record {
+  events = ap (λ o. (admits (state n es) e o).events) is;
+  state = ap (λ o. (admits (state n es) e o).state) is;
+  refuses = refusal-refuses (state n es) e.pid f is;
+}

@@ -1,0 +1,102 @@
+-- Which events answer, end a call, and count.
+use Rattle.std.proofs.Common.{◌≡◌, true, false, not, List, [], ◌∷◌, refl, ap}
+use Rattle.std.specs.List.{AllByRecursion}
+use Rattle.hub_base.specs.declared.entry.Step.{Step}
+use Rattle.hub_base.specs.declared.entry.Step.TheVariants.{Make, Call, Close, Exit}
+use Rattle.hub_base.specs.declared.entry.Entry.{Entry}
+use Rattle.hub_base.specs.declared.event.Event.{Event}
+use Rattle.hub_base.specs.declared.fault.Fault.{Fault}
+use Rattle.hub_base.specs.declared.fault.Fault.TheVariants as fault
+use Rattle.hub_base.specs.declared.event.What.{What}
+use Rattle.hub_base.specs.declared.event.What.TheVariants as what
+use Rattle.hub_laws.specs.Faults.{is_busy, is_fault_of, refuses_entry}
+use Rattle.hub_laws.specs.Once.{counts, is_call, is_refusal, was_admitted, ends_call}
+use Rattle.hub_laws.specs.Answers.{is_answer_to, ends_waiting, IsAnswered}
+use Rattle.hub_laws.specs.Replies.{is_parked}
+
+-- Events of an admitted entry count but for `Parked`
+
+pub fault_counts : (step : Step) (f : Fault) → is_fault_of step f ≡ true → is_busy f ≡ false
+fault_counts (Make cap) fault.Busy e = absurd (let g : ⊥ = cc in g)
+fault_counts (Call cases default word) fault.Busy e = absurd (let g : ⊥ = cc in g)
+fault_counts (Close p) fault.Busy e = absurd (let g : ⊥ = cc in g)
+fault_counts Exit fault.Busy e = absurd (let g : ⊥ = cc in g)
+fault_counts step f e = refl
+
+pub fault_admits : (step : Step) (f : Fault) → is_fault_of step f ≡ true → refuses_entry f ≡ false
+fault_admits step fault.NoProcess e = absurd (none step e)
+  where
+    none : (step : Step) → is_fault_of step fault.NoProcess ≡ true → ⊥
+    none (Make cap) e = cc
+    none (Call cases default word) e = cc
+    none (Close p) e = cc
+    none Exit e = cc
+fault_admits step fault.Gone e = absurd (none step e)
+  where
+    none : (step : Step) → is_fault_of step fault.Gone ≡ true → ⊥
+    none (Make cap) e = cc
+    none (Call cases default word) e = cc
+    none (Close p) e = cc
+    none Exit e = cc
+fault_admits step fault.Busy e = let h = fault_counts step fault.Busy e in cc
+fault_admits step f e = refl
+
+abbrev pub Counted : Event → Type 0
+Counted x = counts x.what ≡ not (is_parked x.what)
+
+pub answer_counts : (step : Step) (w : What) → is_answer_to step w ≡ true → counts w ≡ not (is_parked w)
+answer_counts step (what.Fault f) e = ap (λ b. not b) (fault_counts step f e)
+answer_counts step (what.Made p) e = refl
+answer_counts step (what.Fired i o) e = refl
+answer_counts step what.Default e = refl
+answer_counts step what.Done e = refl
+answer_counts step what.Parked e = refl
+answer_counts step what.Stalled e = refl
+
+pub ends_counts : (w : What) → ends_waiting w ≡ true → counts w ≡ not (is_parked w)
+ends_counts (what.Fired i o) e = refl
+ends_counts what.Stalled e = refl
+ends_counts w e = absurd (let g : ⊥ = cc in g)
+
+pub ends_clear : (w : What) → ends_waiting w ≡ true → is_parked w ≡ false
+ends_clear (what.Fired i o) e = refl
+ends_clear what.Stalled e = refl
+ends_clear w e = absurd (let g : ⊥ = cc in g)
+
+ended_counts : (events : List Event) → AllByRecursion (λ x. ends_waiting x.what ≡ true) events → AllByRecursion Counted events
+ended_counts [] a = tt
+ended_counts (x ∷ xs) a = (ends_counts x.what a.0, ended_counts xs a.1)
+
+pub answered_counts : (e : Entry) (events : List Event) → IsAnswered e.pid e.step events → AllByRecursion Counted events
+answered_counts e [] a = absurd a
+answered_counts e (x ∷ xs) a = (answer_counts e.step x.what a.fits, ended_counts xs a.ends)
+
+-- Which entries are admitted
+
+pub answer_admits : (step : Step) (w : What) → is_answer_to step w ≡ true → not (is_refusal w) ≡ true
+answer_admits step (what.Fault f) e = ap (λ b. not b) (fault_admits step f e)
+answer_admits step w e = refl
+
+pub answered_admits : (e : Entry) (events : List Event) → IsAnswered e.pid e.step events → was_admitted events ≡ true
+answered_admits e [] a = refl
+answered_admits e (x ∷ xs) a = answer_admits e.step x.what a.fits
+
+pub ends_admits : (w : What) → ends_waiting w ≡ true → not (is_refusal w) ≡ true
+ends_admits (what.Fired i o) e = refl
+ends_admits what.Stalled e = refl
+ends_admits w e = absurd (let g : ⊥ = cc in g)
+
+-- Which events end a call
+
+pub answer_ends : (step : Step) (w : What) → is_call step ≡ true → is_answer_to step w ≡ true → counts w ≡ true → ends_call w ≡ true
+answer_ends (Call cases default word) (what.Fault fault.TooManyCases) call fits c = refl
+answer_ends (Call cases default word) (what.Fault fault.NoPort) call fits c = refl
+answer_ends (Call cases default word) (what.Fired i o) call fits c = refl
+answer_ends (Call cases default word) what.Default call fits c = refl
+answer_ends (Call cases default word) what.Stalled call fits c = refl
+answer_ends step w call fits c = absurd (let g : ⊥ = cc in g)
+
+pub waiting_ends : (w : What) → ends_waiting w ≡ true → ends_call w ≡ true
+waiting_ends (what.Fired i o) e = refl
+waiting_ends what.Stalled e = refl
+waiting_ends w e = absurd (let g : ⊥ = cc in g)

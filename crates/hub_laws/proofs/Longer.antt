@@ -1,0 +1,36 @@
+-- A run that goes on: by more entries, and by one.
+use Rattle.std.proofs.Common.{◌≡◌, ℕ, List, [], ◌∷◌, ◌++◌, refl, ap, ◌∙◌, sym, Option, Some, None, append-nil, append_assoc}
+use Rattle.hub_base.specs.declared.entry.Entry.{Entry}
+use Rattle.hub_base.specs.declared.fault.Fault.{Fault}
+use Rattle.hub_base.specs.State.{State, opening}
+use Rattle.hub_base.specs.Steps.{refusal}
+use Rattle.hub_base.specs.Runs.{moves, keeps, state_after, events_after, kept_after, state, events, kept}
+
+-- By more entries
+
+pub state_after-append : (s : State) (es fs : List Entry) → state_after s (es ++ fs) ≡ state_after (state_after s es) fs
+state_after-append s [] fs = refl
+state_after-append s (e ∷ es) fs = state_after-append (moves s e).state es fs
+
+pub events_after-append : (s : State) (es fs : List Entry) → events_after s (es ++ fs) ≡ events_after s es ++ events_after (state_after s es) fs
+events_after-append s [] fs = refl
+events_after-append s (e ∷ es) fs = ap (λ xs. (moves s e).events ++ xs) (events_after-append (moves s e).state es fs) ∙ sym (append_assoc (moves s e).events (events_after (moves s e).state es) (events_after (state_after (moves s e).state es) fs))
+
+pub kept_after-append : (s : State) (es fs : List Entry) → kept_after s (es ++ fs) ≡ kept_after s es ++ kept_after (state_after s es) fs
+kept_after-append s [] fs = refl
+kept_after-append s (e ∷ es) fs = ap (keeps (refusal s e.pid) e) (kept_after-append (moves s e).state es fs) ∙ by (refusal s e.pid)
+  where
+    by : (o : Option Fault) → keeps o e (kept_after (moves s e).state es ++ kept_after (state_after (moves s e).state es) fs) ≡ keeps o e (kept_after (moves s e).state es) ++ kept_after (state_after (moves s e).state es) fs
+    by None = refl
+    by (Some f) = refl
+
+-- By one entry
+
+pub state-entry : (n : ℕ) (es : List Entry) (e : Entry) → state n (es ++ e ∷ []) ≡ (moves (state n es) e).state
+state-entry n es e = state_after-append (opening n) es (e ∷ [])
+
+pub events-entry : (n : ℕ) (es : List Entry) (e : Entry) → events n (es ++ e ∷ []) ≡ events n es ++ (moves (state n es) e).events
+events-entry n es e = events_after-append (opening n) es (e ∷ []) ∙ ap (λ xs. events n es ++ xs) (append-nil (moves (state n es) e).events)
+
+pub kept-entry : (n : ℕ) (es : List Entry) (e : Entry) → kept n (es ++ e ∷ []) ≡ kept n es ++ keeps (refusal (state n es) e.pid) e []
+kept-entry n es e = kept_after-append (opening n) es (e ∷ [])

@@ -1,0 +1,54 @@
+-- The words of soundness over buffers.
+use Rattle.std.proofs.Common.{◌≡◌, ℕ, ◌≤◌, false, List, [], ◌∷◌, length, drop, refl, arith, zero, suc}
+use Rattle.std.specs.List.{list_any}
+use Rattle.std.proofs.lemmas.List.{length-drop}
+use Rattle.std.proofs.lemmas.Bool.{or_parts, or_from}
+use Rattle.hub_base.specs.declared.value.Port.{Port}
+use Rattle.hub_base.specs.declared.case.Case.{Case}
+use Rattle.hub_base.specs.declared.entry.Entry.{Entry}
+use Rattle.hub_base.specs.State.{State, Channel, OpenCall}
+use Rattle.hub_base.specs.Ready.{is_send_on, is_recv_on, is_on}
+use Rattle.hub_base.specs.Runs.{state}
+use Rattle.hub_laws.specs.Sound.{some_call, PortSound, IsSound}
+use Rattle.hub_laws.specs.States.{PortLaws, StateLaws}
+use Rattle.hub_laws.proofs.Distinct.{count-below}
+use Rattle.hub_laws.proofs.Lasting.{ports-law}
+use Rattle.hub_laws.proofs.Rules.{state-sound}
+
+drop_all : {A : Type 0} (xs : List A) (n : ℕ) → n ≡ length xs → drop n xs ≡ []
+drop_all [] zero e = refl
+drop_all [] (suc n) e = refl
+drop_all (x ∷ xs) zero e = absurd (omega arith)
+drop_all (x ∷ xs) (suc n) e = drop_all xs n (omega arith)
+
+on_none : (p : Port) (calls : List OpenCall) → some_call (is_recv_on p) calls ≡ false → some_call (is_send_on p) calls ≡ false → some_call (is_on p) calls ≡ false
+on_none p [] r w = refl
+on_none p (call ∷ calls) r w =
+    let r' = or_parts (list_any (is_recv_on p) call.cases) (some_call (is_recv_on p) calls) r in
+    let w' = or_parts (list_any (is_send_on p) call.cases) (some_call (is_send_on p) calls) w in
+    or_from (list_any (is_on p) call.cases) (some_call (is_on p) calls) (cases_none p call.cases r'.0 w'.0) (on_none p calls r'.1 w'.1)
+  where
+    cases_none : (p : Port) (cases : List Case) → list_any (is_recv_on p) cases ≡ false → list_any (is_send_on p) cases ≡ false → list_any (is_on p) cases ≡ false
+    cases_none p [] r w = refl
+    cases_none p (c ∷ cs) r w =
+        let r' = or_parts (is_recv_on p c) (list_any (is_recv_on p) cs) r in
+        let w' = or_parts (is_send_on p c) (list_any (is_send_on p) cs) w in
+        or_from (is_on p c) (list_any (is_on p) cs) (or_from (is_send_on p c) (is_recv_on p c) w'.0 r'.0) (cases_none p cs r'.1 w'.1)
+
+port-laws : (p : Port) (c : Channel) (calls : List OpenCall) → PortSound p c calls → PortLaws p c calls
+port-laws p c calls f = record {
+  fits = omega (arith, f.fits, length-drop c.taken c.done);
+  receivers = λ r. drop_all c.done c.taken (f.receivers r);
+  senders = λ w. omega (arith, f.senders w, length-drop c.taken c.done);
+  closed = λ h. on_none p calls (f.ended h).0 (f.ended h).1;
+  both = λ r w. omega (arith, f.receivers r, f.senders w);
+  alone = f.alone;
+}
+
+pub count-law : (s : State) → IsSound s → length s.parked ≤ s.procs
+count-law s sound = count-below s.procs s.parked sound.apart (λ q e. (sound.present q e).0)
+
+pub state-laws : (n : ℕ) (es : List Entry) → StateLaws (state n es)
+state-laws n es =
+    let sound = state-sound n es in
+    record { apart = sound.apart; present = sound.present; calls = sound.calls; ports = λ p c e. port-laws p c (state n es).parked (sound.ports p c e); few = ports-law n es; count = count-law (state n es) sound }

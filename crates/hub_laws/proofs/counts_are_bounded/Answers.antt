@@ -1,5 +1,0 @@
-use Rattle.hub_laws.proofs.Counts.{counts-law}
-use Rattle.hub_laws.proofs.counts_are_bounded.Goals as goal
-
-pub returns : goal.returns
-returns c = counts-law c.args.procs c.args.entries.now

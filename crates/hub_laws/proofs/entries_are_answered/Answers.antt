@@ -1,5 +1,0 @@
-use Rattle.hub_laws.proofs.OnePort.{answers-law, passed_over-law}
-use Rattle.hub_laws.proofs.entries_are_answered.Goals as goal
-
-pub returns : goal.returns
-returns c = record { admitted = answers-law c.args.procs c.args.before.now c.args.entry.now; refused = passed_over-law c.args.procs c.args.before.now c.args.entry.now }

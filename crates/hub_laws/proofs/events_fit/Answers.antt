@@ -1,5 +1,0 @@
-use Rattle.hub_laws.proofs.Sizes.{events-law}
-use Rattle.hub_laws.proofs.events_fit.Goals as goal
-
-pub returns : goal.returns
-returns c = events-law c.args.procs c.args.before.now c.args.entry.now

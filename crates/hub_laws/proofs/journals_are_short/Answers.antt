@@ -1,5 +1,0 @@
-use Rattle.hub_laws.proofs.Limits.{limits-law}
-use Rattle.hub_laws.proofs.journals_are_short.Goals as goal
-
-pub returns : goal.returns
-returns c = limits-law c.args.procs c.args.entries.now

@@ -1,5 +1,0 @@
-use Rattle.hub_laws.proofs.Replies.{replies-law}
-use Rattle.hub_laws.proofs.replies_stay.Goals as goal
-
-pub returns : goal.returns
-returns c = replies-law c.args.procs c.args.before.now c.args.pid.0 c.args.later.now

@@ -1,0 +1,10 @@
+//! Ports: which channel one entry can write.
+
+ghost use Rattle.hub_laws.specs.OnePort.{OnePortLaw};
+
+use hub_base::Entry;
+
+/// One entry writes the channel of at most one port, which its answer names.
+pub fn one_port_moves(procs: u8, before: &[Entry], entry: &Entry)
+    ensures { OnePortLaw procs before.now entry.now }
+{}

@@ -1,0 +1,48 @@
+-- A channel: its ring as a buffer, its two queues, and which of them a taking looks at.
+use Rattle.std.specs.Prelude.{ℕ, ◌≡◌, ◌≤◌, ◌-◌, List, [], length, Option, None, Some, find, slice_index_or, if◌then◌else◌}
+use Rattle.circular_buffer.specs.Buffer.{Buffer, buffer}
+use Rattle.hub_base.specs.declared.value.Port.{Port}
+use Rattle.hub_base.specs.declared.value.Value.{Value}
+use Rattle.hub_parts.specs.declared.side.Side.{Side}
+use Rattle.hub_parts.specs.declared.side.Side.TheVariants as side
+use Rattle.hub_parts.specs.declared.wait_queue.Waiter.{Waiter}
+use Rattle.hub_parts.specs.Records.{Ticketed, ChannelLists}
+use Rattle.hub_parts.specs.Queues.{lives, is_before}
+use Rattle.hub_parts.specs.Lists.{no_port}
+
+-- the buffer that a ring holds; a channel of capacity 0 has none
+abbrev pub ring_items : Option (Buffer Value) → List Value
+ring_items None = []
+ring_items (Some r) = r.items
+
+abbrev pub RingFits : ℕ → Option (Buffer Value) → Type 0
+RingFits cap None = cap ≡ 0
+RingFits cap (Some r) = (r.capacity ≡ cap) × (length r.items ≤ cap)
+
+-- which queue has the oldest of the firsts of both
+abbrev pub older : Option Waiter → Option Waiter → Side
+older None receiver = side.Recv
+older (Some sender) None = side.Send
+older (Some sender) (Some receiver) = if is_before receiver sender then side.Recv else side.Send
+
+-- the queue that a taking looks at
+abbrev pub line_of : Side → List Ticketed → ChannelLists → Side
+line_of side.Send ws c = side.Send
+line_of side.Recv ws c = side.Recv
+line_of side.Any ws c = older (find (lives ws) c.senders.items) (find (lives ws) c.receivers.items)
+
+abbrev pub queue_of : Side → ChannelLists → Buffer Waiter
+queue_of side.Send c = c.senders
+queue_of side.Recv c = c.receivers
+queue_of side.Any c = c.receivers
+
+abbrev pub with_queue : (Buffer Waiter → Buffer Waiter) → Side → ChannelLists → ChannelLists
+with_queue f side.Send c = record { lists = c.lists; senders = f c.senders; receivers = c.receivers }
+with_queue f side.Recv c = record { lists = c.lists; senders = c.senders; receivers = f c.receivers }
+with_queue f side.Any c = record { lists = c.lists; senders = c.senders; receivers = f c.receivers }
+
+abbrev pub no_channel : ChannelLists
+no_channel = record { lists = no_port; senders = buffer [] 0; receivers = buffer [] 0 }
+
+abbrev pub channel_of : List ChannelLists → Port → ChannelLists
+channel_of cs p = slice_index_or cs (p.0 - 1) no_channel

@@ -1,0 +1,102 @@
+#!/usr/bin/env python3
+"""Compares docs/CLAIMS.md and docs/SEMANTICS.md with the sources, and proves nothing.
+
+    check_claims.py [ROOT]
+
+Tells the public functions and must-fail edits that no claim names, and the calls, clauses, definitions and edits
+that a page names and the sources do not have. A row of CLAIMS is | calls | .. clauses .. | promise | definition |;
+a row without a clause is a promise to come, and is left aside. The status is 1 where anything is told.
+"""
+import os
+import re
+import sys
+
+ROOT = sys.argv[1] if len(sys.argv) > 1 else os.path.join(os.path.dirname(os.path.abspath(__file__)), '..')
+TICKED = re.compile(r'`([^`]+)`')
+CITED = re.compile(r'(base )?`([A-Z]\w*)`: ((?:`\w+`(?:, )?)+)')
+
+
+def read(*parts):
+    with open(os.path.join(ROOT, *parts)) as file:
+        return file.read()
+
+
+def files(folder, ending):
+    for place, folders, names in os.walk(os.path.join(ROOT, folder)):
+        folders[:] = [name for name in folders if name != 'out']
+        yield from (os.path.relpath(os.path.join(place, name), ROOT) for name in names if name.endswith(ending))
+
+
+def public_calls(crate):
+    """The calls that a library offers, each with its clauses' labels; '–' stands for a clause without one."""
+    source = '\n'.join(read(path) for path in sorted(files('crates/%s/src' % crate, '.rt')))
+    offered = set(re.findall(r'\w+', ' '.join(re.findall(r'^pub use ([^;]+);', source, re.M))))
+    offered |= set(re.findall(r'^pub fn (\w+)', read('crates', crate, 'src', 'lib.rt'), re.M))
+    calls, owner = {}, ''
+    for line in re.split(r'\n(?=\S|    pub fn )', source):
+        block = re.match(r'impl(?:<[^>]*>)? (\w+)(?:<[^>]*>)? \{', line)
+        if block:
+            owner = block.group(1)
+        elif re.match(r'\S', line) and not line.startswith(('}', '{', ')', '#')):
+            owner = ''
+        found = re.match(r'( *)pub fn (\w+)', line)
+        if not found:
+            continue
+        name = owner + '::' + found.group(2) if found.group(1) else found.group(2)
+        if (owner if found.group(1) else found.group(2)) in offered:
+            head = re.split(r'\n *\{', line, maxsplit=1)[0]
+            calls[name] = {label or '–' for label in re.findall(r'ensures (\w+)? ?\{', head)}
+    return calls
+
+
+def defined(crate, file, name):
+    path = os.path.join('crates', crate, 'specs', file + '.antt')
+    return os.path.exists(os.path.join(ROOT, path)) and re.search(
+        r'^\s*(?:abbrev )?(?:pub )?(?:abbrev )?(?:record |data )?%s\b' % re.escape(name), read(path), re.M)
+
+
+def check_definitions(page, crate, text):
+    for base, file, names in CITED.findall(text):
+        for name in TICKED.findall(names):
+            if not defined('hub_base' if base else crate, file, name):
+                yield '%s: no definition %s in %s' % (page, name, file)
+
+
+def check_section(crate, text):
+    calls, named, current = public_calls(crate), set(), []
+    for line in text.split('\n'):
+        cells = [cell.strip() for cell in line.strip('|').split('|')]
+        if not line.startswith('|') or len(cells) < 4 or cells[-3] in ('', 'Clause') or cells[-3].startswith('--'):
+            continue
+        # a row on a type tells what its invariant keeps, and has no call
+        names = [name for name in TICKED.findall(cells[0]) if '::' in name or name.islower()]
+        current = names or current
+        labels = TICKED.findall(cells[-3]) + ['–'] * cells[-3].startswith('–')
+        for name in names:
+            named.add(name)
+            if name not in calls:
+                yield 'CLAIMS: %s has no public call %s' % (crate, name)
+        for label in labels:
+            if not any(label in calls.get(name, ()) for name in current):
+                yield 'CLAIMS: no clause %s on %s' % (label, ', '.join(current))
+        yield from check_definitions('CLAIMS', crate, cells[-1])
+    for name in sorted(set(calls) - named):
+        yield 'CLAIMS: no row for %s of %s' % (name, crate)
+    edits = {os.path.basename(path)[:-5] for path in files('crates/%s/must-fail' % crate, '.edit')}
+    told = {name for part in re.findall(r'^Edits:(.*?)\n\n', text + '\n\n', re.M | re.S) for name in TICKED.findall(part)}
+    yield from ('CLAIMS: %s has no edit %s' % (crate, name) for name in sorted(told - edits))
+    yield from ('CLAIMS: the edit %s of %s is not named' % (name, crate) for name in sorted(edits - told))
+
+
+def main():
+    found = list(check_definitions('SEMANTICS', 'hub_base', read('docs', 'SEMANTICS.md')))
+    for section in re.split(r'^## ', read('docs', 'CLAIMS.md'), flags=re.M)[1:]:
+        crate = section.split('\n', 1)[0]
+        if os.path.exists(os.path.join(ROOT, 'crates', crate, 'src', 'lib.rt')):
+            found += check_section(crate, section)
+    print(''.join(line + '\n' for line in found), end='')
+    sys.exit(1 if found else 0)
+
+
+if __name__ == '__main__':
+    main()

@@ -1,0 +1,134 @@
+#!/usr/bin/env python3
+"""Random journals, each the same for its seed wherever it is made.
+
+    random_journal.py SEED [LINES]           prints one
+    random_journal.py FIRST LAST FOLDER      writes FOLDER/journal_SEED for each seed from FIRST to LAST
+
+Each is well formed, and asks for all that a hub can answer: every word, selects of 0 to 9 cases with and
+without a default, choice words from 0 to the greatest, closes, exits, port 0, ports that are not made,
+capacities that are too large, processes that are busy, gone or unknown. LINES counts the entries; where it
+is not said there are 60 to 300.
+"""
+import os
+import random
+import sys
+
+GREATEST = {'process': 255, 'capacity': 4294967295, 'port': 65535, 'value': 18446744073709551615}
+
+
+class Numbers:
+    """Numbers from `random()` alone, which gives the same sequence in every version of Python."""
+
+    def __init__(self, seed):
+        self.random = random.Random(seed).random
+
+    def below(self, n):
+        return int(self.random() * n)
+
+    def one_in(self, n):
+        return self.below(n) == 0
+
+    def among(self, choices):
+        return choices[self.below(len(choices))]
+
+    def word(self):
+        if self.one_in(4):
+            return 0
+        if self.one_in(4):
+            return self.among([1, 2, 7, GREATEST['value']])
+        return self.below(1 << 32) << 32 | self.below(1 << 32)
+
+
+class Journal:
+    """The entries so far, and what the next ones are drawn from."""
+
+    def __init__(self, seed, entries):
+        self.numbers = Numbers(seed)
+        self.entries = entries or 60 + self.numbers.below(241)
+        self.procs = self.numbers.among([1, 2, 2, 3, 3, 4, 5, 8, 16, 64])
+        self.capacities = self.numbers.among([[0], [0, 1], [0, 1, 2, 3], [1, 2], [0, 4, 1024]])
+        # a few journals make more ports than there can be
+        self.first_ports = 62 + self.numbers.below(8) if self.numbers.one_in(20) else 1 + self.numbers.below(6)
+        # so many processes exit, early or late
+        self.exits_left = min(self.numbers.below(self.procs + 1), self.numbers.below(self.procs + 1))
+        # of a hundred steps so many are closes; in most journals few are, so that ports stay open
+        self.closes = self.numbers.among([0, 1, 1, 5])
+        # all communications stand on few ports, so that they meet
+        self.ports = 1 + self.numbers.below(min(self.first_ports, 4))
+        self.value = 0
+
+    def process(self):
+        if self.numbers.one_in(60):
+            return self.numbers.among([self.procs, GREATEST['process'], self.numbers.below(256)])
+        return self.numbers.below(self.procs)
+
+    def port(self):
+        if self.numbers.one_in(25):
+            return 0
+        if self.numbers.one_in(40):
+            return self.numbers.among([self.first_ports + 1, 65, GREATEST['port']])
+        if self.numbers.one_in(10):
+            return 1 + self.numbers.below(self.first_ports)
+        return 1 + self.numbers.below(self.ports)
+
+    def next_value(self):
+        self.value += 1
+        return GREATEST['value'] if self.numbers.one_in(50) else self.value
+
+    def case(self):
+        if self.numbers.one_in(2):
+            return 's%d:%d' % (self.port(), self.next_value())
+        return 'r%d' % self.port()
+
+    def select(self):
+        count = self.numbers.among([0, 1, 2, 2, 2, 3, 3, 4, 5, 6, 7, 8, 8, 9])
+        cases = [self.case() for _ in range(count)]
+        default = self.numbers.one_in(3)
+        word = self.numbers.word()
+        # such a call is spelled as a send or a receive
+        if count == 1 and not default and word == 0:
+            word = 1
+        return ' '.join(['select', str(word)] + cases + ['default'] * default)
+
+    def make(self):
+        if self.numbers.one_in(10):
+            return 'make %d' % self.numbers.among([1024, 1025, GREATEST['capacity']])
+        return 'make %d' % self.numbers.among(self.capacities)
+
+    def step(self):
+        drawn = self.numbers.below(100)
+        if drawn < self.closes:
+            return 'close %d' % self.port()
+        if drawn < 7:
+            return self.make()
+        if drawn < 10 and self.exits_left > 0:
+            self.exits_left -= 1
+            return 'exit'
+        if drawn < 40:
+            return 'send %d %d' % (self.port(), self.next_value())
+        if drawn < 70:
+            return 'recv %d' % self.port()
+        return self.select()
+
+    def text(self):
+        lines = ['chanhub journal 1', 'procs %d' % self.procs]
+        for place in range(self.entries):
+            step = self.make() if place < self.first_ports else self.step()
+            lines.append('%d %s' % (self.process(), step))
+        return ''.join(line + '\n' for line in lines)
+
+
+def main(words):
+    if len(words) in (1, 2):
+        print(Journal(int(words[0]), int(words[1]) if len(words) == 2 else 0).text(), end='')
+    elif len(words) == 3:
+        os.makedirs(words[2], exist_ok=True)
+        for seed in range(int(words[0]), int(words[1]) + 1):
+            with open(os.path.join(words[2], 'journal_%d' % seed), 'w') as file:
+                file.write(Journal(seed, 0).text())
+    else:
+        sys.exit(__doc__.strip())
+
+
+if __name__ == '__main__':
+    main(sys.argv[1:])

@@ -63,5 +63,5 @@ pub calls_on-as : (s : State) (m : MachineLists) (pid : Pid) (cases : List Case)
 calls_on-as s m pid cases default word sound h named =
     let is : ready_on m.board 0 cases ≡ map number_in (ready s cases) = ready_on-as s m 0 cases h named in
     let choice : slice_get (ready_on m.board 0 cases) (word % length (ready_on m.board 0 cases)) ≡ option_map number_in (slice_get (ready s cases) (word % length (ready s cases))) =
-      ap (λ xs. slice_get xs (word % length xs)) is ∙ ap (λ n. slice_get (map number_in (ready s cases)) (word % n)) (length-map (ready s cases) number_in) ∙ slice_get-map number_in (ready s cases) (word % length (ready s cases)) in
+    ap (λ xs. slice_get xs (word % length xs)) is ∙ ap (λ n. slice_get (map number_in (ready s cases)) (word % n)) (length-map (ready s cases) number_in) ∙ slice_get-map number_in (ready s cases) (word % length (ready s cases)) in
     rw choice (chooses_on-as s m pid cases default (word % length (ready s cases)) (slice_get (ready s cases) (word % length (ready s cases))) sound h refl)

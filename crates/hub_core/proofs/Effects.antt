@@ -67,17 +67,18 @@ gone_by : (gone : List Bool) (given : List Pid) (pid : Pid) (q : ℕ) (same : Bo
 gone_by gone given pid q true room is rest =
     let here : gone_on (slice_set gone pid.0 true) pid.0 ≡ true = get_or-set_same gone pid.0 true false room in
     subst (λ (n : ℕ). gone_on (slice_set gone pid.0 true) n ≡ true) (eqb-true pid.0 q is) here ∙ sym (always (list_any (λ g. g.0 == q) given)) where
-  always : (b : Bool) → (b || true) ≡ true
-  always true = refl
-  always false = refl
+      always : (b : Bool) → (b || true) ≡ true
+      always true = refl
+      always false = refl
 gone_by gone given pid q false room is rest =
     let other : q ≢ pid.0 = λ e. differs pid.0 q is e in
     get_or-set_other gone pid.0 q true false other ∙ rest ∙ sym (never (list_any (λ g. g.0 == q) given)) where
-  never : (b : Bool) → (b || false) ≡ b
-  never true = refl
-  never false = refl
-  differs : (a b : ℕ) → (a == b) ≡ false → b ≡ a → ⊥
-  differs a b is e = grind (arith, common_steps)
+      never : (b : Bool) → (b || false) ≡ b
+      never true = refl
+      never false = refl
+
+      differs : (a b : ℕ) → (a == b) ≡ false → b ≡ a → ⊥
+      differs a b is e = grind (arith, common_steps)
 
 exits_on-as : (s : State) (m : MachineLists) (pid : Pid) → Matches s m → pid.0 < length m.gone → StepsAs (exits s pid) (exits_on m pid)
 exits_on-as s m pid h room = record {

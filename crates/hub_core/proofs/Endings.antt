@@ -13,7 +13,6 @@ use Rattle.hub_base.specs.Steps.{tells, fired, closing_outcome, closing_event}
 use Rattle.hub_laws.specs.Sound.{is_among, Apart}
 use Rattle.hub_laws.proofs.Calls.{lowest-some, same_number, fewer-filter}
 use Rattle.std.proofs.lemmas.Bool.{or_parts, false_from_ne_true, eqb-true}
-
 use Rattle.hub_laws.proofs.Closing.{closes-next}
 use Rattle.hub_parts.specs.Records.{Ticketed}
 use Rattle.hub_parts.specs.Lists.{open_calls, still_open}

@@ -112,7 +112,7 @@ follows_on n es e m h adm room =
       events = same.events ∙ ap (λ (c : Change). c.events) (sym moved);
       follows = record {
         matches = subst (λ (s : State). Matches s (turn_on m e).machine) (sym (state-snoc n es e ∙ ap (λ (c : Change). c.state) moved))
-          (record { procs = same.state.procs; calls = same.state.calls; ports = same.state.ports; counts = same.state.counts; gone = same.state.gone });
+            (record { procs = same.state.procs; calls = same.state.calls; ports = same.state.ports; counts = same.state.counts; gone = same.state.gone });
         steps = ap (λ k. k + 1) h.steps ∙ length-snoc (kept n es) e ∙ ap length (sym grown);
         later = left.next h.later;
         tickets = left.waiting (subst (λ (j : List Entry). TicketsAre j m.board.waiting) (sym grown) (tickets_longer (kept n es) e m.board.waiting h.tickets));

@@ -29,6 +29,7 @@ take_one : (es : List Entry) (i : ℕ) (e : Entry) → slice_get es i ≡ Some e
 take_one es i e h = ap (λ k. take k es) (suc-of i) ∙ take_suc es i e h where
   suc-of : (i : ℕ) → i + 1 ≡ suc i
   suc-of i = omega arith
+
   take_suc : (es : List Entry) (i : ℕ) (e : Entry) → slice_get es i ≡ Some e → take (suc i) es ≡ take i es ++ e ∷ []
   take_suc [] i e h = cc
   take_suc (x ∷ es) zero e h = let same : x ≡ e = cc in ap (λ y. y ∷ []) same
@@ -74,17 +75,17 @@ run_on n most es i e old new before after r h t =
         procs = t.procs ∙ r.run.procs;
         limit = t.limit ∙ r.run.limit;
         events =
-          t.events
-          ∙ ap (λ xs. xs ++ (moves (state_of old) e).events) r.run.events
-          ∙ ap (λ (s : State). events n (take i es) ++ (moves s e).events) same
-          ∙ sym (events-snoc n (take i es) e)
-          ∙ ap (events n) (sym grown);
+            t.events
+            ∙ ap (λ xs. xs ++ (moves (state_of old) e).events) r.run.events
+            ∙ ap (λ (s : State). events n (take i es) ++ (moves s e).events) same
+            ∙ sym (events-snoc n (take i es) e)
+            ∙ ap (events n) (sym grown);
         journal =
-          t.journal
-          ∙ ap (λ xs. xs ++ keeps (refusal (state_of old) e.pid) e []) r.run.journal
-          ∙ ap (λ (s : State). kept n (take i es) ++ keeps (refusal s e.pid) e []) same
-          ∙ sym (kept-snoc n (take i es) e)
-          ∙ ap (kept n) (sym grown);
+            t.journal
+            ∙ ap (λ xs. xs ++ keeps (refusal (state_of old) e.pid) e []) r.run.journal
+            ∙ ap (λ (s : State). kept n (take i es) ++ keeps (refusal s e.pid) e []) same
+            ∙ sym (kept-snoc n (take i es) e)
+            ∙ ap (kept n) (sym grown);
       };
       room = more_room n most es i r.room (not_full n most es i e old before r.run h t.room);
     }

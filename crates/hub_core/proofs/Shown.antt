@@ -21,6 +21,7 @@ unmade_none : (s : State) (p : Port) → is_unmade s p ≡ true → (p.0 == 0) �
 unmade_none s p h here = rw here (get_past s.channels (p.0 - 1) (past (length s.channels) p.0 h)) where
   past : (n p : ℕ) → nat_lt n p ≡ true → n ≤ p - 1
   past n p h = grind (arith, common_steps)
+
   get_past : (xs : List Channel) (i : ℕ) → length xs ≤ i → slice_get xs i ≡ None
   get_past [] i h = refl
   get_past (x ∷ xs) zero h = absurd (omega arith)

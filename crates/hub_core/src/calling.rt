@@ -59,7 +59,14 @@ fn wait(board: &mut Board, events: &mut Events, ticket: u32, pid: Pid, cases: &C
 }
 
 /// A case that can proceed fires.
-fn proceed(board: &mut Board, tallies: &mut Tallies, events: &mut Events, pid: Pid, index: u8, case: Case)
+fn proceed(
+    board: &mut Board,
+    tallies: &mut Tallies,
+    events: &mut Events,
+    pid: Pid,
+    index: u8,
+    case: Case,
+)
     requires named { IsNamed board.old case }
     requires keep { PortsKeep board.old tallies.old }
     requires can { can_on board.old case ≡ true }

@@ -71,7 +71,12 @@ fn places_after(step: &Step, places: u32) -> u32
 }
 
 /// Makes room for one more entry beside the places and the exits, where the step may ask for memory.
-fn make_room(entries: &mut Vec<Entry>, step: &Step, places: u32, procs: u8) -> Result<(), AllocError>
+fn make_room(
+    entries: &mut Vec<Entry>,
+    step: &Step,
+    places: u32,
+    procs: u8,
+) -> Result<(), AllocError>
     ensures same { entries.new.items ≡ entries.old.items }
     ensures capacity { vec_capacity entries.old ≤ vec_capacity entries.new }
     ensures room { OnOk result (Grows step.now places → vec_len entries.new + places + procs + 1 ≤ vec_capacity entries.new) }

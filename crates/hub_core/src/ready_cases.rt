@@ -23,9 +23,7 @@ fn can_proceed(board: &Board, case: Case) -> bool
         }
         Case::Recv(port) => {
             port.0 != 0
-                && (board.waiting(port, Side::Send)
-                    || board.len(port) > 0
-                    || board.closed(port))
+                && (board.waiting(port, Side::Send) || board.len(port) > 0 || board.closed(port))
         }
     }
 }

@@ -52,7 +52,12 @@ fn answer(hub: &mut Hub, events: &mut Vec<Event>, entry: &Entry) -> Result<(), F
 /// Opens a hub of so many processes with this limit, makes the steps in order, and gives the hub and the
 /// events of them all. A step refused by fault 1, 2 or 3 gives that fault as the event of its process, and the
 /// run goes on; a refusal by 10 or 11 ends it.
-pub fn run(alloc: Global, procs: u8, limit: u32, entries: &[Entry]) -> Result<(Hub, Vec<Event>), ListFault>
+pub fn run(
+    alloc: Global,
+    procs: u8,
+    limit: u32,
+    entries: &[Entry],
+) -> Result<(Hub, Vec<Event>), ListFault>
     // The events are the definition's, and the journal holds the admitted entries.
     ensures ok { IfOk result (λ r. RunsTo procs limit entries.now r.0 r.1.items) }
 

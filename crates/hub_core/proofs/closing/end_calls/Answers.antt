@@ -28,11 +28,11 @@ loop-ended-preserved c =
       room = omega (arith, fewer, added, c.loop-ended.invariant.room);
       board = ap (λ (ws : List Ticketed). record c.loop-ended.board { waiting = ws }) (one c).kept ∙ c.loop-ended.invariant.board;
       events =
-        ap (λ (es : List Event). es ++ closing_events c.args.port (ended_by c.in-Some.ended.pid c.loop-ended.board).waiting)
+          ap (λ (es : List Event). es ++ closing_events c.args.port (ended_by c.in-Some.ended.pid c.loop-ended.board).waiting)
           (c.push.ensures.items ∙ ap (λ (e : Event). c.loop-ended.events.items ++ e ∷ []) c.closing_event.ensures)
-        ∙ append_assoc c.loop-ended.events.items (fired c.in-Some.ended.pid c.in-Some.ended.index (closing_outcome c.in-Some.ended.case) ∷ []) (closing_events c.args.port (ended_by c.in-Some.ended.pid c.loop-ended.board).waiting)
-        ∙ ap (λ (es : List Event). c.loop-ended.events.items ++ es) (sym (one c).events)
-        ∙ c.loop-ended.invariant.events;
+          ∙ append_assoc c.loop-ended.events.items (fired c.in-Some.ended.pid c.in-Some.ended.index (closing_outcome c.in-Some.ended.case) ∷ []) (closing_events c.args.port (ended_by c.in-Some.ended.pid c.loop-ended.board).waiting)
+          ∙ ap (λ (es : List Event). c.loop-ended.events.items ++ es) (sym (one c).events)
+          ∙ c.loop-ended.invariant.events;
     })
 
 pub returns-clause-board : goal.returns-clause-board

@@ -22,11 +22,11 @@ effect-requires-clause-room c =
 pub stop_all-requires-clause-apart : goal.stop_all-requires-clause-apart
 stop_all-requires-clause-apart c =
     let behind = after_effect (parts c.args.board.now c.args.gone.now c.args.tallies.now c.args.ticket) c.args.entry.now.pid c.args.entry.now.step c.requires.reached c.requires.admitted (sym c.in_default.ensures)
-      (omega (arith, c.requires.procs, c.requires.few)) c.requires.places in
+    (omega (arith, c.requires.procs, c.requires.few)) c.requires.places in
     subst (λ (b : Lists). Apart (open_calls b.waiting)) (sym c.in_ok-effect.ensures.board) behind.apart
 
 pub stop_all-requires-clause-room : goal.stop_all-requires-clause-room
 stop_all-requires-clause-room c =
     let behind = after_effect (parts c.args.board.now c.args.gone.now c.args.tallies.now c.args.ticket) c.args.entry.now.pid c.args.entry.now.step c.requires.reached c.requires.admitted (sym c.in_default.ensures)
-      (omega (arith, c.requires.procs, c.requires.few)) c.requires.places in
+    (omega (arith, c.requires.procs, c.requires.few)) c.requires.places in
     omega (arith, behind.room, ap (λ (b : Lists). length b.waiting) c.in_ok-effect.ensures.board, ap (λ (es : List Event). length es) c.in_ok-effect.ensures.events)

@@ -28,14 +28,14 @@ loop-pid-preserved c =
       room = omega (arith, fewer, added, c.loop-pid.invariant.room);
       board = c.loop-pid.invariant.board;
       events =
-        ap (λ (es : List Event). es ++ stalled_events (ended_by c.in-Some.pid c.loop-pid.board).waiting) c.push.ensures.items
-        ∙ append_assoc c.loop-pid.events.items (tells c.in-Some.pid what.Stalled ∷ []) (stalled_events (ended_by c.in-Some.pid c.loop-pid.board).waiting)
-        ∙ ap (λ (es : List Event). c.loop-pid.events.items ++ es) (sym (one c).events)
-        ∙ c.loop-pid.invariant.events;
+          ap (λ (es : List Event). es ++ stalled_events (ended_by c.in-Some.pid c.loop-pid.board).waiting) c.push.ensures.items
+          ∙ append_assoc c.loop-pid.events.items (tells c.in-Some.pid what.Stalled ∷ []) (stalled_events (ended_by c.in-Some.pid c.loop-pid.board).waiting)
+          ∙ ap (λ (es : List Event). c.loop-pid.events.items ++ es) (sym (one c).events)
+          ∙ c.loop-pid.invariant.events;
     })
 
 pub returns-clause-board : goal.returns-clause-board
-returns-clause-board c = 
+returns-clause-board c =
     let none = stops_none c.loop-pid.board.waiting c.in_default.ensures.oldest in
     c.in_default.ensures.left ∙ ap (λ (ws : List Ticketed). record c.loop-pid.board { waiting = ws }) none ∙ c.loop-pid.invariant.board
 

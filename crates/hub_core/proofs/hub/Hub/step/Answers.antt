@@ -12,32 +12,32 @@ use Rattle.hub_core.proofs.hub.Hub.step.Goals as goal
 pub step-requires : goal.step-requires
 step-requires c =
     steps_few c.self.inside.procs c.self.inside.limit c.self.inside.entries.items c.self.inside.machine c.self.invariant.follows c.self.invariant.legal
-      (omega (arith, c.self.invariant.count, c.self.invariant.within)) c.self.invariant.limit.1 c.self.invariant.procs.1
+    (omega (arith, c.self.invariant.count, c.self.invariant.within)) c.self.invariant.limit.1 c.self.invariant.procs.1
 
 pub unreachable-requires : goal.unreachable-requires
 unreachable-requires c =
     let few = count-length c.self.inside.entries.items in
     let admitted : refusal (state c.self.inside.procs c.self.inside.entries.items) c.args.entry.pid ≡ None =
-      sym (c.in_default.ensures c.self.inside.procs c.self.inside.entries.items c.self.invariant.follows) in
+    sym (c.in_default.ensures c.self.inside.procs c.self.inside.entries.items c.self.invariant.follows) in
     let same = c.make_room.ensures.same in
     let more : Grows c.args.entry.step c.self.inside.places → length c.self.inside.entries.items + c.self.inside.places + c.self.inside.procs + 1 ≤ vec_capacity c.make_room.new.entries =
-      λ g. omega (arith, c.in-Ok.ensures.room g, ap (λ (es : List Entry). length es) same, c.make_room.new.entries.ok) in
+    λ g. omega (arith, c.in-Ok.ensures.room g, ap (λ (es : List Entry). length es) same, c.make_room.new.entries.ok) in
     let room = room_after c.args.entry.step c.self.inside.count (length c.self.inside.entries.items) c.self.inside.places c.self.inside.procs (vec_capacity c.self.inside.entries) (vec_capacity c.make_room.new.entries)
-      (omega (arith, few, c.self.invariant.count)) c.self.invariant.room c.make_room.ensures.capacity more in
+    (omega (arith, few, c.self.invariant.count)) c.self.invariant.room c.make_room.ensures.capacity more in
     let fits = entry_fits c.self.inside.procs c.self.inside.entries.items c.args.entry c.self.inside.count (places_after c.args.entry.step c.self.inside.places) (vec_capacity c.make_room.new.entries)
-      c.self.invariant.legal admitted c.self.invariant.count room in
+    c.self.invariant.legal admitted c.self.invariant.count room in
     omega (arith, fits, c.in-Err.ensures.full, ap (λ (es : List Entry). length es) same, c.make_room.new.entries.ok)
 
 pub invariant_of-self-2 : goal.invariant_of-self-2
 invariant_of-self-2 c =
     let few = count-length c.self.inside.entries.items in
     let admitted : refusal (state c.self.inside.procs c.self.inside.entries.items) c.args.entry.pid ≡ None =
-      sym (c.in_default.ensures c.self.inside.procs c.self.inside.entries.items c.self.invariant.follows) in
+    sym (c.in_default.ensures c.self.inside.procs c.self.inside.entries.items c.self.invariant.follows) in
     let same = c.make_room.ensures.same in
     let more : Grows c.args.entry.step c.self.inside.places → length c.self.inside.entries.items + c.self.inside.places + c.self.inside.procs + 1 ≤ vec_capacity c.make_room.new.entries =
-      λ g. omega (arith, c.in-Ok.ensures.room g, ap (λ (es : List Entry). length es) same, c.make_room.new.entries.ok) in
+    λ g. omega (arith, c.in-Ok.ensures.room g, ap (λ (es : List Entry). length es) same, c.make_room.new.entries.ok) in
     let room = room_after c.args.entry.step c.self.inside.count (length c.self.inside.entries.items) c.self.inside.places c.self.inside.procs (vec_capacity c.self.inside.entries) (vec_capacity c.make_room.new.entries)
-      (omega (arith, few, c.self.invariant.count)) c.self.invariant.room c.make_room.ensures.capacity more in
+    (omega (arith, few, c.self.invariant.count)) c.self.invariant.room c.make_room.ensures.capacity more in
     let grown : c.push.new.self.items ≡ c.self.inside.entries.items ++ c.args.entry ∷ [] = c.in-Ok-push.ensures.items ∙ ap (λ (es : List Entry). es ++ c.args.entry ∷ []) same in
     let legal = legal_longer c.self.inside.procs c.self.inside.entries.items c.args.entry c.self.invariant.legal admitted in
     let on = c.in-Ok-step.ensures.ok c.self.inside.procs c.self.inside.entries.items c.self.invariant.follows in

@@ -11,7 +11,7 @@ returns-in_default-fault c =
     let stays = c.in-Err.ensures.unchanged in
     record {
       ok = λ n es h.
-        rw (told, stays) (follows_refused n es c.args.entry.now c.args.self.now c.in-Err.fault h
+          rw (told, stays) (follows_refused n es c.args.entry.now c.args.self.now c.in-Err.fault h
           (refused_as n es c.args.entry.now c.in-Err.fault c.in_default-fault.not-NoMemory (c.in-Err.ensures.refused n es h)));
       steps = omega (arith, ap (λ (m : MachineLists). m.steps) stays);
       make = tt;

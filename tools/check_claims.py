@@ -33,7 +33,7 @@ def public_calls(crate):
     offered = set(re.findall(r'\w+', ' '.join(re.findall(r'^pub use ([^;]+);', source, re.M))))
     offered |= set(re.findall(r'^pub fn (\w+)', read('crates', crate, 'src', 'lib.rt'), re.M))
     calls, owner = {}, ''
-    for line in re.split(r'\n(?=\S|    pub fn )', source):
+    for line in re.split(r'\n(?=[^\s)]|    pub fn )', source):
         block = re.match(r'impl(?:<[^>]*>)? (\w+)(?:<[^>]*>)? \{', line)
         if block:
             owner = block.group(1)

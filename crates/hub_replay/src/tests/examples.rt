@@ -46,12 +46,16 @@ pub static EXAMPLES: [Row; 12] = [
                 0 send 1 7\n\
                 0 close 1\n\
                 0 recv 1\n\
-                0 recv 1\n",
+                0 recv 1\n\
+                0 send 1 8\n\
+                0 close 1\n",
         events: "0 made 1\n\
                  0 case 0 sent\n\
                  0 done\n\
                  0 case 0 got 7\n\
-                 0 case 0 drained\n",
+                 0 case 0 drained\n\
+                 0 case 0 closed\n\
+                 0 fault 9\n",
     },
     Row {
         name: "everyone_stalled",

@@ -54,6 +54,10 @@ pub record Follows (n : ℕ) (es : List Entry) (m : MachineLists) : Type 0 where
   pub later : m.board.next_ticket ≤ m.steps
   pub tickets : TicketsAre (kept n es) m.board.waiting
 
+-- some run leads to the machine
+abbrev pub IsReached : MachineLists → Type 0
+IsReached m = (n : ℕ) × (es : List Entry) × Follows n es m
+
 -- what an admitted entry leads to
 pub record Admits (n : ℕ) (es : List Entry) (e : Entry) (m : MachineLists) (told : List Event) : Type 0 where
   pub admitted : refusal (state n es) e.pid ≡ None

@@ -5,8 +5,7 @@ pub mod ListSteps
 pub mod Follows
 pub mod Agrees
 pub mod Looks
-pub mod Parts
-pub mod MachineKeeps
+pub mod StateKeeps
 pub mod HubView
 pub mod HubKeeps
 pub mod RunsTo

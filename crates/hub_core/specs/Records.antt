@@ -1,9 +1,10 @@
 -- What contracts see of a machine: the board, who has gone, what each port has carried, and how many entries
 -- were admitted. Names no struct but `Tally`.
-use Rattle.std.specs.Prelude.{ℕ, ◌+◌, ◌-◌, Bool, false, List, slice_index_or, slice_set}
+use Rattle.std.specs.Prelude.{ℕ, ◌+◌, ◌-◌, Bool, false, List, [], replicate, slice_index_or, slice_set}
 use Rattle.hub_base.specs.declared.value.Port.{Port}
 use Rattle.hub_core.specs.declared.tally.Tally.{Tally}
 use Rattle.hub_parts.specs.Records.{Lists}
+use Rattle.hub_parts.specs.Lists.{opened}
 
 pub record MachineLists : Type 0 where
   pub board : Lists
@@ -14,6 +15,11 @@ pub record MachineLists : Type 0 where
   -- how many entries were admitted: the next call's ticket
   pub steps : ℕ
 
+-- n processes, and nothing made, gone or open
+abbrev pub opened_machine : ℕ → MachineLists
+opened_machine n = record { board = opened n; gone = replicate 64 false; counts = []; steps = 0 }
+
+-- nothing was sent
 abbrev pub no_tally : Tally
 no_tally = record { sent = 0; received = 0 }
 

@@ -1,7 +1,7 @@
 //! How a case fires. Go: "Send statements", "Receive operator".
 
-ghost use Rattle.std.specs.Prelude.{◌≡◌, true, slice_get};
-ghost use Rattle.hub_parts.specs.Lists.{IsMade, port_at};
+ghost use Rattle.std.specs.Prelude.{◌≡◌, true};
+ghost use Rattle.hub_parts.specs.Lists.{IsMade};
 ghost use Rattle.hub_core.specs.ListReady.{SendFits, can_on};
 ghost use Rattle.hub_core.specs.ListKeeps.{PortsKeep, IsNamed};
 ghost use Rattle.hub_base.specs.Steps.{fired};
@@ -18,7 +18,8 @@ pub(crate) struct Firing {
     pub(crate) ended: Option<Event>,
 }
 
-fn fired(pid: Pid, case: u8, outcome: Outcome) -> Event
+/// This case of the process's call fired.
+pub(crate) fn fired(pid: Pid, case: u8, outcome: Outcome) -> Event
     ensures { result ≡ fired pid case outcome }
 {
     Event {
@@ -66,10 +67,10 @@ fn send(board: &mut Board, tallies: &mut Tallies, port: Port, value: Value) -> F
 fn take_value(board: &mut Board, tallies: &mut Tallies, port: Port) -> Firing
     requires made { IsMade board.old port }
     requires keep { PortsKeep board.old tallies.old }
-    ensures outcome { result.outcome ≡ (take_on board.old tallies.old port (slice_get (port_at board.old port).buffer 0)).outcome }
-    ensures ended { result.ended ≡ (take_on board.old tallies.old port (slice_get (port_at board.old port).buffer 0)).ended }
-    ensures board { board.new ≡ (take_on board.old tallies.old port (slice_get (port_at board.old port).buffer 0)).board }
-    ensures counts { tallies.new ≡ (take_on board.old tallies.old port (slice_get (port_at board.old port).buffer 0)).counts }
+    ensures outcome { result.outcome ≡ (take_on board.old tallies.old port).outcome }
+    ensures ended { result.ended ≡ (take_on board.old tallies.old port).ended }
+    ensures board { board.new ≡ (take_on board.old tallies.old port).board }
+    ensures counts { tallies.new ≡ (take_on board.old tallies.old port).counts }
 {
     match board.pop(port) {
         Some(value) => {

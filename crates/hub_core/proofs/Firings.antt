@@ -18,22 +18,13 @@ use Rattle.hub_laws.proofs.Calls.{first-found}
 use Rattle.hub_parts.specs.Records.{Lists, PortLists, Ticketed}
 use Rattle.hub_parts.specs.Lists.{port_at, with_port, pushed, popped, ended_by, open_calls, still_open}
 use Rattle.hub_core.specs.declared.tally.Tally.{Tally}
-use Rattle.hub_core.specs.Records.{MachineLists, tally_at, one_sent, one_received, one_handed}
-use Rattle.hub_core.specs.ListSteps.{ListFiring, with_board, send_on, send_to, recv_on, recv_from, oldest_on, take_value, let_in, fetch_on}
+use Rattle.hub_core.specs.Records.{MachineLists, tally_at, sent_tally, received_tally, handed_tally, one_sent, one_received, one_handed}
+use Rattle.hub_core.specs.ListFirings.{ListFiring, send_on, send_to, recv_on, recv_from, oldest_on, take_value, let_in, fetch_on}
+use Rattle.hub_core.specs.ListSteps.{with_board}
 use Rattle.hub_core.specs.Follows.{lists_of, tally_of, Matches}
 use Rattle.hub_core.specs.Agrees.{FiresAs}
 use Rattle.hub_core.proofs.Endings.{open_calls-still_open}
 use Rattle.hub_core.proofs.Ports.{port-lists_of, tally-tally_of, ports-set, ports-same, counts-set, counts-same, first-next_value, pushed-lists_of, popped-lists_of, popped-drained, through-lists_of, next-through, shifted-lists_of, next-shifted, next_none}
-
--- the tally of a port that sent, received, or both
-abbrev sent_tally : Tally → Tally
-sent_tally t = record { sent = t.sent + 1; received = t.received }
-
-abbrev received_tally : Tally → Tally
-received_tally t = record { sent = t.sent; received = t.received + 1 }
-
-abbrev handed_tally : Tally → Tally
-handed_tally t = record { sent = t.sent + 1; received = t.received + 1 }
 
 length-snoc : (xs : List Value) (x : Value) → length xs + 1 ≡ length (xs ++ x ∷ [])
 length-snoc [] x = refl

@@ -19,7 +19,8 @@ use Rattle.hub_parts.specs.Lists.{port_at, open_calls, still_open, ticketed, end
 use Rattle.hub_core.specs.declared.tally.Tally.{Tally}
 use Rattle.hub_core.specs.Records.{MachineLists}
 use Rattle.hub_core.specs.ListReady.{ready_on}
-use Rattle.hub_core.specs.ListSteps.{ListChange, send_on, send_to, oldest_on, take_value, fetch_on, let_in, recv_from, recv_on, fire_on, fires_on, waits_on, chooses_on, calls_on, effect_on, stalls_on, all_wait_on, answers_on, fault_on, none_open, stalled_events, with_board}
+use Rattle.hub_core.specs.ListFirings.{send_on, send_to, oldest_on, take_value, fetch_on, let_in, recv_from, recv_on, fire_on}
+use Rattle.hub_core.specs.ListSteps.{ListChange, fires_on, waits_on, chooses_on, calls_on, effect_on, stalls_on, all_wait_on, answers_on, fault_on, none_open, stalled_events, with_board}
 
 module _ (P : Ticketed → Type 0) (n : ℕ) where
   -- the board after a step that is the n-th, against the one before

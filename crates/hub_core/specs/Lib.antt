@@ -1,6 +1,7 @@
 pub mod Records
 pub mod ListReady
 pub mod ListKeeps
+pub mod ListFirings
 pub mod ListSteps
 pub mod Follows
 pub mod Agrees

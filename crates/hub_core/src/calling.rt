@@ -6,7 +6,8 @@ ghost use Rattle.hub_base.specs.Steps.{tells};
 ghost use Rattle.hub_parts.specs.Keeps.{AllMade};
 ghost use Rattle.hub_core.specs.ListReady.{can_on};
 ghost use Rattle.hub_core.specs.ListKeeps.{PortsKeep, IsNamed};
-ghost use Rattle.hub_core.specs.ListSteps.{wait_on, told_to_wait, fire_on, firing_events, open_on};
+ghost use Rattle.hub_core.specs.ListFirings.{fire_on, firing_events};
+ghost use Rattle.hub_core.specs.ListSteps.{wait_on, told_to_wait, open_on};
 
 use crate::firing::{fire, fired};
 use crate::tally::Tallies;
@@ -45,7 +46,8 @@ pub(crate) fn proceed(
     requires empty { events.old.items ≡ [] }
     ensures board { board.new ≡ (fire_on board.old tallies.old case).board }
     ensures counts { tallies.new ≡ (fire_on board.old tallies.old case).counts }
-    ensures events { events.new.items ≡ firing_events pid index (fire_on board.old tallies.old case) }
+    ensures events { events.new.items
+        ≡ firing_events pid index (fire_on board.old tallies.old case) }
 {
     let firing = fire(board, tallies, case);
     events.push(fired(pid, index, firing.outcome));

@@ -5,7 +5,7 @@ ghost use Rattle.hub_parts.specs.Lists.{IsMade};
 ghost use Rattle.hub_core.specs.ListReady.{SendFits, can_on};
 ghost use Rattle.hub_core.specs.ListKeeps.{PortsKeep, IsNamed};
 ghost use Rattle.hub_base.specs.Steps.{fired};
-ghost use Rattle.hub_core.specs.ListSteps.{send_on, take_on, recv_on, fire_on};
+ghost use Rattle.hub_core.specs.ListFirings.{send_on, take_on, recv_on, fire_on};
 
 use crate::tally::Tallies;
 use hub_base::{Case, Event, Outcome, Pid, Port, Value, What};

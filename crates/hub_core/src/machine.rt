@@ -46,9 +46,11 @@ impl Machine {
     }
 
     /// Makes a step. On `Ok`, `events` are the caller's answer and then the calls that ended, in
-    /// order of arrival. A process that does not exist, has exited or has an open call is refused by
-    /// fault 1, 2 or 3, and a make by fault 11 where a growth was refused. After a refusal the
-    /// machine is as before.
+    /// order of arrival.
+    ///
+    /// Refused by `NoProcess`, `Gone` or `Busy`, tested in this order, where the process does not
+    /// exist, has exited or has an open call, and by `NoMemory` where a make was refused a growth.
+    /// The machine is then as before, and `events` are empty.
     pub fn step(&mut self, entry: &Entry, events: &mut Events) -> Result<(), Fault>
         requires { self.old.steps < 2 ^ 32 - 1 }
 
@@ -71,8 +73,9 @@ impl Machine {
         Ok(())
     }
 
-    /// Makes a step, and tells what follows: a refusal by fault 1, 2 or 3 is told as one event.
-    /// Memory is refused to a make alone, and the machine is then as before.
+    /// Makes a step, and tells what follows: a refusal by `NoProcess`, `Gone` or `Busy` is told as
+    /// one event. Memory is refused to a make alone; the machine is then as before, and `events` are
+    /// empty.
     pub fn answer(&mut self, entry: &Entry, events: &mut Events) -> Result<(), AllocError>
         requires { self.old.steps < 2 ^ 32 - 1 }
 
@@ -99,7 +102,7 @@ impl Machine {
         }
     }
 
-    /// Why a step of this process would be refused now: fault 1, 2 or 3, or `None`.
+    /// Why a step of this process would be refused now: `NoProcess`, `Gone`, `Busy`, or nothing.
     pub fn refusal(&self, pid: Pid) -> Option<Fault>
         ensures { (n : ℕ) (es : List Entry) → Follows n es self.now
             → result ≡ refusal (state n es) pid }

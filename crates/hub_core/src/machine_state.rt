@@ -38,7 +38,8 @@ impl Model for MachineState {
 
     ghost use Rattle.hub_core.specs.StateKeeps.{StateKeeps};
 
-    ghost view = { λ s. record { board = s.board; gone = s.gone; counts = s.tallies; steps = s.steps } };
+    ghost view = { λ s.
+        record { board = s.board; gone = s.gone; counts = s.tallies; steps = s.steps } };
 
     ghost invariant = { λ s. StateKeeps s };
 }
@@ -96,7 +97,8 @@ impl MachineState {
         requires ticket { self.old.steps < 2 ^ 32 - 1 }
         requires empty { events.old.items ≡ [] }
         ensures machine { self.new ≡ (call_on self.old pid cases.now.items default word).machine }
-        ensures events { events.new.items ≡ (call_on self.old pid cases.now.items default word).events }
+        ensures events { events.new.items
+            ≡ (call_on self.old pid cases.now.items default word).events }
     {
         let ready = ready_cases(&self.board, cases.as_slice());
         match choose(ready.as_slice(), word) {

@@ -1,4 +1,5 @@
-//! The stall rule: where every process that has not exited waits, no call could ever end, so all end.
+//! The stall rule: where every process that has not exited waits, no call could ever end, so all
+//! end. Go has no such rule for single processes; there the whole program ends.
 
 ghost use Rattle.std.specs.Prelude.{◌≡◌, ◌≤◌, ◌<◌, ◌+◌, ◌++◌, length};
 ghost use Rattle.arrayvec.specs.ArrayVec.{array_vec_len};

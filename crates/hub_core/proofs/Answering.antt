@@ -17,7 +17,8 @@ use Rattle.hub_parts.specs.Records.{Ticketed}
 use Rattle.hub_parts.specs.Lists.{open_calls, ticketed}
 use Rattle.hub_core.specs.Records.{MachineLists}
 use Rattle.hub_core.specs.ListReady.{ready_on}
-use Rattle.hub_core.specs.ListSteps.{ListFiring, tell_firing, fires_on, waits_on, chooses_on, calls_on, after_call}
+use Rattle.hub_core.specs.ListFirings.{ListFiring}
+use Rattle.hub_core.specs.ListSteps.{tell_firing, fires_on, waits_on, chooses_on, calls_on, after_call}
 use Rattle.hub_core.specs.Follows.{Matches}
 use Rattle.hub_core.specs.Agrees.{FiresAs, StepsAs}
 use Rattle.hub_core.proofs.Firings.{send-as, recv-as}

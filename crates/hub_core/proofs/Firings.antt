@@ -15,23 +15,12 @@ use Rattle.hub_laws.proofs.Fires.{some_first}
 use Rattle.hub_laws.proofs.Calls.{first-found}
 use Rattle.hub_parts.specs.Records.{PortLists}
 use Rattle.hub_parts.specs.Lists.{port_at, pushed, popped, open_calls, still_open}
-use Rattle.hub_core.specs.declared.tally.Tally.{Tally}
-use Rattle.hub_core.specs.Records.{MachineLists}
-use Rattle.hub_core.specs.ListSteps.{send_on, send_to, recv_on, recv_from, take_on, let_in, fetch_on}
+use Rattle.hub_core.specs.Records.{MachineLists, sent_tally, received_tally, handed_tally}
+use Rattle.hub_core.specs.ListFirings.{send_on, send_to, recv_on, recv_from, oldest_on, take_value, let_in, fetch_on}
 use Rattle.hub_core.specs.Follows.{tally_of, Matches}
 use Rattle.hub_core.specs.Agrees.{FiresAs}
 use Rattle.hub_core.proofs.Endings.{open_calls-still_open}
 use Rattle.hub_core.proofs.Ports.{port-lists_of, tally-tally_of, ports-set, ports-same, counts-set, counts-same, first-next_value, pushed-lists_of, popped-lists_of, popped-drained, through-lists_of, next-through, shifted-lists_of, next-shifted, next_none}
-
--- the tally of a port that sent, received, or both
-abbrev sent_tally : Tally → Tally
-sent_tally t = record { sent = t.sent + 1; received = t.received }
-
-abbrev received_tally : Tally → Tally
-received_tally t = record { sent = t.sent; received = t.received + 1 }
-
-abbrev handed_tally : Tally → Tally
-handed_tally t = record { sent = t.sent + 1; received = t.received + 1 }
 
 length-snoc : (xs : List Value) (x : Value) → length xs + 1 ≡ length (xs ++ x ∷ [])
 length-snoc [] x = refl
@@ -87,9 +76,9 @@ send-as s m p v c sound h e =
     rw (same, h.calls) (send_by c.closed s m p v c (first_with (is_recv_on p) s.parked) (sound.ports p c e) h e refl)
 
 -- ---- receives
-take_on-as : (s : State) (m : MachineLists) (p : Port) (c : Channel) (o : Option Value) → PortSound p c s.parked → Matches s m → channel_at s p ≡ Some c → o ≡ next_value c →
-    FiresAs (recv_takes s p c [] o) m (take_on m.board m.counts p o)
-take_on-as s m p c None sound h e is = record {
+take_value-as : (s : State) (m : MachineLists) (p : Port) (c : Channel) (o : Option Value) → PortSound p c s.parked → Matches s m → channel_at s p ≡ Some c → o ≡ next_value c →
+    FiresAs (recv_takes s p c [] o) m (take_value m.board m.counts p o)
+take_value-as s m p c None sound h e is = record {
   outcome = refl;
   ended = refl;
   state = record {
@@ -100,7 +89,7 @@ take_on-as s m p c None sound h e is = record {
     gone = h.gone;
   };
 }
-take_on-as s m p c (Some v) sound h e is = record {
+take_value-as s m p c (Some v) sound h e is = record {
   outcome = refl;
   ended = refl;
   state = record {
@@ -140,17 +129,17 @@ fetch_on-as s m p c x u (Some v) sound h e is =
       };
     })
 
-first_at : (s : State) (m : MachineLists) (p : Port) (c : Channel) → Matches s m → channel_at s p ≡ Some c → slice_get (port_at m.board p).buffer 0 ≡ next_value c
+first_at : (s : State) (m : MachineLists) (p : Port) (c : Channel) → Matches s m → channel_at s p ≡ Some c → oldest_on m.board p ≡ next_value c
 first_at s m p c h e = ap (λ (q : PortLists). slice_get q.buffer 0) (port-lists_of s m p c h e) ∙ first-next_value c
 
 let_in-as : (s : State) (m : MachineLists) (p : Port) (c : Channel) (x : Ending) (k : Case) → is_send_on p k ≡ true → PortSound p c s.parked → Matches s m → channel_at s p ≡ Some c →
     FiresAs (recv_takes (record s { parked = without x.pid s.parked }) p (with_sent k c) (fired x.pid x.at.index Sent ∷ []) (next_value (with_sent k c))) m (let_in m.board m.counts p x k)
-let_in-as s m p c x (Send q u) is sound h e = fetch_on-as s m p c x u (slice_get (port_at m.board p).buffer 0) sound h e (first_at s m p c h e)
+let_in-as s m p c x (Send q u) is sound h e = fetch_on-as s m p c x u (oldest_on m.board p) sound h e (first_at s m p c h e)
 let_in-as s m p c x (Recv q) is sound h e = cc
 
 recv_from-as : (s : State) (m : MachineLists) (p : Port) (c : Channel) (o : Option Ending) → IsSound s → Matches s m → channel_at s p ≡ Some c → o ≡ first_with (is_send_on p) s.parked →
     FiresAs (recv_meets s p c o) m (recv_from m.board m.counts p o)
-recv_from-as s m p c None sound h e is = rw (first_at s m p c h e) (take_on-as s m p c (next_value c) (sound.ports p c e) h e refl)
+recv_from-as s m p c None sound h e is = rw (first_at s m p c h e) (take_value-as s m p c (next_value c) (sound.ports p c e) h e refl)
 recv_from-as s m p c (Some x) sound h e is =
     let f = first-found (CallFits (length s.channels)) (is_send_on p) s.parked x sound.calls (sym is) in
     let_in-as s m p c x x.at.case f.passes (sound.ports p c e) h e

@@ -16,13 +16,10 @@ use Rattle.hub_laws.specs.Sound.{IsSound}
 use Rattle.hub_laws.proofs.Rules.{state-sound}
 use Rattle.hub_laws.proofs.Longer.{state-entry, kept-entry}
 use Rattle.hub_laws.proofs.Ready.{admitted}
-use Rattle.hub_parts.specs.Records.{Lists, Ticketed}
-use Rattle.hub_parts.specs.Lists.{opened}
-use Rattle.hub_core.specs.declared.tally.Tally.{Tally}
-use Rattle.hub_core.specs.Records.{MachineLists}
-use Rattle.hub_core.specs.Parts.{parts, IsReached}
+use Rattle.hub_parts.specs.Records.{Ticketed}
+use Rattle.hub_core.specs.Records.{MachineLists, opened_machine}
 use Rattle.hub_core.specs.ListSteps.{turn_on, answers_on, effect_on, fault_on, refusal_of, gone_on}
-use Rattle.hub_core.specs.Follows.{Matches, IsEntryOf, TicketsAre, Follows, Admits, Answers, RefusesFor}
+use Rattle.hub_core.specs.Follows.{Matches, IsEntryOf, TicketsAre, Follows, IsReached, Admits, Answers, RefusesFor}
 use Rattle.hub_core.specs.Agrees.{StepsAs}
 use Rattle.hub_core.proofs.Effects.{fault_on-as, effect_on-as}
 use Rattle.hub_core.proofs.Stalls.{stalls_on-as, refusal_of-as}
@@ -140,7 +137,7 @@ none-gone zero q = refl
 none-gone (suc k) zero = refl
 none-gone (suc k) (suc q) = none-gone k q
 
-pub follows_opening : (n : ℕ) → Follows n [] (record { board = opened n; gone = replicate 64 false; counts = []; steps = 0 })
+pub follows_opening : (n : ℕ) → Follows n [] (opened_machine n)
 follows_opening n = record {
   matches = record { procs = refl; calls = refl; ports = refl; counts = refl; gone = λ q below. none-gone 64 q };
   steps = refl;
@@ -148,29 +145,17 @@ follows_opening n = record {
   tickets = tt;
 }
 
--- ---- a step of a machine's parts
-pub record Turned (b : Lists) (gone : List Bool) (ts : List Tally) (k : ℕ) (e : Entry) (b' : Lists) (gone' : List Bool) (ts' : List Tally) (told : List Event) : Type 0 where
-  pub board : b' ≡ (answers_on (parts b gone ts k) e (fault_on b e.step)).machine.board
-  pub left : gone' ≡ (answers_on (parts b gone ts k) e (fault_on b e.step)).machine.gone
-  pub counts : ts' ≡ (answers_on (parts b gone ts k) e (fault_on b e.step)).machine.counts
-  pub events : told ≡ (answers_on (parts b gone ts k) e (fault_on b e.step)).events
-
-pub follows_turned : (n : ℕ) (es : List Entry) (e : Entry) (b b' : Lists) (gone gone' : List Bool) (ts ts' : List Tally) (k : ℕ) (told : List Event) →
-    Follows n es (parts b gone ts k) → refusal_of b gone e.pid ≡ None → b.procs ≤ 64 → length gone ≡ 64 → Turned b gone ts k e b' gone' ts' told → Admits n es e (parts b' gone' ts' (k + 1)) told
-follows_turned n es e b b' gone gone' ts ts' k told h free few places t =
-    let adm = admitted_as n es e (parts b gone ts k) h free in
+-- ---- the step of a machine
+pub admits_on : (n : ℕ) (es : List Entry) (e : Entry) (m next : MachineLists) (told : List Event) → Follows n es m →
+    refusal_of m.board m.gone e.pid ≡ None → m.board.procs ≤ 64 → length m.gone ≡ 64 →
+    next ≡ (turn_on m e).machine → told ≡ (turn_on m e).events → Admits n es e next told
+admits_on n es e m next told h free few places machine events =
+    let adm = admitted_as n es e m h free in
     let below = (admitted (state n es) e.pid adm).below in
-    let room : e.pid.0 < length gone = omega (arith, below, h.matches.procs, few, places) in
-    let on = follows_on n es e (parts b gone ts k) h adm room in
-    rw (t.board, t.left, t.counts, t.events) on
+    rw (machine, events) (follows_on n es e m h adm (omega (arith, below, h.matches.procs, few, places)))
 
--- the same, told of the machine as contracts see it
-pub follows_self : (n : ℕ) (es : List Entry) (e : Entry) (old : MachineLists) (b b' : Lists) (gone gone' : List Bool) (ts ts' : List Tally) (k : ℕ) (told : List Event) → parts b gone ts k ≡ old →
-    refusal_of b gone e.pid ≡ None → b.procs ≤ 64 → length gone ≡ 64 → Turned b gone ts k e b' gone' ts' told → Follows n es old → Admits n es e (parts b' gone' ts' (k + 1)) told
-follows_self n es e old b b' gone gone' ts ts' k told is free few places t h =
-    follows_turned n es e b b' gone gone' ts ts' k told (subst (Follows n es) (sym is) h) free few places t
-
-pub reached_next : (e : Entry) (b b' : Lists) (gone gone' : List Bool) (ts ts' : List Tally) (k : ℕ) (told : List Event) →
-    IsReached (parts b gone ts k) → refusal_of b gone e.pid ≡ None → b.procs ≤ 64 → length gone ≡ 64 → Turned b gone ts k e b' gone' ts' told → IsReached (parts b' gone' ts' (k + 1))
-reached_next e b b' gone gone' ts ts' k told r free few places t =
-    (r.0, r.1 ++ e ∷ [], (follows_turned r.0 r.1 e b b' gone gone' ts ts' k told r.2 free few places t).follows)
+pub reached_next : (e : Entry) (m next : MachineLists) → IsReached m →
+    refusal_of m.board m.gone e.pid ≡ None → m.board.procs ≤ 64 → length m.gone ≡ 64 →
+    next ≡ (turn_on m e).machine → IsReached next
+reached_next e m next r free few places machine =
+    (r.0, r.1 ++ e ∷ [], (admits_on r.0 r.1 e m next (turn_on m e).events r.2 free few places machine refl).follows)

@@ -19,7 +19,8 @@ use Rattle.hub_parts.specs.Lists.{port_at, open_calls, still_open, ticketed, end
 use Rattle.hub_core.specs.declared.tally.Tally.{Tally}
 use Rattle.hub_core.specs.Records.{MachineLists}
 use Rattle.hub_core.specs.ListReady.{ready_on}
-use Rattle.hub_core.specs.ListSteps.{ListChange, send_on, send_to, take_on, fetch_on, let_in, recv_from, fire_on, fires_on, waits_on, chooses_on, effect_on, stalls_on, all_wait_on, answers_on, none_open, stalled_events, with_board}
+use Rattle.hub_core.specs.ListFirings.{send_on, send_to, oldest_on, take_value, fetch_on, let_in, recv_from, fire_on}
+use Rattle.hub_core.specs.ListSteps.{ListChange, fires_on, waits_on, chooses_on, effect_on, stalls_on, all_wait_on, answers_on, none_open, stalled_events, with_board}
 
 module _ (P : Ticketed → Type 0) (n : ℕ) where
   -- the board after a step that is the n-th, against the one before
@@ -43,11 +44,11 @@ module _ (P : Ticketed → Type 0) (n : ℕ) where
       elim (port_at b p).closed as (λ x. Leaves b (cond x (record { outcome = Closed; board = b; counts = ts; ended = None }) (send_to b ts p v (first_with (is_recv_on p) (open_calls b.waiting)))).board)
       [ true ↦ same_calls b b refl refl refl | false ↦ send_to_leaves b ts p v (first_with (is_recv_on p) (open_calls b.waiting)) ]
 
-  take_on_leaves : (b : Lists) (ts : List Tally) (p : Port) (o : Option Value) → Leaves b (take_on b ts p o).board
+  take_on_leaves : (b : Lists) (ts : List Tally) (p : Port) (o : Option Value) → Leaves b (take_value b ts p o).board
   take_on_leaves b ts p None = same_calls b _ refl refl refl
   take_on_leaves b ts p (Some v) = same_calls b _ refl refl refl
 
-  take_ended_leaves : (b : Lists) (ts : List Tally) (p : Port) (pid : Pid) (o : Option Value) → Leaves b (take_on (ended_by pid b) ts p o).board
+  take_ended_leaves : (b : Lists) (ts : List Tally) (p : Port) (pid : Pid) (o : Option Value) → Leaves b (take_value (ended_by pid b) ts p o).board
   take_ended_leaves b ts p pid None = one_ended b _ pid refl refl refl
   take_ended_leaves b ts p pid (Some v) = one_ended b _ pid refl refl refl
 
@@ -56,11 +57,11 @@ module _ (P : Ticketed → Type 0) (n : ℕ) where
   fetch_on_leaves b ts p e u (Some v) = one_ended b _ e.pid refl refl refl
 
   let_in_leaves : (b : Lists) (ts : List Tally) (p : Port) (e : Ending) (k : Case) → Leaves b (let_in b ts p e k).board
-  let_in_leaves b ts p e (Send q u) = fetch_on_leaves b ts p e u (slice_get (port_at b p).buffer 0)
-  let_in_leaves b ts p e (Recv q) = take_ended_leaves b ts p e.pid (slice_get (port_at b p).buffer 0)
+  let_in_leaves b ts p e (Send q u) = fetch_on_leaves b ts p e u (oldest_on b p)
+  let_in_leaves b ts p e (Recv q) = take_ended_leaves b ts p e.pid (oldest_on b p)
 
   recv_from_leaves : (b : Lists) (ts : List Tally) (p : Port) (o : Option Ending) → Leaves b (recv_from b ts p o).board
-  recv_from_leaves b ts p None = take_on_leaves b ts p (slice_get (port_at b p).buffer 0)
+  recv_from_leaves b ts p None = take_on_leaves b ts p (oldest_on b p)
   recv_from_leaves b ts p (Some e) = let_in_leaves b ts p e e.at.case
 
   fire_on_leaves : (b : Lists) (ts : List Tally) (k : Case) → Leaves b (fire_on b ts k).board

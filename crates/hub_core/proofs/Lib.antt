@@ -10,6 +10,5 @@ pub mod Stalls
 pub mod Kept
 pub mod Following
 pub mod Reached
-pub mod Shown
 pub mod Hubs
 pub mod Journeys

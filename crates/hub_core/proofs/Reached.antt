@@ -8,6 +8,7 @@ use Rattle.hub_base.specs.declared.value.Port.{Port}
 use Rattle.hub_base.specs.declared.case.Case.{Case}
 use Rattle.hub_base.specs.declared.entry.Step.{Step}
 use Rattle.hub_base.specs.declared.entry.Entry.{Entry}
+use Rattle.hub_base.specs.declared.event.Event.{Event}
 use Rattle.hub_base.specs.declared.fault.Fault.TheVariants as fault
 use Rattle.hub_base.specs.State.{State, Channel, channel_at}
 use Rattle.hub_base.specs.Ready.{port_of}
@@ -28,13 +29,11 @@ use Rattle.hub_core.specs.Records.{MachineLists, tally_at}
 use Rattle.hub_core.specs.ListReady.{BufferFits}
 use Rattle.hub_core.specs.ListKeeps.{CanCount, PortsKeep}
 use Rattle.hub_core.specs.ListSteps.{effect_on, fault_on, call_fault_on, is_unmade_on, refusal_of}
-use Rattle.hub_core.specs.Follows.{tally_of, Matches, Follows}
-use Rattle.hub_core.specs.Parts.{IsReached}
+use Rattle.hub_core.specs.Follows.{tally_of, Matches, Follows, IsReached}
 use Rattle.hub_core.proofs.Ports.{port-lists_of, tally-tally_of}
 use Rattle.hub_core.proofs.Readiness.{count-ports, get_within, length-buffer_of}
 use Rattle.hub_core.proofs.Effects.{fault_on-as, effect_on-as}
 use Rattle.hub_core.proofs.Stalls.{refusal_of-as, count-calls}
-use Rattle.hub_core.proofs.Kept.{effect-procs}
 
 -- ---- the ports
 pub count-counts : (s : State) (m : MachineLists) → Matches s m → length m.counts ≡ length s.channels
@@ -89,13 +88,13 @@ room_left m pid r h few =
     omega (arith, room-law s pid (state-sound r.0 r.1) (is_admitted m pid r h), count-calls s m r.2.matches, r.2.matches.procs)
 
 -- what is known behind a step, before the stall rule
-pub record AfterEffect (m : MachineLists) (pid : Pid) (step : Step) : Type 0 where
-  pub apart : Apart (open_calls (effect_on m pid step).machine.board.waiting)
-  pub room : length (effect_on m pid step).events + length (effect_on m pid step).machine.board.waiting ≤ 65
-  pub procs : (effect_on m pid step).machine.board.procs ≡ m.board.procs
+pub record BeforeStall (m : MachineLists) (told : List Event) : Type 0 where
+  pub apart : Apart (open_calls m.board.waiting)
+  pub room : length told + length m.board.waiting ≤ 65
 
-pub after_effect : (m : MachineLists) (pid : Pid) (step : Step) → IsReached m → refusal_of m.board m.gone pid ≡ None → fault_on m.board step ≡ None → m.board.procs ≤ 64 → length m.gone ≡ 64 → AfterEffect m pid step
-after_effect m pid step r h fine few places =
+before_stall : (m : MachineLists) (pid : Pid) (step : Step) → IsReached m → refusal_of m.board m.gone pid ≡ None →
+    fault_on m.board step ≡ None → m.board.procs ≤ 64 → length m.gone ≡ 64 → BeforeStall (effect_on m pid step).machine (effect_on m pid step).events
+before_stall m pid step r h fine few places =
     let s = state r.0 r.1 in
     let sound = state-sound r.0 r.1 in
     let adm = is_admitted m pid r h in
@@ -104,8 +103,14 @@ after_effect m pid step r h fine few places =
     record {
       apart = subst Apart (sym same.state.calls) (effect-sound s pid step sound adm faultless).apart;
       room = omega (arith, effect_size s pid step sound, ap length same.events, count-calls (effect s pid step).state (effect_on m pid step).machine same.state, room-law s pid sound adm, r.2.matches.procs);
-      procs = effect-procs m pid step;
     }
+
+-- the same, of the machine and the events that a step left
+pub before_stall_of : (m next : MachineLists) (pid : Pid) (step : Step) (told : List Event) → IsReached m → refusal_of m.board m.gone pid ≡ None →
+    fault_on m.board step ≡ None → m.board.procs ≤ 64 → length m.gone ≡ 64 →
+    next ≡ (effect_on m pid step).machine → told ≡ (effect_on m pid step).events → BeforeStall next told
+before_stall_of m next pid step told r h fine few places machine events =
+    rw (machine, events) (before_stall m pid step r h fine few places)
 
 -- ---- the ports of a call that has no fault
 named_by : (ports : ℕ) (cases : List Case) → list_any (λ c. nat_lt ports (port_of c).0) cases ≡ false → AllMade ports cases

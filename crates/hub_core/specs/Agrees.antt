@@ -3,7 +3,8 @@ use Rattle.std.specs.Prelude.{◌≡◌}
 use Rattle.std.specs.Option.{option_to_list}
 use Rattle.hub_base.specs.Steps.{Firing, Change}
 use Rattle.hub_core.specs.Records.{MachineLists}
-use Rattle.hub_core.specs.ListSteps.{ListFiring, ListChange, with_board}
+use Rattle.hub_core.specs.ListFirings.{ListFiring}
+use Rattle.hub_core.specs.ListSteps.{ListChange, with_board}
 use Rattle.hub_core.specs.Follows.{Matches}
 
 -- a case fires as it does in the meaning

@@ -21,10 +21,11 @@ use Rattle.hub_core.specs.ListSteps.{gone_on}
 abbrev pub lists_of : Channel → PortLists
 lists_of c = record { cap = c.cap; closed = c.closed; buffer = buffer_of c }
 
+-- how many values the channel has carried
 abbrev pub tally_of : Channel → Tally
 tally_of c = record { sent = length c.done; received = c.taken }
 
--- the machine shows the state: its open calls in order, its buffers, its counts, and who has exited
+-- the machine's lists stand for the state: its open calls in order, its buffers, its counts, and who has exited
 pub record Matches (s : State) (m : MachineLists) : Type 0 where
   pub procs : m.board.procs ≡ s.procs
   pub calls : open_calls m.board.waiting ≡ s.parked
@@ -32,6 +33,7 @@ pub record Matches (s : State) (m : MachineLists) : Type 0 where
   pub counts : m.counts ≡ map tally_of s.channels
   pub gone : (q : ℕ) → q < s.procs → gone_on m.gone q ≡ has_gone s q
 
+-- the step is a call of these cases
 abbrev pub HasCases : Step → List Case → Type 0
 HasCases (Make cap) cases = ⊥
 HasCases (Call given default word) cases = given.items ≡ cases
@@ -54,6 +56,10 @@ pub record Follows (n : ℕ) (es : List Entry) (m : MachineLists) : Type 0 where
   pub later : m.board.next_ticket ≤ m.steps
   pub tickets : TicketsAre (kept n es) m.board.waiting
 
+-- some run leads to the machine
+abbrev pub IsReached : MachineLists → Type 0
+IsReached m = (n : ℕ) × (es : List Entry) × Follows n es m
+
 -- what an admitted entry leads to
 pub record Admits (n : ℕ) (es : List Entry) (e : Entry) (m : MachineLists) (told : List Event) : Type 0 where
   pub admitted : refusal (state n es) e.pid ≡ None
@@ -65,6 +71,7 @@ pub record Answers (n : ℕ) (es : List Entry) (e : Entry) (m : MachineLists) (t
   pub events : told ≡ (moves (state n es) e).events
   pub follows : Follows n (es ++ e ∷ []) m
 
+-- the step is a make
 abbrev pub IsMake : Step → Type 0
 IsMake (Make cap) = Unit {0}
 IsMake (Call cases default word) = ⊥

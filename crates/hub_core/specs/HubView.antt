@@ -1,5 +1,5 @@
--- What contracts see of a hub, and what a step of it does. All else that a hub shows is a function of
--- `state procs journal`.
+-- What contracts see of a hub, and what a step of it does. All else that a hub shows is a function
+-- of `state procs journal`.
 use Rattle.std.specs.Prelude.{◌≡◌, ◌≤◌, ◌<◌, ◌-◌, ◌⊎◌, ℕ, false, List, [], ◌∷◌, ◌++◌, None, Some, ◌+◌, Bool, not, ◌&&◌, nat_le, if◌then◌else◌}
 use Rattle.hub_base.specs.declared.entry.Step.{Step}
 use Rattle.hub_base.specs.declared.entry.Step.TheVariants.{Make, Call, Close, Exit}
@@ -15,14 +15,18 @@ use Rattle.hub_base.specs.Text.{steps_of}
 use Rattle.hub_core.specs.declared.opening.OpenFault.{OpenFault}
 use Rattle.hub_core.specs.declared.opening.OpenFault.TheVariants as opening_fault
 
+-- a hub
 pub record HubView : Type 0 where
+  -- how many processes it has
   pub procs : ℕ
   -- how many entries that are no exits the journal may hold
   pub limit : ℕ
+  -- the admitted entries, in order
   pub journal : List Entry
   -- how many steps other than makes take no memory
   pub places : ℕ
 
+-- the state that its journal leads to
 abbrev pub state_of : HubView → State
 state_of h = state h.procs h.journal
 
@@ -30,6 +34,7 @@ state_of h = state h.procs h.journal
 abbrev pub HasRoom : HubView → Entry → Type 0
 HasRoom h e = is_exit e.step ≡ false → steps_of h.journal < h.limit
 
+-- the journal can't take the entry: it is no exit, and `limit` entries are none
 abbrev pub IsFullFor : HubView → Entry → Type 0
 IsFullFor h e = (is_exit e.step ≡ false) × (h.limit ≤ steps_of h.journal)
 
@@ -48,12 +53,22 @@ places_after (Call cases default word) places = places - 1
 places_after (Close p) places = places - 1
 places_after Exit places = places
 
+-- the hub with one entry more
+abbrev pub with_entry : Entry → HubView → HubView
+with_entry e h =
+    record {
+      procs = h.procs;
+      limit = h.limit;
+      journal = h.journal ++ e ∷ [];
+      places = places_after e.step h.places;
+    }
+
 -- what a step that was made leaves and tells
 pub record Steps (old : HubView) (e : Entry) (new : HubView) (told : List Event) : Type 0 where
   pub room : HasRoom old e
   pub admitted : refusal (state_of old) e.pid ≡ None
   pub events : told ≡ (moves (state_of old) e).events
-  pub journal : new ≡ record { procs = old.procs; limit = old.limit; journal = old.journal ++ e ∷ []; places = places_after e.step old.places }
+  pub journal : new ≡ with_entry e old
 
 -- a growth is asked for by a make, and by a close or a call where no place is left
 abbrev pub Grows : Step → ℕ → Type 0
@@ -62,26 +77,33 @@ Grows (Call cases default word) places = places ≡ 0
 Grows (Close p) places = places ≡ 0
 Grows Exit places = ⊥
 
--- when each refusal comes: the tests stand in the order 10, 1, 2, 3, 11
+-- the entry is refused so, where the journal is not full
+abbrev pub RefusedBy : HubView → Entry → Fault → Type 0
+RefusedBy h e f = HasRoom h e × (refusal (state_of h) e.pid ≡ Some f)
+
+-- when each refusal comes. The tests stand in the order of these lines
 abbrev pub Refuses : HubView → Entry → Fault → Type 0
 Refuses h e fault.JournalFull = IsFullFor h e
-Refuses h e fault.NoProcess = HasRoom h e × (refusal (state_of h) e.pid ≡ Some fault.NoProcess)
-Refuses h e fault.Gone = HasRoom h e × (refusal (state_of h) e.pid ≡ Some fault.Gone)
-Refuses h e fault.Busy = HasRoom h e × (refusal (state_of h) e.pid ≡ Some fault.Busy)
-Refuses h e fault.NoMemory = HasRoom h e × (refusal (state_of h) e.pid ≡ None) × Grows e.step h.places
+Refuses h e fault.NoProcess = RefusedBy h e fault.NoProcess
+Refuses h e fault.Gone = RefusedBy h e fault.Gone
+Refuses h e fault.Busy = RefusedBy h e fault.Busy
+Refuses h e fault.NoMemory =
+    HasRoom h e × (refusal (state_of h) e.pid ≡ None) × Grows e.step h.places
 Refuses h e other = ⊥
 
 -- a hub of n processes with this limit, at which nothing has happened
 abbrev pub opened_hub : ℕ → ℕ → HubView
 opened_hub n limit = record { procs = n; limit = limit; journal = []; places = 0 }
 
+-- a number of processes
 abbrev pub IsProcs : ℕ → Type 0
 IsProcs n = (1 ≤ n) × (n ≤ 64)
 
+-- a limit of a journal
 abbrev pub IsLimit : ℕ → Type 0
 IsLimit limit = (1 ≤ limit) × (limit ≤ 1000000)
 
--- when each refusal of an opening comes
+-- when each refusal of an opening comes. The tests stand in the order of these lines
 abbrev pub RefusesOpening : ℕ → ℕ → OpenFault → Type 0
 RefusesOpening n limit opening_fault.BadProcs = (n ≡ 0) ⊎ (64 < n)
 RefusesOpening n limit opening_fault.BadLimit = IsProcs n × ((limit ≡ 0) ⊎ (1000000 < limit))

@@ -1,12 +1,12 @@
 pub mod Records
 pub mod ListReady
 pub mod ListKeeps
+pub mod ListFirings
 pub mod ListSteps
 pub mod Follows
 pub mod Agrees
 pub mod Looks
-pub mod Parts
-pub mod MachineKeeps
+pub mod StateKeeps
 pub mod HubView
 pub mod HubKeeps
 pub mod RunsTo

@@ -1,73 +1,26 @@
--- What one step does to a machine's lists, and what it tells: the rules of a step over buffers and counts,
--- where the meaning has whole histories.
+-- What one step does to a machine's lists, and what it tells: the rules of a step over buffers and
+-- counts, where the meaning has whole histories. Most names are those of the meaning, with `_on`.
 use Rattle.std.specs.Prelude.{ℕ, ◌+◌, ◌%◌, ◌==◌, nat_lt, Bool, true, false, not, ◌&&◌, ◌||◌, List, [], ◌∷◌, ◌++◌, length, filter, map, Option, None, Some, slice_get, slice_index_or, slice_set, if◌then◌else◌}
 use Rattle.std.specs.List.{list_any, list_all, filter_map, range_with_len}
-use Rattle.std.specs.Option.{option_to_list}
 use Rattle.hub_base.specs.declared.value.Pid.{Pid}
 use Rattle.hub_base.specs.declared.value.Port.{Port}
-use Rattle.hub_base.specs.declared.value.Value.{Value}
 use Rattle.hub_base.specs.declared.case.Case.{Case}
-use Rattle.hub_base.specs.declared.case.Case.TheVariants.{Send, Recv}
 use Rattle.hub_base.specs.declared.entry.Step.{Step}
 use Rattle.hub_base.specs.declared.entry.Step.TheVariants.{Make, Call, Close, Exit}
 use Rattle.hub_base.specs.declared.entry.Entry.{Entry}
-use Rattle.hub_base.specs.declared.event.Outcome.{Outcome}
-use Rattle.hub_base.specs.declared.event.Outcome.TheVariants.{Sent, Got, Drained, Closed}
 use Rattle.hub_base.specs.declared.fault.Fault.{Fault}
 use Rattle.hub_base.specs.declared.fault.Fault.TheVariants as fault
+use Rattle.hub_base.specs.declared.event.What.{What}
 use Rattle.hub_base.specs.declared.event.What.TheVariants as what
 use Rattle.hub_base.specs.declared.event.Event.{Event}
-use Rattle.hub_base.specs.Ready.{Ending, first_with, is_send_on, is_recv_on, is_on, port_of}
-use Rattle.hub_base.specs.Steps.{fired, tells, closing_event}
+use Rattle.hub_base.specs.Ready.{is_on, port_of}
+use Rattle.hub_base.specs.Steps.{tells, closing_event}
 use Rattle.hub_parts.specs.Records.{Lists, Ticketed}
-use Rattle.hub_parts.specs.Lists.{port_at, with_new, with_port, pushed, popped, closed_now, ended_by, open_calls, parked}
+use Rattle.hub_parts.specs.Lists.{port_at, with_new, with_port, closed_now, open_calls, parked}
 use Rattle.hub_core.specs.declared.tally.Tally.{Tally}
-use Rattle.hub_core.specs.Records.{MachineLists, one_sent, one_received, one_handed, no_tally}
+use Rattle.hub_core.specs.Records.{MachineLists, no_tally}
 use Rattle.hub_core.specs.ListReady.{ready_on}
-
--- what follows where a case fires
-pub record ListFiring : Type 0 where
-  pub outcome : Outcome
-  pub board : Lists
-  pub counts : List Tally
-  -- the waiting call that ends with it
-  pub ended : Option Event
-
--- ---- a send: to the oldest receiver that waits, else into the buffer
-abbrev pub send_to : Lists → List Tally → Port → Value → Option Ending → ListFiring
-send_to b ts p v None = record { outcome = Sent; board = with_port b p (pushed v (port_at b p)); counts = one_sent p ts; ended = None }
-send_to b ts p v (Some e) = record { outcome = Sent; board = ended_by e.pid b; counts = one_handed p ts; ended = Some (fired e.pid e.at.index (Got v)) }
-
-abbrev pub send_on : Lists → List Tally → Port → Value → ListFiring
-send_on b ts p v =
-    if (port_at b p).closed then record { outcome = Closed; board = b; counts = ts; ended = None }
-    else send_to b ts p v (first_with (is_recv_on p) (open_calls b.waiting))
-
--- ---- a receive: the oldest value in the buffer; the oldest sender that waits comes in behind it
-abbrev pub take_on : Lists → List Tally → Port → Option Value → ListFiring
-take_on b ts p None = record { outcome = Drained; board = with_port b p (popped (port_at b p)); counts = ts; ended = None }
-take_on b ts p (Some v) = record { outcome = Got v; board = with_port b p (popped (port_at b p)); counts = one_received p ts; ended = None }
-
-abbrev pub fetch_on : Lists → List Tally → Port → Ending → Value → Option Value → ListFiring
-fetch_on b ts p e u None =
-    record { outcome = Got u; board = with_port (ended_by e.pid b) p (popped (port_at b p)); counts = one_handed p ts; ended = Some (fired e.pid e.at.index Sent) }
-fetch_on b ts p e u (Some v) =
-    record { outcome = Got v; board = with_port (ended_by e.pid b) p (pushed u (popped (port_at b p))); counts = one_handed p ts; ended = Some (fired e.pid e.at.index Sent) }
-
-abbrev pub let_in : Lists → List Tally → Port → Ending → Case → ListFiring
-let_in b ts p e (Send q u) = fetch_on b ts p e u (slice_get (port_at b p).buffer 0)
-let_in b ts p e (Recv q) = take_on (ended_by e.pid b) ts p (slice_get (port_at b p).buffer 0)
-
-abbrev pub recv_from : Lists → List Tally → Port → Option Ending → ListFiring
-recv_from b ts p None = take_on b ts p (slice_get (port_at b p).buffer 0)
-recv_from b ts p (Some e) = let_in b ts p e e.at.case
-
-abbrev pub recv_on : Lists → List Tally → Port → ListFiring
-recv_on b ts p = recv_from b ts p (first_with (is_send_on p) (open_calls b.waiting))
-
-abbrev pub fire_on : Lists → List Tally → Case → ListFiring
-fire_on b ts (Send p v) = send_on b ts p v
-fire_on b ts (Recv p) = recv_on b ts p
+use Rattle.hub_core.specs.ListFirings.{ListFiring, fire_on, firing_events}
 
 -- ---- a call
 -- what follows of board and counts, and what is told
@@ -76,25 +29,46 @@ pub record ListCall : Type 0 where
   pub counts : List Tally
   pub events : List Event
 
+-- what follows such a firing
 abbrev pub tell_firing : Pid → ℕ → ListFiring → ListCall
-tell_firing pid index f = record { board = f.board; counts = f.counts; events = fired pid index f.outcome ∷ option_to_list f.ended }
+tell_firing pid index f =
+    record { board = f.board; counts = f.counts; events = firing_events pid index f }
 
+-- a call whose case of this number fires
 abbrev pub fires_on : Lists → List Tally → Pid → ℕ → Option Case → ListCall
 fires_on b ts pid index None = record { board = b; counts = ts; events = [] }
 fires_on b ts pid index (Some c) = tell_firing pid index (fire_on b ts c)
 
+-- the board with the call, unless it takes its default
+abbrev pub wait_on : Lists → ℕ → Pid → List Case → Bool → Lists
+wait_on b ticket pid cases default = if default then b else parked pid ticket cases b
+
+-- what a call is told of which no case can proceed
+abbrev pub told_to_wait : Bool → What
+told_to_wait default = if default then what.Default else what.Parked
+
+-- a call of which no case can proceed
 abbrev pub waits_on : Lists → List Tally → ℕ → Pid → List Case → Bool → ListCall
 waits_on b ts ticket pid cases default =
-    if default then record { board = b; counts = ts; events = tells pid what.Default ∷ [] }
-    else record { board = parked pid ticket cases b; counts = ts; events = tells pid what.Parked ∷ [] }
+    record {
+      board = wait_on b ticket pid cases default;
+      counts = ts;
+      events = tells pid (told_to_wait default) ∷ [];
+    }
 
+-- a call with the number of the case that was chosen, if one can proceed
 abbrev pub chooses_on : Lists → List Tally → ℕ → Pid → List Case → Bool → Option ℕ → ListCall
 chooses_on b ts ticket pid cases default None = waits_on b ts ticket pid cases default
 chooses_on b ts ticket pid cases default (Some index) = fires_on b ts pid index (slice_get cases index)
 
+-- the number of the case that the word chooses among those that can proceed
+abbrev pub chosen_on : Lists → List Case → ℕ → Option ℕ
+chosen_on b cases word = slice_get (ready_on b 0 cases) (word % length (ready_on b 0 cases))
+
+-- a call
 abbrev pub calls_on : Lists → List Tally → ℕ → Pid → List Case → Bool → ℕ → ListCall
 calls_on b ts ticket pid cases default word =
-    chooses_on b ts ticket pid cases default (slice_get (ready_on b 0 cases) (word % length (ready_on b 0 cases)))
+    chooses_on b ts ticket pid cases default (chosen_on b cases word)
 
 -- ---- a close
 -- the open calls with no case on the port
@@ -105,13 +79,16 @@ off_port p ws = filter (λ w. not (list_any (is_on p) w.call.cases)) ws
 abbrev pub cleared : Port → Lists → Lists
 cleared p b = record b { waiting = off_port p b.waiting }
 
+-- the same, and the port is closed
 abbrev pub closed_on : Lists → Port → Lists
 closed_on b p = with_port (cleared p b) p (closed_now (port_at b p))
 
+-- what those calls are told
 abbrev pub closing_events : Port → List Ticketed → List Event
 closing_events p ws = filter_map (closing_event p) (open_calls ws)
 
--- ---- what follows a step
+-- ---- what a step does that meets no fault, before the stall rule
+-- the machine behind a step, and what is told
 pub record ListChange : Type 0 where
   pub machine : MachineLists
   pub events : List Event
@@ -120,9 +97,16 @@ pub record ListChange : Type 0 where
 abbrev pub with_board : MachineLists → Lists → List Tally → MachineLists
 with_board m b ts = record { board = b; gone = m.gone; counts = ts; steps = m.steps }
 
+-- what follows a call
 abbrev pub after_call : MachineLists → ListCall → ListChange
 after_call m c = record { machine = with_board m c.board c.counts; events = c.events }
 
+-- a call; its ticket is the number of steps before it
+abbrev pub call_on : MachineLists → Pid → List Case → Bool → ℕ → ListChange
+call_on m pid cases default word =
+    after_call m (calls_on m.board m.counts m.steps pid cases default word)
+
+-- a close
 abbrev pub closes_on : MachineLists → Pid → Port → ListChange
 closes_on m pid p =
     record {
@@ -130,6 +114,7 @@ closes_on m pid p =
       events = tells pid what.Done ∷ closing_events p m.board.waiting;
     }
 
+-- a make
 abbrev pub makes_on : MachineLists → Pid → ℕ → ListChange
 makes_on m pid cap =
     record {
@@ -137,29 +122,43 @@ makes_on m pid cap =
       events = tells pid (what.Made (record { 0 = length m.board.ports + 1 })) ∷ [];
     }
 
+-- an exit
 abbrev pub exits_on : MachineLists → Pid → ListChange
 exits_on m pid =
     record {
-      machine = record { board = m.board; gone = slice_set m.gone pid.0 true; counts = m.counts; steps = m.steps };
+      machine = record {
+        board = m.board;
+        gone = slice_set m.gone pid.0 true;
+        counts = m.counts;
+        steps = m.steps;
+      };
       events = tells pid what.Done ∷ [];
     }
 
+-- a step
 abbrev pub effect_on : MachineLists → Pid → Step → ListChange
 effect_on m pid (Make cap) = makes_on m pid cap
-effect_on m pid (Call cases default word) = after_call m (calls_on m.board m.counts m.steps pid cases.items default word)
+effect_on m pid (Call cases default word) = call_on m pid cases.items default word
 effect_on m pid (Close p) = closes_on m pid p
 effect_on m pid Exit = exits_on m pid
 
 -- ---- when all wait
+-- the process has exited
 abbrev pub gone_on : List Bool → ℕ → Bool
 gone_on gone q = slice_index_or gone q false
 
+-- the process has an open call
 abbrev pub open_on : List Ticketed → ℕ → Bool
 open_on ws q = list_any (λ w. w.call.pid.0 == q) ws
 
+-- each of so many processes has exited or has an open call
+abbrev pub each_gone_or_open_on : Lists → List Bool → ℕ → Bool
+each_gone_or_open_on b gone procs =
+    list_all (λ q. gone_on gone q || open_on b.waiting q) (range_with_len 0 procs)
+
+-- some call is open, and every process that has not exited has one
 abbrev pub all_wait_on : Lists → List Bool → Bool
-all_wait_on b gone =
-    not (length b.waiting == 0) && list_all (λ q. gone_on gone q || open_on b.waiting q) (range_with_len 0 b.procs)
+all_wait_on b gone = not (length b.waiting == 0) && each_gone_or_open_on b gone b.procs
 
 -- the board without open calls
 abbrev pub none_open : Lists → Lists
@@ -169,6 +168,7 @@ none_open b = record b { waiting = [] }
 abbrev pub stalled_events : List Ticketed → List Event
 stalled_events ws = map (λ w. tells w.call.pid what.Stalled) ws
 
+-- the stall rule
 abbrev pub stalls_on : ListChange → ListChange
 stalls_on c =
     if all_wait_on c.machine.board c.machine.gone
@@ -178,37 +178,47 @@ stalls_on c =
     }
     else c
 
--- ---- the faults that are journaled
+-- ---- the faults that are answers to admitted steps
+-- a port other than 0 that was not made
 abbrev pub is_unmade_on : Lists → Port → Bool
 is_unmade_on b p = nat_lt (length b.ports) p.0
 
+-- why a call has no effect
 abbrev pub call_fault_on : Lists → List Case → Option Fault
 call_fault_on b cases =
     if nat_lt 8 (length cases) then Some fault.TooManyCases
-    else if list_any (λ c. is_unmade_on b (port_of c)) cases then Some fault.NoPort else None
+    else if list_any (λ c. is_unmade_on b (port_of c)) cases then Some fault.NoPort
+    else None
 
+-- why a step has no effect
 abbrev pub fault_on : Lists → Step → Option Fault
-fault_on b (Make cap) = if nat_lt 1024 cap then Some fault.BadCap else if nat_lt 63 (length b.ports) then Some fault.TooManyPorts else None
+fault_on b (Make cap) =
+    if nat_lt 1024 cap then Some fault.BadCap
+    else if nat_lt 63 (length b.ports) then Some fault.TooManyPorts
+    else None
 fault_on b (Call cases default word) = call_fault_on b cases.items
 fault_on b (Close p) =
     if is_unmade_on b p then Some fault.NoPort
     else if p.0 == 0 then Some fault.NilClose
-    else if (port_at b p).closed then Some fault.AlreadyClosed else None
+    else if (port_at b p).closed then Some fault.AlreadyClosed
+    else None
 fault_on b Exit = None
 
 -- ---- one admitted entry
+-- the fault, or else what the step does and the stall rule
 abbrev pub answers_on : MachineLists → Entry → Option Fault → ListChange
 answers_on m e None = stalls_on (effect_on m e.pid e.step)
 answers_on m e (Some f) = record { machine = m; events = tells e.pid (what.Fault f) ∷ [] }
 
--- the n-th admitted entry is counted
-abbrev pub counted : ℕ → ListChange → ListChange
-counted n c =
-    record {
-      machine = record { board = c.machine.board; gone = c.machine.gone; counts = c.machine.counts; steps = n + 1 };
-      events = c.events;
-    }
+-- the same machine after n entries
+abbrev pub with_steps : ℕ → MachineLists → MachineLists
+with_steps n m = record { board = m.board; gone = m.gone; counts = m.counts; steps = n }
 
+-- what follows, where n entries were admitted before
+abbrev pub counted : ℕ → ListChange → ListChange
+counted n c = record { machine = with_steps (n + 1) c.machine; events = c.events }
+
+-- an admitted entry
 abbrev pub turn_on : MachineLists → Entry → ListChange
 turn_on m e = counted m.steps (answers_on m e (fault_on m.board e.step))
 
@@ -217,4 +227,5 @@ abbrev pub refusal_of : Lists → List Bool → Pid → Option Fault
 refusal_of b gone pid =
     if not (nat_lt pid.0 b.procs) then Some fault.NoProcess
     else if gone_on gone pid.0 then Some fault.Gone
-    else if open_on b.waiting pid.0 then Some fault.Busy else None
+    else if open_on b.waiting pid.0 then Some fault.Busy
+    else None

@@ -1,9 +1,10 @@
--- What contracts see of a machine: the board, who has gone, what each port has carried, and how many entries
--- were admitted. Names no struct but `Tally`.
-use Rattle.std.specs.Prelude.{ℕ, ◌+◌, ◌-◌, Bool, List, slice_index_or, slice_set}
+-- What contracts see of a machine: the board, who has exited, what each port has carried, and how
+-- many entries were admitted. Names no struct but `Tally`.
+use Rattle.std.specs.Prelude.{ℕ, ◌+◌, ◌-◌, Bool, false, List, [], replicate, slice_index_or, slice_set}
 use Rattle.hub_base.specs.declared.value.Port.{Port}
 use Rattle.hub_core.specs.declared.tally.Tally.{Tally}
 use Rattle.hub_parts.specs.Records.{Lists}
+use Rattle.hub_parts.specs.Lists.{opened}
 
 pub record MachineLists : Type 0 where
   pub board : Lists
@@ -14,23 +15,42 @@ pub record MachineLists : Type 0 where
   -- how many entries were admitted: the next call's ticket
   pub steps : ℕ
 
+-- n processes, and nothing made, gone or open
+abbrev pub opened_machine : ℕ → MachineLists
+opened_machine n = record { board = opened n; gone = replicate 64 false; counts = []; steps = 0 }
+
+-- nothing was sent
 abbrev pub no_tally : Tally
 no_tally = record { sent = 0; received = 0 }
 
+-- what the port has carried
 abbrev pub tally_at : List Tally → Port → Tally
 tally_at ts p = slice_index_or ts (p.0 - 1) no_tally
 
+-- the tallies with this one at the port
 abbrev pub with_tally : List Tally → Port → Tally → List Tally
 with_tally ts p t = slice_set ts (p.0 - 1) t
 
+-- a tally with one more value sent
+abbrev pub sent_tally : Tally → Tally
+sent_tally t = record { sent = t.sent + 1; received = t.received }
+
+-- a tally with one more value received
+abbrev pub received_tally : Tally → Tally
+received_tally t = record { sent = t.sent; received = t.received + 1 }
+
+-- a tally with one more value handed from a sender to a receiver
+abbrev pub handed_tally : Tally → Tally
+handed_tally t = record { sent = t.sent + 1; received = t.received + 1 }
+
 -- one more value was sent on the port
 abbrev pub one_sent : Port → List Tally → List Tally
-one_sent p ts = with_tally ts p (record { sent = (tally_at ts p).sent + 1; received = (tally_at ts p).received })
+one_sent p ts = with_tally ts p (sent_tally (tally_at ts p))
 
 -- one more value was received from the port
 abbrev pub one_received : Port → List Tally → List Tally
-one_received p ts = with_tally ts p (record { sent = (tally_at ts p).sent; received = (tally_at ts p).received + 1 })
+one_received p ts = with_tally ts p (received_tally (tally_at ts p))
 
--- one value was handed over
+-- one more value was handed over at the port
 abbrev pub one_handed : Port → List Tally → List Tally
-one_handed p ts = with_tally ts p (record { sent = (tally_at ts p).sent + 1; received = (tally_at ts p).received + 1 })
+one_handed p ts = with_tally ts p (handed_tally (tally_at ts p))

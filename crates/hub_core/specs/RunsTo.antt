@@ -1,5 +1,5 @@
 -- What a run of steps gives, and where it stops.
-use Rattle.std.specs.Prelude.{◌≡◌, ◌≤◌, ◌<◌, ◌+◌, ℕ, false, List, [], ◌++◌, length, take, Some, slice_get}
+use Rattle.std.specs.Prelude.{◌≡◌, ◌≤◌, ◌<◌, ◌+◌, ℕ, false, List, [], ◌∷◌, ◌++◌, length, take, Some, slice_get}
 use Rattle.hub_base.specs.declared.value.Pid.{Pid}
 use Rattle.hub_base.specs.declared.value.Port.{Port}
 use Rattle.hub_base.specs.declared.entry.Step.TheVariants.{Close}
@@ -13,10 +13,12 @@ use Rattle.hub_base.specs.Runs.{events, kept, keeps, moves}
 use Rattle.hub_base.specs.Values.{sent_values, received_values}
 use Rattle.hub_base.specs.Reading.{is_exit}
 use Rattle.hub_base.specs.Text.{steps_of}
+use Rattle.hub_laws.specs.AfterClose.{AfterCloseLaw}
 use Rattle.hub_core.specs.declared.runs.ListFault.{ListFault}
 use Rattle.hub_core.specs.declared.runs.ListFault.TheVariants.{Open, At}
 use Rattle.hub_core.specs.HubView.{HubView, state_of, HasRoom, IsFullFor, RefusesOpening}
 
+-- a close of the port
 abbrev pub close_of : Pid → Port → Entry
 close_of pid port = record { pid = pid; step = Close port }
 
@@ -29,7 +31,13 @@ pub record RunsTo (n most : ℕ) (es : List Entry) (hub : HubView) (told : List 
 
 -- on each port the values received, and then those in the hub's buffer, are the values sent
 abbrev pub KeepsValues : ℕ → List Entry → HubView → Type 0
-KeepsValues n es hub = (p : Port) (c : Channel) → channel_at (state_of hub) p ≡ Some c → received_values n es p ++ buffer_of c ≡ sent_values n es p
+KeepsValues n es hub = (p : Port) (c : Channel) → channel_at (state_of hub) p ≡ Some c
+    → received_values n es p ++ buffer_of c ≡ sent_values n es p
+
+-- after each close in the list no send completes on the port, and receives drain it
+abbrev pub ClosesForGood : ℕ → List Entry → Type 0
+ClosesForGood n es = (before : List Entry) (pid : Pid) (port : Port) (later : List Entry)
+    → es ≡ before ++ close_of pid port ∷ later → AfterCloseLaw n before pid port later
 
 -- at entry i, which is no exit, the journal holds `limit` entries that are none
 pub record IsFullAt (n limit : ℕ) (es : List Entry) (i : ℕ) : Type 0 where
@@ -38,14 +46,16 @@ pub record IsFullAt (n limit : ℕ) (es : List Entry) (i : ℕ) : Type 0 where
   pub step : is_exit entry.step ≡ false
   pub full : limit ≤ steps_of (kept n (take i es))
 
--- so it is at entry i, and at none before
+-- so it is at entry i, and at none before it
 abbrev pub IsFirstFull : ℕ → ℕ → List Entry → ℕ → Type 0
-IsFirstFull n limit es i = IsFullAt n limit es i × ((j : ℕ) → j < i → ¬ IsFullAt n limit es j)
+IsFirstFull n limit es i =
+    IsFullAt n limit es i × ((j : ℕ) → j < i → ¬ IsFullAt n limit es j)
 
--- at entry i and before the journal was not full
+-- it is so neither at entry i nor before
 abbrev pub IsOpenUpTo : ℕ → ℕ → List Entry → ℕ → Type 0
 IsOpenUpTo n limit es i = (i < length es) × ((j : ℕ) → j < i + 1 → ¬ IsFullAt n limit es j)
 
+-- when each refusal at entry i comes
 abbrev pub RefusesAt : ℕ → ℕ → List Entry → ℕ → Fault → Type 0
 RefusesAt n limit es i fault.JournalFull = IsFirstFull n limit es i
 RefusesAt n limit es i fault.NoMemory = IsOpenUpTo n limit es i
@@ -57,6 +67,7 @@ RefusesRun n limit es (Open f) = RefusesOpening n limit f
 RefusesRun n limit es (At i f) = RefusesAt n limit es i f
 
 -- ---- one entry of a run
+-- what one entry, admitted or not, leaves of the hub, and of the events so far
 pub record TellsOn (old : HubView) (e : Entry) (new : HubView) (before after : List Event) : Type 0 where
   pub room : HasRoom old e
   pub events : after ≡ before ++ (moves (state_of old) e).events
@@ -64,6 +75,7 @@ pub record TellsOn (old : HubView) (e : Entry) (new : HubView) (before after : L
   pub limit : new.limit ≡ old.limit
   pub journal : new.journal ≡ old.journal ++ keeps (refusal (state_of old) e.pid) e []
 
+-- when one entry ends the run
 abbrev pub StopsAt : HubView → Entry → Fault → Type 0
 StopsAt old e fault.JournalFull = IsFullFor old e
 StopsAt old e fault.NoMemory = HasRoom old e

@@ -1,23 +1,16 @@
-//! A call: one of its cases that can proceed fires, or the default is taken, or it waits.
+//! A call: which of its cases fires, and what follows where none can proceed.
 //! Go: "Select statements".
 
-ghost use Rattle.std.specs.Prelude.{◌≡◌, ◌≤◌, ◌<◌, ◌-◌, ◌^◌, ◌%◌, ◌++◌, true, false, List, length, slice_get};
-ghost use Rattle.arrayvec.specs.ArrayVec.{array_vec_len};
+ghost use Rattle.std.specs.Prelude.{◌≡◌, ◌≤◌, ◌<◌, ◌-◌, ◌^◌, ◌%◌, ◌∷◌, [], false, length, slice_get};
+ghost use Rattle.hub_base.specs.Steps.{tells};
 ghost use Rattle.hub_parts.specs.Keeps.{AllMade};
-ghost use Rattle.hub_core.specs.declared.tally.Tally.{Tally};
-ghost use Rattle.hub_core.specs.ListReady.{can_on};
-ghost use Rattle.hub_core.specs.ListKeeps.{PortsKeep, IsNamed};
-ghost use Rattle.hub_core.specs.ListSteps.{waits_on, fires_on, calls_on, open_on};
+ghost use Rattle.hub_core.specs.ListSteps.{wait_on, told_to_wait, open_on};
 
-use crate::firing::fire;
-use crate::ready_cases::find_ready;
-use crate::tally::Tallies;
-use arrayvec::ArrayVec;
 use hub_base::{Case, Cases, Event, Events, Pid, What};
 use hub_parts::Board;
 
 /// The number of the case that the choice word names among those that can proceed.
-fn choose(ready: &[u8], word: u64) -> Option<u8>
+pub(crate) fn choose(ready: &[u8], word: u64) -> Option<u8>
     ensures { result ≡ slice_get ready.now (word % length ready.now) }
 {
     if ready.is_empty() {
@@ -27,23 +20,30 @@ fn choose(ready: &[u8], word: u64) -> Option<u8>
     }
 }
 
-fn case_at(cases: &Cases, index: u8) -> Option<Case>
+pub(crate) fn case_at(cases: &Cases, index: u8) -> Option<Case>
     ensures { result ≡ slice_get cases.now.items index }
 {
     cases.as_slice().get(index as usize).copied()
 }
 
-/// A call that waits, or takes its default.
-fn wait(board: &mut Board, events: &mut Events, ticket: u32, pid: Pid, cases: &Cases, default: bool)
+/// A call of which no case can proceed takes its default, or waits.
+pub(crate) fn wait(
+    board: &mut Board,
+    events: &mut Events,
+    ticket: u32,
+    pid: Pid,
+    cases: &Cases,
+    default: bool,
+)
     requires below { pid.0 < board.old.procs }
     requires free { open_on board.old.waiting pid.0 ≡ false }
     requires few { length cases.now.items ≤ 8 }
     requires named { AllMade (length board.old.ports) cases.now.items }
     requires later { board.old.next_ticket ≤ ticket }
     requires ticket { ticket < 2 ^ 32 - 1 }
-    requires room { array_vec_len events.old < 64 }
-    ensures board { (tallies : List Tally) → board.new ≡ (waits_on board.old tallies ticket pid cases.now.items default).board }
-    ensures events { (tallies : List Tally) → events.new.items ≡ events.old.items ++ (waits_on board.old tallies ticket pid cases.now.items default).events }
+    requires empty { events.old.items ≡ [] }
+    ensures board { board.new ≡ wait_on board.old ticket pid cases.now.items default }
+    ensures events { events.new.items ≡ tells pid (told_to_wait default) ∷ [] }
 {
     if default {
         events.push(Event {
@@ -56,39 +56,5 @@ fn wait(board: &mut Board, events: &mut Events, ticket: u32, pid: Pid, cases: &C
             pid,
             what: What::Parked,
         });
-    }
-}
-
-/// A call of a process that has none open, and what follows it.
-pub(crate) fn call(
-    board: &mut Board,
-    tallies: &mut Tallies,
-    events: &mut Events,
-    ticket: u32,
-    pid: Pid,
-    cases: &Cases,
-    default: bool,
-    word: u64,
-)
-    requires below { pid.0 < board.old.procs }
-    requires free { open_on board.old.waiting pid.0 ≡ false }
-    requires few { length cases.now.items ≤ 8 }
-    requires named { AllMade (length board.old.ports) cases.now.items }
-    requires keep { PortsKeep board.old tallies.old }
-    requires later { board.old.next_ticket ≤ ticket }
-    requires ticket { ticket < 2 ^ 32 - 1 }
-    requires room { array_vec_len events.old < 64 }
-    ensures board { board.new ≡ (calls_on board.old tallies.old ticket pid cases.now.items default word).board }
-    ensures counts { tallies.new ≡ (calls_on board.old tallies.old ticket pid cases.now.items default word).counts }
-    ensures events { events.new.items ≡ events.old.items ++ (calls_on board.old tallies.old ticket pid cases.now.items default word).events }
-{
-    let mut ready = ArrayVec::new();
-    find_ready(board, cases.as_slice(), &mut ready);
-    match choose(ready.as_slice(), word) {
-        None => wait(board, events, ticket, pid, cases, default),
-        Some(index) => match case_at(cases, index) {
-            Some(case) => fire(board, tallies, events, pid, index, case),
-            None => unreachable!(),
-        },
     }
 }

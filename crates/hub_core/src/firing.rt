@@ -1,13 +1,11 @@
-//! How a case fires: the caller is told, and then the waiting call that ended with it.
-//! Go: "Send statements", "Receive operator".
+//! How a case fires: the caller is told, and then the waiting call that ended with it. Go: "Send statements", "Receive operator".
 
-ghost use Rattle.std.specs.Prelude.{◌≡◌, ◌<◌, ◌++◌, true, Some, slice_get};
-ghost use Rattle.arrayvec.specs.ArrayVec.{array_vec_len};
-ghost use Rattle.hub_parts.specs.Lists.{IsMade, port_at};
+ghost use Rattle.std.specs.Prelude.{◌≡◌, [], true};
+ghost use Rattle.hub_parts.specs.Lists.{IsMade};
 ghost use Rattle.hub_core.specs.ListReady.{SendFits, can_on};
 ghost use Rattle.hub_core.specs.ListKeeps.{PortsKeep, IsNamed};
 ghost use Rattle.hub_base.specs.Steps.{fired};
-ghost use Rattle.hub_core.specs.ListSteps.{send_on, take_on, recv_on, fires_on, tell_firing};
+ghost use Rattle.hub_core.specs.ListFirings.{send_on, take_on, recv_on, fire_on, firing_events};
 
 use crate::tally::Tallies;
 use hub_base::{Case, Event, Events, Outcome, Pid, Port, Value, What};
@@ -35,10 +33,11 @@ fn send(
     requires made { IsMade board.old port }
     requires keep { PortsKeep board.old tallies.old }
     requires can { SendFits board.old port }
-    requires room { array_vec_len events.old < 64 }
+    requires empty { events.old.items ≡ [] }
     ensures board { board.new ≡ (send_on board.old tallies.old port value).board }
     ensures counts { tallies.new ≡ (send_on board.old tallies.old port value).counts }
-    ensures events { events.new.items ≡ events.old.items ++ (tell_firing pid index (send_on board.old tallies.old port value)).events }
+    ensures events { events.new.items
+        ≡ firing_events pid index (send_on board.old tallies.old port value) }
 {
     if board.closed(port) {
         events.push(fired(pid, index, Outcome::Closed));
@@ -68,10 +67,11 @@ fn take_value(
 )
     requires made { IsMade board.old port }
     requires keep { PortsKeep board.old tallies.old }
-    requires room { array_vec_len events.old < 64 }
-    ensures board { board.new ≡ (take_on board.old tallies.old port (slice_get (port_at board.old port).buffer 0)).board }
-    ensures counts { tallies.new ≡ (take_on board.old tallies.old port (slice_get (port_at board.old port).buffer 0)).counts }
-    ensures events { events.new.items ≡ events.old.items ++ (tell_firing pid index (take_on board.old tallies.old port (slice_get (port_at board.old port).buffer 0))).events }
+    requires empty { events.old.items ≡ [] }
+    ensures board { board.new ≡ (take_on board.old tallies.old port).board }
+    ensures counts { tallies.new ≡ (take_on board.old tallies.old port).counts }
+    ensures events { events.new.items
+        ≡ firing_events pid index (take_on board.old tallies.old port) }
 {
     match board.pop(port) {
         Some(value) => {
@@ -93,10 +93,11 @@ fn receive(
 )
     requires made { IsMade board.old port }
     requires keep { PortsKeep board.old tallies.old }
-    requires room { array_vec_len events.old < 64 }
+    requires empty { events.old.items ≡ [] }
     ensures board { board.new ≡ (recv_on board.old tallies.old port).board }
     ensures counts { tallies.new ≡ (recv_on board.old tallies.old port).counts }
-    ensures events { events.new.items ≡ events.old.items ++ (tell_firing pid index (recv_on board.old tallies.old port)).events }
+    ensures events { events.new.items
+        ≡ firing_events pid index (recv_on board.old tallies.old port) }
 {
     let Some(sender) = board.take(port, Side::Send) else {
         return take_value(board, tallies, events, pid, index, port);
@@ -131,10 +132,11 @@ pub(crate) fn fire(
     requires named { IsNamed board.old case }
     requires keep { PortsKeep board.old tallies.old }
     requires can { can_on board.old case ≡ true }
-    requires room { array_vec_len events.old < 64 }
-    ensures board { board.new ≡ (fires_on board.old tallies.old pid index (Some case)).board }
-    ensures counts { tallies.new ≡ (fires_on board.old tallies.old pid index (Some case)).counts }
-    ensures events { events.new.items ≡ events.old.items ++ (fires_on board.old tallies.old pid index (Some case)).events }
+    requires empty { events.old.items ≡ [] }
+    ensures board { board.new ≡ (fire_on board.old tallies.old case).board }
+    ensures counts { tallies.new ≡ (fire_on board.old tallies.old case).counts }
+    ensures events { events.new.items
+        ≡ firing_events pid index (fire_on board.old tallies.old case) }
 {
     match case {
         Case::Send(port, value) => send(board, tallies, events, pid, index, port, value),

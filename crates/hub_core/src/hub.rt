@@ -1,7 +1,8 @@
 //! A hub: a machine and its journal.
 //!
-//! The journal has room for the exit of each process from the opening on, and for the steps that were
-//! reserved; so neither an exit nor a reserved step asks for memory.
+//! The journal holds the admitted entries, and the machine is what they lead to. It has room for the
+//! exit of each process from the opening on, and for the steps that were reserved; so neither an
+//! exit nor a reserved step asks for memory.
 
 ghost use Rattle.std.specs.Prelude.{◌≡◌, ◌≤◌, ◌<◌, ◌+◌, ◌-◌, ◌^◌, [], IfOk, IfErr, OnOk, OnErr, vec_len, max};
 ghost use Rattle.std.specs.Vec.{vec_capacity};
@@ -15,11 +16,13 @@ use hub_base::{Entry, Events, Fault, Journal, Look, Port, Step, Value};
 use std::alloc::{AllocError, Global};
 use std::marker::Model;
 
-/// A hub of channels: makes the steps of its processes, tells what follows, and keeps the journal of them.
+/// A hub of channels: makes the steps of its processes, tells what follows, and keeps a journal.
 #[derive(Drop)]
 pub struct Hub {
     procs: u8,
+    /// How many entries that are no exits the journal may hold.
     limit: u32,
+    /// How many steps other than makes take no memory.
     places: u32,
     /// How many entries of the journal are no exits.
     count: u32,
@@ -34,7 +37,8 @@ impl Model for Hub {
 
     ghost use Rattle.hub_core.specs.HubKeeps.{HubKeeps};
 
-    ghost view = { λ h. record { procs = h.procs; limit = h.limit; journal = h.entries.items; places = h.places } };
+    ghost view = { λ h.
+        record { procs = h.procs; limit = h.limit; journal = h.entries.items; places = h.places } };
 
     ghost invariant = { λ h. HubKeeps h };
 }
@@ -70,7 +74,7 @@ fn places_after(step: &Step, places: u32) -> u32
     }
 }
 
-/// Makes room for one more entry beside the places and the exits, where the step may ask for memory.
+/// Makes room for one entry more beside the places and the exits, where the step may take memory.
 fn make_room(
     entries: &mut Vec<Entry>,
     step: &Step,
@@ -79,7 +83,8 @@ fn make_room(
 ) -> Result<(), AllocError>
     ensures same { entries.new.items ≡ entries.old.items }
     ensures capacity { vec_capacity entries.old ≤ vec_capacity entries.new }
-    ensures room { OnOk result (Grows step.now places → vec_len entries.new + places + procs + 1 ≤ vec_capacity entries.new) }
+    ensures room { OnOk result (Grows step.now places
+        → vec_len entries.new + places + procs + 1 ≤ vec_capacity entries.new) }
     ensures err { OnErr result (Grows step.now places) }
 {
     let more = places as usize + procs as usize + 1;
@@ -97,7 +102,8 @@ fn make_room(
 }
 
 impl Hub {
-    /// A hub of 1 to 64 processes whose journal may hold 1 to 1,000,000 entries that are no exits.
+    /// A hub of 1 to 64 processes whose journal may hold `limit` entries that are no exits, 1 to
+    /// 1,000,000.
     pub fn open(alloc: Global, procs: u8, limit: u32) -> Result<Hub, OpenFault>
         ensures ok { IfOk result (λ h. h ≡ opened_hub procs limit) }
         ensures bounds { OnOk result (IsProcs procs × IsLimit limit) }
@@ -125,10 +131,13 @@ impl Hub {
         })
     }
 
-    /// Makes a step. The first event is the caller's answer; the calls that ended follow, in order of arrival.
+    /// Makes a step. The first event is the caller's answer; the calls that ended follow, in order
+    /// of arrival.
     ///
-    /// Refused by faults 10, 1, 2, 3 and 11 alone, tested in this order; the hub is then as before. An exit is
-    /// never refused by 10 or 11, and only a make, or a step for which no place is left, by 11.
+    /// Refused by `JournalFull`, `NoProcess`, `Gone`, `Busy` and `NoMemory` alone, tested in this
+    /// order; the hub is then as before. An exit is never refused by `JournalFull` or `NoMemory`,
+    /// and by `NoMemory` only a make is, or a step for which no place is left. All other faults are
+    /// answers, and their entries are kept.
     pub fn step(&mut self, entry: Entry) -> Result<Events, Fault>
         ensures ok { IfOk result (λ events. Steps self.old entry self.new events.items) }
         ensures refused { IfErr result (λ f. Refuses self.old entry f) }
@@ -155,8 +164,8 @@ impl Hub {
         }
     }
 
-    /// Makes room in the journal: after `Ok` the next `k` steps other than makes take no memory. After a
-    /// refusal the hub is as before.
+    /// Makes room in the journal: after `Ok` the next `k` steps other than makes take no memory. After
+    /// a refusal the hub is as before.
     pub fn reserve(&mut self, k: u32) -> Result<(), AllocError>
         ensures ok { OnOk result (self.new ≡ record self.old { places = max self.old.places k }) }
         ensures unchanged { OnErr result (self.new ≡ self.old) }
@@ -175,15 +184,15 @@ impl Hub {
         self.machine.look(port)
     }
 
-    /// The value at a place of a port's buffer, 0 the oldest. `None` past its end, for port 0 and for a port
-    /// that was not made.
+    /// The value at a place of a port's buffer, 0 the oldest. `None` past its end, for port 0 and for
+    /// a port that was not made.
     pub fn buffered(&self, port: Port, place: u32) -> Option<Value>
         ensures { result ≡ value_at (state_of self.now) port place }
     {
         self.machine.buffered(port, place)
     }
 
-    /// The journal so far. It is legal: each of its entries was admitted when it came.
+    /// The journal so far. Each of its entries was admitted when it came.
     pub fn entries(&self) -> &[Entry]
         ensures journal { result.now ≡ self.now.journal }
         ensures legal { kept self.now.procs self.now.journal ≡ self.now.journal }
@@ -191,7 +200,7 @@ impl Hub {
         &self.entries
     }
 
-    /// The journal.
+    /// The journal of the hub, which ends.
     pub fn into_journal(self) -> Journal
         ensures journal { result ≡ record { procs = self.procs; entries = self.journal } }
         ensures legal { kept self.procs self.journal ≡ self.journal }

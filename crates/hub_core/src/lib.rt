@@ -7,6 +7,7 @@ mod firing;
 mod hub;
 mod looking;
 mod machine;
+mod machine_state;
 mod opening;
 mod ready_cases;
 mod refusals;

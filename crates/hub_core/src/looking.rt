@@ -1,4 +1,5 @@
-//! Looks at a port: its capacity and counts, and the values in its buffer. Go: "Length and capacity".
+//! Looks at a port: its capacity and counts, and the values in its buffer.
+//! Go: "Length and capacity".
 
 ghost use Rattle.std.specs.Prelude.{◌≡◌, ◌≤◌, length};
 ghost use Rattle.hub_parts.specs.Lists.{IsMade};

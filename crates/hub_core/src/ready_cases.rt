@@ -1,4 +1,5 @@
-//! Which cases of a call can proceed. Go: "Send statements", "Receive operator", "Select statements".
+//! Which cases of a call can proceed.
+//! Go: "Send statements", "Receive operator", "Select statements".
 
 ghost use Rattle.std.specs.Prelude.{◌≡◌, ◌≤◌, [], length};
 ghost use Rattle.hub_parts.specs.Keeps.{AllMade};

@@ -1,12 +1,8 @@
 //! Runs: a hub is opened, and makes the steps of a list in order.
 
-ghost use Rattle.std.specs.Prelude.{◌≡◌, ◌++◌, ◌∷◌, [], List, ℕ, length, IfOk, IfErr, OnOk};
-ghost use Rattle.hub_base.specs.declared.entry.Entry.{Entry};
-ghost use Rattle.hub_base.specs.declared.value.Pid.{Pid};
-ghost use Rattle.hub_base.specs.declared.value.Port.{Port};
+ghost use Rattle.std.specs.Prelude.{◌≡◌, ℕ, IfOk, IfErr, OnOk};
 ghost use Rattle.hub_laws.specs.Once.{OnceLaw};
-ghost use Rattle.hub_laws.specs.AfterClose.{AfterCloseLaw};
-ghost use Rattle.hub_core.specs.RunsTo.{RunsTo, TellsOn, StopsAt, KeepsValues, RefusesRun, IsFullAt, close_of};
+ghost use Rattle.hub_core.specs.RunsTo.{RunsTo, TellsOn, StopsAt, KeepsValues, ClosesForGood, RefusesRun, IsFullAt};
 
 use crate::{Hub, OpenFault};
 use hub_base::{Entry, Event, Fault, What};
@@ -17,8 +13,8 @@ use std::alloc::{AllocError, Global};
 pub enum ListFault {
     /// The hub was not opened.
     Open(OpenFault),
-    /// The entry at this place, counted from 0, found the journal full (fault 10), or a growth was refused
-    /// at it (fault 11).
+    /// The entry at this place, counted from 0, found the journal full (`JournalFull`), or a growth
+    /// was refused at it (`NoMemory`).
     At { index: usize, fault: Fault },
 }
 
@@ -49,9 +45,11 @@ fn answer(hub: &mut Hub, events: &mut Vec<Event>, entry: &Entry) -> Result<(), F
     }
 }
 
-/// Opens a hub of so many processes with this limit, makes the steps in order, and gives the hub and the
-/// events of them all. A step refused by fault 1, 2 or 3 gives that fault as the event of its process, and the
-/// run goes on; a refusal by 10 or 11 ends it.
+/// Opens a hub of so many processes with this limit, makes the steps in order, and gives the hub and
+/// the events of them all.
+///
+/// A step refused by `NoProcess`, `Gone` or `Busy` gives that fault as the event of its process, and
+/// the run goes on; a refusal by `JournalFull` or `NoMemory` ends it, and nothing is kept.
 pub fn run(
     alloc: Global,
     procs: u8,
@@ -61,15 +59,14 @@ pub fn run(
     // The events are the definition's, and the journal holds the admitted entries.
     ensures ok { IfOk result (λ r. RunsTo procs limit entries.now r.0 r.1.items) }
 
-    // On each port the values received, then those buffered, are those sent, in order of completion.
+    // On each port the values received, then those buffered, are those sent, in order.
     ensures received_then_buffered { IfOk result (λ r. KeepsValues procs entries.now r.0) }
 
     // Each admitted call completes at most one of its cases, once.
     ensures at_most_one_case { OnOk result (OnceLaw procs entries.now) }
 
-    // After a close no send completes on the port, and receives drain the buffer, then learn the close.
-    ensures after_close { OnOk result ((before : List Entry) (pid : Pid) (port : Port) (later : List Entry)
-        → entries.now ≡ before ++ close_of pid port ∷ later → AfterCloseLaw procs before pid port later) }
+    // After a close no send completes on the port, and receives drain it, then learn the close.
+    ensures after_close { OnOk result (ClosesForGood procs entries.now) }
 
     // The journal was never full at an entry that is no exit.
     ensures never_full { OnOk result ((i : ℕ) → ¬ IsFullAt procs limit entries.now i) }

@@ -1,11 +1,11 @@
-//! The stall rule: where every process that has not exited waits, no call could ever end, so all end.
+//! The stall rule: where every process that has not exited waits, no call could ever end, so all
+//! end. Go has no such rule for single processes; there the whole program ends.
 
-ghost use Rattle.std.specs.Prelude.{◌≡◌, ◌≤◌, ◌<◌, ◌+◌, ◌++◌, ◌||◌, length};
-ghost use Rattle.std.specs.List.{list_all, range_with_len};
+ghost use Rattle.std.specs.Prelude.{◌≡◌, ◌≤◌, ◌<◌, ◌+◌, ◌++◌, length};
 ghost use Rattle.arrayvec.specs.ArrayVec.{array_vec_len};
 ghost use Rattle.hub_laws.specs.Sound.{Apart};
 ghost use Rattle.hub_parts.specs.Lists.{open_calls};
-ghost use Rattle.hub_core.specs.ListSteps.{gone_on, open_on, all_wait_on, none_open, stalled_events};
+ghost use Rattle.hub_core.specs.ListSteps.{gone_on, each_gone_or_open_on, all_wait_on, none_open, stalled_events};
 
 use hub_base::{Event, Events, Pid, What};
 use hub_parts::Board;
@@ -21,8 +21,7 @@ pub(crate) fn has_gone(gone: &[bool; 64], pid: u8) -> bool
 /// Whether every process has exited or has an open call.
 fn each_gone_or_open(board: &Board, gone: &[bool; 64], procs: u8) -> bool
     requires { procs ≤ 64 }
-    ensures { result
-        ≡ list_all (λ q. gone_on gone.now q || open_on board.now.waiting q) (range_with_len 0 procs) }
+    ensures { result ≡ each_gone_or_open_on board.now gone.now procs }
 {
     (0..procs).all(|pid| has_gone(gone, pid) || board.open(Pid(pid)))
 }

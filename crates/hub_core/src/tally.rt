@@ -7,10 +7,12 @@ use arrayvec::ArrayVec;
 use hub_base::Port;
 use std::marker::Model;
 
-/// How many values were sent on a port, and how many of them were received.
+/// What a port has carried.
 #[derive(Clone, Copy, Debug, Default, PartialEq, Eq)]
 pub struct Tally {
+    /// How many sends completed.
     pub sent: u32,
+    /// How many of their values were received.
     pub received: u32,
 }
 

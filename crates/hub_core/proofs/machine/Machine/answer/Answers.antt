@@ -1,12 +1,14 @@
 use Rattle.std.proofs.Common.{◌∙◌, ◌++◌, ◌∷◌, [], ap, arith, List}
 use Rattle.hub_base.specs.declared.event.Event.{Event}
+use Rattle.hub_base.specs.declared.event.What.TheVariants as what
+use Rattle.hub_base.specs.Steps.{tells}
 use Rattle.hub_core.specs.Records.{MachineLists}
 use Rattle.hub_core.proofs.Following.{refused_as, follows_refused}
 use Rattle.hub_core.proofs.machine.Machine.answer.Goals as goal
 
 pub returns-in_default-fault : goal.returns-in_default-fault
 returns-in_default-fault c =
-    let told = c.push.ensures.items ∙ ap (λ (es : List Event). es ++ c.tells.result ∷ []) c.clear.ensures ∙ ap (λ (e : Event). e ∷ []) c.tells.ensures in
+    let told = c.push.ensures.items ∙ ap (λ (es : List Event). es ++ tells c.args.entry.now.pid (what.Fault c.in-Err.fault) ∷ []) c.clear.ensures in
     let stays = c.in-Err.ensures.unchanged in
     record {
       ok = λ n es h.

@@ -1,0 +1,183 @@
+//! What a machine holds, also in the midst of a step, and what a step does to it.
+
+ghost use Rattle.std.specs.Prelude.{◌≡◌, ◌≤◌, ◌<◌, ◌-◌, ◌^◌, [], None, false, replicate, length, IfOk, OnOk, OnErr};
+ghost use Rattle.hub_parts.specs.Keeps.{AllMade};
+ghost use Rattle.hub_base.specs.Steps.{tells};
+ghost use Rattle.hub_core.specs.ListSteps.{call_on, effect_on, turn_on, refusal_of, fault_on, open_on};
+ghost use Rattle.hub_core.specs.ListKeeps.{PortsKeep};
+ghost use Rattle.hub_core.specs.Looks.{look_on, value_on};
+ghost use Rattle.hub_core.specs.Records.{opened_machine};
+ghost use Rattle.hub_core.specs.Follows.{IsMake, IsReached};
+
+use crate::calling::{case_at, choose, wait};
+use crate::closing::close;
+use crate::firing::fire;
+use crate::looking::{buffered, look};
+use crate::ready_cases::find_ready;
+use crate::refusals::{fault_of, refusal};
+use crate::stalling::{all_wait, stop_all};
+use crate::tally::Tallies;
+use arrayvec::ArrayVec;
+use hub_base::{Cases, Entry, Event, Events, Fault, Look, Pid, Port, Step, Value, What};
+use hub_parts::Board;
+use std::alloc::{AllocError, Global};
+use std::marker::Model;
+
+/// The board, who has exited, what each port has carried, and how many steps were made.
+#[derive(Drop)]
+pub(crate) struct MachineState {
+    procs: u8,
+    board: Board,
+    gone: [bool; 64],
+    tallies: Tallies,
+    steps: u32,
+}
+
+impl Model for MachineState {
+    ghost use Rattle.hub_core.specs.Records.{MachineLists};
+
+    ghost Value = { MachineLists };
+
+    ghost use Rattle.hub_core.specs.StateKeeps.{StateKeeps};
+
+    ghost view = { λ s.
+        record { board = s.board; gone = s.gone; counts = s.tallies; steps = s.steps } };
+
+    ghost invariant = { λ s. StateKeeps s };
+}
+
+/// No process has exited.
+fn none_gone() -> [bool; 64]
+    ensures { result ≡ replicate 64 false }
+{
+    [false; 64]
+}
+
+pub(crate) fn tells(pid: Pid, what: What) -> Event
+    ensures { result ≡ tells pid what }
+{
+    Event { pid, what }
+}
+
+impl MachineState {
+    /// Nothing has happened. This takes all the memory that the open calls will ever need.
+    pub(crate) fn open(alloc: Global, procs: u8) -> Result<MachineState, AllocError>
+        requires { procs ≤ 64 }
+        ensures { IfOk result (λ s. s ≡ opened_machine procs) }
+    {
+        Ok(MachineState {
+            procs,
+            board: Board::new(alloc, procs)?,
+            gone: none_gone(),
+            tallies: Tallies::new(),
+            steps: 0,
+        })
+    }
+
+    /// Why a step of this process is not admitted.
+    pub(crate) fn refusal(&self, pid: Pid) -> Option<Fault>
+        ensures { result ≡ refusal_of self.now.board self.now.gone pid }
+    {
+        refusal(&self.board, &self.gone, self.procs, pid)
+    }
+
+    /// A call of a process that has none open, and what follows it.
+    fn call(&mut self, pid: Pid, cases: &Cases, default: bool, word: u64, events: &mut Events)
+        requires below { pid.0 < self.old.board.procs }
+        requires free { open_on self.old.board.waiting pid.0 ≡ false }
+        requires few { length cases.now.items ≤ 8 }
+        requires named { AllMade (length self.old.board.ports) cases.now.items }
+        requires keep { PortsKeep self.old.board self.old.counts }
+        requires later { self.old.board.next_ticket ≤ self.old.steps }
+        requires ticket { self.old.steps < 2 ^ 32 - 1 }
+        requires empty { events.old.items ≡ [] }
+        ensures machine { self.new ≡ (call_on self.old pid cases.now.items default word).machine }
+        ensures events { events.new.items
+            ≡ (call_on self.old pid cases.now.items default word).events }
+    {
+        let mut ready = ArrayVec::new();
+        find_ready(&self.board, cases.as_slice(), &mut ready);
+        match choose(ready.as_slice(), word) {
+            None => wait(&mut self.board, events, self.steps, pid, cases, default),
+            Some(index) => match case_at(cases, index) {
+                Some(case) => { fire(&mut self.board, &mut self.tallies, events, pid, index, case) }
+                None => unreachable!(),
+            },
+        }
+    }
+
+    /// What a step without a fault does. A make that is refused memory changes nothing.
+    fn effect(&mut self, pid: Pid, step: &Step, events: &mut Events) -> Result<(), AllocError>
+        requires reached { IsReached self.old }
+        requires admitted { refusal_of self.old.board self.old.gone pid ≡ None }
+        requires fault { fault_on self.old.board step.now ≡ None }
+        requires ticket { self.old.steps < 2 ^ 32 - 1 }
+        requires empty { events.old.items ≡ [] }
+        ensures machine { OnOk result (self.new ≡ (effect_on self.old pid step.now).machine) }
+        ensures events { OnOk result (events.new.items ≡ (effect_on self.old pid step.now).events) }
+        ensures make { OnErr result (IsMake step.now) }
+        ensures unchanged { OnErr result (self.new ≡ self.old) }
+    {
+        match step {
+            Step::Make(cap) => {
+                let port = self.board.make(*cap)?;
+                self.tallies.add();
+                events.push(tells(pid, What::Made(port)));
+            }
+            Step::Call {
+                cases,
+                default,
+                word,
+            } => self.call(pid, cases, *default, *word, events),
+            Step::Close(port) => {
+                events.push(tells(pid, What::Done));
+                close(&mut self.board, events, *port);
+            }
+            Step::Exit => {
+                self.gone[pid.0 as usize] = true;
+                events.push(tells(pid, What::Done));
+            }
+        }
+        Ok(())
+    }
+
+    /// An admitted step: its fault, or what it does and the stall rule behind it.
+    pub(crate) fn turn(&mut self, entry: &Entry, events: &mut Events) -> Result<(), AllocError>
+        requires reached { IsReached self.old }
+        requires admitted { refusal_of self.old.board self.old.gone entry.now.pid ≡ None }
+        requires ticket { self.old.steps < 2 ^ 32 - 1 }
+        requires empty { events.old.items ≡ [] }
+        ensures machine { OnOk result (self.new ≡ (turn_on self.old entry.now).machine) }
+        ensures events { OnOk result (events.new.items ≡ (turn_on self.old entry.now).events) }
+        ensures make { OnErr result (IsMake entry.now.step) }
+        ensures unchanged { OnErr result (self.new ≡ self.old) }
+        ensures places { length self.old.gone ≡ 64 }
+        ensures few { self.old.board.procs ≤ 64 }
+    {
+        if let Some(fault) = fault_of(&self.board, &entry.step) {
+            events.push(tells(entry.pid, What::Fault(fault)));
+        } else {
+            self.effect(entry.pid, &entry.step, events)?;
+            if all_wait(&self.board, &self.gone, self.procs) {
+                stop_all(&mut self.board, events);
+            }
+        }
+        self.steps += 1;
+        Ok(())
+    }
+
+    /// The capacity and the counts of a port.
+    pub(crate) fn look(&self, port: Port) -> Option<Look>
+        requires { length self.now.counts ≡ length self.now.board.ports }
+        ensures { result ≡ look_on self.now.board self.now.counts port }
+    {
+        look(&self.board, &self.tallies, port)
+    }
+
+    /// The value at a place of a port's buffer.
+    pub(crate) fn buffered(&self, port: Port, place: u32) -> Option<Value>
+        ensures { result ≡ value_on self.now.board port place }
+    {
+        buffered(&self.board, port, place)
+    }
+}

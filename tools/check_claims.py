@@ -13,7 +13,7 @@ import sys
 
 ROOT = sys.argv[1] if len(sys.argv) > 1 else os.path.join(os.path.dirname(os.path.abspath(__file__)), '..')
 TICKED = re.compile(r'`([^`]+)`')
-CITED = re.compile(r'(base )?`([A-Z]\w*)`: ((?:`\w+`(?:, )?)+)')
+CITED = re.compile(r'(?:(base|laws|replay) )?`([A-Z]\w*)`: ((?:`\w+`(?:, )?)+)')
 
 
 def read(*parts):
@@ -27,13 +27,21 @@ def files(folder, ending):
         yield from (os.path.relpath(os.path.join(place, name), ROOT) for name in names if name.endswith(ending))
 
 
+def has_file(crate, name):
+    return os.path.exists(os.path.join(ROOT, 'crates', crate, 'src', name))
+
+
 def public_calls(crate):
-    """The calls that a library offers, each with its clauses' labels; '–' stands for a clause without one."""
+    """The calls that a library offers, or all public ones of a program, each with its clauses' labels; '–' stands for
+    a clause without one."""
     source = '\n'.join(read(path) for path in sorted(files('crates/%s/src' % crate, '.rt')))
     offered = set(re.findall(r'\w+', ' '.join(re.findall(r'^pub use ([^;]+);', source, re.M))))
-    offered |= set(re.findall(r'^pub fn (\w+)', read('crates', crate, 'src', 'lib.rt'), re.M))
+    if has_file(crate, 'lib.rt'):
+        offered |= set(re.findall(r'^pub fn (\w+)', read('crates', crate, 'src', 'lib.rt'), re.M))
+    else:
+        offered |= set(re.findall(r'^pub (?:fn|struct|enum) (\w+)', source, re.M))
     calls, owner = {}, ''
-    for line in re.split(r'\n(?=\S|    pub fn )', source):
+    for line in re.split(r'\n(?=[^\s)]|    pub fn )', source):
         block = re.match(r'impl(?:<[^>]*>)? (\w+)(?:<[^>]*>)? \{', line)
         if block:
             owner = block.group(1)
@@ -56,9 +64,9 @@ def defined(crate, file, name):
 
 
 def check_definitions(page, crate, text):
-    for base, file, names in CITED.findall(text):
+    for other, file, names in CITED.findall(text):
         for name in TICKED.findall(names):
-            if not defined('hub_base' if base else crate, file, name):
+            if not defined('hub_' + other if other else crate, file, name):
                 yield '%s: no definition %s in %s' % (page, name, file)
 
 
@@ -92,7 +100,7 @@ def main():
     found = list(check_definitions('SEMANTICS', 'hub_base', read('docs', 'SEMANTICS.md')))
     for section in re.split(r'^## ', read('docs', 'CLAIMS.md'), flags=re.M)[1:]:
         crate = section.split('\n', 1)[0]
-        if os.path.exists(os.path.join(ROOT, 'crates', crate, 'src', 'lib.rt')):
+        if has_file(crate, 'lib.rt') or has_file(crate, 'main.rt'):
             found += check_section(crate, section)
     print(''.join(line + '\n' for line in found), end='')
     sys.exit(1 if found else 0)

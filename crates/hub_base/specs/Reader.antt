@@ -28,7 +28,7 @@ abbrev pub ReadsOn : ReaderView → ReaderView → Result (Option Entry) TextFau
 ReadsOn old new (Ok next) = Continues old new next
 ReadsOn old new (Err fault) = StopsAt old new fault
 
--- the same, where the entry was read into a given place
+-- the same, where the entry was read into a given one; at the end and at a fault that may be any
 abbrev pub FillsOn : ReaderView → ReaderView → Entry → Result Bool TextFault → Type 0
 FillsOn old new entry (Ok true) = Continues old new (Some entry)
 FillsOn old new entry (Ok false) = Continues old new None

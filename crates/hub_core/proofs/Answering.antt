@@ -1,24 +1,23 @@
 -- A call on the lists is the call of the meaning.
-use Rattle.std.proofs.Common.{◌≡◌, ℕ, zero, ◌+◌, ◌%◌, Bool, true, false, List, [], ◌∷◌, ◌++◌, length, map, filter, refl, ap, ◌∙◌, sym, subst, Option, Some, None, arith}
+use Rattle.std.proofs.Common.{◌≡◌, ℕ, ◌%◌, Bool, true, false, List, [], ◌∷◌, ◌++◌, length, map, refl, ap, ◌∙◌, sym, Option, Some, None, arith}
 use Rattle.std.specs.Prelude.{slice_get}
-use Rattle.std.specs.List.{list_any, enumerate_from}
-use Rattle.std.specs.Option.{option_map, option_map_or, option_to_list}
+use Rattle.std.specs.List.{list_any}
+use Rattle.std.specs.Option.{option_map, option_map_or}
 use Rattle.std.proofs.lemmas.List.{length-map, map-append}
 use Rattle.std.proofs.lemmas.Option.{slice_get-map}
 use Rattle.hub_base.specs.declared.value.Pid.{Pid}
-use Rattle.hub_base.specs.declared.value.Port.{Port}
 use Rattle.hub_base.specs.declared.case.Case.{Case}
 use Rattle.hub_base.specs.declared.case.Case.TheVariants.{Send, Recv}
-use Rattle.hub_base.specs.State.{State, Channel, OpenCall, channel_at}
+use Rattle.hub_base.specs.State.{State, Channel, channel_at}
 use Rattle.hub_base.specs.Ready.{port_of, can_proceed, send_can, recv_can, ready}
-use Rattle.hub_base.specs.Steps.{Firing, Change, fires, proceeds, chooses, waits, calls, is_unmade, fired}
+use Rattle.hub_base.specs.Steps.{Firing, fires, proceeds, chooses, waits, calls, is_unmade, fired}
 use Rattle.hub_laws.specs.Sound.{IsSound}
 use Rattle.hub_laws.proofs.Ready.{chosen}
 use Rattle.hub_parts.specs.Records.{Ticketed}
 use Rattle.hub_parts.specs.Lists.{open_calls, ticketed}
 use Rattle.hub_core.specs.Records.{MachineLists}
 use Rattle.hub_core.specs.ListReady.{ready_on}
-use Rattle.hub_core.specs.ListSteps.{ListFiring, tell_firing, fire_on, fires_on, waits_on, chooses_on, calls_on, after_call}
+use Rattle.hub_core.specs.ListSteps.{ListFiring, tell_firing, fires_on, waits_on, chooses_on, calls_on, after_call}
 use Rattle.hub_core.specs.Follows.{Matches}
 use Rattle.hub_core.specs.Agrees.{FiresAs, StepsAs}
 use Rattle.hub_core.proofs.Firings.{send-as, recv-as}

@@ -1,5 +1,5 @@
 -- A number among those of the cases that can proceed is a case's, and that case can proceed.
-use Rattle.std.proofs.Common.{◌≡◌, ℕ, zero, suc, ◌+◌, ◌%◌, Bool, true, false, cond, List, [], ◌∷◌, length, refl, ap, ◌∙◌, sym, subst, Option, Some, None, arith}
+use Rattle.std.proofs.Common.{◌≡◌, ℕ, zero, suc, ◌+◌, ◌%◌, Bool, true, false, cond, List, [], ◌∷◌, length, refl, ap, ◌∙◌, sym, subst, Some, arith}
 use Rattle.std.specs.Prelude.{slice_get}
 use Rattle.hub_base.specs.declared.case.Case.{Case}
 use Rattle.hub_parts.specs.Records.{Lists}

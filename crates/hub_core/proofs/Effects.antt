@@ -1,6 +1,6 @@
 -- A make, a close, an exit, and so each step, is on the lists what it is in the meaning.
-use Rattle.std.proofs.Common.{◌≡◌, ℕ, zero, suc, ◌+◌, ◌-◌, ◌==◌, ◌≤◌, ◌<◌, ◌||◌, ◌≢◌, not, nat_lt, Bool, true, false, cond, List, [], ◌∷◌, ◌++◌, length, map, filter, refl, ap, ◌∙◌, sym, subst, Option, Some, None, arith}
-use Rattle.std.specs.Prelude.{slice_get, slice_set}
+use Rattle.std.proofs.Common.{◌≡◌, ℕ, ◌+◌, ◌==◌, ◌<◌, ◌||◌, ◌≢◌, not, nat_lt, Bool, true, false, cond, List, [], ◌∷◌, ◌++◌, length, filter, refl, ap, ◌∙◌, sym, subst, Option, Some, None, arith}
+use Rattle.std.specs.Prelude.{slice_set}
 use Rattle.std.specs.List.{list_any, filter_map}
 use Rattle.std.proofs.lemmas.Grind.{common_steps}
 use Rattle.std.proofs.lemmas.List.{map-append, get_or-set_same, get_or-set_other}
@@ -9,21 +9,19 @@ use Rattle.hub_base.specs.declared.value.Port.{Port}
 use Rattle.hub_base.specs.declared.case.Case.{Case}
 use Rattle.hub_base.specs.declared.entry.Step.{Step}
 use Rattle.hub_base.specs.declared.entry.Step.TheVariants.{Make, Call, Close, Exit}
-use Rattle.hub_base.specs.declared.fault.Fault.{Fault}
 use Rattle.hub_base.specs.declared.fault.Fault.TheVariants as fault
-use Rattle.hub_base.specs.declared.event.Event.{Event}
 use Rattle.hub_base.specs.declared.event.What.TheVariants as what
-use Rattle.hub_base.specs.State.{State, Channel, OpenCall, channel_at}
+use Rattle.hub_base.specs.State.{State, Channel, channel_at}
 use Rattle.hub_base.specs.Ready.{is_on, port_of}
-use Rattle.hub_base.specs.Steps.{Change, shut, closes, makes, exits, effect, tells, closing_event, has_gone, is_unmade, fault_of, close_fault}
+use Rattle.hub_base.specs.Steps.{shut, closes, makes, exits, effect, tells, closing_event, is_unmade, fault_of, close_fault}
 use Rattle.hub_laws.specs.Sound.{IsSound}
 use Rattle.hub_laws.proofs.Calls.{any_snoc}
 use Rattle.hub_laws.proofs.Ready.{none_false}
 use Rattle.std.proofs.lemmas.Bool.{eqb-true}
-use Rattle.hub_parts.specs.Records.{PortLists, Ticketed}
+use Rattle.hub_parts.specs.Records.{Ticketed}
 use Rattle.hub_parts.specs.Lists.{open_calls, port_at, closed_now, new_port}
 use Rattle.hub_core.specs.Records.{MachineLists, no_tally}
-use Rattle.hub_core.specs.ListSteps.{off_port, closing_events, closes_on, makes_on, exits_on, effect_on, gone_on, is_unmade_on, call_fault_on, fault_on}
+use Rattle.hub_core.specs.ListSteps.{off_port, closes_on, makes_on, exits_on, effect_on, gone_on, is_unmade_on, call_fault_on, fault_on}
 use Rattle.hub_core.specs.Follows.{lists_of, tally_of, Matches}
 use Rattle.hub_core.specs.Agrees.{StepsAs}
 use Rattle.hub_core.proofs.Ports.{port-lists_of, ports-set, counts-same}

@@ -1,26 +1,24 @@
 -- A case that fires on the lists fires as in the meaning.
-use Rattle.std.proofs.Common.{◌≡◌, ℕ, ◌+◌, Bool, true, false, cond, List, [], ◌∷◌, ◌++◌, length, refl, ap, ◌∙◌, sym, subst, Option, Some, None, arith}
-use Rattle.std.specs.Prelude.{slice_get, is_some}
-use Rattle.std.specs.Option.{option_to_list}
+use Rattle.std.proofs.Common.{◌≡◌, ◌+◌, Bool, true, false, cond, List, [], ◌∷◌, ◌++◌, length, refl, ap, ◌∙◌, sym, Option, Some, None, arith}
+use Rattle.std.specs.Prelude.{slice_get}
 use Rattle.hub_base.specs.declared.value.Pid.{Pid}
 use Rattle.hub_base.specs.declared.value.Port.{Port}
 use Rattle.hub_base.specs.declared.value.Value.{Value}
 use Rattle.hub_base.specs.declared.case.Case.{Case}
 use Rattle.hub_base.specs.declared.case.Case.TheVariants.{Send, Recv}
-use Rattle.hub_base.specs.declared.event.Outcome.TheVariants.{Sent, Got, Drained, Closed}
-use Rattle.hub_base.specs.declared.event.Event.{Event}
-use Rattle.hub_base.specs.State.{State, Channel, OpenCall, channel_at, with_channel}
+use Rattle.hub_base.specs.declared.event.Outcome.TheVariants.{Sent, Closed}
+use Rattle.hub_base.specs.State.{State, Channel, channel_at}
 use Rattle.hub_base.specs.Ready.{Ending, first_with, is_recv_on, is_send_on, without}
-use Rattle.hub_base.specs.Steps.{Firing, sent, received, next_value, outcome_of, send_fires, send_meets, recv_fires, recv_meets, recv_takes, with_sent, fired}
+use Rattle.hub_base.specs.Steps.{sent, received, next_value, outcome_of, send_fires, send_meets, recv_fires, recv_meets, recv_takes, with_sent, fired}
 use Rattle.hub_laws.specs.Sound.{IsSound, PortSound, some_call, CallFits}
-use Rattle.hub_laws.proofs.Fires.{some_first, is_send}
+use Rattle.hub_laws.proofs.Fires.{some_first}
 use Rattle.hub_laws.proofs.Calls.{first-found}
-use Rattle.hub_parts.specs.Records.{Lists, PortLists, Ticketed}
-use Rattle.hub_parts.specs.Lists.{port_at, with_port, pushed, popped, ended_by, open_calls, still_open}
+use Rattle.hub_parts.specs.Records.{PortLists}
+use Rattle.hub_parts.specs.Lists.{port_at, pushed, popped, open_calls, still_open}
 use Rattle.hub_core.specs.declared.tally.Tally.{Tally}
-use Rattle.hub_core.specs.Records.{MachineLists, tally_at, one_sent, one_received, one_handed}
-use Rattle.hub_core.specs.ListSteps.{ListFiring, with_board, send_on, send_to, recv_on, recv_from, take_on, let_in, fetch_on}
-use Rattle.hub_core.specs.Follows.{lists_of, tally_of, Matches}
+use Rattle.hub_core.specs.Records.{MachineLists}
+use Rattle.hub_core.specs.ListSteps.{send_on, send_to, recv_on, recv_from, take_on, let_in, fetch_on}
+use Rattle.hub_core.specs.Follows.{tally_of, Matches}
 use Rattle.hub_core.specs.Agrees.{FiresAs}
 use Rattle.hub_core.proofs.Endings.{open_calls-still_open}
 use Rattle.hub_core.proofs.Ports.{port-lists_of, tally-tally_of, ports-set, ports-same, counts-set, counts-same, first-next_value, pushed-lists_of, popped-lists_of, popped-drained, through-lists_of, next-through, shifted-lists_of, next-shifted, next_none}

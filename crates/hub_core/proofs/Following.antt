@@ -1,12 +1,7 @@
 -- A machine that follows a run follows it by one entry more.
-use Rattle.std.proofs.Common.{◌≡◌, ℕ, zero, suc, ◌+◌, ◌-◌, ◌==◌, ◌≤◌, ◌<◌, ◌^◌, Bool, true, false, cond, not, List, [], ◌∷◌, ◌++◌, length, map, append-nil, refl, ap, ◌∙◌, sym, subst, Option, Some, None, arith}
+use Rattle.std.proofs.Common.{◌≡◌, ℕ, zero, suc, ◌+◌, ◌≤◌, ◌<◌, Bool, true, false, cond, List, [], ◌∷◌, ◌++◌, length, append-nil, refl, ap, ◌∙◌, sym, subst, Option, Some, None, arith}
 use Rattle.std.specs.Prelude.{slice_get, replicate}
-use Rattle.std.specs.List.{AllByRecursion, list_any}
-use Rattle.std.proofs.lemmas.Grind.{common_steps}
-use Rattle.std.proofs.lemmas.List.{length-map}
 use Rattle.hub_base.specs.declared.value.Pid.{Pid}
-use Rattle.hub_base.specs.declared.value.Port.{Port}
-use Rattle.hub_base.specs.declared.case.Case.{Case}
 use Rattle.hub_base.specs.declared.entry.Step.{Step}
 use Rattle.hub_base.specs.declared.entry.Step.TheVariants.{Make, Call, Close, Exit}
 use Rattle.hub_base.specs.declared.entry.Entry.{Entry}
@@ -14,24 +9,24 @@ use Rattle.hub_base.specs.declared.fault.Fault.{Fault}
 use Rattle.hub_base.specs.declared.fault.Fault.TheVariants as fault
 use Rattle.hub_base.specs.declared.event.Event.{Event}
 use Rattle.hub_base.specs.declared.event.What.TheVariants as what
-use Rattle.hub_base.specs.State.{State, Channel, OpenCall, opening, channel_at}
-use Rattle.hub_base.specs.Steps.{Change, tells, refusal, turn, fault_of, answers, effect, is_unmade}
-use Rattle.hub_base.specs.Runs.{admits, moves, keeps, kept_after, kept, state_after, state}
-use Rattle.hub_laws.specs.Sound.{IsSound, PortSound, Apart}
+use Rattle.hub_base.specs.State.{State, OpenCall}
+use Rattle.hub_base.specs.Steps.{Change, tells, refusal, turn, fault_of, answers, effect}
+use Rattle.hub_base.specs.Runs.{admits, moves, keeps, kept, state}
+use Rattle.hub_laws.specs.Sound.{IsSound}
 use Rattle.hub_laws.proofs.Rules.{state-sound}
 use Rattle.hub_laws.proofs.Longer.{state-entry, kept-entry}
-use Rattle.hub_laws.proofs.Ready.{Admitted, admitted}
+use Rattle.hub_laws.proofs.Ready.{admitted}
 use Rattle.hub_parts.specs.Records.{Lists, Ticketed}
-use Rattle.hub_parts.specs.Lists.{open_calls, opened, ticketed}
+use Rattle.hub_parts.specs.Lists.{opened}
 use Rattle.hub_core.specs.declared.tally.Tally.{Tally}
 use Rattle.hub_core.specs.Records.{MachineLists}
 use Rattle.hub_core.specs.Parts.{parts, IsReached}
-use Rattle.hub_core.specs.ListSteps.{ListChange, turn_on, answers_on, effect_on, fault_on, stalls_on, refusal_of, gone_on}
-use Rattle.hub_core.specs.Follows.{Matches, HasCases, IsEntryOf, TicketsAre, Follows, Admits, Answers, RefusesFor}
+use Rattle.hub_core.specs.ListSteps.{turn_on, answers_on, effect_on, fault_on, refusal_of, gone_on}
+use Rattle.hub_core.specs.Follows.{Matches, IsEntryOf, TicketsAre, Follows, Admits, Answers, RefusesFor}
 use Rattle.hub_core.specs.Agrees.{StepsAs}
 use Rattle.hub_core.proofs.Effects.{fault_on-as, effect_on-as}
 use Rattle.hub_core.proofs.Stalls.{stalls_on-as, refusal_of-as}
-use Rattle.hub_core.proofs.Kept.{Leaves, Opens, answers_on_leaves}
+use Rattle.hub_core.proofs.Kept.{Opens, answers_on_leaves}
 
 -- ---- a run goes on by one entry
 pub kept-admitted : (n : ℕ) (es : List Entry) (e : Entry) → refusal (state n es) e.pid ≡ None → kept n (es ++ e ∷ []) ≡ kept n es ++ e ∷ []

@@ -1,14 +1,12 @@
 -- A run, entry by entry.
-use Rattle.std.proofs.Common.{◌≡◌, ℕ, zero, suc, ◌+◌, ◌≤◌, ◌<◌, Bool, true, false, List, [], ◌∷◌, ◌++◌, length, take, get_or, refl, ap, ◌∙◌, sym, subst, Option, Some, None, arith, nat_lt}
+use Rattle.std.proofs.Common.{◌≡◌, ℕ, zero, suc, ◌+◌, ◌<◌, Bool, true, false, List, [], ◌∷◌, ◌++◌, length, take, get_or, refl, ap, ◌∙◌, sym, subst, Some, arith, nat_lt}
 use Rattle.std.specs.Prelude.{slice_get}
 use Rattle.std.proofs.lemmas.Grind.{common_steps}
-use Rattle.hub_base.specs.declared.value.Port.{Port}
 use Rattle.hub_base.specs.declared.entry.Entry.{Entry}
 use Rattle.hub_base.specs.declared.event.Event.{Event}
-use Rattle.hub_base.specs.State.{State, Channel, opening, channel_at, buffer_of}
-use Rattle.hub_base.specs.Steps.{Change, refusal}
-use Rattle.hub_base.specs.Runs.{state, events, kept, keeps, moves, kept_after}
-use Rattle.hub_base.specs.Values.{sent_values, received_values}
+use Rattle.hub_base.specs.State.{State, channel_at}
+use Rattle.hub_base.specs.Steps.{refusal}
+use Rattle.hub_base.specs.Runs.{state, events, kept, keeps, moves}
 use Rattle.hub_base.specs.Reading.{is_exit}
 use Rattle.hub_base.specs.Text.{steps_of}
 use Rattle.hub_laws.proofs.Journals.{state-kept}

@@ -1,7 +1,7 @@
 -- Which open calls a step leaves, and under which tickets: those that were open, and the caller's new one.
-use Rattle.std.proofs.Common.{◌≡◌, ℕ, ◌+◌, ◌≤◌, Bool, true, false, cond, List, [], ◌∷◌, ◌++◌, filter, refl, sym, subst, Option, Some, None, arith, ◌%◌, length}
+use Rattle.std.proofs.Common.{◌≡◌, ℕ, ◌+◌, ◌≤◌, Bool, true, false, cond, List, ◌++◌, refl, sym, subst, Option, Some, None, arith, ◌%◌, length}
 use Rattle.std.specs.Prelude.{slice_get}
-use Rattle.std.specs.List.{AllByRecursion, list_any}
+use Rattle.std.specs.List.{AllByRecursion}
 use Rattle.hub_base.specs.declared.value.Pid.{Pid}
 use Rattle.hub_base.specs.declared.value.Port.{Port}
 use Rattle.hub_base.specs.declared.value.Value.{Value}
@@ -19,7 +19,7 @@ use Rattle.hub_parts.specs.Lists.{port_at, open_calls, still_open, ticketed, end
 use Rattle.hub_core.specs.declared.tally.Tally.{Tally}
 use Rattle.hub_core.specs.Records.{MachineLists}
 use Rattle.hub_core.specs.ListReady.{ready_on}
-use Rattle.hub_core.specs.ListSteps.{ListChange, send_on, send_to, take_on, fetch_on, let_in, recv_from, recv_on, fire_on, fires_on, waits_on, chooses_on, calls_on, effect_on, stalls_on, all_wait_on, answers_on, fault_on, none_open, stalled_events, with_board}
+use Rattle.hub_core.specs.ListSteps.{ListChange, send_on, send_to, take_on, fetch_on, let_in, recv_from, fire_on, fires_on, waits_on, chooses_on, effect_on, stalls_on, all_wait_on, answers_on, none_open, stalled_events, with_board}
 
 module _ (P : Ticketed → Type 0) (n : ℕ) where
   -- the board after a step that is the n-th, against the one before

@@ -8,7 +8,7 @@ use Rattle.std.proofs.Math.ListN.{get_or-map}
 use Rattle.std.proofs.Math.Seq.{map-set_same}
 use Rattle.hub_base.specs.declared.value.Port.{Port}
 use Rattle.hub_base.specs.declared.value.Value.{Value}
-use Rattle.hub_base.specs.State.{State, Channel, channel_at, with_channel, buffer_of}
+use Rattle.hub_base.specs.State.{State, Channel, channel_at, buffer_of}
 use Rattle.hub_base.specs.Steps.{sent, received, next_value}
 use Rattle.hub_parts.specs.Records.{PortLists}
 use Rattle.hub_parts.specs.Lists.{port_at, pushed, popped}

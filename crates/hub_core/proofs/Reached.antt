@@ -1,37 +1,34 @@
 -- What is known of a machine that some run leads to.
-use Rattle.std.proofs.Common.{◌≡◌, ℕ, zero, suc, ◌+◌, ◌-◌, ◌==◌, ◌≤◌, ◌<◌, ◌^◌, Bool, true, false, cond, not, nat_lt, List, [], ◌∷◌, ◌++◌, length, map, refl, ap, ◌∙◌, sym, subst, Option, Some, None, arith}
-use Rattle.std.specs.Prelude.{slice_get}
-use Rattle.std.specs.List.{AllByRecursion, list_any}
+use Rattle.std.proofs.Common.{◌≡◌, ℕ, ◌+◌, ◌-◌, ◌==◌, ◌≤◌, ◌<◌, ◌^◌, Bool, true, false, cond, nat_lt, List, [], ◌∷◌, length, ap, ◌∙◌, sym, subst, Some, None, arith}
+use Rattle.std.specs.List.{list_any}
 use Rattle.std.proofs.lemmas.Grind.{common_steps}
 use Rattle.std.proofs.lemmas.List.{length-map}
 use Rattle.hub_base.specs.declared.value.Pid.{Pid}
 use Rattle.hub_base.specs.declared.value.Port.{Port}
 use Rattle.hub_base.specs.declared.case.Case.{Case}
 use Rattle.hub_base.specs.declared.entry.Step.{Step}
-use Rattle.hub_base.specs.declared.entry.Step.TheVariants.{Make, Call, Close, Exit}
 use Rattle.hub_base.specs.declared.entry.Entry.{Entry}
 use Rattle.hub_base.specs.declared.fault.Fault.TheVariants as fault
-use Rattle.hub_base.specs.State.{State, Channel, OpenCall, opening, channel_at}
+use Rattle.hub_base.specs.State.{State, Channel, channel_at}
 use Rattle.hub_base.specs.Ready.{port_of}
-use Rattle.hub_base.specs.Steps.{refusal, fault_of, effect}
+use Rattle.hub_base.specs.Steps.{fault_of, effect}
 use Rattle.hub_base.specs.Runs.{state, kept}
 use Rattle.hub_base.specs.Text.{steps_of}
 use Rattle.hub_base.specs.Reading.{is_exit}
-use Rattle.hub_laws.specs.Sound.{IsSound, PortSound, Apart}
+use Rattle.hub_laws.specs.Sound.{IsSound, Apart}
 use Rattle.std.proofs.lemmas.Bool.{or_parts}
 use Rattle.hub_laws.proofs.Counts.{counts-law}
 use Rattle.hub_laws.proofs.Rules.{state-sound, effect-sound}
 use Rattle.hub_laws.proofs.Ready.{Admitted, admitted, none_false}
 use Rattle.hub_laws.proofs.Sizes.{effect_size, room-law}
-use Rattle.hub_parts.specs.Records.{Lists, PortLists, Ticketed}
-use Rattle.hub_parts.specs.Lists.{open_calls, port_at, IsMade}
+use Rattle.hub_parts.specs.Records.{Lists}
+use Rattle.hub_parts.specs.Lists.{open_calls, IsMade}
 use Rattle.hub_parts.specs.Keeps.{AllMade}
-use Rattle.hub_core.specs.declared.tally.Tally.{Tally}
 use Rattle.hub_core.specs.Records.{MachineLists, tally_at}
 use Rattle.hub_core.specs.ListReady.{BufferFits}
 use Rattle.hub_core.specs.ListKeeps.{CanCount, PortsKeep}
 use Rattle.hub_core.specs.ListSteps.{effect_on, fault_on, call_fault_on, is_unmade_on, refusal_of}
-use Rattle.hub_core.specs.Follows.{tally_of, lists_of, Matches, Follows}
+use Rattle.hub_core.specs.Follows.{tally_of, Matches, Follows}
 use Rattle.hub_core.specs.Parts.{IsReached}
 use Rattle.hub_core.proofs.Ports.{port-lists_of, tally-tally_of}
 use Rattle.hub_core.proofs.Readiness.{count-ports, get_within, length-buffer_of}

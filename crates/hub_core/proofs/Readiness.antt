@@ -1,18 +1,18 @@
 -- The cases that can proceed on the lists are those that can in the meaning.
-use Rattle.std.proofs.Common.{◌≡◌, ℕ, zero, suc, ◌+◌, ◌-◌, ◌==◌, ◌≤◌, ◌<◌, ◌||◌, ◌&&◌, not, nat_lt, Bool, true, false, cond, List, [], ◌∷◌, length, map, filter, drop, refl, ap, ◌∙◌, sym, subst, Option, Some, None, arith, length-drop}
+use Rattle.std.proofs.Common.{◌≡◌, ℕ, zero, suc, ◌+◌, ◌-◌, ◌==◌, ◌≤◌, ◌<◌, ◌||◌, ◌&&◌, not, nat_lt, Bool, true, false, List, [], ◌∷◌, length, map, filter, refl, ap, ◌∙◌, sym, Some, arith, length-drop}
 use Rattle.std.specs.Prelude.{slice_get, is_some}
 use Rattle.std.specs.List.{list_any, enumerate_from}
-use Rattle.std.specs.Option.{option_map, option_map_or}
+use Rattle.std.specs.Option.{option_map_or}
 use Rattle.std.proofs.lemmas.Grind.{common_steps}
 use Rattle.std.proofs.lemmas.List.{length-map}
 use Rattle.hub_base.specs.declared.value.Port.{Port}
 use Rattle.hub_base.specs.declared.case.Case.{Case}
 use Rattle.hub_base.specs.declared.case.Case.TheVariants.{Send, Recv}
 use Rattle.hub_base.specs.State.{State, Channel, channel_at, buffer_of}
-use Rattle.hub_base.specs.Ready.{first_with, is_recv_on, is_send_on, port_of, can_proceed, send_can, recv_can, ready}
+use Rattle.hub_base.specs.Ready.{first_with, is_recv_on, is_send_on, port_of, can_proceed, send_can, recv_can}
 use Rattle.hub_base.specs.Steps.{is_unmade}
 use Rattle.std.proofs.lemmas.Bool.{or_parts}
-use Rattle.hub_parts.specs.Records.{Lists, PortLists}
+use Rattle.hub_parts.specs.Records.{Lists}
 use Rattle.hub_parts.specs.Lists.{port_at, open_calls, IsMade}
 use Rattle.hub_core.specs.Records.{MachineLists}
 use Rattle.hub_core.specs.ListReady.{can_on, ready_on}

@@ -1,19 +1,14 @@
 -- What a look at a machine shows is what the state has.
-use Rattle.std.proofs.Common.{◌≡◌, ℕ, zero, suc, ◌+◌, ◌-◌, ◌==◌, ◌≤◌, ◌<◌, nat_lt, Bool, true, false, cond, List, [], ◌∷◌, length, refl, ap, ◌∙◌, sym, Option, Some, None, arith}
-use Rattle.std.specs.Prelude.{slice_get, option_and_then}
-use Rattle.std.specs.Option.{option_map}
+use Rattle.std.proofs.Common.{◌≡◌, ℕ, zero, suc, ◌-◌, ◌==◌, ◌≤◌, nat_lt, Bool, true, false, cond, List, [], ◌∷◌, length, refl, Some, None, arith}
+use Rattle.std.specs.Prelude.{slice_get}
 use Rattle.std.proofs.lemmas.Grind.{common_steps}
 use Rattle.hub_base.specs.declared.value.Port.{Port}
-use Rattle.hub_base.specs.declared.value.Value.{Value}
-use Rattle.hub_base.specs.declared.entry.Entry.{Entry}
-use Rattle.hub_base.specs.declared.counts.Look.{Look}
-use Rattle.hub_base.specs.State.{State, Channel, channel_at, buffer_of}
+use Rattle.hub_base.specs.State.{State, Channel, channel_at}
 use Rattle.hub_base.specs.Steps.{is_unmade}
-use Rattle.hub_base.specs.Runs.{state}
 use Rattle.hub_parts.specs.Lists.{port_at}
 use Rattle.hub_core.specs.Records.{MachineLists, tally_at}
-use Rattle.hub_core.specs.Looks.{look_at, value_at, look_of, look_on, value_on, counts_of}
-use Rattle.hub_core.specs.Follows.{Matches, Follows}
+use Rattle.hub_core.specs.Looks.{look_at, value_at, look_of, look_on, value_on}
+use Rattle.hub_core.specs.Follows.{Matches}
 use Rattle.hub_core.proofs.Ports.{port-lists_of, tally-tally_of}
 use Rattle.hub_core.proofs.Readiness.{made_channel, count-ports}
 

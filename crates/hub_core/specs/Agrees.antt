@@ -1,5 +1,5 @@
 -- What a step of the lists is against the step of the meaning.
-use Rattle.std.specs.Prelude.{◌≡◌, List}
+use Rattle.std.specs.Prelude.{◌≡◌}
 use Rattle.std.specs.Option.{option_to_list}
 use Rattle.hub_base.specs.Steps.{Firing, Change}
 use Rattle.hub_core.specs.Records.{MachineLists}

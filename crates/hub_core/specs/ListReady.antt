@@ -1,11 +1,11 @@
 -- Which cases can proceed, told from a board's lists.
-use Rattle.std.specs.Prelude.{ℕ, ◌+◌, ◌≤◌, ◌<◌, ◌≡◌, ◌==◌, nat_lt, not, ◌&&◌, ◌||◌, Bool, true, false, is_some, Option, None, List, [], ◌∷◌, length, if◌then◌else◌}
+use Rattle.std.specs.Prelude.{ℕ, ◌+◌, ◌≤◌, ◌<◌, ◌≡◌, ◌==◌, nat_lt, not, ◌&&◌, ◌||◌, Bool, false, is_some, None, List, [], ◌∷◌, length, if◌then◌else◌}
 use Rattle.hub_base.specs.declared.value.Port.{Port}
 use Rattle.hub_base.specs.declared.case.Case.{Case}
 use Rattle.hub_base.specs.declared.case.Case.TheVariants.{Send, Recv}
-use Rattle.hub_base.specs.Ready.{first_with, is_recv_on, is_send_on, port_of}
+use Rattle.hub_base.specs.Ready.{first_with, is_recv_on, is_send_on}
 use Rattle.hub_parts.specs.Records.{Lists}
-use Rattle.hub_parts.specs.Lists.{port_at, open_calls, IsMade}
+use Rattle.hub_parts.specs.Lists.{port_at, open_calls}
 
 abbrev pub can_on : Lists → Case → Bool
 can_on b (Send p v) = not (p.0 == 0) && ((port_at b p).closed || is_some (first_with (is_recv_on p) (open_calls b.waiting)) || nat_lt (length (port_at b p).buffer) (port_at b p).cap)

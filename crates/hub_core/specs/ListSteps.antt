@@ -15,7 +15,6 @@ use Rattle.hub_base.specs.declared.event.Outcome.{Outcome}
 use Rattle.hub_base.specs.declared.event.Outcome.TheVariants.{Sent, Got, Drained, Closed}
 use Rattle.hub_base.specs.declared.fault.Fault.{Fault}
 use Rattle.hub_base.specs.declared.fault.Fault.TheVariants as fault
-use Rattle.hub_base.specs.declared.event.What.{What}
 use Rattle.hub_base.specs.declared.event.What.TheVariants as what
 use Rattle.hub_base.specs.declared.event.Event.{Event}
 use Rattle.hub_base.specs.Ready.{Ending, first_with, is_send_on, is_recv_on, is_on, port_of}

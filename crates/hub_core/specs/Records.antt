@@ -1,6 +1,6 @@
 -- What contracts see of a machine: the board, who has gone, what each port has carried, and how many entries
 -- were admitted. Names no struct but `Tally`.
-use Rattle.std.specs.Prelude.{ℕ, ◌+◌, ◌-◌, Bool, false, List, slice_index_or, slice_set}
+use Rattle.std.specs.Prelude.{ℕ, ◌+◌, ◌-◌, Bool, List, slice_index_or, slice_set}
 use Rattle.hub_base.specs.declared.value.Port.{Port}
 use Rattle.hub_core.specs.declared.tally.Tally.{Tally}
 use Rattle.hub_parts.specs.Records.{Lists}

@@ -1,5 +1,5 @@
 -- What a run of steps gives, and where it stops.
-use Rattle.std.specs.Prelude.{◌≡◌, ◌≤◌, ◌<◌, ◌+◌, ℕ, false, List, [], ◌∷◌, ◌++◌, length, take, Some, None, Option, slice_get}
+use Rattle.std.specs.Prelude.{◌≡◌, ◌≤◌, ◌<◌, ◌+◌, ℕ, false, List, [], ◌++◌, length, take, Some, slice_get}
 use Rattle.hub_base.specs.declared.value.Pid.{Pid}
 use Rattle.hub_base.specs.declared.value.Port.{Port}
 use Rattle.hub_base.specs.declared.entry.Step.TheVariants.{Close}
@@ -7,9 +7,9 @@ use Rattle.hub_base.specs.declared.entry.Entry.{Entry}
 use Rattle.hub_base.specs.declared.event.Event.{Event}
 use Rattle.hub_base.specs.declared.fault.Fault.{Fault}
 use Rattle.hub_base.specs.declared.fault.Fault.TheVariants as fault
-use Rattle.hub_base.specs.State.{State, Channel, channel_at, buffer_of}
+use Rattle.hub_base.specs.State.{Channel, channel_at, buffer_of}
 use Rattle.hub_base.specs.Steps.{refusal}
-use Rattle.hub_base.specs.Runs.{state, events, kept, keeps, moves}
+use Rattle.hub_base.specs.Runs.{events, kept, keeps, moves}
 use Rattle.hub_base.specs.Values.{sent_values, received_values}
 use Rattle.hub_base.specs.Reading.{is_exit}
 use Rattle.hub_base.specs.Text.{steps_of}

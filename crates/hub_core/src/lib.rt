@@ -13,6 +13,8 @@ mod refusals;
 mod runs;
 mod stalling;
 mod tally;
+#[cfg(test)]
+mod tests;
 
 pub use hub::Hub;
 pub use machine::Machine;

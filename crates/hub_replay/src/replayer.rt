@@ -12,9 +12,7 @@ ghost use Rattle.hub_replay.specs.Replay.{IsEventText, HasNone, Replays, BeginsR
 
 use crate::pieces::{read_up_to, write_whole};
 use crate::{ReplayFault, Sink, Source};
-use hub_base::{
-    Entry, Event, Events, NoMemory, Pid, Reader, Step, one_reading, write_event,
-};
+use hub_base::{Entry, Event, Events, NoMemory, Pid, Reader, Step, one_reading, write_event};
 use hub_core::Machine;
 use std::alloc::Global;
 

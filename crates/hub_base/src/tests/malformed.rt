@@ -1,6 +1,6 @@
 //! Texts that are refused: at which line, and for what.
 
-use crate::{Kind, ReadFault, Reader, TextFault, read_journal};
+use crate::{Kind, ReadFault, TextFault, read_journal};
 use std::alloc::{AllocError, Global};
 use std::test::Fail;
 
@@ -226,30 +226,5 @@ fn bytes_have_a_limit(rt: HostRuntime) -> Result<(), Fail> {
         assert_eq!(rt; found, at(3, kind), "{name}");
         text.pop();
     }
-    Ok(())
-}
-
-#[test]
-fn reader_stays_at_a_fault(rt: HostRuntime) -> Result<(), Fail> {
-    let text = b"chanhub journal 1\nprocs 2\n1 exit\n0 exit 1\n0 exit\n";
-    let mut reader = Reader::open(text)?;
-    assert_eq!(rt; reader.procs(), 2);
-    assert!(rt; matches!(reader.next_entry(), Ok(Some(_exit))));
-    let fault = TextFault {
-        line: 4,
-        kind: Kind::BadStep,
-    };
-    assert_eq!(rt; reader.next_entry().err(), Some(fault));
-    assert_eq!(rt; reader.next_entry().err(), Some(fault), "and stays there");
-    Ok(())
-}
-
-#[test]
-fn reader_stays_at_the_end(rt: HostRuntime) -> Result<(), Fail> {
-    let mut reader = Reader::open(b"chanhub journal 1\nprocs 64\n0 exit\n")?;
-    assert_eq!(rt; reader.procs(), 64);
-    assert!(rt; matches!(reader.next_entry(), Ok(Some(_exit))));
-    assert!(rt; matches!(reader.next_entry(), Ok(None)));
-    assert!(rt; matches!(reader.next_entry(), Ok(None)), "and stays there");
     Ok(())
 }

@@ -128,10 +128,11 @@ impl<'a> Reader<'a> {
         self.procs
     }
 
-    /// Reads the next entry into the place of this one, and answers `false` at the end of the text. After a
-    /// fault the reader stays where it is, and the entry is any.
+    /// Reads the next entry into the place of this one; `false` at the end of the text. At the end and
+    /// at a fault the reader stays where it is, so that each further call answers the same, and the
+    /// entry may be any.
     ///
-    /// An entry is some 290 bytes, so a loop over a long text reads them all into one.
+    /// An entry takes some 290 bytes, so a loop over a long text reads them all into one.
     pub fn read_into(&mut self, entry: &mut Entry) -> Result<bool, TextFault>
         ensures { FillsOn self.old self.new entry.new result }
     {
@@ -140,15 +141,24 @@ impl<'a> Reader<'a> {
         }
         let (text, after) = match line_at(self.rest, self.place) {
             Ok(parts) => parts,
-            Err(kind) => return Err(TextFault { line: self.line, kind }),
+            Err(kind) => return Err(TextFault {
+                line: self.line,
+                kind,
+            }),
         };
         match read_line(text, entry) {
             Ok(()) => {}
-            Err(kind) => return Err(TextFault { line: self.line, kind }),
+            Err(kind) => return Err(TextFault {
+                line: self.line,
+                kind,
+            }),
         }
         if !is_exit(entry) {
             if self.steps == MOST_STEPS {
-                return Err(TextFault { line: self.line, kind: Kind::TooLong });
+                return Err(TextFault {
+                    line: self.line,
+                    kind: Kind::TooLong,
+                });
             }
             self.steps += 1;
         }
@@ -158,7 +168,8 @@ impl<'a> Reader<'a> {
         Ok(true)
     }
 
-    /// The next entry, or `None` at the end of the text. After a fault the reader stays where it is.
+    /// The next entry, or `None` at the end of the text. At the end and at a fault the reader stays
+    /// where it is, so that each further call answers the same.
     pub fn next_entry(&mut self) -> Result<Option<Entry>, TextFault>
         ensures { ReadsOn self.old self.new result }
     {

@@ -1,4 +1,6 @@
 //! Reading an entry from the fields of its line: first their number, then what they spell.
+//!
+//! It is read into a given entry, which may be any after a fault.
 
 ghost use Rattle.std.specs.Prelude.{◌≡◌, ◌≤◌, ◌<◌, ◌∷◌, [], false, IfOk};
 ghost use Rattle.hub_base.specs.Lines.{numeral, read_close, read_make, read_exit, read_send, read_recv, read_step, read_fields, pieces, case_of, by, call, same_text};
@@ -42,12 +44,12 @@ pub fn recv_of(port: &[u8]) -> Result<Case, Kind>
     Ok(Case::Recv(Port(port as u16)))
 }
 
-/// Makes the entry a call of one case, without default and with word 0, in the place of what it was. An
-/// entry is some 290 bytes; a call that stands there already is changed and not made anew.
+/// Makes the entry a call of one case, without default and with word 0.
 fn set_call(entry: &mut Entry, pid: u8, case: Case)
     ensures { entry.new ≡ by pid (call (case ∷ []) false 0) }
 {
     entry.pid = Pid(pid);
+    // A call that stands there already is changed in place, since a new one is some 290 bytes.
     match &mut entry.step {
         Step::Call {
             cases,
@@ -71,6 +73,7 @@ fn set_call(entry: &mut Entry, pid: u8, case: Case)
     }
 }
 
+/// What `P make C` says, from the field behind the word on.
 fn read_make(pid: &[u8], fields: &mut Fields, entry: &mut Entry) -> Result<(), Kind>
     ensures { Fills result entry.new (read_make pid.now fields.old) }
 {
@@ -153,12 +156,7 @@ fn read_exit(pid: &[u8], fields: &mut Fields, entry: &mut Entry) -> Result<(), K
 }
 
 /// What a line says, by its second field.
-fn read_step(
-    pid: &[u8],
-    word: &[u8],
-    fields: &mut Fields,
-    entry: &mut Entry,
-) -> Result<(), Kind>
+fn read_step(pid: &[u8], word: &[u8], fields: &mut Fields, entry: &mut Entry) -> Result<(), Kind>
     ensures { Fills result entry.new (read_step pid.now word.now fields.old) }
 {
     if same_text(word, b"make") {

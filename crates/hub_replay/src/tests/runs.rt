@@ -1,5 +1,6 @@
 //! Whole replays: the events of each row, and devices that go wrong at each call in turn.
 
+use super::examples::EXAMPLES;
 use super::fakes::{Jar, Trickle, Wrong};
 use super::rows::ROWS;
 use crate::{Counted, ReplayFault, replay};
@@ -17,7 +18,7 @@ const EVENTS: &[u8] = b"0 made 1\n0 case 0 sent\n0 case 0 sent\n1 case 0 got 10\
 
 #[test]
 fn rows_give_their_events(rt: HostRuntime) -> Result<(), Fail> {
-    for row in &ROWS {
+    for row in ROWS.iter().chain(EXAMPLES.iter()) {
         let (name, procs, steps) = (row.name, row.procs, row.steps);
         let journal = format!(in rt.alloc(); "chanhub journal 1\nprocs {procs}\n{steps}")?;
         let mut source = Counted::new(Trickle::new(journal.as_bytes()));

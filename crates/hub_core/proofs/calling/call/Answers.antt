@@ -1,4 +1,4 @@
-use Rattle.std.proofs.Common.{◌≡◌, ◌∙◌, true, sym, subst, Option, Some}
+use Rattle.std.proofs.Common.{◌≡◌, ◌∙◌, true, sym, subst, Some}
 use Rattle.hub_base.specs.declared.case.Case.{Case}
 use Rattle.hub_core.specs.ListReady.{can_on}
 use Rattle.hub_core.proofs.Choices.{chosen_case}

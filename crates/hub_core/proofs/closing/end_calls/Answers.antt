@@ -4,7 +4,7 @@ use Rattle.hub_base.specs.declared.event.Event.{Event}
 use Rattle.hub_base.specs.Steps.{fired, closing_outcome}
 use Rattle.hub_parts.specs.Records.{Lists, Ticketed}
 use Rattle.hub_parts.specs.Lists.{ending_of, ended_by}
-use Rattle.hub_core.specs.ListSteps.{cleared, closing_events, off_port}
+use Rattle.hub_core.specs.ListSteps.{closing_events}
 use Rattle.hub_core.proofs.Endings.{ClosesOne, closes_one, closes_none}
 use Rattle.hub_core.proofs.closing.end_calls.Goals as goal
 use Rattle.hub_core.proofs.closing.end_calls.Goals.{After-push}

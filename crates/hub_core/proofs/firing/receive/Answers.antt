@@ -1,4 +1,4 @@
-use Rattle.std.proofs.Common.{◌≡◌, arith}
+use Rattle.std.proofs.Common.{arith}
 use Rattle.std.proofs.lemmas.Grind.{common_steps}
 use Rattle.hub_parts.specs.Lists.{IsMade}
 use Rattle.hub_core.proofs.Boards.{pushed-popped}

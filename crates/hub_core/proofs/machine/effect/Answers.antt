@@ -1,4 +1,4 @@
-use Rattle.std.proofs.Common.{◌≡◌, ◌∙◌, ap, sym, None}
+use Rattle.std.proofs.Common.{◌∙◌, ap, sym}
 use Rattle.hub_base.specs.declared.entry.Step.{Step}
 use Rattle.hub_core.specs.ListSteps.{fault_on}
 use Rattle.hub_core.proofs.Reached.{call_named}

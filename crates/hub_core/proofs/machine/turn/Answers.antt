@@ -1,10 +1,8 @@
-use Rattle.std.proofs.Common.{◌≡◌, ◌∙◌, ◌+◌, ◌≤◌, ap, sym, subst, length, List, None, arith}
+use Rattle.std.proofs.Common.{ap, sym, subst, length, List, arith}
 use Rattle.hub_base.specs.declared.event.Event.{Event}
 use Rattle.hub_laws.specs.Sound.{Apart}
 use Rattle.hub_parts.specs.Records.{Lists}
 use Rattle.hub_parts.specs.Lists.{open_calls}
-use Rattle.hub_core.specs.Records.{MachineLists}
-use Rattle.hub_core.specs.ListSteps.{fault_on, effect_on}
 use Rattle.hub_core.specs.Parts.{parts}
 use Rattle.hub_core.proofs.Reached.{ports_keep, calls_apart, room_left, after_effect}
 use Rattle.hub_core.proofs.machine.turn.Goals as goal

@@ -1,4 +1,4 @@
-use Rattle.std.proofs.Common.{◌≡◌, ◌<◌, length, arith, rules}
+use Rattle.std.proofs.Common.{arith}
 use Rattle.hub_laws.proofs.Once.{once-law}
 use Rattle.hub_laws.proofs.AfterClose.{after_close-law}
 use Rattle.hub_core.proofs.Journeys.{run_on, refuses_at, entry_at, run_whole, never_full, values_kept}

@@ -5,7 +5,7 @@ use Rattle.hub_base.specs.declared.event.What.TheVariants as what
 use Rattle.hub_base.specs.Steps.{tells}
 use Rattle.hub_parts.specs.Records.{Lists, Ticketed}
 use Rattle.hub_parts.specs.Lists.{ended_by}
-use Rattle.hub_core.specs.ListSteps.{none_open, stalled_events}
+use Rattle.hub_core.specs.ListSteps.{stalled_events}
 use Rattle.hub_core.proofs.Endings.{StopsOne, stops_one, stops_none}
 use Rattle.hub_core.proofs.stalling.stop_all.Goals as goal
 use Rattle.hub_core.proofs.stalling.stop_all.Goals.{After-push}

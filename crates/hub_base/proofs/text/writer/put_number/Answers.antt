@@ -1,4 +1,3 @@
-use Rattle.std.proofs.Common.{◌≡◌, ◌∙◌, ap, ◌++◌, is_ok, if◌then◌else◌}
 use Rattle.std.proofs.lemmas.Fmt.{decimal_digit}
 use Rattle.hub_base.proofs.text.writer.put_number.Goals as goal
 

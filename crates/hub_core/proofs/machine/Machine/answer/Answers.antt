@@ -1,7 +1,6 @@
-use Rattle.std.proofs.Common.{◌≡◌, ◌∙◌, ◌++◌, ◌∷◌, [], ap, sym, subst, arith, List}
+use Rattle.std.proofs.Common.{◌∙◌, ◌++◌, ◌∷◌, [], ap, arith, List}
 use Rattle.hub_base.specs.declared.event.Event.{Event}
 use Rattle.hub_core.specs.Records.{MachineLists}
-use Rattle.hub_core.specs.Follows.{Answers}
 use Rattle.hub_core.proofs.Following.{refused_as, follows_refused}
 use Rattle.hub_core.proofs.machine.Machine.answer.Goals as goal
 

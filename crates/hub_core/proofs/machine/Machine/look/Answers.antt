@@ -1,4 +1,4 @@
-use Rattle.std.proofs.Common.{◌≡◌, ◌∙◌, sym, subst}
+use Rattle.std.proofs.Common.{◌∙◌, sym, subst}
 use Rattle.hub_base.specs.Runs.{state}
 use Rattle.hub_core.specs.Follows.{Follows}
 use Rattle.hub_core.proofs.Readiness.{count-ports}

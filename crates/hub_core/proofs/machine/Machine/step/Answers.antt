@@ -1,11 +1,10 @@
-use Rattle.std.proofs.Common.{◌≡◌, ◌∙◌, ap, sym, subst, refl, arith, ℕ, List, length, rules}
-use Rattle.hub_base.specs.declared.entry.Entry.{Entry}
+use Rattle.std.proofs.Common.{◌∙◌, ap, sym, subst, arith, rules}
 use Rattle.hub_parts.specs.Records.{Lists}
 use Rattle.hub_core.specs.Follows.{Follows}
 use Rattle.hub_core.specs.ListSteps.{fault_on}
 use Rattle.hub_core.specs.Parts.{parts}
 use Rattle.hub_core.proofs.Kept.{answers-procs}
-use Rattle.hub_core.proofs.Following.{Turned, refuses_for, admitted_as, follows_self, reached_next}
+use Rattle.hub_core.proofs.Following.{refuses_for, admitted_as, follows_self, reached_next}
 use Rattle.hub_core.proofs.machine.Machine.step.Goals as goal
 
 pub returns-in-Some-clause-refused : goal.returns-in-Some-clause-refused

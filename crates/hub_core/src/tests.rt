@@ -1,0 +1,8 @@
+//! Tests through the public calls. Expected values are worked out by hand from the rules.
+
+mod entries;
+mod hubs;
+mod machines;
+mod openings;
+mod rows;
+mod worked_runs;

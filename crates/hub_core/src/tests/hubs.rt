@@ -1,0 +1,128 @@
+//! A hub, step by step: what it shows, full journals, and reservations.
+
+use super::entries::{close, exit, fired, got, make, recv, send, told};
+use crate::{Hub, ListFault, run};
+use hub_base::{Counts, Fault, Look, Outcome, Port, Value, What};
+use std::test::Fail;
+
+/// A value is sent and received, and the closed port is drained.
+#[test]
+fn closed_port_shows_its_counts(rt: HostRuntime) -> Result<(), Fail> {
+    let mut hub = Hub::open(rt.alloc(), 1, 100)?;
+    for entry in [
+        make(0, 2),
+        send(0, 1, 7),
+        close(0, 1),
+        recv(0, 1),
+        recv(0, 1),
+        send(0, 1, 8),
+        close(0, 1),
+    ] {
+        hub.step(entry)?;
+    }
+    let counts = Counts {
+        len: 0,
+        sent: 1,
+        received: 1,
+        closed: true,
+    };
+    assert_eq!(rt; hub.look(Port(1)), Some(Look { cap: 2, counts }));
+    for port in [0, 2, 65, u16::MAX] {
+        assert_eq!(rt; hub.look(Port(port)), None, "port {port}");
+    }
+    Ok(())
+}
+
+#[test]
+fn buffer_shows_its_values(rt: HostRuntime) -> Result<(), Fail> {
+    let mut hub = Hub::open(rt.alloc(), 2, 100)?;
+    for entry in [
+        make(0, 2),
+        send(0, 1, 5),
+        send(0, 1, 6),
+        recv(0, 1),
+        send(0, 1, 7),
+        send(1, 1, 8),
+    ] {
+        hub.step(entry)?;
+    }
+    for (port, place, number) in [
+        (1, 0, Some(6)),
+        (1, 1, Some(7)),
+        (1, 2, None),
+        (1, u32::MAX, None),
+        (0, 0, None),
+        (2, 0, None),
+    ] {
+        let value = hub.buffered(Port(port), place);
+        assert_eq!(rt;
+            value,
+            number.map(Value::num),
+            "place {place} of port {port}"
+        );
+    }
+    Ok(())
+}
+
+#[test]
+fn full_journal_takes_exits_alone(rt: HostRuntime) -> Result<(), Fail> {
+    let mut hub = Hub::open(rt.alloc(), 2, 1)?;
+    hub.step(make(0, 0))?;
+    for entry in [recv(0, 0), recv(7, 0), make(1, 0), close(0, 1)] {
+        assert_eq!(rt; hub.step(entry).err(), Some(Fault::JournalFull));
+    }
+    assert_eq!(rt; hub.entries(), [make(0, 0)].as_slice(), "nothing changed");
+    for pid in [0, 1] {
+        let events = hub.step(exit(pid))?;
+        assert_eq!(rt; events.as_slice(), [told(pid, What::Done)].as_slice());
+    }
+    assert_eq!(rt; hub.step(exit(1)).err(), Some(Fault::Gone));
+    assert_eq!(rt;
+        hub.step(make(1, 0)).err(),
+        Some(Fault::JournalFull),
+        "10 before 2"
+    );
+    let journal = hub.into_journal();
+    assert_eq!(rt; journal.procs(), 2);
+    assert_eq!(rt;
+        journal.entries(),
+        [make(0, 0), exit(0), exit(1)].as_slice()
+    );
+    Ok(())
+}
+
+#[test]
+fn run_ends_where_the_journal_is_full(rt: HostRuntime) -> Result<(), Fail> {
+    let entries = [make(0, 0), recv(1, 1), exit(0), exit(0), make(2, 0)];
+    let full = ListFault::At {
+        index: 4,
+        fault: Fault::JournalFull,
+    };
+    assert_eq!(rt; run(rt.alloc(), 3, 2, &entries).err(), Some(full));
+    let (hub, events) = run(rt.alloc(), 3, 3, &entries)?;
+    assert_eq!(rt;
+        hub.entries().len(),
+        4,
+        "the second exit is refused, and not kept"
+    );
+    assert_eq!(rt; events.len(), 5);
+    Ok(())
+}
+
+#[test]
+fn reserved_steps_are_made(rt: HostRuntime) -> Result<(), Fail> {
+    let mut hub = Hub::open(rt.alloc(), 1, 10)?;
+    hub.step(make(0, 1))?;
+    hub.reserve(3)?;
+    hub.reserve(0)?;
+    let sent = hub.step(send(0, 1, 5))?;
+    assert_eq!(rt; sent.as_slice(), [fired(0, Outcome::Sent)].as_slice());
+    let received = hub.step(recv(0, 1))?;
+    assert_eq!(rt; received.as_slice(), [got(0, 5)].as_slice());
+    let stalled = hub.step(recv(0, 1))?;
+    assert_eq!(rt;
+        stalled.as_slice(),
+        [told(0, What::Parked), told(0, What::Stalled)].as_slice()
+    );
+    Ok(())
+}

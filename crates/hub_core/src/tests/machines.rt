@@ -1,0 +1,41 @@
+//! A machine: steps without a journal.
+
+use super::entries::{exit, make, recv, told};
+use crate::Machine;
+use hub_base::{Events, Fault, Pid, Port, What};
+use std::test::Fail;
+
+#[test]
+fn refused_steps_are_told(rt: HostRuntime) -> Result<(), Fail> {
+    let mut machine = Machine::open(rt.alloc(), 2)?;
+    let mut events = Events::new();
+    machine.answer(&make(0, 3), &mut events)?;
+    assert_eq!(rt;
+        events.as_slice(),
+        [told(0, What::Made(Port(1)))].as_slice()
+    );
+    machine.answer(&recv(1, 1), &mut events)?;
+    assert_eq!(rt; events.as_slice(), [told(1, What::Parked)].as_slice());
+    machine.answer(&make(1, 0), &mut events)?;
+    assert_eq!(rt;
+        events.as_slice(),
+        [told(1, What::Fault(Fault::Busy))].as_slice()
+    );
+    for (pid, fault) in [
+        (0, None),
+        (1, Some(Fault::Busy)),
+        (2, Some(Fault::NoProcess)),
+    ] {
+        assert_eq!(rt; machine.refusal(Pid(pid)), fault, "process {pid}");
+    }
+    machine.answer(&exit(0), &mut events)?;
+    assert_eq!(rt;
+        events.as_slice(),
+        [told(0, What::Done), told(1, What::Stalled)].as_slice()
+    );
+    assert_eq!(rt;
+        machine.step(&make(0, 0), &mut events).err(),
+        Some(Fault::Gone)
+    );
+    Ok(())
+}

@@ -1,0 +1,53 @@
+#!/bin/sh
+# program.sh [PROGRAM]: runs the built program on the examples, on random journals, beside the events that model.py
+# makes of them, and with each of its allocations refused. The last line counts: 'N passed, M failed'.
+set -u
+root=$(cd "$(dirname "$0")/.." && pwd)
+program=${1:-$root/crates/chanhub/out/chanhub}
+random_journals=20
+passed=0
+failed=0
+work=$(mktemp -d)
+trap 'rm -rf "$work"' EXIT
+
+count() {
+    if [ "$1" -eq 0 ]; then
+        passed=$((passed + 1))
+    else
+        failed=$((failed + 1))
+        echo "failed: $2"
+    fi
+}
+
+# replays JOURNAL EVENTS: whether the program prints these events of it, and nothing else.
+replays() {
+    "$program" replay < "$1" > "$work/events" 2> "$work/errors" &&
+        cmp -s "$work/events" "$2" && [ ! -s "$work/errors" ]
+}
+
+for events in "$root"/examples/journals/*.stdout; do
+    journal=${events%.stdout}
+    replays "$journal" "$events"
+    count $? "example $(basename "$journal")"
+    "$root/tools/model.py" < "$journal" | cmp -s - "$events"
+    count $? "model.py on example $(basename "$journal")"
+done
+
+"$root/tools/random_journal.py" 1 "$random_journals" "$work"
+for seed in $(seq "$random_journals"); do
+    "$root/tools/model.py" < "$work/journal_$seed" > "$work/wanted"
+    [ -s "$work/wanted" ] && replays "$work/journal_$seed" "$work/wanted"
+    count $? "random journal of seed $seed"
+done
+
+"$root/tools/refusals.sh" "$program"
+count $? "refused allocations"
+
+"$root/tools/example_rows.py" | cmp - "$root/crates/hub_replay/src/tests/examples.rt"
+count $? "the rows of the examples"
+
+"$root/tools/check_claims.py"
+count $? "docs/CLAIMS.md beside the sources"
+
+echo "$passed passed, $failed failed"
+[ "$failed" -eq 0 ]

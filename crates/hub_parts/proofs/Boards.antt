@@ -1,5 +1,5 @@
 -- What every board keeps, through each call.
-use Rattle.std.proofs.Common.{◌≡◌, ◌≢◌, ℕ, ◌+◌, ◌-◌, ◌*◌, ◌<◌, ◌≤◌, ◌==◌, Bool, true, false, not, cond, List, [], ◌∷◌, ◌++◌, length, filter, set, refl, ap, ◌∙◌, sym, arith, Option, Some, None, subst, suc, inl, inr, length-append}
+use Rattle.std.proofs.Common.{◌≡◌, ◌≢◌, ℕ, ◌+◌, ◌-◌, ◌*◌, ◌<◌, ◌≤◌, ◌==◌, false, not, List, [], ◌∷◌, ◌++◌, length, set, refl, ap, ◌∙◌, sym, arith, Option, Some, None, subst, inl, inr, length-append}
 use Rattle.std.specs.List.{AllByRecursion}
 use Rattle.std.proofs.lemmas.Bool.{ne_eqb, cases_eq, cases_lt}
 use Rattle.std.proofs.lemmas.List.{length-set, get_or-set_same, get_or-set_other, get_or_append_left, get_or_push}
@@ -19,21 +19,18 @@ use Rattle.hub_parts.specs.Lists.{with_call, ticketed, passes}
 use Rattle.hub_parts.specs.Channels.{queue_of, channel_of, line_of, first_on, without_first, new_channel, with_queue, no_channel}
 use Rattle.hub_parts.specs.Parking.{all_roomy, all_joined, CanJoin}
 use Rattle.hub_parts.specs.Keeps.{QueueKeeps, CallsKeep, BoardKeeps, joins, AllMade, Ascending, without_call}
+use Rattle.hub_parts.proofs.Lists.{all_snoc, all_weaker, all_filter, length-filter-le}
 use Rattle.hub_parts.proofs.Lines.{queue_with_cases, length-with_cases}
-use Rattle.hub_parts.proofs.Endings.{ended_keeps, taken_keeps, none_keeps, all_filter, ascending_filter}
+use Rattle.hub_parts.proofs.Endings.{ended_keeps, taken_keeps, none_keeps, ascending_filter}
 use Rattle.hub_parts.proofs.Rooms.{Ready, ready_after, roomy_has, joined_after, parked_keeps, can_join}
 use Rattle.hub_parts.proofs.Firsts.{Found, Tells, tells, line_finds}
-
-shorter_calls : (keep : Ticketed → Bool) (ws : List Ticketed) → length (filter keep ws) ≤ length ws
-shorter_calls keep [] = omega arith
-shorter_calls keep (w ∷ ws) = elim (keep w) as (λ b. length (cond b (w ∷ filter keep ws) (filter keep ws)) ≤ suc (length ws)) [ true ↦ omega (arith, shorter_calls keep ws) | false ↦ omega (arith, shorter_calls keep ws) ]
 
 pub calls_ended : (pid : Pid) (c : Calls) (n : ℕ) → CallsKeep c n → CallsKeep (without_call pid c) n
 calls_ended pid c n k =
     let keep = λ (w : Ticketed). not (w.call.pid.0 == pid.0) in
     record {
       counted = k.counted;
-      few = omega (arith, shorter_calls keep c.waiting, k.few);
+      few = omega (arith, length-filter-le keep c.waiting, k.few);
       small = all_filter (λ w. length w.call.cases ≤ MOST_CASES) keep c.waiting k.small;
       made = all_filter (λ w. AllMade n w.call.cases) keep c.waiting k.made;
       ascending = ascending_filter keep c.waiting k.ascending;
@@ -106,14 +103,6 @@ board_lists q ch c cs positive within es er k =
           ];
     }
 
-more_made : (n m : ℕ) (cases : List Case) → n ≤ m → AllMade n cases → AllMade m cases
-more_made n m [] le a = tt
-more_made n m (c ∷ cases) le a = let le0 : (port_of c).0 ≤ n = a.0 in (omega arith, more_made n m cases le a.1)
-
-all_more_made : (n m : ℕ) (ws : List Ticketed) → n ≤ m → AllByRecursion (λ w. AllMade n w.call.cases) ws → AllByRecursion (λ w. AllMade m w.call.cases) ws
-all_more_made n m [] le a = tt
-all_more_made n m (w ∷ ws) le a = (more_made n m w.call.cases le a.0, all_more_made n m ws le a.1)
-
 -- no call has a case on a port that was not made
 no_join : (s : Side) (p : Port) (n : ℕ) (c : Case) → (port_of c).0 ≤ n → n < p.0 → joins s p c ≡ false
 no_join side.Send p n (Send q v) le more = ne_eqb q.0 p.0 (λ e. omega arith)
@@ -145,7 +134,7 @@ board_made cap c cs k fewer =
         counted = omega (arith, long);
         few = k.calls.few;
         small = k.calls.small;
-        made = all_more_made (length cs) (length (cs ++ new_channel cap c.procs ∷ [])) c.waiting (omega (arith, long)) k.calls.made;
+        made = all_weaker (λ w. AllMade (length cs) w.call.cases) (λ w. AllMade (length (cs ++ new_channel cap c.procs ∷ [])) w.call.cases) c.waiting (λ w made. all_weaker (λ q. (port_of q).0 ≤ length cs) (λ q. (port_of q).0 ≤ length (cs ++ new_channel cap c.procs ∷ [])) w.call.cases (λ q within. omega (arith, long)) made) k.calls.made;
         ascending = k.calls.ascending;
         below = k.calls.below;
       };
@@ -186,17 +175,9 @@ board_untaken s p c cs positive within k e =
     board_changed (taken c.waiting) line p c cs positive within k
     (none_keeps (joins line p) c (queue_of line (channel_of cs p)) (sym e) (k.queues line p positive within))
 
-all_snoc : (P : Ticketed → Type 0) (ws : List Ticketed) (w : Ticketed) → AllByRecursion P ws → P w → AllByRecursion P (ws ++ w ∷ [])
-all_snoc P [] w a p = (p, tt)
-all_snoc P (v ∷ ws) w a p = (a.0, all_snoc P ws w a.1 p)
-
 ascending_snoc : (ws : List Ticketed) (w : Ticketed) (n : ℕ) → n ≤ w.ticket → AllByRecursion (λ v. v.ticket < n) ws → Ascending ws → Ascending (ws ++ w ∷ [])
 ascending_snoc [] w n le b a = (tt, tt)
 ascending_snoc (v ∷ ws) w n le b a = let less : v.ticket < n = b.0 in (all_snoc (λ u. v.ticket < u.ticket) ws w a.0 (omega arith), ascending_snoc ws w n le b.1 a.1)
-
-all_below : (n m : ℕ) (ws : List Ticketed) → n ≤ m → AllByRecursion (λ w. w.ticket < n) ws → AllByRecursion (λ w. w.ticket < m) ws
-all_below n m [] le a = tt
-all_below n m (w ∷ ws) le a = let less : w.ticket < n = a.0 in (omega arith, all_below n m ws le a.1)
 
 pub calls_opened : (pid : Pid) (ticket : ℕ) (cases : List Case) (c : Calls) (n : ℕ) → CallsKeep c n → c.next_ticket ≤ ticket → length cases ≤ MOST_CASES → AllMade n cases → length (c.waiting ++ ticketed pid ticket cases ∷ []) ≤ c.procs → CallsKeep (with_call pid ticket cases c) n
 calls_opened pid ticket cases c n k later small made few = record {
@@ -205,7 +186,7 @@ calls_opened pid ticket cases c n k later small made few = record {
   small = all_snoc (λ w. length w.call.cases ≤ MOST_CASES) c.waiting (ticketed pid ticket cases) k.small small;
   made = all_snoc (λ w. AllMade n w.call.cases) c.waiting (ticketed pid ticket cases) k.made made;
   ascending = ascending_snoc c.waiting (ticketed pid ticket cases) c.next_ticket later k.below k.ascending;
-  below = all_snoc (λ w. w.ticket < ticket + 1) c.waiting (ticketed pid ticket cases) (all_below c.next_ticket (ticket + 1) c.waiting (omega arith) k.below) (omega arith);
+  below = all_snoc (λ w. w.ticket < ticket + 1) c.waiting (ticketed pid ticket cases) (all_weaker (λ w. w.ticket < c.next_ticket) (λ w. w.ticket < ticket + 1) c.waiting (λ w less. omega arith) k.below) (omega arith);
 }
 
 -- a queue after room was made for a call

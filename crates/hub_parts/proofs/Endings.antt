@@ -11,6 +11,7 @@ use Rattle.hub_parts.specs.Records.{Ticketed, Calls}
 use Rattle.hub_parts.specs.Queues.{is_live, lives, live_of, after_first, taken, waiters, waiters_of, waiters_from, waiter_at}
 use Rattle.hub_parts.specs.Lists.{still_open}
 use Rattle.hub_parts.specs.Keeps.{QueueKeeps, Ascending, without_call}
+use Rattle.hub_parts.proofs.Lists.{all_filter}
 
 within_step : {X : Type 0} (p q : X → Bool) (x : X) (xs : List X) (a b : Bool) → p x ≡ a → q x ≡ b → (p x ≡ true → q x ≡ true) → filter p (filter q xs) ≡ filter p xs → filter p (filter q (x ∷ xs)) ≡ filter p (x ∷ xs)
 within_step p q x xs true true e f h ih = rw (f, e) (ap (λ ys. x ∷ ys) ih)
@@ -49,10 +50,6 @@ filter-waiters p test (w ∷ ws) =
 pub dead_below : (t : ℕ) (ws : List Ticketed) → AllByRecursion (λ v. t < v.ticket) ws → is_live ws t ≡ false
 dead_below t [] a = refl
 dead_below t (w ∷ ws) a = rw (ne_eqb w.ticket t (λ e. let less : t < w.ticket = a.0 in omega arith)) (dead_below t ws a.1)
-
-pub all_filter : (P : Ticketed → Type 0) (keep : Ticketed → Bool) (ws : List Ticketed) → AllByRecursion P ws → AllByRecursion P (filter keep ws)
-all_filter P keep [] a = tt
-all_filter P keep (w ∷ ws) a = elim (keep w) as (λ b. AllByRecursion P (cond b (w ∷ filter keep ws) (filter keep ws))) [ true ↦ (a.0, all_filter P keep ws a.1) | false ↦ all_filter P keep ws a.1 ]
 
 pub ascending_filter : (keep : Ticketed → Bool) (ws : List Ticketed) → Ascending ws → Ascending (filter keep ws)
 ascending_filter keep [] a = tt

@@ -15,7 +15,8 @@ use Rattle.hub_parts.specs.Queues.{is_live, lives, live_of, waiters, waiters_of,
 use Rattle.hub_parts.specs.Lists.{open_calls, still_open, passes}
 use Rattle.hub_parts.specs.Channels.{queue_of, line_of, older}
 use Rattle.hub_parts.specs.Keeps.{QueueKeeps, joins, Ascending}
-use Rattle.hub_parts.proofs.Endings.{dead_below, all_filter}
+use Rattle.hub_parts.proofs.Lists.{all_filter}
+use Rattle.hub_parts.proofs.Endings.{dead_below}
 
 abbrev pub first : List Waiter → Option Waiter
 first es = slice_get es 0

@@ -25,13 +25,13 @@ room_left os n pid distinct below free small =
     let most : length (pid ∷ pids os) ≤ n = length-le_from_distinct_below (pid ∷ pids os) n (to_distinct (pid ∷ pids os) (apart os pid free, distinct)) (λ q e. member_below (pid ∷ pids os) n q (small, below) e) in
     omega (arith, length-map os (λ (o : Opened). o.pid.0))
 
-pub all_below_snoc : (P : ℕ → Type 0) (os : List Opened) (o : Opened) → AllByRecursion P (pids os) → P o.pid.0 → AllByRecursion P (pids (os ++ o ∷ []))
-all_below_snoc P [] o a p = (p, tt)
-all_below_snoc P (v ∷ os) o a p = (a.0, all_below_snoc P os o a.1 p)
+pub all_pids_snoc : (P : ℕ → Type 0) (os : List Opened) (o : Opened) → AllByRecursion P (pids os) → P o.pid.0 → AllByRecursion P (pids (os ++ o ∷ []))
+all_pids_snoc P [] o a p = (p, tt)
+all_pids_snoc P (v ∷ os) o a p = (a.0, all_pids_snoc P os o a.1 p)
 
 pub apart_snoc : (os : List Opened) (o : Opened) → AreApart (pids os) → list_any (λ v. v.pid.0 == o.pid.0) os ≡ false → AreApart (pids (os ++ o ∷ []))
 apart_snoc [] o a free = (tt, tt)
-apart_snoc (v ∷ os) o a free = (all_below_snoc (λ y. (v.pid.0 == y) ≡ false) os o a.0 (grind (arith, common_steps)), apart_snoc os o a.1 (grind (arith, common_steps)))
+apart_snoc (v ∷ os) o a free = (all_pids_snoc (λ y. (v.pid.0 == y) ≡ false) os o a.0 (grind (arith, common_steps)), apart_snoc os o a.1 (grind (arith, common_steps)))
 
 pub all_kept : (P : ℕ → Type 0) (test : Opened → Bool) (os : List Opened) → AllByRecursion P (pids os) → AllByRecursion P (pids (filter test os))
 all_kept P test [] a = tt

@@ -21,12 +21,9 @@ use Rattle.hub_parts.specs.Lists.{with_call, ticketed}
 use Rattle.hub_parts.specs.Channels.{queue_of, channel_of}
 use Rattle.hub_parts.specs.Parking.{with_case, CanJoin, CaseFits}
 use Rattle.hub_parts.specs.Keeps.{QueueKeeps, joins, AllMade}
+use Rattle.hub_parts.proofs.Lists.{all_both, all_weaker, all_filter, length-filter-le}
 use Rattle.hub_parts.proofs.Lines.{with_if, queue_after, queue_with_case, length-with_case}
 use Rattle.hub_parts.proofs.Endings.{filter_within}
-
-longest_filter : {X : Type 0} (p : X → Bool) (xs : List X) → length (filter p xs) ≤ length xs
-longest_filter p [] = omega arith
-longest_filter p (x ∷ xs) = elim (p x) as (λ b. length (cond b (x ∷ filter p xs) (filter p xs)) ≤ suc (length xs)) [ true ↦ omega (arith, longest_filter p xs) | false ↦ omega (arith, longest_filter p xs) ]
 
 length-waiters_from : (test : Case → Bool) (pid : Pid) (ticket i : ℕ) (cases : List Case) → length (waiters_from test pid ticket i cases) ≡ length (filter test cases)
 length-waiters_from test pid ticket i [] = refl
@@ -38,7 +35,7 @@ most_waiters : (test : Case → Bool) (ws : List Ticketed) → AllByRecursion (�
 most_waiters test [] a = omega arith
 most_waiters test (w ∷ ws) a =
     let here : length w.call.cases ≤ MOST_CASES = a.0 in
-    omega (arith, length-append (waiters_of test w) (waiters test ws), length-waiters_from test w.call.pid w.ticket 0 w.call.cases, longest_filter test w.call.cases, most_waiters test ws a.1)
+    omega (arith, length-append (waiters_of test w) (waiters test ws), length-waiters_from test w.call.pid w.ticket 0 w.call.cases, length-filter-le test w.call.cases, most_waiters test ws a.1)
 
 -- the places for a call are free
 pub HasPlaces : Buffer Waiter → Type 0
@@ -54,17 +51,13 @@ roomy_has test c q some few small k =
     let most : length (live_of c.waiting q.items) + MOST_CASES ≤ q.capacity = omega (arith, ap length k.live, most_waiters test c.waiting small, k.places) in
     roomy_step c.waiting q (ltb (q.capacity - length q.items) MOST_CASES) refl k.fits most
 
-all_entries : (P : Waiter → Type 0) (p : Waiter → Bool) (xs : List Waiter) → AllByRecursion P xs → AllByRecursion P (filter p xs)
-all_entries P p [] a = tt
-all_entries P p (x ∷ xs) a = elim (p x) as (λ b. AllByRecursion P (cond b (x ∷ filter p xs) (filter p xs))) [ true ↦ (a.0, all_entries P p xs a.1) | false ↦ all_entries P p xs a.1 ]
-
 pub roomy_keeps : (test : Case → Bool) (c : Calls) (q : Buffer Waiter) → QueueKeeps test c q → QueueKeeps test c (roomy c.waiting q)
 roomy_keeps test c q k = elim (ltb (q.capacity - length q.items) MOST_CASES) as (λ b. QueueKeeps test c (cond b (buffer (live_of c.waiting q.items) q.capacity) q)) [
   | true ↦ record {
     live = filter_within (lives c.waiting) (lives c.waiting) q.items (λ e h. h) ∙ k.live;
-    below = all_entries (λ entry. entry.ticket < c.next_ticket) (lives c.waiting) q.items k.below;
+    below = all_filter (λ entry. entry.ticket < c.next_ticket) (lives c.waiting) q.items k.below;
     places = k.places;
-    fits = omega (arith, k.fits, longest_filter (lives c.waiting) q.items);
+    fits = omega (arith, k.fits, length-filter-le (lives c.waiting) q.items);
   }
   | false ↦ k
 ]
@@ -93,7 +86,7 @@ unfolding HasPlaces
 ready_step test c i q case cases true e k h few ih =
     rw (stay_after c.waiting test (i + 1) (roomy c.waiting q) cases h) (record {
       keeps = roomy_keeps test c q k;
-      room = rw e (omega (arith, h, longest_filter test cases));
+      room = rw e (omega (arith, h, length-filter-le test cases));
     })
 ready_step test c i q case cases false e k h few ih = record { keeps = ih.keeps; room = rw e ih.room }
 
@@ -134,19 +127,11 @@ new_live ws w test i (c ∷ cases) =
       | false ↦ new_live ws w test (i + 1) cases
     ]
 
-all_later : (n m : ℕ) (xs : List Waiter) → n ≤ m → AllByRecursion (λ e. e.ticket < n) xs → AllByRecursion (λ e. e.ticket < m) xs
-all_later n m [] le a = tt
-all_later n m (x ∷ xs) le a = let less : x.ticket < n = a.0 in (omega arith, all_later n m xs le a.1)
-
 new_below : (test : Case → Bool) (pid : Pid) (ticket i : ℕ) (cases : List Case) → AllByRecursion (λ e. e.ticket < ticket + 1) (waiters_from test pid ticket i cases)
 new_below test pid ticket i [] = tt
 new_below test pid ticket i (c ∷ cases) =
     elim (test c) as (λ b. AllByRecursion (λ e. e.ticket < ticket + 1) (cond b (waiter_at pid ticket i ∷ waiters_from test pid ticket (i + 1) cases) (waiters_from test pid ticket (i + 1) cases)))
     [ true ↦ (omega arith, new_below test pid ticket (i + 1) cases) | false ↦ new_below test pid ticket (i + 1) cases ]
-
-all_both : {X : Type 0} (P : X → Type 0) (xs ys : List X) → AllByRecursion P xs → AllByRecursion P ys → AllByRecursion P (xs ++ ys)
-all_both P [] ys a b = b
-all_both P (x ∷ xs) ys a b = (a.0, all_both P xs ys a.1 b)
 
 pub parked_keeps : (test : Case → Bool) (c : Calls) (q : Buffer Waiter) (pid : Pid) (ticket : ℕ) (cases : List Case) → c.next_ticket ≤ ticket → Ready test c q cases → QueueKeeps test (with_call pid ticket cases c) (buffer (q.items ++ waiters_from test pid ticket 0 cases) q.capacity)
 parked_keeps test c q pid ticket cases later r =
@@ -155,7 +140,7 @@ parked_keeps test c q pid ticket cases later r =
       live =
           filter-append (lives (c.waiting ++ w ∷ [])) q.items (waiters_from test pid ticket 0 cases)
           ∙ rw (old_live c.waiting w c.next_ticket q.items later r.keeps.below, new_live c.waiting w test 0 cases, r.keeps.live, flat_map-append (waiters_of test) c.waiting (w ∷ []), append-nil (waiters_from test pid ticket 0 cases)) refl;
-      below = all_both (λ e. e.ticket < ticket + 1) q.items (waiters_from test pid ticket 0 cases) (all_later c.next_ticket (ticket + 1) q.items (omega arith) r.keeps.below) (new_below test pid ticket 0 cases);
+      below = all_both (λ e. e.ticket < ticket + 1) q.items (waiters_from test pid ticket 0 cases) (all_weaker (λ e. e.ticket < c.next_ticket) (λ e. e.ticket < ticket + 1) q.items (λ e less. omega arith) r.keeps.below) (new_below test pid ticket 0 cases);
       places = r.keeps.places;
       fits = omega (arith, length-append q.items (waiters_from test pid ticket 0 cases), length-waiters_from test pid ticket 0 cases, r.room);
     }

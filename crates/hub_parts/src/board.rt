@@ -169,20 +169,16 @@ impl Board {
         ensures left { self.new ≡ after_taking result self.old }
     {
         let channel = &mut self.ports[port.0 as usize - 1];
-        match channel.take(side, &self.calls) {
-            Some(waiter) => match self.calls.case(waiter.ticket, waiter.case) {
-                Some(case) => {
-                    self.calls.end(waiter.pid);
-                    Some(Ended {
-                        pid: waiter.pid,
-                        index: waiter.case,
-                        case,
-                    })
-                }
-                None => unreachable!(),
-            },
-            None => None,
-        }
+        let waiter = channel.take(side, &self.calls)?;
+        let Some(case) = self.calls.case(waiter.ticket, waiter.case) else {
+            unreachable!();
+        };
+        self.calls.end(waiter.pid);
+        Some(Ended {
+            pid: waiter.pid,
+            index: waiter.case,
+            case,
+        })
     }
 
     /// Ends the oldest open call, on whatever ports. The call leaves the queues of all its cases.
@@ -190,13 +186,9 @@ impl Board {
         ensures oldest { result ≡ option_map (λ w. w.call.pid) (slice_get self.old.waiting 0) }
         ensures left { self.new ≡ after_stop result self.old }
     {
-        match self.calls.oldest() {
-            Some(pid) => {
-                self.calls.end(pid);
-                Some(pid)
-            }
-            None => None,
-        }
+        let pid = self.calls.oldest()?;
+        self.calls.end(pid);
+        Some(pid)
     }
 
     /// Whether the process has an open call.

@@ -40,6 +40,20 @@ for seed in $(seq "$random_journals"); do
     count $? "random journal of seed $seed"
 done
 
+# A journal has at most 1,000,000 entries that are no exits, and any exits beside them.
+awk 'BEGIN {
+    print "chanhub journal 1\nprocs 1"
+    for (i = 0; i < 1000000; i++) print "0 make 1025"
+    print "0 exit"
+}' > "$work/longest"
+awk 'BEGIN { for (i = 0; i < 1000000; i++) print "0 fault 6"; print "0 done" }' > "$work/wanted"
+replays "$work/longest" "$work/wanted"
+count $? "the longest journal"
+{ cat "$work/longest"; echo "0 make 1025"; } > "$work/too_long"
+"$program" replay < "$work/too_long" > "$work/events" 2> "$work/errors"
+[ $? -eq 2 ] && [ ! -s "$work/events" ] && echo "chanhub: line 1000004: too long" | cmp -s - "$work/errors"
+count $? "one entry more than the longest journal has"
+
 "$root/tools/refusals.sh" "$program"
 count $? "refused allocations"
 

@@ -168,6 +168,7 @@ impl Hub {
     /// a refusal the hub is as before.
     pub fn reserve(&mut self, k: u32) -> Result<(), AllocError>
         ensures ok { OnOk result (self.new ≡ record self.old { places = max self.old.places k }) }
+        ensures more { OnErr result (self.old.places < k) }
         ensures unchanged { OnErr result (self.new ≡ self.old) }
     {
         if k > self.places {

@@ -1,7 +1,8 @@
 //! What the program does with its words.
 
 ghost use Rattle.std.specs.Prelude.{◌≡◌, ◌≤◌, ◌↔◌, map, IsTrue, OnOk, IfErr, IsErrOf};
-ghost use Rattle.hub_replay.specs.Replay.{Replays};
+ghost use Rattle.hub_base.specs.declared.text.faults.TextFault.{TextFault};
+ghost use Rattle.hub_replay.specs.Replay.{Replays, ReadsFaulty};
 ghost use Rattle.chanhub.specs.Statuses.{status_of};
 ghost use Rattle.chanhub.specs.Words.{AsksForReplay};
 
@@ -30,6 +31,9 @@ fn carry_out<R: AllocGlobal, T: AsStr, S: Source, W: Sink>(
     ensures unknown { ¬ AsksForReplay (map T.text words.now)
         → IsErrOf result Refusal.BadArguments × (input.new ≡ input.old) }
     ensures malformed { IfErr result (λ refusal. status_of refusal ≡ 2 → output.new ≡ output.old) }
+    ensures faulty { IfErr result (λ refusal. status_of refusal ≡ 2
+        → AsksForReplay (map T.text words.now)
+        → (fault : TextFault) × ReadsFaulty (S.remaining input.old) (S.remaining input.new) fault) }
 {
     if !asks_for_replay(words) {
         return Err(Refusal::BadArguments);
@@ -57,6 +61,8 @@ pub fn run_words<R: AllocGlobal, T: AsStr, S: Source, W: Sink, X: Sink>(
     ensures unknown { ¬ AsksForReplay (map T.text words.now)
         → (result ≡ 2) × (input.new ≡ input.old) }
     ensures malformed { result ≡ 2 → output.new ≡ output.old }
+    ensures faulty { result ≡ 2 → AsksForReplay (map T.text words.now)
+        → (fault : TextFault) × ReadsFaulty (S.remaining input.old) (S.remaining input.new) fault }
 {
     match carry_out(rt, words, input, output) {
         Ok(()) => 0,

@@ -14,3 +14,6 @@ of_text P fault.NoMemory two then = cc
 
 pub returns-in-Err-clause-malformed : goal.returns-in-Err-clause-malformed
 returns-in-Err-clause-malformed g c = λ two. of_text _ c.in-Err.fault two (λ at is. (c.in-Err.ensures.text at (ap (λ f. Err f) is)).1)
+
+pub returns-in-Err-clause-faulty : goal.returns-in-Err-clause-faulty
+returns-in-Err-clause-faulty g c = λ two asks. of_text _ c.in-Err.fault two (λ at is. (at, (c.in-Err.ensures.text at (ap (λ f. Err f) is)).0))

@@ -60,6 +60,9 @@ count $? "refused allocations"
 "$root/tools/example_rows.py" | cmp - "$root/crates/hub_replay/src/tests/examples.rt"
 count $? "the rows of the examples"
 
+"$root/tools/receivers_close_nothing.sh"
+count $? "a close by an end that receives"
+
 "$root/tools/check_claims.py"
 count $? "docs/CLAIMS.md beside the sources"
 

@@ -1,0 +1,9 @@
+pub mod Locks
+pub mod Marks
+pub mod Prefixes
+pub mod Histories
+pub mod Steps
+pub mod Seats
+pub mod Desks
+pub mod Refusals
+pub mod Laters

@@ -1,0 +1,164 @@
+-- What waits for a process stays its reply.
+use Rattle.std.proofs.Common.{◌≡◌, ◌<◌, ◌==◌, ◌||◌, ◌+◌, ℕ, zero, suc, inl, inr, replicate, Bool, true, false, cond, List, [], ◌∷◌, ◌++◌, length, take, filter, get_or, refl, ap, ◌∙◌, sym, subst, Option, Some, None, arith}
+use Rattle.std.specs.Prelude.{IfSome, slice_set}
+use Rattle.std.specs.List.{AllByRecursion}
+use Rattle.std.proofs.lemmas.Bool.{eqb-true, eqb-false, cases_lt}
+use Rattle.std.proofs.lemmas.List.{get_or-set_same, get_or-set_other, get_or_past, length-set, take_more, length-replicate}
+use Rattle.hub_base.specs.declared.entry.Entry.{Entry}
+use Rattle.hub_base.specs.declared.event.Event.{Event}
+use Rattle.hub_base.specs.declared.value.Pid.{Pid}
+use Rattle.hub_base.specs.Steps.{is_waiting}
+use Rattle.hub_laws.specs.Answers.{IsAnswered}
+use Rattle.hub_laws.specs.Journals.{IsLegal}
+use Rattle.hub_laws.specs.Replies.{reply, last_from, is_told, is_parked, IsReply, IsLeft, Replied, AreReplied}
+use Rattle.hub_laws.proofs.Answered.{moves-answered}
+use Rattle.hub_laws.proofs.Replied.{replied-law}
+use Rattle.hub_core.specs.HubView.{HubView, Steps, places_after, state_of}
+use Rattle.hub_laws.proofs.Journals.{begins-law}
+use Rattle.hub_live.specs.Locked.{LockedView, answer_for, IsReplyTo, IsLawful, last_told, Serves}
+
+-- ---- places
+
+-- what waits for process q once a place was written
+pub answer_for-set : (ws : List (Option Event)) (i q : ℕ) (o : Option Event) → q < length ws →
+    answer_for (slice_set ws i o) q ≡ cond (i == q) o (answer_for ws q)
+answer_for-set ws i q o lt = by (i == q) refl
+  where
+    by : (b : Bool) → (i == q) ≡ b → answer_for (slice_set ws i o) q ≡ cond b o (answer_for ws q)
+    by true e = subst (λ (k : ℕ). answer_for (slice_set ws k o) q ≡ o) (sym (eqb-true i q e)) (get_or-set_same ws q o None lt)
+    by false e = get_or-set_other ws i q o None (λ same. eqb-false i q e (sym same))
+
+-- one event before the others
+last_told-cons : (q : ℕ) (o : Option Event) (y : Event) (ys : List Event) → last_told q o (y ∷ ys) ≡ last_told q (cond (y.pid.0 == q) (Some y) o) ys
+last_told-cons q o y ys = by (y.pid.0 == q)
+  where
+    by : (b : Bool) → last_from o (cond b (y ∷ filter (λ x. x.pid.0 == q) ys) (filter (λ x. x.pid.0 == q) ys)) ≡ last_from (cond b (Some y) o) (filter (λ x. x.pid.0 == q) ys)
+    by true = refl
+    by false = refl
+
+-- one event more
+last_told-snoc : (q : ℕ) (o : Option Event) (xs : List Event) (x : Event) → last_told q o (xs ++ x ∷ []) ≡ cond (x.pid.0 == q) (Some x) (last_told q o xs)
+last_told-snoc q o [] x = last_told-cons q o x []
+last_told-snoc q o (y ∷ ys) x =
+    last_told-cons q o y (ys ++ x ∷ [])
+    ∙ last_told-snoc q (cond (y.pid.0 == q) (Some y) o) ys x
+    ∙ ap (λ (r : Option Event). cond (x.pid.0 == q) (Some x) r) (sym (last_told-cons q o y ys))
+
+-- the first i of these events were put, and all else is as at the start
+pub record PutSoFar (start now : List (Option Event)) (xs : List Event) (i : ℕ) : Type 0 where
+  pub places : length now ≡ length start
+  pub each : (q : ℕ) → q < length start → answer_for now q ≡ last_told q (answer_for start q) (take i xs)
+
+pub put_next : (start before after : List (Option Event)) (xs : List Event) (i : ℕ) (d : Event) → i < length xs →
+    after ≡ slice_set before (get_or xs i d).pid.0 (Some (get_or xs i d)) → PutSoFar start before xs i → PutSoFar start after xs (i + 1)
+put_next start before after xs i d here is h =
+    let x : Event = get_or xs i d in
+    record {
+      places = ap length is ∙ length-set before x.pid.0 (Some x) ∙ h.places;
+      each = λ q lt.
+          ap (λ (ws : List (Option Event)). answer_for ws q) is
+          ∙ answer_for-set before x.pid.0 q (Some x) (omega (arith, h.places))
+          ∙ ap (λ (o : Option Event). cond (x.pid.0 == q) (Some x) o) (h.each q lt)
+          ∙ sym (last_told-snoc q (answer_for start q) (take i xs) x)
+          ∙ ap (last_told q (answer_for start q)) (sym (take_more xs i d here));
+    }
+
+-- ---- replies
+
+-- the event is the reply of process q in a hub
+abbrev IsReplyIn : HubView → ℕ → Event → Type 0
+IsReplyIn hub q = IsReplyTo hub.procs q hub.journal
+
+is_reply_to : (hub : HubView) (q : ℕ) (x : Event) → x.pid.0 ≡ q → IsReply hub.procs hub.journal x → IsReplyIn hub q x
+is_reply_to hub q x is r = record {
+  reply = subst (λ (k : ℕ). reply k hub.procs hub.journal ≡ Some x) is r.reply;
+  free = subst (λ (k : ℕ). is_waiting (state_of hub) k ≡ false) is r.free;
+}
+
+-- the last of these events is a reply where each of them is, and where there is none what there was before
+last_replies : (hub : HubView) (q : ℕ) (o : Option Event) (xs : List Event) → AllByRecursion (IsReply hub.procs hub.journal) xs →
+    (is_told q xs ≡ false → IfSome o (IsReplyIn hub q)) → IfSome (last_told q o xs) (IsReplyIn hub q)
+last_replies hub q o [] all h = h refl
+last_replies hub q o (x ∷ xs) all h = subst (λ (r : Option Event). IfSome r (IsReplyIn hub q)) (sym (last_told-cons q o x xs)) (by (x.pid.0 == q) refl h (λ o h. last_replies hub q o xs all.1 h))
+  where
+    by : (b : Bool) → (x.pid.0 == q) ≡ b → ((b || is_told q xs) ≡ false → IfSome o (IsReplyIn hub q)) →
+        ((o : Option Event) → (is_told q xs ≡ false → IfSome o (IsReplyIn hub q)) → IfSome (last_told q o xs) (IsReplyIn hub q)) → IfSome (last_told q (cond b (Some x) o) xs) (IsReplyIn hub q)
+    by true is h rest = rest (Some x) (λ untold. is_reply_to hub q x (eqb-true x.pid.0 q is) all.0)
+    by false is h rest = rest o h
+
+-- ---- a step of the hub
+
+-- some event is told
+pub told_some : (old new : HubView) (e : Entry) (told : List Event) → Steps old e new told → length told ≡ 0 → ⊥
+told_some old new e [] s none = subst (IsAnswered e.pid e.step) (sym s.events) (moves-answered (state_of old) e s.admitted)
+told_some old new e (x ∷ told) s none = omega arith
+
+replied : (old new : HubView) (e : Entry) (answer : Event) (ended : List Event) → Steps old e new (answer ∷ ended) → Replied old.procs old.journal e answer ended
+replied old new e answer ended s = subst (AreReplied old.procs old.journal e) (sym s.events) (replied-law old.procs old.journal e s.admitted)
+
+-- the answer is the caller's reply, unless its call waits
+pub answer_replies : (old new : HubView) (e : Entry) (answer : Event) (ended : List Event) → Steps old e new (answer ∷ ended) → is_parked answer.what ≡ false → IsReplyIn new e.pid.0 answer
+answer_replies old new e answer ended s clear =
+    let r = replied old new e answer ended s in
+    is_reply_to new e.pid.0 answer (ap (λ (p : Pid). p.0) r.caller) (subst (λ (h : HubView). IsReply h.procs h.journal answer) (sym s.journal) (r.answered clear))
+
+-- the hub with one entry more
+abbrev grown : HubView → Entry → HubView
+grown hub e = record { procs = hub.procs; limit = hub.limit; journal = hub.journal ++ e ∷ []; places = places_after e.step hub.places }
+
+-- a process that is left as it was keeps its reply
+left_replies : (hub : HubView) (e : Entry) (q : ℕ) (o : Option Event) → IsLeft hub.procs hub.journal e q → IfSome o (IsReplyIn hub q) → IfSome o (IsReplyIn (grown hub e) q)
+left_replies hub e q None left h = tt
+left_replies hub e q (Some x) left h = record { reply = left.reply ∙ h.reply; free = left.waits ∙ h.free }
+
+-- what waits for process q after a step is its reply
+waits_after : (hub : HubView) (e : Entry) (answer : Event) (ended : List Event) (q : ℕ) (o : Option Event) → Replied hub.procs hub.journal e answer ended → IfSome o (IsReplyIn hub q) →
+    IfSome (last_told q (cond (e.pid.0 == q) None o) ended) (IsReplyIn (grown hub e) q)
+waits_after hub e answer ended q o r h = last_replies (grown hub e) q (cond (e.pid.0 == q) None o) ended r.ends (by (e.pid.0 == q) refl)
+  where
+    by : (b : Bool) → (e.pid.0 == q) ≡ b → is_told q ended ≡ false → IfSome (cond b None o) (IsReplyIn (grown hub e) q)
+    by true is untold = tt
+    by false is untold = left_replies hub e q o (r.others q (ap (λ (p : Pid). (p.0 == q) || is_told q ended) r.caller ∙ ap (λ (b : Bool). b || is_told q ended) is ∙ untold)) h
+
+-- ---- a step of the locked hub
+
+-- the events were put into the places
+pub serves : (old : LockedView) (e : Entry) (hub : HubView) (told : List Event) (answer : Event) (ended : List Event) (cleared waiting : List (Option Event)) →
+    length old.waiting ≡ 64 → Steps old.hub e hub told → told ≡ answer ∷ ended → cleared ≡ slice_set old.waiting e.pid.0 None → length waiting ≡ length cleared →
+    ((q : ℕ) → q < length cleared → answer_for waiting q ≡ last_told q (answer_for cleared q) ended) → Serves old e (record { hub = hub; waiting = waiting }) answer
+serves old e hub told answer ended cleared waiting places s first clear same each =
+    let room : length cleared ≡ 64 = ap length clear ∙ length-set old.waiting e.pid.0 None ∙ places in
+    record {
+      ended = ended;
+      step = subst (Steps old.hub e hub) first s;
+      places = same ∙ room;
+      waiting = λ q lt.
+          each q (omega (arith, room))
+          ∙ ap (λ (o : Option Event). last_told q o ended) (ap (λ (ws : List (Option Event)). answer_for ws q) clear ∙ answer_for-set old.waiting e.pid.0 q None (omega (arith, places)));
+    }
+
+pub lawful_served : (old new : LockedView) (e : Entry) (answer : Event) → IsLawful old.hub old.waiting → Serves old e new answer → IsLawful new.hub new.waiting
+lawful_served old new e answer h s =
+    subst (λ (hub : HubView). IsLawful hub new.waiting) (sym s.step.journal) (record {
+      legal = (begins-law old.hub.procs old.hub.journal []).goes_on e h.legal s.step.admitted;
+      places = s.places;
+      replies = λ q. elim (cases_lt q 64) [
+        | inl lt ↦ subst (λ (o : Option Event). IfSome o (IsReplyIn (grown old.hub e) q)) (sym (s.waiting q lt))
+            (waits_after old.hub e answer s.ended q (answer_for old.waiting q) (replied old.hub new.hub e answer s.ended s.step) (h.replies q))
+        | inr past ↦ subst (λ (o : Option Event). IfSome o (IsReplyIn (grown old.hub e) q)) (sym (get_or_past new.waiting q None (omega (arith, s.places)))) tt
+      ];
+    })
+
+-- ---- the opening
+
+answer_for-replicate : (n q : ℕ) → answer_for (replicate n None) q ≡ None
+answer_for-replicate zero q = refl
+answer_for-replicate (suc n) zero = refl
+answer_for-replicate (suc n) (suc q) = answer_for-replicate n q
+
+pub lawful_none : (hub : HubView) → IsLegal hub.procs hub.journal → IsLawful hub (replicate 64 None)
+lawful_none hub legal = record {
+  legal = legal;
+  places = length-replicate {A = Option Event} 64 None;
+  replies = λ q. subst (λ (o : Option Event). IfSome o (IsReplyIn hub q)) (sym (answer_for-replicate 64 q)) tt;
+}

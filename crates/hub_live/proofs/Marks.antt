@@ -1,0 +1,118 @@
+-- A mark tells the counts of its port, and one entry changes at most one mark.
+use Rattle.std.proofs.Common.{◌≡◌, ◌≢◌, ◌<◌, ◌≤◌, ◌==◌, ℕ, ◌+◌, ◌-◌, ◌*◌, ◌/◌, ◌%◌, Bool, true, false, cond, List, [], ◌∷◌, ◌++◌, length, Option, None, Some, refl, sym, ap, ◌∙◌, subst, arith}
+use Rattle.std.specs.Prelude.{MatchBool, nat_le, slice_get}
+use Rattle.std.specs.Option.{option_map, option_map_or}
+use Rattle.std.proofs.lemmas.Bool.Decides.{nat_tests}
+use Rattle.std.proofs.lemmas.Bool.{eqb-true}
+use Rattle.std.proofs.lemmas.Option.{slice_get_past}
+use Rattle.hub_base.specs.declared.value.Port.{Port}
+use Rattle.hub_base.specs.declared.counts.Counts.{Counts}
+use Rattle.hub_base.specs.declared.counts.Look.{Look}
+use Rattle.hub_base.specs.declared.entry.Entry.{Entry}
+use Rattle.hub_base.specs.State.{State, Channel, channel_at}
+use Rattle.hub_base.specs.Runs.{state}
+use Rattle.hub_base.specs.Text.{steps_of}
+use Rattle.hub_laws.specs.Journals.{IsLegal}
+use Rattle.hub_laws.specs.OnePort.{touched, number_of, IsPort}
+use Rattle.hub_laws.proofs.OnePort.{one_port-law}
+use Rattle.hub_laws.proofs.Counts.{counts-law}
+use Rattle.hub_laws.proofs.States.{state-laws}
+use Rattle.hub_core.specs.Looks.{counts_of, look_at}
+use Rattle.hub_live.specs.Mark.{of_a_send, of_a_port, of_a_close, mark_of, counts_in, read_back, counts_at, mark_at, port_numbered, mark, MarksOne}
+
+-- counts as a hub has them
+pub record IsCounted (c : Counts) : Type 0 where
+  pub len : c.len ≡ c.sent - c.received
+  pub received : c.received ≤ c.sent
+  pub sent : c.sent ≤ 1000000
+
+closed_part : Bool → ℕ
+closed_part b = cond b of_a_close 0
+
+-- the parts of a mark
+parts : (b : Bool) (sent received : ℕ) → sent ≤ 1000000 → received ≤ 1000000 → (m : ℕ) → m ≡ cond b of_a_close 0 + of_a_port + of_a_send * sent + received
+    → (m % of_a_send ≡ received) × (m / of_a_send % of_a_send ≡ sent) × (nat_le of_a_close m ≡ b) × ((m == 0) ≡ false)
+parts true sent received s r m is = (omega arith, omega arith, grind (arith, nat_tests), grind (arith, nat_tests))
+parts false sent received s r m is = (omega arith, omega arith, grind (arith, nat_tests), grind (arith, nat_tests))
+
+-- a mark tells the counts that it was made of
+pub read_back-mark : (c : Counts) → IsCounted c → read_back (mark_of c) ≡ Some c
+read_back-mark c is =
+    let p = parts c.closed c.sent c.received is.sent (omega (arith, is.received, is.sent)) (mark_of c) refl in
+    ap (λ (b : Bool). cond b None (Some (counts_in (mark_of c)))) p.3
+    ∙ ap Some (λ i. record { len = (ap (λ x. x - mark_of c % of_a_send) p.1 ∙ (ap (λ x. c.sent - x) p.0 ∙ sym is.len)) i; sent = p.1 i; received = p.0 i; closed = p.2 i })
+
+-- ---- the counts of a run
+
+-- the counts of a channel in a run with no more than so many steps
+counted : (n : ℕ) (es : List Entry) (p : Port) (o : Option Channel) → channel_at (state n es) p ≡ o → IsLegal n es → steps_of es ≤ 1000000
+    → read_back (option_map_or mark_of (option_map counts_of o) 0) ≡ option_map counts_of o
+counted n es p None is legal few = refl
+counted n es p (Some c) is legal few = read_back-mark (counts_of c) (is_counted n es p c is legal few)
+  where
+    is_counted : (n : ℕ) (es : List Entry) (p : Port) (c : Channel) → channel_at (state n es) p ≡ Some c → IsLegal n es → steps_of es ≤ 1000000 → IsCounted (counts_of c)
+    is_counted n es p c is legal few =
+        let k = counts-law n es p c is in
+        record { len = refl; received = k.received; sent = omega (arith, k.sent, ap steps_of legal, few) }
+
+-- a mark tells the counts of its port
+pub mark-tells : (n : ℕ) (es : List Entry) (p : Port) → IsLegal n es → steps_of es ≤ 1000000 → read_back (mark_at (state n es) p) ≡ counts_at (state n es) p
+mark-tells n es p legal few = counted n es p (channel_at (state n es) p) refl legal few
+
+few_counts : (n : ℕ) (es : List Entry) (p : Port) (o : Option Channel) (l : Look) → channel_at (state n es) p ≡ o → IsLegal n es → steps_of es ≤ 1000000
+    → option_map (λ c. record { cap = c.cap; counts = counts_of c }) o ≡ Some l → (l.counts.sent ≤ 1000000) × (l.counts.received ≤ 1000000) × (mark_of l.counts ≡ option_map_or mark_of (option_map counts_of o) 0)
+few_counts n es p None l is legal few at = absurd (let h : ⊥ = cc in h)
+few_counts n es p (Some c) l is legal few at =
+    let k = counts-law n es p c is in
+    let same : l ≡ record { cap = c.cap; counts = counts_of c } = cc in
+    let sent : length c.done ≤ 1000000 = omega (arith, k.sent, ap steps_of legal, few) in (
+      subst (λ (x : Look). x.counts.sent ≤ 1000000) (sym same) sent,
+      subst (λ (x : Look). x.counts.received ≤ 1000000) (sym same) (omega (arith, sent, k.received)),
+      ap (λ (x : Look). mark_of x.counts) same,
+    )
+
+-- a look tells counts that have a mark
+pub look-mark : (n : ℕ) (es : List Entry) (p : Port) (l : Look) → IsLegal n es → steps_of es ≤ 1000000 → look_at (state n es) p ≡ Some l
+    → (l.counts.sent ≤ 1000000) × (l.counts.received ≤ 1000000) × (mark_of l.counts ≡ mark_at (state n es) p)
+look-mark n es p l legal few at = few_counts n es p (channel_at (state n es) p) l refl legal few at
+
+abbrev shown : Channel → Look
+shown c = record { cap = c.cap; counts = counts_of c }
+
+none_mark : (o : Option Channel) → option_map shown o ≡ None → option_map_or mark_of (option_map counts_of o) 0 ≡ 0
+none_mark None at = refl
+none_mark (Some c) at = absurd (let h : ⊥ = cc in h)
+
+pub no_look-mark : (s : State) (p : Port) → look_at s p ≡ None → mark_at s p ≡ 0
+no_look-mark s p at = none_mark (channel_at s p) at
+
+none_at : (b : Bool) (cs : List Channel) (i : ℕ) → (b ≡ false → length cs ≤ i) → option_map counts_of (cond b None (slice_get cs i)) ≡ None
+none_at true cs i le = refl
+none_at false cs i le = ap (option_map counts_of) (slice_get_past cs i (le refl))
+
+-- port 0 and the ports above 64 are not made
+pub no_port : (n : ℕ) (es : List Entry) (p : Port) → (0 < p.0 → p.0 < 65 → ⊥) → counts_at (state n es) p ≡ None
+no_port n es p out =
+    let few = (state-laws n es).few in
+    none_at (p.0 == 0) (state n es).channels (p.0 - 1) (λ h. let some : 0 < p.0 = grind (arith, nat_tests) in let many : p.0 < 65 → ⊥ = out some in omega (arith, few, many))
+
+-- ---- one entry, one mark
+
+-- the number of the port that an entry may write: 0 for none, and no more than 64
+few_ports : (n : ℕ) (es : List Entry) (e : Entry) (o : Option Port) → ((p : Port) → o ≡ Some p → IsPort p (state n (es ++ e ∷ []))) → number_of o < 65
+few_ports n es e None made = omega arith
+few_ports n es e (Some p) made = omega (arith, (made p refl).few, (state-laws n (es ++ e ∷ [])).few)
+
+pub touched-few : (n : ℕ) (es : List Entry) (e : Entry) → number_of (touched n es e) < 65
+touched-few n es e = few_ports n es e (touched n es e) (one_port-law n es e).made
+
+one_mark : (n : ℕ) (es : List Entry) (e : Entry) (word number : ℕ) (b : Bool) → (number == word) ≡ b → word ≡ number_of (touched n es e)
+    → MatchBool b (mark n (es ++ e ∷ []) number ≡ mark n (es ++ e ∷ []) word) (mark n (es ++ e ∷ []) number ≡ mark n es number)
+one_mark n es e word number true same is = ap (mark n (es ++ e ∷ [])) (eqb-true number word same)
+one_mark n es e word number false other is =
+    let apart : (number_of (touched n es e) == number) ≡ false = let h : number ≢ number_of (touched n es e) = λ k. (let g : number ≢ word = grind (arith, nat_tests) in g) (k ∙ sym is) in grind (arith, nat_tests) in
+    ap (λ (o : Option Channel). option_map_or mark_of (option_map counts_of o) 0) ((one_port-law n es e).numbers (port_numbered number) apart)
+
+-- one entry changes at most the mark of the port that its answer names
+pub marks_one : (n : ℕ) (es : List Entry) (e : Entry) (word : ℕ) → word ≡ number_of (touched n es e) → MarksOne n es e word (mark n (es ++ e ∷ []) word)
+marks_one n es e word is number lo hi = one_mark n es e word number (number == word) refl is

@@ -1,0 +1,156 @@
+-- Why an entry of a seat is refused, and that its process has no open call.
+use Rattle.std.proofs.Common.{◌≡◌, ℕ, ◌<◌, ◌≤◌, ◌==◌, Bool, true, false, cond, not, ◌||◌, ◌&&◌, nat_lt, List, [], ◌∷◌, ◌++◌, length, refl, sym, ap, ◌∙◌, subst, arith, Option, Some, None}
+use Rattle.std.specs.List.{list_any}
+use Rattle.std.proofs.lemmas.List.{length-append}
+use Rattle.std.proofs.lemmas.List.Elements.{filter-append}
+use Rattle.std.proofs.lemmas.Bool.Decides.{nat_tests}
+use mathlib.Core.List.{IsPrefix}
+use Rattle.hub_base.specs.declared.value.Pid.{Pid}
+use Rattle.hub_base.specs.declared.entry.Step.{Step}
+use Rattle.hub_base.specs.declared.entry.Step.TheVariants.{Make, Call, Close, Exit}
+use Rattle.hub_base.specs.declared.entry.Entry.{Entry}
+use Rattle.hub_base.specs.declared.fault.Fault.{Fault}
+use Rattle.hub_base.specs.declared.fault.Fault.TheVariants as fault
+use Rattle.hub_base.specs.State.{State, opening}
+use Rattle.hub_base.specs.Steps.{refusal, has_gone, is_waiting}
+use Rattle.hub_base.specs.Runs.{moves, admits, keeps, state_after, kept_after, state}
+use Rattle.hub_base.specs.Reading.{is_exit}
+use Rattle.hub_base.specs.Text.{steps_of}
+use Rattle.hub_laws.specs.Journals.{IsLegal}
+use Rattle.hub_laws.specs.Replies.{own, reply}
+use Rattle.hub_laws.proofs.Lasting.{turn-leaves, procs-after}
+use Rattle.hub_laws.proofs.Replies.{replies-law}
+use Rattle.hub_core.specs.HubView.{HubView, Refuses, Grows, state_of}
+use Rattle.hub_live.specs.declared.name.Terms.{Terms}
+use Rattle.hub_live.specs.SeatView.{SeatView, IsFree, own_of}
+use Rattle.hub_live.specs.Seated.{IsHub}
+use Rattle.hub_live.specs.Calls.{LeavesRoom, Shows, AsksNothing, StandsIn}
+
+-- ---- entries of others
+
+empty : {A : Type 0} (xs : List A) → length xs ≡ 0 → xs ≡ []
+empty [] e = refl
+empty (x ∷ xs) e = absurd (omega arith)
+
+own_nothing : (q : ℕ) (es fs : List Entry) → own q (es ++ fs) ≡ own q es → own q fs ≡ []
+own_nothing q es fs same =
+    let split : own q (es ++ fs) ≡ own q es ++ own q fs = filter-append (λ (e : Entry). e.pid.0 == q) es fs in
+    empty (own q fs) (omega (arith, ap length same, ap length split, length-append (own q es) (own q fs)))
+
+none_more : (q : ℕ) (f : Entry) (fs : List Entry) (b : Bool) → (own q fs ≡ [] → list_any (λ e. e.pid.0 == q) fs ≡ false) → cond b (f ∷ own q fs) (own q fs) ≡ [] → (b || list_any (λ e. e.pid.0 == q) fs) ≡ false
+none_more q f fs true rest h = absurd (let g : ⊥ = cc in g)
+none_more q f fs false rest h = rest h
+
+none_own : (q : ℕ) (fs : List Entry) → own q fs ≡ [] → list_any (λ e. e.pid.0 == q) fs ≡ false
+none_own q [] none = refl
+none_own q (f ∷ fs) none = none_more q f fs (f.pid.0 == q) (none_own q fs) none
+
+-- a process without an open call asked nothing where the journal went on with no entry of it
+pub asks_nothing : (t : Terms) (pid : Pid) (before after : List Entry) → IsPrefix before after → own pid.0 after ≡ own pid.0 before → is_waiting (state t.procs before) pid.0 ≡ false → AsksNothing t pid before after
+asks_nothing t pid before after p same free =
+    let same' : own pid.0 (before ++ p.0) ≡ own pid.0 before = ap (own pid.0) p.1 ∙ same in
+    let still = replies-law t.procs before pid.0 p.0 free (none_own pid.0 p.0 (own_nothing pid.0 before p.0 same')) in
+    record {
+      own = same;
+      reply = subst (λ (es : List Entry). reply pid.0 t.procs es ≡ reply pid.0 t.procs before) p.1 still.reply;
+      free = subst (λ (es : List Entry). is_waiting (state t.procs es) pid.0 ≡ false) p.1 still.free;
+    }
+
+pub stands_in : (s : SeatView) (journal : List Entry) → IsPrefix s.seen journal → own s.pid.0 journal ≡ own_of s → IsFree s → StandsIn s journal
+stands_in s journal begins own free = record { begins = begins; same = asks_nothing s.hub.terms s.pid s.seen journal begins own free }
+
+-- ---- who has exited
+
+abbrev exited : ℕ → List Entry → Bool
+exited q es = list_any (λ x. is_exit x.step) (own q es)
+
+exited_by : (here exit : Bool) (e : Entry) (own_rest : List Entry) → exit ≡ is_exit e.step → (exit && here) ≡ true → list_any (λ x. is_exit x.step) (cond here (e ∷ own_rest) own_rest) ≡ true
+exited_by true true e rest is h = rw (sym is) refl
+exited_by here false e rest is h = absurd (let g : ⊥ = cc in g)
+exited_by false true e rest is h = absurd (let g : ⊥ = cc in g)
+
+exited_more : (here : Bool) (e : Entry) (rest : List Entry) → list_any (λ x. is_exit x.step) rest ≡ true → list_any (λ x. is_exit x.step) (cond here (e ∷ rest) rest) ≡ true
+exited_more true e rest h = by (is_exit e.step)
+  where
+    by : (b : Bool) → (b || list_any (λ x. is_exit x.step) rest) ≡ true
+    by true = refl
+    by false = h
+exited_more false e rest h = h
+
+-- one entry, where those that follow are known
+gone_entry : (q : ℕ) (s : State) (e : Entry) (es : List Entry) (o : Option Fault) → (has_gone (admits s e o).state q ≡ true → has_gone s q ≡ false → exited q (keeps o e es) ≡ true)
+    → (has_gone (admits s e o).state q ≡ false → exited q es ≡ true) → has_gone s q ≡ false → exited q (keeps o e es) ≡ true
+gone_entry q s e es None here later was = by (has_gone (admits s e None).state q) refl
+  where
+    by : (b : Bool) → b ≡ has_gone (admits s e None).state q → exited q (e ∷ es) ≡ true
+    by true is = here (sym is) was
+    by false is = exited_more (e.pid.0 == q) e (own q es) (later (sym is))
+gone_entry q s e es (Some f) here later was = later was
+
+gone_here : (q : ℕ) (s : State) (e : Entry) (es : List Entry) (o : Option Fault) → has_gone (admits s e o).state q ≡ true → has_gone s q ≡ false → exited q (keeps o e es) ≡ true
+gone_here q s e es None is was =
+    let left : (is_exit e.step && (e.pid.0 == q)) ≡ true = rw was at (sym (turn-leaves q s e) ∙ is) in
+    exited_by (e.pid.0 == q) (is_exit e.step) e (own q es) refl left
+gone_here q s e es (Some f) is was = absurd (let g : ⊥ = cc in g)
+
+gone_after : (q : ℕ) (s : State) (es : List Entry) → has_gone s q ≡ false → has_gone (state_after s es) q ≡ true → exited q (kept_after s es) ≡ true
+gone_after q s [] was is = absurd (let g : ⊥ = cc in g)
+gone_after q s (e ∷ es) was is =
+    gone_entry q s e (kept_after (moves s e).state es) (refusal s e.pid) (gone_here q s e (kept_after (moves s e).state es) (refusal s e.pid)) (λ h. gone_after q (moves s e).state es h is) was
+
+-- a process that has exited has an exit in the journal
+pub gone_exited : (n q : ℕ) (es : List Entry) → IsLegal n es → has_gone (state n es) q ≡ true → exited q es ≡ true
+gone_exited n q es legal is = subst (λ (xs : List Entry). exited q xs ≡ true) legal (gone_after q (opening n) es refl is)
+
+-- ---- refusals
+
+abbrev refused : Bool → Bool → Bool → Option Fault
+refused a b c = cond a (Some fault.NoProcess) (cond b (Some fault.Gone) (cond c (Some fault.Busy) None))
+
+refused_none : (a b c : Bool) → refused a b c ≡ Some fault.NoProcess → a ≡ true
+refused_none true b c h = refl
+refused_none false true c h = absurd (let g : ⊥ = cc in g)
+refused_none false false true h = absurd (let g : ⊥ = cc in g)
+refused_none false false false h = absurd (let g : ⊥ = cc in g)
+
+refused_gone : (a b c : Bool) → refused a b c ≡ Some fault.Gone → b ≡ true
+refused_gone true b c h = absurd (let g : ⊥ = cc in g)
+refused_gone false true c h = refl
+refused_gone false false true h = absurd (let g : ⊥ = cc in g)
+refused_gone false false false h = absurd (let g : ⊥ = cc in g)
+
+refused_busy : (a b c : Bool) → refused a b c ≡ Some fault.Busy → c ≡ true
+refused_busy true b c h = absurd (let g : ⊥ = cc in g)
+refused_busy false true c h = absurd (let g : ⊥ = cc in g)
+refused_busy false false true h = refl
+refused_busy false false false h = absurd (let g : ⊥ = cc in g)
+
+growing : (step : Step) (places : ℕ) → Grows step places → is_exit step ≡ false
+growing (Make cap) places g = refl
+growing (Call cases default word) places g = refl
+growing (Close p) places g = refl
+growing Exit places g = absurd g
+
+below_not : (p n : ℕ) → p < n → not (nat_lt p n) ≡ true → ⊥
+below_not p n lt h = grind (arith, nat_tests)
+
+-- what a refusal shows, where the process is one of the hub's and has no open call
+pub shows : (t : Terms) (h : HubView) (e : Entry) (f : Fault) → IsHub t h → e.pid.0 < t.procs → is_waiting (state_of h) e.pid.0 ≡ false → Refuses h e f → Shows t e h.journal f
+shows t h e fault.JournalFull is below free r = (r.0, let le : h.limit ≤ steps_of h.journal = r.1 in omega (arith, is.within, is.limit))
+shows t h e fault.NoProcess is below free r = absurd (below_not e.pid.0 (state_of h).procs (omega (arith, below, is.procs, procs-after (opening h.procs) h.journal)) (refused_none (not (nat_lt e.pid.0 (state_of h).procs)) (has_gone (state_of h) e.pid.0) (is_waiting (state_of h) e.pid.0) r.1))
+shows t h e fault.Gone is below free r =
+    let room : LeavesRoom t e h.journal = λ exit. subst (λ (n : ℕ). steps_of h.journal < n) is.limit (r.0 exit) in
+    let gone : has_gone (state_of h) e.pid.0 ≡ true = refused_gone (not (nat_lt e.pid.0 (state_of h).procs)) (has_gone (state_of h) e.pid.0) (is_waiting (state_of h) e.pid.0) r.1 in
+    (room, gone_exited h.procs e.pid.0 h.journal (subst (λ (n : ℕ). IsLegal n h.journal) (sym is.procs) is.history.legal) gone)
+shows t h e fault.Busy is below free r =
+    let busy : is_waiting (state_of h) e.pid.0 ≡ true = refused_busy (not (nat_lt e.pid.0 (state_of h).procs)) (has_gone (state_of h) e.pid.0) (is_waiting (state_of h) e.pid.0) r.1 in
+    absurd (let g : ⊥ = cc in g)
+shows t h e fault.NoMemory is below free r =
+    let step : is_exit e.step ≡ false = growing e.step h.places r.2 in
+    (step, subst (λ (n : ℕ). steps_of h.journal < n) is.limit (r.0 step), subst (λ (n : ℕ). refusal (state n h.journal) e.pid ≡ None) is.procs r.1)
+shows t h e fault.TooManyCases is below free r = absurd r
+shows t h e fault.NoPort is below free r = absurd r
+shows t h e fault.BadCap is below free r = absurd r
+shows t h e fault.TooManyPorts is below free r = absurd r
+shows t h e fault.NilClose is below free r = absurd r
+shows t h e fault.AlreadyClosed is below free r = absurd r

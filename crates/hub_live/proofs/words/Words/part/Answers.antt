@@ -1,0 +1,10 @@
+use Rattle.std.proofs.Common.{arith, sym, ◌∙◌}
+use Rattle.hub_live.proofs.Seats.{parts_some}
+use Rattle.hub_live.proofs.words.Words.part.Goals as goal
+
+pub split_seat-requires : goal.split_seat-requires
+split_seat-requires g c =
+    let b = c.args.self.now.is in
+    let t = c.requires.token.0 in
+    let words = b.words in
+    (t.table ∙ sym b.same, omega arith, parts_some _ _ _ c.requires.token.1)

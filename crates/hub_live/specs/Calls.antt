@@ -1,0 +1,99 @@
+-- What a call promises of what its seat has then seen.
+use Rattle.std.specs.Prelude.{◌≡◌, ◌<◌, ◌++◌, ◌∷◌, ◌+◌, [], ℕ, true, false, List, None, Some}
+use Rattle.std.specs.List.{list_any}
+use mathlib.Core.List.{IsPrefix}
+use Rattle.hub_base.specs.declared.value.Pid.{Pid}
+use Rattle.hub_base.specs.declared.entry.Step.{Step}
+use Rattle.hub_base.specs.declared.entry.Entry.{Entry}
+use Rattle.hub_base.specs.declared.event.Event.{Event}
+use Rattle.hub_base.specs.declared.fault.Fault.{Fault}
+use Rattle.hub_base.specs.declared.fault.Fault.TheVariants as fault
+use Rattle.hub_base.specs.Reading.{is_exit}
+use Rattle.hub_base.specs.Steps.{is_waiting, refusal}
+use Rattle.hub_base.specs.Runs.{state}
+use Rattle.hub_base.specs.Text.{steps_of}
+use Rattle.hub_laws.specs.Replies.{own, reply, is_parked}
+use Rattle.hub_live.specs.declared.name.Terms.{Terms}
+use Rattle.hub_live.specs.Locked.{IsReplyTo}
+use Rattle.hub_live.specs.Name.{Name}
+use Rattle.hub_live.specs.SeatView.{SeatView, IsIdle, own_of, reply_to}
+
+-- an answer that is not `Parked` is the process's reply
+abbrev pub Tells : Terms → Pid → List Entry → Event → Type 0
+Tells t pid seen x = is_parked x.what ≡ false → IsReplyTo t.procs pid.0 seen x
+
+-- the process asked this entry more
+abbrev pub Gains : Entry → List Entry → List Entry → Type 0
+Gains e before seen = own e.pid.0 seen ≡ own e.pid.0 before ++ e ∷ []
+
+-- what was seen leaves room: the entry is an exit, or fewer than `limit` entries are none
+abbrev pub LeavesRoom : Terms → Entry → List Entry → Type 0
+LeavesRoom t e seen = is_exit e.step ≡ false → steps_of seen < t.limit
+
+-- what was seen shows why an entry is refused: the journal is full, or its process has exited, or else
+-- a growth was refused, which no exit asks for. The tests stand in the order of these lines
+abbrev pub Shows : Terms → Entry → List Entry → Fault → Type 0
+Shows t e seen fault.JournalFull = (is_exit e.step ≡ false) × (steps_of seen ≡ t.limit)
+Shows t e seen fault.Gone =
+    LeavesRoom t e seen × (list_any (λ x. is_exit x.step) (own e.pid.0 seen) ≡ true)
+Shows t e seen fault.NoMemory =
+    (is_exit e.step ≡ false) × (steps_of seen < t.limit)
+    × (refusal (state t.procs seen) e.pid ≡ None)
+Shows t e seen other = ⊥
+
+-- between two beginnings of the journal the process asked nothing: it was told what it had been, and
+-- has no open call
+pub record AsksNothing (t : Terms) (pid : Pid) (before seen : List Entry) : Type 0 where
+  pub own : own pid.0 seen ≡ own pid.0 before
+  pub reply : reply pid.0 t.procs seen ≡ reply pid.0 t.procs before
+  pub free : is_waiting (state t.procs seen) pid.0 ≡ false
+
+-- ---- what a call leaves in its seat
+
+-- the same seat, which has seen no less, and is idle again
+pub record Later (s t : SeatView) : Type 0 where
+  pub hub : t.hub ≡ s.hub
+  pub pid : t.pid ≡ s.pid
+  pub begins : IsPrefix s.seen t.seen
+  pub idle : IsIdle t
+
+-- the entry is the one more of its process, and the event its reply
+pub record MadeEntry (s t : SeatView) (e : Entry) (x : Event) : Type 0 where
+  pub own : own_of t ≡ own_of s ++ e ∷ []
+  pub reply : reply_to t ≡ Some x
+  pub ended : is_parked x.what ≡ false
+
+-- the process of a seat asked nothing more
+abbrev pub AskedNothing : SeatView → SeatView → Type 0
+AskedNothing s t = AsksNothing s.hub.terms s.pid s.seen t.seen
+
+-- no entry was made
+pub record RefusedEntry (s t : SeatView) (e : Entry) (f : Fault) : Type 0 where
+  pub same : AskedNothing s t
+  pub shows : Shows t.hub.terms e t.seen f
+
+-- the entry of a seat's process with this step
+abbrev pub entry_of : SeatView → Step → Entry
+entry_of s step = record { pid = s.pid; step = step }
+
+-- the process made the step, and the event is the reply
+abbrev pub Made : SeatView → SeatView → Step → Event → Type 0
+Made s t step x = MadeEntry s t (entry_of s step) x
+
+-- the step was refused, and no entry was made
+abbrev pub Refused : SeatView → SeatView → Step → Fault → Type 0
+Refused s t step f = RefusedEntry s t (entry_of s step) f
+
+-- ---- the seats of a hub
+
+-- seats of processes in order from this one on, none of which has seen anything
+abbrev pub AreSeats : Name → ℕ → List SeatView → Type 0
+AreSeats name first [] = Unit {0}
+AreSeats name first (s ∷ ss) =
+    (s ≡ record { hub = name; pid = record { 0 = first }; seen = [] })
+    × AreSeats name (first + 1) ss
+
+-- the journal begins with what the seat has seen, and its process asked nothing more in it
+pub record StandsIn (s : SeatView) (journal : List Entry) : Type 0 where
+  pub begins : IsPrefix s.seen journal
+  pub same : AsksNothing s.hub.terms s.pid s.seen journal

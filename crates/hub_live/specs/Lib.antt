@@ -1,0 +1,9 @@
+pub mod Mark
+pub mod Locked
+pub mod Name
+pub mod Rule
+pub mod Moves
+pub mod Named
+pub mod SeatView
+pub mod Seated
+pub mod Calls

@@ -1,0 +1,66 @@
+-- What contracts see of a locked hub: a hub, and for each process an answer that may wait to be picked
+-- up. Where a step ends the call of another process, the answer waits until that process takes it.
+use Rattle.std.specs.Prelude.{◌≡◌, ◌<◌, ◌==◌, ℕ, false, List, ◌∷◌, length, replicate, filter, Option, None, Some, IfSome, slice_index_or, slice_set, if◌then◌else◌}
+use Rattle.hub_base.specs.declared.value.Pid.{Pid}
+use Rattle.hub_base.specs.declared.entry.Entry.{Entry}
+use Rattle.hub_base.specs.declared.event.Event.{Event}
+use Rattle.hub_base.specs.Steps.{is_waiting}
+use Rattle.hub_laws.specs.Journals.{IsLegal}
+use Rattle.hub_laws.specs.Replies.{reply, last_from}
+use Rattle.hub_base.specs.Runs.{state}
+use Rattle.hub_core.specs.HubView.{HubView, Steps}
+
+-- a hub, and the answers that wait
+pub record LockedView : Type 0 where
+  pub hub : HubView
+  -- for each number below 64 the answer that waits for that process, if one does
+  pub waiting : List (Option Event)
+
+-- the answer that waits for process q, if one does
+abbrev pub answer_for : List (Option Event) → ℕ → Option Event
+answer_for waiting q = slice_index_or waiting q None
+
+-- a hub for which no answer waits
+abbrev pub none_waits : HubView → LockedView
+none_waits hub = record { hub = hub; waiting = replicate 64 None }
+
+-- ---- what every locked hub keeps
+
+-- after these entries the event is the reply of process q, and q has no open call
+pub record IsReplyTo (n q : ℕ) (es : List Entry) (x : Event) : Type 0 where
+  pub reply : reply q n es ≡ Some x
+  pub free : is_waiting (state n es) q ≡ false
+
+-- the journal is legal, and an answer that waits is its process's reply. So none waits for a process
+-- that has an open call
+pub record IsLawful (hub : HubView) (waiting : List (Option Event)) : Type 0 where
+  pub legal : IsLegal hub.procs hub.journal
+  pub places : length waiting ≡ 64
+  pub replies : (q : ℕ) → IfSome (answer_for waiting q) (IsReplyTo hub.procs q hub.journal)
+
+-- ---- a step
+
+-- the last of these events that is of process q, and where there is none what there was before
+abbrev pub last_told : ℕ → Option Event → List Event → Option Event
+last_told q before xs = last_from before (filter (λ x. x.pid.0 == q) xs)
+
+-- what waits for process q after a step of this caller that ended these calls: the last event of q
+-- among them, or else what waited before, but for the caller nothing
+abbrev pub answer_after : List (Option Event) → Pid → List Event → ℕ → Option Event
+answer_after waiting caller ended q =
+    last_told q (if caller.0 == q then None else answer_for waiting q) ended
+
+-- a step that was made: what the hub leaves and tells, which is the answer and then the calls that
+-- ended; and what waits for each process
+pub record Serves (old : LockedView) (e : Entry) (new : LockedView) (answer : Event) : Type 0 where
+  pub ended : List Event
+  pub step : Steps old.hub e new.hub (answer ∷ ended)
+  pub places : length new.waiting ≡ 64
+  pub waiting :
+      (q : ℕ) → q < 64 → answer_for new.waiting q ≡ answer_after old.waiting e.pid ended q
+
+-- ---- an answer is taken
+
+-- nothing waits for process q any longer, and all else is as before
+abbrev pub without_answer : LockedView → ℕ → LockedView
+without_answer l q = record { hub = l.hub; waiting = slice_set l.waiting q None }

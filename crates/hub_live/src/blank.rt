@@ -1,0 +1,107 @@
+//! A hub that has no name yet.
+
+ghost use Rattle.std.specs.Prelude.{◌≡◌, IfOk, IfErr, OnOk, vec_len};
+ghost use Rattle.hub_core.specs.HubView.{RefusesOpening, IsProcs, IsLimit, opened_hub};
+ghost use Rattle.hub_live.specs.Locked.{none_waits};
+ghost use Rattle.hub_live.specs.Calls.{AreSeats};
+
+use crate::desk::Desk;
+use crate::live_hub::LiveHub;
+use crate::locked::Locked;
+use crate::name::{HubName, Terms};
+use crate::rule::{HubTable, Token};
+use crate::seat::{InnerSeat, Seat};
+use crate::words::{Words, draw, open_table};
+use hub_base::Pid;
+use hub_core::{Hub, OpenFault};
+use std::alloc::{AllocError, Global};
+use std::marker::Model;
+use std::sync::Condvar;
+
+/// A hub that has no name yet. To a contract it is the name that it can have, and what is to lie
+/// under its lock.
+#[derive(Drop)]
+pub struct Blank {
+    table: HubTable,
+    token: Token,
+    locked: Locked,
+    wakers: Vec<Condvar>,
+}
+
+impl Model for Blank {
+    ghost use Rattle.hub_live.specs.Name.{name_of};
+    ghost use Rattle.hub_live.specs.Seated.{BlankView};
+
+    ghost Value = { BlankView };
+
+    ghost use Rattle.std.specs.Prelude.{vec_len};
+    ghost use Rattle.hub_live.specs.Seated.{IsBlank};
+
+    ghost view = { λ b.
+        record { name = name_of b.table.shared.table_id b.table.shared.key; locked = b.locked } };
+
+    ghost invariant = { λ b.
+        IsBlank b.table.shared.table_id b.table.shared.key b.locked b.token (vec_len b.wakers) };
+}
+
+/// One for each process.
+fn wakers_of(alloc: Global, procs: u8) -> Result<Vec<Condvar>, AllocError>
+    ensures { IfOk result (λ wakers. vec_len wakers ≡ procs) }
+{
+    let mut wakers = Vec::new(alloc);
+    for _pid in 0..procs {
+        wakers.push(Condvar::new())?;
+    }
+    Ok(wakers)
+}
+
+impl Blank {
+    /// A hub of 1 to 64 processes whose journal may hold 1 to 1,000,000 entries that are no exits,
+    /// and a seat for each process, in order. Nothing is kept where it is refused.
+    pub fn open(alloc: Global, procs: u8, limit: u32) -> Result<(Blank, Vec<Seat>), OpenFault>
+        ensures hub { IfOk result (λ r. r.0.locked ≡ none_waits (opened_hub procs limit)) }
+        ensures terms { IfOk result (λ r. r.0.name.terms ≡ record { procs = procs; limit = limit }) }
+        ensures bounds { OnOk result (IsProcs procs × IsLimit limit) }
+        ensures count { IfOk result (λ r. vec_len r.1 ≡ procs) }
+        ensures seats { IfOk result (λ r. AreSeats r.0.name 0 r.1.items) }
+        ensures err { IfErr result (λ f. RefusesOpening procs limit f) }
+    {
+        let hub = Hub::open(alloc, procs, limit)?;
+        let Ok((table, token)) = open_table(alloc, Terms { procs, limit }) else {
+            return Err(OpenFault::NoMemory);
+        };
+        let Ok(wakers) = wakers_of(alloc, procs) else {
+            return Err(OpenFault::NoMemory);
+        };
+        let mut seats = Vec::new(alloc);
+        for pid in 0..procs {
+            let Ok(token) = draw(&table, u64::from(pid) + 1) else {
+                return Err(OpenFault::NoMemory);
+            };
+            let inner = InnerSeat::of(Pid(pid), token);
+            let Ok(()) = seats.push(Seat::of(inner)) else {
+                return Err(OpenFault::NoMemory);
+            };
+        }
+        let blank = Blank {
+            table,
+            token,
+            locked: Locked::of(hub),
+            wakers,
+        };
+        Ok((blank, seats))
+    }
+
+    /// The hub under its name.
+    pub fn named<K: HubName>(self) -> LiveHub<K>
+        requires { self.name ≡ K.name }
+    {
+        let Blank {
+            table,
+            token,
+            locked,
+            wakers,
+        } = self;
+        LiveHub::of(Words::of(table), Desk::of(locked, token), wakers)
+    }
+}

@@ -1,0 +1,282 @@
+//! What lies under the lock: the locked hub, and the hub's own seat of the table, which has seen
+//! the whole journal.
+//!
+//! A step joins the caller's seat to the hub's before the journal changes and parts it afterwards,
+//! since a store is judged by what the seat that stores knows.
+
+ghost use Rattle.std.specs.Prelude.{◌≡◌, ◌≤◌, ◌<◌, ◌+◌, ◌++◌, ◌∷◌, [], Some, None, true, false, IfOk, IfErr, OnOk, OnErr, IfSome, IfNone, OnSome};
+ghost use mathlib.Core.List.{IsPrefix};
+ghost use Rattle.hub_base.specs.Limits.{most_steps};
+ghost use Rattle.hub_base.specs.Ready.{port_of};
+ghost use Rattle.hub_base.specs.Runs.{state};
+ghost use Rattle.hub_base.specs.Steps.{is_waiting};
+ghost use Rattle.hub_base.specs.Text.{steps_of};
+ghost use Rattle.hub_laws.specs.Journals.{IsLegal};
+ghost use Rattle.hub_laws.specs.OnePort.{number_of, port_touched_by};
+ghost use Rattle.hub_laws.specs.Replies.{own};
+ghost use Rattle.hub_core.specs.HubView.{Refuses, state_of};
+ghost use Rattle.hub_live.specs.Mark.{mark_at};
+ghost use Rattle.hub_live.specs.Locked.{Serves, answer_for, without_answer, IsReplyTo};
+ghost use Rattle.hub_live.specs.Rule.{IsHistory};
+ghost use Rattle.hub_live.specs.Named.{IsToken};
+ghost use Rattle.hub_live.specs.SeatView.{IsFree, own_of};
+ghost use Rattle.hub_live.specs.Seated.{IsAlone, IsDesk};
+ghost use Rattle.hub_live.specs.Calls.{Tells, Gains, Shows, AsksNothing, AskedNothing, StandsIn};
+
+use crate::locked::{Locked, Pids};
+use crate::mark::mark_of;
+use crate::name::HubName;
+use crate::rule::Token;
+use crate::seat::InnerSeat;
+use crate::words::Words;
+use hub_base::{Case, Entry, Event, Fault, Journal, Pid, Port, Step, What};
+use std::marker::{Model, PhantomData};
+
+/// The locked hub, and the hub's own seat. To a contract it is the locked hub.
+#[derive(Drop)]
+pub struct Desk<K: HubName> {
+    locked: Locked,
+    token: Token,
+    of: PhantomData<K>,
+}
+
+impl<K: HubName> Model for Desk<K> {
+    ghost use Rattle.hub_live.specs.Locked.{LockedView};
+
+    ghost Value = { LockedView };
+
+    ghost use Rattle.hub_live.specs.Seated.{IsDesk};
+
+    ghost view = { λ d. d.locked };
+
+    ghost invariant = { λ d. IsDesk K.name d.locked d.token };
+}
+
+fn port_of(case: Case) -> Port
+    ensures { result ≡ port_of case }
+{
+    match case {
+        Case::Send(port, _value) => port,
+        Case::Recv(port) => port,
+    }
+}
+
+/// The port that a step with this answer may have changed, port 0 for none.
+fn touched(step: &Step, answer: What) -> Port
+    ensures { result.0 ≡ number_of (port_touched_by step.now answer) }
+{
+    match (step, answer) {
+        (Step::Make(_), What::Made(port)) => port,
+        (Step::Call { cases, .. }, What::Fired { case, .. }) => {
+            match cases.as_slice().get(usize::from(case)) {
+                Some(case) => port_of(*case),
+                None => Port(0),
+            }
+        }
+        (Step::Close(port), What::Done) => *port,
+        _ => Port(0),
+    }
+}
+
+/// The mark of a port, 0 where it is not made.
+fn mark_at(locked: &Locked, port: Port) -> u64
+    requires legal { IsLegal locked.now.hub.procs locked.now.hub.journal }
+    requires few { steps_of locked.now.hub.journal ≤ most_steps }
+    ensures { result ≡ mark_at (state_of locked.now.hub) port }
+{
+    match locked.look(port) {
+        Some(look) => mark_of(&look.counts),
+        None => 0,
+    }
+}
+
+/// One step, and one store by the joined seat.
+fn step_as<K: HubName>(
+    words: &Words<K>,
+    locked: &mut Locked,
+    hub: &mut Token,
+    mine: Token,
+    entry: Entry,
+) -> (Result<Event, Fault>, Token)
+    requires desk { IsDesk K.name locked.old hub.old }
+    requires token { IsToken K.name mine }
+    requires alone { IsAlone entry.pid mine }
+    requires terms { mine.me.0.terms ≡ K.name.terms }
+    requires free { is_waiting (state K.name.terms.procs mine.me.0.seen) entry.pid.0 ≡ false }
+
+    ensures desk { IsDesk K.name locked.new hub.new }
+    ensures token { IsToken K.name result.1 }
+    ensures alone { IsAlone entry.pid result.1 }
+    ensures terms { result.1.me.0.terms ≡ K.name.terms }
+
+    ensures seen { result.1.me.0.seen ≡ locked.new.hub.journal }
+    ensures history { IsHistory K.name.terms result.1.me.0.seen }
+    ensures begins { IsPrefix mine.me.0.seen result.1.me.0.seen }
+    ensures ok { IfOk result.0 (λ answer. Serves locked.old entry locked.new answer) }
+    ensures own { OnOk result.0 (Gains entry mine.me.0.seen result.1.me.0.seen) }
+    ensures told { IfOk result.0 (λ x. Tells K.name.terms entry.pid result.1.me.0.seen x) }
+    ensures refused { IfErr result.0 (λ f. Refuses locked.old.hub entry f) }
+    ensures shows { IfErr result.0 (λ f. Shows K.name.terms entry result.1.me.0.seen f) }
+    ensures left { OnErr result.0 (AsksNothing K.name.terms entry.pid mine.me.0.seen result.1.me.0.seen) }
+    ensures unchanged { OnErr result.0 (locked.new ≡ locked.old) }
+{
+    words.join(hub, mine);
+    match locked.step(entry.copy()) {
+        Ok(answer) => {
+            let port = touched(&entry.step, answer.what);
+            let mark = mark_at(locked, port);
+            words.publish(hub, usize::from(port.0), mark, &entry);
+            let back = words.part(hub);
+            (Ok(answer), back)
+        }
+        Err(fault) => {
+            let back = words.part(hub);
+            (Err(fault), back)
+        }
+    }
+}
+
+/// The seat sees the journal.
+fn see_as<K: HubName>(
+    words: &Words<K>,
+    locked: &Locked,
+    hub: &mut Token,
+    mine: Token,
+    pid: Pid,
+) -> Token
+    requires desk { IsDesk K.name locked.now hub.old }
+    requires token { IsToken K.name mine }
+    requires alone { IsAlone pid mine }
+    requires terms { mine.me.0.terms ≡ K.name.terms }
+
+    ensures desk { IsDesk K.name locked.now hub.new }
+    ensures token { IsToken K.name result }
+    ensures alone { IsAlone pid result }
+    ensures terms { result.me.0.terms ≡ K.name.terms }
+
+    ensures seen { result.me.0.seen ≡ locked.now.hub.journal }
+    ensures history { IsHistory K.name.terms result.me.0.seen }
+    ensures begins { IsPrefix mine.me.0.seen result.me.0.seen }
+    ensures own { own pid.0 result.me.0.seen ≡ own pid.0 mine.me.0.seen }
+{
+    words.join(hub, mine);
+    words.part(hub)
+}
+
+impl<K: HubName> Desk<K> {
+    pub(crate) fn of(locked: Locked, token: Token) -> Desk<K>
+        requires { IsDesk K.name locked token }
+        ensures { result ≡ locked }
+    {
+        Desk {
+            locked,
+            token,
+            of: PhantomData,
+        }
+    }
+
+    /// Makes and publishes one step of the seat's process, and gives its answer. The seat has then
+    /// seen the journal. Takes no lock.
+    ///
+    /// Refused by `JournalFull`, `Gone` and `NoMemory` alone, tested in this order, with no entry made.
+    pub fn step(
+        &mut self,
+        words: &Words<K>,
+        seat: &mut InnerSeat,
+        entry: Entry,
+    ) -> Result<Event, Fault>
+        requires hub { seat.old.hub ≡ K.name }
+        requires pid { seat.old.pid ≡ entry.pid }
+        requires free { IsFree seat.old }
+
+        ensures same { (seat.new.hub ≡ seat.old.hub) × (seat.new.pid ≡ seat.old.pid) }
+        ensures seen { seat.new.seen ≡ self.new.hub.journal }
+        ensures history { IsHistory K.name.terms seat.new.seen }
+        ensures begins { IsPrefix seat.old.seen seat.new.seen }
+
+        ensures ok { IfOk result (λ answer. Serves self.old entry self.new answer) }
+        ensures own { OnOk result (own_of seat.new ≡ own_of seat.old ++ entry ∷ []) }
+        ensures told { IfOk result (λ x. Tells K.name.terms entry.pid seat.new.seen x) }
+
+        ensures refused { IfErr result (λ f. Refuses self.old.hub entry f) }
+        ensures shows { IfErr result (λ f. Shows K.name.terms entry seat.new.seen f) }
+        ensures left { OnErr result (AskedNothing seat.old seat.new) }
+        ensures unchanged { OnErr result (self.new ≡ self.old) }
+    {
+        let Some(mine) = seat.token.take() else {
+            unreachable!()
+        };
+        let (done, back) = step_as(words, &mut self.locked, &mut self.token, mine, entry);
+        seat.token = Some(back);
+        done
+    }
+
+    /// Takes out the answer that waits for the seat's process, if one does; the seat has then seen
+    /// the journal. Takes no lock.
+    pub fn pick(&mut self, words: &Words<K>, seat: &mut InnerSeat) -> Option<Event>
+        requires hub { seat.old.hub ≡ K.name }
+
+        ensures same { (seat.new.hub ≡ seat.old.hub) × (seat.new.pid ≡ seat.old.pid) }
+        ensures answer { result ≡ answer_for self.old.waiting seat.old.pid.0 }
+        ensures taken { self.new ≡ without_answer self.old seat.old.pid.0 }
+        ensures none { IfNone result ((self.new ≡ self.old) × (seat.new ≡ seat.old)) }
+
+        ensures told { IfSome result (λ x.
+            IsReplyTo K.name.terms.procs seat.old.pid.0 seat.new.seen x) }
+        ensures seen { OnSome result (seat.new.seen ≡ self.new.hub.journal) }
+        ensures history { OnSome result (IsHistory K.name.terms seat.new.seen) }
+        ensures begins { OnSome result (IsPrefix seat.old.seen seat.new.seen) }
+        ensures own { OnSome result (own_of seat.new ≡ own_of seat.old) }
+    {
+        let pid = seat.pid;
+        let Some(mine) = seat.token.take() else {
+            unreachable!()
+        };
+        match self.locked.take(pid) {
+            Some(answer) => {
+                let back = see_as(words, &self.locked, &mut self.token, mine, pid);
+                seat.token = Some(back);
+                Some(answer)
+            }
+            None => {
+                seat.token = Some(mine);
+                None
+            }
+        }
+    }
+
+    /// Whose calls the last step ended, told once.
+    pub(crate) fn take_answered(&mut self) -> Pids
+        ensures { self.new ≡ self.old }
+    {
+        self.locked.take_answered()
+    }
+
+    /// Shows that the journal begins with what the seat has seen, and that its process asked nothing
+    /// more in it.
+    #[tactic(auto, using(crate::proofs::Refusals::stands_in))]
+    pub(crate) fn compare(&mut self, words: &Words<K>, seat: InnerSeat)
+        requires hub { seat.hub ≡ K.name }
+        requires free { IsFree seat }
+        ensures same { self.new ≡ self.old }
+        ensures stands { StandsIn seat self.new.hub.journal }
+    {
+        let InnerSeat { pid, token } = seat;
+        let Some(mine) = token else { unreachable!() };
+        see_as(words, &self.locked, &mut self.token, mine, pid);
+    }
+
+    /// The journal. Answers that wait are dropped.
+    pub(crate) fn into_journal(self) -> Journal
+        ensures journal { result ≡ record { procs = K.name.terms.procs; entries = self.hub.journal } }
+        ensures legal { IsLegal K.name.terms.procs self.hub.journal }
+        ensures few { steps_of self.hub.journal ≤ K.name.terms.limit }
+    {
+        let Desk {
+            locked,
+            token: _,
+            of: _,
+        } = self;
+        locked.into_journal()
+    }
+}

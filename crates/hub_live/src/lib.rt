@@ -1,0 +1,23 @@
+//! A hub of channels that threads share: steps under a lock, and looks without it.
+#![tactic(auto)]
+
+mod blank;
+mod desk;
+mod ends;
+mod live_hub;
+mod locked;
+mod mark;
+mod name;
+mod rule;
+mod seat;
+#[cfg(test)]
+mod tests;
+pub mod under_lock;
+mod words;
+
+pub use blank::Blank;
+pub use ends::{Chan, RecvPort, SendPort};
+pub use live_hub::LiveHub;
+pub use mark::mark_of;
+pub use name::{HubName, Terms};
+pub use seat::Seat;

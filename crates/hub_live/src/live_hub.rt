@@ -1,0 +1,274 @@
+//! A hub that threads share. Steps take its lock; looks and meetings take none.
+
+ghost use Rattle.std.specs.Prelude.{◌≡◌, ◌<◌, ◌≤◌, Some, IfOk, IfErr, All, vec_len};
+ghost use Rattle.hub_base.specs.declared.entry.Step.TheVariants.{Make, Call, Close, Exit};
+ghost use Rattle.hub_base.specs.Text.{steps_of};
+ghost use Rattle.hub_laws.specs.Journals.{IsLegal};
+ghost use Rattle.hub_laws.specs.Replies.{is_parked};
+ghost use Rattle.hub_live.specs.Mark.{counts_at};
+ghost use Rattle.hub_live.specs.Named.{IsToken};
+ghost use Rattle.hub_live.specs.SeatView.{IsIdle, state_seen};
+ghost use Rattle.hub_live.specs.Seated.{IsAlone, seat_of};
+ghost use Rattle.hub_live.specs.Calls.{Later, Made, Refused, MadeEntry, RefusedEntry, AskedNothing, StandsIn};
+
+use crate::desk::Desk;
+use crate::ends::SendPort;
+use crate::locked::Pids;
+use crate::mark::read_back;
+use crate::name::HubName;
+use crate::rule::Token;
+use crate::seat::Seat;
+use crate::words::Words;
+use hub_base::{Cases, Counts, Entry, Event, Fault, Journal, Pid, Port, Step, What};
+use std::sync::{Condvar, Mutex, Wait};
+
+/// A hub that threads share.
+#[derive(Drop)]
+pub struct LiveHub<K: HubName> {
+    words: Words<K>,
+    desk: Mutex<Desk<K>>,
+    /// By process number: told when an answer waits for that process. A wake is only a hint: a call
+    /// ends where it finds its own answer.
+    wakers: Vec<Condvar>,
+    ghost is: { vec_len wakers ≡ K.name.terms.procs },
+}
+
+fn is_parked(what: What) -> bool
+    ensures { result ≡ is_parked what }
+{
+    matches!(what, What::Parked)
+}
+
+/// One load: the counts of a port in the journal, which the seat has then seen.
+fn look_as<K: HubName>(
+    words: &Words<K>,
+    mut mine: Token,
+    pid: Pid,
+    port: Port,
+) -> (Option<Counts>, Token)
+    requires token { IsToken K.name mine }
+    requires alone { IsAlone pid mine }
+    requires terms { mine.me.0.terms ≡ K.name.terms }
+    requires idle { IsIdle (seat_of pid (Some mine)) }
+    requires port { (0 < port.0) × (port.0 < 65) }
+    ensures alone { IsAlone pid result.1 }
+    ensures later { Later (seat_of pid (Some mine)) (seat_of pid (Some result.1)) }
+    ensures same { AskedNothing (seat_of pid (Some mine)) (seat_of pid (Some result.1)) }
+    ensures counts { result.0 ≡ counts_at (state_seen (seat_of pid (Some result.1))) port }
+{
+    let mark = words.look(&mut mine, usize::from(port.0));
+    (read_back(mark), mine)
+}
+
+/// Three loads: both seats have then seen one journal.
+fn meet_as<K: HubName>(
+    words: &Words<K>,
+    mut one: Token,
+    pid: Pid,
+    two: Token,
+    other: Pid,
+) -> (Token, Token)
+    requires one { IsToken K.name one × IsAlone pid one × (one.me.0.terms ≡ K.name.terms) }
+    requires two { IsToken K.name two × IsAlone other two × (two.me.0.terms ≡ K.name.terms) }
+    requires idle { IsIdle (seat_of pid (Some one)) × IsIdle (seat_of other (Some two)) }
+    ensures alone { IsAlone pid result.0 × IsAlone other result.1 }
+    ensures same { result.0.me.0.seen ≡ result.1.me.0.seen }
+    ensures one { Later (seat_of pid (Some one)) (seat_of pid (Some result.0)) }
+    ensures one_same { AskedNothing (seat_of pid (Some one)) (seat_of pid (Some result.0)) }
+    ensures two { Later (seat_of other (Some two)) (seat_of other (Some result.1)) }
+    ensures two_same { AskedNothing (seat_of other (Some two)) (seat_of other (Some result.1)) }
+{
+    words.join(&mut one, two);
+    let two = words.part(&mut one);
+    (one, two)
+}
+
+impl<K: HubName> LiveHub<K> {
+    pub(crate) fn of(words: Words<K>, desk: Desk<K>, wakers: Vec<Condvar>) -> LiveHub<K>
+        requires { vec_len wakers ≡ K.name.terms.procs }
+    {
+        LiveHub {
+            words,
+            desk: Mutex::new(desk),
+            wakers,
+        }
+    }
+
+    /// Wakes the processes whose calls ended, and no others.
+    fn wake(&self, answered: &Pids) {
+        for pid in answered.as_slice() {
+            if let Some(waker) = self.wakers.get(usize::from(pid.0)) {
+                waker.notify_one();
+            }
+        }
+    }
+
+    /// Makes a step, and waits where it parks.
+    fn ask<R: Wait>(&self, rt: &R, seat: &mut Seat, entry: Entry) -> Result<Event, Fault>
+        requires hub { seat.old.hub ≡ K.name }
+        requires pid { seat.old.pid ≡ entry.pid }
+        ensures later { Later seat.old seat.new }
+        ensures ok { IfOk result (λ x. MadeEntry seat.old seat.new entry x) }
+        ensures err { IfErr result (λ f. RefusedEntry seat.old seat.new entry f) }
+    {
+        let waker = &self.wakers[usize::from(seat.pid().0)];
+        let mut desk = self.desk.lock(rt);
+        let answer = desk.step(&self.words, &mut seat.inner, entry)?;
+        let answered = desk.take_answered();
+        if !is_parked(answer.what) {
+            // Those who wake find the lock free.
+            drop(desk);
+            self.wake(&answered);
+            return Ok(answer);
+        }
+        self.wake(&answered);
+        for _ in rt.forever() {
+            // A `Stalled` of its own may lie there already.
+            if let Some(answer) = desk.pick(&self.words, &mut seat.inner) {
+                return Ok(answer);
+            }
+            desk = waker.wait(rt, desk);
+        }
+        unreachable!()
+    }
+
+    /// Makes a call, and waits until it is answered. The event is never `What::Parked`.
+    ///
+    /// Refused by `JournalFull`, `Gone` and `NoMemory` alone, tested in this order, with no entry made.
+    /// Go: "Select statements".
+    pub fn call<R: Wait>(
+        &self,
+        rt: &R,
+        seat: &mut Seat,
+        cases: Cases,
+        default: bool,
+        word: u64,
+    ) -> Result<Event, Fault>
+        requires { seat.old.hub ≡ K.name }
+        ensures later { Later seat.old seat.new }
+        ensures ok { IfOk result (λ x. Made seat.old seat.new (Call cases default word) x) }
+        ensures err { IfErr result (λ f. Refused seat.old seat.new (Call cases default word) f) }
+    {
+        let pid = seat.pid();
+        let step = Step::Call {
+            cases,
+            default,
+            word,
+        };
+        self.ask(rt, seat, Entry { pid, step })
+    }
+
+    /// Makes a port of this capacity. Refused as a call is.
+    pub fn make<R: Wait>(&self, rt: &R, seat: &mut Seat, cap: u32) -> Result<Event, Fault>
+        requires { seat.old.hub ≡ K.name }
+        ensures later { Later seat.old seat.new }
+        ensures ok { IfOk result (λ x. Made seat.old seat.new (Make cap) x) }
+        ensures err { IfErr result (λ f. Refused seat.old seat.new (Make cap) f) }
+    {
+        let pid = seat.pid();
+        let step = Step::Make(cap);
+        self.ask(rt, seat, Entry { pid, step })
+    }
+
+    /// Closes a port, by its end that sends. Refused as a call is. Go: "Close".
+    pub fn close<R: Wait>(&self, rt: &R, seat: &mut Seat, sender: &SendPort) -> Result<Event, Fault>
+        requires { seat.old.hub ≡ K.name }
+        ensures later { Later seat.old seat.new }
+        ensures ok { IfOk result (λ x. Made seat.old seat.new (Close sender.now) x) }
+        ensures err { IfErr result (λ f. Refused seat.old seat.new (Close sender.now) f) }
+    {
+        let pid = seat.pid();
+        let step = Step::Close(sender.port());
+        self.ask(rt, seat, Entry { pid, step })
+    }
+
+    /// Ends the process. Refused by `Gone` alone, where it has ended before.
+    pub fn exit<R: Wait>(&self, rt: &R, seat: &mut Seat) -> Result<Event, Fault>
+        requires { seat.old.hub ≡ K.name }
+        ensures later { Later seat.old seat.new }
+        ensures ok { IfOk result (λ x. Made seat.old seat.new Exit x) }
+        ensures err { IfErr result (λ f. Refused seat.old seat.new Exit f) }
+    {
+        let pid = seat.pid();
+        let step = Step::Exit;
+        self.ask(rt, seat, Entry { pid, step })
+    }
+
+    /// The counts of a port in the journal that the seat has then seen: by at most one load, with no
+    /// lock and no memory. `None` for port 0 and for a port that is not made there. Go: "Length and
+    /// capacity".
+    pub fn look(&self, seat: &mut Seat, port: Port) -> Option<Counts>
+        requires { seat.old.hub ≡ K.name }
+        ensures later { Later seat.old seat.new }
+        ensures same { AskedNothing seat.old seat.new }
+        ensures counts { result ≡ counts_at (state_seen seat.new) port }
+    {
+        // That the seat is idle is told where its process is.
+        let _pid = seat.pid();
+        if port.0 == 0 || port.0 > 64 {
+            return None;
+        }
+        self.load(seat, port)
+    }
+
+    /// The counts of a port that has a word.
+    fn load(&self, seat: &mut Seat, port: Port) -> Option<Counts>
+        requires hub { seat.old.hub ≡ K.name }
+        requires port { (0 < port.0) × (port.0 < 65) }
+        ensures later { Later seat.old seat.new }
+        ensures same { AskedNothing seat.old seat.new }
+        ensures counts { result ≡ counts_at (state_seen seat.new) port }
+    {
+        let pid = seat.inner.pid;
+        let Some(mine) = seat.inner.token.take() else {
+            unreachable!()
+        };
+        let (counts, mine) = look_as(&self.words, mine, pid, port);
+        seat.inner.token = Some(mine);
+        counts
+    }
+
+    /// Both seats then stand at one journal: by three loads, with no lock and no memory.
+    pub fn meet(&self, first: &mut Seat, second: &mut Seat)
+        requires first { first.old.hub ≡ K.name }
+        requires second { second.old.hub ≡ K.name }
+        ensures one { first.new.seen ≡ second.new.seen }
+        ensures first { Later first.old first.new }
+        ensures first_same { AskedNothing first.old first.new }
+        ensures second { Later second.old second.new }
+        ensures second_same { AskedNothing second.old second.new }
+    {
+        let pid = first.inner.pid;
+        let Some(one) = first.inner.token.take() else {
+            unreachable!()
+        };
+        let other = second.inner.pid;
+        let Some(two) = second.inner.token.take() else {
+            unreachable!()
+        };
+        let (one, two) = meet_as(&self.words, one, pid, two, other);
+        first.inner.token = Some(one);
+        second.inner.token = Some(two);
+    }
+
+    /// The journal. It begins with what each of these seats has seen, and their processes asked nothing
+    /// more in it. Waits for nobody.
+    pub fn finish(self, seats: Vec<Seat>) -> Journal
+        requires { All (λ s. s.hub ≡ K.name) seats.items }
+        ensures procs { result.procs ≡ K.name.terms.procs }
+        ensures legal { IsLegal result.procs result.entries }
+        ensures few { steps_of result.entries ≤ K.name.terms.limit }
+        ensures seats { All (λ s. StandsIn s result.entries) seats.items }
+    {
+        let LiveHub {
+            words,
+            desk,
+            wakers: _,
+        } = self;
+        let mut desk = desk.into_inner();
+        for seat in seats {
+            desk.compare(&words, seat.into_inner());
+        }
+        desk.into_journal()
+    }
+}

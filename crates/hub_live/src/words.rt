@@ -1,0 +1,140 @@
+//! The words that threads share, and the steps that seats make on them.
+
+ghost use Rattle.std.specs.Prelude.{◌≡◌, ◌<◌, ◌+◌, [], ◌∷◌, ◌++◌, Some, None, IsSome, IfOk};
+ghost use Rattle.hub_live.specs.Mark.{mark, MarksOne};
+ghost use Rattle.hub_live.specs.Rule.{IsHistory, blank, next_word, word_count};
+ghost use Rattle.hub_live.specs.Moves.{Sees, grown, numbered, with_joined, parted, given_back};
+ghost use Rattle.hub_live.specs.Named.{IsTableOf, IsNewTable, IsToken};
+
+use crate::name::{HubName, Terms};
+use crate::rule::{
+    DrawStep, EnterStep, HubTable, LookStep, NamesEntry, PublishStep, TakesIn, Token,
+};
+use hub_base::Entry;
+use std::alloc::{AllocError, Global};
+use std::marker::{Brand, PhantomData};
+
+/// The word that holds the next number to be drawn.
+const NEXT: usize = 65;
+
+/// The words of the hub that `K` names.
+#[derive(Drop)]
+pub struct Words<K: HubName> {
+    table: HubTable,
+    of: PhantomData<K>,
+    ghost is: { IsTableOf K.name table.shared.table_id table.shared.key },
+}
+
+impl<K: HubName> Words<K> {
+    pub(crate) fn of(table: HubTable) -> Words<K>
+        requires { IsTableOf K.name table.shared.table_id table.shared.key }
+    {
+        Words {
+            table,
+            of: PhantomData,
+        }
+    }
+
+    fn publish_as<E: NamesEntry>(&self, token: &mut Token, word: usize, mark: u64, entry: &Entry)
+        requires named { entry.now ≡ E.entry }
+        requires token { IsToken K.name token.old }
+        requires hub { token.old.me.0.number ≡ Some 0 }
+        requires caller { token.old.me.0.joined ≡ Some (entry.now.pid.0 + 1) }
+        requires history { IsHistory K.name.terms (token.old.me.0.seen ++ entry.now ∷ []) }
+        requires word { word < next_word }
+        requires mark { MarksOne K.name.terms.procs token.old.me.0.seen entry.now word mark }
+        ensures same { (token.new.table_id ≡ token.old.table_id) × (token.new.me.1 ≡ []) }
+        ensures view { token.new.me.0 ≡ grown token.old.me.0 entry.now }
+    {
+        self.table.shared.store::<PublishStep<E>>(token, word, mark);
+    }
+
+    /// PublishStep an entry by one store: of the mark that it changes, or to word 0 where it changes
+    /// none. The seat is the hub's, joined to that of the entry's process.
+    pub(crate) fn publish(&self, token: &mut Token, word: usize, mark: u64, entry: &Entry)
+        requires token { IsToken K.name token.old }
+        requires hub { token.old.me.0.number ≡ Some 0 }
+        requires caller { token.old.me.0.joined ≡ Some (entry.now.pid.0 + 1) }
+        requires history { IsHistory K.name.terms (token.old.me.0.seen ++ entry.now ∷ []) }
+        requires word { word < next_word }
+        requires mark { MarksOne K.name.terms.procs token.old.me.0.seen entry.now word mark }
+        ensures same { (token.new.table_id ≡ token.old.table_id) × (token.new.me.1 ≡ []) }
+        ensures view { token.new.me.0 ≡ grown token.old.me.0 entry.now }
+    {
+        self.publish_as::<Brand>(token, word, mark, entry);
+    }
+
+    /// One load: the seat has then seen the journal, whose mark of this port is given.
+    pub(crate) fn look(&self, token: &mut Token, word: usize) -> u64
+        requires token { IsToken K.name token.old }
+        requires number { IsSome token.old.me.0.number }
+        requires word { word < next_word }
+        ensures same { (token.new.table_id ≡ token.old.table_id) × (token.new.me.1 ≡ []) }
+        ensures sees { Sees token.old.me.0 token.new.me.0 }
+        ensures mark { 0 < word → result ≡ mark token.old.me.0.terms.procs token.new.me.0.seen word }
+    {
+        self.table.shared.load::<LookStep>(token, word)
+    }
+
+    /// Two loads: the seat takes in the other, and both have then seen the journal.
+    pub(crate) fn join(&self, token: &mut Token, other: Token)
+        requires token { IsToken K.name token.old × IsSome token.old.me.0.number }
+        requires other { IsToken K.name other × IsSome other.me.0.number }
+        requires alone { other.me.0.joined ≡ None }
+        requires terms { token.old.me.0.terms ≡ other.me.0.terms }
+        ensures same { (token.new.table_id ≡ token.old.table_id) × (token.new.me.1 ≡ []) }
+        ensures sees { Sees (with_joined token.old.me.0 other.me.0) token.new.me.0 }
+    {
+        self.table.shared.join_seat::<TakesIn>(token, other);
+        // A join tells nothing of the words; the look does.
+        self.look(token, 0);
+    }
+
+    /// One load: the seat that was taken in is given back.
+    pub(crate) fn part(&self, token: &mut Token) -> Token
+        requires token { IsToken K.name token.old × IsSome token.old.me.0.joined }
+        ensures same { token.new.table_id ≡ token.old.table_id }
+        ensures left { token.new.me ≡ (parted token.old.me.0, []) }
+        ensures table { result.table_id ≡ token.old.table_id }
+        ensures back { result.me ≡ (given_back token.old.me.0, []) }
+    {
+        self.table.shared.split_seat::<TakesIn>(token)
+    }
+}
+
+/// A table with all marks 0, and the hub's own seat, which has drawn its number. Refused too where
+/// the word holds another number.
+pub(crate) fn open_table(alloc: Global, terms: Terms) -> Result<(HubTable, Token), AllocError>
+    ensures made { IfOk result (λ r. IsNewTable r.0.shared.table_id terms r.0.shared.key) }
+    ensures table { IfOk result (λ r. r.1.table_id ≡ r.0.shared.table_id) }
+    ensures seat { IfOk result (λ r. r.1.me ≡ (numbered (blank terms) 0, [])) }
+{
+    let (table, mut token) = HubTable::of_words(alloc, &[0; 66], &terms)?;
+    if table
+        .shared
+        .compare_exchange::<DrawStep>(&mut token, NEXT, 0, 1)
+        != 0
+    {
+        return Err(AllocError);
+    }
+    Ok((table, token))
+}
+
+/// A new seat, which has drawn this number. Refused where the word holds another.
+pub(crate) fn draw(table: &HubTable, number: u64) -> Result<Token, AllocError>
+    requires words { table.now.shared.table_id.words ≡ word_count }
+    requires slots { table.now.shared.table_id.slots ≡ 0 }
+    requires number { number < 256 }
+    ensures table { IfOk result (λ t. t.table_id ≡ table.now.shared.table_id) }
+    ensures seat { IfOk result (λ t. t.me ≡ (numbered (blank table.now.shared.key) number, [])) }
+{
+    let (_found, mut token) = table.shared.load_new_seat::<EnterStep>(NEXT);
+    if table
+        .shared
+        .compare_exchange::<DrawStep>(&mut token, NEXT, number, number + 1)
+        != number
+    {
+        return Err(AllocError);
+    }
+    Ok(token)
+}

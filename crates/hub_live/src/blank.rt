@@ -1,6 +1,6 @@
 //! A hub that has no name yet.
 
-ghost use Rattle.std.specs.Prelude.{◌≡◌, IfOk, IfErr, OnOk, vec_len};
+ghost use Rattle.std.specs.Prelude.{◌≡◌, IfOk, IfErr, OnOk, All, vec_len};
 ghost use Rattle.hub_core.specs.HubView.{RefusesOpening, IsProcs, IsLimit, opened_hub};
 ghost use Rattle.hub_live.specs.Locked.{none_waits};
 ghost use Rattle.hub_live.specs.Calls.{AreSeats};
@@ -58,12 +58,14 @@ fn wakers_of(alloc: Global, procs: u8) -> Result<Vec<Condvar>, AllocError>
 impl Blank {
     /// A hub of 1 to 64 processes whose journal may hold 1 to 1,000,000 entries that are no exits,
     /// and a seat for each process, in order. Nothing is kept where it is refused.
+    #[tactic(auto, using(crate::proofs::Laters::all_of_hub))]
     pub fn open(alloc: Global, procs: u8, limit: u32) -> Result<(Blank, Vec<Seat>), OpenFault>
         ensures hub { IfOk result (λ r. r.0.locked ≡ none_waits (opened_hub procs limit)) }
         ensures terms { IfOk result (λ r. r.0.name.terms ≡ record { procs = procs; limit = limit }) }
         ensures bounds { OnOk result (IsProcs procs × IsLimit limit) }
         ensures count { IfOk result (λ r. vec_len r.1 ≡ procs) }
         ensures seats { IfOk result (λ r. AreSeats r.0.name 0 r.1.items) }
+        ensures together { IfOk result (λ r. All (λ s. s.hub ≡ r.0.name) r.1.items) }
         ensures err { IfErr result (λ f. RefusesOpening procs limit f) }
     {
         let hub = Hub::open(alloc, procs, limit)?;

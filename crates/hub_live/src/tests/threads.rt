@@ -17,13 +17,6 @@ use std::thread::Threads;
 /// How often each of these tests runs.
 const TIMES: u32 = 100;
 
-#[tactic(auto, using(crate::proofs::Laters::all_of_hub))]
-fn hold<K: HubName>(alloc: Global, seats: Vec<Seat>) -> Result<Vec<Held<K>>, AllocError>
-    requires { AreSeats K.name 0 seats.items }
-{
-    held_of(alloc, seats)
-}
-
 fn held_of<K: HubName>(alloc: Global, seats: Vec<Seat>) -> Result<Vec<Held<K>>, AllocError>
     requires { All (λ s. s.hub ≡ K.name) seats.items }
 {
@@ -103,10 +96,10 @@ fn stall_in_threads<K: HubName + Send + Sync, R: Threads + Wait + Abort + Sync>(
     seats: Vec<Seat>,
 ) -> Result<(), Fail>
     requires named { blank.name ≡ K.name }
-    requires seats { AreSeats K.name 0 seats.items }
+    requires seats { All (λ s. s.hub ≡ K.name) seats.items }
 {
     let hub = blank.named::<K>();
-    let held = hold::<K>(alloc, seats)?;
+    let held = held_of::<K>(alloc, seats)?;
     let mut held = run_all(rt, alloc, &hub, held, Plan::Stall).ok_or("no thread")?;
     let second = held.pop().ok_or("two threads")?;
     let first = held.pop().ok_or("two threads")?;
@@ -168,10 +161,10 @@ fn watch_in_threads<K: HubName + Send + Sync, R: Threads + Wait + Abort + Sync>(
     seats: Vec<Seat>,
 ) -> Result<(), Fail>
     requires named { blank.name ≡ K.name }
-    requires seats { AreSeats K.name 0 seats.items }
+    requires seats { All (λ s. s.hub ≡ K.name) seats.items }
 {
     let hub = blank.named::<K>();
-    let held = hold::<K>(alloc, seats)?;
+    let held = held_of::<K>(alloc, seats)?;
     let held = run_all(rt, alloc, &hub, held, Plan::Watch(1000)).ok_or("no thread")?;
     assert_eq!(rt; held.len(), 64);
     find_all(rt, &hub, held)?;

@@ -44,7 +44,7 @@ impl Model for Blank {
         IsBlank b.table.shared.table_id b.table.shared.key b.locked b.token (vec_len b.wakers) };
 }
 
-/// One for each process.
+/// A condition variable for each process.
 fn wakers_of(alloc: Global, procs: u8) -> Result<Vec<Condvar>, AllocError>
     ensures { IfOk result (λ wakers. vec_len wakers ≡ procs) }
 {
@@ -57,7 +57,8 @@ fn wakers_of(alloc: Global, procs: u8) -> Result<Vec<Condvar>, AllocError>
 
 impl Blank {
     /// A hub of 1 to 64 processes whose journal may hold 1 to 1,000,000 entries that are no exits,
-    /// and a seat for each process, in order. Nothing is kept where it is refused.
+    /// and a seat for each process, in order. Nothing is kept where it is refused; `NoMemory` also
+    /// comes where a seat can't draw its number.
     #[tactic(auto, using(crate::proofs::Laters::all_of_hub))]
     pub fn open(alloc: Global, procs: u8, limit: u32) -> Result<(Blank, Vec<Seat>), OpenFault>
         ensures hub { IfOk result (λ r. r.0.locked ≡ none_waits (opened_hub procs limit)) }

@@ -228,7 +228,7 @@ impl<K: HubName> LiveHub<K> {
         counts
     }
 
-    /// Both seats then stand at one journal: by three loads, with no lock and no memory.
+    /// Both seats have then seen one journal: by three loads, with no lock and no memory.
     pub fn meet(&self, first: &mut Seat, second: &mut Seat)
         requires first { first.old.hub ≡ K.name }
         requires second { second.old.hub ≡ K.name }

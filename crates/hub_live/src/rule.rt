@@ -53,7 +53,7 @@ impl Play<(), View> for EnterStep {
     ghost then = { Entered };
 }
 
-/// DrawStep the seat's number.
+/// Draws the seat's number.
 pub(crate) struct DrawStep;
 
 impl Play<(), View> for DrawStep {

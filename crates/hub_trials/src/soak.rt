@@ -1,0 +1,178 @@
+//! Rounds of random calls in 64 threads, each compared with the replay of its journal.
+
+ghost use Rattle.std.specs.Prelude.{◌≡◌, All, IfOk, OnOk};
+ghost use Rattle.hub_trials.specs.Answers.{answers_to};
+
+use crate::answers::first_wrong;
+use crate::chances::Chances;
+use crate::crew::{Held, open, run_all};
+use crate::random_calls::{RandomCalls, Until};
+use crate::trouble::Trouble;
+use hub_base::{Event, Pid};
+use hub_core::run;
+use hub_live::{Blank, HubName, LiveHub, Seat};
+use std::alloc::{AllocError, Global};
+use std::marker::Brand;
+use std::sync::Wait;
+use std::thread::Threads;
+use std::time::{Clock, Duration, Instant};
+
+const PROCS: u8 = 64;
+
+const LIMIT: u32 = 100_000;
+
+/// How much was tried.
+#[derive(Clone, Copy, Debug, PartialEq, Eq)]
+pub struct Tally {
+    pub rounds: u64,
+    pub answers: u64,
+    pub seconds: u64,
+}
+
+/// A process, and its calls.
+#[derive(Drop)]
+struct Called {
+    pid: Pid,
+    calls: RandomCalls,
+}
+
+/// A seat with random calls before it. Process 0 makes the ports.
+fn seated<K: HubName, R: Wait>(
+    rt: &R,
+    alloc: Global,
+    hub: &LiveHub<K>,
+    seat: Seat,
+    seed: u64,
+    until: Until,
+) -> Result<Held<K, RandomCalls>, Trouble>
+    requires { seat.hub ≡ K.name }
+{
+    let mut seat = seat;
+    let pid = seat.pid().0;
+    let mut calls = RandomCalls::new(alloc, seed.wrapping_add(u64::from(pid)), until)?;
+    if pid == 0 && calls.make_ports(rt, hub, &mut seat).is_err() {
+        return Err(Trouble::NoMemory);
+    }
+    Ok(Held::of(seat, calls))
+}
+
+fn crew_of<K: HubName, R: Wait>(
+    rt: &R,
+    alloc: Global,
+    hub: &LiveHub<K>,
+    seats: Vec<Seat>,
+    seed: u64,
+    until: Until,
+) -> Result<Vec<Held<K, RandomCalls>>, Trouble>
+    requires { All (λ s. s.hub ≡ K.name) seats.items }
+{
+    let mut crew = Vec::new(alloc);
+    for seat in seats {
+        let held = seated(rt, alloc, hub, seat, seed, until)?;
+        crew.push(held).map_err(AllocError::from)?;
+    }
+    Ok(crew)
+}
+
+/// The seats and the calls of some processes.
+fn parted<K: HubName>(
+    alloc: Global,
+    crew: Vec<Held<K, RandomCalls>>,
+) -> Result<(Vec<Seat>, Vec<Called>), AllocError>
+    ensures { IfOk result (λ r. All (λ s. s.hub ≡ K.name) r.0.items) }
+{
+    let mut seats = Vec::new(alloc);
+    let mut all = Vec::new(alloc);
+    for held in crew {
+        let (seat, calls) = held.into_parts();
+        let pid = seat.pid();
+        seats.push(seat)?;
+        all.push(Called { pid, calls })?;
+    }
+    Ok((seats, all))
+}
+
+/// Whether each process was answered as these events say.
+fn compare(alloc: Global, all: &[Called], events: &[Event]) -> Result<(), Trouble>
+    ensures { OnOk result (All (λ c. c.calls.told.items ≡ answers_to c.pid events.now) all.now) }
+{
+    for called in all {
+        let pid = called.pid;
+        if let Some(place) = first_wrong(alloc, pid, called.calls.told(), events)? {
+            return Err(Trouble::Differs { pid: pid.0, place });
+        }
+    }
+    Ok(())
+}
+
+fn answers_of(all: &[Called]) -> u64 {
+    let mut answers = 0u64;
+    for called in all {
+        answers = answers.wrapping_add(called.calls.told().len() as u64);
+    }
+    answers
+}
+
+/// One hub with its threads, and the comparison. The number of answers.
+fn in_round<K: HubName + Send + Sync, R: Threads + Wait + Clock + Sync>(
+    rt: &R,
+    alloc: Global,
+    blank: Blank,
+    seats: Vec<Seat>,
+    seed: u64,
+    until: Until,
+) -> Result<u64, Trouble>
+    requires named { blank.name ≡ K.name }
+    requires seats { All (λ s. s.hub ≡ K.name) seats.items }
+{
+    let hub = blank.named::<K>();
+    let crew = crew_of::<K, R>(rt, alloc, &hub, seats, seed, until)?;
+    let (crew, _took) = run_all(rt, alloc, &hub, crew).ok_or(Trouble::NotStarted)?;
+    let (seats, all) = parted(alloc, crew)?;
+    let journal = hub.finish(seats);
+    let Ok((_hub, events)) = run(alloc, journal.procs(), LIMIT, journal.entries()) else {
+        return Err(Trouble::NoReplay);
+    };
+    compare(alloc, all.as_slice(), events.as_slice())?;
+    Ok(answers_of(all.as_slice()))
+}
+
+fn round<R: Threads + Wait + Clock + Sync>(
+    rt: &R,
+    alloc: Global,
+    seed: u64,
+    until: Until,
+) -> Result<u64, Trouble> {
+    let (blank, seats) = open(alloc, PROCS, LIMIT)?;
+    in_round::<Brand, R>(rt, alloc, blank, seats, seed, until)
+}
+
+/// Round after round until so many seconds have gone, one round at least.
+pub fn soak<R: Threads + Wait + Clock + Sync>(
+    rt: &R,
+    alloc: Global,
+    seconds: u64,
+    seed: u64,
+) -> Result<Tally, Trouble> {
+    let began = Instant::now(rt)?;
+    let until = Until {
+        began,
+        limit: Duration::from_secs(seconds),
+    };
+    let mut seeds = Chances::of(seed);
+    let mut tally = Tally {
+        rounds: 0,
+        answers: 0,
+        seconds: 0,
+    };
+    for _ in rt.forever() {
+        let answers = round(rt, alloc, seeds.word(), until)?;
+        tally.rounds = tally.rounds.wrapping_add(1);
+        tally.answers = tally.answers.wrapping_add(answers);
+        if until.is_over(rt) {
+            break;
+        }
+    }
+    tally.seconds = began.elapsed(rt)?.as_secs();
+    Ok(tally)
+}

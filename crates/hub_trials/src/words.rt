@@ -1,0 +1,58 @@
+//! What the program is asked for.
+
+ghost use Rattle.std.specs.Prelude.{◌≤◌, IsSome};
+
+use std::convert::AsStr;
+
+/// What the program is asked for.
+#[derive(Clone, Copy, Debug, PartialEq, Eq)]
+pub enum Trial {
+    /// Rounds of random calls for so many seconds.
+    Soak { seconds: u64, seed: u64 },
+    /// So many runs of each workload, each of so many calls.
+    Times { calls: u32, runs: u32 },
+}
+
+const CALLS: u32 = 200_000;
+
+const RUNS: u32 = 10;
+
+/// So many calls, and a few ports, have room in a journal.
+const MOST_CALLS: u32 = 900_000;
+
+const MOST_RUNS: u32 = 1_000;
+
+fn soak_of(seconds: &str, seed: &str) -> Option<Trial> {
+    let seconds = seconds.parse().ok()?;
+    let seed = seed.parse().ok()?;
+    Some(Trial::Soak { seconds, seed })
+}
+
+fn times_of(calls: u32, runs: u32) -> Option<Trial>
+    ensures calls { IsSome result → (8 ≤ calls) × (calls ≤ 900000) }
+    ensures runs { IsSome result → (1 ≤ runs) × (runs ≤ 1000) }
+{
+    if (8..=MOST_CALLS).contains(&calls) && (1..=MOST_RUNS).contains(&runs) {
+        Some(Trial::Times { calls, runs })
+    } else {
+        None
+    }
+}
+
+/// What these words ask for, of which the first is the program's name.
+pub fn trial_of<T: AsStr>(words: &[T]) -> Option<Trial> {
+    match words {
+        [_, task, seconds, seed] if task.as_str() == "soak" => {
+            soak_of(seconds.as_str(), seed.as_str())
+        }
+        [_, task] if task.as_str() == "times" => times_of(CALLS, RUNS),
+        [_, task, calls] if task.as_str() == "times" => times_of(
+            calls.as_str().parse().ok()?,
+            RUNS,
+        ),
+        [_, task, calls, runs] if task.as_str() == "times" => {
+            times_of(calls.as_str().parse().ok()?, runs.as_str().parse().ok()?)
+        }
+        _ => None,
+    }
+}

@@ -1,0 +1,125 @@
+//! What is timed: which processes there are, and what each does.
+
+ghost use Rattle.std.specs.Prelude.{◌≤◌, length};
+
+use hub_base::{Pid, Port};
+use std::fmt;
+
+/// What is timed.
+#[derive(Clone, Copy, Debug, PartialEq, Eq)]
+pub enum Workload {
+    /// One thread sends and receives in turn.
+    Alone,
+    /// Two threads hand a value to and fro, by two unbuffered ports.
+    PingPong,
+    /// A producer and a consumer.
+    OneToOne,
+    /// Four producers and four consumers of one port.
+    FourToFour,
+    /// Four producers, each with a port, and a consumer that selects.
+    SelectOverFour,
+    /// So many threads look at one port, and nobody steps before its looks are made.
+    Looks(u8),
+}
+
+/// In the order in which they are timed.
+pub const WORKLOADS: [Workload; 8] = [
+    Workload::Alone,
+    Workload::PingPong,
+    Workload::OneToOne,
+    Workload::FourToFour,
+    Workload::SelectOverFour,
+    Workload::Looks(1),
+    Workload::Looks(2),
+    Workload::Looks(4),
+];
+
+/// What a process does in each turn.
+#[derive(Clone, Copy, Debug, PartialEq, Eq)]
+pub enum Role {
+    Send(Port),
+    Receive(Port),
+    SendThenReceive(Port, Port),
+    ReceiveThenSend(Port, Port),
+    /// Receives from any of the ports 1 to 4.
+    SelectOverFour,
+    Look(Port),
+}
+
+/// How many looks stand for a call. A look takes about a hundredth of its time, and with too few of
+/// them the start of the threads would be timed.
+const LOOKS: u32 = 100;
+
+impl Workload {
+    /// The number of processes.
+    pub fn procs(self) -> u8 {
+        match self {
+            Workload::Alone => 1,
+            Workload::PingPong | Workload::OneToOne => 2,
+            Workload::FourToFour => 8,
+            Workload::SelectOverFour => 5,
+            Workload::Looks(threads) => threads,
+        }
+    }
+
+    /// The capacities of its ports, in order.
+    pub fn capacities(self) -> &'static [u32]
+        ensures { length result.now ≤ 4 }
+    {
+        match self {
+            Workload::Alone | Workload::OneToOne | Workload::FourToFour => &[64],
+            Workload::PingPong => &[0, 0],
+            Workload::SelectOverFour => &[16, 16, 16, 16],
+            Workload::Looks(_) => &[0],
+        }
+    }
+
+    /// What a process does.
+    pub fn role(self, pid: Pid) -> Role {
+        match self {
+            Workload::Alone => Role::SendThenReceive(Port(1), Port(1)),
+            Workload::PingPong if pid.0 == 0 => Role::SendThenReceive(Port(1), Port(2)),
+            Workload::PingPong => Role::ReceiveThenSend(Port(1), Port(2)),
+            Workload::OneToOne | Workload::FourToFour if pid.0 % 2 == 0 => Role::Send(Port(1)),
+            Workload::OneToOne | Workload::FourToFour => Role::Receive(Port(1)),
+            Workload::SelectOverFour if pid.0 == 0 => Role::SelectOverFour,
+            Workload::SelectOverFour => Role::Send(Port(u16::from(pid.0))),
+            Workload::Looks(_) => Role::Look(Port(1)),
+        }
+    }
+
+    /// How often a process does it, so that all processes make so many calls together, to the last
+    /// multiple of 8, or 100 times as many looks each.
+    pub fn turns(self, role: Role, calls: u32) -> u32 {
+        let eighth = calls / 8;
+        match self {
+            Workload::Alone | Workload::OneToOne => 4 * eighth,
+            Workload::PingPong => 2 * eighth,
+            Workload::FourToFour => eighth,
+            Workload::SelectOverFour if role == Role::SelectOverFour => 4 * eighth,
+            Workload::SelectOverFour => eighth,
+            Workload::Looks(_) => LOOKS.saturating_mul(calls),
+        }
+    }
+
+    /// How many calls or looks are timed.
+    pub fn operations(self, calls: u32) -> u64 {
+        match self {
+            Workload::Looks(threads) => u64::from(threads) * u64::from(LOOKS.saturating_mul(calls)),
+            _ => 8 * u64::from(calls / 8),
+        }
+    }
+}
+
+impl fmt::Display for Workload {
+    fn fmt<W: fmt::Write>(&self, f: &mut fmt::Formatter<W>) -> fmt::Result {
+        match self {
+            Workload::Alone => f.write_str("alone"),
+            Workload::PingPong => f.write_str("ping_pong"),
+            Workload::OneToOne => f.write_str("one_to_one"),
+            Workload::FourToFour => f.write_str("four_to_four"),
+            Workload::SelectOverFour => f.write_str("select_over_four"),
+            Workload::Looks(threads) => write!(f, "looks_{threads}"),
+        }
+    }
+}

@@ -143,6 +143,18 @@ impl Hub {
         ensures refused { IfErr result (λ f. Refuses self.old entry f) }
         ensures unchanged { OnErr result (self.new ≡ self.old) }
     {
+        let mut events = Events::new();
+        self.step_into(entry, &mut events)?;
+        Ok(events)
+    }
+
+    /// Makes a step as `step` does, and leaves its events in place of those that were there. After a
+    /// refusal these may be any.
+    pub fn step_into(&mut self, entry: Entry, events: &mut Events) -> Result<(), Fault>
+        ensures ok { OnOk result (Steps self.old entry self.new events.new.items) }
+        ensures refused { IfErr result (λ f. Refuses self.old entry f) }
+        ensures unchanged { OnErr result (self.new ≡ self.old) }
+    {
         if is_full(&entry.step, self.count, self.limit) {
             return Err(Fault::JournalFull);
         }
@@ -152,14 +164,13 @@ impl Hub {
         let Ok(()) = make_room(&mut self.entries, &entry.step, self.places, self.procs) else {
             return Err(Fault::NoMemory);
         };
-        let mut events = Events::new();
-        let Ok(()) = self.machine.step(&entry, &mut events) else {
+        let Ok(()) = self.machine.step(&entry, events) else {
             return Err(Fault::NoMemory);
         };
         self.count = count_after(&entry.step, self.count);
         self.places = places_after(&entry.step, self.places);
         match self.entries.push(entry) {
-            Ok(()) => Ok(events),
+            Ok(()) => Ok(()),
             Err(_full) => unreachable!(),
         }
     }

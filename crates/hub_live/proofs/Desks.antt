@@ -153,6 +153,10 @@ made_back name old new e answer desk mine hub back w v d m terms sees s grows ht
 
 -- ---- what is published, and what the caller is told
 
+-- the newest entry is the one that was made
+pub newest_made : (old new : LockedView) (e made : Entry) (answer : Event) → Serves old e new answer → ((es : List Entry) (x : Entry) → new.hub.journal ≡ es ++ x ∷ [] → made ≡ x) → made ≡ e
+newest_made old new e made answer s newest = newest old.hub.journal e (ap (λ (h : HubView). h.journal) s.step.journal)
+
 -- the journal that the joined seat publishes
 pub history_served : (t : Terms) (old new : LockedView) (e : Entry) (answer : Event) (seen : List Entry) → IsHub t old.hub → Serves old e new answer → seen ≡ old.hub.journal → IsHistory t (seen ++ e ∷ [])
 history_served t old new e answer seen is s same =

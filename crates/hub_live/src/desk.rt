@@ -4,8 +4,9 @@
 //! A step joins the caller's seat to the hub's before the journal changes and parts it afterwards,
 //! since a store is judged by what the seat that stores knows.
 
-ghost use Rattle.std.specs.Prelude.{◌≡◌, ◌≤◌, ◌<◌, ◌+◌, ◌++◌, ◌∷◌, [], Some, None, true, false, IfOk, IfErr, OnOk, OnErr, IfSome, IfNone, OnSome};
+ghost use Rattle.std.specs.Prelude.{◌≡◌, ◌≤◌, ◌<◌, ◌+◌, ◌++◌, ◌∷◌, [], List, length, Some, None, true, false, IfOk, IfErr, OnOk, OnErr, IfSome, IfNone, OnSome};
 ghost use mathlib.Core.List.{IsPrefix};
+ghost use Rattle.hub_base.specs.declared.entry.Entry.{Entry};
 ghost use Rattle.hub_base.specs.Limits.{most_steps};
 ghost use Rattle.hub_base.specs.Ready.{port_of};
 ghost use Rattle.hub_base.specs.Runs.{state};
@@ -90,6 +91,16 @@ fn mark_at(locked: &Locked, port: Port) -> u64
     }
 }
 
+/// The newest entry of the journal.
+fn newest(locked: &Locked) -> &Entry
+    requires { 0 < length locked.now.hub.journal }
+    ensures { (es : List Entry) (e : Entry) → locked.now.hub.journal ≡ es ++ e ∷ []
+        → result.now ≡ e }
+{
+    let entries = locked.entries();
+    &entries[entries.len() - 1]
+}
+
 /// One step, and one store by the joined seat.
 fn step_as<K: HubName>(
     words: &Words<K>,
@@ -121,11 +132,12 @@ fn step_as<K: HubName>(
     ensures unchanged { OnErr result.0 (locked.new ≡ locked.old) }
 {
     words.join(hub, mine);
-    match locked.step(entry.copy()) {
+    match locked.step(entry) {
         Ok(answer) => {
-            let port = touched(&entry.step, answer.what);
+            let made = newest(locked);
+            let port = touched(&made.step, answer.what);
             let mark = mark_at(locked, port);
-            words.publish(hub, usize::from(port.0), mark, &entry);
+            words.publish(hub, usize::from(port.0), mark, made);
             let back = words.part(hub);
             (Ok(answer), back)
         }
@@ -245,11 +257,9 @@ impl<K: HubName> Desk<K> {
         }
     }
 
-    /// Whose calls the last step ended, told once.
-    pub(crate) fn take_answered(&mut self) -> Pids
-        ensures { self.new ≡ self.old }
-    {
-        self.locked.take_answered()
+    /// Whose calls the last step ended.
+    pub(crate) fn answered(&self) -> Pids {
+        self.locked.answered()
     }
 
     /// Shows that the journal begins with what the seat has seen, and that its process asked nothing

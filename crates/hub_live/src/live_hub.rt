@@ -114,7 +114,7 @@ impl<K: HubName> LiveHub<K> {
         let waker = &self.wakers[usize::from(seat.pid().0)];
         let mut desk = self.desk.lock(rt);
         let answer = desk.step(&self.words, &mut seat.inner, entry)?;
-        let answered = desk.take_answered();
+        let answered = desk.answered();
         if !is_parked(answer.what) {
             // Those who wake find the lock free.
             drop(desk);

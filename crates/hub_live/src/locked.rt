@@ -13,7 +13,7 @@ ghost use Rattle.hub_core.specs.HubView.{Refuses, state_of};
 ghost use Rattle.hub_live.specs.Locked.{answer_for, none_waits, IsReplyTo, last_told, Serves, without_answer};
 
 use arrayvec::ArrayVec;
-use hub_base::{Entry, Event, Fault, Journal, Look, Pid, Port};
+use hub_base::{Entry, Event, Events, Fault, Journal, Look, Pid, Port};
 use hub_core::Hub;
 use std::marker::Model;
 
@@ -26,8 +26,8 @@ pub struct Locked {
     hub: Hub,
     /// By process number. A hub has at most 64 processes.
     waiting: [Option<Event>; 64],
-    /// Whose calls the last step ended. Contracts do not see it: a wake is only a hint.
-    answered: Pids,
+    /// Those of the last step. Contracts do not see them.
+    events: Events,
 }
 
 impl Model for Locked {
@@ -79,7 +79,7 @@ impl Locked {
         Locked {
             hub,
             waiting: [None; 64],
-            answered: Pids::new(),
+            events: Events::new(),
         }
     }
 
@@ -97,12 +97,11 @@ impl Locked {
         ensures unchanged { OnErr result (self.new ≡ self.old) }
     {
         let caller = entry.pid;
-        let events = self.hub.step(entry)?;
-        let Some((first, ended)) = events.as_slice().split_first() else {
+        self.hub.step_into(entry, &mut self.events)?;
+        let Some((first, ended)) = self.events.as_slice().split_first() else {
             unreachable!()
         };
         let answer = *first;
-        self.answered = pids_of(ended);
         put(&mut self.waiting, caller, None);
         put_all(&mut self.waiting, ended);
         Ok(answer)
@@ -124,11 +123,13 @@ impl Locked {
         }
     }
 
-    /// Whose calls the last step ended, told once: they are to be woken.
-    pub(crate) fn take_answered(&mut self) -> Pids
-        ensures { self.new ≡ self.old }
-    {
-        self.answered.take()
+    /// Whose calls the last step ended: they are to be woken. A wake is only a hint, so no clause
+    /// speaks of it.
+    pub(crate) fn answered(&self) -> Pids {
+        match self.events.as_slice().split_first() {
+            Some((_answer, ended)) => pids_of(ended),
+            None => Pids::new(),
+        }
     }
 
     /// The capacity and the counts of a port, or `None` for port 0 and for a port that was not made.
@@ -154,7 +155,7 @@ impl Locked {
         let Locked {
             hub,
             waiting: _,
-            answered: _,
+            events: _,
         } = self;
         hub.into_journal()
     }
@@ -206,11 +207,11 @@ mod tests {
         let parked = locked.step(call(1, Case::Recv(Port(1))))?;
         assert_eq!(rt; parked, told(1, What::Parked));
         assert_eq!(rt; locked.take(Pid(1)), None);
-        assert_eq!(rt; locked.take_answered().len(), 0);
+        assert_eq!(rt; locked.answered().len(), 0);
 
         let sent = locked.step(call(0, Case::Send(Port(1), Value::num(9))))?;
         assert_eq!(rt; sent, fired(0, Outcome::Sent));
-        assert_eq!(rt; locked.take_answered().as_slice(), [Pid(1)].as_slice());
+        assert_eq!(rt; locked.answered().as_slice(), [Pid(1)].as_slice());
         assert_eq!(rt; locked.take(Pid(0)), None);
         assert_eq!(rt;
             locked.take(Pid(1)),

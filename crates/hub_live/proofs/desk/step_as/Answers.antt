@@ -1,23 +1,31 @@
-use Rattle.std.proofs.Common.{◌≡◌, ◌<◌, ◌∙◌, List, false, sym, ap, subst}
+use Rattle.std.proofs.Common.{◌≡◌, ◌<◌, ◌+◌, ◌∙◌, ◌++◌, ◌∷◌, [], List, length, Some, false, sym, ap, subst, arith}
+use Rattle.std.proofs.lemmas.List.{length-append}
 use Rattle.hub_laws.specs.Journals.{IsLegal}
 use Rattle.hub_base.specs.declared.entry.Entry.{Entry}
 use Rattle.hub_base.specs.Steps.{is_waiting}
 use Rattle.hub_base.specs.Runs.{state}
-use Rattle.hub_core.specs.HubView.{Refuses, state_of}
+use Rattle.hub_core.specs.HubView.{HubView, state_of}
 use Rattle.hub_live.specs.declared.name.Terms.{Terms}
 use Rattle.hub_live.specs.Mark.{mark_at, port_numbered, MarksOne}
-use Rattle.hub_live.specs.Locked.{LockedView, Serves, IsReplyTo}
+use Rattle.hub_live.specs.Locked.{LockedView}
+use Rattle.hub_laws.specs.OnePort.{number_of, port_touched_by}
 use Rattle.hub_live.specs.Rule.{IsHistory}
+use Rattle.hub_live.specs.Moves.{grown}
 use Rattle.hub_live.specs.Seated.{IsHub}
 use Rattle.hub_live.specs.Calls.{Shows, AsksNothing}
-use Rattle.hub_live.proofs.Desks.{joined_desk, IsMade, made_back, IsBack, seen_back, hub_steps, history_served, marks_served, word_served, told_served}
+use Rattle.hub_live.proofs.Desks.{newest_made, joined_desk, IsMade, made_back, IsBack, seen_back, hub_steps, history_served, marks_served, word_served, told_served}
 use Rattle.hub_live.proofs.Refusals.{asks_nothing, shows}
 use Rattle.hub_live.proofs.desk.step_as.Given.{Over}
 use Rattle.hub_live.proofs.desk.step_as.Goals as goal
 use Rattle.hub_live.proofs.desk.step_as.Goals.{After-touched-port, After-part-back, After-part-back-in-Err}
 
 hub_after : (g : Over) (c : After-touched-port g) → IsHub g.K.HubName.name.terms c.step.new.self.hub
-hub_after g c = let s = subst (λ (e : Entry). Serves c.args.locked.now e c.step.new.self c.in-Ok.answer) c.copy.ensures c.in-Ok.ensures.ok in hub_steps g.K.HubName.name.terms c.args.locked.now.hub c.step.new.self.hub c.args.entry _ c.requires.desk.hub s.step
+hub_after g c = hub_steps g.K.HubName.name.terms c.args.locked.now.hub c.step.new.self.hub c.args.entry _ c.requires.desk.hub c.in-Ok.ensures.ok.step
+
+pub newest-made-requires : goal.newest-made-requires
+newest-made-requires g c =
+    let grows = ap (λ (h : HubView). length h.journal) c.in-Ok.ensures.ok.step.journal in
+    omega (arith, grows, length-append c.args.locked.now.hub.journal (c.args.entry ∷ []))
 
 pub mark_at-mark-requires-clause-legal : goal.mark_at-mark-requires-clause-legal
 mark_at-mark-requires-clause-legal g c = let is = hub_after g c in subst (λ n. IsLegal n c.step.new.self.hub.journal) (sym is.procs) is.history.legal
@@ -25,20 +33,25 @@ mark_at-mark-requires-clause-legal g c = let is = hub_after g c in subst (λ n. 
 pub mark_at-mark-requires-clause-few : goal.mark_at-mark-requires-clause-few
 mark_at-mark-requires-clause-few g c = (hub_after g c).history.few
 
+pub publish-requires-clause-caller : goal.publish-requires-clause-caller
+publish-requires-clause-caller g c =
+    let j = joined_desk g.K.HubName.name c.args.locked.now c.args.hub.now c.args.mine c.args.entry.pid c.join.new.token.me.0 c.requires.desk c.requires.alone c.join.ensures.sees in
+    j.joined ∙ ap (λ (e : Entry). Some (e.pid.0 + 1)) (sym (newest_made c.args.locked.now c.step.new.self c.args.entry c.newest-made.result.now c.in-Ok.answer c.in-Ok.ensures.ok c.newest-made.ensures))
+
 pub publish-requires-clause-history : goal.publish-requires-clause-history
 publish-requires-clause-history g c =
-    history_served g.K.HubName.name.terms c.args.locked.now c.step.new.self c.args.entry c.in-Ok.answer c.join.new.token.me.0.seen c.requires.desk.hub (subst (λ (e : Entry). Serves c.args.locked.now e c.step.new.self c.in-Ok.answer) c.copy.ensures c.in-Ok.ensures.ok)
-    (joined_desk g.K.HubName.name c.args.locked.now c.args.hub.now c.args.mine c.args.entry.pid c.join.new.token.me.0 c.requires.desk c.requires.alone c.join.ensures.sees).whole
+    subst (λ (e : Entry). IsHistory g.K.HubName.name.terms (c.join.new.token.me.0.seen ++ e ∷ [])) (sym (newest_made c.args.locked.now c.step.new.self c.args.entry c.newest-made.result.now c.in-Ok.answer c.in-Ok.ensures.ok c.newest-made.ensures))
+    (history_served g.K.HubName.name.terms c.args.locked.now c.step.new.self c.args.entry c.in-Ok.answer c.join.new.token.me.0.seen c.requires.desk.hub c.in-Ok.ensures.ok (joined_desk g.K.HubName.name c.args.locked.now c.args.hub.now c.args.mine c.args.entry.pid c.join.new.token.me.0 c.requires.desk c.requires.alone c.join.ensures.sees).whole)
 
 pub publish-requires-clause-word : goal.publish-requires-clause-word
-publish-requires-clause-word g c = word_served g.K.HubName.name.terms c.args.locked.now c.step.new.self c.args.entry c.in-Ok.answer c.from.result c.requires.desk.hub (subst (λ (e : Entry). Serves c.args.locked.now e c.step.new.self c.in-Ok.answer) c.copy.ensures c.in-Ok.ensures.ok) (c.from.ensures ∙ c.touched-port.ensures)
+publish-requires-clause-word g c = word_served g.K.HubName.name.terms c.args.locked.now c.step.new.self c.args.entry c.in-Ok.answer c.from.result c.requires.desk.hub c.in-Ok.ensures.ok (c.from.ensures ∙ (c.touched-port.ensures ∙ ap (λ (e : Entry). number_of (port_touched_by e.step c.in-Ok.answer.what)) (newest_made c.args.locked.now c.step.new.self c.args.entry c.newest-made.result.now c.in-Ok.answer c.in-Ok.ensures.ok c.newest-made.ensures)))
 
 pub publish-requires-clause-mark : goal.publish-requires-clause-mark
 publish-requires-clause-mark g c =
-    let m = marks_served g.K.HubName.name.terms c.args.locked.now c.step.new.self c.args.entry c.in-Ok.answer c.join.new.token.me.0.seen c.from.result c.requires.desk.hub (subst (λ (e : Entry). Serves c.args.locked.now e c.step.new.self c.in-Ok.answer) c.copy.ensures c.in-Ok.ensures.ok)
-    (joined_desk g.K.HubName.name c.args.locked.now c.args.hub.now c.args.mine c.args.entry.pid c.join.new.token.me.0 c.requires.desk c.requires.alone c.join.ensures.sees).whole (c.from.ensures ∙ c.touched-port.ensures) in
+    let m = marks_served g.K.HubName.name.terms c.args.locked.now c.step.new.self c.args.entry c.in-Ok.answer c.join.new.token.me.0.seen c.from.result c.requires.desk.hub c.in-Ok.ensures.ok (joined_desk g.K.HubName.name c.args.locked.now c.args.hub.now c.args.mine c.args.entry.pid c.join.new.token.me.0 c.requires.desk c.requires.alone c.join.ensures.sees).whole (c.from.ensures ∙ (c.touched-port.ensures ∙ ap (λ (e : Entry). number_of (port_touched_by e.step c.in-Ok.answer.what)) (newest_made c.args.locked.now c.step.new.self c.args.entry c.newest-made.result.now c.in-Ok.answer c.in-Ok.ensures.ok c.newest-made.ensures))) in
     let same : mark_at (state_of c.step.new.self.hub) (port_numbered c.from.result) ≡ c.mark_at-mark.result = ap (λ n. mark_at (state_of c.step.new.self.hub) (port_numbered n)) c.from.ensures ∙ sym c.mark_at-mark.ensures in
-    subst (λ n. MarksOne g.K.HubName.name.terms.procs c.join.new.token.me.0.seen c.args.entry c.from.result n) same m
+    subst (λ (e : Entry). MarksOne g.K.HubName.name.terms.procs c.join.new.token.me.0.seen e c.from.result c.mark_at-mark.result) (sym (newest_made c.args.locked.now c.step.new.self c.args.entry c.newest-made.result.now c.in-Ok.answer c.in-Ok.ensures.ok c.newest-made.ensures))
+    (subst (λ n. MarksOne g.K.HubName.name.terms.procs c.join.new.token.me.0.seen c.args.entry c.from.result n) same m)
 
 made : (g : Over) (c : After-part-back g) → IsMade g.K.HubName.name c.step.new.self c.part-back.new.token c.part-back.result c.args.entry c.args.mine.me.0.seen
 made g c =
@@ -46,7 +59,7 @@ made g c =
     let p = c.part-back.ensures in
     let table = c.publish.ensures.same.0 ∙ (c.join.ensures.same.0 ∙ d.token.table) in
     made_back g.K.HubName.name c.args.locked.now c.step.new.self c.args.entry c.in-Ok.answer c.args.hub.now c.args.mine c.part-back.new.token c.part-back.result c.join.new.token.me.0 c.publish.new.token.me.0
-    d c.requires.alone c.requires.terms c.join.ensures.sees (subst (λ (e : Entry). Serves c.args.locked.now e c.step.new.self c.in-Ok.answer) c.copy.ensures c.in-Ok.ensures.ok) c.publish.ensures.view (p.same ∙ table) (p.table ∙ table) p.left p.back
+    d c.requires.alone c.requires.terms c.join.ensures.sees c.in-Ok.ensures.ok (c.publish.ensures.view ∙ ap (λ (e : Entry). grown c.join.new.token.me.0 e) (newest_made c.args.locked.now c.step.new.self c.args.entry c.newest-made.result.now c.in-Ok.answer c.in-Ok.ensures.ok c.newest-made.ensures)) (p.same ∙ table) (p.table ∙ table) p.left p.back
 
 pub returns-in-Ok-clause-desk : goal.returns-in-Ok-clause-desk
 returns-in-Ok-clause-desk g c = (made g c).parted.desk
@@ -68,8 +81,8 @@ returns-in-Ok-clause-own g c = (made g c).own
 
 pub returns-in-Ok-clause-told : goal.returns-in-Ok-clause-told
 returns-in-Ok-clause-told g c clear =
-    told_served g.K.HubName.name.terms c.args.locked.now c.step.new.self c.args.entry c.in-Ok.answer c.part-back.result.me.0.seen c.requires.desk.hub (subst (λ (e : Entry). Serves c.args.locked.now e c.step.new.self c.in-Ok.answer) c.copy.ensures c.in-Ok.ensures.ok) (made g c).parted.seen
-    (subst (λ (e : Entry). IsReplyTo c.step.new.self.hub.procs e.pid.0 c.step.new.self.hub.journal c.in-Ok.answer) c.copy.ensures (c.in-Ok.ensures.reply clear))
+    told_served g.K.HubName.name.terms c.args.locked.now c.step.new.self c.args.entry c.in-Ok.answer c.part-back.result.me.0.seen c.requires.desk.hub c.in-Ok.ensures.ok (made g c).parted.seen
+    (c.in-Ok.ensures.reply clear)
 
 left : (g : Over) (c : After-part-back-in-Err g) → IsBack g.K.HubName.name c.step.new.self c.part-back-in-Err.new.token c.part-back-in-Err.result c.args.entry.pid c.args.mine.me.0.seen
 left g c =
@@ -102,7 +115,7 @@ returns-in-Err-clause-shows g c =
     let seen : c.part-back-in-Err.result.me.0.seen ≡ c.args.locked.now.hub.journal = (left g c).parted.seen ∙ ap (λ (l : LockedView). l.hub.journal) c.in-Err.ensures.unchanged in
     let below = subst (λ (x : Terms). c.args.entry.pid.0 < x.procs) c.requires.terms c.requires.alone.below in
     let free : is_waiting (state c.args.locked.now.hub.procs c.args.locked.now.hub.journal) c.args.entry.pid.0 ≡ false = (λ i. is_waiting (state (is.procs i) (sym seen i)) c.args.entry.pid.0) ∙ (nothing g c).free in
-    subst (λ (es : List Entry). Shows t c.args.entry es c.in-Err.fault) (sym seen) (shows t c.args.locked.now.hub c.args.entry c.in-Err.fault is below free (subst (λ (e : Entry). Refuses c.args.locked.now.hub e c.in-Err.fault) c.copy.ensures c.in-Err.ensures.refused))
+    subst (λ (es : List Entry). Shows t c.args.entry es c.in-Err.fault) (sym seen) (shows t c.args.locked.now.hub c.args.entry c.in-Err.fault is below free c.in-Err.ensures.refused)
 
 pub returns-in-Err-clause-left : goal.returns-in-Err-clause-left
 returns-in-Err-clause-left g c = nothing g c

@@ -7,7 +7,7 @@ use Rattle.hub_base.specs.Text.{steps_of}
 use Rattle.hub_core.specs.Follows.{Follows}
 use Rattle.hub_core.specs.HubView.{Grows, places_after}
 use Rattle.hub_core.proofs.Hubs.{steps_few, room_after, count-length, entry_fits, legal_longer, count-snoc, count_within, has_room}
-use Rattle.hub_core.proofs.hub.Hub.step.Goals as goal
+use Rattle.hub_core.proofs.hub.Hub.step_into.Goals as goal
 
 pub step-requires : goal.step-requires
 step-requires c =

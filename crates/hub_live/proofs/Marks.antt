@@ -9,7 +9,7 @@ use Rattle.hub_base.specs.declared.value.Port.{Port}
 use Rattle.hub_base.specs.declared.counts.Counts.{Counts}
 use Rattle.hub_base.specs.declared.counts.Look.{Look}
 use Rattle.hub_base.specs.declared.entry.Entry.{Entry}
-use Rattle.hub_base.specs.State.{State, Channel, channel_at}
+use Rattle.hub_base.specs.State.{Channel, channel_at}
 use Rattle.hub_base.specs.Runs.{state}
 use Rattle.hub_base.specs.Text.{steps_of}
 use Rattle.hub_laws.specs.Journals.{IsLegal}
@@ -25,9 +25,6 @@ pub record IsCounted (c : Counts) : Type 0 where
   pub len : c.len ≡ c.sent - c.received
   pub received : c.received ≤ c.sent
   pub sent : c.sent ≤ 1000000
-
-closed_part : Bool → ℕ
-closed_part b = cond b of_a_close 0
 
 -- the parts of a mark
 parts : (b : Bool) (sent received : ℕ) → sent ≤ 1000000 → received ≤ 1000000 → (m : ℕ) → m ≡ cond b of_a_close 0 + of_a_port + of_a_send * sent + received
@@ -75,16 +72,6 @@ few_counts n es p (Some c) l is legal few at =
 pub look-mark : (n : ℕ) (es : List Entry) (p : Port) (l : Look) → IsLegal n es → steps_of es ≤ 1000000 → look_at (state n es) p ≡ Some l
     → (l.counts.sent ≤ 1000000) × (l.counts.received ≤ 1000000) × (mark_of l.counts ≡ mark_at (state n es) p)
 look-mark n es p l legal few at = few_counts n es p (channel_at (state n es) p) l refl legal few at
-
-abbrev shown : Channel → Look
-shown c = record { cap = c.cap; counts = counts_of c }
-
-none_mark : (o : Option Channel) → option_map shown o ≡ None → option_map_or mark_of (option_map counts_of o) 0 ≡ 0
-none_mark None at = refl
-none_mark (Some c) at = absurd (let h : ⊥ = cc in h)
-
-pub no_look-mark : (s : State) (p : Port) → look_at s p ≡ None → mark_at s p ≡ 0
-no_look-mark s p at = none_mark (channel_at s p) at
 
 none_at : (b : Bool) (cs : List Channel) (i : ℕ) → (b ≡ false → length cs ≤ i) → option_map counts_of (cond b None (slice_get cs i)) ≡ None
 none_at true cs i le = refl

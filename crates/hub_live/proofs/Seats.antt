@@ -244,13 +244,6 @@ draws_as t slots id k me is =
     subst (λ (m : Me (Unit {0}) View). Allows (Kept t) slots id m 65 (λ n. either (n == k) (k + 1) n) (Drew (step slots 65 k (k + 1) none) m)) (sym is)
     (draws t slots id k (blank t) refl refl refl refl)
 
--- what a draw gave, where it found its number
-pub drew_it : (t : Terms) (slots k found : ℕ) (me me' : Me (Unit {0}) View) → me ≡ (blank t, []) → (found == k) ≡ true → Drew (step slots 65 k (k + 1) none) me found me' → me' ≡ (numbered (blank t) k, [])
-drew_it t slots k found me me' is hit drew =
-    let d = subst (λ (m : Me (Unit {0}) View). Drew (step slots 65 k (k + 1) none) m found me') is drew in
-    let e : me'.0 ≡ numbered (blank t) k = subst (λ (b : Bool). MatchBool b (me'.0 ≡ numbered (blank t) k) (me'.0 ≡ blank t)) hit d.1 in
-    λ i. (e i, d.0 i)
-
 pub joins_some : (t : Terms) (id other : ℕ) (v w : View) → v.terms ≡ w.terms → IsSome w.number → w.joined ≡ None → Joins (Kept t) id v other w (with_joined v w) spent
 joins_some t id other v w same has alone = let m = some_of w.number has in joins t id other m.0 v w same m.1 alone
 

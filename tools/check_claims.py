@@ -90,7 +90,8 @@ def check_section(crate, text):
         yield from check_definitions('CLAIMS', crate, cells[-1])
     for name in sorted(set(calls) - named):
         yield 'CLAIMS: no row for %s of %s' % (name, crate)
-    edits = {os.path.basename(path)[:-5] for path in files('crates/%s/must-fail' % crate, '.edit')}
+    folders = ('crates/%s/must-fail' % crate, 'tools/further_edits/%s' % crate)
+    edits = {os.path.basename(path)[:-5] for folder in folders for path in files(folder, '.edit')}
     told = {name for part in re.findall(r'^Edits:(.*?)\n\n', text + '\n\n', re.M | re.S) for name in TICKED.findall(part)}
     yield from ('CLAIMS: %s has no edit %s' % (crate, name) for name in sorted(told - edits))
     yield from ('CLAIMS: the edit %s of %s is not named' % (name, crate) for name in sorted(edits - told))

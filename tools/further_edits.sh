@@ -1,5 +1,5 @@
 #!/bin/sh
-# further_edits.sh [CRATE ..]: tries the must-fail edits in must-fail/further, which the gate leaves out, of these
+# further_edits.sh [CRATE ..]: tries the must-fail edits in tools/further_edits, which the gate leaves out, of these
 # crates or of all. Works on a copy, so that only these are tried. The last line is 'N passed, M failed'.
 set -eu
 root=$(cd "$(dirname "$0")/.." && pwd)
@@ -8,11 +8,11 @@ trap 'rm -rf "$work"' EXIT
 cp -a "$root/crates" "$root/crates.txt" "$root/HANDLES" "$work"
 
 if [ $# -eq 0 ]; then
-    set -- $(cd "$work/crates" && ls -d */must-fail/further | cut -d / -f 1)
+    set -- $(ls "$root/tools/further_edits")
 fi
 rm -f "$work"/crates/*/must-fail/*.edit
 for crate in "$@"; do
-    mv "$work/crates/$crate/must-fail/further/"*.edit "$work/crates/$crate/must-fail/"
+    cp "$root/tools/further_edits/$crate/"*.edit "$work/crates/$crate/must-fail/"
 done
 cd "$work"
 rt must-fail "$@"

@@ -1,6 +1,7 @@
 -- Selects: which case fires, at once or after a wait. Go: "Select statements". That the word
 -- chooses, and that a waiting call fires at its lowest case that fits, is this project's choice.
-use Rattle.std.specs.Prelude.{◌≡◌, true, false, List, [], ◌∷◌, refl}
+use Rattle.std.specs.Prelude.{◌≡◌, true, false, List, [], ◌∷◌, ◌++◌, flat_map, refl}
+use Rattle.std.specs.List.{range_with_len}
 use Rattle.hub_base.specs.declared.entry.Entry.{Entry}
 use Rattle.hub_base.specs.declared.event.Outcome.TheVariants.{Sent}
 use Rattle.hub_base.specs.declared.fault.Fault.TheVariants.{TooManyCases}
@@ -69,3 +70,14 @@ pub eight_cases_at_most :
     ∷ select 0 0 (r 0 ∷ r 0 ∷ r 0 ∷ r 0 ∷ r 0 ∷ r 0 ∷ r 0 ∷ r 0 ∷ r 0 ∷ []) true ∷ [])
     ≡ defaulted 0 ∷ faulted 0 TooManyCases ∷ []
 eight_cases_at_most = refl
+
+-- each of a hundred selects ends at its second case, and leaves nothing behind at the port of its first
+pub hundred_selects_end_once :
+    events 2 (
+    make 0 0 ∷ make 0 0
+    ∷ flat_map (λ v. select 1 0 (r 1 ∷ r 2 ∷ []) false ∷ send 0 2 v ∷ []) (range_with_len 1 100)
+    ++ select 1 0 (r 1 ∷ r 2 ∷ []) false ∷ send 0 1 7 ∷ [])
+    ≡ made 0 1 ∷ made 0 2
+    ∷ flat_map (λ v. parked 1 ∷ case 0 0 Sent ∷ case 1 1 (got v) ∷ []) (range_with_len 1 100)
+    ++ parked 1 ∷ case 0 0 Sent ∷ case 1 0 (got 7) ∷ []
+hundred_selects_end_once = refl

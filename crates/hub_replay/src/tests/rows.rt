@@ -8,7 +8,7 @@ pub struct Row {
     pub events: &'static str,
 }
 
-pub static ROWS: [Row; 19] = [
+pub static ROWS: [Row; 23] = [
     // Go: "Channel types", "Send statements", "Receive operator".
     Row {
         name: "no_steps",
@@ -53,6 +53,35 @@ pub static ROWS: [Row; 19] = [
                  1 parked\n\
                  0 case 0 sent\n\
                  1 case 0 got 9\n",
+    },
+    Row {
+        name: "oldest_sender_first",
+        procs: 3,
+        steps: "0 make 0\n\
+                2 send 1 7\n\
+                1 send 1 8\n\
+                0 recv 1\n\
+                0 recv 1\n",
+        events: "0 made 1\n\
+                 2 parked\n\
+                 1 parked\n\
+                 0 case 0 got 7\n\
+                 2 case 0 sent\n\
+                 0 case 0 got 8\n\
+                 1 case 0 sent\n",
+    },
+    Row {
+        name: "waiting_process_is_busy",
+        procs: 2,
+        steps: "0 make 0\n\
+                1 send 1 5\n\
+                1 send 1 6\n\
+                0 recv 1\n",
+        events: "0 made 1\n\
+                 1 parked\n\
+                 1 fault 3\n\
+                 0 case 0 got 5\n\
+                 1 case 0 sent\n",
     },
     Row {
         name: "nil_channel",
@@ -127,6 +156,19 @@ pub static ROWS: [Row; 19] = [
                  0 case 0 sent\n\
                  0 case 0 sent\n\
                  0 case 1 got 2\n",
+    },
+    Row {
+        name: "word_chooses_of_three",
+        procs: 2,
+        steps: "0 make 0\n\
+                0 make 0\n\
+                1 select 0 s2:6 r1\n\
+                0 select 4 r2 s1:3 r2\n",
+        events: "0 made 1\n\
+                 0 made 2\n\
+                 1 parked\n\
+                 0 case 1 sent\n\
+                 1 case 1 got 3\n",
     },
     Row {
         name: "select_ends_once",
@@ -215,7 +257,7 @@ pub static ROWS: [Row; 19] = [
                  0 case 0 got 18446744073709551615\n",
     },
     Row {
-        name: "waiting_process_is_busy",
+        name: "no_process_meets_itself",
         procs: 2,
         steps: "0 make 0\n\
                 0 send 1 1\n\
@@ -247,5 +289,15 @@ pub static ROWS: [Row; 19] = [
                  1 stalled\n\
                  0 fault 2\n\
                  7 fault 1\n",
+    },
+    Row {
+        name: "everyone_exits",
+        procs: 2,
+        steps: "0 make 0\n\
+                0 exit\n\
+                1 exit\n",
+        events: "0 made 1\n\
+                 0 done\n\
+                 1 done\n",
     },
 ];

@@ -50,6 +50,25 @@ fn sixty_four_ports_at_most(rt: HostRuntime) -> Result<(), Fail> {
     Ok(())
 }
 
+/// Each select ends at its second case, and leaves nothing behind at the port of its first.
+#[test]
+fn hundred_selects_end_once(rt: HostRuntime) -> Result<(), Fail> {
+    let head = "chanhub journal 1\nprocs 2\n0 make 0\n0 make 0\n";
+    let mut journal = String::from_str(rt.alloc(), head)?;
+    let mut events = String::from_str(rt.alloc(), "0 made 1\n0 made 2\n")?;
+    for value in 1..101 {
+        writeln!(journal, "1 select 0 r1 r2\n0 send 2 {value}")?;
+        writeln!(events, "1 parked\n0 case 0 sent\n1 case 1 got {value}")?;
+    }
+    journal.push_str("1 select 0 r1 r2\n0 send 1 7\n")?;
+    events.push_str("1 parked\n0 case 0 sent\n1 case 0 got 7\n")?;
+    let mut sink = Counted::new(Jar::new(rt.alloc(), 1000));
+    let answer = replay(rt.alloc(), &mut Counted::new(journal.as_bytes()), &mut sink);
+    assert_eq!(rt; answer, Ok(()));
+    assert_eq!(rt; sink.into_inner().held(), events.as_bytes());
+    Ok(())
+}
+
 #[test]
 fn malformed_journals_write_nothing(rt: HostRuntime) {
     for (name, journal, line, kind) in [

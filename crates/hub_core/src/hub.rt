@@ -115,12 +115,8 @@ impl Hub {
         if limit == 0 || limit > 1_000_000 {
             return Err(OpenFault::BadLimit);
         }
-        let Ok(machine) = Machine::open(alloc, procs) else {
-            return Err(OpenFault::NoMemory);
-        };
-        let Ok(entries) = Vec::with_capacity(alloc, procs.into()) else {
-            return Err(OpenFault::NoMemory);
-        };
+        let machine = Machine::open(alloc, procs)?;
+        let entries = Vec::with_capacity(alloc, procs.into())?;
         Ok(Hub {
             procs,
             limit,

@@ -1,5 +1,10 @@
 //! Why a hub was not opened.
 
+ghost use Rattle.std.specs.Prelude.{◌≡◌};
+ghost use Rattle.hub_core.specs.declared.opening.OpenFault.TheVariants as open_fault;
+
+use std::alloc::AllocError;
+
 /// Why a hub was not opened; tested in this order. Nothing is kept.
 #[derive(Clone, Copy, Debug, PartialEq, Eq)]
 pub enum OpenFault {
@@ -9,4 +14,12 @@ pub enum OpenFault {
     BadLimit,
     /// A growth was refused.
     NoMemory,
+}
+
+impl From<AllocError> for OpenFault {
+    ghost from_gives = { λ _ fault. fault ≡ open_fault.NoMemory };
+
+    fn from(_: AllocError) -> OpenFault {
+        OpenFault::NoMemory
+    }
 }

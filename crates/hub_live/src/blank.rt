@@ -3,7 +3,9 @@
 ghost use Rattle.std.specs.Prelude.{◌≡◌, IfOk, IfErr, OnOk, All, vec_len};
 ghost use Rattle.hub_core.specs.HubView.{RefusesOpening, IsProcs, IsLimit, opened_hub};
 ghost use Rattle.hub_live.specs.Locked.{none_waits};
+ghost use Rattle.hub_live.specs.Name.{name_of};
 ghost use Rattle.hub_live.specs.Calls.{AreSeats};
+ghost use Rattle.hub_live.specs.Rule.{word_count};
 
 use crate::desk::Desk;
 use crate::live_hub::LiveHub;
@@ -55,10 +57,29 @@ fn wakers_of(alloc: Global, procs: u8) -> Result<Vec<Condvar>, AllocError>
     Ok(wakers)
 }
 
+/// A seat for each process, in order.
+fn seats_of(alloc: Global, table: &HubTable, procs: u8) -> Result<Vec<Seat>, AllocError>
+    requires words { table.now.shared.table_id.words ≡ word_count }
+    requires slots { table.now.shared.table_id.slots ≡ 0 }
+    requires procs { table.now.shared.key.procs ≡ procs }
+    ensures count { IfOk result (λ seats. vec_len seats ≡ procs) }
+    ensures seats { IfOk result (λ seats.
+        AreSeats (name_of table.now.shared.table_id table.now.shared.key) 0 seats.items) }
+{
+    let mut seats = Vec::new(alloc);
+    for pid in 0..procs {
+        let token = draw(table, u64::from(pid) + 1)?;
+        let inner = InnerSeat::of(Pid(pid), token);
+        seats.push(Seat::of(inner))?;
+    }
+    Ok(seats)
+}
+
 impl Blank {
     /// A hub of 1 to 64 processes whose journal may hold 1 to 1,000,000 entries that are no exits,
-    /// and a seat for each process, in order. Nothing is kept where it is refused; `NoMemory` also
-    /// comes where a seat can't draw its number.
+    /// and a seat for each process, in order. Refused as `Hub::open` is, and nothing is kept; by
+    /// `NoMemory` also where the words, the condition variables or the seats were refused memory, or a
+    /// seat can't draw its number.
     #[tactic(auto, using(crate::proofs::Laters::all_of_hub))]
     pub fn open(alloc: Global, procs: u8, limit: u32) -> Result<(Blank, Vec<Seat>), OpenFault>
         ensures hub { IfOk result (λ r. r.0.locked ≡ none_waits (opened_hub procs limit)) }
@@ -70,22 +91,9 @@ impl Blank {
         ensures err { IfErr result (λ f. RefusesOpening procs limit f) }
     {
         let hub = Hub::open(alloc, procs, limit)?;
-        let Ok((table, token)) = open_table(alloc, Terms { procs, limit }) else {
-            return Err(OpenFault::NoMemory);
-        };
-        let Ok(wakers) = wakers_of(alloc, procs) else {
-            return Err(OpenFault::NoMemory);
-        };
-        let mut seats = Vec::new(alloc);
-        for pid in 0..procs {
-            let Ok(token) = draw(&table, u64::from(pid) + 1) else {
-                return Err(OpenFault::NoMemory);
-            };
-            let inner = InnerSeat::of(Pid(pid), token);
-            let Ok(()) = seats.push(Seat::of(inner)) else {
-                return Err(OpenFault::NoMemory);
-            };
-        }
+        let (table, token) = open_table(alloc, Terms { procs, limit })?;
+        let wakers = wakers_of(alloc, procs)?;
+        let seats = seats_of(alloc, &table, procs)?;
         let blank = Blank {
             table,
             token,

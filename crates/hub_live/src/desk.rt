@@ -101,7 +101,7 @@ fn newest(locked: &Locked) -> &Entry
     &entries[entries.len() - 1]
 }
 
-/// One step, and one store by the joined seat.
+/// One step and, where it was made, one store by the joined seat.
 fn step_as<K: HubName>(
     words: &Words<K>,
     locked: &mut Locked,
@@ -257,7 +257,7 @@ impl<K: HubName> Desk<K> {
         }
     }
 
-    /// Whose calls the last step ended.
+    /// Whose calls the last step ended, where it was made.
     pub(crate) fn answered(&self) -> Pids {
         self.locked.answered()
     }

@@ -22,7 +22,7 @@ use crate::words::Words;
 use hub_base::{Cases, Counts, Entry, Event, Fault, Journal, Pid, Port, Step, What};
 use std::sync::{Condvar, Mutex, Wait};
 
-/// A hub that threads share.
+/// A hub that threads share. Each seat that is passed to it must come from its own `Blank::open`.
 #[derive(Drop)]
 pub struct LiveHub<K: HubName> {
     words: Words<K>,
@@ -63,24 +63,25 @@ fn look_as<K: HubName>(
 /// Three loads: both seats have then seen one journal.
 fn meet_as<K: HubName>(
     words: &Words<K>,
-    mut one: Token,
+    mut first: Token,
     pid: Pid,
-    two: Token,
+    second: Token,
     other: Pid,
 ) -> (Token, Token)
-    requires one { IsToken K.name one × IsAlone pid one × (one.me.0.terms ≡ K.name.terms) }
-    requires two { IsToken K.name two × IsAlone other two × (two.me.0.terms ≡ K.name.terms) }
-    requires idle { IsIdle (seat_of pid (Some one)) × IsIdle (seat_of other (Some two)) }
+    requires first { IsToken K.name first × IsAlone pid first × (first.me.0.terms ≡ K.name.terms) }
+    requires second { IsToken K.name second × IsAlone other second
+        × (second.me.0.terms ≡ K.name.terms) }
+    requires idle { IsIdle (seat_of pid (Some first)) × IsIdle (seat_of other (Some second)) }
     ensures alone { IsAlone pid result.0 × IsAlone other result.1 }
-    ensures same { result.0.me.0.seen ≡ result.1.me.0.seen }
-    ensures one { Later (seat_of pid (Some one)) (seat_of pid (Some result.0)) }
-    ensures one_same { AskedNothing (seat_of pid (Some one)) (seat_of pid (Some result.0)) }
-    ensures two { Later (seat_of other (Some two)) (seat_of other (Some result.1)) }
-    ensures two_same { AskedNothing (seat_of other (Some two)) (seat_of other (Some result.1)) }
+    ensures together { result.0.me.0.seen ≡ result.1.me.0.seen }
+    ensures first { Later (seat_of pid (Some first)) (seat_of pid (Some result.0)) }
+    ensures first_same { AskedNothing (seat_of pid (Some first)) (seat_of pid (Some result.0)) }
+    ensures second { Later (seat_of other (Some second)) (seat_of other (Some result.1)) }
+    ensures second_same { AskedNothing (seat_of other (Some second)) (seat_of other (Some result.1)) }
 {
-    words.join(&mut one, two);
-    let two = words.part(&mut one);
-    (one, two)
+    words.join(&mut first, second);
+    let second = words.part(&mut first);
+    (first, second)
 }
 
 impl<K: HubName> LiveHub<K> {
@@ -132,10 +133,16 @@ impl<K: HubName> LiveHub<K> {
         unreachable!()
     }
 
-    /// Makes a call, and waits until it is answered. The event is never `What::Parked`.
+    /// Makes a call of these cases, and waits until it ends: where a case fired, where the default was
+    /// taken, or `Stalled` where everybody waits; never `What::Parked`. Of `k` cases that can proceed
+    /// number `word mod k` fires, counted from 0. More than 8 cases are answered by the fault
+    /// `TooManyCases`, and a port that was not made by `NoPort`. Others may take the lock while it waits.
     ///
-    /// Refused by `JournalFull`, `Gone` and `NoMemory` alone, tested in this order, with no entry made.
-    /// Go: "Select statements".
+    /// Refused, with no entry made and the hub as before, by `JournalFull` where the journal holds as
+    /// many entries that are no exits as its limit, `Gone` where the process has exited, and `NoMemory`
+    /// where a growth of the journal was refused; tested in this order.
+    ///
+    /// Go: "Send statements", "Receive operator", "Select statements".
     pub fn call<R: Wait>(
         &self,
         rt: &R,
@@ -158,7 +165,12 @@ impl<K: HubName> LiveHub<K> {
         self.ask(rt, seat, Entry { pid, step })
     }
 
-    /// Makes a port of this capacity. Refused as a call is.
+    /// Makes a channel with a buffer of `cap` values, 0 to 1,024; with 0 it is unbuffered. Answered
+    /// `Made` with its port, the next number from 1 on, or the fault `BadCap` above 1,024 or
+    /// `TooManyPorts` where 64 are made. It takes the lock, and waits for no other step.
+    ///
+    /// Refused as a call is, and by `NoMemory` also where the channel's memory was refused. Go: "Making
+    /// slices, maps and channels".
     pub fn make<R: Wait>(&self, rt: &R, seat: &mut Seat, cap: u32) -> Result<Event, Fault>
         requires { seat.old.hub ≡ K.name }
         ensures later { Later seat.old seat.new }
@@ -170,7 +182,12 @@ impl<K: HubName> LiveHub<K> {
         self.ask(rt, seat, Entry { pid, step })
     }
 
-    /// Closes a port, by its end that sends. Refused as a call is. Go: "Close".
+    /// Closes a port, by its end that sends. Answered `Done`, or the fault `NoPort` for a port that was
+    /// not made, `NilClose` for port 0 or `AlreadyClosed`. Receivers that wait end with `Drained` and
+    /// senders that wait with `Closed`; what is buffered stays. It takes the lock, and waits for no
+    /// other step.
+    ///
+    /// Refused as a call is. Go: "Close".
     pub fn close<R: Wait>(&self, rt: &R, seat: &mut Seat, sender: &SendPort) -> Result<Event, Fault>
         requires { seat.old.hub ≡ K.name }
         ensures later { Later seat.old seat.new }
@@ -182,7 +199,10 @@ impl<K: HubName> LiveHub<K> {
         self.ask(rt, seat, Entry { pid, step })
     }
 
-    /// Ends the process. Refused by `Gone` alone, where it has ended before.
+    /// Ends the process. Answered `Done`; its later steps are refused by `Gone`. It takes the lock and
+    /// no memory, and waits for no other step.
+    ///
+    /// Refused by `Gone` alone, where the process has exited before.
     pub fn exit<R: Wait>(&self, rt: &R, seat: &mut Seat) -> Result<Event, Fault>
         requires { seat.old.hub ≡ K.name }
         ensures later { Later seat.old seat.new }
@@ -195,15 +215,15 @@ impl<K: HubName> LiveHub<K> {
     }
 
     /// The counts of a port in the journal that the seat has then seen: by at most one load, with no
-    /// lock and no memory. `None` for port 0 and for a port that is not made there. Go: "Length and
-    /// capacity".
+    /// lock and no memory. `None` for port 0 and for a port that is not made there. Other threads may
+    /// have made steps since. Go: "Length and capacity".
     pub fn look(&self, seat: &mut Seat, port: Port) -> Option<Counts>
         requires { seat.old.hub ≡ K.name }
         ensures later { Later seat.old seat.new }
         ensures same { AskedNothing seat.old seat.new }
         ensures counts { result ≡ counts_at (state_seen seat.new) port }
     {
-        // That the seat is idle is told where its process is.
+        // Its contract says that the seat is idle, which holds still where nothing is loaded.
         let _pid = seat.pid();
         if port.0 == 0 || port.0 > 64 {
             return None;
@@ -232,27 +252,27 @@ impl<K: HubName> LiveHub<K> {
     pub fn meet(&self, first: &mut Seat, second: &mut Seat)
         requires first { first.old.hub ≡ K.name }
         requires second { second.old.hub ≡ K.name }
-        ensures one { first.new.seen ≡ second.new.seen }
+        ensures together { first.new.seen ≡ second.new.seen }
         ensures first { Later first.old first.new }
         ensures first_same { AskedNothing first.old first.new }
         ensures second { Later second.old second.new }
         ensures second_same { AskedNothing second.old second.new }
     {
         let pid = first.inner.pid;
-        let Some(one) = first.inner.token.take() else {
+        let Some(mine) = first.inner.token.take() else {
             unreachable!()
         };
         let other = second.inner.pid;
-        let Some(two) = second.inner.token.take() else {
+        let Some(theirs) = second.inner.token.take() else {
             unreachable!()
         };
-        let (one, two) = meet_as(&self.words, one, pid, two, other);
-        first.inner.token = Some(one);
-        second.inner.token = Some(two);
+        let (mine, theirs) = meet_as(&self.words, mine, pid, theirs, other);
+        first.inner.token = Some(mine);
+        second.inner.token = Some(theirs);
     }
 
     /// The journal. It begins with what each of these seats has seen, and their processes asked nothing
-    /// more in it. Waits for nobody.
+    /// more in it. The list may be empty. Answers that wait are dropped. Waits for nobody.
     pub fn finish(self, seats: Vec<Seat>) -> Journal
         requires { All (λ s. s.hub ≡ K.name) seats.items }
         ensures procs { result.procs ≡ K.name.terms.procs }

@@ -26,7 +26,8 @@ pub struct Locked {
     hub: Hub,
     /// By process number. A hub has at most 64 processes.
     waiting: [Option<Event>; 64],
-    /// Those of the last step. Contracts do not see them.
+    /// Those of the last step that was made, its answer first; after a refusal they may be any.
+    /// Contracts do not see them.
     events: Events,
 }
 
@@ -123,8 +124,8 @@ impl Locked {
         }
     }
 
-    /// Whose calls the last step ended: they are to be woken. A wake is only a hint, so no clause
-    /// speaks of it.
+    /// Whose calls the last step ended, where it was made: they are to be woken. A wake is only a
+    /// hint, so no clause speaks of it.
     pub(crate) fn answered(&self) -> Pids {
         match self.events.as_slice().split_first() {
             Some((_answer, ended)) => pids_of(ended),

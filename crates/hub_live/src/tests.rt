@@ -1,10 +1,17 @@
 //! Tests of the live hub, in one thread and in several.
 
-use hub_base::{Case, Cases, Event, Outcome, Pid, What};
+use hub_base::{Case, Cases, Entry, Event, Outcome, Pid, Step, What};
 
 mod crew;
 mod one_thread;
 mod threads;
+
+fn entry(pid: u8, step: Step) -> Entry {
+    Entry {
+        pid: Pid(pid),
+        step,
+    }
+}
 
 fn told(pid: u8, what: What) -> Event {
     Event {

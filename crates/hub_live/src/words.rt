@@ -14,6 +14,9 @@ use hub_base::Entry;
 use std::alloc::{AllocError, Global};
 use std::marker::{Brand, PhantomData};
 
+/// A spare word, one for each of 64 ports, and `NEXT`.
+const WORDS: usize = 66;
+
 /// The word that holds the next number to be drawn.
 const NEXT: usize = 65;
 
@@ -64,7 +67,8 @@ impl<K: HubName> Words<K> {
         self.publish_as::<Brand>(token, word, mark, entry);
     }
 
-    /// One load: the seat has then seen the journal, whose mark of this port is given.
+    /// One load: the seat has then seen the journal, whose mark of this port is given; of word 0, of
+    /// which nothing is known, any number.
     pub(crate) fn look(&self, token: &mut Token, word: usize) -> u64
         requires token { IsToken K.name token.old }
         requires number { IsSome token.old.me.0.number }
@@ -109,7 +113,7 @@ pub(crate) fn open_table(alloc: Global, terms: Terms) -> Result<(HubTable, Token
     ensures table { IfOk result (λ r. r.1.table_id ≡ r.0.shared.table_id) }
     ensures seat { IfOk result (λ r. r.1.me ≡ (numbered (blank terms) 0, [])) }
 {
-    let (table, mut token) = HubTable::of_words(alloc, &[0; 66], &terms)?;
+    let (table, mut token) = HubTable::of_words(alloc, &[0; WORDS], &terms)?;
     if table
         .shared
         .compare_exchange::<DrawStep>(&mut token, NEXT, 0, 1)

@@ -1,25 +1,14 @@
 //! One thread for each of some seats, none of which begins until all are started.
 
-ghost use Rattle.std.specs.Prelude.{◌≡◌, All, IfOk};
+ghost use Rattle.std.specs.Prelude.{◌≡◌};
 
-use crate::trouble::Trouble;
-use hub_live::{Blank, HubName, LiveHub, Seat};
+use hub_live::{HubName, LiveHub, Seat};
 use std::alloc::Global;
 use std::marker::PhantomData;
 use std::sync::{Condvar, Mutex, Wait};
 use std::thread;
 use std::thread::Threads;
 use std::time::{Clock, Duration, Instant};
-
-/// A new hub, and the seats of its processes.
-pub fn open(alloc: Global, procs: u8, limit: u32) -> Result<(Blank, Vec<Seat>), Trouble>
-    ensures { IfOk result (λ r. All (λ s. s.hub ≡ r.0.name) r.1.items) }
-{
-    match Blank::open(alloc, procs, limit) {
-        Ok(opened) => Ok(opened),
-        Err(fault) => Err(Trouble::Open(fault)),
-    }
-}
 
 /// What a thread does with its seat.
 pub trait Job: Drop + Send {

@@ -4,9 +4,11 @@ ghost use Rattle.std.specs.Prelude.{◌≡◌, ◌++◌, ◌∷◌, [], IsOk, If
 
 use crate::chances::{Chances, PORTS, value_of};
 use crate::crew::Job;
-use hub_base::{Event, Fault};
+use crate::trouble::Trouble;
+use hub_base::{Counts, Event, Fault};
 use hub_live::{Chan, HubName, LiveHub, Seat};
 use std::alloc::{AllocError, Global};
+use std::io;
 use std::sync::Wait;
 use std::time::{Clock, Duration, Instant};
 
@@ -21,11 +23,23 @@ pub struct Until {
 }
 
 impl Until {
-    /// Whether the time is up, also where the clock fails.
-    pub fn is_over<R: Clock>(&self, rt: &R) -> bool {
-        match self.began.elapsed(rt) {
-            Ok(passed) => passed >= self.limit,
-            Err(_) => true,
+    /// Whether the time is up.
+    pub fn is_over<R: Clock>(&self, rt: &R) -> Result<bool, io::Error> {
+        Ok(self.began.elapsed(rt)? >= self.limit)
+    }
+}
+
+/// Whether a look may show this after one that showed `before`: counts do not fall, and a port stays
+/// made, and closed.
+fn may_follow(before: Option<Counts>, now: Option<Counts>) -> bool {
+    match (before, now) {
+        (None, _) => true,
+        (Some(_), None) => false,
+        (Some(before), Some(now)) => {
+            before.sent <= now.sent
+                && before.received <= now.received
+                && (now.closed || !before.closed)
+                && now.sent.checked_sub(now.received) == Some(now.len)
         }
     }
 }
@@ -39,6 +53,10 @@ pub struct RandomCalls {
     sent: u32,
     /// Each answer that it received, in order.
     told: Vec<Event>,
+    /// By port number: what its last look at the port showed.
+    seen: [Option<Counts>; PORTS as usize + 1],
+    /// How its calls ended.
+    ended: Result<(), Trouble>,
 }
 
 impl RandomCalls {
@@ -50,6 +68,8 @@ impl RandomCalls {
             until,
             sent: 0,
             told,
+            seen: [None; PORTS as usize + 1],
+            ended: Err(Trouble::NotStarted),
         })
     }
 
@@ -60,15 +80,20 @@ impl RandomCalls {
         self.told.as_slice()
     }
 
-    /// Keeps an answer; a refusal is none.
-    fn keep(&mut self, answer: Result<Event, Fault>) -> Result<(), Fault>
+    /// `Ok` where its calls were made until the time was up or the journal full.
+    pub fn ended(&self) -> Result<(), Trouble> {
+        self.ended
+    }
+
+    /// Keeps an answer. A refusal is no answer, and is given back.
+    fn keep(&mut self, answer: Result<Event, Fault>) -> Result<(), Trouble>
         ensures answered { OnOk result (IsOk answer) }
         ensures kept { OnOk result (IfOk answer (λ x.
             self.new.told.items ≡ self.old.told.items ++ x ∷ [])) }
     {
         match self.told.push(answer?) {
             Ok(()) => Ok(()),
-            Err(_) => Err(Fault::NoMemory),
+            Err(_) => Err(Trouble::NoMemory),
         }
     }
 
@@ -78,7 +103,7 @@ impl RandomCalls {
         rt: &R,
         hub: &LiveHub<K>,
         seat: &mut Seat,
-    ) -> Result<(), Fault>
+    ) -> Result<(), Trouble>
         requires { seat.old.hub ≡ K.name }
         ensures { seat.new.hub ≡ seat.old.hub }
     {
@@ -93,7 +118,7 @@ impl RandomCalls {
         rt: &R,
         hub: &LiveHub<K>,
         seat: &mut Seat,
-    ) -> Result<(), Fault>
+    ) -> Result<(), Trouble>
         requires { seat.old.hub ≡ K.name }
         ensures { seat.new.hub ≡ seat.old.hub }
     {
@@ -105,12 +130,29 @@ impl RandomCalls {
         self.keep(hub.call(rt, seat, cases, default, word))
     }
 
+    fn look<K: HubName>(&mut self, hub: &LiveHub<K>, seat: &mut Seat) -> Result<(), Trouble>
+        requires { seat.old.hub ≡ K.name }
+        ensures { seat.new.hub ≡ seat.old.hub }
+    {
+        let port = self.chances.port();
+        let now = hub.look(seat, port);
+        let place = usize::from(port.0);
+        if !may_follow(self.seen[place], now) {
+            return Err(Trouble::LookFell {
+                pid: seat.pid().0,
+                port: port.0,
+            });
+        }
+        self.seen[place] = now;
+        Ok(())
+    }
+
     fn turn<K: HubName, R: Wait>(
         &mut self,
         rt: &R,
         hub: &LiveHub<K>,
         seat: &mut Seat,
-    ) -> Result<(), Fault>
+    ) -> Result<(), Trouble>
         requires { seat.old.hub ≡ K.name }
         ensures { seat.new.hub ≡ seat.old.hub }
     {
@@ -120,7 +162,7 @@ impl RandomCalls {
                 self.keep(hub.close(rt, seat, &sender))
             }
             1..=255 => {
-                let _ = hub.look(seat, self.chances.port());
+                self.look(hub, seat)?;
                 self.call(rt, hub, seat)
             }
             _ => self.call(rt, hub, seat),
@@ -132,24 +174,41 @@ impl RandomCalls {
         rt: &R,
         hub: &LiveHub<K>,
         seat: &mut Seat,
-    ) -> Result<(), Fault>
+    ) -> Result<(), Trouble>
         requires { seat.old.hub ≡ K.name }
         ensures { seat.new.hub ≡ seat.old.hub }
     {
         for _ in 0..CALLS {
-            if self.until.is_over(rt) {
+            if self.until.is_over(rt)? {
                 return Ok(());
             }
             self.turn(rt, hub, seat)?;
         }
         Ok(())
     }
+
+    fn turns_and_exit<K: HubName, R: Wait + Clock>(
+        &mut self,
+        rt: &R,
+        hub: &LiveHub<K>,
+        seat: &mut Seat,
+    ) -> Result<(), Trouble>
+        requires { seat.old.hub ≡ K.name }
+        ensures { seat.new.hub ≡ seat.old.hub }
+    {
+        let turns = self.turns(rt, hub, seat);
+        // So that those who still wait are told, and the round ends.
+        self.keep(hub.exit(rt, seat))?;
+        match turns {
+            // All processes together ask for more calls than the journal has room for.
+            Err(Trouble::Refused(Fault::JournalFull)) => Ok(()),
+            turns => turns,
+        }
+    }
 }
 
 impl Job for RandomCalls {
     fn perform<K: HubName, R: Wait + Clock>(&mut self, rt: &R, hub: &LiveHub<K>, seat: &mut Seat) {
-        let _ = self.turns(rt, hub, seat);
-        // So that those who still wait are told, and the round ends.
-        let _ = self.keep(hub.exit(rt, seat));
+        self.ended = self.turns_and_exit(rt, hub, seat);
     }
 }

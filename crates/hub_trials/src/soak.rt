@@ -4,12 +4,12 @@ ghost use Rattle.std.specs.Prelude.{◌≡◌, All, IfOk, OnOk};
 ghost use Rattle.hub_trials.specs.Answers.{answers_to};
 
 use crate::answers::first_wrong;
-use crate::chances::Chances;
-use crate::crew::{Held, open, run_all};
+use crate::chances::{Chances, PORTS};
+use crate::crew::{Held, run_all};
 use crate::random_calls::{RandomCalls, Until};
 use crate::trouble::Trouble;
-use hub_base::{Event, Pid};
-use hub_core::run;
+use hub_base::{Counts, Event, Pid, Port};
+use hub_core::{Hub, run};
 use hub_live::{Blank, HubName, LiveHub, Seat};
 use std::alloc::{AllocError, Global};
 use std::marker::Brand;
@@ -29,11 +29,12 @@ pub struct Tally {
     pub seconds: u64,
 }
 
-/// A process, and its calls.
+/// A process, its calls, and what it saw of each port in the end, in order.
 #[derive(Drop)]
 struct Called {
     pid: Pid,
     calls: RandomCalls,
+    looks: Vec<Option<Counts>>,
 }
 
 /// A seat with random calls before it. Process 0 makes the ports.
@@ -50,8 +51,8 @@ fn seated<K: HubName, R: Wait>(
     let mut seat = seat;
     let pid = seat.pid().0;
     let mut calls = RandomCalls::new(alloc, seed.wrapping_add(u64::from(pid)), until)?;
-    if pid == 0 && calls.make_ports(rt, hub, &mut seat).is_err() {
-        return Err(Trouble::NoMemory);
+    if pid == 0 {
+        calls.make_ports(rt, hub, &mut seat)?;
     }
     Ok(Held::of(seat, calls))
 }
@@ -74,20 +75,49 @@ fn crew_of<K: HubName, R: Wait>(
     Ok(crew)
 }
 
-/// The seats and the calls of some processes.
+/// What the seat sees of each port, in order.
+fn looks_of<K: HubName>(
+    alloc: Global,
+    hub: &LiveHub<K>,
+    seat: &mut Seat,
+) -> Result<Vec<Option<Counts>>, AllocError>
+    requires { seat.old.hub ≡ K.name }
+    ensures { seat.new.hub ≡ seat.old.hub }
+{
+    let mut looks = Vec::new(alloc);
+    for port in 0..PORTS {
+        looks.push(hub.look(seat, Port(port + 1)))?;
+    }
+    Ok(looks)
+}
+
+/// What the hub shows of each port, in order.
+fn shown_by(alloc: Global, hub: &Hub) -> Result<Vec<Option<Counts>>, AllocError> {
+    let mut shown = Vec::new(alloc);
+    for port in 0..PORTS {
+        shown.push(hub.look(Port(port + 1)).map(|look| look.counts))?;
+    }
+    Ok(shown)
+}
+
+/// The seats and the calls of some processes, whose threads have ended.
 fn parted<K: HubName>(
     alloc: Global,
+    hub: &LiveHub<K>,
     crew: Vec<Held<K, RandomCalls>>,
-) -> Result<(Vec<Seat>, Vec<Called>), AllocError>
+) -> Result<(Vec<Seat>, Vec<Called>), Trouble>
     ensures { IfOk result (λ r. All (λ s. s.hub ≡ K.name) r.0.items) }
 {
     let mut seats = Vec::new(alloc);
     let mut all = Vec::new(alloc);
     for held in crew {
-        let (seat, calls) = held.into_parts();
+        let (mut seat, calls) = held.into_parts();
+        calls.ended()?;
         let pid = seat.pid();
-        seats.push(seat)?;
-        all.push(Called { pid, calls })?;
+        let looks = looks_of(alloc, hub, &mut seat)?;
+        seats.push(seat).map_err(AllocError::from)?;
+        all.push(Called { pid, calls, looks })
+            .map_err(AllocError::from)?;
     }
     Ok((seats, all))
 }
@@ -103,6 +133,15 @@ fn compare(alloc: Global, all: &[Called], events: &[Event]) -> Result<(), Troubl
         }
     }
     Ok(())
+}
+
+/// Whether each process saw in the end what the replay shows.
+fn compare_looks(alloc: Global, all: &[Called], replayed: &Hub) -> Result<(), Trouble> {
+    let shown = shown_by(alloc, replayed)?;
+    match all.iter().find(|called| called.looks != shown) {
+        Some(called) => Err(Trouble::LooksDiffer { pid: called.pid.0 }),
+        None => Ok(()),
+    }
 }
 
 fn answers_of(all: &[Called]) -> u64 {
@@ -128,12 +167,13 @@ fn in_round<K: HubName + Send + Sync, R: Threads + Wait + Clock + Sync>(
     let hub = blank.named::<K>();
     let crew = crew_of::<K, R>(rt, alloc, &hub, seats, seed, until)?;
     let (crew, _took) = run_all(rt, alloc, &hub, crew).ok_or(Trouble::NotStarted)?;
-    let (seats, all) = parted(alloc, crew)?;
+    let (seats, all) = parted(alloc, &hub, crew)?;
     let journal = hub.finish(seats);
-    let Ok((_hub, events)) = run(alloc, journal.procs(), LIMIT, journal.entries()) else {
+    let Ok((replayed, events)) = run(alloc, journal.procs(), LIMIT, journal.entries()) else {
         return Err(Trouble::NoReplay);
     };
     compare(alloc, all.as_slice(), events.as_slice())?;
+    compare_looks(alloc, all.as_slice(), &replayed)?;
     Ok(answers_of(all.as_slice()))
 }
 
@@ -143,7 +183,7 @@ fn round<R: Threads + Wait + Clock + Sync>(
     seed: u64,
     until: Until,
 ) -> Result<u64, Trouble> {
-    let (blank, seats) = open(alloc, PROCS, LIMIT)?;
+    let (blank, seats) = Blank::open(alloc, PROCS, LIMIT)?;
     in_round::<Brand, R>(rt, alloc, blank, seats, seed, until)
 }
 
@@ -169,7 +209,7 @@ pub fn soak<R: Threads + Wait + Clock + Sync>(
         let answers = round(rt, alloc, seeds.word(), until)?;
         tally.rounds = tally.rounds.wrapping_add(1);
         tally.answers = tally.answers.wrapping_add(answers);
-        if until.is_over(rt) {
+        if until.is_over(rt)? {
             break;
         }
     }

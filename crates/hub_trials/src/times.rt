@@ -2,7 +2,7 @@
 
 ghost use Rattle.std.specs.Prelude.{◌≡◌, ◌≤◌, All};
 
-use crate::crew::{Held, Job, open, run_all};
+use crate::crew::{Held, Job, run_all};
 use crate::trouble::Trouble;
 use crate::workload::{Role, Workload};
 use hub_base::{Case, Cases, Event, Fault, Port, Value, What};
@@ -24,9 +24,9 @@ pub struct Rates {
 #[derive(Clone, Copy, Debug, PartialEq, Eq)]
 struct Unanswered;
 
-/// The turns of one process.
+/// What one process does, so often.
 #[derive(Drop)]
-struct Turns {
+struct Work {
     role: Role,
     turns: u32,
     /// Whether each was answered as it is meant to be.
@@ -37,8 +37,8 @@ fn answered(answer: Result<Event, Fault>) -> Result<(), Unanswered> {
     match answer {
         Ok(
             Event {
-                pid: _,
                 what: What::Fired { .. },
+                ..
             },
         ) => Ok(()),
         _ => Err(Unanswered),
@@ -138,7 +138,7 @@ fn take_turns<K: HubName, R: Wait>(
     Ok(())
 }
 
-impl Job for Turns {
+impl Job for Work {
     fn perform<K: HubName, R: Wait + Clock>(&mut self, rt: &R, hub: &LiveHub<K>, seat: &mut Seat) {
         self.all_answered = take_turns(rt, hub, seat, self.role, self.turns).is_ok();
         // So that nobody waits for one who stopped early. It is no part of any count.
@@ -152,12 +152,15 @@ fn make_ports<K: HubName, R: Wait>(
     hub: &LiveHub<K>,
     seat: &mut Seat,
     capacities: &[u32],
-) -> Result<(), Fault>
+) -> Result<(), Trouble>
     requires { seat.old.hub ≡ K.name }
     ensures { seat.new.hub ≡ seat.old.hub }
 {
     for capacity in capacities {
-        hub.make(rt, seat, *capacity)?;
+        match hub.make(rt, seat, *capacity)?.what {
+            What::Made(_) => (),
+            _ => return Err(Trouble::Unanswered),
+        }
     }
     Ok(())
 }
@@ -169,21 +172,21 @@ fn seated<K: HubName, R: Wait>(
     seat: Seat,
     workload: Workload,
     calls: u32,
-) -> Result<Held<K, Turns>, Trouble>
+) -> Result<Held<K, Work>, Trouble>
     requires { seat.hub ≡ K.name }
 {
     let mut seat = seat;
     let pid = seat.pid();
-    if pid.0 == 0 && make_ports(rt, hub, &mut seat, workload.capacities()).is_err() {
-        return Err(Trouble::NoMemory);
+    if pid.0 == 0 {
+        make_ports(rt, hub, &mut seat, workload.capacities())?;
     }
     let role = workload.role(pid);
-    let turns = Turns {
+    let work = Work {
         role,
         turns: workload.turns(role, calls),
         all_answered: false,
     };
-    Ok(Held::of(seat, turns))
+    Ok(Held::of(seat, work))
 }
 
 fn crew_of<K: HubName, R: Wait>(
@@ -193,7 +196,7 @@ fn crew_of<K: HubName, R: Wait>(
     seats: Vec<Seat>,
     workload: Workload,
     calls: u32,
-) -> Result<Vec<Held<K, Turns>>, Trouble>
+) -> Result<Vec<Held<K, Work>>, Trouble>
     requires { All (λ s. s.hub ≡ K.name) seats.items }
 {
     let mut crew = Vec::new(alloc);
@@ -238,7 +241,7 @@ fn rate_of<R: Threads + Wait + Clock + Sync>(
     calls: u32,
 ) -> Result<u64, Trouble> {
     let limit = limit_of(workload, calls);
-    let (blank, seats) = open(alloc, workload.procs(), limit)?;
+    let (blank, seats) = Blank::open(alloc, workload.procs(), limit)?;
     let took = run_named::<Brand, R>(rt, alloc, blank, seats, workload, calls)?;
     Ok(per_second(workload.operations(calls), took))
 }
@@ -272,7 +275,7 @@ fn summary(rates: &[u64]) -> Rates
     let best = rates.iter().copied().max().unwrap_or(0);
     let upper = rates.get(rates.len() / 2).copied().unwrap_or(best);
     let lower = rates
-        .get((rates.len().saturating_sub(1)) / 2)
+        .get(rates.len().saturating_sub(1) / 2)
         .copied()
         .unwrap_or(best);
     Rates {

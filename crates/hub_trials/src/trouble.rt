@@ -1,5 +1,6 @@
 //! Why a trial ended early.
 
+use hub_base::Fault;
 use hub_core::OpenFault;
 use std::alloc::AllocError;
 use std::io;
@@ -14,15 +15,18 @@ pub enum Trouble {
     NoMemory,
     /// No hub was opened.
     #[error("no hub: {0:?}")]
-    Open(OpenFault),
+    Open(#[from] OpenFault),
     /// Memory, a thread or a clock was refused.
     #[error("the threads could not be started")]
     NotStarted,
     /// A clock, an output or the words.
     #[error("a device failed")]
     Device,
-    /// A call of a workload was not answered as it is meant to be.
-    #[error("a call of the workload was refused")]
+    /// A step was refused.
+    #[error("a step was refused: {0}")]
+    Refused(#[from] Fault),
+    /// A step was not answered as it is meant to be.
+    #[error("a step was not answered as it is meant to be")]
     Unanswered,
     /// The replay refused the journal.
     #[error("the journal has no replay")]
@@ -30,6 +34,12 @@ pub enum Trouble {
     /// A process was not answered as the replay answers it.
     #[error("process {pid}: its answer {place}, counted from 0, is not the replay's")]
     Differs { pid: u8, place: usize },
+    /// A process saw less of a port than it had seen before.
+    #[error("process {pid}: its look at port {port} shows less than one before")]
+    LookFell { pid: u8, port: u16 },
+    /// In the end a process saw something else of the ports than the replay has.
+    #[error("process {pid}: its last looks are not the replay's")]
+    LooksDiffer { pid: u8 },
 }
 
 impl Trouble {

@@ -16,7 +16,7 @@ use std::thread::Threads;
 pub enum Plan {
     /// Process 0 sends 9 on port 1, every other receives from it.
     Pass,
-    /// Each waits for ever.
+    /// Each receives from the nil port, so that all stall.
     Stall,
     /// Each closes port 1.
     Close,
@@ -116,10 +116,9 @@ fn look_often<K: HubName>(hub: &LiveHub<K>, seat: &mut Seat, times: u32) -> bool
     let mut sent = 0;
     let mut fell = false;
     for _ in 0..times {
-        if let Some(counts) = hub.look(seat, Port(1)) {
-            fell = fell || counts.sent < sent;
-            sent = counts.sent;
-        }
+        let now = hub.look(seat, Port(1)).map_or(0, |counts| counts.sent);
+        fell = fell || now < sent;
+        sent = now;
     }
     fell
 }

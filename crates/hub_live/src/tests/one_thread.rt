@@ -12,15 +12,50 @@ use std::process::Abort;
 use std::sync::Wait;
 use std::test::*;
 
+/// One value was sent and received, and the port is closed.
+const DRAINED: Counts = Counts {
+    len: 0,
+    sent: 1,
+    received: 1,
+    closed: true,
+};
+
 #[test]
-fn mark_of_a_closed_port(rt: HostRuntime) -> Result<(), Fail> {
-    let counts = Counts {
-        len: 0,
-        sent: 1,
-        received: 1,
-        closed: true,
-    };
-    assert_eq!(rt; mark_of(&counts), 13_835_058_057_429_647_361);
+fn mark_of_a_drained_port(rt: HostRuntime) -> Result<(), Fail> {
+    assert_eq!(rt; mark_of(&DRAINED), 13_835_058_057_429_647_361);
+    Ok(())
+}
+
+#[test]
+fn look_shows_a_drained_port(rt: HostRuntime) -> Result<(), Fail> {
+    let (blank, seats) = Blank::open(rt.alloc(), 1, 10)?;
+    look_after_draining::<Brand, _>(&rt, blank, seats)
+}
+
+fn look_after_draining<K: HubName, R: Wait + Abort>(
+    rt: &R,
+    blank: Blank,
+    seats: Vec<Seat>,
+) -> Result<(), Fail>
+    requires named { blank.name ≡ K.name }
+    requires seats { AreSeats K.name 0 seats.items }
+    requires count { vec_len seats ≡ 1 }
+{
+    let mut seats = seats;
+    let hub = blank.named::<K>();
+    let mut seat = seats.pop().ok_or("one seat")?;
+    let chan = Chan::of(Port(1));
+    let (sender, receiver) = (chan.sender(), chan.receiver());
+    let seven = Value::num(7);
+
+    hub.make(rt, &mut seat, 2)?;
+    hub.call(rt, &mut seat, one(sender.send(seven)), false, 0)?;
+    hub.close(rt, &mut seat, &sender)?;
+    let got = hub.call(rt, &mut seat, one(receiver.recv()), false, 0)?;
+    assert_eq!(rt; got, fired(0, Outcome::Got(seven)));
+    let drained = hub.call(rt, &mut seat, one(receiver.recv()), false, 0)?;
+    assert_eq!(rt; drained, fired(0, Outcome::Drained));
+    assert_eq!(rt; hub.look(&mut seat, Port(1)), Some(DRAINED));
     Ok(())
 }
 
@@ -96,7 +131,7 @@ fn look_after_steps<K: HubName, R: Wait + Abort>(
     Ok(())
 }
 
-// A close is seen after a meeting, and the end that closed twice is told so.
+// A close is seen after a meeting, and a second close is told so.
 #[test]
 fn meeting_shows_a_close(rt: HostRuntime) -> Result<(), Fail> {
     for _ in 0..100 {

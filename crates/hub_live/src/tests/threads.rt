@@ -4,9 +4,9 @@ ghost use Rattle.std.specs.Prelude.{◌≡◌, All, vec_len};
 ghost use Rattle.hub_live.specs.Calls.{AreSeats};
 
 use super::crew::{Held, Plan, Report, run_all};
-use super::{fired, told};
-use crate::{Blank, HubName, LiveHub, Seat};
-use hub_base::{Counts, Outcome, Pid, Port, Value, What};
+use super::{entry, fired, one, told};
+use crate::{Blank, Chan, HubName, LiveHub, Seat};
+use hub_base::{Case, Counts, Entry, Outcome, Pid, Port, Step, Value, What};
 use std::alloc::{AllocError, Global};
 use std::marker::Brand;
 use std::process::Abort;
@@ -25,6 +25,27 @@ fn held_of<K: HubName>(alloc: Global, seats: Vec<Seat>) -> Result<Vec<Held<K>>, 
         held.push(Held::of(seat, Report::Idle))?;
     }
     Ok(held)
+}
+
+fn call(pid: u8, case: Case) -> Entry {
+    let step = Step::Call {
+        cases: one(case),
+        default: false,
+        word: 0,
+    };
+    entry(pid, step)
+}
+
+fn make() -> Entry {
+    entry(0, Step::Make(0))
+}
+
+fn send() -> Entry {
+    call(0, Chan::of(Port(1)).sender().send(Value::num(9)))
+}
+
+fn receive() -> Entry {
+    call(1, Chan::of(Port(1)).receiver().recv())
 }
 
 // A value goes from one thread to the other, whichever comes first.
@@ -64,17 +85,16 @@ fn pass_in_threads<K: HubName + Send + Sync, R: Threads + Wait + Abort + Sync>(
         second.report,
         Report::Answer(Ok(fired(1, Outcome::Got(Value::num(9)))))
     );
+    let mut seats = Vec::new(alloc);
+    seats.push(first.seat)?;
+    seats.push(second.seat)?;
+    let journal = hub.finish(seats);
     // The make stands first, and the two calls in either order.
-    let journal = hub.finish(Vec::new(alloc));
-    let mut pids = Vec::new(alloc);
-    for entry in journal.entries() {
-        pids.push(entry.pid.0)?;
-    }
-    let either = [[0, 0, 1], [0, 1, 0]];
+    let either = [[make(), send(), receive()], [make(), receive(), send()]];
     assert!(rt;
         either
             .iter()
-            .any(|order| pids.as_slice() == order.as_slice())
+            .any(|order| journal.entries() == order.as_slice())
     );
     Ok(())
 }

@@ -1,7 +1,7 @@
 use Rattle.std.proofs.Common.{◌≡◌, vec_len}
 use Rattle.hub_live.specs.Calls.{AreSeats}
 use Rattle.hub_live.specs.Name.{name_of}
-use Rattle.hub_live.proofs.blank.Blank.open.Given as goal
+use Rattle.hub_live.proofs.blank.seats_of.Given as goal
 
 abbrev pub invariant-loop-pid : goal.invariant-loop-pid
 invariant-loop-pid l = (vec_len l.seats ≡ l.pid) × AreSeats (name_of l.table.shared.table_id l.table.shared.key) 0 l.seats.items

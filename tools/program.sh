@@ -1,6 +1,8 @@
 #!/bin/sh
-# program.sh [PROGRAM]: runs the built program on the examples, on random journals, beside the events that model.py
-# makes of them, and with each of its allocations refused. The last line counts: 'N passed, M failed'.
+# program.sh [PROGRAM]: runs the built program on the examples, on random journals beside the events that model.py makes
+# of them, on the longest journal and one entry more, and with each of its allocations refused; compares model.py, the
+# rows of the examples and CLAIMS with what they speak of; and tries a close by an end that receives. The last line
+# counts: 'N passed, M failed'.
 set -u
 root=$(cd "$(dirname "$0")/.." && pwd)
 program=${1:-$root/crates/chanhub/out/chanhub}

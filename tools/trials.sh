@@ -1,6 +1,6 @@
 #!/bin/sh
 # trials.sh WORDS: runs the program `hub_trials` with these words. Where it is not built, or is older than the
-# sources, it is proved and built first, by the kit's `rt`; that takes minutes, and its report goes to standard error.
+# sources, it is proved and built first, by the toolchain's `rt`; that takes minutes, and its report goes to standard error.
 set -eu
 root=$(cd "$(dirname "$(readlink -f "$0")")/.." && pwd)
 crate=$root/crates/hub_trials

@@ -29,9 +29,9 @@ const WORKLOADS: [(&str, &[u32], &[Script]); 8] = [
     ("one_to_one", &[64], &[S1, R1]),
     ("four_to_four", &[64], &[S1, S1, S1, S1, R1, R1, R1, R1]),
     ("select_over_four", &[16; 4], &[S1, S2, S3, S4, SELECTS]),
-    ("looks_1", &[64], &[LOOKS]),
-    ("looks_2", &[64], &[LOOKS; 2]),
-    ("looks_4", &[64], &[LOOKS; 4]),
+    ("looks_1", &[0], &[LOOKS]),
+    ("looks_2", &[0], &[LOOKS; 2]),
+    ("looks_4", &[0], &[LOOKS; 4]),
 ];
 
 /// Runs each workload so many times, and prints a line for it.

@@ -1,8 +1,8 @@
 #!/bin/sh
 # program.sh [PROGRAM]: runs the built program on the examples, on random journals beside the events that model.py makes
-# of them, on the longest journal and one entry more, and with each of its allocations refused; compares model.py, the
-# rows of the examples and CLAIMS with what they speak of; and tries a close by an end that receives. The last line
-# counts: 'N passed, M failed'.
+# of them, on the longest journal and one entry more, and with each of its allocations refused; runs the live hub's
+# tests, which `./test` has built, with theirs refused; compares model.py, the rows of the examples and CLAIMS with what
+# they speak of; and tries a close by an end that receives. The last line counts: 'N passed, M failed'.
 set -u
 root=$(cd "$(dirname "$0")/.." && pwd)
 program=${1:-$root/crates/chanhub/out/chanhub}
@@ -58,6 +58,8 @@ count $? "one entry more than the longest journal has"
 
 "$root/tools/refusals.sh" "$program"
 count $? "refused allocations"
+"$root/tools/live_refusals.sh"
+count $? "refused allocations of the live hub"
 
 "$root/tools/example_rows.py" | cmp - "$root/crates/hub_replay/src/tests/examples.rt"
 count $? "the rows of the examples"

@@ -4,6 +4,7 @@ use hub_base::{Case, Cases, Entry, Event, Outcome, Pid, Step, What};
 
 mod crew;
 mod one_thread;
+mod refusals;
 mod threads;
 
 fn entry(pid: u8, step: Step) -> Entry {

@@ -12,7 +12,8 @@ use Rattle.hub_base.specs.Text.{steps_of, one_step}
 use Rattle.hub_laws.proofs.Limits.{limits-law}
 use Rattle.hub_core.specs.Records.{MachineLists}
 use Rattle.hub_core.specs.Follows.{Follows}
-use Rattle.hub_core.specs.HubView.{Grows, is_full, count_after, places_after}
+use Rattle.hub_core.specs.HubView.{Grows, places_after}
+use Rattle.hub_core.specs.HubKeeps.{is_full, count_after}
 use Rattle.hub_core.proofs.Reached.{steps-length}
 use Rattle.hub_core.proofs.Following.{kept-admitted}
 

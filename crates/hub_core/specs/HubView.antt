@@ -1,6 +1,6 @@
 -- What contracts see of a hub, and what a step of it does. All else that a hub shows is a function
 -- of `state procs journal`.
-use Rattle.std.specs.Prelude.{◌≡◌, ◌≤◌, ◌<◌, ◌-◌, ◌⊎◌, ℕ, false, List, [], ◌∷◌, ◌++◌, None, Some, ◌+◌, Bool, not, ◌&&◌, nat_le, if◌then◌else◌}
+use Rattle.std.specs.Prelude.{◌≡◌, ◌≤◌, ◌<◌, ◌-◌, ◌⊎◌, ℕ, false, List, [], ◌∷◌, ◌++◌, None, Some}
 use Rattle.hub_base.specs.declared.entry.Step.{Step}
 use Rattle.hub_base.specs.declared.entry.Step.TheVariants.{Make, Call, Close, Exit}
 use Rattle.hub_base.specs.declared.entry.Entry.{Entry}
@@ -30,21 +30,13 @@ pub record HubView : Type 0 where
 abbrev pub state_of : HubView → State
 state_of h = state h.procs h.journal
 
--- the journal can take the entry: it is an exit, or fewer than `limit` entries are none
+-- the journal can take the entry: it is an exit, or fewer than `limit` entries are no exits
 abbrev pub HasRoom : HubView → Entry → Type 0
 HasRoom h e = is_exit e.step ≡ false → steps_of h.journal < h.limit
 
--- the journal can't take the entry: it is no exit, and `limit` entries are none
+-- the journal can't take the entry: it is no exit, and `limit` entries are no exits
 abbrev pub IsFullFor : HubView → Entry → Type 0
 IsFullFor h e = (is_exit e.step ≡ false) × (h.limit ≤ steps_of h.journal)
-
--- a journal with so many entries that are no exits can't take the step
-abbrev pub is_full : Step → ℕ → ℕ → Bool
-is_full step count limit = not (is_exit step) && nat_le limit count
-
--- an exit is not counted
-abbrev pub count_after : Step → ℕ → ℕ
-count_after step count = if is_exit step then count else count + 1
 
 -- a close or a call takes one place
 abbrev pub places_after : Step → ℕ → ℕ

@@ -9,7 +9,8 @@ ghost use Rattle.std.specs.Vec.{vec_capacity};
 ghost use Rattle.hub_base.specs.Reading.{is_exit};
 ghost use Rattle.hub_base.specs.Runs.{kept};
 ghost use Rattle.hub_core.specs.Looks.{look_at, value_at};
-ghost use Rattle.hub_core.specs.HubView.{HubView, Steps, Refuses, Grows, RefusesOpening, opened_hub, is_full, count_after, places_after, state_of, IsProcs, IsLimit};
+ghost use Rattle.hub_core.specs.HubView.{HubView, Steps, Refuses, Grows, RefusesOpening, opened_hub, places_after, state_of, IsProcs, IsLimit};
+ghost use Rattle.hub_core.specs.HubKeeps.{is_full, count_after};
 
 use crate::{Machine, OpenFault};
 use hub_base::{Entry, Events, Fault, Journal, Look, Port, Step, Value};

@@ -4,15 +4,19 @@ ghost use Rattle.std.specs.Prelude.{◌≡◌};
 ghost use Rattle.hub_core.specs.declared.opening.OpenFault.TheVariants as open_fault;
 
 use std::alloc::AllocError;
+use thiserror::Error;
 
 /// Why a hub was not opened; tested in this order. Nothing is kept.
-#[derive(Clone, Copy, Debug, PartialEq, Eq)]
+#[derive(Clone, Copy, Debug, PartialEq, Eq, Error)]
 pub enum OpenFault {
     /// The number of processes is not 1 to 64.
+    #[error("the number of processes is not 1 to 64")]
     BadProcs,
     /// The limit is not 1 to 1,000,000.
+    #[error("the limit is not 1 to 1000000")]
     BadLimit,
     /// A growth was refused.
+    #[error("out of memory")]
     NoMemory,
 }
 

@@ -7,14 +7,17 @@ ghost use Rattle.hub_core.specs.RunsTo.{RunsTo, TellsOn, StopsAt, KeepsValues, C
 use crate::{Hub, OpenFault};
 use hub_base::{Entry, Event, Fault, What};
 use std::alloc::{AllocError, Global};
+use thiserror::Error;
 
 /// Why a run of steps ended early. Nothing is kept of it.
-#[derive(Clone, Copy, Debug, PartialEq, Eq)]
+#[derive(Clone, Copy, Debug, PartialEq, Eq, Error)]
 pub enum ListFault {
     /// The hub was not opened.
+    #[error("no hub: {0}")]
     Open(OpenFault),
     /// The entry at this place, counted from 0, found the journal full (`JournalFull`), or a growth
     /// was refused at it (`NoMemory`).
+    #[error("entry {index}: {fault}")]
     At { index: usize, fault: Fault },
 }
 

@@ -26,7 +26,7 @@ Tells t pid seen x = is_parked x.what ≡ false → IsReplyTo t.procs pid.0 seen
 abbrev pub Gains : Entry → List Entry → List Entry → Type 0
 Gains e before seen = own e.pid.0 seen ≡ own e.pid.0 before ++ e ∷ []
 
--- what was seen leaves room: the entry is an exit, or fewer than `limit` entries are none
+-- what was seen leaves room: the entry is an exit, or fewer than `limit` entries are no exits
 abbrev pub LeavesRoom : Terms → Entry → List Entry → Type 0
 LeavesRoom t e seen = is_exit e.step ≡ false → steps_of seen < t.limit
 
@@ -41,8 +41,8 @@ Shows t e seen fault.NoMemory =
     × (refusal (state t.procs seen) e.pid ≡ None)
 Shows t e seen other = ⊥
 
--- between two beginnings of the journal the process asked nothing: it was told what it had been, and
--- has no open call
+-- between two beginnings of the journal the process made no entry; its last answer is the same, and
+-- it has no open call
 pub record AsksNothing (t : Terms) (pid : Pid) (before seen : List Entry) : Type 0 where
   pub own : own pid.0 seen ≡ own pid.0 before
   pub reply : reply pid.0 t.procs seen ≡ reply pid.0 t.procs before

@@ -14,7 +14,7 @@ pub enum Trouble {
     #[error("out of memory")]
     NoMemory,
     /// No hub was opened.
-    #[error("no hub: {0:?}")]
+    #[error("no hub: {0}")]
     Open(#[from] OpenFault),
     /// Memory, a thread or a clock was refused.
     #[error("the threads could not be started")]

@@ -1,6 +1,8 @@
-//! Openings: how many processes, and which limits.
+//! Openings: how many processes, and which limits; and the texts of what refuses a hub or a run.
 
 use crate::{Hub, ListFault, OpenFault, run};
+use hub_base::Fault;
+use std::test::Fail;
 
 #[test]
 fn openings_have_bounds(rt: HostRuntime) {
@@ -23,4 +25,30 @@ fn openings_have_bounds(rt: HostRuntime) {
             "a run of {procs} with limit {limit}"
         );
     }
+}
+
+#[test]
+fn faults_have_texts(rt: HostRuntime) -> Result<(), Fail> {
+    let full = ListFault::At {
+        index: 3,
+        fault: Fault::JournalFull,
+    };
+    for (fault, text) in [
+        (
+            ListFault::Open(OpenFault::BadProcs),
+            "no hub: the number of processes is not 1 to 64",
+        ),
+        (
+            ListFault::Open(OpenFault::BadLimit),
+            "no hub: the limit is not 1 to 1000000",
+        ),
+        (
+            ListFault::Open(OpenFault::NoMemory),
+            "no hub: out of memory",
+        ),
+        (full, "entry 3: the journal is full"),
+    ] {
+        assert_eq!(rt; format!(in rt.alloc(); "{fault}")?.as_str(), text);
+    }
+    Ok(())
 }

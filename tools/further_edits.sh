@@ -1,6 +1,7 @@
 #!/bin/sh
 # further_edits.sh [CRATE ..]: tries the must-fail edits in tools/further_edits, which the gate leaves out, of these
-# crates or of all. Works on a copy, so that only these are tried. The last line is 'N passed, M failed'.
+# crates or of all, one after the other. Works on a copy, so that only these are tried. Status 0 where each of them is
+# refused.
 set -eu
 root=$(cd "$(dirname "$0")/.." && pwd)
 work=$(mktemp -d)

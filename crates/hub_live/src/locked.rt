@@ -165,39 +165,9 @@ impl Locked {
 #[cfg(test)]
 mod tests {
     use super::*;
-    use hub_base::{Case, Cases, Counts, Outcome, Step, Value, What};
+    use crate::tests::{call, entry, fired, told};
+    use hub_base::{Case, Counts, Outcome, Step, Value, What};
     use std::test::Fail;
-
-    fn entry(pid: u8, step: Step) -> Entry {
-        Entry {
-            pid: Pid(pid),
-            step,
-        }
-    }
-
-    fn call(pid: u8, case: Case) -> Entry {
-        let mut cases = Cases::new();
-        cases.push(case);
-        entry(
-            pid,
-            Step::Call {
-                cases,
-                default: false,
-                word: 0,
-            },
-        )
-    }
-
-    fn told(pid: u8, what: What) -> Event {
-        Event {
-            pid: Pid(pid),
-            what,
-        }
-    }
-
-    fn fired(pid: u8, outcome: Outcome) -> Event {
-        told(pid, What::Fired { case: 0, outcome })
-    }
 
     // A receiver parks, a sender's step ends its call, and the value waits for the receiver.
     #[test]

@@ -1,9 +1,9 @@
 //! What a process is answered, and where that is not what a replay answers it.
 
-ghost use Rattle.std.specs.Prelude.{◌≡◌, ◌↔◌, IfOk, IsNone};
+ghost use Rattle.std.specs.Prelude.{◌≡◌, ◌↔◌, true, IfOk, IsNone};
 ghost use Rattle.hub_trials.specs.Answers.{is_answer_to, answers_to};
 
-use hub_base::{Event, Pid, What};
+use hub_base::{Counts, Event, Pid, What};
 use std::alloc::{AllocError, Global};
 
 fn is_answer_to(pid: Pid, event: &Event) -> bool
@@ -35,6 +35,13 @@ fn first_difference(one: &[Event], other: &[Event]) -> Option<usize>
         .zip(other)
         .position(|(left, right)| left != right);
     Some(differs.unwrap_or(one.len().min(other.len())))
+}
+
+/// Whether both saw the same.
+pub fn saw_the_same(one: &[Option<Counts>], other: &[Option<Counts>]) -> bool
+    ensures { result ≡ true → one.now ≡ other.now }
+{
+    one == other
 }
 
 /// The first place where what the process was told is not what these events answer it. `None` only

@@ -81,7 +81,9 @@ impl RandomCalls {
     }
 
     /// `Ok` where its calls were made until the time was up or the journal full.
-    pub fn ended(&self) -> Result<(), Trouble> {
+    pub fn ended(&self) -> Result<(), Trouble>
+        ensures { result ≡ self.now.ended }
+    {
         self.ended
     }
 

@@ -3,7 +3,7 @@
 ghost use Rattle.std.specs.Prelude.{◌≡◌, All, IfOk, OnOk};
 ghost use Rattle.hub_trials.specs.Answers.{answers_to};
 
-use crate::answers::first_wrong;
+use crate::answers::{first_wrong, saw_the_same};
 use crate::chances::{Chances, PORTS};
 use crate::crew::{Held, run_all};
 use crate::random_calls::{RandomCalls, Until};
@@ -136,12 +136,15 @@ fn compare(alloc: Global, all: &[Called], events: &[Event]) -> Result<(), Troubl
 }
 
 /// Whether each process saw in the end what the replay shows.
-fn compare_looks(alloc: Global, all: &[Called], replayed: &Hub) -> Result<(), Trouble> {
-    let shown = shown_by(alloc, replayed)?;
-    match all.iter().find(|called| called.looks != shown) {
-        Some(called) => Err(Trouble::LooksDiffer { pid: called.pid.0 }),
-        None => Ok(()),
+fn compare_looks(all: &[Called], shown: &[Option<Counts>]) -> Result<(), Trouble>
+    ensures { OnOk result (All (λ c. c.looks.items ≡ shown.now) all.now) }
+{
+    for called in all {
+        if !saw_the_same(called.looks.as_slice(), shown) {
+            return Err(Trouble::LooksDiffer { pid: called.pid.0 });
+        }
     }
+    Ok(())
 }
 
 fn answers_of(all: &[Called]) -> u64 {
@@ -173,7 +176,8 @@ fn in_round<K: HubName + Send + Sync, R: Threads + Wait + Clock + Sync>(
         return Err(Trouble::NoReplay);
     };
     compare(alloc, all.as_slice(), events.as_slice())?;
-    compare_looks(alloc, all.as_slice(), &replayed)?;
+    let shown = shown_by(alloc, &replayed)?;
+    compare_looks(all.as_slice(), shown.as_slice())?;
     Ok(answers_of(all.as_slice()))
 }
 

@@ -4,9 +4,9 @@ ghost use Rattle.std.specs.Prelude.{◌≡◌, All, vec_len};
 ghost use Rattle.hub_live.specs.Calls.{AreSeats};
 
 use super::crew::{Held, Plan, Report, run_all};
-use super::{entry, fired, one, told};
+use super::{call, entry, fired, told};
 use crate::{Blank, Chan, HubName, LiveHub, Seat};
-use hub_base::{Case, Counts, Entry, Outcome, Pid, Port, Step, Value, What};
+use hub_base::{Counts, Entry, Outcome, Pid, Port, Step, Value, What};
 use std::alloc::{AllocError, Global};
 use std::marker::Brand;
 use std::process::Abort;
@@ -25,15 +25,6 @@ fn held_of<K: HubName>(alloc: Global, seats: Vec<Seat>) -> Result<Vec<Held<K>>, 
         held.push(Held::of(seat, Report::Idle))?;
     }
     Ok(held)
-}
-
-fn call(pid: u8, case: Case) -> Entry {
-    let step = Step::Call {
-        cases: one(case),
-        default: false,
-        word: 0,
-    };
-    entry(pid, step)
 }
 
 fn make() -> Entry {

@@ -1,5 +1,7 @@
 //! The communications of a call.
 
+ghost use Rattle.std.specs.Prelude.{◌≡◌, ◌∷◌, []};
+
 use crate::{Port, Value};
 use arrayvec::ArrayVec;
 
@@ -27,3 +29,19 @@ impl Default for Case {
 /// The cases of a call, in order and numbered from 0. An entry holds up to 16; a call may have up
 /// to 8.
 pub type Cases = ArrayVec<Case, 16>;
+
+/// What `Cases` offers beside what every `ArrayVec` does.
+pub trait CasesExt {
+    /// This case alone, as a plain send or receive has it.
+    fn one(case: Case) -> Self;
+}
+
+impl CasesExt for Cases {
+    fn one(case: Case) -> Cases
+        ensures { result ≡ record { items = case ∷ [] } }
+    {
+        let mut cases = Cases::new();
+        cases.push(case);
+        cases
+    }
+}

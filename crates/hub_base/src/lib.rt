@@ -18,13 +18,17 @@ mod tests;
 mod text;
 mod value;
 
-pub use case::{Case, Cases};
+pub use case::{Case, Cases, CasesExt};
 pub use counts::{Counts, Look};
 pub use entry::{Entry, Step, copy_cases};
 pub use event::{Event, Events, Outcome, What};
 pub use fault::Fault;
 pub use journal::Journal;
 pub use text::faults::{Kind, NoMemory, ReadFault, TextFault};
+pub use text::fields::Fields;
+pub use text::numbers::number;
 pub use text::reader::{Reader, one_reading, one_spelling, read_journal};
+pub use text::selects::read_case;
+pub use text::steps::same_text;
 pub use text::writer::{write_entry, write_event, write_head};
 pub use value::{Pid, Port, Value};

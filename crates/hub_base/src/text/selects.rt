@@ -16,7 +16,7 @@ use crate::{Case, Cases, Entry, Kind, Pid, Step};
 const MOST_CASES: u8 = 16;
 
 /// What a case field says: a fault of its shape, or else a case or a fault of its numbers.
-fn read_case(field: &[u8]) -> Result<Result<Case, Kind>, Kind>
+pub fn read_case(field: &[u8]) -> Result<Result<Case, Kind>, Kind>
     ensures { result ≡ case_read field.now }
 {
     let Some((letter, parts)) = field.split_first() else {

@@ -71,7 +71,7 @@ is_recv p (Recv q) e = ap (λ (r : Port). Recv r) (same_port q p (eqb-true q.0 p
 ended_case : (L : Pid → List Case) (test : Case → Bool) (calls : List OpenCall) (x : Ending) → Found (λ call. L call.pid ≡ call.cases) test calls x → slice_get (L x.pid) x.at.index ≡ Some x.at.case
 ended_case L test calls x f = ap (λ l. slice_get l x.at.index) (ap L (sym f.pid) ∙ f.known) ∙ f.stands
 
-next_sent : (s : State) (p : Port) (v : Value) (c : Channel) → IsSound s → channel_at s p ≡ Some c → (w : Value) × (next_value (sent v c) ≡ Some w)
+pub next_sent : (s : State) (p : Port) (v : Value) (c : Channel) → IsSound s → channel_at s p ≡ Some c → (w : Value) × (next_value (sent v c) ≡ Some w)
 next_sent s p v c sound e = get_some (c.done ++ v ∷ []) c.taken (omega (arith, (sound.ports p c e).taken, longer v c))
 
 meets_does : (s : State) (L : Pid → List Case) (pid : Pid) (i : ℕ) (p : Port) (v : Value) (c : Channel) (o : Option Ending) → IsSound s → Knows L s.parked → slice_get (L pid) i ≡ Some (Send p v) → channel_at s p ≡ Some c → c.closed ≡ false → o ≡ first_with (is_recv_on p) s.parked →

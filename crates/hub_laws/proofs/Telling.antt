@@ -93,10 +93,10 @@ fires_tells s pid step i (Send p v) (Some c) fits names is can =
 fires_tells s pid step i (Recv p) (Some c) fits names is can = recv_tells s pid step i p fits names c (first_with (is_send_on p) s.parked) (sym is)
 
 -- the case that fires stands in its place, and can proceed
-abbrev Picked : State → List Case → ℕ × Case → Type 0
+abbrev pub Picked : State → List Case → ℕ × Case → Type 0
 Picked s cases x = (slice_get cases x.0 ≡ Some x.1) × (can_proceed s x.1 ≡ true)
 
-picked : (s : State) (cases : List Case) (k : ℕ) (x : ℕ × Case) → slice_get (ready s cases) k ≡ Some x → Picked s cases x
+pub picked : (s : State) (cases : List Case) (k : ℕ) (x : ℕ × Case) → slice_get (ready s cases) k ≡ Some x → Picked s cases x
 picked s cases k x e =
     let c = chosen (can_proceed s) 0 k cases x e in
     let same : x.0 ≡ c.stands.0 = omega (arith, c.stands.1) in

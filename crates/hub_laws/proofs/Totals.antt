@@ -20,6 +20,7 @@ use Rattle.hub_base.specs.State.{Channel}
 use Rattle.hub_base.specs.Ready.{port_of}
 use Rattle.hub_base.specs.Steps.{sent, received, next_value, closing_outcome}
 use Rattle.hub_base.specs.Values.{sent_on, got_on, of_what}
+use Rattle.hub_laws.specs.Received.{received_from}
 use Rattle.hub_laws.proofs.Deeds.{Deed, deed_of, told, picks, at, IsClosing, Moved, Quiet, Wrote, Does, buffers, hands, fetches, gives, drains, refuses, shuts, quiet, wrote}
 use Rattle.hub_laws.proofs.Calls.{same_number}
 use Rattle.hub_laws.proofs.Ports.{same_port}
@@ -138,22 +139,20 @@ take_suc (x ∷ xs) (suc i) w e = ap (λ ys. x ∷ ys) (take_suc xs i w e)
 pub take_next : {A : Type 0} (xs : List A) (i : ℕ) (w : A) → slice_get xs i ≡ Some w → take (i + 1) xs ≡ take i xs ++ w ∷ []
 take_next xs i w e = rw add-one (take_suc xs i w e)
 
-abbrev taken_list : Channel → List Value
-taken_list c = take c.taken c.done
 
-through : (v w : Value) (c d : Channel) → c.taken ≤ length c.done → next_value (sent v c) ≡ Some w → d ≡ received (sent v c) → taken_list d ≡ taken_list c ++ w ∷ []
+pub through : (v w : Value) (c d : Channel) → c.taken ≤ length c.done → next_value (sent v c) ≡ Some w → d ≡ received (sent v c) → received_from d ≡ received_from c ++ w ∷ []
 through v w c d fits next is = rw is (take_next (c.done ++ v ∷ []) c.taken w next ∙ ap (λ xs. xs ++ w ∷ []) (take-append-le c.taken c.done (v ∷ []) fits))
 
-got_here : (p : Port) (c d : Channel) (deeds : List Deed) → c.taken ≤ length c.done → Moved p c d deeds → taken_list d ≡ taken_list c ++ picks (got_on p) deeds
-got_here p c d deeds fits (buffers v live is e) = rw (e, is) (take-append-le c.taken c.done (v ∷ []) fits ∙ sym (append-nil (taken_list c)))
+got_here : (p : Port) (c d : Channel) (deeds : List Deed) → c.taken ≤ length c.done → Moved p c d deeds → received_from d ≡ received_from c ++ picks (got_on p) deeds
+got_here p c d deeds fits (buffers v live is e) = rw (e, is) (take-append-le c.taken c.done (v ∷ []) fits ∙ sym (append-nil (received_from c)))
 got_here p c d deeds fits (hands v w live next is e) = rw (e, same_number p.0) (through v w c d fits next is)
 got_here p c d deeds fits (fetches v w live next is e) = rw (e, same_number p.0) (through v w c d fits next is)
 got_here p c d deeds fits (gives w next is e) = rw (e, is, same_number p.0) (take_next c.done c.taken w next)
-got_here p c d deeds fits (drains next is e) = rw (e, is) (sym (append-nil (taken_list c)))
-got_here p c d deeds fits (refuses v over is e) = rw (e, is) (sym (append-nil (taken_list c)))
+got_here p c d deeds fits (drains next is e) = rw (e, is) (sym (append-nil (received_from c)))
+got_here p c d deeds fits (refuses v over is e) = rw (e, is) (sym (append-nil (received_from c)))
 got_here p c d deeds fits (shuts live is all) =
     let none : picks (got_on p) deeds ≡ [] = picks-none (got_on p) deeds (all_more (IsClosing p) (λ x. got_on p (Some x.case) x.outcome ≡ None) deeds (λ x h. rw h.outcome (got_closing p x.case)) all) in
-    rw (is, none) (sym (append-nil (taken_list c)))
+    rw (is, none) (sym (append-nil (received_from c)))
 
 pub got-does : (cs ts : List Channel) (deeds : List Deed) (p : Port) → ((c : Channel) → at cs p ≡ Some c → c.taken ≤ length c.done) → Does cs ts deeds → total (λ c. take c.taken c.done) ts p ≡ total (λ c. take c.taken c.done) cs p ++ picks (got_on p) deeds
-got-does cs ts deeds p fits does = total-does taken_list (got_on p) cs ts deeds p does (λ c e t. rw t refl) (got_none p) (λ c d e m. got_here p c d deeds (fits c e) m)
+got-does cs ts deeds p fits does = total-does received_from (got_on p) cs ts deeds p does (λ c e t. rw t refl) (got_none p) (λ c d e m. got_here p c d deeds (fits c e) m)

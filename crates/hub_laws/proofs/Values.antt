@@ -45,7 +45,7 @@ got-after s ts es p = grows (λ c. take c.taken c.done) (got_on p) p (λ s e ts 
     ∙ ap (λ xs. total (λ c. take c.taken c.done) s.channels p ++ xs) (sym (told-picks (got_on p) (in_force (ts ++ t ∷ [])) (moves s e).events (λ o. refl)))) s ts es
 
 -- before anything is made
-no_total : {A : Type 0} (f : Channel → List A) (p : Port) → total f [] p ≡ []
+pub no_total : {A : Type 0} (f : Channel → List A) (p : Port) → total f [] p ≡ []
 no_total f p = by (p.0 == 0)
   where
     by : (b : Bool) → option_map_or f (cond b None (slice_get {X = Channel} [] (p.0 - 1))) [] ≡ []

@@ -20,6 +20,7 @@ use Rattle.hub_laws.specs.Replies.{own, reply}
 use Rattle.hub_laws.specs.Journals.{IsLegal}
 use Rattle.hub_laws.specs.Limits.{exits_of}
 use Rattle.hub_laws.specs.OnePort.{touched, number_of}
+use Rattle.hub_laws.specs.Received.{got_at, received_on}
 
 -- ---- states
 
@@ -189,3 +190,25 @@ count_row = refl
 
 pub buffer_row : option_map (λ c. buffer_of c) (channel_at (state 2 two_sent) (port 1)) ≡ Some (value_of 8 ∷ [])
 buffer_row = refl
+
+-- ---- received values
+
+-- process 1 waits on both ports, and process 0 sends on the second
+abbrev until_handed : List Entry
+until_handed = make 0 0 ∷ make 0 0 ∷ select 1 0 (r 1 ∷ r 2 ∷ []) false ∷ []
+
+pub handed_row :
+    got_at (touched 2 until_handed (send 0 2 8)) (moves (state 2 until_handed) (send 0 2 8)).events (port 2)
+    ≡ value_of 8 ∷ []
+handed_row = refl
+
+pub other_port_row :
+    got_at (touched 2 until_handed (send 0 2 8)) (moves (state 2 until_handed) (send 0 2 8)).events (port 1) ≡ []
+other_port_row = refl
+
+-- a value that is only buffered is not received
+pub received_row : received_on (state 2 two_sent) (port 1) ≡ value_of 7 ∷ []
+received_row = refl
+
+pub unmade_row : received_on (state 2 two_sent) (port 2) ≡ []
+unmade_row = refl

@@ -2,7 +2,7 @@
 
 use crate::{
     Event, Fault, Journal, Outcome, Pid, Port, Value, What, read_journal, write_entry, write_event,
-    write_head,
+    write_head, write_journal,
 };
 use std::test::Fail;
 
@@ -45,6 +45,9 @@ fn what_is_read_is_written_again(rt: HostRuntime) -> Result<(), Fail> {
             write_entry(&mut out, entry)?;
         }
         assert_eq!(rt; out.as_slice(), EVERY_LINE);
+        write_journal(&mut out, journal)?;
+        assert_eq!(rt; out.len(), 2 * EVERY_LINE.len());
+        assert_eq!(rt; &out[EVERY_LINE.len()..], EVERY_LINE);
     }
     Ok(())
 }

@@ -4,11 +4,12 @@
 ghost use Rattle.std.specs.Prelude.{◌≡◌, ◌++◌, codes, decimal, OnOk, OnErr, IsOk, ◌↔◌, take, is_ok, if◌then◌else◌, ℕ, ◌<◌, ◌≤◌, List};
 ghost use Rattle.hub_base.specs.EventText.{event_line, what_text, outcome_text};
 ghost use Rattle.hub_base.specs.Lines.{case_field, select_fields, call_fields, step_fields, line};
-ghost use Rattle.hub_base.specs.Reading.{head};
+ghost use Rattle.std.specs.List.{flat_map};
+ghost use Rattle.hub_base.specs.Reading.{head, text};
 ghost use Rattle.hub_base.specs.Writing.{spaced, spaced_cases};
 ghost use Rattle.hub_base.specs.Value.{value_field};
 
-use crate::{Case, Entry, Event, NoMemory, Outcome, Step, Value, What};
+use crate::{Case, Entry, Event, Journal, NoMemory, Outcome, Step, Value, What};
 use itoa::Buffer;
 use std::alloc::AllocError;
 
@@ -254,5 +255,42 @@ pub fn write_head(out: &mut Vec<u8>, procs: u8) -> Result<(), NoMemory>
 {
     let before = out.len();
     let done = put_head(out, procs);
+    undo_if_refused(out, before, done)
+}
+
+/// Appends the line of each entry.
+fn put_entries(out: &mut Vec<u8>, entries: &[Entry]) -> Result<(), AllocError>
+    ensures ok { OnOk result (out.new.items ≡ out.old.items ++ flat_map line entries.now) }
+    ensures err { OnErr result ((rest : List ℕ) × (out.new.items ≡ out.old.items ++ rest)) }
+{
+    for entry in entries {
+        match put_entry(out, entry) {
+            Ok(()) => {}
+            Err(AllocError) => return Err(AllocError),
+        }
+    }
+    Ok(())
+}
+
+/// Appends the head lines and the line of each entry.
+fn put_journal(out: &mut Vec<u8>, journal: &Journal) -> Result<(), AllocError>
+    ensures ok { OnOk result (
+        out.new.items ≡ out.old.items ++ text journal.now.procs journal.now.entries) }
+    ensures err { OnErr result ((rest : List ℕ) × (out.new.items ≡ out.old.items ++ rest)) }
+{
+    put_head(out, journal.procs())?;
+    put_entries(out, journal.entries())
+}
+
+/// Appends the text of a journal of 1 to 64 processes; `Err` where a growth was refused, with
+/// nothing appended. It is read again as this journal, where it keeps within the limits of texts.
+pub fn write_journal(out: &mut Vec<u8>, journal: &Journal) -> Result<(), NoMemory>
+    requires { (1 ≤ journal.now.procs) × (journal.now.procs ≤ 64) }
+    ensures ok { OnOk result (
+        out.new.items ≡ out.old.items ++ text journal.now.procs journal.now.entries) }
+    ensures err { OnErr result (out.new.items ≡ out.old.items) }
+{
+    let before = out.len();
+    let done = put_journal(out, journal);
     undo_if_refused(out, before, done)
 }

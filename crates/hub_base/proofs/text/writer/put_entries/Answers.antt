@@ -1,0 +1,5 @@
+use Rattle.hub_base.proofs.Spelled.{grown-more}
+use Rattle.hub_base.proofs.text.writer.put_entries.Goals as goal
+
+pub returns-in-Err-clause-err : goal.returns-in-Err-clause-err
+returns-in-Err-clause-err c = grown-more c.args.out.now.items c.loop-entry.out.items c.put_entry.new.out.items c.loop-entry.invariant.grown c.in-Err.ensures.err

@@ -1,0 +1,11 @@
+//! Received values: what one entry adds to them on each port.
+
+ghost use Rattle.hub_laws.specs.Received.{ReceivedLaw};
+
+use hub_base::Entry;
+
+/// One entry adds to the values received on the port that its answer names just the values that its
+/// events tell as got, and to those of any other port none.
+pub fn received_values_are_told(procs: u8, before: &[Entry], entry: &Entry)
+    ensures { ReceivedLaw procs before.now entry.now }
+{}

@@ -1,0 +1,13 @@
+use Rattle.std.proofs.Common.{refl, arith}
+use Rattle.hub_base.specs.Runs.{state}
+use Rattle.hub_laws.proofs.Lasting.{ports-law}
+use Rattle.hub_report.proofs.Ports.{all-ports, next-port}
+use Rattle.hub_report.proofs.replayed.Replayed.ports.Goals as goal
+
+pub loop-place-preserved : goal.loop-place-preserved
+loop-place-preserved c = λ n es tells.
+    rw c.in_ok-push.ensures.items (next-port (state n es) c.loop-place.place _ c.in-Some.port c.loop-place.ports.items refl (c.loop-place.invariant n es tells) (c.in-Some.ensures n es tells))
+
+pub returns : goal.returns
+returns c = λ n es tells.
+    all-ports (state n es) c.loop-place.place c.loop-place.ports.items (c.loop-place.invariant n es tells) (omega (arith, ports-law n es))

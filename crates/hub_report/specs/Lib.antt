@@ -1,0 +1,5 @@
+pub mod Reports
+pub mod ReportRows
+pub mod ReportText
+pub mod TextRows
+pub mod Replays

@@ -1,0 +1,62 @@
+-- What the report of a journal tells: of each port what it carried, from the state that the journal
+-- leads to; and how many calls stalled and how many faults were told, from its events.
+use Rattle.std.specs.Prelude.{◌≡◌, ℕ, ◌-◌, Bool, true, false, List, length, map, filter}
+use Rattle.std.specs.List.{sum_by}
+use Rattle.hub_base.specs.declared.entry.Entry.{Entry}
+use Rattle.hub_base.specs.declared.event.What.{What}
+use Rattle.hub_base.specs.declared.event.What.TheVariants as what
+use Rattle.hub_base.specs.declared.event.Event.{Event}
+use Rattle.hub_base.specs.Journal.{JournalView}
+use Rattle.hub_base.specs.State.{Channel}
+use Rattle.hub_base.specs.Runs.{state, events}
+use Rattle.hub_base.specs.Value.{number_of}
+use Rattle.hub_base.specs.Values.{is_fault}
+use Rattle.hub_laws.specs.Received.{received_from}
+use Rattle.hub_report.specs.declared.report.PortReport.{PortReport}
+use Rattle.hub_report.specs.declared.report.Report.{Report}
+
+-- of a channel: its capacity, how many values were sent, received and neither, the sum of those that
+-- were received, and whether it is closed
+abbrev pub told_of : Channel → PortReport
+told_of c =
+    record {
+      cap = c.cap;
+      sent = length c.done;
+      received = c.taken;
+      left = length c.done - c.taken;
+      sum = sum_by number_of (received_from c);
+      closed = c.closed;
+    }
+
+-- the ports of a journal of n processes, in order of number
+abbrev pub ports_told : ℕ → List Entry → List PortReport
+ports_told n journal = map told_of (state n journal).channels
+
+-- a call ended because everyone waited
+abbrev pub is_stalled : What → Bool
+is_stalled what.Stalled = true
+is_stalled (what.Made p) = false
+is_stalled (what.Fired i o) = false
+is_stalled what.Default = false
+is_stalled what.Done = false
+is_stalled what.Parked = false
+is_stalled (what.Fault f) = false
+
+-- how many of these events tell such
+abbrev pub how_many : (What → Bool) → List Event → ℕ
+how_many test es = length (filter (λ e. test e.what) es)
+
+-- the events `Stalled` of a journal
+abbrev pub stalled_told : ℕ → List Entry → ℕ
+stalled_told n journal = how_many is_stalled (events n journal)
+
+-- its faults
+abbrev pub faults_told : ℕ → List Entry → ℕ
+faults_told n journal = how_many is_fault (events n journal)
+
+-- the report holds the journal, and tells these things of it
+pub record IsReportOf (given : JournalView) (r : Report) : Type 0 where
+  pub journal : r.journal ≡ given
+  pub ports : r.ports.items ≡ ports_told given.procs given.entries
+  pub stalled : r.stalled ≡ stalled_told given.procs given.entries
+  pub faults : r.faults ≡ faults_told given.procs given.entries

@@ -1,0 +1,129 @@
+//! One replay of a journal. A machine makes the steps, and what it does not keep is told by the events
+//! of each: all that is received in one step is received on the port that its answer names.
+
+ghost use Rattle.std.specs.Prelude.{◌≡◌, ◌≤◌, ◌<◌, ◌+◌, ◌^◌, ℕ, List, [], length, replicate, Some, IfOk, slice_index_or};
+ghost use Rattle.std.specs.List.{sum_by};
+ghost use Rattle.std.specs.Option.{option_map};
+ghost use Rattle.hub_base.specs.declared.value.Port.{Port};
+ghost use Rattle.hub_base.specs.declared.entry.Entry.{Entry};
+ghost use Rattle.hub_base.specs.Limits.{most_procs, most_steps};
+ghost use Rattle.hub_base.specs.Runs.{state};
+ghost use Rattle.hub_base.specs.State.{channel_at};
+ghost use Rattle.hub_base.specs.Text.{steps_of};
+ghost use Rattle.hub_laws.specs.Journals.{IsLegal};
+ghost use Rattle.hub_laws.specs.OnePort.{IsMade, port_touched};
+ghost use Rattle.hub_report.specs.Reports.{ports_told, told_of};
+ghost use Rattle.hub_report.specs.Replays.{HasRoom, Tells, Within, most_got, number_told, with_sum, with_told};
+
+use crate::PortReport;
+use crate::counting::{count_faults, count_stalled, port_named, sum_got};
+use hub_base::{Event, Events, Journal, Port, Step};
+use hub_core::Machine;
+use std::alloc::{AllocError, Global};
+
+/// What some entries led to, and what their events told.
+#[derive(Drop)]
+pub(crate) struct Replayed {
+    machine: Machine,
+    /// The sum of the values received on each port, port 1 first. It is 0 where no port is made.
+    sums: [u128; 64],
+    /// How many events were `Stalled`.
+    pub(crate) stalled: u32,
+    /// How many events were faults.
+    pub(crate) faults: u32,
+}
+
+/// No value was received.
+fn no_sums() -> [u128; 64]
+    ensures { result ≡ replicate 64 0 }
+{
+    [0; 64]
+}
+
+/// Adds so much to the sum of the port, if there is one.
+fn add_to_sum(sums: &mut [u128; 64], port: Option<Port>, more: u128)
+    requires made { (p : Port) → port ≡ Some p → IsMade p 64 }
+    requires room { (k : ℕ) → slice_index_or sums.old k 0 + more < 2 ^ 128 }
+    ensures { sums.new ≡ with_sum sums.old port more }
+{
+    if let Some(port) = port {
+        sums[port.0 as usize - 1] += more;
+    }
+}
+
+impl Replayed {
+    /// Nothing has happened at this number of processes.
+    fn open(alloc: Global, procs: u8) -> Result<Replayed, AllocError>
+        requires { (1 ≤ procs) × (procs ≤ most_procs) }
+        ensures tells { IfOk result (λ r. Tells procs [] r) }
+        ensures within { IfOk result (λ r. Within 0 r) }
+    {
+        Ok(Replayed {
+            machine: Machine::open(alloc, procs)?,
+            sums: no_sums(),
+            stalled: 0,
+            faults: 0,
+        })
+    }
+
+    /// Adds what the events of a step tell.
+    fn add(&mut self, step: &Step, events: &[Event])
+        requires few { length events.now ≤ 65 }
+        requires made { (p : Port) → port_touched step.now events.now ≡ Some p → IsMade p 64 }
+        requires room { HasRoom self.old }
+        ensures told { self.new ≡ with_told self.old step.now events.now }
+        ensures fits { sum_by number_told events.now ≤ most_got }
+    {
+        add_to_sum(&mut self.sums, port_named(step, events), sum_got(events));
+        self.stalled += count_stalled(events) as u32;
+        self.faults += count_faults(events) as u32;
+    }
+
+    /// What one port carried, or `None` where it is not made.
+    fn port(&self, port: Port) -> Option<PortReport>
+        requires { IsMade port 64 }
+        ensures { (n : ℕ) (es : List Entry) → Tells n es self.now
+            → result ≡ option_map told_of (channel_at (state n es) port) }
+    {
+        let look = self.machine.look(port)?;
+        Some(PortReport {
+            cap: look.cap,
+            sent: look.counts.sent,
+            received: look.counts.received,
+            left: look.counts.len,
+            sum: self.sums[port.0 as usize - 1],
+            closed: look.counts.closed,
+        })
+    }
+
+    /// What each port carried, in order of number.
+    pub(crate) fn ports(&self, alloc: Global) -> Result<Vec<PortReport>, AllocError>
+        ensures { IfOk result (λ ports. (n : ℕ) (es : List Entry) → Tells n es self.now
+            → ports.items ≡ ports_told n es) }
+    {
+        let mut ports = Vec::new(alloc);
+        for place in 0..64u16 {
+            let Some(port) = self.port(Port(place + 1)) else {
+                return Ok(ports);
+            };
+            ports.push(port)?;
+        }
+        Ok(ports)
+    }
+}
+
+/// Replays a legal journal.
+pub(crate) fn replay(alloc: Global, journal: &Journal) -> Result<Replayed, AllocError>
+    requires procs { (1 ≤ journal.now.procs) × (journal.now.procs ≤ most_procs) }
+    requires legal { IsLegal journal.now.procs journal.now.entries }
+    requires few { steps_of journal.now.entries ≤ most_steps }
+    ensures { IfOk result (λ r. Tells journal.now.procs journal.now.entries r) }
+{
+    let mut replayed = Replayed::open(alloc, journal.procs())?;
+    let mut events = Events::new();
+    for entry in journal.entries() {
+        replayed.machine.answer(entry, &mut events)?;
+        replayed.add(&entry.step, &events);
+    }
+    Ok(replayed)
+}

@@ -1,0 +1,62 @@
+//! The report of a journal: what each port carried, how many calls stalled, how many faults were told.
+
+ghost use Rattle.std.specs.Prelude.{◌≡◌, ◌≤◌, IfOk};
+ghost use Rattle.hub_base.specs.Limits.{most_procs, most_steps};
+ghost use Rattle.hub_base.specs.Text.{steps_of};
+ghost use Rattle.hub_laws.specs.Journals.{IsLegal};
+ghost use Rattle.hub_report.specs.Reports.{IsReportOf};
+
+use crate::replayed::replay;
+use hub_base::Journal;
+use std::alloc::{AllocError, Global};
+
+/// What a port carried.
+#[derive(Clone, Copy, Debug, Default, PartialEq, Eq)]
+pub struct PortReport {
+    /// How many values it can buffer, 0 to 1,024.
+    pub cap: u32,
+    /// How many sends completed.
+    pub sent: u32,
+    /// How many receives got a value.
+    pub received: u32,
+    /// How many values were sent and not received: `sent - received`.
+    pub left: u32,
+    /// The sum of the values received.
+    pub sum: u128,
+    /// Whether it is closed.
+    pub closed: bool,
+}
+
+/// A journal, and what it tells of a run.
+#[derive(Drop)]
+pub struct Report {
+    /// The journal that all else is told of.
+    pub journal: Journal,
+    /// What each port carried: the first is port 1.
+    pub ports: Vec<PortReport>,
+    /// How many calls ended because everyone waited.
+    pub stalled: u32,
+    /// How many steps were answered by a fault.
+    pub faults: u32,
+}
+
+impl Report {
+    /// The report of a legal journal of 1 to 64 processes with at most 1,000,000 steps (an exit is
+    /// not one). Its entries are replayed once; they are not copied.
+    pub fn of(alloc: Global, journal: Journal) -> Result<Report, AllocError>
+        requires procs { (1 ≤ journal.procs) × (journal.procs ≤ most_procs) }
+        requires legal { IsLegal journal.procs journal.entries }
+        requires few { steps_of journal.entries ≤ most_steps }
+
+        ensures ok { IfOk result (λ r. IsReportOf journal r) }
+    {
+        let replayed = replay(alloc, &journal)?;
+        let ports = replayed.ports(alloc)?;
+        Ok(Report {
+            journal,
+            ports,
+            stalled: replayed.stalled,
+            faults: replayed.faults,
+        })
+    }
+}

@@ -1,0 +1,3 @@
+//! Tests through the public calls. Expected texts are worked out by hand from the rules.
+
+mod texts;

@@ -199,8 +199,8 @@ moves-received s e p sound = gains_by s e p (port_touched e.step (moves s e).eve
 told_by_events : (n : ℕ) (es : List Entry) (p : Port) → received_on (state n es) p ≡ received_values n es p
 told_by_events n es p = got-after (opening n) [] es p (sound-opening n) tt ∙ ap (λ xs. xs ++ received_values n es p) (no_total received_from p)
 
-pub received-entry : (n : ℕ) (es : List Entry) (e : Entry) → ReceivedLaw n es e
-received-entry n es e = record {
+pub received_values-law : (n : ℕ) (es : List Entry) (e : Entry) → ReceivedLaw n es e
+received_values-law n es e = record {
   adds = λ p. ap (λ (s : State). received_on s p) (state-entry n es e) ∙ moves-received (state n es) e p (state-sound n es);
   told = told_by_events n es;
 }

@@ -26,7 +26,7 @@ use Rattle.hub_laws.proofs.Lasting.{ports-law}
 use Rattle.hub_laws.proofs.Limits.{limits-law}
 use Rattle.hub_laws.proofs.Longer.{events-entry}
 use Rattle.hub_laws.proofs.OnePort.{one_port-law}
-use Rattle.hub_laws.proofs.Received.{received-entry}
+use Rattle.hub_laws.proofs.Received.{received_values-law}
 use Rattle.hub_laws.proofs.Values.{no_total}
 use Rattle.hub_core.specs.Records.{MachineLists}
 use Rattle.hub_core.specs.Follows.{Follows, Answers}
@@ -100,7 +100,7 @@ module _ (n : ℕ) (es : List Entry) (e : Entry) (old : Replayed) (machine : Mac
     follows = answers.follows;
     places = length-with_sum old.sums (port_touched e.step told) (sum_by number_told told) ∙ tells.places;
     sums = λ p made.
-        let grown = (received-entry n es e).adds p in
+        let grown = (received_values-law n es e).adds p in
         let same : port_touched e.step told ≡ port_touched e.step (moves (state n es) e).events = ap (port_touched e.step) answers.events in
         sum_at old.sums (port_touched e.step told) (sum_by number_told told) p tells.places made named
         ∙ ap (λ k. k + cond (is_port (port_touched e.step told) p) (sum_by number_told told) 0) (tells.sums p made)

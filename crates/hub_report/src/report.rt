@@ -11,7 +11,7 @@ use hub_base::Journal;
 use std::alloc::{AllocError, Global};
 
 /// What a port carried.
-#[derive(Clone, Copy, Debug, Default, PartialEq, Eq)]
+#[derive(Clone, Copy, Debug, PartialEq, Eq)]
 pub struct PortReport {
     /// How many values it can buffer, 0 to 1,024.
     pub cap: u32,

@@ -1,3 +1,5 @@
 //! Tests through the public calls. Expected texts are worked out by hand from the rules.
 
-mod texts;
+mod journals;
+mod limits;
+mod rows;

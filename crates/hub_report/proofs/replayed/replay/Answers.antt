@@ -22,6 +22,6 @@ pub loop-entry-preserved : goal.loop-entry-preserved
 loop-entry-preserved c =
     let told = c.in_ok-answer.ensures.ok c.args.journal.now.procs (take c.loop-entry.entry-index c.args.journal.now.entries) c.loop-entry.invariant.tells.follows in
     let next = next-told c.args.journal.now.procs c.args.journal.now.entries c.loop-entry.entry-index c.entry-item.result c.loop-entry.replayed c.answer.new.self c.deref.result.now c.add.new.self
-        (omega (arith, ap length c.entries-entry-items.ensures)) (rw c.entries-entry-items.ensures at c.entry-item.is) c.loop-entry.invariant.tells c.loop-entry.invariant.within (rw (sym c.deref.ensures.0) at told)
-        c.in_ok-answer.ensures.steps (omega arith) c.add.ensures.fits c.add.ensures.told in
+    (omega (arith, ap length c.entries-entry-items.ensures)) (rw c.entries-entry-items.ensures at c.entry-item.is) c.loop-entry.invariant.tells c.loop-entry.invariant.within (rw (sym c.deref.ensures.0) at told)
+    c.in_ok-answer.ensures.steps (omega arith) c.add.ensures.fits c.add.ensures.told in
     record { tells = next.0; within = next.1 }

@@ -1,0 +1,52 @@
+//! As many ports as a hub can have, and texts that are appended.
+
+use super::journals::report_of;
+use crate::{PortReport, write_report};
+use hub_base::{Case, Cases, Entry, Pid, Port, Step, Value};
+use hub_core::Hub;
+use std::test::Fail;
+
+fn entry(step: Step) -> Entry {
+    Entry { pid: Pid(0), step }
+}
+
+fn call(case: Case) -> Entry {
+    let mut cases = Cases::new();
+    cases.push(case);
+    entry(Step::Call {
+        cases,
+        default: false,
+        word: 0,
+    })
+}
+
+/// 64 ports are made, 9 goes through the last, and a further one is a fault.
+#[test]
+fn sixty_four_ports_are_told(rt: HostRuntime) -> Result<(), Fail> {
+    let mut entries = Vec::new(rt.alloc());
+    for cap in 1..=65 {
+        entries.push(entry(Step::Make(cap)))?;
+    }
+    entries.push(call(Case::Send(Port(64), Value::num(9))))?;
+    entries.push(call(Case::Recv(Port(64))))?;
+    let hub = Hub::open(rt.alloc(), 1, 1000)?;
+    let report = report_of(&rt, rt.alloc(), hub, &entries)?;
+    assert_eq!(rt; report.journal.entries().len(), 67);
+    assert_eq!(rt; report.ports.len(), 64);
+    let last = PortReport {
+        cap: 64,
+        sent: 1,
+        received: 1,
+        left: 0,
+        sum: 9,
+        closed: false,
+    };
+    assert_eq!(rt; report.ports.last(), Some(&last));
+    assert_eq!(rt; (report.stalled, report.faults), (0, 1));
+
+    let mut out = Vec::from_slice(rt.alloc(), b"before\n")?;
+    write_report(&mut out, &report)?;
+    assert!(rt; out.starts_with(b"before\nport 1 cap 1 sent 0 received 0 left 0 sum 0 open\n"));
+    assert!(rt; out.ends_with(b"\nport 64 cap 64 sent 1 received 1 left 0 sum 9 open\nfaults 1\n"));
+    Ok(())
+}

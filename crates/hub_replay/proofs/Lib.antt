@@ -1,1 +1,5 @@
+mod Comparing
+mod LongTexts
+mod Newlines
 mod Replayed
+mod Verified

@@ -1,2 +1,5 @@
+pub mod Comparing
 pub mod Devices
 pub mod Replay
+pub mod Replayed
+pub mod Verify

@@ -4,14 +4,18 @@
 //! in `specs/Devices`, what a whole replay does to both ends in `specs/Replay`.
 #![tactic(auto)]
 
+mod comparison;
 mod device;
 mod fault;
 mod pieces;
 mod replayer;
+mod steps;
 #[cfg(test)]
 mod tests;
+mod verifier;
 
 pub use device::{Counted, Sink, Source};
 pub use fault::{ReplayFault, SourceFault, WriteFailed};
 pub use pieces::{CHUNK, read_up_to, write_whole};
 pub use replayer::replay;
+pub use verifier::{Compared, verify};

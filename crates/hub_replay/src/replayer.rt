@@ -11,15 +11,13 @@ ghost use Rattle.hub_replay.specs.Devices.{Failed};
 ghost use Rattle.hub_replay.specs.Replay.{IsEventText, HasNone, Replays, BeginsReplay, ReadsFaulty};
 
 use crate::pieces::{read_up_to, write_whole};
+use crate::steps::{MOST_BYTES, Steps};
 use crate::{ReplayFault, Sink, Source};
-use hub_base::{Entry, Event, Events, NoMemory, Pid, Reader, Step, one_reading, write_event};
-use hub_core::Machine;
+use hub_base::{Event, NoMemory, write_event};
 use std::alloc::Global;
 
-/// The most bytes of a journal.
-const MOST_BYTES: usize = 67_108_864;
-
-fn write_events(text: &mut Vec<u8>, events: &[Event]) -> Result<(), NoMemory>
+/// Appends the lines of these events.
+pub fn write_events(text: &mut Vec<u8>, events: &[Event]) -> Result<(), NoMemory>
     ensures { OnOk result (text.new.items ≡ text.old.items ++ flat_map event_line events.now) }
 {
     for event in events {
@@ -30,24 +28,13 @@ fn write_events(text: &mut Vec<u8>, events: &[Event]) -> Result<(), NoMemory>
 
 /// The event text of the journal that these bytes are the text of.
 fn event_text(alloc: Global, bytes: &[u8]) -> Result<Vec<u8>, ReplayFault>
-    requires { length bytes.now < 2 ^ 32 - 1 }
     ensures ok { IfOk result (λ text. IsEventText bytes.now text.items) }
     ensures err { IfErr result (HasNone bytes.now) }
 {
-    // Its clauses say of which journal the reader's answers speak.
-    one_reading();
-    let mut reader = Reader::open(bytes)?;
-    let mut machine = Machine::open(alloc, reader.procs())?;
-    let mut events = Events::new();
+    let mut steps = Steps::open(alloc, bytes)?;
     let mut text = Vec::new(alloc);
-    // One entry is read into again and again, since it is large.
-    let mut entry = Entry {
-        pid: Pid(0),
-        step: Step::Exit,
-    };
-    while reader.read_into(&mut entry)? {
-        machine.answer(&entry, &mut events)?;
-        write_events(&mut text, &events)?;
+    while steps.advance()? {
+        write_events(&mut text, steps.events())?;
     }
     Ok(text)
 }

@@ -1,15 +1,11 @@
-use Rattle.std.proofs.Common.{rules, subst, Bool, Ok}
-use Rattle.hub_base.specs.Reader.{FillsOn}
-use Rattle.hub_replay.proofs.Replayed.{one-more-replayed, all-replayed}
+use Rattle.hub_replay.proofs.Replayed.{whole-replayed}
+use Rattle.hub_replay.proofs.Verified.{same-fault}
 use Rattle.hub_replay.proofs.replayer.event_text.Goals as goal
 
-pub loop-text-preserved : goal.loop-text-preserved
-loop-text-preserved c =
-    one-more-replayed c.loop-text.invariant c.read_into.new.entry _ _
-    (subst (λ (b : Bool). FillsOn c.loop-text.reader c.read_into.new.self c.read_into.new.entry (Ok b)) c.if-branch.true c.in_ok-read_into.ensures)
-    (c.in_ok-answer.ensures.ok _ _ c.loop-text.invariant.follows) c.in_ok-answer.ensures.steps (search rules)
+pub returns-in_err-advance-clause-err : goal.returns-in_err-advance-clause-err
+returns-in_err-advance-clause-err c =
+    same-fault c.args.bytes.now _ _ c.from_residual-in_err-advance.ensures.1
+    (c.in_err-advance.ensures.err c.args.bytes.now c.loop-text.text.items c.loop-text.invariant)
 
 pub returns-clause-ok : goal.returns-clause-ok
-returns-clause-ok c =
-    all-replayed c.loop-text.invariant (c.one_reading.ensures.reads c.args.bytes.now)
-    (subst (λ (b : Bool). FillsOn c.loop-text.reader c.read_into.new.self c.read_into.new.entry (Ok b)) c.if-branch.false c.in_ok-read_into.ensures).0
+returns-clause-ok c = (whole-replayed c.advance.new.self.reader c.advance.new.self.machine c.advance.new.self.events.items c.if-branch.false (c.in_ok-advance.ensures.ok c.args.bytes.now c.loop-text.text.items c.loop-text.invariant)).is

@@ -1,0 +1,12 @@
+-- What was read so far was replayed, and the events given agree so far with its text.
+use Rattle.std.proofs.Common.{◌≡◌, List, ℕ}
+use Rattle.hub_replay.specs.Comparing.{Agrees}
+use Rattle.hub_replay.specs.Replayed.{Replayed}
+use Rattle.hub_replay.proofs.Verified.{Verified}
+use Rattle.hub_replay.proofs.verifier.verify.Given as goal
+
+abbrev pub invariant-loop-lines : goal.invariant-loop-lines
+invariant-loop-lines l = Verified l.journal l.events l.steps.reader l.steps.machine l.comparison.bytes.now l.comparison.agreed l.comparison.parted
+
+abbrev pub decreases-loop-lines : goal.decreases-loop-lines
+decreases-loop-lines l = l.steps.reader.bytes

@@ -1,0 +1,31 @@
+-- What the entries that were read so far have led to.
+use Rattle.std.specs.Prelude.{◌≡◌, ℕ, ◌-◌, ◌*◌, ◌≤◌, ◌<◌, ◌^◌, Bool, true, false, List, ◌++◌, length}
+use Rattle.std.specs.List.{flat_map}
+use Rattle.hub_base.specs.declared.entry.Entry.{Entry}
+use Rattle.hub_base.specs.declared.event.Event.{Event}
+use Rattle.hub_base.specs.EventText.{event_line}
+use Rattle.hub_base.specs.Reader.{ReaderView}
+use Rattle.hub_base.specs.Reading.{read_text, behind}
+use Rattle.hub_base.specs.Runs.{events}
+use Rattle.hub_core.specs.Follows.{Follows}
+use Rattle.hub_core.specs.Records.{MachineLists}
+use Rattle.hub_replay.specs.Replay.{event_lines, IsEventText}
+use Rattle.hub_replay.specs.Verify.{newlines_in}
+
+-- there are entries whose text was read so far; the machine follows them, and this is their event text
+pub record Replayed (bytes text : List ℕ) (reader : ReaderView) (machine : MachineLists) : Type 0 where
+  pub entries : List Entry
+  pub said : read_text bytes ≡ behind entries reader.left
+  pub follows : Follows reader.procs entries machine
+  pub told : text ≡ event_lines reader.procs entries
+  pub few : length (events reader.procs entries) ≤ 65 * length entries
+
+-- the bytes are a journal's text, and this is its event text, whose lines can be counted
+pub record ReplayedWhole (bytes text : List ℕ) : Type 0 where
+  pub is : IsEventText bytes text
+  pub lines : newlines_in text < 2 ^ 32 - 1
+
+-- one step more was made, which told these events; or there was none
+abbrev pub GoesOn : List ℕ → List ℕ → ReaderView → MachineLists → List Event → Bool → Type 0
+GoesOn bytes text reader machine told true = Replayed bytes (text ++ flat_map event_line told) reader machine
+GoesOn bytes text reader machine told false = ReplayedWhole bytes text

@@ -1,0 +1,94 @@
+//! The steps of a journal, one after another.
+//!
+//! Both a replay and a comparison go through them. An entry is read, its step is made, and its events are
+//! there until the next one; no entry is kept.
+
+ghost use Rattle.std.specs.Prelude.{◌≡◌, ◌≤◌, ◌<◌, ◌+◌, ◌-◌, ◌^◌, ℕ, List, [], length, IfOk, IfErr};
+ghost use Rattle.std.specs.Bool.{OnTrue};
+ghost use Rattle.hub_base.specs.Reading.{read_text};
+ghost use Rattle.hub_replay.specs.Replay.{HasNone};
+ghost use Rattle.hub_replay.specs.Replayed.{Replayed, GoesOn};
+
+use crate::ReplayFault;
+use hub_base::{Entry, Event, Events, Pid, Reader, Step, one_reading};
+use hub_core::Machine;
+use std::alloc::Global;
+
+/// The most bytes of a journal.
+pub const MOST_BYTES: usize = 67_108_864;
+
+/// The bytes that decide what a text says: of a text of too many bytes the first that is one too many
+/// stands in a faulty line.
+fn deciding(bytes: &[u8]) -> &[u8]
+    ensures same { read_text result.now ≡ read_text bytes.now }
+    ensures few { length result.now ≤ 67108865 }
+{
+    if bytes.len() <= MOST_BYTES {
+        bytes
+    } else {
+        &bytes[..MOST_BYTES + 1]
+    }
+}
+
+/// A journal that is being read, and the machine that makes its steps.
+///
+/// The machine stands where the entries before led, and `events` are those of the last one. One entry is
+/// read into again and again, since it is large.
+#[derive(Drop)]
+pub struct Steps<'a> {
+    reader: Reader<'a>,
+    machine: Machine,
+    entry: Entry,
+    events: Events,
+    ghost room: { machine.steps + reader.bytes < 2 ^ 32 - 1 },
+}
+
+impl<'a> Steps<'a> {
+    /// Before the first step of this journal.
+    pub fn open(alloc: Global, bytes: &'a [u8]) -> Result<Steps<'a>, ReplayFault>
+        ensures ok { IfOk result (λ steps. Replayed bytes.now [] steps.reader steps.machine) }
+        ensures err { IfErr result (HasNone bytes.now) }
+    {
+        // Its clauses say of which text the reader's fault is the first.
+        one_reading();
+        let reader = Reader::open(deciding(bytes))?;
+        let machine = Machine::open(alloc, reader.procs())?;
+        Ok(Steps {
+            reader,
+            machine,
+            entry: Entry {
+                pid: Pid(0),
+                step: Step::Exit,
+            },
+            events: Events::new(),
+        })
+    }
+
+    /// Makes the next step; `false` at the end of the journal. An `Err` is the journal's first fault, or
+    /// memory.
+    pub fn advance(&mut self) -> Result<bool, ReplayFault>
+        ensures ok { IfOk result (λ more. (bytes text : List ℕ)
+            → Replayed bytes text self.old.reader self.old.machine
+            → GoesOn bytes text self.new.reader self.new.machine self.new.events.items more) }
+        ensures less { IfOk result (λ more. OnTrue more (self.new.reader.bytes < self.old.reader.bytes)) }
+        ensures err { IfErr result (λ fault. (bytes text : List ℕ)
+            → Replayed bytes text self.old.reader self.old.machine → HasNone bytes fault) }
+    {
+        // Its clauses say of which journal the reader's answers speak.
+        one_reading();
+        if !self.reader.read_into(&mut self.entry)? {
+            return Ok(false);
+        }
+        self.machine.answer(&self.entry, &mut self.events)?;
+        // So few that the lines of all events can be counted in 32 bits.
+        prove!(self.events.len() <= 65);
+        Ok(true)
+    }
+
+    /// The events of the last step, at most 65.
+    pub fn events(&self) -> &[Event]
+        ensures { result.now ≡ self.now.events.items }
+    {
+        self.events.as_slice()
+    }
+}

@@ -1,0 +1,45 @@
+//! Whether given bytes are the event text of a journal.
+//!
+//! They are compared as the journal's steps are made, and no event text is made: one buffer holds the
+//! lines of one step at a time.
+
+ghost use Rattle.std.specs.Prelude.{◌≡◌, IfOk, IfErr};
+ghost use Rattle.hub_replay.specs.Replay.{HasNone};
+ghost use Rattle.hub_replay.specs.Verify.{Compares};
+
+use crate::ReplayFault;
+use crate::comparison::Comparison;
+use crate::replayer::write_events;
+use crate::steps::Steps;
+use hub_base::one_reading;
+use std::alloc::Global;
+
+/// What a comparison says.
+#[derive(Clone, Copy, Debug, PartialEq, Eq)]
+pub enum Compared {
+    /// The bytes are the event text.
+    Same,
+    /// They are not, and this line, counted from 1, is the first that differs: before it stand the newlines of
+    /// the longest beginning that both have.
+    Differs(u32),
+}
+
+/// Compares bytes with the event text of a journal. Where the journal is malformed the answer is `Text`, with
+/// its first faulty line, whatever the bytes are; and `NoMemory` where a growth was refused. There is no other
+/// `Err`.
+pub fn verify(alloc: Global, journal: &[u8], events: &[u8]) -> Result<Compared, ReplayFault>
+    ensures ok { IfOk result (λ compared. Compares journal.now events.now compared) }
+    ensures err { IfErr result (λ fault. HasNone journal.now fault) }
+{
+    // Its clauses say that a journal has one event text.
+    one_reading();
+    let mut steps = Steps::open(alloc, journal)?;
+    let mut comparison = Comparison::of(events);
+    let mut lines = Vec::new(alloc);
+    while steps.advance()? {
+        lines.clear();
+        write_events(&mut lines, steps.events())?;
+        comparison.take(&lines);
+    }
+    Ok(comparison.end())
+}

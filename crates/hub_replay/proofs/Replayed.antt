@@ -61,7 +61,7 @@ module _ {bytes text : List ℕ} {old : ReaderView} {machine : MachineLists} (so
   pub all-replayed : ((n : ℕ) (es : List Entry) → read_text bytes ≡ Reads n es → IsText bytes n es) → old.left ≡ Reads old.procs [] → ReplayedWhole bytes text
   all-replayed reads ends =
       let spelled : IsText bytes old.procs so_far.entries = reads old.procs so_far.entries
-          (so_far.said ∙ ap (behind so_far.entries) ends ∙ ap (Reads old.procs) (append-nil so_far.entries)) in
+      (so_far.said ∙ ap (behind so_far.entries) ends ∙ ap (Reads old.procs) (append-nil so_far.entries)) in
       record {
         is = record { procs = old.procs; entries = so_far.entries; spelled = spelled; lines = so_far.told };
         lines = lines-few so_far.told so_far.few spelled;

@@ -1,6 +1,5 @@
 -- How far given bytes agree with a text of which a part is known.
 use Rattle.std.specs.Prelude.{◌≡◌, ◌≢◌, ℕ, Bool, true, false, List, [], ◌∷◌, ◌++◌, take, drop}
-
 use Rattle.hub_replay.specs.declared.verifier.Compared.{Compared}
 use Rattle.hub_replay.specs.declared.verifier.Compared.TheVariants.{Same, Differs}
 use Rattle.hub_replay.specs.Verify.{line_of_difference}

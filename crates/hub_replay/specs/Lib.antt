@@ -3,3 +3,4 @@ pub mod Devices
 pub mod Replay
 pub mod Replayed
 pub mod Verify
+pub mod VerifyRows

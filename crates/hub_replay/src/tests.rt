@@ -6,3 +6,4 @@ mod faults;
 mod pieces;
 mod rows;
 mod runs;
+mod verifier;

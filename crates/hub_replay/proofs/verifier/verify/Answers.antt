@@ -19,7 +19,7 @@ pub loop-lines-preserved : goal.loop-lines-preserved
 loop-lines-preserved c =
     let so_far = c.loop-lines.invariant in
     let goes = subst (λ (b : Bool). GoesOn c.args.journal.now so_far.text c.advance.new.self.reader c.advance.new.self.machine c.advance.new.self.events.items b) c.if-branch.true
-        (c.in_ok-advance.ensures.ok c.args.journal.now so_far.text so_far.replayed) in
+    (c.in_ok-advance.ensures.ok c.args.journal.now so_far.text so_far.replayed) in
     one-more-verified so_far goes
     (c.deref.ensures.value ∙ c.in_ok-write_events.ensures ∙ ap (λ l. l ++ flat_map event_line c.events.result.now) c.clear.ensures.items ∙ ap (flat_map event_line) c.events.ensures)
     c.take.ensures.given (c.take.ensures.agrees so_far.text so_far.agrees)

@@ -7,8 +7,8 @@ pub returns : goal.returns
 returns c = λ text so_far.
     let within = c.args.self.now.within in
     let other : c.args.self.now.bytes.now ≢ text =
-        elim c.else-not-self.branch [
-          else-not-self-via-then-not-self+else-self w ↦ agrees-other-longer so_far w.if-not-self.true (omega arith)
-        | else-not-self-via-else-not-self w ↦ agrees-other-parted so_far w.if-not-self.false
-        ] in
+    elim c.else-not-self.branch [
+      | else-not-self-via-then-not-self+else-self w ↦ agrees-other-longer so_far w.if-not-self.true (omega arith)
+      | else-not-self-via-else-not-self w ↦ agrees-other-parted so_far w.if-not-self.false
+    ] in
     (other, agrees-line c.newlines.result so_far c.newlines.ensures)

@@ -1,0 +1,174 @@
+//! Texts of steps.
+
+use crate::{ScenarioFault, ScriptStep, read_scenario};
+use hub_base::Port;
+use std::alloc::Global;
+use std::test::Fail;
+
+/// The only step of a file whose only step is this, with its quotes.
+fn only_step(alloc: Global, quoted: &str) -> Result<ScriptStep, ScenarioFault> {
+    let file = match format!(in alloc; "ports = []\nprocess = [{{steps = [{quoted}]}}]\n") {
+        Ok(file) => file,
+        Err(_) => return Err(ScenarioFault::NoMemory),
+    };
+    let mut scenario = read_scenario(alloc, file.as_bytes())?;
+    match scenario.scripts.pop() {
+        Some(mut script) => script.pop().ok_or(ScenarioFault::NoMemory),
+        None => Err(ScenarioFault::NoMemory),
+    }
+}
+
+#[test]
+fn steps_of_one_port_are_read(rt: HostRuntime) -> Result<(), Fail> {
+    for (text, number) in [("0", 0), ("1", 1), ("64", 64), ("65535", 65535)] {
+        let recv = format!(in rt.alloc(); "'recv {text}'")?;
+        let recv = only_step(rt.alloc(), recv.as_str())?;
+        assert!(rt;
+            matches!(recv, ScriptStep::Recv(Port(port)) if port == number),
+            "{text}"
+        );
+        let close = format!(in rt.alloc(); "'close {text}'")?;
+        let close = only_step(rt.alloc(), close.as_str())?;
+        assert!(rt;
+            matches!(close, ScriptStep::Close(Port(port)) if port == number),
+            "{text}"
+        );
+        let range = format!(in rt.alloc(); "'range {text}'")?;
+        let range = only_step(rt.alloc(), range.as_str())?;
+        assert!(rt;
+            matches!(range, ScriptStep::Range(Port(port)) if port == number),
+            "{text}"
+        );
+    }
+    Ok(())
+}
+
+#[test]
+fn sends_are_read(rt: HostRuntime) -> Result<(), Fail> {
+    for (quoted, to, number) in [
+        ("'send 0 0'", 0, 0),
+        ("\"send 1 4\"", 1, 4),
+        ("'''send 1 4'''", 1, 4),
+        ("\"send\\u00201 4\"", 1, 4),
+        ("'send 65535 18446744073709551615'", 65535, u64::MAX),
+    ] {
+        let step = only_step(rt.alloc(), quoted)?;
+        assert!(rt;
+            matches!(step, ScriptStep::Send(Port(port), value)
+            if port == to && value.as_num() == Some(number)),
+            "{quoted}"
+        );
+    }
+    Ok(())
+}
+
+#[test]
+fn selects_are_read(rt: HostRuntime) -> Result<(), Fail> {
+    for (quoted, count, has_default) in [
+        ("'select'", 0, false),
+        ("'select default'", 0, true),
+        ("'select r1'", 1, false),
+        ("'select r1 default'", 1, true),
+        (
+            "'select s65535:18446744073709551615 r0 s0:0 default'",
+            3,
+            true,
+        ),
+        (
+            "'select r1 r1 r1 r1 r1 r1 r1 r1 r1 r1 r1 r1 r1 r1 r1 r1'",
+            16,
+            false,
+        ),
+        (
+            "'select r1 r1 r1 r1 r1 r1 r1 r1 r1 r1 r1 r1 r1 r1 r1 r1 default'",
+            16,
+            true,
+        ),
+    ] {
+        let step = only_step(rt.alloc(), quoted)?;
+        assert!(rt;
+            matches!(step, ScriptStep::Select(cases, default)
+            if cases.len() == count && default == has_default),
+            "{quoted}"
+        );
+    }
+    Ok(())
+}
+
+#[test]
+fn other_texts_are_no_steps(rt: HostRuntime) -> Result<(), Fail> {
+    for quoted in [
+        "''",
+        "' '",
+        "1",
+        "true",
+        "['recv 1']",
+        "{recv = 1}",
+        "'stop'",
+        "'make 1'",
+        "'exit'",
+        "'0 recv 1'",
+        "'RECV 1'",
+        "'recv'",
+        "'recv '",
+        "' recv 1'",
+        "'recv 1 '",
+        "'recv  1'",
+        "'recv 1 1'",
+        "\"recv\\t1\"",
+        "\"recv 1\\r\"",
+        "\"recv 1\\n\"",
+        "\"recv 1\\u0000\"",
+        "'recv 01'",
+        "'recv 00'",
+        "'recv +1'",
+        "'recv -1'",
+        "'recv 1_0'",
+        "'recv 65536'",
+        "'recv one'",
+        "'recv \u{661}'",
+        "'send 1'",
+        "'send 1 '",
+        "'send 1 4 '",
+        "'send 1 4 5'",
+        "'send 1 04'",
+        "'send 65536 4'",
+        "'send 1 18446744073709551616'",
+        "'close'",
+        "'close 1 1'",
+        "'close 65536'",
+        "'range'",
+        "'range 1 1'",
+        "'range 01'",
+        "'select '",
+        "'select 0 r1'",
+        "'select default default'",
+        "'select default r1'",
+        "'select Default'",
+        "'select r1  r2'",
+        "'select x1'",
+        "'select r'",
+        "'select r01'",
+        "'select r65536'",
+        "'select r1:1'",
+        "'select s1'",
+        "'select s1:'",
+        "'select s:1'",
+        "'select s1:1:1'",
+        "'select s65536:1'",
+        "'select s1:18446744073709551616'",
+        "'select r1 r1 r1 r1 r1 r1 r1 r1 r1 r1 r1 r1 r1 r1 r1 r1 r1'",
+        "'select r1 r1 r1 r1 r1 r1 r1 r1 r1 r1 r1 r1 r1 r1 r1 r1 r1 default'",
+    ] {
+        let first = ScenarioFault::BadScript {
+            process: 0,
+            step: 0,
+        };
+        assert_eq!(rt;
+            only_step(rt.alloc(), quoted).err(),
+            Some(first),
+            "{quoted}"
+        );
+    }
+    Ok(())
+}

@@ -32,6 +32,7 @@ impl Model for ChoiceWords {
 
 impl ChoiceWords {
     /// The words of this process in a scenario with this seed, none of them drawn yet.
+    #[tactic(auto, using(crate::proofs::Words::generator_first))]
     pub fn of(seed: u64, pid: Pid) -> ChoiceWords
         requires { seed ≤ greatest_seed }
         ensures { result ≡ record { seed = seed + pid.0; drawn = 0 } }

@@ -1,0 +1,132 @@
+-- Each fault has its cause.
+use Rattle.std.proofs.Common.{◌≡◌, ◌≤◌, ◌<◌, ℕ, ◌∙◌, Bool, true, false, ◌&&◌, nat_le, nat_lt, List, length, Option, None, Some, Result, Ok, Err, refl, ap, sym, subst, arith, if◌then◌else◌, IsUtf8}
+use Rattle.std.specs.Result.{is_ok}
+use Rattle.std.specs.Str.{is_utf8}
+use Rattle.std.specs.Cmp.{first_so, second_so}
+use Rattle.std.proofs.lemmas.Bool.{false≢true}
+use Rattle.std.proofs.lemmas.Bool.Decides.{nat_tests}
+use Rattle.std.proofs.lemmas.Str.{IsUtf8-from_is_utf8, is_utf8-from_IsUtf8}
+use Rattle.toml.specs.Data.{Items, Members}
+use Rattle.toml.specs.Parse.{parse_document}
+use Rattle.hub_scenario.specs.declared.fault.ScenarioFault.{ScenarioFault}
+use Rattle.hub_scenario.specs.declared.fault.ScenarioFault.TheVariants.{TooLong, BadToml, BadKey, BadSeed, BadLimit, BadPorts, BadProcesses, BadScript, NoMemory}
+use Rattle.hub_scenario.specs.declared.script.ScriptStep.{ScriptStep}
+use Rattle.hub_scenario.specs.Causes.{SeedPasses, LimitPasses, PortsPass, ProcessesPass, AreProcesses, IsCause, IsCauseIn}
+use Rattle.hub_scenario.specs.Faults.{must, ◌>>=◌}
+use Rattle.hub_scenario.specs.Frames.{FrameData, frame_of}
+use Rattle.hub_scenario.specs.Numbers.{within, ports_of}
+use Rattle.hub_scenario.specs.Scenario.{ScenarioData, scripts_of, values_of, scenario_of, tree_of, reading}
+use Rattle.hub_scenario.specs.Scripts.{scripts_from}
+use Rattle.hub_scenario.proofs.Firsts.{same_err, first-bad}
+use Rattle.hub_scenario.proofs.Ranges.{within-some, within-none, ports-some, ports-none, at_most}
+use Rattle.hub_scenario.proofs.Shapes.{shape, no_shape, bad_key}
+
+-- ---- the tests from each one on
+abbrev with_scripts : ℕ → ℕ → List ℕ → Result (List (List ScriptStep)) ScenarioFault → Result ScenarioData ScenarioFault
+with_scripts seed limit ports r =
+    r >>= λ scripts. Ok (record { seed = seed; limit = limit; ports = ports; scripts = scripts })
+
+abbrev after_ports : FrameData → ℕ → ℕ → List ℕ → Result ScenarioData ScenarioFault
+after_ports f seed limit ports = with_scripts seed limit ports (scripts_of f.process)
+
+abbrev after_limit : FrameData → ℕ → ℕ → Result ScenarioData ScenarioFault
+after_limit f seed limit = must BadPorts (ports_of f.ports) >>= λ ports. after_ports f seed limit ports
+
+abbrev after_seed : FrameData → ℕ → Result ScenarioData ScenarioFault
+after_seed f seed = must BadLimit (within 1 1000000 f.limit) >>= λ limit. after_limit f seed limit
+
+-- a cause of the fault that is told
+told : {T : Type 0} (ms : Members) (a e : ScenarioFault) (r : Result T ScenarioFault) → r ≡ Err a → r ≡ Err e → IsCause ms a → IsCause ms e
+told ms a e r is h cause = subst (IsCause ms) (same_err a e r h is) cause
+
+-- ---- processes and scripts
+counted : (dss : List Items) → (nat_le 1 (length dss) && nat_le (length dss) 64) ≡ true → AreProcesses dss
+counted dss is = (
+  at_most 1 (length dss) (first_so (nat_le 1 (length dss)) (nat_le (length dss) 64) is),
+  at_most (length dss) 64 (second_so (nat_le 1 (length dss)) (nat_le (length dss) 64) is),
+)
+
+not_counted : (dss : List Items) → (nat_le 1 (length dss) && nat_le (length dss) 64) ≡ false → AreProcesses dss → ⊥
+not_counted dss is (low, high) = grind (arith, nat_tests)
+
+script-case : (ms : Members) (f : FrameData) (e : ScenarioFault) → ProcessesPass ms f → scripts_from 0 f.process ≡ Err e → IsCause ms e
+script-case ms f e passes h =
+    let (q, k, is, first) = first-bad f.process e h in subst (IsCause ms) (sym is) (f, passes, first)
+
+scripts-case : (ms : Members) (f : FrameData) (e : ScenarioFault) (b : Bool) → PortsPass ms f → (nat_le 1 (length f.process) && nat_le (length f.process) 64) ≡ b
+    → (if b then scripts_from 0 f.process else Err BadProcesses) ≡ Err e → IsCause ms e
+scripts-case ms f e false passes is h = told ms BadProcesses e _ refl h (f, passes, not_counted f.process is)
+scripts-case ms f e true passes is h = script-case ms f e (passes, counted f.process is) h
+
+with_scripts-err : (seed limit : ℕ) (ports : List ℕ) (r : Result (List (List ScriptStep)) ScenarioFault) (e : ScenarioFault) → with_scripts seed limit ports r ≡ Err e → r ≡ Err e
+with_scripts-err seed limit ports (Ok ss) e h = absurd (false≢true (sym (ap is_ok h)))
+with_scripts-err seed limit ports (Err a) e h = ap Err (same_err a e _ h refl)
+
+-- ---- the values
+ports-case : (ms : Members) (f : FrameData) (e : ScenarioFault) (seed limit : ℕ) (o : Option (List ℕ)) → LimitPasses ms f → ports_of f.ports ≡ o
+    → (must BadPorts o >>= λ ports. after_ports f seed limit ports) ≡ Err e → IsCause ms e
+ports-case ms f e seed limit None passes is h = told ms BadPorts e _ refl h (f, passes, ports-none f.ports is)
+ports-case ms f e seed limit (Some ports) passes is h =
+    scripts-case ms f e (nat_le 1 (length f.process) && nat_le (length f.process) 64) (passes, ports-some f.ports ports is) refl
+    (with_scripts-err seed limit ports (scripts_of f.process) e h)
+
+limit-case : (ms : Members) (f : FrameData) (e : ScenarioFault) (seed : ℕ) (o : Option ℕ) → SeedPasses ms f → within 1 1000000 f.limit ≡ o
+    → (must BadLimit o >>= λ limit. after_limit f seed limit) ≡ Err e → IsCause ms e
+limit-case ms f e seed None passes is h = told ms BadLimit e _ refl h (f, passes, within-none 1 1000000 f.limit is)
+limit-case ms f e seed (Some limit) passes is h =
+    ports-case ms f e seed limit (ports_of f.ports) (passes, within-some 1 1000000 f.limit limit is) refl h
+
+seed-case : (ms : Members) (f : FrameData) (e : ScenarioFault) (o : Option ℕ) → frame_of ms ≡ Ok f → within 0 9223372036854775807 f.seed ≡ o
+    → (must BadSeed o >>= λ seed. after_seed f seed) ≡ Err e → IsCause ms e
+seed-case ms f e None framed is h = told ms BadSeed e _ refl h (f, framed, within-none 0 9223372036854775807 f.seed is)
+seed-case ms f e (Some seed) framed is h =
+    limit-case ms f e seed (within 1 1000000 f.limit) (framed, within-some 0 9223372036854775807 f.seed seed is) refl h
+
+frame-case : (ms : Members) (e : ScenarioFault) (r : Result FrameData ScenarioFault) → frame_of ms ≡ r → (r >>= values_of) ≡ Err e → IsCause ms e
+frame-case ms e (Ok f) is h = seed-case ms f e (within 0 9223372036854775807 f.seed) is refl h
+frame-case ms e (Err a) is h =
+    told ms a e _ refl h (subst (IsCause ms) (bad_key ms a is) (no_shape ms a is))
+
+-- why a tree is refused
+pub cause : (ms : Members) (e : ScenarioFault) → scenario_of ms ≡ Err e → IsCause ms e
+cause ms e h = frame-case ms e (frame_of ms) refl h
+
+-- ---- the bytes
+long : (bytes : List ℕ) → nat_lt 1048576 (length bytes) ≡ true → 1048576 < length bytes
+long bytes h = grind (arith, nat_tests)
+
+not_long : (bytes : List ℕ) → nat_lt 1048576 (length bytes) ≡ false → length bytes ≤ 1048576
+not_long bytes h = grind (arith, nat_tests)
+
+told_in : {T : Type 0} (bytes : List ℕ) (a e : ScenarioFault) (r : Result T ScenarioFault) → r ≡ Err a → r ≡ Err e → IsCauseIn bytes a → IsCauseIn bytes e
+told_in bytes a e r is h why = subst (IsCauseIn bytes) (same_err a e r h is) why
+
+-- the cause of a tree is one of its bytes
+of_tree : (bytes : List ℕ) (ms : Members) (e : ScenarioFault) → length bytes ≤ 1048576 → IsUtf8 bytes → parse_document bytes ≡ Some ms → IsCause ms e → IsCauseIn bytes e
+of_tree bytes ms TooLong short utf8 is why = absurd why
+of_tree bytes ms BadToml short utf8 is why = absurd why
+of_tree bytes ms BadKey short utf8 is why = (ms, short, utf8, is, why)
+of_tree bytes ms BadSeed short utf8 is why = (ms, short, utf8, is, why)
+of_tree bytes ms BadLimit short utf8 is why = (ms, short, utf8, is, why)
+of_tree bytes ms BadPorts short utf8 is why = (ms, short, utf8, is, why)
+of_tree bytes ms BadProcesses short utf8 is why = (ms, short, utf8, is, why)
+of_tree bytes ms (BadScript p k) short utf8 is why = (ms, short, utf8, is, why)
+of_tree bytes ms NoMemory short utf8 is why = absurd why
+
+tree-case : (bytes : List ℕ) (e : ScenarioFault) (b : Bool) (o : Option Members) → length bytes ≤ 1048576 → is_utf8 bytes ≡ b → parse_document bytes ≡ o
+    → ((if b then must BadToml o else Err BadToml) >>= scenario_of) ≡ Err e → IsCauseIn bytes e
+tree-case bytes e false o short utf8 is h =
+    told_in bytes BadToml e _ refl h (short, λ u. absurd (false≢true (sym utf8 ∙ is_utf8-from_IsUtf8 bytes u)))
+tree-case bytes e true None short utf8 is h = told_in bytes BadToml e _ refl h (short, λ u. is)
+tree-case bytes e true (Some ms) short utf8 is h =
+    of_tree bytes ms e short (IsUtf8-from_is_utf8 bytes utf8) is (cause ms e h)
+
+long-case : (bytes : List ℕ) (e : ScenarioFault) (b : Bool) → nat_lt 1048576 (length bytes) ≡ b
+    → (if b then Err TooLong else tree_of bytes >>= scenario_of) ≡ Err e → IsCauseIn bytes e
+long-case bytes e true is h = told_in bytes TooLong e _ refl h (long bytes is)
+long-case bytes e false is h =
+    tree-case bytes e (is_utf8 bytes) (parse_document bytes) (not_long bytes is) refl refl h
+
+-- why bytes are refused
+pub cause_in : (bytes : List ℕ) (e : ScenarioFault) → reading bytes ≡ Err e → IsCauseIn bytes e
+cause_in bytes e h = long-case bytes e (nat_lt 1048576 (length bytes)) refl h

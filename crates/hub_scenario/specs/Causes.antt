@@ -1,0 +1,101 @@
+-- When each fault of a scenario file comes, said of what stands in the file. Each cause says that the
+-- tests before it passed, so a file has at most one.
+use Rattle.std.specs.Prelude.{◌≡◌, ◌≤◌, ◌<◌, ℕ, ℤ, pos, true, List, length, codes, Some, None, IsSome, IfSome, Ok, IsUtf8}
+use Rattle.std.specs.Option.{IsSomeAnd}
+use Rattle.toml.specs.Data.{Data, integer, array, table, Items, get_item, Members, get_member}
+use Rattle.toml.specs.Parse.{parse_document}
+use Rattle.hub_scenario.specs.declared.keys.Owner.{Owner}
+use Rattle.hub_scenario.specs.declared.keys.Owner.TheVariants.{File, Process}
+use Rattle.hub_scenario.specs.declared.fault.ScenarioFault.{ScenarioFault}
+use Rattle.hub_scenario.specs.declared.fault.ScenarioFault.TheVariants.{TooLong, BadToml, BadKey, BadSeed, BadLimit, BadPorts, BadProcesses, BadScript, NoMemory}
+use Rattle.hub_scenario.specs.Firsts.{FirstBadScript}
+use Rattle.hub_scenario.specs.Frames.{FrameData, frame_of}
+use Rattle.hub_scenario.specs.Keys.{is_key}
+use Rattle.hub_scenario.specs.Limits.{most_bytes, greatest_seed, greatest_limit, greatest_capacity, most_ports, most_processes}
+use Rattle.hub_scenario.specs.Numbers.{count_items}
+
+-- ---- keys and kinds
+-- a whole number
+abbrev pub IsWhole : Data → Type 0
+IsWhole d = (z : ℤ) × (d ≡ integer z)
+
+-- an array
+abbrev pub IsArray : Data → Type 0
+IsArray d = (ds : Items) × (d ≡ array ds)
+
+-- each element is such
+abbrev pub Each : (Data → Type 0) → Items → Type 0
+Each Is ds = (i : ℕ) → IfSome (get_item i ds) Is
+
+-- an array of such elements
+abbrev pub IsArrayOf : (Data → Type 0) → Data → Type 0
+IsArrayOf Is d = (ds : Items) × (d ≡ array ds) × Each Is ds
+
+-- each key of the table is one that such a table may have
+abbrev pub HasOnly : Owner → Members → Type 0
+HasOnly owner ms = (k : List ℕ) → IsSome (get_member k ms) → is_key owner k ≡ true
+
+-- a process: a table with the one key `steps`, and an array there
+abbrev pub IsProcess : Data → Type 0
+IsProcess d =
+    (ms : Members) × (d ≡ table ms) × HasOnly Process ms
+    × IsSomeAnd (get_member (codes "steps") ms) IsArray
+
+-- no unknown key, each key that must stand, and each value of its kind
+pub record HasShape (ms : Members) : Type 0 where
+  pub keys : HasOnly File ms
+  pub seed : IfSome (get_member (codes "seed") ms) IsWhole
+  pub limit : IfSome (get_member (codes "limit") ms) IsWhole
+  pub ports : IsSomeAnd (get_member (codes "ports") ms) IsArray
+  pub process : IsSomeAnd (get_member (codes "process") ms) (IsArrayOf IsProcess)
+
+-- ---- values
+-- a number in this range
+abbrev pub IsWithin : ℕ → ℕ → ℤ → Type 0
+IsWithin least most z = (n : ℕ) × (z ≡ pos n) × (least ≤ n) × (n ≤ most)
+
+abbrev pub IsCapacity : Data → Type 0
+IsCapacity d = (z : ℤ) × (d ≡ integer z) × IsWithin 0 greatest_capacity z
+
+-- at most 64 capacities
+abbrev pub ArePorts : Items → Type 0
+ArePorts ds = (count_items ds ≤ most_ports) × Each IsCapacity ds
+
+-- 1 to 64 processes
+abbrev pub AreProcesses : List Items → Type 0
+AreProcesses dss = (1 ≤ length dss) × (length dss ≤ most_processes)
+
+-- ---- the tests passed so far
+abbrev pub SeedPasses : Members → FrameData → Type 0
+SeedPasses ms f = (frame_of ms ≡ Ok f) × IsWithin 0 greatest_seed f.seed
+
+abbrev pub LimitPasses : Members → FrameData → Type 0
+LimitPasses ms f = SeedPasses ms f × IsWithin 1 greatest_limit f.limit
+
+abbrev pub PortsPass : Members → FrameData → Type 0
+PortsPass ms f = LimitPasses ms f × ArePorts f.ports
+
+abbrev pub ProcessesPass : Members → FrameData → Type 0
+ProcessesPass ms f = PortsPass ms f × AreProcesses f.process
+
+-- ---- causes
+-- why a tree is refused; the first two faults and the last are none of a tree
+abbrev pub IsCause : Members → ScenarioFault → Type 0
+IsCause ms TooLong = ⊥
+IsCause ms BadToml = ⊥
+IsCause ms BadKey = ¬ HasShape ms
+IsCause ms BadSeed = (f : FrameData) × (frame_of ms ≡ Ok f) × ¬ IsWithin 0 greatest_seed f.seed
+IsCause ms BadLimit = (f : FrameData) × SeedPasses ms f × ¬ IsWithin 1 greatest_limit f.limit
+IsCause ms BadPorts = (f : FrameData) × LimitPasses ms f × ¬ ArePorts f.ports
+IsCause ms BadProcesses = (f : FrameData) × PortsPass ms f × ¬ AreProcesses f.process
+IsCause ms (BadScript p k) = (f : FrameData) × ProcessesPass ms f × FirstBadScript f.process p k
+IsCause ms NoMemory = ⊥
+
+-- why the bytes of a file are refused
+abbrev pub IsCauseIn : List ℕ → ScenarioFault → Type 0
+IsCauseIn bytes TooLong = most_bytes < length bytes
+IsCauseIn bytes BadToml =
+    (length bytes ≤ most_bytes) × (IsUtf8 bytes → parse_document bytes ≡ None)
+IsCauseIn bytes e =
+    (ms : Members) × (length bytes ≤ most_bytes) × IsUtf8 bytes
+    × (parse_document bytes ≡ Some ms) × IsCause ms e

@@ -7,3 +7,4 @@ pub mod Seats
 pub mod Desks
 pub mod Refusals
 pub mod Laters
+pub mod Finishing

@@ -8,7 +8,11 @@ use Rattle.hub_base.specs.declared.entry.Entry.{Entry}
 use Rattle.hub_base.specs.declared.event.Event.{Event}
 use Rattle.hub_base.specs.declared.value.Pid.{Pid}
 use Rattle.hub_base.specs.Steps.{is_waiting}
-use Rattle.hub_laws.specs.Answers.{IsAnswered}
+use Rattle.hub_base.specs.declared.entry.Step.{Step}
+use Rattle.hub_base.specs.declared.entry.Step.TheVariants.{Make, Call, Close, Exit}
+use Rattle.hub_base.specs.declared.event.What.{What}
+use Rattle.hub_base.specs.declared.event.What.TheVariants as what
+use Rattle.hub_laws.specs.Answers.{is_answer_to, Answered, IsAnswered}
 use Rattle.hub_laws.specs.Journals.{IsLegal}
 use Rattle.hub_laws.specs.Replies.{reply, last_from, is_told, is_parked, IsReply, IsLeft, Replied, AreReplied}
 use Rattle.hub_laws.proofs.Answered.{moves-answered}
@@ -16,6 +20,7 @@ use Rattle.hub_laws.proofs.Replied.{replied-law}
 use Rattle.hub_core.specs.HubView.{HubView, Steps, places_after, state_of}
 use Rattle.hub_laws.proofs.Journals.{begins-law}
 use Rattle.hub_live.specs.Locked.{LockedView, answer_for, IsReplyTo, IsLawful, last_told, Serves}
+use Rattle.hub_live.specs.Calls.{Answers, AnswersNoCall}
 
 -- ---- places
 
@@ -162,3 +167,36 @@ lawful_none hub legal = record {
   places = length-replicate {A = Option Event} 64 None;
   replies = λ q. subst (λ (o : Option Event). IfSome o (IsReplyIn hub q)) (sym (answer_for-replicate 64 q)) tt;
 }
+
+-- ---- what answers a step
+
+parked_only : (w : What) → is_parked w ≡ true → w ≡ what.Parked
+parked_only what.Parked is = refl
+parked_only (what.Made p) is = absurd (let g : ⊥ = cc in g)
+parked_only (what.Fired i outcome) is = absurd (let g : ⊥ = cc in g)
+parked_only what.Default is = absurd (let g : ⊥ = cc in g)
+parked_only what.Done is = absurd (let g : ⊥ = cc in g)
+parked_only what.Stalled is = absurd (let g : ⊥ = cc in g)
+parked_only (what.Fault f) is = absurd (let g : ⊥ = cc in g)
+
+-- the answer to a step that was made
+pub served_answers : (old new : LockedView) (e : Entry) (answer : Event) → Serves old e new answer → Answers e.pid e.step answer
+served_answers old new e answer s =
+    let told : Answered e.pid e.step answer s.ended = subst (IsAnswered e.pid e.step) (sym s.step.events) (moves-answered (state_of old.hub) e s.step.admitted) in
+    (told.own, told.fits)
+
+pub answers_no_call : (pid : Pid) (step : Step) (x : Event) → Answers pid step x → AnswersNoCall pid step x
+answers_no_call pid (Make cap) x h = h
+answers_no_call pid (Call cases default word) x h = tt
+answers_no_call pid (Close p) x h = h
+answers_no_call pid Exit x h = h
+
+-- only a call waits
+pub parked_call : (pid : Pid) (step : Step) (x y : Event) → is_answer_to step x.what ≡ true → is_parked x.what ≡ true → AnswersNoCall pid step y
+parked_call pid step x y fits parked = by step (subst (λ (w : What). is_answer_to step w ≡ true) (parked_only x.what parked) fits)
+  where
+    by : (step : Step) → is_answer_to step what.Parked ≡ true → AnswersNoCall pid step y
+    by (Make cap) is = absurd (let g : ⊥ = cc in g)
+    by (Call cases default word) is = tt
+    by (Close p) is = absurd (let g : ⊥ = cc in g)
+    by Exit is = absurd (let g : ⊥ = cc in g)

@@ -4,6 +4,7 @@ use Rattle.std.specs.List.{list_any}
 use mathlib.Core.List.{IsPrefix}
 use Rattle.hub_base.specs.declared.value.Pid.{Pid}
 use Rattle.hub_base.specs.declared.entry.Step.{Step}
+use Rattle.hub_base.specs.declared.entry.Step.TheVariants.{Call}
 use Rattle.hub_base.specs.declared.entry.Entry.{Entry}
 use Rattle.hub_base.specs.declared.event.Event.{Event}
 use Rattle.hub_base.specs.declared.fault.Fault.{Fault}
@@ -12,6 +13,7 @@ use Rattle.hub_base.specs.Reading.{is_exit}
 use Rattle.hub_base.specs.Steps.{is_waiting, refusal}
 use Rattle.hub_base.specs.Runs.{state}
 use Rattle.hub_base.specs.Text.{steps_of}
+use Rattle.hub_laws.specs.Answers.{is_answer_to}
 use Rattle.hub_laws.specs.Replies.{own, reply, is_parked}
 use Rattle.hub_live.specs.declared.name.Terms.{Terms}
 use Rattle.hub_live.specs.Locked.{IsReplyTo}
@@ -83,6 +85,15 @@ Made s t step x = MadeEntry s t (entry_of s step) x
 -- the step was refused, and no entry was made
 abbrev pub Refused : SeatView → SeatView → Step → Fault → Type 0
 Refused s t step f = RefusedEntry s t (entry_of s step) f
+
+-- the event is the process's answer to this step
+abbrev pub Answers : Pid → Step → Event → Type 0
+Answers pid step x = (x.pid ≡ pid) × (is_answer_to step x.what ≡ true)
+
+-- so is the event of a step that is no call; that of a call may be the answer that ended its wait
+abbrev pub AnswersNoCall : Pid → Step → Event → Type 0
+AnswersNoCall pid (Call cases default word) x = Unit {0}
+AnswersNoCall pid step x = Answers pid step x
 
 -- ---- the seats of a hub
 

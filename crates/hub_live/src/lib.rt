@@ -4,6 +4,7 @@
 mod blank;
 mod desk;
 mod ends;
+mod held;
 mod live_hub;
 mod locked;
 mod mark;
@@ -17,6 +18,7 @@ mod words;
 
 pub use blank::Blank;
 pub use ends::{Chan, RecvPort, SendPort};
+pub use held::{Held, hold_all};
 pub use live_hub::LiveHub;
 pub use mark::mark_of;
 pub use name::{HubName, Terms};

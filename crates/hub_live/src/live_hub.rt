@@ -1,7 +1,11 @@
 //! A hub that threads share. Steps take its lock; looks and meetings take none.
 
-ghost use Rattle.std.specs.Prelude.{◌≡◌, ◌<◌, ◌≤◌, Some, IfOk, IfErr, All, vec_len};
+ghost use Rattle.std.specs.Prelude.{◌≡◌, ◌<◌, ◌≤◌, ◌∷◌, ◌⊎◌, [], Some, false, IfOk, IfErr, All, vec_len};
+ghost use Rattle.hub_base.specs.declared.case.Case.TheVariants.{Send, Recv};
 ghost use Rattle.hub_base.specs.declared.entry.Step.TheVariants.{Make, Call, Close, Exit};
+ghost use Rattle.hub_base.specs.declared.event.What.TheVariants as what;
+ghost use Rattle.hub_base.specs.Lines.{call};
+ghost use Rattle.hub_base.specs.Steps.{tells};
 ghost use Rattle.hub_base.specs.Text.{steps_of};
 ghost use Rattle.hub_laws.specs.Journals.{IsLegal};
 ghost use Rattle.hub_laws.specs.Replies.{is_parked};
@@ -9,17 +13,19 @@ ghost use Rattle.hub_live.specs.Mark.{counts_at};
 ghost use Rattle.hub_live.specs.Named.{IsToken};
 ghost use Rattle.hub_live.specs.SeatView.{IsIdle, state_seen};
 ghost use Rattle.hub_live.specs.Seated.{IsAlone, seat_of};
-ghost use Rattle.hub_live.specs.Calls.{Later, Made, Refused, MadeEntry, RefusedEntry, AskedNothing, StandsIn};
+ghost use Rattle.hub_live.specs.Calls.{Later, Made, Refused, MadeEntry, RefusedEntry, Answers, AnswersNoCall, AskedNothing, StandsIn};
 
 use crate::desk::Desk;
-use crate::ends::SendPort;
+use crate::ends::{Chan, RecvPort, SendPort};
 use crate::locked::Pids;
 use crate::mark::read_back;
 use crate::name::HubName;
 use crate::rule::Token;
 use crate::seat::Seat;
 use crate::words::Words;
-use hub_base::{Cases, Counts, Entry, Event, Fault, Journal, Pid, Port, Step, What};
+use hub_base::{
+    Cases, CasesExt, Counts, Entry, Event, Fault, Journal, Pid, Port, Step, Value, What,
+};
 use std::sync::{Condvar, Mutex, Wait};
 
 /// A hub that threads share. Each seat that is passed to it must come from its own `Blank::open`.
@@ -110,6 +116,7 @@ impl<K: HubName> LiveHub<K> {
         requires pid { seat.old.pid ≡ entry.pid }
         ensures later { Later seat.old seat.new }
         ensures ok { IfOk result (λ x. MadeEntry seat.old seat.new entry x) }
+        ensures answer { IfOk result (λ x. AnswersNoCall entry.pid entry.step x) }
         ensures err { IfErr result (λ f. RefusedEntry seat.old seat.new entry f) }
     {
         let waker = &self.wakers[usize::from(seat.pid().0)];
@@ -165,6 +172,49 @@ impl<K: HubName> LiveHub<K> {
         self.ask(rt, seat, Entry { pid, step })
     }
 
+    /// Sends the value, as a call of this one case without default, and waits until it is sent. Answered
+    /// `Fired` with `Sent`, or with `Closed` where the port is or gets closed; `Stalled` where everybody
+    /// waits; or the fault `NoPort` for a port that was not made.
+    ///
+    /// Refused as a call is. Go: "Send statements".
+    pub fn send<R: Wait>(
+        &self,
+        rt: &R,
+        seat: &mut Seat,
+        sender: &SendPort,
+        value: Value,
+    ) -> Result<Event, Fault>
+        requires { seat.old.hub ≡ K.name }
+        ensures later { Later seat.old seat.new }
+        ensures ok { IfOk result (λ x.
+            Made seat.old seat.new (call (Send sender.now value ∷ []) false 0) x) }
+        ensures err { IfErr result (λ f.
+            Refused seat.old seat.new (call (Send sender.now value ∷ []) false 0) f) }
+    {
+        self.call(rt, seat, Cases::one(sender.send(value)), false, 0)
+    }
+
+    /// Receives a value, as a call of this one case without default, and waits until one comes. Answered
+    /// `Fired` with `Got` and the value, or with `Drained` where the port is closed and its buffer
+    /// empty; `Stalled` where everybody waits; or the fault `NoPort` for a port that was not made.
+    ///
+    /// Refused as a call is. Go: "Receive operator".
+    pub fn recv<R: Wait>(
+        &self,
+        rt: &R,
+        seat: &mut Seat,
+        receiver: &RecvPort,
+    ) -> Result<Event, Fault>
+        requires { seat.old.hub ≡ K.name }
+        ensures later { Later seat.old seat.new }
+        ensures ok { IfOk result (λ x.
+            Made seat.old seat.new (call (Recv receiver.now ∷ []) false 0) x) }
+        ensures err { IfErr result (λ f.
+            Refused seat.old seat.new (call (Recv receiver.now ∷ []) false 0) f) }
+    {
+        self.call(rt, seat, Cases::one(receiver.recv()), false, 0)
+    }
+
     /// Makes a channel with a buffer of `cap` values, 0 to 1,024; with 0 it is unbuffered. Answered
     /// `Made` with its port, the next number from 1 on, or the fault `BadCap` above 1,024 or
     /// `TooManyPorts` where 64 are made. It takes the lock, and waits for no other step.
@@ -175,11 +225,31 @@ impl<K: HubName> LiveHub<K> {
         requires { seat.old.hub ≡ K.name }
         ensures later { Later seat.old seat.new }
         ensures ok { IfOk result (λ x. Made seat.old seat.new (Make cap) x) }
+        ensures answer { IfOk result (λ x. Answers seat.old.pid (Make cap) x) }
         ensures err { IfErr result (λ f. Refused seat.old seat.new (Make cap) f) }
     {
         let pid = seat.pid();
         let step = Step::Make(cap);
         self.ask(rt, seat, Entry { pid, step })
+    }
+
+    /// Makes a channel as `make` does, and gives it. Err: with no entry made by what refuses a make, and
+    /// by `BadCap` or `TooManyPorts` where the make was answered so. Go: "Making slices, maps and
+    /// channels".
+    pub fn make_chan<R: Wait>(&self, rt: &R, seat: &mut Seat, cap: u32) -> Result<Chan, Fault>
+        requires { seat.old.hub ≡ K.name }
+        ensures later { Later seat.old seat.new }
+        ensures ok { IfOk result (λ chan.
+            Made seat.old seat.new (Make cap) (tells seat.old.pid (what.Made chan))) }
+        ensures err { IfErr result (λ f.
+            Refused seat.old seat.new (Make cap) f
+            ⊎ Made seat.old seat.new (Make cap) (tells seat.old.pid (what.Fault f))) }
+    {
+        match self.make(rt, seat, cap)?.what {
+            What::Made(port) => Ok(Chan::of(port)),
+            What::Fault(fault) => Err(fault),
+            _ => unreachable!(),
+        }
     }
 
     /// Closes a port, by its end that sends. Answered `Done`, or the fault `NoPort` for a port that was
@@ -192,6 +262,7 @@ impl<K: HubName> LiveHub<K> {
         requires { seat.old.hub ≡ K.name }
         ensures later { Later seat.old seat.new }
         ensures ok { IfOk result (λ x. Made seat.old seat.new (Close sender.now) x) }
+        ensures answer { IfOk result (λ x. Answers seat.old.pid (Close sender.now) x) }
         ensures err { IfErr result (λ f. Refused seat.old seat.new (Close sender.now) f) }
     {
         let pid = seat.pid();
@@ -207,6 +278,7 @@ impl<K: HubName> LiveHub<K> {
         requires { seat.old.hub ≡ K.name }
         ensures later { Later seat.old seat.new }
         ensures ok { IfOk result (λ x. Made seat.old seat.new Exit x) }
+        ensures answer { IfOk result (λ x. Answers seat.old.pid Exit x) }
         ensures err { IfErr result (λ f. Refused seat.old seat.new Exit f) }
     {
         let pid = seat.pid();
@@ -271,6 +343,16 @@ impl<K: HubName> LiveHub<K> {
         second.inner.token = Some(theirs);
     }
 
+    /// The words and what lay under the lock, once nobody shares them.
+    pub(crate) fn into_parts(self) -> (Words<K>, Desk<K>) {
+        let LiveHub {
+            words,
+            desk,
+            wakers: _,
+        } = self;
+        (words, desk.into_inner())
+    }
+
     /// The journal. It begins with what each of these seats has seen, and their processes asked nothing
     /// more in it. The list may be empty. Answers that wait are dropped. Waits for nobody.
     pub fn finish(self, seats: Vec<Seat>) -> Journal
@@ -280,12 +362,7 @@ impl<K: HubName> LiveHub<K> {
         ensures few { steps_of result.entries ≤ K.name.terms.limit }
         ensures seats { All (λ s. StandsIn s result.entries) seats.items }
     {
-        let LiveHub {
-            words,
-            desk,
-            wakers: _,
-        } = self;
-        let mut desk = desk.into_inner();
+        let (words, mut desk) = self.into_parts();
         for seat in seats {
             desk.compare(&words, seat.into_inner());
         }

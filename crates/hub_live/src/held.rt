@@ -1,0 +1,218 @@
+//! Seats whose hub is known by their type, so that their calls ask for nothing. Such a seat goes into a
+//! thread and comes back with no clause.
+
+ghost use Rattle.std.specs.Prelude.{◌≡◌, ◌<◌, ◌≤◌, ◌∷◌, ◌⊎◌, [], false, IfOk, IfErr, All};
+ghost use Rattle.hub_base.specs.declared.case.Case.TheVariants.{Send, Recv};
+ghost use Rattle.hub_base.specs.declared.entry.Step.TheVariants.{Make, Call, Close, Exit};
+ghost use Rattle.hub_base.specs.declared.event.What.TheVariants as what;
+ghost use Rattle.hub_base.specs.Lines.{call};
+ghost use Rattle.hub_base.specs.Steps.{tells};
+ghost use Rattle.hub_base.specs.Text.{steps_of};
+ghost use Rattle.hub_laws.specs.Journals.{IsLegal};
+ghost use Rattle.hub_live.specs.Mark.{counts_at};
+ghost use Rattle.hub_live.specs.SeatView.{IsIdle, state_seen};
+ghost use Rattle.hub_live.specs.Calls.{Later, Made, Refused, Answers, AskedNothing, StandsIn};
+
+use crate::ends::{Chan, RecvPort, SendPort};
+use crate::live_hub::LiveHub;
+use crate::name::HubName;
+use crate::seat::Seat;
+use hub_base::{Cases, Counts, Event, Fault, Journal, Pid, Port, Value};
+use std::alloc::{AllocError, Global};
+use std::marker::{Model, PhantomData};
+use std::sync::Wait;
+
+/// A seat of the hub that `K` names. To a contract it is the seat. Each call is that of `LiveHub`.
+#[derive(Drop)]
+pub struct Held<K: HubName> {
+    seat: Seat,
+    of: PhantomData<K>,
+}
+
+impl<K: HubName> Model for Held<K> {
+    ghost use Rattle.std.specs.Prelude.{◌≡◌};
+    ghost use Rattle.hub_live.specs.SeatView.{SeatView};
+
+    ghost Value = { SeatView };
+
+    ghost view = { λ h. h.seat };
+
+    ghost invariant = { λ h. h.seat.hub ≡ K.name };
+}
+
+impl<K: HubName> Held<K> {
+    /// The seat, known to be of this hub.
+    pub fn of(seat: Seat) -> Held<K>
+        requires { seat.hub ≡ K.name }
+        ensures { result ≡ seat }
+    {
+        Held {
+            seat,
+            of: PhantomData,
+        }
+    }
+
+    /// Its process, which is one of its hub's. What the seat has seen is a legal journal, in which
+    /// the process has no open call.
+    pub fn pid(&self) -> Pid
+        ensures pid { result ≡ self.now.pid }
+        ensures below { result.0 < self.now.hub.terms.procs }
+        ensures idle { IsIdle self.now }
+        ensures hub { self.now.hub ≡ K.name }
+    {
+        self.seat.pid()
+    }
+
+    /// The seat.
+    pub fn into_seat(self) -> Seat
+        ensures seat { result ≡ self }
+        ensures hub { result.hub ≡ K.name }
+    {
+        let Held { seat, of: _ } = self;
+        seat
+    }
+
+    /// Makes a call of these cases, and waits until it ends.
+    pub fn call<R: Wait>(
+        &mut self,
+        rt: &R,
+        hub: &LiveHub<K>,
+        cases: Cases,
+        default: bool,
+        word: u64,
+    ) -> Result<Event, Fault>
+        ensures later { Later self.old self.new }
+        ensures ok { IfOk result (λ x. Made self.old self.new (Call cases default word) x) }
+        ensures err { IfErr result (λ f. Refused self.old self.new (Call cases default word) f) }
+    {
+        hub.call(rt, &mut self.seat, cases, default, word)
+    }
+
+    /// Sends the value, and waits until it is sent.
+    pub fn send<R: Wait>(
+        &mut self,
+        rt: &R,
+        hub: &LiveHub<K>,
+        sender: &SendPort,
+        value: Value,
+    ) -> Result<Event, Fault>
+        ensures later { Later self.old self.new }
+        ensures ok { IfOk result (λ x.
+            Made self.old self.new (call (Send sender.now value ∷ []) false 0) x) }
+        ensures err { IfErr result (λ f.
+            Refused self.old self.new (call (Send sender.now value ∷ []) false 0) f) }
+    {
+        hub.send(rt, &mut self.seat, sender, value)
+    }
+
+    /// Receives a value, and waits until one comes.
+    pub fn recv<R: Wait>(
+        &mut self,
+        rt: &R,
+        hub: &LiveHub<K>,
+        receiver: &RecvPort,
+    ) -> Result<Event, Fault>
+        ensures later { Later self.old self.new }
+        ensures ok { IfOk result (λ x.
+            Made self.old self.new (call (Recv receiver.now ∷ []) false 0) x) }
+        ensures err { IfErr result (λ f.
+            Refused self.old self.new (call (Recv receiver.now ∷ []) false 0) f) }
+    {
+        hub.recv(rt, &mut self.seat, receiver)
+    }
+
+    /// Makes a channel with a buffer of `cap` values.
+    pub fn make<R: Wait>(&mut self, rt: &R, hub: &LiveHub<K>, cap: u32) -> Result<Event, Fault>
+        ensures later { Later self.old self.new }
+        ensures ok { IfOk result (λ x. Made self.old self.new (Make cap) x) }
+        ensures answer { IfOk result (λ x. Answers self.old.pid (Make cap) x) }
+        ensures err { IfErr result (λ f. Refused self.old self.new (Make cap) f) }
+    {
+        hub.make(rt, &mut self.seat, cap)
+    }
+
+    /// Makes a channel with a buffer of `cap` values, and gives it.
+    pub fn make_chan<R: Wait>(&mut self, rt: &R, hub: &LiveHub<K>, cap: u32) -> Result<Chan, Fault>
+        ensures later { Later self.old self.new }
+        ensures ok { IfOk result (λ chan.
+            Made self.old self.new (Make cap) (tells self.old.pid (what.Made chan))) }
+        ensures err { IfErr result (λ f.
+            Refused self.old self.new (Make cap) f
+            ⊎ Made self.old self.new (Make cap) (tells self.old.pid (what.Fault f))) }
+    {
+        hub.make_chan(rt, &mut self.seat, cap)
+    }
+
+    /// Closes a port, by its end that sends.
+    pub fn close<R: Wait>(
+        &mut self,
+        rt: &R,
+        hub: &LiveHub<K>,
+        sender: &SendPort,
+    ) -> Result<Event, Fault>
+        ensures later { Later self.old self.new }
+        ensures ok { IfOk result (λ x. Made self.old self.new (Close sender.now) x) }
+        ensures answer { IfOk result (λ x. Answers self.old.pid (Close sender.now) x) }
+        ensures err { IfErr result (λ f. Refused self.old self.new (Close sender.now) f) }
+    {
+        hub.close(rt, &mut self.seat, sender)
+    }
+
+    /// Ends the process.
+    pub fn exit<R: Wait>(&mut self, rt: &R, hub: &LiveHub<K>) -> Result<Event, Fault>
+        ensures later { Later self.old self.new }
+        ensures ok { IfOk result (λ x. Made self.old self.new Exit x) }
+        ensures answer { IfOk result (λ x. Answers self.old.pid Exit x) }
+        ensures err { IfErr result (λ f. Refused self.old self.new Exit f) }
+    {
+        hub.exit(rt, &mut self.seat)
+    }
+
+    /// The counts of a port in the journal that the seat has then seen.
+    pub fn look(&mut self, hub: &LiveHub<K>, port: Port) -> Option<Counts>
+        ensures later { Later self.old self.new }
+        ensures same { AskedNothing self.old self.new }
+        ensures counts { result ≡ counts_at (state_seen self.new) port }
+    {
+        hub.look(&mut self.seat, port)
+    }
+
+    /// Both seats have then seen one journal.
+    pub fn meet(&mut self, hub: &LiveHub<K>, other: &mut Held<K>)
+        ensures together { self.new.seen ≡ other.new.seen }
+        ensures later { Later self.old self.new }
+        ensures same { AskedNothing self.old self.new }
+        ensures other { Later other.old other.new }
+        ensures other_same { AskedNothing other.old other.new }
+    {
+        hub.meet(&mut self.seat, &mut other.seat);
+    }
+}
+
+impl<K: HubName> LiveHub<K> {
+    /// The journal, as `finish` gives it.
+    pub fn finish_held(self, held: Vec<Held<K>>) -> Journal
+        ensures procs { result.procs ≡ K.name.terms.procs }
+        ensures legal { IsLegal result.procs result.entries }
+        ensures few { steps_of result.entries ≤ K.name.terms.limit }
+        ensures seats { All (λ s. StandsIn s result.entries) held.items }
+    {
+        let (words, mut desk) = self.into_parts();
+        for one in held {
+            desk.compare(&words, one.into_seat().into_inner());
+        }
+        desk.into_journal()
+    }
+}
+
+/// The seats, in order, each known to be of this hub. Where memory is refused they are dropped.
+pub fn hold_all<K: HubName>(alloc: Global, seats: Vec<Seat>) -> Result<Vec<Held<K>>, AllocError>
+    requires { All (λ s. s.hub ≡ K.name) seats.items }
+    ensures same { IfOk result (λ held. held.items ≡ seats.items) }
+{
+    let mut held = Vec::new(alloc);
+    for seat in seats {
+        held.push(Held::of(seat))?;
+    }
+    Ok(held)
+}

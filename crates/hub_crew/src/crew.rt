@@ -1,0 +1,156 @@
+//! One thread for each seat, none of which begins until all are started.
+
+ghost use Rattle.std.specs.Prelude.{◌≡◌, ◌≤◌, [], true, IfOk, IfSome, All, map, vec_len, vec_capacity};
+
+use crate::start::Start;
+use crate::task::{Member, Task};
+use hub_base::Pid;
+use hub_live::{Held, HubName, LiveHub};
+use std::alloc::{AllocError, Global};
+use std::marker::PhantomData;
+use std::sync::Wait;
+use std::thread;
+use std::thread::{Promise, PromisedHandle, Threads};
+
+/// What a thread owes: the seat of its process, and where it began, what its task promises of it.
+#[derive(Clone, Copy)]
+struct Owed<K, R, T> {
+    pid: Pid,
+    task: T,
+    of: PhantomData<(K, R)>,
+}
+
+impl<K: HubName, R, T: Task<K, R>> Promise<Option<Member<K, T::Report>>> for Owed<K, R, T> {
+    ghost use Rattle.std.specs.Prelude.{◌≡◌, IfSome};
+
+    ghost kept_by = { λ p r. IfSome r (λ m. (m.seat.pid ≡ p.pid) × T.ends p.task m.seat m.report) };
+}
+
+/// A thread that was started. It gives no member where it was told not to begin.
+type Started<K, R, T> = PromisedHandle<Option<Member<K, <T as Task<K, R>>::Report>>, Owed<K, R, T>>;
+
+/// Waits for the start, and then performs the task.
+fn work<K: HubName, R: Wait, T: Task<K, R>>(
+    rt: &R,
+    hub: &LiveHub<K>,
+    start: &Start,
+    seat: Held<K>,
+    task: T,
+) -> Option<Member<K, T::Report>>
+    requires { T.begins task seat }
+    ensures pid { IfSome result (λ m. m.seat.pid ≡ seat.pid) }
+    ensures ends { IfSome result (λ m. T.ends task m.seat m.report) }
+{
+    let mut seat = seat;
+    if !start.wait(rt) {
+        return None;
+    }
+    let report = task.perform(rt, hub, &mut seat);
+    Some(Member { seat, report })
+}
+
+/// Starts a thread for each seat, and lets all begin once all are started. Whether they were; else none
+/// begins.
+fn start_all<K: HubName + Send + Sync, R: Threads + Wait + Sync, T: Task<K, R>>(
+    rt: &R,
+    hub: &LiveHub<K>,
+    seats: Vec<Held<K>>,
+    task: T,
+    room: Vec<Started<K, R, T>>,
+) -> (Vec<Started<K, R, T>>, bool)
+    requires begins { All (T.begins task) seats.items }
+    requires empty { room.items ≡ [] }
+    requires room { vec_len seats ≤ vec_capacity room }
+    ensures pids { result.1 ≡ true →
+        map (λ h. h.promise.pid) result.0.items ≡ map (λ s. s.pid) seats.items }
+    ensures tasks { All (λ h. h.promise.task ≡ task) result.0.items }
+    ensures fewer { vec_len result.0 ≤ vec_len seats }
+{
+    let begin = Start::new();
+    let start = &begin;
+    thread::scope(
+        thread::scope_env(),
+        rt,
+        |scope| -> (Vec<Started<K, R, T>>, bool)
+            requires { All (T.begins task) seats.items
+                × (room.items ≡ []) × (vec_len seats ≤ vec_capacity room) }
+            ensures { (result.1 ≡ true → map (λ h. h.promise.pid) result.0.items ≡ map (λ s. s.pid) seats.items)
+                × All (λ h. h.promise.task ≡ task) result.0.items
+                × (vec_len result.0 ≤ vec_len seats) }
+        {
+            let mut handles = room;
+            for seat in seats {
+                let owed = Owed {
+                    pid: seat.pid(),
+                    task,
+                    of: PhantomData,
+                };
+                let job = move || -> Option<Member<K, T::Report>>
+                    requires { T.begins task seat }
+                    ensures { IfSome result (λ m. (m.seat.pid ≡ seat.pid) × T.ends task m.seat m.report) }
+                { work(rt, hub, start, seat, task) };
+                let Ok(handle) = scope.spawn_with(owed, job) else {
+                    start.tell(rt, false);
+                    return (handles, false);
+                };
+                handles.push_reserved(handle);
+            }
+            start.tell(rt, true);
+            (handles, true)
+        },
+    )
+}
+
+/// The members whose threads have ended. Err where one did not begin, once all have ended.
+fn join_all<K: HubName, R: Threads, T: Task<K, R>>(
+    rt: &R,
+    handles: Vec<Started<K, R, T>>,
+    room: Vec<Member<K, T::Report>>,
+    task: T,
+) -> Result<Vec<Member<K, T::Report>>, AllocError>
+    requires tasks { All (λ h. h.promise.task ≡ task) handles.items }
+    requires empty { room.items ≡ [] }
+    requires room { vec_len handles ≤ vec_capacity room }
+    ensures pids { IfOk result (λ done.
+        map (λ m. m.seat.pid) done.items ≡ map (λ h. h.promise.pid) handles.items) }
+    ensures ends { IfOk result (λ done. All (λ m. T.ends task m.seat m.report) done.items) }
+{
+    let mut done = room;
+    let mut all = true;
+    for handle in handles {
+        match handle.join(rt) {
+            Some(member) => done.push_reserved(member),
+            None => all = false,
+        }
+    }
+    if all { Ok(done) } else { Err(AllocError) }
+}
+
+/// The task in a thread for each seat, and the seats with what their threads told, in order. None
+/// begins before all are started; it returns when all have ended.
+///
+/// Err where a thread or memory was refused: then none has begun, no step was made, and the seats are
+/// dropped.
+pub fn run_crew<K: HubName + Send + Sync, R: Threads + Wait + Sync, T: Task<K, R>>(
+    rt: &R,
+    alloc: Global,
+    hub: &LiveHub<K>,
+    seats: Vec<Held<K>>,
+    task: T,
+) -> Result<Vec<Member<K, T::Report>>, AllocError>
+    requires { All (T.begins task) seats.items }
+    ensures pids { IfOk result (λ done.
+        map (λ m. m.seat.pid) done.items ≡ map (λ s. s.pid) seats.items) }
+    ensures ends { IfOk result (λ done. All (λ m. T.ends task m.seat m.report) done.items) }
+{
+    // All memory comes first, so that no thread is left waiting and no handle is lost.
+    let handles = Vec::with_capacity(alloc, seats.len())?;
+    let members = Vec::with_capacity(alloc, seats.len())?;
+    let (handles, started) = start_all(rt, hub, seats, task, handles);
+    let members = join_all(rt, handles, members, task)?;
+    if started {
+        Ok(members)
+    } else {
+        Err(AllocError)
+    }
+}

@@ -1,0 +1,31 @@
+//! What the threads of a crew do.
+
+ghost use Rattle.std.specs.Prelude.{◌≡◌};
+
+use hub_live::{Held, HubName, LiveHub};
+
+/// What the threads of a crew do: the same for all, by the process of their seat.
+pub trait Task<K: HubName, R>: Copy + Send {
+    ghost use Rattle.hub_live.specs.SeatView.{SeatView};
+
+    /// What a thread tells in the end.
+    type Report: Drop + Send;
+
+    ghost begins: { Self → SeatView → Type 0 };
+
+    ghost ends: { Self → SeatView → Self.Report → Type 0 };
+
+    /// The work of one thread. `begins` holds of the seat before it, `ends` of the seat and the
+    /// report after it.
+    fn perform(self, rt: &R, hub: &LiveHub<K>, seat: &mut Held<K>) -> Self::Report
+        requires { begins self seat.old }
+        ensures same { seat.new.pid ≡ seat.old.pid }
+        ensures ends { ends self seat.new result };
+}
+
+/// A seat whose thread has ended, and what the thread told.
+#[derive(Drop)]
+pub struct Member<K: HubName, P> {
+    pub seat: Held<K>,
+    pub report: P,
+}

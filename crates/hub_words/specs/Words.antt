@@ -1,0 +1,27 @@
+-- What a program's arguments ask for, where that can be told without a parse.
+use Rattle.std.specs.Prelude.{◌≡◌, ℕ, ◌&&◌, ◌||◌, ◌==◌, Bool, false, not, IsTrue, List, [], ◌∷◌, codes, drop, slice_index}
+use Rattle.std.specs.Str.{bytes_eq}
+use Rattle.hub_words.specs.declared.request.Request.{Request}
+use Rattle.hub_words.specs.declared.request.Request.TheVariants.{Replay, Run, Verify}
+
+-- the one argument behind the program's name is `replay`
+abbrev pub AsksForReplay : List (List ℕ) → Type 0
+AsksForReplay words = (name : List ℕ) × (words ≡ name ∷ codes "replay" ∷ [])
+
+-- this request is for a replay
+abbrev pub IsReplay : Request → Type 0
+IsReplay Replay = Unit {0}
+IsReplay (Run file journal) = ⊥
+IsReplay (Verify journal events) = ⊥
+
+-- it begins with a `-`, and is not `--journal`
+abbrev pub is_unknown_option : List ℕ → Bool
+is_unknown_option word = (slice_index word 0 == 45) && not (bytes_eq word (codes "--journal"))
+
+abbrev pub any_unknown_option : List (List ℕ) → Bool
+any_unknown_option [] = false
+any_unknown_option (word ∷ words) = is_unknown_option word || any_unknown_option words
+
+-- some argument behind the program's name is an unknown option
+abbrev pub HasUnknownOption : List (List ℕ) → Type 0
+HasUnknownOption words = IsTrue (any_unknown_option (drop 1 words))

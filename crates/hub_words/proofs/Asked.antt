@@ -1,8 +1,8 @@
--- Two words ask for a replay exactly where the second is `replay`.
-use Rattle.std.proofs.Common.{◌≡◌, ℕ, ◌≤◌, ◌<◌, ◌↔◌, Bool, IsTrue, List, [], ◌∷◌, length, map, get_or, codes, sym, ap, ◌∙◌, arith}
+-- Two words ask for a replay exactly where the second is `replay`; of two or more the second is the command.
+use Rattle.std.proofs.Common.{◌≡◌, ℕ, ◌≤◌, ◌<◌, ◌↔◌, Bool, IsTrue, List, [], ◌∷◌, length, map, get_or, codes, sym, ap, ◌∙◌, arith, Some}
 use Rattle.std.specs.Str.{bytes_eq}
 use Rattle.std.proofs.lemmas.Slice.Eq.{bytes_eq-Decides}
-use Rattle.hub_words.specs.Words.{AsksForReplay}
+use Rattle.hub_words.specs.Words.{AsksFor, AsksForReplay}
 
 second : (name text : List ℕ) → AsksForReplay (name ∷ text ∷ []) → text ≡ codes "replay"
 second name text (other, same) = cc
@@ -20,3 +20,9 @@ module _ {A : Type 0} (text_of : A → List ℕ) where
   two-ask (name ∷ other ∷ []) word text eq least below is read compared =
       two (text_of name) (text_of other) eq (compared ∙ ap (λ t. bytes_eq t (codes "replay")) (read ∙ ap text_of is))
   two-ask (name ∷ other ∷ third ∷ more) word text eq least below is read compared = absurd (omega arith)
+
+  pub second-asks : (words : List A) (word : A) (text : List ℕ) → 2 ≤ length words → word ≡ get_or words 1 word → text ≡ text_of word →
+      AsksFor text (map text_of words)
+  second-asks [] word text least read is = absurd (omega arith)
+  second-asks (name ∷ []) word text least read is = absurd (omega arith)
+  second-asks (name ∷ other ∷ more) word text least read is = ap (λ t. Some t) (sym (is ∙ ap text_of read))

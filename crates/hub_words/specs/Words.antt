@@ -1,5 +1,5 @@
 -- What a program's arguments ask for, where that can be told without a parse.
-use Rattle.std.specs.Prelude.{◌≡◌, ℕ, ◌&&◌, ◌||◌, ◌==◌, Bool, false, not, IsTrue, List, [], ◌∷◌, codes, drop, slice_index}
+use Rattle.std.specs.Prelude.{◌≡◌, ℕ, ◌&&◌, ◌||◌, ◌==◌, Bool, false, not, IsTrue, List, [], ◌∷◌, codes, drop, slice_get, slice_index, Some}
 use Rattle.std.specs.Str.{bytes_eq}
 use Rattle.hub_words.specs.declared.request.Request.{Request}
 use Rattle.hub_words.specs.declared.request.Request.TheVariants.{Replay, Run, Verify}
@@ -7,6 +7,16 @@ use Rattle.hub_words.specs.declared.request.Request.TheVariants.{Replay, Run, Ve
 -- the one argument behind the program's name is `replay`
 abbrev pub AsksForReplay : List (List ℕ) → Type 0
 AsksForReplay words = (name : List ℕ) × (words ≡ name ∷ codes "replay" ∷ [])
+
+-- the argument behind the program's name is this command
+abbrev pub AsksFor : List ℕ → List (List ℕ) → Type 0
+AsksFor command words = slice_get words 1 ≡ Some command
+
+-- the command that a request is made by
+abbrev pub command_of : Request → List ℕ
+command_of Replay = codes "replay"
+command_of (Run file journal) = codes "run"
+command_of (Verify journal events) = codes "verify"
 
 -- this request is for a replay
 abbrev pub IsReplay : Request → Type 0

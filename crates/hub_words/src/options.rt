@@ -1,7 +1,7 @@
 //! What can be told of the arguments without a parse.
 
-ghost use Rattle.std.specs.Prelude.{◌≡◌, ◌↔◌, map, IsTrue};
-ghost use Rattle.hub_words.specs.Words.{AsksForReplay, HasUnknownOption, any_unknown_option, is_unknown_option};
+ghost use Rattle.std.specs.Prelude.{◌≡◌, ◌↔◌, map, IsTrue, IfSome};
+ghost use Rattle.hub_words.specs.Words.{AsksFor, AsksForReplay, HasUnknownOption, any_unknown_option, is_unknown_option};
 
 use std::convert::AsStr;
 
@@ -12,6 +12,16 @@ pub(crate) fn asks_for_replay<S: AsStr>(words: &[S]) -> bool
     match words {
         [_, word] => word.as_str() == "replay",
         _ => false,
+    }
+}
+
+/// The argument behind the program's name.
+pub(crate) fn command<'a, S: AsStr>(words: &'a [S]) -> Option<&'a str>
+    ensures { IfSome result (λ word. AsksFor word.now (map S.text words.entry.now)) }
+{
+    match words {
+        [_, word, ..] => Some(word.as_str()),
+        _ => None,
     }
 }
 

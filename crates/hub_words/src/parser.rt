@@ -1,10 +1,10 @@
 //! From the arguments to what they ask for.
 
 ghost use Rattle.std.specs.Prelude.{◌≡◌, ◌↔◌, map, IsOk, IfOk, IfSome, IsErrOf};
-ghost use Rattle.hub_words.specs.Words.{AsksForReplay, HasUnknownOption, IsReplay};
+ghost use Rattle.hub_words.specs.Words.{AsksFor, AsksForReplay, HasUnknownOption, IsReplay, command_of};
 
 use crate::grammar::program;
-use crate::options::{asks_for_replay, has_unknown_option};
+use crate::options::{asks_for_replay, command, has_unknown_option};
 use crate::{ArgumentsFault, Request};
 use clap::error::ErrorKind;
 use clap::{ArgMatches, Error};
@@ -18,10 +18,11 @@ fn fault_of(error: &Error) -> ArgumentsFault {
     }
 }
 
-fn request_of<'a>(name: &str, found: &ArgMatches<'a>) -> Option<Request<'a>>
-    ensures { IfSome result (λ request. ¬ IsReplay request) }
+fn request_of<'a>(command: &str, found: &ArgMatches<'a>) -> Option<Request<'a>>
+    ensures command { IfSome result (λ request. command.now ≡ command_of request) }
+    ensures other { IfSome result (λ request. ¬ IsReplay request) }
 {
-    match name {
+    match command {
         "run" => Some(Request::Run {
             file: found.get_str("file"),
             journal: found.get_flag("journal"),
@@ -36,16 +37,22 @@ fn request_of<'a>(name: &str, found: &ArgMatches<'a>) -> Option<Request<'a>>
 
 /// What `clap` reads.
 fn parse<'a, S: AsStr>(alloc: Global, words: &'a [S]) -> Result<Request<'a>, ArgumentsFault>
-    ensures { IfOk result (λ request. ¬ IsReplay request) }
+    ensures command { IfOk result (λ request.
+        AsksFor (command_of request) (map S.text words.entry.now)) }
+    ensures other { IfOk result (λ request. ¬ IsReplay request) }
 {
+    // No option stands before a command, so the command is what follows the program's name.
+    let Some(command) = command(words) else {
+        return Err(ArgumentsFault::BadArguments);
+    };
     let matches = match program(alloc)?.try_get_matches_from(words) {
         Ok(matches) => matches,
         Err(error) => return Err(fault_of(&error)),
     };
-    let Some((name, found)) = matches.subcommand() else {
+    let Some((_, found)) = matches.subcommand() else {
         return Err(ArgumentsFault::BadArguments);
     };
-    match request_of(name, found) {
+    match request_of(command, found) {
         Some(request) => Ok(request),
         None => Err(ArgumentsFault::BadArguments),
     }
@@ -59,6 +66,8 @@ pub fn read_words<'a, S: AsStr>(
     ensures replay { AsksForReplay (map S.text words.entry.now) → IsOk result }
     ensures only { IfOk result (λ request.
         IsReplay request ↔ AsksForReplay (map S.text words.entry.now)) }
+    ensures command { IfOk result (λ request.
+        AsksFor (command_of request) (map S.text words.entry.now)) }
     ensures option { HasUnknownOption (map S.text words.entry.now)
         → IsErrOf result ArgumentsFault.BadArguments }
 {

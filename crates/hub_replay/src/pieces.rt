@@ -7,10 +7,10 @@ ghost use Rattle.hub_replay.specs.Devices.{Failed, AppendsBeginning};
 use crate::{Sink, Source, SourceFault, WriteFailed};
 use std::alloc::Global;
 
-/// How many bytes one read asks for.
+/// The most bytes that one read asks for.
 pub const CHUNK: usize = 65_536;
 
-/// Reads to the end, or until more than `limit` bytes have come.
+/// Reads to the end, or until `limit + 1` bytes have come.
 pub fn read_up_to<S: Source>(
     alloc: Global,
     source: &mut S,
@@ -31,13 +31,15 @@ pub fn read_up_to<S: Source>(
     let mut bytes = Vec::new(alloc);
     let mut chunk = [0; CHUNK];
     while bytes.len() <= limit {
-        let Ok(count) = source.read(&mut chunk) else {
+        let room = (limit - bytes.len()).min(CHUNK - 1) + 1;
+        let place = &mut chunk[..room];
+        let Ok(count) = source.read(place) else {
             return Err(SourceFault::Read);
         };
         if count == 0 {
             return Ok(bytes);
         }
-        bytes.extend_from_slice(&chunk[..count])?;
+        bytes.extend_from_slice(&place[..count])?;
     }
     Ok(bytes)
 }

@@ -19,7 +19,7 @@ pub fn read_up_to<S: Source>(
     ensures bytes { IfOk result (λ v.
         Consumes (S.remaining source.old) (S.remaining source.new) v.items) }
     ensures end { IfOk result (λ v. vec_len v ≤ limit → IsAtEnd (S.remaining source.new)) }
-    ensures most { IfOk result (λ v. vec_len v ≤ limit + CHUNK) }
+    ensures most { IfOk result (λ v. vec_len v ≤ limit + 1) }
 
     // One read failed where the answer is `Read`, and else none.
     ensures read { IsErrOf result SourceFault.Read

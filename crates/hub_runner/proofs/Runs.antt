@@ -1,0 +1,147 @@
+-- All seats of a run, and the one journal.
+use Rattle.std.proofs.Common.{◌≡◌, ℕ, ◌+◌, ◌<◌, ◌≤◌, List, [], ◌∷◌, ◌++◌, length, get_or, map, refl, ap, ◌∙◌, sym, subst, Option, Some, None, Result, Ok, Err, OnOk, All, take, zero, suc, arith, append_assoc, ◌==◌, false, Bool, cond}
+use Rattle.std.specs.Prelude.{slice_get, IsOk, slice_set, Vec}
+use Rattle.std.specs.declared.alloc.Global.{Global}
+use Rattle.std.proofs.lemmas.List.{take_more, get_or-map, length-map, map-append}
+use Rattle.std.proofs.lemmas.List.Elements.{All-push}
+use Rattle.std.proofs.lemmas.Grind.{common_steps}
+use Rattle.std.proofs.lemmas.Option.{slice_get_within}
+use Rattle.hub_base.specs.declared.value.Pid.{Pid}
+use Rattle.hub_base.specs.declared.entry.Entry.{Entry}
+use Rattle.hub_base.specs.declared.event.Event.{Event}
+use Rattle.hub_base.specs.declared.entry.Step.TheVariants as step
+use Rattle.hub_live.specs.Name.{Name}
+use Rattle.hub_live.specs.SeatView.{SeatView, IsFree}
+use Rattle.hub_live.specs.Calls.{Later, Made, AreSeats, StandsIn}
+use Rattle.hub_scenario.specs.declared.script.ScriptStep.{ScriptStep}
+use Rattle.hub_scenario.specs.declared.scenario.Scenario.{Scenario}
+use Rattle.hub_scenario.specs.ChoiceWords.{words_of_process}
+use Rattle.hub_runner.specs.Asked.{Asked, asked}
+use Rattle.hub_runner.specs.Scripts.{Follows, MakesThenFollows, FollowsScript, AllFollow, made_by}
+use Rattle.hub_runner.specs.Running.{AreMakes, IsReady, HasFollowed}
+use Rattle.hub_runner.specs.Working.{asked_of, Onward, Followed}
+use Rattle.hub_runner.proofs.Workers.{made_asks}
+use Rattle.hub_runner.proofs.Askings.{answered, asked-same}
+
+-- ---- the ports
+
+-- one make more
+makes_more : (cs : List ℕ) (xs : List Asked) (c : ℕ) (x : Option Event) → AreMakes cs xs → AreMakes (cs ++ c ∷ []) (xs ++ answered (step.Make c) x ∷ [])
+makes_more [] [] c x h = (refl, tt)
+makes_more [] (a ∷ more) c x h = absurd h
+makes_more (d ∷ cs) [] c x h = absurd h
+makes_more (d ∷ cs) (a ∷ more) c x h = (h.0, makes_more cs more c x h.1)
+
+-- the makes, and then a script's entries
+makes_then : (cs : List ℕ) (xs more : List Asked) (words : ℕ → ℕ) (script : List ScriptStep) → AreMakes cs xs → Follows script words 0 more → MakesThenFollows cs script words (xs ++ more)
+makes_then [] [] more words script h f = f
+makes_then [] (a ∷ xs) more words script h f = absurd h
+makes_then (c ∷ cs) [] more words script h f = absurd h
+makes_then (c ∷ cs) (a ∷ xs) more words script h f = (h.0, makes_then cs xs more words script h.1 f)
+
+pub made_more : (s t : SeatView) (caps : List ℕ) (i cap : ℕ) (x : Event) → IsFree s → Later s t → Made s t (step.Make cap) x → i < length caps → cap ≡ get_or caps i 0 → AreMakes (take i caps) (asked_of s) → AreMakes (take (i + 1) caps) (asked_of t)
+made_more s t caps i cap x free later made low is h =
+    let cut : take (i + 1) caps ≡ take i caps ++ cap ∷ [] = take_more caps i 0 low ∙ ap (λ (c : ℕ). take i caps ++ c ∷ []) (sym is) in
+    subst (λ (zs : List ℕ). AreMakes zs (asked_of t)) (sym cut) (subst (λ (zs : List Asked). AreMakes (take i caps ++ cap ∷ []) zs) (sym (made_asks s t (step.Make cap) x free later made)) (makes_more (take i caps) (asked_of s) cap (Some x) h))
+
+-- ---- one process
+
+-- a ready seat whose process then followed its script has followed it
+pub has_followed : {T E : Type 0} (r : Result T E) (sc : Scenario) (s t : SeatView) (script : Vec ScriptStep Global)
+    → IsReady sc s → Onward s t → slice_get sc.scripts.items s.pid.0 ≡ Some script → OnOk r (Followed (asked_of s) (asked_of t) (words_of_process sc.seed s.pid.0) script.items) → OnOk r (HasFollowed sc t)
+has_followed (Err e) sc s t script ready on at f = tt
+has_followed (Ok x) sc s t script ready on at f = λ other is.
+    let place : slice_get sc.scripts.items s.pid.0 ≡ Some other = ap (λ (p : Pid). slice_get sc.scripts.items p.0) (sym on.pid) ∙ is in
+    let same : script ≡ other = cc in
+    let here : FollowsScript sc s.pid.0 script.items (asked_of t) =
+    subst (λ (zs : List Asked). FollowsScript sc s.pid.0 script.items zs) (sym f.now_is) (makes_then (made_by s.pid.0 sc.ports.items) (asked_of s) f.made (words_of_process sc.seed s.pid.0) script.items ready.makes f.follows) in
+    subst (λ (o : Vec ScriptStep Global). FollowsScript sc t.pid.0 o.items (asked_of t)) same
+    (subst (λ (p : Pid). FollowsScript sc p.0 script.items (asked_of t)) (sym on.pid) here)
+
+-- ---- all seats
+
+-- the seat at place k is blank, and of process `first + k`
+blank_at : (name : Name) (first : ℕ) (ss : List SeatView) (k : ℕ) (d : SeatView) → AreSeats name first ss → k < length ss → get_or ss k d ≡ record { hub = name; pid = record { 0 = first + k }; seen = [] }
+blank_at name first [] k d h low = absurd (omega arith)
+blank_at name first (s ∷ ss) zero d h low = h.0 ∙ ap (λ (n : ℕ). record { hub = name; pid = record { 0 = n }; seen = [] }) (let z : first ≡ first + 0 = omega arith in z)
+blank_at name first (s ∷ ss) (suc k) d h low = blank_at name (first + 1) ss k d h.1 (omega arith) ∙ ap (λ (n : ℕ). record { hub = name; pid = record { 0 = n }; seen = [] }) (let z : (first + 1) + k ≡ first + suc k = omega arith in z)
+
+-- what a process asked in the journal is what it asked in what its seat has seen
+stands_asked : (s : SeatView) (journal : List Entry) → StandsIn s journal → asked s.pid.0 s.hub.terms.procs journal ≡ asked_of s
+stands_asked s journal st = asked-same s.pid.0 s.hub.terms.procs s.seen journal st.begins st.same.own st.same.reply
+
+one_follows : (sc : Scenario) (s : SeatView) (journal : List Entry) (q : ℕ) (script : Vec ScriptStep Global)
+    → s.hub.terms.procs ≡ length sc.scripts.items → s.pid.0 ≡ q → HasFollowed sc s → StandsIn s journal → slice_get sc.scripts.items q ≡ Some script
+    → FollowsScript sc q script.items (asked q (length sc.scripts.items) journal)
+one_follows sc s journal q script n pid f st at =
+    let seen = f script (ap (slice_get sc.scripts.items) pid ∙ at) in
+    let all : asked_of s ≡ asked q (length sc.scripts.items) journal = sym (stands_asked s journal st) ∙ (λ i. asked (pid i) (n i) journal) in
+    subst (λ (zs : List Asked). FollowsScript sc q script.items zs) all (subst (λ (p : ℕ). FollowsScript sc p script.items (asked_of s)) pid seen)
+
+pub all_follow : (name : Name) (sc : Scenario) (before done : List SeatView) (journal : List Entry)
+    → name.terms.procs ≡ length sc.scripts.items → length before ≡ length sc.scripts.items → AreSeats name 0 before → map (λ s. s.pid) done ≡ map (λ s. s.pid) before
+    → All (λ s. s.hub ≡ name) done → All (HasFollowed sc) done → All (λ s. StandsIn s journal) done → AllFollow sc journal
+all_follow name sc before done journal procs many seats pids hubs followed stands q script at =
+    let d : SeatView = record { hub = name; pid = record { 0 = q }; seen = [] } in
+    let low : q < length sc.scripts.items = slice_get_within sc.scripts.items q script at in
+    let same : length done ≡ length before = sym (length-map done (λ (s : SeatView). s.pid)) ∙ ap length pids ∙ length-map before (λ (s : SeatView). s.pid) in
+    let here : q < length done = omega arith in
+    let there : q < length before = omega arith in
+    let pid : (get_or done q d).pid.0 ≡ q =
+    ap (λ (p : Pid). p.0) (sym (get_or-map (λ (s : SeatView). s.pid) done q d d.pid here) ∙ ap (λ (ps : List Pid). get_or ps q d.pid) pids ∙ get_or-map (λ (s : SeatView). s.pid) before q d d.pid there)
+    ∙ ap (λ (s : SeatView). s.pid.0) (blank_at name 0 before q d seats there) ∙ (let z : 0 + q ≡ q = omega arith in z) in
+    let n : (get_or done q d).hub.terms.procs ≡ length sc.scripts.items = ap (λ (m : Name). m.terms.procs) (hubs q d here) ∙ procs in
+    one_follows sc (get_or done q d) journal q script n pid (followed q d here) (stands q d here) at
+
+-- ---- lists that grow
+
+pub map_snoc : {A B C : Type 0} (xs xs' : List A) (ys : List B) (x : A) (y : B) (f : A → C) (g : B → C) → xs' ≡ xs ++ x ∷ [] → map f xs ≡ map g ys → f x ≡ g y → map f xs' ≡ map g (ys ++ y ∷ [])
+map_snoc xs xs' ys x y f g grown same here =
+    ap (map f) grown ∙ map-append f xs (x ∷ []) ∙ (λ i. same i ++ here i ∷ []) ∙ sym (map-append g ys (y ∷ []))
+
+pub all_snoc : {A : Type 0} (xs xs' : List A) (x : A) (P : A → Type 0) → xs' ≡ xs ++ x ∷ [] → All P xs → P x → All P xs'
+all_snoc xs xs' x P grown all here = subst (λ zs. All P zs) (sym grown) (All-push P xs x all here)
+
+pub cut_snoc : {A : Type 0} (ys rest rest' all : List A) (x : A) → rest ≡ x ∷ rest' → ys ++ rest ≡ all → (ys ++ x ∷ []) ++ rest' ≡ all
+cut_snoc ys rest rest' all x is whole = append_assoc ys (x ∷ []) rest' ∙ ap (λ zs. ys ++ zs) (sym is) ∙ whole
+
+all_mid : {A : Type 0} (P : A → Type 0) (ys rest : List A) (x : A) → All P (ys ++ x ∷ rest) → P x
+all_mid P [] rest x h = h 0 x (omega arith)
+all_mid P (y ∷ ys) rest x h = all_mid P ys rest x (λ k d low. h (suc k) d (omega arith))
+
+pub all_next : {A : Type 0} (ys rest rest' all : List A) (x : A) (P : A → Type 0) → rest ≡ x ∷ rest' → ys ++ rest ≡ all → All P all → P x
+all_next ys rest rest' all x P is whole h = all_mid P ys rest' x (subst (λ zs. All P zs) (sym (ap (λ zs. ys ++ zs) (sym is) ∙ whole)) h)
+
+pub from_ok : {T E : Type 0} (r : Result T E) (P : Type 0) → IsOk r → OnOk r P → P
+from_ok (Ok x) P ok h = h
+from_ok (Err e) P ok h = absurd (let g : ⊥ = cc in g)
+
+-- ---- the seats once the ports are made
+
+asked-nil : (q n : ℕ) → asked q n [] ≡ []
+unfolding asked
+asked-nil q n = refl
+
+pub asked_blank : (name : Name) (ss : List SeatView) (k : ℕ) (d : SeatView) → AreSeats name 0 ss → k < length ss → asked_of (get_or ss k d) ≡ []
+asked_blank name ss k d h low = ap asked_of (blank_at name 0 ss k d h low) ∙ asked-nil (0 + k) name.terms.procs
+
+ready_later : (name : Name) (sc : Scenario) (k : ℕ) (s : SeatView) → name.terms.procs ≡ length sc.scripts.items → s ≡ record { hub = name; pid = record { 0 = 1 + k }; seen = [] } → IsReady sc s
+ready_later name sc k s procs is = subst (λ (t : SeatView). IsReady sc t) (sym is) (record {
+  procs = procs;
+  makes =
+      let z : ((1 + k) == 0) ≡ false = grind (arith, common_steps) in
+      subst (λ (zs : List Asked). AreMakes (made_by (1 + k) sc.ports.items) zs) (sym (asked-nil (1 + k) name.terms.procs)) (subst (λ (b : Bool). AreMakes (cond b sc.ports.items []) []) (sym z) tt);
+})
+
+ready_at : (name : Name) (sc : Scenario) (s : SeatView) (ss : List SeatView) (t : SeatView) (k : ℕ) (e : SeatView) → name.terms.procs ≡ length sc.scripts.items → AreSeats name 0 (s ∷ ss) → Onward s t → AreMakes sc.ports.items (asked_of t) → k < length (t ∷ ss) → IsReady sc (get_or (t ∷ ss) k e)
+ready_at name sc s ss t zero e procs h on made low = record {
+  procs = ap (λ (m : Name). m.terms.procs) (on.hub ∙ ap (λ (z : SeatView). z.hub) h.0) ∙ procs;
+  makes =
+      let pid : 0 ≡ t.pid.0 = sym (ap (λ (p : Pid). p.0) on.pid ∙ ap (λ (z : SeatView). z.pid.0) h.0) in
+      subst (λ (n : ℕ). AreMakes (made_by n sc.ports.items) (asked_of t)) pid made;
+}
+ready_at name sc s ss t (suc k) e procs h on made low = ready_later name sc k (get_or ss k e) procs (blank_at name 1 ss k e h.1 (omega arith))
+
+pub all_ready : (name : Name) (sc : Scenario) (ss : List SeatView) (d t : SeatView) → name.terms.procs ≡ length sc.scripts.items → AreSeats name 0 ss → 0 < length ss → Onward (get_or ss 0 d) t → AreMakes sc.ports.items (asked_of t) → All (IsReady sc) (slice_set ss 0 t)
+all_ready name sc [] d t procs h some on made = absurd (omega arith)
+all_ready name sc (s ∷ ss) d t procs h some on made = λ k e low. ready_at name sc s ss t k e procs h on made low

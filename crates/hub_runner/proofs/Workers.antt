@@ -1,0 +1,139 @@
+-- One process and its script.
+use Rattle.std.proofs.Common.{◌≡◌, ℕ, ◌&&◌, ◌⊎◌, inl, inr, Bool, true, false, cond, List, [], ◌∷◌, ◌++◌, refl, ap, ◌∙◌, sym, subst, Option, Some, None, Result, Ok, Err, IfOk, append-nil, append_assoc, drop, ◌+◌, ◌≤◌, ◌<◌, length, get_or, add-one, arith}
+use Rattle.std.proofs.Math.Seq.{drop-cons}
+use mathlib.Core.List.{IsPrefix}
+use Rattle.std.proofs.lemmas.Bool.{and_parts}
+use Rattle.hub_base.specs.declared.value.Pid.{Pid}
+use Rattle.hub_base.specs.declared.value.Port.{Port}
+use Rattle.hub_base.specs.declared.case.Case.TheVariants as case
+use Rattle.hub_base.specs.declared.entry.Step.{Step}
+use Rattle.hub_base.specs.declared.entry.Step.TheVariants as step
+use Rattle.hub_base.specs.declared.entry.Entry.{Entry}
+use Rattle.hub_base.specs.declared.event.Event.{Event}
+use Rattle.hub_base.specs.declared.fault.Fault.{Fault}
+use Rattle.hub_base.specs.Lines.{call}
+use Rattle.hub_laws.specs.Replies.{own, reply}
+use Rattle.hub_live.specs.Name.{Name}
+use Rattle.hub_live.specs.SeatView.{SeatView, IsFree, IsIdle}
+use Rattle.hub_live.specs.Calls.{Later, Made, entry_of}
+use Rattle.hub_live.proofs.Prefixes.{prefix_self, prefix_trans}
+use Rattle.hub_scenario.specs.declared.script.ScriptStep.{ScriptStep}
+use Rattle.hub_scenario.specs.declared.script.ScriptStep.TheVariants.{Send, Recv, Select, Close, Range}
+use Rattle.hub_runner.specs.Asked.{Asked, asked}
+use Rattle.hub_runner.specs.Scripts.{asks, stalls, gets, is_range, taken_after, left, Follows}
+use Rattle.hub_runner.specs.Working.{asked_of, Onward, Leads, Followed, goes_on_with}
+use Rattle.hub_runner.proofs.Askings.{answered, asked-gains}
+
+-- ---- one entry
+
+pub made_asks : (s t : SeatView) (asking : Step) (x : Event) → IsFree s → Later s t → Made s t asking x → asked_of t ≡ asked_of s ++ answered asking (Some x) ∷ []
+made_asks s t asking x free later made =
+    let own_is : own s.pid.0 t.seen ≡ own s.pid.0 s.seen ++ entry_of s asking ∷ [] = subst (λ (p : Pid). own p.0 t.seen ≡ own s.pid.0 s.seen ++ entry_of s asking ∷ []) later.pid made.own in
+    let told : reply s.pid.0 s.hub.terms.procs t.seen ≡ Some x = (λ i. reply (sym later.pid i).0 (sym later.hub i).terms.procs t.seen) ∙ made.reply in
+    (λ i. asked (later.pid i).0 (later.hub i).terms.procs t.seen) ∙ asked-gains s.pid.0 s.hub.terms.procs s.seen t.seen (entry_of s asking) x later.begins own_is free told
+
+-- the same of a call's result, by what the script's step asks
+pub made_ok : (s t : SeatView) (asking wanted : Step) (r : Result Event Fault) → asking ≡ wanted → IsFree s → Later s t → IfOk r (λ x. Made s t asking x) → IfOk r (λ x. asked_of t ≡ asked_of s ++ answered wanted (Some x) ∷ [])
+made_ok s t asking wanted (Ok x) is free later made = subst (λ (w : Step). asked_of t ≡ asked_of s ++ answered w (Some x) ∷ []) is (made_asks s t asking x free later made)
+made_ok s t asking wanted (Err f) is free later made = tt
+
+-- ---- the seat
+
+pub onward_self : (s : SeatView) → Onward s s
+onward_self s = record { hub = refl; pid = refl; begins = prefix_self s.seen }
+
+pub onward_later : (s t u : SeatView) → Onward s t → Later t u → Later s u
+onward_later s t u o l = record { hub = l.hub ∙ o.hub; pid = l.pid ∙ o.pid; begins = prefix_trans s.seen t.seen u.seen o.begins l.begins; idle = l.idle }
+
+pub later_onward : (s t : SeatView) → Later s t → Onward s t
+later_onward s t l = record { hub = l.hub; pid = l.pid; begins = l.begins }
+
+-- ---- the script
+
+pub leads_self : (a : List Asked) (words : ℕ → ℕ) (script : List ScriptStep) (j : ℕ) → Leads a a words script j script j
+leads_self a words script j = record { made = []; now_is = sym (append-nil a); leads = λ more f. f }
+
+pub leads_trans : (a b c : List Asked) (words : ℕ → ℕ) (s r t : List ScriptStep) (i j k : ℕ) → Leads a b words s i r j → Leads b c words r j t k → Leads a c words s i t k
+leads_trans a b c words s r t i j k p q = record {
+  made = p.made ++ q.made;
+  now_is = q.now_is ∙ ap (λ zs. zs ++ q.made) p.now_is ∙ append_assoc a p.made q.made;
+  leads = λ more f. subst (λ zs. Follows s words i zs) (sym (append_assoc p.made q.made more)) (p.leads (q.made ++ more) (q.leads more f));
+}
+
+follows_at : (words : ℕ → ℕ) (more : List Asked) (r t : List ScriptStep) (i j : ℕ) → r ≡ t → i ≡ j → Follows r words i more → Follows t words j more
+follows_at words more r t i j e f h = subst (λ (z : List ScriptStep). Follows z words j more) e (subst (λ (n : ℕ). Follows r words n more) f h)
+
+-- the first step of a script, once
+pub leads_step : (a b : List Asked) (words : ℕ → ℕ) (s : ScriptStep) (rest : List ScriptStep) (j word : ℕ) (x : Event) (after : List ScriptStep) (k : ℕ)
+    → b ≡ a ++ answered (asks s word) (Some x) ∷ [] → asks s word ≡ asks s (words j) → left s rest (Some x) ≡ after → taken_after s j ≡ k → Leads a b words (s ∷ rest) j after k
+leads_step a b words s rest j word x after k is chosen then next = record {
+  made = answered (asks s word) (Some x) ∷ [];
+  now_is = is;
+  leads = λ more f. (chosen, follows_at words more after (left s rest (Some x)) k (taken_after s j) (sym then) (sym next) f);
+}
+
+pub left_stalled : (s : ScriptStep) (rest : List ScriptStep) (x : Event) → stalls x.what ≡ true → left s rest (Some x) ≡ []
+left_stalled s rest x h = rw h refl
+
+pub left_range : (s : ScriptStep) (rest : List ScriptStep) (x : Event) → stalls x.what ≡ false → is_range s ≡ true → gets x.what ≡ true → left s rest (Some x) ≡ s ∷ rest
+left_range s rest x h r g = rw (h, r, g) refl
+
+pub left_done : (s : ScriptStep) (rest : List ScriptStep) (x : Event) → stalls x.what ≡ false → (is_range s && gets x.what) ≡ false → left s rest (Some x) ≡ rest
+left_done s rest x h r = rw (h, r) refl
+
+pub word_kept : (s : ScriptStep) (j : ℕ) → is_range s ≡ true → taken_after s j ≡ j
+word_kept (Send p v) j h = refl
+word_kept (Recv p) j h = refl
+word_kept (Select cases default) j h = absurd (let g : ⊥ = cc in g)
+word_kept (Close p) j h = refl
+word_kept (Range p) j h = refl
+
+pub recv_asks : (s : ScriptStep) (p : Port) (word : ℕ) → (s ≡ Recv p) ⊎ (s ≡ Range p) → call (case.Recv p ∷ []) false 0 ≡ asks s word
+recv_asks s p word h = elim h [ inl e ↦ ap (λ (z : ScriptStep). asks z word) (sym e) | inr e ↦ ap (λ (z : ScriptStep). asks z word) (sym e) ]
+
+-- the last step of a script that goes on, or not
+pub leads_end : (a b c : List Asked) (words : ℕ → ℕ) (s : ScriptStep) (rest : List ScriptStep) (j word : ℕ) (x : Event) (goes_on : Bool)
+    → Leads a b words (s ∷ rest) j (s ∷ rest) j → c ≡ b ++ answered (asks s word) (Some x) ∷ [] → asks s word ≡ asks s (words j) → left s rest (Some x) ≡ goes_on_with goes_on rest
+    → Leads a c words (s ∷ rest) j (goes_on_with goes_on rest) (taken_after s j)
+leads_end a b c words s rest j word x goes_on p is chosen then =
+    leads_trans a b c words (s ∷ rest) (s ∷ rest) (goes_on_with goes_on rest) j j (taken_after s j) p (leads_step b c words s rest j word x (goes_on_with goes_on rest) (taken_after s j) is chosen then refl)
+
+-- a range that goes on
+pub leads_again : (a b c : List Asked) (words : ℕ → ℕ) (s : ScriptStep) (rest : List ScriptStep) (j word : ℕ) (x : Event)
+    → Leads a b words (s ∷ rest) j (s ∷ rest) j → c ≡ b ++ answered (asks s word) (Some x) ∷ [] → asks s word ≡ asks s (words j) → stalls x.what ≡ false → (is_range s && gets x.what) ≡ true
+    → Leads a c words (s ∷ rest) j (s ∷ rest) j
+leads_again a b c words s rest j word x p is chosen h r =
+    let both = and_parts (is_range s) (gets x.what) r in
+    leads_trans a b c words (s ∷ rest) (s ∷ rest) (s ∷ rest) j j j p (leads_step b c words s rest j word x (s ∷ rest) j is chosen (left_range s rest x h both.0 both.1) (word_kept s j both.0))
+
+-- the whole script, and then an exit
+pub followed : (a b c : List Asked) (words : ℕ → ℕ) (script : List ScriptStep) (k : ℕ) (x : Event) → Leads a b words script 0 [] k → c ≡ b ++ answered step.Exit (Some x) ∷ [] → Followed a c words script
+followed a b c words script k x p is = record {
+  made = p.made ++ answered step.Exit (Some x) ∷ [];
+  now_is = is ∙ ap (λ zs. zs ++ answered step.Exit (Some x) ∷ []) p.now_is ∙ append_assoc a p.made (answered step.Exit (Some x) ∷ []);
+  follows = p.leads (answered step.Exit (Some x) ∷ []) (refl, refl);
+}
+
+-- a process that has no open call made the exit
+pub exited : (s t u : SeatView) (x : Event) (words : ℕ → ℕ) (script : List ScriptStep) (k : ℕ) → IsFree t → Later t u → Made t u step.Exit x → Leads (asked_of s) (asked_of t) words script 0 [] k → Followed (asked_of s) (asked_of u) words script
+exited s t u x words script k free later made p = followed (asked_of s) (asked_of t) (asked_of u) words script k x p (made_asks t u step.Exit x free later made)
+
+-- from one step of a script to the next
+pub leads_next : (a b c : List Asked) (words : ℕ → ℕ) (script : List ScriptStep) (i used word : ℕ) (s : ScriptStep) (goes_on : Bool)
+    → Leads a b words script 0 (drop i script) used → drop i script ≡ s ∷ drop (i + 1) script → asks s word ≡ asks s (words used)
+    → ((words : ℕ → ℕ) (rest : List ScriptStep) (j : ℕ) → asks s word ≡ asks s (words j) → Leads b c words (s ∷ rest) j (goes_on_with goes_on rest) (taken_after s j))
+    → Leads a c words script 0 (goes_on_with goes_on (drop (i + 1) script)) (taken_after s used)
+leads_next a b c words script i used word s goes_on p cut chosen takes =
+    leads_trans a b c words script (s ∷ drop (i + 1) script) (goes_on_with goes_on (drop (i + 1) script)) 0 used (taken_after s used)
+    (subst (λ (z : List ScriptStep). Leads a b words script 0 z used) cut p) (takes words (drop (i + 1) script) used chosen)
+
+-- a step draws at most one word
+pub taken_low : (s : ScriptStep) (j i : ℕ) → j ≤ i → taken_after s j ≤ i + 1
+taken_low (Send p v) j i h = omega arith
+taken_low (Recv p) j i h = omega arith
+taken_low (Select cases default) j i h = omega arith
+taken_low (Close p) j i h = omega arith
+taken_low (Range p) j i h = omega arith
+
+pub at_place : {A : Type 0} (xs : List A) (i : ℕ) (x : A) → i < length xs → x ≡ get_or xs i x → drop i xs ≡ x ∷ drop (i + 1) xs
+at_place xs i x low is = drop-cons xs i x low ∙ (λ k. sym is k ∷ drop (sym (add-one i) k) xs)

@@ -1,0 +1,5 @@
+pub mod Asked
+pub mod Scripts
+pub mod ScriptRows
+pub mod Working
+pub mod Running

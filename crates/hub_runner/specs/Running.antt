@@ -1,0 +1,29 @@
+-- The seats of a run, before their processes begin and after they have ended.
+use Rattle.std.specs.Prelude.{◌≡◌, ℕ, List, [], ◌∷◌, Some, slice_get, length, Vec}
+use Rattle.std.specs.declared.alloc.Global.{Global}
+use Rattle.hub_base.specs.declared.entry.Step.TheVariants as step
+use Rattle.hub_live.specs.SeatView.{SeatView}
+use Rattle.hub_scenario.specs.declared.script.ScriptStep.{ScriptStep}
+use Rattle.hub_scenario.specs.declared.scenario.Scenario.{Scenario}
+use Rattle.hub_runner.specs.Asked.{Asked}
+use Rattle.hub_runner.specs.Scripts.{FollowsScript, made_by}
+use Rattle.hub_runner.specs.Working.{asked_of}
+
+-- this was asked: makes of these capacities, and no more
+abbrev pub AreMakes : List ℕ → List Asked → Type 0
+AreMakes [] [] = Unit {0}
+AreMakes [] (a ∷ more) = ⊥
+AreMakes (c ∷ cs) [] = ⊥
+AreMakes (c ∷ cs) (a ∷ more) = (a.step ≡ step.Make c) × AreMakes cs more
+
+-- a seat of a hub with as many processes as there are scripts, whose process has made the ports, if
+-- that is its task, and asked nothing else
+pub record IsReady (scenario : Scenario) (s : SeatView) : Type 0 where
+  pub procs : s.hub.terms.procs ≡ length scenario.scripts.items
+  pub makes : AreMakes (made_by s.pid.0 scenario.ports.items) (asked_of s)
+
+-- a seat whose process has followed its script
+abbrev pub HasFollowed : Scenario → SeatView → Type 0
+HasFollowed scenario s =
+    (script : Vec ScriptStep Global) → slice_get scenario.scripts.items s.pid.0 ≡ Some script →
+    FollowsScript scenario s.pid.0 script.items (asked_of s)

@@ -1,0 +1,35 @@
+-- How far a process has come in its script, said of what its seat has seen.
+use Rattle.std.specs.Prelude.{◌≡◌, ℕ, Bool, List, [], ◌++◌, if◌then◌else◌}
+use mathlib.Core.List.{IsPrefix}
+use Rattle.hub_live.specs.SeatView.{SeatView}
+use Rattle.hub_scenario.specs.declared.script.ScriptStep.{ScriptStep}
+use Rattle.hub_runner.specs.Asked.{Asked, asked}
+use Rattle.hub_runner.specs.Scripts.{Follows}
+
+-- what the process of a seat asked, in what the seat has seen
+abbrev pub asked_of : SeatView → List Asked
+asked_of s = asked s.pid.0 s.hub.terms.procs s.seen
+
+-- the same seat, which has seen no less
+pub record Onward (s t : SeatView) : Type 0 where
+  pub hub : t.hub ≡ s.hub
+  pub pid : t.pid ≡ s.pid
+  pub begins : IsPrefix s.seen t.seen
+
+-- the process asked some more, so that if it asks what follows `rest` (k choice words being taken)
+-- next, then all that it asked from `before` on follows `script` (j choice words being taken)
+pub record Leads (before now : List Asked) (words : ℕ → ℕ) (script : List ScriptStep) (j : ℕ)
+    (rest : List ScriptStep) (k : ℕ) : Type 0 where
+  pub made : List Asked
+  pub now_is : now ≡ before ++ made
+  pub leads : (more : List Asked) → Follows rest words k more → Follows script words j (made ++ more)
+
+-- what the process asked from `before` on follows the script
+pub record Followed (before now : List Asked) (words : ℕ → ℕ) (script : List ScriptStep) : Type 0 where
+  pub made : List Asked
+  pub now_is : now ≡ before ++ made
+  pub follows : Follows script words 0 made
+
+-- what is left of a script that goes on, or not
+abbrev pub goes_on_with : Bool → List ScriptStep → List ScriptStep
+goes_on_with goes_on rest = if goes_on then rest else []

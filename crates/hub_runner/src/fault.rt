@@ -1,0 +1,47 @@
+//! Why a run has no report.
+
+ghost use Rattle.std.specs.Prelude.{◌≡◌, None, IsOk};
+
+use hub_base::Fault;
+use std::alloc::AllocError;
+use thiserror::Error;
+
+/// Why a run has no report. Whatever the fault, every thread of the run has ended.
+#[derive(Clone, Copy, Debug, PartialEq, Eq, Error)]
+pub enum RunFault {
+    /// 1: an allocation failed, or a thread could not be started; then no script has made a step. It
+    /// goes before `JournalFull` where both came.
+    #[error("out of memory")]
+    NoMemory,
+    /// 2: the journal held as many steps as the scenario's limit, exits left aside, and a process asked
+    /// for one more.
+    #[error("journal full")]
+    JournalFull,
+}
+
+impl From<Fault> for RunFault {
+    fn from(fault: Fault) -> RunFault {
+        match fault {
+            Fault::NoMemory => RunFault::NoMemory,
+            // No other refusal comes: a script makes no exit, and a seat is of a process that is there.
+            _ => RunFault::JournalFull,
+        }
+    }
+}
+
+impl From<AllocError> for RunFault {
+    fn from(_: AllocError) -> RunFault {
+        RunFault::NoMemory
+    }
+}
+
+/// The fault of a run after the outcome of one more process.
+pub fn with_outcome(before: Option<RunFault>, outcome: Result<(), Fault>) -> Option<RunFault>
+    ensures { result ≡ None → (before ≡ None) × IsOk outcome }
+{
+    match (before, outcome) {
+        (before, Ok(())) => before,
+        (Some(RunFault::NoMemory), Err(_)) => Some(RunFault::NoMemory),
+        (_, Err(fault)) => Some(RunFault::from(fault)),
+    }
+}

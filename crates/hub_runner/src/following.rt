@@ -1,0 +1,37 @@
+//! What each thread of a run does: its process follows its script.
+
+ghost use Rattle.std.specs.Prelude.{◌≡◌};
+
+use crate::gate::Gate;
+use crate::worker::follow;
+use hub_base::Fault;
+use hub_crew::Task;
+use hub_live::{Held, HubName, LiveHub};
+use hub_scenario::{ChoiceWords, Scenario};
+use std::sync::Wait;
+
+/// Each process follows its script, and passes the gate before its calls.
+#[derive_where(Clone, Copy)]
+pub struct Following<'a, G> {
+    pub scenario: &'a Scenario,
+    pub gate: &'a G,
+}
+
+impl<'a, K: HubName, R: Wait, G: Gate + Sync> Task<K, R> for Following<'a, G> {
+    ghost use Rattle.std.specs.Prelude.{OnOk};
+    ghost use Rattle.hub_runner.specs.Running.{IsReady, HasFollowed};
+
+    /// Why a step of the process was refused, if one was.
+    type Report = Result<(), Fault>;
+
+    ghost begins = { λ t s. IsReady t.scenario.now s };
+
+    ghost ends = { λ t s r. OnOk r (HasFollowed t.scenario.now s) };
+
+    fn perform(self, rt: &R, hub: &LiveHub<K>, seat: &mut Held<K>) -> Result<(), Fault> {
+        let pid = seat.pid();
+        let script = &self.scenario.scripts[usize::from(pid.0)];
+        let words = ChoiceWords::of(self.scenario.seed, pid);
+        follow(rt, hub, self.gate, seat, script, words)
+    }
+}

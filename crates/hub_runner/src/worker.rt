@@ -1,0 +1,171 @@
+//! One process: it makes the steps of its script in order, and exits.
+
+ghost use Rattle.std.specs.Prelude.{◌≡◌, ◌<◌, ◌-◌, ◌^◌, ◌+◌, ◌&&◌, ◌++◌, ◌∷◌, [], List, ℕ, Some, IfOk, OnOk};
+ghost use Rattle.hub_live.specs.Calls.{Later};
+ghost use Rattle.hub_scenario.specs.declared.script.ScriptStep.{ScriptStep};
+ghost use Rattle.hub_scenario.specs.ChoiceWords.{choice_word};
+ghost use Rattle.hub_runner.specs.Scripts.{asks, stalls, gets, is_range, taken_after};
+ghost use Rattle.hub_runner.specs.Working.{asked_of, Onward, Leads, Followed, goes_on_with};
+
+use crate::gate::{Gate, Passes};
+use hub_base::{Event, Fault, Outcome, What, copy_cases};
+use hub_live::{Chan, Held, HubName, LiveHub};
+use hub_scenario::{ChoiceWords, ScriptStep};
+use std::sync::Wait;
+
+fn stalls(what: What) -> bool
+    ensures { result ≡ stalls what }
+{
+    matches!(what, What::Stalled)
+}
+
+fn gets(what: What) -> bool
+    ensures { result ≡ gets what }
+{
+    matches!(
+        what,
+        What::Fired {
+            outcome: Outcome::Got(_),
+            ..
+        }
+    )
+}
+
+fn is_range(step: &ScriptStep) -> bool
+    ensures { result ≡ is_range step.now }
+{
+    matches!(step, ScriptStep::Range(_))
+}
+
+/// Whether the same step is made again after this answer.
+fn repeats(step: &ScriptStep, what: What) -> bool
+    ensures { result ≡ (is_range step.now && gets what) }
+{
+    is_range(step) && gets(what)
+}
+
+/// The choice word of a step: a select takes the next one, and for any other step it counts for
+/// nothing.
+fn word_for(step: &ScriptStep, words: &mut ChoiceWords) -> u64
+    requires { words.old.drawn < 2 ^ 64 - 1 }
+    ensures seed { words.new.seed ≡ words.old.seed }
+    ensures taken { words.new.drawn ≡ taken_after step.now words.old.drawn }
+    ensures chosen { asks step.now result
+        ≡ asks step.now (choice_word words.old.seed words.old.drawn) }
+{
+    match step {
+        ScriptStep::Select(..) => words.next_word(),
+        _ => 0,
+    }
+}
+
+/// Makes the entry that a step of a script asks for.
+fn ask<K: HubName, R: Wait, G: Gate>(
+    rt: &R,
+    hub: &LiveHub<K>,
+    passes: &mut Passes<G>,
+    seat: &mut Held<K>,
+    step: &ScriptStep,
+    word: u64,
+) -> Result<Event, Fault>
+    ensures later { Later seat.old seat.new }
+    ensures ok { IfOk result (λ x.
+        asked_of seat.new
+        ≡ asked_of seat.old ++ record { step = asks step.now word; reply = Some x } ∷ []) }
+{
+    // Its contract says that the process has no open call.
+    let _pid = seat.pid();
+    passes.pass();
+    match step {
+        ScriptStep::Send(port, value) => seat.send(rt, hub, &Chan::of(*port).sender(), *value),
+        ScriptStep::Recv(port) | ScriptStep::Range(port) => {
+            seat.recv(rt, hub, &Chan::of(*port).receiver())
+        }
+        ScriptStep::Select(cases, default) => {
+            seat.call(rt, hub, copy_cases(cases), *default, word)
+        }
+        ScriptStep::Close(port) => seat.close(rt, hub, &Chan::of(*port).sender()),
+    }
+}
+
+/// Makes the entries of one step of a script, of a range until it gets no value. Whether the script
+/// goes on: not after `Stalled`.
+fn take_step<K: HubName, R: Wait, G: Gate>(
+    rt: &R,
+    hub: &LiveHub<K>,
+    passes: &mut Passes<G>,
+    seat: &mut Held<K>,
+    step: &ScriptStep,
+    word: u64,
+) -> Result<bool, Fault>
+    ensures later { Later seat.old seat.new }
+    ensures ok { IfOk result (λ goes_on. (words : ℕ → ℕ) (rest : List ScriptStep) (j : ℕ) →
+        asks step.now word ≡ asks step.now (words j) →
+        Leads (asked_of seat.old) (asked_of seat.new) words (step.now ∷ rest) j
+        (goes_on_with goes_on rest) (taken_after step.now j)) }
+{
+    for _ in rt.forever() {
+        let event = ask(rt, hub, passes, seat, step, word)?;
+        if stalls(event.what) {
+            return Ok(false);
+        }
+        if !repeats(step, event.what) {
+            return Ok(true);
+        }
+    }
+    unreachable!()
+}
+
+/// Makes a script's entries in order, with the choice words that no one has taken yet.
+fn follow_steps<K: HubName, R: Wait, G: Gate>(
+    rt: &R,
+    hub: &LiveHub<K>,
+    passes: &mut Passes<G>,
+    seat: &mut Held<K>,
+    script: &[ScriptStep],
+    words: &mut ChoiceWords,
+) -> Result<(), Fault>
+    requires { words.old.drawn ≡ 0 }
+    ensures onward { Onward seat.old seat.new }
+    ensures ok { OnOk result ((k : ℕ)
+        × Leads (asked_of seat.old) (asked_of seat.new) (choice_word words.old.seed)
+        script.now 0 [] k) }
+{
+    for step in script {
+        let word = word_for(step, words);
+        if !take_step(rt, hub, passes, seat, step, word)? {
+            return Ok(());
+        }
+    }
+    Ok(())
+}
+
+/// Makes a script's entries in order, and exits; where a step is refused, it exits at once.
+pub fn follow<K: HubName, R: Wait, G: Gate>(
+    rt: &R,
+    hub: &LiveHub<K>,
+    gate: &G,
+    seat: &mut Held<K>,
+    script: &[ScriptStep],
+    words: ChoiceWords,
+) -> Result<(), Fault>
+    requires { words.drawn ≡ 0 }
+    ensures onward { Onward seat.old seat.new }
+    ensures ok { OnOk result (
+        Followed (asked_of seat.old) (asked_of seat.new) (choice_word words.seed) script.now) }
+{
+    let mut words = words;
+    let mut passes = Passes::new(gate, seat.pid());
+    match follow_steps(rt, hub, &mut passes, seat, script, &mut words) {
+        Ok(()) => {
+            let _pid = seat.pid();
+            seat.exit(rt, hub)?;
+            Ok(())
+        }
+        Err(fault) => {
+            // So that those who still wait are told.
+            let _ = seat.exit(rt, hub);
+            Err(fault)
+        }
+    }
+}

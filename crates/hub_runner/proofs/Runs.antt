@@ -1,11 +1,12 @@
 -- All seats of a run, and the one journal.
 use Rattle.std.proofs.Common.{◌≡◌, ℕ, ◌+◌, ◌<◌, ◌≤◌, List, [], ◌∷◌, ◌++◌, length, get_or, map, refl, ap, ◌∙◌, sym, subst, Option, Some, None, Result, Ok, Err, OnOk, All, take, zero, suc, arith, append_assoc, ◌==◌, false, Bool, cond}
-use Rattle.std.specs.Prelude.{slice_get, IsOk, slice_set, Vec}
+use Rattle.std.specs.Prelude.{slice_get, IsOk, slice_set, Vec, vec_len, vec_items}
 use Rattle.std.specs.declared.alloc.Global.{Global}
 use Rattle.std.proofs.lemmas.List.{take_more, get_or-map, length-map, map-append}
 use Rattle.std.proofs.lemmas.List.Elements.{All-push}
 use Rattle.std.proofs.lemmas.Grind.{common_steps}
-use Rattle.std.proofs.lemmas.Option.{slice_get_within}
+use Rattle.std.specs.Option.{option_map}
+use Rattle.std.proofs.lemmas.Option.{slice_get_within, slice_get-map}
 use Rattle.hub_base.specs.declared.value.Pid.{Pid}
 use Rattle.hub_base.specs.declared.entry.Entry.{Entry}
 use Rattle.hub_base.specs.declared.event.Event.{Event}
@@ -14,6 +15,7 @@ use Rattle.hub_live.specs.Name.{Name}
 use Rattle.hub_live.specs.SeatView.{SeatView, IsFree}
 use Rattle.hub_live.specs.Calls.{Later, Made, AreSeats, StandsIn}
 use Rattle.hub_scenario.specs.declared.script.ScriptStep.{ScriptStep}
+use Rattle.hub_scenario.specs.Scenario.{ScenarioData, scenario_view}
 use Rattle.hub_scenario.specs.declared.scenario.Scenario.{Scenario}
 use Rattle.hub_scenario.specs.ChoiceWords.{words_of_process}
 use Rattle.hub_runner.specs.Asked.{Asked, asked}
@@ -22,6 +24,16 @@ use Rattle.hub_runner.specs.Running.{AreMakes, IsReady, HasFollowed}
 use Rattle.hub_runner.specs.Working.{asked_of, Onward, Followed}
 use Rattle.hub_runner.proofs.Workers.{made_asks}
 use Rattle.hub_runner.proofs.Askings.{answered, asked-same}
+
+-- ---- the scripts
+
+-- as many scripts as the vector has
+pub count_scripts : (sc : Scenario) → vec_len sc.scripts ≡ length (scenario_view sc).scripts
+count_scripts sc = omega (arith, sc.scripts.ok.0, length-map sc.scripts.items vec_items)
+
+-- the script in a place
+pub script_at : (sc : Scenario) (i : ℕ) (script : Vec ScriptStep Global) → slice_get sc.scripts.items i ≡ Some script → slice_get (scenario_view sc).scripts i ≡ Some script.items
+script_at sc i script at = slice_get-map vec_items sc.scripts.items i ∙ ap (option_map vec_items) at
 
 -- ---- the ports
 
@@ -47,16 +59,16 @@ made_more s t caps i cap x free later made low is h =
 -- ---- one process
 
 -- a ready seat whose process then followed its script has followed it
-pub has_followed : {T E : Type 0} (r : Result T E) (sc : Scenario) (s t : SeatView) (script : Vec ScriptStep Global)
-    → IsReady sc s → Onward s t → slice_get sc.scripts.items s.pid.0 ≡ Some script → OnOk r (Followed (asked_of s) (asked_of t) (words_of_process sc.seed s.pid.0) script.items) → OnOk r (HasFollowed sc t)
+pub has_followed : {T E : Type 0} (r : Result T E) (sc : ScenarioData) (s t : SeatView) (script : List ScriptStep)
+    → IsReady sc s → Onward s t → slice_get sc.scripts s.pid.0 ≡ Some script → OnOk r (Followed (asked_of s) (asked_of t) (words_of_process sc.seed s.pid.0) script) → OnOk r (HasFollowed sc t)
 has_followed (Err e) sc s t script ready on at f = tt
 has_followed (Ok x) sc s t script ready on at f = λ other is.
-    let place : slice_get sc.scripts.items s.pid.0 ≡ Some other = ap (λ (p : Pid). slice_get sc.scripts.items p.0) (sym on.pid) ∙ is in
+    let place : slice_get sc.scripts s.pid.0 ≡ Some other = ap (λ (p : Pid). slice_get sc.scripts p.0) (sym on.pid) ∙ is in
     let same : script ≡ other = cc in
-    let here : FollowsScript sc s.pid.0 script.items (asked_of t) =
-    subst (λ (zs : List Asked). FollowsScript sc s.pid.0 script.items zs) (sym f.now_is) (makes_then (made_by s.pid.0 sc.ports.items) (asked_of s) f.made (words_of_process sc.seed s.pid.0) script.items ready.makes f.follows) in
-    subst (λ (o : Vec ScriptStep Global). FollowsScript sc t.pid.0 o.items (asked_of t)) same
-    (subst (λ (p : Pid). FollowsScript sc p.0 script.items (asked_of t)) (sym on.pid) here)
+    let here : FollowsScript sc s.pid.0 script (asked_of t) =
+    subst (λ (zs : List Asked). FollowsScript sc s.pid.0 script zs) (sym f.now_is) (makes_then (made_by s.pid.0 sc.ports) (asked_of s) f.made (words_of_process sc.seed s.pid.0) script ready.makes f.follows) in
+    subst (λ (o : List ScriptStep). FollowsScript sc t.pid.0 o (asked_of t)) same
+    (subst (λ (p : Pid). FollowsScript sc p.0 script (asked_of t)) (sym on.pid) here)
 
 -- ---- all seats
 
@@ -70,27 +82,27 @@ blank_at name first (s ∷ ss) (suc k) d h low = blank_at name (first + 1) ss k 
 stands_asked : (s : SeatView) (journal : List Entry) → StandsIn s journal → asked s.pid.0 s.hub.terms.procs journal ≡ asked_of s
 stands_asked s journal st = asked-same s.pid.0 s.hub.terms.procs s.seen journal st.begins st.same.own st.same.reply
 
-one_follows : (sc : Scenario) (s : SeatView) (journal : List Entry) (q : ℕ) (script : Vec ScriptStep Global)
-    → s.hub.terms.procs ≡ length sc.scripts.items → s.pid.0 ≡ q → HasFollowed sc s → StandsIn s journal → slice_get sc.scripts.items q ≡ Some script
-    → FollowsScript sc q script.items (asked q (length sc.scripts.items) journal)
+one_follows : (sc : ScenarioData) (s : SeatView) (journal : List Entry) (q : ℕ) (script : List ScriptStep)
+    → s.hub.terms.procs ≡ length sc.scripts → s.pid.0 ≡ q → HasFollowed sc s → StandsIn s journal → slice_get sc.scripts q ≡ Some script
+    → FollowsScript sc q script (asked q (length sc.scripts) journal)
 one_follows sc s journal q script n pid f st at =
-    let seen = f script (ap (slice_get sc.scripts.items) pid ∙ at) in
-    let all : asked_of s ≡ asked q (length sc.scripts.items) journal = sym (stands_asked s journal st) ∙ (λ i. asked (pid i) (n i) journal) in
-    subst (λ (zs : List Asked). FollowsScript sc q script.items zs) all (subst (λ (p : ℕ). FollowsScript sc p script.items (asked_of s)) pid seen)
+    let seen = f script (ap (slice_get sc.scripts) pid ∙ at) in
+    let all : asked_of s ≡ asked q (length sc.scripts) journal = sym (stands_asked s journal st) ∙ (λ i. asked (pid i) (n i) journal) in
+    subst (λ (zs : List Asked). FollowsScript sc q script zs) all (subst (λ (p : ℕ). FollowsScript sc p script (asked_of s)) pid seen)
 
-pub all_follow : (name : Name) (sc : Scenario) (before done : List SeatView) (journal : List Entry)
-    → name.terms.procs ≡ length sc.scripts.items → length before ≡ length sc.scripts.items → AreSeats name 0 before → map (λ s. s.pid) done ≡ map (λ s. s.pid) before
+pub all_follow : (name : Name) (sc : ScenarioData) (before done : List SeatView) (journal : List Entry)
+    → name.terms.procs ≡ length sc.scripts → length before ≡ length sc.scripts → AreSeats name 0 before → map (λ s. s.pid) done ≡ map (λ s. s.pid) before
     → All (λ s. s.hub ≡ name) done → All (HasFollowed sc) done → All (λ s. StandsIn s journal) done → AllFollow sc journal
 all_follow name sc before done journal procs many seats pids hubs followed stands q script at =
     let d : SeatView = record { hub = name; pid = record { 0 = q }; seen = [] } in
-    let low : q < length sc.scripts.items = slice_get_within sc.scripts.items q script at in
+    let low : q < length sc.scripts = slice_get_within sc.scripts q script at in
     let same : length done ≡ length before = sym (length-map done (λ (s : SeatView). s.pid)) ∙ ap length pids ∙ length-map before (λ (s : SeatView). s.pid) in
     let here : q < length done = omega arith in
     let there : q < length before = omega arith in
     let pid : (get_or done q d).pid.0 ≡ q =
     ap (λ (p : Pid). p.0) (sym (get_or-map (λ (s : SeatView). s.pid) done q d d.pid here) ∙ ap (λ (ps : List Pid). get_or ps q d.pid) pids ∙ get_or-map (λ (s : SeatView). s.pid) before q d d.pid there)
     ∙ ap (λ (s : SeatView). s.pid.0) (blank_at name 0 before q d seats there) ∙ (let z : 0 + q ≡ q = omega arith in z) in
-    let n : (get_or done q d).hub.terms.procs ≡ length sc.scripts.items = ap (λ (m : Name). m.terms.procs) (hubs q d here) ∙ procs in
+    let n : (get_or done q d).hub.terms.procs ≡ length sc.scripts = ap (λ (m : Name). m.terms.procs) (hubs q d here) ∙ procs in
     one_follows sc (get_or done q d) journal q script n pid (followed q d here) (stands q d here) at
 
 -- ---- lists that grow
@@ -125,23 +137,23 @@ asked-nil q n = refl
 pub asked_blank : (name : Name) (ss : List SeatView) (k : ℕ) (d : SeatView) → AreSeats name 0 ss → k < length ss → asked_of (get_or ss k d) ≡ []
 asked_blank name ss k d h low = ap asked_of (blank_at name 0 ss k d h low) ∙ asked-nil (0 + k) name.terms.procs
 
-ready_later : (name : Name) (sc : Scenario) (k : ℕ) (s : SeatView) → name.terms.procs ≡ length sc.scripts.items → s ≡ record { hub = name; pid = record { 0 = 1 + k }; seen = [] } → IsReady sc s
+ready_later : (name : Name) (sc : ScenarioData) (k : ℕ) (s : SeatView) → name.terms.procs ≡ length sc.scripts → s ≡ record { hub = name; pid = record { 0 = 1 + k }; seen = [] } → IsReady sc s
 ready_later name sc k s procs is = subst (λ (t : SeatView). IsReady sc t) (sym is) (record {
   procs = procs;
   makes =
       let z : ((1 + k) == 0) ≡ false = grind (arith, common_steps) in
-      subst (λ (zs : List Asked). AreMakes (made_by (1 + k) sc.ports.items) zs) (sym (asked-nil (1 + k) name.terms.procs)) (subst (λ (b : Bool). AreMakes (cond b sc.ports.items []) []) (sym z) tt);
+      subst (λ (zs : List Asked). AreMakes (made_by (1 + k) sc.ports) zs) (sym (asked-nil (1 + k) name.terms.procs)) (subst (λ (b : Bool). AreMakes (cond b sc.ports []) []) (sym z) tt);
 })
 
-ready_at : (name : Name) (sc : Scenario) (s : SeatView) (ss : List SeatView) (t : SeatView) (k : ℕ) (e : SeatView) → name.terms.procs ≡ length sc.scripts.items → AreSeats name 0 (s ∷ ss) → Onward s t → AreMakes sc.ports.items (asked_of t) → k < length (t ∷ ss) → IsReady sc (get_or (t ∷ ss) k e)
+ready_at : (name : Name) (sc : ScenarioData) (s : SeatView) (ss : List SeatView) (t : SeatView) (k : ℕ) (e : SeatView) → name.terms.procs ≡ length sc.scripts → AreSeats name 0 (s ∷ ss) → Onward s t → AreMakes sc.ports (asked_of t) → k < length (t ∷ ss) → IsReady sc (get_or (t ∷ ss) k e)
 ready_at name sc s ss t zero e procs h on made low = record {
   procs = ap (λ (m : Name). m.terms.procs) (on.hub ∙ ap (λ (z : SeatView). z.hub) h.0) ∙ procs;
   makes =
       let pid : 0 ≡ t.pid.0 = sym (ap (λ (p : Pid). p.0) on.pid ∙ ap (λ (z : SeatView). z.pid.0) h.0) in
-      subst (λ (n : ℕ). AreMakes (made_by n sc.ports.items) (asked_of t)) pid made;
+      subst (λ (n : ℕ). AreMakes (made_by n sc.ports) (asked_of t)) pid made;
 }
 ready_at name sc s ss t (suc k) e procs h on made low = ready_later name sc k (get_or ss k e) procs (blank_at name 1 ss k e h.1 (omega arith))
 
-pub all_ready : (name : Name) (sc : Scenario) (ss : List SeatView) (d t : SeatView) → name.terms.procs ≡ length sc.scripts.items → AreSeats name 0 ss → 0 < length ss → Onward (get_or ss 0 d) t → AreMakes sc.ports.items (asked_of t) → All (IsReady sc) (slice_set ss 0 t)
+pub all_ready : (name : Name) (sc : ScenarioData) (ss : List SeatView) (d t : SeatView) → name.terms.procs ≡ length sc.scripts → AreSeats name 0 ss → 0 < length ss → Onward (get_or ss 0 d) t → AreMakes sc.ports (asked_of t) → All (IsReady sc) (slice_set ss 0 t)
 all_ready name sc [] d t procs h some on made = absurd (omega arith)
 all_ready name sc (s ∷ ss) d t procs h some on made = λ k e low. ready_at name sc s ss t k e procs h on made low

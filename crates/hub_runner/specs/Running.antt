@@ -1,10 +1,9 @@
 -- The seats of a run, before their processes begin and after they have ended.
-use Rattle.std.specs.Prelude.{◌≡◌, ℕ, List, [], ◌∷◌, Some, slice_get, length, Vec}
-use Rattle.std.specs.declared.alloc.Global.{Global}
+use Rattle.std.specs.Prelude.{◌≡◌, ℕ, List, [], ◌∷◌, Some, slice_get, length}
 use Rattle.hub_base.specs.declared.entry.Step.TheVariants as step
 use Rattle.hub_live.specs.SeatView.{SeatView}
 use Rattle.hub_scenario.specs.declared.script.ScriptStep.{ScriptStep}
-use Rattle.hub_scenario.specs.declared.scenario.Scenario.{Scenario}
+use Rattle.hub_scenario.specs.Scenario.{ScenarioData}
 use Rattle.hub_runner.specs.Asked.{Asked}
 use Rattle.hub_runner.specs.Scripts.{FollowsScript, made_by}
 use Rattle.hub_runner.specs.Working.{asked_of}
@@ -18,12 +17,12 @@ AreMakes (c ∷ cs) (a ∷ more) = (a.step ≡ step.Make c) × AreMakes cs more
 
 -- a seat of a hub with as many processes as there are scripts, whose process has made the ports, if
 -- that is its task, and asked nothing else
-pub record IsReady (scenario : Scenario) (s : SeatView) : Type 0 where
-  pub procs : s.hub.terms.procs ≡ length scenario.scripts.items
-  pub makes : AreMakes (made_by s.pid.0 scenario.ports.items) (asked_of s)
+pub record IsReady (scenario : ScenarioData) (s : SeatView) : Type 0 where
+  pub procs : s.hub.terms.procs ≡ length scenario.scripts
+  pub makes : AreMakes (made_by s.pid.0 scenario.ports) (asked_of s)
 
 -- a seat whose process has followed its script
-abbrev pub HasFollowed : Scenario → SeatView → Type 0
+abbrev pub HasFollowed : ScenarioData → SeatView → Type 0
 HasFollowed scenario s =
-    (script : Vec ScriptStep Global) → slice_get scenario.scripts.items s.pid.0 ≡ Some script →
-    FollowsScript scenario s.pid.0 script.items (asked_of s)
+    (script : List ScriptStep) → slice_get scenario.scripts s.pid.0 ≡ Some script →
+    FollowsScript scenario s.pid.0 script (asked_of s)

@@ -4,8 +4,7 @@
 -- step, and for a range so many receives that the last of them is the first whose reply is no value.
 -- Each select takes the next choice word of its process. Last comes an exit. Where a reply is
 -- `Stalled`, the rest of the script is left out and the exit follows at once.
-use Rattle.std.specs.Prelude.{◌≡◌, ℕ, ◌+◌, ◌==◌, ◌&&◌, Bool, true, false, List, [], ◌∷◌, Option, None, Some, slice_get, length, Vec, if◌then◌else◌}
-use Rattle.std.specs.declared.alloc.Global.{Global}
+use Rattle.std.specs.Prelude.{◌≡◌, ℕ, ◌+◌, ◌==◌, ◌&&◌, Bool, true, false, List, [], ◌∷◌, Option, None, Some, slice_get, length, if◌then◌else◌}
 use Rattle.hub_base.specs.declared.case.Case.TheVariants as case
 use Rattle.hub_base.specs.declared.entry.Step.{Step}
 use Rattle.hub_base.specs.declared.entry.Step.TheVariants as step
@@ -17,7 +16,7 @@ use Rattle.hub_base.specs.declared.event.What.TheVariants as what
 use Rattle.hub_base.specs.Lines.{call}
 use Rattle.hub_scenario.specs.declared.script.ScriptStep.{ScriptStep}
 use Rattle.hub_scenario.specs.declared.script.ScriptStep.TheVariants.{Send, Recv, Select, Close, Range}
-use Rattle.hub_scenario.specs.declared.scenario.Scenario.{Scenario}
+use Rattle.hub_scenario.specs.Scenario.{ScenarioData}
 use Rattle.hub_scenario.specs.ChoiceWords.{words_of_process}
 use Rattle.hub_runner.specs.Asked.{Asked, asked}
 
@@ -84,12 +83,11 @@ abbrev pub made_by : ℕ → List ℕ → List ℕ
 made_by q caps = if q == 0 then caps else []
 
 -- this is what process q of a scenario, with this script, may have asked
-abbrev pub FollowsScript : Scenario → ℕ → List ScriptStep → List Asked → Type 0
-FollowsScript s q script all =
-    MakesThenFollows (made_by q s.ports.items) script (words_of_process s.seed q) all
+abbrev pub FollowsScript : ScenarioData → ℕ → List ScriptStep → List Asked → Type 0
+FollowsScript s q script all = MakesThenFollows (made_by q s.ports) script (words_of_process s.seed q) all
 
 -- in the journal each process follows its script: process q that in place q
-abbrev pub AllFollow : Scenario → List Entry → Type 0
+abbrev pub AllFollow : ScenarioData → List Entry → Type 0
 AllFollow s journal =
-    (q : ℕ) (script : Vec ScriptStep Global) → slice_get s.scripts.items q ≡ Some script →
-    FollowsScript s q script.items (asked q (length s.scripts.items) journal)
+    (q : ℕ) (script : List ScriptStep) → slice_get s.scripts q ≡ Some script →
+    FollowsScript s q script (asked q (length s.scripts) journal)

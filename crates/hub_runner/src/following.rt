@@ -19,14 +19,15 @@ pub struct Following<'a, G> {
 
 impl<'a, K: HubName, R: Wait, G: Gate + Sync> Task<K, R> for Following<'a, G> {
     ghost use Rattle.std.specs.Prelude.{OnOk};
+    ghost use Rattle.hub_scenario.specs.Scenario.{scenario_view};
     ghost use Rattle.hub_runner.specs.Running.{IsReady, HasFollowed};
 
     /// Why a step of the process was refused, if one was.
     type Report = Result<(), Fault>;
 
-    ghost begins = { λ t s. IsReady t.scenario.now s };
+    ghost begins = { λ t s. IsReady (scenario_view t.scenario.now) s };
 
-    ghost ends = { λ t s r. OnOk r (HasFollowed t.scenario.now s) };
+    ghost ends = { λ t s r. OnOk r (HasFollowed (scenario_view t.scenario.now) s) };
 
     fn perform(self, rt: &R, hub: &LiveHub<K>, seat: &mut Held<K>) -> Result<(), Fault> {
         let pid = seat.pid();

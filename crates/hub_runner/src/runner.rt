@@ -1,9 +1,10 @@
 //! Runs of scenarios.
 
-ghost use Rattle.std.specs.Prelude.{◌≡◌, ◌≤◌, ◌<◌, [], None, IfOk, OnOk, All, map, vec_len};
+ghost use Rattle.std.specs.Prelude.{◌≡◌, ◌≤◌, ◌<◌, [], None, IfOk, OnOk, All, length, map, vec_len};
 ghost use Rattle.hub_base.specs.Text.{steps_of};
 ghost use Rattle.hub_laws.specs.Journals.{IsLegal};
 ghost use Rattle.hub_live.specs.Calls.{AreSeats};
+ghost use Rattle.hub_scenario.specs.Scenario.{scenario_view};
 ghost use Rattle.hub_report.specs.Reports.{IsReportOf};
 ghost use Rattle.hub_runner.specs.Running.{AreMakes, IsReady, HasFollowed};
 ghost use Rattle.hub_runner.specs.Scripts.{AllFollow};
@@ -52,7 +53,7 @@ fn make_ready<K: HubName, R: Wait>(
     requires some { 0 < vec_len seats }
     requires seats { AreSeats K.name 0 seats.items }
     ensures pids { IfOk result (λ r. map (λ s. s.pid) r.items ≡ map (λ s. s.pid) seats.items) }
-    ensures ready { IfOk result (λ r. All (IsReady scenario.now) r.items) }
+    ensures ready { IfOk result (λ r. All (IsReady (scenario_view scenario.now)) r.items) }
 {
     let mut seats = seats;
     make_ports(rt, hub, &mut seats[0], &scenario.ports)?;
@@ -65,12 +66,12 @@ fn part<K: HubName>(
     scenario: &Scenario,
     members: Vec<Member<K, Result<(), Fault>>>,
 ) -> Result<(Vec<Held<K>>, Option<RunFault>), AllocError>
-    requires { All (λ m. OnOk m.report (HasFollowed scenario.now m.seat)) members.items }
+    requires { All (λ m. OnOk m.report (HasFollowed (scenario_view scenario.now) m.seat)) members.items }
     ensures pids { IfOk result (λ r.
         map (λ s. s.pid) r.0.items ≡ map (λ m. m.seat.pid) members.items) }
     ensures hubs { IfOk result (λ r. All (λ s. s.hub ≡ K.name) r.0.items) }
     ensures followed { IfOk result (λ r.
-        r.1 ≡ None → All (HasFollowed scenario.now) r.0.items) }
+        r.1 ≡ None → All (HasFollowed (scenario_view scenario.now)) r.0.items) }
 {
     let mut seats = Vec::new(alloc);
     let mut fault = None;
@@ -98,10 +99,10 @@ fn run_named<K: HubName + Send + Sync, R: Threads + Wait + Sync, G: Gate + Sync>
     requires count { vec_len seats ≡ vec_len scenario.now.scripts }
     requires seats { AreSeats K.name 0 seats.items }
     requires hubs { All (λ s. s.hub ≡ K.name) seats.items }
-    ensures procs { IfOk result (λ j. j.procs ≡ vec_len scenario.now.scripts) }
+    ensures procs { IfOk result (λ j. j.procs ≡ length (scenario_view scenario.now).scripts) }
     ensures legal { IfOk result (λ j. IsLegal j.procs j.entries) }
     ensures few { IfOk result (λ j. steps_of j.entries ≤ K.name.terms.limit) }
-    ensures follows { IfOk result (λ j. AllFollow scenario.now j.entries) }
+    ensures follows { IfOk result (λ j. AllFollow (scenario_view scenario.now) j.entries) }
 {
     let hub = blank.named::<K>();
     let held = hold_all(alloc, seats)?;
@@ -127,9 +128,10 @@ pub fn run_scenario<R: Threads + Wait + Sync, G: Gate + Sync>(
     scenario: &Scenario,
     gate: &G,
 ) -> Result<Report, RunFault>
-    ensures procs { IfOk result (λ r. r.journal.procs ≡ vec_len scenario.now.scripts) }
+    ensures procs { IfOk result (λ r.
+        r.journal.procs ≡ length (scenario_view scenario.now).scripts) }
     ensures legal { IfOk result (λ r. IsLegal r.journal.procs r.journal.entries) }
-    ensures follows { IfOk result (λ r. AllFollow scenario.now r.journal.entries) }
+    ensures follows { IfOk result (λ r. AllFollow (scenario_view scenario.now) r.journal.entries) }
     ensures report { IfOk result (λ r. IsReportOf r.journal r) }
 {
     let procs = scenario.scripts.len() as u8;

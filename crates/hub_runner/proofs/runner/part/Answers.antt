@@ -1,4 +1,5 @@
 use Rattle.std.proofs.Common.{◌≡◌, refl, OnOk}
+use Rattle.hub_scenario.specs.Scenario.{scenario_view}
 use Rattle.hub_runner.specs.Running.{HasFollowed}
 use Rattle.hub_runner.proofs.Runs.{map_snoc, all_snoc, cut_snoc, all_next, from_ok}
 use Rattle.hub_runner.proofs.runner.part.Goals as goal
@@ -6,7 +7,7 @@ use Rattle.hub_runner.proofs.runner.part.Goals as goal
 pub loop-member-preserved : goal.loop-member-preserved
 loop-member-preserved g c =
     let i = c.loop-member.invariant in
-    let sc = c.args.scenario.now in
+    let sc = scenario_view c.args.scenario.now in
     let m = c.in-Some.member in
     let seats = c.loop-member.seats.items in
     let grown = c.in_ok-push.ensures.items in

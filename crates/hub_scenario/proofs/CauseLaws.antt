@@ -11,15 +11,15 @@ use Rattle.toml.specs.Parse.{parse_document}
 use Rattle.hub_scenario.specs.declared.fault.ScenarioFault.{ScenarioFault}
 use Rattle.hub_scenario.specs.declared.fault.ScenarioFault.TheVariants.{TooLong, BadToml, BadKey, BadSeed, BadLimit, BadPorts, BadProcesses, BadScript, NoMemory}
 use Rattle.hub_scenario.specs.declared.script.ScriptStep.{ScriptStep}
-use Rattle.hub_scenario.specs.Causes.{SeedPasses, LimitPasses, PortsPass, ProcessesPass, AreProcesses, IsCause, IsCauseIn}
+use Rattle.hub_scenario.specs.Causes.{SeedPasses, LimitPasses, PortsPass, ProcessesPass, AreProcesses, IsCause, IsCauseIn, IsSound, IsSoundIn}
 use Rattle.hub_scenario.specs.Faults.{must, ◌>>=◌}
 use Rattle.hub_scenario.specs.Frames.{FrameData, frame_of}
 use Rattle.hub_scenario.specs.Numbers.{within, ports_of}
 use Rattle.hub_scenario.specs.Scenario.{ScenarioData, scripts_of, values_of, scenario_of, tree_of, reading}
 use Rattle.hub_scenario.specs.Scripts.{scripts_from}
-use Rattle.hub_scenario.proofs.Firsts.{same_err, first-bad}
+use Rattle.hub_scenario.proofs.Firsts.{same_err, first-bad, none-bad}
 use Rattle.hub_scenario.proofs.Ranges.{within-some, within-none, ports-some, ports-none, at_most}
-use Rattle.hub_scenario.proofs.Shapes.{shape, no_shape, bad_key}
+use Rattle.hub_scenario.proofs.Shapes.{fails, shape, no_shape, bad_key}
 
 -- ---- the tests from each one on
 abbrev with_scripts : ℕ → ℕ → List ℕ → Result (List (List ScriptStep)) ScenarioFault → Result ScenarioData ScenarioFault
@@ -130,3 +130,65 @@ long-case bytes e false is h =
 -- why bytes are refused
 pub cause_in : (bytes : List ℕ) (e : ScenarioFault) → reading bytes ≡ Err e → IsCauseIn bytes e
 cause_in bytes e h = long-case bytes e (nat_lt 1048576 (length bytes)) refl h
+
+-- ---- a file that is read
+-- the frame of a tree that passes each test
+abbrev Sound : Members → Type 0
+Sound ms = (f : FrameData) × IsSound ms f
+
+with_scripts-ok : (seed limit : ℕ) (ports : List ℕ) (r : Result (List (List ScriptStep)) ScenarioFault) (s : ScenarioData) → with_scripts seed limit ports r ≡ Ok s → (all : List (List ScriptStep)) × (r ≡ Ok all)
+with_scripts-ok seed limit ports (Ok all) s h = (all, refl)
+with_scripts-ok seed limit ports (Err a) s h = absurd (fails s a h)
+
+sound_scripts-case : (ms : Members) (f : FrameData) (all : List (List ScriptStep)) (b : Bool) → PortsPass ms f → (nat_le 1 (length f.process) && nat_le (length f.process) 64) ≡ b
+    → (if b then scripts_from 0 f.process else Err BadProcesses) ≡ Ok all → Sound ms
+sound_scripts-case ms f all false passes is h = absurd (fails all BadProcesses h)
+sound_scripts-case ms f all true passes is h = (
+  f,
+  record {
+    shape = shape ms f passes.0.0.0;
+    passes = (passes, counted f.process is);
+    steps = none-bad f.process all h;
+  },
+)
+
+sound_ports-case : (ms : Members) (f : FrameData) (s : ScenarioData) (seed limit : ℕ) (o : Option (List ℕ)) → LimitPasses ms f → ports_of f.ports ≡ o
+    → (must BadPorts o >>= λ ports. after_ports f seed limit ports) ≡ Ok s → Sound ms
+sound_ports-case ms f s seed limit None passes is h = absurd (fails s BadPorts h)
+sound_ports-case ms f s seed limit (Some ports) passes is h =
+    let (all, read) = with_scripts-ok seed limit ports (scripts_of f.process) s h in
+    sound_scripts-case ms f all (nat_le 1 (length f.process) && nat_le (length f.process) 64) (passes, ports-some f.ports ports is) refl read
+
+sound_limit-case : (ms : Members) (f : FrameData) (s : ScenarioData) (seed : ℕ) (o : Option ℕ) → SeedPasses ms f → within 1 1000000 f.limit ≡ o
+    → (must BadLimit o >>= λ limit. after_limit f seed limit) ≡ Ok s → Sound ms
+sound_limit-case ms f s seed None passes is h = absurd (fails s BadLimit h)
+sound_limit-case ms f s seed (Some limit) passes is h =
+    sound_ports-case ms f s seed limit (ports_of f.ports) (passes, within-some 1 1000000 f.limit limit is) refl h
+
+sound_seed-case : (ms : Members) (f : FrameData) (s : ScenarioData) (o : Option ℕ) → frame_of ms ≡ Ok f → within 0 9223372036854775807 f.seed ≡ o
+    → (must BadSeed o >>= λ seed. after_seed f seed) ≡ Ok s → Sound ms
+sound_seed-case ms f s None framed is h = absurd (fails s BadSeed h)
+sound_seed-case ms f s (Some seed) framed is h =
+    sound_limit-case ms f s seed (within 1 1000000 f.limit) (framed, within-some 0 9223372036854775807 f.seed seed is) refl h
+
+sound_frame-case : (ms : Members) (s : ScenarioData) (r : Result FrameData ScenarioFault) → frame_of ms ≡ r → (r >>= values_of) ≡ Ok s → Sound ms
+sound_frame-case ms s (Ok f) is h = sound_seed-case ms f s (within 0 9223372036854775807 f.seed) is refl h
+sound_frame-case ms s (Err a) is h = absurd (fails s a h)
+
+sound_tree-case : (bytes : List ℕ) (s : ScenarioData) (b : Bool) (o : Option Members) → length bytes ≤ 1048576 → is_utf8 bytes ≡ b → parse_document bytes ≡ o
+    → ((if b then must BadToml o else Err BadToml) >>= scenario_of) ≡ Ok s → IsSoundIn bytes
+sound_tree-case bytes s false o short utf8 is h = absurd (fails s BadToml h)
+sound_tree-case bytes s true None short utf8 is h = absurd (fails s BadToml h)
+sound_tree-case bytes s true (Some ms) short utf8 is h =
+    let (f, sound) = sound_frame-case ms s (frame_of ms) refl h in
+    (ms, f, short, IsUtf8-from_is_utf8 bytes utf8, is, sound)
+
+sound_long-case : (bytes : List ℕ) (s : ScenarioData) (b : Bool) → nat_lt 1048576 (length bytes) ≡ b
+    → (if b then Err TooLong else tree_of bytes >>= scenario_of) ≡ Ok s → IsSoundIn bytes
+sound_long-case bytes s true is h = absurd (fails s TooLong h)
+sound_long-case bytes s false is h =
+    sound_tree-case bytes s (is_utf8 bytes) (parse_document bytes) (not_long bytes is) refl refl h
+
+-- bytes that are read pass each test
+pub sound_in : (bytes : List ℕ) (s : ScenarioData) → reading bytes ≡ Ok s → IsSoundIn bytes
+sound_in bytes s h = sound_long-case bytes s (nat_lt 1048576 (length bytes)) refl h

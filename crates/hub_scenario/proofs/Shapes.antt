@@ -157,7 +157,7 @@ processes-none (Some d) h (ds, is, each) =
     (sym (all_steps-by ds) ∙ sym (ap (λ d. option_and_then all_steps (array_at (Some d))) is) ∙ h) each
 
 -- ---- the frame
-fails : {A : Type 0} (x : A) (e : ScenarioFault) → Err e ≡ Ok x → ⊥
+pub fails : {A : Type 0} (x : A) (e : ScenarioFault) → Err e ≡ Ok x → ⊥
 fails x e h = false≢true (ap is_ok h)
 
 shape-case : (ms : Members) (f : FrameData) (b : Bool) (seed limit : Option ℤ) (ports : Option Items) (process : Option (List Items))

@@ -1,6 +1,6 @@
 -- When each fault of a scenario file comes, said of what stands in the file. Each cause says that the
 -- tests before it passed, so a file has at most one.
-use Rattle.std.specs.Prelude.{◌≡◌, ◌≤◌, ◌<◌, ℕ, ℤ, pos, true, List, length, codes, Some, None, IsSome, IfSome, Ok, IsUtf8}
+use Rattle.std.specs.Prelude.{◌≡◌, ◌≤◌, ◌<◌, ℕ, ℤ, pos, true, List, length, codes, Some, None, IsSome, IfSome, Ok, IsUtf8, slice_get}
 use Rattle.std.specs.Option.{IsSomeAnd}
 use Rattle.toml.specs.Data.{Data, integer, array, table, Items, get_item, Members, get_member}
 use Rattle.toml.specs.Parse.{parse_document}
@@ -8,7 +8,7 @@ use Rattle.hub_scenario.specs.declared.keys.Owner.{Owner}
 use Rattle.hub_scenario.specs.declared.keys.Owner.TheVariants.{File, Process}
 use Rattle.hub_scenario.specs.declared.fault.ScenarioFault.{ScenarioFault}
 use Rattle.hub_scenario.specs.declared.fault.ScenarioFault.TheVariants.{TooLong, BadToml, BadKey, BadSeed, BadLimit, BadPorts, BadProcesses, BadScript, NoMemory}
-use Rattle.hub_scenario.specs.Firsts.{FirstBadScript}
+use Rattle.hub_scenario.specs.Firsts.{FirstBadScript, AllSteps}
 use Rattle.hub_scenario.specs.Frames.{FrameData, frame_of}
 use Rattle.hub_scenario.specs.Keys.{is_key}
 use Rattle.hub_scenario.specs.Limits.{most_bytes, greatest_seed, greatest_limit, greatest_capacity, most_ports, most_processes}
@@ -99,3 +99,16 @@ IsCauseIn bytes BadToml =
 IsCauseIn bytes e =
     (ms : Members) × (length bytes ≤ most_bytes) × IsUtf8 bytes
     × (parse_document bytes ≡ Some ms) × IsCause ms e
+
+-- ---- no cause
+-- a tree that says a scenario passes each test, and each element of each script is a step
+pub record IsSound (ms : Members) (f : FrameData) : Type 0 where
+  pub shape : HasShape ms
+  pub passes : ProcessesPass ms f
+  pub steps : (q : ℕ) → IfSome (slice_get f.process q) (AllSteps 0)
+
+-- and so do the bytes of a file
+abbrev pub IsSoundIn : List ℕ → Type 0
+IsSoundIn bytes =
+    (ms : Members) × (f : FrameData) × (length bytes ≤ most_bytes) × IsUtf8 bytes
+    × (parse_document bytes ≡ Some ms) × IsSound ms f

@@ -45,7 +45,7 @@ impl ChoiceWords {
         }
     }
 
-    /// Draws the next word. Its number fits in 64 bits, which no run exceeds.
+    /// Draws the next word. A script asks for at most 10,000, and there is room for 2^64 - 1.
     pub fn next_word(&mut self) -> u64
         requires room { self.old.drawn < 2 ^ 64 - 1 }
         ensures word { result ≡ choice_word self.old.seed self.old.drawn }

@@ -5,15 +5,17 @@ ghost use Rattle.toml.specs.Data.{Items};
 ghost use Rattle.hub_scenario.specs.declared.fault.ScenarioFault.{ScenarioFault};
 ghost use Rattle.hub_scenario.specs.declared.fault.ScenarioFault.TheVariants.{BadScript};
 ghost use Rattle.hub_scenario.specs.declared.script.ScriptStep.{ScriptStep};
-ghost use Rattle.hub_scenario.specs.Causes.{IsCauseIn};
+ghost use Rattle.hub_scenario.specs.Causes.{IsCauseIn, IsSoundIn};
 ghost use Rattle.hub_scenario.specs.Firsts.{FirstBadScript, AllSteps};
-ghost use Rattle.hub_scenario.specs.Scenario.{reading};
+ghost use Rattle.hub_scenario.specs.Scenario.{ScenarioData, reading};
 ghost use Rattle.hub_scenario.specs.Scripts.{scripts_from};
 
 /// Each fault of a file has its cause: the test of that fault fails, and each test before it passes.
+/// A file without a fault passes them all.
 pub fn faults_in_order()
     ensures cause { (bytes : List ℕ) (e : ScenarioFault) → reading bytes ≡ Err e →
         IsCauseIn bytes e }
+    ensures none { (bytes : List ℕ) (s : ScenarioData) → reading bytes ≡ Ok s → IsSoundIn bytes }
 {}
 
 /// The fault of scripts is their first element that is no step or has place 10,000, by process and

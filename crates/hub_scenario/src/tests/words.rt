@@ -22,8 +22,8 @@ fn first_words(seed: u64, pid: Pid) -> [u64; 8]
     ]
 }
 
-// The words were computed by a separate program in Python, from the published definitions of SplitMix64
-// and xoshiro256++ alone. It also gave the published first outputs at the state 1, 2, 3, 4.
+// The words were computed by a separate program in Python, from the published definitions of
+// SplitMix64 and xoshiro256++ alone. At the state 1, 2, 3, 4 it gave the published first outputs.
 #[test]
 fn words_are_those_of_the_published_generator(rt: HostRuntime) {
     let rows: [(u64, Pid, [u64; 8]); 3] = [

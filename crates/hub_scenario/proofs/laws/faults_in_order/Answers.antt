@@ -1,5 +1,8 @@
-use Rattle.hub_scenario.proofs.CauseLaws.{cause_in}
+use Rattle.hub_scenario.proofs.CauseLaws.{cause_in, sound_in}
 use Rattle.hub_scenario.proofs.laws.faults_in_order.Goals as goal
 
-pub returns : goal.returns
-returns c = record { cause = cause_in }
+pub returns-clause-cause : goal.returns-clause-cause
+returns-clause-cause c = cause_in
+
+pub returns-clause-none : goal.returns-clause-none
+returns-clause-none c = sound_in

@@ -1,9 +1,9 @@
 -- What the tests of numbers say of them.
-use Rattle.std.proofs.Common.{◌≡◌, ◌≤◌, ◌<◌, ℕ, suc, ◌∙◌, ℤ, pos, negsuc, Bool, true, false, ◌&&◌, nat_le, List, length, Option, None, Some, refl, ap, sym, arith, if◌then◌else◌}
+use Rattle.std.proofs.Common.{◌≡◌, ◌≤◌, ℕ, ◌∙◌, ℤ, pos, negsuc, Bool, true, false, ◌&&◌, nat_le, List, None, Some, refl, ap, sym, arith, if◌then◌else◌}
 use Rattle.std.specs.Cmp.{first_so, second_so}
 use Rattle.std.proofs.lemmas.Bool.Decides.{nat_tests}
 use Rattle.toml.specs.Data.{Data, string, integer, float, boolean, datetime, array, table, Items, no_items, item}
-use Rattle.hub_scenario.specs.Causes.{IsWithin, IsCapacity, Each, ArePorts}
+use Rattle.hub_scenario.specs.Causes.{IsWithin, IsCapacity, ArePorts}
 use Rattle.hub_scenario.specs.Faults.{cons_some}
 use Rattle.hub_scenario.specs.Numbers.{within, capacity_of, capacities_of, count_items, ports_of}
 use Rattle.hub_scenario.proofs.Shapes.{apart, all_by, all-some, all-none}

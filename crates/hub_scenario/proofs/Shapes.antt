@@ -1,5 +1,5 @@
 -- What the tests of keys and kinds say of a table.
-use Rattle.std.proofs.Common.{◌≡◌, ◌≢◌, ℕ, zero, suc, ◌∙◌, ℤ, pos, Bool, true, false, ◌&&◌, List, [], ◌∷◌, codes, Option, None, Some, IsSome, IfSome, Result, Ok, Err, refl, ap, sym, subst, if◌then◌else◌}
+use Rattle.std.proofs.Common.{◌≡◌, ℕ, zero, suc, ◌∙◌, ℤ, pos, Bool, true, false, ◌&&◌, List, [], ◌∷◌, codes, Option, None, Some, IsSome, IfSome, Ok, Err, refl, ap, sym, if◌then◌else◌}
 use Rattle.std.specs.Option.{IsSomeAnd, is_some, option_and_then, option_map}
 use Rattle.std.specs.Result.{is_ok}
 use Rattle.std.specs.Cmp.Lexicographic.{slice_cmp}
@@ -10,7 +10,7 @@ use Rattle.std.proofs.lemmas.Bool.{false≢true}
 use Rattle.std.proofs.lemmas.Cmp.{nat_list_cmp_total, tied_itself}
 use Rattle.std.proofs.lemmas.Map.Lookups.{exact_bytes}
 use Rattle.std.specs.Cmp.{first_so, second_so}
-use Rattle.toml.specs.Data.{Data, string, integer, float, boolean, datetime, array, table, Items, no_items, item, get_item, Members, no_members, member, get_member}
+use Rattle.toml.specs.Data.{Data, string, integer, float, boolean, datetime, array, table, Items, no_items, item, Members, no_members, member, get_member}
 use Rattle.hub_scenario.specs.declared.keys.Owner.{Owner}
 use Rattle.hub_scenario.specs.declared.keys.Owner.TheVariants.{File, Process}
 use Rattle.hub_scenario.specs.declared.fault.ScenarioFault.{ScenarioFault}

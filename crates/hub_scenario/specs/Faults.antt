@@ -1,5 +1,5 @@
 -- Tests in their order: the first one that fails says the fault.
-use Rattle.std.specs.Prelude.{◌≡◌, List, [], ◌∷◌, Option, Some, None, Result, Ok, Err}
+use Rattle.std.specs.Prelude.{◌≡◌, List, ◌∷◌, Option, Some, None, Result, Ok, Err}
 use Rattle.hub_scenario.specs.declared.fault.ScenarioFault.{ScenarioFault}
 use Rattle.hub_scenario.specs.declared.fault.ScenarioFault.TheVariants.{NoMemory}
 

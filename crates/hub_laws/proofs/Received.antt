@@ -1,7 +1,7 @@
 -- What one entry adds to the values received on each port.
-use Rattle.std.proofs.Common.{◌≡◌, ℕ, ◌+◌, ◌-◌, ◌%◌, ◌==◌, Bool, true, false, cond, List, [], ◌∷◌, ◌++◌, length, filter, not, refl, ap, ◌∙◌, sym, subst, Option, Some, None, arith, append-nil, zero, suc}
+use Rattle.std.proofs.Common.{◌≡◌, ℕ, ◌+◌, ◌-◌, ◌%◌, ◌==◌, Bool, true, false, cond, List, [], ◌∷◌, ◌++◌, length, refl, ap, ◌∙◌, sym, subst, Option, Some, None, arith, append-nil}
 use Rattle.std.specs.Prelude.{slice_get, slice_set}
-use Rattle.std.specs.List.{filter_map, cons_option, list_any}
+use Rattle.std.specs.List.{filter_map, cons_option}
 use Rattle.std.specs.Option.{option_map, option_map_or}
 use Rattle.std.proofs.lemmas.Grind.{common_steps}
 use Rattle.std.proofs.lemmas.Bool.{eqb-true}
@@ -18,7 +18,6 @@ use Rattle.hub_base.specs.declared.entry.Entry.{Entry}
 use Rattle.hub_base.specs.declared.event.Event.{Event}
 use Rattle.hub_base.specs.declared.fault.Fault.{Fault}
 use Rattle.hub_base.specs.declared.event.What.TheVariants as what
-use Rattle.hub_base.specs.declared.event.Outcome.TheVariants.{Sent, Got, Drained, Closed}
 use Rattle.hub_base.specs.State.{State, Channel, OpenCall, channel_at, with_channel, opening}
 use Rattle.hub_base.specs.Ready.{is_send_on, is_recv_on, is_on, ready, port_of, first_with, Ending, Placed, lowest, without}
 use Rattle.hub_base.specs.Steps.{fires, proceeds, chooses, closes, makes, effect, stalls, Change, sent, received, next_value, send_meets, recv_takes, recv_meets, fired, closing_event, closing_outcome, fault_of, answers, shut, refusal}

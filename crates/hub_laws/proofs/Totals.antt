@@ -139,7 +139,6 @@ take_suc (x ∷ xs) (suc i) w e = ap (λ ys. x ∷ ys) (take_suc xs i w e)
 pub take_next : {A : Type 0} (xs : List A) (i : ℕ) (w : A) → slice_get xs i ≡ Some w → take (i + 1) xs ≡ take i xs ++ w ∷ []
 take_next xs i w e = rw add-one (take_suc xs i w e)
 
-
 pub through : (v w : Value) (c d : Channel) → c.taken ≤ length c.done → next_value (sent v c) ≡ Some w → d ≡ received (sent v c) → received_from d ≡ received_from c ++ w ∷ []
 through v w c d fits next is = rw is (take_next (c.done ++ v ∷ []) c.taken w next ∙ ap (λ xs. xs ++ w ∷ []) (take-append-le c.taken c.done (v ∷ []) fits))
 

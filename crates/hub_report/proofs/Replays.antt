@@ -1,5 +1,5 @@
 -- One entry more of a replay.
-use Rattle.std.proofs.Common.{◌≡◌, ◌≤◌, ◌<◌, ◌+◌, ◌-◌, ◌*◌, ◌^◌, ◌==◌, ℕ, Bool, true, false, cond, zero, suc, List, [], ◌∷◌, ◌++◌, length, filter, replicate, refl, ap, ◌∙◌, sym, subst, Option, Some, None, arith, get_or, take, add-one}
+use Rattle.std.proofs.Common.{◌≡◌, ◌≤◌, ◌<◌, ◌+◌, ◌-◌, ◌==◌, ℕ, Bool, true, false, cond, zero, suc, List, [], ◌∷◌, ◌++◌, length, filter, replicate, refl, ap, ◌∙◌, sym, Option, Some, None, arith, get_or, take, add-one}
 use Rattle.std.specs.Prelude.{slice_set, slice_index_or}
 use Rattle.std.specs.List.{sum_by, cons_option}
 use Rattle.std.specs.Option.{option_map_or}

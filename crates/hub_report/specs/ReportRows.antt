@@ -1,7 +1,7 @@
 -- Worked rows of reports.
 use Rattle.std.specs.Prelude.{◌≡◌, true, false, List, [], ◌∷◌, slice_get, Some, refl}
 use Rattle.hub_base.specs.declared.entry.Entry.{Entry}
-use Rattle.hub_base.specs.Notation.{make, send, recv, close, exit, select, r, s}
+use Rattle.hub_base.specs.Notation.{make, send, recv, close, exit, select, r}
 use Rattle.hub_report.specs.Reports.{ports_told, stalled_told, faults_told}
 
 -- three processes on a port of capacity 3: 1, 10 and 2 are sent and received

@@ -1,5 +1,5 @@
 -- Worked lines of reports.
-use Rattle.std.specs.Prelude.{◌≡◌, true, false, List, [], ◌∷◌, codes, refl}
+use Rattle.std.specs.Prelude.{◌≡◌, true, false, [], ◌∷◌, codes, refl}
 use Rattle.std.specs.Fmt.{digits}
 use Rattle.hub_report.specs.declared.report.PortReport.{PortReport}
 use Rattle.hub_report.specs.ReportText.{port_line, port_lines, count_line}

@@ -1,7 +1,6 @@
-use Rattle.std.proofs.Common.{◌≡◌, ◌≤◌, ℕ, List, length, map, take}
+use Rattle.std.proofs.Common.{ℕ, List}
 use Rattle.hub_base.specs.declared.entry.Entry.{Entry}
 use Rattle.hub_base.specs.Runs.{state}
-use Rattle.hub_report.specs.Reports.{told_of}
 use Rattle.hub_report.specs.Replays.{Tells}
 use Rattle.hub_report.proofs.Ports.{PortsSoFar}
 use Rattle.hub_report.proofs.replayed.Replayed.ports.Given as goal

@@ -1,5 +1,5 @@
-//! One replay of a journal. A machine makes the steps, and what it does not keep is told by the events
-//! of each: all that is received in one step is received on the port that its answer names.
+//! One replay of a journal. A machine makes the steps, and what it does not keep is told by the
+//! events of each: all that is received in one step is received on the port that its answer names.
 
 ghost use Rattle.std.specs.Prelude.{◌≡◌, ◌≤◌, ◌<◌, ◌+◌, ◌^◌, ℕ, List, [], length, replicate, Some, IfOk, slice_index_or};
 ghost use Rattle.std.specs.List.{sum_by};

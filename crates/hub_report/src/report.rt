@@ -1,4 +1,5 @@
-//! The report of a journal: what each port carried, how many calls stalled, how many faults were told.
+//! The report of a journal: what each port carried, how many calls stalled, and how many faults
+//! were told.
 
 ghost use Rattle.std.specs.Prelude.{◌≡◌, ◌≤◌, IfOk};
 ghost use Rattle.hub_base.specs.Limits.{most_procs, most_steps};

@@ -1,5 +1,5 @@
-//! Writing a report. A private function that is refused may leave a part behind, which the public one
-//! takes back.
+//! Writing a report. A private function that is refused may leave a part behind, which the public
+//! one takes back.
 
 ghost use Rattle.std.specs.Prelude.{◌≡◌, ◌++◌, ◌+◌, ◌≤◌, ◌<◌, ◌^◌, ℕ, List, codes, decimal, take, OnOk, OnErr, IsOk, ◌↔◌, is_ok, if◌then◌else◌};
 ghost use Rattle.hub_report.specs.ReportText.{field, ending, port_line, port_lines, count_line, report_text};
@@ -82,9 +82,9 @@ fn put_report(out: &mut Vec<u8>, report: &Report) -> Result<(), AllocError>
     put_count(out, b"faults ", report.faults)
 }
 
-/// Appends the report's text: a line for each port in order of number, then how many calls stalled and
-/// how many faults were told, each where there is any. `Err` where a growth was refused, with nothing
-/// appended.
+/// Appends the report's text: a line for each port in order of number, then how many calls stalled
+/// and how many faults were told, each where there is any. `Err` where a growth was refused, with
+/// nothing appended.
 pub fn write_report(out: &mut Vec<u8>, report: &Report) -> Result<(), NoMemory>
     ensures ok { OnOk result (out.new.items ≡ out.old.items ++ report_text report.now) }
     ensures err { OnErr result (out.new.items ≡ out.old.items) }

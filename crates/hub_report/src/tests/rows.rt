@@ -64,8 +64,8 @@ const ROWS: [Row; 8] = [
                   0 recv 1\n0 recv 1\n0 exit\n",
         text: "port 1 cap 2 sent 2 received 2 left 0 sum 36893488147419103230 open\n",
     },
-    // Process 1 waits on both ports, and process 0 sends 8 on the second: it is received there. Then
-    // process 0 waits to send 4 on the first, and process 1 receives it.
+    // Process 1 waits on both ports, and process 0 sends 8 on the second: it is received there.
+    // Then process 0 waits to send 4 on the first, and process 1 receives it.
     Row {
         name: "waiting_on_both_sides",
         procs: 2,

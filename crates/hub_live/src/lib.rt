@@ -11,8 +11,6 @@ mod mark;
 mod name;
 mod rule;
 mod seat;
-#[cfg(test)]
-mod tests;
 pub mod under_lock;
 mod words;
 

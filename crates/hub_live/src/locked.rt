@@ -18,7 +18,7 @@ use hub_core::Hub;
 use std::marker::Model;
 
 /// Processes, of which a hub has at most 64.
-pub(crate) type Pids = ArrayVec<Pid, 64>;
+pub type Pids = ArrayVec<Pid, 64>;
 
 /// A hub, and for each process an answer that may wait to be picked up.
 #[derive(Drop)]
@@ -126,7 +126,7 @@ impl Locked {
 
     /// Whose calls the last step ended, where it was made: they are to be woken. A wake is only a
     /// hint, so no clause speaks of it.
-    pub(crate) fn answered(&self) -> Pids {
+    pub fn answered(&self) -> Pids {
         match self.events.as_slice().split_first() {
             Some((_answer, ended)) => pids_of(ended),
             None => Pids::new(),
@@ -159,120 +159,5 @@ impl Locked {
             events: _,
         } = self;
         hub.into_journal()
-    }
-}
-
-#[cfg(test)]
-mod tests {
-    use super::*;
-    use crate::tests::{call, entry, fired, told};
-    use hub_base::{Case, Counts, Outcome, Step, Value, What};
-    use std::test::Fail;
-
-    // A receiver parks, a sender's step ends its call, and the value waits for the receiver.
-    #[test]
-    fn answer_waits_until_it_is_taken(rt: HostRuntime) -> Result<(), Fail> {
-        let mut locked = Locked::of(Hub::open(rt.alloc(), 2, 10)?);
-        let made = locked.step(entry(0, Step::Make(0)))?;
-        assert_eq!(rt; made, told(0, What::Made(Port(1))));
-        let parked = locked.step(call(1, Case::Recv(Port(1))))?;
-        assert_eq!(rt; parked, told(1, What::Parked));
-        assert_eq!(rt; locked.take(Pid(1)), None);
-        assert_eq!(rt; locked.answered().len(), 0);
-
-        let sent = locked.step(call(0, Case::Send(Port(1), Value::num(9))))?;
-        assert_eq!(rt; sent, fired(0, Outcome::Sent));
-        assert_eq!(rt; locked.answered().as_slice(), [Pid(1)].as_slice());
-        assert_eq!(rt; locked.take(Pid(0)), None);
-        assert_eq!(rt;
-            locked.take(Pid(1)),
-            Some(fired(1, Outcome::Got(Value::num(9))))
-        );
-        assert_eq!(rt; locked.take(Pid(1)), None);
-
-        let counts = Counts {
-            len: 0,
-            sent: 1,
-            received: 1,
-            closed: false,
-        };
-        assert_eq!(rt; locked.look(Port(1)), Some(Look { cap: 0, counts }));
-        assert_eq!(rt; locked.entries().len(), 3);
-        let journal = locked.into_journal();
-        assert_eq!(rt; journal.procs(), 2);
-        assert_eq!(rt; journal.entries().len(), 3);
-        Ok(())
-    }
-
-    // Its own call parks and then stalls, in one step.
-    #[test]
-    fn stalled_caller_finds_its_answer(rt: HostRuntime) -> Result<(), Fail> {
-        let mut locked = Locked::of(Hub::open(rt.alloc(), 1, 10)?);
-        let parked = locked.step(call(0, Case::Recv(Port(0))))?;
-        assert_eq!(rt; parked, told(0, What::Parked));
-        assert_eq!(rt; locked.take(Pid(0)), Some(told(0, What::Stalled)));
-        assert_eq!(rt; locked.take(Pid(0)), None);
-        Ok(())
-    }
-
-    #[test]
-    fn each_stalled_process_is_answered(rt: HostRuntime) -> Result<(), Fail> {
-        let mut locked = Locked::of(Hub::open(rt.alloc(), 2, 10)?);
-        for pid in 0..2 {
-            let parked = locked.step(call(pid, Case::Recv(Port(0))))?;
-            assert_eq!(rt; parked, told(pid, What::Parked));
-        }
-        for pid in 0..2 {
-            assert_eq!(rt; locked.take(Pid(pid)), Some(told(pid, What::Stalled)));
-        }
-        Ok(())
-    }
-
-    // Go: "Close". Both receivers learn of it, and the step's own answer waits for nobody.
-    #[test]
-    fn close_answers_each_receiver(rt: HostRuntime) -> Result<(), Fail> {
-        let mut locked = Locked::of(Hub::open(rt.alloc(), 3, 10)?);
-        let _made = locked.step(entry(0, Step::Make(0)))?;
-        for pid in 1..3 {
-            let _parked = locked.step(call(pid, Case::Recv(Port(1))))?;
-        }
-        let closed = locked.step(entry(0, Step::Close(Port(1))))?;
-        assert_eq!(rt; closed, told(0, What::Done));
-        assert_eq!(rt; locked.take(Pid(0)), None);
-        for pid in 1..3 {
-            assert_eq!(rt; locked.take(Pid(pid)), Some(fired(pid, Outcome::Drained)));
-        }
-        Ok(())
-    }
-
-    #[test]
-    fn refusal_leaves_what_waits(rt: HostRuntime) -> Result<(), Fail> {
-        let mut locked = Locked::of(Hub::open(rt.alloc(), 3, 3)?);
-        let _made = locked.step(entry(0, Step::Make(0)))?;
-        let _parked = locked.step(call(1, Case::Recv(Port(1))))?;
-        assert_eq!(rt; locked.step(entry(7, Step::Exit)), Err(Fault::NoProcess));
-        assert_eq!(rt; locked.step(entry(1, Step::Exit)), Err(Fault::Busy));
-        let _sent = locked.step(call(0, Case::Send(Port(1), Value::num(9))))?;
-        let full = locked.step(call(1, Case::Recv(Port(1))));
-        assert_eq!(rt; full, Err(Fault::JournalFull));
-        assert_eq!(rt; locked.entries().len(), 3);
-        assert_eq!(rt;
-            locked.take(Pid(1)),
-            Some(fired(1, Outcome::Got(Value::num(9))))
-        );
-        Ok(())
-    }
-
-    // The caller's next step, here an exit from a full journal, drops what waited for it.
-    #[test]
-    fn next_step_drops_what_waits(rt: HostRuntime) -> Result<(), Fail> {
-        let mut locked = Locked::of(Hub::open(rt.alloc(), 2, 3)?);
-        let _made = locked.step(entry(0, Step::Make(0)))?;
-        let _parked = locked.step(call(1, Case::Recv(Port(1))))?;
-        let _sent = locked.step(call(0, Case::Send(Port(1), Value::num(9))))?;
-        assert_eq!(rt; locked.step(entry(1, Step::Exit)), Ok(told(1, What::Done)));
-        assert_eq!(rt; locked.take(Pid(1)), None);
-        assert_eq!(rt; locked.step(entry(1, Step::Exit)), Err(Fault::Gone));
-        Ok(())
     }
 }

@@ -2,6 +2,6 @@
 //! Public so that its contracts can be read; but for a locked hub, only this crate makes these values.
 
 pub use crate::desk::Desk;
-pub use crate::locked::Locked;
+pub use crate::locked::{Locked, Pids};
 pub use crate::seat::InnerSeat;
 pub use crate::words::Words;

@@ -1,0 +1,148 @@
+//! What the threads of the tests do.
+
+ghost use Rattle.std.specs.Prelude.{◌≡◌};
+
+use crate::Task;
+use hub_base::{Event, Fault, Pid, Port, Value};
+use hub_live::{Chan, Held, HubName, LiveHub};
+use std::sync::Wait;
+
+/// Process 0 sends 9 on port 1, every other receives from it.
+#[derive(Clone, Copy)]
+pub struct Pass;
+
+impl<K: HubName, R: Wait> Task<K, R> for Pass {
+    type Report = Result<Event, Fault>;
+
+    ghost begins = { λ task seat. Unit {0} };
+
+    ghost ends = { λ task seat answer. Unit {0} };
+
+    fn perform(self, rt: &R, hub: &LiveHub<K>, seat: &mut Held<K>) -> Result<Event, Fault> {
+        let chan = Chan::of(Port(1));
+        match seat.pid() {
+            Pid(0) => seat.send(rt, hub, &chan.sender(), Value::num(9)),
+            _ => seat.recv(rt, hub, &chan.receiver()),
+        }
+    }
+}
+
+/// Each receives from the nil port, so that all stall.
+#[derive(Clone, Copy)]
+pub struct Stall;
+
+impl<K: HubName, R: Wait> Task<K, R> for Stall {
+    type Report = Result<Event, Fault>;
+
+    ghost begins = { λ task seat. Unit {0} };
+
+    ghost ends = { λ task seat answer. Unit {0} };
+
+    fn perform(self, rt: &R, hub: &LiveHub<K>, seat: &mut Held<K>) -> Result<Event, Fault> {
+        seat.recv(rt, hub, &Chan::of(Port(0)).receiver())
+    }
+}
+
+/// Each closes port 1.
+#[derive(Clone, Copy)]
+pub struct Close;
+
+impl<K: HubName, R: Wait> Task<K, R> for Close {
+    type Report = Result<Event, Fault>;
+
+    ghost begins = { λ task seat. Unit {0} };
+
+    ghost ends = { λ task seat answer. Unit {0} };
+
+    fn perform(self, rt: &R, hub: &LiveHub<K>, seat: &mut Held<K>) -> Result<Event, Fault> {
+        seat.close(rt, hub, &Chan::of(Port(1)).sender())
+    }
+}
+
+/// Process 0 makes port 1 and sends so many values on it, every other looks at it as often.
+#[derive(Clone, Copy)]
+pub struct Watch {
+    pub times: u32,
+}
+
+/// What a thread that watches tells.
+#[derive(Clone, Copy, Debug, PartialEq, Eq)]
+pub enum Watched {
+    /// The answer to its last call.
+    Answer(Result<Event, Fault>),
+    /// Whether fewer values were sent at some look than at the one before it.
+    Looks { fell: bool },
+}
+
+/// Makes port 1 and sends so many values on it.
+fn send_often<K: HubName, R: Wait>(
+    rt: &R,
+    hub: &LiveHub<K>,
+    seat: &mut Held<K>,
+    times: u32,
+) -> Result<Event, Fault>
+    ensures { seat.new.pid ≡ seat.old.pid }
+{
+    let sender = Chan::of(Port(1)).sender();
+    let mut last = seat.make(rt, hub, 1024);
+    for number in 0..times {
+        last = seat.send(rt, hub, &sender, Value::num(u64::from(number)));
+    }
+    last
+}
+
+/// Looks at port 1 so often, and tells whether fewer values were sent at some look than before.
+fn look_often<K: HubName>(hub: &LiveHub<K>, seat: &mut Held<K>, times: u32) -> bool
+    ensures { seat.new.pid ≡ seat.old.pid }
+{
+    let mut sent = 0;
+    let mut fell = false;
+    for _ in 0..times {
+        let now = seat.look(hub, Port(1)).map_or(0, |counts| counts.sent);
+        fell = fell || now < sent;
+        sent = now;
+    }
+    fell
+}
+
+impl<K: HubName, R: Wait> Task<K, R> for Watch {
+    type Report = Watched;
+
+    ghost begins = { λ task seat. Unit {0} };
+
+    ghost ends = { λ task seat told. Unit {0} };
+
+    fn perform(self, rt: &R, hub: &LiveHub<K>, seat: &mut Held<K>) -> Watched {
+        match seat.pid() {
+            Pid(0) => Watched::Answer(send_often(rt, hub, seat, self.times)),
+            _ => Watched::Looks {
+                fell: look_often(hub, seat, self.times),
+            },
+        }
+    }
+}
+
+/// Each makes a channel of the capacity that stands at the number of its process.
+#[derive(Clone, Copy)]
+pub struct MakeOwn<'a> {
+    pub capacities: &'a [u32],
+}
+
+impl<'a, K: HubName, R: Wait> Task<K, R> for MakeOwn<'a> {
+    type Report = Result<Chan, Fault>;
+
+    ghost use Rattle.std.specs.Prelude.{◌≡◌, ◌≤◌, Some, IfOk, length};
+    ghost use Rattle.hub_base.specs.Steps.{tells};
+    ghost use Rattle.hub_base.specs.declared.event.What.TheVariants as what;
+    ghost use Rattle.hub_live.specs.SeatView.{reply_to};
+
+    ghost begins = { λ task seat. seat.hub.terms.procs ≤ length task.capacities.now };
+
+    ghost ends = { λ task seat made.
+        IfOk made (λ chan. reply_to seat ≡ Some (tells seat.pid (what.Made chan))) };
+
+    fn perform(self, rt: &R, hub: &LiveHub<K>, seat: &mut Held<K>) -> Result<Chan, Fault> {
+        let capacity = self.capacities[usize::from(seat.pid().0)];
+        seat.make_chan(rt, hub, capacity)
+    }
+}

@@ -1,6 +1,7 @@
 //! One process: it makes the steps of its script in order, and exits.
 
 ghost use Rattle.std.specs.Prelude.{◌≡◌, ◌<◌, ◌-◌, ◌^◌, ◌+◌, ◌&&◌, ◌++◌, ◌∷◌, [], List, ℕ, Some, IfOk, OnOk};
+ghost use Rattle.hub_base.specs.declared.entry.Step.TheVariants.{Exit};
 ghost use Rattle.hub_live.specs.Calls.{Later};
 ghost use Rattle.hub_scenario.specs.declared.script.ScriptStep.{ScriptStep};
 ghost use Rattle.hub_scenario.specs.ChoiceWords.{choice_word};
@@ -140,6 +141,22 @@ fn follow_steps<K: HubName, R: Wait, G: Gate>(
     Ok(())
 }
 
+/// Exits.
+#[tactic(auto, using(crate::proofs::Workers::made_ok))]
+fn leave<K: HubName, R: Wait>(
+    rt: &R,
+    hub: &LiveHub<K>,
+    seat: &mut Held<K>,
+) -> Result<Event, Fault>
+    ensures later { Later seat.old seat.new }
+    ensures ok { IfOk result (λ x.
+        asked_of seat.new ≡ asked_of seat.old ++ record { step = Exit; reply = Some x } ∷ []) }
+{
+    // Its contract says that the process has no open call.
+    let _pid = seat.pid();
+    seat.exit(rt, hub)
+}
+
 /// Makes a script's entries in order, and exits; where a step is refused, it exits at once.
 pub fn follow<K: HubName, R: Wait, G: Gate>(
     rt: &R,
@@ -158,13 +175,12 @@ pub fn follow<K: HubName, R: Wait, G: Gate>(
     let mut passes = Passes::new(gate, seat.pid());
     match follow_steps(rt, hub, &mut passes, seat, script, &mut words) {
         Ok(()) => {
-            let _pid = seat.pid();
-            seat.exit(rt, hub)?;
+            leave(rt, hub, seat)?;
             Ok(())
         }
         Err(fault) => {
             // So that those who still wait are told.
-            let _ = seat.exit(rt, hub);
+            let _ = leave(rt, hub, seat);
             Err(fault)
         }
     }

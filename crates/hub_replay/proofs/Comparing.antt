@@ -1,8 +1,8 @@
 -- Two lists of bytes, of which one comes in pieces: how far they agree.
-use Rattle.std.proofs.Common.{◌≡◌, ◌≢◌, ℕ, suc, ◌+◌, ◌-◌, ◌<◌, ◌≤◌, ◌==◌, Bool, true, false, cond, List, [], ◌∷◌, ◌++◌, length, take, drop, refl, sym, ap, subst, ◌∙◌, arith, inl, inr, append_assoc, append-nil, take-append-drop, length-take, length-append}
-use Rattle.std.specs.Prelude.{nat_lt, ◌⊎◌}
-use Rattle.std.specs.List.{common_prefix_len}
-use Rattle.std.proofs.lemmas.Bool.{eq-eqb, eqb-true, eqb-false, ltb-false, ltb-true, lt-ltb}
+use Rattle.std.proofs.Common.{◌≡◌, ◌≢◌, ℕ, suc, ◌+◌, ◌<◌, ◌≤◌, ◌==◌, Bool, true, false, cond, List, [], ◌∷◌, ◌++◌, length, take, drop, refl, sym, ap, subst, ◌∙◌, arith, append_assoc, append-nil, take-append-drop}
+use Rattle.std.specs.Prelude.{◌&&◌, nat_eq, nat_lt}
+use Rattle.std.specs.List.{common_prefix_len, starts_with}
+use Rattle.std.proofs.lemmas.Bool.{eq-eqb, eqb-true, eqb-false, ltb-false, ltb-true}
 use Rattle.std.proofs.lemmas.List.{append_cancel_left, drop-drop, drop_all, length-drop, length-take-le, take_all}
 use Rattle.std.proofs.Math.Seq.{take-add}
 use Rattle.hub_replay.specs.Comparing.{Parts, Agrees}
@@ -148,3 +148,14 @@ pub length-common : (xs ys : List ℕ) → length (common_beginning xs ys) ≡ c
 length-common [] ys = refl
 length-common (x ∷ xs) [] = refl
 length-common (x ∷ xs) (y ∷ ys) = length-by (x == y) x (common_beginning xs ys) _ (length-common xs ys)
+
+-- ---- all at once
+whole-by : (b rest : Bool) (x : ℕ) (l xs : List ℕ) → (b && rest) ≡ true → (rest ≡ true → length l ≡ length xs) → length (cond b (x ∷ l) []) ≡ length (x ∷ xs)
+whole-by true rest x l xs e same = ap suc (same e)
+whole-by false rest x l xs e same = cc
+
+-- where the second begins with the first, that is what both begin with
+pub length-common-whole : (xs ys : List ℕ) → starts_with nat_eq ys xs ≡ true → length (common_beginning xs ys) ≡ length xs
+length-common-whole [] ys e = refl
+length-common-whole (x ∷ xs) [] e = cc
+length-common-whole (x ∷ xs) (y ∷ ys) e = whole-by (x == y) (starts_with nat_eq ys xs) x (common_beginning xs ys) xs e (length-common-whole xs ys)

@@ -1,5 +1,5 @@
 -- Of a text of too many bytes those up to the first that is one too many decide what it says.
-use Rattle.std.proofs.Common.{◌≡◌, ℕ, suc, ◌+◌, ◌<◌, ◌≤◌, ◌==◌, Bool, true, false, cond, List, [], ◌∷◌, ◌++◌, length, take, drop, refl, sym, ap, subst, ◌∙◌, arith, Option, Some, None, Result, Ok, Err, take-append-drop, length-take}
+use Rattle.std.proofs.Common.{◌≡◌, ℕ, ◌+◌, ◌<◌, ◌≤◌, ◌==◌, Bool, true, false, List, [], ◌∷◌, ◌++◌, length, take, drop, refl, sym, ap, subst, ◌∙◌, arith, Option, Some, None, Result, Ok, Err, take-append-drop, length-take}
 use Rattle.std.proofs.lemmas.Bool.{lt-ltb}
 use Rattle.std.specs.Prelude.{codes, nat_lt, if◌then◌else◌}
 use Rattle.hub_base.specs.declared.entry.Entry.{Entry}
@@ -7,7 +7,7 @@ use Rattle.hub_base.specs.declared.text.faults.Kind.{Kind}
 use Rattle.hub_base.specs.declared.text.faults.Kind.TheVariants.{TooLong, BadHeader}
 use Rattle.hub_base.specs.Limits.{most_bytes}
 use Rattle.hub_base.specs.Lines.{pieces, read_fields, same_text}
-use Rattle.hub_base.specs.Reading.{Reading, Reads, Faulty, Row, rows, front, end_of, within, faulty_or, row_fault, entry_says, entries_from, counted, over, with_entry, procs_number, procs_say, procs_from, reading, read_text}
+use Rattle.hub_base.specs.Reading.{Reading, Faulty, Row, rows, front, end_of, within, faulty_or, entry_says, entries_from, counted, over, with_entry, procs_number, procs_say, procs_from, reading, read_text}
 
 -- the same rows up to one that ends past the limit in both
 data Alike : ℕ → List Row → List Row → Type 0 where

@@ -1,7 +1,7 @@
 -- An event's line has one newline, and a journal's events have so few lines that their number fits 32 bits.
-use Rattle.std.proofs.Common.{◌≡◌, ◌≢◌, ℕ, zero, suc, ◌+◌, ◌-◌, ◌*◌, ◌/◌, ◌%◌, ◌^◌, ◌<◌, ◌≤◌, ◌==◌, Bool, true, false, cond, List, [], ◌∷◌, ◌++◌, length, take, drop, refl, sym, ap, subst, ◌∙◌, arith, length-append, take-append-drop}
+use Rattle.std.proofs.Common.{◌≡◌, ◌≢◌, ℕ, zero, suc, ◌+◌, ◌-◌, ◌*◌, ◌/◌, ◌%◌, ◌^◌, ◌<◌, ◌≤◌, ◌==◌, Bool, true, false, cond, List, [], ◌∷◌, ◌++◌, length, take, drop, refl, ap, ◌∙◌, arith, length-append, take-append-drop}
 use Rattle.std.specs.Prelude.{codes, decimal, nat_lt}
-use Rattle.std.specs.List.{flat_map, count_by, sum_by, join_with_byte}
+use Rattle.std.specs.List.{flat_map, join_with_byte}
 use Rattle.std.specs.Fmt.{digits, digits_onto, digit_glyph}
 use Rattle.std.proofs.lemmas.Bool.{ne_eqb}
 use Rattle.std.proofs.lemmas.List.Sums.{sum_by-append}
@@ -17,9 +17,8 @@ use Rattle.hub_base.specs.declared.event.What.{What}
 use Rattle.hub_base.specs.declared.event.What.TheVariants as what
 use Rattle.hub_base.specs.EventText.{event_line, what_text, outcome_text}
 use Rattle.hub_base.specs.Faults.{fault_number}
-use Rattle.hub_base.specs.Value.{value_field}
 use Rattle.hub_base.specs.Lines.{line, step_fields, call_fields}
-use Rattle.hub_base.specs.Reading.{text, head}
+use Rattle.hub_base.specs.Reading.{head}
 use Rattle.hub_base.specs.Runs.{events}
 use Rattle.hub_base.specs.Text.{IsText}
 use Rattle.hub_replay.specs.Replay.{event_lines}

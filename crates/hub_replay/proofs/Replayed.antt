@@ -1,5 +1,5 @@
 -- How one more entry goes on from what the entries before it have led to.
-use Rattle.std.proofs.Common.{◌≡◌, ℕ, ◌+◌, ◌*◌, ◌≤◌, ◌<◌, ◌^◌, Bool, false, List, [], ◌∷◌, ◌++◌, length, refl, sym, ap, subst, ◌∙◌, append_assoc, append-nil, arith, Some, length-append}
+use Rattle.std.proofs.Common.{◌≡◌, ℕ, ◌*◌, ◌≤◌, Bool, false, List, [], ◌∷◌, ◌++◌, length, refl, sym, ap, subst, ◌∙◌, append_assoc, append-nil, arith, Some, length-append}
 use Rattle.std.proofs.lemmas.Grind.{flat_map-append}
 use Rattle.std.specs.List.{flat_map}
 use Rattle.hub_base.specs.declared.entry.Entry.{Entry}
@@ -12,7 +12,7 @@ use Rattle.hub_base.specs.State.{State, opening}
 use Rattle.hub_base.specs.Text.{IsText}
 use Rattle.hub_core.specs.Follows.{Follows, Answers}
 use Rattle.hub_core.specs.Records.{MachineLists}
-use Rattle.hub_replay.specs.Replay.{event_lines, IsEventText}
+use Rattle.hub_replay.specs.Replay.{event_lines}
 use Rattle.hub_replay.specs.Replayed.{Replayed, ReplayedWhole, GoesOn}
 use Rattle.hub_replay.proofs.Newlines.{lines-few}
 

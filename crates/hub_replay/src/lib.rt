@@ -1,7 +1,9 @@
-//! Replays a journal: from bytes that are read to the events of its steps, which are written.
+//! Replays a journal: from bytes that are read to the events of its steps, which are written, or
+//! compared with given bytes.
 //!
 //! Bytes come and go through devices, which may fail at any call. What a device does to its bytes is said
-//! in `specs/Devices`, what a whole replay does to both ends in `specs/Replay`.
+//! in `specs/Devices`, what a whole replay does to both ends in `specs/Replay`, and what a comparison says
+//! in `specs/Verify`.
 #![tactic(auto)]
 
 mod comparison;

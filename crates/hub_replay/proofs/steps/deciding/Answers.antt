@@ -1,4 +1,4 @@
-use Rattle.std.proofs.Common.{arith, length, take, ◌≤◌, length-take}
+use Rattle.std.proofs.Common.{arith, length-take}
 use Rattle.hub_replay.proofs.LongTexts.{read_text-take}
 use Rattle.hub_replay.proofs.steps.deciding.Goals as goal
 

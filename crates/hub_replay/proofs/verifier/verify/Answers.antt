@@ -1,4 +1,4 @@
-use Rattle.std.proofs.Common.{List, ℕ, [], subst, Bool, ◌++◌, refl, ◌∙◌, arith, sym, ap, ◌≤◌, ◌<◌, ◌≡◌}
+use Rattle.std.proofs.Common.{List, ℕ, [], subst, Bool, ◌++◌, ◌∙◌, sym, ap}
 use Rattle.std.specs.List.{flat_map}
 use Rattle.hub_base.specs.EventText.{event_line}
 use Rattle.hub_replay.specs.Comparing.{Agrees}

@@ -1,7 +1,4 @@
 -- What was read so far was replayed, and the events given agree so far with its text.
-use Rattle.std.proofs.Common.{◌≡◌, List, ℕ}
-use Rattle.hub_replay.specs.Comparing.{Agrees}
-use Rattle.hub_replay.specs.Replayed.{Replayed}
 use Rattle.hub_replay.proofs.Verified.{Verified}
 use Rattle.hub_replay.proofs.verifier.verify.Given as goal
 

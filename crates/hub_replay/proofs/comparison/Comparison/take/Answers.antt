@@ -1,4 +1,4 @@
-use Rattle.std.proofs.Common.{◌≡◌, ℕ, ◌∙◌, ap, arith, length, drop}
+use Rattle.std.proofs.Common.{◌∙◌, ap, arith, length}
 use Rattle.std.proofs.lemmas.List.{take_rest}
 use Rattle.hub_replay.specs.Verify.{common_beginning}
 use Rattle.hub_replay.proofs.Comparing.{agrees-more, agreed-within}

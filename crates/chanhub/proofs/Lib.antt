@@ -1,1 +1,3 @@
-mod Asked
+mod Refused
+mod Written
+mod Carried

@@ -1,17 +1,22 @@
--- The program's exit status where it does not do what it was asked for.
+-- The program's exit status.
 use Rattle.std.specs.Prelude.{ℕ}
-use Rattle.hub_replay.specs.declared.fault.ReplayFault.{ReplayFault}
-use Rattle.hub_replay.specs.declared.fault.ReplayFault.TheVariants as fault
-use Rattle.chanhub.specs.declared.fault_lines.Refusal.{Refusal}
-use Rattle.chanhub.specs.declared.fault_lines.Refusal.TheVariants.{BadArguments, NoMemory, Replay}
+use Rattle.chanhub.specs.declared.refusal.Refusal.{Refusal}
+use Rattle.chanhub.specs.declared.refusal.Refusal.TheVariants.{BadArguments, Read, Write, NoMemory, JournalFull, Journal, Scenario}
+use Rattle.chanhub.specs.declared.outcome.Outcome.{Outcome}
+use Rattle.chanhub.specs.declared.outcome.Outcome.TheVariants.{Done, Differs, Stalled}
 
-abbrev pub status_of_fault : ReplayFault → ℕ
-status_of_fault (fault.Text at) = 2
-status_of_fault fault.Read = 1
-status_of_fault fault.Write = 1
-status_of_fault fault.NoMemory = 1
+-- where it did what it was asked for
+abbrev pub status_of_outcome : Outcome → ℕ
+status_of_outcome Done = 0
+status_of_outcome Differs = 3
+status_of_outcome Stalled = 4
 
+-- where it did not: 1 for a device, memory or a full journal, and 2 for malformed input or arguments
 abbrev pub status_of : Refusal → ℕ
 status_of BadArguments = 2
+status_of Read = 1
+status_of Write = 1
 status_of NoMemory = 1
-status_of (Replay f) = status_of_fault f
+status_of JournalFull = 1
+status_of (Journal fault) = 2
+status_of (Scenario fault) = 2

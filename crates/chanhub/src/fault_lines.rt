@@ -1,60 +1,100 @@
-//! Why the program did not do what it was asked for: the line on standard error, and the exit status.
+//! The line on standard error that says why the program did not do what it was asked for.
 
-ghost use Rattle.std.specs.Prelude.{◌≡◌};
+ghost use Rattle.std.specs.Prelude.{◌≡◌, OnOk, OnErr};
+ghost use Rattle.std.specs.Io.KnownBytes.{Appends};
+ghost use Rattle.hub_replay.specs.Devices.{AppendsBeginning};
+ghost use Rattle.chanhub.specs.FaultLines.{kind_text, fault_line};
 ghost use Rattle.chanhub.specs.Statuses.{status_of};
 
-use hub_replay::{ReplayFault, Sink, write_whole};
-use std::fmt;
-use std::fmt::Write;
-use thiserror::Error;
+use crate::pieces::write_pieces;
+use crate::refusal::Refusal;
+use hub_base::Kind;
+use hub_replay::{Sink, WriteFailed};
+use hub_scenario::ScenarioFault;
+use itoa::Buffer;
 
-/// Why the program did not do what it was asked for.
-#[derive(Clone, Copy, Debug, PartialEq, Eq, Error)]
-pub enum Refusal {
-    /// The words are none that the program knows. Nothing was read or written.
-    #[error("bad arguments")]
-    BadArguments,
-    /// A growth was refused. Nothing was written.
-    #[error("out of memory")]
-    NoMemory,
-    /// The replay ended early.
-    #[error("{0}")]
-    Replay(ReplayFault),
-}
-
-impl Refusal {
-    /// The exit status: 1 for a device or memory, 2 for malformed input or words.
-    pub fn status(self) -> u8
-        ensures { result ≡ status_of self }
-    {
-        match self {
-            Refusal::BadArguments | Refusal::Replay(ReplayFault::Text(_)) => 2,
-            Refusal::NoMemory
-            | Refusal::Replay(ReplayFault::Read | ReplayFault::Write | ReplayFault::NoMemory) => 1,
-        }
+/// What is wrong with a journal's line.
+fn kind_text(kind: Kind) -> &'static str
+    ensures { result.now ≡ kind_text kind }
+{
+    match kind {
+        Kind::BadHeader => "bad header",
+        Kind::BadProcs => "bad procs",
+        Kind::BadStep => "bad step",
+        Kind::BadNumber => "bad number",
+        Kind::CutLine => "cut line",
+        Kind::TooLong => "too long",
     }
 }
 
-/// Text that goes to a sink piece by piece, so that it needs no memory.
-#[derive(Drop)]
-struct Pieces<'a, X> {
-    sink: &'a mut X,
+fn write_scenario_line<X: Sink>(fault: ScenarioFault, errors: &mut X) -> Result<(), WriteFailed>
+    ensures whole { OnOk result (Appends (X.contents errors.old) (X.contents errors.new)
+        (fault_line (Refusal.Scenario fault))) }
+    ensures beginning { OnErr result (AppendsBeginning (X.contents errors.old)
+        (X.contents errors.new) (fault_line (Refusal.Scenario fault))) }
+{
+    let text = match fault {
+        ScenarioFault::TooLong => "too long",
+        ScenarioFault::BadToml => "bad toml",
+        ScenarioFault::BadKey => "bad key",
+        ScenarioFault::BadSeed => "bad seed",
+        ScenarioFault::BadLimit => "bad limit",
+        ScenarioFault::BadPorts => "bad ports",
+        ScenarioFault::BadProcesses => "bad processes",
+        ScenarioFault::NoMemory => "out of memory",
+        ScenarioFault::BadScript { process, step } => {
+            let mut process_digits = Buffer::new();
+            let mut step_digits = Buffer::new();
+            return write_pieces(
+                errors,
+                &[
+                    "chanhub: scenario: bad script: process ",
+                    process_digits.format(process),
+                    " step ",
+                    step_digits.format(step),
+                    "\n",
+                ],
+            );
+        }
+    };
+    write_pieces(errors, &["chanhub: scenario: ", text, "\n"])
 }
 
-impl<'a, X: Sink> Write for Pieces<'a, X> {
-    fn write_str(&mut self, piece: &str) -> fmt::Result {
-        match write_whole(self.sink, piece.as_bytes()) {
-            Ok(()) => Ok(()),
-            Err(_) => Err(fmt::Error),
+fn write_line<X: Sink>(refusal: Refusal, errors: &mut X) -> Result<(), WriteFailed>
+    ensures whole { OnOk result
+        (Appends (X.contents errors.old) (X.contents errors.new) (fault_line refusal)) }
+    ensures beginning { OnErr result
+        (AppendsBeginning (X.contents errors.old) (X.contents errors.new) (fault_line refusal)) }
+{
+    match refusal {
+        Refusal::BadArguments => write_pieces(errors, &["chanhub: bad arguments\n"]),
+        Refusal::Read => write_pieces(errors, &["chanhub: read failed\n"]),
+        Refusal::Write => write_pieces(errors, &["chanhub: write failed\n"]),
+        Refusal::NoMemory => write_pieces(errors, &["chanhub: out of memory\n"]),
+        Refusal::JournalFull => write_pieces(errors, &["chanhub: journal full\n"]),
+        Refusal::Journal(fault) => {
+            let mut digits = Buffer::new();
+            write_pieces(
+                errors,
+                &[
+                    "chanhub: line ",
+                    digits.format(fault.line),
+                    ": ",
+                    kind_text(fault.kind),
+                    "\n",
+                ],
+            )
         }
+        Refusal::Scenario(fault) => write_scenario_line(fault, errors),
     }
 }
 
 /// Tells the refusal as one line, and answers its status, also where the line can't be written.
 pub fn refuse<X: Sink>(refusal: Refusal, errors: &mut X) -> u8
-    ensures { result ≡ status_of refusal }
+    ensures status { result ≡ status_of refusal }
+    ensures told { AppendsBeginning (X.contents errors.old) (X.contents errors.new)
+        (fault_line refusal) }
 {
-    let mut line = Pieces { sink: errors };
-    let _ = writeln!(line, "chanhub: {refusal}");
+    let _ = write_line(refusal, errors);
     refusal.status()
 }

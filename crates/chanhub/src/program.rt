@@ -1,71 +1,104 @@
-//! What the program does with its words.
+//! What the program does with its arguments.
 
-ghost use Rattle.std.specs.Prelude.{◌≡◌, ◌≤◌, ◌↔◌, map, IsTrue, OnOk, IfErr, IsErrOf};
+ghost use Rattle.std.specs.Prelude.{◌≡◌, ◌≤◌, ◌⊎◌, map, IfOk, IfErr, IsErrOf};
 ghost use Rattle.hub_base.specs.declared.text.faults.TextFault.{TextFault};
+ghost use Rattle.hub_replay.specs.Devices.{Failed, AppendsBeginning};
 ghost use Rattle.hub_replay.specs.Replay.{Replays, ReadsFaulty};
-ghost use Rattle.chanhub.specs.Statuses.{status_of};
-ghost use Rattle.chanhub.specs.Words.{AsksForReplay};
+ghost use Rattle.hub_words.specs.Words.{AsksForReplay, HasUnknownOption};
+ghost use Rattle.chanhub.specs.declared.outcome.Outcome.{Outcome};
+ghost use Rattle.chanhub.specs.declared.refusal.Refusal.{Refusal};
+ghost use Rattle.chanhub.specs.FaultLines.{fault_line};
+ghost use Rattle.chanhub.specs.Promises.{HasDone, IsFound};
+ghost use Rattle.chanhub.specs.Statuses.{status_of, status_of_outcome};
 
-use crate::fault_lines::{Refusal, refuse};
-use hub_replay::{Sink, Source, replay};
+use crate::commands::{replay_input, run_from, verify_files};
+use crate::fault_lines::refuse;
+use crate::outcome::Outcome;
+use crate::refusal::Refusal;
+use hub_replay::{Sink, Source};
+use hub_words::{Request, read_words};
 use std::convert::AsStr;
+use std::rt::Files;
+use std::sync::Wait;
+use std::thread::Threads;
 
-fn asks_for_replay<T: AsStr>(words: &[T]) -> bool
-    ensures { IsTrue result ↔ AsksForReplay (map T.text words.now) }
-{
-    match words {
-        [_, word] => word.as_str() == "replay",
-        _ => false,
-    }
-}
-
-/// Does what the words ask for.
-fn carry_out<R: AllocGlobal, T: AsStr, S: Source, W: Sink>(
+/// Does what the arguments ask for.
+fn carry_out<R: Files + AllocGlobal + Threads + Wait + Sync, T: AsStr, S: Source, W: Sink>(
     rt: &R,
     words: &[T],
     input: &mut S,
     output: &mut W,
-) -> Result<(), Refusal>
-    ensures replays { OnOk result (Replays (S.remaining input.old) (S.remaining input.new)
+) -> Result<Outcome, Refusal>
+    ensures done { IfOk result (λ outcome. HasDone (map T.text words.now) outcome
+        (S.remaining input.old) (S.remaining input.new)
         (W.contents output.old) (W.contents output.new)) }
-    ensures unknown { ¬ AsksForReplay (map T.text words.now)
-        → IsErrOf result Refusal.BadArguments × (input.new ≡ input.old) }
-    ensures malformed { IfErr result (λ refusal. status_of refusal ≡ 2 → output.new ≡ output.old) }
-    ensures faulty { IfErr result (λ refusal. status_of refusal ≡ 2
-        → AsksForReplay (map T.text words.now)
-        → (fault : TextFault) × ReadsFaulty (S.remaining input.old) (S.remaining input.new) fault) }
+
+    ensures unwritten { IfErr result (λ refusal.
+        ¬ (refusal ≡ Refusal.Write) → output.new ≡ output.old) }
+    ensures found { IfErr result (λ refusal. IsFound refusal) }
+    ensures write { IsErrOf result Refusal.Write
+        → Failed (W.failures output.old) (W.failures output.new) }
+    ensures unread { IsErrOf result Refusal.BadArguments → input.new ≡ input.old }
+    ensures option { HasUnknownOption (map T.text words.now)
+        → IsErrOf result Refusal.BadArguments }
+    ensures faulty { AsksForReplay (map T.text words.now) → IfErr result (λ refusal.
+        status_of refusal ≡ 2 → (fault : TextFault)
+        × ReadsFaulty (S.remaining input.old) (S.remaining input.new) fault) }
 {
-    if !asks_for_replay(words) {
-        return Err(Refusal::BadArguments);
-    }
-    match replay(rt.alloc(), input, output) {
-        Ok(()) => Ok(()),
-        Err(fault) => Err(Refusal::Replay(fault)),
+    let alloc = rt.alloc();
+    match read_words(alloc, words)? {
+        Request::Replay => replay_input(alloc, input, output),
+        Request::Run { file, journal } => run_from(rt, alloc, file, journal, input, output),
+        Request::Verify { journal, events } => verify_files(rt, alloc, journal, events, output),
     }
 }
 
-/// Does what the words ask for, of which the first is the program's name, and answers the exit status: 0;
-/// 1 for a device or memory; 2 for malformed input or words. A refusal is told to `errors` as one line,
-/// and a failure of `errors` changes no status.
-pub fn run_words<R: AllocGlobal, T: AsStr, S: Source, W: Sink, X: Sink>(
+/// Does what the arguments ask for, of which the first is the program's name, and answers the exit
+/// status: 0; 1 for a device, memory or a full journal; 2 for malformed input or arguments; 3 where
+/// `verify` finds a difference; 4 where a call stalled in `run`. A refusal is told to `errors` as one
+/// line, and a failure of `errors` changes no status.
+pub fn run_words<
+    R: Files + AllocGlobal + Threads + Wait + Sync,
+    T: AsStr,
+    S: Source,
+    W: Sink,
+    X: Sink,
+>(
     rt: &R,
     words: &[T],
     input: &mut S,
     output: &mut W,
     errors: &mut X,
 ) -> u8
-    ensures statuses { result ≤ 2 }
-    ensures replays { result ≡ 0 → Replays (S.remaining input.old) (S.remaining input.new)
+    ensures statuses { result ≤ 4 }
+
+    // 0, 3 and 4: what the command promises is done, and nothing went to `errors`.
+    ensures done { ¬ (result ≡ 1) → ¬ (result ≡ 2) → (outcome : Outcome)
+        × (result ≡ status_of_outcome outcome)
+        × HasDone (map T.text words.now) outcome
+        (S.remaining input.old) (S.remaining input.new)
         (W.contents output.old) (W.contents output.new) }
-    ensures silent { result ≡ 0 → errors.new ≡ errors.old }
-    ensures unknown { ¬ AsksForReplay (map T.text words.now)
-        → (result ≡ 2) × (input.new ≡ input.old) }
+    ensures silent { ¬ (result ≡ 1) → ¬ (result ≡ 2) → errors.new ≡ errors.old }
+
+    // 1 and 2: why not is told to `errors`.
+    ensures refused { (result ≡ 1) ⊎ (result ≡ 2) → (refusal : Refusal)
+        × (result ≡ status_of refusal) × IsFound refusal
+        × AppendsBeginning (X.contents errors.old) (X.contents errors.new) (fault_line refusal) }
+    ensures unwritten { (result ≡ 1) → (output.new ≡ output.old)
+        ⊎ Failed (W.failures output.old) (W.failures output.new) }
     ensures malformed { result ≡ 2 → output.new ≡ output.old }
+    ensures option { HasUnknownOption (map T.text words.now)
+        → (result ≡ 2) × (input.new ≡ input.old) }
+
+    // The same of a replay in full.
+    ensures replays { result ≡ 0 → AsksForReplay (map T.text words.now)
+        → Replays (S.remaining input.old) (S.remaining input.new)
+        (W.contents output.old) (W.contents output.new) }
     ensures faulty { result ≡ 2 → AsksForReplay (map T.text words.now)
         → (fault : TextFault) × ReadsFaulty (S.remaining input.old) (S.remaining input.new) fault }
 {
     match carry_out(rt, words, input, output) {
-        Ok(()) => 0,
+        Ok(outcome) => outcome.status(),
         Err(refusal) => refuse(refusal, errors),
     }
 }

@@ -1,0 +1,39 @@
+-- What a `?` hands over, and what a replay's fault is to the program.
+use Rattle.std.proofs.Common.{◌≡◌, refl, sym, subst, Result, Ok, Err, IfErr, IsErr, IsErrAnd}
+use Rattle.hub_base.specs.declared.text.faults.TextFault.{TextFault}
+use Rattle.hub_replay.specs.declared.fault.ReplayFault.{ReplayFault}
+use Rattle.hub_replay.specs.declared.fault.ReplayFault.TheVariants as fault
+use Rattle.chanhub.specs.declared.refusal.Refusal.{Refusal}
+use Rattle.chanhub.specs.declared.refusal.Refusal.TheVariants.{Write, Journal}
+use Rattle.chanhub.specs.Promises.{IsFound}
+use Rattle.chanhub.specs.Refusals.{of_replay}
+use Rattle.chanhub.specs.Statuses.{status_of}
+
+pub if_err : {A F : Type 0} (r : Result A F) {P : Type 0} → P → IfErr r (λ _. P)
+if_err (Ok x) p = tt
+if_err (Err f) p = p
+
+pub handed : {A E F : Type 0} (r : Result A F) (of : E → F) (e : E) (Q : F → Type 0) → IsErr r × IsErrAnd r (λ given. given ≡ of e) → Q (of e) → IfErr r Q
+handed (Ok x) of e Q given q = tt
+handed (Err f) of e Q given q = subst Q (sym given.1) q
+
+-- all faults but a failed write leave this
+pub but_write : (P : Type 0) (f : ReplayFault) → ((at : TextFault) → f ≡ fault.Text at → P) → (f ≡ fault.Read → P) → (f ≡ fault.NoMemory → P) →
+    ¬ (of_replay f ≡ Write) → P
+but_write P (fault.Text at) text read memory other = text at refl
+but_write P fault.Read text read memory other = read refl
+but_write P fault.Write text read memory other = absurd (other refl)
+but_write P fault.NoMemory text read memory other = memory refl
+
+pub found : (f : ReplayFault) → ((at : TextFault) → f ≡ fault.Text at → IsFound (Journal at)) → IsFound (of_replay f)
+found (fault.Text at) text = text at refl
+found fault.Read text = tt
+found fault.Write text = tt
+found fault.NoMemory text = tt
+
+-- the text alone has status 2
+pub of_text : (P : Type 0) (f : ReplayFault) → ((at : TextFault) → f ≡ fault.Text at → P) → status_of (of_replay f) ≡ 2 → P
+of_text P (fault.Text at) text two = text at refl
+of_text P fault.Read text two = cc
+of_text P fault.Write text two = cc
+of_text P fault.NoMemory text two = cc

@@ -1,0 +1,15 @@
+use Rattle.std.proofs.Common.{rules}
+use Rattle.chanhub.proofs.commands.runs.run_bytes.Goals as goal
+
+pub returns-clause-ok : goal.returns-clause-ok
+returns-clause-ok g c = record {
+  scenario = c.in_ok-scenario.scenario;
+  report = c.in_ok-report.report;
+  said = c.in_ok-scenario.ensures.ok;
+  procs = c.in_ok-report.ensures.procs;
+  legal = c.in_ok-report.ensures.legal;
+  follows = c.in_ok-report.ensures.follows;
+  told = c.in_ok-report.ensures.report;
+  stalls = c.outcome_of.ensures;
+  written = search rules;
+}

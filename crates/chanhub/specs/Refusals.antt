@@ -1,0 +1,43 @@
+-- What a fault of a part of the program is to the program.
+use Rattle.hub_words.specs.declared.request.ArgumentsFault.{ArgumentsFault}
+use Rattle.hub_words.specs.declared.request.ArgumentsFault.TheVariants as arguments
+use Rattle.hub_replay.specs.declared.fault.SourceFault.{SourceFault}
+use Rattle.hub_replay.specs.declared.fault.SourceFault.TheVariants as source
+use Rattle.hub_replay.specs.declared.fault.ReplayFault.{ReplayFault}
+use Rattle.hub_replay.specs.declared.fault.ReplayFault.TheVariants as replay
+use Rattle.hub_scenario.specs.declared.fault.ScenarioFault.{ScenarioFault}
+use Rattle.hub_scenario.specs.declared.fault.ScenarioFault.TheVariants as scenario
+use Rattle.hub_runner.specs.declared.fault.RunFault.{RunFault}
+use Rattle.hub_runner.specs.declared.fault.RunFault.TheVariants as run
+use Rattle.chanhub.specs.declared.refusal.Refusal.{Refusal}
+use Rattle.chanhub.specs.declared.refusal.Refusal.TheVariants.{BadArguments, Read, Write, NoMemory, JournalFull, Journal, Scenario}
+
+abbrev pub of_arguments : ArgumentsFault → Refusal
+of_arguments arguments.BadArguments = BadArguments
+of_arguments arguments.NoMemory = NoMemory
+
+abbrev pub of_source : SourceFault → Refusal
+of_source source.Read = Read
+of_source source.NoMemory = NoMemory
+
+abbrev pub of_replay : ReplayFault → Refusal
+of_replay (replay.Text fault) = Journal fault
+of_replay replay.Read = Read
+of_replay replay.Write = Write
+of_replay replay.NoMemory = NoMemory
+
+-- all faults but want of memory are the scenario's own
+abbrev pub of_scenario : ScenarioFault → Refusal
+of_scenario scenario.NoMemory = NoMemory
+of_scenario scenario.TooLong = Scenario scenario.TooLong
+of_scenario scenario.BadToml = Scenario scenario.BadToml
+of_scenario scenario.BadKey = Scenario scenario.BadKey
+of_scenario scenario.BadSeed = Scenario scenario.BadSeed
+of_scenario scenario.BadLimit = Scenario scenario.BadLimit
+of_scenario scenario.BadPorts = Scenario scenario.BadPorts
+of_scenario scenario.BadProcesses = Scenario scenario.BadProcesses
+of_scenario (scenario.BadScript process step) = Scenario (scenario.BadScript process step)
+
+abbrev pub of_run : RunFault → Refusal
+of_run run.NoMemory = NoMemory
+of_run run.JournalFull = JournalFull

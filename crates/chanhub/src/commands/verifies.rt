@@ -1,0 +1,83 @@
+//! `chanhub verify JOURNAL EVENTS`.
+
+ghost use Rattle.std.specs.Prelude.{◌≡◌, ℕ, List, IfOk, IfErr, OnOk, OnErr, IsErrOf};
+ghost use Rattle.std.specs.Io.KnownBytes.{Appends};
+ghost use Rattle.hub_replay.specs.Devices.{Failed};
+ghost use Rattle.chanhub.specs.Promises.{TellsComparison, IsFound, difference_line};
+
+use crate::files::read_file;
+use crate::outcome::Outcome;
+use crate::pieces::write_pieces;
+use crate::refusal::Refusal;
+use hub_replay::{Compared, Sink, WriteFailed, verify};
+use itoa::Buffer;
+use std::alloc::Global;
+use std::rt::Files;
+
+/// The most bytes of a journal.
+const MOST_JOURNAL_BYTES: usize = 67_108_864;
+
+/// No event text has more bytes.
+const MOST_EVENT_BYTES: usize = 268_435_456;
+
+/// Tells the first line that differs, counted from 1.
+fn tell_difference<W: Sink>(line: u32, output: &mut W) -> Result<(), WriteFailed>
+    ensures whole { OnOk result
+        (Appends (W.contents output.old) (W.contents output.new) (difference_line line)) }
+    ensures err { OnErr result (Failed (W.failures output.old) (W.failures output.new)) }
+{
+    let mut digits = Buffer::new();
+    write_pieces(output, &["differs at line ", digits.format(line), "\n"])
+}
+
+/// Tells whether the events are those of the journal.
+fn tell_comparison<W: Sink>(
+    alloc: Global,
+    journal: &[u8],
+    events: &[u8],
+    output: &mut W,
+) -> Result<Outcome, Refusal>
+    ensures ok { IfOk result (λ outcome. TellsComparison journal.now events.now outcome
+        (W.contents output.old) (W.contents output.new)) }
+
+    ensures unwritten { IfErr result (λ refusal.
+        ¬ (refusal ≡ Refusal.Write) → output.new ≡ output.old) }
+    ensures found { IfErr result (λ refusal. IsFound refusal) }
+    ensures write { IsErrOf result Refusal.Write
+        → Failed (W.failures output.old) (W.failures output.new) }
+    ensures known { ¬ IsErrOf result Refusal.BadArguments }
+{
+    match verify(alloc, journal, events)? {
+        Compared::Same => {
+            write_pieces(output, &["same\n"])?;
+            Ok(Outcome::Done)
+        }
+        Compared::Differs(line) => {
+            tell_difference(line, output)?;
+            Ok(Outcome::Differs)
+        }
+    }
+}
+
+/// Compares the events in one file with those of the journal in another. Both files are read first.
+pub fn verify_files<R: Files, W: Sink>(
+    rt: &R,
+    alloc: Global,
+    journal: &str,
+    events: &str,
+    output: &mut W,
+) -> Result<Outcome, Refusal>
+    ensures ok { IfOk result (λ outcome. (journal : List ℕ) × (events : List ℕ)
+        × TellsComparison journal events outcome (W.contents output.old) (W.contents output.new)) }
+
+    ensures unwritten { IfErr result (λ refusal.
+        ¬ (refusal ≡ Refusal.Write) → output.new ≡ output.old) }
+    ensures found { IfErr result (λ refusal. IsFound refusal) }
+    ensures write { IsErrOf result Refusal.Write
+        → Failed (W.failures output.old) (W.failures output.new) }
+    ensures known { ¬ IsErrOf result Refusal.BadArguments }
+{
+    let journal_bytes = read_file(rt, alloc, journal, MOST_JOURNAL_BYTES)?;
+    let event_bytes = read_file(rt, alloc, events, MOST_EVENT_BYTES)?;
+    tell_comparison(alloc, &journal_bytes, &event_bytes, output)
+}

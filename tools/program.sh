@@ -1,8 +1,9 @@
 #!/bin/sh
 # program.sh [PROGRAM]: runs the built program on the examples, on random journals beside the events that model.py makes
 # of them, on the longest journal and one entry more, and with each of its allocations refused; runs the live hub's
-# tests, which `./test` has built, with theirs refused; compares model.py, the rows of the examples and CLAIMS with what
-# they speak of; and tries a close by an end that receives. The last line counts: 'N passed, M failed'.
+# tests, which `./test` has built, with theirs refused; compares model.py, the rows of the examples, CLAIMS and the
+# quotations of README with what they speak of; and tries a close by an end that receives. The last line counts:
+# 'N passed, M failed'.
 set -u
 root=$(cd "$(dirname "$0")/.." && pwd)
 program=${1:-$root/crates/chanhub/out/chanhub}
@@ -69,6 +70,9 @@ count $? "a close by an end that receives"
 
 "$root/tools/check_claims.py"
 count $? "docs/CLAIMS.md beside the sources"
+
+"$root/tools/check_quotes.py"
+count $? "what README.md quotes"
 
 echo "$passed passed, $failed failed"
 [ "$failed" -eq 0 ]

@@ -11,9 +11,11 @@ pub trait Task<K: HubName, R>: Copy + Send {
     /// What a thread tells in the end.
     type Report: Drop + Send;
 
-    ghost begins: { Self → SeatView → Type 0 };
+    /// What holds of a seat before its thread begins; of every seat, where it is left out.
+    ghost begins: { Self → SeatView → Type 0 } = { λ task seat. Unit {0} };
 
-    ghost ends: { Self → SeatView → Self.Report → Type 0 };
+    /// What holds of a seat and its thread's report in the end; nothing, where it is left out.
+    ghost ends: { Self → SeatView → Self.Report → Type 0 } = { λ task seat report. Unit {0} };
 
     /// The work of one thread. `begins` holds of the seat before it, `ends` of the seat and the
     /// report after it.

@@ -63,6 +63,13 @@ impl Chan {
         Chan { port }
     }
 
+    /// Its port, to look at.
+    pub fn port(&self) -> Port
+        ensures { result ≡ self.now }
+    {
+        self.sender().port()
+    }
+
     /// The end that sends.
     pub fn sender(&self) -> SendPort
         ensures { result ≡ self.now }

@@ -4,7 +4,6 @@
 
 mod answers;
 mod chances;
-mod crew;
 mod random_calls;
 mod soak;
 mod times;

@@ -3,10 +3,10 @@
 ghost use Rattle.std.specs.Prelude.{◌≡◌, ◌++◌, ◌∷◌, [], IsOk, IfOk, OnOk};
 
 use crate::chances::{Chances, PORTS, value_of};
-use crate::crew::Job;
 use crate::trouble::Trouble;
-use hub_base::{Counts, Event, Fault};
-use hub_live::{Chan, HubName, LiveHub, Seat};
+use hub_base::{Counts, Event, Fault, Pid};
+use hub_crew::Task;
+use hub_live::{Chan, Held, HubName, LiveHub};
 use std::alloc::{AllocError, Global};
 use std::io;
 use std::sync::Wait;
@@ -55,12 +55,25 @@ pub struct RandomCalls {
     told: Vec<Event>,
     /// By port number: what its last look at the port showed.
     seen: [Option<Counts>; PORTS as usize + 1],
-    /// How its calls ended.
-    ended: Result<(), Trouble>,
+}
+
+/// Makes the ports, of capacities 0 to 3, and gives the answers in order.
+pub fn make_ports<K: HubName, R: Wait>(
+    rt: &R,
+    alloc: Global,
+    hub: &LiveHub<K>,
+    seat: &mut Held<K>,
+) -> Result<Vec<Event>, Trouble> {
+    let mut made = Vec::new(alloc);
+    for port in 0..PORTS {
+        let answer = seat.make(rt, hub, u32::from(port % 4))?;
+        made.push(answer).map_err(AllocError::from)?;
+    }
+    Ok(made)
 }
 
 impl RandomCalls {
-    pub fn new(alloc: Global, seed: u64, until: Until) -> Result<RandomCalls, AllocError> {
+    fn new(alloc: Global, seed: u64, until: Until) -> Result<RandomCalls, AllocError> {
         // Its calls, the ports that it may make, and its exit.
         let told = Vec::with_capacity(alloc, CALLS as usize + usize::from(PORTS) + 1)?;
         Ok(RandomCalls {
@@ -69,22 +82,7 @@ impl RandomCalls {
             sent: 0,
             told,
             seen: [None; PORTS as usize + 1],
-            ended: Err(Trouble::NotStarted),
         })
-    }
-
-    /// Each answer that the process received, in order.
-    pub fn told(&self) -> &[Event]
-        ensures { result.now ≡ self.now.told.items }
-    {
-        self.told.as_slice()
-    }
-
-    /// `Ok` where its calls were made until the time was up or the journal full.
-    pub fn ended(&self) -> Result<(), Trouble>
-        ensures { result ≡ self.now.ended }
-    {
-        self.ended
     }
 
     /// Keeps an answer. A refusal is no answer, and is given back.
@@ -99,45 +97,27 @@ impl RandomCalls {
         }
     }
 
-    /// Makes the ports, of capacities 0 to 3.
-    pub fn make_ports<K: HubName, R: Wait>(
-        &mut self,
-        rt: &R,
-        hub: &LiveHub<K>,
-        seat: &mut Seat,
-    ) -> Result<(), Trouble>
-        requires { seat.old.hub ≡ K.name }
-        ensures { seat.new.hub ≡ seat.old.hub }
-    {
-        for port in 0..PORTS {
-            self.keep(hub.make(rt, seat, u32::from(port % 4)))?;
-        }
-        Ok(())
-    }
-
     fn call<K: HubName, R: Wait>(
         &mut self,
         rt: &R,
         hub: &LiveHub<K>,
-        seat: &mut Seat,
+        seat: &mut Held<K>,
     ) -> Result<(), Trouble>
-        requires { seat.old.hub ≡ K.name }
-        ensures { seat.new.hub ≡ seat.old.hub }
+        ensures { seat.new.pid ≡ seat.old.pid }
     {
         let value = value_of(seat.pid(), self.sent);
         self.sent = self.sent.wrapping_add(1);
         let cases = self.chances.cases(value);
         let default = self.chances.below(4) == 0;
         let word = self.chances.word();
-        self.keep(hub.call(rt, seat, cases, default, word))
+        self.keep(seat.call(rt, hub, cases, default, word))
     }
 
-    fn look<K: HubName>(&mut self, hub: &LiveHub<K>, seat: &mut Seat) -> Result<(), Trouble>
-        requires { seat.old.hub ≡ K.name }
-        ensures { seat.new.hub ≡ seat.old.hub }
+    fn look<K: HubName>(&mut self, hub: &LiveHub<K>, seat: &mut Held<K>) -> Result<(), Trouble>
+        ensures { seat.new.pid ≡ seat.old.pid }
     {
         let port = self.chances.port();
-        let now = hub.look(seat, port);
+        let now = seat.look(hub, port);
         let place = usize::from(port.0);
         if !may_follow(self.seen[place], now) {
             return Err(Trouble::LookFell {
@@ -153,15 +133,14 @@ impl RandomCalls {
         &mut self,
         rt: &R,
         hub: &LiveHub<K>,
-        seat: &mut Seat,
+        seat: &mut Held<K>,
     ) -> Result<(), Trouble>
-        requires { seat.old.hub ≡ K.name }
-        ensures { seat.new.hub ≡ seat.old.hub }
+        ensures { seat.new.pid ≡ seat.old.pid }
     {
         match self.chances.below(4_096) {
             0 => {
                 let sender = Chan::of(self.chances.port()).sender();
-                self.keep(hub.close(rt, seat, &sender))
+                self.keep(seat.close(rt, hub, &sender))
             }
             1..=255 => {
                 self.look(hub, seat)?;
@@ -175,10 +154,9 @@ impl RandomCalls {
         &mut self,
         rt: &R,
         hub: &LiveHub<K>,
-        seat: &mut Seat,
+        seat: &mut Held<K>,
     ) -> Result<(), Trouble>
-        requires { seat.old.hub ≡ K.name }
-        ensures { seat.new.hub ≡ seat.old.hub }
+        ensures { seat.new.pid ≡ seat.old.pid }
     {
         for _ in 0..CALLS {
             if self.until.is_over(rt)? {
@@ -193,14 +171,13 @@ impl RandomCalls {
         &mut self,
         rt: &R,
         hub: &LiveHub<K>,
-        seat: &mut Seat,
+        seat: &mut Held<K>,
     ) -> Result<(), Trouble>
-        requires { seat.old.hub ≡ K.name }
-        ensures { seat.new.hub ≡ seat.old.hub }
+        ensures { seat.new.pid ≡ seat.old.pid }
     {
         let turns = self.turns(rt, hub, seat);
         // So that those who still wait are told, and the round ends.
-        self.keep(hub.exit(rt, seat))?;
+        self.keep(seat.exit(rt, hub))?;
         match turns {
             // All processes together ask for more calls than the journal has room for.
             Err(Trouble::Refused(Fault::JournalFull)) => Ok(()),
@@ -209,8 +186,37 @@ impl RandomCalls {
     }
 }
 
-impl Job for RandomCalls {
-    fn perform<K: HubName, R: Wait + Clock>(&mut self, rt: &R, hub: &LiveHub<K>, seat: &mut Seat) {
-        self.ended = self.turns_and_exit(rt, hub, seat);
+/// Random calls of each process, with a seed that its number adds to.
+#[derive(Clone, Copy)]
+pub struct RandomTask<'a> {
+    pub alloc: Global,
+    pub seed: u64,
+    pub until: Until,
+    /// What process 0 was answered before.
+    pub made: &'a [Event],
+}
+
+impl<'a> RandomTask<'a> {
+    fn calls_of(&self, pid: Pid) -> Result<RandomCalls, Trouble> {
+        let seed = self.seed.wrapping_add(u64::from(pid.0));
+        let mut calls = RandomCalls::new(self.alloc, seed, self.until)?;
+        if pid.0 == 0 {
+            for answer in self.made {
+                calls.keep(Ok(*answer))?;
+            }
+        }
+        Ok(calls)
+    }
+}
+
+/// Gives each answer that the process received, in order, where its calls were made until the time was
+/// up or the journal full.
+impl<'a, K: HubName, R: Wait + Clock> Task<K, R> for RandomTask<'a> {
+    type Report = Result<Vec<Event>, Trouble>;
+
+    fn perform(self, rt: &R, hub: &LiveHub<K>, seat: &mut Held<K>) -> Result<Vec<Event>, Trouble> {
+        let mut calls = self.calls_of(seat.pid())?;
+        calls.turns_and_exit(rt, hub, seat)?;
+        Ok(calls.told)
     }
 }

@@ -5,12 +5,12 @@ ghost use Rattle.hub_trials.specs.Answers.{answers_to};
 
 use crate::answers::{first_wrong, saw_the_same};
 use crate::chances::{Chances, PORTS};
-use crate::crew::{Held, run_all};
-use crate::random_calls::{RandomCalls, Until};
+use crate::random_calls::{RandomTask, Until, make_ports};
 use crate::trouble::Trouble;
 use hub_base::{Counts, Event, Pid, Port};
 use hub_core::{Hub, run};
-use hub_live::{Blank, HubName, LiveHub, Seat};
+use hub_crew::{Member, run_crew};
+use hub_live::{Blank, Held, HubName, LiveHub, Seat, hold_all};
 use std::alloc::{AllocError, Global};
 use std::marker::Brand;
 use std::sync::Wait;
@@ -29,64 +29,23 @@ pub struct Tally {
     pub seconds: u64,
 }
 
-/// A process, its calls, and what it saw of each port in the end, in order.
+/// A process, each answer that it received, and what it saw of each port in the end, in order.
 #[derive(Drop)]
 struct Called {
     pid: Pid,
-    calls: RandomCalls,
+    told: Vec<Event>,
     looks: Vec<Option<Counts>>,
-}
-
-/// A seat with random calls before it. Process 0 makes the ports.
-fn seated<K: HubName, R: Wait>(
-    rt: &R,
-    alloc: Global,
-    hub: &LiveHub<K>,
-    seat: Seat,
-    seed: u64,
-    until: Until,
-) -> Result<Held<K, RandomCalls>, Trouble>
-    requires { seat.hub ≡ K.name }
-{
-    let mut seat = seat;
-    let pid = seat.pid().0;
-    let mut calls = RandomCalls::new(alloc, seed.wrapping_add(u64::from(pid)), until)?;
-    if pid == 0 {
-        calls.make_ports(rt, hub, &mut seat)?;
-    }
-    Ok(Held::of(seat, calls))
-}
-
-fn crew_of<K: HubName, R: Wait>(
-    rt: &R,
-    alloc: Global,
-    hub: &LiveHub<K>,
-    seats: Vec<Seat>,
-    seed: u64,
-    until: Until,
-) -> Result<Vec<Held<K, RandomCalls>>, Trouble>
-    requires { All (λ s. s.hub ≡ K.name) seats.items }
-{
-    let mut crew = Vec::new(alloc);
-    for seat in seats {
-        let held = seated(rt, alloc, hub, seat, seed, until)?;
-        crew.push(held).map_err(AllocError::from)?;
-    }
-    Ok(crew)
 }
 
 /// What the seat sees of each port, in order.
 fn looks_of<K: HubName>(
     alloc: Global,
     hub: &LiveHub<K>,
-    seat: &mut Seat,
-) -> Result<Vec<Option<Counts>>, AllocError>
-    requires { seat.old.hub ≡ K.name }
-    ensures { seat.new.hub ≡ seat.old.hub }
-{
+    seat: &mut Held<K>,
+) -> Result<Vec<Option<Counts>>, AllocError> {
     let mut looks = Vec::new(alloc);
     for port in 0..PORTS {
-        looks.push(hub.look(seat, Port(port + 1)))?;
+        looks.push(seat.look(hub, Port(port + 1)))?;
     }
     Ok(looks)
 }
@@ -100,23 +59,21 @@ fn shown_by(alloc: Global, hub: &Hub) -> Result<Vec<Option<Counts>>, AllocError>
     Ok(shown)
 }
 
-/// The seats and the calls of some processes, whose threads have ended.
+/// The seats and the answers of some processes, whose threads have ended.
 fn parted<K: HubName>(
     alloc: Global,
     hub: &LiveHub<K>,
-    crew: Vec<Held<K, RandomCalls>>,
-) -> Result<(Vec<Seat>, Vec<Called>), Trouble>
-    ensures { IfOk result (λ r. All (λ s. s.hub ≡ K.name) r.0.items) }
-{
+    done: Vec<Member<K, Result<Vec<Event>, Trouble>>>,
+) -> Result<(Vec<Held<K>>, Vec<Called>), Trouble> {
     let mut seats = Vec::new(alloc);
     let mut all = Vec::new(alloc);
-    for held in crew {
-        let (mut seat, calls) = held.into_parts();
-        calls.ended()?;
+    for member in done {
+        let Member { mut seat, report } = member;
+        let told = report?;
         let pid = seat.pid();
         let looks = looks_of(alloc, hub, &mut seat)?;
         seats.push(seat).map_err(AllocError::from)?;
-        all.push(Called { pid, calls, looks })
+        all.push(Called { pid, told, looks })
             .map_err(AllocError::from)?;
     }
     Ok((seats, all))
@@ -124,11 +81,11 @@ fn parted<K: HubName>(
 
 /// Whether each process was answered as these events say.
 fn compare(alloc: Global, all: &[Called], events: &[Event]) -> Result<(), Trouble>
-    ensures { OnOk result (All (λ c. c.calls.told.items ≡ answers_to c.pid events.now) all.now) }
+    ensures { OnOk result (All (λ c. c.told.items ≡ answers_to c.pid events.now) all.now) }
 {
     for called in all {
         let pid = called.pid;
-        if let Some(place) = first_wrong(alloc, pid, called.calls.told(), events)? {
+        if let Some(place) = first_wrong(alloc, pid, called.told.as_slice(), events)? {
             return Err(Trouble::Differs { pid: pid.0, place });
         }
     }
@@ -150,7 +107,7 @@ fn compare_looks(all: &[Called], shown: &[Option<Counts>]) -> Result<(), Trouble
 fn answers_of(all: &[Called]) -> u64 {
     let mut answers = 0u64;
     for called in all {
-        answers = answers.wrapping_add(called.calls.told().len() as u64);
+        answers = answers.wrapping_add(called.told.len() as u64);
     }
     answers
 }
@@ -168,10 +125,18 @@ fn in_round<K: HubName + Send + Sync, R: Threads + Wait + Clock + Sync>(
     requires seats { All (λ s. s.hub ≡ K.name) seats.items }
 {
     let hub = blank.named::<K>();
-    let crew = crew_of::<K, R>(rt, alloc, &hub, seats, seed, until)?;
-    let (crew, _took) = run_all(rt, alloc, &hub, crew).ok_or(Trouble::NotStarted)?;
-    let (seats, all) = parted(alloc, &hub, crew)?;
-    let journal = hub.finish(seats);
+    let mut seats = hold_all::<K>(alloc, seats)?;
+    let first = seats.first_mut().ok_or(Trouble::NotStarted)?;
+    let made = make_ports(rt, alloc, &hub, first)?;
+    let task = RandomTask {
+        alloc,
+        seed,
+        until,
+        made: made.as_slice(),
+    };
+    let done = run_crew(rt, alloc, &hub, seats, task).map_err(|_| Trouble::NotStarted)?;
+    let (seats, all) = parted(alloc, &hub, done)?;
+    let journal = hub.finish_held(seats);
     let Ok((replayed, events)) = run(alloc, journal.procs(), LIMIT, journal.entries()) else {
         return Err(Trouble::NoReplay);
     };

@@ -2,16 +2,16 @@
 
 ghost use Rattle.std.specs.Prelude.{◌≡◌, ◌≤◌, All};
 
-use crate::crew::{Held, Job, run_all};
 use crate::trouble::Trouble;
 use crate::workload::{Role, Workload};
-use hub_base::{Case, Cases, Event, Fault, Port, Value, What};
-use hub_live::{Blank, Chan, HubName, LiveHub, Seat};
+use hub_base::{Cases, Event, Fault, Port, Value, What};
+use hub_crew::{Task, run_crew};
+use hub_live::{Blank, Chan, Held, HubName, LiveHub, Seat, hold_all};
 use std::alloc::{AllocError, Global};
 use std::marker::Brand;
 use std::sync::Wait;
 use std::thread::Threads;
-use std::time::{Clock, Duration};
+use std::time::{Clock, Duration, Instant};
 
 /// Operations a second, over some runs.
 #[derive(Clone, Copy, Debug, PartialEq, Eq)]
@@ -24,13 +24,28 @@ pub struct Rates {
 #[derive(Clone, Copy, Debug, PartialEq, Eq)]
 struct Unanswered;
 
-/// What one process does, so often.
-#[derive(Drop)]
-struct Work {
-    role: Role,
-    turns: u32,
-    /// Whether each was answered as it is meant to be.
-    all_answered: bool,
+/// From when to when.
+#[derive(Clone, Copy)]
+struct Span {
+    began: Instant,
+    ended: Instant,
+}
+
+impl Span {
+    /// From the earlier beginning to the later end.
+    fn with(self, other: Span) -> Span {
+        Span {
+            began: self.began.min(other.began),
+            ended: self.ended.max(other.ended),
+        }
+    }
+}
+
+/// The turns of each process of a workload.
+#[derive(Clone, Copy)]
+struct Turns {
+    workload: Workload,
+    calls: u32,
 }
 
 fn answered(answer: Result<Event, Fault>) -> Result<(), Unanswered> {
@@ -45,44 +60,28 @@ fn answered(answer: Result<Event, Fault>) -> Result<(), Unanswered> {
     }
 }
 
-fn call_one<K: HubName, R: Wait>(
-    rt: &R,
-    hub: &LiveHub<K>,
-    seat: &mut Seat,
-    case: Case,
-) -> Result<(), Unanswered>
-    requires { seat.old.hub ≡ K.name }
-    ensures { seat.new.hub ≡ seat.old.hub }
-{
-    let mut cases = Cases::new();
-    cases.push(case);
-    answered(hub.call(rt, seat, cases, false, 0))
-}
-
 fn send<K: HubName, R: Wait>(
     rt: &R,
     hub: &LiveHub<K>,
-    seat: &mut Seat,
+    seat: &mut Held<K>,
     port: Port,
     turn: u32,
 ) -> Result<(), Unanswered>
-    requires { seat.old.hub ≡ K.name }
-    ensures { seat.new.hub ≡ seat.old.hub }
+    ensures { seat.new.pid ≡ seat.old.pid }
 {
-    let case = Chan::of(port).sender().send(Value::num(u64::from(turn)));
-    call_one(rt, hub, seat, case)
+    let value = Value::num(u64::from(turn));
+    answered(seat.send(rt, hub, &Chan::of(port).sender(), value))
 }
 
 fn receive<K: HubName, R: Wait>(
     rt: &R,
     hub: &LiveHub<K>,
-    seat: &mut Seat,
+    seat: &mut Held<K>,
     port: Port,
 ) -> Result<(), Unanswered>
-    requires { seat.old.hub ≡ K.name }
-    ensures { seat.new.hub ≡ seat.old.hub }
+    ensures { seat.new.pid ≡ seat.old.pid }
 {
-    call_one(rt, hub, seat, Chan::of(port).receiver().recv())
+    answered(seat.recv(rt, hub, &Chan::of(port).receiver()))
 }
 
 fn four_receives() -> Cases {
@@ -97,12 +96,11 @@ fn four_receives() -> Cases {
 fn take_turn<K: HubName, R: Wait>(
     rt: &R,
     hub: &LiveHub<K>,
-    seat: &mut Seat,
+    seat: &mut Held<K>,
     role: Role,
     turn: u32,
 ) -> Result<(), Unanswered>
-    requires { seat.old.hub ≡ K.name }
-    ensures { seat.new.hub ≡ seat.old.hub }
+    ensures { seat.new.pid ≡ seat.old.pid }
 {
     match role {
         Role::Send(port) => send(rt, hub, seat, port, turn),
@@ -116,21 +114,20 @@ fn take_turn<K: HubName, R: Wait>(
             send(rt, hub, seat, to, turn)
         }
         Role::SelectOverFour => {
-            answered(hub.call(rt, seat, four_receives(), false, u64::from(turn)))
+            answered(seat.call(rt, hub, four_receives(), false, u64::from(turn)))
         }
-        Role::Look(port) => hub.look(seat, port).map(|_| ()).ok_or(Unanswered),
+        Role::Look(port) => seat.look(hub, port).map(|_| ()).ok_or(Unanswered),
     }
 }
 
 fn take_turns<K: HubName, R: Wait>(
     rt: &R,
     hub: &LiveHub<K>,
-    seat: &mut Seat,
+    seat: &mut Held<K>,
     role: Role,
     turns: u32,
 ) -> Result<(), Unanswered>
-    requires { seat.old.hub ≡ K.name }
-    ensures { seat.new.hub ≡ seat.old.hub }
+    ensures { seat.new.pid ≡ seat.old.pid }
 {
     for turn in 0..turns {
         take_turn(rt, hub, seat, role, turn)?;
@@ -138,11 +135,22 @@ fn take_turns<K: HubName, R: Wait>(
     Ok(())
 }
 
-impl Job for Work {
-    fn perform<K: HubName, R: Wait + Clock>(&mut self, rt: &R, hub: &LiveHub<K>, seat: &mut Seat) {
-        self.all_answered = take_turns(rt, hub, seat, self.role, self.turns).is_ok();
+/// Gives when it made its turns.
+impl<K: HubName, R: Wait + Clock> Task<K, R> for Turns {
+    type Report = Result<Span, Trouble>;
+
+    fn perform(self, rt: &R, hub: &LiveHub<K>, seat: &mut Held<K>) -> Result<Span, Trouble> {
+        let role = self.workload.role(seat.pid());
+        let began = Instant::now(rt);
+        let all = take_turns(rt, hub, seat, role, self.workload.turns(role, self.calls));
+        let ended = Instant::now(rt);
         // So that nobody waits for one who stopped early. It is no part of any count.
-        let _ = hub.exit(rt, seat);
+        let _ = seat.exit(rt, hub);
+        all.map_err(|_| Trouble::Unanswered)?;
+        Ok(Span {
+            began: began?,
+            ended: ended?,
+        })
     }
 }
 
@@ -150,61 +158,13 @@ impl Job for Work {
 fn make_ports<K: HubName, R: Wait>(
     rt: &R,
     hub: &LiveHub<K>,
-    seat: &mut Seat,
+    seat: &mut Held<K>,
     capacities: &[u32],
-) -> Result<(), Trouble>
-    requires { seat.old.hub ≡ K.name }
-    ensures { seat.new.hub ≡ seat.old.hub }
-{
+) -> Result<(), Trouble> {
     for capacity in capacities {
-        match hub.make(rt, seat, *capacity)?.what {
-            What::Made(_) => (),
-            _ => return Err(Trouble::Unanswered),
-        }
+        seat.make_chan(rt, hub, *capacity)?;
     }
     Ok(())
-}
-
-/// A seat with its turns before it. Process 0 makes the ports.
-fn seated<K: HubName, R: Wait>(
-    rt: &R,
-    hub: &LiveHub<K>,
-    seat: Seat,
-    workload: Workload,
-    calls: u32,
-) -> Result<Held<K, Work>, Trouble>
-    requires { seat.hub ≡ K.name }
-{
-    let mut seat = seat;
-    let pid = seat.pid();
-    if pid.0 == 0 {
-        make_ports(rt, hub, &mut seat, workload.capacities())?;
-    }
-    let role = workload.role(pid);
-    let work = Work {
-        role,
-        turns: workload.turns(role, calls),
-        all_answered: false,
-    };
-    Ok(Held::of(seat, work))
-}
-
-fn crew_of<K: HubName, R: Wait>(
-    rt: &R,
-    alloc: Global,
-    hub: &LiveHub<K>,
-    seats: Vec<Seat>,
-    workload: Workload,
-    calls: u32,
-) -> Result<Vec<Held<K, Work>>, Trouble>
-    requires { All (λ s. s.hub ≡ K.name) seats.items }
-{
-    let mut crew = Vec::new(alloc);
-    for seat in seats {
-        let held = seated(rt, hub, seat, workload, calls)?;
-        crew.push(held).map_err(AllocError::from)?;
-    }
-    Ok(crew)
 }
 
 fn run_named<K: HubName + Send + Sync, R: Threads + Wait + Clock + Sync>(
@@ -219,13 +179,18 @@ fn run_named<K: HubName + Send + Sync, R: Threads + Wait + Clock + Sync>(
     requires seats { All (λ s. s.hub ≡ K.name) seats.items }
 {
     let hub = blank.named::<K>();
-    let crew = crew_of::<K, R>(rt, alloc, &hub, seats, workload, calls)?;
-    let (crew, took) = run_all(rt, alloc, &hub, crew).ok_or(Trouble::NotStarted)?;
-    if crew.iter().all(|held| held.job.all_answered) {
-        Ok(took)
-    } else {
-        Err(Trouble::Unanswered)
+    let mut seats = hold_all::<K>(alloc, seats)?;
+    let first = seats.first_mut().ok_or(Trouble::NotStarted)?;
+    make_ports(rt, &hub, first, workload.capacities())?;
+    let task = Turns { workload, calls };
+    let done = run_crew(rt, alloc, &hub, seats, task).map_err(|_| Trouble::NotStarted)?;
+    let mut whole: Option<Span> = None;
+    for member in done {
+        let span = member.report?;
+        whole = Some(whole.map_or(span, |before| before.with(span)));
     }
+    let whole = whole.ok_or(Trouble::NotStarted)?;
+    Ok(whole.ended.saturating_duration_since(whole.began))
 }
 
 /// The journal has just room for the calls and the ports.

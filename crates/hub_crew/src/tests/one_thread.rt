@@ -223,7 +223,13 @@ fn select_alone<K: HubName, R: Wait + Abort>(
     let (one, two) = (Chan::of(Port(1)), Chan::of(Port(2)));
     seat.make(rt, &hub, 0)?;
     seat.make(rt, &hub, 1)?;
-    for what in [What::Fired { case: 1, outcome: Outcome::Sent }, What::Default] {
+    for what in [
+        What::Fired {
+            case: 1,
+            outcome: Outcome::Sent,
+        },
+        What::Default,
+    ] {
         let mut cases = Cases::new();
         cases.push(one.receiver().recv());
         cases.push(two.sender().send(Value::num(5)));

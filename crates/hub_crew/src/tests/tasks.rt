@@ -14,10 +14,6 @@ pub struct Pass;
 impl<K: HubName, R: Wait> Task<K, R> for Pass {
     type Report = Result<Event, Fault>;
 
-    ghost begins = { λ task seat. Unit {0} };
-
-    ghost ends = { λ task seat answer. Unit {0} };
-
     fn perform(self, rt: &R, hub: &LiveHub<K>, seat: &mut Held<K>) -> Result<Event, Fault> {
         let chan = Chan::of(Port(1));
         match seat.pid() {
@@ -34,10 +30,6 @@ pub struct Stall;
 impl<K: HubName, R: Wait> Task<K, R> for Stall {
     type Report = Result<Event, Fault>;
 
-    ghost begins = { λ task seat. Unit {0} };
-
-    ghost ends = { λ task seat answer. Unit {0} };
-
     fn perform(self, rt: &R, hub: &LiveHub<K>, seat: &mut Held<K>) -> Result<Event, Fault> {
         seat.recv(rt, hub, &Chan::of(Port(0)).receiver())
     }
@@ -49,10 +41,6 @@ pub struct Close;
 
 impl<K: HubName, R: Wait> Task<K, R> for Close {
     type Report = Result<Event, Fault>;
-
-    ghost begins = { λ task seat. Unit {0} };
-
-    ghost ends = { λ task seat answer. Unit {0} };
 
     fn perform(self, rt: &R, hub: &LiveHub<K>, seat: &mut Held<K>) -> Result<Event, Fault> {
         seat.close(rt, hub, &Chan::of(Port(1)).sender())
@@ -107,10 +95,6 @@ fn look_often<K: HubName>(hub: &LiveHub<K>, seat: &mut Held<K>, times: u32) -> b
 
 impl<K: HubName, R: Wait> Task<K, R> for Watch {
     type Report = Watched;
-
-    ghost begins = { λ task seat. Unit {0} };
-
-    ghost ends = { λ task seat told. Unit {0} };
 
     fn perform(self, rt: &R, hub: &LiveHub<K>, seat: &mut Held<K>) -> Watched {
         match seat.pid() {

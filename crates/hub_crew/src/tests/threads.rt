@@ -208,7 +208,9 @@ fn make_in_threads<K: HubName + Send + Sync, R: Threads + Wait + Abort + Sync>(
     let capacities = [7, 8, 9];
     let hub = blank.named::<K>();
     let held = hold_all::<K>(alloc, seats)?;
-    let task = MakeOwn { capacities: capacities.as_slice() };
+    let task = MakeOwn {
+        capacities: capacities.as_slice(),
+    };
     let done = run_crew(rt, alloc, &hub, held, task)?;
     assert_eq!(rt; done.len(), 3);
     let mut held = Vec::new(alloc);

@@ -1,0 +1,121 @@
+//! A pool of workers: process 0 hands out jobs, the others do them until no more come.
+
+ghost use Rattle.std.specs.Prelude.{◌≡◌, Some, IfOk, All};
+ghost use Rattle.hub_uses.specs.Told.{last_answer, ended_by};
+
+use hub_base::{Fault, Outcome, Pid, Value, What};
+use hub_crew::{Member, Task, run_crew};
+use hub_live::{Chan, Held, HubName, LiveHub, RecvPort, SendPort};
+use std::alloc::{AllocError, Global};
+use std::sync::Wait;
+use std::thread::Threads;
+
+/// What a process of a pool did.
+#[derive(Clone, Copy, Debug, PartialEq, Eq)]
+pub enum Work {
+    /// It handed out all jobs, and closed the channel.
+    HandedOut,
+    /// It did so many jobs, the sum of whose numbers is this, until the channel was drained.
+    Did { jobs: u32, sum: u64 },
+}
+
+/// Why a process of a pool did not.
+#[derive(Clone, Copy, Debug, PartialEq, Eq)]
+pub enum Stopped {
+    /// A step was refused.
+    Refused(Fault),
+    /// It was told this in place of what it waits for.
+    Told(What),
+}
+
+impl From<Fault> for Stopped {
+    fn from(fault: Fault) -> Stopped {
+        Stopped::Refused(fault)
+    }
+}
+
+/// Sends the numbers from 1 to this one, and closes the channel.
+fn hand_out<K: HubName, R: Wait>(
+    rt: &R,
+    hub: &LiveHub<K>,
+    seat: &mut Held<K>,
+    sender: &SendPort,
+    jobs: u32,
+) -> Result<Work, Stopped>
+    ensures same { seat.new.pid ≡ seat.old.pid }
+    ensures closed { IfOk result (λ w. last_answer seat.new ≡ Some (ended_by w)) }
+{
+    for job in 0..jobs {
+        seat.send(rt, hub, sender, Value::num(u64::from(job) + 1))?;
+    }
+    match seat.close(rt, hub, sender)?.what {
+        What::Done => Ok(Work::HandedOut),
+        other => Err(Stopped::Told(other)),
+    }
+}
+
+/// Receives until the channel is closed and drained.
+fn do_jobs<K: HubName, R: Wait>(
+    rt: &R,
+    hub: &LiveHub<K>,
+    seat: &mut Held<K>,
+    receiver: &RecvPort,
+) -> Result<Work, Stopped>
+    ensures same { seat.new.pid ≡ seat.old.pid }
+    ensures drained { IfOk result (λ w. last_answer seat.new ≡ Some (ended_by w)) }
+{
+    let mut jobs = 0u32;
+    let mut sum = 0u64;
+    for _ in rt.forever() {
+        match seat.recv(rt, hub, receiver)?.what {
+            What::Fired {
+                outcome: Outcome::Got(job),
+                ..
+            } => {
+                jobs = jobs.saturating_add(1);
+                sum = sum.saturating_add(job.as_num().unwrap_or(0));
+            }
+            What::Fired {
+                case: 0,
+                outcome: Outcome::Drained,
+            } => return Ok(Work::Did { jobs, sum }),
+            other => return Err(Stopped::Told(other)),
+        }
+    }
+    unreachable!()
+}
+
+#[derive(Clone, Copy)]
+struct Pool {
+    chan: Chan,
+    jobs: u32,
+}
+
+impl<K: HubName, R: Wait> Task<K, R> for Pool {
+    type Report = Result<Work, Stopped>;
+
+    ghost ends = { λ task seat told. IfOk told (λ w. last_answer seat ≡ Some (ended_by w)) };
+
+    fn perform(self, rt: &R, hub: &LiveHub<K>, seat: &mut Held<K>) -> Result<Work, Stopped> {
+        match seat.pid() {
+            Pid(0) => hand_out(rt, hub, seat, &self.chan.sender(), self.jobs),
+            _ => do_jobs(rt, hub, seat, &self.chan.receiver()),
+        }
+    }
+}
+
+/// Process 0 sends this many jobs on the channel and closes it; the others do them. Each who did its
+/// part was told so last: that the close is done, or that the channel is drained.
+pub fn work_off<K: HubName + Send + Sync, R: Threads + Wait + Sync>(
+    rt: &R,
+    alloc: Global,
+    hub: &LiveHub<K>,
+    seats: Vec<Held<K>>,
+    chan: Chan,
+    jobs: u32,
+) -> Result<Vec<Member<K, Result<Work, Stopped>>>, AllocError>
+    ensures told { IfOk result (λ done.
+        All (λ m. IfOk m.report (λ w. last_answer m.seat ≡ Some (ended_by w))) done.items) }
+{
+    run_crew(rt, alloc, hub, seats, Pool { chan, jobs })
+}

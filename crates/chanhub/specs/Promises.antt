@@ -1,6 +1,6 @@
 -- What the program has done where it did what it was asked for, command by command.
 -- Of a named file's bytes nothing is known to a contract: 'these bytes' are those that were read, whatever they are.
-use Rattle.std.specs.Prelude.{◌≡◌, ℕ, ◌<◌, ◌≤◌, ◌↔◌, ◌⊎◌, ◌++◌, Bool, List, length, codes, decimal, Option, Result, Ok, Err, if◌then◌else◌, vec_len}
+use Rattle.std.specs.Prelude.{◌≡◌, ℕ, ◌<◌, ◌≤◌, ◌↔◌, ◌⊎◌, ◌++◌, Bool, List, length, codes, decimal, Option, Result, Ok, Err, if◌then◌else◌}
 use Rattle.std.specs.Io.KnownBytes.{Consumes, Appends, IsAtEnd}
 use Rattle.hub_base.specs.Reading.{text}
 use Rattle.hub_base.specs.Text.{IsFaulty}
@@ -11,8 +11,7 @@ use Rattle.hub_report.specs.declared.report.Report.{Report}
 use Rattle.hub_report.specs.ReportText.{report_text}
 use Rattle.hub_report.specs.Reports.{IsReportOf}
 use Rattle.hub_runner.specs.Scripts.{AllFollow}
-use Rattle.hub_scenario.specs.declared.scenario.Scenario.{Scenario}
-use Rattle.hub_scenario.specs.Scenario.{scenario_view, reading}
+use Rattle.hub_scenario.specs.Scenario.{ScenarioData, reading}
 use Rattle.hub_words.specs.Words.{AsksFor, AsksForReplay}
 use Rattle.chanhub.specs.declared.refusal.Refusal.{Refusal}
 use Rattle.chanhub.specs.declared.refusal.Refusal.TheVariants as refusal
@@ -45,10 +44,10 @@ TellsStalls Differs stalled = ⊥
 
 -- these bytes say a scenario, each process followed its script, and the report or the journal was written
 pub record RunsScenario (bytes : List ℕ) (journal : Bool) (outcome : Outcome) (held holds : Option (List ℕ)) : Type 0 where
-  pub scenario : Scenario
+  pub scenario : ScenarioData
   pub report : Report
-  pub said : reading bytes ≡ Ok (scenario_view scenario)
-  pub procs : report.journal.procs ≡ vec_len scenario.scripts
+  pub said : reading bytes ≡ Ok scenario
+  pub procs : report.journal.procs ≡ length scenario.scripts
   pub legal : IsLegal report.journal.procs report.journal.entries
   pub follows : AllFollow scenario report.journal.entries
   pub told : IsReportOf report.journal report

@@ -13,7 +13,7 @@ import sys
 
 ROOT = sys.argv[1] if len(sys.argv) > 1 else os.path.join(os.path.dirname(os.path.abspath(__file__)), '..')
 TICKED = re.compile(r'`([^`]+)`')
-CITED = re.compile(r'(?:(base|laws|core|live|replay) )?`([A-Z]\w*)`: ((?:`\w+`(?:, )?)+)')
+CITED = re.compile(r'(?:(base|laws|core|live|replay|words) )?`([A-Z]\w*)`: ((?:`\w+`(?:, )?)+)')
 
 
 def read(*parts):
@@ -41,7 +41,7 @@ def public_calls(crate):
     else:
         offered |= set(re.findall(r'^pub (?:fn|struct|enum) (\w+)', source, re.M))
     calls, owner = {}, ''
-    for line in re.split(r'\n(?=[^\s)]|    pub fn )', source):
+    for line in re.split(r'\n(?=[^\s)>]|    pub fn )', source):
         block = re.match(r'impl(?:<[^>]*>)? (\w+)(?:<[^>]*>)? \{', line)
         if block:
             owner = block.group(1)

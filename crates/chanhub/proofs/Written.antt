@@ -22,10 +22,12 @@ module _ (pieces : List (Bor (List ℕ))) (i : ℕ) (d : Bor (List ℕ)) (piece 
   pub piece-begun : (written : List ℕ) (old mid new : Option (List ℕ)) → joined pieces ≡ written ++ joined (drop i pieces) →
       Appends old mid written → AppendsBeginning mid new piece → AppendsBeginning old new (joined pieces)
   piece-begun written old mid new split appended (front, back, is, added) =
-      let left = joined (drop (i + 1) pieces) in
-      (written ++ front, back ++ left,
-       piece-written written split
-       ∙ ap (λ l. (written ++ l) ++ left) is
-       ∙ ap (λ l. l ++ left) (sym (append_assoc written front back))
-       ∙ append_assoc (written ++ front) back left,
-       Appends-trans old mid new written front appended added)
+      let left = joined (drop (i + 1) pieces) in (
+        written ++ front,
+        back ++ left,
+        piece-written written split
+            ∙ ap (λ l. (written ++ l) ++ left) is
+            ∙ ap (λ l. l ++ left) (sym (append_assoc written front back))
+            ∙ append_assoc (written ++ front) back left,
+        Appends-trans old mid new written front appended added,
+      )

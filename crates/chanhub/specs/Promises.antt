@@ -59,6 +59,10 @@ pub record ReadsScenario (unread left : Option (List ℕ)) (bytes : List ℕ) : 
   pub consumed : Consumes unread left bytes
   pub end : length bytes ≤ 1048576 → IsAtEnd left
 
+-- they are of standard input; or that was left alone, and they are a named file's
+abbrev pub TakesScenario : (unread left : Option (List ℕ)) → List ℕ → Type 0
+TakesScenario unread left bytes = ReadsScenario unread left bytes ⊎ (left ≡ unread)
+
 -- ---- the program
 pub record HasReplayed (words : List (List ℕ)) (outcome : Outcome) (unread left held holds : Option (List ℕ)) : Type 0 where
   pub asked : AsksForReplay words
@@ -71,9 +75,10 @@ pub record HasVerified (words : List (List ℕ)) (outcome : Outcome) (held holds
   pub events : List ℕ
   pub tells : TellsComparison journal events outcome held holds
 
-pub record HasRun (words : List (List ℕ)) (outcome : Outcome) (held holds : Option (List ℕ)) : Type 0 where
+pub record HasRun (words : List (List ℕ)) (outcome : Outcome) (unread left held holds : Option (List ℕ)) : Type 0 where
   pub asked : AsksFor (codes "run") words
   pub bytes : List ℕ
+  pub taken : TakesScenario unread left bytes
   pub journal : Bool
   pub runs : RunsScenario bytes journal outcome held holds
 
@@ -81,7 +86,7 @@ pub record HasRun (words : List (List ℕ)) (outcome : Outcome) (held holds : Op
 abbrev pub HasDone : List (List ℕ) → Outcome → (unread left held holds : Option (List ℕ)) → Type 0
 HasDone words outcome unread left held holds =
     HasReplayed words outcome unread left held holds
-    ⊎ (HasVerified words outcome held holds ⊎ HasRun words outcome held holds)
+    ⊎ (HasVerified words outcome held holds ⊎ HasRun words outcome unread left held holds)
 
 -- some bytes that were read are malformed, where that is the refusal
 abbrev pub IsFound : Refusal → Type 0

@@ -5,6 +5,6 @@ mod replays;
 mod runs;
 mod verifies;
 
-pub use replays::replay_input;
-pub use runs::run_from;
-pub use verifies::verify_files;
+pub(crate) use replays::replay_input;
+pub(crate) use runs::run_from;
+pub(crate) use verifies::verify_files;

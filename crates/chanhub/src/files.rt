@@ -9,7 +9,7 @@ use std::rt::Files;
 
 /// Reads a file to its end, or until `limit + 1` bytes have come. A file that can't be opened is one
 /// that can't be read.
-pub fn read_file<R: Files>(
+pub(crate) fn read_file<R: Files>(
     rt: &R,
     alloc: Global,
     path: &str,

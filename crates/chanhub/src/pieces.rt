@@ -8,7 +8,7 @@ ghost use Rattle.chanhub.specs.FaultLines.{joined};
 use hub_replay::{Sink, WriteFailed, write_whole};
 
 /// Writes the pieces, one behind the other, and stops at the first write that fails.
-pub fn write_pieces<W: Sink>(sink: &mut W, pieces: &[&str]) -> Result<(), WriteFailed>
+pub(crate) fn write_pieces<W: Sink>(sink: &mut W, pieces: &[&str]) -> Result<(), WriteFailed>
     ensures whole { OnOk result
         (Appends (W.contents sink.old) (W.contents sink.new) (joined pieces.now)) }
     ensures beginning { OnErr result

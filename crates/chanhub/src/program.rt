@@ -63,13 +63,7 @@ pub fn run_words<
     S: Source,
     W: Sink,
     X: Sink,
->(
-    rt: &R,
-    words: &[T],
-    input: &mut S,
-    output: &mut W,
-    errors: &mut X,
-) -> u8
+>(rt: &R, words: &[T], input: &mut S, output: &mut W, errors: &mut X) -> u8
     ensures statuses { result ≤ 4 }
 
     // 0, 3 and 4: what the command promises is done, and nothing went to `errors`.

@@ -13,7 +13,7 @@ use hub_replay::{Sink, Source, replay};
 use std::alloc::Global;
 
 /// Replays the journal on standard input.
-pub fn replay_input<S: Source, W: Sink>(
+pub(crate) fn replay_input<S: Source, W: Sink>(
     alloc: Global,
     input: &mut S,
     output: &mut W,

@@ -2,7 +2,7 @@
 
 ghost use Rattle.std.specs.Prelude.{◌≡◌, ◌≤◌, ℕ, List, IfOk, IfErr, IsErrOf, IsSome, IsNone};
 ghost use Rattle.hub_replay.specs.Devices.{Failed};
-ghost use Rattle.chanhub.specs.Promises.{RunsScenario, ReadsScenario, IsFound, TellsStalls, printed};
+ghost use Rattle.chanhub.specs.Promises.{RunsScenario, ReadsScenario, TakesScenario, IsFound, TellsStalls, printed};
 
 use crate::files::read_file;
 use crate::outcome::Outcome;
@@ -27,6 +27,8 @@ fn scenario_bytes<R: Files, S: Source>(
     file: Option<&str>,
     input: &mut S,
 ) -> Result<Vec<u8>, SourceFault>
+    ensures taken { IfOk result (λ bytes.
+        TakesScenario (S.remaining input.old) (S.remaining input.new) bytes.items) }
     ensures input { IsNone file.entry → IfOk result (λ bytes.
         ReadsScenario (S.remaining input.old) (S.remaining input.new) bytes.items) }
     ensures read { IsNone file.entry → IsErrOf result SourceFault.Read
@@ -91,7 +93,7 @@ fn run_bytes<R: Threads + Wait + Sync, W: Sink>(
 }
 
 /// Runs the scenario in this file, or on standard input, and prints its journal or its report.
-pub fn run_from<R: Files + Threads + Wait + Sync, S: Source, W: Sink>(
+pub(crate) fn run_from<R: Files + Threads + Wait + Sync, S: Source, W: Sink>(
     rt: &R,
     alloc: Global,
     file: Option<&str>,
@@ -99,8 +101,9 @@ pub fn run_from<R: Files + Threads + Wait + Sync, S: Source, W: Sink>(
     input: &mut S,
     output: &mut W,
 ) -> Result<Outcome, Refusal>
-    ensures ok { IfOk result (λ outcome. (bytes : List ℕ) × RunsScenario bytes journal outcome
-        (W.contents output.old) (W.contents output.new)) }
+    ensures ok { IfOk result (λ outcome. (bytes : List ℕ)
+        × TakesScenario (S.remaining input.old) (S.remaining input.new) bytes
+        × RunsScenario bytes journal outcome (W.contents output.old) (W.contents output.new)) }
 
     ensures unwritten { IfErr result (λ refusal.
         ¬ (refusal ≡ Refusal.Write) → output.new ≡ output.old) }

@@ -60,7 +60,7 @@ fn tell_comparison<W: Sink>(
 }
 
 /// Compares the events in one file with those of the journal in another. Both files are read first.
-pub fn verify_files<R: Files, W: Sink>(
+pub(crate) fn verify_files<R: Files, W: Sink>(
     rt: &R,
     alloc: Global,
     journal: &str,

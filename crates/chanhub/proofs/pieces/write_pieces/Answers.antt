@@ -12,8 +12,9 @@ returns-in_err-write_whole-clause-beginning g c =
 
 pub loop-piece-preserved : goal.loop-piece-preserved
 loop-piece-preserved g c =
-    let (written, split, appended, same) = c.loop-piece.invariant in
-    (written ++ c.as_bytes.result.now,
-     piece-written c.args.pieces.now c.loop-piece.piece-index _ _ c.as_bytes.ensures.value (search rules) written split,
-     Appends-trans _ _ _ _ _ appended c.in_ok-write_whole.ensures.whole,
-     search rules)
+    let (written, split, appended, same) = c.loop-piece.invariant in (
+      written ++ c.as_bytes.result.now,
+      piece-written c.args.pieces.now c.loop-piece.piece-index _ _ c.as_bytes.ensures.value (search rules) written split,
+      Appends-trans _ _ _ _ _ appended c.in_ok-write_whole.ensures.whole,
+      search rules,
+    )

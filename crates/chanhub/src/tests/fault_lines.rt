@@ -1,0 +1,80 @@
+//! Fault lines and their statuses.
+
+use crate::fault_lines::refuse;
+use crate::refusal::Refusal;
+use crate::tests::fakes::Broken;
+use hub_base::{Kind, TextFault};
+use hub_replay::Counted;
+use hub_scenario::ScenarioFault;
+
+#[test]
+fn refusals_have_lines_and_statuses(rt: HostRuntime) {
+    let at = |line, kind| Refusal::Journal(TextFault { line, kind });
+    for (refusal, line, status) in [
+        (Refusal::BadArguments, "chanhub: bad arguments\n", 2),
+        (Refusal::Read, "chanhub: read failed\n", 1),
+        (Refusal::Write, "chanhub: write failed\n", 1),
+        (Refusal::NoMemory, "chanhub: out of memory\n", 1),
+        (Refusal::JournalFull, "chanhub: journal full\n", 1),
+        (at(1, Kind::BadHeader), "chanhub: line 1: bad header\n", 2),
+        (at(2, Kind::BadProcs), "chanhub: line 2: bad procs\n", 2),
+        (at(3, Kind::BadStep), "chanhub: line 3: bad step\n", 2),
+        (at(40, Kind::BadNumber), "chanhub: line 40: bad number\n", 2),
+        (at(500, Kind::CutLine), "chanhub: line 500: cut line\n", 2),
+        (
+            at(4294967295, Kind::TooLong),
+            "chanhub: line 4294967295: too long\n",
+            2,
+        ),
+    ] {
+        let mut errors = Counted::new(Vec::new(rt.alloc()));
+        assert_eq!(rt; refuse(refusal, &mut errors), status, "{line}");
+        assert_eq!(rt; errors.into_inner().as_slice(), line.as_bytes());
+    }
+}
+
+#[test]
+fn malformed_scenarios_have_lines(rt: HostRuntime) {
+    for (fault, line) in [
+        (ScenarioFault::TooLong, "chanhub: scenario: too long\n"),
+        (ScenarioFault::BadToml, "chanhub: scenario: bad toml\n"),
+        (ScenarioFault::BadKey, "chanhub: scenario: bad key\n"),
+        (ScenarioFault::BadSeed, "chanhub: scenario: bad seed\n"),
+        (ScenarioFault::BadLimit, "chanhub: scenario: bad limit\n"),
+        (ScenarioFault::BadPorts, "chanhub: scenario: bad ports\n"),
+        (
+            ScenarioFault::BadProcesses,
+            "chanhub: scenario: bad processes\n",
+        ),
+        (
+            ScenarioFault::BadScript {
+                process: 63,
+                step: 10000,
+            },
+            "chanhub: scenario: bad script: process 63 step 10000\n",
+        ),
+    ] {
+        let mut errors = Counted::new(Vec::new(rt.alloc()));
+        assert_eq!(rt; refuse(Refusal::from(fault), &mut errors), 2, "{line}");
+        assert_eq!(rt; errors.into_inner().as_slice(), line.as_bytes());
+    }
+    assert_eq!(rt; Refusal::from(ScenarioFault::NoMemory), Refusal::NoMemory);
+}
+
+#[test]
+fn a_failure_of_standard_error_changes_no_status(rt: HostRuntime) {
+    let mut room = [0; 27];
+    let refusal = Refusal::Journal(TextFault {
+        line: 1,
+        kind: Kind::BadHeader,
+    });
+    for len in 0..27usize {
+        let mut errors = Counted::new(&mut room[..len]);
+        assert_eq!(rt; refuse(refusal, &mut errors), 2, "{len}");
+        assert!(rt;
+            b"chanhub: line 1: bad header\n".starts_with(&room[..len]),
+            "{len}"
+        );
+    }
+    assert_eq!(rt; refuse(Refusal::NoMemory, &mut Counted::new(Broken)), 1);
+}

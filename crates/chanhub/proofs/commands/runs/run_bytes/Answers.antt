@@ -1,9 +1,10 @@
 use Rattle.std.proofs.Common.{rules}
+use Rattle.hub_scenario.specs.Scenario.{scenario_view}
 use Rattle.chanhub.proofs.commands.runs.run_bytes.Goals as goal
 
 pub returns-clause-ok : goal.returns-clause-ok
 returns-clause-ok g c = record {
-  scenario = c.in_ok-scenario.scenario;
+  scenario = scenario_view c.in_ok-scenario.scenario;
   report = c.in_ok-report.report;
   said = c.in_ok-scenario.ensures.ok;
   procs = c.in_ok-report.ensures.procs;

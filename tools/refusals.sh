@@ -1,8 +1,10 @@
 #!/bin/sh
-# refusals.sh [PROGRAM [JOURNAL ..]]: runs `PROGRAM replay` on each journal with its first allocation refused, then
-# with its second, and so on until a run meets no refusal. Each run must print the journal's events, with status 0, or
-# nothing but `chanhub: out of memory` on standard error, with status 1. PROGRAM is the built one where it is not said,
-# and the journals are the examples; the events of JOURNAL stand in JOURNAL.stdout. It needs a C compiler (CC, or cc).
+# refusals.sh [PROGRAM [JOURNAL ..]]: runs the program with its first allocation refused, then with its second, and so
+# on until a run meets no refusal: `replay` of each journal, whose events stand in JOURNAL.stdout; and, where no journal
+# is named, `replay` of all examples, `verify` of one of them, and `run` of two scenarios, these also with the start of
+# each of their threads refused in turn. Each run must print all that it prints else, with status 0, or nothing but
+# `chanhub: out of memory` on standard error, with status 1, and must end within a minute. PROGRAM is the built one
+# where it is not said. It needs a C compiler (CC, or cc).
 set -eu
 root=$(cd "$(dirname "$0")/.." && pwd)
 program=${1:-$root/crates/chanhub/out/chanhub}
@@ -10,11 +12,6 @@ program=${1:-$root/crates/chanhub/out/chanhub}
 if [ ! -x "$program" ]; then
     echo "refusals.sh: $program is not built" >&2
     exit 2
-fi
-if [ $# -eq 0 ]; then
-    for args in "$root"/examples/journals/*.args; do
-        set -- "$@" "${args%.args}"
-    done
 fi
 
 work=$(mktemp -d)
@@ -25,40 +22,67 @@ trap 'exit 130' INT TERM
 printf 'chanhub: out of memory\n' > "$work/fault"
 
 fail() {
-    echo "refusals.sh: $1, with allocation $number refused: $2" >&2
+    echo "refusals.sh: $1, with $2 refused: $3" >&2
     exit 1
 }
 
+# each_refused WHICH NAME INPUT WANTED ARGUMENT ..: runs the program with these arguments and this input, with the first
+# of what WHICH counts refused, then with the second, and so on; and adds to the total. WANTED is the whole output.
 total=0
-for journal in "$@"; do
-    name=${journal##*/}
+each_refused() {
+    which=$1
+    name=$2
+    input=$3
+    wanted=$4
+    shift 4
     number=0
     while :; do
         number=$((number + 1))
         rm -f "$work/refused"
         status=0
-        timeout 60 env LD_PRELOAD="$work/refuse.so" REFUSE=$number REFUSED="$work/refused" \
-            "$program" replay < "$journal" > "$work/events" 2> "$work/errors" || status=$?
+        timeout 60 env LD_PRELOAD="$work/refuse.so" "$which=$number" REFUSED="$work/refused" \
+            "$program" "$@" < "$input" > "$work/output" 2> "$work/errors" || status=$?
         case $status in
             0)
-                cmp -s "$work/events" "$journal.stdout" || fail "$name" "other events, with status 0"
-                [ ! -s "$work/errors" ] || fail "$name" "status 0, and something on standard error"
+                cmp -s "$work/output" "$wanted" || fail "$name" "$which $number" "another output, with status 0"
+                [ ! -s "$work/errors" ] || fail "$name" "$which $number" "status 0, and something on standard error"
                 ;;
             1)
-                cmp -s "$work/errors" "$work/fault" || fail "$name" "status 1 without its line"
-                [ ! -s "$work/events" ] || fail "$name" "status 1, and something on standard output"
+                cmp -s "$work/errors" "$work/fault" || fail "$name" "$which $number" "status 1 without its line"
+                [ ! -s "$work/output" ] || fail "$name" "$which $number" "status 1, and something on standard output"
                 ;;
-            *) fail "$name" "status $status" ;;
+            *) fail "$name" "$which $number" "status $status" ;;
         esac
         if [ ! -e "$work/refused" ]; then
-            [ "$status" -eq 0 ] || fail "$name" "out of memory, but nothing was refused"
+            [ "$status" -eq 0 ] || fail "$name" "$which $number" "out of memory, but nothing was refused"
             break
         fi
     done
+    [ "$number" -gt 1 ] || fail "$name" "$which" "nothing was refused, so nothing is shown"
     total=$((total + number - 1))
-done
-if [ "$total" -eq 0 ]; then
-    echo "refusals.sh: no allocation was refused, so nothing was shown" >&2
-    exit 1
+}
+
+replay_refused() {
+    each_refused REFUSE "replay ${1##*/}" "$1" "$1.stdout" replay
+}
+
+if [ $# -gt 0 ]; then
+    for journal in "$@"; do
+        replay_refused "$journal"
+    done
+else
+    for args in "$root"/examples/journals/*.args; do
+        replay_refused "${args%.args}"
+    done
+    journal=$root/examples/journals/waiting_on_several_ports
+    echo same > "$work/same"
+    each_refused REFUSE "verify" /dev/null "$work/same" verify "$journal" "$journal.stdout"
+    # Each prints the same under every schedule.
+    for scenario in hand_over two_senders; do
+        scenario=$root/examples/scenarios/$scenario
+        for which in REFUSE REFUSE_START; do
+            each_refused $which "run ${scenario##*/}" /dev/null "$scenario.stdout" run "$scenario"
+        done
+    done
 fi
-echo "refusals.sh: $total allocations refused over $# journal(s), each answered as it must be"
+echo "refusals.sh: $total refusals, each answered as it must be"

@@ -1,14 +1,19 @@
 /*
  * Stands before the C library's allocator, which it calls by the names that glibc gives it beside the usual ones, and
- * refuses allocations. The environment says which, counted from the constructor below on, so that the loader's work is
- * left alone, or, with REFUSE_AFTER, from the first allocation of just so many bytes on:
+ * before its start of a thread, and refuses allocations or starts. The environment says which, counted from the
+ * constructor below on, so that the loader's work is left alone, or, with REFUSE_AFTER, allocations from the first one
+ * of just so many bytes on:
  *
- *   REFUSE        the number of the one to be refused, or `all`; none where it is not set
+ *   REFUSE        the number of the allocation to be refused, or `all`; none where it is not set
  *   REFUSE_AFTER  how many bytes the allocation asks for after which the counting begins
- *   REFUSED       a file that is made where an allocation was refused
+ *   REFUSE_START  the number of the start of a thread to be refused; none where it is not set
+ *   REFUSED       a file that is made where something was refused
  */
+#define _GNU_SOURCE
+#include <dlfcn.h>
 #include <errno.h>
 #include <fcntl.h>
+#include <pthread.h>
 #include <stddef.h>
 #include <stdint.h>
 #include <stdlib.h>
@@ -20,20 +25,33 @@ extern void *__libc_calloc(size_t, size_t);
 extern void *__libc_realloc(void *, size_t);
 extern void *__libc_memalign(size_t, size_t);
 
-static unsigned long counted, number;
+typedef int start_thread(pthread_t *, const pthread_attr_t *, void *(*)(void *), void *);
+
+static unsigned long counted, number, started, start_number;
 static size_t mark;
 static int counts, all;
 static const char *trace;
+static start_thread *real_start;
 
 __attribute__((constructor)) static void begin(void) {
     const char *which = getenv("REFUSE");
     const char *after = getenv("REFUSE_AFTER");
+    const char *start = getenv("REFUSE_START");
+    real_start = (start_thread *)dlsym(RTLD_NEXT, "pthread_create");
+    start_number = start != NULL ? strtoul(start, NULL, 10) : 0;
     trace = getenv("REFUSED");
     all = which != NULL && strcmp(which, "all") == 0;
     number = which != NULL && !all ? strtoul(which, NULL, 10) : 0;
     mark = after != NULL ? strtoul(after, NULL, 10) : 0;
     counted = 0;
     counts = (all || number > 0) && mark == 0;
+}
+
+static void leave_trace(void) {
+    int file = open(trace, O_WRONLY | O_CREAT, 0600);
+    if (file < 0)
+        _exit(99);
+    close(file);
 }
 
 static int refuses(size_t size) {
@@ -44,10 +62,7 @@ static int refuses(size_t size) {
     }
     if (!all && __atomic_add_fetch(&counted, 1, __ATOMIC_SEQ_CST) != number)
         return 0;
-    int file = open(trace, O_WRONLY | O_CREAT, 0600);
-    if (file < 0)
-        _exit(99);
-    close(file);
+    leave_trace();
     errno = ENOMEM;
     return 1;
 }
@@ -89,4 +104,12 @@ int posix_memalign(void **out, size_t alignment, size_t size) {
         return ENOMEM;
     *out = made;
     return 0;
+}
+
+int pthread_create(pthread_t *thread, const pthread_attr_t *attributes, void *(*run)(void *), void *argument) {
+    if (start_number > 0 && __atomic_add_fetch(&started, 1, __ATOMIC_SEQ_CST) == start_number) {
+        leave_trace();
+        return EAGAIN;
+    }
+    return real_start(thread, attributes, run, argument);
 }

@@ -1,5 +1,5 @@
 -- What was done for a request is what the program has done.
-use Rattle.std.proofs.Common.{◌≡◌, refl, ℕ, List, Bool, Option, Result, Ok, Err, IfOk, inl, inr, codes}
+use Rattle.std.proofs.Common.{refl, ℕ, List, Bool, Option, Result, Ok, Err, IfOk, inl, inr, codes}
 use Rattle.hub_words.specs.Words.{AsksFor}
 use Rattle.chanhub.specs.declared.outcome.Outcome.{Outcome}
 use Rattle.chanhub.specs.Promises.{HasDone, TellsComparison, TakesScenario, RunsScenario}

@@ -3,7 +3,6 @@ use Rattle.std.proofs.Common.{◌≡◌, refl, sym, subst, Result, Ok, Err, IfEr
 use Rattle.hub_base.specs.declared.text.faults.TextFault.{TextFault}
 use Rattle.hub_replay.specs.declared.fault.ReplayFault.{ReplayFault}
 use Rattle.hub_replay.specs.declared.fault.ReplayFault.TheVariants as fault
-use Rattle.chanhub.specs.declared.refusal.Refusal.{Refusal}
 use Rattle.chanhub.specs.declared.refusal.Refusal.TheVariants.{Write, Journal}
 use Rattle.chanhub.specs.Promises.{IsFound}
 use Rattle.chanhub.specs.Refusals.{of_replay}

@@ -1,6 +1,6 @@
 -- What the program has done where it did what it was asked for, command by command.
 -- Of a named file's bytes nothing is known to a contract: 'these bytes' are those that were read, whatever they are.
-use Rattle.std.specs.Prelude.{◌≡◌, ℕ, ◌<◌, ◌≤◌, ◌↔◌, ◌⊎◌, ◌++◌, Bool, List, length, codes, decimal, Option, Result, Ok, Err, if◌then◌else◌}
+use Rattle.std.specs.Prelude.{◌≡◌, ℕ, ◌<◌, ◌≤◌, ◌⊎◌, ◌++◌, Bool, List, length, codes, decimal, Option, Ok, Err, if◌then◌else◌}
 use Rattle.std.specs.Io.KnownBytes.{Consumes, Appends, IsAtEnd}
 use Rattle.hub_base.specs.Reading.{text}
 use Rattle.hub_base.specs.Text.{IsFaulty}

@@ -1,4 +1,4 @@
-use Rattle.std.proofs.Common.{rules, ◌++◌, Err, IfErr}
+use Rattle.std.proofs.Common.{rules, ◌++◌}
 use Rattle.std.proofs.KnownBytes.{Appends-trans}
 use Rattle.chanhub.proofs.Refused.{if_err}
 use Rattle.chanhub.proofs.Written.{piece-written, piece-begun}

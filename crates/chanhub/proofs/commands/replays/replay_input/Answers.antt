@@ -1,4 +1,4 @@
-use Rattle.std.proofs.Common.{◌≡◌, ap, Err}
+use Rattle.std.proofs.Common.{ap, Err}
 use Rattle.chanhub.specs.Promises.{IsFound}
 use Rattle.chanhub.specs.Refusals.{of_replay}
 use Rattle.chanhub.proofs.Refused.{handed, but_write, found, of_text}

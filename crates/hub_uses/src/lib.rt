@@ -2,14 +2,14 @@
 //! of workers, a select that does not wait, and a meeting.
 #![tactic(auto)]
 
-mod hand_over;
+mod handing_over;
 mod meeting;
 mod polling;
 mod pool;
 #[cfg(test)]
 mod tests;
 
-pub use hand_over::hand_over;
+pub use handing_over::hand_over;
 pub use meeting::share;
 pub use polling::{poll, waiting};
 pub use pool::{Stopped, Work, work_off};

@@ -21,7 +21,8 @@ pub fn poll<K: HubName, R: Wait>(
     rt: &R,
     hub: &LiveHub<K>,
     seat: &mut Held<K>,
-    chans: [Chan; 2],
+    one: Chan,
+    other: Chan,
     word: u64,
 ) -> Result<Option<Value>, Fault>
     ensures later { Later seat.old seat.new }
@@ -29,9 +30,8 @@ pub fn poll<K: HubName, R: Wait>(
         (i : ℕ) × (last_answer seat.new ≡ Some (what.Fired i (Got v))))) }
 {
     let mut cases = Cases::new();
-    for chan in chans {
-        cases.push(chan.receiver().recv());
-    }
+    cases.push(one.receiver().recv());
+    cases.push(other.receiver().recv());
     match seat.call(rt, hub, cases, true, word)?.what {
         What::Fired {
             outcome: Outcome::Got(value),

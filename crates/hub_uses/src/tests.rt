@@ -103,12 +103,12 @@ fn poll_twice<K: HubName, R: Wait + Abort>(
     let mut seat = seats.pop().ok_or("one seat")?;
     let one = seat.make_chan(rt, &hub, 1)?;
     let two = seat.make_chan(rt, &hub, 1)?;
-    assert_eq!(rt; poll(rt, &hub, &mut seat, [one, two], 0)?, None);
+    assert_eq!(rt; poll(rt, &hub, &mut seat, one, two, 0)?, None);
     seat.send(rt, &hub, &two.sender(), Value::num(5))?;
     assert_eq!(rt; waiting(&hub, &mut seat, one), 0);
     assert_eq!(rt; waiting(&hub, &mut seat, two), 1);
     assert_eq!(rt;
-        poll(rt, &hub, &mut seat, [one, two], 0)?,
+        poll(rt, &hub, &mut seat, one, two, 0)?,
         Some(Value::num(5))
     );
     assert_eq!(rt; waiting(&hub, &mut seat, two), 0);

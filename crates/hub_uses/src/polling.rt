@@ -13,8 +13,8 @@ use hub_base::{Cases, Fault, Outcome, Value, What};
 use hub_live::{Chan, Held, HubName, LiveHub};
 use std::sync::Wait;
 
-/// Receives a value from a channel that has one; of both the choice word picks. `None` where neither
-/// has one, or both are closed and drained.
+/// Receives a value from one of two channels, if it can at once; where both can, the choice word picks.
+/// `None` where neither can, where the one picked is closed and drained, and where one is not made.
 ///
 /// Refused as a call is.
 pub fn poll<K: HubName, R: Wait>(

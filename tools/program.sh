@@ -1,5 +1,5 @@
 #!/bin/sh
-# program.sh [PROGRAM]: runs the built program on the examples, on random journals beside the events that model.py makes
+# program.sh [PROGRAM]: runs the built program on the examples, journals and scenarios, on random journals beside the events that model.py makes
 # of them, on the longest journal and one entry more, and with each of its allocations refused; runs the live hub's
 # tests, which `./test` has built, with theirs refused; compares model.py, the rows of the examples, CLAIMS and the
 # quotations of README with what they speak of; and tries a close by an end that receives. The last line counts:
@@ -35,6 +35,60 @@ for events in "$root"/examples/journals/*.stdout; do
     "$root/tools/model.py" < "$journal" | cmp -s - "$events"
     count $? "model.py on example $(basename "$journal")"
 done
+
+# wanted_status REPORT: of a scenario that prints this report.
+wanted_status() {
+    if [ ! -s "$1" ]; then
+        echo 1
+    elif grep -q '^stalled ' "$1"; then
+        echo 4
+    else
+        echo 0
+    fi
+}
+
+# runs SCENARIO REPORT: whether the program prints this report of it, with its status, and names a full journal where
+# there is no report.
+runs() {
+    "$program" run "$1" > "$work/report" 2> "$work/errors"
+    status=$?
+    : > "$work/line"
+    [ -s "$2" ] || echo 'chanhub: journal full' > "$work/line"
+    cmp -s "$work/report" "$2" && cmp -s "$work/errors" "$work/line" && [ "$status" -eq "$(wanted_status "$2")" ]
+}
+
+# is_replayed SCENARIO: whether the journal of a run replays, and its events verify.
+is_replayed() {
+    "$program" run "$1" --journal > "$work/journal" 2> "$work/errors"
+    case $? in
+        0 | 4) ;;
+        *) return 1 ;;
+    esac
+    "$program" replay < "$work/journal" > "$work/events" 2>> "$work/errors" &&
+        [ "$("$program" verify "$work/journal" "$work/events")" = same ]
+}
+
+for report in "$root"/examples/scenarios/*.stdout; do
+    scenario=${report%.stdout}
+    runs "$scenario" "$report"
+    count $? "scenario $(basename "$scenario")"
+    if [ -s "$report" ]; then
+        is_replayed "$scenario"
+        count $? "the journal of scenario $(basename "$scenario")"
+    fi
+done
+
+# A comparison with events that lack their last line, of a lone sender that stalls.
+printf 'chanhub journal 1\nprocs 1\n0 make 0\n0 send 1 1\n' > "$work/journal"
+printf '0 made 1\n0 parked\n' > "$work/events"
+"$program" verify "$work/journal" "$work/events" > "$work/told" 2> "$work/errors"
+[ $? -eq 3 ] && [ "$(cat "$work/told")" = 'differs at line 3' ] && [ ! -s "$work/errors" ]
+count $? "events without their last line"
+"$program" verify "$work/journal" "$work/missing" > "$work/told" 2> "$work/errors"
+[ $? -eq 1 ] && [ ! -s "$work/told" ] && [ "$(cat "$work/errors")" = 'chanhub: read failed' ]
+count $? "a file that is not there"
+"$root/tools/seeds.sh" "$root/examples/scenarios/seeds" 6 > "$work/told" && grep -q '^4 of 6, first with seed 0, status 0:$' "$work/told"
+count $? "outcomes by seed"
 
 "$root/tools/random_journal.py" 1 "$random_journals" "$work"
 for seed in $(seq "$random_journals"); do

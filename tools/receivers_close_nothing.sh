@@ -1,19 +1,25 @@
 #!/bin/sh
 # receivers_close_nothing.sh: a close by an end that receives is no program: its types are refused, before any proof.
-# Tried on a copy of hub_live whose test of a close takes the other end. Needs crates that were built.
+# Tried on a copy of hub_crew whose test of a close takes the other end. Needs crates that were built.
 set -u
 root=$(cd "$(dirname "$0")/.." && pwd)
 work=$(mktemp -d)
 trap 'rm -rf "$work"' EXIT
-cp -a "$root/crates" "$root/crates.txt" "$root/HANDLES" "$work"
+mkdir "$work/crates"
+cp "$root/HANDLES" "$work"
+for crate in hub_base hub_laws hub_parts hub_core hub_live hub_crew; do
+    cp -a "$root/crates/$crate" "$work/crates"
+    grep "^$crate:" "$root/crates.txt" >> "$work/crates.txt"
+done
 
-crew=$work/crates/hub_live/src/tests/crew.rt
-sed -i 's/hub\.close(rt, seat, &chan\.sender())/hub.close(rt, seat, \&chan.receiver())/' "$crew"
-if cmp -s "$crew" "$root/crates/hub_live/src/tests/crew.rt"; then
+tests=src/tests/tasks.rt
+sed -i 's/seat\.close(rt, hub, &Chan::of(Port(1))\.sender())/seat.close(rt, hub, \&Chan::of(Port(1)).receiver())/' \
+    "$work/crates/hub_crew/$tests"
+if cmp -s "$work/crates/hub_crew/$tests" "$root/crates/hub_crew/$tests"; then
     echo "receivers_close_nothing: no close to change"
     exit 1
 fi
-cd "$work/crates/hub_live" && rt try --test > "$work/told" 2>&1
+cd "$work/crates/hub_crew" && rt try --test > "$work/told" 2>&1
 if grep -q 'error\[mismatched-types\]: expected `&SendPort`, found `&RecvPort`' "$work/told"; then
     exit 0
 fi

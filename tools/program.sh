@@ -78,6 +78,28 @@ for report in "$root"/examples/scenarios/*.stdout; do
     fi
 done
 
+# Sixty-four processes: each sends on a port without a buffer, and nobody receives; each sends to a port with a place and
+# receives from the next.
+awk 'BEGIN {
+    printf "ports = [0"; for (i = 1; i < 64; i++) printf ", 0"; print "]"
+    for (i = 1; i <= 64; i++) printf "[[process]]\nsteps = [\"send %d %d\"]\n", i, i
+}' > "$work/stalled"
+awk 'BEGIN {
+    for (i = 1; i <= 64; i++) printf "port %d cap 0 sent 0 received 0 left 0 sum 0 open\n", i
+    print "stalled 64"
+}' > "$work/stalled.stdout"
+awk 'BEGIN {
+    printf "ports = [1"; for (i = 1; i < 64; i++) printf ", 1"; print "]"
+    for (i = 1; i <= 64; i++) printf "[[process]]\nsteps = [\"send %d %d\", \"recv %d\"]\n", i, i, i % 64 + 1
+}' > "$work/ring"
+awk 'BEGIN {
+    for (i = 1; i <= 64; i++) printf "port %d cap 1 sent 1 received 1 left 0 sum %d open\n", i, i
+}' > "$work/ring.stdout"
+for scenario in stalled ring; do
+    runs "$work/$scenario" "$work/$scenario.stdout" && is_replayed "$work/$scenario"
+    count $? "sixty-four processes: $scenario"
+done
+
 # A comparison with events that lack their last line, of a lone sender that stalls.
 printf 'chanhub journal 1\nprocs 1\n0 make 0\n0 send 1 1\n' > "$work/journal"
 printf '0 made 1\n0 parked\n' > "$work/events"

@@ -3,6 +3,7 @@
 mod fakes;
 mod fault_lines;
 mod files;
+mod gates;
 mod replays;
 mod runs;
 mod words;

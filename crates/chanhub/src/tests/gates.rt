@@ -1,0 +1,88 @@
+//! What a gate sees of a run: that threads run at the same time, and what is counted before each call.
+
+use hub_runner::{Gate, run_scenario};
+use hub_scenario::read_scenario;
+use std::sync::atomic::{AtomicBool, AtomicU32, Ordering};
+use std::test::Fail;
+use std::thread;
+
+/// Holds the first call of each of two processes until the other has come to its own.
+#[derive(Drop)]
+struct Meeting {
+    first: AtomicBool,
+    second: AtomicBool,
+    missed: AtomicBool,
+}
+
+impl Gate for Meeting {
+    fn enter(&self, pid: u8, n: u32) {
+        if n > 0 {
+            return;
+        }
+        let (mine, other) = if pid == 0 {
+            (&self.first, &self.second)
+        } else {
+            (&self.second, &self.first)
+        };
+        mine.store(true, Ordering::SeqCst);
+        for _ in 0..10_000_000u32 {
+            if other.load(Ordering::SeqCst) {
+                return;
+            }
+            // Else the other may not get a processor while this one turns.
+            thread::yield_now();
+        }
+        self.missed.store(true, Ordering::SeqCst);
+    }
+}
+
+// On one thread the first process would wait in vain for the second.
+#[test]
+fn processes_run_at_the_same_time(rt: HostRuntime) -> Result<(), Fail> {
+    let text = b"ports = [1, 1]\nprocess = [{steps = ['send 1 1']}, {steps = ['send 2 2']}]\n";
+    let scenario = read_scenario(rt.alloc(), text)?;
+    for _ in 0..100u32 {
+        let gate = Meeting {
+            first: AtomicBool::new(false),
+            second: AtomicBool::new(false),
+            missed: AtomicBool::new(false),
+        };
+        let report = run_scenario(&rt, rt.alloc(), &scenario, &gate)?;
+        assert!(rt; !gate.missed.load(Ordering::SeqCst));
+        assert_eq!(rt; report.ports.len(), 2);
+        for port in report.ports.as_slice() {
+            assert_eq!(rt; (port.sent, port.received, port.left), (1, 0, 1));
+        }
+    }
+    Ok(())
+}
+
+/// Counts the calls of all processes, and adds up their numbers.
+#[derive(Drop)]
+struct Counting {
+    calls: AtomicU32,
+    numbers: AtomicU32,
+}
+
+impl Gate for Counting {
+    fn enter(&self, _pid: u8, n: u32) {
+        self.calls.fetch_add(1, Ordering::SeqCst);
+        self.numbers.fetch_add(n, Ordering::SeqCst);
+    }
+}
+
+// Two sends and a close; two values and the end of the range. Each process counts from 0.
+#[test]
+fn each_receive_of_a_range_passes_the_gate(rt: HostRuntime) -> Result<(), Fail> {
+    let text = b"ports = [0]\nprocess = [{steps = ['send 1 4', 'send 1 5', 'close 1']}, {steps = ['range 1']}]\n";
+    let scenario = read_scenario(rt.alloc(), text)?;
+    let gate = Counting {
+        calls: AtomicU32::new(0),
+        numbers: AtomicU32::new(0),
+    };
+    let report = run_scenario(&rt, rt.alloc(), &scenario, &gate)?;
+    assert_eq!(rt; gate.calls.load(Ordering::SeqCst), 6);
+    assert_eq!(rt; gate.numbers.load(Ordering::SeqCst), 6);
+    assert_eq!(rt; report.journal.entries().len(), 9);
+    Ok(())
+}

@@ -143,11 +143,7 @@ fn follow_steps<K: HubName, R: Wait, G: Gate>(
 
 /// Exits.
 #[tactic(auto, using(crate::proofs::Workers::made_ok))]
-fn leave<K: HubName, R: Wait>(
-    rt: &R,
-    hub: &LiveHub<K>,
-    seat: &mut Held<K>,
-) -> Result<Event, Fault>
+fn leave<K: HubName, R: Wait>(rt: &R, hub: &LiveHub<K>, seat: &mut Held<K>) -> Result<Event, Fault>
     ensures later { Later seat.old seat.new }
     ensures ok { IfOk result (λ x.
         asked_of seat.new ≡ asked_of seat.old ++ record { step = Exit; reply = Some x } ∷ []) }

@@ -74,7 +74,8 @@ impl Gate for Counting {
 // Two sends and a close; two values and the end of the range. Each process counts from 0.
 #[test]
 fn each_receive_of_a_range_passes_the_gate(rt: HostRuntime) -> Result<(), Fail> {
-    let text = b"ports = [0]\nprocess = [{steps = ['send 1 4', 'send 1 5', 'close 1']}, {steps = ['range 1']}]\n";
+    let text =
+        b"ports = [0]\nprocess = [{steps = ['send 1 4', 'send 1 5', 'close 1']}, {steps = ['range 1']}]\n";
     let scenario = read_scenario(rt.alloc(), text)?;
     let gate = Counting {
         calls: AtomicU32::new(0),

@@ -1,4 +1,4 @@
-use Rattle.std.proofs.Common.{◌≡◌, ◌≤◌, ◌+◌, ◌∙◌, arith, subst, vec_len, vec_capacity}
+use Rattle.std.proofs.Common.{◌≡◌, arith, subst}
 use Rattle.hub_crew.proofs.Loops.{map_snoc, all_snoc, one_further, all_next}
 use Rattle.hub_crew.proofs.crew.join_all.Goals as goal
 

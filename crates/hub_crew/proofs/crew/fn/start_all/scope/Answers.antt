@@ -1,4 +1,4 @@
-use Rattle.std.proofs.Common.{◌≡◌, ◌≤◌, ◌+◌, ◌∙◌, arith, vec_len, vec_capacity}
+use Rattle.std.proofs.Common.{◌≡◌, ◌∙◌, arith}
 use Rattle.hub_crew.proofs.Loops.{map_snoc, all_snoc, one_further}
 use Rattle.hub_crew.proofs.crew.fn.start_all.scope.Goals as goal
 

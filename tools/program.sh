@@ -78,6 +78,12 @@ for report in "$root"/examples/scenarios/*.stdout; do
     fi
 done
 
+# The journal of one process is the same under every schedule.
+printf 'chanhub journal 1\nprocs 1\n0 make 0\n0 recv 1\n0 exit\n' > "$work/journal"
+"$program" run --journal "$root/examples/scenarios/alone" > "$work/told" 2> "$work/errors"
+[ $? -eq 4 ] && cmp -s "$work/told" "$work/journal" && [ ! -s "$work/errors" ]
+count $? "the journal of a process alone"
+
 # Sixty-four processes: each sends on a port without a buffer, and nobody receives; each sends to a port with a place and
 # receives from the next.
 awk 'BEGIN {

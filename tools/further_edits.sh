@@ -13,6 +13,7 @@ if [ $# -eq 0 ]; then
 fi
 rm -f "$work"/crates/*/must-fail/*.edit
 for crate in "$@"; do
+    mkdir -p "$work/crates/$crate/must-fail"
     cp "$root/tools/further_edits/$crate/"*.edit "$work/crates/$crate/must-fail/"
 done
 cd "$work"

@@ -18,7 +18,7 @@ fn all_bytes_come(rt: HostRuntime) -> Result<(), Fail> {
 
 #[test]
 fn reading_goes_on_to_the_first_byte_behind_the_limit(rt: HostRuntime) -> Result<(), Fail> {
-    for (limit, len) in [(0, 7), (6, 7), (7, 14), (30, 31), (31, 31), (32, 31)] {
+    for (limit, len) in [(0, 1), (6, 7), (7, 8), (30, 31), (31, 31), (32, 31)] {
         let bytes = read_up_to(rt.alloc(), &mut Counted::new(Trickle::new(TEXT)), limit)?;
         assert_eq!(rt; bytes.len(), len, "limit {limit}");
         assert!(rt; TEXT.starts_with(&bytes), "limit {limit}");

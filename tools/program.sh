@@ -1,9 +1,9 @@
 #!/bin/sh
-# program.sh [PROGRAM]: runs the built program on the examples, journals and scenarios, on random journals beside the events that model.py makes
-# of them, on the longest journal and one entry more, and with each of its allocations refused; runs the live hub's
-# tests, which `./test` has built, with theirs refused; compares model.py, the rows of the examples, CLAIMS and the
-# quotations of README with what they speak of; and tries a close by an end that receives. The last line counts:
-# 'N passed, M failed'.
+# program.sh [PROGRAM]: runs the built program on the examples, journals and scenarios; on random journals beside the
+# events that model.py makes of them; on the longest journal and one entry more; and with each of its allocations
+# refused. Runs the live hub's tests, which `./test` has built, with theirs refused; compares model.py, the rows of the
+# examples, CLAIMS and the quotations of README with what they speak of; and tries a close by an end that receives. The
+# last line counts: 'N passed, M failed'.
 set -u
 root=$(cd "$(dirname "$0")/.." && pwd)
 program=${1:-$root/crates/chanhub/out/chanhub}

@@ -1,5 +1,5 @@
 -- What was done for a request is what the program has done.
-use Rattle.std.proofs.Common.{refl, ℕ, List, Bool, Option, Result, Ok, Err, IfOk, inl, inr, codes}
+use Rattle.std.proofs.Common.{ℕ, List, Bool, Option, Result, Ok, Err, IfOk, inl, inr, codes}
 use Rattle.hub_words.specs.Words.{AsksFor}
 use Rattle.chanhub.specs.declared.outcome.Outcome.{Outcome}
 use Rattle.chanhub.specs.Promises.{HasDone, TellsComparison, TakesScenario, RunsScenario}
@@ -17,15 +17,3 @@ pub has-run : {E : Type 0} (r : Result Outcome E) (words : List (List ℕ)) (unr
 has-run (Ok outcome) words unread left held holds journal asked (bytes, taken, runs) =
     inr (inr (record { asked = asked; bytes = bytes; taken = taken; journal = journal; runs = runs }))
 has-run (Err refusal) words unread left held holds journal asked runs = tt
-
--- a scenario that was taken was run
-pub taken-run : {E : Type 0} (r : Result Outcome E) (unread left held holds : Option (List ℕ)) (journal : Bool) (bytes : List ℕ) →
-    TakesScenario unread left bytes → IfOk r (λ outcome. RunsScenario bytes journal outcome held holds) →
-    IfOk r (λ outcome. (bytes : List ℕ) × TakesScenario unread left bytes × RunsScenario bytes journal outcome held holds)
-taken-run (Ok outcome) unread left held holds journal bytes taken runs = (bytes, taken, runs)
-taken-run (Err refusal) unread left held holds journal bytes taken runs = tt
-
-pub from-file : {A E : Type 0} (r : Result A E) (bytes_of : A → List ℕ) (unread : Option (List ℕ)) →
-    IfOk r (λ x. TakesScenario unread unread (bytes_of x))
-from-file (Ok x) bytes_of unread = inr refl
-from-file (Err e) bytes_of unread = tt

@@ -24,6 +24,13 @@ but_write P fault.Read text read memory other = read refl
 but_write P fault.Write text read memory other = absurd (other refl)
 but_write P fault.NoMemory text read memory other = memory refl
 
+-- and a failed write has failed
+pub but_other : (P : Type 0) (f : ReplayFault) → (f ≡ fault.Write → P) → of_replay f ≡ Write → P
+but_other P (fault.Text at) write is = cc
+but_other P fault.Read write is = cc
+but_other P fault.Write write is = write refl
+but_other P fault.NoMemory write is = cc
+
 pub found : (f : ReplayFault) → ((at : TextFault) → f ≡ fault.Text at → IsFound (Journal at)) → IsFound (of_replay f)
 found (fault.Text at) text = text at refl
 found fault.Read text = tt

@@ -11,6 +11,7 @@ use Rattle.hub_report.specs.declared.report.Report.{Report}
 use Rattle.hub_report.specs.ReportText.{report_text}
 use Rattle.hub_report.specs.Reports.{IsReportOf}
 use Rattle.hub_runner.specs.Scripts.{AllFollow}
+use Rattle.hub_scenario.specs.Limits.{most_bytes}
 use Rattle.hub_scenario.specs.Scenario.{ScenarioData, reading}
 use Rattle.hub_words.specs.Words.{AsksFor, AsksForReplay}
 use Rattle.chanhub.specs.declared.refusal.Refusal.{Refusal}
@@ -57,7 +58,7 @@ pub record RunsScenario (bytes : List ℕ) (journal : Bool) (outcome : Outcome) 
 -- these bytes were read: all that there are, or one more than a scenario may have
 pub record ReadsScenario (unread left : Option (List ℕ)) (bytes : List ℕ) : Type 0 where
   pub consumed : Consumes unread left bytes
-  pub end : length bytes ≤ 1048576 → IsAtEnd left
+  pub end : length bytes ≤ most_bytes → IsAtEnd left
 
 -- they are of standard input; or that was left alone, and they are a named file's
 abbrev pub TakesScenario : (unread left : Option (List ℕ)) → List ℕ → Type 0
@@ -97,3 +98,10 @@ IsFound refusal.Read = Unit {0}
 IsFound refusal.Write = Unit {0}
 IsFound refusal.NoMemory = Unit {0}
 IsFound refusal.JournalFull = Unit {0}
+
+-- a refusal of a command: the output is as it was, but for a failed write; what was malformed was found so; and a write
+-- is told only where one failed
+pub record IsRefused (why : Refusal) (unchanged failed : Type 0) : Type 0 where
+  pub unwritten : ¬ (why ≡ refusal.Write) → unchanged
+  pub found : IsFound why
+  pub write : why ≡ refusal.Write → failed

@@ -8,7 +8,7 @@ ghost use Rattle.hub_words.specs.Words.{AsksForReplay, HasUnknownOption};
 ghost use Rattle.chanhub.specs.declared.outcome.Outcome.{Outcome};
 ghost use Rattle.chanhub.specs.declared.refusal.Refusal.{Refusal};
 ghost use Rattle.chanhub.specs.FaultLines.{fault_line};
-ghost use Rattle.chanhub.specs.Promises.{HasDone, IsFound};
+ghost use Rattle.chanhub.specs.Promises.{HasDone, IsFound, IsRefused};
 ghost use Rattle.chanhub.specs.Statuses.{status_of, status_of_outcome};
 
 use crate::commands::{replay_input, run_from, verify_files};
@@ -33,11 +33,8 @@ fn carry_out<R: Files + AllocGlobal + Threads + Wait + Sync, T: AsStr, S: Source
         (S.remaining input.old) (S.remaining input.new)
         (W.contents output.old) (W.contents output.new)) }
 
-    ensures unwritten { IfErr result (λ refusal.
-        ¬ (refusal ≡ Refusal.Write) → output.new ≡ output.old) }
-    ensures found { IfErr result (λ refusal. IsFound refusal) }
-    ensures write { IsErrOf result Refusal.Write
-        → Failed (W.failures output.old) (W.failures output.new) }
+    ensures refused { IfErr result (λ refusal. IsRefused refusal (output.new ≡ output.old)
+        (Failed (W.failures output.old) (W.failures output.new))) }
     ensures unread { IsErrOf result Refusal.BadArguments → input.new ≡ input.old }
     ensures option { HasUnknownOption (map T.text words.now)
         → IsErrOf result Refusal.BadArguments }

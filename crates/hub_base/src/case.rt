@@ -1,6 +1,7 @@
 //! The communications of a call.
 
 ghost use Rattle.std.specs.Prelude.{◌≡◌, ◌∷◌, []};
+ghost use Rattle.hub_base.specs.Ready.{port_of};
 
 use crate::{Port, Value};
 use arrayvec::ArrayVec;
@@ -12,6 +13,18 @@ pub enum Case {
     Send(Port, Value),
     /// Receives a value from the port.
     Recv(Port),
+}
+
+impl Case {
+    /// The port that it communicates on.
+    pub fn port(self) -> Port
+        ensures { result ≡ port_of self }
+    {
+        match self {
+            Case::Send(port, _value) => port,
+            Case::Recv(port) => port,
+        }
+    }
 }
 
 /// A receive on the nil channel, which is never ready.

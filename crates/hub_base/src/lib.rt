@@ -30,5 +30,5 @@ pub use text::numbers::number;
 pub use text::reader::{Reader, one_reading, one_spelling, read_journal};
 pub use text::selects::read_case;
 pub use text::steps::same_text;
-pub use text::writer::{write_entry, write_event, write_head, write_journal};
+pub use text::writer::{undo_if_refused, write_entry, write_event, write_head, write_journal};
 pub use value::{Pid, Port, Value};

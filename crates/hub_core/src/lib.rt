@@ -16,9 +16,11 @@ mod stalling;
 mod tally;
 #[cfg(test)]
 mod tests;
+mod touching;
 
 pub use hub::Hub;
 pub use machine::Machine;
 pub use opening::OpenFault;
 pub use runs::{ListFault, run};
 pub use tally::Tally;
+pub use touching::port_touched;

@@ -32,19 +32,10 @@ fn is_unmade(board: &Board, port: Port) -> bool
     board.ports() < port.0 as usize
 }
 
-fn port_of(case: Case) -> Port
-    ensures { result ≡ port_of case }
-{
-    match case {
-        Case::Send(port, _value) => port,
-        Case::Recv(port) => port,
-    }
-}
-
 fn names_unmade(board: &Board, cases: &[Case]) -> bool
     ensures { result ≡ list_any (λ c. is_unmade_on board.now (port_of c)) cases.now }
 {
-    cases.iter().any(|case| is_unmade(board, port_of(*case)))
+    cases.iter().any(|case| is_unmade(board, case.port()))
 }
 
 /// The fault of a call of these cases.

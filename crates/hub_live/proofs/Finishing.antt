@@ -1,5 +1,5 @@
 -- A loop over the seats that are compared with the journal at the end.
-use Rattle.std.proofs.Common.{◌≡◌, List, [], ◌∷◌, ◌++◌, length, refl, sym, ap, ◌∙◌, subst, append_assoc, arith}
+use Rattle.std.proofs.Common.{◌≡◌, List, [], ◌∷◌, ◌++◌, length, refl, sym, ap, ◌∙◌, subst, arith}
 use Rattle.std.specs.Prelude.{All}
 use Rattle.std.proofs.lemmas.List.Elements.{All-push}
 use Rattle.std.proofs.lemmas.List.{append-nil}
@@ -17,10 +17,6 @@ pub stand_more : (before after : LockedView) (done : List SeatView) (s inner : S
 stand_more before after done s inner same all is here =
     All-push (λ (t : SeatView). StandsIn t after.hub.journal) done s (subst (λ (d : LockedView). All (λ (t : SeatView). StandsIn t d.hub.journal) done) (sym same) all)
     (subst (λ (t : SeatView). StandsIn t after.hub.journal) is here)
-
--- the seats that are done and those that are left, one seat further
-pub one_further : (done rest next all : List SeatView) (s : SeatView) → rest ≡ s ∷ next → done ++ rest ≡ all → (done ++ s ∷ []) ++ next ≡ all
-one_further done rest next all s is h = append_assoc done (s ∷ []) next ∙ (ap (λ (l : List SeatView). done ++ l) (sym is) ∙ h)
 
 pub all_done : (done rest all : List SeatView) → length rest ≡ 0 → done ++ rest ≡ all → done ≡ all
 all_done done rest all none h = sym (append-nil done) ∙ (ap (λ (l : List SeatView). done ++ l) (sym (empty rest none)) ∙ h)

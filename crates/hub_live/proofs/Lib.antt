@@ -7,4 +7,5 @@ pub mod Seats
 pub mod Desks
 pub mod Refusals
 pub mod Laters
+pub mod Loops
 pub mod Finishing

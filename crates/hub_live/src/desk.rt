@@ -4,11 +4,10 @@
 //! A step joins the caller's seat to the hub's before the journal changes and parts it afterwards,
 //! since a store is judged by what the seat that stores knows.
 
-ghost use Rattle.std.specs.Prelude.{◌≡◌, ◌≤◌, ◌<◌, ◌+◌, ◌++◌, ◌∷◌, [], List, length, Some, None, true, false, IfOk, IfErr, OnOk, OnErr, IfSome, IfNone, OnSome};
+ghost use Rattle.std.specs.Prelude.{◌≡◌, ◌≤◌, ◌<◌, ◌+◌, ◌++◌, ◌∷◌, [], List, length, Some, None, false, IfOk, IfErr, OnOk, OnErr, IfSome, IfNone, OnSome};
 ghost use mathlib.Core.List.{IsPrefix};
 ghost use Rattle.hub_base.specs.declared.entry.Entry.{Entry};
 ghost use Rattle.hub_base.specs.Limits.{most_steps};
-ghost use Rattle.hub_base.specs.Ready.{port_of};
 ghost use Rattle.hub_base.specs.Runs.{state};
 ghost use Rattle.hub_base.specs.Steps.{is_waiting};
 ghost use Rattle.hub_base.specs.Text.{steps_of};
@@ -30,7 +29,8 @@ use crate::name::HubName;
 use crate::rule::Token;
 use crate::seat::InnerSeat;
 use crate::words::Words;
-use hub_base::{Case, Entry, Event, Fault, Journal, Pid, Port, Step, What};
+use hub_base::{Entry, Event, Fault, Journal, Pid, Port, Step, What};
+use hub_core::port_touched;
 use std::marker::{Model, PhantomData};
 
 /// The locked hub, and the hub's own seat. To a contract it is the locked hub.
@@ -53,30 +53,11 @@ impl<K: HubName> Model for Desk<K> {
     ghost invariant = { λ d. IsDesk K.name d.locked d.token };
 }
 
-fn port_of(case: Case) -> Port
-    ensures { result ≡ port_of case }
-{
-    match case {
-        Case::Send(port, _value) => port,
-        Case::Recv(port) => port,
-    }
-}
-
 /// The port that a step with this answer may have changed, port 0 for none.
 fn touched(step: &Step, answer: What) -> Port
     ensures { result.0 ≡ number_of (port_touched_by step.now answer) }
 {
-    match (step, answer) {
-        (Step::Make(_), What::Made(port)) => port,
-        (Step::Call { cases, .. }, What::Fired { case, .. }) => {
-            match cases.as_slice().get(usize::from(case)) {
-                Some(case) => port_of(*case),
-                None => Port(0),
-            }
-        }
-        (Step::Close(port), What::Done) => *port,
-        _ => Port(0),
-    }
+    port_touched(step, answer).unwrap_or(Port(0))
 }
 
 /// The mark of a port, 0 where it is not made.

@@ -3,7 +3,7 @@ use Rattle.std.proofs.Common.{◌≡◌, ◌≢◌, ℕ, suc, ◌+◌, ◌<◌, 
 use Rattle.std.specs.Prelude.{◌&&◌, nat_eq, nat_lt}
 use Rattle.std.specs.List.{common_prefix_len, starts_with}
 use Rattle.std.proofs.lemmas.Bool.{eq-eqb, eqb-true, eqb-false, ltb-false, ltb-true}
-use Rattle.std.proofs.lemmas.List.{append_cancel_left, drop-drop, drop_all, length-drop, length-take-le, take_all}
+use Rattle.std.proofs.lemmas.List.{append_cancel_left, drop-drop, drop_all, length-drop, length-take-le}
 use Rattle.std.proofs.Math.Seq.{take-add}
 use Rattle.hub_replay.specs.Comparing.{Parts, Agrees}
 use Rattle.hub_replay.specs.Verify.{common_beginning, newlines_in, line_of_difference}
@@ -71,14 +71,6 @@ splits (x ∷ xs) (y ∷ ys) = splits-by (x == y) x y xs ys refl (splits xs ys)
 unparted-text : {text bytes : List ℕ} {agreed : ℕ} {parted : Bool} → Agrees text bytes agreed parted → parted ≡ false → text ≡ take agreed bytes
 unparted-text {text} {bytes} {agreed} so_far still = so_far.common ∙ ap (λ l. take agreed bytes ++ l) (so_far.whole still) ∙ append-nil (take agreed bytes)
 
-pub agrees-parted : {text bytes : List ℕ} {agreed : ℕ} {parted : Bool} (piece : List ℕ) → Agrees text bytes agreed parted → parted ≡ true → Agrees (text ++ piece) bytes agreed parted
-agrees-parted {text} {bytes} {agreed} {parted} piece so_far over = record {
-  rest = so_far.rest ++ piece;
-  common = ap (λ l. l ++ piece) so_far.common ∙ append_assoc (take agreed bytes) so_far.rest piece;
-  whole = λ still. absurd (cc);
-  apart = λ again. Parts-append so_far.rest (drop agreed bytes) piece (so_far.apart over);
-}
-
 pub agrees-more : {text bytes : List ℕ} {agreed : ℕ} {parted : Bool} (piece : List ℕ) (more : ℕ) → Agrees text bytes agreed parted → parted ≡ false →
     more ≡ length (common_beginning piece (drop agreed bytes)) → Agrees (text ++ piece) bytes (agreed + more) (nat_lt more (length piece))
 agrees-more {text} {bytes} {agreed} {parted} piece more so_far still is =
@@ -109,10 +101,6 @@ common {text} {bytes} {agreed} {parted} so_far =
     ∙ common_beginning-append (take agreed bytes) so_far.rest (drop agreed bytes)
     ∙ ap (λ l. take agreed bytes ++ l) (common-rest parted so_far.rest (drop agreed bytes) so_far.whole so_far.apart)
     ∙ append-nil (take agreed bytes)
-
--- bytes that agree as a whole are the text
-pub agrees-whole : {text bytes : List ℕ} {agreed : ℕ} {parted : Bool} → Agrees text bytes agreed parted → parted ≡ false → agreed ≡ length bytes → bytes ≡ text
-agrees-whole {text} {bytes} {agreed} {parted} so_far still all = sym (unparted-text so_far still ∙ take_all agreed bytes (omega arith))
 
 -- bytes that part from the text, or go on behind it, are another
 pub agrees-other-parted : {text bytes : List ℕ} {agreed : ℕ} {parted : Bool} → Agrees text bytes agreed parted → parted ≡ true → bytes ≢ text

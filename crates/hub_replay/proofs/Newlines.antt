@@ -1,5 +1,5 @@
 -- An event's line has one newline, and a journal's events have so few lines that their number fits 32 bits.
-use Rattle.std.proofs.Common.{◌≡◌, ◌≢◌, ℕ, zero, suc, ◌+◌, ◌-◌, ◌*◌, ◌/◌, ◌%◌, ◌^◌, ◌<◌, ◌≤◌, ◌==◌, Bool, true, false, cond, List, [], ◌∷◌, ◌++◌, length, take, drop, refl, ap, ◌∙◌, arith, length-append, take-append-drop}
+use Rattle.std.proofs.Common.{◌≡◌, ◌≢◌, ℕ, zero, suc, ◌+◌, ◌-◌, ◌*◌, ◌/◌, ◌%◌, ◌^◌, ◌<◌, ◌≤◌, ◌==◌, Bool, true, false, cond, List, [], ◌∷◌, ◌++◌, length, refl, ap, ◌∙◌, arith, length-append}
 use Rattle.std.specs.Prelude.{codes, decimal, nat_lt}
 use Rattle.std.specs.List.{flat_map, join_with_byte}
 use Rattle.std.specs.Fmt.{digits, digits_onto, digit_glyph}
@@ -26,13 +26,6 @@ use Rattle.hub_replay.specs.Verify.{newlines_in}
 
 pub newlines_in-append : (xs ys : List ℕ) → newlines_in (xs ++ ys) ≡ newlines_in xs + newlines_in ys
 newlines_in-append xs ys = sum_by-append (λ c. cond (c == 10) 1 0) xs ys
-
--- the bytes before a place have no more newlines than all
-pub newlines_in-take : (n : ℕ) (xs : List ℕ) → newlines_in (take n xs) ≤ newlines_in xs
-newlines_in-take n xs =
-    let all = ap newlines_in (take-append-drop n xs) in
-    let both = newlines_in-append (take n xs) (drop n xs) in
-    omega (arith, all, both)
 
 -- a digit is no newline
 glyph-by : (b : Bool) (d : ℕ) → cond b (48 + d) (87 + d) ≢ 10

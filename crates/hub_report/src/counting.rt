@@ -3,13 +3,13 @@
 
 ghost use Rattle.std.specs.Prelude.{◌≡◌, ◌≤◌, length};
 ghost use Rattle.std.specs.List.{sum_by};
-ghost use Rattle.hub_base.specs.Ready.{port_of};
 ghost use Rattle.hub_base.specs.Values.{is_fault};
-ghost use Rattle.hub_laws.specs.OnePort.{port_touched, port_touched_by};
+ghost use Rattle.hub_laws.specs.OnePort.{port_touched};
 ghost use Rattle.hub_report.specs.Reports.{how_many, is_stalled};
 ghost use Rattle.hub_report.specs.Replays.{most_got, number_told};
 
-use hub_base::{Case, Event, Outcome, Port, Step, What};
+use hub_base::{Event, Outcome, Port, Step, What};
+use hub_core::port_touched;
 
 /// How many of these events are `Stalled`.
 pub(crate) fn count_stalled(events: &[Event]) -> usize
@@ -57,34 +57,10 @@ pub(crate) fn sum_got(events: &[Event]) -> u128
     sum
 }
 
-fn port_of(case: Case) -> Port
-    ensures { result ≡ port_of case }
-{
-    match case {
-        Case::Send(port, _value) => port,
-        Case::Recv(port) => port,
-    }
-}
-
-/// The port that the answer names.
-fn port_named_by(step: &Step, answer: What) -> Option<Port>
-    ensures { result ≡ port_touched_by step.now answer }
-{
-    match (step, answer) {
-        (Step::Make(_), What::Made(port)) => Some(port),
-        (Step::Call { cases, .. }, What::Fired { case, .. }) => {
-            let case = cases.as_slice().get(usize::from(case))?;
-            Some(port_of(*case))
-        }
-        (Step::Close(port), What::Done) => Some(*port),
-        _ => None,
-    }
-}
-
 /// The port that the answer of a step names; the answer is the first of its events.
 pub(crate) fn port_named(step: &Step, events: &[Event]) -> Option<Port>
     ensures { result ≡ port_touched step.now events.now }
 {
     let answer = events.first()?;
-    port_named_by(step, answer.what)
+    port_touched(step, answer.what)
 }

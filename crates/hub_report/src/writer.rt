@@ -1,11 +1,11 @@
 //! Writing a report. A private function that is refused may leave a part behind, which the public
 //! one takes back.
 
-ghost use Rattle.std.specs.Prelude.{◌≡◌, ◌++◌, ◌+◌, ◌≤◌, ◌<◌, ◌^◌, ℕ, List, codes, decimal, take, OnOk, OnErr, IsOk, ◌↔◌, is_ok, if◌then◌else◌};
+ghost use Rattle.std.specs.Prelude.{◌≡◌, ◌++◌, ◌+◌, ◌<◌, ℕ, List, take, OnOk, OnErr, if◌then◌else◌};
 ghost use Rattle.hub_report.specs.ReportText.{field, ending, port_line, port_lines, count_line, report_text};
 
 use crate::{PortReport, Report};
-use hub_base::NoMemory;
+use hub_base::{NoMemory, undo_if_refused};
 use itoa::Buffer;
 use std::alloc::AllocError;
 
@@ -90,11 +90,6 @@ pub fn write_report(out: &mut Vec<u8>, report: &Report) -> Result<(), NoMemory>
     ensures err { OnErr result (out.new.items ≡ out.old.items) }
 {
     let before = out.len();
-    match put_report(out, report) {
-        Ok(()) => Ok(()),
-        Err(AllocError) => {
-            out.truncate(before);
-            Err(NoMemory)
-        }
-    }
+    let done = put_report(out, report);
+    undo_if_refused(out, before, done)
 }

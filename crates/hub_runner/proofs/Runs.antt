@@ -1,9 +1,8 @@
 -- All seats of a run, and the one journal.
-use Rattle.std.proofs.Common.{◌≡◌, ℕ, ◌+◌, ◌<◌, ◌≤◌, List, [], ◌∷◌, ◌++◌, length, get_or, map, refl, ap, ◌∙◌, sym, subst, Option, Some, None, Result, Ok, Err, OnOk, All, take, zero, suc, arith, append_assoc, ◌==◌, false, Bool, cond}
+use Rattle.std.proofs.Common.{◌≡◌, ℕ, ◌+◌, ◌<◌, List, [], ◌∷◌, ◌++◌, length, get_or, map, refl, ap, ◌∙◌, sym, subst, Option, Some, Result, Ok, Err, OnOk, All, take, zero, suc, arith, ◌==◌, false, Bool, cond}
 use Rattle.std.specs.Prelude.{slice_get, IsOk, slice_set, Vec, vec_len, vec_items}
 use Rattle.std.specs.declared.alloc.Global.{Global}
-use Rattle.std.proofs.lemmas.List.{take_more, get_or-map, length-map, map-append}
-use Rattle.std.proofs.lemmas.List.Elements.{All-push}
+use Rattle.std.proofs.lemmas.List.{take_more, get_or-map, length-map}
 use Rattle.std.proofs.lemmas.Grind.{common_steps}
 use Rattle.std.specs.Option.{option_map}
 use Rattle.std.proofs.lemmas.Option.{slice_get_within, slice_get-map}
@@ -105,24 +104,7 @@ all_follow name sc before done journal procs many seats pids hubs followed stand
     let n : (get_or done q d).hub.terms.procs ≡ length sc.scripts = ap (λ (m : Name). m.terms.procs) (hubs q d here) ∙ procs in
     one_follows sc (get_or done q d) journal q script n pid (followed q d here) (stands q d here) at
 
--- ---- lists that grow
-
-pub map_snoc : {A B C : Type 0} (xs xs' : List A) (ys : List B) (x : A) (y : B) (f : A → C) (g : B → C) → xs' ≡ xs ++ x ∷ [] → map f xs ≡ map g ys → f x ≡ g y → map f xs' ≡ map g (ys ++ y ∷ [])
-map_snoc xs xs' ys x y f g grown same here =
-    ap (map f) grown ∙ map-append f xs (x ∷ []) ∙ (λ i. same i ++ here i ∷ []) ∙ sym (map-append g ys (y ∷ []))
-
-pub all_snoc : {A : Type 0} (xs xs' : List A) (x : A) (P : A → Type 0) → xs' ≡ xs ++ x ∷ [] → All P xs → P x → All P xs'
-all_snoc xs xs' x P grown all here = subst (λ zs. All P zs) (sym grown) (All-push P xs x all here)
-
-pub cut_snoc : {A : Type 0} (ys rest rest' all : List A) (x : A) → rest ≡ x ∷ rest' → ys ++ rest ≡ all → (ys ++ x ∷ []) ++ rest' ≡ all
-cut_snoc ys rest rest' all x is whole = append_assoc ys (x ∷ []) rest' ∙ ap (λ zs. ys ++ zs) (sym is) ∙ whole
-
-all_mid : {A : Type 0} (P : A → Type 0) (ys rest : List A) (x : A) → All P (ys ++ x ∷ rest) → P x
-all_mid P [] rest x h = h 0 x (omega arith)
-all_mid P (y ∷ ys) rest x h = all_mid P ys rest x (λ k d low. h (suc k) d (omega arith))
-
-pub all_next : {A : Type 0} (ys rest rest' all : List A) (x : A) (P : A → Type 0) → rest ≡ x ∷ rest' → ys ++ rest ≡ all → All P all → P x
-all_next ys rest rest' all x P is whole h = all_mid P ys rest' x (subst (λ zs. All P zs) (sym (ap (λ zs. ys ++ zs) (sym is) ∙ whole)) h)
+-- ---- results
 
 pub from_ok : {T E : Type 0} (r : Result T E) (P : Type 0) → IsOk r → OnOk r P → P
 from_ok (Ok x) P ok h = h

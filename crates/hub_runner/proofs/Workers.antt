@@ -1,26 +1,24 @@
 -- One process and its script.
-use Rattle.std.proofs.Common.{◌≡◌, ℕ, ◌&&◌, ◌⊎◌, inl, inr, Bool, true, false, cond, List, [], ◌∷◌, ◌++◌, refl, ap, ◌∙◌, sym, subst, Option, Some, None, Result, Ok, Err, IfOk, append-nil, append_assoc, drop, ◌+◌, ◌≤◌, ◌<◌, length, get_or, add-one, arith}
+use Rattle.std.proofs.Common.{◌≡◌, ℕ, ◌&&◌, ◌⊎◌, inl, inr, Bool, true, false, List, [], ◌∷◌, ◌++◌, refl, ap, ◌∙◌, sym, subst, Some, Result, Ok, Err, IfOk, append_assoc, drop, ◌+◌, ◌≤◌, ◌<◌, length, get_or, add-one, arith}
 use Rattle.std.proofs.Math.Seq.{drop-cons}
-use mathlib.Core.List.{IsPrefix}
 use Rattle.std.proofs.lemmas.Bool.{and_parts}
 use Rattle.hub_base.specs.declared.value.Pid.{Pid}
 use Rattle.hub_base.specs.declared.value.Port.{Port}
 use Rattle.hub_base.specs.declared.case.Case.TheVariants as case
 use Rattle.hub_base.specs.declared.entry.Step.{Step}
 use Rattle.hub_base.specs.declared.entry.Step.TheVariants as step
-use Rattle.hub_base.specs.declared.entry.Entry.{Entry}
 use Rattle.hub_base.specs.declared.event.Event.{Event}
 use Rattle.hub_base.specs.declared.fault.Fault.{Fault}
 use Rattle.hub_base.specs.Lines.{call}
 use Rattle.hub_laws.specs.Replies.{own, reply}
-use Rattle.hub_live.specs.Name.{Name}
-use Rattle.hub_live.specs.SeatView.{SeatView, IsFree, IsIdle}
+use Rattle.hub_live.specs.SeatView.{SeatView, IsFree}
 use Rattle.hub_live.specs.Calls.{Later, Made, entry_of}
-use Rattle.hub_live.proofs.Prefixes.{prefix_self, prefix_trans}
+use Rattle.hub_live.proofs.Prefixes.{prefix_trans}
 use Rattle.hub_scenario.specs.declared.script.ScriptStep.{ScriptStep}
 use Rattle.hub_scenario.specs.declared.script.ScriptStep.TheVariants.{Send, Recv, Select, Close, Range}
+use Rattle.hub_report.specs.Reports.{is_stalled}
 use Rattle.hub_runner.specs.Asked.{Asked, asked}
-use Rattle.hub_runner.specs.Scripts.{asks, stalls, gets, is_range, taken_after, left, Follows}
+use Rattle.hub_runner.specs.Scripts.{asks, gets, is_range, taken_after, left, Follows}
 use Rattle.hub_runner.specs.Working.{asked_of, Onward, Leads, Followed, goes_on_with}
 use Rattle.hub_runner.proofs.Askings.{answered, asked-gains}
 
@@ -39,9 +37,6 @@ made_ok s t asking wanted (Err f) is free later made = tt
 
 -- ---- the seat
 
-pub onward_self : (s : SeatView) → Onward s s
-onward_self s = record { hub = refl; pid = refl; begins = prefix_self s.seen }
-
 pub onward_later : (s t u : SeatView) → Onward s t → Later t u → Later s u
 onward_later s t u o l = record { hub = l.hub ∙ o.hub; pid = l.pid ∙ o.pid; begins = prefix_trans s.seen t.seen u.seen o.begins l.begins; idle = l.idle }
 
@@ -49,9 +44,6 @@ pub later_onward : (s t : SeatView) → Later s t → Onward s t
 later_onward s t l = record { hub = l.hub; pid = l.pid; begins = l.begins }
 
 -- ---- the script
-
-pub leads_self : (a : List Asked) (words : ℕ → ℕ) (script : List ScriptStep) (j : ℕ) → Leads a a words script j script j
-leads_self a words script j = record { made = []; now_is = sym (append-nil a); leads = λ more f. f }
 
 pub leads_trans : (a b c : List Asked) (words : ℕ → ℕ) (s r t : List ScriptStep) (i j k : ℕ) → Leads a b words s i r j → Leads b c words r j t k → Leads a c words s i t k
 leads_trans a b c words s r t i j k p q = record {
@@ -72,13 +64,13 @@ leads_step a b words s rest j word x after k is chosen then next = record {
   leads = λ more f. (chosen, follows_at words more after (left s rest (Some x)) k (taken_after s j) (sym then) (sym next) f);
 }
 
-pub left_stalled : (s : ScriptStep) (rest : List ScriptStep) (x : Event) → stalls x.what ≡ true → left s rest (Some x) ≡ []
+pub left_stalled : (s : ScriptStep) (rest : List ScriptStep) (x : Event) → is_stalled x.what ≡ true → left s rest (Some x) ≡ []
 left_stalled s rest x h = rw h refl
 
-pub left_range : (s : ScriptStep) (rest : List ScriptStep) (x : Event) → stalls x.what ≡ false → is_range s ≡ true → gets x.what ≡ true → left s rest (Some x) ≡ s ∷ rest
+pub left_range : (s : ScriptStep) (rest : List ScriptStep) (x : Event) → is_stalled x.what ≡ false → is_range s ≡ true → gets x.what ≡ true → left s rest (Some x) ≡ s ∷ rest
 left_range s rest x h r g = rw (h, r, g) refl
 
-pub left_done : (s : ScriptStep) (rest : List ScriptStep) (x : Event) → stalls x.what ≡ false → (is_range s && gets x.what) ≡ false → left s rest (Some x) ≡ rest
+pub left_done : (s : ScriptStep) (rest : List ScriptStep) (x : Event) → is_stalled x.what ≡ false → (is_range s && gets x.what) ≡ false → left s rest (Some x) ≡ rest
 left_done s rest x h r = rw (h, r) refl
 
 pub word_kept : (s : ScriptStep) (j : ℕ) → is_range s ≡ true → taken_after s j ≡ j
@@ -100,7 +92,7 @@ leads_end a b c words s rest j word x goes_on p is chosen then =
 
 -- a range that goes on
 pub leads_again : (a b c : List Asked) (words : ℕ → ℕ) (s : ScriptStep) (rest : List ScriptStep) (j word : ℕ) (x : Event)
-    → Leads a b words (s ∷ rest) j (s ∷ rest) j → c ≡ b ++ answered (asks s word) (Some x) ∷ [] → asks s word ≡ asks s (words j) → stalls x.what ≡ false → (is_range s && gets x.what) ≡ true
+    → Leads a b words (s ∷ rest) j (s ∷ rest) j → c ≡ b ++ answered (asks s word) (Some x) ∷ [] → asks s word ≡ asks s (words j) → is_stalled x.what ≡ false → (is_range s && gets x.what) ≡ true
     → Leads a c words (s ∷ rest) j (s ∷ rest) j
 leads_again a b c words s rest j word x p is chosen h r =
     let both = and_parts (is_range s) (gets x.what) r in
@@ -113,10 +105,6 @@ followed a b c words script k x p is = record {
   now_is = is ∙ ap (λ zs. zs ++ answered step.Exit (Some x) ∷ []) p.now_is ∙ append_assoc a p.made (answered step.Exit (Some x) ∷ []);
   follows = p.leads (answered step.Exit (Some x) ∷ []) (refl, refl);
 }
-
--- a process that has no open call made the exit
-pub exited : (s t u : SeatView) (x : Event) (words : ℕ → ℕ) (script : List ScriptStep) (k : ℕ) → IsFree t → Later t u → Made t u step.Exit x → Leads (asked_of s) (asked_of t) words script 0 [] k → Followed (asked_of s) (asked_of u) words script
-exited s t u x words script k free later made p = followed (asked_of s) (asked_of t) (asked_of u) words script k x p (made_asks t u step.Exit x free later made)
 
 -- from one step of a script to the next
 pub leads_next : (a b c : List Asked) (words : ℕ → ℕ) (script : List ScriptStep) (i used word : ℕ) (s : ScriptStep) (goes_on : Bool)

@@ -4,16 +4,16 @@
 -- step, and for a range so many receives that the last of them is the first whose reply is no value.
 -- Each select takes the next choice word of its process. Last comes an exit. Where a reply is
 -- `Stalled`, the rest of the script is left out and the exit follows at once.
-use Rattle.std.specs.Prelude.{◌≡◌, ℕ, ◌+◌, ◌==◌, ◌&&◌, Bool, true, false, List, [], ◌∷◌, Option, None, Some, slice_get, length, if◌then◌else◌}
+use Rattle.std.specs.Prelude.{◌≡◌, ℕ, ◌+◌, ◌==◌, ◌&&◌, Bool, true, false, List, [], ◌∷◌, Option, None, Some, is_some, slice_get, length, if◌then◌else◌}
 use Rattle.hub_base.specs.declared.case.Case.TheVariants as case
 use Rattle.hub_base.specs.declared.entry.Step.{Step}
 use Rattle.hub_base.specs.declared.entry.Step.TheVariants as step
 use Rattle.hub_base.specs.declared.entry.Entry.{Entry}
 use Rattle.hub_base.specs.declared.event.Event.{Event}
-use Rattle.hub_base.specs.declared.event.Outcome.TheVariants.{Got}
 use Rattle.hub_base.specs.declared.event.What.{What}
-use Rattle.hub_base.specs.declared.event.What.TheVariants as what
 use Rattle.hub_base.specs.Lines.{call}
+use Rattle.hub_laws.specs.Received.{value_got}
+use Rattle.hub_report.specs.Reports.{is_stalled}
 use Rattle.hub_scenario.specs.declared.script.ScriptStep.{ScriptStep}
 use Rattle.hub_scenario.specs.declared.script.ScriptStep.TheVariants.{Send, Recv, Select, Close, Range}
 use Rattle.hub_scenario.specs.Scenario.{ScenarioData}
@@ -22,13 +22,9 @@ use Rattle.hub_runner.specs.Asked.{Asked, asked}
 
 -- ---- replies
 
-abbrev pub stalls : What → Bool
-stalls what.Stalled = true
-stalls other = false
-
+-- the process is told that it got a value
 abbrev pub gets : What → Bool
-gets (what.Fired i (Got v)) = true
-gets other = false
+gets what = is_some (value_got what)
 
 -- whether there is a reply, and it is such
 abbrev pub is_told : (What → Bool) → Option Event → Bool
@@ -58,7 +54,7 @@ is_range other = false
 -- a value a range over again; else the rest
 abbrev pub left : ScriptStep → List ScriptStep → Option Event → List ScriptStep
 left s rest reply =
-    if is_told stalls reply then []
+    if is_told is_stalled reply then []
     else if is_range s && is_told gets reply then s ∷ rest
     else rest
 

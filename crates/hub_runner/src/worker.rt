@@ -3,9 +3,10 @@
 ghost use Rattle.std.specs.Prelude.{◌≡◌, ◌<◌, ◌-◌, ◌^◌, ◌+◌, ◌&&◌, ◌++◌, ◌∷◌, [], List, ℕ, Some, IfOk, OnOk};
 ghost use Rattle.hub_base.specs.declared.entry.Step.TheVariants.{Exit};
 ghost use Rattle.hub_live.specs.Calls.{Later};
+ghost use Rattle.hub_report.specs.Reports.{is_stalled};
 ghost use Rattle.hub_scenario.specs.declared.script.ScriptStep.{ScriptStep};
 ghost use Rattle.hub_scenario.specs.ChoiceWords.{choice_word};
-ghost use Rattle.hub_runner.specs.Scripts.{asks, stalls, gets, is_range, taken_after};
+ghost use Rattle.hub_runner.specs.Scripts.{asks, gets, is_range, taken_after};
 ghost use Rattle.hub_runner.specs.Working.{asked_of, Onward, Leads, Followed, goes_on_with};
 
 use crate::gate::{Gate, Passes};
@@ -14,8 +15,8 @@ use hub_live::{Chan, Held, HubName, LiveHub};
 use hub_scenario::{ChoiceWords, ScriptStep};
 use std::sync::Wait;
 
-fn stalls(what: What) -> bool
-    ensures { result ≡ stalls what }
+fn is_stalled(what: What) -> bool
+    ensures { result ≡ is_stalled what }
 {
     matches!(what, What::Stalled)
 }
@@ -107,7 +108,7 @@ fn take_step<K: HubName, R: Wait, G: Gate>(
 {
     for _ in rt.forever() {
         let event = ask(rt, hub, passes, seat, step, word)?;
-        if stalls(event.what) {
+        if is_stalled(event.what) {
             return Ok(false);
         }
         if !repeats(step, event.what) {

@@ -2,7 +2,7 @@
 
 ghost use Rattle.std.specs.Prelude.{◌≡◌, ◌≤◌, ℕ, List, IfOk, IfErr, IsErrOf, IsSome, IsNone};
 ghost use Rattle.hub_replay.specs.Devices.{Failed};
-ghost use Rattle.chanhub.specs.Promises.{RunsScenario, ReadsScenario, TakesScenario, IsFound, TellsStalls, printed};
+ghost use Rattle.chanhub.specs.Promises.{RunsScenario, ReadsScenario, TakesScenario, IsRefused, TellsStalls, printed};
 
 use crate::files::read_file;
 use crate::outcome::Outcome;
@@ -78,11 +78,8 @@ fn run_bytes<R: Threads + Wait + Sync, W: Sink>(
     ensures ok { IfOk result (λ outcome. RunsScenario bytes.now journal outcome
         (W.contents output.old) (W.contents output.new)) }
 
-    ensures unwritten { IfErr result (λ refusal.
-        ¬ (refusal ≡ Refusal.Write) → output.new ≡ output.old) }
-    ensures found { IfErr result (λ refusal. IsFound refusal) }
-    ensures write { IsErrOf result Refusal.Write
-        → Failed (W.failures output.old) (W.failures output.new) }
+    ensures refused { IfErr result (λ refusal. IsRefused refusal (output.new ≡ output.old)
+        (Failed (W.failures output.old) (W.failures output.new))) }
     ensures known { ¬ IsErrOf result Refusal.BadArguments }
 {
     let scenario = read_scenario(alloc, bytes)?;
@@ -105,11 +102,8 @@ pub(crate) fn run_from<R: Files + Threads + Wait + Sync, S: Source, W: Sink>(
         × TakesScenario (S.remaining input.old) (S.remaining input.new) bytes
         × RunsScenario bytes journal outcome (W.contents output.old) (W.contents output.new)) }
 
-    ensures unwritten { IfErr result (λ refusal.
-        ¬ (refusal ≡ Refusal.Write) → output.new ≡ output.old) }
-    ensures found { IfErr result (λ refusal. IsFound refusal) }
-    ensures write { IsErrOf result Refusal.Write
-        → Failed (W.failures output.old) (W.failures output.new) }
+    ensures refused { IfErr result (λ refusal. IsRefused refusal (output.new ≡ output.old)
+        (Failed (W.failures output.old) (W.failures output.new))) }
     ensures known { ¬ IsErrOf result Refusal.BadArguments }
 {
     let bytes = scenario_bytes(rt, alloc, file, input)?;

@@ -3,7 +3,7 @@
 ghost use Rattle.std.specs.Prelude.{◌≡◌, ℕ, List, IfOk, IfErr, OnOk, OnErr, IsErrOf};
 ghost use Rattle.std.specs.Io.KnownBytes.{Appends};
 ghost use Rattle.hub_replay.specs.Devices.{Failed};
-ghost use Rattle.chanhub.specs.Promises.{TellsComparison, IsFound, difference_line};
+ghost use Rattle.chanhub.specs.Promises.{TellsComparison, IsRefused, difference_line};
 
 use crate::files::read_file;
 use crate::outcome::Outcome;
@@ -40,11 +40,8 @@ fn tell_comparison<W: Sink>(
     ensures ok { IfOk result (λ outcome. TellsComparison journal.now events.now outcome
         (W.contents output.old) (W.contents output.new)) }
 
-    ensures unwritten { IfErr result (λ refusal.
-        ¬ (refusal ≡ Refusal.Write) → output.new ≡ output.old) }
-    ensures found { IfErr result (λ refusal. IsFound refusal) }
-    ensures write { IsErrOf result Refusal.Write
-        → Failed (W.failures output.old) (W.failures output.new) }
+    ensures refused { IfErr result (λ refusal. IsRefused refusal (output.new ≡ output.old)
+        (Failed (W.failures output.old) (W.failures output.new))) }
     ensures known { ¬ IsErrOf result Refusal.BadArguments }
 {
     match verify(alloc, journal, events)? {
@@ -70,11 +67,8 @@ pub(crate) fn verify_files<R: Files, W: Sink>(
     ensures ok { IfOk result (λ outcome. (journal : List ℕ) × (events : List ℕ)
         × TellsComparison journal events outcome (W.contents output.old) (W.contents output.new)) }
 
-    ensures unwritten { IfErr result (λ refusal.
-        ¬ (refusal ≡ Refusal.Write) → output.new ≡ output.old) }
-    ensures found { IfErr result (λ refusal. IsFound refusal) }
-    ensures write { IsErrOf result Refusal.Write
-        → Failed (W.failures output.old) (W.failures output.new) }
+    ensures refused { IfErr result (λ refusal. IsRefused refusal (output.new ≡ output.old)
+        (Failed (W.failures output.old) (W.failures output.new))) }
     ensures known { ¬ IsErrOf result Refusal.BadArguments }
 {
     let journal_bytes = read_file(rt, alloc, journal, MOST_JOURNAL_BYTES)?;

@@ -39,8 +39,9 @@ fn put_value(out: &mut Vec<u8>, value: Value) -> Result<(), AllocError>
     put_number(out, value.number())
 }
 
-/// Takes back the bytes from this place on where a growth was refused.
-fn undo_if_refused(
+/// The end of an append that began at this place: where a growth was refused, the bytes from there on
+/// are taken back.
+pub fn undo_if_refused(
     out: &mut Vec<u8>,
     before: usize,
     done: Result<(), AllocError>,

@@ -1,5 +1,5 @@
 use Rattle.std.proofs.Common.{◌≡◌, arith, subst}
-use Rattle.hub_crew.proofs.Loops.{map_snoc, all_snoc, one_further, all_next}
+use Rattle.hub_live.proofs.Loops.{map_snoc, all_snoc, one_further, all_next}
 use Rattle.hub_crew.proofs.crew.join_all.Goals as goal
 
 pub loop-handle-preserved-in-Some-join : goal.loop-handle-preserved-in-Some-join

@@ -1,19 +1,19 @@
-use Rattle.std.proofs.Common.{◌≡◌, ◌∷◌, List, ℕ, false, true, sym, ◌∙◌}
+use Rattle.std.proofs.Common.{false, true, sym, ◌∙◌}
 use Rattle.hub_runner.specs.Working.{asked_of}
 use Rattle.hub_runner.proofs.Workers.{leads_end, leads_again, left_stalled, left_done, onward_later, later_onward}
 use Rattle.hub_runner.proofs.worker.take_step.Goals as goal
 
-pub returns-then-stalls-clause-ok : goal.returns-then-stalls-clause-ok
-returns-then-stalls-clause-ok g c = λ words rest j chosen.
+pub returns-then-is_stalled-clause-ok : goal.returns-then-is_stalled-clause-ok
+returns-then-is_stalled-clause-ok g c = λ words rest j chosen.
     leads_end (asked_of c.args.seat.now) (asked_of c.loop.seat) (asked_of c.ask.new.seat) words c.args.step.now rest j c.args.word c.in_ok-event.event false
     (c.loop.invariant.3 words rest j chosen) c.in_ok-event.ensures.ok chosen
-    (left_stalled c.args.step.now rest c.in_ok-event.event (sym c.stalls.ensures ∙ c.if-stalls.true))
+    (left_stalled c.args.step.now rest c.in_ok-event.event (sym c.is_stalled.ensures ∙ c.if-is_stalled.true))
 
 pub returns-then-not-repeats-clause-ok : goal.returns-then-not-repeats-clause-ok
 returns-then-not-repeats-clause-ok g c = λ words rest j chosen.
     leads_end (asked_of c.args.seat.now) (asked_of c.loop.seat) (asked_of c.ask.new.seat) words c.args.step.now rest j c.args.word c.in_ok-event.event true
     (c.loop.invariant.3 words rest j chosen) c.in_ok-event.ensures.ok chosen
-    (left_done c.args.step.now rest c.in_ok-event.event (sym c.stalls.ensures ∙ c.if-stalls.false) (sym c.repeats.ensures ∙ c.if-not-repeats.true))
+    (left_done c.args.step.now rest c.in_ok-event.event (sym c.is_stalled.ensures ∙ c.if-is_stalled.false) (sym c.repeats.ensures ∙ c.if-not-repeats.true))
 
 pub loop-preserved : goal.loop-preserved
 loop-preserved g c = (
@@ -22,5 +22,5 @@ loop-preserved g c = (
   later_onward c.args.seat.now c.ask.new.seat (onward_later c.args.seat.now c.loop.seat c.ask.new.seat c.loop.invariant.2 c.in_ok-event.ensures.later),
   λ words rest j chosen.
       leads_again (asked_of c.args.seat.now) (asked_of c.loop.seat) (asked_of c.ask.new.seat) words c.args.step.now rest j c.args.word c.in_ok-event.event
-      (c.loop.invariant.3 words rest j chosen) c.in_ok-event.ensures.ok chosen (sym c.stalls.ensures ∙ c.if-stalls.false) (sym c.repeats.ensures ∙ c.if-not-repeats.false),
+      (c.loop.invariant.3 words rest j chosen) c.in_ok-event.ensures.ok chosen (sym c.is_stalled.ensures ∙ c.if-is_stalled.false) (sym c.repeats.ensures ∙ c.if-not-repeats.false),
 )

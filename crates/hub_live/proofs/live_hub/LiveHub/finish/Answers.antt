@@ -4,7 +4,8 @@ use Rattle.hub_base.specs.declared.entry.Entry.{Entry}
 use Rattle.hub_base.specs.Journal.{JournalView}
 use Rattle.hub_live.specs.SeatView.{SeatView}
 use Rattle.hub_live.specs.Calls.{StandsIn}
-use Rattle.hub_live.proofs.Finishing.{stand_more, one_further, all_done}
+use Rattle.hub_live.proofs.Loops.{one_further}
+use Rattle.hub_live.proofs.Finishing.{stand_more, all_done}
 use Rattle.hub_live.proofs.live_hub.LiveHub.finish.Goals as goal
 
 pub loop-seat-preserved : goal.loop-seat-preserved

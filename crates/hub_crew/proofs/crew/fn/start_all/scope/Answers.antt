@@ -1,5 +1,5 @@
 use Rattle.std.proofs.Common.{◌≡◌, ◌∙◌, arith}
-use Rattle.hub_crew.proofs.Loops.{map_snoc, all_snoc, one_further}
+use Rattle.hub_live.proofs.Loops.{map_snoc, all_snoc, one_further}
 use Rattle.hub_crew.proofs.crew.fn.start_all.scope.Goals as goal
 
 pub loop-seat-preserved : goal.loop-seat-preserved

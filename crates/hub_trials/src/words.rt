@@ -17,6 +17,9 @@ const CALLS: u32 = 200_000;
 
 const RUNS: u32 = 10;
 
+/// One round of each workload.
+const LEAST_CALLS: u32 = 30;
+
 /// So many calls, and a few ports, have room in a journal.
 const MOST_CALLS: u32 = 900_000;
 
@@ -29,10 +32,10 @@ fn soak_of(seconds: &str, seed: &str) -> Option<Trial> {
 }
 
 fn times_of(calls: u32, runs: u32) -> Option<Trial>
-    ensures calls { IsSome result → (8 ≤ calls) × (calls ≤ 900000) }
+    ensures calls { IsSome result → (30 ≤ calls) × (calls ≤ 900000) }
     ensures runs { IsSome result → (1 ≤ runs) × (runs ≤ 1000) }
 {
-    if (8..=MOST_CALLS).contains(&calls) && (1..=MOST_RUNS).contains(&runs) {
+    if (LEAST_CALLS..=MOST_CALLS).contains(&calls) && (1..=MOST_RUNS).contains(&runs) {
         Some(Trial::Times { calls, runs })
     } else {
         None

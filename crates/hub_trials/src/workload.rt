@@ -18,17 +18,23 @@ pub enum Workload {
     FourToFour,
     /// Four producers, each with a port, and a consumer that selects.
     SelectOverFour,
+    /// Five producers and three consumers of one port.
+    Pool,
+    /// Values go through eight processes, by seven ports.
+    Pipeline,
     /// So many threads look at one port, and nobody steps before its looks are made.
     Looks(u8),
 }
 
 /// In the order in which they are timed.
-pub const WORKLOADS: [Workload; 8] = [
+pub const WORKLOADS: [Workload; 10] = [
     Workload::Alone,
     Workload::PingPong,
     Workload::OneToOne,
     Workload::FourToFour,
     Workload::SelectOverFour,
+    Workload::Pool,
+    Workload::Pipeline,
     Workload::Looks(1),
     Workload::Looks(2),
     Workload::Looks(4),
@@ -56,7 +62,7 @@ impl Workload {
         match self {
             Workload::Alone => 1,
             Workload::PingPong | Workload::OneToOne => 2,
-            Workload::FourToFour => 8,
+            Workload::FourToFour | Workload::Pool | Workload::Pipeline => 8,
             Workload::SelectOverFour => 5,
             Workload::Looks(threads) => threads,
         }
@@ -64,10 +70,11 @@ impl Workload {
 
     /// The capacities of its ports, in order.
     pub fn capacities(self) -> &'static [u32]
-        ensures { length result.now ≤ 4 }
+        ensures { length result.now ≤ 7 }
     {
         match self {
-            Workload::Alone | Workload::OneToOne | Workload::FourToFour => &[64],
+            Workload::Alone | Workload::OneToOne | Workload::FourToFour | Workload::Pool => &[64],
+            Workload::Pipeline => &[64, 64, 64, 64, 64, 64, 64],
             Workload::PingPong => &[0, 0],
             Workload::SelectOverFour => &[16, 16, 16, 16],
             Workload::Looks(_) => &[0],
@@ -84,20 +91,41 @@ impl Workload {
             Workload::OneToOne | Workload::FourToFour => Role::Receive(Port(1)),
             Workload::SelectOverFour if pid.0 == 0 => Role::SelectOverFour,
             Workload::SelectOverFour => Role::Send(Port(u16::from(pid.0))),
+            Workload::Pool if pid.0 < 5 => Role::Send(Port(1)),
+            Workload::Pool => Role::Receive(Port(1)),
+            Workload::Pipeline if pid.0 == 0 => Role::Send(Port(1)),
+            Workload::Pipeline if pid.0 == 7 => Role::Receive(Port(7)),
+            Workload::Pipeline => {
+                let port = u16::from(pid.0);
+                Role::ReceiveThenSend(Port(port), Port(port + 1))
+            }
             Workload::Looks(_) => Role::Look(Port(1)),
         }
     }
 
-    /// How often a process does it, so that all processes make so many calls together, to the last
-    /// multiple of 8, or 100 times as many looks each.
-    pub fn turns(self, role: Role, calls: u32) -> u32 {
-        let eighth = calls / 8;
+    /// The calls of all its processes together come in multiples of this.
+    fn round(self) -> u32
+        ensures { 8 ≤ result }
+    {
         match self {
-            Workload::Alone | Workload::OneToOne => 4 * eighth,
-            Workload::PingPong => 2 * eighth,
-            Workload::FourToFour => eighth,
-            Workload::SelectOverFour if role == Role::SelectOverFour => 4 * eighth,
-            Workload::SelectOverFour => eighth,
+            Workload::Pool => 30,
+            Workload::Pipeline => 14,
+            _ => 8,
+        }
+    }
+
+    /// How often a process does it, so that all processes make so many calls together, to the last
+    /// whole round, or 100 times as many looks each.
+    pub fn turns(self, role: Role, calls: u32) -> u32 {
+        let rounds = calls / self.round();
+        match self {
+            Workload::Alone | Workload::OneToOne => 4 * rounds,
+            Workload::PingPong => 2 * rounds,
+            Workload::FourToFour | Workload::Pipeline => rounds,
+            Workload::SelectOverFour if role == Role::SelectOverFour => 4 * rounds,
+            Workload::SelectOverFour => rounds,
+            Workload::Pool if role == Role::Send(Port(1)) => 3 * rounds,
+            Workload::Pool => 5 * rounds,
             Workload::Looks(_) => LOOKS.saturating_mul(calls),
         }
     }
@@ -106,7 +134,7 @@ impl Workload {
     pub fn operations(self, calls: u32) -> u64 {
         match self {
             Workload::Looks(threads) => u64::from(threads) * u64::from(LOOKS.saturating_mul(calls)),
-            _ => 8 * u64::from(calls / 8),
+            _ => u64::from(self.round()) * u64::from(calls / self.round()),
         }
     }
 }
@@ -119,6 +147,8 @@ impl fmt::Display for Workload {
             Workload::OneToOne => f.write_str("one_to_one"),
             Workload::FourToFour => f.write_str("four_to_four"),
             Workload::SelectOverFour => f.write_str("select_over_four"),
+            Workload::Pool => f.write_str("pool"),
+            Workload::Pipeline => f.write_str("pipeline"),
             Workload::Looks(threads) => write!(f, "looks_{threads}"),
         }
     }

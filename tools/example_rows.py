@@ -1,5 +1,5 @@
 #!/usr/bin/env python3
-"""Prints the examples as rows of a test table: what crates/hub_replay/src/tests/examples.rt must hold."""
+"""Prints the examples as rows of a test table: what crates/hub_tests/src/replays/examples.rt must hold."""
 import glob
 import os
 

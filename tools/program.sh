@@ -144,7 +144,7 @@ count $? "refused allocations"
 "$root/tools/live_refusals.sh"
 count $? "refused allocations of the live hub"
 
-"$root/tools/example_rows.py" | cmp - "$root/crates/hub_replay/src/tests/examples.rt"
+"$root/tools/example_rows.py" | cmp - "$root/crates/hub_tests/src/replays/examples.rt"
 count $? "the rows of the examples"
 
 "$root/tools/receivers_close_nothing.sh"

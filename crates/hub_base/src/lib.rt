@@ -13,8 +13,6 @@ mod entry;
 mod event;
 mod fault;
 mod journal;
-#[cfg(test)]
-mod tests;
 mod text;
 mod value;
 

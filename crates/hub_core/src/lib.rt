@@ -14,8 +14,6 @@ mod refusals;
 mod runs;
 mod stalling;
 mod tally;
-#[cfg(test)]
-mod tests;
 mod touching;
 
 pub use hub::Hub;

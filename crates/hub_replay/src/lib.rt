@@ -12,8 +12,6 @@ mod fault;
 mod pieces;
 mod replayer;
 mod steps;
-#[cfg(test)]
-mod tests;
 mod verifier;
 
 pub use device::{Counted, Sink, Source};

@@ -7,8 +7,6 @@
 mod counting;
 mod replayed;
 mod report;
-#[cfg(test)]
-mod tests;
 mod writer;
 
 pub use report::{PortReport, Report};

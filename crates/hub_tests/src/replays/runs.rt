@@ -3,8 +3,8 @@
 use super::examples::EXAMPLES;
 use super::fakes::{Jar, Trickle, Wrong};
 use super::rows::ROWS;
-use crate::{Counted, ReplayFault, replay};
 use hub_base::{Kind, TextFault};
+use hub_replay::{Counted, ReplayFault, replay};
 use std::test::Fail;
 
 const JOURNAL: &[u8] = b"chanhub journal 1\n\

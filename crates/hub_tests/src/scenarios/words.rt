@@ -2,8 +2,8 @@
 
 ghost use Rattle.std.specs.Prelude.{◌≤◌};
 
-use crate::ChoiceWords;
 use hub_base::Pid;
+use hub_scenario::ChoiceWords;
 
 /// The first words of this process.
 fn first_words(seed: u64, pid: Pid) -> [u64; 8]

@@ -1,6 +1,6 @@
 //! Texts that are refused: at which line, and for what.
 
-use crate::{Kind, ReadFault, TextFault, read_journal};
+use hub_base::{Kind, ReadFault, TextFault, read_journal};
 use std::alloc::{AllocError, Global};
 use std::test::Fail;
 

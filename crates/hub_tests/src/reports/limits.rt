@@ -1,9 +1,9 @@
 //! As many ports as a hub can have, and texts that are appended.
 
 use super::journals::report_of;
-use crate::{PortReport, write_report};
 use hub_base::{Case, Cases, Entry, Pid, Port, Step, Value};
 use hub_core::Hub;
+use hub_report::{PortReport, write_report};
 use std::test::Fail;
 
 fn entry(step: Step) -> Entry {

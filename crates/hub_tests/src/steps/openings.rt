@@ -1,7 +1,7 @@
 //! Openings: how many processes, and which limits; and the texts of what refuses a hub or a run.
 
-use crate::{Hub, ListFault, OpenFault, run};
 use hub_base::Fault;
+use hub_core::{Hub, ListFault, OpenFault, run};
 use std::test::Fail;
 
 #[test]

@@ -1,6 +1,6 @@
 //! Files that are refused, and for what.
 
-use crate::{ScenarioFault, read_scenario};
+use hub_scenario::{ScenarioFault, read_scenario};
 use std::test::Fail;
 
 #[test]

@@ -1,8 +1,8 @@
 //! A hub, step by step: what it shows, full journals, and reservations.
 
 use super::entries::{close, exit, fired, got, make, recv, send, told};
-use crate::{Hub, ListFault, run};
 use hub_base::{Counts, Fault, Look, Outcome, Port, Value, What};
+use hub_core::{Hub, ListFault, run};
 use std::test::Fail;
 
 /// A value is sent and received, and the closed port is drained.

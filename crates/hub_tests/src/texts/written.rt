@@ -1,6 +1,6 @@
 //! Texts that are written: journals, which are read again, and events.
 
-use crate::{
+use hub_base::{
     Event, Fault, Journal, Outcome, Pid, Port, Value, What, read_journal, write_entry, write_event,
     write_head, write_journal,
 };

@@ -1,8 +1,8 @@
 //! Journals of hubs: each of their entries was admitted, so they can be reported.
 
-use crate::{Report, write_report};
 use hub_base::{Entry, read_journal};
 use hub_core::Hub;
+use hub_report::{Report, write_report};
 use std::alloc::Global;
 use std::process::Abort;
 use std::test::Fail;

@@ -1,8 +1,8 @@
 //! Runs of whole journals: texts, and the texts of their events.
 
 use super::rows::ROWS;
-use crate::run;
 use hub_base::{read_journal, write_event};
+use hub_core::run;
 use std::alloc::Global;
 use std::process::Abort;
 use std::test::Fail;

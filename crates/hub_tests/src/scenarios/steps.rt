@@ -1,7 +1,7 @@
 //! Texts of steps.
 
-use crate::{ScenarioFault, ScriptStep, read_scenario};
 use hub_base::Port;
+use hub_scenario::{ScenarioFault, ScriptStep, read_scenario};
 use std::alloc::Global;
 use std::test::Fail;
 

@@ -1,7 +1,7 @@
 //! The texts of faults.
 
-use crate::{ReplayFault, SourceFault, WriteFailed};
 use hub_base::{Kind, TextFault};
+use hub_replay::{ReplayFault, SourceFault, WriteFailed};
 use std::test::Fail;
 
 #[test]

@@ -1,8 +1,8 @@
 //! A machine: steps without a journal.
 
 use super::entries::{exit, make, recv, told};
-use crate::Machine;
 use hub_base::{Events, Fault, Pid, Port, What};
+use hub_core::Machine;
 use std::test::Fail;
 
 #[test]

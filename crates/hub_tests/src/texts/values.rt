@@ -1,6 +1,6 @@
 //! Values, cases and the numbers of faults.
 
-use crate::{Case, Cases, Fault, Port, Value, copy_cases};
+use hub_base::{Case, Cases, Fault, Port, Value, copy_cases};
 
 #[test]
 fn values_are_numbers(rt: HostRuntime) {

@@ -1,6 +1,6 @@
 //! Reading entry by entry.
 
-use crate::{Entry, Kind, Pid, Reader, Step, TextFault, write_entry};
+use hub_base::{Entry, Kind, Pid, Reader, Step, TextFault, write_entry};
 use std::test::Fail;
 
 const HEAD: &[u8] = b"chanhub journal 1\nprocs 64\n";

@@ -1,7 +1,7 @@
 //! Bytes that come and go in pieces, and devices that go wrong at each call in turn.
 
 use super::fakes::{Jar, Trickle, Wrong};
-use crate::{CHUNK, Counted, SourceFault, WriteFailed, read_up_to, write_whole};
+use hub_replay::{CHUNK, Counted, SourceFault, WriteFailed, read_up_to, write_whole};
 use std::test::Fail;
 
 const TEXT: &[u8] = b"A channel is a queue of values.";

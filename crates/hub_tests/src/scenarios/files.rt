@@ -1,7 +1,7 @@
 //! Files that are read, up to each limit and one past it.
 
-use crate::{ScenarioFault, ScriptStep, read_scenario};
 use hub_base::Port;
+use hub_scenario::{ScenarioFault, ScriptStep, read_scenario};
 use std::alloc::{AllocError, Global};
 use std::test::Fail;
 

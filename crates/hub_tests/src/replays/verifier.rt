@@ -2,8 +2,8 @@
 
 use super::examples::EXAMPLES;
 use super::rows::ROWS;
-use crate::{Compared, ReplayFault, verify};
 use hub_base::{Kind, TextFault};
+use hub_replay::{Compared, ReplayFault, verify};
 use std::test::Fail;
 
 /// The one process waits for a receiver, and nobody is left.

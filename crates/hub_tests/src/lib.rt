@@ -1,0 +1,13 @@
+//! Tests of the crates that share nothing between threads, through their public calls.
+#![tactic(auto)]
+
+#[cfg(test)]
+mod replays;
+#[cfg(test)]
+mod reports;
+#[cfg(test)]
+mod scenarios;
+#[cfg(test)]
+mod steps;
+#[cfg(test)]
+mod texts;

@@ -9,7 +9,7 @@ ghost use Rattle.hub_base.specs.Filling.{Fills};
 ghost use Rattle.hub_base.specs.declared.text.faults.Kind.TheVariants.{BadNumber};
 
 use crate::text::fields::Fields;
-use crate::text::steps::{numeral, recv_of, same_text, send_of};
+use crate::text::steps::{numeral, process, recv_of, same_text, send_of};
 use crate::{Case, Cases, Entry, Kind, Pid, Step};
 
 /// The most cases of a select.
@@ -64,7 +64,7 @@ fn choose(
     ensures { Fills result entry.new
         (choose pid.now word.now (if fine then Ok cases.items else Err BadNumber) default) }
 {
-    let pid = numeral(pid, u8::MAX.into())?;
+    let pid = process(pid)?;
     let word = numeral(word, u64::MAX)?;
     if !fine {
         return Err(Kind::BadNumber);
@@ -72,7 +72,7 @@ fn choose(
     if cases.len() == 1 && !default && word == 0 {
         return Err(Kind::BadStep);
     }
-    entry.pid = Pid(pid as u8);
+    entry.pid = Pid(pid);
     entry.step = Step::Call {
         cases,
         default,

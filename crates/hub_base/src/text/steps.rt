@@ -3,6 +3,7 @@
 //! It is read into a given entry, which may be any after a fault.
 
 ghost use Rattle.std.specs.Prelude.{◌≡◌, ◌≤◌, ◌<◌, ◌∷◌, [], false, IfOk};
+ghost use Rattle.hub_base.specs.Limits.{greatest_cap, greatest_pid, greatest_port};
 ghost use Rattle.hub_base.specs.Lines.{numeral, read_close, read_make, read_exit, read_send, read_recv, read_step, read_fields, pieces, case_of, by, call, same_text};
 ghost use Rattle.hub_base.specs.Lines.Draft.{Sends, Receives};
 ghost use Rattle.hub_base.specs.Filling.{Fills};
@@ -20,6 +21,27 @@ pub fn numeral(bytes: &[u8], most: u64) -> Result<u64, Kind>
     number(bytes, most).ok_or(Kind::BadNumber)
 }
 
+/// The number of a process that a field spells.
+pub fn process(bytes: &[u8]) -> Result<u8, Kind>
+    ensures { result ≡ numeral greatest_pid bytes.now }
+{
+    Ok(numeral(bytes, u8::MAX.into())? as u8)
+}
+
+/// The number of a port that a field spells.
+fn port_number(bytes: &[u8]) -> Result<u16, Kind>
+    ensures { result ≡ numeral greatest_port bytes.now }
+{
+    Ok(numeral(bytes, u16::MAX.into())? as u16)
+}
+
+/// The capacity that a field spells.
+fn capacity(bytes: &[u8]) -> Result<u32, Kind>
+    ensures { result ≡ numeral greatest_cap bytes.now }
+{
+    Ok(numeral(bytes, u32::MAX.into())? as u32)
+}
+
 /// Whether two fields are the same bytes.
 pub fn same_text(a: &[u8], b: &[u8]) -> bool
     ensures { result ≡ same_text a.now b.now }
@@ -31,17 +53,17 @@ pub fn same_text(a: &[u8], b: &[u8]) -> bool
 pub fn send_of(port: &[u8], value: &[u8]) -> Result<Case, Kind>
     ensures { result ≡ case_of (Sends port.now value.now) }
 {
-    let port = numeral(port, u16::MAX.into())?;
+    let port = port_number(port)?;
     let value = numeral(value, u64::MAX)?;
-    Ok(Case::Send(Port(port as u16), Value::num(value)))
+    Ok(Case::Send(Port(port), Value::num(value)))
 }
 
 /// The case that receives.
 pub fn recv_of(port: &[u8]) -> Result<Case, Kind>
     ensures { result ≡ case_of (Receives port.now) }
 {
-    let port = numeral(port, u16::MAX.into())?;
-    Ok(Case::Recv(Port(port as u16)))
+    let port = port_number(port)?;
+    Ok(Case::Recv(Port(port)))
 }
 
 /// Makes the entry a call of one case, without default and with word 0.
@@ -83,10 +105,10 @@ fn read_make(pid: &[u8], fields: &mut Fields, entry: &mut Entry) -> Result<(), K
     if fields.next_field().is_some() {
         return Err(Kind::BadStep);
     }
-    let pid = numeral(pid, u8::MAX.into())?;
-    let cap = numeral(cap, u32::MAX.into())?;
-    entry.pid = Pid(pid as u8);
-    entry.step = Step::Make(cap as u32);
+    let pid = process(pid)?;
+    let cap = capacity(cap)?;
+    entry.pid = Pid(pid);
+    entry.step = Step::Make(cap);
     Ok(())
 }
 
@@ -103,9 +125,9 @@ fn read_send(pid: &[u8], fields: &mut Fields, entry: &mut Entry) -> Result<(), K
     if fields.next_field().is_some() {
         return Err(Kind::BadStep);
     }
-    let pid = numeral(pid, u8::MAX.into())?;
+    let pid = process(pid)?;
     let case = send_of(port, value)?;
-    set_call(entry, pid as u8, case);
+    set_call(entry, pid, case);
     Ok(())
 }
 
@@ -119,9 +141,9 @@ fn read_recv(pid: &[u8], fields: &mut Fields, entry: &mut Entry) -> Result<(), K
     if fields.next_field().is_some() {
         return Err(Kind::BadStep);
     }
-    let pid = numeral(pid, u8::MAX.into())?;
+    let pid = process(pid)?;
     let case = recv_of(port)?;
-    set_call(entry, pid as u8, case);
+    set_call(entry, pid, case);
     Ok(())
 }
 
@@ -135,10 +157,10 @@ fn read_close(pid: &[u8], fields: &mut Fields, entry: &mut Entry) -> Result<(), 
     if fields.next_field().is_some() {
         return Err(Kind::BadStep);
     }
-    let pid = numeral(pid, u8::MAX.into())?;
-    let port = numeral(port, u16::MAX.into())?;
-    entry.pid = Pid(pid as u8);
-    entry.step = Step::Close(Port(port as u16));
+    let pid = process(pid)?;
+    let port = port_number(port)?;
+    entry.pid = Pid(pid);
+    entry.step = Step::Close(Port(port));
     Ok(())
 }
 
@@ -149,8 +171,8 @@ fn read_exit(pid: &[u8], fields: &mut Fields, entry: &mut Entry) -> Result<(), K
     if fields.next_field().is_some() {
         return Err(Kind::BadStep);
     }
-    let pid = numeral(pid, u8::MAX.into())?;
-    entry.pid = Pid(pid as u8);
+    let pid = process(pid)?;
+    entry.pid = Pid(pid);
     entry.step = Step::Exit;
     Ok(())
 }

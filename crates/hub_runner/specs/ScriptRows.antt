@@ -1,12 +1,11 @@
 -- Worked rows: what processes asked in some journals, and that it follows their scripts.
-use Rattle.std.specs.Prelude.{◌≡◌, ℕ, ◌+◌, true, false, List, [], ◌∷◌, Some, refl}
-use Rattle.hub_base.specs.declared.event.Outcome.TheVariants.{Sent, Drained, Closed}
+use Rattle.std.specs.Prelude.{◌≡◌, ℕ, ◌+◌, true, List, [], ◌∷◌, Some, refl}
+use Rattle.hub_base.specs.declared.event.Outcome.TheVariants.{Drained, Closed}
 use Rattle.hub_base.specs.declared.entry.Entry.{Entry}
-use Rattle.hub_base.specs.Notation.{port, s, r, make, send, recv, close, exit, select, case, told, got, stalled, done}
+use Rattle.hub_base.specs.Notation.{port, s, r, make, send, recv, close, exit, select, case, got, done}
 use Rattle.hub_base.specs.Value.{value_of}
-use Rattle.hub_scenario.specs.declared.script.ScriptStep.{ScriptStep}
 use Rattle.hub_scenario.specs.declared.script.ScriptStep.TheVariants.{Send, Recv, Select, Close, Range}
-use Rattle.hub_runner.specs.Asked.{Asked, asked}
+use Rattle.hub_runner.specs.Asked.{asked}
 use Rattle.hub_runner.specs.Scripts.{Follows, MakesThenFollows}
 
 -- word j is 10 and j

@@ -7,9 +7,11 @@
 mod fault;
 mod following;
 mod gate;
+mod laws;
 mod runner;
 mod worker;
 
 pub use fault::RunFault;
 pub use gate::{Gate, NoGate};
+pub use laws::own_entries_are_asked;
 pub use runner::run_scenario;

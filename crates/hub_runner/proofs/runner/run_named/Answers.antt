@@ -1,6 +1,5 @@
 use Rattle.std.proofs.Common.{◌≡◌, ◌∙◌, ap, map, List, length, arith, vec_len}
 use Rattle.hub_live.specs.SeatView.{SeatView}
-use Rattle.hub_live.specs.Calls.{AreSeats}
 use Rattle.hub_scenario.specs.Scenario.{scenario_view}
 use Rattle.hub_runner.proofs.Runs.{all_follow, count_scripts}
 use Rattle.hub_runner.proofs.runner.run_named.Goals as goal

@@ -1,4 +1,4 @@
-use Rattle.std.proofs.Common.{rules, ◌≤◌, ◌≡◌, ◌∷◌, ◌+◌, ℕ, Bool, [], sym, ap, ◌∙◌, drop, subst, arith}
+use Rattle.std.proofs.Common.{rules, ◌≤◌, ◌≡◌, ◌∷◌, ◌+◌, ℕ, Bool, sym, ap, ◌∙◌, drop, subst, arith}
 use Rattle.hub_scenario.specs.declared.script.ScriptStep.{ScriptStep}
 use Rattle.hub_scenario.specs.ChoiceWords.{choice_word}
 use Rattle.hub_runner.specs.Scripts.{asks, taken_after}

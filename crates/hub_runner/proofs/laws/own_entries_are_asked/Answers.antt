@@ -1,0 +1,8 @@
+use Rattle.hub_runner.proofs.Askings.{asked-steps, asked-last}
+use Rattle.hub_runner.proofs.laws.own_entries_are_asked.Goals as goal
+
+pub returns-clause-steps : goal.returns-clause-steps
+returns-clause-steps c = asked-steps
+
+pub returns-clause-last : goal.returns-clause-last
+returns-clause-last c = asked-last

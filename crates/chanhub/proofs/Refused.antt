@@ -1,9 +1,10 @@
 -- What a `?` hands over, and what a replay's fault is to the program.
-use Rattle.std.proofs.Common.{◌≡◌, refl, sym, subst, Result, Ok, Err, IfErr, IsErr, IsErrAnd}
+use Rattle.std.proofs.Common.{◌≡◌, ℕ, List, Option, inl, refl, sym, subst, Result, Ok, Err, IfErr, IsErr, IsErrAnd}
 use Rattle.hub_base.specs.declared.text.faults.TextFault.{TextFault}
 use Rattle.hub_replay.specs.declared.fault.ReplayFault.{ReplayFault}
 use Rattle.hub_replay.specs.declared.fault.ReplayFault.TheVariants as fault
-use Rattle.chanhub.specs.declared.refusal.Refusal.TheVariants.{Write, Journal}
+use Rattle.hub_replay.specs.Replay.{ReadsFaulty}
+use Rattle.chanhub.specs.declared.refusal.Refusal.TheVariants.{Write}
 use Rattle.chanhub.specs.Promises.{IsFound}
 use Rattle.chanhub.specs.Refusals.{of_replay}
 use Rattle.chanhub.specs.Statuses.{status_of}
@@ -31,11 +32,12 @@ but_other P fault.Read write is = cc
 but_other P fault.Write write is = write refl
 but_other P fault.NoMemory write is = cc
 
-pub found : (f : ReplayFault) → ((at : TextFault) → f ≡ fault.Text at → IsFound (Journal at)) → IsFound (of_replay f)
-found (fault.Text at) text = text at refl
-found fault.Read text = tt
-found fault.Write text = tt
-found fault.NoMemory text = tt
+pub found : (unread left : Option (List ℕ)) (failed : Type 0) (f : ReplayFault) → ((at : TextFault) → f ≡ fault.Text at → ReadsFaulty unread left at) → (f ≡ fault.Read → failed) →
+    IsFound (of_replay f) unread left failed
+found unread left failed (fault.Text at) text read = inl (text at refl)
+found unread left failed fault.Read text read = inl (read refl)
+found unread left failed fault.Write text read = tt
+found unread left failed fault.NoMemory text read = tt
 
 -- the text alone has status 2
 pub of_text : (P : Type 0) (f : ReplayFault) → ((at : TextFault) → f ≡ fault.Text at → P) → status_of (of_replay f) ≡ 2 → P

@@ -5,7 +5,7 @@ use Rattle.std.specs.Io.KnownBytes.{Consumes, Appends, IsAtEnd}
 use Rattle.hub_base.specs.Reading.{text}
 use Rattle.hub_base.specs.Text.{IsFaulty}
 use Rattle.hub_laws.specs.Journals.{IsLegal}
-use Rattle.hub_replay.specs.Replay.{IsEventText, Replays}
+use Rattle.hub_replay.specs.Replay.{IsEventText, Replays, ReadsFaulty}
 use Rattle.hub_replay.specs.Verify.{DiffersAt}
 use Rattle.hub_report.specs.declared.report.Report.{Report}
 use Rattle.hub_report.specs.ReportText.{report_text}
@@ -89,19 +89,51 @@ HasDone words outcome unread left held holds =
     HasReplayed words outcome unread left held holds
     ⊎ (HasVerified words outcome held holds ⊎ HasRun words outcome unread left held holds)
 
--- some bytes that were read are malformed, where that is the refusal
-abbrev pub IsFound : Refusal → Type 0
-IsFound (refusal.Journal fault) = (bytes : List ℕ) × IsFaulty bytes fault.line fault.kind
-IsFound (refusal.Scenario fault) = (bytes : List ℕ) × (reading bytes ≡ Err fault)
-IsFound refusal.BadArguments = Unit {0}
-IsFound refusal.Read = Unit {0}
-IsFound refusal.Write = Unit {0}
-IsFound refusal.NoMemory = Unit {0}
-IsFound refusal.JournalFull = Unit {0}
+-- ---- refusals
+-- why these bytes are not run
+abbrev pub RefusesRun : List ℕ → Refusal → Type 0
+RefusesRun bytes (refusal.Scenario fault) = reading bytes ≡ Err fault
+RefusesRun bytes refusal.JournalFull = Unit {0}
+RefusesRun bytes refusal.NoMemory = Unit {0}
+RefusesRun bytes refusal.Write = Unit {0}
+RefusesRun bytes (refusal.Journal fault) = ⊥
+RefusesRun bytes refusal.Read = ⊥
+RefusesRun bytes refusal.BadArguments = ⊥
 
--- a refusal of a command: the output is as it was, but for a failed write; what was malformed was found so; and a write
--- is told only where one failed
+-- why nothing is compared with this journal
+abbrev pub RefusesComparison : List ℕ → Refusal → Type 0
+RefusesComparison journal (refusal.Journal fault) = IsFaulty journal fault.line fault.kind
+RefusesComparison journal refusal.NoMemory = Unit {0}
+RefusesComparison journal refusal.Write = Unit {0}
+RefusesComparison journal (refusal.Scenario fault) = ⊥
+RefusesComparison journal refusal.JournalFull = ⊥
+RefusesComparison journal refusal.Read = ⊥
+RefusesComparison journal refusal.BadArguments = ⊥
+
+-- why two files are not compared; of their bytes nothing is known
+abbrev pub RefusesFiles : Refusal → Type 0
+RefusesFiles (refusal.Journal fault) = (journal : List ℕ) × IsFaulty journal fault.line fault.kind
+RefusesFiles refusal.NoMemory = Unit {0}
+RefusesFiles refusal.Read = Unit {0}
+RefusesFiles refusal.Write = Unit {0}
+RefusesFiles (refusal.Scenario fault) = ⊥
+RefusesFiles refusal.JournalFull = ⊥
+RefusesFiles refusal.BadArguments = ⊥
+
+-- why a command is refused, in what it was given. What is malformed was read: from standard input, or, where that was
+-- left alone, from a file. A read failed there, or that of a file
+abbrev pub IsFound : Refusal → (unread left : Option (List ℕ)) → (failed : Type 0) → Type 0
+IsFound (refusal.Journal fault) unread left failed =
+    ReadsFaulty unread left fault ⊎ ((left ≡ unread) × RefusesFiles (refusal.Journal fault))
+IsFound (refusal.Scenario fault) unread left failed =
+    (bytes : List ℕ) × TakesScenario unread left bytes × (reading bytes ≡ Err fault)
+IsFound refusal.Read unread left failed = failed ⊎ (left ≡ unread)
+IsFound refusal.BadArguments unread left failed = left ≡ unread
+IsFound refusal.JournalFull unread left failed = Unit {0}
+IsFound refusal.NoMemory unread left failed = Unit {0}
+IsFound refusal.Write unread left failed = Unit {0}
+
+-- what a refusal leaves: the output is as it was, but for a failed write, which is told only where a write failed
 pub record IsRefused (why : Refusal) (unchanged failed : Type 0) : Type 0 where
   pub unwritten : ¬ (why ≡ refusal.Write) → unchanged
-  pub found : IsFound why
   pub write : why ≡ refusal.Write → failed

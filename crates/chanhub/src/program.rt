@@ -35,6 +35,9 @@ fn carry_out<R: Files + AllocGlobal + Threads + Wait + Sync, T: AsStr, S: Source
 
     ensures refused { IfErr result (λ refusal. IsRefused refusal (output.new ≡ output.old)
         (Failed (W.failures output.old) (W.failures output.new))) }
+    ensures found { IfErr result (λ refusal. IsFound refusal
+        (S.remaining input.old) (S.remaining input.new)
+        (Failed (S.failures input.old) (S.failures input.new))) }
     ensures unread { IsErrOf result Refusal.BadArguments → input.new ≡ input.old }
     ensures option { HasUnknownOption (map T.text words.now)
         → IsErrOf result Refusal.BadArguments }
@@ -73,7 +76,9 @@ pub fn run_words<
 
     // 1 and 2: why not is told to `errors`.
     ensures refused { (result ≡ 1) ⊎ (result ≡ 2) → (refusal : Refusal)
-        × (result ≡ status_of refusal) × IsFound refusal
+        × (result ≡ status_of refusal)
+        × IsFound refusal (S.remaining input.old) (S.remaining input.new)
+        (Failed (S.failures input.old) (S.failures input.new))
         × AppendsBeginning (X.contents errors.old) (X.contents errors.new) (fault_line refusal) }
     ensures unwritten { (result ≡ 1) → (output.new ≡ output.old)
         ⊎ Failed (W.failures output.old) (W.failures output.new) }

@@ -2,7 +2,7 @@
 
 ghost use Rattle.std.specs.Prelude.{◌≡◌, ◌≤◌, ℕ, List, IfOk, IfErr, IsErrOf, IsSome, IsNone};
 ghost use Rattle.hub_replay.specs.Devices.{Failed};
-ghost use Rattle.chanhub.specs.Promises.{RunsScenario, ReadsScenario, TakesScenario, IsRefused, TellsStalls, printed};
+ghost use Rattle.chanhub.specs.Promises.{RunsScenario, ReadsScenario, TakesScenario, IsFound, IsRefused, RefusesRun, TellsStalls, printed};
 
 use crate::files::read_file;
 use crate::outcome::Outcome;
@@ -80,6 +80,7 @@ fn run_bytes<R: Threads + Wait + Sync, W: Sink>(
 
     ensures refused { IfErr result (λ refusal. IsRefused refusal (output.new ≡ output.old)
         (Failed (W.failures output.old) (W.failures output.new))) }
+    ensures found { IfErr result (λ refusal. RefusesRun bytes.now refusal) }
     ensures known { ¬ IsErrOf result Refusal.BadArguments }
 {
     let scenario = read_scenario(alloc, bytes)?;
@@ -104,6 +105,10 @@ pub(crate) fn run_from<R: Files + Threads + Wait + Sync, S: Source, W: Sink>(
 
     ensures refused { IfErr result (λ refusal. IsRefused refusal (output.new ≡ output.old)
         (Failed (W.failures output.old) (W.failures output.new))) }
+    ensures found { IfErr result (λ refusal. IsFound refusal
+        (S.remaining input.old) (S.remaining input.new)
+        (Failed (S.failures input.old) (S.failures input.new))) }
+    ensures file { IsSome file.entry → input.new ≡ input.old }
     ensures known { ¬ IsErrOf result Refusal.BadArguments }
 {
     let bytes = scenario_bytes(rt, alloc, file, input)?;

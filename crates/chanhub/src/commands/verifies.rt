@@ -3,7 +3,7 @@
 ghost use Rattle.std.specs.Prelude.{◌≡◌, ℕ, List, IfOk, IfErr, OnOk, OnErr, IsErrOf};
 ghost use Rattle.std.specs.Io.KnownBytes.{Appends};
 ghost use Rattle.hub_replay.specs.Devices.{Failed};
-ghost use Rattle.chanhub.specs.Promises.{TellsComparison, IsRefused, difference_line};
+ghost use Rattle.chanhub.specs.Promises.{TellsComparison, IsRefused, RefusesComparison, RefusesFiles, difference_line};
 
 use crate::files::read_file;
 use crate::outcome::Outcome;
@@ -42,6 +42,7 @@ fn tell_comparison<W: Sink>(
 
     ensures refused { IfErr result (λ refusal. IsRefused refusal (output.new ≡ output.old)
         (Failed (W.failures output.old) (W.failures output.new))) }
+    ensures found { IfErr result (λ refusal. RefusesComparison journal.now refusal) }
     ensures known { ¬ IsErrOf result Refusal.BadArguments }
 {
     match verify(alloc, journal, events)? {
@@ -69,6 +70,7 @@ pub(crate) fn verify_files<R: Files, W: Sink>(
 
     ensures refused { IfErr result (λ refusal. IsRefused refusal (output.new ≡ output.old)
         (Failed (W.failures output.old) (W.failures output.new))) }
+    ensures found { IfErr result (λ refusal. RefusesFiles refusal) }
     ensures known { ¬ IsErrOf result Refusal.BadArguments }
 {
     let journal_bytes = read_file(rt, alloc, journal, MOST_JOURNAL_BYTES)?;

@@ -11,10 +11,15 @@ returns-in_err-replay-clause-refused g c =
           (λ at is. (c.in_err-replay.ensures.text at (ap (λ f. Err f) is)).1)
           (λ is. (c.in_err-replay.ensures.read (ap (λ f. Err f) is)).1)
           (λ is. c.in_err-replay.ensures.memory (ap (λ f. Err f) is));
-      found = found c.in_err-replay.field-0.0
-          (λ at is. let faulty = (c.in_err-replay.ensures.text at (ap (λ f. Err f) is)).0 in (faulty.bytes, faulty.faulty));
       write = but_other _ c.in_err-replay.field-0.0 (λ is. (c.in_err-replay.ensures.write (ap (λ f. Err f) is)).0);
     })
+
+pub returns-in_err-replay-clause-found : goal.returns-in_err-replay-clause-found
+returns-in_err-replay-clause-found g c =
+    handed _ of_replay _ _ c.from_residual.ensures
+    (found _ _ _ c.in_err-replay.field-0.0
+    (λ at is. (c.in_err-replay.ensures.text at (ap (λ f. Err f) is)).0)
+    (λ is. (c.in_err-replay.ensures.read (ap (λ f. Err f) is)).0))
 
 pub returns-in_err-replay-clause-faulty : goal.returns-in_err-replay-clause-faulty
 returns-in_err-replay-clause-faulty g c =

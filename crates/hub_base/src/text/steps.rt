@@ -11,7 +11,7 @@ ghost use Rattle.hub_base.specs.Filling.{Fills};
 use crate::text::fields::Fields;
 use crate::text::numbers::number;
 use crate::text::selects::read_select;
-use crate::{Case, Cases, Entry, Kind, Pid, Port, Step, Value};
+use crate::{Case, Cases, CasesExt, Entry, Kind, Pid, Port, Step, Value};
 
 /// The number that a field spells.
 pub fn numeral(bytes: &[u8], most: u64) -> Result<u64, Kind>
@@ -66,13 +66,12 @@ pub fn recv_of(port: &[u8]) -> Result<Case, Kind>
     Ok(Case::Recv(Port(port)))
 }
 
-/// Makes the entry a call of one case, without default and with word 0.
-fn set_call(entry: &mut Entry, pid: u8, case: Case)
-    ensures { entry.new ≡ by pid (call (case ∷ []) false 0) }
+/// Makes the step a call of one case, without default and with word 0.
+fn set_call(step: &mut Step, case: Case)
+    ensures { step.new ≡ call (case ∷ []) false 0 }
 {
-    entry.pid = Pid(pid);
     // A call that stands there already is changed in place, since a new one is some 290 bytes.
-    match &mut entry.step {
+    match step {
         Step::Call {
             cases,
             default,
@@ -84,10 +83,8 @@ fn set_call(entry: &mut Entry, pid: u8, case: Case)
             *word = 0;
         }
         _ => {
-            let mut cases = Cases::new();
-            cases.push(case);
-            entry.step = Step::Call {
-                cases,
+            *step = Step::Call {
+                cases: Cases::one(case),
                 default: false,
                 word: 0,
             };
@@ -127,7 +124,8 @@ fn read_send(pid: &[u8], fields: &mut Fields, entry: &mut Entry) -> Result<(), K
     }
     let pid = process(pid)?;
     let case = send_of(port, value)?;
-    set_call(entry, pid, case);
+    entry.pid = Pid(pid);
+    set_call(&mut entry.step, case);
     Ok(())
 }
 
@@ -143,7 +141,8 @@ fn read_recv(pid: &[u8], fields: &mut Fields, entry: &mut Entry) -> Result<(), K
     }
     let pid = process(pid)?;
     let case = recv_of(port)?;
-    set_call(entry, pid, case);
+    entry.pid = Pid(pid);
+    set_call(&mut entry.step, case);
     Ok(())
 }
 

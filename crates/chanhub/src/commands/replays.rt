@@ -29,6 +29,8 @@ pub(crate) fn replay_input<S: Source, W: Sink>(
         (Failed (S.failures input.old) (S.failures input.new))) }
     ensures faulty { IfErr result (λ refusal. status_of refusal ≡ 2 → (fault : TextFault)
         × ReadsFaulty (S.remaining input.old) (S.remaining input.new) fault) }
+    ensures read { IsErrOf result Refusal.Read
+        → Failed (S.failures input.old) (S.failures input.new) }
     ensures known { ¬ IsErrOf result Refusal.BadArguments }
 {
     replay(alloc, input, output)?;

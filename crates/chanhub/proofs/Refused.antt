@@ -1,11 +1,11 @@
 -- What a `?` hands over, and what a replay's fault is to the program.
-use Rattle.std.proofs.Common.{◌≡◌, ℕ, List, Option, inl, refl, sym, subst, Result, Ok, Err, IfErr, IsErr, IsErrAnd}
+use Rattle.std.proofs.Common.{◌≡◌, ℕ, List, Option, refl, sym, subst, Result, Ok, Err, IfErr, IsErr, IsErrAnd}
 use Rattle.hub_base.specs.declared.text.faults.TextFault.{TextFault}
 use Rattle.hub_replay.specs.declared.fault.ReplayFault.{ReplayFault}
 use Rattle.hub_replay.specs.declared.fault.ReplayFault.TheVariants as fault
 use Rattle.hub_replay.specs.Replay.{ReadsFaulty}
 use Rattle.chanhub.specs.declared.refusal.Refusal.TheVariants.{Write}
-use Rattle.chanhub.specs.Promises.{IsFound}
+use Rattle.chanhub.specs.Promises.{RefusesReplay}
 use Rattle.chanhub.specs.Refusals.{of_replay}
 use Rattle.chanhub.specs.Statuses.{status_of}
 
@@ -33,9 +33,9 @@ but_other P fault.Write write is = write refl
 but_other P fault.NoMemory write is = cc
 
 pub found : (unread left : Option (List ℕ)) (failed : Type 0) (f : ReplayFault) → ((at : TextFault) → f ≡ fault.Text at → ReadsFaulty unread left at) → (f ≡ fault.Read → failed) →
-    IsFound (of_replay f) unread left failed
-found unread left failed (fault.Text at) text read = inl (text at refl)
-found unread left failed fault.Read text read = inl (read refl)
+    RefusesReplay unread left failed (of_replay f)
+found unread left failed (fault.Text at) text read = text at refl
+found unread left failed fault.Read text read = read refl
 found unread left failed fault.Write text read = tt
 found unread left failed fault.NoMemory text read = tt
 

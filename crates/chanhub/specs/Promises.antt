@@ -61,8 +61,8 @@ pub record ReadsScenario (unread left : Option (List ℕ)) (bytes : List ℕ) : 
   pub end : length bytes ≤ most_bytes → IsAtEnd left
 
 -- they are of standard input; or that was left alone, and they are a named file's
-abbrev pub TakesScenario : (unread left : Option (List ℕ)) → List ℕ → Type 0
-TakesScenario unread left bytes = ReadsScenario unread left bytes ⊎ (left ≡ unread)
+abbrev pub TakesScenario : (unread left : Option (List ℕ)) → (alone : Type 0) → List ℕ → Type 0
+TakesScenario unread left alone bytes = ReadsScenario unread left bytes ⊎ alone
 
 -- ---- the program
 pub record HasReplayed (words : List (List ℕ)) (outcome : Outcome) (unread left held holds : Option (List ℕ)) : Type 0 where
@@ -70,24 +70,25 @@ pub record HasReplayed (words : List (List ℕ)) (outcome : Outcome) (unread lef
   pub done : outcome ≡ Done
   pub replays : Replays unread left held holds
 
-pub record HasVerified (words : List (List ℕ)) (outcome : Outcome) (held holds : Option (List ℕ)) : Type 0 where
+pub record HasVerified (words : List (List ℕ)) (outcome : Outcome) (alone : Type 0) (held holds : Option (List ℕ)) : Type 0 where
   pub asked : AsksFor (codes "verify") words
+  pub untouched : alone
   pub journal : List ℕ
   pub events : List ℕ
   pub tells : TellsComparison journal events outcome held holds
 
-pub record HasRun (words : List (List ℕ)) (outcome : Outcome) (unread left held holds : Option (List ℕ)) : Type 0 where
+pub record HasRun (words : List (List ℕ)) (outcome : Outcome) (unread left : Option (List ℕ)) (alone : Type 0) (held holds : Option (List ℕ)) : Type 0 where
   pub asked : AsksFor (codes "run") words
   pub bytes : List ℕ
-  pub taken : TakesScenario unread left bytes
+  pub taken : TakesScenario unread left alone bytes
   pub journal : Bool
   pub runs : RunsScenario bytes journal outcome held holds
 
 -- what it was asked for by its arguments was done, with this outcome
-abbrev pub HasDone : List (List ℕ) → Outcome → (unread left held holds : Option (List ℕ)) → Type 0
-HasDone words outcome unread left held holds =
+abbrev pub HasDone : List (List ℕ) → Outcome → (unread left : Option (List ℕ)) → (alone : Type 0) → (held holds : Option (List ℕ)) → Type 0
+HasDone words outcome unread left alone held holds =
     HasReplayed words outcome unread left held holds
-    ⊎ (HasVerified words outcome held holds ⊎ HasRun words outcome unread left held holds)
+    ⊎ (HasVerified words outcome alone held holds ⊎ HasRun words outcome unread left alone held holds)
 
 -- ---- refusals
 -- why these bytes are not run
@@ -120,18 +121,39 @@ RefusesFiles (refusal.Scenario fault) = ⊥
 RefusesFiles refusal.JournalFull = ⊥
 RefusesFiles refusal.BadArguments = ⊥
 
--- why a command is refused, in what it was given. What is malformed was read: from standard input, or, where that was
--- left alone, from a file. A read failed there, or that of a file
-abbrev pub IsFound : Refusal → (unread left : Option (List ℕ)) → (failed : Type 0) → Type 0
-IsFound (refusal.Journal fault) unread left failed =
-    ReadsFaulty unread left fault ⊎ ((left ≡ unread) × RefusesFiles (refusal.Journal fault))
-IsFound (refusal.Scenario fault) unread left failed =
-    (bytes : List ℕ) × TakesScenario unread left bytes × (reading bytes ≡ Err fault)
-IsFound refusal.Read unread left failed = failed ⊎ (left ≡ unread)
-IsFound refusal.BadArguments unread left failed = left ≡ unread
-IsFound refusal.JournalFull unread left failed = Unit {0}
-IsFound refusal.NoMemory unread left failed = Unit {0}
-IsFound refusal.Write unread left failed = Unit {0}
+-- why the bytes on standard input are not replayed
+abbrev pub RefusesReplay : (unread left : Option (List ℕ)) → (failed : Type 0) → Refusal → Type 0
+RefusesReplay unread left failed (refusal.Journal fault) = ReadsFaulty unread left fault
+RefusesReplay unread left failed refusal.Read = failed
+RefusesReplay unread left failed refusal.NoMemory = Unit {0}
+RefusesReplay unread left failed refusal.Write = Unit {0}
+RefusesReplay unread left failed (refusal.Scenario fault) = ⊥
+RefusesReplay unread left failed refusal.JournalFull = ⊥
+RefusesReplay unread left failed refusal.BadArguments = ⊥
+
+-- why no scenario is run. A malformed one was read: from standard input, or, where that was left alone, from a file.
+-- A read failed there, or that of a file
+abbrev pub RefusesScenario : (unread left : Option (List ℕ)) → (alone failed : Type 0) → Refusal → Type 0
+RefusesScenario unread left alone failed (refusal.Scenario fault) =
+    (bytes : List ℕ) × TakesScenario unread left alone bytes × (reading bytes ≡ Err fault)
+RefusesScenario unread left alone failed refusal.Read = failed ⊎ alone
+RefusesScenario unread left alone failed refusal.JournalFull = Unit {0}
+RefusesScenario unread left alone failed refusal.NoMemory = Unit {0}
+RefusesScenario unread left alone failed refusal.Write = Unit {0}
+RefusesScenario unread left alone failed (refusal.Journal fault) = ⊥
+RefusesScenario unread left alone failed refusal.BadArguments = ⊥
+
+-- why the arguments are not carried out: they are no command's, or memory was refused to their reading
+abbrev pub RefusesArguments : Refusal → Type 0
+RefusesArguments why = (why ≡ refusal.BadArguments) ⊎ (why ≡ refusal.NoMemory)
+
+-- why it was not done what its arguments asked for: each command has its own refusals. Only a replay, and a run of a
+-- scenario that no file holds, touch standard input
+abbrev pub HasRefused : List (List ℕ) → Refusal → (unread left : Option (List ℕ)) → (alone failed : Type 0) → Type 0
+HasRefused words why unread left alone failed =
+    (AsksForReplay words × RefusesReplay unread left failed why)
+    ⊎ ((AsksFor (codes "verify") words × alone × RefusesFiles why)
+    ⊎ ((AsksFor (codes "run") words × RefusesScenario unread left alone failed why) ⊎ (alone × RefusesArguments why)))
 
 -- what a refusal leaves: the output is as it was, but for a failed write, which is told only where a write failed
 pub record IsRefused (why : Refusal) (unchanged failed : Type 0) : Type 0 where

@@ -8,7 +8,7 @@ ghost use Rattle.hub_words.specs.Words.{AsksForReplay, HasUnknownOption};
 ghost use Rattle.chanhub.specs.declared.outcome.Outcome.{Outcome};
 ghost use Rattle.chanhub.specs.declared.refusal.Refusal.{Refusal};
 ghost use Rattle.chanhub.specs.FaultLines.{fault_line};
-ghost use Rattle.chanhub.specs.Promises.{HasDone, IsFound, IsRefused};
+ghost use Rattle.chanhub.specs.Promises.{HasDone, HasRefused, IsRefused};
 ghost use Rattle.chanhub.specs.Statuses.{status_of, status_of_outcome};
 
 use crate::commands::{replay_input, run_from, verify_files};
@@ -30,13 +30,13 @@ fn carry_out<R: Files + AllocGlobal + Threads + Wait + Sync, T: AsStr, S: Source
     output: &mut W,
 ) -> Result<Outcome, Refusal>
     ensures done { IfOk result (λ outcome. HasDone (map T.text words.now) outcome
-        (S.remaining input.old) (S.remaining input.new)
+        (S.remaining input.old) (S.remaining input.new) (input.new ≡ input.old)
         (W.contents output.old) (W.contents output.new)) }
 
     ensures refused { IfErr result (λ refusal. IsRefused refusal (output.new ≡ output.old)
         (Failed (W.failures output.old) (W.failures output.new))) }
-    ensures found { IfErr result (λ refusal. IsFound refusal
-        (S.remaining input.old) (S.remaining input.new)
+    ensures found { IfErr result (λ refusal. HasRefused (map T.text words.now) refusal
+        (S.remaining input.old) (S.remaining input.new) (input.new ≡ input.old)
         (Failed (S.failures input.old) (S.failures input.new))) }
     ensures unread { IsErrOf result Refusal.BadArguments → input.new ≡ input.old }
     ensures option { HasUnknownOption (map T.text words.now)
@@ -70,14 +70,15 @@ pub fn run_words<
     ensures done { ¬ (result ≡ 1) → ¬ (result ≡ 2) → (outcome : Outcome)
         × (result ≡ status_of_outcome outcome)
         × HasDone (map T.text words.now) outcome
-        (S.remaining input.old) (S.remaining input.new)
+        (S.remaining input.old) (S.remaining input.new) (input.new ≡ input.old)
         (W.contents output.old) (W.contents output.new) }
     ensures silent { ¬ (result ≡ 1) → ¬ (result ≡ 2) → errors.new ≡ errors.old }
 
     // 1 and 2: why not is told to `errors`.
     ensures refused { (result ≡ 1) ⊎ (result ≡ 2) → (refusal : Refusal)
         × (result ≡ status_of refusal)
-        × IsFound refusal (S.remaining input.old) (S.remaining input.new)
+        × HasRefused (map T.text words.now) refusal
+        (S.remaining input.old) (S.remaining input.new) (input.new ≡ input.old)
         (Failed (S.failures input.old) (S.failures input.new))
         × AppendsBeginning (X.contents errors.old) (X.contents errors.new) (fault_line refusal) }
     ensures unwritten { (result ≡ 1) → (output.new ≡ output.old)

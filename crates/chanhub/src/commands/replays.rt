@@ -4,7 +4,7 @@ ghost use Rattle.std.specs.Prelude.{◌≡◌, IfOk, IfErr, IsErrOf};
 ghost use Rattle.hub_base.specs.declared.text.faults.TextFault.{TextFault};
 ghost use Rattle.hub_replay.specs.Devices.{Failed};
 ghost use Rattle.hub_replay.specs.Replay.{Replays, ReadsFaulty};
-ghost use Rattle.chanhub.specs.Promises.{IsFound, IsRefused};
+ghost use Rattle.chanhub.specs.Promises.{IsRefused, RefusesReplay};
 ghost use Rattle.chanhub.specs.Statuses.{status_of};
 
 use crate::outcome::Outcome;
@@ -24,9 +24,9 @@ pub(crate) fn replay_input<S: Source, W: Sink>(
 
     ensures refused { IfErr result (λ refusal. IsRefused refusal (output.new ≡ output.old)
         (Failed (W.failures output.old) (W.failures output.new))) }
-    ensures found { IfErr result (λ refusal. IsFound refusal
+    ensures found { IfErr result (λ refusal. RefusesReplay
         (S.remaining input.old) (S.remaining input.new)
-        (Failed (S.failures input.old) (S.failures input.new))) }
+        (Failed (S.failures input.old) (S.failures input.new)) refusal) }
     ensures faulty { IfErr result (λ refusal. status_of refusal ≡ 2 → (fault : TextFault)
         × ReadsFaulty (S.remaining input.old) (S.remaining input.new) fault) }
     ensures read { IsErrOf result Refusal.Read

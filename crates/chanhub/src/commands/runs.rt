@@ -2,7 +2,7 @@
 
 ghost use Rattle.std.specs.Prelude.{◌≡◌, ◌≤◌, ℕ, List, IfOk, IfErr, IsErrOf, IsSome, IsNone};
 ghost use Rattle.hub_replay.specs.Devices.{Failed};
-ghost use Rattle.chanhub.specs.Promises.{RunsScenario, ReadsScenario, TakesScenario, IsFound, IsRefused, RefusesRun, TellsStalls, printed};
+ghost use Rattle.chanhub.specs.Promises.{RunsScenario, ReadsScenario, TakesScenario, IsRefused, RefusesRun, RefusesScenario, TellsStalls, printed};
 
 use crate::files::read_file;
 use crate::outcome::Outcome;
@@ -28,7 +28,8 @@ fn scenario_bytes<R: Files, S: Source>(
     input: &mut S,
 ) -> Result<Vec<u8>, SourceFault>
     ensures taken { IfOk result (λ bytes.
-        TakesScenario (S.remaining input.old) (S.remaining input.new) bytes.items) }
+        TakesScenario (S.remaining input.old) (S.remaining input.new)
+        (input.new ≡ input.old) bytes.items) }
     ensures input { IsNone file.entry → IfOk result (λ bytes.
         ReadsScenario (S.remaining input.old) (S.remaining input.new) bytes.items) }
     ensures read { IsNone file.entry → IsErrOf result SourceFault.Read
@@ -100,14 +101,15 @@ pub(crate) fn run_from<R: Files + Threads + Wait + Sync, S: Source, W: Sink>(
     output: &mut W,
 ) -> Result<Outcome, Refusal>
     ensures ok { IfOk result (λ outcome. (bytes : List ℕ)
-        × TakesScenario (S.remaining input.old) (S.remaining input.new) bytes
+        × TakesScenario (S.remaining input.old) (S.remaining input.new)
+        (input.new ≡ input.old) bytes
         × RunsScenario bytes journal outcome (W.contents output.old) (W.contents output.new)) }
 
     ensures refused { IfErr result (λ refusal. IsRefused refusal (output.new ≡ output.old)
         (Failed (W.failures output.old) (W.failures output.new))) }
-    ensures found { IfErr result (λ refusal. IsFound refusal
-        (S.remaining input.old) (S.remaining input.new)
-        (Failed (S.failures input.old) (S.failures input.new))) }
+    ensures found { IfErr result (λ refusal. RefusesScenario
+        (S.remaining input.old) (S.remaining input.new) (input.new ≡ input.old)
+        (Failed (S.failures input.old) (S.failures input.new)) refusal) }
     ensures file { IsSome file.entry → input.new ≡ input.old }
     ensures known { ¬ IsErrOf result Refusal.BadArguments }
 {

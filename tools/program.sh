@@ -1,9 +1,9 @@
 #!/bin/sh
 # program.sh [PROGRAM]: runs the built program on the examples, journals and scenarios; on random journals beside the
 # events that model.py makes of them; on the longest journal and one entry more; and with each of its allocations
-# refused. Runs the live hub's tests, which `./test` has built, with theirs refused; compares model.py, the rows of the
-# examples, CLAIMS and the quotations of README with what they speak of; and tries a close by an end that receives. The
-# last line counts: 'N passed, M failed'.
+# refused. Runs the live hub's tests, which `./test` has built, with theirs refused; compares model.py, the rows
+# of the tests, CLAIMS and the quotations of README with what they speak of; and tries a close by an end that receives.
+# The last line counts: 'N passed, M failed'.
 set -u
 root=$(cd "$(dirname "$0")/.." && pwd)
 program=${1:-$root/crates/chanhub/out/chanhub}
@@ -32,6 +32,8 @@ for events in "$root"/examples/journals/*.stdout; do
     journal=${events%.stdout}
     replays "$journal" "$events"
     count $? "example $(basename "$journal")"
+    [ "$("$program" verify "$journal" "$events")" = same ]
+    count $? "the events of example $(basename "$journal") compared with it"
     "$root/tools/model.py" < "$journal" | cmp -s - "$events"
     count $? "model.py on example $(basename "$journal")"
 done
@@ -144,8 +146,11 @@ count $? "refused allocations"
 "$root/tools/live_refusals.sh"
 count $? "refused allocations of the live hub"
 
-"$root/tools/example_rows.py" | cmp - "$root/crates/hub_tests/src/replays/examples.rt"
-count $? "the rows of the examples"
+# Each worked journal that the tests run is a theorem beside the definitions.
+sed -n 's/^ *name: "\(.*\)",$/\1/p' "$root/crates/hub_tests/src/rows.rt" > "$work/rows"
+sed -n 's/^pub \([a-z_]*\) :.*/\1/p' "$root"/crates/hub_base/specs/Rows/*.antt | sort > "$work/theorems"
+[ -s "$work/rows" ] && sort "$work/rows" | comm -23 - "$work/theorems" > "$work/unproved" && [ ! -s "$work/unproved" ]
+count $? "rows that are no theorems: $(cat "$work/unproved")"
 
 "$root/tools/receivers_close_nothing.sh"
 count $? "a close by an end that receives"

@@ -4,5 +4,3 @@ mod entries;
 mod hubs;
 mod machines;
 mod openings;
-mod rows;
-mod worked_runs;

@@ -1,10 +1,11 @@
 //! Whole replays: the events of each row, and devices that go wrong at each call in turn.
 
-use super::examples::EXAMPLES;
 use super::fakes::{Jar, Trickle, Wrong};
-use super::rows::ROWS;
+use crate::rows::ROWS;
 use hub_base::{Kind, TextFault};
 use hub_replay::{Counted, ReplayFault, replay};
+use std::alloc::Global;
+use std::process::Abort;
 use std::test::Fail;
 
 const JOURNAL: &[u8] = b"chanhub journal 1\n\
@@ -18,7 +19,7 @@ const EVENTS: &[u8] = b"0 made 1\n0 case 0 sent\n0 case 0 sent\n1 case 0 got 10\
 
 #[test]
 fn rows_give_their_events(rt: HostRuntime) -> Result<(), Fail> {
-    for row in ROWS.iter().chain(EXAMPLES.iter()) {
+    for row in &ROWS {
         let (name, procs, steps) = (row.name, row.procs, row.steps);
         let journal = format!(in rt.alloc(); "chanhub journal 1\nprocs {procs}\n{steps}")?;
         let mut source = Counted::new(Trickle::new(journal.as_bytes()));
@@ -33,6 +34,15 @@ fn rows_give_their_events(rt: HostRuntime) -> Result<(), Fail> {
     Ok(())
 }
 
+/// Replays the journal, and compares its events with those that are wanted.
+fn compare(rt: &impl Abort, alloc: Global, journal: &str, events: &str) -> Result<(), Fail> {
+    let mut sink = Counted::new(Jar::new(alloc, 1000));
+    let answer = replay(alloc, &mut Counted::new(journal.as_bytes()), &mut sink);
+    assert_eq!(rt; answer, Ok(()));
+    assert_eq!(rt; sink.into_inner().held(), events.as_bytes());
+    Ok(())
+}
+
 #[test]
 fn sixty_four_ports_at_most(rt: HostRuntime) -> Result<(), Fail> {
     let mut journal = String::from_str(rt.alloc(), "chanhub journal 1\nprocs 1\n")?;
@@ -43,11 +53,7 @@ fn sixty_four_ports_at_most(rt: HostRuntime) -> Result<(), Fail> {
     }
     journal.push_str("0 make 0\n")?;
     events.push_str("0 fault 7\n")?;
-    let mut sink = Counted::new(Jar::new(rt.alloc(), 1000));
-    let answer = replay(rt.alloc(), &mut Counted::new(journal.as_bytes()), &mut sink);
-    assert_eq!(rt; answer, Ok(()));
-    assert_eq!(rt; sink.into_inner().held(), events.as_bytes());
-    Ok(())
+    compare(&rt, rt.alloc(), &journal, &events)
 }
 
 /// Each select ends at its second case, and leaves nothing behind at the port of its first.
@@ -62,11 +68,26 @@ fn hundred_selects_end_once(rt: HostRuntime) -> Result<(), Fail> {
     }
     journal.push_str("1 select 0 r1 r2\n0 send 1 7\n")?;
     events.push_str("1 parked\n0 case 0 sent\n1 case 0 got 7\n")?;
-    let mut sink = Counted::new(Jar::new(rt.alloc(), 1000));
-    let answer = replay(rt.alloc(), &mut Counted::new(journal.as_bytes()), &mut sink);
-    assert_eq!(rt; answer, Ok(()));
-    assert_eq!(rt; sink.into_inner().held(), events.as_bytes());
-    Ok(())
+    compare(&rt, rt.alloc(), &journal, &events)
+}
+
+/// The last of 64 senders parks, and all stall: 65 events of one step.
+#[test]
+fn sixty_four_stall_at_once(rt: HostRuntime) -> Result<(), Fail> {
+    let mut journal = String::from_str(rt.alloc(), "chanhub journal 1\nprocs 64\n")?;
+    let mut events = String::new(rt.alloc());
+    for port in 1..65 {
+        journal.push_str("0 make 0\n")?;
+        writeln!(events, "0 made {port}")?;
+    }
+    for pid in 0..64 {
+        writeln!(journal, "{pid} send {} {}", pid + 1, pid + 1)?;
+        writeln!(events, "{pid} parked")?;
+    }
+    for pid in 0..64 {
+        writeln!(events, "{pid} stalled")?;
+    }
+    compare(&rt, rt.alloc(), &journal, &events)
 }
 
 #[test]

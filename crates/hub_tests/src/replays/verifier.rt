@@ -1,7 +1,6 @@
 //! Comparisons of bytes with the event text of a journal.
 
-use super::examples::EXAMPLES;
-use super::rows::ROWS;
+use crate::rows::ROWS;
 use hub_base::{Kind, TextFault};
 use hub_replay::{Compared, ReplayFault, verify};
 use std::test::Fail;
@@ -123,7 +122,7 @@ fn comparisons_name_the_first_line_that_differs(rt: HostRuntime) {
 
 #[test]
 fn rows_are_the_same_as_their_events(rt: HostRuntime) -> Result<(), Fail> {
-    for row in ROWS.iter().chain(EXAMPLES.iter()) {
+    for row in &ROWS {
         let (name, procs, steps) = (row.name, row.procs, row.steps);
         let journal = format!(in rt.alloc(); "chanhub journal 1\nprocs {procs}\n{steps}")?;
         let answer = verify(rt.alloc(), journal.as_bytes(), row.events.as_bytes());

@@ -1,6 +1,7 @@
-//! Short journals with their events, by what each shows.
+//! Worked journals with the events that the rules give for them. Each is a theorem of the same name in `hub_base`
+//! (`specs/Rows`), and runs here end to end.
 
-/// The steps of so many processes, and the events that follow, each on a line of its own.
+/// The steps of a journal, and what the processes are told.
 pub struct Row {
     pub name: &'static str,
     pub procs: u8,
@@ -8,8 +9,8 @@ pub struct Row {
     pub events: &'static str,
 }
 
-pub static ROWS: [Row; 23] = [
-    // Go: "Channel types", "Send statements", "Receive operator".
+pub static ROWS: [Row; 26] = [
+    // Channels with a buffer. Go: "Channel types", "Send statements".
     Row {
         name: "no_steps",
         procs: 1,
@@ -43,6 +44,7 @@ pub static ROWS: [Row; 23] = [
                  0 case 0 sent\n\
                  1 case 0 got 6\n",
     },
+    // Unbuffered channels, and calls that wait. Go: "Channel types", "Receive operator".
     Row {
         name: "receiver_waits_for_a_sender",
         procs: 2,
@@ -53,6 +55,22 @@ pub static ROWS: [Row; 23] = [
                  1 parked\n\
                  0 case 0 sent\n\
                  1 case 0 got 9\n",
+    },
+    Row {
+        name: "oldest_receiver_first",
+        procs: 3,
+        steps: "0 make 0\n\
+                2 recv 1\n\
+                1 recv 1\n\
+                0 send 1 5\n\
+                0 send 1 6\n",
+        events: "0 made 1\n\
+                 2 parked\n\
+                 1 parked\n\
+                 0 case 0 sent\n\
+                 2 case 0 got 5\n\
+                 0 case 0 sent\n\
+                 1 case 0 got 6\n",
     },
     Row {
         name: "oldest_sender_first",
@@ -84,15 +102,16 @@ pub static ROWS: [Row; 23] = [
                  1 case 0 sent\n",
     },
     Row {
-        name: "nil_channel",
-        procs: 1,
-        steps: "0 recv 0\n\
-                0 close 0\n",
-        events: "0 parked\n\
-                 0 stalled\n\
-                 0 fault 8\n",
+        name: "no_process_meets_itself",
+        procs: 2,
+        steps: "0 make 0\n\
+                0 send 1 1\n\
+                0 recv 1\n",
+        events: "0 made 1\n\
+                 0 parked\n\
+                 0 fault 3\n",
     },
-    // Go: "Close".
+    // Closed channels. Go: "Close", "Receive operator", "Send statements".
     Row {
         name: "close_then_drain",
         procs: 1,
@@ -142,7 +161,18 @@ pub static ROWS: [Row; 23] = [
                  0 case 0 got 3\n\
                  0 case 0 drained\n",
     },
-    // Go: "Select statements".
+    Row {
+        name: "close_ends_a_select_at_its_lowest_case",
+        procs: 2,
+        steps: "0 make 0\n\
+                1 select 0 s1:4 r1\n\
+                0 close 1\n",
+        events: "0 made 1\n\
+                 1 parked\n\
+                 0 done\n\
+                 1 case 0 closed\n",
+    },
+    // Selects. Go: "Select statements".
     Row {
         name: "word_chooses",
         procs: 1,
@@ -189,17 +219,6 @@ pub static ROWS: [Row; 23] = [
                  0 case 0 sent\n",
     },
     Row {
-        name: "close_ends_a_select_at_its_lowest_case",
-        procs: 2,
-        steps: "0 make 0\n\
-                1 select 0 s1:4 r1\n\
-                0 close 1\n",
-        events: "0 made 1\n\
-                 1 parked\n\
-                 0 done\n\
-                 1 case 0 closed\n",
-    },
-    Row {
         name: "default_where_nothing_can_proceed",
         procs: 1,
         steps: "0 make 0\n\
@@ -241,31 +260,7 @@ pub static ROWS: [Row; 23] = [
         events: "0 default\n\
                  0 fault 4\n",
     },
-    // Faults and stalls: this project's choices.
-    Row {
-        name: "greatest_capacity_and_value",
-        procs: 1,
-        steps: "0 make 1024\n\
-                0 make 1025\n\
-                0 send 2 1\n\
-                0 send 1 18446744073709551615\n\
-                0 recv 1\n",
-        events: "0 made 1\n\
-                 0 fault 6\n\
-                 0 fault 5\n\
-                 0 case 0 sent\n\
-                 0 case 0 got 18446744073709551615\n",
-    },
-    Row {
-        name: "no_process_meets_itself",
-        procs: 2,
-        steps: "0 make 0\n\
-                0 send 1 1\n\
-                0 recv 1\n",
-        events: "0 made 1\n\
-                 0 parked\n\
-                 0 fault 3\n",
-    },
+    // Exits, and calls that stall. Go: "Channel types" on the nil channel, "Close".
     Row {
         name: "lone_sender_stalls",
         procs: 1,
@@ -274,6 +269,15 @@ pub static ROWS: [Row; 23] = [
         events: "0 made 1\n\
                  0 parked\n\
                  0 stalled\n",
+    },
+    Row {
+        name: "nil_channel",
+        procs: 1,
+        steps: "0 recv 0\n\
+                0 close 0\n",
+        events: "0 parked\n\
+                 0 stalled\n\
+                 0 fault 8\n",
     },
     Row {
         name: "exit_stalls_who_is_left",
@@ -299,5 +303,44 @@ pub static ROWS: [Row; 23] = [
         events: "0 made 1\n\
                  0 done\n\
                  1 done\n",
+    },
+    Row {
+        name: "last_value_then_stall",
+        procs: 1,
+        steps: "0 make 1\n\
+                0 send 1 5\n\
+                0 recv 1\n\
+                0 recv 1\n",
+        events: "0 made 1\n\
+                 0 case 0 sent\n\
+                 0 case 0 got 5\n\
+                 0 parked\n\
+                 0 stalled\n",
+    },
+    Row {
+        name: "exit_after_a_stall",
+        procs: 1,
+        steps: "0 make 0\n\
+                0 recv 1\n\
+                0 exit\n",
+        events: "0 made 1\n\
+                 0 parked\n\
+                 0 stalled\n\
+                 0 done\n",
+    },
+    // Greatest numbers, and faults.
+    Row {
+        name: "greatest_capacity_and_value",
+        procs: 1,
+        steps: "0 make 1024\n\
+                0 make 1025\n\
+                0 send 2 1\n\
+                0 send 1 18446744073709551615\n\
+                0 recv 1\n",
+        events: "0 made 1\n\
+                 0 fault 6\n\
+                 0 fault 5\n\
+                 0 case 0 sent\n\
+                 0 case 0 got 18446744073709551615\n",
     },
 ];

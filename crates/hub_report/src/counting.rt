@@ -11,26 +11,6 @@ ghost use Rattle.hub_report.specs.Replays.{most_got, number_told};
 use hub_base::{Event, Outcome, Port, Step, What};
 use hub_core::port_touched;
 
-/// How many of these events are `Stalled`.
-pub(crate) fn count_stalled(events: &[Event]) -> usize
-    ensures { result ≡ how_many is_stalled events.now }
-{
-    events
-        .iter()
-        .filter(|event| matches!(event.what, What::Stalled))
-        .count()
-}
-
-/// How many of these events are faults.
-pub(crate) fn count_faults(events: &[Event]) -> usize
-    ensures { result ≡ how_many is_fault events.now }
-{
-    events
-        .iter()
-        .filter(|event| matches!(event.what, What::Fault(_)))
-        .count()
-}
-
 /// The number that the process is told it got, 0 where it got none.
 fn number_told(event: &Event) -> u64
     ensures { result ≡ number_told event.now }
@@ -44,17 +24,37 @@ fn number_told(event: &Event) -> u64
     }
 }
 
-/// The sum of the values that these events tell as got.
-pub(crate) fn sum_got(events: &[Event]) -> u128
+/// What some events tell.
+#[derive(Drop)]
+pub(crate) struct Told {
+    /// The sum of the values got.
+    pub(crate) got: u128,
+    /// How many calls stalled.
+    pub(crate) stalled: u32,
+    /// How many faults there are.
+    pub(crate) faults: u32,
+}
+
+/// What the events of a step tell, in one pass.
+pub(crate) fn tell(events: &[Event]) -> Told
     requires few { length events.now ≤ 65 }
-    ensures sum { result ≡ sum_by number_told events.now }
-    ensures fits { result ≤ most_got }
+    ensures got { result.got ≡ sum_by number_told events.now }
+    ensures stalled { result.stalled ≡ how_many is_stalled events.now }
+    ensures faults { result.faults ≡ how_many is_fault events.now }
+    ensures fits { result.got ≤ most_got }
+    ensures bounds { (result.stalled ≤ 65) × (result.faults ≤ 65) }
 {
-    let mut sum = 0;
+    let mut told = Told {
+        got: 0,
+        stalled: 0,
+        faults: 0,
+    };
     for event in events {
-        sum += u128::from(number_told(event));
+        told.got += u128::from(number_told(event));
+        told.stalled += u32::from(matches!(event.what, What::Stalled));
+        told.faults += u32::from(matches!(event.what, What::Fault(_)));
     }
-    sum
+    told
 }
 
 /// The port that the answer of a step names; the answer is the first of its events.

@@ -16,7 +16,7 @@ ghost use Rattle.hub_report.specs.Reports.{ports_told, told_of};
 ghost use Rattle.hub_report.specs.Replays.{HasRoom, Tells, Within, most_got, number_told, with_sum, with_told};
 
 use crate::PortReport;
-use crate::counting::{count_faults, count_stalled, port_named, sum_got};
+use crate::counting::{port_named, tell};
 use hub_base::{Event, Events, Journal, Port, Step};
 use hub_core::Machine;
 use std::alloc::{AllocError, Global};
@@ -74,9 +74,10 @@ impl Replayed {
         ensures told { self.new ≡ with_told self.old step.now events.now }
         ensures fits { sum_by number_told events.now ≤ most_got }
     {
-        add_to_sum(&mut self.sums, port_named(step, events), sum_got(events));
-        self.stalled += count_stalled(events) as u32;
-        self.faults += count_faults(events) as u32;
+        let told = tell(events);
+        add_to_sum(&mut self.sums, port_named(step, events), told.got);
+        self.stalled += told.stalled;
+        self.faults += told.faults;
     }
 
     /// What one port carried, or `None` where it is not made.

@@ -3,9 +3,11 @@
 
     check_claims.py [ROOT]
 
-Tells the public functions and must-fail edits that no claim names, and the calls, clauses, definitions and edits
-that a page names and the sources do not have. A row of CLAIMS is | calls | .. clauses .. | promise | definition |;
-a row without a clause is a promise to come, and is left aside. The status is 1 where anything is told.
+Tells the public functions that no claim names, and the calls, clauses and definitions that a page names and the sources
+do not have. A row of CLAIMS is | calls | .. clauses .. | promise | definition |; a row without a clause is a promise to
+come, and is left aside. Tells also the public functions that no must-fail edit turns, but for those that a section names
+as without an edit, and for laws, which have no body; an edit names its function in its line `call:`. The status is 1
+where anything is told.
 """
 import os
 import re
@@ -90,11 +92,28 @@ def check_section(crate, text):
         yield from check_definitions('CLAIMS', crate, cells[-1])
     for name in sorted(set(calls) - named):
         yield 'CLAIMS: no row for %s of %s' % (name, crate)
-    folders = ('crates/%s/must-fail' % crate, 'tools/further_edits/%s' % crate)
-    edits = {os.path.basename(path)[:-5] for folder in folders for path in files(folder, '.edit')}
-    told = {name for part in re.findall(r'^Edits:(.*?)\n\n', text + '\n\n', re.M | re.S) for name in TICKED.findall(part)}
-    yield from ('CLAIMS: %s has no edit %s' % (crate, name) for name in sorted(told - edits))
-    yield from ('CLAIMS: the edit %s of %s is not named' % (name, crate) for name in sorted(edits - told))
+    yield from check_edits(crate, text, calls)
+
+
+def laws(crate):
+    """The public functions with an empty body."""
+    for path in files('crates/%s/src' % crate, '.rt'):
+        yield from re.findall(r'^pub fn (\w+)(?:(?!^pub fn ).)*?^(?:\{\}|\{\n\})', read(path), re.M | re.S)
+
+
+def check_edits(crate, text, calls):
+    turned = set()
+    for folder in ('must-fail', 'further-edits'):
+        for path in files('crates/%s/%s' % (crate, folder), '.edit'):
+            call = re.match(r'call: (\S+)\n', read(path))
+            if not call or call.group(1) not in calls:
+                yield 'CLAIMS: %s names no public call of %s' % (path, crate)
+            else:
+                turned.add(call.group(1))
+    told = {name for part in re.findall(r'^Without an edit:(.*?)\n\n', text + '\n\n', re.M | re.S) for name in TICKED.findall(part)}
+    lacking = set(calls) - turned - set(laws(crate))
+    yield from ('CLAIMS: no edit turns %s of %s' % (name, crate) for name in sorted(lacking - told))
+    yield from ('CLAIMS: %s of %s is no call without an edit' % (name, crate) for name in sorted(told - lacking))
 
 
 def main():

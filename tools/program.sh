@@ -1,9 +1,9 @@
 #!/bin/sh
-# program.sh [PROGRAM]: runs the built program on the examples, journals and scenarios; on random journals beside the
-# events that model.py makes of them; on the longest journal and one entry more; and with each of its allocations
-# refused. Runs the live hub's tests, which `./test` has built, with theirs refused; compares model.py, the rows
-# of the tests, CLAIMS and the quotations of README with what they speak of; and tries a close by an end that receives.
-# The last line counts: 'N passed, M failed'.
+# program.sh [PROGRAM]: runs the built program on the examples, journals and scenarios; on the rows of tests/; on random
+# journals beside the events that model.py makes of them; on the longest journal and one entry more; and with each of its
+# allocations refused. Runs the live hub's tests, which `./test` has built, with theirs refused; compares model.py, CLAIMS
+# and the quotations of README with what they speak of; and tries a close by an end that receives. The last line counts:
+# 'N passed, M failed'.
 set -u
 root=$(cd "$(dirname "$0")/.." && pwd)
 program=${1:-$root/crates/chanhub/out/chanhub}
@@ -33,10 +33,13 @@ for events in "$root"/examples/journals/*.stdout; do
     replays "$journal" "$events"
     count $? "example $(basename "$journal")"
     [ "$("$program" verify "$journal" "$events")" = same ]
-    count $? "the events of example $(basename "$journal") compared with it"
+    count $? "the comparison of example $(basename "$journal")"
     "$root/tools/model.py" < "$journal" | cmp -s - "$events"
     count $? "model.py on example $(basename "$journal")"
 done
+
+"$root/tools/rows.py" "$program"
+count $? "the rows of tests/"
 
 # wanted_status REPORT: of a scenario that prints this report.
 wanted_status() {
@@ -108,12 +111,6 @@ for scenario in stalled ring; do
     count $? "sixty-four processes: $scenario"
 done
 
-# A comparison with events that lack their last line, of a lone sender that stalls.
-printf 'chanhub journal 1\nprocs 1\n0 make 0\n0 send 1 1\n' > "$work/journal"
-printf '0 made 1\n0 parked\n' > "$work/events"
-"$program" verify "$work/journal" "$work/events" > "$work/told" 2> "$work/errors"
-[ $? -eq 3 ] && [ "$(cat "$work/told")" = 'differs at line 3' ] && [ ! -s "$work/errors" ]
-count $? "events without their last line"
 "$program" verify "$work/journal" "$work/missing" > "$work/told" 2> "$work/errors"
 [ $? -eq 1 ] && [ ! -s "$work/told" ] && [ "$(cat "$work/errors")" = 'chanhub: read failed' ]
 count $? "a file that is not there"
@@ -145,12 +142,6 @@ count $? "one entry more than the longest journal has"
 count $? "refused allocations"
 "$root/tools/live_refusals.sh"
 count $? "refused allocations of the live hub"
-
-# Each worked journal that the tests run is a theorem beside the definitions.
-sed -n 's/^ *name: "\(.*\)",$/\1/p' "$root/crates/hub_tests/src/rows.rt" > "$work/rows"
-sed -n 's/^pub \([a-z_]*\) :.*/\1/p' "$root"/crates/hub_base/specs/Rows/*.antt | sort > "$work/theorems"
-[ -s "$work/rows" ] && sort "$work/rows" | comm -23 - "$work/theorems" > "$work/unproved" && [ ! -s "$work/unproved" ]
-count $? "rows that are no theorems: $(cat "$work/unproved")"
 
 "$root/tools/receivers_close_nothing.sh"
 count $? "a close by an end that receives"

@@ -6,8 +6,6 @@ mod replays;
 #[cfg(test)]
 mod reports;
 #[cfg(test)]
-mod rows;
-#[cfg(test)]
 mod scenarios;
 #[cfg(test)]
 mod steps;

@@ -1,9 +1,22 @@
 //! A hub, step by step: what it shows, full journals, and reservations.
 
 use super::entries::{close, exit, fired, got, make, recv, send, told};
-use hub_base::{Counts, Fault, Look, Outcome, Port, Value, What};
+use hub_base::{Counts, Entry, Event, Fault, Look, Outcome, Port, Value, What};
 use hub_core::{Hub, ListFault, run};
+use std::process::Abort;
 use std::test::Fail;
+
+/// Makes the step, and compares what the processes are told.
+fn step(rt: &impl Abort, hub: &mut Hub, entry: Entry, wanted: &[Event]) -> Result<(), Fail> {
+    let events = hub.step(entry)?;
+    assert_eq!(rt; events.as_slice(), wanted);
+    Ok(())
+}
+
+/// Sees that the step is refused, for this.
+fn refuse(rt: &impl Abort, hub: &mut Hub, entry: Entry, fault: Fault) {
+    assert_eq!(rt; hub.step(entry).err(), Some(fault));
+}
 
 /// A value is sent and received, and the closed port is drained.
 #[test]
@@ -69,19 +82,15 @@ fn full_journal_takes_exits_alone(rt: HostRuntime) -> Result<(), Fail> {
     let mut hub = Hub::open(rt.alloc(), 2, 1)?;
     hub.step(make(0, 0))?;
     for entry in [recv(0, 0), recv(7, 0), make(1, 0), close(0, 1)] {
-        assert_eq!(rt; hub.step(entry).err(), Some(Fault::JournalFull));
+        refuse(&rt, &mut hub, entry, Fault::JournalFull);
     }
     assert_eq!(rt; hub.entries(), [make(0, 0)].as_slice(), "nothing changed");
     for pid in [0, 1] {
-        let events = hub.step(exit(pid))?;
-        assert_eq!(rt; events.as_slice(), [told(pid, What::Done)].as_slice());
+        step(&rt, &mut hub, exit(pid), &[told(pid, What::Done)])?;
     }
-    assert_eq!(rt; hub.step(exit(1)).err(), Some(Fault::Gone));
-    assert_eq!(rt;
-        hub.step(make(1, 0)).err(),
-        Some(Fault::JournalFull),
-        "10 before 2"
-    );
+    refuse(&rt, &mut hub, exit(1), Fault::Gone);
+    // 10 before 2
+    refuse(&rt, &mut hub, make(1, 0), Fault::JournalFull);
     let journal = hub.into_journal();
     assert_eq!(rt; journal.procs(), 2);
     assert_eq!(rt;
@@ -115,14 +124,8 @@ fn reserved_steps_are_made(rt: HostRuntime) -> Result<(), Fail> {
     hub.step(make(0, 1))?;
     hub.reserve(3)?;
     hub.reserve(0)?;
-    let sent = hub.step(send(0, 1, 5))?;
-    assert_eq!(rt; sent.as_slice(), [fired(0, Outcome::Sent)].as_slice());
-    let received = hub.step(recv(0, 1))?;
-    assert_eq!(rt; received.as_slice(), [got(0, 5)].as_slice());
-    let stalled = hub.step(recv(0, 1))?;
-    assert_eq!(rt;
-        stalled.as_slice(),
-        [told(0, What::Parked), told(0, What::Stalled)].as_slice()
-    );
-    Ok(())
+    step(&rt, &mut hub, send(0, 1, 5), &[fired(0, Outcome::Sent)])?;
+    step(&rt, &mut hub, recv(0, 1), &[got(0, 5)])?;
+    let stalled = [told(0, What::Parked), told(0, What::Stalled)];
+    step(&rt, &mut hub, recv(0, 1), &stalled)
 }

@@ -1,43 +1,77 @@
 //! Which answers wait for which process under the lock of a live hub.
 
 use super::{call, entry, fired, told};
-use hub_base::{Case, Counts, Fault, Look, Outcome, Pid, Port, Step, Value, What};
+use hub_base::{Case, Counts, Entry, Event, Fault, Look, Outcome, Pid, Port, Step, Value, What};
 use hub_core::Hub;
 use hub_live::under_lock::Locked;
+use std::process::Abort;
 use std::test::*;
+
+/// Makes the step, and compares its answer.
+fn step(rt: &impl Abort, locked: &mut Locked, entry: Entry, answer: Event) -> Result<(), Fail> {
+    assert_eq!(rt; locked.step(entry)?, answer);
+    Ok(())
+}
+
+/// Takes the answer that waits for the process, and compares it.
+fn take(rt: &impl Abort, locked: &mut Locked, pid: u8, answer: Option<Event>) {
+    assert_eq!(rt; locked.take(Pid(pid)), answer, "process {pid}");
+}
 
 // A receiver parks, a sender's step ends its call, and the value waits for the receiver.
 #[test]
 fn answer_waits_until_it_is_taken(rt: HostRuntime) -> Result<(), Fail> {
     let mut locked = Locked::of(Hub::open(rt.alloc(), 2, 10)?);
-    let made = locked.step(entry(0, Step::Make(0)))?;
-    assert_eq!(rt; made, told(0, What::Made(Port(1))));
-    let parked = locked.step(call(1, Case::Recv(Port(1))))?;
-    assert_eq!(rt; parked, told(1, What::Parked));
-    assert_eq!(rt; locked.take(Pid(1)), None);
+    step(
+        &rt,
+        &mut locked,
+        entry(0, Step::Make(0)),
+        told(0, What::Made(Port(1))),
+    )?;
+    step(
+        &rt,
+        &mut locked,
+        call(1, Case::Recv(Port(1))),
+        told(1, What::Parked),
+    )?;
+    take(&rt, &mut locked, 1, None);
     assert_eq!(rt; locked.answered().len(), 0);
 
-    let sent = locked.step(call(0, Case::Send(Port(1), Value::num(9))))?;
-    assert_eq!(rt; sent, fired(0, Outcome::Sent));
+    let nine = Value::num(9);
+    step(
+        &rt,
+        &mut locked,
+        call(0, Case::Send(Port(1), nine)),
+        fired(0, Outcome::Sent),
+    )?;
     assert_eq!(rt; locked.answered().as_slice(), [Pid(1)].as_slice());
-    assert_eq!(rt; locked.take(Pid(0)), None);
-    assert_eq!(rt;
-        locked.take(Pid(1)),
-        Some(fired(1, Outcome::Got(Value::num(9))))
-    );
-    assert_eq!(rt; locked.take(Pid(1)), None);
+    take(&rt, &mut locked, 0, None);
+    take(&rt, &mut locked, 1, Some(fired(1, Outcome::Got(nine))));
+    take(&rt, &mut locked, 1, None);
+    Ok(())
+}
 
+// What is looked at, and what is kept.
+#[test]
+fn steps_are_kept(rt: HostRuntime) -> Result<(), Fail> {
+    let mut locked = Locked::of(Hub::open(rt.alloc(), 2, 10)?);
+    for made in [
+        entry(0, Step::Make(1)),
+        call(1, Case::Send(Port(1), Value::num(9))),
+    ] {
+        let _answer = locked.step(made)?;
+    }
     let counts = Counts {
-        len: 0,
+        len: 1,
         sent: 1,
-        received: 1,
+        received: 0,
         closed: false,
     };
-    assert_eq!(rt; locked.look(Port(1)), Some(Look { cap: 0, counts }));
-    assert_eq!(rt; locked.entries().len(), 3);
+    assert_eq!(rt; locked.look(Port(1)), Some(Look { cap: 1, counts }));
+    assert_eq!(rt; locked.entries().len(), 2);
     let journal = locked.into_journal();
     assert_eq!(rt; journal.procs(), 2);
-    assert_eq!(rt; journal.entries().len(), 3);
+    assert_eq!(rt; journal.entries().len(), 2);
     Ok(())
 }
 

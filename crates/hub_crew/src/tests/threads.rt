@@ -1,7 +1,6 @@
 //! What threads that share a hub are told, each time with a new hub.
 
-ghost use Rattle.std.specs.Prelude.{◌≡◌, All, vec_len};
-ghost use Rattle.hub_live.specs.Calls.{AreSeats};
+ghost use Rattle.std.specs.Prelude.{◌≡◌, All};
 
 use super::tasks::{Close, MakeOwn, Pass, Stall, Watch, Watched};
 use super::{call, entry, fired, told};
@@ -50,26 +49,28 @@ fn pass_in_threads<K: HubName + Send + Sync, R: Threads + Wait + Abort + Sync>(
     requires seats { All (λ s. s.hub ≡ K.name) seats.items }
 {
     let hub = blank.named::<K>();
-    let mut held = hold_all::<K>(alloc, seats)?;
-    held.first_mut().ok_or("two seats")?.make(rt, &hub, 0)?;
+    let mut held_by_threads = hold_all::<K>(alloc, seats)?;
+    let first = held_by_threads.first_mut().ok_or("two seats")?;
+    first.make(rt, &hub, 0)?;
 
-    let mut done = run_crew(rt, alloc, &hub, held, Pass)?;
-    let second = done.pop().ok_or("two threads")?;
-    let first = done.pop().ok_or("two threads")?;
-    assert_eq!(rt; first.report, Ok(fired(0, Outcome::Sent)));
-    assert_eq!(rt; second.report, Ok(fired(1, Outcome::Got(Value::num(9)))));
     let mut held = Vec::new(alloc);
-    held.push(first.seat)?;
-    held.push(second.seat)?;
-    let journal = hub.finish_held(held);
-    // The make stands first, and the two calls in either order.
-    let either = [[make(), send(), receive()], [make(), receive(), send()]];
-    assert!(rt;
-        either
-            .iter()
-            .any(|order| journal.entries() == order.as_slice())
-    );
+    for member in run_crew(rt, alloc, &hub, held_by_threads, Pass)? {
+        let Member { seat, report } = member;
+        let what = match seat.pid() {
+            Pid(0) => Outcome::Sent,
+            _ => Outcome::Got(Value::num(9)),
+        };
+        assert_eq!(rt; report, Ok(fired(seat.pid().0, what)));
+        held.push(seat)?;
+    }
+    assert!(rt; is_passed(hub.finish_held(held).entries()));
     Ok(())
+}
+
+/// The make stands first, and the two calls in either order.
+fn is_passed(entries: &[Entry]) -> bool {
+    entries == [make(), send(), receive()].as_slice()
+        || entries == [make(), receive(), send()].as_slice()
 }
 
 // Both wait for ever, and the step of the second tells both.
@@ -118,25 +119,28 @@ fn look_after_a_thread<K: HubName + Send + Sync, R: Threads + Wait + Abort + Syn
     seats: Vec<Seat>,
 ) -> Result<(), Fail>
     requires named { blank.name ≡ K.name }
-    requires seats { AreSeats K.name 0 seats.items }
-    requires count { vec_len seats ≡ 2 }
+    requires seats { All (λ s. s.hub ≡ K.name) seats.items }
 {
-    let mut seats = seats;
     let hub = blank.named::<K>();
-    let mut second = seats.pop().ok_or("two seats")?;
-    let mut first = seats.pop().ok_or("two seats")?;
-    hub.make(rt, &mut first, 0)?;
-    let mut counts = Counts::default();
-    assert_eq!(rt; hub.look(&mut second, Port(1)), Some(counts));
-
-    let mut held = Vec::new(alloc);
-    held.push(Held::<K>::of(first))?;
-    let mut done = run_crew(rt, alloc, &hub, held, Close)?;
-    let first = done.pop().ok_or("one thread")?;
-    assert_eq!(rt; first.report, Ok(told(0, What::Done)));
-    counts.closed = true;
-    assert_eq!(rt; hub.look(&mut second, Port(1)), Some(counts));
+    let mut held = hold_all::<K>(alloc, seats)?;
+    let mut second = held.pop().ok_or("two seats")?;
+    let first = held.first_mut().ok_or("two seats")?;
+    first.make(rt, &hub, 0)?;
+    look_at(rt, &hub, &mut second, false);
+    let done = run_crew(rt, alloc, &hub, held, Close)?;
+    assert!(rt;
+        done.first()
+            .is_some_and(|first| first.report == Ok(told(0, What::Done)))
+    );
+    look_at(rt, &hub, &mut second, true);
     Ok(())
+}
+
+/// Port 1, on which nothing was sent, is seen open or closed.
+fn look_at<K: HubName>(rt: &impl Abort, hub: &LiveHub<K>, seat: &mut Held<K>, closed: bool) {
+    let mut counts = Counts::default();
+    counts.closed = closed;
+    assert_eq!(rt; seat.look(hub, Port(1)), Some(counts));
 }
 
 // One thread sends and 63 look meanwhile. The values sent never become fewer, and in the end each

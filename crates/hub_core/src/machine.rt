@@ -62,6 +62,7 @@ impl Machine {
             → RefusesFor n es entry.now f) }
         ensures memory { IsErrOf result Fault.NoMemory → IsMake entry.now.step }
         ensures unchanged { OnErr result (self.new ≡ self.old) }
+        ensures empty { OnErr result (events.new.items ≡ []) }
     {
         events.clear();
         if let Some(fault) = self.state.refusal(entry.pid) {
@@ -85,6 +86,7 @@ impl Machine {
 
         ensures make { OnErr result (IsMake entry.now.step) }
         ensures unchanged { OnErr result (self.new ≡ self.old) }
+        ensures empty { OnErr result (events.new.items ≡ []) }
     {
         let Err(fault) = self.step(entry, events) else {
             return Ok(());

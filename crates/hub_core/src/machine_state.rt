@@ -117,6 +117,7 @@ impl MachineState {
         ensures events { OnOk result (events.new.items ≡ (effect_on self.old pid step.now).events) }
         ensures make { OnErr result (IsMake step.now) }
         ensures unchanged { OnErr result (self.new ≡ self.old) }
+        ensures empty { OnErr result (events.new.items ≡ []) }
     {
         match step {
             Step::Make(cap) => {
@@ -151,6 +152,7 @@ impl MachineState {
         ensures events { OnOk result (events.new.items ≡ (turn_on self.old entry.now).events) }
         ensures make { OnErr result (IsMake entry.now.step) }
         ensures unchanged { OnErr result (self.new ≡ self.old) }
+        ensures empty { OnErr result (events.new.items ≡ []) }
         ensures places { length self.old.gone ≡ 64 }
         ensures few { self.old.board.procs ≤ 64 }
     {

@@ -17,4 +17,5 @@ returns-in_default-fault c =
       steps = omega (arith, ap (λ (m : MachineLists). m.steps) stays);
       make = tt;
       unchanged = tt;
+      empty = tt;
     }

@@ -5,8 +5,9 @@ ghost use Rattle.std.specs.Prelude.{◌≡◌, ◌++◌, codes, decimal, OnOk, O
 ghost use Rattle.hub_base.specs.EventText.{event_line, what_text, outcome_text};
 ghost use Rattle.hub_base.specs.Lines.{case_field, select_fields, call_fields, step_fields, line};
 ghost use Rattle.std.specs.List.{flat_map};
+ghost use Rattle.std.specs.Vec.{vec_capacity};
 ghost use Rattle.hub_base.specs.Reading.{head, text};
-ghost use Rattle.hub_base.specs.Writing.{spaced, spaced_cases};
+ghost use Rattle.hub_base.specs.Writing.{spaced, spaced_cases, HasRoomFor};
 ghost use Rattle.hub_base.specs.Value.{value_field};
 
 use crate::{Case, Entry, Event, Journal, NoMemory, Outcome, Step, Value, What};
@@ -15,14 +16,18 @@ use std::alloc::AllocError;
 
 /// Appends these bytes.
 fn put(out: &mut Vec<u8>, bytes: &[u8]) -> Result<(), AllocError>
-    ensures { out.new.items ≡ (if is_ok result then out.old.items ++ bytes.now else out.old.items) }
+    ensures items { out.new.items ≡ (if is_ok result then out.old.items ++ bytes.now else out.old.items) }
+    ensures capacity { vec_capacity out.old ≤ vec_capacity out.new }
+    ensures succeeds { HasRoomFor out.old (bytes.now) → IsOk result }
 {
     out.extend_from_slice(bytes)
 }
 
 /// Appends a number in decimal digits. Most have one: they number processes, ports and cases.
 fn put_number(out: &mut Vec<u8>, n: u64) -> Result<(), AllocError>
-    ensures { out.new.items ≡ (if is_ok result then out.old.items ++ decimal n else out.old.items) }
+    ensures items { out.new.items ≡ (if is_ok result then out.old.items ++ decimal n else out.old.items) }
+    ensures capacity { vec_capacity out.old ≤ vec_capacity out.new }
+    ensures succeeds { HasRoomFor out.old (decimal n) → IsOk result }
 {
     if n < 10 {
         return put(out, &[b'0' + n as u8]);
@@ -33,8 +38,10 @@ fn put_number(out: &mut Vec<u8>, n: u64) -> Result<(), AllocError>
 
 /// Appends a value.
 fn put_value(out: &mut Vec<u8>, value: Value) -> Result<(), AllocError>
-    ensures { out.new.items
+    ensures items { out.new.items
         ≡ (if is_ok result then out.old.items ++ value_field value else out.old.items) }
+    ensures capacity { vec_capacity out.old ≤ vec_capacity out.new }
+    ensures succeeds { HasRoomFor out.old (value_field value) → IsOk result }
 {
     put_number(out, value.number())
 }
@@ -49,6 +56,7 @@ pub fn undo_if_refused(
     ensures same { IsOk result ↔ IsOk done }
     ensures ok { OnOk result (out.new.items ≡ out.old.items) }
     ensures err { OnErr result (out.new.items ≡ take before out.old.items) }
+    ensures capacity { vec_capacity out.new ≡ vec_capacity out.old }
 {
     match done {
         Ok(()) => Ok(()),
@@ -63,6 +71,8 @@ pub fn undo_if_refused(
 fn put_outcome(out: &mut Vec<u8>, outcome: Outcome) -> Result<(), AllocError>
     ensures ok { OnOk result (out.new.items ≡ out.old.items ++ outcome_text outcome) }
     ensures err { OnErr result ((rest : List ℕ) × (out.new.items ≡ out.old.items ++ rest)) }
+    ensures capacity { vec_capacity out.old ≤ vec_capacity out.new }
+    ensures succeeds { HasRoomFor out.old (outcome_text outcome) → IsOk result }
 {
     match outcome {
         Outcome::Sent => put(out, b" sent"),
@@ -79,6 +89,8 @@ fn put_outcome(out: &mut Vec<u8>, outcome: Outcome) -> Result<(), AllocError>
 fn put_what(out: &mut Vec<u8>, what: What) -> Result<(), AllocError>
     ensures ok { OnOk result (out.new.items ≡ out.old.items ++ what_text what) }
     ensures err { OnErr result ((rest : List ℕ) × (out.new.items ≡ out.old.items ++ rest)) }
+    ensures capacity { vec_capacity out.old ≤ vec_capacity out.new }
+    ensures succeeds { HasRoomFor out.old (what_text what) → IsOk result }
 {
     match what {
         What::Made(port) => {
@@ -105,6 +117,8 @@ fn put_what(out: &mut Vec<u8>, what: What) -> Result<(), AllocError>
 fn put_event(out: &mut Vec<u8>, event: &Event) -> Result<(), AllocError>
     ensures ok { OnOk result (out.new.items ≡ out.old.items ++ event_line event.now) }
     ensures err { OnErr result ((rest : List ℕ) × (out.new.items ≡ out.old.items ++ rest)) }
+    ensures capacity { vec_capacity out.old ≤ vec_capacity out.new }
+    ensures succeeds { HasRoomFor out.old (event_line event.now) → IsOk result }
 {
     put_number(out, event.pid.0.into())?;
     put_what(out, event.what)?;
@@ -115,6 +129,8 @@ fn put_event(out: &mut Vec<u8>, event: &Event) -> Result<(), AllocError>
 pub fn write_event(out: &mut Vec<u8>, event: &Event) -> Result<(), NoMemory>
     ensures ok { OnOk result (out.new.items ≡ out.old.items ++ event_line event.now) }
     ensures err { OnErr result (out.new.items ≡ out.old.items) }
+    ensures capacity { vec_capacity out.old ≤ vec_capacity out.new }
+    ensures succeeds { HasRoomFor out.old (event_line event.now) → IsOk result }
 {
     let before = out.len();
     let done = put_event(out, event);
@@ -125,6 +141,8 @@ pub fn write_event(out: &mut Vec<u8>, event: &Event) -> Result<(), NoMemory>
 fn put_case(out: &mut Vec<u8>, case: Case) -> Result<(), AllocError>
     ensures ok { OnOk result (out.new.items ≡ out.old.items ++ codes " " ++ case_field case) }
     ensures err { OnErr result ((rest : List ℕ) × (out.new.items ≡ out.old.items ++ rest)) }
+    ensures capacity { vec_capacity out.old ≤ vec_capacity out.new }
+    ensures succeeds { HasRoomFor out.old (codes " " ++ case_field case) → IsOk result }
 {
     match case {
         Case::Send(port, value) => {
@@ -144,6 +162,8 @@ fn put_case(out: &mut Vec<u8>, case: Case) -> Result<(), AllocError>
 fn put_cases(out: &mut Vec<u8>, cases: &[Case]) -> Result<(), AllocError>
     ensures ok { OnOk result (out.new.items ≡ out.old.items ++ spaced_cases cases.now) }
     ensures err { OnErr result ((rest : List ℕ) × (out.new.items ≡ out.old.items ++ rest)) }
+    ensures capacity { vec_capacity out.old ≤ vec_capacity out.new }
+    ensures succeeds { HasRoomFor out.old (spaced_cases cases.now) → IsOk result }
 {
     for case in cases {
         match put_case(out, *case) {
@@ -159,6 +179,8 @@ fn put_select(out: &mut Vec<u8>, cases: &[Case], default: bool, word: u64) -> Re
     ensures ok { OnOk result (
         out.new.items ≡ out.old.items ++ spaced (select_fields cases.now default word)) }
     ensures err { OnErr result ((rest : List ℕ) × (out.new.items ≡ out.old.items ++ rest)) }
+    ensures capacity { vec_capacity out.old ≤ vec_capacity out.new }
+    ensures succeeds { HasRoomFor out.old (spaced (select_fields cases.now default word)) → IsOk result }
 {
     put(out, b" select ")?;
     put_number(out, word)?;
@@ -174,6 +196,8 @@ fn put_call(out: &mut Vec<u8>, cases: &[Case], default: bool, word: u64) -> Resu
     ensures ok { OnOk result (
         out.new.items ≡ out.old.items ++ spaced (call_fields cases.now default word)) }
     ensures err { OnErr result ((rest : List ℕ) × (out.new.items ≡ out.old.items ++ rest)) }
+    ensures capacity { vec_capacity out.old ≤ vec_capacity out.new }
+    ensures succeeds { HasRoomFor out.old (spaced (call_fields cases.now default word)) → IsOk result }
 {
     if cases.len() != 1 || default || word != 0 {
         return put_select(out, cases, default, word);
@@ -196,6 +220,8 @@ fn put_call(out: &mut Vec<u8>, cases: &[Case], default: bool, word: u64) -> Resu
 fn put_step(out: &mut Vec<u8>, step: &Step) -> Result<(), AllocError>
     ensures ok { OnOk result (out.new.items ≡ out.old.items ++ spaced (step_fields step.now)) }
     ensures err { OnErr result ((rest : List ℕ) × (out.new.items ≡ out.old.items ++ rest)) }
+    ensures capacity { vec_capacity out.old ≤ vec_capacity out.new }
+    ensures succeeds { HasRoomFor out.old (spaced (step_fields step.now)) → IsOk result }
 {
     match step {
         Step::Make(cap) => {
@@ -219,6 +245,8 @@ fn put_step(out: &mut Vec<u8>, step: &Step) -> Result<(), AllocError>
 fn put_entry(out: &mut Vec<u8>, entry: &Entry) -> Result<(), AllocError>
     ensures ok { OnOk result (out.new.items ≡ out.old.items ++ line entry.now) }
     ensures err { OnErr result ((rest : List ℕ) × (out.new.items ≡ out.old.items ++ rest)) }
+    ensures capacity { vec_capacity out.old ≤ vec_capacity out.new }
+    ensures succeeds { HasRoomFor out.old (line entry.now) → IsOk result }
 {
     put_number(out, entry.pid.0.into())?;
     put_step(out, &entry.step)?;
@@ -230,6 +258,8 @@ fn put_entry(out: &mut Vec<u8>, entry: &Entry) -> Result<(), AllocError>
 pub fn write_entry(out: &mut Vec<u8>, entry: &Entry) -> Result<(), NoMemory>
     ensures ok { OnOk result (out.new.items ≡ out.old.items ++ line entry.now) }
     ensures err { OnErr result (out.new.items ≡ out.old.items) }
+    ensures capacity { vec_capacity out.old ≤ vec_capacity out.new }
+    ensures succeeds { HasRoomFor out.old (line entry.now) → IsOk result }
 {
     let before = out.len();
     let done = put_entry(out, entry);
@@ -240,6 +270,8 @@ pub fn write_entry(out: &mut Vec<u8>, entry: &Entry) -> Result<(), NoMemory>
 fn put_head(out: &mut Vec<u8>, procs: u8) -> Result<(), AllocError>
     ensures ok { OnOk result (out.new.items ≡ out.old.items ++ head procs) }
     ensures err { OnErr result ((rest : List ℕ) × (out.new.items ≡ out.old.items ++ rest)) }
+    ensures capacity { vec_capacity out.old ≤ vec_capacity out.new }
+    ensures succeeds { HasRoomFor out.old (head procs) → IsOk result }
 {
     put(out, b"chanhub journal 1\n")?;
     put(out, b"procs ")?;
@@ -253,6 +285,8 @@ pub fn write_head(out: &mut Vec<u8>, procs: u8) -> Result<(), NoMemory>
     requires { (1 ≤ procs) × (procs ≤ 64) }
     ensures ok { OnOk result (out.new.items ≡ out.old.items ++ head procs) }
     ensures err { OnErr result (out.new.items ≡ out.old.items) }
+    ensures capacity { vec_capacity out.old ≤ vec_capacity out.new }
+    ensures succeeds { HasRoomFor out.old (head procs) → IsOk result }
 {
     let before = out.len();
     let done = put_head(out, procs);
@@ -263,6 +297,8 @@ pub fn write_head(out: &mut Vec<u8>, procs: u8) -> Result<(), NoMemory>
 fn put_entries(out: &mut Vec<u8>, entries: &[Entry]) -> Result<(), AllocError>
     ensures ok { OnOk result (out.new.items ≡ out.old.items ++ flat_map line entries.now) }
     ensures err { OnErr result ((rest : List ℕ) × (out.new.items ≡ out.old.items ++ rest)) }
+    ensures capacity { vec_capacity out.old ≤ vec_capacity out.new }
+    ensures succeeds { HasRoomFor out.old (flat_map line entries.now) → IsOk result }
 {
     for entry in entries {
         match put_entry(out, entry) {
@@ -278,6 +314,8 @@ fn put_journal(out: &mut Vec<u8>, journal: &Journal) -> Result<(), AllocError>
     ensures ok { OnOk result (
         out.new.items ≡ out.old.items ++ text journal.now.procs journal.now.entries) }
     ensures err { OnErr result ((rest : List ℕ) × (out.new.items ≡ out.old.items ++ rest)) }
+    ensures capacity { vec_capacity out.old ≤ vec_capacity out.new }
+    ensures succeeds { HasRoomFor out.old (text journal.now.procs journal.now.entries) → IsOk result }
 {
     put_head(out, journal.procs())?;
     put_entries(out, journal.entries())
@@ -290,6 +328,8 @@ pub fn write_journal(out: &mut Vec<u8>, journal: &Journal) -> Result<(), NoMemor
     ensures ok { OnOk result (
         out.new.items ≡ out.old.items ++ text journal.now.procs journal.now.entries) }
     ensures err { OnErr result (out.new.items ≡ out.old.items) }
+    ensures capacity { vec_capacity out.old ≤ vec_capacity out.new }
+    ensures succeeds { HasRoomFor out.old (text journal.now.procs journal.now.entries) → IsOk result }
 {
     let before = out.len();
     let done = put_journal(out, journal);

@@ -9,3 +9,9 @@ returns-in_ok-put-2-clause-ok c = grind (arith, common_steps, spaced-select c.ar
 
 pub returns-else-default-clause-ok : goal.returns-else-default-clause-ok
 returns-else-default-clause-ok c = grind (arith, common_steps, spaced-select c.args.cases.now (default_field c.args.default))
+
+pub returns-in_err-put_cases-clause-succeeds : goal.returns-in_err-put_cases-clause-succeeds
+returns-in_err-put_cases-clause-succeeds c = grind (arith, common_steps, spaced-select c.args.cases.now (default_field c.args.default))
+
+pub returns-in_err-put-2-clause-succeeds : goal.returns-in_err-put-2-clause-succeeds
+returns-in_err-put-2-clause-succeeds c = grind (arith, common_steps, spaced-select c.args.cases.now (default_field c.args.default))

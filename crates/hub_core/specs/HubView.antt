@@ -1,6 +1,6 @@
 -- What contracts see of a hub, and what a step of it does. All else that a hub shows is a function
 -- of `state procs journal`.
-use Rattle.std.specs.Prelude.{◌≡◌, ◌≤◌, ◌<◌, ◌-◌, ◌⊎◌, ℕ, false, List, [], ◌∷◌, ◌++◌, None, Some}
+use Rattle.std.specs.Prelude.{◌≡◌, ◌≤◌, ◌<◌, ◌+◌, ◌-◌, ◌⊎◌, ℕ, false, List, [], ◌∷◌, ◌++◌, length, None, Some}
 use Rattle.hub_base.specs.declared.entry.Step.{Step}
 use Rattle.hub_base.specs.declared.entry.Step.TheVariants.{Make, Call, Close, Exit}
 use Rattle.hub_base.specs.declared.entry.Entry.{Entry}
@@ -25,6 +25,12 @@ pub record HubView : Type 0 where
   pub journal : List Entry
   -- how many steps other than makes take no memory
   pub places : ℕ
+
+-- a hub as it lies in memory
+pub record HubInMemory : Type 0 where
+  pub hub : HubView
+  -- how many entries the journal can hold before it has to grow
+  pub capacity : ℕ
 
 -- the state that its journal leads to
 abbrev pub state_of : HubView → State
@@ -68,6 +74,10 @@ Grows (Make cap) places = Unit {0}
 Grows (Call cases default word) places = places ≡ 0
 Grows (Close p) places = places ≡ 0
 Grows Exit places = ⊥
+
+-- an entry more fits beside the places and an exit of each process, so that the journal need not grow
+abbrev pub HasSpare : HubInMemory → Type 0
+HasSpare m = length m.hub.journal + m.hub.places + m.hub.procs + 1 ≤ m.capacity
 
 -- the entry is refused so, where the journal is not full
 abbrev pub RefusedBy : HubView → Entry → Fault → Type 0

@@ -4,12 +4,13 @@
 //! exit of each process from the opening on, and for the steps that were reserved; so neither an
 //! exit nor a reserved step asks for memory.
 
-ghost use Rattle.std.specs.Prelude.{◌≡◌, ◌≤◌, ◌<◌, ◌+◌, ◌-◌, ◌^◌, [], IfOk, IfErr, OnOk, OnErr, vec_len, max};
+ghost use Rattle.std.specs.Prelude.{◌≡◌, ◌≤◌, ◌<◌, ◌+◌, ◌-◌, ◌^◌, [], IfOk, IfErr, OnOk, OnErr, IsErrOf, vec_len, length, max};
 ghost use Rattle.std.specs.Vec.{vec_capacity};
 ghost use Rattle.hub_base.specs.Reading.{is_exit};
 ghost use Rattle.hub_base.specs.Runs.{kept};
+ghost use Rattle.hub_core.specs.Follows.{IsMake};
 ghost use Rattle.hub_core.specs.Looks.{look_at, value_at};
-ghost use Rattle.hub_core.specs.HubView.{HubView, Steps, Refuses, Grows, RefusesOpening, opened_hub, places_after, state_of, IsProcs, IsLimit};
+ghost use Rattle.hub_core.specs.HubView.{HubInMemory, Steps, Refuses, Grows, HasSpare, RefusesOpening, opened_hub, places_after, state_of, IsProcs, IsLimit};
 ghost use Rattle.hub_core.specs.HubKeeps.{is_full, count_after};
 
 use crate::{Machine, OpenFault};
@@ -32,14 +33,23 @@ pub struct Hub {
 }
 
 impl Model for Hub {
-    ghost use Rattle.hub_core.specs.HubView.{HubView};
+    ghost use Rattle.std.specs.Vec.{vec_capacity};
+    ghost use Rattle.hub_core.specs.HubView.{HubInMemory};
 
-    ghost Value = { HubView };
+    ghost Value = { HubInMemory };
 
     ghost use Rattle.hub_core.specs.HubKeeps.{HubKeeps};
 
     ghost view = { λ h.
-        record { procs = h.procs; limit = h.limit; journal = h.entries.items; places = h.places } };
+        record {
+          hub = record {
+            procs = h.procs;
+            limit = h.limit;
+            journal = h.entries.items;
+            places = h.places;
+          };
+          capacity = vec_capacity h.entries;
+        } };
 
     ghost invariant = { λ h. HubKeeps h };
 }
@@ -87,6 +97,9 @@ fn make_room(
     ensures room { OnOk result (Grows step.now places
         → vec_len entries.new + places + procs + 1 ≤ vec_capacity entries.new) }
     ensures err { OnErr result (Grows step.now places) }
+    ensures full { OnErr result (
+        vec_capacity entries.old < vec_len entries.old + places + procs + 1) }
+    ensures kept { ¬ Grows step.now places → vec_capacity entries.new ≡ vec_capacity entries.old }
 {
     let more = places as usize + procs as usize + 1;
     match step {
@@ -106,7 +119,8 @@ impl Hub {
     /// A hub of 1 to 64 processes whose journal may hold `limit` entries that are no exits, 1 to
     /// 1,000,000.
     pub fn open(alloc: Global, procs: u8, limit: u32) -> Result<Hub, OpenFault>
-        ensures ok { IfOk result (λ h. h ≡ opened_hub procs limit) }
+        ensures ok { IfOk result (λ h. h.hub ≡ opened_hub procs limit) }
+        ensures exact { IfOk result (λ h. h.capacity ≡ procs) }
         ensures bounds { OnOk result (IsProcs procs × IsLimit limit) }
         ensures err { IfErr result (λ f. RefusesOpening procs limit f) }
     {
@@ -136,9 +150,12 @@ impl Hub {
     /// and by `NoMemory` only a make is, or a step for which no place is left. All other faults are
     /// answers, and their entries are kept.
     pub fn step(&mut self, entry: Entry) -> Result<Events, Fault>
-        ensures ok { IfOk result (λ events. Steps self.old entry self.new events.items) }
-        ensures refused { IfErr result (λ f. Refuses self.old entry f) }
-        ensures unchanged { OnErr result (self.new ≡ self.old) }
+        ensures ok { IfOk result (λ events. Steps self.old.hub entry self.new.hub events.items) }
+        ensures refused { IfErr result (λ f. Refuses self.old.hub entry f) }
+        ensures memory { IsErrOf result Fault.NoMemory → HasSpare self.old → IsMake entry.step }
+        ensures unchanged { OnErr result (self.new.hub ≡ self.old.hub) }
+        ensures kept { ¬ Grows entry.step self.old.hub.places → self.new.capacity ≡ self.old.capacity }
+        ensures capacity { self.old.capacity ≤ self.new.capacity }
     {
         let mut events = Events::new();
         self.step_into(entry, &mut events)?;
@@ -148,9 +165,12 @@ impl Hub {
     /// Makes a step as `step` does, and leaves its events in place of those that were there. After a
     /// refusal these may be any.
     pub fn step_into(&mut self, entry: Entry, events: &mut Events) -> Result<(), Fault>
-        ensures ok { OnOk result (Steps self.old entry self.new events.new.items) }
-        ensures refused { IfErr result (λ f. Refuses self.old entry f) }
-        ensures unchanged { OnErr result (self.new ≡ self.old) }
+        ensures ok { OnOk result (Steps self.old.hub entry self.new.hub events.new.items) }
+        ensures refused { IfErr result (λ f. Refuses self.old.hub entry f) }
+        ensures memory { IsErrOf result Fault.NoMemory → HasSpare self.old → IsMake entry.step }
+        ensures unchanged { OnErr result (self.new.hub ≡ self.old.hub) }
+        ensures kept { ¬ Grows entry.step self.old.hub.places → self.new.capacity ≡ self.old.capacity }
+        ensures capacity { self.old.capacity ≤ self.new.capacity }
     {
         if is_full(&entry.step, self.count, self.limit) {
             return Err(Fault::JournalFull);
@@ -166,18 +186,21 @@ impl Hub {
         };
         self.count = count_after(&entry.step, self.count);
         self.places = places_after(&entry.step, self.places);
-        match self.entries.push(entry) {
-            Ok(()) => Ok(()),
-            Err(_full) => unreachable!(),
-        }
+        self.entries.push_reserved(entry);
+        Ok(())
     }
 
     /// Makes room in the journal: after `Ok` the next `k` steps other than makes take no memory. After
     /// a refusal the hub is as before.
     pub fn reserve(&mut self, k: u32) -> Result<(), AllocError>
-        ensures ok { OnOk result (self.new ≡ record self.old { places = max self.old.places k }) }
-        ensures more { OnErr result (self.old.places < k) }
+        ensures ok { OnOk result (
+            self.new.hub ≡ record self.old.hub { places = max self.old.hub.places k }) }
+        ensures more { OnErr result (self.old.hub.places < k) }
+        ensures full { OnErr result (
+            self.old.capacity < length self.old.hub.journal + k + self.old.hub.procs) }
         ensures unchanged { OnErr result (self.new ≡ self.old) }
+        ensures kept { k ≤ self.old.hub.places → self.new.capacity ≡ self.old.capacity }
+        ensures capacity { self.old.capacity ≤ self.new.capacity }
     {
         if k > self.places {
             self.entries.reserve(k as usize + self.procs as usize)?;
@@ -188,7 +211,7 @@ impl Hub {
 
     /// The capacity and the counts of a port, or `None` for port 0 and for a port that was not made.
     pub fn look(&self, port: Port) -> Option<Look>
-        ensures { result ≡ look_at (state_of self.now) port }
+        ensures { result ≡ look_at (state_of self.now.hub) port }
     {
         self.machine.look(port)
     }
@@ -196,23 +219,23 @@ impl Hub {
     /// The value at a place of a port's buffer, 0 the oldest. `None` past its end, for port 0 and for
     /// a port that was not made.
     pub fn buffered(&self, port: Port, place: u32) -> Option<Value>
-        ensures { result ≡ value_at (state_of self.now) port place }
+        ensures { result ≡ value_at (state_of self.now.hub) port place }
     {
         self.machine.buffered(port, place)
     }
 
     /// The journal so far. Each of its entries was admitted when it came.
     pub fn entries(&self) -> &[Entry]
-        ensures journal { result.now ≡ self.now.journal }
-        ensures legal { kept self.now.procs self.now.journal ≡ self.now.journal }
+        ensures journal { result.now ≡ self.now.hub.journal }
+        ensures legal { kept self.now.hub.procs self.now.hub.journal ≡ self.now.hub.journal }
     {
         &self.entries
     }
 
     /// The journal of the hub, which ends.
     pub fn into_journal(self) -> Journal
-        ensures journal { result ≡ record { procs = self.procs; entries = self.journal } }
-        ensures legal { kept self.procs self.journal ≡ self.journal }
+        ensures journal { result ≡ record { procs = self.hub.procs; entries = self.hub.journal } }
+        ensures legal { kept self.hub.procs self.hub.journal ≡ self.hub.journal }
     {
         Journal::of(self.procs, self.entries)
     }

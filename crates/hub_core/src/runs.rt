@@ -23,8 +23,8 @@ pub enum ListFault {
 
 /// Makes one step and appends what follows; a step that is not admitted is told as one fault.
 fn answer(hub: &mut Hub, events: &mut Vec<Event>, entry: &Entry) -> Result<(), Fault>
-    ensures ok { OnOk result (TellsOn hub.old entry.now hub.new events.old.items events.new.items) }
-    ensures err { IfErr result (λ f. StopsAt hub.old entry.now f) }
+    ensures ok { OnOk result (TellsOn hub.old.hub entry.now hub.new.hub events.old.items events.new.items) }
+    ensures err { IfErr result (λ f. StopsAt hub.old.hub entry.now f) }
 {
     match hub.step(entry.copy()) {
         Ok(told) => match events.extend_from_slice(told.as_slice()) {
@@ -60,10 +60,10 @@ pub fn run(
     entries: &[Entry],
 ) -> Result<(Hub, Vec<Event>), ListFault>
     // The events are the definition's, and the journal holds the admitted entries.
-    ensures ok { IfOk result (λ r. RunsTo procs limit entries.now r.0 r.1.items) }
+    ensures ok { IfOk result (λ r. RunsTo procs limit entries.now r.0.hub r.1.items) }
 
     // On each port the values received, then those buffered, are those sent, in order.
-    ensures received_then_buffered { IfOk result (λ r. KeepsValues procs entries.now r.0) }
+    ensures received_then_buffered { IfOk result (λ r. KeepsValues procs entries.now r.0.hub) }
 
     // Each admitted call completes at most one of its cases, once.
     ensures at_most_one_case { OnOk result (OnceLaw procs entries.now) }

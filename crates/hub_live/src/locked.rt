@@ -36,9 +36,9 @@ impl Model for Locked {
 
     ghost Value = { LockedView };
 
-    ghost view = { λ l. record { hub = l.hub; waiting = l.waiting } };
+    ghost view = { λ l. record { hub = l.hub.hub; waiting = l.waiting } };
 
-    ghost invariant = { λ l. IsLawful l.hub l.waiting };
+    ghost invariant = { λ l. IsLawful l.hub.hub l.waiting };
 }
 
 /// Puts an answer, or none, into the place of a process, where it has one.
@@ -73,7 +73,7 @@ fn pids_of(events: &[Event]) -> Pids {
 impl Locked {
     /// A hub with no answer waiting. It takes no memory.
     pub fn of(hub: Hub) -> Locked
-        ensures { result ≡ none_waits hub }
+        ensures { result ≡ none_waits hub.hub }
     {
         // That its journal is legal is told where the journal is shown.
         let _journal = hub.entries();

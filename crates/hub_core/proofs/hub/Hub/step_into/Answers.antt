@@ -14,8 +14,8 @@ step-requires c =
     steps_few c.self.inside.procs c.self.inside.limit c.self.inside.entries.items c.self.inside.machine c.self.invariant.follows c.self.invariant.legal
     (omega (arith, c.self.invariant.count, c.self.invariant.within)) c.self.invariant.limit.1 c.self.invariant.procs.1
 
-pub unreachable-requires : goal.unreachable-requires
-unreachable-requires c =
+pub push_reserved-requires : goal.push_reserved-requires
+push_reserved-requires c =
     let few = count-length c.self.inside.entries.items in
     let admitted : refusal (state c.self.inside.procs c.self.inside.entries.items) c.args.entry.pid ≡ None =
     sym (c.in_default.ensures c.self.inside.procs c.self.inside.entries.items c.self.invariant.follows) in
@@ -26,7 +26,7 @@ unreachable-requires c =
     (omega (arith, few, c.self.invariant.count)) c.self.invariant.room c.make_room.ensures.capacity more in
     let fits = entry_fits c.self.inside.procs c.self.inside.entries.items c.args.entry c.self.inside.count (places_after c.args.entry.step c.self.inside.places) (vec_capacity c.make_room.new.entries)
     c.self.invariant.legal admitted c.self.invariant.count room in
-    omega (arith, fits, c.in-Err.ensures.full, ap (λ (es : List Entry). length es) same, c.make_room.new.entries.ok)
+    omega (arith, fits, ap (λ (es : List Entry). length es) same, c.make_room.new.entries.ok)
 
 pub invariant_of-self-2 : goal.invariant_of-self-2
 invariant_of-self-2 c =
@@ -38,7 +38,7 @@ invariant_of-self-2 c =
     λ g. omega (arith, c.in-Ok.ensures.room g, ap (λ (es : List Entry). length es) same, c.make_room.new.entries.ok) in
     let room = room_after c.args.entry.step c.self.inside.count (length c.self.inside.entries.items) c.self.inside.places c.self.inside.procs (vec_capacity c.self.inside.entries) (vec_capacity c.make_room.new.entries)
     (omega (arith, few, c.self.invariant.count)) c.self.invariant.room c.make_room.ensures.capacity more in
-    let grown : c.push.new.self.items ≡ c.self.inside.entries.items ++ c.args.entry ∷ [] = c.in-Ok-push.ensures.items ∙ ap (λ (es : List Entry). es ++ c.args.entry ∷ []) same in
+    let grown : c.push_reserved.new.self.items ≡ c.self.inside.entries.items ++ c.args.entry ∷ [] = c.push_reserved.ensures.items ∙ ap (λ (es : List Entry). es ++ c.args.entry ∷ []) same in
     let legal = legal_longer c.self.inside.procs c.self.inside.entries.items c.args.entry c.self.invariant.legal admitted in
     let on = c.in-Ok-step.ensures.ok c.self.inside.procs c.self.inside.entries.items c.self.invariant.follows in
     let counted = c.count_after-self-inside.ensures in
@@ -50,5 +50,5 @@ invariant_of-self-2 c =
       follows = subst (λ (es : List Entry). Follows c.self.inside.procs es c.step.new.self) (sym grown) on.follows;
       count = counted ∙ count-snoc c.self.inside.entries.items c.args.entry c.self.inside.count c.self.invariant.count ∙ ap steps_of (sym grown);
       within = omega (arith, counted, count_within c.args.entry.step c.self.inside.count c.self.inside.limit c.self.invariant.within (has_room c.args.entry.step c.self.inside.count c.self.inside.limit (sym c.is_full.ensures ∙ c.if-is_full.false)));
-      room = omega (arith, room, counted, placed, c.in-Ok-push.ensures.capacity);
+      room = omega (arith, room, counted, placed, c.push_reserved.ensures.capacity);
     }

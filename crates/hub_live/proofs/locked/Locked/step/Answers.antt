@@ -6,18 +6,18 @@ use Rattle.hub_live.proofs.locked.Locked.step.Goals.{After-put_all}
 
 pub unreachable-requires : goal.unreachable-requires
 unreachable-requires c =
-    told_some c.self.inside.hub c.step_into.new.self c.args.entry c.step_into.new.events.items c.in_ok-step_into.ensures.ok (ap length (sym c.as_slice.ensures.value) ∙ c.in_default.ensures.cases)
+    told_some c.self.inside.hub.hub c.step_into.new.self.hub c.args.entry c.step_into.new.events.items c.in_ok-step_into.ensures.ok (ap length (sym c.as_slice.ensures.value) ∙ c.in_default.ensures.cases)
 
-served : (c : After-put_all) → Serves (record { hub = c.self.inside.hub; waiting = c.self.inside.waiting }) c.args.entry (record { hub = c.step_into.new.self; waiting = c.put_all.new.waiting }) c.in-Some.first.now
+served : (c : After-put_all) → Serves (record { hub = c.self.inside.hub.hub; waiting = c.self.inside.waiting }) c.args.entry (record { hub = c.step_into.new.self.hub; waiting = c.put_all.new.waiting }) c.in-Some.first.now
 served c =
-    serves (record { hub = c.self.inside.hub; waiting = c.self.inside.waiting }) c.args.entry c.step_into.new.self c.step_into.new.events.items c.in-Some.first.now c.in-Some.ended.now c.put.new.waiting c.put_all.new.waiting
+    serves (record { hub = c.self.inside.hub.hub; waiting = c.self.inside.waiting }) c.args.entry c.step_into.new.self.hub c.step_into.new.events.items c.in-Some.first.now c.in-Some.ended.now c.put.new.waiting c.put_all.new.waiting
     c.self.invariant.places c.in_ok-step_into.ensures.ok (sym c.as_slice.ensures.value ∙ c.in-Some.ensures.cases.0) c.put.ensures (omega arith) c.put_all.ensures
 
 pub invariant_of-self-2 : goal.invariant_of-self-2
-invariant_of-self-2 c = lawful_served (record { hub = c.self.inside.hub; waiting = c.self.inside.waiting }) (record { hub = c.step_into.new.self; waiting = c.put_all.new.waiting }) c.args.entry c.in-Some.first.now c.self.invariant (served c)
+invariant_of-self-2 c = lawful_served (record { hub = c.self.inside.hub.hub; waiting = c.self.inside.waiting }) (record { hub = c.step_into.new.self.hub; waiting = c.put_all.new.waiting }) c.args.entry c.in-Some.first.now c.self.invariant (served c)
 
 pub returns-clause-ok : goal.returns-clause-ok
-returns-clause-ok c = subst (λ (l : LockedView). Serves l c.args.entry (record { hub = c.step_into.new.self; waiting = c.put_all.new.waiting }) c.in-Some.first.now) c.self.view_is (served c)
+returns-clause-ok c = subst (λ (l : LockedView). Serves l c.args.entry (record { hub = c.step_into.new.self.hub; waiting = c.put_all.new.waiting }) c.in-Some.first.now) c.self.view_is (served c)
 
 pub returns-clause-reply : goal.returns-clause-reply
-returns-clause-reply c = answer_replies c.self.inside.hub c.step_into.new.self c.args.entry c.in-Some.first.now (served c).ended (served c).step
+returns-clause-reply c = answer_replies c.self.inside.hub.hub c.step_into.new.self.hub c.args.entry c.in-Some.first.now (served c).ended (served c).step

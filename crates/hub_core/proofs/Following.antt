@@ -19,7 +19,7 @@ use Rattle.hub_laws.proofs.Ready.{admitted}
 use Rattle.hub_parts.specs.Records.{Ticketed}
 use Rattle.hub_core.specs.Records.{MachineLists, opened_machine}
 use Rattle.hub_core.specs.ListSteps.{turn_on, answers_on, effect_on, fault_on, refusal_of, gone_on}
-use Rattle.hub_core.specs.Follows.{Matches, IsEntryOf, TicketsAre, Follows, IsReached, Admits, Answers, RefusesFor}
+use Rattle.hub_core.specs.Follows.{Matches, IsEntryOf, TicketsAre, Follows, IsReached, Admits, Answers, IsFine, RefusesFor}
 use Rattle.hub_core.specs.Agrees.{StepsAs}
 use Rattle.hub_core.proofs.Effects.{fault_on-as, effect_on-as}
 use Rattle.hub_core.proofs.Stalls.{stalls_on-as, refusal_of-as}
@@ -130,6 +130,9 @@ refused_as n es e f other h = h
 
 pub admitted_as : (n : ℕ) (es : List Entry) (e : Entry) (m : MachineLists) → Follows n es m → refusal_of m.board m.gone e.pid ≡ None → refusal (state n es) e.pid ≡ None
 admitted_as n es e m h is = sym (refusal_of-as (state n es) m e.pid h.matches) ∙ is
+
+pub fine_as : (n : ℕ) (es : List Entry) (e : Entry) (m : MachineLists) → Follows n es m → fault_on m.board e.step ≡ None → IsFine (state n es) e
+fine_as n es e m h is = sym (fault_on-as (state n es) m e.step h.matches) ∙ is
 
 -- ---- the opening
 none-gone : (k q : ℕ) → gone_on (replicate k false) q ≡ false

@@ -9,7 +9,7 @@ use Rattle.hub_base.specs.declared.event.Event.{Event}
 use Rattle.hub_base.specs.declared.fault.Fault.{Fault}
 use Rattle.hub_base.specs.declared.fault.Fault.TheVariants as fault
 use Rattle.hub_base.specs.State.{State, Channel, OpenCall, buffer_of}
-use Rattle.hub_base.specs.Steps.{has_gone, refusal}
+use Rattle.hub_base.specs.Steps.{has_gone, refusal, fault_of}
 use Rattle.hub_base.specs.Runs.{state, kept, moves}
 use Rattle.hub_parts.specs.Records.{PortLists, Ticketed}
 use Rattle.hub_parts.specs.Lists.{open_calls}
@@ -77,6 +77,10 @@ IsMake (Make cap) = Unit {0}
 IsMake (Call cases default word) = ⊥
 IsMake (Close p) = ⊥
 IsMake Exit = ⊥
+
+-- the step meets no fault, so a fault is not its answer
+abbrev pub IsFine : State → Entry → Type 0
+IsFine s e = fault_of s e.step ≡ None
 
 -- why an entry is refused: memory, which only a make asks for, or because it is not admitted
 abbrev pub RefusesFor : ℕ → List Entry → Entry → Fault → Type 0

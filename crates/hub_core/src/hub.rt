@@ -8,7 +8,7 @@ ghost use Rattle.std.specs.Prelude.{◌≡◌, ◌≤◌, ◌<◌, ◌+◌, ◌-
 ghost use Rattle.std.specs.Vec.{vec_capacity};
 ghost use Rattle.hub_base.specs.Reading.{is_exit};
 ghost use Rattle.hub_base.specs.Runs.{kept};
-ghost use Rattle.hub_core.specs.Follows.{IsMake};
+ghost use Rattle.hub_core.specs.Follows.{IsMake, IsFine};
 ghost use Rattle.hub_core.specs.Looks.{look_at, value_at};
 ghost use Rattle.hub_core.specs.HubView.{HubInMemory, Steps, Refuses, Grows, HasSpare, RefusesOpening, opened_hub, places_after, state_of, IsProcs, IsLimit};
 ghost use Rattle.hub_core.specs.HubKeeps.{is_full, count_after};
@@ -153,6 +153,8 @@ impl Hub {
         ensures ok { IfOk result (λ events. Steps self.old.hub entry self.new.hub events.items) }
         ensures refused { IfErr result (λ f. Refuses self.old.hub entry f) }
         ensures memory { IsErrOf result Fault.NoMemory → HasSpare self.old → IsMake entry.step }
+        ensures fine { IsErrOf result Fault.NoMemory → HasSpare self.old
+            → IsFine (state_of self.old.hub) entry }
         ensures unchanged { OnErr result (self.new.hub ≡ self.old.hub) }
         ensures kept { ¬ Grows entry.step self.old.hub.places → self.new.capacity ≡ self.old.capacity }
         ensures capacity { self.old.capacity ≤ self.new.capacity }
@@ -168,6 +170,8 @@ impl Hub {
         ensures ok { OnOk result (Steps self.old.hub entry self.new.hub events.new.items) }
         ensures refused { IfErr result (λ f. Refuses self.old.hub entry f) }
         ensures memory { IsErrOf result Fault.NoMemory → HasSpare self.old → IsMake entry.step }
+        ensures fine { IsErrOf result Fault.NoMemory → HasSpare self.old
+            → IsFine (state_of self.old.hub) entry }
         ensures unchanged { OnErr result (self.new.hub ≡ self.old.hub) }
         ensures kept { ¬ Grows entry.step self.old.hub.places → self.new.capacity ≡ self.old.capacity }
         ensures capacity { self.old.capacity ≤ self.new.capacity }

@@ -9,7 +9,7 @@ ghost use Rattle.hub_base.specs.declared.entry.Entry.{Entry};
 ghost use Rattle.hub_base.specs.Steps.{refusal};
 ghost use Rattle.hub_base.specs.Runs.{state};
 ghost use Rattle.hub_core.specs.Looks.{look_at, value_at};
-ghost use Rattle.hub_core.specs.Follows.{Follows, Admits, Answers, IsMake, RefusesFor};
+ghost use Rattle.hub_core.specs.Follows.{Follows, Admits, Answers, IsMake, IsFine, RefusesFor};
 
 use crate::machine_state::MachineState;
 use hub_base::{Entry, Event, Events, Fault, Look, Pid, Port, Value, What};
@@ -61,6 +61,8 @@ impl Machine {
         ensures refused { IfErr result (λ f. (n : ℕ) (es : List Entry) → Follows n es self.old
             → RefusesFor n es entry.now f) }
         ensures memory { IsErrOf result Fault.NoMemory → IsMake entry.now.step }
+        ensures fine { IsErrOf result Fault.NoMemory → (n : ℕ) (es : List Entry)
+            → Follows n es self.old → IsFine (state n es) entry.now }
         ensures unchanged { OnErr result (self.new ≡ self.old) }
         ensures empty { OnErr result (events.new.items ≡ []) }
     {
@@ -85,6 +87,8 @@ impl Machine {
         ensures steps { OnOk result (self.new.steps ≤ self.old.steps + 1) }
 
         ensures make { OnErr result (IsMake entry.now.step) }
+        ensures fine { OnErr result ((n : ℕ) (es : List Entry) → Follows n es self.old
+            → IsFine (state n es) entry.now) }
         ensures unchanged { OnErr result (self.new ≡ self.old) }
         ensures empty { OnErr result (events.new.items ≡ []) }
     {

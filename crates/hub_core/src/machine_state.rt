@@ -151,6 +151,7 @@ impl MachineState {
         ensures machine { OnOk result (self.new ≡ (turn_on self.old entry.now).machine) }
         ensures events { OnOk result (events.new.items ≡ (turn_on self.old entry.now).events) }
         ensures make { OnErr result (IsMake entry.now.step) }
+        ensures fine { OnErr result (fault_on self.old.board entry.now.step ≡ None) }
         ensures unchanged { OnErr result (self.new ≡ self.old) }
         ensures empty { OnErr result (events.new.items ≡ []) }
         ensures places { length self.old.gone ≡ 64 }

@@ -16,6 +16,7 @@ returns-in_default-fault c =
           (refused_as n es c.args.entry.now c.in-Err.fault c.in_default-fault.not-NoMemory (c.in-Err.ensures.refused n es h)));
       steps = omega (arith, ap (λ (m : MachineLists). m.steps) stays);
       make = tt;
+      fine = tt;
       unchanged = tt;
       empty = tt;
     }

@@ -1,6 +1,6 @@
 use Rattle.std.proofs.Common.{sym, subst}
 use Rattle.hub_core.specs.Follows.{Follows}
-use Rattle.hub_core.proofs.Following.{refuses_for, admitted_as, admits_on, reached_next}
+use Rattle.hub_core.proofs.Following.{refuses_for, admitted_as, fine_as, admits_on, reached_next}
 use Rattle.hub_core.proofs.machine.Machine.step.Goals as goal
 
 pub returns-in-Some-clause-refused : goal.returns-in-Some-clause-refused
@@ -12,6 +12,10 @@ returns-in_default-turn-clause-refused c = λ n es h. (
   c.in_default-turn.ensures.make,
   admitted_as n es c.args.entry.now _ (subst (Follows n es) (sym c.self.view_is) h) (sym c.in_default.ensures),
 )
+
+pub returns-in_default-turn-clause-fine : goal.returns-in_default-turn-clause-fine
+returns-in_default-turn-clause-fine c = λ memory n es h.
+    fine_as n es c.args.entry.now _ (subst (Follows n es) (sym c.self.view_is) h) c.in_default-turn.ensures.fine
 
 pub invariant_of-self-2 : goal.invariant_of-self-2
 invariant_of-self-2 c =

@@ -19,7 +19,7 @@ use Rattle.hub_laws.proofs.Answered.{moves-answered}
 use Rattle.hub_laws.proofs.Replied.{replied-law}
 use Rattle.hub_core.specs.HubView.{HubView, Steps, places_after, state_of}
 use Rattle.hub_laws.proofs.Journals.{begins-law}
-use Rattle.hub_live.specs.Locked.{LockedView, answer_for, IsReplyTo, IsLawful, last_told, Serves}
+use Rattle.hub_live.specs.Locked.{LockedView, answer_for, IsReplyTo, IsLawful, last_told, pids_of, Serves}
 use Rattle.hub_live.specs.Calls.{Answers, AnswersNoCall}
 
 -- ---- places
@@ -128,10 +128,10 @@ waits_after hub e answer ended q o r h = last_replies (grown hub e) q (cond (e.p
 -- ---- a step of the locked hub
 
 -- the events were put into the places
-pub serves : (old : LockedView) (e : Entry) (hub : HubView) (told : List Event) (answer : Event) (ended : List Event) (cleared waiting : List (Option Event)) →
+pub serves : (old : LockedView) (e : Entry) (hub : HubView) (told : List Event) (answer : Event) (ended : List Event) (cleared waiting : List (Option Event)) (answered : List Pid) →
     length old.waiting ≡ 64 → Steps old.hub e hub told → told ≡ answer ∷ ended → cleared ≡ slice_set old.waiting e.pid.0 None → length waiting ≡ length cleared →
-    ((q : ℕ) → q < length cleared → answer_for waiting q ≡ last_told q (answer_for cleared q) ended) → Serves old e (record { hub = hub; waiting = waiting }) answer
-serves old e hub told answer ended cleared waiting places s first clear same each =
+    ((q : ℕ) → q < length cleared → answer_for waiting q ≡ last_told q (answer_for cleared q) ended) → answered ≡ pids_of ended → Serves old e (record { hub = hub; waiting = waiting; answered = answered }) answer
+serves old e hub told answer ended cleared waiting answered places s first clear same each pids =
     let room : length cleared ≡ 64 = ap length clear ∙ length-set old.waiting e.pid.0 None ∙ places in
     record {
       ended = ended;
@@ -140,6 +140,7 @@ serves old e hub told answer ended cleared waiting places s first clear same eac
       waiting = λ q lt.
           each q (omega (arith, room))
           ∙ ap (λ (o : Option Event). last_told q o ended) (ap (λ (ws : List (Option Event)). answer_for ws q) clear ∙ answer_for-set old.waiting e.pid.0 q None (omega (arith, places)));
+      answered = pids;
     }
 
 pub lawful_served : (old new : LockedView) (e : Entry) (answer : Event) → IsLawful old.hub old.waiting → Serves old e new answer → IsLawful new.hub new.waiting

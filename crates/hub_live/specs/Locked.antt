@@ -1,6 +1,6 @@
 -- What contracts see of a locked hub: a hub, and for each process an answer that may wait to be picked
 -- up. Where a step ends the call of another process, the answer waits until that process takes it.
-use Rattle.std.specs.Prelude.{◌≡◌, ◌<◌, ◌==◌, ℕ, false, List, ◌∷◌, length, replicate, filter, Option, None, Some, IfSome, slice_index_or, slice_set, if◌then◌else◌}
+use Rattle.std.specs.Prelude.{◌≡◌, ◌<◌, ◌==◌, ℕ, false, List, [], ◌∷◌, length, map, replicate, filter, Option, None, Some, IfSome, slice_index_or, slice_set, if◌then◌else◌}
 use Rattle.hub_base.specs.declared.value.Pid.{Pid}
 use Rattle.hub_base.specs.declared.entry.Entry.{Entry}
 use Rattle.hub_base.specs.declared.event.Event.{Event}
@@ -15,6 +15,8 @@ pub record LockedView : Type 0 where
   pub hub : HubView
   -- for each number below 64 the answer that waits for that process, if one does
   pub waiting : List (Option Event)
+  -- whose calls the last step that was made ended, in the order in which they were told
+  pub answered : List Pid
 
 -- the answer that waits for process q, if one does
 abbrev pub answer_for : List (Option Event) → ℕ → Option Event
@@ -22,7 +24,7 @@ answer_for waiting q = slice_index_or waiting q None
 
 -- a hub for which no answer waits
 abbrev pub none_waits : HubView → LockedView
-none_waits hub = record { hub = hub; waiting = replicate 64 None }
+none_waits hub = record { hub = hub; waiting = replicate 64 None; answered = [] }
 
 -- ---- what every locked hub keeps
 
@@ -50,17 +52,23 @@ abbrev pub answer_after : List (Option Event) → Pid → List Event → ℕ →
 answer_after waiting caller ended q =
     last_told q (if caller.0 == q then None else answer_for waiting q) ended
 
+-- the processes of these events
+abbrev pub pids_of : List Event → List Pid
+pids_of xs = map (λ x. x.pid) xs
+
 -- a step that was made: what the hub leaves and tells, which is the answer and then the calls that
--- ended; and what waits for each process
+-- ended; what waits for each process; and whose calls those are
 pub record Serves (old : LockedView) (e : Entry) (new : LockedView) (answer : Event) : Type 0 where
   pub ended : List Event
   pub step : Steps old.hub e new.hub (answer ∷ ended)
   pub places : length new.waiting ≡ 64
   pub waiting :
       (q : ℕ) → q < 64 → answer_for new.waiting q ≡ answer_after old.waiting e.pid ended q
+  pub answered : new.answered ≡ pids_of ended
 
 -- ---- an answer is taken
 
 -- nothing waits for process q any longer, and all else is as before
 abbrev pub without_answer : LockedView → ℕ → LockedView
-without_answer l q = record { hub = l.hub; waiting = slice_set l.waiting q None }
+without_answer l q =
+    record { hub = l.hub; waiting = slice_set l.waiting q None; answered = l.answered }

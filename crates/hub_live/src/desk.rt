@@ -239,7 +239,9 @@ impl<K: HubName> Desk<K> {
     }
 
     /// Whose calls the last step ended, where it was made.
-    pub(crate) fn answered(&self) -> Pids {
+    pub(crate) fn answered(&self) -> Pids
+        ensures { result.items ≡ self.now.answered }
+    {
         self.locked.answered()
     }
 

@@ -5,12 +5,12 @@
 //! no answer waiting, and an answer that waits is its process's reply. That the hub is what its journal
 //! leads to is kept by the hub's own type.
 
-ghost use Rattle.std.specs.Prelude.{◌≡◌, ◌<◌, ℕ, Some, false, length, slice_set, IfOk, IfErr, OnErr, IfSome, IfNone};
+ghost use Rattle.std.specs.Prelude.{◌≡◌, ◌≤◌, ◌<◌, ℕ, Some, false, length, slice_set, IfOk, IfErr, OnErr, IfSome, IfNone};
 ghost use Rattle.hub_laws.specs.Journals.{IsLegal};
 ghost use Rattle.hub_laws.specs.Replies.{is_parked};
 ghost use Rattle.hub_core.specs.Looks.{look_at};
 ghost use Rattle.hub_core.specs.HubView.{Refuses, state_of};
-ghost use Rattle.hub_live.specs.Locked.{answer_for, none_waits, IsReplyTo, last_told, Serves, without_answer};
+ghost use Rattle.hub_live.specs.Locked.{answer_for, none_waits, IsReplyTo, last_told, pids_of, Serves, without_answer};
 
 use arrayvec::ArrayVec;
 use hub_base::{Entry, Event, Events, Fault, Journal, Look, Pid, Port};
@@ -26,8 +26,9 @@ pub struct Locked {
     hub: Hub,
     /// By process number. A hub has at most 64 processes.
     waiting: [Option<Event>; 64],
-    /// Those of the last step that was made, its answer first; after a refusal they may be any.
-    /// Contracts do not see them.
+    /// Whose calls the last step that was made ended.
+    answered: Pids,
+    /// Where the hub leaves the events of a step. Contracts do not see them.
     events: Events,
 }
 
@@ -36,7 +37,8 @@ impl Model for Locked {
 
     ghost Value = { LockedView };
 
-    ghost view = { λ l. record { hub = l.hub.hub; waiting = l.waiting } };
+    ghost view = { λ l.
+        record { hub = l.hub.hub; waiting = l.waiting; answered = l.answered.items } };
 
     ghost invariant = { λ l. IsLawful l.hub.hub l.waiting };
 }
@@ -61,11 +63,14 @@ fn put_all(waiting: &mut [Option<Event>], events: &[Event])
     }
 }
 
-/// The processes of these events, of which there are at most 64.
-fn pids_of(events: &[Event]) -> Pids {
+/// The processes of these events.
+fn pids_of(events: &[Event]) -> Pids
+    requires { length events.now ≤ 64 }
+    ensures { result.items ≡ pids_of events.now }
+{
     let mut pids = Pids::new();
     for event in events {
-        let _ = pids.try_push(event.pid);
+        pids.push(event.pid);
     }
     pids
 }
@@ -80,6 +85,7 @@ impl Locked {
         Locked {
             hub,
             waiting: [None; 64],
+            answered: Pids::new(),
             events: Events::new(),
         }
     }
@@ -105,6 +111,7 @@ impl Locked {
         let answer = *first;
         put(&mut self.waiting, caller, None);
         put_all(&mut self.waiting, ended);
+        self.answered = pids_of(ended);
         Ok(answer)
     }
 
@@ -124,12 +131,15 @@ impl Locked {
         }
     }
 
-    /// Whose calls the last step ended, where it was made: they are to be woken. A wake is only a
-    /// hint, so no clause speaks of it.
-    pub fn answered(&self) -> Pids {
-        match self.events.as_slice().split_first() {
-            Some((_answer, ended)) => pids_of(ended),
-            None => Pids::new(),
+    /// Whose calls the last step that was made ended: they are to be woken. A wake is only a hint, so no
+    /// clause speaks of it.
+    pub fn answered(&self) -> Pids
+        ensures { result.items ≡ self.now.answered }
+    {
+        let mut pids = Pids::new();
+        match pids.try_extend_from_slice(self.answered.as_slice()) {
+            Ok(()) => pids,
+            Err(_full) => unreachable!(),
         }
     }
 
@@ -156,6 +166,7 @@ impl Locked {
         let Locked {
             hub,
             waiting: _,
+            answered: _,
             events: _,
         } = self;
         hub.into_journal()

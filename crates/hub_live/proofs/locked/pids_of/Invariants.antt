@@ -1,0 +1,9 @@
+use Rattle.std.proofs.Common.{◌≡◌, ◌++◌, ℕ, length, drop}
+use Rattle.hub_live.specs.Locked.{pids_of}
+use Rattle.hub_live.proofs.locked.pids_of.Given as goal
+
+abbrev pub invariant-loop-event : goal.invariant-loop-event
+invariant-loop-event l = record {
+  same : l.pids.items ++ pids_of (drop l.event-index l.events) ≡ pids_of l.events;
+  count : length l.pids.items ≡ l.event-index;
+}

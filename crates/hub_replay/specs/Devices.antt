@@ -1,7 +1,7 @@
 -- What a call of a device does to its bytes and to its count of failures.
 -- The bytes are those of std's `Read` and `Write`: `Some` of them where they are known, and `None` says nothing.
-use Rattle.std.specs.Prelude.{◌≡◌, ℕ, ◌+◌, ◌-◌, ◌^◌, ◌<◌, min, List, ◌++◌, length, Option, Result, MatchResult}
-use Rattle.std.specs.Io.KnownBytes.{Appends}
+use Rattle.std.specs.Prelude.{◌≡◌, ℕ, ◌+◌, ◌-◌, ◌^◌, ◌≤◌, ◌<◌, min, List, ◌++◌, length, Option, Result, MatchResult}
+use Rattle.std.specs.Io.KnownBytes.{Appends, Consumes}
 
 -- a device with a count of its failures
 pub record CountedView (T : Type 0) : Type 0 where
@@ -29,6 +29,10 @@ pub record CountsTaken (old new taken : ℕ) (piece : List ℕ) : Type 0 where
 -- a write failed at `Err`, and where it took no byte of a piece that is not empty
 abbrev pub CountsWrite : {E : Type 0} → ℕ → ℕ → Result ℕ E → List ℕ → Type 0
 CountsWrite old new r piece = MatchResult r (λ taken. CountsTaken old new taken piece) (λ _. Failed old new)
+
+-- at most so many bytes were read
+abbrev pub ConsumesAtMost : Option (List ℕ) → Option (List ℕ) → ℕ → Type 0
+ConsumesAtMost old new most = (bytes : List ℕ) × Consumes old new bytes × (length bytes ≤ most)
 
 -- known bytes grew by a beginning of these
 abbrev pub AppendsBeginning : Option (List ℕ) → Option (List ℕ) → List ℕ → Type 0

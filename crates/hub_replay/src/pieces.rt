@@ -2,7 +2,7 @@
 
 ghost use Rattle.std.specs.Prelude.{◌≡◌, ℕ, ◌+◌, ◌≤◌, vec_len, IfOk, OnOk, OnErr, IsErrOf};
 ghost use Rattle.std.specs.Io.KnownBytes.{Consumes, Appends, IsAtEnd};
-ghost use Rattle.hub_replay.specs.Devices.{Failed, AppendsBeginning};
+ghost use Rattle.hub_replay.specs.Devices.{Failed, ConsumesAtMost, AppendsBeginning};
 
 use crate::{Sink, Source, SourceFault, WriteFailed};
 use std::alloc::Global;
@@ -20,6 +20,9 @@ pub fn read_up_to<S: Source>(
         Consumes (S.remaining source.old) (S.remaining source.new) v.items) }
     ensures end { IfOk result (λ v. vec_len v ≤ limit → IsAtEnd (S.remaining source.new)) }
     ensures most { IfOk result (λ v. vec_len v ≤ limit + 1) }
+
+    // So few are read whatever the answer is.
+    ensures few { ConsumesAtMost (S.remaining source.old) (S.remaining source.new) (limit + 1) }
 
     // One read failed where the answer is `Read`, and else none.
     ensures read { IsErrOf result SourceFault.Read

@@ -7,7 +7,7 @@ ghost use Rattle.std.specs.Prelude.{◌≡◌, ℕ, ◌-◌, ◌^◌, ◌<◌, �
 ghost use Rattle.std.specs.List.{flat_map};
 ghost use Rattle.hub_base.specs.declared.text.faults.TextFault.{TextFault};
 ghost use Rattle.hub_base.specs.EventText.{event_line};
-ghost use Rattle.hub_replay.specs.Devices.{Failed};
+ghost use Rattle.hub_replay.specs.Devices.{Failed, ConsumesAtMost};
 ghost use Rattle.hub_replay.specs.Replay.{IsEventText, HasNone, Replays, BeginsReplay, ReadsFaulty};
 
 use crate::pieces::{read_up_to, write_whole};
@@ -62,6 +62,9 @@ pub fn replay<S: Source, W: Sink>(
         → Failed (W.failures sink.old) (W.failures sink.new)
         × BeginsReplay (S.remaining source.old) (S.remaining source.new)
         (W.contents sink.old) (W.contents sink.new) }
+
+    // At most one byte more is read than a journal may have, whatever the answer is.
+    ensures few { ConsumesAtMost (S.remaining source.old) (S.remaining source.new) 67108865 }
 
     // No other call of either device failed.
     ensures reads_once { ¬ IsErrOf result ReplayFault.Read

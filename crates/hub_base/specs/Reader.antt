@@ -1,15 +1,20 @@
 -- What contracts see of a reader: the number of processes, what the rest of the text says, and in
 -- how many bytes it stands.
-use Rattle.std.specs.Prelude.{ℕ, ◌<◌, ◌≡◌, [], Option, None, Some, Result, Ok, Err, Bool, true, false}
+use Rattle.std.specs.Prelude.{ℕ, ◌<◌, ◌≡◌, List, [], ◌∷◌, Option, None, Some, Result, Ok, Err, Bool, true, false}
 use Rattle.hub_base.specs.declared.entry.Entry.{Entry}
 use Rattle.hub_base.specs.declared.text.faults.TextFault.{TextFault}
-use Rattle.hub_base.specs.Reading.{Reading, Reads, Faulty, with_entry}
+use Rattle.hub_base.specs.Reading.{Reading, Reads, Faulty, Row, procs_number, with_entry}
 
 -- a reader
 pub record ReaderView : Type 0 where
   pub procs : ℕ
   pub left : Reading
   pub bytes : ℕ
+
+-- the number of processes that the first of these lines says, whatever those behind it say
+abbrev pub procs_said : List Row → Option ℕ
+procs_said [] = None
+procs_said (r ∷ rs) = procs_number r.bytes
 
 -- where nothing is left the text ends; else what is left is this entry and what the reader says
 -- after it

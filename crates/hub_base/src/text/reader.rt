@@ -4,14 +4,14 @@
 //! bytes, no newline, the head lines, the shape of a step, its numbers, its spelling, too many
 //! steps.
 
-ghost use Rattle.std.specs.Prelude.{◌≡◌, ◌≤◌, ℕ, length, IfOk, IfErr, List, ◌++◌};
+ghost use Rattle.std.specs.Prelude.{◌≡◌, ◌≤◌, ℕ, length, drop, Some, IfOk, IfErr, List, ◌++◌};
 ghost use Rattle.hub_base.specs.Limits.{most_bytes};
 ghost use Rattle.hub_base.specs.Lines.{line};
 ghost use Rattle.hub_base.specs.Reading.{read_text, procs_number, procs_from, rows, is_exit};
 ghost use Rattle.hub_base.specs.ReadJournal.{Gives, IsFaultOf};
 ghost use Rattle.hub_base.specs.Text.{IsText, IsFaulty, IsEither, Fits};
 ghost use Rattle.hub_base.specs.Reading.Reading.{Reads, Faulty};
-ghost use Rattle.hub_base.specs.Reader.{ReadsOn, FillsOn};
+ghost use Rattle.hub_base.specs.Reader.{ReadsOn, FillsOn, procs_said};
 ghost use Rattle.hub_base.specs.declared.entry.Entry.{Entry};
 ghost use Rattle.hub_base.specs.declared.text.faults.Kind.{Kind};
 
@@ -78,6 +78,7 @@ impl<'a> Model for Reader<'a> {
 fn open_entries(bytes: &[u8], place: usize) -> Result<Reader<'_>, Kind>
     requires place { place ≤ most_bytes }
     ensures ok { IfOk result (λ r. procs_from place (rows bytes.now) ≡ r.left) }
+    ensures procs { IfOk result (λ r. procs_said (rows bytes.now) ≡ Some r.procs) }
     ensures bytes { IfOk result (λ r. r.bytes ≤ length bytes.now) }
     ensures fault { IfErr result (λ kind. procs_from place (rows bytes.now) ≡ Faulty 2 kind) }
 {
@@ -98,9 +99,11 @@ fn open_entries(bytes: &[u8], place: usize) -> Result<Reader<'_>, Kind>
 }
 
 impl<'a> Reader<'a> {
-    /// Reads the two head lines; an `Err` is a fault of one of them.
+    /// Reads the two head lines; an `Err` is a fault of one of them. The number of processes is the second
+    /// line's also where a later line is faulty.
     pub fn open(bytes: &'a [u8]) -> Result<Reader<'a>, TextFault>
         ensures ok { IfOk result (λ r. read_text bytes.now ≡ r.left) }
+        ensures procs { IfOk result (λ r. procs_said (drop 1 (rows bytes.now)) ≡ Some r.procs) }
         ensures bytes { IfOk result (λ r. r.bytes ≤ length bytes.now) }
         ensures fault { IfErr result (λ f. read_text bytes.now ≡ Faulty f.line f.kind) }
     {

@@ -8,7 +8,7 @@ use Rattle.hub_base.specs.declared.text.faults.Kind.{Kind}
 use Rattle.hub_base.specs.declared.text.faults.Kind.TheVariants.{CutLine, TooLong}
 use Rattle.std.proofs.Common.{◌⊎◌, inl, inr}
 use Rattle.hub_base.specs.Lines.{read_fields, pieces, line}
-use Rattle.hub_base.specs.Reading.{Row, Reading, Reads, Faulty, entries_from, row_fault, faulty_or, end_of, over, counted, with_entry, entry_says, is_exit}
+use Rattle.hub_base.specs.Reading.{Row, Reading, Reads, Faulty, entries_from, row_fault, faulty_or, end_of, over, counted, HasEntry, with_entry, entry_says, is_exit}
 use Rattle.hub_base.specs.Reading.{behind}
 use Rattle.hub_base.specs.Text.{Fits, fields_of, body, row_of, one_step, steps_of, EntryFails, entry_fault, first_fault, fault_of_entry}
 use Rattle.hub_base.proofs.Bodies.{body-again}
@@ -254,3 +254,21 @@ entries-fail-again n rs k start steps faulty kind f =
     ap (entries_from n k start steps) f.lines
     ∙ entries-again n f.es (f.bad ∷ f.more) k start steps faulty place done f.fits f.count refl refl f.bytes_fit f.steps_fit
     ∙ ap (behind f.es) (faulty-again faulty done (row_fault (end_of place f.bad) f.bad) (read_fields (pieces 32 f.bad.bytes)) goes kind f.fault)
+
+-- ---- the first entry
+-- a fault stands in the first of the lines that are read or behind it
+fault-later : (n k start steps : ℕ) (rs : List Row) (faulty : ℕ) (kind : Kind) → start ≤ 67108864 → steps ≤ 1000000 → entries_from n k start steps rs ≡ Faulty faulty kind → k ≤ faulty
+fault-later n k start steps rs faulty kind lim most h = let c = (entries-fail n rs k start steps faulty kind lim most h).count in omega (arith, c)
+
+-- where an entry is read that stands behind the head, some entry is said
+pub has-entry : (n k start steps : ℕ) (rs : List Row) (e : Entry) (said : Reading) → 3 ≤ k → start ≤ 67108864 → steps ≤ 1000000 → said ≡ with_entry e (entries_from n (k + 1) start steps rs) → HasEntry said
+has-entry n k start steps rs e said head lim most is = subst HasEntry (sym is) (by (entries_from n (k + 1) start steps rs) refl)
+  where
+    by : (r : Reading) → entries_from n (k + 1) start steps rs ≡ r → HasEntry (with_entry e r)
+    by (Reads m es) h = omega arith
+    by (Faulty faulty kind) h = omega (arith, head, fault-later n (k + 1) start steps rs faulty kind lim most h)
+
+-- and so it is with more entries before it
+pub has-behind : (es : List Entry) (r : Reading) → HasEntry r → HasEntry (behind es r)
+has-behind es (Reads n fs) h = omega (arith, h, length-append es fs)
+has-behind es (Faulty k kind) h = h

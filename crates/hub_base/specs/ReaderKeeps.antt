@@ -8,10 +8,11 @@ use Rattle.hub_base.specs.Limits.{most_bytes, most_procs, most_steps}
 abbrev pub left_of : Inside → Reading
 left_of r = entries_from r.procs r.line r.place r.steps (rows r.rest.now)
 
--- there are 1 to 64 processes, and what was read is within the limits
+-- there are 1 to 64 processes, two lines were read at least, and what was read is within the limits
 pub record ReaderKeeps (r : Inside) : Type 0 where
   pub some : 1 ≤ r.procs
   pub few : r.procs ≤ most_procs
   pub place : r.place ≤ most_bytes
+  pub head : 3 ≤ r.line
   pub line : r.line ≤ r.place + 3
   pub steps : r.steps ≤ most_steps

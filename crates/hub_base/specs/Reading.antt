@@ -2,7 +2,7 @@
 -- order. The first faulty line decides, and of its faults the first in this order: a byte past the
 -- limit, no newline, the head lines, the shape of a step, its numbers, its spelling, one step too
 -- many.
-use Rattle.std.specs.Prelude.{ℕ, ◌+◌, ◌==◌, ◌&&◌, not, nat_lt, nat_le, Bool, true, false, List, [], ◌∷◌, ◌++◌, length, codes, decimal, Option, None, Some, Result, Ok, Err, if◌then◌else◌}
+use Rattle.std.specs.Prelude.{ℕ, ◌+◌, ◌<◌, ◌==◌, ◌&&◌, not, nat_lt, nat_le, Bool, true, false, List, [], ◌∷◌, ◌++◌, length, codes, decimal, Option, None, Some, Result, Ok, Err, if◌then◌else◌}
 use Rattle.std.specs.List.{flat_map}
 use Rattle.hub_base.specs.declared.entry.Step.{Step}
 use Rattle.hub_base.specs.declared.entry.Step.TheVariants.{Make, Call, Close, Exit}
@@ -85,6 +85,11 @@ with_entry e (Faulty k kind) = Faulty k kind
 abbrev pub behind : List Entry → Reading → Reading
 behind es (Reads n fs) = Reads n (es ++ fs)
 behind es (Faulty k kind) = Faulty k kind
+
+-- some entry is said: no fault stands in the head or in the first line behind it
+abbrev pub HasEntry : Reading → Type 0
+HasEntry (Reads n es) = 0 < length es
+HasEntry (Faulty k kind) = 3 < k
 
 -- how many steps stand up to this entry, where so many stand before it
 abbrev pub counted : ℕ → Entry → ℕ

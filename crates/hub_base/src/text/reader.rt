@@ -4,10 +4,11 @@
 //! bytes, no newline, the head lines, the shape of a step, its numbers, its spelling, too many
 //! steps.
 
-ghost use Rattle.std.specs.Prelude.{◌≡◌, ◌≤◌, ℕ, length, drop, Some, IfOk, IfErr, List, ◌++◌};
+ghost use Rattle.std.specs.Prelude.{◌≡◌, ◌≤◌, ℕ, length, drop, Some, IfOk, IfErr, IsErrOf, OnSome, List, ◌++◌};
+ghost use Rattle.std.specs.Bool.{OnTrue};
 ghost use Rattle.hub_base.specs.Limits.{most_bytes};
 ghost use Rattle.hub_base.specs.Lines.{line};
-ghost use Rattle.hub_base.specs.Reading.{read_text, procs_number, procs_from, rows, is_exit};
+ghost use Rattle.hub_base.specs.Reading.{read_text, procs_number, procs_from, rows, is_exit, HasEntry};
 ghost use Rattle.hub_base.specs.ReadJournal.{Gives, IsFaultOf};
 ghost use Rattle.hub_base.specs.Text.{IsText, IsFaulty, IsEither, Fits};
 ghost use Rattle.hub_base.specs.Reading.Reading.{Reads, Faulty};
@@ -137,7 +138,8 @@ impl<'a> Reader<'a> {
     ///
     /// An entry takes some 290 bytes, so a loop over a long text reads them all into one.
     pub fn read_into(&mut self, entry: &mut Entry) -> Result<bool, TextFault>
-        ensures { FillsOn self.old self.new entry.new result }
+        ensures reads { FillsOn self.old self.new entry.new result }
+        ensures some { IfOk result (λ more. OnTrue more (HasEntry self.old.left)) }
     {
         if self.rest.is_empty() {
             return Ok(false);
@@ -174,7 +176,8 @@ impl<'a> Reader<'a> {
     /// The next entry, or `None` at the end of the text. At the end and at a fault the reader stays
     /// where it is, so that each further call answers the same.
     pub fn next_entry(&mut self) -> Result<Option<Entry>, TextFault>
-        ensures { ReadsOn self.old self.new result }
+        ensures reads { ReadsOn self.old self.new result }
+        ensures some { IfOk result (λ next. OnSome next (HasEntry self.old.left)) }
     {
         let mut entry = Entry {
             pid: Pid(0),
@@ -190,7 +193,8 @@ impl<'a> Reader<'a> {
 
 /// The journal of the entries that are left.
 fn collect_entries(alloc: Global, mut reader: Reader) -> Result<Journal, ReadFault>
-    ensures { Gives result reader.entry.left }
+    ensures gives { Gives result reader.entry.left }
+    ensures memory { IsErrOf result ReadFault.NoMemory → HasEntry reader.entry.left }
 {
     let procs = reader.procs();
     let mut entries = Vec::new(alloc);
@@ -209,7 +213,8 @@ fn collect_entries(alloc: Global, mut reader: Reader) -> Result<Journal, ReadFau
 
 /// The journal that the text says.
 fn read_all(alloc: Global, bytes: &[u8]) -> Result<Journal, ReadFault>
-    ensures { Gives result (read_text bytes.now) }
+    ensures gives { Gives result (read_text bytes.now) }
+    ensures memory { IsErrOf result ReadFault.NoMemory → HasEntry (read_text bytes.now) }
 {
     match Reader::open(bytes) {
         Ok(reader) => collect_entries(alloc, reader),
@@ -232,6 +237,8 @@ pub fn read_journal(alloc: Global, bytes: &[u8]) -> Result<Journal, ReadFault>
     ensures refused { (k : ℕ) (kind : Kind) → IsFaulty bytes.now k kind → Gives result (Faulty k kind) }
     // What is answered is computed so.
     ensures exact { Gives result (read_text bytes.now) }
+    // No memory is asked for before the first entry.
+    ensures memory { IsErrOf result ReadFault.NoMemory → HasEntry (read_text bytes.now) }
 {
     read_all(alloc, bytes)
 }

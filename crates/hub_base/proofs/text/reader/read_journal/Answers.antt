@@ -2,13 +2,13 @@ use Rattle.hub_base.proofs.OneReading.{gives-text, gives-fault, found-text, foun
 use Rattle.hub_base.proofs.text.reader.read_journal.Goals as goal
 
 pub returns-clause-found : goal.returns-clause-found
-returns-clause-found c = found-text c.args.bytes.now c.read_all.result c.read_all.ensures
+returns-clause-found c = found-text c.args.bytes.now c.read_all.result c.read_all.ensures.gives
 
 pub returns-clause-only : goal.returns-clause-only
-returns-clause-only c = gives-text c.args.bytes.now c.read_all.result c.read_all.ensures
+returns-clause-only c = gives-text c.args.bytes.now c.read_all.result c.read_all.ensures.gives
 
 pub returns-clause-faulty : goal.returns-clause-faulty
-returns-clause-faulty c = found-fault c.args.bytes.now c.read_all.result c.read_all.ensures
+returns-clause-faulty c = found-fault c.args.bytes.now c.read_all.result c.read_all.ensures.gives
 
 pub returns-clause-refused : goal.returns-clause-refused
-returns-clause-refused c = gives-fault c.args.bytes.now c.read_all.result c.read_all.ensures
+returns-clause-refused c = gives-fault c.args.bytes.now c.read_all.result c.read_all.ensures.gives

@@ -85,6 +85,23 @@ fn places_after(step: &Step, places: u32) -> u32
     }
 }
 
+/// Makes room for so many entries more, where there is not as much.
+fn reserve_more(entries: &mut Vec<Entry>, more: usize) -> Result<(), AllocError>
+    ensures same { entries.new.items ≡ entries.old.items }
+    ensures ok { OnOk result (vec_len entries.new + more ≤ vec_capacity entries.new) }
+    ensures full { OnErr result (vec_capacity entries.old < vec_len entries.old + more) }
+    ensures err { OnErr result (vec_capacity entries.new ≡ vec_capacity entries.old) }
+    ensures spare { vec_len entries.old + more ≤ vec_capacity entries.old
+        → vec_capacity entries.new ≡ vec_capacity entries.old }
+    ensures capacity { vec_capacity entries.old ≤ vec_capacity entries.new }
+{
+    if entries.capacity() - entries.len() < more {
+        entries.reserve(more)
+    } else {
+        Ok(())
+    }
+}
+
 /// Makes room for one entry more beside the places and the exits, where the step may take memory.
 fn make_room(
     entries: &mut Vec<Entry>,
@@ -99,14 +116,16 @@ fn make_room(
     ensures err { OnErr result (Grows step.now places) }
     ensures full { OnErr result (
         vec_capacity entries.old < vec_len entries.old + places + procs + 1) }
+    ensures spare { vec_len entries.old + places + procs + 1 ≤ vec_capacity entries.old
+        → vec_capacity entries.new ≡ vec_capacity entries.old }
     ensures kept { ¬ Grows step.now places → vec_capacity entries.new ≡ vec_capacity entries.old }
 {
     let more = places as usize + procs as usize + 1;
     match step {
-        Step::Make(_) => entries.reserve(more),
+        Step::Make(_) => reserve_more(entries, more),
         Step::Call { .. } | Step::Close(_) => {
             if places == 0 {
-                entries.reserve(more)
+                reserve_more(entries, more)
             } else {
                 Ok(())
             }
@@ -156,6 +175,7 @@ impl Hub {
         ensures fine { IsErrOf result Fault.NoMemory → HasSpare self.old
             → IsFine (state_of self.old.hub) entry }
         ensures unchanged { OnErr result (self.new.hub ≡ self.old.hub) }
+        ensures spare { HasSpare self.old → self.new.capacity ≡ self.old.capacity }
         ensures kept { ¬ Grows entry.step self.old.hub.places → self.new.capacity ≡ self.old.capacity }
         ensures capacity { self.old.capacity ≤ self.new.capacity }
     {
@@ -173,6 +193,7 @@ impl Hub {
         ensures fine { IsErrOf result Fault.NoMemory → HasSpare self.old
             → IsFine (state_of self.old.hub) entry }
         ensures unchanged { OnErr result (self.new.hub ≡ self.old.hub) }
+        ensures spare { HasSpare self.old → self.new.capacity ≡ self.old.capacity }
         ensures kept { ¬ Grows entry.step self.old.hub.places → self.new.capacity ≡ self.old.capacity }
         ensures capacity { self.old.capacity ≤ self.new.capacity }
     {
@@ -203,11 +224,13 @@ impl Hub {
         ensures full { OnErr result (
             self.old.capacity < length self.old.hub.journal + k + self.old.hub.procs) }
         ensures unchanged { OnErr result (self.new ≡ self.old) }
+        ensures spare { length self.old.hub.journal + k + self.old.hub.procs ≤ self.old.capacity
+            → self.new.capacity ≡ self.old.capacity }
         ensures kept { k ≤ self.old.hub.places → self.new.capacity ≡ self.old.capacity }
         ensures capacity { self.old.capacity ≤ self.new.capacity }
     {
         if k > self.places {
-            self.entries.reserve(k as usize + self.procs as usize)?;
+            reserve_more(&mut self.entries, k as usize + self.procs as usize)?;
             self.places = k;
         }
         Ok(())

@@ -1,4 +1,4 @@
-use Rattle.std.proofs.Common.{◌∙◌, ap, sym, subst, arith, List}
+use Rattle.std.proofs.Common.{◌∙◌, ap, sym, subst, arith, length, List}
 use Rattle.hub_base.specs.declared.entry.Entry.{Entry}
 use Rattle.hub_base.specs.Runs.{kept}
 use Rattle.hub_base.specs.Text.{steps_of}
@@ -8,7 +8,7 @@ use Rattle.hub_core.proofs.hub.Hub.reserve.Goals as goal
 
 pub invariant_of-self-then-k-self : goal.invariant_of-self-then-k-self
 invariant_of-self-then-k-self c =
-    let same = c.in_ok-reserve.ensures.items in
+    let same = c.in_ok-reserve_more.ensures.same in
     let few = count-length c.self.inside.entries.items in
     record {
       procs = c.self.invariant.procs;
@@ -17,5 +17,5 @@ invariant_of-self-then-k-self c =
       follows = subst (λ (es : List Entry). Follows c.self.inside.procs es c.self.inside.machine) (sym same) c.self.invariant.follows;
       count = c.self.invariant.count ∙ ap steps_of (sym same);
       within = c.self.invariant.within;
-      room = omega (arith, few, c.in_ok-reserve.ensures.ok, c.in_ok-reserve.ensures.len, c.self.invariant.count, c.self.inside.entries.ok);
+      room = omega (arith, few, c.in_ok-reserve_more.ensures.ok, ap (λ (es : List Entry). length es) same, c.self.invariant.count, c.self.inside.entries.ok);
     }

@@ -11,7 +11,7 @@ use Rattle.hub_base.specs.Ready.{is_on, Ending, Placed, or_else, lowest, first_w
 use Rattle.hub_base.specs.Steps.{fired, closing_event, closing_outcome}
 use Rattle.hub_laws.specs.Sound.{is_among, Apart}
 use Rattle.hub_laws.proofs.Calls.{lowest-some, same_number}
-use Rattle.hub_laws.proofs.Balance.{without_none}
+use Rattle.hub_laws.proofs.Leaving.{without_head}
 
 -- the open calls with no case on the port
 abbrev pub off_port : Port → List OpenCall → List OpenCall
@@ -30,9 +30,6 @@ keeps pid call calls e = rw e refl
 
 other_pid : (pid : Pid) (call : OpenCall) (calls : List OpenCall) → is_among call.pid.0 calls ≡ false → is_among pid.0 calls ≡ true → (call.pid.0 == pid.0) ≡ false
 other_pid pid call calls apart among = false_from_ne_true (call.pid.0 == pid.0) (λ h. let g : is_among pid.0 calls ≡ false = subst (λ (n : ℕ). is_among n calls ≡ false) (eqb-true call.pid.0 pid.0 h) apart in cc)
-
-without_head : (call : OpenCall) (calls : List OpenCall) → is_among call.pid.0 calls ≡ false → without call.pid (call ∷ calls) ≡ calls
-without_head call calls apart = rw (same_number call.pid.0) (without_none call.pid calls apart)
 
 -- the oldest one's event comes first, and the others' are those of the calls without it
 abbrev pub NextOf : Port → List OpenCall → Ending → Type 0

@@ -12,7 +12,7 @@ use Rattle.hub_base.specs.Reading.{is_exit}
 use Rattle.hub_base.specs.Text.{one_step, steps_of}
 use Rattle.hub_laws.specs.Limits.{exits_of, LimitsLaw}
 use Rattle.hub_laws.proofs.Ready.{Admitted, admitted}
-use Rattle.hub_laws.proofs.Balance.{one}
+use Rattle.hub_laws.proofs.Leaving.{one}
 use Rattle.hub_laws.proofs.Distinct.{Different, different_snoc, count-different}
 use Rattle.hub_laws.proofs.Lasting.{leavers, turn-lasts, turn-leaves, procs-entry, procs-after}
 

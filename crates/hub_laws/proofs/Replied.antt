@@ -19,7 +19,8 @@ use Rattle.hub_laws.proofs.Calls.{same_number}
 use Rattle.hub_laws.proofs.Ready.{admitted}
 use Rattle.hub_laws.proofs.Rules.{state-sound}
 use Rattle.hub_laws.proofs.Events.{Counted, answered_counts, ends_clear}
-use Rattle.hub_laws.proofs.Balance.{one, open_calls, ends, open_none, open_most, Balance, turn-balance}
+use Rattle.hub_laws.proofs.Balance.{open_calls, ends, open_none, open_most, Balance, turn-balance}
+use Rattle.hub_laws.proofs.Leaving.{one}
 use Rattle.hub_laws.proofs.Answered.{moves-answered}
 use Rattle.hub_laws.proofs.Replies.{told_none, reply-untold, own-others}
 use Rattle.hub_laws.proofs.Longer.{state-entry}

@@ -28,9 +28,9 @@ use Rattle.hub_laws.specs.Sound.{Apart}
 use Rattle.hub_laws.specs.Answers.{is_answer_to}
 use Rattle.hub_laws.specs.Replies.{is_parked}
 use Rattle.hub_laws.proofs.Branches.{by-closed, by-stall, stalled}
-use Rattle.hub_laws.proofs.Calls.{all_append, all_more}
+use Rattle.hub_laws.proofs.Calls.{all_append, all_more, all_snoc}
 use Rattle.hub_laws.proofs.Faults.{journaled}
-use Rattle.hub_laws.proofs.Leaving.{Ended, event_of, events_of, EndsWell, InPlace, Leave, nobody, next, leave-join, first-goes, ClosedAt, closed, all_stalled}
+use Rattle.hub_laws.proofs.Leaving.{Ended, event_of, events_of, EndsWell, InPlace, Leave, nobody, next, leave-all, leave-join, first-goes, ClosedAt, closed, all_stalled}
 use Rattle.hub_laws.proofs.Ready.{chosen, none_false}
 
 -- the call of this step
@@ -58,6 +58,17 @@ pub record Account (s : State) (pid : Pid) (step : Step) (c : Change) : Type 0 w
   -- the processes, and those that have exited
   pub procs : c.state.procs ≡ s.procs
   pub gone : c.state.gone ≡ s.gone ++ leavers pid step
+
+-- what holds of the open calls, and of the caller's where it waits, holds of those that end and of those that wait then
+pub account-all : (P : OpenCall → Type 0) (s : State) (pid : Pid) (step : Step) (c : Change) → Apart s.parked → (a : Account s pid step c) →
+    AllByRecursion P s.parked → (is_parked a.answer ≡ true → P (call_of pid step)) →
+    AllByRecursion (λ x. P x.call) a.ended × AllByRecursion P c.state.parked
+account-all P s pid step c apart a all new =
+    leave-all P a.ended (with_caller s.parked pid step a.answer) c.state.parked (a.leaves apart) (by (is_parked a.answer) refl)
+  where
+    by : (b : Bool) → b ≡ is_parked a.answer → AllByRecursion P (if b then s.parked ++ call_of pid step ∷ [] else s.parked)
+    by true is = all_snoc P s.parked (call_of pid step) all (new (sym is))
+    by false is = all
 
 -- nobody ends
 alone : (s t : State) (pid : Pid) (step : Step) (answer : What) → is_answer_to step answer ≡ true → InPlace (cases_or step []) answer → t.parked ≡ with_caller s.parked pid step answer → t.procs ≡ s.procs → t.gone ≡ s.gone ++ leavers pid step →

@@ -1,32 +1,21 @@
 -- Entries of others leave a process alone that has no open call.
-use Rattle.std.proofs.Common.{◌≡◌, ℕ, ◌%◌, ◌==◌, Bool, true, false, not, List, [], ◌∷◌, ◌++◌, length, refl, ap, ◌∙◌, sym, subst, Option, Some, None, ◌&&◌, append-nil}
-use Rattle.std.specs.Prelude.{slice_get}
-use Rattle.std.specs.List.{list_any, AllByRecursion, filter_map, cons_option}
-use Rattle.std.specs.Option.{option_map}
+use Rattle.std.proofs.Common.{◌≡◌, ℕ, ◌==◌, false, not, List, [], ◌∷◌, ◌++◌, refl, ap, ◌∙◌, sym, subst, Option, Some, None, ◌&&◌, append-nil}
+use Rattle.std.specs.List.{list_any, AllByRecursion}
 use Rattle.std.proofs.lemmas.List.Elements.{filter-append}
 use Rattle.std.proofs.lemmas.Bool.{or_parts, or_from}
-use Rattle.hub_laws.proofs.Branches.{by-closed, by-stall, stall_events}
-use Rattle.hub_laws.proofs.Calls.{all_append}
-use Rattle.hub_base.specs.declared.value.Port.{Port}
-use Rattle.hub_base.specs.declared.value.Pid.{Pid}
-use Rattle.hub_base.specs.declared.value.Value.{Value}
-use Rattle.hub_base.specs.declared.case.Case.{Case}
-use Rattle.hub_base.specs.declared.case.Case.TheVariants.{Send, Recv}
-use Rattle.hub_base.specs.declared.entry.Step.{Step}
-use Rattle.hub_base.specs.declared.entry.Step.TheVariants.{Make, Call, Close, Exit}
 use Rattle.hub_base.specs.declared.entry.Entry.{Entry}
 use Rattle.hub_base.specs.declared.event.Event.{Event}
 use Rattle.hub_base.specs.declared.fault.Fault.{Fault}
-use Rattle.hub_base.specs.declared.event.Outcome.TheVariants.{Sent}
-use Rattle.hub_base.specs.State.{State, Channel, OpenCall, channel_at, opening}
-use Rattle.hub_base.specs.Ready.{is_send_on, is_recv_on, is_on, ready, port_of, first_with, Ending, Placed, without, lowest}
-use Rattle.hub_base.specs.Steps.{fires, proceeds, chooses, calls, closes, effect, stalls, Change, sent, next_value, with_sent, send_meets, recv_takes, recv_meets, fired, closing_event, closing_outcome, fault_of, answers, refusal, is_waiting}
+use Rattle.hub_base.specs.State.{State, OpenCall, opening}
+use Rattle.hub_base.specs.Steps.{Change, turn, refusal, is_waiting}
 use Rattle.hub_base.specs.Runs.{admits, moves, state_after, events_after, state, events}
-use Rattle.hub_laws.specs.Sound.{is_among}
+use Rattle.hub_laws.specs.Sound.{IsSound, is_among}
 use Rattle.hub_laws.specs.Replies.{own, reply, last_from, is_parked, told_to, is_told, RepliesLaw}
-use Rattle.hub_laws.proofs.Calls.{first-found, same_number}
-use Rattle.hub_laws.proofs.Stands.{effect-stands, stalls-stands}
+use Rattle.hub_laws.proofs.Account.{account-all, turn-account}
+use Rattle.hub_laws.proofs.Calls.{all_append, same_number}
+use Rattle.hub_laws.proofs.Leaving.{Ended, events_of}
 use Rattle.hub_laws.proofs.Longer.{events-entry, events_after-append, state_after-append}
+use Rattle.hub_laws.proofs.Rules.{moves-sound, state-sound}
 
 -- what holds of the process that steps and of those that wait holds of all that are told
 module _ (C : ℕ → Type 0) where
@@ -36,79 +25,30 @@ module _ (C : ℕ → Type 0) where
   abbrev Told : List Event → Type 0
   Told es = AllByRecursion (λ e. C e.pid.0) es
 
-  ended_told : (test : Case → Bool) (calls : List OpenCall) (x : Ending) → Waiting calls → first_with test calls ≡ Some x → C x.pid.0
-  ended_told test calls x all e = let f = first-found (λ call. C call.pid.0) test calls x all e in subst (λ (p : Pid). C p.0) f.pid f.known
-
-  send_told : (s : State) (pid : Pid) (i : ℕ) (p : Port) (c : Channel) (o : Option Ending) → Waiting s.parked → C pid.0 → o ≡ first_with (is_recv_on p) s.parked → Told (proceeds s pid i (Some (send_meets s p c o))).events
-  send_told s pid i p c None all me is = (me, tt)
-  send_told s pid i p c (Some x) all me is = (me, (ended_told (is_recv_on p) s.parked x all (sym is), tt))
-
-  takes_told : (s t : State) (pid : Pid) (i : ℕ) (p : Port) (c : Channel) (ended : List Event) (o : Option Value) → Told ended → C pid.0 → Told (proceeds s pid i (Some (recv_takes t p c ended o))).events
-  takes_told s t pid i p c ended None all me = (me, all)
-  takes_told s t pid i p c ended (Some v) all me = (me, all)
-
-  recv_told : (s : State) (pid : Pid) (i : ℕ) (p : Port) (c : Channel) (o : Option Ending) → Waiting s.parked → C pid.0 → o ≡ first_with (is_send_on p) s.parked → Told (proceeds s pid i (Some (recv_meets s p c o))).events
-  recv_told s pid i p c None all me is = takes_told s s pid i p c [] (next_value c) tt me
-  recv_told s pid i p c (Some x) all me is =
-      takes_told s (record s { parked = without x.pid s.parked }) pid i p (with_sent x.at.case c) (fired x.pid x.at.index Sent ∷ []) (next_value (with_sent x.at.case c)) (ended_told (is_send_on p) s.parked x all (sym is), tt) me
-
-  fires_told : (s : State) (pid : Pid) (i : ℕ) (k : Case) (o : Option Channel) → Waiting s.parked → C pid.0 → Told (proceeds s pid i (fires s k o)).events
-  fires_told s pid i (Send p v) None all me = tt
-  fires_told s pid i (Recv p) None all me = tt
-  fires_told s pid i (Send p v) (Some c) all me =
-      by-closed (λ f. Told (proceeds s pid i (Some f)).events) s p v c (λ over. (me, tt)) (λ live. send_told s pid i p (sent v c) (first_with (is_recv_on p) s.parked) all me refl)
-  fires_told s pid i (Recv p) (Some c) all me = recv_told s pid i p c (first_with (is_send_on p) s.parked) all me refl
-
-  chooses_told : (s : State) (pid : Pid) (cases : List Case) (default : Bool) (o : Option (ℕ × Case)) → Waiting s.parked → C pid.0 → Told (chooses s pid cases default o).events
-  chooses_told s pid cases true None all me = (me, tt)
-  chooses_told s pid cases false None all me = (me, tt)
-  chooses_told s pid cases default (Some x) all me = fires_told s pid x.0 x.1 (channel_at s (port_of x.1)) all me
-
-  closing_one : (call : OpenCall) (o : Option Placed) (rest : List Event) → C call.pid.0 → Told rest → Told (cons_option (option_map (λ c. fired call.pid c.index (closing_outcome c.case)) o) rest)
-  closing_one call None rest here all = all
-  closing_one call (Some a) rest here all = (here, all)
-
-  closing_told : (p : Port) (calls : List OpenCall) → Waiting calls → Told (filter_map (closing_event p) calls)
-  closing_told p [] all = tt
-  closing_told p (call ∷ calls) all = closing_one call (lowest (is_on p) call.cases) (filter_map (closing_event p) calls) all.0 (closing_told p calls all.1)
-
-  closes_told : (s : State) (pid : Pid) (p : Port) (o : Option Channel) → Waiting s.parked → C pid.0 → Told (closes s pid p o).events
-  closes_told s pid p None all me = tt
-  closes_told s pid p (Some c) all me = (me, closing_told p s.parked all)
-
-  effect_told : (s : State) (pid : Pid) (step : Step) → Waiting s.parked → C pid.0 → Told (effect s pid step).events
-  effect_told s pid (Make cap) all me = (me, tt)
-  effect_told s pid (Call cases default word) all me = chooses_told s pid cases.items default (slice_get (ready s cases.items) (word % length (ready s cases.items))) all me
-  effect_told s pid (Close p) all me = closes_told s pid p (channel_at s p) all me
-  effect_told s pid Exit all me = (me, tt)
-
-  stalled_told : (calls : List OpenCall) → Waiting calls → Told (stall_events calls)
-  stalled_told [] all = tt
-  stalled_told (call ∷ calls) all = (all.0, stalled_told calls all.1)
-
-  stalls_told : (c : Change) → Told c.events → Waiting c.state.parked → Told (stalls c).events
-  stalls_told c told all =
-      by-stall (λ (d : Change). Told d.events) c (all_append (λ e. C e.pid.0) c.events (stall_events c.state.parked) told (stalled_told c.state.parked all)) told
-
   record Quietly (c : Change) : Type 0 where
     told : Told c.events
     waiting : Waiting c.state.parked
 
-  answers_told : (s : State) (e : Entry) (o : Option Fault) → Waiting s.parked → C e.pid.0 → Quietly (answers s e o)
-  answers_told s e None all me =
-      let after : Waiting (effect s e.pid e.step).state.parked = effect-stands (λ call. C call.pid.0) s e.pid e.step [] all me in
-      record { told = stalls_told (effect s e.pid e.step) (effect_told s e.pid e.step all me) after; waiting = stalls-stands (λ call. C call.pid.0) (effect s e.pid e.step) after }
-  answers_told s e (Some f) all me = record { told = (me, tt); waiting = all }
+  ended_told : (xs : List Ended) → AllByRecursion (λ x. C x.call.pid.0) xs → Told (events_of xs)
+  ended_told [] all = tt
+  ended_told (x ∷ xs) all = (all.0, ended_told xs all.1)
 
-  admits_told : (s : State) (e : Entry) (o : Option Fault) → Waiting s.parked → C e.pid.0 → Quietly (admits s e o)
-  admits_told s e None all me = answers_told s e (fault_of s e.step) all me
-  admits_told s e (Some f) all me = record { told = (me, tt); waiting = all }
+  turn_told : (s : State) (e : Entry) → IsSound s → Waiting s.parked → C e.pid.0 → Quietly (turn s e)
+  turn_told s e sound all me =
+      let a = turn-account s e in
+      let left = account-all (λ call. C call.pid.0) s e.pid e.step (turn s e) sound.apart a all (λ parks. me) in
+      record { told = subst Told (sym a.told) (me, ended_told a.ended left.0); waiting = left.1 }
 
-  events_told : (s : State) (fs : List Entry) → Waiting s.parked → AllByRecursion (λ e. C e.pid.0) fs → (Told (events_after s fs)) × (Waiting (state_after s fs).parked)
-  events_told s [] all by = (tt, all)
-  events_told s (e ∷ fs) all by =
-      let q = admits_told s e (refusal s e.pid) all by.0 in
-      let rest = events_told (moves s e).state fs q.waiting by.1 in
+  admits_told : (s : State) (e : Entry) (o : Option Fault) → IsSound s → Waiting s.parked → C e.pid.0 → Quietly (admits s e o)
+  admits_told s e None sound all me = turn_told s e sound all me
+  admits_told s e (Some f) sound all me = record { told = (me, tt); waiting = all }
+
+  events_told : (s : State) (fs : List Entry) → IsSound s → Waiting s.parked → AllByRecursion (λ e. C e.pid.0) fs →
+      (Told (events_after s fs)) × (Waiting (state_after s fs).parked)
+  events_told s [] sound all by = (tt, all)
+  events_told s (e ∷ fs) sound all by =
+      let q = admits_told s e (refusal s e.pid) sound all by.0 in
+      let rest = events_told (moves s e).state fs (moves-sound s e sound) q.waiting by.1 in
       (all_append (λ e. C e.pid.0) (moves s e).events (events_after (moves s e).state fs) q.told rest.0, rest.1)
 
 -- a process apart from these
@@ -167,7 +107,7 @@ own-mine es e = filter-append (λ (x : Entry). x.pid.0 == e.pid.0) es (e ∷ [])
 
 pub replies-law : (n : ℕ) (es : List Entry) (q : ℕ) (fs : List Entry) → RepliesLaw n es q fs
 replies-law n es q fs free others =
-    let after = events_told (Not q) (state n es) fs (none_waiting q (state n es).parked free) (none_by q fs others) in
+    let after = events_told (Not q) (state n es) fs (state-sound n es) (none_waiting q (state n es).parked free) (none_by q fs others) in
     let quiet : is_told q (events_after (state n es) fs) ≡ false = untold q (events_after (state n es) fs) after.0 in
     record {
       own = own-others q es fs others;

@@ -1,10 +1,12 @@
 -- What an admitted entry does, whatever its step: what its process is answered, which open calls end and what tells it, who waits then,
 -- and who has gone. Each rule of a step is shown to do so once, here; the laws follow from the account.
-use Rattle.std.proofs.Common.{◌≡◌, ℕ, ◌+◌, ◌%◌, Bool, true, false, List, [], ◌∷◌, ◌++◌, length, refl, ap, ◌∙◌, sym, Option, Some, None, arith, append-nil, if◌then◌else◌}
+use Rattle.std.proofs.Common.{◌≡◌, ◌≤◌, ℕ, ◌+◌, ◌%◌, nat_lt, Bool, true, false, List, [], ◌∷◌, ◌++◌, length, refl, ap, ◌∙◌, sym, subst, Option, Some, None, arith, append-nil, if◌then◌else◌}
 use Rattle.std.specs.Prelude.{slice_get}
-use Rattle.std.specs.List.{AllByRecursion}
+use Rattle.std.specs.List.{AllByRecursion, filter_map, cons_option}
 use Rattle.std.specs.Option.{option_map_or}
+use Rattle.std.proofs.lemmas.Bool.{false_from_ne_true, ltb-false}
 use Rattle.std.proofs.lemmas.List.{map-append}
+use Rattle.std.proofs.lemmas.List.Elements.{filter_map-append}
 use Rattle.hub_base.specs.declared.value.Port.{Port}
 use Rattle.hub_base.specs.declared.value.Pid.{Pid}
 use Rattle.hub_base.specs.declared.value.Value.{Value}
@@ -21,15 +23,19 @@ use Rattle.hub_base.specs.declared.event.What.{What}
 use Rattle.hub_base.specs.declared.event.What.TheVariants as what
 use Rattle.hub_base.specs.State.{State, Channel, OpenCall, channel_at, with_channel}
 use Rattle.hub_base.specs.Ready.{is_send_on, is_recv_on, can_proceed, ready, port_of, first_with, Ending, without, send_can, recv_can}
-use Rattle.hub_base.specs.Steps.{fires, proceeds, chooses, calls, closes, makes, exits, waits, effect, Change, sent, received, next_value, outcome_of, with_sent, send_meets, recv_takes, recv_meets, fired, tells, fault_of, close_fault, is_unmade, answers, turn}
+use Rattle.hub_base.specs.Steps.{Firing, fires, proceeds, chooses, calls, closes, makes, exits, waits, effect, Change, sent, received, next_value, outcome_of, with_sent, send_meets, recv_takes, recv_meets, fired, tells, fault_of, close_fault, is_unmade, answers, turn, shut}
 use Rattle.hub_base.specs.Reading.{is_exit}
-use Rattle.hub_base.specs.Values.{cases_or}
-use Rattle.hub_laws.specs.Sound.{Apart}
-use Rattle.hub_laws.specs.Answers.{is_answer_to}
+use Rattle.hub_base.specs.Values.{cases_or, of_what}
+use Rattle.hub_laws.specs.Sound.{Apart, IsSound, some_call}
+use Rattle.hub_laws.specs.Answers.{is_answer_to, ends_waiting, IsAnswered}
+use Rattle.hub_laws.specs.OnePort.{port_touched_by}
 use Rattle.hub_laws.specs.Replies.{is_parked}
 use Rattle.hub_laws.proofs.Branches.{by-closed, by-stall, stalled}
 use Rattle.hub_laws.proofs.Calls.{all_append, all_more, all_snoc}
+use Rattle.hub_laws.proofs.Deeds.{Deed, deed_of, IsClosing, Does, buffers, hands, fetches, gives, drains, refuses, shuts, idle, adds, wrote}
+use Rattle.hub_laws.proofs.Does.{wrote-set, wrote-same, next_sent, is_recv, is_on_port}
 use Rattle.hub_laws.proofs.Faults.{journaled}
+use Rattle.hub_laws.proofs.Fires.{is_send, some_first}
 use Rattle.hub_laws.proofs.Leaving.{Ended, event_of, events_of, EndsWell, InPlace, Leave, nobody, next, leave-all, leave-join, first-goes, ClosedAt, closed, all_stalled}
 use Rattle.hub_laws.proofs.Ready.{chosen, none_false}
 
@@ -45,6 +51,14 @@ with_caller calls pid step answer = if is_parked answer then calls ++ call_of pi
 abbrev pub leavers : Pid → Step → List Pid
 leavers pid step = if is_exit step then pid ∷ [] else []
 
+-- the communications of the calls that end
+abbrev pub ended_deeds : List Ended → List Deed
+ended_deeds xs = filter_map (λ x. of_what deed_of x.call.cases x.what) xs
+
+-- and of the caller's before them
+abbrev pub deeds_of : Step → What → List Ended → List Deed
+deeds_of step answer xs = cons_option (of_what deed_of (cases_or step []) answer) (ended_deeds xs)
+
 pub record Account (s : State) (pid : Pid) (step : Step) (c : Change) : Type 0 where
   -- the caller is answered first, as fits its step, and then the calls that end are told so
   pub answer : What
@@ -55,6 +69,8 @@ pub record Account (s : State) (pid : Pid) (step : Step) (c : Change) : Type 0 w
   pub ends : AllByRecursion EndsWell ended
   -- all others wait on, where no process had two calls
   pub leaves : Apart s.parked → Leave ended (with_caller s.parked pid step answer) c.state.parked
+  -- on the port that the answer names, and on no other
+  pub does : IsSound s → Does s.channels c.state.channels (port_touched_by step answer) (deeds_of step answer ended)
   -- the processes, and those that have exited
   pub procs : c.state.procs ≡ s.procs
   pub gone : c.state.gone ≡ s.gone ++ leavers pid step
@@ -71,9 +87,11 @@ account-all P s pid step c apart a all new =
     by false is = all
 
 -- nobody ends
-alone : (s t : State) (pid : Pid) (step : Step) (answer : What) → is_answer_to step answer ≡ true → InPlace (cases_or step []) answer → t.parked ≡ with_caller s.parked pid step answer → t.procs ≡ s.procs → t.gone ≡ s.gone ++ leavers pid step →
+alone : (s t : State) (pid : Pid) (step : Step) (answer : What) → is_answer_to step answer ≡ true → InPlace (cases_or step []) answer →
+    t.parked ≡ with_caller s.parked pid step answer → t.procs ≡ s.procs → t.gone ≡ s.gone ++ leavers pid step →
+    (IsSound s → Does s.channels t.channels (port_touched_by step answer) (deeds_of step answer [])) →
     Account s pid step (record { state = t; events = tells pid answer ∷ [] })
-alone s t pid step answer fits placed same procs gone = record {
+alone s t pid step answer fits placed same procs gone does = record {
   answer = answer;
   ended = [];
   told = refl;
@@ -81,25 +99,37 @@ alone s t pid step answer fits placed same procs gone = record {
   placed = placed;
   ends = tt;
   leaves = λ a. rw same (nobody (with_caller s.parked pid step answer));
+  does = does;
   procs = procs;
   gone = gone;
 }
 
 -- A case of a call that fires
 
-module _ (s : State) (pid : Pid) (cases : List Case) (default : Bool) (word i : ℕ) (k : Case) (mine : slice_get cases i ≡ Some k) where
+abbrev deed : Case → Outcome → Deed
+deed k o = record { case = k; outcome = o }
+
+module _ (s : State) (pid : Pid) (cases : List Case) (default : Bool) (word i : ℕ) where
   abbrev this : Step
   this = Call (record { items = cases }) default word
 
-  alone_fires : (t : State) (o : Outcome) → t.parked ≡ s.parked → t.procs ≡ s.procs → t.gone ≡ s.gone → Account s pid this (record { state = t; events = fired pid i o ∷ [] })
-  alone_fires t o same procs gone = alone s t pid this (what.Fired i o) refl (k, mine) same procs (gone ∙ sym (append-nil s.gone))
+  abbrev Fires : Firing → Type 0
+  Fires f = Account s pid this (proceeds s pid i (Some f))
+
+  alone_fires : (t : State) (k : Case) (o : Outcome) → slice_get cases i ≡ Some k → t.parked ≡ s.parked → t.procs ≡ s.procs → t.gone ≡ s.gone →
+      (IsSound s → Does s.channels t.channels (Some (port_of k)) (deed k o ∷ [])) → Fires (record { outcome = o; state = t; ended = [] })
+  alone_fires t k o mine same procs gone does =
+      alone s t pid this (what.Fired i o) refl (k, mine) same procs (gone ∙ sym (append-nil s.gone)) (λ sound. rw mine (does sound))
 
   -- with the oldest call that waits for it
-  meets : (t : State) (o : Outcome) (test : Case → Bool) (x : Ending) (its : Outcome) → first_with test s.parked ≡ Some x → t.parked ≡ without x.pid s.parked → t.procs ≡ s.procs → t.gone ≡ s.gone →
-      Account s pid this (record { state = t; events = fired pid i o ∷ fired x.pid x.at.index its ∷ [] })
-  meets t o test x its is same procs gone =
+  meets : (t : State) (k : Case) (o its : Outcome) (test : Case → Bool) (x : Ending) → slice_get cases i ≡ Some k → first_with test s.parked ≡ Some x →
+      t.parked ≡ without x.pid s.parked → t.procs ≡ s.procs → t.gone ≡ s.gone →
+      (IsSound s → test x.at.case ≡ true → Does s.channels t.channels (Some (port_of k)) (deed k o ∷ deed x.at.case its ∷ [])) →
+      Fires (record { outcome = o; state = t; ended = fired x.pid x.at.index its ∷ [] })
+  meets t k o its test x mine is same procs gone does =
       let f = first-goes test s.parked x is in
       let e : Ended = record { call = f.call; what = what.Fired x.at.index its } in
+      let kept : List OpenCall = without x.pid s.parked in
       record {
         answer = what.Fired i o;
         ended = e ∷ [];
@@ -107,38 +137,63 @@ module _ (s : State) (pid : Pid) (cases : List Case) (default : Bool) (word i : 
         fits = refl;
         placed = (k, mine);
         ends = ((refl, (x.at.case, f.stands)), tt);
-        leaves = λ a. rw same (next e [] s.parked (without x.pid s.parked) (without x.pid s.parked) (f.known f.pid a) (nobody (without x.pid s.parked)));
+        leaves = λ a. rw same (next e [] s.parked kept kept (f.known f.pid a) (nobody kept));
+        does = λ sound. rw (mine, f.stands) (does sound f.passes);
         procs = procs;
         gone = gone ∙ sym (append-nil s.gone);
       }
 
-  send_account : (p : Port) (c : Channel) (o : Option Ending) → o ≡ first_with (is_recv_on p) s.parked → Account s pid this (proceeds s pid i (Some (send_meets s p c o)))
-  send_account p c None is = alone_fires (with_channel s p c) Sent refl refl refl
-  send_account p c (Some x) is = meets (send_meets s p c (Some x)).state Sent (is_recv_on p) x (outcome_of (next_value c)) (sym is) refl refl refl
+  send_account : (p : Port) (v : Value) (c : Channel) (o : Option Ending) → slice_get cases i ≡ Some (Send p v) → channel_at s p ≡ Some c → c.closed ≡ false →
+      o ≡ first_with (is_recv_on p) s.parked → Fires (send_meets s p (sent v c) o)
+  send_account p v c None mine e live is =
+      alone_fires (with_channel s p (sent v c)) (Send p v) Sent mine refl refl refl
+      (λ sound. wrote p c (sent v c) refl (wrote-set s p c (sent v c) e) (buffers v live refl refl))
+  send_account p v c (Some x) mine e live is =
+      meets (send_meets s p (sent v c) (Some x)).state (Send p v) Sent (outcome_of (next_value (sent v c))) (is_recv_on p) x mine (sym is) refl refl refl
+      (λ sound passes.
+          let w = next_sent s p v c sound e in
+          wrote p c (received (sent v c)) refl (wrote-set s p c (received (sent v c)) e)
+          (hands v w.0 live w.1 refl (rw (is_recv p x.at.case passes, w.1) refl)))
 
-  takes_account : (p : Port) (c : Channel) (o : Option Value) → Account s pid this (proceeds s pid i (Some (recv_takes s p c [] o)))
-  takes_account p c None = alone_fires (with_channel s p c) Drained refl refl refl
-  takes_account p c (Some v) = alone_fires (with_channel s p (received c)) (Got v) refl refl refl
+  takes_account : (p : Port) (c : Channel) (o : Option Value) → slice_get cases i ≡ Some (Recv p) → channel_at s p ≡ Some c → o ≡ next_value c → Fires (recv_takes s p c [] o)
+  takes_account p c None mine e is =
+      alone_fires (with_channel s p c) (Recv p) Drained mine refl refl refl (λ sound. wrote p c c refl (wrote-set s p c c e) (drains (sym is) refl refl))
+  takes_account p c (Some w) mine e is =
+      alone_fires (with_channel s p (received c)) (Recv p) (Got w) mine refl refl refl
+      (λ sound. wrote p c (received c) refl (wrote-set s p c (received c) e) (gives w (sym is) refl refl))
 
-  fetches_account : (p : Port) (c : Channel) (x : Ending) (o : Option Value) → first_with (is_send_on p) s.parked ≡ Some x →
-      Account s pid this (proceeds s pid i (Some (recv_takes (record s { parked = without x.pid s.parked }) p c (fired x.pid x.at.index Sent ∷ []) o)))
-  fetches_account p c x None is = meets (with_channel (record s { parked = without x.pid s.parked }) p c) Drained (is_send_on p) x Sent is refl refl refl
-  fetches_account p c x (Some v) is = meets (with_channel (record s { parked = without x.pid s.parked }) p (received c)) (Got v) (is_send_on p) x Sent is refl refl refl
+  fetches_account : (p : Port) (c : Channel) (x : Ending) (o : Option Value) → slice_get cases i ≡ Some (Recv p) → channel_at s p ≡ Some c →
+      first_with (is_send_on p) s.parked ≡ Some x → o ≡ next_value (with_sent x.at.case c) →
+      Fires (recv_takes (record s { parked = without x.pid s.parked }) p (with_sent x.at.case c) (fired x.pid x.at.index Sent ∷ []) o)
+  fetches_account p c x None mine e is after =
+      meets (with_channel (record s { parked = without x.pid s.parked }) p (with_sent x.at.case c)) (Recv p) Drained Sent (is_send_on p) x mine is refl refl refl
+      (λ sound passes.
+          let u = is_send p x.at.case passes in
+          let w = next_sent s p u.0 c sound e in
+          let none : None ≡ next_value (sent u.0 c) = rw u.1 at after in
+          absurd (let g : ⊥ = cc in g))
+  fetches_account p c x (Some w) mine e is after =
+      meets (with_channel (record s { parked = without x.pid s.parked }) p (received (with_sent x.at.case c))) (Recv p) (Got w) Sent (is_send_on p) x mine is refl refl refl
+      (λ sound passes.
+          let u = is_send p x.at.case passes in
+          let some : Some w ≡ next_value (sent u.0 c) = rw u.1 at after in
+          let waits : some_call (is_send_on p) s.parked ≡ true = sym (some_first (is_send_on p) s.parked (Some x) (sym is)) in
+          let live : c.closed ≡ false = false_from_ne_true c.closed (λ h. let g = ((sound.ports p c e).ended h).1 in cc) in
+          rw u.1 (wrote p c (received (sent u.0 c)) refl (wrote-set s p c (received (sent u.0 c)) e) (fetches u.0 w live (sym some) refl refl)))
 
-  recv_account : (p : Port) (c : Channel) (o : Option Ending) → o ≡ first_with (is_send_on p) s.parked → Account s pid this (proceeds s pid i (Some (recv_meets s p c o)))
-  recv_account p c None is = takes_account p c (next_value c)
-  recv_account p c (Some x) is = fetches_account p (with_sent x.at.case c) x (next_value (with_sent x.at.case c)) (sym is)
+  recv_account : (p : Port) (c : Channel) (o : Option Ending) → slice_get cases i ≡ Some (Recv p) → channel_at s p ≡ Some c → o ≡ first_with (is_send_on p) s.parked →
+      Fires (recv_meets s p c o)
+  recv_account p c None mine e is = takes_account p c (next_value c) mine e refl
+  recv_account p c (Some x) mine e is = fetches_account p c x (next_value (with_sent x.at.case c)) mine e (sym is) refl
 
-  send_fires_account : (p : Port) (v : Value) (c : Channel) → Account s pid this (proceeds s pid i (fires s (Send p v) (Some c)))
-  send_fires_account p v c =
-      by-closed (λ f. Account s pid this (proceeds s pid i (Some f))) s p v c (λ over. alone_fires s Closed refl refl refl)
-      (λ live. send_account p (sent v c) (first_with (is_recv_on p) s.parked) refl)
-
-  fires_account : (j : Case) (o : Option Channel) → o ≡ channel_at s (port_of j) → can_proceed s j ≡ true → Account s pid this (proceeds s pid i (fires s j o))
-  fires_account (Send p v) None is can = let h : option_map_or (send_can s p) (channel_at s p) false ≡ true = can in let g : false ≡ true = rw (sym is) at h in cc
-  fires_account (Recv p) None is can = let h : option_map_or (recv_can s p) (channel_at s p) false ≡ true = can in let g : false ≡ true = rw (sym is) at h in cc
-  fires_account (Send p v) (Some c) is can = send_fires_account p v c
-  fires_account (Recv p) (Some c) is can = recv_account p c (first_with (is_send_on p) s.parked) refl
+  fires_account : (k : Case) (o : Option Channel) → slice_get cases i ≡ Some k → o ≡ channel_at s (port_of k) → can_proceed s k ≡ true → Account s pid this (proceeds s pid i (fires s k o))
+  fires_account (Send p v) None mine is can = let h : option_map_or (send_can s p) (channel_at s p) false ≡ true = can in let g : false ≡ true = rw (sym is) at h in cc
+  fires_account (Recv p) None mine is can = let h : option_map_or (recv_can s p) (channel_at s p) false ≡ true = can in let g : false ≡ true = rw (sym is) at h in cc
+  fires_account (Send p v) (Some c) mine is can =
+      by-closed Fires s p v c
+      (λ over. alone_fires s (Send p v) Closed mine refl refl refl (λ sound. wrote p c c refl (wrote-same s p c (sym is)) (refuses v over refl refl)))
+      (λ live. send_account p v c (first_with (is_recv_on p) s.parked) mine (sym is) live refl)
+  fires_account (Recv p) (Some c) mine is can = recv_account p c (first_with (is_send_on p) s.parked) mine (sym is) refl
 
 -- A call
 
@@ -153,9 +208,9 @@ picked s cases k x e =
     (rw same c.stands.2, c.ready)
 
 chooses_account : (s : State) (pid : Pid) (cases : List Case) (default : Bool) (word : ℕ) (o : Option (ℕ × Case)) → ((x : ℕ × Case) → o ≡ Some x → Picked s cases x) → Account s pid (Call (record { items = cases }) default word) (chooses s pid cases default o)
-chooses_account s pid cases true word None some = alone s s pid (Call (record { items = cases }) true word) what.Default refl tt refl refl (sym (append-nil s.gone))
-chooses_account s pid cases false word None some = alone s (waits s pid cases false).state pid (Call (record { items = cases }) false word) what.Parked refl tt refl refl (sym (append-nil s.gone))
-chooses_account s pid cases default word (Some x) some = let f = some x refl in fires_account s pid cases default word x.0 x.1 f.0 x.1 (channel_at s (port_of x.1)) refl f.1
+chooses_account s pid cases true word None some = alone s s pid (Call (record { items = cases }) true word) what.Default refl tt refl refl (sym (append-nil s.gone)) (λ sound. idle refl refl refl)
+chooses_account s pid cases false word None some = alone s (waits s pid cases false).state pid (Call (record { items = cases }) false word) what.Parked refl tt refl refl (sym (append-nil s.gone)) (λ sound. idle refl refl refl)
+chooses_account s pid cases default word (Some x) some = let f = some x refl in fires_account s pid cases default word x.0 x.1 (channel_at s (port_of x.1)) f.0 refl f.1
 
 pub calls-account : (s : State) (pid : Pid) (cases : List Case) (default : Bool) (word : ℕ) → Account s pid (Call (record { items = cases }) default word) (calls s pid cases default word)
 calls-account s pid cases default word = chooses_account s pid cases default word (slice_get (ready s cases) (word % length (ready s cases))) (λ x e. picked s cases (word % length (ready s cases)) x e)
@@ -165,8 +220,15 @@ calls-account s pid cases default word = chooses_account s pid cases default wor
 closed_well : (p : Port) (x : Ended) → ClosedAt p x → EndsWell x
 closed_well p x c = rw c.tells (refl, (c.at.case, c.stands))
 
-pub closes-account : (s : State) (pid : Pid) (p : Port) (c : Channel) → Account s pid (Close p) (closes s pid p (Some c))
-closes-account s pid p c =
+closed_deeds : (p : Port) (xs : List Ended) → AllByRecursion (ClosedAt p) xs → AllByRecursion (IsClosing p) (ended_deeds xs)
+closed_deeds p [] all = tt
+closed_deeds p (x ∷ xs) all =
+    let c = all.0 in
+    rw (c.tells, c.stands) (record { port = is_on_port p c.at.case c.on; outcome = refl }, closed_deeds p xs all.1)
+
+close_account : (s : State) (pid : Pid) (p : Port) (o : Option Channel) → o ≡ channel_at s p → close_fault o ≡ None → Account s pid (Close p) (closes s pid p o)
+close_account s pid p None is h = cc
+close_account s pid p (Some c) is h =
     let parts = closed p s.parked in
     record {
       answer = what.Done;
@@ -176,26 +238,33 @@ closes-account s pid p c =
       placed = tt;
       ends = all_more (ClosedAt p) EndsWell parts.ended (λ x. closed_well p x) parts.each;
       leaves = λ a. parts.leaves;
+      does = λ sound. wrote p c (shut c) refl (wrote-set s p c (shut c) (sym is)) (shuts (none_false c.closed fault.AlreadyClosed None h).0 refl (closed_deeds p parts.ended parts.each));
       procs = refl;
       gone = sym (append-nil s.gone);
     }
 
 -- A step that meets no fault
 
-close_account : (s : State) (pid : Pid) (p : Port) (o : Option Channel) → close_fault o ≡ None → Account s pid (Close p) (closes s pid p o)
-close_account s pid p None h = cc
-close_account s pid p (Some c) h = closes-account s pid p c
+room_for_port : (s : State) (cap : ℕ) → fault_of s (Make cap) ≡ None → length s.channels ≤ 63
+room_for_port s cap h =
+    let a = none_false (nat_lt 1024 cap) fault.BadCap (if nat_lt 63 (length s.channels) then Some fault.TooManyPorts else None) h in
+    let b = none_false (nat_lt 63 (length s.channels)) fault.TooManyPorts None a.1 in
+    ltb-false 63 (length s.channels) b.0
 
 pub effect-account : (s : State) (pid : Pid) (step : Step) → fault_of s step ≡ None → Account s pid step (effect s pid step)
-effect-account s pid (Make cap) h = alone s (makes s pid cap).state pid (Make cap) (what.Made (record { 0 = length s.channels + 1 })) refl tt refl refl (sym (append-nil s.gone))
+effect-account s pid (Make cap) h = alone s (makes s pid cap).state pid (Make cap) (what.Made (record { 0 = length s.channels + 1 })) refl tt refl refl (sym (append-nil s.gone)) (λ sound. adds cap (room_for_port s cap h) refl refl refl)
 effect-account s pid (Call cases default word) h = calls-account s pid cases.items default word
-effect-account s pid (Close p) h = close_account s pid p (channel_at s p) (none_false (is_unmade s p) fault.NoPort (close_fault (channel_at s p)) h).1
-effect-account s pid Exit h = alone s (exits s pid).state pid Exit what.Done refl tt refl refl refl
+effect-account s pid (Close p) h = close_account s pid p (channel_at s p) refl (none_false (is_unmade s p) fault.NoPort (close_fault (channel_at s p)) h).1
+effect-account s pid Exit h = alone s (exits s pid).state pid Exit what.Done refl tt refl refl refl (λ sound. idle refl refl refl)
 
 -- and a stall, which ends all that wait
 
 stalled_well : (x : Ended) → x.what ≡ what.Stalled → EndsWell x
 stalled_well x e = rw e (refl, tt)
+
+stalled_deeds : (xs : List Ended) → AllByRecursion (λ x. x.what ≡ what.Stalled) xs → ended_deeds xs ≡ []
+stalled_deeds [] all = refl
+stalled_deeds (x ∷ xs) all = rw all.0 (stalled_deeds xs all.1)
 
 stalled_account : (s : State) (pid : Pid) (step : Step) (c : Change) → Account s pid step c → Account s pid step (stalled c)
 stalled_account s pid step c a =
@@ -208,6 +277,10 @@ stalled_account s pid step c a =
       placed = a.placed;
       ends = all_append EndsWell a.ended parts.ended a.ends (all_more (λ x. x.what ≡ what.Stalled) EndsWell parts.ended (λ x. stalled_well x) parts.each);
       leaves = λ h. leave-join a.ended parts.ended (with_caller s.parked pid step a.answer) c.state.parked [] (a.leaves h) parts.leaves;
+      does = λ sound.
+          let none : ended_deeds (a.ended ++ parts.ended) ≡ ended_deeds a.ended =
+          filter_map-append (λ (x : Ended). of_what deed_of x.call.cases x.what) a.ended parts.ended ∙ rw (stalled_deeds parts.ended parts.each) (append-nil (ended_deeds a.ended)) in
+          rw none (a.does sound);
       procs = a.procs;
       gone = a.gone;
     }
@@ -218,12 +291,26 @@ exits_clear : (s : State) (step : Step) (f : Fault) → fault_of s step ≡ Some
 exits_clear s Exit f e = absurd (let g : ⊥ = cc in g)
 exits_clear s step f e = refl
 
+pub fault_names_none : (step : Step) (f : Fault) → port_touched_by step (what.Fault f) ≡ None
+fault_names_none (Make cap) f = refl
+fault_names_none step f = refl
+
 answers_account : (s : State) (e : Entry) (o : Option Fault) → o ≡ fault_of s e.step → Account s e.pid e.step (answers s e o)
 answers_account s e None is =
     let a = effect-account s e.pid e.step (sym is) in
     by-stall (λ (d : Change). Account s e.pid e.step d) (effect s e.pid e.step) (stalled_account s e.pid e.step (effect s e.pid e.step) a) a
-answers_account s e (Some f) is = alone s s e.pid e.step (what.Fault f) (journaled s e.step f (sym is)) tt refl refl (rw (exits_clear s e.step f (sym is)) (sym (append-nil s.gone)))
+answers_account s e (Some f) is = alone s s e.pid e.step (what.Fault f) (journaled s e.step f (sym is)) tt refl refl (rw (exits_clear s e.step f (sym is)) (sym (append-nil s.gone))) (λ sound. idle (fault_names_none e.step f) refl refl)
 
 -- an admitted entry, in any state
 pub turn-account : (s : State) (e : Entry) → Account s e.pid e.step (turn s e)
 turn-account s e = answers_account s e (fault_of s e.step) refl
+
+-- in the words of the laws
+ended_ends : (xs : List Ended) → AllByRecursion EndsWell xs → AllByRecursion (λ x. ends_waiting x.what ≡ true) (events_of xs)
+ended_ends [] well = tt
+ended_ends (x ∷ xs) well = (well.0.0, ended_ends xs well.1)
+
+pub turn-answered : (s : State) (e : Entry) → IsAnswered e.pid e.step (turn s e).events
+turn-answered s e =
+    let a = turn-account s e in
+    subst (IsAnswered e.pid e.step) (sym a.told) (record { own = refl; fits = a.fits; ends = ended_ends a.ended a.ends })

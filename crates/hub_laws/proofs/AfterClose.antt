@@ -18,15 +18,16 @@ use Rattle.hub_base.specs.Steps.{received, shut, Change, stalls, closes, close_f
 use Rattle.hub_base.specs.Runs.{admits, moves, state_after, state}
 use Rattle.hub_base.specs.Values.{Turned, turns_after, values_from}
 use Rattle.hub_laws.specs.Sound.{IsSound}
+use Rattle.hub_laws.specs.OnePort.{port_touched}
 use Rattle.hub_laws.proofs.Branches.{by-stall}
-use Rattle.hub_laws.proofs.Deeds.{Deed, deed_of, told, picks, at, Moved, Wrote, Does, buffers, hands, fetches, gives, drains, refuses, shuts, quiet, wrote}
+use Rattle.hub_laws.proofs.Deeds.{Knows, Deed, deed_of, told, picks, at, Moved, Wrote, Does, buffers, hands, fetches, gives, drains, refuses, shuts, idle, adds, wrote}
 use Rattle.hub_laws.specs.AfterClose.{sent_at, heard, Drains, answers_done, StaysClosed}
 use Rattle.hub_laws.proofs.Calls.{same_number}
 use Rattle.hub_laws.proofs.Ports.{same_port}
 use Rattle.hub_laws.proofs.Ready.{none_false}
 use Rattle.hub_laws.proofs.Kept.{sound-opening}
 use Rattle.hub_laws.proofs.Rules.{moves-sound, state-sound}
-use Rattle.hub_laws.proofs.Does.{Knows, wrote-set}
+use Rattle.hub_laws.proofs.Does.{wrote-set, quiet-idle, quiet-adds}
 use Rattle.hub_laws.proofs.Totals.{told-picks, others-none}
 use Rattle.hub_laws.proofs.Turns.{in_force, moves-turn}
 use Rattle.hub_laws.proofs.Longer.{state-entry}
@@ -93,9 +94,11 @@ stays_wrote p q c x d cs ts deeds true is old over w m =
 stays_wrote p q c x d cs ts deeds false is old over w m =
     stays_same p c ts deeds (w.others p (sym is) ∙ old) over (others-none (sent_at p) p q x d deeds (sent_none p) (sym is) m) (others-none (heard p) p q x d deeds (heard_none p) (sym is) m)
 
-stays-does : (p : Port) (c : Channel) (cs ts : List Channel) (deeds : List Deed) → at cs p ≡ Some c → c.closed ≡ true → Does cs ts deeds → Stays p c ts deeds
-stays-does p c cs ts deeds old over (quiet q e) = stays_same p c ts deeds (q.same p c old) over (rw e refl) (rw e refl)
-stays-does p c cs ts deeds old over (wrote q x d w m) = stays_wrote p q c x d cs ts deeds (q.0 == p.0) refl old over w m
+stays-does : (p : Port) (c : Channel) (cs ts : List Channel) (named : Option Port) (deeds : List Deed) → at cs p ≡ Some c → c.closed ≡ true →
+    Does cs ts named deeds → Stays p c ts deeds
+stays-does p c cs ts named deeds old over (idle none is e) = stays_same p c ts deeds ((quiet-idle cs ts is).same p c old) over (rw e refl) (rw e refl)
+stays-does p c cs ts named deeds old over (adds cap room names is e) = stays_same p c ts deeds ((quiet-adds cs ts cap is).same p c old) over (rw e refl) (rw e refl)
+stays-does p c cs ts named deeds old over (wrote q x d names w m) = stays_wrote p q c x d cs ts deeds (q.0 == p.0) refl old over w m
 
 -- A run from a state where the channel of p is closed
 
@@ -109,7 +112,7 @@ later p c ts s (e ∷ es) sound knows old over =
     let t : Turned = record { entry = e; events = (moves s e).events } in
     let laws = moves-turn s e ts sound knows in
     let deeds : List Deed = told deed_of (in_force (ts ++ t ∷ [])) (moves s e).events in
-    let stays : Stays p c (moves s e).state.channels deeds = stays-does p c s.channels (moves s e).state.channels deeds old over laws.does in
+    let stays : Stays p c (moves s e).state.channels deeds = stays-does p c s.channels (moves s e).state.channels (port_touched e.step (moves s e).events) deeds old over laws.does in
     let rest = later p stays.after (ts ++ t ∷ []) (moves s e).state es (moves-sound s e sound) laws.knows stays.stands stays.closed in
     record {
       none = rw (told-picks (sent_at p) (in_force (ts ++ t ∷ [])) t.events (λ o. no_case_sent p o), stays.none) rest.none;

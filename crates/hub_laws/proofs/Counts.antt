@@ -4,25 +4,26 @@ use Rattle.std.specs.Prelude.{slice_get}
 use Rattle.std.specs.Option.{option_map_or}
 use Rattle.std.proofs.lemmas.Bool.{eqb-true}
 use Rattle.hub_base.specs.declared.value.Port.{Port}
-use Rattle.hub_base.specs.declared.value.Pid.{Pid}
 use Rattle.hub_base.specs.declared.entry.Step.{Step}
-use Rattle.hub_base.specs.declared.entry.Step.TheVariants.{Make, Call, Close, Exit}
+use Rattle.hub_base.specs.declared.entry.Step.TheVariants.{Exit}
 use Rattle.hub_base.specs.declared.entry.Entry.{Entry}
+use Rattle.hub_base.specs.declared.event.Event.{Event}
 use Rattle.hub_base.specs.declared.fault.Fault.{Fault}
+use Rattle.hub_base.specs.Reading.{is_exit}
 use Rattle.hub_base.specs.State.{State, Channel, channel_at, opening}
-use Rattle.hub_base.specs.Steps.{Change, stalls, fault_of, answers, refusal}
+use Rattle.hub_base.specs.Steps.{turn, refusal}
 use Rattle.hub_base.specs.Runs.{admits, moves, state_after, kept_after, keeps, state}
 use Rattle.hub_base.specs.Values.{Turned}
 use Rattle.hub_base.specs.Text.{one_step, steps_of}
-use Rattle.hub_laws.specs.Sound.{IsSound}
-use Rattle.hub_laws.proofs.Branches.{by-stall}
-use Rattle.hub_laws.proofs.Deeds.{Deed, deed_of, told, at, Moved, Quiet, Wrote, Does, buffers, hands, fetches, gives, drains, refuses, shuts, quiet, wrote}
 use Rattle.hub_laws.specs.Counts.{CountsLaw}
-use Rattle.hub_laws.proofs.Ports.{same_port}
+use Rattle.hub_laws.specs.OnePort.{port_touched}
+use Rattle.hub_laws.specs.Sound.{IsSound}
+use Rattle.hub_laws.proofs.Deeds.{Knows, Deed, deed_of, told, at, Moved, Wrote, Does, buffers, hands, fetches, gives, drains, refuses, shuts, idle, adds, wrote}
+use Rattle.hub_laws.proofs.Does.{Quiet, quiet-idle, quiet-adds, does-others}
 use Rattle.hub_laws.proofs.Fires.{longer}
 use Rattle.hub_laws.proofs.Kept.{sound-opening}
+use Rattle.hub_laws.proofs.Ports.{same_port}
 use Rattle.hub_laws.proofs.Rules.{moves-sound, state-sound}
-use Rattle.hub_laws.proofs.Does.{Knows}
 use Rattle.hub_laws.proofs.Turns.{in_force, moves-turn}
 
 -- how many values were sent on a port
@@ -53,30 +54,35 @@ wrote_sends cs ts p q c d deeds true is w m =
     rw (new, old) (moved_sends q c d deeds m)
 wrote_sends cs ts p q c d deeds false is w m = rw (w.others p (sym is)) (omega arith)
 
-does_sends : (cs ts : List Channel) (deeds : List Deed) (p : Port) → Does cs ts deeds → sends_of (at ts p) ≤ sends_of (at cs p) + 1
-does_sends cs ts deeds p (quiet q e) = omega (arith, quiet_sends cs ts p (at cs p) (at ts p) refl refl q)
-does_sends cs ts deeds p (wrote q c d w m) = wrote_sends cs ts p q c d deeds (q.0 == p.0) refl w m
+does_sends : (cs ts : List Channel) (named : Option Port) (deeds : List Deed) (p : Port) → Does cs ts named deeds → sends_of (at ts p) ≤ sends_of (at cs p) + 1
+does_sends cs ts named deeds p (idle none is e) = omega (arith, quiet_sends cs ts p (at cs p) (at ts p) refl refl (quiet-idle cs ts is))
+does_sends cs ts named deeds p (adds cap room names is e) = omega (arith, quiet_sends cs ts p (at cs p) (at ts p) refl refl (quiet-adds cs ts cap is))
+does_sends cs ts named deeds p (wrote q c d names w m) = wrote_sends cs ts p q c d deeds (q.0 == p.0) refl w m
 
--- and an exit none
+-- and where it names no port, none
+idle_sends : (cs ts : List Channel) (named : Option Port) (deeds : List Deed) (p : Port) → named ≡ None → Does cs ts named deeds → sends_of (at ts p) ≤ sends_of (at cs p)
+idle_sends cs ts named deeds p none does = rw (does-others cs ts named deeds does p (rw none refl)) (omega arith)
 
-stalls_channels : (c : Change) → (stalls c).state.channels ≡ c.state.channels
-stalls_channels c =
-    by-stall (λ (d : Change). d.state.channels ≡ c.state.channels) c refl refl
+exit_names_none : (step : Step) (events : List Event) → is_exit step ≡ true → port_touched step events ≡ None
+exit_names_none step [] e = refl
+exit_names_none Exit (x ∷ xs) e = refl
+exit_names_none step (x ∷ xs) e = absurd (let g : ⊥ = cc in g)
 
-step_sends : (s : State) (pid : Pid) (step : Step) (o : Option Fault) (p : Port) → sends_of (channel_at (answers s (record { pid = pid; step = step }) o).state p) ≤ sends_of (channel_at s p) + 1 →
-    sends_of (channel_at (answers s (record { pid = pid; step = step }) o).state p) ≤ sends_of (channel_at s p) + one_step (record { pid = pid; step = step })
-step_sends s pid (Make cap) o p most = most
-step_sends s pid (Call cases default word) o p most = most
-step_sends s pid (Close q) o p most = most
-step_sends s pid Exit None p most = rw stalls_channels (omega arith)
-step_sends s pid Exit (Some f) p most = omega arith
+step_sends : (s t : State) (e : Entry) (events : List Event) (deeds : List Deed) (p : Port) → Does s.channels t.channels (port_touched e.step events) deeds →
+    sends_of (channel_at t p) ≤ sends_of (channel_at s p) + one_step e
+step_sends s t e events deeds p does = by (is_exit e.step) refl
+  where
+    by : (b : Bool) → b ≡ is_exit e.step → sends_of (channel_at t p) ≤ sends_of (channel_at s p) + cond b 0 1
+    by true is = omega (arith, idle_sends s.channels t.channels (port_touched e.step events) deeds p (exit_names_none e.step events (sym is)) does)
+    by false is = does_sends s.channels t.channels (port_touched e.step events) deeds p does
 
 -- Runs
 
-entry_sends : (s : State) (e : Entry) (o : Option Fault) (p : Port) → sends_of (channel_at (admits s e o).state p) ≤ sends_of (channel_at s p) + 1 →
+entry_sends : (s : State) (e : Entry) (o : Option Fault) (deeds : List Deed) (p : Port) →
+    Does s.channels (admits s e o).state.channels (port_touched e.step (admits s e o).events) deeds →
     sends_of (channel_at (admits s e o).state p) ≤ sends_of (channel_at s p) + steps_of (keeps o e [])
-entry_sends s e None p most = omega (arith, step_sends s e.pid e.step (fault_of s e.step) p most)
-entry_sends s e (Some f) p most = omega arith
+entry_sends s e None deeds p does = omega (arith, step_sends s (turn s e).state e (turn s e).events deeds p does)
+entry_sends s e (Some f) deeds p does = omega arith
 
 keeps_steps : (o : Option Fault) (e : Entry) (es : List Entry) → steps_of (keeps o e es) ≡ steps_of (keeps o e []) + steps_of es
 keeps_steps None e es = omega arith
@@ -88,10 +94,9 @@ sends_after s ts [] p sound knows = omega arith
 sends_after s ts (e ∷ es) p sound knows =
     let t : Turned = record { entry = e; events = (moves s e).events } in
     let laws = moves-turn s e ts sound knows in
-    let most = does_sends s.channels (moves s e).state.channels (told deed_of (in_force (ts ++ t ∷ [])) (moves s e).events) p laws.does in
     omega (
       arith,
-      entry_sends s e (refusal s e.pid) p most,
+      entry_sends s e (refusal s e.pid) (told deed_of (in_force (ts ++ t ∷ [])) (moves s e).events) p laws.does,
       keeps_steps (refusal s e.pid) e (kept_after (moves s e).state es),
       sends_after (moves s e).state (ts ++ t ∷ []) es p (moves-sound s e sound) laws.knows,
     )

@@ -1,5 +1,5 @@
 -- What one step does to a channel, and the communications that it completes.
-use Rattle.std.specs.Prelude.{◌≡◌, ◌==◌, ◌-◌, true, false, List, [], ◌∷◌, Option, Some, None, slice_get, if◌then◌else◌}
+use Rattle.std.specs.Prelude.{◌≡◌, ◌≤◌, ◌==◌, ◌-◌, ◌+◌, ◌++◌, ℕ, true, false, List, [], ◌∷◌, length, Option, Some, None, slice_get, if◌then◌else◌}
 use Rattle.std.specs.List.{filter_map, AllByRecursion}
 use Rattle.hub_base.specs.declared.value.Port.{Port}
 use Rattle.hub_base.specs.declared.value.Pid.{Pid}
@@ -9,7 +9,7 @@ use Rattle.hub_base.specs.declared.case.Case.TheVariants.{Send, Recv}
 use Rattle.hub_base.specs.declared.event.Outcome.{Outcome}
 use Rattle.hub_base.specs.declared.event.Outcome.TheVariants.{Sent, Got, Drained, Closed}
 use Rattle.hub_base.specs.declared.event.Event.{Event}
-use Rattle.hub_base.specs.State.{Channel}
+use Rattle.hub_base.specs.State.{Channel, OpenCall}
 use Rattle.hub_base.specs.Ready.{port_of}
 use Rattle.hub_base.specs.Steps.{sent, received, shut, next_value, closing_outcome}
 use Rattle.hub_base.specs.Values.{of_what}
@@ -55,18 +55,24 @@ pub data Moved (q : Port) (c d : Channel) (deeds : List Deed) : Type 0 where
   refuses : (v : Value) → c.closed ≡ true → d ≡ c → deeds ≡ record { case = Send q v; outcome = Closed } ∷ [] → Moved q c d deeds
   shuts : c.closed ≡ false → d ≡ shut c → AllByRecursion (IsClosing q) deeds → Moved q c d deeds
 
--- no channel is written; one may be new
-pub record Quiet (cs ts : List Channel) : Type 0 where
-  pub same : (p : Port) (c : Channel) → at cs p ≡ Some c → at ts p ≡ Some c
-  pub fresh : (p : Port) (c : Channel) → at cs p ≡ None → at ts p ≡ Some c → (c.done ≡ []) × (c.taken ≡ 0)
-
 -- the channel of port q alone is written
 pub record Wrote (cs ts : List Channel) (q : Port) (c d : Channel) : Type 0 where
   pub old : at cs q ≡ Some c
   pub new : at ts q ≡ Some d
   pub others : (p : Port) → (q.0 == p.0) ≡ false → at ts p ≡ at cs p
+  pub ports : length ts ≡ length cs
 
--- what one step can do to the channels
-pub data Does (cs ts : List Channel) (deeds : List Deed) : Type 0 where
-  quiet : Quiet cs ts → deeds ≡ [] → Does cs ts deeds
-  wrote : (q : Port) (c d : Channel) → Wrote cs ts q c d → Moved q c d deeds → Does cs ts deeds
+-- a channel that is made
+abbrev pub fresh : ℕ → Channel
+fresh cap = record { cap = cap; closed = false; done = []; taken = 0 }
+
+-- what one step can do to the channels, where its answer names this port
+pub data Does (cs ts : List Channel) (named : Option Port) (deeds : List Deed) : Type 0 where
+  idle : named ≡ None → ts ≡ cs → deeds ≡ [] → Does cs ts named deeds
+  -- one channel more, and at most 64
+  adds : (cap : ℕ) → length cs ≤ 63 → named ≡ Some (record { 0 = length cs + 1 }) → ts ≡ cs ++ fresh cap ∷ [] → deeds ≡ [] → Does cs ts named deeds
+  wrote : (q : Port) (c d : Channel) → named ≡ Some q → Wrote cs ts q c d → Moved q c d deeds → Does cs ts named deeds
+
+-- every open call's cases are those in force of its process
+abbrev pub Knows : (Pid → List Case) → List OpenCall → Type 0
+Knows cases calls = AllByRecursion (λ call. cases call.pid ≡ call.cases) calls

@@ -13,7 +13,7 @@ use Rattle.hub_laws.specs.Answers.{ends_waiting, IsAnswered}
 use Rattle.hub_laws.specs.Journals.{JournalLaw, Grows, Begins}
 use Rattle.hub_laws.proofs.Events.{answer_admits, ends_admits}
 use Rattle.hub_laws.proofs.Faults.{refusal-refuses}
-use Rattle.hub_laws.proofs.Telling.{turn-tells}
+use Rattle.hub_laws.proofs.Account.{turn-answered}
 use Rattle.hub_laws.proofs.Longer.{kept-entry}
 
 -- The state, and which entries are admitted
@@ -65,7 +65,7 @@ events_by s e es None is rest =
     let same : moves s e ≡ turn s e = ap (admits s e) (sym is) in
     ap (λ c. c.events ++ events_after (moves s e).state (kept_after (moves s e).state es)) same
     ∙ ap (λ xs. (turn s e).events ++ xs) (rest (moves s e).state)
-    ∙ ap (λ xs. xs ++ filter no_refusal (events_after (moves s e).state es)) (sym (answered_pass e (turn s e).events (turn-tells s e).told))
+    ∙ ap (λ xs. xs ++ filter no_refusal (events_after (moves s e).state es)) (sym (answered_pass e (turn s e).events (turn-answered s e)))
     ∙ sym (filter-append no_refusal (turn s e).events (events_after (moves s e).state es))
 events_by s e es (Some f) is rest = rw (refusal-refuses s e.pid f (sym is), passed_over s e f is) (rest s)
 

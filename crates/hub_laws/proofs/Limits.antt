@@ -14,7 +14,8 @@ use Rattle.hub_laws.specs.Limits.{exits_of, LimitsLaw}
 use Rattle.hub_laws.proofs.Ready.{Admitted, admitted}
 use Rattle.hub_laws.proofs.Leaving.{one}
 use Rattle.hub_laws.proofs.Distinct.{Different, different_snoc, count-different}
-use Rattle.hub_laws.proofs.Lasting.{leavers, turn-lasts, turn-leaves, procs-entry, procs-after}
+use Rattle.hub_laws.proofs.Account.{leavers, turn-account}
+use Rattle.hub_laws.proofs.Lasting.{turn-leaves, procs-entry, procs-after}
 
 -- Once
 
@@ -60,13 +61,13 @@ pub record GoneSound (s : State) : Type 0 where
 
 gone_turn : (s : State) (e : Entry) → GoneSound s → Admitted s e.pid → GoneSound (turn s e).state
 gone_turn s e sound adm = record {
-  apart = subst Different (sym (turn-lasts s e).gone) (by (is_exit e.step));
+  apart = subst Different (sym (turn-account s e).gone) (by (is_exit e.step));
   below = λ q h.
       let b : q < s.procs = elim (or_cases (has_gone s q) (is_exit e.step && (e.pid.0 == q)) (sym (turn-leaves q s e) ∙ h)) [
         | inl l ↦ sound.below q l
         | inr r ↦ subst (λ (n : ℕ). n < s.procs) (eqb-true e.pid.0 q (and_parts (is_exit e.step) (e.pid.0 == q) r).1) adm.below
       ] in
-      omega (arith, b, (turn-lasts s e).procs);
+      omega (arith, b, (turn-account s e).procs);
 }
   where
     by : (b : Bool) → Different (s.gone ++ cond b (e.pid ∷ []) [])
@@ -81,7 +82,7 @@ gone_after : (s : State) (es : List Entry) → GoneSound s → GoneSound (state_
 gone_after s [] sound = sound
 gone_after s (e ∷ es) sound = gone_after (moves s e).state es (gone_entry s e (refusal s e.pid) refl sound)
 
-one_entry : (e : Entry) → one_step e + length (leavers e) ≡ 1
+one_entry : (e : Entry) → one_step e + length (leavers e.pid e.step) ≡ 1
 one_entry e = by (is_exit e.step)
   where
     by : (b : Bool) → cond b 0 1 + length (cond b (e.pid ∷ []) []) ≡ 1
@@ -89,7 +90,7 @@ one_entry e = by (is_exit e.step)
     by false = omega arith
 
 length_entry : (s : State) (e : Entry) (es : List Entry) (total : ℕ) (o : Option Fault) → length es + length (admits s e o).state.gone ≡ steps_of es + total → length (keeps o e es) + length s.gone ≡ steps_of (keeps o e es) + total
-length_entry s e es total None rest = omega (arith, rest, one_entry e, ap length (turn-lasts s e).gone, length-append s.gone (leavers e))
+length_entry s e es total None rest = omega (arith, rest, one_entry e, ap length (turn-account s e).gone, length-append s.gone (leavers e.pid e.step))
 length_entry s e es total (Some f) rest = rest
 
 length_after : (s : State) (es : List Entry) → length (kept_after s es) + length s.gone ≡ steps_of (kept_after s es) + length (state_after s es).gone

@@ -20,12 +20,12 @@ use Rattle.std.proofs.Math.Bool.{and-false}
 use Rattle.std.proofs.lemmas.Bool.{and_parts, eqb-true}
 use Rattle.hub_laws.proofs.Calls.{all_append}
 use Rattle.hub_laws.proofs.Events.{answered_admits, answer_ends, waiting_ends}
-use Rattle.hub_laws.proofs.Telling.{turn-tells}
+use Rattle.hub_laws.proofs.Account.{turn-account, turn-answered}
 use Rattle.hub_base.specs.Reading.{is_exit}
 use Rattle.hub_laws.specs.Faults.{refuses_entry, is_busy}
 use Rattle.hub_laws.proofs.Faults.{refusal-refuses, refusal-busy}
 use Rattle.hub_laws.proofs.Balance.{open_calls, ends, open_none, turn-balance}
-use Rattle.hub_laws.proofs.Lasting.{turn-lasts, turn-gone}
+use Rattle.hub_laws.proofs.Lasting.{turn-gone}
 use Rattle.hub_laws.proofs.Calls.{same_number}
 use Rattle.hub_laws.proofs.Ready.{admitted}
 use Rattle.hub_laws.proofs.Kept.{sound-opening}
@@ -69,7 +69,7 @@ other_each q e (x ∷ xs) other a =
 -- Up to the next admitted entry
 
 turn-admitted : (s : State) (e : Entry) → was_admitted (turn s e).events ≡ true
-turn-admitted s e = answered_admits e (turn s e).events (turn-tells s e).told
+turn-admitted s e = answered_admits e (turn s e).events (turn-answered s e)
 
 until_admitted : (q : ℕ) (s : State) (e : Entry) (rest : List Event) (a b : Bool) → a ≡ true → b ≡ (e.pid.0 == q) → IsSound s → (b ≡ false → AtMost (open_calls q (turn s e).state.parked) rest) →
     AtMost (open_calls q s.parked) (cond (a && b) [] (endings q (turn s e).events ++ rest))
@@ -77,7 +77,7 @@ until_admitted q s e rest true true is m sound after = record { most = omega ari
 until_admitted q s e rest true false is m sound after =
     let other : (e.pid.0 == q) ≡ false = sym m in
     let bal : ends q (turn s e).events + open_calls q (turn s e).state.parked ≡ open_calls q s.parked + 0 = rw other at (turn-balance q s e sound) in
-    joined (open_calls q s.parked) (open_calls q (turn s e).state.parked) (endings q (turn s e).events) rest (other_each q e (turn s e).events other (turn-tells s e).told) (after refl) (omega (arith, bal))
+    joined (open_calls q s.parked) (open_calls q (turn s e).state.parked) (endings q (turn s e).events) rest (other_each q e (turn s e).events other (turn-answered s e)) (after refl) (omega (arith, bal))
 until_admitted q s e rest false b is m sound after = cc
 
 no_end : (q : ℕ) (pid : Pid) (f : Fault) (b : Bool) → b ≡ (pid.0 == q) → (b ≡ true → is_busy f ≡ true) → endings q (tells pid (what.Fault f) ∷ []) ≡ []
@@ -97,7 +97,7 @@ until_by : (q : ℕ) (s : State) (e : Entry) (es : List Entry) (o : Option Fault
     AtMost (open_calls q s.parked) (cond (was_admitted (admits s e o).events && (e.pid.0 == q)) [] (endings q (admits s e o).events ++ endings_until q (turns_after (admits s e o).state es)))
 until_by q s e es None is sound below here rest after =
     until_admitted q s e (endings_until q (turns_after (turn s e).state es)) (was_admitted (turn s e).events) (e.pid.0 == q) (turn-admitted s e) refl sound (λ m.
-    rest (turn s e).state after (omega (arith, (turn-lasts s e).procs)) (turn-gone q s e (inr m) ∙ here))
+    rest (turn s e).state after (omega (arith, (turn-account s e).procs)) (turn-gone q s e (inr m) ∙ here))
 until_by q s e es (Some f) is sound below here rest after =
     until_refused q s e f (endings_until q (turns_after s es)) (sym is) below here (rest s sound below here)
 
@@ -119,10 +119,10 @@ once_by : (s : State) (e : Entry) (es : List Entry) (o : Option Fault) → o ≡
 once_by s e es None is sound after call adm =
     let a = admitted s e.pid (sym is) in
     let gone = turn-gone e.pid.0 s e (inl (call_stays e.step call)) in
-    let rest = until_most e.pid.0 (turn s e).state es after (omega (arith, (turn-lasts s e).procs, a.below)) (gone ∙ a.here) in
+    let rest = until_most e.pid.0 (turn s e).state es after (omega (arith, (turn-account s e).procs, a.below)) (gone ∙ a.here) in
     let bal : ends e.pid.0 (turn s e).events + open_calls e.pid.0 (turn s e).state.parked ≡ open_calls e.pid.0 s.parked + 1 = rw (same_number e.pid.0) at (turn-balance e.pid.0 s e sound) in
     let one : ends e.pid.0 (turn s e).events + open_calls e.pid.0 (turn s e).state.parked ≤ 1 = omega (arith, bal, open_none e.pid.0 s.parked a.free) in
-    let all = joined 1 (open_calls e.pid.0 (turn s e).state.parked) (endings e.pid.0 (turn s e).events) (endings_until e.pid.0 (turns_after (turn s e).state es)) (own_each e (turn s e).events call (turn-tells s e).told) rest one in
+    let all = joined 1 (open_calls e.pid.0 (turn s e).state.parked) (endings e.pid.0 (turn s e).events) (endings_until e.pid.0 (turns_after (turn s e).state es)) (own_each e (turn s e).events call (turn-answered s e)) rest one in
     record { most = all.most; each = all.each }
 once_by s e es (Some f) is sound after call adm = let h : not (refuses_entry f) ≡ false = ap (λ b. not b) (refusal-refuses s e.pid f (sym is)) in cc
 

@@ -14,10 +14,10 @@ use Rattle.hub_base.specs.Steps.{Change, calls, closes, effect, turn, refusal}
 use Rattle.hub_base.specs.Runs.{admits, moves, state}
 use Rattle.hub_laws.specs.Sound.{IsSound, is_among, Apart}
 use Rattle.hub_laws.specs.Replies.{is_parked}
-use Rattle.hub_laws.proofs.Account.{Account, with_caller, call_of, calls-account, closes-account, turn-account}
+use Rattle.hub_laws.proofs.Account.{Account, with_caller, call_of, calls-account, turn-account}
 use Rattle.hub_laws.proofs.Distinct.{count-below}
 use Rattle.hub_laws.proofs.Lasting.{procs-after}
-use Rattle.hub_laws.proofs.Leaving.{Ended, event_of, count, count_ended, leave-count}
+use Rattle.hub_laws.proofs.Leaving.{Ended, event_of, events_of, Leave, count, count_ended, leave-count, closed}
 use Rattle.hub_laws.proofs.Ready.{Admitted, admitted}
 use Rattle.hub_laws.proofs.Rules.{state-sound}
 
@@ -40,31 +40,28 @@ caller_length calls pid step w = by (is_parked w)
     by true = omega (arith, length-append calls (call_of pid step ∷ []))
     by false = omega arith
 
--- one answer, at most one call more, and an event for each that ends
+-- an event for each call that ends, and the others stay
+left_length : (xs : List Ended) (calls kept : List OpenCall) → Leave xs calls kept → length (events_of xs) + length kept ≡ length calls
+left_length xs calls kept l =
+    omega (arith, length-map xs (λ (x : Ended). event_of x), leave-count (λ call. true) xs calls kept l, ended_length xs, calls_length calls, calls_length kept)
+
+-- one answer, and at most one call more
 size : (s : State) (pid : Pid) (step : Step) (c : Change) → Apart s.parked → Account s pid step c → Size s c
 size s pid step c apart a =
-    let after : List OpenCall = c.state.parked in
     let waiting : List OpenCall = with_caller s.parked pid step a.answer in
-    omega (
-      arith,
-      ap length a.told,
-      length-map a.ended (λ (x : Ended). event_of x),
-      leave-count (λ call. true) a.ended waiting after (a.leaves apart),
-      ended_length a.ended,
-      calls_length waiting,
-      calls_length after,
-      caller_length s.parked pid step a.answer,
-    )
+    omega (arith, ap length a.told, left_length a.ended waiting c.state.parked (a.leaves apart), caller_length s.parked pid step a.answer)
 
-closes_size : (s : State) (pid : Pid) (p : Port) (o : Option Channel) → Apart s.parked → Size s (closes s pid p o)
-closes_size s pid p None apart = omega arith
-closes_size s pid p (Some c) apart = size s pid (Close p) (closes s pid p (Some c)) apart (closes-account s pid p c)
+closes_size : (s : State) (pid : Pid) (p : Port) (o : Option Channel) → Size s (closes s pid p o)
+closes_size s pid p None = omega arith
+closes_size s pid p (Some c) =
+    let parts = closed p s.parked in
+    omega (arith, ap length parts.told, left_length parts.ended s.parked (closes s pid p (Some c)).state.parked parts.leaves)
 
 -- before a stall, also where the step is a fault
 pub effect_size : (s : State) (pid : Pid) (step : Step) → IsSound s → Size s (effect s pid step)
 effect_size s pid (Make cap) sound = omega arith
 effect_size s pid (Call cases default word) sound = size s pid (Call cases default word) (calls s pid cases.items default word) sound.apart (calls-account s pid cases.items default word)
-effect_size s pid (Close p) sound = closes_size s pid p (channel_at s p) sound.apart
+effect_size s pid (Close p) sound = closes_size s pid p (channel_at s p)
 effect_size s pid Exit sound = omega arith
 
 -- beside a caller that is admitted there is room for its call

@@ -21,7 +21,8 @@ use Rattle.hub_base.specs.Ready.{port_of}
 use Rattle.hub_base.specs.Steps.{sent, received, next_value, closing_outcome}
 use Rattle.hub_base.specs.Values.{sent_on, got_on, of_what}
 use Rattle.hub_laws.specs.Received.{received_from}
-use Rattle.hub_laws.proofs.Deeds.{Deed, deed_of, told, picks, at, IsClosing, Moved, Quiet, Wrote, Does, buffers, hands, fetches, gives, drains, refuses, shuts, quiet, wrote}
+use Rattle.hub_laws.proofs.Deeds.{Deed, deed_of, told, picks, at, IsClosing, Moved, Wrote, Does, buffers, hands, fetches, gives, drains, refuses, shuts, idle, adds, wrote}
+use Rattle.hub_laws.proofs.Does.{Quiet, quiet-idle, quiet-adds}
 use Rattle.hub_laws.proofs.Calls.{same_number}
 use Rattle.hub_laws.proofs.Ports.{same_port}
 
@@ -86,13 +87,16 @@ total_wrote f cs ts p q c d xs true is w here other =
     rw (new, old) (here same)
 total_wrote f cs ts p q c d xs false is w here other = rw (w.others p (sym is), other refl) (sym (append-nil (total f cs p)))
 
-pub total-does : {A : Type 0} (f : Channel → List A) (pick : Option Case → Outcome → Option A) (cs ts : List Channel) (deeds : List Deed) (p : Port) → Does cs ts deeds →
+pub total-does : {A : Type 0} (f : Channel → List A) (pick : Option Case → Outcome → Option A) (cs ts : List Channel) (named : Option Port) (deeds : List Deed) (p : Port) → Does cs ts named deeds →
     ((c : Channel) → c.done ≡ [] → c.taken ≡ 0 → f c ≡ []) →
     ((k : Case) (o : Outcome) → ((port_of k).0 == p.0) ≡ false → pick (Some k) o ≡ None) →
     ((c d : Channel) → at cs p ≡ Some c → Moved p c d deeds → f d ≡ f c ++ picks pick deeds) →
     total f ts p ≡ total f cs p ++ picks pick deeds
-total-does f pick cs ts deeds p (quiet q e) empty none here = rw e (total_quiet f cs ts p (at cs p) (at ts p) refl refl q empty ∙ sym (append-nil (total f cs p)))
-total-does f pick cs ts deeds p (wrote q c d w m) empty none here =
+total-does f pick cs ts named deeds p (idle none is e) empty none_told here =
+    rw e (total_quiet f cs ts p (at cs p) (at ts p) refl refl (quiet-idle cs ts is) empty ∙ sym (append-nil (total f cs p)))
+total-does f pick cs ts named deeds p (adds cap room names is e) empty none here =
+    rw e (total_quiet f cs ts p (at cs p) (at ts p) refl refl (quiet-adds cs ts cap is) empty ∙ sym (append-nil (total f cs p)))
+total-does f pick cs ts named deeds p (wrote q c d names w m) empty none here =
     total_wrote f cs ts p q c d (picks pick deeds) (q.0 == p.0) refl w
     (λ same. here c d (subst (λ (r : Port). at cs r ≡ Some c) same w.old) (subst (λ (r : Port). Moved r c d deeds) same m))
     (λ differ. others-none pick p q c d deeds none differ m)
@@ -118,16 +122,16 @@ sent_here p c d deeds (shuts live is all) =
     let none : picks (sent_on p) deeds ≡ [] = picks-none (sent_on p) deeds (all_more (IsClosing p) (λ x. sent_on p (Some x.case) x.outcome ≡ None) deeds (λ x h. rw h.outcome (sent_closing p x.case)) all) in
     rw (is, none) (sym (append-nil c.done))
 
-pub sent-does : (cs ts : List Channel) (deeds : List Deed) (p : Port) → Does cs ts deeds → total (λ c. c.done) ts p ≡ total (λ c. c.done) cs p ++ picks (sent_on p) deeds
-sent-does cs ts deeds p does = total-does (λ c. c.done) (sent_on p) cs ts deeds p does (λ c e t. e) (sent_none p) (λ c d e m. sent_here p c d deeds m)
+pub sent-does : (cs ts : List Channel) (named : Option Port) (deeds : List Deed) (p : Port) → Does cs ts named deeds → total (λ c. c.done) ts p ≡ total (λ c. c.done) cs p ++ picks (sent_on p) deeds
+sent-does cs ts named deeds p does = total-does (λ c. c.done) (sent_on p) cs ts named deeds p does (λ c e t. e) (sent_none p) (λ c d e m. sent_here p c d deeds m)
 
 -- Received
 
-got_none : (p : Port) (k : Case) (o : Outcome) → ((port_of k).0 == p.0) ≡ false → got_on p (Some k) o ≡ None
+pub got_none : (p : Port) (k : Case) (o : Outcome) → ((port_of k).0 == p.0) ≡ false → got_on p (Some k) o ≡ None
 got_none p (Recv q) (Got v) e = rw e refl
 got_none p k o e = refl
 
-got_closing : (p : Port) (k : Case) → got_on p (Some k) (closing_outcome k) ≡ None
+pub got_closing : (p : Port) (k : Case) → got_on p (Some k) (closing_outcome k) ≡ None
 got_closing p (Send q v) = refl
 got_closing p (Recv q) = refl
 
@@ -153,5 +157,5 @@ got_here p c d deeds fits (shuts live is all) =
     let none : picks (got_on p) deeds ≡ [] = picks-none (got_on p) deeds (all_more (IsClosing p) (λ x. got_on p (Some x.case) x.outcome ≡ None) deeds (λ x h. rw h.outcome (got_closing p x.case)) all) in
     rw (is, none) (sym (append-nil (received_from c)))
 
-pub got-does : (cs ts : List Channel) (deeds : List Deed) (p : Port) → ((c : Channel) → at cs p ≡ Some c → c.taken ≤ length c.done) → Does cs ts deeds → total (λ c. take c.taken c.done) ts p ≡ total (λ c. take c.taken c.done) cs p ++ picks (got_on p) deeds
-got-does cs ts deeds p fits does = total-does received_from (got_on p) cs ts deeds p does (λ c e t. rw t refl) (got_none p) (λ c d e m. got_here p c d deeds (fits c e) m)
+pub got-does : (cs ts : List Channel) (named : Option Port) (deeds : List Deed) (p : Port) → ((c : Channel) → at cs p ≡ Some c → c.taken ≤ length c.done) → Does cs ts named deeds → total (λ c. take c.taken c.done) ts p ≡ total (λ c. take c.taken c.done) cs p ++ picks (got_on p) deeds
+got-does cs ts named deeds p fits does = total-does received_from (got_on p) cs ts named deeds p does (λ c e t. rw t refl) (got_none p) (λ c d e m. got_here p c d deeds (fits c e) m)

@@ -1,64 +1,33 @@
 -- One entry of a run: what it does to the channels, and which cases are then in force.
-use Rattle.std.proofs.Common.{◌≡◌, ℕ, ◌%◌, ◌==◌, Bool, true, false, cond, List, [], ◌∷◌, ◌++◌, length, refl, ◌∙◌, sym, Option, Some, None}
+use Rattle.std.proofs.Common.{◌≡◌, ℕ, ◌==◌, true, false, cond, List, [], ◌∷◌, ◌++◌, refl, ap, ◌∙◌, sym, Option, Some, None}
 use Rattle.std.specs.Prelude.{slice_get}
+use Rattle.std.specs.List.{AllByRecursion, cons_option}
 use Rattle.std.proofs.lemmas.Bool.{or_parts}
 use Rattle.hub_base.specs.declared.value.Pid.{Pid}
 use Rattle.hub_base.specs.declared.case.Case.{Case}
 use Rattle.hub_base.specs.declared.entry.Step.{Step}
-use Rattle.hub_base.specs.declared.entry.Step.TheVariants.{Make, Call, Close, Exit}
+use Rattle.hub_base.specs.declared.entry.Step.TheVariants.{Call}
 use Rattle.hub_base.specs.declared.entry.Entry.{Entry}
-use Rattle.hub_base.specs.declared.event.Event.{Event}
 use Rattle.hub_base.specs.declared.fault.Fault.{Fault}
+use Rattle.hub_base.specs.declared.event.What.{What}
 use Rattle.hub_base.specs.declared.event.What.TheVariants as what
-use Rattle.hub_base.specs.State.{State, Channel, OpenCall, channel_at}
-use Rattle.hub_base.specs.Ready.{ready, port_of}
-use Rattle.hub_base.specs.Steps.{fires, Firing, proceeds, chooses, calls, closes, effect, stalls, Change, tells, fault_of, answers, refusal}
+use Rattle.hub_base.specs.State.{State, OpenCall}
+use Rattle.hub_base.specs.Steps.{Change, tells, turn, refusal}
 use Rattle.hub_base.specs.Runs.{admits, moves}
-use Rattle.hub_base.specs.Values.{Turned, refused, cases_or, latest, last_call}
+use Rattle.hub_base.specs.Values.{Turned, is_fault, refused, cases_or, latest, last_call, of_what}
 use Rattle.hub_laws.specs.Sound.{IsSound, is_among}
-use Rattle.hub_laws.proofs.Branches.{by-stall, stall_events}
-use Rattle.hub_laws.proofs.Deeds.{deed_of, told, Does, quiet}
+use Rattle.hub_laws.specs.Answers.{is_answer_to}
+use Rattle.hub_laws.specs.OnePort.{port_touched_by, port_touched}
+use Rattle.hub_laws.specs.Replies.{is_parked}
+use Rattle.hub_laws.proofs.Account.{account-all, deeds_of, ended_deeds, fault_names_none, turn-account}
 use Rattle.hub_laws.proofs.Calls.{differ-sym, same_number}
+use Rattle.hub_laws.proofs.Deeds.{Knows, deed_of, told, Does, idle}
+use Rattle.hub_laws.proofs.Leaving.{Ended, events_of}
 use Rattle.hub_laws.proofs.Ready.{Admitted, admitted}
-use Rattle.hub_laws.proofs.Does.{Knows, quiet-same, stalls-does}
-use Rattle.hub_laws.proofs.Stands.{effect-stands, stalls-stands}
 
 pub last_call-snoc : (pid : Pid) (before : List Case) (ts : List Turned) (t : Turned) → last_call pid before (ts ++ t ∷ []) ≡ latest pid (last_call pid before ts) t
 last_call-snoc pid before [] t = refl
 last_call-snoc pid before (x ∷ ts) t = last_call-snoc pid (latest pid before x) ts t
-
--- The answer of an entry that is no fault
-
-refused_append : (xs ys : List Event) → refused xs ≡ false → refused ys ≡ false → refused (xs ++ ys) ≡ false
-refused_append [] ys d e = e
-refused_append (x ∷ xs) ys d e = d
-
-refused_stalled : (calls : List OpenCall) → refused (stall_events calls) ≡ false
-refused_stalled [] = refl
-refused_stalled (call ∷ calls) = refl
-
-proceeds_clear : (s : State) (pid : Pid) (i : ℕ) (o : Option Firing) → refused (proceeds s pid i o).events ≡ false
-proceeds_clear s pid i None = refl
-proceeds_clear s pid i (Some f) = refl
-
-chooses_clear : (s : State) (pid : Pid) (cases : List Case) (default : Bool) (o : Option (ℕ × Case)) → refused (chooses s pid cases default o).events ≡ false
-chooses_clear s pid cases true None = refl
-chooses_clear s pid cases false None = refl
-chooses_clear s pid cases default (Some x) = proceeds_clear s pid x.0 (fires s x.1 (channel_at s (port_of x.1)))
-
-closes_clear : (s : State) (pid : Pid) (p : _) (o : Option Channel) → refused (closes s pid p o).events ≡ false
-closes_clear s pid p None = refl
-closes_clear s pid p (Some c) = refl
-
-pub effect_clear : (s : State) (pid : Pid) (step : Step) → refused (effect s pid step).events ≡ false
-effect_clear s pid (Make cap) = refl
-effect_clear s pid (Call cases default word) = chooses_clear s pid cases.items default (slice_get (ready s cases.items) (word % length (ready s cases.items)))
-effect_clear s pid (Close p) = closes_clear s pid p (channel_at s p)
-effect_clear s pid Exit = refl
-
-pub stalls_clear : (c : Change) → refused c.events ≡ false → refused (stalls c).events ≡ false
-stalls_clear c e =
-    by-stall (λ (d : Change). refused d.events ≡ false) c (refused_append c.events (stall_events c.state.parked) e (refused_stalled c.state.parked)) e
 
 -- Which cases are in force
 
@@ -90,41 +59,64 @@ knows_others L M q (call ∷ calls) free same k =
 abbrev pub in_force : List Turned → Pid → List Case
 in_force ts pid = last_call pid [] ts
 
-pub record TurnLaws (s : State) (c : Change) (now : Pid → List Case) : Type 0 where
-  pub does : Does s.channels c.state.channels (told deed_of now c.events)
+-- what a turn does to the channels, by its events and the cases that are then in force
+pub record TurnLaws (s : State) (step : Step) (c : Change) (now : Pid → List Case) : Type 0 where
+  pub does : Does s.channels c.state.channels (port_touched step c.events) (told deed_of now c.events)
   pub knows : Knows now c.state.parked
 
-refused_turn : (s : State) (e : Entry) (f : Fault) (ts : List Turned) → Knows (in_force ts) s.parked →
-    TurnLaws s (record { state = s; events = tells e.pid (what.Fault f) ∷ [] }) (in_force (ts ++ record { entry = e; events = tells e.pid (what.Fault f) ∷ [] } ∷ []))
-refused_turn s e f ts knows =
+-- what the events of the calls that end tell
+told_ended : (L : Pid → List Case) (xs : List Ended) → AllByRecursion (λ x. L x.call.pid ≡ x.call.cases) xs → told deed_of L (events_of xs) ≡ ended_deeds xs
+told_ended L [] k = refl
+told_ended L (x ∷ xs) k = rw (k.0, told_ended L xs k.1) refl
+
+-- what the answer tells, of a call's own cases
+told_own : (L before : List Case) (step : Step) (w : What) → is_answer_to step w ≡ true → (is_fault w ≡ false → L ≡ cases_or step before) →
+    of_what deed_of L w ≡ of_what deed_of (cases_or step []) w
+told_own L before (Call cases default word) (what.Fired i o) fits mine = ap (λ l. deed_of (slice_get l i) o) (mine refl)
+told_own L before step (what.Fired i o) fits mine = absurd (let g : ⊥ = cc in g)
+told_own L before step w fits mine = refl
+
+-- only a call waits
+parked_call : (before : List Case) (step : Step) (w : What) → is_answer_to step w ≡ true → is_parked w ≡ true → (cases_or step before ≡ cases_or step []) × (is_fault w ≡ false)
+parked_call before (Call cases default word) what.Parked fits parks = (refl, refl)
+parked_call before step what.Parked fits parks = absurd (let g : ⊥ = cc in g)
+parked_call before step w fits parks = absurd (let g : ⊥ = cc in g)
+
+turn_turn : (s : State) (e : Entry) (ts : List Turned) → IsSound s → Admitted s e.pid → Knows (in_force ts) s.parked →
+    TurnLaws s e.step (turn s e) (in_force (ts ++ record { entry = e; events = (turn s e).events } ∷ []))
+turn_turn s e ts sound adm knows =
+    let a = turn-account s e in
+    let t : Turned = record { entry = e; events = (turn s e).events } in
+    let now : Pid → List Case = in_force (ts ++ t ∷ []) in
+    let before : List Case = in_force ts e.pid in
+    let mine : is_fault a.answer ≡ false → now e.pid ≡ cases_or e.step before = λ clear. last_call-snoc e.pid [] ts t ∙ latest_mine before t (ap refused a.told ∙ clear) in
+    let still : Knows now s.parked =
+    knows_others (in_force ts) now e.pid.0 s.parked adm.free (λ pid d. last_call-snoc pid [] ts t ∙ latest_other pid (last_call pid [] ts) t d) knows in
+    let all = account-all (λ call. now call.pid ≡ call.cases) s e.pid e.step (turn s e) sound.apart a still (λ parks.
+        let p = parked_call before e.step a.answer a.fits parks in
+        mine p.1 ∙ p.0) in
+    let deeds : told deed_of now (turn s e).events ≡ deeds_of e.step a.answer a.ended =
+    ap (told deed_of now) a.told
+    ∙ ap (λ d. cons_option d (told deed_of now (events_of a.ended))) (told_own (now e.pid) before e.step a.answer a.fits mine)
+    ∙ ap (λ ds. cons_option (of_what deed_of (cases_or e.step []) a.answer) ds) (told_ended now a.ended all.0) in
+    let named : port_touched e.step (turn s e).events ≡ port_touched_by e.step a.answer = ap (port_touched e.step) a.told in
+    record { does = rw (named, deeds) (a.does sound); knows = all.1 }
+
+-- an entry that is not admitted changes nothing
+passed_turn : (s : State) (e : Entry) (f : Fault) (ts : List Turned) → Knows (in_force ts) s.parked →
+    TurnLaws s e.step (record { state = s; events = tells e.pid (what.Fault f) ∷ [] }) (in_force (ts ++ record { entry = e; events = tells e.pid (what.Fault f) ∷ [] } ∷ []))
+passed_turn s e f ts knows =
     let t : Turned = record { entry = e; events = tells e.pid (what.Fault f) ∷ [] } in
     record {
-      does = quiet (quiet-same s.channels) refl;
+      does = idle (fault_names_none e.step f) refl refl;
       knows = knows_more (in_force ts) (in_force (ts ++ t ∷ [])) s.parked (λ pid. last_call-snoc pid [] ts t ∙ latest_refused pid (last_call pid [] ts) t refl) knows;
     }
 
-clear_turn : (s : State) (e : Entry) (ts : List Turned) → IsSound s → Admitted s e.pid → fault_of s e.step ≡ None → Knows (in_force ts) s.parked →
-    TurnLaws s (stalls (effect s e.pid e.step)) (in_force (ts ++ record { entry = e; events = (stalls (effect s e.pid e.step)).events } ∷ []))
-clear_turn s e ts sound adm h knows =
-    let t : Turned = record { entry = e; events = (stalls (effect s e.pid e.step)).events } in
-    let now : Pid → List Case = in_force (ts ++ t ∷ []) in
-    let clear : refused t.events ≡ false = stalls_clear (effect s e.pid e.step) (effect_clear s e.pid e.step) in
-    let mine : now e.pid ≡ cases_or e.step (in_force ts e.pid) = last_call-snoc e.pid [] ts t ∙ latest_mine (last_call e.pid [] ts) t clear in
-    let still : Knows now s.parked = knows_others (in_force ts) now e.pid.0 s.parked adm.free (λ pid d. last_call-snoc pid [] ts t ∙ latest_other pid (last_call pid [] ts) t d) knows in
-    record {
-      does = stalls-does s now e.pid e.step (in_force ts e.pid) sound still mine h;
-      knows = stalls-stands (λ call. now call.pid ≡ call.cases) (effect s e.pid e.step) (effect-stands (λ call. now call.pid ≡ call.cases) s e.pid e.step (in_force ts e.pid) still mine);
-    }
-
-answers_turn : (s : State) (e : Entry) (o : Option Fault) (ts : List Turned) → IsSound s → Admitted s e.pid → o ≡ fault_of s e.step → Knows (in_force ts) s.parked →
-    TurnLaws s (answers s e o) (in_force (ts ++ record { entry = e; events = (answers s e o).events } ∷ []))
-answers_turn s e None ts sound adm is knows = clear_turn s e ts sound adm (sym is) knows
-answers_turn s e (Some f) ts sound adm is knows = refused_turn s e f ts knows
-
 admits_turn : (s : State) (e : Entry) (o : Option Fault) (ts : List Turned) → IsSound s → o ≡ refusal s e.pid → Knows (in_force ts) s.parked →
-    TurnLaws s (admits s e o) (in_force (ts ++ record { entry = e; events = (admits s e o).events } ∷ []))
-admits_turn s e None ts sound is knows = answers_turn s e (fault_of s e.step) ts sound (admitted s e.pid (sym is)) refl knows
-admits_turn s e (Some f) ts sound is knows = refused_turn s e f ts knows
+    TurnLaws s e.step (admits s e o) (in_force (ts ++ record { entry = e; events = (admits s e o).events } ∷ []))
+admits_turn s e None ts sound is knows = turn_turn s e ts sound (admitted s e.pid (sym is)) knows
+admits_turn s e (Some f) ts sound is knows = passed_turn s e f ts knows
 
-pub moves-turn : (s : State) (e : Entry) (ts : List Turned) → IsSound s → Knows (in_force ts) s.parked → TurnLaws s (moves s e) (in_force (ts ++ record { entry = e; events = (moves s e).events } ∷ []))
+pub moves-turn : (s : State) (e : Entry) (ts : List Turned) → IsSound s → Knows (in_force ts) s.parked →
+    TurnLaws s e.step (moves s e) (in_force (ts ++ record { entry = e; events = (moves s e).events } ∷ []))
 moves-turn s e ts sound knows = admits_turn s e (refusal s e.pid) ts sound refl knows

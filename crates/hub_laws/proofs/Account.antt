@@ -1,11 +1,12 @@
 -- What an admitted entry does, whatever its step: what its process is answered, which open calls end and what tells it, who waits then,
 -- and who has gone. Each rule of a step is shown to do so once, here; the laws follow from the account.
-use Rattle.std.proofs.Common.{◌≡◌, ◌≤◌, ℕ, ◌+◌, ◌%◌, nat_lt, Bool, true, false, List, [], ◌∷◌, ◌++◌, length, refl, ap, ◌∙◌, sym, subst, Option, Some, None, arith, append-nil, if◌then◌else◌}
-use Rattle.std.specs.Prelude.{slice_get}
-use Rattle.std.specs.List.{AllByRecursion, filter_map, cons_option}
+use Rattle.std.proofs.Common.{◌≡◌, ◌≤◌, ℕ, ◌+◌, ◌-◌, ◌%◌, ◌==◌, nat_lt, not, filter, inl, inr, Bool, true, false, List, [], ◌∷◌, ◌++◌, length, refl, ap, ◌∙◌, sym, subst, Option, Some, None, arith, append-nil, if◌then◌else◌}
+use Rattle.std.specs.Prelude.{slice_get, slice_set, is_some}
+use Rattle.std.specs.List.{list_any, AllByRecursion, filter_map, cons_option}
 use Rattle.std.specs.Option.{option_map_or}
 use Rattle.std.proofs.lemmas.Bool.{false_from_ne_true, ltb-false}
 use Rattle.std.proofs.lemmas.List.{map-append}
+use Rattle.std.proofs.lemmas.Option.{slice_get_within}
 use Rattle.std.proofs.lemmas.List.Elements.{filter_map-append}
 use Rattle.hub_base.specs.declared.value.Port.{Port}
 use Rattle.hub_base.specs.declared.value.Pid.{Pid}
@@ -22,22 +23,24 @@ use Rattle.hub_base.specs.declared.event.Outcome.TheVariants.{Sent, Got, Drained
 use Rattle.hub_base.specs.declared.event.What.{What}
 use Rattle.hub_base.specs.declared.event.What.TheVariants as what
 use Rattle.hub_base.specs.State.{State, Channel, OpenCall, channel_at, with_channel}
-use Rattle.hub_base.specs.Ready.{is_send_on, is_recv_on, can_proceed, ready, port_of, first_with, Ending, without, send_can, recv_can}
+use Rattle.hub_base.specs.Ready.{is_send_on, is_recv_on, is_on, can_proceed, ready, port_of, first_with, Ending, without, send_can, recv_can}
 use Rattle.hub_base.specs.Steps.{Firing, fires, proceeds, chooses, calls, closes, makes, exits, waits, effect, Change, sent, received, next_value, outcome_of, with_sent, send_meets, recv_takes, recv_meets, fired, tells, fault_of, close_fault, is_unmade, answers, turn, shut}
 use Rattle.hub_base.specs.Reading.{is_exit}
 use Rattle.hub_base.specs.Values.{cases_or, of_what}
-use Rattle.hub_laws.specs.Sound.{Apart, IsSound, some_call}
+use Rattle.hub_laws.specs.Sound.{Apart, IsSound, PortSound, some_call}
 use Rattle.hub_laws.specs.Answers.{is_answer_to, ends_waiting, IsAnswered}
 use Rattle.hub_laws.specs.OnePort.{port_touched_by}
 use Rattle.hub_laws.specs.Replies.{is_parked}
 use Rattle.hub_laws.proofs.Branches.{by-closed, by-stall, stalled}
-use Rattle.hub_laws.proofs.Calls.{all_append, all_more, all_snoc}
-use Rattle.hub_laws.proofs.Deeds.{Deed, deed_of, IsClosing, Does, buffers, hands, fetches, gives, drains, refuses, shuts, idle, adds, wrote}
+use Rattle.hub_laws.proofs.Calls.{Fewer, fewer-none, fewer-same, fewer-filter, all_append, all_more, all_snoc}
+use Rattle.hub_laws.proofs.Deeds.{Deed, deed_of, at, fresh, IsClosing, Moved, Wrote, Does, buffers, hands, fetches, gives, drains, refuses, shuts, idle, adds, wrote}
 use Rattle.hub_laws.proofs.Does.{wrote-set, wrote-same, next_sent, is_recv, is_on_port}
 use Rattle.hub_laws.proofs.Faults.{journaled}
 use Rattle.hub_laws.proofs.Fires.{is_send, some_first}
+use Rattle.hub_laws.proofs.Kept.{port-fewer, port-through, port-sent, port-received, port-shut, port-fresh, room_by}
 use Rattle.hub_laws.proofs.Leaving.{Ended, event_of, events_of, EndsWell, InPlace, Leave, nobody, next, leave-all, leave-join, first-goes, ClosedAt, closed, all_stalled}
-use Rattle.hub_laws.proofs.Ready.{chosen, none_false}
+use Rattle.hub_laws.proofs.Ready.{chosen, none_can, none_false, ready_none}
+use Rattle.hub_laws.proofs.Ports.{new_port}
 
 -- the call of this step
 abbrev pub call_of : Pid → Step → OpenCall
@@ -59,6 +62,10 @@ ended_deeds xs = filter_map (λ x. of_what deed_of x.call.cases x.what) xs
 abbrev pub deeds_of : Step → What → List Ended → List Deed
 deeds_of step answer xs = cons_option (of_what deed_of (cases_or step []) answer) (ended_deeds xs)
 
+-- the port that is named is sound, where these calls wait
+abbrev pub NamedSound : Option Port → List Channel → List OpenCall → Type 0
+NamedSound named cs calls = (p : Port) (c : Channel) → named ≡ Some p → at cs p ≡ Some c → PortSound p c calls
+
 pub record Account (s : State) (pid : Pid) (step : Step) (c : Change) : Type 0 where
   -- the caller is answered first, as fits its step, and then the calls that end are told so
   pub answer : What
@@ -69,8 +76,12 @@ pub record Account (s : State) (pid : Pid) (step : Step) (c : Change) : Type 0 w
   pub ends : AllByRecursion EndsWell ended
   -- all others wait on, where no process had two calls
   pub leaves : Apart s.parked → Leave ended (with_caller s.parked pid step answer) c.state.parked
+  pub fewer : Fewer c.state.parked (with_caller s.parked pid step answer)
+  -- the caller waits where no case of its call can proceed
+  pub blocked : is_parked answer ≡ true → list_any (can_proceed s) (cases_or step []) ≡ false
   -- on the port that the answer names, and on no other
   pub does : IsSound s → Does s.channels c.state.channels (port_touched_by step answer) (deeds_of step answer ended)
+  pub sound : IsSound s → NamedSound (port_touched_by step answer) c.state.channels c.state.parked
   -- the processes, and those that have exited
   pub procs : c.state.procs ≡ s.procs
   pub gone : c.state.gone ≡ s.gone ++ leavers pid step
@@ -88,10 +99,12 @@ account-all P s pid step c apart a all new =
 
 -- nobody ends
 alone : (s t : State) (pid : Pid) (step : Step) (answer : What) → is_answer_to step answer ≡ true → InPlace (cases_or step []) answer →
-    t.parked ≡ with_caller s.parked pid step answer → t.procs ≡ s.procs → t.gone ≡ s.gone ++ leavers pid step →
+    t.parked ≡ with_caller s.parked pid step answer → (is_parked answer ≡ true → list_any (can_proceed s) (cases_or step []) ≡ false) →
+    t.procs ≡ s.procs → t.gone ≡ s.gone ++ leavers pid step →
     (IsSound s → Does s.channels t.channels (port_touched_by step answer) (deeds_of step answer [])) →
+    (IsSound s → NamedSound (port_touched_by step answer) t.channels t.parked) →
     Account s pid step (record { state = t; events = tells pid answer ∷ [] })
-alone s t pid step answer fits placed same procs gone does = record {
+alone s t pid step answer fits placed same blocked procs gone does sound = record {
   answer = answer;
   ended = [];
   told = refl;
@@ -99,10 +112,30 @@ alone s t pid step answer fits placed same procs gone does = record {
   placed = placed;
   ends = tt;
   leaves = λ a. rw same (nobody (with_caller s.parked pid step answer));
+  fewer = rw same (fewer-same (with_caller s.parked pid step answer));
+  blocked = blocked;
   does = does;
+  sound = sound;
   procs = procs;
   gone = gone;
 }
+
+-- and nobody has exited, and no channel is written
+silent : (s t : State) (pid : Pid) (step : Step) (answer : What) → is_answer_to step answer ≡ true → InPlace (cases_or step []) answer →
+    t.parked ≡ with_caller s.parked pid step answer → (is_parked answer ≡ true → list_any (can_proceed s) (cases_or step []) ≡ false) →
+    t.procs ≡ s.procs → t.gone ≡ s.gone ++ leavers pid step → t.channels ≡ s.channels → port_touched_by step answer ≡ None →
+    of_what deed_of (cases_or step []) answer ≡ None → Account s pid step (record { state = t; events = tells pid answer ∷ [] })
+silent s t pid step answer fits placed same blocked procs gone channels none quiet =
+    alone s t pid step answer fits placed same blocked procs gone (λ sound. idle none channels (rw quiet refl)) (λ sound p c names e. absurd (let g : ⊥ = cc in g))
+
+-- the port that is written
+named_sound : (named : Option Port) (cs ts : List Channel) (p : Port) (c d : Channel) (calls : List OpenCall) → named ≡ Some p → Wrote cs ts p c d → PortSound p d calls → NamedSound named ts calls
+named_sound named cs ts p c d calls names w fine q x h e =
+    let same : p ≡ q = cc in
+    let there : at ts p ≡ Some x = subst (λ (r : Port). at ts r ≡ Some x) (sym same) e in
+    let new : at ts p ≡ Some d = w.new in
+    let one : d ≡ x = cc in
+    subst (λ (r : Port). PortSound r x calls) same (subst (λ (y : Channel). PortSound p y calls) one fine)
 
 -- A case of a call that fires
 
@@ -116,20 +149,22 @@ module _ (s : State) (pid : Pid) (cases : List Case) (default : Bool) (word i : 
   abbrev Fires : Firing → Type 0
   Fires f = Account s pid this (proceeds s pid i (Some f))
 
-  alone_fires : (t : State) (k : Case) (o : Outcome) → slice_get cases i ≡ Some k → t.parked ≡ s.parked → t.procs ≡ s.procs → t.gone ≡ s.gone →
-      (IsSound s → Does s.channels t.channels (Some (port_of k)) (deed k o ∷ [])) → Fires (record { outcome = o; state = t; ended = [] })
-  alone_fires t k o mine same procs gone does =
-      alone s t pid this (what.Fired i o) refl (k, mine) same procs (gone ∙ sym (append-nil s.gone)) (λ sound. rw mine (does sound))
+  alone_fires : (t : State) (k : Case) (o : Outcome) (c d : Channel) → slice_get cases i ≡ Some k → t.parked ≡ s.parked → t.procs ≡ s.procs → t.gone ≡ s.gone →
+      Wrote s.channels t.channels (port_of k) c d → Moved (port_of k) c d (deed k o ∷ []) → (IsSound s → PortSound (port_of k) d t.parked) → Fires (record { outcome = o; state = t; ended = [] })
+  alone_fires t k o c d mine same procs gone w m fine =
+      alone s t pid this (what.Fired i o) refl (k, mine) same (λ h. cc) procs (gone ∙ sym (append-nil s.gone)) (λ sound. rw mine (wrote (port_of k) c d refl w m))
+      (λ sound. rw mine (named_sound (Some (port_of k)) s.channels t.channels (port_of k) c d t.parked refl w (fine sound)))
 
   -- with the oldest call that waits for it
-  meets : (t : State) (k : Case) (o its : Outcome) (test : Case → Bool) (x : Ending) → slice_get cases i ≡ Some k → first_with test s.parked ≡ Some x →
-      t.parked ≡ without x.pid s.parked → t.procs ≡ s.procs → t.gone ≡ s.gone →
-      (IsSound s → test x.at.case ≡ true → Does s.channels t.channels (Some (port_of k)) (deed k o ∷ deed x.at.case its ∷ [])) →
+  meets : (t : State) (k : Case) (o its : Outcome) (test : Case → Bool) (x : Ending) (c d : Channel) → slice_get cases i ≡ Some k → first_with test s.parked ≡ Some x →
+      t.parked ≡ without x.pid s.parked → t.procs ≡ s.procs → t.gone ≡ s.gone → channel_at s (port_of k) ≡ Some c → Wrote s.channels t.channels (port_of k) c d →
+      (IsSound s → test x.at.case ≡ true → Moved (port_of k) c d (deed k o ∷ deed x.at.case its ∷ []) × (PortSound (port_of k) c (without x.pid s.parked) → PortSound (port_of k) d (without x.pid s.parked))) →
       Fires (record { outcome = o; state = t; ended = fired x.pid x.at.index its ∷ [] })
-  meets t k o its test x mine is same procs gone does =
+  meets t k o its test x c d mine is same procs gone old w does =
       let f = first-goes test s.parked x is in
       let e : Ended = record { call = f.call; what = what.Fired x.at.index its } in
       let kept : List OpenCall = without x.pid s.parked in
+      let fewer : Fewer kept s.parked = fewer-filter (λ call. not (call.pid.0 == x.pid.0)) s.parked in
       record {
         answer = what.Fired i o;
         ended = e ∷ [];
@@ -138,52 +173,62 @@ module _ (s : State) (pid : Pid) (cases : List Case) (default : Bool) (word i : 
         placed = (k, mine);
         ends = ((refl, (x.at.case, f.stands)), tt);
         leaves = λ a. rw same (next e [] s.parked kept kept (f.known f.pid a) (nobody kept));
-        does = λ sound. rw (mine, f.stands) (does sound f.passes);
+        fewer = rw same fewer;
+        blocked = λ h. cc;
+        does = λ sound. rw (mine, f.stands) (wrote (port_of k) c d refl w (does sound f.passes).0);
+        sound = λ sound.
+            let fine : PortSound (port_of k) d kept = (does sound f.passes).1 (port-fewer (port_of k) c kept s.parked fewer (sound.ports (port_of k) c old)) in
+            rw (mine, same) (named_sound (Some (port_of k)) s.channels t.channels (port_of k) c d kept refl w fine);
         procs = procs;
         gone = gone ∙ sym (append-nil s.gone);
       }
 
-  send_account : (p : Port) (v : Value) (c : Channel) (o : Option Ending) → slice_get cases i ≡ Some (Send p v) → channel_at s p ≡ Some c → c.closed ≡ false →
-      o ≡ first_with (is_recv_on p) s.parked → Fires (send_meets s p (sent v c) o)
-  send_account p v c None mine e live is =
-      alone_fires (with_channel s p (sent v c)) (Send p v) Sent mine refl refl refl
-      (λ sound. wrote p c (sent v c) refl (wrote-set s p c (sent v c) e) (buffers v live refl refl))
-  send_account p v c (Some x) mine e live is =
-      meets (send_meets s p (sent v c) (Some x)).state (Send p v) Sent (outcome_of (next_value (sent v c))) (is_recv_on p) x mine (sym is) refl refl refl
+  send_account : (p : Port) (v : Value) (c : Channel) (o : Option Ending) → slice_get cases i ≡ Some (Send p v) → channel_at s p ≡ Some c → send_can s p c ≡ true →
+      c.closed ≡ false → o ≡ first_with (is_recv_on p) s.parked → Fires (send_meets s p (sent v c) o)
+  send_account p v c None mine e can live is =
+      let none : some_call (is_recv_on p) s.parked ≡ false = sym (some_first (is_recv_on p) s.parked None is) in
+      let none' : is_some (first_with (is_recv_on p) s.parked) ≡ false = ap (λ x. is_some x) (sym is) in
+      alone_fires (with_channel s p (sent v c)) (Send p v) Sent c (sent v c) mine refl refl refl (wrote-set s p c (sent v c) e) (buffers v live refl refl)
+      (λ sound. port-sent p v c s.parked (sound.ports p c e) live none (room_by c.closed (is_some (first_with (is_recv_on p) s.parked)) c live none' can))
+  send_account p v c (Some x) mine e can live is =
+      meets (send_meets s p (sent v c) (Some x)).state (Send p v) Sent (outcome_of (next_value (sent v c))) (is_recv_on p) x c (received (sent v c)) mine (sym is) refl refl refl e
+      (wrote-set s p c (received (sent v c)) e)
       (λ sound passes.
           let w = next_sent s p v c sound e in
-          wrote p c (received (sent v c)) refl (wrote-set s p c (received (sent v c)) e)
-          (hands v w.0 live w.1 refl (rw (is_recv p x.at.case passes, w.1) refl)))
+          (hands v w.0 live w.1 refl (rw (is_recv p x.at.case passes, w.1) refl), λ fine. port-through p v c (without x.pid s.parked) fine live))
 
-  takes_account : (p : Port) (c : Channel) (o : Option Value) → slice_get cases i ≡ Some (Recv p) → channel_at s p ≡ Some c → o ≡ next_value c → Fires (recv_takes s p c [] o)
-  takes_account p c None mine e is =
-      alone_fires (with_channel s p c) (Recv p) Drained mine refl refl refl (λ sound. wrote p c c refl (wrote-set s p c c e) (drains (sym is) refl refl))
-  takes_account p c (Some w) mine e is =
-      alone_fires (with_channel s p (received c)) (Recv p) (Got w) mine refl refl refl
-      (λ sound. wrote p c (received c) refl (wrote-set s p c (received c) e) (gives w (sym is) refl refl))
+  takes_account : (p : Port) (c : Channel) (o : Option Value) → slice_get cases i ≡ Some (Recv p) → channel_at s p ≡ Some c → some_call (is_send_on p) s.parked ≡ false →
+      o ≡ next_value c → Fires (recv_takes s p c [] o)
+  takes_account p c None mine e none is =
+      alone_fires (with_channel s p c) (Recv p) Drained c c mine refl refl refl (wrote-set s p c c e) (drains (sym is) refl refl) (λ sound. sound.ports p c e)
+  takes_account p c (Some w) mine e none is =
+      alone_fires (with_channel s p (received c)) (Recv p) (Got w) c (received c) mine refl refl refl (wrote-set s p c (received c) e) (gives w (sym is) refl refl)
+      (λ sound. port-received p c s.parked (sound.ports p c e) none (slice_get_within c.done c.taken w (sym is)))
 
   fetches_account : (p : Port) (c : Channel) (x : Ending) (o : Option Value) → slice_get cases i ≡ Some (Recv p) → channel_at s p ≡ Some c →
       first_with (is_send_on p) s.parked ≡ Some x → o ≡ next_value (with_sent x.at.case c) →
       Fires (recv_takes (record s { parked = without x.pid s.parked }) p (with_sent x.at.case c) (fired x.pid x.at.index Sent ∷ []) o)
   fetches_account p c x None mine e is after =
-      meets (with_channel (record s { parked = without x.pid s.parked }) p (with_sent x.at.case c)) (Recv p) Drained Sent (is_send_on p) x mine is refl refl refl
+      let d : Channel = with_sent x.at.case c in
+      meets (with_channel (record s { parked = without x.pid s.parked }) p d) (Recv p) Drained Sent (is_send_on p) x c d mine is refl refl refl e (wrote-set s p c d e)
       (λ sound passes.
           let u = is_send p x.at.case passes in
           let w = next_sent s p u.0 c sound e in
           let none : None ≡ next_value (sent u.0 c) = rw u.1 at after in
           absurd (let g : ⊥ = cc in g))
   fetches_account p c x (Some w) mine e is after =
-      meets (with_channel (record s { parked = without x.pid s.parked }) p (received (with_sent x.at.case c))) (Recv p) (Got w) Sent (is_send_on p) x mine is refl refl refl
+      let d : Channel = received (with_sent x.at.case c) in
+      meets (with_channel (record s { parked = without x.pid s.parked }) p d) (Recv p) (Got w) Sent (is_send_on p) x c d mine is refl refl refl e (wrote-set s p c d e)
       (λ sound passes.
           let u = is_send p x.at.case passes in
           let some : Some w ≡ next_value (sent u.0 c) = rw u.1 at after in
           let waits : some_call (is_send_on p) s.parked ≡ true = sym (some_first (is_send_on p) s.parked (Some x) (sym is)) in
           let live : c.closed ≡ false = false_from_ne_true c.closed (λ h. let g = ((sound.ports p c e).ended h).1 in cc) in
-          rw u.1 (wrote p c (received (sent u.0 c)) refl (wrote-set s p c (received (sent u.0 c)) e) (fetches u.0 w live (sym some) refl refl)))
+          rw u.1 (fetches u.0 w live (sym some) refl refl, λ fine. port-through p u.0 c (without x.pid s.parked) fine live))
 
   recv_account : (p : Port) (c : Channel) (o : Option Ending) → slice_get cases i ≡ Some (Recv p) → channel_at s p ≡ Some c → o ≡ first_with (is_send_on p) s.parked →
       Fires (recv_meets s p c o)
-  recv_account p c None mine e is = takes_account p c (next_value c) mine e refl
+  recv_account p c None mine e is = takes_account p c (next_value c) mine e (sym (some_first (is_send_on p) s.parked None is)) refl
   recv_account p c (Some x) mine e is = fetches_account p c x (next_value (with_sent x.at.case c)) mine e (sym is) refl
 
   fires_account : (k : Case) (o : Option Channel) → slice_get cases i ≡ Some k → o ≡ channel_at s (port_of k) → can_proceed s k ≡ true → Account s pid this (proceeds s pid i (fires s k o))
@@ -191,8 +236,8 @@ module _ (s : State) (pid : Pid) (cases : List Case) (default : Bool) (word i : 
   fires_account (Recv p) None mine is can = let h : option_map_or (recv_can s p) (channel_at s p) false ≡ true = can in let g : false ≡ true = rw (sym is) at h in cc
   fires_account (Send p v) (Some c) mine is can =
       by-closed Fires s p v c
-      (λ over. alone_fires s (Send p v) Closed mine refl refl refl (λ sound. wrote p c c refl (wrote-same s p c (sym is)) (refuses v over refl refl)))
-      (λ live. send_account p v c (first_with (is_recv_on p) s.parked) mine (sym is) live refl)
+      (λ over. alone_fires s (Send p v) Closed c c mine refl refl refl (wrote-same s p c (sym is)) (refuses v over refl refl) (λ sound. sound.ports p c (sym is)))
+      (λ live. send_account p v c (first_with (is_recv_on p) s.parked) mine (sym is) (let g : option_map_or (send_can s p) (channel_at s p) false ≡ true = can in rw (sym is) at g) live refl)
   fires_account (Recv p) (Some c) mine is can = recv_account p c (first_with (is_send_on p) s.parked) mine (sym is) refl
 
 -- A call
@@ -207,13 +252,18 @@ picked s cases k x e =
     let same : x.0 ≡ c.stands.0 = omega (arith, c.stands.1) in
     (rw same c.stands.2, c.ready)
 
-chooses_account : (s : State) (pid : Pid) (cases : List Case) (default : Bool) (word : ℕ) (o : Option (ℕ × Case)) → ((x : ℕ × Case) → o ≡ Some x → Picked s cases x) → Account s pid (Call (record { items = cases }) default word) (chooses s pid cases default o)
-chooses_account s pid cases true word None some = alone s s pid (Call (record { items = cases }) true word) what.Default refl tt refl refl (sym (append-nil s.gone)) (λ sound. idle refl refl refl)
-chooses_account s pid cases false word None some = alone s (waits s pid cases false).state pid (Call (record { items = cases }) false word) what.Parked refl tt refl refl (sym (append-nil s.gone)) (λ sound. idle refl refl refl)
-chooses_account s pid cases default word (Some x) some = let f = some x refl in fires_account s pid cases default word x.0 x.1 (channel_at s (port_of x.1)) f.0 refl f.1
+chooses_account : (s : State) (pid : Pid) (cases : List Case) (default : Bool) (word : ℕ) (o : Option (ℕ × Case)) → (o ≡ None → list_any (can_proceed s) cases ≡ false) →
+    ((x : ℕ × Case) → o ≡ Some x → Picked s cases x) → Account s pid (Call (record { items = cases }) default word) (chooses s pid cases default o)
+chooses_account s pid cases true word None none some =
+    silent s s pid (Call (record { items = cases }) true word) what.Default refl tt refl (λ h. cc) refl (sym (append-nil s.gone)) refl refl refl
+chooses_account s pid cases false word None none some =
+    silent s (waits s pid cases false).state pid (Call (record { items = cases }) false word) what.Parked refl tt refl (λ h. none refl) refl (sym (append-nil s.gone)) refl refl refl
+chooses_account s pid cases default word (Some x) none some = let f = some x refl in fires_account s pid cases default word x.0 x.1 (channel_at s (port_of x.1)) f.0 refl f.1
 
 pub calls-account : (s : State) (pid : Pid) (cases : List Case) (default : Bool) (word : ℕ) → Account s pid (Call (record { items = cases }) default word) (calls s pid cases default word)
-calls-account s pid cases default word = chooses_account s pid cases default word (slice_get (ready s cases) (word % length (ready s cases))) (λ x e. picked s cases (word % length (ready s cases)) x e)
+calls-account s pid cases default word =
+    chooses_account s pid cases default word (slice_get (ready s cases) (word % length (ready s cases)))
+    (λ h. none_can 0 (can_proceed s) cases (ready_none (ready s cases) word h)) (λ x e. picked s cases (word % length (ready s cases)) x e)
 
 -- A close
 
@@ -238,6 +288,10 @@ close_account s pid p (Some c) is h =
       placed = tt;
       ends = all_more (ClosedAt p) EndsWell parts.ended (λ x. closed_well p x) parts.each;
       leaves = λ a. parts.leaves;
+      fewer = fewer-filter (λ call. not (list_any (is_on p) call.cases)) s.parked;
+      blocked = λ h. cc;
+      sound = λ sound. named_sound (Some p) s.channels (slice_set s.channels (p.0 - 1) (shut c)) p c (shut c) (filter (λ call. not (list_any (is_on p) call.cases)) s.parked) refl
+      (wrote-set s p c (shut c) (sym is)) (port-shut p c s.parked (sound.ports p c (sym is)));
       does = λ sound. wrote p c (shut c) refl (wrote-set s p c (shut c) (sym is)) (shuts (none_false c.closed fault.AlreadyClosed None h).0 refl (closed_deeds p parts.ended parts.each));
       procs = refl;
       gone = sym (append-nil s.gone);
@@ -252,10 +306,13 @@ room_for_port s cap h =
     ltb-false 63 (length s.channels) b.0
 
 pub effect-account : (s : State) (pid : Pid) (step : Step) → fault_of s step ≡ None → Account s pid step (effect s pid step)
-effect-account s pid (Make cap) h = alone s (makes s pid cap).state pid (Make cap) (what.Made (record { 0 = length s.channels + 1 })) refl tt refl refl (sym (append-nil s.gone)) (λ sound. adds cap (room_for_port s cap h) refl refl refl)
+effect-account s pid (Make cap) h =
+    let t : State = (makes s pid cap).state in
+    alone s t pid (Make cap) (what.Made (record { 0 = length s.channels + 1 })) refl tt refl (λ h. cc) refl (sym (append-nil s.gone)) (λ sound. adds cap (room_for_port s cap h) refl refl refl)
+    (λ sound p c names e. elim (new_port s t p (fresh cap) c refl e) [ inl l ↦ rw l.1 (port-fresh s p cap sound l.0) | inr r ↦ sound.ports p c r ])
 effect-account s pid (Call cases default word) h = calls-account s pid cases.items default word
 effect-account s pid (Close p) h = close_account s pid p (channel_at s p) refl (none_false (is_unmade s p) fault.NoPort (close_fault (channel_at s p)) h).1
-effect-account s pid Exit h = alone s (exits s pid).state pid Exit what.Done refl tt refl refl refl (λ sound. idle refl refl refl)
+effect-account s pid Exit h = silent s (exits s pid).state pid Exit what.Done refl tt refl (λ h. cc) refl refl refl refl refl
 
 -- and a stall, which ends all that wait
 
@@ -277,6 +334,9 @@ stalled_account s pid step c a =
       placed = a.placed;
       ends = all_append EndsWell a.ended parts.ended a.ends (all_more (λ x. x.what ≡ what.Stalled) EndsWell parts.ended (λ x. stalled_well x) parts.each);
       leaves = λ h. leave-join a.ended parts.ended (with_caller s.parked pid step a.answer) c.state.parked [] (a.leaves h) parts.leaves;
+      fewer = fewer-none (with_caller s.parked pid step a.answer);
+      blocked = a.blocked;
+      sound = λ sound p d names e. port-fewer p d [] c.state.parked (fewer-none c.state.parked) (a.sound sound p d names e);
       does = λ sound.
           let none : ended_deeds (a.ended ++ parts.ended) ≡ ended_deeds a.ended =
           filter_map-append (λ (x : Ended). of_what deed_of x.call.cases x.what) a.ended parts.ended ∙ rw (stalled_deeds parts.ended parts.each) (append-nil (ended_deeds a.ended)) in
@@ -295,15 +355,16 @@ pub fault_names_none : (step : Step) (f : Fault) → port_touched_by step (what.
 fault_names_none (Make cap) f = refl
 fault_names_none step f = refl
 
-answers_account : (s : State) (e : Entry) (o : Option Fault) → o ≡ fault_of s e.step → Account s e.pid e.step (answers s e o)
-answers_account s e None is =
+pub answers-account : (s : State) (e : Entry) (o : Option Fault) → o ≡ fault_of s e.step → Account s e.pid e.step (answers s e o)
+answers-account s e None is =
     let a = effect-account s e.pid e.step (sym is) in
     by-stall (λ (d : Change). Account s e.pid e.step d) (effect s e.pid e.step) (stalled_account s e.pid e.step (effect s e.pid e.step) a) a
-answers_account s e (Some f) is = alone s s e.pid e.step (what.Fault f) (journaled s e.step f (sym is)) tt refl refl (rw (exits_clear s e.step f (sym is)) (sym (append-nil s.gone))) (λ sound. idle (fault_names_none e.step f) refl refl)
+answers-account s e (Some f) is =
+    silent s s e.pid e.step (what.Fault f) (journaled s e.step f (sym is)) tt refl (λ h. cc) refl (rw (exits_clear s e.step f (sym is)) (sym (append-nil s.gone))) refl (fault_names_none e.step f) refl
 
 -- an admitted entry, in any state
 pub turn-account : (s : State) (e : Entry) → Account s e.pid e.step (turn s e)
-turn-account s e = answers_account s e (fault_of s e.step) refl
+turn-account s e = answers-account s e (fault_of s e.step) refl
 
 -- in the words of the laws
 ended_ends : (xs : List Ended) → AllByRecursion EndsWell xs → AllByRecursion (λ x. ends_waiting x.what ≡ true) (events_of xs)

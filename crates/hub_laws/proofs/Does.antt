@@ -116,3 +116,9 @@ pub does-few : (cs ts : List Channel) (named : Option Port) (deeds : List Deed) 
 does-few cs ts named deeds (idle none same e) few = rw same few
 does-few cs ts named deeds (adds cap room names same e) few = omega (arith, room, ap length same, length-append cs (fresh cap ∷ []))
 does-few cs ts named deeds (wrote q c d names w m) few = omega (arith, few, w.ports)
+
+-- and none is lost
+pub does-grows : (cs ts : List Channel) (named : Option Port) (deeds : List Deed) → Does cs ts named deeds → length cs ≤ length ts
+does-grows cs ts named deeds (idle none same e) = omega (arith, ap length same)
+does-grows cs ts named deeds (adds cap room names same e) = omega (arith, ap length same, length-append cs (fresh cap ∷ []))
+does-grows cs ts named deeds (wrote q c d names w m) = omega (arith, w.ports)

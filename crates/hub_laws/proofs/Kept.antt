@@ -1,15 +1,22 @@
--- Soundness, where calls end and one channel is written.
-use Rattle.std.proofs.Common.{◌≡◌, ℕ, ◌-◌, ◌==◌, Bool, true, false, cond, List, [], length, refl, subst, Some, None, inl, inr}
-use Rattle.std.specs.Prelude.{slice_get}
-use Rattle.std.proofs.Math.ListN.{length-set}
-use Rattle.std.proofs.lemmas.Bool.{false_from_ne_true}
+-- Soundness of one port: where calls end or wait, and after each thing that a step does to its channel.
+use Rattle.std.proofs.Common.{◌≡◌, ℕ, ◌+◌, ◌-◌, ◌<◌, ◌==◌, nat_lt, Bool, true, false, cond, not, List, [], ◌∷◌, ◌++◌, length, filter, refl, ◌∙◌, sym, Some, None, inl, inr, arith, ◌||◌}
+use Rattle.std.specs.Prelude.{slice_get, is_some}
+use Rattle.std.specs.List.{list_any, AllByRecursion}
+use Rattle.std.proofs.lemmas.Grind.{common_steps}
+use Rattle.std.proofs.lemmas.Bool.{or_left, or_right, or_parts, or_from, or_cases, false_from_ne_true, eqb-true, ltb-false, lt-ltb}
 use Rattle.hub_base.specs.declared.value.Port.{Port}
+use Rattle.hub_base.specs.declared.value.Pid.{Pid}
+use Rattle.hub_base.specs.declared.value.Value.{Value}
 use Rattle.hub_base.specs.declared.case.Case.{Case}
-use Rattle.hub_base.specs.State.{State, Channel, OpenCall, channel_at, with_channel, opening}
-use Rattle.hub_base.specs.Ready.{is_send_on, is_recv_on}
-use Rattle.hub_laws.specs.Sound.{some_call, PortSound, IsSound}
-use Rattle.hub_laws.proofs.Calls.{Fewer}
-use Rattle.hub_laws.proofs.Ports.{set_port}
+use Rattle.hub_base.specs.declared.case.Case.TheVariants.{Send, Recv}
+use Rattle.hub_base.specs.State.{State, Channel, OpenCall, channel_at, opening}
+use Rattle.hub_base.specs.Ready.{is_send_on, is_recv_on, is_on, can_proceed, port_of, first_with}
+use Rattle.hub_base.specs.Steps.{sent, received, shut}
+use Rattle.hub_laws.specs.Sound.{some_call, Alone, CallFits, PortSound, IsSound}
+use Rattle.hub_laws.proofs.Calls.{Fewer, fewer-filter, first-some, any_snoc, alone_snoc}
+use Rattle.hub_laws.proofs.Deeds.{fresh}
+use Rattle.hub_laws.proofs.Fires.{longer}
+use Rattle.hub_laws.proofs.Ready.{no_recv, no_send}
 
 -- at the opening
 pub sound-opening : (n : ℕ) → IsSound (opening n)
@@ -33,26 +40,130 @@ port-fewer p c kept calls fewer f = record {
   alone = fewer.alone p f.alone;
 }
 
--- calls end, and no channel is written
-pub sound-fewer : (s : State) (kept : List OpenCall) → IsSound s → Fewer kept s.parked → IsSound (record s { parked = kept })
-sound-fewer s kept sound fewer = record {
-  apart = fewer.apart sound.apart;
-  present = λ q h. sound.present q (fewer.among q h);
-  calls = fewer.each (length s.channels) sound.calls;
-  ports = λ p c e. port-fewer p c kept s.parked fewer (sound.ports p c e);
+-- a value that goes through
+pub port-through : (p : Port) (v : Value) (c : Channel) (calls : List OpenCall) → PortSound p c calls → c.closed ≡ false → PortSound p (received (sent v c)) calls
+port-through p v c calls f live = record {
+  taken = omega (arith, f.taken, longer v c);
+  fits = omega (arith, f.fits, longer v c);
+  receivers = λ h. let r = f.receivers h in omega (arith, longer v c);
+  senders = λ h. let r = f.senders h in omega (arith, longer v c);
+  ended = λ h. absurd (let g : c.closed ≡ true = h in cc);
+  alone = f.alone;
 }
 
--- calls end, and the channel of p is written
-pub sound-written : (s : State) (kept : List OpenCall) (p : Port) (c d : Channel) → IsSound s → Fewer kept s.parked → channel_at s p ≡ Some c → PortSound p d kept →
-    IsSound (with_channel (record s { parked = kept }) p d)
-sound-written s kept p c d sound fewer e fine =
-    let t : State = with_channel (record s { parked = kept }) p d in
+-- a value that goes into the buffer
+pub port-sent : (p : Port) (v : Value) (c : Channel) (calls : List OpenCall) → PortSound p c calls → c.closed ≡ false → some_call (is_recv_on p) calls ≡ false → length c.done < c.taken + c.cap → PortSound p (sent v c) calls
+port-sent p v c calls f live none room = record {
+  taken = omega (arith, f.taken, longer v c);
+  fits = omega (arith, longer v c);
+  receivers = λ h. absurd (let g : some_call (is_recv_on p) calls ≡ true = h in cc);
+  senders = λ h. let r = f.senders h in absurd (omega arith);
+  ended = λ h. absurd (let g : c.closed ≡ true = h in cc);
+  alone = f.alone;
+}
+
+-- a value that comes out of the buffer
+pub port-received : (p : Port) (c : Channel) (calls : List OpenCall) → PortSound p c calls → some_call (is_send_on p) calls ≡ false → c.taken < length c.done → PortSound p (received c) calls
+port-received p c calls f none some = record {
+  taken = omega arith;
+  fits = omega (arith, f.fits);
+  receivers = λ h. let r = f.receivers h in absurd (omega arith);
+  senders = λ h. absurd (let g : some_call (is_send_on p) calls ≡ true = h in cc);
+  ended = f.ended;
+  alone = f.alone;
+}
+
+pub room_by : (x y : Bool) (c : Channel) → x ≡ false → y ≡ false → (x || y || nat_lt (length c.done - c.taken) c.cap) ≡ true → length c.done < c.taken + c.cap
+room_by true y c d e h = cc
+room_by false true c d e h = cc
+room_by false false c d e h = grind (arith, common_steps)
+
+-- a call that waits
+
+or3_none : (x y z : Bool) → (x || y || z) ≡ false → (x ≡ false) × (y ≡ false) × (z ≡ false)
+or3_none true y z e = cc
+or3_none false true z e = cc
+or3_none false false z e = (refl, refl, e)
+
+pub port-parks : (s : State) (pid : Pid) (cases : List Case) (p : Port) (c : Channel) → channel_at s p ≡ Some c → list_any (can_proceed s) cases ≡ false → PortSound p c s.parked → PortSound p c (s.parked ++ record { pid = pid; cases = cases } ∷ [])
+port-parks s pid cases p c e none f =
+    let recvs = any_snoc (λ call. list_any (is_recv_on p) call.cases) s.parked (record { pid = pid; cases = cases }) in
+    let sends = any_snoc (λ call. list_any (is_send_on p) call.cases) s.parked (record { pid = pid; cases = cases }) in
+    -- what the test said of a receive, and of a send
+    let recv = λ (h : list_any (is_recv_on p) cases ≡ true). or3_none (is_some (first_with (is_send_on p) s.parked)) (nat_lt c.taken (length c.done)) c.closed (no_recv s p c cases e none h) in
+    let send = λ (h : list_any (is_send_on p) cases ≡ true). or3_none c.closed (is_some (first_with (is_recv_on p) s.parked)) (nat_lt (length c.done - c.taken) c.cap) (no_send s p c cases e none h) in
     record {
-      apart = fewer.apart sound.apart;
-      present = λ q h. sound.present q (fewer.among q h);
-      calls = rw length-set (fewer.each (length s.channels) sound.calls);
-      ports = λ q x h. elim (set_port s t p q c d x refl e h) [
-        | inl l ↦ let P : Port → Type 0 = λ r. PortSound r x kept in subst P l.0 (rw l.1 fine)
-        | inr r ↦ port-fewer q x kept s.parked fewer (sound.ports q x r.1)
-      ];
+      taken = f.taken;
+      fits = f.fits;
+      receivers = λ h. elim (or_cases (some_call (is_recv_on p) s.parked) (list_any (is_recv_on p) cases) (sym recvs ∙ h)) [ inl l ↦ f.receivers l | inr r ↦ omega (arith, f.taken, ltb-false c.taken (length c.done) (recv r).1) ];
+      senders = λ h. elim (or_cases (some_call (is_send_on p) s.parked) (list_any (is_send_on p) cases) (sym sends ∙ h)) [ inl l ↦ f.senders l | inr r ↦ omega (arith, f.fits, f.taken, ltb-false (length c.done - c.taken) c.cap (send r).2) ];
+      ended = λ h. (
+        recvs ∙ or_from (some_call (is_recv_on p) s.parked) (list_any (is_recv_on p) cases) (f.ended h).0 (false_from_ne_true (list_any (is_recv_on p) cases) (λ r. let g = (recv r).2 in cc)),
+        sends ∙ or_from (some_call (is_send_on p) s.parked) (list_any (is_send_on p) cases) (f.ended h).1 (false_from_ne_true (list_any (is_send_on p) cases) (λ r. let g = (send r).0 in cc)),
+      );
+      alone = alone_snoc p s.parked (record { pid = pid; cases = cases }) f.alone (λ r. sym (first-some (is_send_on p) s.parked) ∙ (recv r).0) (λ r. sym (first-some (is_recv_on p) s.parked) ∙ (send r).1);
+    }
+
+-- a close
+
+pub any_more : {A : Type 0} (t u : A → Bool) (xs : List A) → ((x : A) → t x ≡ true → u x ≡ true) → list_any t xs ≡ true → list_any u xs ≡ true
+any_more t u [] imp e = e
+any_more t u (x ∷ xs) imp e = elim (or_cases (t x) (list_any t xs) e) [ inl l ↦ or_left (u x) (list_any u xs) (imp x l) | inr r ↦ or_right (u x) (list_any u xs) (any_more t u xs imp r) ]
+
+gone_by : (b : Bool) (t u : Case → Bool) (call : OpenCall) (rest : List OpenCall) → b ≡ list_any u call.cases → ((c : Case) → t c ≡ true → u c ≡ true) → some_call t rest ≡ false → some_call t (cond (not b) (call ∷ rest) rest) ≡ false
+gone_by true t u call rest is imp e = e
+gone_by false t u call rest is imp e = or_from (list_any t call.cases) (some_call t rest) (false_from_ne_true (list_any t call.cases) (λ h. let g = any_more t u call.cases imp h in cc)) e
+
+-- a close leaves no such call
+gone_on : (t u : Case → Bool) (calls : List OpenCall) → ((c : Case) → t c ≡ true → u c ≡ true) → some_call t (filter (λ call. not (list_any u call.cases)) calls) ≡ false
+gone_on t u [] imp = refl
+gone_on t u (call ∷ calls) imp = gone_by (list_any u call.cases) t u call (filter (λ call. not (list_any u call.cases)) calls) refl imp (gone_on t u calls imp)
+
+pub port-shut : (p : Port) (c : Channel) (calls : List OpenCall) → PortSound p c calls → PortSound p (shut c) (filter (λ call. not (list_any (is_on p) call.cases)) calls)
+port-shut p c calls f =
+    let kept : List OpenCall = filter (λ call. not (list_any (is_on p) call.cases)) calls in
+    let recvs : some_call (is_recv_on p) kept ≡ false = gone_on (is_recv_on p) (is_on p) calls (λ k e. or_right (is_send_on p k) (is_recv_on p k) e) in
+    let sends : some_call (is_send_on p) kept ≡ false = gone_on (is_send_on p) (is_on p) calls (λ k e. or_left (is_send_on p k) (is_recv_on p k) e) in
+    record {
+      taken = f.taken;
+      fits = f.fits;
+      receivers = λ h. absurd (let g : some_call (is_recv_on p) kept ≡ true = h in cc);
+      senders = λ h. absurd (let g : some_call (is_send_on p) kept ≡ true = h in cc);
+      ended = λ h. (recvs, sends);
+      alone = (fewer-filter (λ call. not (list_any (is_on p) call.cases)) calls).alone p f.alone;
+    }
+
+-- a make
+
+-- nobody waits on a port that was not made
+unmade : (n : ℕ) (t : Case → Bool) (calls : List OpenCall) → AllByRecursion (CallFits n) calls → ((c : Case) → t c ≡ true → nat_lt n (port_of c).0 ≡ true) → some_call t calls ≡ false
+unmade n t [] a imp = refl
+unmade n t (call ∷ calls) a imp = or_from (list_any t call.cases) (some_call t calls) (false_from_ne_true (list_any t call.cases) (λ h. let g = any_more t (λ c. nat_lt n (port_of c).0) call.cases imp h in let k = a.0.made in cc)) (unmade n t calls a.1 imp)
+
+alone-none : (p : Port) (calls : List OpenCall) → some_call (is_recv_on p) calls ≡ false → some_call (is_send_on p) calls ≡ false → Alone p calls
+alone-none p [] r w = tt
+alone-none p (call ∷ calls) r w =
+    let r' = or_parts (list_any (is_recv_on p) call.cases) (some_call (is_recv_on p) calls) r in
+    let w' = or_parts (list_any (is_send_on p) call.cases) (some_call (is_send_on p) calls) w in
+    (λ e. w'.1, λ e. r'.1, alone-none p calls r'.1 w'.1)
+
+recv_unmade : (n : ℕ) (p : Port) (c : Case) → n < p.0 → is_recv_on p c ≡ true → nat_lt n (port_of c).0 ≡ true
+recv_unmade n p (Send q v) h e = cc
+recv_unmade n p (Recv q) h e = lt-ltb n q.0 (let g = eqb-true q.0 p.0 e in omega arith)
+
+send_unmade : (n : ℕ) (p : Port) (c : Case) → n < p.0 → is_send_on p c ≡ true → nat_lt n (port_of c).0 ≡ true
+send_unmade n p (Recv q) h e = cc
+send_unmade n p (Send q v) h e = lt-ltb n q.0 (let g = eqb-true q.0 p.0 e in omega arith)
+
+pub port-fresh : (s : State) (q : Port) (cap : ℕ) → IsSound s → q.0 ≡ length s.channels + 1 → PortSound q (fresh cap) s.parked
+port-fresh s q cap sound new =
+    let recvs : some_call (is_recv_on q) s.parked ≡ false = unmade (length s.channels) (is_recv_on q) s.parked sound.calls (λ c. recv_unmade (length s.channels) q c (omega (arith, new))) in
+    let sends : some_call (is_send_on q) s.parked ≡ false = unmade (length s.channels) (is_send_on q) s.parked sound.calls (λ c. send_unmade (length s.channels) q c (omega (arith, new))) in
+    record {
+      taken = omega arith;
+      fits = omega arith;
+      receivers = λ e. refl;
+      senders = λ e. absurd (let g : some_call (is_send_on q) s.parked ≡ true = e in cc);
+      ended = λ e. (recvs, sends);
+      alone = alone-none q s.parked recvs sends;
     }

@@ -1,132 +1,69 @@
--- Each rule of a step keeps soundness.
-use Rattle.std.proofs.Common.{◌≡◌, ℕ, ◌+◌, ◌-◌, ◌%◌, ◌<◌, ◌≤◌, ◌==◌, nat_lt, Bool, true, false, cond, not, List, [], ◌∷◌, ◌++◌, length, filter, refl, ◌∙◌, sym, subst, Option, Some, None, arith, inl, inr, ◌||◌}
-use Rattle.std.specs.Prelude.{slice_get, is_some}
-use Rattle.std.specs.List.{list_any, AllByRecursion}
-use Rattle.std.specs.Option.{option_map_or}
-use Rattle.std.proofs.lemmas.List.{length-append}
-use Rattle.std.proofs.lemmas.Bool.{or_left, or_right, or_parts, or_from, or_cases, false_from_ne_true, eqb-true, ltb-true, ltb-false, lt-ltb}
-use Rattle.hub_laws.proofs.Branches.{by-stall}
-use Rattle.hub_laws.proofs.Calls.{all_more}
+-- Each admitted entry keeps soundness.
+use Rattle.std.proofs.Common.{◌≡◌, ℕ, ◌≤◌, ◌<◌, ◌==◌, nat_lt, Bool, true, false, cond, List, [], ◌∷◌, ◌++◌, length, refl, ap, ◌∙◌, sym, subst, Option, Some, None, arith, inl, inr}
+use Rattle.std.specs.List.{list_any}
+use Rattle.std.proofs.lemmas.List.Folds.{list_any-append}
+use Rattle.std.proofs.lemmas.Bool.{or_from, or_cases, false_from_ne_true, eqb-true, ltb-true, ltb-false, lt-ltb}
 use Rattle.hub_base.specs.declared.value.Port.{Port}
 use Rattle.hub_base.specs.declared.value.Pid.{Pid}
-use Rattle.hub_base.specs.declared.case.Case.{Case}
-use Rattle.hub_base.specs.declared.case.Case.TheVariants.{Send, Recv}
 use Rattle.hub_base.specs.declared.entry.Step.{Step}
-use Rattle.hub_base.specs.declared.entry.Step.TheVariants.{Make, Call, Close, Exit}
+use Rattle.hub_base.specs.declared.entry.Step.TheVariants.{Call, Exit}
 use Rattle.hub_base.specs.declared.entry.Entry.{Entry}
+use Rattle.hub_base.specs.declared.event.What.{What}
+use Rattle.hub_base.specs.declared.event.What.TheVariants as what
 use Rattle.hub_base.specs.declared.fault.Fault.{Fault}
 use Rattle.hub_base.specs.declared.fault.Fault.TheVariants as fault
+use Rattle.hub_base.specs.Reading.{is_exit}
 use Rattle.hub_base.specs.State.{State, Channel, OpenCall, channel_at, opening}
-use Rattle.hub_base.specs.Ready.{is_send_on, is_recv_on, is_on, can_proceed, send_can, ready, port_of, first_with}
-use Rattle.hub_base.specs.Steps.{refusal, has_gone, is_waiting, is_unmade, fires, proceeds, chooses, calls, waits, closes, makes, exits, effect, stalls, Change, shut, fault_of, answers}
+use Rattle.hub_base.specs.Ready.{can_proceed, port_of}
+use Rattle.hub_base.specs.Steps.{refusal, has_gone, is_waiting, is_unmade, effect, Change, fault_of, answers}
 use Rattle.hub_base.specs.Runs.{admits, moves, state_after, state}
-use Rattle.hub_laws.specs.Sound.{some_call, Alone, CallFits, PortSound, IsSound}
-use Rattle.hub_laws.proofs.Calls.{Fewer, fewer-filter, fewer-none, first-some, any_snoc, all_snoc, apart_snoc, alone_snoc}
-use Rattle.hub_laws.proofs.Ports.{new_port}
-use Rattle.hub_laws.proofs.Kept.{sound-written, sound-fewer, sound-opening}
-use Rattle.hub_laws.proofs.Fires.{send-sound, recv-sound}
-use Rattle.hub_laws.proofs.Ready.{ready_none, none_can, chosen, no_recv, no_send, Admitted, admitted, none_false}
+use Rattle.hub_base.specs.Values.{cases_or}
+use Rattle.hub_laws.specs.Answers.{is_answer_to}
+use Rattle.hub_laws.specs.OnePort.{port_touched_by, is_port}
+use Rattle.hub_laws.specs.Replies.{is_parked}
+use Rattle.hub_laws.specs.Sound.{is_among, CallFits, PortSound, IsSound}
+use Rattle.hub_laws.proofs.Account.{Account, NamedSound, answers-account, call_of, deeds_of, effect-account, leavers, with_caller}
+use Rattle.hub_laws.proofs.Calls.{Fewer, all_more, all_snoc, any_snoc, apart_snoc}
+use Rattle.hub_laws.proofs.Deeds.{Deed, at}
+use Rattle.hub_laws.proofs.Does.{does-grows, does-others}
+use Rattle.hub_laws.proofs.Kept.{any_more, port-fewer, port-parks, sound-opening}
+use Rattle.hub_laws.proofs.Ports.{same_port}
+use Rattle.hub_laws.proofs.Ready.{Admitted, admitted, none_false}
 
--- A call that parks
+-- The caller's call, where it waits
 
-or3_none : (x y z : Bool) → (x || y || z) ≡ false → (x ≡ false) × (y ≡ false) × (z ≡ false)
-or3_none true y z e = cc
-or3_none false true z e = cc
-or3_none false false z e = (refl, refl, e)
+fitting : (s : State) (pid : Pid) (step : Step) → fault_of s step ≡ None → CallFits (length s.channels) (call_of pid step)
+fitting s pid (Call cases default word) h =
+    let a = none_false (nat_lt 8 (length cases.items)) fault.TooManyCases (cond (list_any (λ c. is_unmade s (port_of c)) cases.items) (Some fault.NoPort) None) h in
+    let b = none_false (list_any (λ c. is_unmade s (port_of c)) cases.items) fault.NoPort None a.1 in
+    record { few = ltb-false 8 (length cases.items) a.0; made = b.0 }
+fitting s pid step h = record { few = omega arith; made = refl }
 
-park_port : (s : State) (pid : Pid) (cases : List Case) (p : Port) (c : Channel) → channel_at s p ≡ Some c → list_any (can_proceed s) cases ≡ false → PortSound p c s.parked → PortSound p c (s.parked ++ record { pid = pid; cases = cases } ∷ [])
-park_port s pid cases p c e none f =
-    let recvs = any_snoc (λ call. list_any (is_recv_on p) call.cases) s.parked (record { pid = pid; cases = cases }) in
-    let sends = any_snoc (λ call. list_any (is_send_on p) call.cases) s.parked (record { pid = pid; cases = cases }) in
-    -- what the test said of a receive, and of a send
-    let recv = λ (h : list_any (is_recv_on p) cases ≡ true). or3_none (is_some (first_with (is_send_on p) s.parked)) (nat_lt c.taken (length c.done)) c.closed (no_recv s p c cases e none h) in
-    let send = λ (h : list_any (is_send_on p) cases ≡ true). or3_none c.closed (is_some (first_with (is_recv_on p) s.parked)) (nat_lt (length c.done - c.taken) c.cap) (no_send s p c cases e none h) in
-    record {
-      taken = f.taken;
-      fits = f.fits;
-      receivers = λ h. elim (or_cases (some_call (is_recv_on p) s.parked) (list_any (is_recv_on p) cases) (sym recvs ∙ h)) [ inl l ↦ f.receivers l | inr r ↦ omega (arith, f.taken, ltb-false c.taken (length c.done) (recv r).1) ];
-      senders = λ h. elim (or_cases (some_call (is_send_on p) s.parked) (list_any (is_send_on p) cases) (sym sends ∙ h)) [ inl l ↦ f.senders l | inr r ↦ omega (arith, f.fits, f.taken, ltb-false (length c.done - c.taken) c.cap (send r).2) ];
-      ended = λ h. (
-        recvs ∙ or_from (some_call (is_recv_on p) s.parked) (list_any (is_recv_on p) cases) (f.ended h).0 (false_from_ne_true (list_any (is_recv_on p) cases) (λ r. let g = (recv r).2 in cc)),
-        sends ∙ or_from (some_call (is_send_on p) s.parked) (list_any (is_send_on p) cases) (f.ended h).1 (false_from_ne_true (list_any (is_send_on p) cases) (λ r. let g = (send r).0 in cc)),
-      );
-      alone = alone_snoc p s.parked (record { pid = pid; cases = cases }) f.alone (λ r. sym (first-some (is_send_on p) s.parked) ∙ (recv r).0) (λ r. sym (first-some (is_recv_on p) s.parked) ∙ (send r).1);
-    }
-
-pub park-sound : (s : State) (pid : Pid) (cases : List Case) → IsSound s → Admitted s pid → CallFits (length s.channels) (record { pid = pid; cases = cases }) → list_any (can_proceed s) cases ≡ false →
-    IsSound (record s { parked = s.parked ++ record { pid = pid; cases = cases } ∷ [] })
-park-sound s pid cases sound adm fits none = record {
-  apart = apart_snoc s.parked (record { pid = pid; cases = cases }) sound.apart adm.free;
-  present = λ q h. elim (or_cases (is_waiting s q) (pid.0 == q) (sym (any_snoc (λ call. call.pid.0 == q) s.parked (record { pid = pid; cases = cases })) ∙ h)) [
+parks_sound : (s : State) (call : OpenCall) → IsSound s → Admitted s call.pid → CallFits (length s.channels) call → list_any (can_proceed s) call.cases ≡ false →
+    IsSound (record s { parked = s.parked ++ call ∷ [] })
+parks_sound s call sound adm fits none = record {
+  apart = apart_snoc s.parked call sound.apart adm.free;
+  present = λ q h. elim (or_cases (is_waiting s q) (call.pid.0 == q) (sym (any_snoc (λ call. call.pid.0 == q) s.parked call) ∙ h)) [
     | inl l ↦ sound.present q l
-    | inr r ↦ let P : ℕ → Type 0 = λ n. (n < s.procs) × (has_gone s n ≡ false) in subst P (eqb-true pid.0 q r) (adm.below, adm.here)
+    | inr r ↦ let P : ℕ → Type 0 = λ n. (n < s.procs) × (has_gone s n ≡ false) in subst P (eqb-true call.pid.0 q r) (adm.below, adm.here)
   ];
-  calls = all_snoc (CallFits (length s.channels)) s.parked (record { pid = pid; cases = cases }) sound.calls fits;
-  ports = λ p c e. park_port s pid cases p c e none (sound.ports p c e);
+  calls = all_snoc (CallFits (length s.channels)) s.parked call sound.calls fits;
+  ports = λ p c e. port-parks s call.pid call.cases p c e none (sound.ports p c e);
 }
 
--- A call
+caller_sound : (s : State) (pid : Pid) (step : Step) (w : What) → IsSound s → Admitted s pid → fault_of s step ≡ None → (is_parked w ≡ true → list_any (can_proceed s) (cases_or step []) ≡ false) →
+    IsSound (record s { parked = with_caller s.parked pid step w })
+caller_sound s pid step w sound adm h blocked = by (is_parked w) refl
+  where
+    by : (b : Bool) → b ≡ is_parked w → IsSound (record s { parked = cond b (s.parked ++ call_of pid step ∷ []) s.parked })
+    by true is = parks_sound s (call_of pid step) sound adm (fitting s pid step h) (blocked (sym is))
+    by false is = sound
 
-fires_send : (s : State) (pid : Pid) (i : ℕ) (p : Port) (v : _) (o : Option Channel) → IsSound s → o ≡ channel_at s p → can_proceed s (Send p v) ≡ true → IsSound (proceeds s pid i (fires s (Send p v) o)).state
-fires_send s pid i p v None sound is can = sound
-fires_send s pid i p v (Some c) sound is can = send-sound s p v c sound (sym is) (let g : option_map_or (send_can s p) (channel_at s p) false ≡ true = can in rw (sym is) at g)
-
-fires_recv : (s : State) (pid : Pid) (i : ℕ) (p : Port) (o : Option Channel) → IsSound s → o ≡ channel_at s p → IsSound (proceeds s pid i (fires s (Recv p) o)).state
-fires_recv s pid i p None sound is = sound
-fires_recv s pid i p (Some c) sound is = recv-sound s p c sound (sym is)
-
-fires_sound : (s : State) (pid : Pid) (i : ℕ) (c : Case) → IsSound s → can_proceed s c ≡ true → IsSound (proceeds s pid i (fires s c (channel_at s (port_of c)))).state
-fires_sound s pid i (Send p v) sound can = fires_send s pid i p v (channel_at s p) sound refl can
-fires_sound s pid i (Recv p) sound can = fires_recv s pid i p (channel_at s p) sound refl
-
-chooses_sound : (s : State) (pid : Pid) (cases : List Case) (default : Bool) (o : Option (ℕ × Case)) → IsSound s → (o ≡ None → IsSound (waits s pid cases default).state) → ((x : ℕ × Case) → o ≡ Some x → can_proceed s x.1 ≡ true) →
-    IsSound (chooses s pid cases default o).state
-chooses_sound s pid cases default None sound none some = none refl
-chooses_sound s pid cases default (Some x) sound none some = fires_sound s pid x.0 x.1 sound (some x refl)
-
-waits_sound : (s : State) (pid : Pid) (cases : List Case) (default : Bool) → IsSound s → IsSound (record s { parked = s.parked ++ record { pid = pid; cases = cases } ∷ [] }) → IsSound (waits s pid cases default).state
-waits_sound s pid cases true sound parks = sound
-waits_sound s pid cases false sound parks = parks
-
-pub call-sound : (s : State) (pid : Pid) (cases : List Case) (default : Bool) (word : ℕ) → IsSound s → Admitted s pid → CallFits (length s.channels) (record { pid = pid; cases = cases }) → IsSound (calls s pid cases default word).state
-call-sound s pid cases default word sound adm fits =
-    chooses_sound s pid cases default (slice_get (ready s cases) (word % length (ready s cases))) sound
-    (λ h. waits_sound s pid cases default sound (park-sound s pid cases sound adm fits (none_can 0 (can_proceed s) cases (ready_none (ready s cases) word h))))
-    (λ x h. (chosen (can_proceed s) 0 (word % length (ready s cases)) cases x h).ready)
-
--- A close
-
-any_more : {A : Type 0} (t u : A → Bool) (xs : List A) → ((x : A) → t x ≡ true → u x ≡ true) → list_any t xs ≡ true → list_any u xs ≡ true
-any_more t u [] imp e = e
-any_more t u (x ∷ xs) imp e = elim (or_cases (t x) (list_any t xs) e) [ inl l ↦ or_left (u x) (list_any u xs) (imp x l) | inr r ↦ or_right (u x) (list_any u xs) (any_more t u xs imp r) ]
-
-gone_by : (b : Bool) (t u : Case → Bool) (call : OpenCall) (rest : List OpenCall) → b ≡ list_any u call.cases → ((c : Case) → t c ≡ true → u c ≡ true) → some_call t rest ≡ false → some_call t (cond (not b) (call ∷ rest) rest) ≡ false
-gone_by true t u call rest is imp e = e
-gone_by false t u call rest is imp e = or_from (list_any t call.cases) (some_call t rest) (false_from_ne_true (list_any t call.cases) (λ h. let g = any_more t u call.cases imp h in cc)) e
-
--- a close leaves no such call
-gone_on : (t u : Case → Bool) (calls : List OpenCall) → ((c : Case) → t c ≡ true → u c ≡ true) → some_call t (filter (λ call. not (list_any u call.cases)) calls) ≡ false
-gone_on t u [] imp = refl
-gone_on t u (call ∷ calls) imp = gone_by (list_any u call.cases) t u call (filter (λ call. not (list_any u call.cases)) calls) refl imp (gone_on t u calls imp)
-
-close-sound : (s : State) (pid : Pid) (p : Port) (o : Option Channel) → IsSound s → o ≡ channel_at s p → IsSound (closes s pid p o).state
-close-sound s pid p None sound is = sound
-close-sound s pid p (Some c) sound is =
-    let f = sound.ports p c (sym is) in
-    let kept : List OpenCall = filter (λ call. not (list_any (is_on p) call.cases)) s.parked in
-    let fewer : Fewer kept s.parked = fewer-filter (λ call. not (list_any (is_on p) call.cases)) s.parked in
-    let recvs : some_call (is_recv_on p) kept ≡ false = gone_on (is_recv_on p) (is_on p) s.parked (λ k e. or_right (is_send_on p k) (is_recv_on p k) e) in
-    let sends : some_call (is_send_on p) kept ≡ false = gone_on (is_send_on p) (is_on p) s.parked (λ k e. or_left (is_send_on p k) (is_recv_on p k) e) in
-    sound-written s kept p c (shut c) sound fewer (sym is) (record {
-      taken = f.taken;
-      fits = f.fits;
-      receivers = λ h. absurd (let g : some_call (is_recv_on p) kept ≡ true = h in cc);
-      senders = λ h. absurd (let g : some_call (is_send_on p) kept ≡ true = h in cc);
-      ended = λ h. (recvs, sends);
-      alone = fewer.alone p f.alone;
-    })
-
--- A make
+-- who exits does not wait
+exit_parks_none : (step : Step) (w : What) → is_exit step ≡ true → is_answer_to step w ≡ true → is_parked w ≡ false
+exit_parks_none Exit what.Parked e fits = absurd (let g : ⊥ = cc in g)
+exit_parks_none step what.Parked e fits = absurd (let g : ⊥ = cc in g)
+exit_parks_none step w e fits = refl
 
 fits_more : (n m : ℕ) (call : OpenCall) → n ≤ m → CallFits n call → CallFits m call
 fits_more n m call h f = record {
@@ -134,87 +71,57 @@ fits_more n m call h f = record {
   made = false_from_ne_true (list_any (λ c. nat_lt m (port_of c).0) call.cases) (λ e. let g = any_more (λ c. nat_lt m (port_of c).0) (λ c. nat_lt n (port_of c).0) call.cases (λ c e. lt-ltb n (port_of c).0 (omega (arith, h, ltb-true m (port_of c).0 e))) e in let k = f.made in cc);
 }
 
--- nobody waits on a port that was not made
-unmade : (n : ℕ) (t : Case → Bool) (calls : List OpenCall) → AllByRecursion (CallFits n) calls → ((c : Case) → t c ≡ true → nat_lt n (port_of c).0 ≡ true) → some_call t calls ≡ false
-unmade n t [] a imp = refl
-unmade n t (call ∷ calls) a imp = or_from (list_any t call.cases) (some_call t calls) (false_from_ne_true (list_any t call.cases) (λ h. let g = any_more t (λ c. nat_lt n (port_of c).0) call.cases imp h in let k = a.0.made in cc)) (unmade n t calls a.1 imp)
-
-alone-none : (p : Port) (calls : List OpenCall) → some_call (is_recv_on p) calls ≡ false → some_call (is_send_on p) calls ≡ false → Alone p calls
-alone-none p [] r w = tt
-alone-none p (call ∷ calls) r w =
-    let r' = or_parts (list_any (is_recv_on p) call.cases) (some_call (is_recv_on p) calls) r in
-    let w' = or_parts (list_any (is_send_on p) call.cases) (some_call (is_send_on p) calls) w in
-    (λ e. w'.1, λ e. r'.1, alone-none p calls r'.1 w'.1)
-
-recv_unmade : (n : ℕ) (p : Port) (c : Case) → n < p.0 → is_recv_on p c ≡ true → nat_lt n (port_of c).0 ≡ true
-recv_unmade n p (Send q v) h e = cc
-recv_unmade n p (Recv q) h e = lt-ltb n q.0 (let g = eqb-true q.0 p.0 e in omega arith)
-
-send_unmade : (n : ℕ) (p : Port) (c : Case) → n < p.0 → is_send_on p c ≡ true → nat_lt n (port_of c).0 ≡ true
-send_unmade n p (Recv q) h e = cc
-send_unmade n p (Send q v) h e = lt-ltb n q.0 (let g = eqb-true q.0 p.0 e in omega arith)
-
-make-sound : (s : State) (pid : Pid) (cap : ℕ) → IsSound s → IsSound (makes s pid cap).state
-make-sound s pid cap sound =
-    let d : Channel = record { cap = cap; closed = false; done = []; taken = 0 } in
-    let t : State = (makes s pid cap).state in
-    let len : length t.channels ≡ length s.channels + 1 = length-append s.channels (d ∷ []) in
-    record {
-      apart = sound.apart;
-      present = sound.present;
-      calls = all_more (CallFits (length s.channels)) (CallFits (length t.channels)) s.parked (λ call. fits_more (length s.channels) (length t.channels) call (omega (arith, len))) sound.calls;
-      ports = λ q x h. elim (new_port s t q d x refl h) [
-        | inl l ↦
-            let recvs : some_call (is_recv_on q) s.parked ≡ false = unmade (length s.channels) (is_recv_on q) s.parked sound.calls (λ c. recv_unmade (length s.channels) q c (omega (arith, l.0))) in
-            let sends : some_call (is_send_on q) s.parked ≡ false = unmade (length s.channels) (is_send_on q) s.parked sound.calls (λ c. send_unmade (length s.channels) q c (omega (arith, l.0))) in
-            rw l.1 (record {
-              taken = omega arith;
-              fits = omega arith;
-              receivers = λ e. refl;
-              senders = λ e. absurd (let g : some_call (is_send_on q) s.parked ≡ true = e in cc);
-              ended = λ e. (recvs, sends);
-              alone = alone-none q s.parked recvs sends;
-            })
-        | inr r ↦ sound.ports q x r
-      ];
-    }
-
--- An exit
-
-exit-sound : (s : State) (pid : Pid) → IsSound s → Admitted s pid → IsSound (exits s pid).state
-exit-sound s pid sound adm = record {
-  apart = sound.apart;
-  present = λ q h. (
-    (sound.present q h).0,
-    any_snoc (λ g. g.0 == q) s.gone pid ∙ or_from (has_gone s q) (pid.0 == q) (sound.present q h).1 (false_from_ne_true (pid.0 == q) (λ e.
-        let P : ℕ → Type 0 = λ n. is_waiting s n ≡ false in
-        let free : is_waiting s q ≡ false = subst P (eqb-true pid.0 q e) adm.free in cc)),
-  );
-  calls = sound.calls;
-  ports = sound.ports;
-}
-
--- A stall
-
-pub stalls-sound : (c : Change) → IsSound c.state → IsSound (stalls c).state
-stalls-sound c sound = by-stall (λ (d : Change). IsSound d.state) c (sound-fewer c.state [] sound (fewer-none c.state.parked)) sound
-
 -- A step
 
-fitting : (s : State) (pid : Pid) (cases : _) (default : Bool) (word : ℕ) → fault_of s (Call cases default word) ≡ None → CallFits (length s.channels) (record { pid = pid; cases = cases.items })
-fitting s pid cases default word h =
-    let a = none_false (nat_lt 8 (length cases.items)) fault.TooManyCases (cond (list_any (λ c. is_unmade s (port_of c)) cases.items) (Some fault.NoPort) None) h in
-    let b = none_false (list_any (λ c. is_unmade s (port_of c)) cases.items) fault.NoPort None a.1 in
-    record { few = ltb-false 8 (length cases.items) a.0; made = b.0 }
+-- none of those that wait then has exited
+none_left : (q : ℕ) (s : State) (pid : Pid) (step : Step) (w : What) → Admitted s pid → is_answer_to step w ≡ true → is_among q (with_caller s.parked pid step w) ≡ true →
+    has_gone s q ≡ false → list_any (λ g. g.0 == q) (s.gone ++ leavers pid step) ≡ false
+none_left q s pid step w adm fits among here =
+    list_any-append (λ (g : Pid). g.0 == q) s.gone (leavers pid step) ∙ or_from (has_gone s q) (list_any (λ (g : Pid). g.0 == q) (leavers pid step)) here (by (is_exit step) refl)
+  where
+    by : (b : Bool) → b ≡ is_exit step → list_any (λ (g : Pid). g.0 == q) (cond b (pid ∷ []) []) ≡ false
+    by false is = refl
+    by true is = or_from (pid.0 == q) false (false_from_ne_true (pid.0 == q) (λ m.
+        let waits : is_among q s.parked ≡ true = rw (exit_parks_none step w (sym is) fits) at among in
+        let free : is_waiting s q ≡ false = subst (λ (n : ℕ). is_waiting s n ≡ false) (eqb-true pid.0 q m) adm.free in
+        cc)) refl
+
+-- each port: the one that the answer names, or one that is as it was
+port_sound : (s t : State) (named : Option Port) (calls : List OpenCall) (p : Port) (x : Channel) → NamedSound named t.channels t.parked → ((p : Port) → is_port named p ≡ false → at t.channels p ≡ at s.channels p) →
+    ((c : Channel) → channel_at s p ≡ Some c → PortSound p c calls) → Fewer t.parked calls → channel_at t p ≡ Some x → PortSound p x t.parked
+port_sound s t named calls p x here others before fewer e = by named (is_port named p) refl refl
+  where
+    by : (o : Option Port) (b : Bool) → o ≡ named → b ≡ is_port o p → PortSound p x t.parked
+    by o false names is = port-fewer p x t.parked calls fewer (before x (sym (others p (ap (λ r. is_port r p) (sym names) ∙ sym is)) ∙ e))
+    by None true names is = cc
+    by (Some q) true names is = let same : q ≡ p = same_port q p (eqb-true q.0 p.0 (sym is)) in here p x (sym names ∙ ap (λ r. Some r) same) e
+
+account_sound : (s : State) (pid : Pid) (step : Step) (c : Change) → IsSound s → Admitted s pid → fault_of s step ≡ None → Account s pid step c → IsSound c.state
+account_sound s pid step c sound adm h a =
+    let named : Option Port = port_touched_by step a.answer in
+    let deeds : List Deed = deeds_of step a.answer a.ended in
+    let waiting : List OpenCall = with_caller s.parked pid step a.answer in
+    let before : IsSound (record s { parked = waiting }) = caller_sound s pid step a.answer sound adm h a.blocked in
+    let grows = does-grows s.channels c.state.channels named deeds (a.does sound) in
+    record {
+      apart = a.fewer.apart before.apart;
+      present = λ q w.
+          let there = before.present q (a.fewer.among q w) in
+          (
+            omega (arith, there.0, a.procs),
+            ap (λ xs. list_any (λ (g : Pid). g.0 == q) xs) a.gone ∙ none_left q s pid step a.answer adm a.fits (a.fewer.among q w) there.1,
+          );
+      calls =
+          all_more (CallFits (length s.channels)) (CallFits (length c.state.channels)) c.state.parked
+          (λ call. fits_more (length s.channels) (length c.state.channels) call grows) (a.fewer.each (length s.channels) before.calls);
+      ports = λ p x e. port_sound s c.state named waiting p x (a.sound sound) (does-others s.channels c.state.channels named deeds (a.does sound)) (before.ports p) a.fewer e;
+    }
 
 pub effect-sound : (s : State) (pid : Pid) (step : Step) → IsSound s → Admitted s pid → fault_of s step ≡ None → IsSound (effect s pid step).state
-effect-sound s pid (Make cap) sound adm h = make-sound s pid cap sound
-effect-sound s pid (Call cases default word) sound adm h = call-sound s pid cases.items default word sound adm (fitting s pid cases default word h)
-effect-sound s pid (Close p) sound adm h = close-sound s pid p (channel_at s p) sound refl
-effect-sound s pid Exit sound adm h = exit-sound s pid sound adm
+effect-sound s pid step sound adm h = account_sound s pid step (effect s pid step) sound adm h (effect-account s pid step h)
 
 answers_sound : (s : State) (e : Entry) (o : Option Fault) → IsSound s → Admitted s e.pid → o ≡ fault_of s e.step → IsSound (answers s e o).state
-answers_sound s e None sound adm is = stalls-sound (effect s e.pid e.step) (effect-sound s e.pid e.step sound adm (sym is))
+answers_sound s e None sound adm is = account_sound s e.pid e.step (answers s e None) sound adm (sym is) (answers-account s e None is)
 answers_sound s e (Some f) sound adm is = sound
 
 admits_sound : (s : State) (e : Entry) (o : Option Fault) → IsSound s → o ≡ refusal s e.pid → IsSound (admits s e o).state

@@ -194,8 +194,8 @@ module _ (s : State) (pid : Pid) (cases : List Case) (default : Bool) (word i : 
       meets (send_meets s p (sent v c) (Some x)).state (Send p v) Sent (outcome_of (next_value (sent v c))) (is_recv_on p) x c (received (sent v c)) mine (sym is) refl refl refl e
       (wrote-set s p c (received (sent v c)) e)
       (λ sound passes.
-          let w = next_sent s p v c sound e in
-          (hands v w.0 live w.1 refl (rw (is_recv p x.at.case passes, w.1) refl), λ fine. port-through p v c (without x.pid s.parked) fine live))
+      let w = next_sent s p v c sound e in
+      (hands v w.0 live w.1 refl (rw (is_recv p x.at.case passes, w.1) refl), λ fine. port-through p v c (without x.pid s.parked) fine live))
 
   takes_account : (p : Port) (c : Channel) (o : Option Value) → slice_get cases i ≡ Some (Recv p) → channel_at s p ≡ Some c → some_call (is_send_on p) s.parked ≡ false →
       o ≡ next_value c → Fires (recv_takes s p c [] o)
@@ -212,19 +212,19 @@ module _ (s : State) (pid : Pid) (cases : List Case) (default : Bool) (word i : 
       let d : Channel = with_sent x.at.case c in
       meets (with_channel (record s { parked = without x.pid s.parked }) p d) (Recv p) Drained Sent (is_send_on p) x c d mine is refl refl refl e (wrote-set s p c d e)
       (λ sound passes.
-          let u = is_send p x.at.case passes in
-          let w = next_sent s p u.0 c sound e in
-          let none : None ≡ next_value (sent u.0 c) = rw u.1 at after in
-          absurd (let g : ⊥ = cc in g))
+      let u = is_send p x.at.case passes in
+      let w = next_sent s p u.0 c sound e in
+      let none : None ≡ next_value (sent u.0 c) = rw u.1 at after in
+      absurd (let g : ⊥ = cc in g))
   fetches_account p c x (Some w) mine e is after =
       let d : Channel = received (with_sent x.at.case c) in
       meets (with_channel (record s { parked = without x.pid s.parked }) p d) (Recv p) (Got w) Sent (is_send_on p) x c d mine is refl refl refl e (wrote-set s p c d e)
       (λ sound passes.
-          let u = is_send p x.at.case passes in
-          let some : Some w ≡ next_value (sent u.0 c) = rw u.1 at after in
-          let waits : some_call (is_send_on p) s.parked ≡ true = sym (some_first (is_send_on p) s.parked (Some x) (sym is)) in
-          let live : c.closed ≡ false = false_from_ne_true c.closed (λ h. let g = ((sound.ports p c e).ended h).1 in cc) in
-          rw u.1 (fetches u.0 w live (sym some) refl refl, λ fine. port-through p u.0 c (without x.pid s.parked) fine live))
+      let u = is_send p x.at.case passes in
+      let some : Some w ≡ next_value (sent u.0 c) = rw u.1 at after in
+      let waits : some_call (is_send_on p) s.parked ≡ true = sym (some_first (is_send_on p) s.parked (Some x) (sym is)) in
+      let live : c.closed ≡ false = false_from_ne_true c.closed (λ h. let g = ((sound.ports p c e).ended h).1 in cc) in
+      rw u.1 (fetches u.0 w live (sym some) refl refl, λ fine. port-through p u.0 c (without x.pid s.parked) fine live))
 
   recv_account : (p : Port) (c : Channel) (o : Option Ending) → slice_get cases i ≡ Some (Recv p) → channel_at s p ≡ Some c → o ≡ first_with (is_send_on p) s.parked →
       Fires (recv_meets s p c o)
@@ -291,7 +291,7 @@ close_account s pid p (Some c) is h =
       fewer = fewer-filter (λ call. not (list_any (is_on p) call.cases)) s.parked;
       blocked = λ h. cc;
       sound = λ sound. named_sound (Some p) s.channels (slice_set s.channels (p.0 - 1) (shut c)) p c (shut c) (filter (λ call. not (list_any (is_on p) call.cases)) s.parked) refl
-      (wrote-set s p c (shut c) (sym is)) (port-shut p c s.parked (sound.ports p c (sym is)));
+          (wrote-set s p c (shut c) (sym is)) (port-shut p c s.parked (sound.ports p c (sym is)));
       does = λ sound. wrote p c (shut c) refl (wrote-set s p c (shut c) (sym is)) (shuts (none_false c.closed fault.AlreadyClosed None h).0 refl (closed_deeds p parts.ended parts.each));
       procs = refl;
       gone = sym (append-nil s.gone);

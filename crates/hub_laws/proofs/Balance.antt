@@ -64,6 +64,7 @@ caller_count q calls pid step w = by (is_parked w)
     snoc : (calls : List OpenCall) → open_calls q (calls ++ call_of pid step ∷ []) ≡ open_calls q calls + one (pid.0 == q)
     snoc [] = omega arith
     snoc (c ∷ cs) = omega (arith, snoc cs)
+
     by : (b : Bool) → one (not b && (pid.0 == q)) + open_calls q (cond b (calls ++ call_of pid step ∷ []) calls) ≡ open_calls q calls + one (pid.0 == q)
     by true = omega (arith, snoc calls)
     by false = omega arith

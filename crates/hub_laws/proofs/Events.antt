@@ -2,7 +2,7 @@
 use Rattle.std.proofs.Common.{◌≡◌, true, false, not, List, [], ◌∷◌, refl, ap}
 use Rattle.std.specs.List.{AllByRecursion}
 use Rattle.hub_base.specs.declared.entry.Step.{Step}
-use Rattle.hub_base.specs.declared.entry.Step.TheVariants.{Make, Call, Close, Exit}
+use Rattle.hub_base.specs.declared.entry.Step.TheVariants.{Make, Call}
 use Rattle.hub_base.specs.declared.entry.Entry.{Entry}
 use Rattle.hub_base.specs.declared.event.Event.{Event}
 use Rattle.hub_base.specs.declared.fault.Fault.{Fault}
@@ -16,30 +16,19 @@ use Rattle.hub_laws.specs.Replies.{is_parked}
 
 -- Events of an admitted entry count but for `Parked`
 
-pub fault_counts : (step : Step) (f : Fault) → is_fault_of step f ≡ true → is_busy f ≡ false
-fault_counts (Make cap) fault.Busy e = absurd (let g : ⊥ = cc in g)
-fault_counts (Call cases default word) fault.Busy e = absurd (let g : ⊥ = cc in g)
-fault_counts (Close p) fault.Busy e = absurd (let g : ⊥ = cc in g)
-fault_counts Exit fault.Busy e = absurd (let g : ⊥ = cc in g)
-fault_counts step f e = refl
-
 pub fault_admits : (step : Step) (f : Fault) → is_fault_of step f ≡ true → refuses_entry f ≡ false
-fault_admits step fault.NoProcess e = absurd (none step e)
-  where
-    none : (step : Step) → is_fault_of step fault.NoProcess ≡ true → ⊥
-    none (Make cap) e = cc
-    none (Call cases default word) e = cc
-    none (Close p) e = cc
-    none Exit e = cc
-fault_admits step fault.Gone e = absurd (none step e)
-  where
-    none : (step : Step) → is_fault_of step fault.Gone ≡ true → ⊥
-    none (Make cap) e = cc
-    none (Call cases default word) e = cc
-    none (Close p) e = cc
-    none Exit e = cc
-fault_admits step fault.Busy e = let h = fault_counts step fault.Busy e in cc
+fault_admits (Make cap) fault.NoProcess e = absurd (let g : ⊥ = cc in g)
+fault_admits step fault.NoProcess e = absurd (let g : ⊥ = cc in g)
+fault_admits step fault.Gone e = absurd (let g : ⊥ = cc in g)
+fault_admits step fault.Busy e = absurd (let g : ⊥ = cc in g)
 fault_admits step f e = refl
+
+fault_counts : (step : Step) (f : Fault) → is_fault_of step f ≡ true → is_busy f ≡ false
+fault_counts step f e = by f (fault_admits step f e)
+  where
+    by : (f : Fault) → refuses_entry f ≡ false → is_busy f ≡ false
+    by fault.Busy e = absurd (let g : ⊥ = cc in g)
+    by f e = refl
 
 abbrev pub Counted : Event → Type 0
 Counted x = counts x.what ≡ not (is_parked x.what)

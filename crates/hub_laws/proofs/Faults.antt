@@ -5,7 +5,7 @@ use Rattle.std.proofs.lemmas.Grind.{common_steps}
 use Rattle.hub_base.specs.declared.value.Port.{Port}
 use Rattle.hub_base.specs.declared.value.Pid.{Pid}
 use Rattle.hub_base.specs.declared.entry.Step.{Step}
-use Rattle.hub_base.specs.declared.entry.Step.TheVariants.{Make, Call, Close, Exit}
+use Rattle.hub_base.specs.declared.entry.Step.TheVariants.{Make, Call, Close}
 use Rattle.hub_base.specs.declared.fault.Fault.{Fault}
 use Rattle.hub_base.specs.declared.fault.Fault.TheVariants as fault
 use Rattle.hub_base.specs.State.{State, Channel, channel_at}
@@ -38,7 +38,7 @@ journaled s (Call cases default word) f e =
     or_fault (Journaled (Call cases default word)) (nat_lt 8 (length cases.items)) fault.TooManyCases f (cond (list_any (λ c. is_unmade s (port_of c)) cases.items) (Some fault.NoPort) None) refl
     (last_fault (Call cases default word) (list_any (λ c. is_unmade s (port_of c)) cases.items) fault.NoPort f refl) e
 journaled s (Close p) f e = or_fault (Journaled (Close p)) (is_unmade s p) fault.NoPort f (close_fault (channel_at s p)) refl (close_journaled p (channel_at s p) f) e
-journaled s Exit f e = absurd (let g : ⊥ = cc in g)
+journaled s step f e = absurd (let g : ⊥ = cc in g)
 
 -- Why an entry is not admitted
 

@@ -3,7 +3,7 @@ use Rattle.std.proofs.Common.{◌≡◌, ℕ, ◌+◌, ◌<◌, ◌≤◌, ◌==
 use Rattle.std.proofs.lemmas.List.{length-append}
 use Rattle.hub_base.specs.declared.value.Pid.{Pid}
 use Rattle.hub_base.specs.declared.entry.Step.{Step}
-use Rattle.hub_base.specs.declared.entry.Step.TheVariants.{Make, Call, Close, Exit}
+use Rattle.hub_base.specs.declared.entry.Step.TheVariants.{Exit}
 use Rattle.hub_base.specs.declared.entry.Entry.{Entry}
 use Rattle.hub_base.specs.declared.event.Event.{Event}
 use Rattle.hub_base.specs.declared.fault.Fault.{Fault}
@@ -109,10 +109,8 @@ until_most q s (e ∷ es) sound below here = until_by q s e es (refusal s e.pid)
 -- Runs
 
 call_stays : (step : Step) → is_call step ≡ true → is_exit step ≡ false
-call_stays (Make cap) e = refl
-call_stays (Call cases default word) e = refl
-call_stays (Close p) e = refl
 call_stays Exit e = absurd (let g : ⊥ = cc in g)
+call_stays step e = refl
 
 once_by : (s : State) (e : Entry) (es : List Entry) (o : Option Fault) → o ≡ refusal s e.pid → IsSound s → IsSound (admits s e o).state → is_call e.step ≡ true → was_admitted (admits s e o).events ≡ true →
     EndsOnce (endings e.pid.0 (admits s e o).events ++ endings_until e.pid.0 (turns_after (admits s e o).state es))

@@ -57,6 +57,7 @@ got_values p c d deeds (shuts live is all) = closing deeds all
     by : (k : Case) → value_of_outcome (closing_outcome k) ≡ None
     by (Send q v) = refl
     by (Recv q) = refl
+
     closing : (ds : List Deed) → AllByRecursion (IsClosing p) ds → picks (got_on p) ds ≡ values ds
     closing [] all = refl
     closing (x ∷ xs) all = rw (all.0.outcome, got_closing p x.case, by x.case) (closing xs all.1)

@@ -106,8 +106,7 @@ account_sound s pid step c sound adm h a =
     record {
       apart = a.fewer.apart before.apart;
       present = λ q w.
-          let there = before.present q (a.fewer.among q w) in
-          (
+          let there = before.present q (a.fewer.among q w) in (
             omega (arith, there.0, a.procs),
             ap (λ xs. list_any (λ (g : Pid). g.0 == q) xs) a.gone ∙ none_left q s pid step a.answer adm a.fits (a.fewer.among q w) there.1,
           );

@@ -5,7 +5,7 @@ use Rattle.std.proofs.lemmas.Bool.{or_cases, eqb-true}
 use Rattle.hub_base.specs.declared.value.Port.{Port}
 use Rattle.hub_base.specs.declared.value.Pid.{Pid}
 use Rattle.hub_base.specs.declared.entry.Step.{Step}
-use Rattle.hub_base.specs.declared.entry.Step.TheVariants.{Make, Call, Close, Exit}
+use Rattle.hub_base.specs.declared.entry.Step.TheVariants.{Call, Close}
 use Rattle.hub_base.specs.declared.entry.Entry.{Entry}
 use Rattle.hub_base.specs.declared.event.What.{What}
 use Rattle.hub_base.specs.declared.fault.Fault.{Fault}
@@ -59,10 +59,9 @@ closes_size s pid p (Some c) =
 
 -- before a stall, also where the step is a fault
 pub effect_size : (s : State) (pid : Pid) (step : Step) → IsSound s → Size s (effect s pid step)
-effect_size s pid (Make cap) sound = omega arith
 effect_size s pid (Call cases default word) sound = size s pid (Call cases default word) (calls s pid cases.items default word) sound.apart (calls-account s pid cases.items default word)
 effect_size s pid (Close p) sound = closes_size s pid p (channel_at s p)
-effect_size s pid Exit sound = omega arith
+effect_size s pid step sound = omega arith
 
 -- beside a caller that is admitted there is room for its call
 pub room-law : (s : State) (pid : Pid) → IsSound s → Admitted s pid → length s.parked < s.procs

@@ -93,8 +93,8 @@ turn_turn s e ts sound adm knows =
     let still : Knows now s.parked =
     knows_others (in_force ts) now e.pid.0 s.parked adm.free (λ pid d. last_call-snoc pid [] ts t ∙ latest_other pid (last_call pid [] ts) t d) knows in
     let all = account-all (λ call. now call.pid ≡ call.cases) s e.pid e.step (turn s e) sound.apart a still (λ parks.
-        let p = parked_call before e.step a.answer a.fits parks in
-        mine p.1 ∙ p.0) in
+    let p = parked_call before e.step a.answer a.fits parks in
+    mine p.1 ∙ p.0) in
     let deeds : told deed_of now (turn s e).events ≡ deeds_of e.step a.answer a.ended =
     ap (told deed_of now) a.told
     ∙ ap (λ d. cons_option d (told deed_of now (events_of a.ended))) (told_own (now e.pid) before e.step a.answer a.fits mine)

@@ -87,20 +87,22 @@ pub record Account (s : State) (pid : Pid) (step : Step) (c : Change) : Type 0 w
   pub gone : c.state.gone ≡ s.gone ++ leavers pid step
 
 -- what holds of the open calls, and of the caller's where it waits, holds of those that end and of those that wait then
-pub account-all : (P : OpenCall → Type 0) (s : State) (pid : Pid) (step : Step) (c : Change) → Apart s.parked → (a : Account s pid step c) →
-    AllByRecursion P s.parked → (is_parked a.answer ≡ true → P (call_of pid step)) →
+pub account-all : (P : OpenCall → Type 0) (s : State) (pid : Pid) (step : Step) (c : Change) → Apart s.parked →
+    (a : Account s pid step c) → AllByRecursion P s.parked → (is_parked a.answer ≡ true → P (call_of pid step)) →
     AllByRecursion (λ x. P x.call) a.ended × AllByRecursion P c.state.parked
 account-all P s pid step c apart a all new =
     leave-all P a.ended (with_caller s.parked pid step a.answer) c.state.parked (a.leaves apart) (by (is_parked a.answer) refl)
   where
-    by : (b : Bool) → b ≡ is_parked a.answer → AllByRecursion P (if b then s.parked ++ call_of pid step ∷ [] else s.parked)
+    by : (b : Bool) → b ≡ is_parked a.answer →
+        AllByRecursion P (if b then s.parked ++ call_of pid step ∷ [] else s.parked)
     by true is = all_snoc P s.parked (call_of pid step) all (new (sym is))
     by false is = all
 
 -- nobody ends
-alone : (s t : State) (pid : Pid) (step : Step) (answer : What) → is_answer_to step answer ≡ true → InPlace (cases_or step []) answer →
-    t.parked ≡ with_caller s.parked pid step answer → (is_parked answer ≡ true → list_any (can_proceed s) (cases_or step []) ≡ false) →
-    t.procs ≡ s.procs → t.gone ≡ s.gone ++ leavers pid step →
+alone : (s t : State) (pid : Pid) (step : Step) (answer : What) → is_answer_to step answer ≡ true →
+    InPlace (cases_or step []) answer → t.parked ≡ with_caller s.parked pid step answer →
+    (is_parked answer ≡ true → list_any (can_proceed s) (cases_or step []) ≡ false) → t.procs ≡ s.procs →
+    t.gone ≡ s.gone ++ leavers pid step →
     (IsSound s → Does s.channels t.channels (port_touched_by step answer) (deeds_of step answer [])) →
     (IsSound s → NamedSound (port_touched_by step answer) t.channels t.parked) →
     Account s pid step (record { state = t; events = tells pid answer ∷ [] })
@@ -121,15 +123,18 @@ alone s t pid step answer fits placed same blocked procs gone does sound = recor
 }
 
 -- and nobody has exited, and no channel is written
-silent : (s t : State) (pid : Pid) (step : Step) (answer : What) → is_answer_to step answer ≡ true → InPlace (cases_or step []) answer →
-    t.parked ≡ with_caller s.parked pid step answer → (is_parked answer ≡ true → list_any (can_proceed s) (cases_or step []) ≡ false) →
-    t.procs ≡ s.procs → t.gone ≡ s.gone ++ leavers pid step → t.channels ≡ s.channels → port_touched_by step answer ≡ None →
-    of_what deed_of (cases_or step []) answer ≡ None → Account s pid step (record { state = t; events = tells pid answer ∷ [] })
+silent : (s t : State) (pid : Pid) (step : Step) (answer : What) → is_answer_to step answer ≡ true →
+    InPlace (cases_or step []) answer → t.parked ≡ with_caller s.parked pid step answer →
+    (is_parked answer ≡ true → list_any (can_proceed s) (cases_or step []) ≡ false) → t.procs ≡ s.procs →
+    t.gone ≡ s.gone ++ leavers pid step → t.channels ≡ s.channels → port_touched_by step answer ≡ None →
+    of_what deed_of (cases_or step []) answer ≡ None →
+    Account s pid step (record { state = t; events = tells pid answer ∷ [] })
 silent s t pid step answer fits placed same blocked procs gone channels none quiet =
     alone s t pid step answer fits placed same blocked procs gone (λ sound. idle none channels (rw quiet refl)) (λ sound p c names e. absurd (let g : ⊥ = cc in g))
 
 -- the port that is written
-named_sound : (named : Option Port) (cs ts : List Channel) (p : Port) (c d : Channel) (calls : List OpenCall) → named ≡ Some p → Wrote cs ts p c d → PortSound p d calls → NamedSound named ts calls
+named_sound : (named : Option Port) (cs ts : List Channel) (p : Port) (c d : Channel) (calls : List OpenCall) →
+    named ≡ Some p → Wrote cs ts p c d → PortSound p d calls → NamedSound named ts calls
 named_sound named cs ts p c d calls names w fine q x h e =
     let same : p ≡ q = cc in
     let there : at ts p ≡ Some x = subst (λ (r : Port). at ts r ≡ Some x) (sym same) e in
@@ -149,15 +154,19 @@ module _ (s : State) (pid : Pid) (cases : List Case) (default : Bool) (word i : 
   abbrev Fires : Firing → Type 0
   Fires f = Account s pid this (proceeds s pid i (Some f))
 
-  alone_fires : (t : State) (k : Case) (o : Outcome) (c d : Channel) → slice_get cases i ≡ Some k → t.parked ≡ s.parked → t.procs ≡ s.procs → t.gone ≡ s.gone →
-      Wrote s.channels t.channels (port_of k) c d → Moved (port_of k) c d (deed k o ∷ []) → (IsSound s → PortSound (port_of k) d t.parked) → Fires (record { outcome = o; state = t; ended = [] })
+  alone_fires : (t : State) (k : Case) (o : Outcome) (c d : Channel) → slice_get cases i ≡ Some k →
+      t.parked ≡ s.parked → t.procs ≡ s.procs → t.gone ≡ s.gone → Wrote s.channels t.channels (port_of k) c d →
+      Moved (port_of k) c d (deed k o ∷ []) → (IsSound s → PortSound (port_of k) d t.parked) →
+      Fires (record { outcome = o; state = t; ended = [] })
   alone_fires t k o c d mine same procs gone w m fine =
       alone s t pid this (what.Fired i o) refl (k, mine) same (λ h. cc) procs (gone ∙ sym (append-nil s.gone)) (λ sound. rw mine (wrote (port_of k) c d refl w m))
       (λ sound. rw mine (named_sound (Some (port_of k)) s.channels t.channels (port_of k) c d t.parked refl w (fine sound)))
 
   -- with the oldest call that waits for it
-  meets : (t : State) (k : Case) (o its : Outcome) (test : Case → Bool) (x : Ending) (c d : Channel) → slice_get cases i ≡ Some k → first_with test s.parked ≡ Some x →
-      t.parked ≡ without x.pid s.parked → t.procs ≡ s.procs → t.gone ≡ s.gone → channel_at s (port_of k) ≡ Some c → Wrote s.channels t.channels (port_of k) c d →
+  meets : (t : State) (k : Case) (o its : Outcome) (test : Case → Bool) (x : Ending) (c d : Channel) →
+      slice_get cases i ≡ Some k → first_with test s.parked ≡ Some x → t.parked ≡ without x.pid s.parked →
+      t.procs ≡ s.procs → t.gone ≡ s.gone → channel_at s (port_of k) ≡ Some c →
+      Wrote s.channels t.channels (port_of k) c d →
       (IsSound s → test x.at.case ≡ true → Moved (port_of k) c d (deed k o ∷ deed x.at.case its ∷ []) × (PortSound (port_of k) c (without x.pid s.parked) → PortSound (port_of k) d (without x.pid s.parked))) →
       Fires (record { outcome = o; state = t; ended = fired x.pid x.at.index its ∷ [] })
   meets t k o its test x c d mine is same procs gone old w does =
@@ -183,8 +192,9 @@ module _ (s : State) (pid : Pid) (cases : List Case) (default : Bool) (word i : 
         gone = gone ∙ sym (append-nil s.gone);
       }
 
-  send_account : (p : Port) (v : Value) (c : Channel) (o : Option Ending) → slice_get cases i ≡ Some (Send p v) → channel_at s p ≡ Some c → send_can s p c ≡ true →
-      c.closed ≡ false → o ≡ first_with (is_recv_on p) s.parked → Fires (send_meets s p (sent v c) o)
+  send_account : (p : Port) (v : Value) (c : Channel) (o : Option Ending) → slice_get cases i ≡ Some (Send p v) →
+      channel_at s p ≡ Some c → send_can s p c ≡ true → c.closed ≡ false → o ≡ first_with (is_recv_on p) s.parked →
+      Fires (send_meets s p (sent v c) o)
   send_account p v c None mine e can live is =
       let none : some_call (is_recv_on p) s.parked ≡ false = sym (some_first (is_recv_on p) s.parked None is) in
       let none' : is_some (first_with (is_recv_on p) s.parked) ≡ false = ap (λ x. is_some x) (sym is) in
@@ -197,16 +207,17 @@ module _ (s : State) (pid : Pid) (cases : List Case) (default : Bool) (word i : 
       let w = next_sent s p v c sound e in
       (hands v w.0 live w.1 refl (rw (is_recv p x.at.case passes, w.1) refl), λ fine. port-through p v c (without x.pid s.parked) fine live))
 
-  takes_account : (p : Port) (c : Channel) (o : Option Value) → slice_get cases i ≡ Some (Recv p) → channel_at s p ≡ Some c → some_call (is_send_on p) s.parked ≡ false →
-      o ≡ next_value c → Fires (recv_takes s p c [] o)
+  takes_account : (p : Port) (c : Channel) (o : Option Value) → slice_get cases i ≡ Some (Recv p) →
+      channel_at s p ≡ Some c → some_call (is_send_on p) s.parked ≡ false → o ≡ next_value c →
+      Fires (recv_takes s p c [] o)
   takes_account p c None mine e none is =
       alone_fires (with_channel s p c) (Recv p) Drained c c mine refl refl refl (wrote-set s p c c e) (drains (sym is) refl refl) (λ sound. sound.ports p c e)
   takes_account p c (Some w) mine e none is =
       alone_fires (with_channel s p (received c)) (Recv p) (Got w) c (received c) mine refl refl refl (wrote-set s p c (received c) e) (gives w (sym is) refl refl)
       (λ sound. port-received p c s.parked (sound.ports p c e) none (slice_get_within c.done c.taken w (sym is)))
 
-  fetches_account : (p : Port) (c : Channel) (x : Ending) (o : Option Value) → slice_get cases i ≡ Some (Recv p) → channel_at s p ≡ Some c →
-      first_with (is_send_on p) s.parked ≡ Some x → o ≡ next_value (with_sent x.at.case c) →
+  fetches_account : (p : Port) (c : Channel) (x : Ending) (o : Option Value) → slice_get cases i ≡ Some (Recv p) →
+      channel_at s p ≡ Some c → first_with (is_send_on p) s.parked ≡ Some x → o ≡ next_value (with_sent x.at.case c) →
       Fires (recv_takes (record s { parked = without x.pid s.parked }) p (with_sent x.at.case c) (fired x.pid x.at.index Sent ∷ []) o)
   fetches_account p c x None mine e is after =
       let d : Channel = with_sent x.at.case c in
@@ -226,19 +237,23 @@ module _ (s : State) (pid : Pid) (cases : List Case) (default : Bool) (word i : 
       let live : c.closed ≡ false = false_from_ne_true c.closed (λ h. let g = ((sound.ports p c e).ended h).1 in cc) in
       rw u.1 (fetches u.0 w live (sym some) refl refl, λ fine. port-through p u.0 c (without x.pid s.parked) fine live))
 
-  recv_account : (p : Port) (c : Channel) (o : Option Ending) → slice_get cases i ≡ Some (Recv p) → channel_at s p ≡ Some c → o ≡ first_with (is_send_on p) s.parked →
-      Fires (recv_meets s p c o)
-  recv_account p c None mine e is = takes_account p c (next_value c) mine e (sym (some_first (is_send_on p) s.parked None is)) refl
-  recv_account p c (Some x) mine e is = fetches_account p c x (next_value (with_sent x.at.case c)) mine e (sym is) refl
+  recv_account : (p : Port) (c : Channel) (o : Option Ending) → slice_get cases i ≡ Some (Recv p) →
+      channel_at s p ≡ Some c → o ≡ first_with (is_send_on p) s.parked → Fires (recv_meets s p c o)
+  recv_account p c None mine e is =
+      takes_account p c (next_value c) mine e (sym (some_first (is_send_on p) s.parked None is)) refl
+  recv_account p c (Some x) mine e is =
+      fetches_account p c x (next_value (with_sent x.at.case c)) mine e (sym is) refl
 
-  fires_account : (k : Case) (o : Option Channel) → slice_get cases i ≡ Some k → o ≡ channel_at s (port_of k) → can_proceed s k ≡ true → Account s pid this (proceeds s pid i (fires s k o))
+  fires_account : (k : Case) (o : Option Channel) → slice_get cases i ≡ Some k → o ≡ channel_at s (port_of k) →
+      can_proceed s k ≡ true → Account s pid this (proceeds s pid i (fires s k o))
   fires_account (Send p v) None mine is can = let h : option_map_or (send_can s p) (channel_at s p) false ≡ true = can in let g : false ≡ true = rw (sym is) at h in cc
   fires_account (Recv p) None mine is can = let h : option_map_or (recv_can s p) (channel_at s p) false ≡ true = can in let g : false ≡ true = rw (sym is) at h in cc
   fires_account (Send p v) (Some c) mine is can =
       by-closed Fires s p v c
       (λ over. alone_fires s (Send p v) Closed c c mine refl refl refl (wrote-same s p c (sym is)) (refuses v over refl refl) (λ sound. sound.ports p c (sym is)))
       (λ live. send_account p v c (first_with (is_recv_on p) s.parked) mine (sym is) (let g : option_map_or (send_can s p) (channel_at s p) false ≡ true = can in rw (sym is) at g) live refl)
-  fires_account (Recv p) (Some c) mine is can = recv_account p c (first_with (is_send_on p) s.parked) mine (sym is) refl
+  fires_account (Recv p) (Some c) mine is can =
+      recv_account p c (first_with (is_send_on p) s.parked) mine (sym is) refl
 
 -- A call
 
@@ -246,14 +261,16 @@ module _ (s : State) (pid : Pid) (cases : List Case) (default : Bool) (word i : 
 abbrev pub Picked : State → List Case → ℕ × Case → Type 0
 Picked s cases x = (slice_get cases x.0 ≡ Some x.1) × (can_proceed s x.1 ≡ true)
 
-pub picked : (s : State) (cases : List Case) (k : ℕ) (x : ℕ × Case) → slice_get (ready s cases) k ≡ Some x → Picked s cases x
+pub picked : (s : State) (cases : List Case) (k : ℕ) (x : ℕ × Case) → slice_get (ready s cases) k ≡ Some x →
+    Picked s cases x
 picked s cases k x e =
     let c = chosen (can_proceed s) 0 k cases x e in
     let same : x.0 ≡ c.stands.0 = omega (arith, c.stands.1) in
     (rw same c.stands.2, c.ready)
 
-chooses_account : (s : State) (pid : Pid) (cases : List Case) (default : Bool) (word : ℕ) (o : Option (ℕ × Case)) → (o ≡ None → list_any (can_proceed s) cases ≡ false) →
-    ((x : ℕ × Case) → o ≡ Some x → Picked s cases x) → Account s pid (Call (record { items = cases }) default word) (chooses s pid cases default o)
+chooses_account : (s : State) (pid : Pid) (cases : List Case) (default : Bool) (word : ℕ) (o : Option (ℕ × Case)) →
+    (o ≡ None → list_any (can_proceed s) cases ≡ false) → ((x : ℕ × Case) → o ≡ Some x → Picked s cases x) →
+    Account s pid (Call (record { items = cases }) default word) (chooses s pid cases default o)
 chooses_account s pid cases true word None none some =
     silent s s pid (Call (record { items = cases }) true word) what.Default refl tt refl (λ h. cc) refl (sym (append-nil s.gone)) refl refl refl
 chooses_account s pid cases false word None none some =
@@ -270,13 +287,15 @@ calls-account s pid cases default word =
 closed_well : (p : Port) (x : Ended) → ClosedAt p x → EndsWell x
 closed_well p x c = rw c.tells (refl, (c.at.case, c.stands))
 
-closed_deeds : (p : Port) (xs : List Ended) → AllByRecursion (ClosedAt p) xs → AllByRecursion (IsClosing p) (ended_deeds xs)
+closed_deeds : (p : Port) (xs : List Ended) → AllByRecursion (ClosedAt p) xs →
+    AllByRecursion (IsClosing p) (ended_deeds xs)
 closed_deeds p [] all = tt
 closed_deeds p (x ∷ xs) all =
     let c = all.0 in
     rw (c.tells, c.stands) (record { port = is_on_port p c.at.case c.on; outcome = refl }, closed_deeds p xs all.1)
 
-close_account : (s : State) (pid : Pid) (p : Port) (o : Option Channel) → o ≡ channel_at s p → close_fault o ≡ None → Account s pid (Close p) (closes s pid p o)
+close_account : (s : State) (pid : Pid) (p : Port) (o : Option Channel) → o ≡ channel_at s p → close_fault o ≡ None →
+    Account s pid (Close p) (closes s pid p o)
 close_account s pid p None is h = cc
 close_account s pid p (Some c) is h =
     let parts = closed p s.parked in
@@ -305,14 +324,17 @@ room_for_port s cap h =
     let b = none_false (nat_lt 63 (length s.channels)) fault.TooManyPorts None a.1 in
     ltb-false 63 (length s.channels) b.0
 
-pub effect-account : (s : State) (pid : Pid) (step : Step) → fault_of s step ≡ None → Account s pid step (effect s pid step)
+pub effect-account : (s : State) (pid : Pid) (step : Step) → fault_of s step ≡ None →
+    Account s pid step (effect s pid step)
 effect-account s pid (Make cap) h =
     let t : State = (makes s pid cap).state in
     alone s t pid (Make cap) (what.Made (record { 0 = length s.channels + 1 })) refl tt refl (λ h. cc) refl (sym (append-nil s.gone)) (λ sound. adds cap (room_for_port s cap h) refl refl refl)
     (λ sound p c names e. elim (new_port s t p (fresh cap) c refl e) [ inl l ↦ rw l.1 (port-fresh s p cap sound l.0) | inr r ↦ sound.ports p c r ])
 effect-account s pid (Call cases default word) h = calls-account s pid cases.items default word
-effect-account s pid (Close p) h = close_account s pid p (channel_at s p) refl (none_false (is_unmade s p) fault.NoPort (close_fault (channel_at s p)) h).1
-effect-account s pid Exit h = silent s (exits s pid).state pid Exit what.Done refl tt refl (λ h. cc) refl refl refl refl refl
+effect-account s pid (Close p) h =
+    close_account s pid p (channel_at s p) refl (none_false (is_unmade s p) fault.NoPort (close_fault (channel_at s p)) h).1
+effect-account s pid Exit h =
+    silent s (exits s pid).state pid Exit what.Done refl tt refl (λ h. cc) refl refl refl refl refl
 
 -- and a stall, which ends all that wait
 
@@ -323,7 +345,8 @@ stalled_deeds : (xs : List Ended) → AllByRecursion (λ x. x.what ≡ what.Stal
 stalled_deeds [] all = refl
 stalled_deeds (x ∷ xs) all = rw all.0 (stalled_deeds xs all.1)
 
-stalled_account : (s : State) (pid : Pid) (step : Step) (c : Change) → Account s pid step c → Account s pid step (stalled c)
+stalled_account : (s : State) (pid : Pid) (step : Step) (c : Change) → Account s pid step c →
+    Account s pid step (stalled c)
 stalled_account s pid step c a =
     let parts = all_stalled c.state.parked in
     record {
@@ -355,7 +378,8 @@ pub fault_names_none : (step : Step) (f : Fault) → port_touched_by step (what.
 fault_names_none (Make cap) f = refl
 fault_names_none step f = refl
 
-pub answers-account : (s : State) (e : Entry) (o : Option Fault) → o ≡ fault_of s e.step → Account s e.pid e.step (answers s e o)
+pub answers-account : (s : State) (e : Entry) (o : Option Fault) → o ≡ fault_of s e.step →
+    Account s e.pid e.step (answers s e o)
 answers-account s e None is =
     let a = effect-account s e.pid e.step (sym is) in
     by-stall (λ (d : Change). Account s e.pid e.step d) (effect s e.pid e.step) (stalled_account s e.pid e.step (effect s e.pid e.step) a) a
@@ -367,7 +391,8 @@ pub turn-account : (s : State) (e : Entry) → Account s e.pid e.step (turn s e)
 turn-account s e = answers-account s e (fault_of s e.step) refl
 
 -- in the words of the laws
-ended_ends : (xs : List Ended) → AllByRecursion EndsWell xs → AllByRecursion (λ x. ends_waiting x.what ≡ true) (events_of xs)
+ended_ends : (xs : List Ended) → AllByRecursion EndsWell xs →
+    AllByRecursion (λ x. ends_waiting x.what ≡ true) (events_of xs)
 ended_ends [] well = tt
 ended_ends (x ∷ xs) well = (well.0.0, ended_ends xs well.1)
 

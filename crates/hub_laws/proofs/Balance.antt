@@ -25,7 +25,8 @@ open_calls q calls = count (λ call. call.pid.0 == q) calls
 abbrev pub ends : ℕ → List Event → ℕ
 ends q events = length (endings q events)
 
-ends_cons : (q : ℕ) (e : Event) (es : List Event) → ends q (e ∷ es) ≡ one (counts e.what && (e.pid.0 == q)) + ends q es
+ends_cons : (q : ℕ) (e : Event) (es : List Event) →
+    ends q (e ∷ es) ≡ one (counts e.what && (e.pid.0 == q)) + ends q es
 ends_cons q e es =
     elim (counts e.what && (e.pid.0 == q)) as (λ b. length (cond b (e ∷ endings q es) (endings q es)) ≡ one b + ends q es)
     [ true ↦ omega arith | false ↦ omega arith ]
@@ -50,7 +51,8 @@ open_most q (call ∷ calls) a =
 abbrev pub Balance : ℕ → State → Pid → Change → Type 0
 Balance q s pid c = ends q c.events + open_calls q c.state.parked ≡ open_calls q s.parked + one (pid.0 == q)
 
-ended_count : (q : ℕ) (xs : List Ended) → AllByRecursion EndsWell xs → ends q (events_of xs) ≡ count_ended (λ call. call.pid.0 == q) xs
+ended_count : (q : ℕ) (xs : List Ended) → AllByRecursion EndsWell xs →
+    ends q (events_of xs) ≡ count_ended (λ call. call.pid.0 == q) xs
 ended_count q [] well = refl
 ended_count q (x ∷ xs) well =
     let counted : counts x.what ≡ true = ends_counts x.what well.0.0 ∙ rw (ends_clear x.what well.0.0) refl in
@@ -61,15 +63,18 @@ caller_count : (q : ℕ) (calls : List OpenCall) (pid : Pid) (step : Step) (w : 
     one (not (is_parked w) && (pid.0 == q)) + open_calls q (with_caller calls pid step w) ≡ open_calls q calls + one (pid.0 == q)
 caller_count q calls pid step w = by (is_parked w)
   where
-    snoc : (calls : List OpenCall) → open_calls q (calls ++ call_of pid step ∷ []) ≡ open_calls q calls + one (pid.0 == q)
+    snoc : (calls : List OpenCall) →
+        open_calls q (calls ++ call_of pid step ∷ []) ≡ open_calls q calls + one (pid.0 == q)
     snoc [] = omega arith
     snoc (c ∷ cs) = omega (arith, snoc cs)
 
-    by : (b : Bool) → one (not b && (pid.0 == q)) + open_calls q (cond b (calls ++ call_of pid step ∷ []) calls) ≡ open_calls q calls + one (pid.0 == q)
+    by : (b : Bool) →
+        one (not b && (pid.0 == q)) + open_calls q (cond b (calls ++ call_of pid step ∷ []) calls) ≡ open_calls q calls + one (pid.0 == q)
     by true = omega (arith, snoc calls)
     by false = omega arith
 
-balance : (q : ℕ) (s : State) (pid : Pid) (step : Step) (c : Change) → Apart s.parked → Account s pid step c → Balance q s pid c
+balance : (q : ℕ) (s : State) (pid : Pid) (step : Step) (c : Change) → Apart s.parked → Account s pid step c →
+    Balance q s pid c
 balance q s pid step c apart a =
     let counted : counts a.answer ≡ not (is_parked a.answer) = answer_counts step a.answer a.fits in
     let told : ends q c.events ≡ one (not (is_parked a.answer) && (pid.0 == q)) + ends q (events_of a.ended) =

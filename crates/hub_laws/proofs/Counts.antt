@@ -41,12 +41,14 @@ moved_sends q c d deeds (drains next is e) = rw is (omega arith)
 moved_sends q c d deeds (refuses v over is e) = rw is (omega arith)
 moved_sends q c d deeds (shuts live is all) = rw is (omega arith)
 
-quiet_sends : (cs ts : List Channel) (p : Port) (o x : Option Channel) → o ≡ at cs p → x ≡ at ts p → Quiet cs ts → sends_of x ≤ sends_of o
+quiet_sends : (cs ts : List Channel) (p : Port) (o x : Option Channel) → o ≡ at cs p → x ≡ at ts p → Quiet cs ts →
+    sends_of x ≤ sends_of o
 quiet_sends cs ts p (Some c) x is to q = rw (to ∙ q.same p c (sym is)) (omega arith)
 quiet_sends cs ts p None None is to q = omega arith
 quiet_sends cs ts p None (Some d) is to q = rw (q.fresh p d (sym is) (sym to)).0 (omega arith)
 
-wrote_sends : (cs ts : List Channel) (p q : Port) (c d : Channel) (deeds : List Deed) (b : Bool) → b ≡ (q.0 == p.0) → Wrote cs ts q c d → Moved q c d deeds → sends_of (at ts p) ≤ sends_of (at cs p) + 1
+wrote_sends : (cs ts : List Channel) (p q : Port) (c d : Channel) (deeds : List Deed) (b : Bool) → b ≡ (q.0 == p.0) →
+    Wrote cs ts q c d → Moved q c d deeds → sends_of (at ts p) ≤ sends_of (at cs p) + 1
 wrote_sends cs ts p q c d deeds true is w m =
     let same : q ≡ p = same_port q p (eqb-true q.0 p.0 (sym is)) in
     let new : at ts p ≡ Some d = subst (λ (r : Port). at ts r ≡ Some d) same w.new in
@@ -54,13 +56,17 @@ wrote_sends cs ts p q c d deeds true is w m =
     rw (new, old) (moved_sends q c d deeds m)
 wrote_sends cs ts p q c d deeds false is w m = rw (w.others p (sym is)) (omega arith)
 
-does_sends : (cs ts : List Channel) (named : Option Port) (deeds : List Deed) (p : Port) → Does cs ts named deeds → sends_of (at ts p) ≤ sends_of (at cs p) + 1
-does_sends cs ts named deeds p (idle none is e) = omega (arith, quiet_sends cs ts p (at cs p) (at ts p) refl refl (quiet-idle cs ts is))
-does_sends cs ts named deeds p (adds cap room names is e) = omega (arith, quiet_sends cs ts p (at cs p) (at ts p) refl refl (quiet-adds cs ts cap is))
+does_sends : (cs ts : List Channel) (named : Option Port) (deeds : List Deed) (p : Port) → Does cs ts named deeds →
+    sends_of (at ts p) ≤ sends_of (at cs p) + 1
+does_sends cs ts named deeds p (idle none is e) =
+    omega (arith, quiet_sends cs ts p (at cs p) (at ts p) refl refl (quiet-idle cs ts is))
+does_sends cs ts named deeds p (adds cap room names is e) =
+    omega (arith, quiet_sends cs ts p (at cs p) (at ts p) refl refl (quiet-adds cs ts cap is))
 does_sends cs ts named deeds p (wrote q c d names w m) = wrote_sends cs ts p q c d deeds (q.0 == p.0) refl w m
 
 -- and where it names no port, none
-idle_sends : (cs ts : List Channel) (named : Option Port) (deeds : List Deed) (p : Port) → named ≡ None → Does cs ts named deeds → sends_of (at ts p) ≤ sends_of (at cs p)
+idle_sends : (cs ts : List Channel) (named : Option Port) (deeds : List Deed) (p : Port) → named ≡ None →
+    Does cs ts named deeds → sends_of (at ts p) ≤ sends_of (at cs p)
 idle_sends cs ts named deeds p none does = rw (does-others cs ts named deeds does p (rw none refl)) (omega arith)
 
 exit_names_none : (step : Step) (events : List Event) → is_exit step ≡ true → port_touched step events ≡ None
@@ -68,12 +74,14 @@ exit_names_none step [] e = refl
 exit_names_none Exit (x ∷ xs) e = refl
 exit_names_none step (x ∷ xs) e = absurd (let g : ⊥ = cc in g)
 
-step_sends : (s t : State) (e : Entry) (events : List Event) (deeds : List Deed) (p : Port) → Does s.channels t.channels (port_touched e.step events) deeds →
+step_sends : (s t : State) (e : Entry) (events : List Event) (deeds : List Deed) (p : Port) →
+    Does s.channels t.channels (port_touched e.step events) deeds →
     sends_of (channel_at t p) ≤ sends_of (channel_at s p) + one_step e
 step_sends s t e events deeds p does = by (is_exit e.step) refl
   where
     by : (b : Bool) → b ≡ is_exit e.step → sends_of (channel_at t p) ≤ sends_of (channel_at s p) + cond b 0 1
-    by true is = omega (arith, idle_sends s.channels t.channels (port_touched e.step events) deeds p (exit_names_none e.step events (sym is)) does)
+    by true is =
+        omega (arith, idle_sends s.channels t.channels (port_touched e.step events) deeds p (exit_names_none e.step events (sym is)) does)
     by false is = does_sends s.channels t.channels (port_touched e.step events) deeds p does
 
 -- Runs
@@ -84,12 +92,14 @@ entry_sends : (s : State) (e : Entry) (o : Option Fault) (deeds : List Deed) (p 
 entry_sends s e None deeds p does = omega (arith, step_sends s (turn s e).state e (turn s e).events deeds p does)
 entry_sends s e (Some f) deeds p does = omega arith
 
-keeps_steps : (o : Option Fault) (e : Entry) (es : List Entry) → steps_of (keeps o e es) ≡ steps_of (keeps o e []) + steps_of es
+keeps_steps : (o : Option Fault) (e : Entry) (es : List Entry) →
+    steps_of (keeps o e es) ≡ steps_of (keeps o e []) + steps_of es
 keeps_steps None e es = omega arith
 keeps_steps (Some f) e es = omega arith
 
 -- a run from a state
-sends_after : (s : State) (ts : List Turned) (es : List Entry) (p : Port) → IsSound s → Knows (in_force ts) s.parked → sends_of (channel_at (state_after s es) p) ≤ sends_of (channel_at s p) + steps_of (kept_after s es)
+sends_after : (s : State) (ts : List Turned) (es : List Entry) (p : Port) → IsSound s → Knows (in_force ts) s.parked →
+    sends_of (channel_at (state_after s es) p) ≤ sends_of (channel_at s p) + steps_of (kept_after s es)
 sends_after s ts [] p sound knows = omega arith
 sends_after s ts (e ∷ es) p sound knows =
     let t : Turned = record { entry = e; events = (moves s e).events } in

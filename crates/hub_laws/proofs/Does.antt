@@ -20,12 +20,14 @@ use Rattle.hub_laws.proofs.Ports.{above_zero, made, at_made, same_port, written,
 
 -- the channels after a write
 
-other_by : (b : Bool) (cs : List Channel) (i : ℕ) (d : Channel) (p : Port) → b ≡ (p.0 == 0) → (b ≡ false → i ≡ p.0 - 1 → ⊥) →
+other_by : (b : Bool) (cs : List Channel) (i : ℕ) (d : Channel) (p : Port) → b ≡ (p.0 == 0) →
+    (b ≡ false → i ≡ p.0 - 1 → ⊥) →
     cond b None (slice_get (slice_set cs i d) (p.0 - 1)) ≡ cond b None (slice_get cs (p.0 - 1))
 other_by true cs i d p is h = refl
 other_by false cs i d p is h = get_set_other cs i (p.0 - 1) d (h refl)
 
-pub wrote-set : (s : State) (q : Port) (c d : Channel) → channel_at s q ≡ Some c → Wrote s.channels (slice_set s.channels (q.0 - 1) d) q c d
+pub wrote-set : (s : State) (q : Port) (c d : Channel) → channel_at s q ≡ Some c →
+    Wrote s.channels (slice_set s.channels (q.0 - 1) d) q c d
 wrote-set s q c d e = record {
   old = e;
   new = written s (record s { channels = slice_set s.channels (q.0 - 1) d }) q c d refl e;
@@ -46,7 +48,8 @@ get_some [] i h = absurd (omega arith)
 get_some (x ∷ xs) zero h = (x, refl)
 get_some (x ∷ xs) (suc i) h = get_some xs i (omega arith)
 
-pub next_sent : (s : State) (p : Port) (v : Value) (c : Channel) → IsSound s → channel_at s p ≡ Some c → (w : Value) × (next_value (sent v c) ≡ Some w)
+pub next_sent : (s : State) (p : Port) (v : Value) (c : Channel) → IsSound s → channel_at s p ≡ Some c →
+    (w : Value) × (next_value (sent v c) ≡ Some w)
 next_sent s p v c sound e = get_some (c.done ++ v ∷ []) c.taken (omega (arith, (sound.ports p c e).taken, longer v c))
 
 pub is_recv : (p : Port) (c : Case) → is_recv_on p c ≡ true → c ≡ Recv p
@@ -59,13 +62,15 @@ is_on_port p (Recv q) e = same_port q p (eqb-true q.0 p.0 e)
 
 -- one channel more
 
-get_snoc : (xs : List Channel) (i : ℕ) (d : Channel) → (i ≡ length xs → ⊥) → slice_get (xs ++ d ∷ []) i ≡ slice_get xs i
+get_snoc : (xs : List Channel) (i : ℕ) (d : Channel) → (i ≡ length xs → ⊥) →
+    slice_get (xs ++ d ∷ []) i ≡ slice_get xs i
 get_snoc [] zero d h = absurd (h refl)
 get_snoc [] (suc i) d h = refl
 get_snoc (x ∷ xs) zero d h = refl
 get_snoc (x ∷ xs) (suc i) d h = get_snoc xs i d (λ e. h (ap suc e))
 
-added_other : (b : Bool) (xs : List Channel) (q : Port) (d : Channel) → b ≡ (q.0 == 0) → (length xs + 1 == q.0) ≡ false →
+added_other : (b : Bool) (xs : List Channel) (q : Port) (d : Channel) → b ≡ (q.0 == 0) →
+    (length xs + 1 == q.0) ≡ false →
     cond b None (slice_get (xs ++ d ∷ []) (q.0 - 1)) ≡ cond b None (slice_get xs (q.0 - 1))
 added_other true xs q d is h = refl
 added_other false xs q d is h = get_snoc xs (q.0 - 1) d (λ e. let n : 0 < q.0 = above_zero q.0 (sym is) in absurd (eqb-false (length xs + 1) q.0 h (omega arith)))
@@ -93,7 +98,8 @@ quiet-adds cs ts cap is =
 -- What follows from what a step can do
 
 -- the port that is named is made
-pub does-made : (cs ts : List Channel) (named : Option Port) (deeds : List Deed) → Does cs ts named deeds → (p : Port) → named ≡ Some p → IsMade p (length ts)
+pub does-made : (cs ts : List Channel) (named : Option Port) (deeds : List Deed) → Does cs ts named deeds →
+    (p : Port) → named ≡ Some p → IsMade p (length ts)
 does-made cs ts named deeds (idle none same e) p h = absurd (let g : ⊥ = cc in g)
 does-made cs ts named deeds (adds cap room names same e) p h =
     let n : record { 0 = length cs + 1 } ≡ p = cc in
@@ -105,20 +111,25 @@ does-made cs ts named deeds (wrote q c d names w m) p h =
     subst (λ r. IsMade r (length ts)) n (record { some = m.number; few = omega (arith, within, m.number, w.ports) })
 
 -- and no other is written
-pub does-others : (cs ts : List Channel) (named : Option Port) (deeds : List Deed) → Does cs ts named deeds → (p : Port) → is_port named p ≡ false → at ts p ≡ at cs p
+pub does-others : (cs ts : List Channel) (named : Option Port) (deeds : List Deed) → Does cs ts named deeds →
+    (p : Port) → is_port named p ≡ false → at ts p ≡ at cs p
 does-others cs ts named deeds (idle none same e) p h = ap (λ xs. at xs p) same
 does-others cs ts named deeds (adds cap room names same e) p h =
     rw same (added_other (p.0 == 0) cs p (fresh cap) refl (rw names at h))
 does-others cs ts named deeds (wrote q c d names w m) p h = w.others p (rw names at h)
 
 -- at most 64 ports
-pub does-few : (cs ts : List Channel) (named : Option Port) (deeds : List Deed) → Does cs ts named deeds → length cs ≤ 64 → length ts ≤ 64
+pub does-few : (cs ts : List Channel) (named : Option Port) (deeds : List Deed) → Does cs ts named deeds →
+    length cs ≤ 64 → length ts ≤ 64
 does-few cs ts named deeds (idle none same e) few = rw same few
-does-few cs ts named deeds (adds cap room names same e) few = omega (arith, room, ap length same, length-append cs (fresh cap ∷ []))
+does-few cs ts named deeds (adds cap room names same e) few =
+    omega (arith, room, ap length same, length-append cs (fresh cap ∷ []))
 does-few cs ts named deeds (wrote q c d names w m) few = omega (arith, few, w.ports)
 
 -- and none is lost
-pub does-grows : (cs ts : List Channel) (named : Option Port) (deeds : List Deed) → Does cs ts named deeds → length cs ≤ length ts
+pub does-grows : (cs ts : List Channel) (named : Option Port) (deeds : List Deed) → Does cs ts named deeds →
+    length cs ≤ length ts
 does-grows cs ts named deeds (idle none same e) = omega (arith, ap length same)
-does-grows cs ts named deeds (adds cap room names same e) = omega (arith, ap length same, length-append cs (fresh cap ∷ []))
+does-grows cs ts named deeds (adds cap room names same e) =
+    omega (arith, ap length same, length-append cs (fresh cap ∷ []))
 does-grows cs ts named deeds (wrote q c d names w m) = omega (arith, w.ports)

@@ -18,15 +18,19 @@ use Rattle.hub_laws.proofs.Kept.{sound-opening}
 use Rattle.hub_laws.proofs.Rules.{moves-sound}
 
 -- who has exited after it
-pub turn-leaves : (q : ℕ) (s : State) (e : Entry) → has_gone (turn s e).state q ≡ (has_gone s q || (is_exit e.step && (e.pid.0 == q)))
-turn-leaves q s e = ap (λ xs. list_any (λ (g : Pid). g.0 == q) xs) (turn-account s e).gone ∙ list_any-append (λ (g : Pid). g.0 == q) s.gone (leavers e.pid e.step) ∙ by (is_exit e.step)
+pub turn-leaves : (q : ℕ) (s : State) (e : Entry) →
+    has_gone (turn s e).state q ≡ (has_gone s q || (is_exit e.step && (e.pid.0 == q)))
+turn-leaves q s e =
+    ap (λ xs. list_any (λ (g : Pid). g.0 == q) xs) (turn-account s e).gone ∙ list_any-append (λ (g : Pid). g.0 == q) s.gone (leavers e.pid e.step) ∙ by (is_exit e.step)
   where
-    by : (b : Bool) → (has_gone s q || list_any (λ (g : Pid). g.0 == q) (cond b (e.pid ∷ []) [])) ≡ (has_gone s q || (b && (e.pid.0 == q)))
+    by : (b : Bool) →
+        (has_gone s q || list_any (λ (g : Pid). g.0 == q) (cond b (e.pid ∷ []) [])) ≡ (has_gone s q || (b && (e.pid.0 == q)))
     by true = ap (λ b. has_gone s q || b) (or-false (e.pid.0 == q))
     by false = refl
 
 -- of a process that did not exit by it
-pub turn-gone : (q : ℕ) (s : State) (e : Entry) → (is_exit e.step ≡ false) ⊎ ((e.pid.0 == q) ≡ false) → has_gone (turn s e).state q ≡ has_gone s q
+pub turn-gone : (q : ℕ) (s : State) (e : Entry) → (is_exit e.step ≡ false) ⊎ ((e.pid.0 == q) ≡ false) →
+    has_gone (turn s e).state q ≡ has_gone s q
 turn-gone q s e (inl l) = turn-leaves q s e ∙ rw l (or-false (has_gone s q))
 turn-gone q s e (inr r) = turn-leaves q s e ∙ rw (r, and-false (is_exit e.step)) (or-false (has_gone s q))
 
@@ -39,15 +43,18 @@ pub procs-after : (s : State) (es : List Entry) → (state_after s es).procs ≡
 procs-after s [] = refl
 procs-after s (e ∷ es) = procs-after (moves s e).state es ∙ procs-entry s e (refusal s e.pid)
 
-ports_entry : (s : State) (e : Entry) (o : Option Fault) → IsSound s → length s.channels ≤ 64 → length (admits s e o).state.channels ≤ 64
+ports_entry : (s : State) (e : Entry) (o : Option Fault) → IsSound s → length s.channels ≤ 64 →
+    length (admits s e o).state.channels ≤ 64
 ports_entry s e None sound few =
     let a = turn-account s e in
     does-few s.channels (turn s e).state.channels (port_touched_by e.step a.answer) (deeds_of e.step a.answer a.ended) (a.does sound) few
 ports_entry s e (Some f) sound few = few
 
-ports_after : (s : State) (es : List Entry) → IsSound s → length s.channels ≤ 64 → length (state_after s es).channels ≤ 64
+ports_after : (s : State) (es : List Entry) → IsSound s → length s.channels ≤ 64 →
+    length (state_after s es).channels ≤ 64
 ports_after s [] sound few = few
-ports_after s (e ∷ es) sound few = ports_after (moves s e).state es (moves-sound s e sound) (ports_entry s e (refusal s e.pid) sound few)
+ports_after s (e ∷ es) sound few =
+    ports_after (moves s e).state es (moves-sound s e sound) (ports_entry s e (refusal s e.pid) sound few)
 
 -- at most 64 ports are made
 pub ports-law : (n : ℕ) (es : List Entry) → length (state n es).channels ≤ 64

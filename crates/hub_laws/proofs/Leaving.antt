@@ -46,16 +46,19 @@ pub data Takes (call : OpenCall) : List OpenCall → List OpenCall → Type 0 wh
 -- these calls end, one after the other, and the others are kept
 pub data Leave : List Ended → List OpenCall → List OpenCall → Type 0 where
   nobody : (calls : List OpenCall) → Leave [] calls calls
-  next : (x : Ended) (xs : List Ended) (calls rest kept : List OpenCall) → Takes x.call calls rest → Leave xs rest kept → Leave (x ∷ xs) calls kept
+  next : (x : Ended) (xs : List Ended) (calls rest kept : List OpenCall) → Takes x.call calls rest →
+      Leave xs rest kept → Leave (x ∷ xs) calls kept
 
 -- What follows from it
 
 -- what holds of each call holds of those that end and of those that stay
-take-all : (P : OpenCall → Type 0) (call : OpenCall) (calls kept : List OpenCall) → Takes call calls kept → AllByRecursion P calls → P call × AllByRecursion P kept
+take-all : (P : OpenCall → Type 0) (call : OpenCall) (calls kept : List OpenCall) → Takes call calls kept →
+    AllByRecursion P calls → P call × AllByRecursion P kept
 take-all P call calls kept (here rest) all = all
 take-all P call calls kept (later c cs ks t) all = let r = take-all P call cs ks t all.1 in (r.0, (all.0, r.1))
 
-pub leave-all : (P : OpenCall → Type 0) (xs : List Ended) (calls kept : List OpenCall) → Leave xs calls kept → AllByRecursion P calls → AllByRecursion (λ x. P x.call) xs × AllByRecursion P kept
+pub leave-all : (P : OpenCall → Type 0) (xs : List Ended) (calls kept : List OpenCall) → Leave xs calls kept →
+    AllByRecursion P calls → AllByRecursion (λ x. P x.call) xs × AllByRecursion P kept
 leave-all P xs calls kept (nobody cs) all = (tt, all)
 leave-all P xs calls kept (next y ys cs rest ks t l) all =
     let a = take-all P y.call cs rest t all in
@@ -75,14 +78,17 @@ abbrev pub count_ended : (OpenCall → Bool) → List Ended → ℕ
 count_ended test [] = 0
 count_ended test (x ∷ xs) = one (test x.call) + count_ended test xs
 
-take-count : (test : OpenCall → Bool) (call : OpenCall) (calls kept : List OpenCall) → Takes call calls kept → one (test call) + count test kept ≡ count test calls
+take-count : (test : OpenCall → Bool) (call : OpenCall) (calls kept : List OpenCall) → Takes call calls kept →
+    one (test call) + count test kept ≡ count test calls
 take-count test call calls kept (here rest) = refl
 take-count test call calls kept (later c cs ks t) = omega (arith, take-count test call cs ks t)
 
 -- each call ends or stays
-pub leave-count : (test : OpenCall → Bool) (xs : List Ended) (calls kept : List OpenCall) → Leave xs calls kept → count_ended test xs + count test kept ≡ count test calls
+pub leave-count : (test : OpenCall → Bool) (xs : List Ended) (calls kept : List OpenCall) → Leave xs calls kept →
+    count_ended test xs + count test kept ≡ count test calls
 leave-count test xs calls kept (nobody cs) = omega arith
-leave-count test xs calls kept (next y ys cs rest ks t l) = omega (arith, take-count test y.call cs rest t, leave-count test ys rest ks l)
+leave-count test xs calls kept (next y ys cs rest ks t l) =
+    omega (arith, take-count test y.call cs rest t, leave-count test ys rest ks l)
 
 -- How calls end
 
@@ -92,9 +98,11 @@ leave-join xs ys a b c (nobody cs) m = m
 leave-join xs ys a b c (next x zs cs rest ks t l) m = next x (zs ++ ys) cs rest c t (leave-join zs ys rest b c l m)
 
 -- one that stays stands before them
-pub leave-later : (call : OpenCall) (xs : List Ended) (calls kept : List OpenCall) → Leave xs calls kept → Leave xs (call ∷ calls) (call ∷ kept)
+pub leave-later : (call : OpenCall) (xs : List Ended) (calls kept : List OpenCall) → Leave xs calls kept →
+    Leave xs (call ∷ calls) (call ∷ kept)
 leave-later call xs calls kept (nobody cs) = nobody (call ∷ cs)
-leave-later call xs calls kept (next y ys cs rest ks t l) = next y ys (call ∷ cs) (call ∷ rest) (call ∷ ks) (later call cs rest t) (leave-later call ys rest ks l)
+leave-later call xs calls kept (next y ys cs rest ks t l) =
+    next y ys (call ∷ cs) (call ∷ rest) (call ∷ ks) (later call cs rest t) (leave-later call ys rest ks l)
 
 -- of each process one call at most: to take out its call is to leave out its calls
 
@@ -102,14 +110,18 @@ pub without_none : (pid : Pid) (calls : List OpenCall) → is_among pid.0 calls 
 without_none pid [] e = refl
 without_none pid (call ∷ calls) e = let f = or_parts (call.pid.0 == pid.0) (is_among pid.0 calls) e in rw f.0 (ap (λ cs. call ∷ cs) (without_none pid calls f.1))
 
-pub without_head : (call : OpenCall) (calls : List OpenCall) → is_among call.pid.0 calls ≡ false → without call.pid (call ∷ calls) ≡ calls
+pub without_head : (call : OpenCall) (calls : List OpenCall) → is_among call.pid.0 calls ≡ false →
+    without call.pid (call ∷ calls) ≡ calls
 without_head call calls apart = rw (same_number call.pid.0) (without_none call.pid calls apart)
 
-apart-takes : (calls : List OpenCall) → Apart calls → AllByRecursion (λ call. Takes call calls (without call.pid calls)) calls
+apart-takes : (calls : List OpenCall) → Apart calls →
+    AllByRecursion (λ call. Takes call calls (without call.pid calls)) calls
 apart-takes [] a = tt
 apart-takes (c ∷ cs) a = (rw (without_head c cs a.0) (here cs), others cs cs (apart-takes cs a.1) a.0)
   where
-    others : (all some : List OpenCall) → AllByRecursion (λ call. Takes call all (without call.pid all)) some → is_among c.pid.0 some ≡ false → AllByRecursion (λ call. Takes call (c ∷ all) (without call.pid (c ∷ all))) some
+    others : (all some : List OpenCall) → AllByRecursion (λ call. Takes call all (without call.pid all)) some →
+        is_among c.pid.0 some ≡ false →
+        AllByRecursion (λ call. Takes call (c ∷ all) (without call.pid (c ∷ all))) some
     others all [] t free = tt
     others all (call ∷ calls) t free =
         let f = or_parts (call.pid.0 == c.pid.0) (is_among c.pid.0 calls) free in
@@ -119,12 +131,16 @@ apart-takes (c ∷ cs) a = (rw (without_head c cs a.0) (here cs), others cs cs (
 abbrev pub Goes : List OpenCall → Ending → OpenCall → Type 0
 Goes calls x call = call.pid ≡ x.pid → Apart calls → Takes call calls (without x.pid calls)
 
-pub first-goes : (test : Case → Bool) (calls : List OpenCall) (x : Ending) → first_with test calls ≡ Some x → Found (Goes calls x) test calls x
+pub first-goes : (test : Case → Bool) (calls : List OpenCall) (x : Ending) → first_with test calls ≡ Some x →
+    Found (Goes calls x) test calls x
 first-goes test calls x e = first-found (Goes calls x) test calls x (given calls (apart-takes calls)) e
   where
-    given : (some : List OpenCall) → (Apart calls → AllByRecursion (λ call. Takes call calls (without call.pid calls)) some) → AllByRecursion (Goes calls x) some
+    given : (some : List OpenCall) →
+        (Apart calls → AllByRecursion (λ call. Takes call calls (without call.pid calls)) some) →
+        AllByRecursion (Goes calls x) some
     given [] t = tt
-    given (c ∷ cs) t = (λ same a. subst (λ (p : Pid). Takes c calls (without p calls)) same (t a).0, given cs (λ a. (t a).1))
+    given (c ∷ cs) t =
+        (λ same a. subst (λ (p : Pid). Takes c calls (without p calls)) same (t a).0, given cs (λ a. (t a).1))
 
 -- calls that end as `P` says, and what tells it
 pub record Parts (P : Ended → Type 0) (calls kept : List OpenCall) (events : List Event) : Type 0 where
@@ -140,7 +156,8 @@ pub record ClosedAt (p : Port) (x : Ended) : Type 0 where
   pub on : is_on p at.case ≡ true
   pub stands : slice_get x.call.cases at.index ≡ Some at.case
 
-closed_by : (p : Port) (call : OpenCall) (calls kept : List OpenCall) (events : List Event) (b : Bool) (o : Option Placed) → b ≡ is_some o → o ≡ lowest (is_on p) call.cases → Parts (ClosedAt p) calls kept events →
+closed_by : (p : Port) (call : OpenCall) (calls kept : List OpenCall) (events : List Event) (b : Bool) (o : Option Placed) →
+    b ≡ is_some o → o ≡ lowest (is_on p) call.cases → Parts (ClosedAt p) calls kept events →
     Parts (ClosedAt p) (call ∷ calls) (cond (not b) (call ∷ kept) kept) (cons_option (option_map (λ c. fired call.pid c.index (closing_outcome c.case)) o) events)
 closed_by p call calls kept events false None some is rest = record { ended = rest.ended; told = rest.told; each = rest.each; leaves = leave-later call rest.ended calls kept rest.leaves }
 closed_by p call calls kept events true (Some a) some is rest =
@@ -157,7 +174,8 @@ closed_by p call calls kept events true None some is rest = cc
 closed_by p call calls kept events false (Some a) some is rest = cc
 
 -- those that a close ends
-pub closed : (p : Port) (calls : List OpenCall) → Parts (ClosedAt p) calls (filter (λ call. not (list_any (is_on p) call.cases)) calls) (filter_map (closing_event p) calls)
+pub closed : (p : Port) (calls : List OpenCall) →
+    Parts (ClosedAt p) calls (filter (λ call. not (list_any (is_on p) call.cases)) calls) (filter_map (closing_event p) calls)
 closed p [] = record { ended = []; told = refl; each = tt; leaves = nobody [] }
 closed p (call ∷ calls) =
     closed_by p call calls (filter (λ call. not (list_any (is_on p) call.cases)) calls) (filter_map (closing_event p) calls) (list_any (is_on p) call.cases) (lowest (is_on p) call.cases)

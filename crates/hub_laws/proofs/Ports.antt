@@ -22,25 +22,8 @@ made s p c e = made_by (p.0 == 0) s p c refl e
 pub at_made : (s : State) (p : Port) (c : Channel) → Made s p c → channel_at s p ≡ Some c
 at_made s p c m = let b : (p.0 == 0) ≡ false = grind (arith, common_steps, m.number) in rw b m.channel
 
-set_at : (xs : List Channel) (i j : ℕ) (d x : Channel) → slice_get (slice_set xs i d) j ≡ Some x → ((i ≡ j) × (x ≡ d)) ⊎ ((i ≡ j → ⊥) × (slice_get xs j ≡ Some x))
-set_at [] i j d x e = cc
-set_at (y ∷ ys) zero zero d x e = inl (refl, cc)
-set_at (y ∷ ys) zero (suc j) d x e = inr (λ h. absurd (omega arith), e)
-set_at (y ∷ ys) (suc i) zero d x e = inr (λ h. absurd (omega arith), e)
-set_at (y ∷ ys) (suc i) (suc j) d x e = elim (set_at ys i j d x e) [ inl l ↦ inl (ap suc l.0, l.1) | inr r ↦ inr (λ h. r.0 (omega arith), r.1) ]
-
 pub same_port : (p q : Port) → p.0 ≡ q.0 → p ≡ q
 same_port p q h = let f : ℕ → Port = λ n. record { 0 = n } in ap f h
-
--- after the channel of port p was written
-pub set_port : (s t : State) (p q : Port) (c d x : Channel) → t.channels ≡ slice_set s.channels (p.0 - 1) d → channel_at s p ≡ Some c → channel_at t q ≡ Some x → ((p ≡ q) × (x ≡ d)) ⊎ ((p.0 ≡ q.0 → ⊥) × (channel_at s q ≡ Some x))
-set_port s t p q c d x is e h =
-    let m = made s p c e in
-    let n = made t q x h in
-    elim (set_at s.channels (p.0 - 1) (q.0 - 1) d x (rw (sym is) n.channel)) [
-      | inl l ↦ inl (same_port p q (omega (arith, m.number, n.number, l.0)), l.1)
-      | inr r ↦ inr (λ same. r.0 (omega (arith, same)), at_made s q x (record { number = n.number; channel = r.1 }))
-    ]
 
 -- after one channel more was made
 snoc_at : (xs : List Channel) (i : ℕ) (d x : Channel) → slice_get (xs ++ d ∷ []) i ≡ Some x → ((i ≡ length xs) × (x ≡ d)) ⊎ (slice_get xs i ≡ Some x)

@@ -41,11 +41,13 @@ got_one cases w xs deeds placed e = e
 
 got_ended : (xs : List Ended) → AllByRecursion EndsWell xs → got_in (events_of xs) ≡ values (ended_deeds xs)
 got_ended [] well = refl
-got_ended (x ∷ xs) well = got_one x.call.cases x.what (got_in (events_of xs)) (ended_deeds xs) well.0.1 (got_ended xs well.1)
+got_ended (x ∷ xs) well =
+    got_one x.call.cases x.what (got_in (events_of xs)) (ended_deeds xs) well.0.1 (got_ended xs well.1)
 
 -- and all of them are on one port
 
-got_values : (p : Port) (c d : Channel) (deeds : List Deed) → Moved p c d deeds → picks (got_on p) deeds ≡ values deeds
+got_values : (p : Port) (c d : Channel) (deeds : List Deed) → Moved p c d deeds →
+    picks (got_on p) deeds ≡ values deeds
 got_values p c d deeds (buffers v live is e) = rw e refl
 got_values p c d deeds (hands v w live next is e) = rw (e, same_number p.0) refl
 got_values p c d deeds (fetches v w live next is e) = rw (e, same_number p.0) refl
@@ -92,7 +94,8 @@ moves-received s e (Some f) p sound = rw (fault_names_none e.step f) (sym (appen
 
 -- what is received on a port, by the channel and by the events
 told_by_events : (n : ℕ) (es : List Entry) (p : Port) → received_on (state n es) p ≡ received_values n es p
-told_by_events n es p = got-after (opening n) [] es p (sound-opening n) tt ∙ ap (λ xs. xs ++ received_values n es p) (no_total received_from p)
+told_by_events n es p =
+    got-after (opening n) [] es p (sound-opening n) tt ∙ ap (λ xs. xs ++ received_values n es p) (no_total received_from p)
 
 pub received_values-law : (n : ℕ) (es : List Entry) (e : Entry) → ReceivedLaw n es e
 received_values-law n es e = record {

@@ -32,15 +32,16 @@ use Rattle.hub_laws.proofs.Ready.{Admitted, admitted, none_false}
 
 -- The caller's call, where it waits
 
-fitting : (s : State) (pid : Pid) (step : Step) → fault_of s step ≡ None → CallFits (length s.channels) (call_of pid step)
+fitting : (s : State) (pid : Pid) (step : Step) → fault_of s step ≡ None →
+    CallFits (length s.channels) (call_of pid step)
 fitting s pid (Call cases default word) h =
     let a = none_false (nat_lt 8 (length cases.items)) fault.TooManyCases (cond (list_any (λ c. is_unmade s (port_of c)) cases.items) (Some fault.NoPort) None) h in
     let b = none_false (list_any (λ c. is_unmade s (port_of c)) cases.items) fault.NoPort None a.1 in
     record { few = ltb-false 8 (length cases.items) a.0; made = b.0 }
 fitting s pid step h = record { few = omega arith; made = refl }
 
-parks_sound : (s : State) (call : OpenCall) → IsSound s → Admitted s call.pid → CallFits (length s.channels) call → list_any (can_proceed s) call.cases ≡ false →
-    IsSound (record s { parked = s.parked ++ call ∷ [] })
+parks_sound : (s : State) (call : OpenCall) → IsSound s → Admitted s call.pid → CallFits (length s.channels) call →
+    list_any (can_proceed s) call.cases ≡ false → IsSound (record s { parked = s.parked ++ call ∷ [] })
 parks_sound s call sound adm fits none = record {
   apart = apart_snoc s.parked call sound.apart adm.free;
   present = λ q h. elim (or_cases (is_waiting s q) (call.pid.0 == q) (sym (any_snoc (λ call. call.pid.0 == q) s.parked call) ∙ h)) [
@@ -51,11 +52,13 @@ parks_sound s call sound adm fits none = record {
   ports = λ p c e. port-parks s call.pid call.cases p c e none (sound.ports p c e);
 }
 
-caller_sound : (s : State) (pid : Pid) (step : Step) (w : What) → IsSound s → Admitted s pid → fault_of s step ≡ None → (is_parked w ≡ true → list_any (can_proceed s) (cases_or step []) ≡ false) →
+caller_sound : (s : State) (pid : Pid) (step : Step) (w : What) → IsSound s → Admitted s pid →
+    fault_of s step ≡ None → (is_parked w ≡ true → list_any (can_proceed s) (cases_or step []) ≡ false) →
     IsSound (record s { parked = with_caller s.parked pid step w })
 caller_sound s pid step w sound adm h blocked = by (is_parked w) refl
   where
-    by : (b : Bool) → b ≡ is_parked w → IsSound (record s { parked = cond b (s.parked ++ call_of pid step ∷ []) s.parked })
+    by : (b : Bool) → b ≡ is_parked w →
+        IsSound (record s { parked = cond b (s.parked ++ call_of pid step ∷ []) s.parked })
     by true is = parks_sound s (call_of pid step) sound adm (fitting s pid step h) (blocked (sym is))
     by false is = sound
 
@@ -74,8 +77,9 @@ fits_more n m call h f = record {
 -- A step
 
 -- none of those that wait then has exited
-none_left : (q : ℕ) (s : State) (pid : Pid) (step : Step) (w : What) → Admitted s pid → is_answer_to step w ≡ true → is_among q (with_caller s.parked pid step w) ≡ true →
-    has_gone s q ≡ false → list_any (λ g. g.0 == q) (s.gone ++ leavers pid step) ≡ false
+none_left : (q : ℕ) (s : State) (pid : Pid) (step : Step) (w : What) → Admitted s pid → is_answer_to step w ≡ true →
+    is_among q (with_caller s.parked pid step w) ≡ true → has_gone s q ≡ false →
+    list_any (λ g. g.0 == q) (s.gone ++ leavers pid step) ≡ false
 none_left q s pid step w adm fits among here =
     list_any-append (λ (g : Pid). g.0 == q) s.gone (leavers pid step) ∙ or_from (has_gone s q) (list_any (λ (g : Pid). g.0 == q) (leavers pid step)) here (by (is_exit step) refl)
   where
@@ -87,16 +91,21 @@ none_left q s pid step w adm fits among here =
         cc)) refl
 
 -- each port: the one that the answer names, or one that is as it was
-port_sound : (s t : State) (named : Option Port) (calls : List OpenCall) (p : Port) (x : Channel) → NamedSound named t.channels t.parked → ((p : Port) → is_port named p ≡ false → at t.channels p ≡ at s.channels p) →
-    ((c : Channel) → channel_at s p ≡ Some c → PortSound p c calls) → Fewer t.parked calls → channel_at t p ≡ Some x → PortSound p x t.parked
+port_sound : (s t : State) (named : Option Port) (calls : List OpenCall) (p : Port) (x : Channel) →
+    NamedSound named t.channels t.parked →
+    ((p : Port) → is_port named p ≡ false → at t.channels p ≡ at s.channels p) →
+    ((c : Channel) → channel_at s p ≡ Some c → PortSound p c calls) → Fewer t.parked calls → channel_at t p ≡ Some x →
+    PortSound p x t.parked
 port_sound s t named calls p x here others before fewer e = by named (is_port named p) refl refl
   where
     by : (o : Option Port) (b : Bool) → o ≡ named → b ≡ is_port o p → PortSound p x t.parked
-    by o false names is = port-fewer p x t.parked calls fewer (before x (sym (others p (ap (λ r. is_port r p) (sym names) ∙ sym is)) ∙ e))
+    by o false names is =
+        port-fewer p x t.parked calls fewer (before x (sym (others p (ap (λ r. is_port r p) (sym names) ∙ sym is)) ∙ e))
     by None true names is = cc
     by (Some q) true names is = let same : q ≡ p = same_port q p (eqb-true q.0 p.0 (sym is)) in here p x (sym names ∙ ap (λ r. Some r) same) e
 
-account_sound : (s : State) (pid : Pid) (step : Step) (c : Change) → IsSound s → Admitted s pid → fault_of s step ≡ None → Account s pid step c → IsSound c.state
+account_sound : (s : State) (pid : Pid) (step : Step) (c : Change) → IsSound s → Admitted s pid →
+    fault_of s step ≡ None → Account s pid step c → IsSound c.state
 account_sound s pid step c sound adm h a =
     let named : Option Port = port_touched_by step a.answer in
     let deeds : List Deed = deeds_of step a.answer a.ended in
@@ -116,14 +125,19 @@ account_sound s pid step c sound adm h a =
       ports = λ p x e. port_sound s c.state named waiting p x (a.sound sound) (does-others s.channels c.state.channels named deeds (a.does sound)) (before.ports p) a.fewer e;
     }
 
-pub effect-sound : (s : State) (pid : Pid) (step : Step) → IsSound s → Admitted s pid → fault_of s step ≡ None → IsSound (effect s pid step).state
-effect-sound s pid step sound adm h = account_sound s pid step (effect s pid step) sound adm h (effect-account s pid step h)
+pub effect-sound : (s : State) (pid : Pid) (step : Step) → IsSound s → Admitted s pid → fault_of s step ≡ None →
+    IsSound (effect s pid step).state
+effect-sound s pid step sound adm h =
+    account_sound s pid step (effect s pid step) sound adm h (effect-account s pid step h)
 
-answers_sound : (s : State) (e : Entry) (o : Option Fault) → IsSound s → Admitted s e.pid → o ≡ fault_of s e.step → IsSound (answers s e o).state
-answers_sound s e None sound adm is = account_sound s e.pid e.step (answers s e None) sound adm (sym is) (answers-account s e None is)
+answers_sound : (s : State) (e : Entry) (o : Option Fault) → IsSound s → Admitted s e.pid → o ≡ fault_of s e.step →
+    IsSound (answers s e o).state
+answers_sound s e None sound adm is =
+    account_sound s e.pid e.step (answers s e None) sound adm (sym is) (answers-account s e None is)
 answers_sound s e (Some f) sound adm is = sound
 
-admits_sound : (s : State) (e : Entry) (o : Option Fault) → IsSound s → o ≡ refusal s e.pid → IsSound (admits s e o).state
+admits_sound : (s : State) (e : Entry) (o : Option Fault) → IsSound s → o ≡ refusal s e.pid →
+    IsSound (admits s e o).state
 admits_sound s e None sound is = answers_sound s e (fault_of s e.step) sound (admitted s e.pid (sym is)) refl
 admits_sound s e (Some f) sound is = sound
 

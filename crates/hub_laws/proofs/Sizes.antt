@@ -33,7 +33,8 @@ calls_length : (calls : List OpenCall) → count (λ call. true) calls ≡ lengt
 calls_length [] = refl
 calls_length (call ∷ calls) = omega (arith, calls_length calls)
 
-caller_length : (calls : List OpenCall) (pid : Pid) (step : Step) (w : What) → length (with_caller calls pid step w) ≤ length calls + 1
+caller_length : (calls : List OpenCall) (pid : Pid) (step : Step) (w : What) →
+    length (with_caller calls pid step w) ≤ length calls + 1
 caller_length calls pid step w = by (is_parked w)
   where
     by : (b : Bool) → length (cond b (calls ++ call_of pid step ∷ []) calls) ≤ length calls + 1
@@ -41,7 +42,8 @@ caller_length calls pid step w = by (is_parked w)
     by false = omega arith
 
 -- an event for each call that ends, and the others stay
-left_length : (xs : List Ended) (calls kept : List OpenCall) → Leave xs calls kept → length (events_of xs) + length kept ≡ length calls
+left_length : (xs : List Ended) (calls kept : List OpenCall) → Leave xs calls kept →
+    length (events_of xs) + length kept ≡ length calls
 left_length xs calls kept l =
     omega (arith, length-map xs (λ (x : Ended). event_of x), leave-count (λ call. true) xs calls kept l, ended_length xs, calls_length calls, calls_length kept)
 
@@ -59,7 +61,8 @@ closes_size s pid p (Some c) =
 
 -- before a stall, also where the step is a fault
 pub effect_size : (s : State) (pid : Pid) (step : Step) → IsSound s → Size s (effect s pid step)
-effect_size s pid (Call cases default word) sound = size s pid (Call cases default word) (calls s pid cases.items default word) sound.apart (calls-account s pid cases.items default word)
+effect_size s pid (Call cases default word) sound =
+    size s pid (Call cases default word) (calls s pid cases.items default word) sound.apart (calls-account s pid cases.items default word)
 effect_size s pid (Close p) sound = closes_size s pid p (channel_at s p)
 effect_size s pid step sound = omega arith
 
@@ -70,9 +73,12 @@ room-law s pid sound adm =
     elim (or_cases (pid.0 == q) (is_among q s.parked) e) [ inl l ↦ subst (λ (n : ℕ). n < s.procs) (eqb-true pid.0 q l) adm.below | inr r ↦ (sound.present q r).0 ]) in
     omega arith
 
-admits_size : (s : State) (e : Entry) (o : Option Fault) → o ≡ refusal s e.pid → IsSound s → length (admits s e o).events ≤ s.procs + 1
-admits_size s e None is sound = omega (arith, size s e.pid e.step (turn s e) sound.apart (turn-account s e), room-law s e.pid sound (admitted s e.pid (sym is)))
+admits_size : (s : State) (e : Entry) (o : Option Fault) → o ≡ refusal s e.pid → IsSound s →
+    length (admits s e o).events ≤ s.procs + 1
+admits_size s e None is sound =
+    omega (arith, size s e.pid e.step (turn s e) sound.apart (turn-account s e), room-law s e.pid sound (admitted s e.pid (sym is)))
 admits_size s e (Some f) is sound = omega arith
 
 pub events-law : (n : ℕ) (es : List Entry) (e : Entry) → length (moves (state n es) e).events ≤ n + 1
-events-law n es e = omega (arith, admits_size (state n es) e (refusal (state n es) e.pid) refl (state-sound n es), procs-after (opening n) es)
+events-law n es e =
+    omega (arith, admits_size (state n es) e (refusal (state n es) e.pid) refl (state-sound n es), procs-after (opening n) es)

@@ -25,29 +25,36 @@ use Rattle.hub_laws.proofs.Deeds.{Knows, deed_of, told, Does, idle}
 use Rattle.hub_laws.proofs.Leaving.{Ended, events_of}
 use Rattle.hub_laws.proofs.Ready.{Admitted, admitted}
 
-pub last_call-snoc : (pid : Pid) (before : List Case) (ts : List Turned) (t : Turned) → last_call pid before (ts ++ t ∷ []) ≡ latest pid (last_call pid before ts) t
+pub last_call-snoc : (pid : Pid) (before : List Case) (ts : List Turned) (t : Turned) →
+    last_call pid before (ts ++ t ∷ []) ≡ latest pid (last_call pid before ts) t
 last_call-snoc pid before [] t = refl
 last_call-snoc pid before (x ∷ ts) t = last_call-snoc pid (latest pid before x) ts t
 
 -- Which cases are in force
 
 -- of a process that did not step
-latest_other : (pid : Pid) (before : List Case) (t : Turned) → (t.entry.pid.0 == pid.0) ≡ false → latest pid before t ≡ before
+latest_other : (pid : Pid) (before : List Case) (t : Turned) → (t.entry.pid.0 == pid.0) ≡ false →
+    latest pid before t ≡ before
 latest_other pid before t e = rw e refl
 
 -- of any process, after an entry that was answered by a fault
-latest_refused : (pid : Pid) (before : List Case) (t : Turned) → refused t.events ≡ true → latest pid before t ≡ before
-latest_refused pid before t e = rw e (elim (t.entry.pid.0 == pid.0) as (λ b. cond b before before ≡ before) [ true ↦ refl | false ↦ refl ])
+latest_refused : (pid : Pid) (before : List Case) (t : Turned) → refused t.events ≡ true →
+    latest pid before t ≡ before
+latest_refused pid before t e =
+    rw e (elim (t.entry.pid.0 == pid.0) as (λ b. cond b before before ≡ before) [ true ↦ refl | false ↦ refl ])
 
 -- of the process that stepped
-latest_mine : (before : List Case) (t : Turned) → refused t.events ≡ false → latest t.entry.pid before t ≡ cases_or t.entry.step before
+latest_mine : (before : List Case) (t : Turned) → refused t.events ≡ false →
+    latest t.entry.pid before t ≡ cases_or t.entry.step before
 latest_mine before t e = rw (e, same_number t.entry.pid.0) refl
 
-knows_more : (L M : Pid → List Case) (calls : List OpenCall) → ((pid : Pid) → M pid ≡ L pid) → Knows L calls → Knows M calls
+knows_more : (L M : Pid → List Case) (calls : List OpenCall) → ((pid : Pid) → M pid ≡ L pid) → Knows L calls →
+    Knows M calls
 knows_more L M [] same k = tt
 knows_more L M (call ∷ calls) same k = (same call.pid ∙ k.0, knows_more L M calls same k.1)
 
-knows_others : (L M : Pid → List Case) (q : ℕ) (calls : List OpenCall) → is_among q calls ≡ false → ((pid : Pid) → (q == pid.0) ≡ false → M pid ≡ L pid) → Knows L calls → Knows M calls
+knows_others : (L M : Pid → List Case) (q : ℕ) (calls : List OpenCall) → is_among q calls ≡ false →
+    ((pid : Pid) → (q == pid.0) ≡ false → M pid ≡ L pid) → Knows L calls → Knows M calls
 knows_others L M q [] free same k = tt
 knows_others L M q (call ∷ calls) free same k =
     let f = or_parts (call.pid.0 == q) (is_among q calls) free in
@@ -65,19 +72,22 @@ pub record TurnLaws (s : State) (step : Step) (c : Change) (now : Pid → List C
   pub knows : Knows now c.state.parked
 
 -- what the events of the calls that end tell
-told_ended : (L : Pid → List Case) (xs : List Ended) → AllByRecursion (λ x. L x.call.pid ≡ x.call.cases) xs → told deed_of L (events_of xs) ≡ ended_deeds xs
+told_ended : (L : Pid → List Case) (xs : List Ended) → AllByRecursion (λ x. L x.call.pid ≡ x.call.cases) xs →
+    told deed_of L (events_of xs) ≡ ended_deeds xs
 told_ended L [] k = refl
 told_ended L (x ∷ xs) k = rw (k.0, told_ended L xs k.1) refl
 
 -- what the answer tells, of a call's own cases
-told_own : (L before : List Case) (step : Step) (w : What) → is_answer_to step w ≡ true → (is_fault w ≡ false → L ≡ cases_or step before) →
-    of_what deed_of L w ≡ of_what deed_of (cases_or step []) w
-told_own L before (Call cases default word) (what.Fired i o) fits mine = ap (λ l. deed_of (slice_get l i) o) (mine refl)
+told_own : (L before : List Case) (step : Step) (w : What) → is_answer_to step w ≡ true →
+    (is_fault w ≡ false → L ≡ cases_or step before) → of_what deed_of L w ≡ of_what deed_of (cases_or step []) w
+told_own L before (Call cases default word) (what.Fired i o) fits mine =
+    ap (λ l. deed_of (slice_get l i) o) (mine refl)
 told_own L before step (what.Fired i o) fits mine = absurd (let g : ⊥ = cc in g)
 told_own L before step w fits mine = refl
 
 -- only a call waits
-parked_call : (before : List Case) (step : Step) (w : What) → is_answer_to step w ≡ true → is_parked w ≡ true → (cases_or step before ≡ cases_or step []) × (is_fault w ≡ false)
+parked_call : (before : List Case) (step : Step) (w : What) → is_answer_to step w ≡ true → is_parked w ≡ true →
+    (cases_or step before ≡ cases_or step []) × (is_fault w ≡ false)
 parked_call before (Call cases default word) what.Parked fits parks = (refl, refl)
 parked_call before step what.Parked fits parks = absurd (let g : ⊥ = cc in g)
 parked_call before step w fits parks = absurd (let g : ⊥ = cc in g)
@@ -112,7 +122,8 @@ passed_turn s e f ts knows =
       knows = knows_more (in_force ts) (in_force (ts ++ t ∷ [])) s.parked (λ pid. last_call-snoc pid [] ts t ∙ latest_refused pid (last_call pid [] ts) t refl) knows;
     }
 
-admits_turn : (s : State) (e : Entry) (o : Option Fault) (ts : List Turned) → IsSound s → o ≡ refusal s e.pid → Knows (in_force ts) s.parked →
+admits_turn : (s : State) (e : Entry) (o : Option Fault) (ts : List Turned) → IsSound s → o ≡ refusal s e.pid →
+    Knows (in_force ts) s.parked →
     TurnLaws s e.step (admits s e o) (in_force (ts ++ record { entry = e; events = (admits s e o).events } ∷ []))
 admits_turn s e None ts sound is knows = turn_turn s e ts sound (admitted s e.pid (sym is)) knows
 admits_turn s e (Some f) ts sound is knows = passed_turn s e f ts knows

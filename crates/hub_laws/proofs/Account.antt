@@ -16,15 +16,16 @@ use Rattle.hub_base.specs.declared.case.Case.TheVariants.{Send, Recv}
 use Rattle.hub_base.specs.declared.entry.Step.{Step}
 use Rattle.hub_base.specs.declared.entry.Step.TheVariants.{Make, Call, Close, Exit}
 use Rattle.hub_base.specs.declared.entry.Entry.{Entry}
+use Rattle.hub_base.specs.declared.event.Event.{Event}
 use Rattle.hub_base.specs.declared.fault.Fault.{Fault}
 use Rattle.hub_base.specs.declared.fault.Fault.TheVariants as fault
 use Rattle.hub_base.specs.declared.event.Outcome.{Outcome}
 use Rattle.hub_base.specs.declared.event.Outcome.TheVariants.{Sent, Got, Drained, Closed}
 use Rattle.hub_base.specs.declared.event.What.{What}
 use Rattle.hub_base.specs.declared.event.What.TheVariants as what
-use Rattle.hub_base.specs.State.{State, Channel, OpenCall, channel_at, with_channel}
+use Rattle.hub_base.specs.State.{State, Channel, OpenCall, channel_at}
 use Rattle.hub_base.specs.Ready.{is_send_on, is_recv_on, is_on, can_proceed, ready, port_of, first_with, Ending, without, send_can, recv_can}
-use Rattle.hub_base.specs.Steps.{Firing, fires, proceeds, chooses, calls, closes, makes, exits, waits, effect, Change, sent, received, next_value, outcome_of, with_sent, send_meets, recv_takes, recv_meets, fired, tells, fault_of, close_fault, is_unmade, answers, turn, shut}
+use Rattle.hub_base.specs.Steps.{Firing, fires, send_fires, proceeds, chooses, calls, closes, effect, Change, sent, received, next_value, outcome_of, with_sent, send_meets, recv_takes, recv_meets, fired, tells, fault_of, close_fault, is_unmade, answers, turn, shut}
 use Rattle.hub_base.specs.Reading.{is_exit}
 use Rattle.hub_base.specs.Values.{cases_or, of_what}
 use Rattle.hub_laws.specs.Sound.{Apart, IsSound, PortSound, some_call}
@@ -50,9 +51,9 @@ call_of pid step = record { pid = pid; cases = cases_or step [] }
 abbrev pub with_caller : List OpenCall → Pid → Step → What → List OpenCall
 with_caller calls pid step answer = if is_parked answer then calls ++ call_of pid step ∷ [] else calls
 
--- who exits by this step
-abbrev pub leavers : Pid → Step → List Pid
-leavers pid step = if is_exit step then pid ∷ [] else []
+-- those that have exited, with the caller where this is its exit
+abbrev pub with_leaver : List Pid → Pid → Step → List Pid
+with_leaver gone pid step = if is_exit step then gone ++ pid ∷ [] else gone
 
 -- the communications of the calls that end
 abbrev pub ended_deeds : List Ended → List Deed
@@ -84,7 +85,7 @@ pub record Account (s : State) (pid : Pid) (step : Step) (c : Change) : Type 0 w
   pub sound : IsSound s → NamedSound (port_touched_by step answer) c.state.channels c.state.parked
   -- the processes, and those that have exited
   pub procs : c.state.procs ≡ s.procs
-  pub gone : c.state.gone ≡ s.gone ++ leavers pid step
+  pub gone : c.state.gone ≡ with_leaver s.gone pid step
 
 -- what holds of the open calls, and of the caller's where it waits, holds of those that end and of those that wait then
 pub account-all : (P : OpenCall → Type 0) (s : State) (pid : Pid) (step : Step) (c : Change) → Apart s.parked →
@@ -99,38 +100,47 @@ account-all P s pid step c apart a all new =
     by false is = all
 
 -- nobody ends
-alone : (s t : State) (pid : Pid) (step : Step) (answer : What) → is_answer_to step answer ≡ true →
-    InPlace (cases_or step []) answer → t.parked ≡ with_caller s.parked pid step answer →
-    (is_parked answer ≡ true → list_any (can_proceed s) (cases_or step []) ≡ false) → t.procs ≡ s.procs →
-    t.gone ≡ s.gone ++ leavers pid step →
-    (IsSound s → Does s.channels t.channels (port_touched_by step answer) (deeds_of step answer [])) →
-    (IsSound s → NamedSound (port_touched_by step answer) t.channels t.parked) →
-    Account s pid step (record { state = t; events = tells pid answer ∷ [] })
-alone s t pid step answer fits placed same blocked procs gone does sound = record {
+alone : (s : State) (ts : List Channel) (pid : Pid) (step : Step) (answer : What) → is_answer_to step answer ≡ true →
+    InPlace (cases_or step []) answer →
+    (is_parked answer ≡ true → list_any (can_proceed s) (cases_or step []) ≡ false) →
+    (IsSound s → Does s.channels ts (port_touched_by step answer) (deeds_of step answer [])) →
+    (IsSound s → NamedSound (port_touched_by step answer) ts (with_caller s.parked pid step answer)) →
+    Account s pid step (record {
+      state = record s {
+        gone = with_leaver s.gone pid step;
+        parked = with_caller s.parked pid step answer;
+        channels = ts;
+      };
+      events = tells pid answer ∷ [];
+    })
+alone s ts pid step answer fits placed blocked does sound = record {
   answer = answer;
   ended = [];
   told = refl;
   fits = fits;
   placed = placed;
   ends = tt;
-  leaves = λ a. rw same (nobody (with_caller s.parked pid step answer));
-  fewer = rw same (fewer-same (with_caller s.parked pid step answer));
+  leaves = λ a. nobody (with_caller s.parked pid step answer);
+  fewer = fewer-same (with_caller s.parked pid step answer);
   blocked = blocked;
   does = does;
   sound = sound;
-  procs = procs;
-  gone = gone;
+  procs = refl;
+  gone = refl;
 }
 
--- and nobody has exited, and no channel is written
-silent : (s t : State) (pid : Pid) (step : Step) (answer : What) → is_answer_to step answer ≡ true →
-    InPlace (cases_or step []) answer → t.parked ≡ with_caller s.parked pid step answer →
-    (is_parked answer ≡ true → list_any (can_proceed s) (cases_or step []) ≡ false) → t.procs ≡ s.procs →
-    t.gone ≡ s.gone ++ leavers pid step → t.channels ≡ s.channels → port_touched_by step answer ≡ None →
+-- and no channel is written
+silent : (s : State) (pid : Pid) (step : Step) (answer : What) → is_answer_to step answer ≡ true →
+    (is_parked answer ≡ true → list_any (can_proceed s) (cases_or step []) ≡ false) →
+    port_touched_by step answer ≡ None → InPlace (cases_or step []) answer →
     of_what deed_of (cases_or step []) answer ≡ None →
-    Account s pid step (record { state = t; events = tells pid answer ∷ [] })
-silent s t pid step answer fits placed same blocked procs gone channels none quiet =
-    alone s t pid step answer fits placed same blocked procs gone (λ sound. idle none channels (rw quiet refl)) (λ sound p c names e. absurd (let g : ⊥ = cc in g))
+    Account s pid step (record {
+      state = record s { gone = with_leaver s.gone pid step; parked = with_caller s.parked pid step answer };
+      events = tells pid answer ∷ [];
+    })
+silent s pid step answer fits blocked none placed quiet =
+    alone s s.channels pid step answer fits placed blocked (λ sound. idle none refl (rw quiet refl))
+    (λ sound p c names e. absurd (let g : ⊥ = cc in g))
 
 -- the port that is written
 named_sound : (named : Option Port) (cs ts : List Channel) (p : Port) (c d : Channel) (calls : List OpenCall) →
@@ -154,22 +164,28 @@ module _ (s : State) (pid : Pid) (cases : List Case) (default : Bool) (word i : 
   abbrev Fires : Firing → Type 0
   Fires f = Account s pid this (proceeds s pid i (Some f))
 
-  alone_fires : (t : State) (k : Case) (o : Outcome) (c d : Channel) → slice_get cases i ≡ Some k →
-      t.parked ≡ s.parked → t.procs ≡ s.procs → t.gone ≡ s.gone → Wrote s.channels t.channels (port_of k) c d →
-      Moved (port_of k) c d (deed k o ∷ []) → (IsSound s → PortSound (port_of k) d t.parked) →
-      Fires (record { outcome = o; state = t; ended = [] })
-  alone_fires t k o c d mine same procs gone w m fine =
-      alone s t pid this (what.Fired i o) refl (k, mine) same (λ h. cc) procs (gone ∙ sym (append-nil s.gone)) (λ sound. rw mine (wrote (port_of k) c d refl w m))
-      (λ sound. rw mine (named_sound (Some (port_of k)) s.channels t.channels (port_of k) c d t.parked refl w (fine sound)))
+  alone_fires : (ts : List Channel) (k : Case) (o : Outcome) (c d : Channel) → slice_get cases i ≡ Some k →
+      Wrote s.channels ts (port_of k) c d → Moved (port_of k) c d (deed k o ∷ []) →
+      (IsSound s → PortSound (port_of k) d s.parked) →
+      Fires (record { outcome = o; state = record s { channels = ts }; ended = [] })
+  alone_fires ts k o c d mine w m fine =
+      let p : Port = port_of k in
+      alone s ts pid this (what.Fired i o) refl (k, mine) (λ h. cc) (λ sound. rw mine (wrote p c d refl w m))
+      (λ sound. rw mine (named_sound (Some p) s.channels ts p c d s.parked refl w (fine sound)))
 
   -- with the oldest call that waits for it
-  meets : (t : State) (k : Case) (o its : Outcome) (test : Case → Bool) (x : Ending) (c d : Channel) →
-      slice_get cases i ≡ Some k → first_with test s.parked ≡ Some x → t.parked ≡ without x.pid s.parked →
-      t.procs ≡ s.procs → t.gone ≡ s.gone → channel_at s (port_of k) ≡ Some c →
-      Wrote s.channels t.channels (port_of k) c d →
-      (IsSound s → test x.at.case ≡ true → Moved (port_of k) c d (deed k o ∷ deed x.at.case its ∷ []) × (PortSound (port_of k) c (without x.pid s.parked) → PortSound (port_of k) d (without x.pid s.parked))) →
-      Fires (record { outcome = o; state = t; ended = fired x.pid x.at.index its ∷ [] })
-  meets t k o its test x c d mine is same procs gone old w does =
+  meets : (ts : List Channel) (k : Case) (o its : Outcome) (test : Case → Bool) (x : Ending) (c d : Channel) →
+      slice_get cases i ≡ Some k → first_with test s.parked ≡ Some x → channel_at s (port_of k) ≡ Some c →
+      Wrote s.channels ts (port_of k) c d →
+      (IsSound s → test x.at.case ≡ true →
+      Moved (port_of k) c d (deed k o ∷ deed x.at.case its ∷ []) × ((calls : List OpenCall) → PortSound (port_of k) c calls → PortSound (port_of k) d calls)) →
+      Fires (record {
+        outcome = o;
+        state = record s { parked = without x.pid s.parked; channels = ts };
+        ended = fired x.pid x.at.index its ∷ [];
+      })
+  meets ts k o its test x c d mine is old w does =
+      let p : Port = port_of k in
       let f = first-goes test s.parked x is in
       let e : Ended = record { call = f.call; what = what.Fired x.at.index its } in
       let kept : List OpenCall = without x.pid s.parked in
@@ -181,39 +197,46 @@ module _ (s : State) (pid : Pid) (cases : List Case) (default : Bool) (word i : 
         fits = refl;
         placed = (k, mine);
         ends = ((refl, (x.at.case, f.stands)), tt);
-        leaves = λ a. rw same (next e [] s.parked kept kept (f.known f.pid a) (nobody kept));
-        fewer = rw same fewer;
+        leaves = λ a. next e [] s.parked kept kept (f.known f.pid a) (nobody kept);
+        fewer = fewer;
         blocked = λ h. cc;
-        does = λ sound. rw (mine, f.stands) (wrote (port_of k) c d refl w (does sound f.passes).0);
+        does = λ sound. rw (mine, f.stands) (wrote p c d refl w (does sound f.passes).0);
         sound = λ sound.
-            let fine : PortSound (port_of k) d kept = (does sound f.passes).1 (port-fewer (port_of k) c kept s.parked fewer (sound.ports (port_of k) c old)) in
-            rw (mine, same) (named_sound (Some (port_of k)) s.channels t.channels (port_of k) c d kept refl w fine);
-        procs = procs;
-        gone = gone ∙ sym (append-nil s.gone);
+            let still : PortSound p c kept = port-fewer p c kept s.parked fewer (sound.ports p c old) in
+            rw mine (named_sound (Some p) s.channels ts p c d kept refl w ((does sound f.passes).1 kept still));
+        procs = refl;
+        gone = refl;
       }
 
   send_account : (p : Port) (v : Value) (c : Channel) (o : Option Ending) → slice_get cases i ≡ Some (Send p v) →
       channel_at s p ≡ Some c → send_can s p c ≡ true → c.closed ≡ false → o ≡ first_with (is_recv_on p) s.parked →
       Fires (send_meets s p (sent v c) o)
   send_account p v c None mine e can live is =
+      let d : Channel = sent v c in
       let none : some_call (is_recv_on p) s.parked ≡ false = sym (some_first (is_recv_on p) s.parked None is) in
-      let none' : is_some (first_with (is_recv_on p) s.parked) ≡ false = ap (λ x. is_some x) (sym is) in
-      alone_fires (with_channel s p (sent v c)) (Send p v) Sent c (sent v c) mine refl refl refl (wrote-set s p c (sent v c) e) (buffers v live refl refl)
-      (λ sound. port-sent p v c s.parked (sound.ports p c e) live none (room_by c.closed (is_some (first_with (is_recv_on p) s.parked)) c live none' can))
+      let first : is_some (first_with (is_recv_on p) s.parked) ≡ false = ap (λ x. is_some x) (sym is) in
+      let room = room_by c.closed (is_some (first_with (is_recv_on p) s.parked)) c live first can in
+      alone_fires (slice_set s.channels (p.0 - 1) d) (Send p v) Sent c d mine (wrote-set s p c d e)
+      (buffers v live refl refl) (λ sound. port-sent p v c s.parked (sound.ports p c e) live none room)
   send_account p v c (Some x) mine e can live is =
-      meets (send_meets s p (sent v c) (Some x)).state (Send p v) Sent (outcome_of (next_value (sent v c))) (is_recv_on p) x c (received (sent v c)) mine (sym is) refl refl refl e
-      (wrote-set s p c (received (sent v c)) e)
-      (λ sound passes.
+      let d : Channel = received (sent v c) in
+      let its : Outcome = outcome_of (next_value (sent v c)) in
+      meets (slice_set s.channels (p.0 - 1) d) (Send p v) Sent its (is_recv_on p) x c d mine (sym is) e
+      (wrote-set s p c d e) (λ sound passes.
       let w = next_sent s p v c sound e in
-      (hands v w.0 live w.1 refl (rw (is_recv p x.at.case passes, w.1) refl), λ fine. port-through p v c (without x.pid s.parked) fine live))
+      let moved = hands v w.0 live w.1 refl (rw (is_recv p x.at.case passes, w.1) refl) in
+      (moved, λ calls fine. port-through p v c calls fine live))
 
   takes_account : (p : Port) (c : Channel) (o : Option Value) → slice_get cases i ≡ Some (Recv p) →
       channel_at s p ≡ Some c → some_call (is_send_on p) s.parked ≡ false → o ≡ next_value c →
       Fires (recv_takes s p c [] o)
   takes_account p c None mine e none is =
-      alone_fires (with_channel s p c) (Recv p) Drained c c mine refl refl refl (wrote-set s p c c e) (drains (sym is) refl refl) (λ sound. sound.ports p c e)
+      alone_fires (slice_set s.channels (p.0 - 1) c) (Recv p) Drained c c mine (wrote-set s p c c e)
+      (drains (sym is) refl refl) (λ sound. sound.ports p c e)
   takes_account p c (Some w) mine e none is =
-      alone_fires (with_channel s p (received c)) (Recv p) (Got w) c (received c) mine refl refl refl (wrote-set s p c (received c) e) (gives w (sym is) refl refl)
+      let d : Channel = received c in
+      alone_fires (slice_set s.channels (p.0 - 1) d) (Recv p) (Got w) c d mine (wrote-set s p c d e)
+      (gives w (sym is) refl refl)
       (λ sound. port-received p c s.parked (sound.ports p c e) none (slice_get_within c.done c.taken w (sym is)))
 
   fetches_account : (p : Port) (c : Channel) (x : Ending) (o : Option Value) → slice_get cases i ≡ Some (Recv p) →
@@ -221,21 +244,21 @@ module _ (s : State) (pid : Pid) (cases : List Case) (default : Bool) (word i : 
       Fires (recv_takes (record s { parked = without x.pid s.parked }) p (with_sent x.at.case c) (fired x.pid x.at.index Sent ∷ []) o)
   fetches_account p c x None mine e is after =
       let d : Channel = with_sent x.at.case c in
-      meets (with_channel (record s { parked = without x.pid s.parked }) p d) (Recv p) Drained Sent (is_send_on p) x c d mine is refl refl refl e (wrote-set s p c d e)
-      (λ sound passes.
+      meets (slice_set s.channels (p.0 - 1) d) (Recv p) Drained Sent (is_send_on p) x c d mine is e
+      (wrote-set s p c d e) (λ sound passes.
       let u = is_send p x.at.case passes in
       let w = next_sent s p u.0 c sound e in
       let none : None ≡ next_value (sent u.0 c) = rw u.1 at after in
       absurd (let g : ⊥ = cc in g))
   fetches_account p c x (Some w) mine e is after =
       let d : Channel = received (with_sent x.at.case c) in
-      meets (with_channel (record s { parked = without x.pid s.parked }) p d) (Recv p) (Got w) Sent (is_send_on p) x c d mine is refl refl refl e (wrote-set s p c d e)
-      (λ sound passes.
+      meets (slice_set s.channels (p.0 - 1) d) (Recv p) (Got w) Sent (is_send_on p) x c d mine is e
+      (wrote-set s p c d e) (λ sound passes.
       let u = is_send p x.at.case passes in
       let some : Some w ≡ next_value (sent u.0 c) = rw u.1 at after in
       let waits : some_call (is_send_on p) s.parked ≡ true = sym (some_first (is_send_on p) s.parked (Some x) (sym is)) in
       let live : c.closed ≡ false = false_from_ne_true c.closed (λ h. let g = ((sound.ports p c e).ended h).1 in cc) in
-      rw u.1 (fetches u.0 w live (sym some) refl refl, λ fine. port-through p u.0 c (without x.pid s.parked) fine live))
+      rw u.1 (fetches u.0 w live (sym some) refl refl, λ calls fine. port-through p u.0 c calls fine live))
 
   recv_account : (p : Port) (c : Channel) (o : Option Ending) → slice_get cases i ≡ Some (Recv p) →
       channel_at s p ≡ Some c → o ≡ first_with (is_send_on p) s.parked → Fires (recv_meets s p c o)
@@ -244,16 +267,26 @@ module _ (s : State) (pid : Pid) (cases : List Case) (default : Bool) (word i : 
   recv_account p c (Some x) mine e is =
       fetches_account p c x (next_value (with_sent x.at.case c)) mine e (sym is) refl
 
+  sends_account : (p : Port) (v : Value) (c : Channel) → slice_get cases i ≡ Some (Send p v) → channel_at s p ≡ Some c →
+      send_can s p c ≡ true → Fires (send_fires s p v c)
+  sends_account p v c mine e can =
+      by-closed Fires s p v c
+      (λ over. alone_fires s.channels (Send p v) Closed c c mine (wrote-same s p c e) (refuses v over refl refl) (λ sound. sound.ports p c e))
+      (λ live. send_account p v c (first_with (is_recv_on p) s.parked) mine e can live refl)
+
+  -- a case that can proceed has a channel
   fires_account : (k : Case) (o : Option Channel) → slice_get cases i ≡ Some k → o ≡ channel_at s (port_of k) →
       can_proceed s k ≡ true → Account s pid this (proceeds s pid i (fires s k o))
-  fires_account (Send p v) None mine is can = let h : option_map_or (send_can s p) (channel_at s p) false ≡ true = can in let g : false ≡ true = rw (sym is) at h in cc
-  fires_account (Recv p) None mine is can = let h : option_map_or (recv_can s p) (channel_at s p) false ≡ true = can in let g : false ≡ true = rw (sym is) at h in cc
-  fires_account (Send p v) (Some c) mine is can =
-      by-closed Fires s p v c
-      (λ over. alone_fires s (Send p v) Closed c c mine refl refl refl (wrote-same s p c (sym is)) (refuses v over refl refl) (λ sound. sound.ports p c (sym is)))
-      (λ live. send_account p v c (first_with (is_recv_on p) s.parked) mine (sym is) (let g : option_map_or (send_can s p) (channel_at s p) false ≡ true = can in rw (sym is) at g) live refl)
-  fires_account (Recv p) (Some c) mine is can =
-      recv_account p c (first_with (is_send_on p) s.parked) mine (sym is) refl
+  fires_account (Send p v) o mine is can = by o is (let h : option_map_or (send_can s p) (channel_at s p) false ≡ true = can in rw (sym is) at h)
+    where
+      by : (o : Option Channel) → o ≡ channel_at s p → option_map_or (send_can s p) o false ≡ true → Account s pid this (proceeds s pid i (fires s (Send p v) o))
+      by None is can = cc
+      by (Some c) is can = sends_account p v c mine (sym is) can
+  fires_account (Recv p) o mine is can = by o is (let h : option_map_or (recv_can s p) (channel_at s p) false ≡ true = can in rw (sym is) at h)
+    where
+      by : (o : Option Channel) → o ≡ channel_at s p → option_map_or (recv_can s p) o false ≡ true → Account s pid this (proceeds s pid i (fires s (Recv p) o))
+      by None is can = cc
+      by (Some c) is can = recv_account p c (first_with (is_send_on p) s.parked) mine (sym is) refl
 
 -- A call
 
@@ -272,10 +305,12 @@ chooses_account : (s : State) (pid : Pid) (cases : List Case) (default : Bool) (
     (o ≡ None → list_any (can_proceed s) cases ≡ false) → ((x : ℕ × Case) → o ≡ Some x → Picked s cases x) →
     Account s pid (Call (record { items = cases }) default word) (chooses s pid cases default o)
 chooses_account s pid cases true word None none some =
-    silent s s pid (Call (record { items = cases }) true word) what.Default refl tt refl (λ h. cc) refl (sym (append-nil s.gone)) refl refl refl
+    silent s pid (Call (record { items = cases }) true word) what.Default refl (λ h. cc) refl tt refl
 chooses_account s pid cases false word None none some =
-    silent s (waits s pid cases false).state pid (Call (record { items = cases }) false word) what.Parked refl tt refl (λ h. none refl) refl (sym (append-nil s.gone)) refl refl refl
-chooses_account s pid cases default word (Some x) none some = let f = some x refl in fires_account s pid cases default word x.0 x.1 (channel_at s (port_of x.1)) f.0 refl f.1
+    silent s pid (Call (record { items = cases }) false word) what.Parked refl (λ h. none refl) refl tt refl
+chooses_account s pid cases default word (Some x) none some =
+    let f = some x refl in
+    fires_account s pid cases default word x.0 x.1 (channel_at s (port_of x.1)) f.0 refl f.1
 
 pub calls-account : (s : State) (pid : Pid) (cases : List Case) (default : Bool) (word : ℕ) → Account s pid (Call (record { items = cases }) default word) (calls s pid cases default word)
 calls-account s pid cases default word =
@@ -313,7 +348,7 @@ close_account s pid p (Some c) is h =
           (wrote-set s p c (shut c) (sym is)) (port-shut p c s.parked (sound.ports p c (sym is)));
       does = λ sound. wrote p c (shut c) refl (wrote-set s p c (shut c) (sym is)) (shuts (none_false c.closed fault.AlreadyClosed None h).0 refl (closed_deeds p parts.ended parts.each));
       procs = refl;
-      gone = sym (append-nil s.gone);
+      gone = refl;
     }
 
 -- A step that meets no fault
@@ -327,14 +362,17 @@ room_for_port s cap h =
 pub effect-account : (s : State) (pid : Pid) (step : Step) → fault_of s step ≡ None →
     Account s pid step (effect s pid step)
 effect-account s pid (Make cap) h =
-    let t : State = (makes s pid cap).state in
-    alone s t pid (Make cap) (what.Made (record { 0 = length s.channels + 1 })) refl tt refl (λ h. cc) refl (sym (append-nil s.gone)) (λ sound. adds cap (room_for_port s cap h) refl refl refl)
-    (λ sound p c names e. elim (new_port s t p (fresh cap) c refl e) [ inl l ↦ rw l.1 (port-fresh s p cap sound l.0) | inr r ↦ sound.ports p c r ])
+    let ts : List Channel = s.channels ++ fresh cap ∷ [] in
+    let new : What = what.Made (record { 0 = length s.channels + 1 }) in
+    alone s ts pid (Make cap) new refl tt (λ h. cc) (λ sound. adds cap (room_for_port s cap h) refl refl refl)
+    (λ sound p c names e. elim (new_port s (record s { channels = ts }) p (fresh cap) c refl e) [
+      | inl l ↦ rw l.1 (port-fresh s p cap sound l.0)
+      | inr r ↦ sound.ports p c r
+    ])
 effect-account s pid (Call cases default word) h = calls-account s pid cases.items default word
 effect-account s pid (Close p) h =
     close_account s pid p (channel_at s p) refl (none_false (is_unmade s p) fault.NoPort (close_fault (channel_at s p)) h).1
-effect-account s pid Exit h =
-    silent s (exits s pid).state pid Exit what.Done refl tt refl (λ h. cc) refl refl refl refl refl
+effect-account s pid Exit h = silent s pid Exit what.Done refl (λ h. cc) refl tt refl
 
 -- and a stall, which ends all that wait
 
@@ -370,9 +408,9 @@ stalled_account s pid step c a =
 
 -- a fault changes nothing
 
-exits_clear : (s : State) (step : Step) (f : Fault) → fault_of s step ≡ Some f → is_exit step ≡ false
-exits_clear s Exit f e = absurd (let g : ⊥ = cc in g)
-exits_clear s step f e = refl
+no_exit : (s : State) (pid : Pid) (step : Step) (f : Fault) → fault_of s step ≡ Some f → with_leaver s.gone pid step ≡ s.gone
+no_exit s pid Exit f e = absurd (let g : ⊥ = cc in g)
+no_exit s pid step f e = refl
 
 pub fault_names_none : (step : Step) (f : Fault) → port_touched_by step (what.Fault f) ≡ None
 fault_names_none (Make cap) f = refl
@@ -384,7 +422,9 @@ answers-account s e None is =
     let a = effect-account s e.pid e.step (sym is) in
     by-stall (λ (d : Change). Account s e.pid e.step d) (effect s e.pid e.step) (stalled_account s e.pid e.step (effect s e.pid e.step) a) a
 answers-account s e (Some f) is =
-    silent s s e.pid e.step (what.Fault f) (journaled s e.step f (sym is)) tt refl (λ h. cc) refl (rw (exits_clear s e.step f (sym is)) (sym (append-nil s.gone))) refl (fault_names_none e.step f) refl
+    let events : List Event = tells e.pid (what.Fault f) ∷ [] in
+    let a = silent s e.pid e.step (what.Fault f) (journaled s e.step f (sym is)) (λ h. cc) (fault_names_none e.step f) tt refl in
+    subst (λ (g : List Pid). Account s e.pid e.step (record { state = record s { gone = g }; events = events })) (no_exit s e.pid e.step f (sym is)) a
 
 -- an admitted entry, in any state
 pub turn-account : (s : State) (e : Entry) → Account s e.pid e.step (turn s e)

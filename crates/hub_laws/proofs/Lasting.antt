@@ -1,8 +1,7 @@
 -- A step leaves the number of processes, only an exit adds to those that have exited, and only a make to the ports.
-use Rattle.std.proofs.Common.{◌≡◌, ◌≤◌, ℕ, ◌==◌, Bool, true, false, cond, List, [], ◌∷◌, length, ap, ◌∙◌, refl, Option, Some, None, arith, inl, inr, ◌⊎◌, ◌||◌, ◌&&◌}
+use Rattle.std.proofs.Common.{◌≡◌, ◌≤◌, ℕ, ◌==◌, Bool, true, false, cond, List, [], ◌∷◌, ◌++◌, length, ap, ◌∙◌, sym, refl, Option, Some, None, arith, inl, inr, ◌⊎◌, ◌||◌, ◌&&◌}
 use Rattle.std.specs.List.{list_any}
 use Rattle.std.proofs.Math.Bool.{and-false, or-false}
-use Rattle.std.proofs.lemmas.List.Folds.{list_any-append}
 use Rattle.hub_base.specs.declared.value.Pid.{Pid}
 use Rattle.hub_base.specs.declared.entry.Entry.{Entry}
 use Rattle.hub_base.specs.declared.fault.Fault.{Fault}
@@ -12,7 +11,8 @@ use Rattle.hub_base.specs.Runs.{admits, moves, state_after, state}
 use Rattle.hub_base.specs.Reading.{is_exit}
 use Rattle.hub_laws.specs.OnePort.{port_touched_by}
 use Rattle.hub_laws.specs.Sound.{IsSound}
-use Rattle.hub_laws.proofs.Account.{deeds_of, leavers, turn-account}
+use Rattle.hub_laws.proofs.Account.{deeds_of, turn-account}
+use Rattle.hub_laws.proofs.Calls.{any_snoc}
 use Rattle.hub_laws.proofs.Does.{does-few}
 use Rattle.hub_laws.proofs.Kept.{sound-opening}
 use Rattle.hub_laws.proofs.Rules.{moves-sound}
@@ -20,13 +20,11 @@ use Rattle.hub_laws.proofs.Rules.{moves-sound}
 -- who has exited after it
 pub turn-leaves : (q : ℕ) (s : State) (e : Entry) →
     has_gone (turn s e).state q ≡ (has_gone s q || (is_exit e.step && (e.pid.0 == q)))
-turn-leaves q s e =
-    ap (λ xs. list_any (λ (g : Pid). g.0 == q) xs) (turn-account s e).gone ∙ list_any-append (λ (g : Pid). g.0 == q) s.gone (leavers e.pid e.step) ∙ by (is_exit e.step)
+turn-leaves q s e = ap (λ xs. list_any (λ (g : Pid). g.0 == q) xs) (turn-account s e).gone ∙ by (is_exit e.step)
   where
-    by : (b : Bool) →
-        (has_gone s q || list_any (λ (g : Pid). g.0 == q) (cond b (e.pid ∷ []) [])) ≡ (has_gone s q || (b && (e.pid.0 == q)))
-    by true = ap (λ b. has_gone s q || b) (or-false (e.pid.0 == q))
-    by false = refl
+    by : (b : Bool) → list_any (λ (g : Pid). g.0 == q) (cond b (s.gone ++ e.pid ∷ []) s.gone) ≡ (has_gone s q || (b && (e.pid.0 == q)))
+    by true = any_snoc (λ (g : Pid). g.0 == q) s.gone e.pid
+    by false = sym (or-false (has_gone s q))
 
 -- of a process that did not exit by it
 pub turn-gone : (q : ℕ) (s : State) (e : Entry) → (is_exit e.step ≡ false) ⊎ ((e.pid.0 == q) ≡ false) →

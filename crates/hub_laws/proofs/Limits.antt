@@ -1,8 +1,9 @@
 -- A journal holds at most one exit of each process.
-use Rattle.std.proofs.Common.{◌≡◌, ℕ, ◌+◌, ◌≤◌, ◌<◌, ◌==◌, Bool, true, false, cond, List, [], ◌∷◌, ◌++◌, append-nil, length, refl, ap, ◌∙◌, sym, subst, Option, Some, None, arith, inl, inr, ◌||◌, ◌&&◌}
+use Rattle.std.proofs.Common.{◌≡◌, ℕ, ◌+◌, ◌≤◌, ◌<◌, ◌==◌, Bool, true, false, cond, List, [], ◌∷◌, ◌++◌, length, refl, ap, ◌∙◌, sym, subst, Option, Some, None, arith, inl, inr, ◌||◌, ◌&&◌}
 use Rattle.std.specs.List.{AllByRecursion}
 use Rattle.std.proofs.lemmas.List.{length-append}
 use Rattle.std.proofs.lemmas.Bool.{or_cases, and_parts, eqb-true}
+use Rattle.hub_base.specs.declared.value.Pid.{Pid}
 use Rattle.hub_base.specs.declared.entry.Entry.{Entry}
 use Rattle.hub_base.specs.declared.fault.Fault.{Fault}
 use Rattle.hub_base.specs.State.{State, opening}
@@ -14,7 +15,7 @@ use Rattle.hub_laws.specs.Limits.{exits_of, LimitsLaw}
 use Rattle.hub_laws.proofs.Ready.{Admitted, admitted}
 use Rattle.hub_laws.proofs.Leaving.{one}
 use Rattle.hub_laws.proofs.Distinct.{Different, different_snoc, count-different}
-use Rattle.hub_laws.proofs.Account.{leavers, turn-account}
+use Rattle.hub_laws.proofs.Account.{with_leaver, turn-account}
 use Rattle.hub_laws.proofs.Lasting.{turn-leaves, procs-entry, procs-after}
 
 -- Once
@@ -77,9 +78,9 @@ gone_turn s e sound adm = record {
       omega (arith, b, (turn-account s e).procs);
 }
   where
-    by : (b : Bool) → Different (s.gone ++ cond b (e.pid ∷ []) [])
+    by : (b : Bool) → Different (cond b (s.gone ++ e.pid ∷ []) s.gone)
     by true = different_snoc s.gone e.pid sound.apart adm.here
-    by false = rw append-nil sound.apart
+    by false = sound.apart
 
 gone_entry : (s : State) (e : Entry) (o : Option Fault) → o ≡ refusal s e.pid → GoneSound s →
     GoneSound (admits s e o).state
@@ -90,18 +91,17 @@ gone_after : (s : State) (es : List Entry) → GoneSound s → GoneSound (state_
 gone_after s [] sound = sound
 gone_after s (e ∷ es) sound = gone_after (moves s e).state es (gone_entry s e (refusal s e.pid) refl sound)
 
-one_entry : (e : Entry) → one_step e + length (leavers e.pid e.step) ≡ 1
-one_entry e = by (is_exit e.step)
+one_entry : (gone : List Pid) (e : Entry) → length (with_leaver gone e.pid e.step) + one_step e ≡ length gone + 1
+one_entry gone e = by (is_exit e.step)
   where
-    by : (b : Bool) → cond b 0 1 + length (cond b (e.pid ∷ []) []) ≡ 1
-    by true = omega arith
+    by : (b : Bool) → length (cond b (gone ++ e.pid ∷ []) gone) + cond b 0 1 ≡ length gone + 1
+    by true = omega (arith, length-append gone (e.pid ∷ []))
     by false = omega arith
 
 length_entry : (s : State) (e : Entry) (es : List Entry) (total : ℕ) (o : Option Fault) →
     length es + length (admits s e o).state.gone ≡ steps_of es + total →
     length (keeps o e es) + length s.gone ≡ steps_of (keeps o e es) + total
-length_entry s e es total None rest =
-    omega (arith, rest, one_entry e, ap length (turn-account s e).gone, length-append s.gone (leavers e.pid e.step))
+length_entry s e es total None rest = omega (arith, rest, one_entry s.gone e, ap length (turn-account s e).gone)
 length_entry s e es total (Some f) rest = rest
 
 length_after : (s : State) (es : List Entry) →

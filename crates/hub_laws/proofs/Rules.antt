@@ -1,7 +1,6 @@
 -- Each admitted entry keeps soundness.
 use Rattle.std.proofs.Common.{◌≡◌, ℕ, ◌≤◌, ◌<◌, ◌==◌, nat_lt, Bool, true, false, cond, List, [], ◌∷◌, ◌++◌, length, refl, ap, ◌∙◌, sym, subst, Option, Some, None, arith, inl, inr}
 use Rattle.std.specs.List.{list_any}
-use Rattle.std.proofs.lemmas.List.Folds.{list_any-append}
 use Rattle.std.proofs.lemmas.Bool.{or_from, or_cases, false_from_ne_true, eqb-true, ltb-true, ltb-false, lt-ltb}
 use Rattle.hub_base.specs.declared.value.Port.{Port}
 use Rattle.hub_base.specs.declared.value.Pid.{Pid}
@@ -22,7 +21,7 @@ use Rattle.hub_laws.specs.Answers.{is_answer_to}
 use Rattle.hub_laws.specs.OnePort.{port_touched_by, is_port}
 use Rattle.hub_laws.specs.Replies.{is_parked}
 use Rattle.hub_laws.specs.Sound.{is_among, CallFits, PortSound, IsSound}
-use Rattle.hub_laws.proofs.Account.{Account, NamedSound, answers-account, call_of, deeds_of, effect-account, leavers, with_caller}
+use Rattle.hub_laws.proofs.Account.{Account, NamedSound, answers-account, call_of, deeds_of, effect-account, with_caller, with_leaver}
 use Rattle.hub_laws.proofs.Calls.{Fewer, all_more, all_snoc, any_snoc, apart_snoc}
 use Rattle.hub_laws.proofs.Deeds.{Deed, at}
 use Rattle.hub_laws.proofs.Does.{does-grows, does-others}
@@ -79,16 +78,15 @@ fits_more n m call h f = record {
 -- none of those that wait then has exited
 none_left : (q : ℕ) (s : State) (pid : Pid) (step : Step) (w : What) → Admitted s pid → is_answer_to step w ≡ true →
     is_among q (with_caller s.parked pid step w) ≡ true → has_gone s q ≡ false →
-    list_any (λ g. g.0 == q) (s.gone ++ leavers pid step) ≡ false
-none_left q s pid step w adm fits among here =
-    list_any-append (λ (g : Pid). g.0 == q) s.gone (leavers pid step) ∙ or_from (has_gone s q) (list_any (λ (g : Pid). g.0 == q) (leavers pid step)) here (by (is_exit step) refl)
+    list_any (λ g. g.0 == q) (with_leaver s.gone pid step) ≡ false
+none_left q s pid step w adm fits among here = by (is_exit step) refl
   where
-    by : (b : Bool) → b ≡ is_exit step → list_any (λ (g : Pid). g.0 == q) (cond b (pid ∷ []) []) ≡ false
-    by false is = refl
-    by true is = or_from (pid.0 == q) false (false_from_ne_true (pid.0 == q) (λ m.
+    by : (b : Bool) → b ≡ is_exit step → list_any (λ g. g.0 == q) (cond b (s.gone ++ pid ∷ []) s.gone) ≡ false
+    by false is = here
+    by true is = any_snoc (λ g. g.0 == q) s.gone pid ∙ or_from (has_gone s q) (pid.0 == q) here (false_from_ne_true (pid.0 == q) (λ m.
         let waits : is_among q s.parked ≡ true = rw (exit_parks_none step w (sym is) fits) at among in
         let free : is_waiting s q ≡ false = subst (λ (n : ℕ). is_waiting s n ≡ false) (eqb-true pid.0 q m) adm.free in
-        cc)) refl
+        cc))
 
 -- each port: the one that the answer names, or one that is as it was
 port_sound : (s t : State) (named : Option Port) (calls : List OpenCall) (p : Port) (x : Channel) →

@@ -7,7 +7,7 @@ use Rattle.hub_base.specs.Steps.{refusal}
 use Rattle.hub_base.specs.Runs.{admits, moves, state}
 use Rattle.hub_laws.specs.Answers.{IsAnswered, AnswersLaw, PassedOverLaw}
 use Rattle.hub_laws.proofs.Faults.{refusal-refuses}
-use Rattle.hub_laws.proofs.Account.{turn-answered}
+use Rattle.hub_laws.proofs.Entries.{turn-answered}
 
 admits_answered : (s : State) (e : Entry) (o : Option Fault) → o ≡ None → IsAnswered e.pid e.step (admits s e o).events
 admits_answered s e None is = turn-answered s e

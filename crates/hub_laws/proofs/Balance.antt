@@ -12,7 +12,8 @@ use Rattle.hub_base.specs.Steps.{Change, tells, turn}
 use Rattle.hub_laws.specs.Sound.{IsSound, is_among, Apart}
 use Rattle.hub_laws.specs.Once.{counts, endings}
 use Rattle.hub_laws.specs.Replies.{is_parked}
-use Rattle.hub_laws.proofs.Account.{Account, with_caller, call_of, turn-account}
+use Rattle.hub_laws.proofs.Account.{Account, with_caller, call_of}
+use Rattle.hub_laws.proofs.Entries.{turn-account}
 use Rattle.hub_laws.proofs.Events.{answer_counts, ends_counts, ends_clear}
 use Rattle.hub_laws.proofs.Leaving.{Ended, EndsWell, events_of, one, count, count_ended, leave-count}
 

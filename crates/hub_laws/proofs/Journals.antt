@@ -13,7 +13,7 @@ use Rattle.hub_laws.specs.Answers.{ends_waiting, IsAnswered}
 use Rattle.hub_laws.specs.Journals.{JournalLaw, Grows, Begins}
 use Rattle.hub_laws.proofs.Events.{answer_admits, ends_admits}
 use Rattle.hub_laws.proofs.Faults.{refusal-refuses}
-use Rattle.hub_laws.proofs.Account.{turn-answered}
+use Rattle.hub_laws.proofs.Entries.{turn-answered}
 use Rattle.hub_laws.proofs.Longer.{kept-entry}
 
 -- The state, and which entries are admitted

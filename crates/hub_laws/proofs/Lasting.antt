@@ -11,7 +11,8 @@ use Rattle.hub_base.specs.Runs.{admits, moves, state_after, state}
 use Rattle.hub_base.specs.Reading.{is_exit}
 use Rattle.hub_laws.specs.OnePort.{port_touched_by}
 use Rattle.hub_laws.specs.Sound.{IsSound}
-use Rattle.hub_laws.proofs.Account.{deeds_of, turn-account}
+use Rattle.hub_laws.proofs.Account.{deeds_of}
+use Rattle.hub_laws.proofs.Entries.{turn-account}
 use Rattle.hub_laws.proofs.Calls.{any_snoc}
 use Rattle.hub_laws.proofs.Does.{does-few}
 use Rattle.hub_laws.proofs.Kept.{sound-opening}

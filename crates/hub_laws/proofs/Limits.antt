@@ -15,7 +15,8 @@ use Rattle.hub_laws.specs.Limits.{exits_of, LimitsLaw}
 use Rattle.hub_laws.proofs.Ready.{Admitted, admitted}
 use Rattle.hub_laws.proofs.Leaving.{one}
 use Rattle.hub_laws.proofs.Distinct.{Different, different_snoc, count-different}
-use Rattle.hub_laws.proofs.Account.{with_leaver, turn-account}
+use Rattle.hub_laws.proofs.Account.{with_leaver}
+use Rattle.hub_laws.proofs.Entries.{turn-account}
 use Rattle.hub_laws.proofs.Lasting.{turn-leaves, procs-entry, procs-after}
 
 -- Once

@@ -20,7 +20,7 @@ use Rattle.std.proofs.Math.Bool.{and-false}
 use Rattle.std.proofs.lemmas.Bool.{and_parts, eqb-true}
 use Rattle.hub_laws.proofs.Calls.{all_append}
 use Rattle.hub_laws.proofs.Events.{answered_admits, answer_ends, waiting_ends}
-use Rattle.hub_laws.proofs.Account.{turn-account, turn-answered}
+use Rattle.hub_laws.proofs.Entries.{turn-account, turn-answered}
 use Rattle.hub_base.specs.Reading.{is_exit}
 use Rattle.hub_laws.specs.Faults.{refuses_entry, is_busy}
 use Rattle.hub_laws.proofs.Faults.{refusal-refuses, refusal-busy}

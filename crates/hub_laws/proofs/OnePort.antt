@@ -9,7 +9,8 @@ use Rattle.hub_base.specs.Steps.{turn, refusal}
 use Rattle.hub_base.specs.Runs.{admits, moves, state}
 use Rattle.hub_laws.specs.OnePort.{port_touched_by, port_touched, is_port, IsMade, OnePortLaw}
 use Rattle.hub_laws.specs.Sound.{IsSound}
-use Rattle.hub_laws.proofs.Account.{deeds_of, fault_names_none, turn-account}
+use Rattle.hub_laws.proofs.Account.{deeds_of}
+use Rattle.hub_laws.proofs.Entries.{fault_names_none, turn-account}
 use Rattle.hub_laws.proofs.Deeds.{Deed, Does, idle}
 use Rattle.hub_laws.proofs.Does.{does-made, does-others}
 use Rattle.hub_laws.proofs.Longer.{state_after-append}

@@ -17,7 +17,8 @@ use Rattle.hub_base.specs.Values.{cases_or, got_on, of_what, received_values}
 use Rattle.hub_laws.specs.Sound.{IsSound}
 use Rattle.hub_laws.specs.OnePort.{port_touched_by, port_touched, is_port}
 use Rattle.hub_laws.specs.Received.{value_of_outcome, value_got, got_in, got_at, received_from, received_on, ReceivedLaw}
-use Rattle.hub_laws.proofs.Account.{deeds_of, ended_deeds, fault_names_none, turn-account}
+use Rattle.hub_laws.proofs.Account.{deeds_of, ended_deeds}
+use Rattle.hub_laws.proofs.Entries.{fault_names_none, turn-account}
 use Rattle.hub_laws.proofs.Calls.{same_number}
 use Rattle.hub_laws.proofs.Deeds.{Deed, deed_of, picks, IsClosing, Moved, Does, buffers, hands, fetches, gives, drains, refuses, shuts, idle, adds, wrote}
 use Rattle.hub_laws.proofs.Kept.{sound-opening}

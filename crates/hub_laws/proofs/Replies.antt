@@ -11,7 +11,8 @@ use Rattle.hub_base.specs.Steps.{Change, turn, refusal, is_waiting}
 use Rattle.hub_base.specs.Runs.{admits, moves, state_after, events_after, state, events}
 use Rattle.hub_laws.specs.Sound.{IsSound, is_among}
 use Rattle.hub_laws.specs.Replies.{own, reply, last_from, is_parked, told_to, is_told, RepliesLaw}
-use Rattle.hub_laws.proofs.Account.{account-all, turn-account}
+use Rattle.hub_laws.proofs.Account.{account-all}
+use Rattle.hub_laws.proofs.Entries.{turn-account}
 use Rattle.hub_laws.proofs.Calls.{all_append, same_number}
 use Rattle.hub_laws.proofs.Leaving.{Ended, events_of}
 use Rattle.hub_laws.proofs.Longer.{events-entry, events_after-append, state_after-append}

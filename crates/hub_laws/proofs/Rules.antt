@@ -21,7 +21,8 @@ use Rattle.hub_laws.specs.Answers.{is_answer_to}
 use Rattle.hub_laws.specs.OnePort.{port_touched_by, is_port}
 use Rattle.hub_laws.specs.Replies.{is_parked}
 use Rattle.hub_laws.specs.Sound.{is_among, CallFits, PortSound, IsSound}
-use Rattle.hub_laws.proofs.Account.{Account, NamedSound, answers-account, call_of, deeds_of, effect-account, with_caller, with_leaver}
+use Rattle.hub_laws.proofs.Account.{Account, NamedSound, call_of, deeds_of, with_caller, with_leaver}
+use Rattle.hub_laws.proofs.Entries.{answers-account, effect-account}
 use Rattle.hub_laws.proofs.Calls.{Fewer, all_more, all_snoc, any_snoc, apart_snoc}
 use Rattle.hub_laws.proofs.Deeds.{Deed, at}
 use Rattle.hub_laws.proofs.Does.{does-grows, does-others}

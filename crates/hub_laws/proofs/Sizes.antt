@@ -14,7 +14,9 @@ use Rattle.hub_base.specs.Steps.{Change, calls, closes, effect, turn, refusal}
 use Rattle.hub_base.specs.Runs.{admits, moves, state}
 use Rattle.hub_laws.specs.Sound.{IsSound, is_among, Apart}
 use Rattle.hub_laws.specs.Replies.{is_parked}
-use Rattle.hub_laws.proofs.Account.{Account, with_caller, call_of, calls-account, turn-account}
+use Rattle.hub_laws.proofs.Account.{Account, with_caller, call_of}
+use Rattle.hub_laws.proofs.Entries.{turn-account}
+use Rattle.hub_laws.proofs.Firing.{calls-account}
 use Rattle.hub_laws.proofs.Distinct.{count-below}
 use Rattle.hub_laws.proofs.Lasting.{procs-after}
 use Rattle.hub_laws.proofs.Leaving.{Ended, event_of, events_of, Leave, count, count_ended, leave-count, closed}

@@ -19,7 +19,8 @@ use Rattle.hub_laws.specs.Sound.{IsSound, is_among}
 use Rattle.hub_laws.specs.Answers.{is_answer_to}
 use Rattle.hub_laws.specs.OnePort.{port_touched_by, port_touched}
 use Rattle.hub_laws.specs.Replies.{is_parked}
-use Rattle.hub_laws.proofs.Account.{account-all, deeds_of, ended_deeds, fault_names_none, turn-account}
+use Rattle.hub_laws.proofs.Account.{account-all, deeds_of, ended_deeds}
+use Rattle.hub_laws.proofs.Entries.{fault_names_none, turn-account}
 use Rattle.hub_laws.proofs.Calls.{differ-sym, same_number}
 use Rattle.hub_laws.proofs.Deeds.{Knows, deed_of, told, Does, idle}
 use Rattle.hub_laws.proofs.Leaving.{Ended, events_of}

@@ -1,0 +1,158 @@
+-- The account of each admitted entry: every step, the stall that can follow it, and a fault.
+use Rattle.std.proofs.Common.{◌≡◌, ◌≤◌, ℕ, ◌+◌, ◌-◌, nat_lt, not, filter, inl, inr, true, List, [], ◌∷◌, ◌++◌, length, refl, ap, ◌∙◌, sym, subst, Option, Some, None, append-nil, if◌then◌else◌}
+use Rattle.std.specs.Prelude.{slice_set}
+use Rattle.std.specs.List.{list_any, AllByRecursion}
+use Rattle.std.proofs.lemmas.Bool.{ltb-false}
+use Rattle.std.proofs.lemmas.List.{map-append}
+use Rattle.std.proofs.lemmas.List.Elements.{filter_map-append}
+use Rattle.hub_base.specs.declared.value.Port.{Port}
+use Rattle.hub_base.specs.declared.value.Pid.{Pid}
+use Rattle.hub_base.specs.declared.entry.Step.{Step}
+use Rattle.hub_base.specs.declared.entry.Step.TheVariants.{Make, Call, Close, Exit}
+use Rattle.hub_base.specs.declared.entry.Entry.{Entry}
+use Rattle.hub_base.specs.declared.event.Event.{Event}
+use Rattle.hub_base.specs.declared.fault.Fault.{Fault}
+use Rattle.hub_base.specs.declared.fault.Fault.TheVariants as fault
+use Rattle.hub_base.specs.declared.event.What.{What}
+use Rattle.hub_base.specs.declared.event.What.TheVariants as what
+use Rattle.hub_base.specs.State.{State, Channel, channel_at}
+use Rattle.hub_base.specs.Ready.{is_on}
+use Rattle.hub_base.specs.Steps.{closes, effect, Change, tells, fault_of, close_fault, is_unmade, answers, turn, shut}
+use Rattle.hub_base.specs.Values.{of_what}
+use Rattle.hub_laws.specs.Answers.{ends_waiting, IsAnswered}
+use Rattle.hub_laws.specs.OnePort.{port_touched_by}
+use Rattle.hub_laws.proofs.Branches.{by-stall, stalled}
+use Rattle.hub_laws.proofs.Calls.{fewer-none, fewer-filter, all_append, all_more}
+use Rattle.hub_laws.proofs.Deeds.{deed_of, fresh, IsClosing, shuts, adds, wrote}
+use Rattle.hub_laws.proofs.Does.{wrote-set, is_on_port}
+use Rattle.hub_laws.proofs.Faults.{journaled}
+use Rattle.hub_laws.proofs.Kept.{port-fewer, port-shut, port-fresh}
+use Rattle.hub_laws.proofs.Leaving.{Ended, event_of, events_of, EndsWell, leave-join, ClosedAt, closed, all_stalled}
+use Rattle.hub_laws.proofs.Ready.{none_false}
+use Rattle.hub_laws.proofs.Ports.{new_port}
+use Rattle.hub_laws.proofs.Account.{Account, alone, silent, named_sound, with_caller, with_leaver, ended_deeds}
+use Rattle.hub_laws.proofs.Firing.{calls-account}
+
+-- A close
+
+closed_well : (p : Port) (x : Ended) → ClosedAt p x → EndsWell x
+closed_well p x c = rw c.tells (refl, (c.at.case, c.stands))
+
+closed_deeds : (p : Port) (xs : List Ended) → AllByRecursion (ClosedAt p) xs →
+    AllByRecursion (IsClosing p) (ended_deeds xs)
+closed_deeds p [] all = tt
+closed_deeds p (x ∷ xs) all =
+    let c = all.0 in
+    rw (c.tells, c.stands) (record { port = is_on_port p c.at.case c.on; outcome = refl }, closed_deeds p xs all.1)
+
+close_account : (s : State) (pid : Pid) (p : Port) (o : Option Channel) → o ≡ channel_at s p → close_fault o ≡ None →
+    Account s pid (Close p) (closes s pid p o)
+close_account s pid p None is h = cc
+close_account s pid p (Some c) is h =
+    let parts = closed p s.parked in
+    record {
+      answer = what.Done;
+      ended = parts.ended;
+      told = ap (λ es. tells pid what.Done ∷ es) parts.told;
+      fits = refl;
+      placed = tt;
+      ends = all_more (ClosedAt p) EndsWell parts.ended (λ x. closed_well p x) parts.each;
+      leaves = λ a. parts.leaves;
+      fewer = fewer-filter (λ call. not (list_any (is_on p) call.cases)) s.parked;
+      blocked = λ h. cc;
+      sound = λ sound. named_sound (Some p) s.channels (slice_set s.channels (p.0 - 1) (shut c)) p c (shut c) (filter (λ call. not (list_any (is_on p) call.cases)) s.parked) refl
+          (wrote-set s p c (shut c) (sym is)) (port-shut p c s.parked (sound.ports p c (sym is)));
+      does = λ sound. wrote p c (shut c) refl (wrote-set s p c (shut c) (sym is)) (shuts (none_false c.closed fault.AlreadyClosed None h).0 refl (closed_deeds p parts.ended parts.each));
+      procs = refl;
+      gone = refl;
+    }
+
+-- A step that meets no fault
+
+room_for_port : (s : State) (cap : ℕ) → fault_of s (Make cap) ≡ None → length s.channels ≤ 63
+room_for_port s cap h =
+    let a = none_false (nat_lt 1024 cap) fault.BadCap (if nat_lt 63 (length s.channels) then Some fault.TooManyPorts else None) h in
+    let b = none_false (nat_lt 63 (length s.channels)) fault.TooManyPorts None a.1 in
+    ltb-false 63 (length s.channels) b.0
+
+pub effect-account : (s : State) (pid : Pid) (step : Step) → fault_of s step ≡ None →
+    Account s pid step (effect s pid step)
+effect-account s pid (Make cap) h =
+    let ts : List Channel = s.channels ++ fresh cap ∷ [] in
+    let new : What = what.Made (record { 0 = length s.channels + 1 }) in
+    alone s ts pid (Make cap) new refl tt (λ h. cc) (λ sound. adds cap (room_for_port s cap h) refl refl refl)
+    (λ sound p c names e. elim (new_port s (record s { channels = ts }) p (fresh cap) c refl e) [
+      | inl l ↦ rw l.1 (port-fresh s p cap sound l.0)
+      | inr r ↦ sound.ports p c r
+    ])
+effect-account s pid (Call cases default word) h = calls-account s pid cases.items default word
+effect-account s pid (Close p) h =
+    close_account s pid p (channel_at s p) refl (none_false (is_unmade s p) fault.NoPort (close_fault (channel_at s p)) h).1
+effect-account s pid Exit h = silent s pid Exit what.Done refl (λ h. cc) refl tt refl
+
+-- and a stall, which ends all that wait
+
+stalled_well : (x : Ended) → x.what ≡ what.Stalled → EndsWell x
+stalled_well x e = rw e (refl, tt)
+
+stalled_deeds : (xs : List Ended) → AllByRecursion (λ x. x.what ≡ what.Stalled) xs → ended_deeds xs ≡ []
+stalled_deeds [] all = refl
+stalled_deeds (x ∷ xs) all = rw all.0 (stalled_deeds xs all.1)
+
+stalled_account : (s : State) (pid : Pid) (step : Step) (c : Change) → Account s pid step c →
+    Account s pid step (stalled c)
+stalled_account s pid step c a =
+    let parts = all_stalled c.state.parked in
+    record {
+      answer = a.answer;
+      ended = a.ended ++ parts.ended;
+      told = rw (a.told, parts.told) (ap (λ es. tells pid a.answer ∷ es) (sym (map-append event_of a.ended parts.ended)));
+      fits = a.fits;
+      placed = a.placed;
+      ends = all_append EndsWell a.ended parts.ended a.ends (all_more (λ x. x.what ≡ what.Stalled) EndsWell parts.ended (λ x. stalled_well x) parts.each);
+      leaves = λ h. leave-join a.ended parts.ended (with_caller s.parked pid step a.answer) c.state.parked [] (a.leaves h) parts.leaves;
+      fewer = fewer-none (with_caller s.parked pid step a.answer);
+      blocked = a.blocked;
+      sound = λ sound p d names e. port-fewer p d [] c.state.parked (fewer-none c.state.parked) (a.sound sound p d names e);
+      does = λ sound.
+          let none : ended_deeds (a.ended ++ parts.ended) ≡ ended_deeds a.ended =
+          filter_map-append (λ (x : Ended). of_what deed_of x.call.cases x.what) a.ended parts.ended ∙ rw (stalled_deeds parts.ended parts.each) (append-nil (ended_deeds a.ended)) in
+          rw none (a.does sound);
+      procs = a.procs;
+      gone = a.gone;
+    }
+
+-- a fault changes nothing
+
+no_exit : (s : State) (pid : Pid) (step : Step) (f : Fault) → fault_of s step ≡ Some f → with_leaver s.gone pid step ≡ s.gone
+no_exit s pid Exit f e = absurd (let g : ⊥ = cc in g)
+no_exit s pid step f e = refl
+
+pub fault_names_none : (step : Step) (f : Fault) → port_touched_by step (what.Fault f) ≡ None
+fault_names_none (Make cap) f = refl
+fault_names_none step f = refl
+
+pub answers-account : (s : State) (e : Entry) (o : Option Fault) → o ≡ fault_of s e.step →
+    Account s e.pid e.step (answers s e o)
+answers-account s e None is =
+    let a = effect-account s e.pid e.step (sym is) in
+    by-stall (λ (d : Change). Account s e.pid e.step d) (effect s e.pid e.step) (stalled_account s e.pid e.step (effect s e.pid e.step) a) a
+answers-account s e (Some f) is =
+    let events : List Event = tells e.pid (what.Fault f) ∷ [] in
+    let a = silent s e.pid e.step (what.Fault f) (journaled s e.step f (sym is)) (λ h. cc) (fault_names_none e.step f) tt refl in
+    subst (λ (g : List Pid). Account s e.pid e.step (record { state = record s { gone = g }; events = events })) (no_exit s e.pid e.step f (sym is)) a
+
+-- an admitted entry, in any state
+pub turn-account : (s : State) (e : Entry) → Account s e.pid e.step (turn s e)
+turn-account s e = answers-account s e (fault_of s e.step) refl
+
+-- in the words of the laws
+ended_ends : (xs : List Ended) → AllByRecursion EndsWell xs →
+    AllByRecursion (λ x. ends_waiting x.what ≡ true) (events_of xs)
+ended_ends [] well = tt
+ended_ends (x ∷ xs) well = (well.0.0, ended_ends xs well.1)
+
+pub turn-answered : (s : State) (e : Entry) → IsAnswered e.pid e.step (turn s e).events
+turn-answered s e =
+    let a = turn-account s e in
+    subst (IsAnswered e.pid e.step) (sym a.told) (record { own = refl; fits = a.fits; ends = ended_ends a.ended a.ends })

@@ -14,7 +14,7 @@ use Rattle.hub_laws.specs.Once.{counts, endings}
 use Rattle.hub_laws.specs.Replies.{is_parked}
 use Rattle.hub_laws.proofs.Account.{Account, with_caller, call_of}
 use Rattle.hub_laws.proofs.Entries.{turn-account}
-use Rattle.hub_laws.proofs.Events.{answer_counts, ends_counts, ends_clear}
+use Rattle.hub_laws.proofs.Events.{answer_counts, waiting-ends}
 use Rattle.hub_laws.proofs.Leaving.{Ended, EndsWell, events_of, one, count, count_ended, leave-count}
 
 -- Counting
@@ -56,8 +56,7 @@ ended_count : (q : ℕ) (xs : List Ended) → AllByRecursion EndsWell xs →
     ends q (events_of xs) ≡ count_ended (λ call. call.pid.0 == q) xs
 ended_count q [] well = refl
 ended_count q (x ∷ xs) well =
-    let counted : counts x.what ≡ true = ends_counts x.what well.0.0 ∙ rw (ends_clear x.what well.0.0) refl in
-    ends_cons q (tells x.call.pid x.what) (events_of xs) ∙ rw (counted, ended_count q xs well.1) refl
+    ends_cons q (tells x.call.pid x.what) (events_of xs) ∙ rw ((waiting-ends x.what well.0.0).counted, ended_count q xs well.1) refl
 
 -- the caller is told at once, or its call waits
 caller_count : (q : ℕ) (calls : List OpenCall) (pid : Pid) (step : Step) (w : What) →

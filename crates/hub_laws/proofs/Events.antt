@@ -35,26 +35,23 @@ Counted x = counts x.what ≡ not (is_parked x.what)
 
 pub answer_counts : (step : Step) (w : What) → is_answer_to step w ≡ true → counts w ≡ not (is_parked w)
 answer_counts step (what.Fault f) e = ap (λ b. not b) (fault_counts step f e)
-answer_counts step (what.Made p) e = refl
-answer_counts step (what.Fired i o) e = refl
-answer_counts step what.Default e = refl
-answer_counts step what.Done e = refl
-answer_counts step what.Parked e = refl
-answer_counts step what.Stalled e = refl
+answer_counts step w e = refl
 
-pub ends_counts : (w : What) → ends_waiting w ≡ true → counts w ≡ not (is_parked w)
-ends_counts (what.Fired i o) e = refl
-ends_counts what.Stalled e = refl
-ends_counts w e = absurd (let g : ⊥ = cc in g)
+-- what is known of an event that ends a call that waits
+pub record EndsCall (w : What) : Type 0 where
+  pub counted : counts w ≡ true
+  pub clear : is_parked w ≡ false
+  pub admitted : is_refusal w ≡ false
+  pub ends : ends_call w ≡ true
 
-pub ends_clear : (w : What) → ends_waiting w ≡ true → is_parked w ≡ false
-ends_clear (what.Fired i o) e = refl
-ends_clear what.Stalled e = refl
-ends_clear w e = absurd (let g : ⊥ = cc in g)
+pub waiting-ends : (w : What) → ends_waiting w ≡ true → EndsCall w
+waiting-ends (what.Fired i o) e = record { counted = refl; clear = refl; admitted = refl; ends = refl }
+waiting-ends what.Stalled e = record { counted = refl; clear = refl; admitted = refl; ends = refl }
+waiting-ends w e = absurd (let g : ⊥ = cc in g)
 
 ended_counts : (events : List Event) → AllByRecursion (λ x. ends_waiting x.what ≡ true) events → AllByRecursion Counted events
 ended_counts [] a = tt
-ended_counts (x ∷ xs) a = (ends_counts x.what a.0, ended_counts xs a.1)
+ended_counts (x ∷ xs) a = (let h = waiting-ends x.what a.0 in rw (h.counted, h.clear) refl, ended_counts xs a.1)
 
 pub answered_counts : (e : Entry) (events : List Event) → IsAnswered e.pid e.step events → AllByRecursion Counted events
 answered_counts e [] a = absurd a
@@ -70,11 +67,6 @@ pub answered_admits : (e : Entry) (events : List Event) → IsAnswered e.pid e.s
 answered_admits e [] a = refl
 answered_admits e (x ∷ xs) a = answer_admits e.step x.what a.fits
 
-pub ends_admits : (w : What) → ends_waiting w ≡ true → not (is_refusal w) ≡ true
-ends_admits (what.Fired i o) e = refl
-ends_admits what.Stalled e = refl
-ends_admits w e = absurd (let g : ⊥ = cc in g)
-
 -- Which events end a call
 
 pub answer_ends : (step : Step) (w : What) → is_call step ≡ true → is_answer_to step w ≡ true → counts w ≡ true → ends_call w ≡ true
@@ -82,10 +74,4 @@ answer_ends (Call cases default word) (what.Fault fault.TooManyCases) call fits 
 answer_ends (Call cases default word) (what.Fault fault.NoPort) call fits c = refl
 answer_ends (Call cases default word) (what.Fired i o) call fits c = refl
 answer_ends (Call cases default word) what.Default call fits c = refl
-answer_ends (Call cases default word) what.Stalled call fits c = refl
 answer_ends step w call fits c = absurd (let g : ⊥ = cc in g)
-
-pub waiting_ends : (w : What) → ends_waiting w ≡ true → ends_call w ≡ true
-waiting_ends (what.Fired i o) e = refl
-waiting_ends what.Stalled e = refl
-waiting_ends w e = absurd (let g : ⊥ = cc in g)

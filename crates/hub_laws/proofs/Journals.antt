@@ -11,7 +11,7 @@ use Rattle.hub_base.specs.Runs.{admits, moves, keeps, kept_after, kept, state_af
 use Rattle.hub_laws.specs.Once.{is_refusal}
 use Rattle.hub_laws.specs.Answers.{ends_waiting, IsAnswered}
 use Rattle.hub_laws.specs.Journals.{JournalLaw, Grows, Begins}
-use Rattle.hub_laws.proofs.Events.{answer_admits, ends_admits}
+use Rattle.hub_laws.proofs.Events.{answer_admits, waiting-ends}
 use Rattle.hub_laws.proofs.Faults.{refusal-refuses}
 use Rattle.hub_laws.proofs.Entries.{turn-answered}
 use Rattle.hub_laws.proofs.Longer.{kept-entry}
@@ -53,7 +53,7 @@ no_refusal x = not (is_refusal x.what)
 
 ended_pass : (events : List Event) → AllByRecursion (λ x. ends_waiting x.what ≡ true) events → filter no_refusal events ≡ events
 ended_pass [] a = refl
-ended_pass (x ∷ xs) a = rw (ends_admits x.what a.0, ended_pass xs a.1) refl
+ended_pass (x ∷ xs) a = rw ((waiting-ends x.what a.0).admitted, ended_pass xs a.1) refl
 
 answered_pass : (e : Entry) (events : List Event) → IsAnswered e.pid e.step events → filter no_refusal events ≡ events
 answered_pass e [] a = refl

@@ -19,7 +19,7 @@ use Rattle.std.specs.List.{AllByRecursion}
 use Rattle.std.proofs.Math.Bool.{and-false}
 use Rattle.std.proofs.lemmas.Bool.{and_parts, eqb-true}
 use Rattle.hub_laws.proofs.Calls.{all_append}
-use Rattle.hub_laws.proofs.Events.{answered_admits, answer_ends, waiting_ends}
+use Rattle.hub_laws.proofs.Events.{answered_admits, answer_ends, waiting-ends}
 use Rattle.hub_laws.proofs.Entries.{turn-account, turn-answered}
 use Rattle.hub_base.specs.Reading.{is_exit}
 use Rattle.hub_laws.specs.Faults.{refuses_entry, is_busy}
@@ -51,7 +51,7 @@ each_by q x xs false is here rest = rest
 
 ended_each : (q : ℕ) (events : List Event) → AllByRecursion (λ x. ends_waiting x.what ≡ true) events → EachEnds (endings q events)
 ended_each q [] a = tt
-ended_each q (x ∷ xs) a = each_by q x xs (counts x.what && (x.pid.0 == q)) refl (λ h. waiting_ends x.what a.0) (ended_each q xs a.1)
+ended_each q (x ∷ xs) a = each_by q x xs (counts x.what && (x.pid.0 == q)) refl (λ h. (waiting-ends x.what a.0).ends) (ended_each q xs a.1)
 
 -- a call's own step
 own_each : (e : Entry) (events : List Event) → is_call e.step ≡ true → IsAnswered e.pid e.step events → EachEnds (endings e.pid.0 events)

@@ -18,7 +18,7 @@ use Rattle.hub_laws.specs.Replies.{is_parked, last_from, reply, told_to, is_told
 use Rattle.hub_laws.proofs.Calls.{same_number}
 use Rattle.hub_laws.proofs.Ready.{admitted}
 use Rattle.hub_laws.proofs.Rules.{state-sound}
-use Rattle.hub_laws.proofs.Events.{Counted, answered_counts, ends_clear}
+use Rattle.hub_laws.proofs.Events.{Counted, answered_counts, waiting-ends}
 use Rattle.hub_laws.proofs.Balance.{open_calls, ends, open_none, open_most, Balance, turn-balance}
 use Rattle.hub_laws.proofs.Leaving.{one}
 use Rattle.hub_laws.proofs.Answered.{moves-answered}
@@ -145,7 +145,7 @@ replied_by n es e (x ∷ xs) is a each waits left = record {
   where
     ended_replies : (xs : List Event) → AllByRecursion (λ x. ends_waiting x.what ≡ true) xs → ((i : ℕ) (x : Event) → slice_get xs i ≡ Some x → is_parked x.what ≡ false → IsReply n (es ++ e ∷ []) x) → AllByRecursion (IsReply n (es ++ e ∷ [])) xs
     ended_replies [] ends each = tt
-    ended_replies (x ∷ xs) ends each = (each 0 x refl (ends_clear x.what ends.0), ended_replies xs ends.1 (λ i y e. each (suc i) y e))
+    ended_replies (x ∷ xs) ends each = (each 0 x refl ((waiting-ends x.what ends.0).clear), ended_replies xs ends.1 (λ i y e. each (suc i) y e))
 
 pub replied-law : (n : ℕ) (es : List Entry) (e : Entry) → RepliedLaw n es e
 replied-law n es e is =

@@ -35,12 +35,7 @@ pick_one pick (Some k) o rest rest' none e = ap (λ r. cons_option (pick (Some k
 pick_what : {A : Type 0} (pick : Option Case → Outcome → Option A) (cases : List Case) (w : What) (rest : List A) (rest' : List Deed) → ((o : Outcome) → pick None o ≡ None) → rest ≡ picks pick rest' →
     cons_option (of_what pick cases w) rest ≡ picks pick (cons_option (of_what deed_of cases w) rest')
 pick_what pick cases (what.Fired i o) rest rest' none e = pick_one pick (slice_get cases i) o rest rest' (none o) e
-pick_what pick cases (what.Made p) rest rest' none e = e
-pick_what pick cases what.Default rest rest' none e = e
-pick_what pick cases what.Done rest rest' none e = e
-pick_what pick cases what.Parked rest rest' none e = e
-pick_what pick cases what.Stalled rest rest' none e = e
-pick_what pick cases (what.Fault f) rest rest' none e = e
+pick_what pick cases w rest rest' none e = e
 
 pub told-picks : {A : Type 0} (pick : Option Case → Outcome → Option A) (L : Pid → List Case) (events : List Event) → ((o : Outcome) → pick None o ≡ None) → told pick L events ≡ picks pick (told deed_of L events)
 told-picks pick L [] none = refl

@@ -68,7 +68,8 @@ pub account-all : (P : OpenCall → Type 0) (s : State) (pid : Pid) (step : Step
     (a : Account s pid step c) → AllByRecursion P s.parked → (is_parked a.answer ≡ true → P (call_of pid step)) →
     AllByRecursion (λ x. P x.call) a.ended × AllByRecursion P c.state.parked
 account-all P s pid step c apart a all new =
-    leave-all P a.ended (with_caller s.parked pid step a.answer) c.state.parked (a.leaves apart) (by (is_parked a.answer) refl)
+    leave-all P a.ended (with_caller s.parked pid step a.answer) c.state.parked (a.leaves apart)
+    (by (is_parked a.answer) refl)
   where
     by : (b : Bool) → b ≡ is_parked a.answer →
         AllByRecursion P (if b then s.parked ++ call_of pid step ∷ [] else s.parked)
@@ -76,8 +77,8 @@ account-all P s pid step c apart a all new =
     by false is = all
 
 -- nobody ends
-pub alone : (s : State) (ts : List Channel) (pid : Pid) (step : Step) (answer : What) → is_answer_to step answer ≡ true →
-    InPlace (cases_or step []) answer →
+pub alone : (s : State) (ts : List Channel) (pid : Pid) (step : Step) (answer : What) →
+    is_answer_to step answer ≡ true → InPlace (cases_or step []) answer →
     (is_parked answer ≡ true → list_any (can_proceed s) (cases_or step []) ≡ false) →
     (IsSound s → Does s.channels ts (port_touched_by step answer) (deeds_of step answer [])) →
     (IsSound s → NamedSound (port_touched_by step answer) ts (with_caller s.parked pid step answer)) →

@@ -73,7 +73,9 @@ added_other : (b : Bool) (xs : List Channel) (q : Port) (d : Channel) → b ≡ 
     (length xs + 1 == q.0) ≡ false →
     cond b None (slice_get (xs ++ d ∷ []) (q.0 - 1)) ≡ cond b None (slice_get xs (q.0 - 1))
 added_other true xs q d is h = refl
-added_other false xs q d is h = get_snoc xs (q.0 - 1) d (λ e. let n : 0 < q.0 = above_zero q.0 (sym is) in absurd (eqb-false (length xs + 1) q.0 h (omega arith)))
+added_other false xs q d is h = get_snoc xs (q.0 - 1) d (λ e.
+    let n : 0 < q.0 = above_zero q.0 (sym is) in
+    absurd (eqb-false (length xs + 1) q.0 h (omega arith)))
 
 -- a step that writes none: each port stays, and a new one is empty
 pub record Quiet (cs ts : List Channel) : Type 0 where
@@ -81,7 +83,10 @@ pub record Quiet (cs ts : List Channel) : Type 0 where
   pub fresh : (p : Port) (c : Channel) → at cs p ≡ None → at ts p ≡ Some c → (c.done ≡ []) × (c.taken ≡ 0)
 
 pub quiet-idle : (cs ts : List Channel) → ts ≡ cs → Quiet cs ts
-quiet-idle cs ts is = record { same = λ p c e. rw is e; fresh = λ p c e f. absurd (let g : at cs p ≡ Some c = rw is at f in let g : ⊥ = cc in g) }
+quiet-idle cs ts is = record {
+  same = λ p c e. rw is e;
+  fresh = λ p c e f. absurd (let g : at cs p ≡ Some c = rw is at f in let g : ⊥ = cc in g);
+}
 
 pub quiet-adds : (cs ts : List Channel) (cap : ℕ) → ts ≡ cs ++ fresh cap ∷ [] → Quiet cs ts
 quiet-adds cs ts cap is =

@@ -1,5 +1,5 @@
 -- The account of each admitted entry: every step, the stall that can follow it, and a fault.
-use Rattle.std.proofs.Common.{◌≡◌, ◌≤◌, ℕ, ◌+◌, ◌-◌, nat_lt, not, filter, inl, inr, true, List, [], ◌∷◌, ◌++◌, length, refl, ap, ◌∙◌, sym, subst, Option, Some, None, append-nil, if◌then◌else◌}
+use Rattle.std.proofs.Common.{Bool, false, ◌≡◌, ◌≤◌, ℕ, ◌+◌, ◌-◌, nat_lt, not, filter, inl, inr, true, List, [], ◌∷◌, ◌++◌, length, refl, ap, ◌∙◌, sym, subst, Option, Some, None, append-nil, if◌then◌else◌}
 use Rattle.std.specs.Prelude.{slice_set}
 use Rattle.std.specs.List.{list_any, AllByRecursion}
 use Rattle.std.proofs.lemmas.Bool.{ltb-false}
@@ -15,10 +15,11 @@ use Rattle.hub_base.specs.declared.fault.Fault.{Fault}
 use Rattle.hub_base.specs.declared.fault.Fault.TheVariants as fault
 use Rattle.hub_base.specs.declared.event.What.{What}
 use Rattle.hub_base.specs.declared.event.What.TheVariants as what
-use Rattle.hub_base.specs.State.{State, Channel, channel_at}
+use Rattle.hub_base.specs.State.{State, Channel, OpenCall, channel_at}
 use Rattle.hub_base.specs.Ready.{is_on}
 use Rattle.hub_base.specs.Steps.{closes, effect, Change, tells, fault_of, close_fault, is_unmade, answers, turn, shut}
 use Rattle.hub_base.specs.Values.{of_what}
+use Rattle.hub_laws.specs.Sound.{PortSound}
 use Rattle.hub_laws.specs.Answers.{ends_waiting, IsAnswered}
 use Rattle.hub_laws.specs.OnePort.{port_touched_by}
 use Rattle.hub_laws.proofs.Branches.{by-stall, stalled}
@@ -50,6 +51,9 @@ close_account : (s : State) (pid : Pid) (p : Port) (o : Option Channel) → o �
 close_account s pid p None is h = cc
 close_account s pid p (Some c) is h =
     let parts = closed p s.parked in
+    let off : OpenCall → Bool = λ call. not (list_any (is_on p) call.cases) in
+    let w = wrote-set s p c (shut c) (sym is) in
+    let live : c.closed ≡ false = (none_false c.closed fault.AlreadyClosed None h).0 in
     record {
       answer = what.Done;
       ended = parts.ended;
@@ -58,11 +62,12 @@ close_account s pid p (Some c) is h =
       placed = tt;
       ends = all_more (ClosedAt p) EndsWell parts.ended (λ x. closed_well p x) parts.each;
       leaves = λ a. parts.leaves;
-      fewer = fewer-filter (λ call. not (list_any (is_on p) call.cases)) s.parked;
+      fewer = fewer-filter off s.parked;
       blocked = λ h. cc;
-      sound = λ sound. named_sound (Some p) s.channels (slice_set s.channels (p.0 - 1) (shut c)) p c (shut c) (filter (λ call. not (list_any (is_on p) call.cases)) s.parked) refl
-          (wrote-set s p c (shut c) (sym is)) (port-shut p c s.parked (sound.ports p c (sym is)));
-      does = λ sound. wrote p c (shut c) refl (wrote-set s p c (shut c) (sym is)) (shuts (none_false c.closed fault.AlreadyClosed None h).0 refl (closed_deeds p parts.ended parts.each));
+      sound = λ sound.
+          let fine : PortSound p (shut c) (filter off s.parked) = port-shut p c s.parked (sound.ports p c (sym is)) in
+          named_sound (Some p) s.channels (slice_set s.channels (p.0 - 1) (shut c)) p c (shut c) (filter off s.parked) refl w fine;
+      does = λ sound. wrote p c (shut c) refl w (shuts live refl (closed_deeds p parts.ended parts.each));
       procs = refl;
       gone = refl;
     }
@@ -71,7 +76,8 @@ close_account s pid p (Some c) is h =
 
 room_for_port : (s : State) (cap : ℕ) → fault_of s (Make cap) ≡ None → length s.channels ≤ 63
 room_for_port s cap h =
-    let a = none_false (nat_lt 1024 cap) fault.BadCap (if nat_lt 63 (length s.channels) then Some fault.TooManyPorts else None) h in
+    let full : Option Fault = if nat_lt 63 (length s.channels) then Some fault.TooManyPorts else None in
+    let a = none_false (nat_lt 1024 cap) fault.BadCap full h in
     let b = none_false (nat_lt 63 (length s.channels)) fault.TooManyPorts None a.1 in
     ltb-false 63 (length s.channels) b.0
 
@@ -87,7 +93,8 @@ effect-account s pid (Make cap) h =
     ])
 effect-account s pid (Call cases default word) h = calls-account s pid cases.items default word
 effect-account s pid (Close p) h =
-    close_account s pid p (channel_at s p) refl (none_false (is_unmade s p) fault.NoPort (close_fault (channel_at s p)) h).1
+    let fine = none_false (is_unmade s p) fault.NoPort (close_fault (channel_at s p)) h in
+    close_account s pid p (channel_at s p) refl fine.1
 effect-account s pid Exit h = silent s pid Exit what.Done refl (λ h. cc) refl tt refl
 
 -- and a stall, which ends all that wait
@@ -103,28 +110,32 @@ stalled_account : (s : State) (pid : Pid) (step : Step) (c : Change) → Account
     Account s pid step (stalled c)
 stalled_account s pid step c a =
     let parts = all_stalled c.state.parked in
+    let each = all_more (λ x. x.what ≡ what.Stalled) EndsWell parts.ended (λ x. stalled_well x) parts.each in
+    let none : ended_deeds (a.ended ++ parts.ended) ≡ ended_deeds a.ended =
+    filter_map-append (λ (x : Ended). of_what deed_of x.call.cases x.what) a.ended parts.ended
+    ∙ rw (stalled_deeds parts.ended parts.each) (append-nil (ended_deeds a.ended)) in
     record {
       answer = a.answer;
       ended = a.ended ++ parts.ended;
       told = rw (a.told, parts.told) (ap (λ es. tells pid a.answer ∷ es) (sym (map-append event_of a.ended parts.ended)));
       fits = a.fits;
       placed = a.placed;
-      ends = all_append EndsWell a.ended parts.ended a.ends (all_more (λ x. x.what ≡ what.Stalled) EndsWell parts.ended (λ x. stalled_well x) parts.each);
-      leaves = λ h. leave-join a.ended parts.ended (with_caller s.parked pid step a.answer) c.state.parked [] (a.leaves h) parts.leaves;
+      ends = all_append EndsWell a.ended parts.ended a.ends each;
+      leaves = λ h.
+          leave-join a.ended parts.ended (with_caller s.parked pid step a.answer) c.state.parked [] (a.leaves h) parts.leaves;
       fewer = fewer-none (with_caller s.parked pid step a.answer);
       blocked = a.blocked;
-      sound = λ sound p d names e. port-fewer p d [] c.state.parked (fewer-none c.state.parked) (a.sound sound p d names e);
-      does = λ sound.
-          let none : ended_deeds (a.ended ++ parts.ended) ≡ ended_deeds a.ended =
-          filter_map-append (λ (x : Ended). of_what deed_of x.call.cases x.what) a.ended parts.ended ∙ rw (stalled_deeds parts.ended parts.each) (append-nil (ended_deeds a.ended)) in
-          rw none (a.does sound);
+      sound = λ sound p d names e.
+          port-fewer p d [] c.state.parked (fewer-none c.state.parked) (a.sound sound p d names e);
+      does = λ sound. rw none (a.does sound);
       procs = a.procs;
       gone = a.gone;
     }
 
 -- a fault changes nothing
 
-no_exit : (s : State) (pid : Pid) (step : Step) (f : Fault) → fault_of s step ≡ Some f → with_leaver s.gone pid step ≡ s.gone
+no_exit : (s : State) (pid : Pid) (step : Step) (f : Fault) → fault_of s step ≡ Some f →
+    with_leaver s.gone pid step ≡ s.gone
 no_exit s pid Exit f e = absurd (let g : ⊥ = cc in g)
 no_exit s pid step f e = refl
 
@@ -135,12 +146,15 @@ fault_names_none step f = refl
 pub answers-account : (s : State) (e : Entry) (o : Option Fault) → o ≡ fault_of s e.step →
     Account s e.pid e.step (answers s e o)
 answers-account s e None is =
+    let c : Change = effect s e.pid e.step in
     let a = effect-account s e.pid e.step (sym is) in
-    by-stall (λ (d : Change). Account s e.pid e.step d) (effect s e.pid e.step) (stalled_account s e.pid e.step (effect s e.pid e.step) a) a
+    by-stall (λ (d : Change). Account s e.pid e.step d) c (stalled_account s e.pid e.step c a) a
 answers-account s e (Some f) is =
     let events : List Event = tells e.pid (what.Fault f) ∷ [] in
-    let a = silent s e.pid e.step (what.Fault f) (journaled s e.step f (sym is)) (λ h. cc) (fault_names_none e.step f) tt refl in
-    subst (λ (g : List Pid). Account s e.pid e.step (record { state = record s { gone = g }; events = events })) (no_exit s e.pid e.step f (sym is)) a
+    let fits = journaled s e.step f (sym is) in
+    let a = silent s e.pid e.step (what.Fault f) fits (λ h. cc) (fault_names_none e.step f) tt refl in
+    subst (λ (g : List Pid). Account s e.pid e.step (record { state = record s { gone = g }; events = events }))
+    (no_exit s e.pid e.step f (sym is)) a
 
 -- an admitted entry, in any state
 pub turn-account : (s : State) (e : Entry) → Account s e.pid e.step (turn s e)
@@ -155,4 +169,5 @@ ended_ends (x ∷ xs) well = (well.0.0, ended_ends xs well.1)
 pub turn-answered : (s : State) (e : Entry) → IsAnswered e.pid e.step (turn s e).events
 turn-answered s e =
     let a = turn-account s e in
-    subst (IsAnswered e.pid e.step) (sym a.told) (record { own = refl; fits = a.fits; ends = ended_ends a.ended a.ends })
+    subst (IsAnswered e.pid e.step) (sym a.told)
+    (record { own = refl; fits = a.fits; ends = ended_ends a.ended a.ends })

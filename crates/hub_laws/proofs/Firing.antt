@@ -55,7 +55,8 @@ module _ (s : State) (pid : Pid) (cases : List Case) (default : Bool) (word i : 
       slice_get cases i ≡ Some k → first_with test s.parked ≡ Some x → channel_at s (port_of k) ≡ Some c →
       Wrote s.channels ts (port_of k) c d →
       (IsSound s → test x.at.case ≡ true →
-      Moved (port_of k) c d (deed k o ∷ deed x.at.case its ∷ []) × ((calls : List OpenCall) → PortSound (port_of k) c calls → PortSound (port_of k) d calls)) →
+      Moved (port_of k) c d (deed k o ∷ deed x.at.case its ∷ [])
+      × ((calls : List OpenCall) → PortSound (port_of k) c calls → PortSound (port_of k) d calls)) →
       Fires (record {
         outcome = o;
         state = record s { parked = without x.pid s.parked; channels = ts };
@@ -118,7 +119,8 @@ module _ (s : State) (pid : Pid) (cases : List Case) (default : Bool) (word i : 
 
   fetches_account : (p : Port) (c : Channel) (x : Ending) (o : Option Value) → slice_get cases i ≡ Some (Recv p) →
       channel_at s p ≡ Some c → first_with (is_send_on p) s.parked ≡ Some x → o ≡ next_value (with_sent x.at.case c) →
-      Fires (recv_takes (record s { parked = without x.pid s.parked }) p (with_sent x.at.case c) (fired x.pid x.at.index Sent ∷ []) o)
+      Fires
+      (recv_takes (record s { parked = without x.pid s.parked }) p (with_sent x.at.case c) (fired x.pid x.at.index Sent ∷ []) o)
   fetches_account p c x None mine e is after =
       let d : Channel = with_sent x.at.case c in
       meets (slice_set s.channels (p.0 - 1) d) (Recv p) Drained Sent (is_send_on p) x c d mine is e
@@ -133,7 +135,8 @@ module _ (s : State) (pid : Pid) (cases : List Case) (default : Bool) (word i : 
       (wrote-set s p c d e) (λ sound passes.
       let u = is_send p x.at.case passes in
       let some : Some w ≡ next_value (sent u.0 c) = rw u.1 at after in
-      let waits : some_call (is_send_on p) s.parked ≡ true = sym (some_first (is_send_on p) s.parked (Some x) (sym is)) in
+      let waits : some_call (is_send_on p) s.parked ≡ true =
+      sym (some_first (is_send_on p) s.parked (Some x) (sym is)) in
       let live : c.closed ≡ false = false_from_ne_true c.closed (λ h. let g = ((sound.ports p c e).ended h).1 in cc) in
       rw u.1 (fetches u.0 w live (sym some) refl refl, λ calls fine. port-through p u.0 c calls fine live))
 
@@ -148,20 +151,26 @@ module _ (s : State) (pid : Pid) (cases : List Case) (default : Bool) (word i : 
       send_can s p c ≡ true → Fires (send_fires s p v c)
   sends_account p v c mine e can =
       by-closed Fires s p v c
-      (λ over. alone_fires s.channels (Send p v) Closed c c mine (wrote-same s p c e) (refuses v over refl refl) (λ sound. sound.ports p c e))
+      (λ over.
+      alone_fires s.channels (Send p v) Closed c c mine (wrote-same s p c e) (refuses v over refl refl)
+      (λ sound. sound.ports p c e))
       (λ live. send_account p v c (first_with (is_recv_on p) s.parked) mine e can live refl)
 
   -- a case that can proceed has a channel
   fires_account : (k : Case) (o : Option Channel) → slice_get cases i ≡ Some k → o ≡ channel_at s (port_of k) →
       can_proceed s k ≡ true → Account s pid this (proceeds s pid i (fires s k o))
-  fires_account (Send p v) o mine is can = by o is (let h : option_map_or (send_can s p) (channel_at s p) false ≡ true = can in rw (sym is) at h)
+  fires_account (Send p v) o mine is can =
+      by o is (let h : option_map_or (send_can s p) (channel_at s p) false ≡ true = can in rw (sym is) at h)
     where
-      by : (o : Option Channel) → o ≡ channel_at s p → option_map_or (send_can s p) o false ≡ true → Account s pid this (proceeds s pid i (fires s (Send p v) o))
+      by : (o : Option Channel) → o ≡ channel_at s p → option_map_or (send_can s p) o false ≡ true →
+          Account s pid this (proceeds s pid i (fires s (Send p v) o))
       by None is can = cc
       by (Some c) is can = sends_account p v c mine (sym is) can
-  fires_account (Recv p) o mine is can = by o is (let h : option_map_or (recv_can s p) (channel_at s p) false ≡ true = can in rw (sym is) at h)
+  fires_account (Recv p) o mine is can =
+      by o is (let h : option_map_or (recv_can s p) (channel_at s p) false ≡ true = can in rw (sym is) at h)
     where
-      by : (o : Option Channel) → o ≡ channel_at s p → option_map_or (recv_can s p) o false ≡ true → Account s pid this (proceeds s pid i (fires s (Recv p) o))
+      by : (o : Option Channel) → o ≡ channel_at s p → option_map_or (recv_can s p) o false ≡ true →
+          Account s pid this (proceeds s pid i (fires s (Recv p) o))
       by None is can = cc
       by (Some c) is can = recv_account p c (first_with (is_send_on p) s.parked) mine (sym is) refl
 
@@ -189,7 +198,9 @@ chooses_account s pid cases default word (Some x) none some =
     let f = some x refl in
     fires_account s pid cases default word x.0 x.1 (channel_at s (port_of x.1)) f.0 refl f.1
 
-pub calls-account : (s : State) (pid : Pid) (cases : List Case) (default : Bool) (word : ℕ) → Account s pid (Call (record { items = cases }) default word) (calls s pid cases default word)
+pub calls-account : (s : State) (pid : Pid) (cases : List Case) (default : Bool) (word : ℕ) →
+    Account s pid (Call (record { items = cases }) default word) (calls s pid cases default word)
 calls-account s pid cases default word =
     chooses_account s pid cases default word (slice_get (ready s cases) (word % length (ready s cases)))
-    (λ h. none_can 0 (can_proceed s) cases (ready_none (ready s cases) word h)) (λ x e. picked s cases (word % length (ready s cases)) x e)
+    (λ h. none_can 0 (can_proceed s) cases (ready_none (ready s cases) word h))
+    (λ x e. picked s cases (word % length (ready s cases)) x e)

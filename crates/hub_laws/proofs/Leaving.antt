@@ -108,7 +108,9 @@ leave-later call xs calls kept (next y ys cs rest ks t l) =
 
 pub without_none : (pid : Pid) (calls : List OpenCall) → is_among pid.0 calls ≡ false → without pid calls ≡ calls
 without_none pid [] e = refl
-without_none pid (call ∷ calls) e = let f = or_parts (call.pid.0 == pid.0) (is_among pid.0 calls) e in rw f.0 (ap (λ cs. call ∷ cs) (without_none pid calls f.1))
+without_none pid (call ∷ calls) e =
+    let f = or_parts (call.pid.0 == pid.0) (is_among pid.0 calls) e in
+    rw f.0 (ap (λ cs. call ∷ cs) (without_none pid calls f.1))
 
 pub without_head : (call : OpenCall) (calls : List OpenCall) → is_among call.pid.0 calls ≡ false →
     without call.pid (call ∷ calls) ≡ calls
@@ -158,8 +160,14 @@ pub record ClosedAt (p : Port) (x : Ended) : Type 0 where
 
 closed_by : (p : Port) (call : OpenCall) (calls kept : List OpenCall) (events : List Event) (b : Bool) (o : Option Placed) →
     b ≡ is_some o → o ≡ lowest (is_on p) call.cases → Parts (ClosedAt p) calls kept events →
-    Parts (ClosedAt p) (call ∷ calls) (cond (not b) (call ∷ kept) kept) (cons_option (option_map (λ c. fired call.pid c.index (closing_outcome c.case)) o) events)
-closed_by p call calls kept events false None some is rest = record { ended = rest.ended; told = rest.told; each = rest.each; leaves = leave-later call rest.ended calls kept rest.leaves }
+    Parts (ClosedAt p) (call ∷ calls) (cond (not b) (call ∷ kept) kept)
+    (cons_option (option_map (λ c. fired call.pid c.index (closing_outcome c.case)) o) events)
+closed_by p call calls kept events false None some is rest = record {
+  ended = rest.ended;
+  told = rest.told;
+  each = rest.each;
+  leaves = leave-later call rest.ended calls kept rest.leaves;
+}
 closed_by p call calls kept events true (Some a) some is rest =
     let x : Ended = record { call = call; what = what.Fired a.index (closing_outcome a.case) } in
     let l = lowest-at 0 (is_on p) call.cases a (sym is) in
@@ -175,10 +183,13 @@ closed_by p call calls kept events false (Some a) some is rest = cc
 
 -- those that a close ends
 pub closed : (p : Port) (calls : List OpenCall) →
-    Parts (ClosedAt p) calls (filter (λ call. not (list_any (is_on p) call.cases)) calls) (filter_map (closing_event p) calls)
+    Parts (ClosedAt p) calls (filter (λ call. not (list_any (is_on p) call.cases)) calls)
+    (filter_map (closing_event p) calls)
 closed p [] = record { ended = []; told = refl; each = tt; leaves = nobody [] }
 closed p (call ∷ calls) =
-    closed_by p call calls (filter (λ call. not (list_any (is_on p) call.cases)) calls) (filter_map (closing_event p) calls) (list_any (is_on p) call.cases) (lowest (is_on p) call.cases)
+    let kept : List OpenCall = filter (λ call. not (list_any (is_on p) call.cases)) calls in
+    closed_by p call calls kept (filter_map (closing_event p) calls) (list_any (is_on p) call.cases)
+    (lowest (is_on p) call.cases)
     (sym (lowest-some 0 (is_on p) call.cases)) refl (closed p calls)
 
 -- those that a stall ends: all

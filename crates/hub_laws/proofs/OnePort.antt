@@ -38,7 +38,9 @@ one_port-law n es e =
     let others : (p : Port) → is_port named p ≡ false → channel_at (state n (es ++ e ∷ [])) p ≡ channel_at s p =
     λ p h. ap (λ (s : State). channel_at s p) after ∙ does-others s.channels (moves s e).state.channels named d.0 d.1 p h in
     record {
-      made = λ p h. subst (λ (s : State). IsMade p (length s.channels)) (sym after) (does-made s.channels (moves s e).state.channels named d.0 d.1 p h);
+      made = λ p h.
+          subst (λ (s : State). IsMade p (length s.channels)) (sym after)
+          (does-made s.channels (moves s e).state.channels named d.0 d.1 p h);
       others = others;
       numbers = λ p h. others p (other_number named p h);
     }

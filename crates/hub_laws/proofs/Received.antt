@@ -76,7 +76,9 @@ got_named cs ts named deeds p (adds cap room names is e) = rw (e, names) (by (le
 got_named cs ts named deeds p (wrote q c d names w m) = rw names (by (q.0 == p.0) refl)
   where
     by : (b : Bool) → b ≡ (q.0 == p.0) → picks (got_on p) deeds ≡ cond b (values deeds) []
-    by true is = let same : q ≡ p = same_port q p (eqb-true q.0 p.0 (sym is)) in got_values p c d deeds (subst (λ (r : Port). Moved r c d deeds) same m)
+    by true is =
+        let same : q ≡ p = same_port q p (eqb-true q.0 p.0 (sym is)) in
+        got_values p c d deeds (subst (λ (r : Port). Moved r c d deeds) same m)
     by false is = others-none (got_on p) p q c d deeds (got_none p) (sym is) m
 
 -- in any sound state
@@ -87,10 +89,13 @@ moves-received s e None p sound =
     let named : Option Port = port_touched_by e.step a.answer in
     let deeds : List Deed = deeds_of e.step a.answer a.ended in
     let got : got_in (turn s e).events ≡ values deeds =
-    ap got_in a.told ∙ got_one (cases_or e.step []) a.answer (got_in (events_of a.ended)) (ended_deeds a.ended) a.placed (got_ended a.ended a.ends) in
+    ap got_in a.told
+    ∙ got_one (cases_or e.step []) a.answer (got_in (events_of a.ended)) (ended_deeds a.ended) a.placed
+    (got_ended a.ended a.ends) in
     let same : port_touched e.step (turn s e).events ≡ named = ap (port_touched e.step) a.told in
     got-does s.channels (turn s e).state.channels named deeds p (λ c h. (sound.ports p c h).taken) (a.does sound)
-    ∙ ap (λ xs. received_on s p ++ xs) (got_named s.channels (turn s e).state.channels named deeds p (a.does sound) ∙ rw (same, got) refl)
+    ∙ ap (λ xs. received_on s p ++ xs)
+    (got_named s.channels (turn s e).state.channels named deeds p (a.does sound) ∙ rw (same, got) refl)
 moves-received s e (Some f) p sound = rw (fault_names_none e.step f) (sym (append-nil (received_on s p)))
 
 -- what is received on a port, by the channel and by the events
@@ -100,6 +105,8 @@ told_by_events n es p =
 
 pub received_values-law : (n : ℕ) (es : List Entry) (e : Entry) → ReceivedLaw n es e
 received_values-law n es e = record {
-  adds = λ p. ap (λ (s : State). received_on s p) (state-entry n es e) ∙ moves-received (state n es) e (refusal (state n es) e.pid) p (state-sound n es);
+  adds = λ p.
+      ap (λ (s : State). received_on s p) (state-entry n es e)
+      ∙ moves-received (state n es) e (refusal (state n es) e.pid) p (state-sound n es);
   told = told_by_events n es;
 }

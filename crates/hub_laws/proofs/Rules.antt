@@ -4,6 +4,7 @@ use Rattle.std.specs.List.{list_any}
 use Rattle.std.proofs.lemmas.Bool.{or_from, or_cases, false_from_ne_true, eqb-true, ltb-true, ltb-false, lt-ltb}
 use Rattle.hub_base.specs.declared.value.Port.{Port}
 use Rattle.hub_base.specs.declared.value.Pid.{Pid}
+use Rattle.hub_base.specs.declared.case.Case.{Case}
 use Rattle.hub_base.specs.declared.entry.Step.{Step}
 use Rattle.hub_base.specs.declared.entry.Step.TheVariants.{Call, Exit}
 use Rattle.hub_base.specs.declared.entry.Entry.{Entry}
@@ -35,8 +36,9 @@ use Rattle.hub_laws.proofs.Ready.{Admitted, admitted, none_false}
 fitting : (s : State) (pid : Pid) (step : Step) → fault_of s step ≡ None →
     CallFits (length s.channels) (call_of pid step)
 fitting s pid (Call cases default word) h =
-    let a = none_false (nat_lt 8 (length cases.items)) fault.TooManyCases (cond (list_any (λ c. is_unmade s (port_of c)) cases.items) (Some fault.NoPort) None) h in
-    let b = none_false (list_any (λ c. is_unmade s (port_of c)) cases.items) fault.NoPort None a.1 in
+    let unmade : Bool = list_any (λ c. is_unmade s (port_of c)) cases.items in
+    let a = none_false (nat_lt 8 (length cases.items)) fault.TooManyCases (cond unmade (Some fault.NoPort) None) h in
+    let b = none_false unmade fault.NoPort None a.1 in
     record { few = ltb-false 8 (length cases.items) a.0; made = b.0 }
 fitting s pid step h = record { few = omega arith; made = refl }
 
@@ -71,7 +73,11 @@ exit_parks_none step w e fits = refl
 fits_more : (n m : ℕ) (call : OpenCall) → n ≤ m → CallFits n call → CallFits m call
 fits_more n m call h f = record {
   few = f.few;
-  made = false_from_ne_true (list_any (λ c. nat_lt m (port_of c).0) call.cases) (λ e. let g = any_more (λ c. nat_lt m (port_of c).0) (λ c. nat_lt n (port_of c).0) call.cases (λ c e. lt-ltb n (port_of c).0 (omega (arith, h, ltb-true m (port_of c).0 e))) e in let k = f.made in cc);
+  made = false_from_ne_true (list_any (λ c. nat_lt m (port_of c).0) call.cases) (λ e.
+      let beyond = λ (c : Case) (e : nat_lt m (port_of c).0 ≡ true). lt-ltb n (port_of c).0 (omega (arith, h, ltb-true m (port_of c).0 e)) in
+      let g = any_more (λ c. nat_lt m (port_of c).0) (λ c. nat_lt n (port_of c).0) call.cases beyond e in
+      let k = f.made in
+      cc);
 }
 
 -- A step
@@ -101,7 +107,9 @@ port_sound s t named calls p x here others before fewer e = by named (is_port na
     by o false names is =
         port-fewer p x t.parked calls fewer (before x (sym (others p (ap (λ r. is_port r p) (sym names) ∙ sym is)) ∙ e))
     by None true names is = cc
-    by (Some q) true names is = let same : q ≡ p = same_port q p (eqb-true q.0 p.0 (sym is)) in here p x (sym names ∙ ap (λ r. Some r) same) e
+    by (Some q) true names is =
+        let same : q ≡ p = same_port q p (eqb-true q.0 p.0 (sym is)) in
+        here p x (sym names ∙ ap (λ r. Some r) same) e
 
 account_sound : (s : State) (pid : Pid) (step : Step) (c : Change) → IsSound s → Admitted s pid →
     fault_of s step ≡ None → Account s pid step c → IsSound c.state
@@ -114,14 +122,16 @@ account_sound s pid step c sound adm h a =
     record {
       apart = a.fewer.apart before.apart;
       present = λ q w.
-          let there = before.present q (a.fewer.among q w) in (
-            omega (arith, there.0, a.procs),
-            ap (λ xs. list_any (λ (g : Pid). g.0 == q) xs) a.gone ∙ none_left q s pid step a.answer adm a.fits (a.fewer.among q w) there.1,
-          );
+          let among = a.fewer.among q w in
+          let there = before.present q among in
+          let here = none_left q s pid step a.answer adm a.fits among there.1 in
+          (omega (arith, there.0, a.procs), ap (λ xs. list_any (λ (g : Pid). g.0 == q) xs) a.gone ∙ here);
       calls =
           all_more (CallFits (length s.channels)) (CallFits (length c.state.channels)) c.state.parked
           (λ call. fits_more (length s.channels) (length c.state.channels) call grows) (a.fewer.each (length s.channels) before.calls);
-      ports = λ p x e. port_sound s c.state named waiting p x (a.sound sound) (does-others s.channels c.state.channels named deeds (a.does sound)) (before.ports p) a.fewer e;
+      ports = λ p x e.
+          let others = does-others s.channels c.state.channels named deeds (a.does sound) in
+          port_sound s c.state named waiting p x (a.sound sound) others (before.ports p) a.fewer e;
     }
 
 pub effect-sound : (s : State) (pid : Pid) (step : Step) → IsSound s → Admitted s pid → fault_of s step ≡ None →

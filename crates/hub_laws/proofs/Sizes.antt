@@ -47,24 +47,29 @@ caller_length calls pid step w = by (is_parked w)
 left_length : (xs : List Ended) (calls kept : List OpenCall) → Leave xs calls kept →
     length (events_of xs) + length kept ≡ length calls
 left_length xs calls kept l =
-    omega (arith, length-map xs (λ (x : Ended). event_of x), leave-count (λ call. true) xs calls kept l, ended_length xs, calls_length calls, calls_length kept)
+    let told = length-map xs (λ (x : Ended). event_of x) in
+    let left = leave-count (λ call. true) xs calls kept l in
+    omega (arith, told, left, ended_length xs, calls_length calls, calls_length kept)
 
 -- one answer, and at most one call more
 size : (s : State) (pid : Pid) (step : Step) (c : Change) → Apart s.parked → Account s pid step c → Size s c
 size s pid step c apart a =
     let waiting : List OpenCall = with_caller s.parked pid step a.answer in
-    omega (arith, ap length a.told, left_length a.ended waiting c.state.parked (a.leaves apart), caller_length s.parked pid step a.answer)
+    let left = left_length a.ended waiting c.state.parked (a.leaves apart) in
+    omega (arith, ap length a.told, left, caller_length s.parked pid step a.answer)
 
 closes_size : (s : State) (pid : Pid) (p : Port) (o : Option Channel) → Size s (closes s pid p o)
 closes_size s pid p None = omega arith
 closes_size s pid p (Some c) =
     let parts = closed p s.parked in
-    omega (arith, ap length parts.told, left_length parts.ended s.parked (closes s pid p (Some c)).state.parked parts.leaves)
+    let left = left_length parts.ended s.parked (closes s pid p (Some c)).state.parked parts.leaves in
+    omega (arith, ap length parts.told, left)
 
 -- before a stall, also where the step is a fault
 pub effect_size : (s : State) (pid : Pid) (step : Step) → IsSound s → Size s (effect s pid step)
 effect_size s pid (Call cases default word) sound =
-    size s pid (Call cases default word) (calls s pid cases.items default word) sound.apart (calls-account s pid cases.items default word)
+    let a = calls-account s pid cases.items default word in
+    size s pid (Call cases default word) (calls s pid cases.items default word) sound.apart a
 effect_size s pid (Close p) sound = closes_size s pid p (channel_at s p)
 effect_size s pid step sound = omega arith
 

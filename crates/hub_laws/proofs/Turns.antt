@@ -100,9 +100,11 @@ turn_turn s e ts sound adm knows =
     let t : Turned = record { entry = e; events = (turn s e).events } in
     let now : Pid → List Case = in_force (ts ++ t ∷ []) in
     let before : List Case = in_force ts e.pid in
-    let mine : is_fault a.answer ≡ false → now e.pid ≡ cases_or e.step before = λ clear. last_call-snoc e.pid [] ts t ∙ latest_mine before t (ap refused a.told ∙ clear) in
+    let mine : is_fault a.answer ≡ false → now e.pid ≡ cases_or e.step before =
+    λ clear. last_call-snoc e.pid [] ts t ∙ latest_mine before t (ap refused a.told ∙ clear) in
     let still : Knows now s.parked =
-    knows_others (in_force ts) now e.pid.0 s.parked adm.free (λ pid d. last_call-snoc pid [] ts t ∙ latest_other pid (last_call pid [] ts) t d) knows in
+    knows_others (in_force ts) now e.pid.0 s.parked adm.free
+    (λ pid d. last_call-snoc pid [] ts t ∙ latest_other pid (last_call pid [] ts) t d) knows in
     let all = account-all (λ call. now call.pid ≡ call.cases) s e.pid e.step (turn s e) sound.apart a still (λ parks.
     let p = parked_call before e.step a.answer a.fits parks in
     mine p.1 ∙ p.0) in
@@ -115,12 +117,15 @@ turn_turn s e ts sound adm knows =
 
 -- an entry that is not admitted changes nothing
 passed_turn : (s : State) (e : Entry) (f : Fault) (ts : List Turned) → Knows (in_force ts) s.parked →
-    TurnLaws s e.step (record { state = s; events = tells e.pid (what.Fault f) ∷ [] }) (in_force (ts ++ record { entry = e; events = tells e.pid (what.Fault f) ∷ [] } ∷ []))
+    TurnLaws s e.step (record { state = s; events = tells e.pid (what.Fault f) ∷ [] })
+    (in_force (ts ++ record { entry = e; events = tells e.pid (what.Fault f) ∷ [] } ∷ []))
 passed_turn s e f ts knows =
     let t : Turned = record { entry = e; events = tells e.pid (what.Fault f) ∷ [] } in
     record {
       does = idle (fault_names_none e.step f) refl refl;
-      knows = knows_more (in_force ts) (in_force (ts ++ t ∷ [])) s.parked (λ pid. last_call-snoc pid [] ts t ∙ latest_refused pid (last_call pid [] ts) t refl) knows;
+      knows =
+          knows_more (in_force ts) (in_force (ts ++ t ∷ [])) s.parked
+          (λ pid. last_call-snoc pid [] ts t ∙ latest_refused pid (last_call pid [] ts) t refl) knows;
     }
 
 admits_turn : (s : State) (e : Entry) (o : Option Fault) (ts : List Turned) → IsSound s → o ≡ refusal s e.pid →

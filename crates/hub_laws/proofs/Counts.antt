@@ -41,14 +41,12 @@ moved_sends q c d deeds (drains next is e) = rw is (omega arith)
 moved_sends q c d deeds (refuses v over is e) = rw is (omega arith)
 moved_sends q c d deeds (shuts live is all) = rw is (omega arith)
 
-quiet_sends : (cs ts : List Channel) (p : Port) (o x : Option Channel) → o ≡ at cs p → x ≡ at ts p → Quiet cs ts →
-    sends_of x ≤ sends_of o
+quiet_sends : (cs ts : List Channel) (p : Port) (o x : Option Channel) → o ≡ at cs p → x ≡ at ts p → Quiet cs ts → sends_of x ≤ sends_of o
 quiet_sends cs ts p (Some c) x is to q = rw (to ∙ q.same p c (sym is)) (omega arith)
 quiet_sends cs ts p None None is to q = omega arith
 quiet_sends cs ts p None (Some d) is to q = rw (q.fresh p d (sym is) (sym to)).0 (omega arith)
 
-wrote_sends : (cs ts : List Channel) (p q : Port) (c d : Channel) (deeds : List Deed) (b : Bool) → b ≡ (q.0 == p.0) →
-    Wrote cs ts q c d → Moved q c d deeds → sends_of (at ts p) ≤ sends_of (at cs p) + 1
+wrote_sends : (cs ts : List Channel) (p q : Port) (c d : Channel) (deeds : List Deed) (b : Bool) → b ≡ (q.0 == p.0) → Wrote cs ts q c d → Moved q c d deeds → sends_of (at ts p) ≤ sends_of (at cs p) + 1
 wrote_sends cs ts p q c d deeds true is w m =
     let same : q ≡ p = same_port q p (eqb-true q.0 p.0 (sym is)) in
     let new : at ts p ≡ Some d = subst (λ (r : Port). at ts r ≡ Some d) same w.new in
@@ -92,14 +90,12 @@ entry_sends : (s : State) (e : Entry) (o : Option Fault) (deeds : List Deed) (p 
 entry_sends s e None deeds p does = omega (arith, step_sends s (turn s e).state e (turn s e).events deeds p does)
 entry_sends s e (Some f) deeds p does = omega arith
 
-keeps_steps : (o : Option Fault) (e : Entry) (es : List Entry) →
-    steps_of (keeps o e es) ≡ steps_of (keeps o e []) + steps_of es
+keeps_steps : (o : Option Fault) (e : Entry) (es : List Entry) → steps_of (keeps o e es) ≡ steps_of (keeps o e []) + steps_of es
 keeps_steps None e es = omega arith
 keeps_steps (Some f) e es = omega arith
 
 -- a run from a state
-sends_after : (s : State) (ts : List Turned) (es : List Entry) (p : Port) → IsSound s → Knows (in_force ts) s.parked →
-    sends_of (channel_at (state_after s es) p) ≤ sends_of (channel_at s p) + steps_of (kept_after s es)
+sends_after : (s : State) (ts : List Turned) (es : List Entry) (p : Port) → IsSound s → Knows (in_force ts) s.parked → sends_of (channel_at (state_after s es) p) ≤ sends_of (channel_at s p) + steps_of (kept_after s es)
 sends_after s ts [] p sound knows = omega arith
 sends_after s ts (e ∷ es) p sound knows =
     let t : Turned = record { entry = e; events = (moves s e).events } in

@@ -20,14 +20,11 @@ use Rattle.hub_laws.proofs.Ports.{above_zero, made, at_made, same_port, written,
 
 -- the channels after a write
 
-other_by : (b : Bool) (cs : List Channel) (i : ℕ) (d : Channel) (p : Port) → b ≡ (p.0 == 0) →
-    (b ≡ false → i ≡ p.0 - 1 → ⊥) →
-    cond b None (slice_get (slice_set cs i d) (p.0 - 1)) ≡ cond b None (slice_get cs (p.0 - 1))
+other_by : (b : Bool) (cs : List Channel) (i : ℕ) (d : Channel) (p : Port) → b ≡ (p.0 == 0) → (b ≡ false → i ≡ p.0 - 1 → ⊥) → cond b None (slice_get (slice_set cs i d) (p.0 - 1)) ≡ cond b None (slice_get cs (p.0 - 1))
 other_by true cs i d p is h = refl
 other_by false cs i d p is h = get_set_other cs i (p.0 - 1) d (h refl)
 
-pub wrote-set : (s : State) (q : Port) (c d : Channel) → channel_at s q ≡ Some c →
-    Wrote s.channels (slice_set s.channels (q.0 - 1) d) q c d
+pub wrote-set : (s : State) (q : Port) (c d : Channel) → channel_at s q ≡ Some c → Wrote s.channels (slice_set s.channels (q.0 - 1) d) q c d
 wrote-set s q c d e = record {
   old = e;
   new = written s (record s { channels = slice_set s.channels (q.0 - 1) d }) q c d refl e;
@@ -48,8 +45,7 @@ get_some [] i h = absurd (omega arith)
 get_some (x ∷ xs) zero h = (x, refl)
 get_some (x ∷ xs) (suc i) h = get_some xs i (omega arith)
 
-pub next_sent : (s : State) (p : Port) (v : Value) (c : Channel) → IsSound s → channel_at s p ≡ Some c →
-    (w : Value) × (next_value (sent v c) ≡ Some w)
+pub next_sent : (s : State) (p : Port) (v : Value) (c : Channel) → IsSound s → channel_at s p ≡ Some c → (w : Value) × (next_value (sent v c) ≡ Some w)
 next_sent s p v c sound e = get_some (c.done ++ v ∷ []) c.taken (omega (arith, (sound.ports p c e).taken, longer v c))
 
 pub is_recv : (p : Port) (c : Case) → is_recv_on p c ≡ true → c ≡ Recv p

@@ -180,8 +180,7 @@ module _ (s : State) (pid : Pid) (cases : List Case) (default : Bool) (word i : 
 abbrev pub Picked : State → List Case → ℕ × Case → Type 0
 Picked s cases x = (slice_get cases x.0 ≡ Some x.1) × (can_proceed s x.1 ≡ true)
 
-pub picked : (s : State) (cases : List Case) (k : ℕ) (x : ℕ × Case) → slice_get (ready s cases) k ≡ Some x →
-    Picked s cases x
+pub picked : (s : State) (cases : List Case) (k : ℕ) (x : ℕ × Case) → slice_get (ready s cases) k ≡ Some x → Picked s cases x
 picked s cases k x e =
     let c = chosen (can_proceed s) 0 k cases x e in
     let same : x.0 ≡ c.stands.0 = omega (arith, c.stands.1) in

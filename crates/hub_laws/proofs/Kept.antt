@@ -26,13 +26,11 @@ sound-opening n = record { apart = tt; present = λ q e. cc; calls = tt; ports =
     no_channel true i c e = cc
     no_channel false i c e = cc
 
-none_fewer : (kept calls : List OpenCall) (test : Case → Bool) → Fewer kept calls → some_call test calls ≡ false →
-    some_call test kept ≡ false
+none_fewer : (kept calls : List OpenCall) (test : Case → Bool) → Fewer kept calls → some_call test calls ≡ false → some_call test kept ≡ false
 none_fewer kept calls test fewer e = false_from_ne_true (some_call test kept) (λ h. let t = fewer.some test h in cc)
 
 -- a channel that stays, while calls end
-pub port-fewer : (p : Port) (c : Channel) (kept calls : List OpenCall) → Fewer kept calls → PortSound p c calls →
-    PortSound p c kept
+pub port-fewer : (p : Port) (c : Channel) (kept calls : List OpenCall) → Fewer kept calls → PortSound p c calls → PortSound p c kept
 port-fewer p c kept calls fewer f = record {
   taken = f.taken;
   fits = f.fits;
@@ -43,8 +41,7 @@ port-fewer p c kept calls fewer f = record {
 }
 
 -- a value that goes through
-pub port-through : (p : Port) (v : Value) (c : Channel) (calls : List OpenCall) → PortSound p c calls →
-    c.closed ≡ false → PortSound p (received (sent v c)) calls
+pub port-through : (p : Port) (v : Value) (c : Channel) (calls : List OpenCall) → PortSound p c calls → c.closed ≡ false → PortSound p (received (sent v c)) calls
 port-through p v c calls f live = record {
   taken = omega (arith, f.taken, longer v c);
   fits = omega (arith, f.fits, longer v c);
@@ -55,9 +52,7 @@ port-through p v c calls f live = record {
 }
 
 -- a value that goes into the buffer
-pub port-sent : (p : Port) (v : Value) (c : Channel) (calls : List OpenCall) → PortSound p c calls →
-    c.closed ≡ false → some_call (is_recv_on p) calls ≡ false → length c.done < c.taken + c.cap →
-    PortSound p (sent v c) calls
+pub port-sent : (p : Port) (v : Value) (c : Channel) (calls : List OpenCall) → PortSound p c calls → c.closed ≡ false → some_call (is_recv_on p) calls ≡ false → length c.done < c.taken + c.cap → PortSound p (sent v c) calls
 port-sent p v c calls f live none room = record {
   taken = omega (arith, f.taken, longer v c);
   fits = omega (arith, longer v c);
@@ -68,8 +63,7 @@ port-sent p v c calls f live none room = record {
 }
 
 -- a value that comes out of the buffer
-pub port-received : (p : Port) (c : Channel) (calls : List OpenCall) → PortSound p c calls →
-    some_call (is_send_on p) calls ≡ false → c.taken < length c.done → PortSound p (received c) calls
+pub port-received : (p : Port) (c : Channel) (calls : List OpenCall) → PortSound p c calls → some_call (is_send_on p) calls ≡ false → c.taken < length c.done → PortSound p (received c) calls
 port-received p c calls f none some = record {
   taken = omega arith;
   fits = omega (arith, f.fits);
@@ -79,8 +73,7 @@ port-received p c calls f none some = record {
   alone = f.alone;
 }
 
-pub room_by : (x y : Bool) (c : Channel) → x ≡ false → y ≡ false →
-    (x || y || nat_lt (length c.done - c.taken) c.cap) ≡ true → length c.done < c.taken + c.cap
+pub room_by : (x y : Bool) (c : Channel) → x ≡ false → y ≡ false → (x || y || nat_lt (length c.done - c.taken) c.cap) ≡ true → length c.done < c.taken + c.cap
 room_by true y c d e h = cc
 room_by false true c d e h = cc
 room_by false false c d e h = grind (arith, common_steps)
@@ -113,24 +106,18 @@ port-parks s pid cases p c e none f =
 
 -- a close
 
-pub any_more : {A : Type 0} (t u : A → Bool) (xs : List A) → ((x : A) → t x ≡ true → u x ≡ true) →
-    list_any t xs ≡ true → list_any u xs ≡ true
+pub any_more : {A : Type 0} (t u : A → Bool) (xs : List A) → ((x : A) → t x ≡ true → u x ≡ true) → list_any t xs ≡ true → list_any u xs ≡ true
 any_more t u [] imp e = e
-any_more t u (x ∷ xs) imp e =
-    elim (or_cases (t x) (list_any t xs) e) [ inl l ↦ or_left (u x) (list_any u xs) (imp x l) | inr r ↦ or_right (u x) (list_any u xs) (any_more t u xs imp r) ]
+any_more t u (x ∷ xs) imp e = elim (or_cases (t x) (list_any t xs) e) [ inl l ↦ or_left (u x) (list_any u xs) (imp x l) | inr r ↦ or_right (u x) (list_any u xs) (any_more t u xs imp r) ]
 
-gone_by : (b : Bool) (t u : Case → Bool) (call : OpenCall) (rest : List OpenCall) → b ≡ list_any u call.cases →
-    ((c : Case) → t c ≡ true → u c ≡ true) → some_call t rest ≡ false →
-    some_call t (cond (not b) (call ∷ rest) rest) ≡ false
+gone_by : (b : Bool) (t u : Case → Bool) (call : OpenCall) (rest : List OpenCall) → b ≡ list_any u call.cases → ((c : Case) → t c ≡ true → u c ≡ true) → some_call t rest ≡ false → some_call t (cond (not b) (call ∷ rest) rest) ≡ false
 gone_by true t u call rest is imp e = e
 gone_by false t u call rest is imp e = or_from (list_any t call.cases) (some_call t rest) (false_from_ne_true (list_any t call.cases) (λ h. let g = any_more t u call.cases imp h in cc)) e
 
 -- a close leaves no such call
-gone_on : (t u : Case → Bool) (calls : List OpenCall) → ((c : Case) → t c ≡ true → u c ≡ true) →
-    some_call t (filter (λ call. not (list_any u call.cases)) calls) ≡ false
+gone_on : (t u : Case → Bool) (calls : List OpenCall) → ((c : Case) → t c ≡ true → u c ≡ true) → some_call t (filter (λ call. not (list_any u call.cases)) calls) ≡ false
 gone_on t u [] imp = refl
-gone_on t u (call ∷ calls) imp =
-    gone_by (list_any u call.cases) t u call (filter (λ call. not (list_any u call.cases)) calls) refl imp (gone_on t u calls imp)
+gone_on t u (call ∷ calls) imp = gone_by (list_any u call.cases) t u call (filter (λ call. not (list_any u call.cases)) calls) refl imp (gone_on t u calls imp)
 
 pub port-shut : (p : Port) (c : Channel) (calls : List OpenCall) → PortSound p c calls →
     PortSound p (shut c) (filter (λ call. not (list_any (is_on p) call.cases)) calls)
@@ -150,13 +137,11 @@ port-shut p c calls f =
 -- a make
 
 -- nobody waits on a port that was not made
-unmade : (n : ℕ) (t : Case → Bool) (calls : List OpenCall) → AllByRecursion (CallFits n) calls →
-    ((c : Case) → t c ≡ true → nat_lt n (port_of c).0 ≡ true) → some_call t calls ≡ false
+unmade : (n : ℕ) (t : Case → Bool) (calls : List OpenCall) → AllByRecursion (CallFits n) calls → ((c : Case) → t c ≡ true → nat_lt n (port_of c).0 ≡ true) → some_call t calls ≡ false
 unmade n t [] a imp = refl
 unmade n t (call ∷ calls) a imp = or_from (list_any t call.cases) (some_call t calls) (false_from_ne_true (list_any t call.cases) (λ h. let g = any_more t (λ c. nat_lt n (port_of c).0) call.cases imp h in let k = a.0.made in cc)) (unmade n t calls a.1 imp)
 
-alone-none : (p : Port) (calls : List OpenCall) → some_call (is_recv_on p) calls ≡ false →
-    some_call (is_send_on p) calls ≡ false → Alone p calls
+alone-none : (p : Port) (calls : List OpenCall) → some_call (is_recv_on p) calls ≡ false → some_call (is_send_on p) calls ≡ false → Alone p calls
 alone-none p [] r w = tt
 alone-none p (call ∷ calls) r w =
     let r' = or_parts (list_any (is_recv_on p) call.cases) (some_call (is_recv_on p) calls) r in

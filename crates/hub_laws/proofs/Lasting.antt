@@ -19,8 +19,7 @@ use Rattle.hub_laws.proofs.Kept.{sound-opening}
 use Rattle.hub_laws.proofs.Rules.{moves-sound}
 
 -- who has exited after it
-pub turn-leaves : (q : ℕ) (s : State) (e : Entry) →
-    has_gone (turn s e).state q ≡ (has_gone s q || (is_exit e.step && (e.pid.0 == q)))
+pub turn-leaves : (q : ℕ) (s : State) (e : Entry) → has_gone (turn s e).state q ≡ (has_gone s q || (is_exit e.step && (e.pid.0 == q)))
 turn-leaves q s e = ap (λ xs. list_any (λ (g : Pid). g.0 == q) xs) (turn-account s e).gone ∙ by (is_exit e.step)
   where
     by : (b : Bool) → list_any (λ (g : Pid). g.0 == q) (cond b (s.gone ++ e.pid ∷ []) s.gone) ≡ (has_gone s q || (b && (e.pid.0 == q)))
@@ -28,8 +27,7 @@ turn-leaves q s e = ap (λ xs. list_any (λ (g : Pid). g.0 == q) xs) (turn-accou
     by false = sym (or-false (has_gone s q))
 
 -- of a process that did not exit by it
-pub turn-gone : (q : ℕ) (s : State) (e : Entry) → (is_exit e.step ≡ false) ⊎ ((e.pid.0 == q) ≡ false) →
-    has_gone (turn s e).state q ≡ has_gone s q
+pub turn-gone : (q : ℕ) (s : State) (e : Entry) → (is_exit e.step ≡ false) ⊎ ((e.pid.0 == q) ≡ false) → has_gone (turn s e).state q ≡ has_gone s q
 turn-gone q s e (inl l) = turn-leaves q s e ∙ rw l (or-false (has_gone s q))
 turn-gone q s e (inr r) = turn-leaves q s e ∙ rw (r, and-false (is_exit e.step)) (or-false (has_gone s q))
 

@@ -108,12 +108,9 @@ leave-later call xs calls kept (next y ys cs rest ks t l) =
 
 pub without_none : (pid : Pid) (calls : List OpenCall) → is_among pid.0 calls ≡ false → without pid calls ≡ calls
 without_none pid [] e = refl
-without_none pid (call ∷ calls) e =
-    let f = or_parts (call.pid.0 == pid.0) (is_among pid.0 calls) e in
-    rw f.0 (ap (λ cs. call ∷ cs) (without_none pid calls f.1))
+without_none pid (call ∷ calls) e = let f = or_parts (call.pid.0 == pid.0) (is_among pid.0 calls) e in rw f.0 (ap (λ cs. call ∷ cs) (without_none pid calls f.1))
 
-pub without_head : (call : OpenCall) (calls : List OpenCall) → is_among call.pid.0 calls ≡ false →
-    without call.pid (call ∷ calls) ≡ calls
+pub without_head : (call : OpenCall) (calls : List OpenCall) → is_among call.pid.0 calls ≡ false → without call.pid (call ∷ calls) ≡ calls
 without_head call calls apart = rw (same_number call.pid.0) (without_none call.pid calls apart)
 
 apart-takes : (calls : List OpenCall) → Apart calls →

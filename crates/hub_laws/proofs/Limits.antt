@@ -21,16 +21,13 @@ use Rattle.hub_laws.proofs.Lasting.{turn-leaves, procs-entry, procs-after}
 
 -- Once
 
-once_by : (b g : Bool) (e : Entry) (es : List Entry) → (b ≡ true → g ≡ false) → length es + one (g || b) ≤ 1 →
-    length (cond b (e ∷ es) es) + one g ≤ 1
+once_by : (b g : Bool) (e : Entry) (es : List Entry) → (b ≡ true → g ≡ false) → length es + one (g || b) ≤ 1 → length (cond b (e ∷ es) es) + one g ≤ 1
 once_by true true e es free most = absurd (let h : true ≡ false = free refl in cc)
 once_by true false e es free most = omega arith
 once_by false true e es free most = most
 once_by false false e es free most = most
 
-once_entry : (q : ℕ) (s : State) (e : Entry) (es : List Entry) (o : Option Fault) → o ≡ refusal s e.pid →
-    length (exits_of q es) + one (has_gone (admits s e o).state q) ≤ 1 →
-    length (exits_of q (keeps o e es)) + one (has_gone s q) ≤ 1
+once_entry : (q : ℕ) (s : State) (e : Entry) (es : List Entry) (o : Option Fault) → o ≡ refusal s e.pid → length (exits_of q es) + one (has_gone (admits s e o).state q) ≤ 1 → length (exits_of q (keeps o e es)) + one (has_gone s q) ≤ 1
 once_entry q s e es None is most =
     let after = turn-leaves q s e in
     let rest : length (exits_of q es) + one (has_gone s q || (is_exit e.step && (e.pid.0 == q))) ≤ 1 = rw after at most in
@@ -45,21 +42,17 @@ once_after q s [] = at (has_gone s q)
     at : (b : Bool) → 0 + one b ≤ 1
     at true = omega arith
     at false = omega arith
-once_after q s (e ∷ es) =
-    once_entry q s e (kept_after (moves s e).state es) (refusal s e.pid) refl (once_after q (moves s e).state es)
+once_after q s (e ∷ es) = once_entry q s e (kept_after (moves s e).state es) (refusal s e.pid) refl (once_after q (moves s e).state es)
 
 -- Below
 
-below_entry : (n : ℕ) (s : State) (e : Entry) (es : List Entry) (o : Option Fault) → s.procs ≡ n →
-    o ≡ refusal s e.pid → AllByRecursion (λ e. e.pid.0 < n) es → AllByRecursion (λ e. e.pid.0 < n) (keeps o e es)
+below_entry : (n : ℕ) (s : State) (e : Entry) (es : List Entry) (o : Option Fault) → s.procs ≡ n → o ≡ refusal s e.pid → AllByRecursion (λ e. e.pid.0 < n) es → AllByRecursion (λ e. e.pid.0 < n) (keeps o e es)
 below_entry n s e es None procs is all = (omega (arith, (admitted s e.pid (sym is)).below), all)
 below_entry n s e es (Some f) procs is all = all
 
-below_after : (n : ℕ) (s : State) (es : List Entry) → s.procs ≡ n →
-    AllByRecursion (λ e. e.pid.0 < n) (kept_after s es)
+below_after : (n : ℕ) (s : State) (es : List Entry) → s.procs ≡ n → AllByRecursion (λ e. e.pid.0 < n) (kept_after s es)
 below_after n s [] procs = tt
-below_after n s (e ∷ es) procs =
-    below_entry n s e (kept_after (moves s e).state es) (refusal s e.pid) procs refl (below_after n (moves s e).state es (procs-entry s e (refusal s e.pid) ∙ procs))
+below_after n s (e ∷ es) procs = below_entry n s e (kept_after (moves s e).state es) (refusal s e.pid) procs refl (below_after n (moves s e).state es (procs-entry s e (refusal s e.pid) ∙ procs))
 
 -- Length
 
@@ -83,8 +76,7 @@ gone_turn s e sound adm = record {
     by true = different_snoc s.gone e.pid sound.apart adm.here
     by false = sound.apart
 
-gone_entry : (s : State) (e : Entry) (o : Option Fault) → o ≡ refusal s e.pid → GoneSound s →
-    GoneSound (admits s e o).state
+gone_entry : (s : State) (e : Entry) (o : Option Fault) → o ≡ refusal s e.pid → GoneSound s → GoneSound (admits s e o).state
 gone_entry s e None is sound = gone_turn s e sound (admitted s e.pid (sym is))
 gone_entry s e (Some f) is sound = sound
 
@@ -99,17 +91,13 @@ one_entry gone e = by (is_exit e.step)
     by true = omega (arith, length-append gone (e.pid ∷ []))
     by false = omega arith
 
-length_entry : (s : State) (e : Entry) (es : List Entry) (total : ℕ) (o : Option Fault) →
-    length es + length (admits s e o).state.gone ≡ steps_of es + total →
-    length (keeps o e es) + length s.gone ≡ steps_of (keeps o e es) + total
+length_entry : (s : State) (e : Entry) (es : List Entry) (total : ℕ) (o : Option Fault) → length es + length (admits s e o).state.gone ≡ steps_of es + total → length (keeps o e es) + length s.gone ≡ steps_of (keeps o e es) + total
 length_entry s e es total None rest = omega (arith, rest, one_entry s.gone e, ap length (turn-account s e).gone)
 length_entry s e es total (Some f) rest = rest
 
-length_after : (s : State) (es : List Entry) →
-    length (kept_after s es) + length s.gone ≡ steps_of (kept_after s es) + length (state_after s es).gone
+length_after : (s : State) (es : List Entry) → length (kept_after s es) + length s.gone ≡ steps_of (kept_after s es) + length (state_after s es).gone
 length_after s [] = omega arith
-length_after s (e ∷ es) =
-    length_entry s e (kept_after (moves s e).state es) (length (state_after (moves s e).state es).gone) (refusal s e.pid) (length_after (moves s e).state es)
+length_after s (e ∷ es) = length_entry s e (kept_after (moves s e).state es) (length (state_after (moves s e).state es).gone) (refusal s e.pid) (length_after (moves s e).state es)
 
 -- no more processes have exited than there are
 pub gone-law : (n : ℕ) (es : List Entry) → length (state n es).gone ≤ n

@@ -100,8 +100,7 @@ moves-received s e (Some f) p sound = rw (fault_names_none e.step f) (sym (appen
 
 -- what is received on a port, by the channel and by the events
 told_by_events : (n : ℕ) (es : List Entry) (p : Port) → received_on (state n es) p ≡ received_values n es p
-told_by_events n es p =
-    got-after (opening n) [] es p (sound-opening n) tt ∙ ap (λ xs. xs ++ received_values n es p) (no_total received_from p)
+told_by_events n es p = got-after (opening n) [] es p (sound-opening n) tt ∙ ap (λ xs. xs ++ received_values n es p) (no_total received_from p)
 
 pub received_values-law : (n : ℕ) (es : List Entry) (e : Entry) → ReceivedLaw n es e
 received_values-law n es e = record {

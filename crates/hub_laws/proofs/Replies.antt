@@ -58,13 +58,11 @@ module _ (C : ℕ → Type 0) where
 abbrev Not : ℕ → ℕ → Type 0
 Not q n = (n == q) ≡ false
 
-none_waiting : (q : ℕ) (calls : List OpenCall) → is_among q calls ≡ false →
-    AllByRecursion (λ call. Not q call.pid.0) calls
+none_waiting : (q : ℕ) (calls : List OpenCall) → is_among q calls ≡ false → AllByRecursion (λ call. Not q call.pid.0) calls
 none_waiting q [] e = tt
 none_waiting q (call ∷ calls) e = let f = or_parts (call.pid.0 == q) (is_among q calls) e in (f.0, none_waiting q calls f.1)
 
-waiting_none : (q : ℕ) (calls : List OpenCall) → AllByRecursion (λ call. Not q call.pid.0) calls →
-    is_among q calls ≡ false
+waiting_none : (q : ℕ) (calls : List OpenCall) → AllByRecursion (λ call. Not q call.pid.0) calls → is_among q calls ≡ false
 waiting_none q [] a = refl
 waiting_none q (call ∷ calls) a = or_from (call.pid.0 == q) (is_among q calls) a.0 (waiting_none q calls a.1)
 
@@ -85,32 +83,26 @@ untold q [] a = refl
 untold q (e ∷ es) a = or_from (e.pid.0 == q) (is_told q es) a.0 (untold q es a.1)
 
 -- what a process was told by a run that goes on
-pub told_to-append : (q n : ℕ) (es fs : List Entry) →
-    told_to q (events n (es ++ fs)) ≡ told_to q (events n es) ++ told_to q (events_after (state n es) fs)
-told_to-append q n es fs =
-    ap (told_to q) (events_after-append (opening n) es fs) ∙ filter-append (λ (e : Event). (e.pid.0 == q) && not (is_parked e.what)) (events n es) (events_after (state n es) fs)
+pub told_to-append : (q n : ℕ) (es fs : List Entry) → told_to q (events n (es ++ fs)) ≡ told_to q (events n es) ++ told_to q (events_after (state n es) fs)
+told_to-append q n es fs = ap (told_to q) (events_after-append (opening n) es fs) ∙ filter-append (λ (e : Event). (e.pid.0 == q) && not (is_parked e.what)) (events n es) (events_after (state n es) fs)
 
 -- a process that is not told anything keeps its reply
-pub reply-untold : (q n : ℕ) (es fs : List Entry) → is_told q (events_after (state n es) fs) ≡ false →
-    reply q n (es ++ fs) ≡ reply q n es
-reply-untold q n es fs e =
-    ap (λ xs. last_from None xs) (told_to-append q n es fs ∙ ap (λ xs. told_to q (events n es) ++ xs) (told_none q (events_after (state n es) fs) e) ∙ append-nil (told_to q (events n es)))
+pub reply-untold : (q n : ℕ) (es fs : List Entry) → is_told q (events_after (state n es) fs) ≡ false → reply q n (es ++ fs) ≡ reply q n es
+reply-untold q n es fs e = ap (λ xs. last_from None xs) (told_to-append q n es fs ∙ ap (λ xs. told_to q (events n es) ++ xs) (told_none q (events_after (state n es) fs) e) ∙ append-nil (told_to q (events n es)))
 
 last_append : {A : Type 0} (o : Option A) (xs ys : List A) → last_from o (xs ++ ys) ≡ last_from (last_from o xs) ys
 last_append o [] ys = refl
 last_append o (x ∷ xs) ys = last_append (Some x) xs ys
 
 -- one entry more: the last of its events for the process, or what it had
-pub reply-entry : (q n : ℕ) (es : List Entry) (e : Entry) →
-    reply q n (es ++ e ∷ []) ≡ last_from (reply q n es) (told_to q (moves (state n es) e).events)
+pub reply-entry : (q n : ℕ) (es : List Entry) (e : Entry) → reply q n (es ++ e ∷ []) ≡ last_from (reply q n es) (told_to q (moves (state n es) e).events)
 reply-entry q n es e =
     ap (λ xs. last_from None (told_to q xs)) (events-entry n es e)
     ∙ ap (λ xs. last_from None xs) (filter-append (λ (x : Event). (x.pid.0 == q) && not (is_parked x.what)) (events n es) (moves (state n es) e).events)
     ∙ last_append None (told_to q (events n es)) (told_to q (moves (state n es) e).events)
 
 pub own-others : (q : ℕ) (es fs : List Entry) → list_any (λ e. e.pid.0 == q) fs ≡ false → own q (es ++ fs) ≡ own q es
-own-others q es fs e =
-    filter-append (λ (e : Entry). e.pid.0 == q) es fs ∙ ap (λ xs. own q es ++ xs) (own_none q fs (none_by q fs e)) ∙ append-nil (own q es)
+own-others q es fs e = filter-append (λ (e : Entry). e.pid.0 == q) es fs ∙ ap (λ xs. own q es ++ xs) (own_none q fs (none_by q fs e)) ∙ append-nil (own q es)
 
 pub own-mine : (es : List Entry) (e : Entry) → own e.pid.0 (es ++ e ∷ []) ≡ own e.pid.0 es ++ e ∷ []
 own-mine es e = filter-append (λ (x : Entry). x.pid.0 == e.pid.0) es (e ∷ []) ∙ ap (λ xs. own e.pid.0 es ++ xs) (let h : own e.pid.0 (e ∷ []) ≡ e ∷ [] = rw (same_number e.pid.0) refl in h)

@@ -134,19 +134,16 @@ account_sound s pid step c sound adm h a =
           port_sound s c.state named waiting p x (a.sound sound) others (before.ports p) a.fewer e;
     }
 
-pub effect-sound : (s : State) (pid : Pid) (step : Step) → IsSound s → Admitted s pid → fault_of s step ≡ None →
-    IsSound (effect s pid step).state
+pub effect-sound : (s : State) (pid : Pid) (step : Step) → IsSound s → Admitted s pid → fault_of s step ≡ None → IsSound (effect s pid step).state
 effect-sound s pid step sound adm h =
     account_sound s pid step (effect s pid step) sound adm h (effect-account s pid step h)
 
-answers_sound : (s : State) (e : Entry) (o : Option Fault) → IsSound s → Admitted s e.pid → o ≡ fault_of s e.step →
-    IsSound (answers s e o).state
+answers_sound : (s : State) (e : Entry) (o : Option Fault) → IsSound s → Admitted s e.pid → o ≡ fault_of s e.step → IsSound (answers s e o).state
 answers_sound s e None sound adm is =
     account_sound s e.pid e.step (answers s e None) sound adm (sym is) (answers-account s e None is)
 answers_sound s e (Some f) sound adm is = sound
 
-admits_sound : (s : State) (e : Entry) (o : Option Fault) → IsSound s → o ≡ refusal s e.pid →
-    IsSound (admits s e o).state
+admits_sound : (s : State) (e : Entry) (o : Option Fault) → IsSound s → o ≡ refusal s e.pid → IsSound (admits s e o).state
 admits_sound s e None sound is = answers_sound s e (fault_of s e.step) sound (admitted s e.pid (sym is)) refl
 admits_sound s e (Some f) sound is = sound
 

@@ -80,12 +80,10 @@ room-law s pid sound adm =
     elim (or_cases (pid.0 == q) (is_among q s.parked) e) [ inl l ↦ subst (λ (n : ℕ). n < s.procs) (eqb-true pid.0 q l) adm.below | inr r ↦ (sound.present q r).0 ]) in
     omega arith
 
-admits_size : (s : State) (e : Entry) (o : Option Fault) → o ≡ refusal s e.pid → IsSound s →
-    length (admits s e o).events ≤ s.procs + 1
+admits_size : (s : State) (e : Entry) (o : Option Fault) → o ≡ refusal s e.pid → IsSound s → length (admits s e o).events ≤ s.procs + 1
 admits_size s e None is sound =
     omega (arith, size s e.pid e.step (turn s e) sound.apart (turn-account s e), room-law s e.pid sound (admitted s e.pid (sym is)))
 admits_size s e (Some f) is sound = omega arith
 
 pub events-law : (n : ℕ) (es : List Entry) (e : Entry) → length (moves (state n es) e).events ≤ n + 1
-events-law n es e =
-    omega (arith, admits_size (state n es) e (refusal (state n es) e.pid) refl (state-sound n es), procs-after (opening n) es)
+events-law n es e = omega (arith, admits_size (state n es) e (refusal (state n es) e.pid) refl (state-sound n es), procs-after (opening n) es)

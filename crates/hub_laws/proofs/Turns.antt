@@ -26,36 +26,29 @@ use Rattle.hub_laws.proofs.Deeds.{Knows, deed_of, told, Does, idle}
 use Rattle.hub_laws.proofs.Leaving.{Ended, events_of}
 use Rattle.hub_laws.proofs.Ready.{Admitted, admitted}
 
-pub last_call-snoc : (pid : Pid) (before : List Case) (ts : List Turned) (t : Turned) →
-    last_call pid before (ts ++ t ∷ []) ≡ latest pid (last_call pid before ts) t
+pub last_call-snoc : (pid : Pid) (before : List Case) (ts : List Turned) (t : Turned) → last_call pid before (ts ++ t ∷ []) ≡ latest pid (last_call pid before ts) t
 last_call-snoc pid before [] t = refl
 last_call-snoc pid before (x ∷ ts) t = last_call-snoc pid (latest pid before x) ts t
 
 -- Which cases are in force
 
 -- of a process that did not step
-latest_other : (pid : Pid) (before : List Case) (t : Turned) → (t.entry.pid.0 == pid.0) ≡ false →
-    latest pid before t ≡ before
+latest_other : (pid : Pid) (before : List Case) (t : Turned) → (t.entry.pid.0 == pid.0) ≡ false → latest pid before t ≡ before
 latest_other pid before t e = rw e refl
 
 -- of any process, after an entry that was answered by a fault
-latest_refused : (pid : Pid) (before : List Case) (t : Turned) → refused t.events ≡ true →
-    latest pid before t ≡ before
-latest_refused pid before t e =
-    rw e (elim (t.entry.pid.0 == pid.0) as (λ b. cond b before before ≡ before) [ true ↦ refl | false ↦ refl ])
+latest_refused : (pid : Pid) (before : List Case) (t : Turned) → refused t.events ≡ true → latest pid before t ≡ before
+latest_refused pid before t e = rw e (elim (t.entry.pid.0 == pid.0) as (λ b. cond b before before ≡ before) [ true ↦ refl | false ↦ refl ])
 
 -- of the process that stepped
-latest_mine : (before : List Case) (t : Turned) → refused t.events ≡ false →
-    latest t.entry.pid before t ≡ cases_or t.entry.step before
+latest_mine : (before : List Case) (t : Turned) → refused t.events ≡ false → latest t.entry.pid before t ≡ cases_or t.entry.step before
 latest_mine before t e = rw (e, same_number t.entry.pid.0) refl
 
-knows_more : (L M : Pid → List Case) (calls : List OpenCall) → ((pid : Pid) → M pid ≡ L pid) → Knows L calls →
-    Knows M calls
+knows_more : (L M : Pid → List Case) (calls : List OpenCall) → ((pid : Pid) → M pid ≡ L pid) → Knows L calls → Knows M calls
 knows_more L M [] same k = tt
 knows_more L M (call ∷ calls) same k = (same call.pid ∙ k.0, knows_more L M calls same k.1)
 
-knows_others : (L M : Pid → List Case) (q : ℕ) (calls : List OpenCall) → is_among q calls ≡ false →
-    ((pid : Pid) → (q == pid.0) ≡ false → M pid ≡ L pid) → Knows L calls → Knows M calls
+knows_others : (L M : Pid → List Case) (q : ℕ) (calls : List OpenCall) → is_among q calls ≡ false → ((pid : Pid) → (q == pid.0) ≡ false → M pid ≡ L pid) → Knows L calls → Knows M calls
 knows_others L M q [] free same k = tt
 knows_others L M q (call ∷ calls) free same k =
     let f = or_parts (call.pid.0 == q) (is_among q calls) free in

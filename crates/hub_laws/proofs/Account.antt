@@ -44,26 +44,31 @@ abbrev pub NamedSound : Option Port → List Channel → List OpenCall → Type 
 NamedSound named cs calls = (p : Port) (c : Channel) → named ≡ Some p → at cs p ≡ Some c → PortSound p c calls
 
 pub record Account (s : State) (pid : Pid) (step : Step) (c : Change) : Type 0 where
-  -- the caller is answered first, as fits its step, and then the calls that end are told so
+  -- what the caller is told, first
   pub answer : What
+  -- the open calls that end, each with what its process is told, in the order of these events
   pub ended : List Ended
   pub told : c.events ≡ tells pid answer ∷ events_of ended
+  -- the answer is one of this step's, and a case that it names stands in its place
   pub fits : is_answer_to step answer ≡ true
   pub placed : InPlace (cases_or step []) answer
+  -- an open call ends by an event that tells so
   pub ends : AllByRecursion EndsWell ended
-  -- all others wait on, where no process had two calls
+  -- who waits then: those that waited, with the caller where it is told `Parked`, without those that ended. Where a
+  -- process had two open calls only that there is no other
   pub leaves : Apart s.parked → Leave ended (with_caller s.parked pid step answer) c.state.parked
   pub fewer : Fewer c.state.parked (with_caller s.parked pid step answer)
-  -- the caller waits where no case of its call can proceed
+  -- the caller waits only where no case of its call can proceed
   pub blocked : is_parked answer ≡ true → list_any (can_proceed s) (cases_or step []) ≡ false
-  -- on the port that the answer names, and on no other
+  -- at most one channel is written or made, that of the port which the answer names, as the communications say
   pub does : IsSound s → Does s.channels c.state.channels (port_touched_by step answer) (deeds_of step answer ended)
+  -- and it suits those that wait then
   pub sound : IsSound s → NamedSound (port_touched_by step answer) c.state.channels c.state.parked
-  -- the processes, and those that have exited
+  -- the processes are as many, and the caller alone can exit
   pub procs : c.state.procs ≡ s.procs
   pub gone : c.state.gone ≡ with_leaver s.gone pid step
 
--- what holds of the open calls, and of the caller's where it waits, holds of those that end and of those that wait then
+-- what holds of the open calls, and of the caller's where it waits, holds of those that end and of those that stay
 pub account-all : (P : OpenCall → Type 0) (s : State) (pid : Pid) (step : Step) (c : Change) → Apart s.parked →
     (a : Account s pid step c) → AllByRecursion P s.parked → (is_parked a.answer ≡ true → P (call_of pid step)) →
     AllByRecursion (λ x. P x.call) a.ended × AllByRecursion P c.state.parked
@@ -76,7 +81,7 @@ account-all P s pid step c apart a all new =
     by true is = all_snoc P s.parked (call_of pid step) all (new (sym is))
     by false is = all
 
--- nobody ends
+-- no call ends
 pub alone : (s : State) (ts : List Channel) (pid : Pid) (step : Step) (answer : What) →
     is_answer_to step answer ≡ true → InPlace (cases_or step []) answer →
     (is_parked answer ≡ true → list_any (can_proceed s) (cases_or step []) ≡ false) →
@@ -106,7 +111,7 @@ alone s ts pid step answer fits placed blocked does sound = record {
   gone = refl;
 }
 
--- and no channel is written
+-- no call ends, and no channel is written
 pub silent : (s : State) (pid : Pid) (step : Step) (answer : What) → is_answer_to step answer ≡ true →
     (is_parked answer ≡ true → list_any (can_proceed s) (cases_or step []) ≡ false) →
     port_touched_by step answer ≡ None → InPlace (cases_or step []) answer →
@@ -119,7 +124,7 @@ silent s pid step answer fits blocked none placed quiet =
     alone s s.channels pid step answer fits placed blocked (λ sound. idle none refl (rw quiet refl))
     (λ sound p c names e. absurd (let g : ⊥ = cc in g))
 
--- the port that is written
+-- the port that is written, where it is the one that is named
 pub named_sound : (named : Option Port) (cs ts : List Channel) (p : Port) (c d : Channel) (calls : List OpenCall) →
     named ≡ Some p → Wrote cs ts p c d → PortSound p d calls → NamedSound named ts calls
 named_sound named cs ts p c d calls names w fine q x h e =

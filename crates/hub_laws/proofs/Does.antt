@@ -1,22 +1,19 @@
 -- What a write does to the channels, and what follows of each port from what a step can do to them.
 use Rattle.std.proofs.Common.{◌≡◌, ◌≤◌, ℕ, ◌+◌, ◌-◌, ◌<◌, ◌==◌, Bool, true, false, cond, zero, suc, List, [], ◌∷◌, ◌++◌, length, refl, ap, sym, subst, Option, Some, None, arith, inl, inr}
-use Rattle.std.specs.Prelude.{slice_get, slice_set}
+use Rattle.std.specs.Prelude.{slice_get, slice_set, get_or}
 use Rattle.std.proofs.Math.ListN.{length-set}
-use Rattle.std.proofs.lemmas.Bool.{or_cases, eqb-true, eqb-false}
+use Rattle.std.proofs.lemmas.Bool.{eqb-false}
 use Rattle.std.proofs.lemmas.List.{length-append}
-use Rattle.std.proofs.lemmas.Option.{slice_get_within}
+use Rattle.std.proofs.lemmas.Option.{slice_get_within, slice_get-get_or}
 use Rattle.hub_base.specs.declared.value.Port.{Port}
 use Rattle.hub_base.specs.declared.value.Value.{Value}
-use Rattle.hub_base.specs.declared.case.Case.{Case}
-use Rattle.hub_base.specs.declared.case.Case.TheVariants.{Send, Recv}
 use Rattle.hub_base.specs.State.{State, Channel, channel_at}
-use Rattle.hub_base.specs.Ready.{is_recv_on, is_on, port_of}
 use Rattle.hub_base.specs.Steps.{sent, next_value}
 use Rattle.hub_laws.specs.OnePort.{is_port, IsMade}
 use Rattle.hub_laws.specs.Sound.{IsSound}
 use Rattle.hub_laws.proofs.Deeds.{Deed, at, fresh, Wrote, Does, idle, adds, wrote}
 use Rattle.hub_laws.proofs.Fires.{longer}
-use Rattle.hub_laws.proofs.Ports.{above_zero, made, at_made, same_port, written, get_set_other, new_port}
+use Rattle.hub_laws.proofs.Ports.{above_zero, made, at_made, written, get_set_other, new_port}
 
 -- the channels after a write
 
@@ -38,23 +35,12 @@ wrote-set s q c d e = record {
 pub wrote-same : (s : State) (q : Port) (c : Channel) → channel_at s q ≡ Some c → Wrote s.channels s.channels q c c
 wrote-same s q c e = record { old = e; new = e; others = λ p h. refl; ports = refl }
 
--- the values and cases of a firing
-
-get_some : {A : Type 0} (xs : List A) (i : ℕ) → i < length xs → (x : A) × (slice_get xs i ≡ Some x)
-get_some [] i h = absurd (omega arith)
-get_some (x ∷ xs) zero h = (x, refl)
-get_some (x ∷ xs) (suc i) h = get_some xs i (omega arith)
+-- where a value is sent there is one to receive
 
 pub next_sent : (s : State) (p : Port) (v : Value) (c : Channel) → IsSound s → channel_at s p ≡ Some c → (w : Value) × (next_value (sent v c) ≡ Some w)
-next_sent s p v c sound e = get_some (c.done ++ v ∷ []) c.taken (omega (arith, (sound.ports p c e).taken, longer v c))
-
-pub is_recv : (p : Port) (c : Case) → is_recv_on p c ≡ true → c ≡ Recv p
-is_recv p (Send q v) e = cc
-is_recv p (Recv q) e = ap (λ (r : Port). Recv r) (same_port q p (eqb-true q.0 p.0 e))
-
-pub is_on_port : (p : Port) (c : Case) → is_on p c ≡ true → port_of c ≡ p
-is_on_port p (Send q v) e = elim (or_cases (q.0 == p.0) false e) [ inl l ↦ same_port q p (eqb-true q.0 p.0 l) | inr r ↦ absurd (let g : ⊥ = cc in g) ]
-is_on_port p (Recv q) e = same_port q p (eqb-true q.0 p.0 e)
+next_sent s p v c sound e =
+    let within : c.taken < length (c.done ++ v ∷ []) = omega (arith, (sound.ports p c e).taken, longer v c) in
+    (get_or (c.done ++ v ∷ []) c.taken v, slice_get-get_or (c.done ++ v ∷ []) c.taken v within)
 
 -- one channel more
 

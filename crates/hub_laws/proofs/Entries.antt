@@ -25,8 +25,9 @@ use Rattle.hub_laws.specs.OnePort.{port_touched_by}
 use Rattle.hub_laws.proofs.Branches.{by-stall, stalled}
 use Rattle.hub_laws.proofs.Calls.{fewer-none, fewer-filter, all_append, all_more}
 use Rattle.hub_laws.proofs.Deeds.{deed_of, fresh, IsClosing, shuts, adds, wrote}
-use Rattle.hub_laws.proofs.Does.{wrote-set, is_on_port}
+use Rattle.hub_laws.proofs.Does.{wrote-set}
 use Rattle.hub_laws.proofs.Faults.{journaled}
+use Rattle.hub_laws.proofs.Fires.{is_on_port}
 use Rattle.hub_laws.proofs.Kept.{port-fewer, port-shut, port-fresh}
 use Rattle.hub_laws.proofs.Leaving.{Ended, event_of, events_of, EndsWell, leave-join, ClosedAt, closed, all_stalled}
 use Rattle.hub_laws.proofs.Ready.{none_false}

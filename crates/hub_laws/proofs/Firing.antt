@@ -22,8 +22,8 @@ use Rattle.hub_laws.specs.Sound.{IsSound, PortSound, some_call}
 use Rattle.hub_laws.proofs.Branches.{by-closed}
 use Rattle.hub_laws.proofs.Calls.{Fewer, fewer-filter}
 use Rattle.hub_laws.proofs.Deeds.{Deed, Moved, Wrote, buffers, hands, fetches, gives, drains, refuses, wrote}
-use Rattle.hub_laws.proofs.Does.{wrote-set, wrote-same, next_sent, is_recv}
-use Rattle.hub_laws.proofs.Fires.{is_send, some_first}
+use Rattle.hub_laws.proofs.Does.{wrote-set, wrote-same, next_sent}
+use Rattle.hub_laws.proofs.Fires.{is_recv, is_send, some_first}
 use Rattle.hub_laws.proofs.Kept.{port-fewer, port-through, port-sent, port-received, room_by}
 use Rattle.hub_laws.proofs.Leaving.{Ended, nobody, next, first-goes}
 use Rattle.hub_laws.proofs.Ready.{chosen, none_can, ready_none}

@@ -4,6 +4,7 @@ use Rattle.std.specs.Prelude.{slice_get}
 use Rattle.std.specs.List.{list_any, enumerate_from}
 use Rattle.std.specs.Option.{option_map_or}
 use Rattle.std.proofs.lemmas.Grind.{common_steps}
+use Rattle.std.proofs.lemmas.Option.{slice_get-get_or}
 use Rattle.std.proofs.lemmas.Bool.{or_parts, or_cases, eqb-true}
 use Rattle.hub_base.specs.declared.value.Port.{Port}
 use Rattle.hub_base.specs.declared.value.Pid.{Pid}
@@ -15,11 +16,12 @@ use Rattle.hub_base.specs.Ready.{is_send_on, is_recv_on, can_proceed, send_can, 
 use Rattle.hub_base.specs.Steps.{refusal, has_gone, is_waiting}
 use Rattle.hub_laws.proofs.Calls.{StandsAt}
 use Rattle.hub_laws.proofs.Ports.{same_port}
-use Rattle.hub_laws.proofs.Fires.{get_none}
 
 pub ready_none : (xs : List (ℕ × Case)) (word : ℕ) → slice_get xs (word % length xs) ≡ None → xs ≡ []
 ready_none [] word e = refl
-ready_none (x ∷ xs) word e = absurd (get_none (x ∷ xs) (word % length (x ∷ xs)) e (omega arith))
+ready_none (x ∷ xs) word e =
+    let some = slice_get-get_or (x ∷ xs) (word % length (x ∷ xs)) x (omega arith) in
+    absurd (let g : ⊥ = cc in g)
 
 none_can_by : (b : Bool) (i : ℕ) (c : Case) (rest : List (ℕ × Case)) (t : Bool) → cond b ((i, c) ∷ rest) rest ≡ [] → (rest ≡ [] → t ≡ false) → (b || t) ≡ false
 none_can_by true i c rest t e h = cc

@@ -94,10 +94,12 @@ stays_wrote p q c x d cs ts deeds true is old over w m =
 stays_wrote p q c x d cs ts deeds false is old over w m =
     stays_same p c ts deeds (w.others p (sym is) ∙ old) over (others-none (sent_at p) p q x d deeds (sent_none p) (sym is) m) (others-none (heard p) p q x d deeds (heard_none p) (sym is) m)
 
-stays-does : (p : Port) (c : Channel) (cs ts : List Channel) (named : Option Port) (deeds : List Deed) → at cs p ≡ Some c → c.closed ≡ true →
-    Does cs ts named deeds → Stays p c ts deeds
-stays-does p c cs ts named deeds old over (idle none is e) = stays_same p c ts deeds ((quiet-idle cs ts is).same p c old) over (rw e refl) (rw e refl)
-stays-does p c cs ts named deeds old over (adds cap room names is e) = stays_same p c ts deeds ((quiet-adds cs ts cap is).same p c old) over (rw e refl) (rw e refl)
+stays-does : (p : Port) (c : Channel) (cs ts : List Channel) (named : Option Port) (deeds : List Deed) →
+    at cs p ≡ Some c → c.closed ≡ true → Does cs ts named deeds → Stays p c ts deeds
+stays-does p c cs ts named deeds old over (idle none is e) =
+    stays_same p c ts deeds ((quiet-idle cs ts is).same p c old) over (rw e refl) (rw e refl)
+stays-does p c cs ts named deeds old over (adds cap room names is e) =
+    stays_same p c ts deeds ((quiet-adds cs ts cap is).same p c old) over (rw e refl) (rw e refl)
 stays-does p c cs ts named deeds old over (wrote q x d names w m) = stays_wrote p q c x d cs ts deeds (q.0 == p.0) refl old over w m
 
 -- A run from a state where the channel of p is closed
@@ -112,7 +114,9 @@ later p c ts s (e ∷ es) sound knows old over =
     let t : Turned = record { entry = e; events = (moves s e).events } in
     let laws = moves-turn s e ts sound knows in
     let deeds : List Deed = told deed_of (in_force (ts ++ t ∷ [])) (moves s e).events in
-    let stays : Stays p c (moves s e).state.channels deeds = stays-does p c s.channels (moves s e).state.channels (port_touched e.step (moves s e).events) deeds old over laws.does in
+    let named : Option Port = port_touched e.step (moves s e).events in
+    let stays : Stays p c (moves s e).state.channels deeds =
+    stays-does p c s.channels (moves s e).state.channels named deeds old over laws.does in
     let rest = later p stays.after (ts ++ t ∷ []) (moves s e).state es (moves-sound s e sound) laws.knows stays.stands stays.closed in
     record {
       none = rw (told-picks (sent_at p) (in_force (ts ++ t ∷ [])) t.events (λ o. no_case_sent p o), stays.none) rest.none;

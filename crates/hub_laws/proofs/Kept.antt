@@ -85,7 +85,9 @@ or3_none true y z e = cc
 or3_none false true z e = cc
 or3_none false false z e = (refl, refl, e)
 
-pub port-parks : (s : State) (pid : Pid) (cases : List Case) (p : Port) (c : Channel) → channel_at s p ≡ Some c → list_any (can_proceed s) cases ≡ false → PortSound p c s.parked → PortSound p c (s.parked ++ record { pid = pid; cases = cases } ∷ [])
+pub port-parks : (s : State) (pid : Pid) (cases : List Case) (p : Port) (c : Channel) → channel_at s p ≡ Some c →
+    list_any (can_proceed s) cases ≡ false → PortSound p c s.parked →
+    PortSound p c (s.parked ++ record { pid = pid; cases = cases } ∷ [])
 port-parks s pid cases p c e none f =
     let recvs = any_snoc (λ call. list_any (is_recv_on p) call.cases) s.parked (record { pid = pid; cases = cases }) in
     let sends = any_snoc (λ call. list_any (is_send_on p) call.cases) s.parked (record { pid = pid; cases = cases }) in
@@ -159,8 +161,10 @@ send_unmade n p (Send q v) h e = lt-ltb n q.0 (let g = eqb-true q.0 p.0 e in ome
 pub port-fresh : (s : State) (q : Port) (cap : ℕ) → IsSound s → q.0 ≡ length s.channels + 1 →
     PortSound q (fresh cap) s.parked
 port-fresh s q cap sound new =
-    let recvs : some_call (is_recv_on q) s.parked ≡ false = unmade (length s.channels) (is_recv_on q) s.parked sound.calls (λ c. recv_unmade (length s.channels) q c (omega (arith, new))) in
-    let sends : some_call (is_send_on q) s.parked ≡ false = unmade (length s.channels) (is_send_on q) s.parked sound.calls (λ c. send_unmade (length s.channels) q c (omega (arith, new))) in
+    let recvs : some_call (is_recv_on q) s.parked ≡ false =
+    unmade (length s.channels) (is_recv_on q) s.parked sound.calls (λ c. recv_unmade (length s.channels) q c (omega (arith, new))) in
+    let sends : some_call (is_send_on q) s.parked ≡ false =
+    unmade (length s.channels) (is_send_on q) s.parked sound.calls (λ c. send_unmade (length s.channels) q c (omega (arith, new))) in
     record {
       taken = omega arith;
       fits = omega arith;

@@ -82,7 +82,8 @@ total_wrote f cs ts p q c d xs true is w here other =
     rw (new, old) (here same)
 total_wrote f cs ts p q c d xs false is w here other = rw (w.others p (sym is), other refl) (sym (append-nil (total f cs p)))
 
-pub total-does : {A : Type 0} (f : Channel → List A) (pick : Option Case → Outcome → Option A) (cs ts : List Channel) (named : Option Port) (deeds : List Deed) (p : Port) → Does cs ts named deeds →
+pub total-does : {A : Type 0} (f : Channel → List A) (pick : Option Case → Outcome → Option A) (cs ts : List Channel)
+    (named : Option Port) (deeds : List Deed) (p : Port) → Does cs ts named deeds →
     ((c : Channel) → c.done ≡ [] → c.taken ≡ 0 → f c ≡ []) →
     ((k : Case) (o : Outcome) → ((port_of k).0 == p.0) ≡ false → pick (Some k) o ≡ None) →
     ((c d : Channel) → at cs p ≡ Some c → Moved p c d deeds → f d ≡ f c ++ picks pick deeds) →
@@ -117,8 +118,11 @@ sent_here p c d deeds (shuts live is all) =
     let none : picks (sent_on p) deeds ≡ [] = picks-none (sent_on p) deeds (all_more (IsClosing p) (λ x. sent_on p (Some x.case) x.outcome ≡ None) deeds (λ x h. rw h.outcome (sent_closing p x.case)) all) in
     rw (is, none) (sym (append-nil c.done))
 
-pub sent-does : (cs ts : List Channel) (named : Option Port) (deeds : List Deed) (p : Port) → Does cs ts named deeds → total (λ c. c.done) ts p ≡ total (λ c. c.done) cs p ++ picks (sent_on p) deeds
-sent-does cs ts named deeds p does = total-does (λ c. c.done) (sent_on p) cs ts named deeds p does (λ c e t. e) (sent_none p) (λ c d e m. sent_here p c d deeds m)
+pub sent-does : (cs ts : List Channel) (named : Option Port) (deeds : List Deed) (p : Port) → Does cs ts named deeds →
+    total (λ c. c.done) ts p ≡ total (λ c. c.done) cs p ++ picks (sent_on p) deeds
+sent-does cs ts named deeds p does =
+    total-does (λ c. c.done) (sent_on p) cs ts named deeds p does (λ c e t. e) (sent_none p)
+    (λ c d e m. sent_here p c d deeds m)
 
 -- Received
 
@@ -152,5 +156,9 @@ got_here p c d deeds fits (shuts live is all) =
     let none : picks (got_on p) deeds ≡ [] = picks-none (got_on p) deeds (all_more (IsClosing p) (λ x. got_on p (Some x.case) x.outcome ≡ None) deeds (λ x h. rw h.outcome (got_closing p x.case)) all) in
     rw (is, none) (sym (append-nil (received_from c)))
 
-pub got-does : (cs ts : List Channel) (named : Option Port) (deeds : List Deed) (p : Port) → ((c : Channel) → at cs p ≡ Some c → c.taken ≤ length c.done) → Does cs ts named deeds → total (λ c. take c.taken c.done) ts p ≡ total (λ c. take c.taken c.done) cs p ++ picks (got_on p) deeds
-got-does cs ts named deeds p fits does = total-does received_from (got_on p) cs ts named deeds p does (λ c e t. rw t refl) (got_none p) (λ c d e m. got_here p c d deeds (fits c e) m)
+pub got-does : (cs ts : List Channel) (named : Option Port) (deeds : List Deed) (p : Port) →
+    ((c : Channel) → at cs p ≡ Some c → c.taken ≤ length c.done) → Does cs ts named deeds →
+    total (λ c. take c.taken c.done) ts p ≡ total (λ c. take c.taken c.done) cs p ++ picks (got_on p) deeds
+got-does cs ts named deeds p fits does =
+    total-does received_from (got_on p) cs ts named deeds p does (λ c e t. rw t refl) (got_none p)
+    (λ c d e m. got_here p c d deeds (fits c e) m)

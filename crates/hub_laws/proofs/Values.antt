@@ -34,14 +34,16 @@ pub sent-after : (s : State) (ts : List Turned) (es : List Entry) (p : Port) →
     total (λ c. c.done) (state_after s es).channels p ≡ total (λ c. c.done) s.channels p ++ values_from (sent_on p) ts (turns_after s es)
 sent-after s ts es p = grows (λ c. c.done) (sent_on p) p (λ s e ts sound knows.
     let t : Turned = record { entry = e; events = (moves s e).events } in
-    sent-does s.channels (moves s e).state.channels (port_touched e.step (moves s e).events) (told deed_of (in_force (ts ++ t ∷ [])) (moves s e).events) p (moves-turn s e ts sound knows).does
+    sent-does s.channels (moves s e).state.channels (port_touched e.step (moves s e).events)
+    (told deed_of (in_force (ts ++ t ∷ [])) (moves s e).events) p (moves-turn s e ts sound knows).does
     ∙ ap (λ xs. total (λ c. c.done) s.channels p ++ xs) (sym (told-picks (sent_on p) (in_force (ts ++ t ∷ [])) (moves s e).events (λ o. refl)))) s ts es
 
 pub got-after : (s : State) (ts : List Turned) (es : List Entry) (p : Port) → IsSound s → Knows (in_force ts) s.parked →
     total (λ c. take c.taken c.done) (state_after s es).channels p ≡ total (λ c. take c.taken c.done) s.channels p ++ values_from (got_on p) ts (turns_after s es)
 got-after s ts es p = grows (λ c. take c.taken c.done) (got_on p) p (λ s e ts sound knows.
     let t : Turned = record { entry = e; events = (moves s e).events } in
-    got-does s.channels (moves s e).state.channels (port_touched e.step (moves s e).events) (told deed_of (in_force (ts ++ t ∷ [])) (moves s e).events) p (λ c h. (sound.ports p c h).taken) (moves-turn s e ts sound knows).does
+    got-does s.channels (moves s e).state.channels (port_touched e.step (moves s e).events)
+    (told deed_of (in_force (ts ++ t ∷ [])) (moves s e).events) p (λ c h. (sound.ports p c h).taken) (moves-turn s e ts sound knows).does
     ∙ ap (λ xs. total (λ c. take c.taken c.done) s.channels p ++ xs) (sym (told-picks (got_on p) (in_force (ts ++ t ∷ [])) (moves s e).events (λ o. refl)))) s ts es
 
 -- before anything is made

@@ -1,4 +1,4 @@
-use Rattle.std.proofs.Common.{◌≡◌, ◌++◌, ℕ, length, drop}
+use Rattle.std.proofs.Common.{◌≡◌, ◌++◌, length, drop}
 use Rattle.hub_live.specs.Locked.{pids_of}
 use Rattle.hub_live.proofs.locked.pids_of.Given as goal
 

@@ -28,6 +28,12 @@ replays() {
         cmp -s "$work/events" "$2" && [ ! -s "$work/errors" ]
 }
 
+# These take longest, and go on beside the others.
+"$root/tools/refusals.sh" "$program" > "$work/refusals" 2>&1 &
+refusals=$!
+"$root/tools/live_refusals.sh" > "$work/live_refusals" 2>&1 &
+live_refusals=$!
+
 for events in "$root"/examples/journals/*.stdout; do
     journal=${events%.stdout}
     replays "$journal" "$events"
@@ -138,11 +144,6 @@ count $? "the longest journal"
 [ $? -eq 2 ] && [ ! -s "$work/events" ] && echo "chanhub: line 1000004: too long" | cmp -s - "$work/errors"
 count $? "one entry more than the longest journal has"
 
-"$root/tools/refusals.sh" "$program"
-count $? "refused allocations"
-"$root/tools/live_refusals.sh"
-count $? "refused allocations of the live hub"
-
 "$root/tools/receivers_close_nothing.sh"
 count $? "a close by an end that receives"
 
@@ -151,6 +152,11 @@ count $? "docs/CLAIMS.md beside the sources"
 
 "$root/tools/check_quotes.py"
 count $? "what README.md quotes"
+
+wait "$refusals"
+count $? "refused allocations: $(cat "$work/refusals")"
+wait "$live_refusals"
+count $? "refused allocations of the live hub: $(cat "$work/live_refusals")"
 
 echo "$passed passed, $failed failed"
 [ "$failed" -eq 0 ]

@@ -1,6 +1,6 @@
 #!/bin/sh
-# further_edits.sh [CRATE ..]: tries the must-fail edits in the folders further-edits of these crates or of
-# all, which the gate leaves out, one after the other. Works on a copy, so that only these are tried. Status 0 where each of them is
+# further_edits.sh [CRATE ..]: tries the must-fail edits in the folders further-edits of these crates or of all, which the
+# gate leaves out, one after the other. Works on a copy, so that only these are tried. Status 0 where each of them is
 # refused.
 set -eu
 root=$(cd "$(dirname "$0")/.." && pwd)

@@ -131,8 +131,8 @@ impl Locked {
         }
     }
 
-    /// Whose calls the last step that was made ended: they are to be woken. A wake is only a hint, so no
-    /// clause speaks of it.
+    /// Whose calls the last step that was made ended: they are to be woken. A wake is only a hint: no
+    /// clause says that one comes.
     pub fn answered(&self) -> Pids
         ensures { result.items ≡ self.now.answered }
     {

@@ -3,10 +3,11 @@
 //! The whole event text is made before a byte of it is written, so a malformed journal writes nothing. The
 //! entries are stepped as they are read, and none is kept.
 
-ghost use Rattle.std.specs.Prelude.{◌≡◌, ℕ, ◌-◌, ◌^◌, ◌<◌, ◌++◌, List, length, IfOk, IfErr, OnOk, IsErrOf};
+ghost use Rattle.std.specs.Prelude.{◌≡◌, ℕ, ◌+◌, ◌-◌, ◌^◌, ◌<◌, ◌++◌, List, length, IfOk, IfErr, OnOk, IsErrOf};
 ghost use Rattle.std.specs.List.{flat_map};
 ghost use Rattle.hub_base.specs.declared.text.faults.TextFault.{TextFault};
 ghost use Rattle.hub_base.specs.EventText.{event_line};
+ghost use Rattle.hub_base.specs.Limits.{most_bytes};
 ghost use Rattle.hub_replay.specs.Devices.{Failed, ConsumesAtMost};
 ghost use Rattle.hub_replay.specs.Replay.{IsEventText, HasNone, Replays, BeginsReplay, ReadsFaulty};
 
@@ -64,7 +65,7 @@ pub fn replay<S: Source, W: Sink>(
         (W.contents sink.old) (W.contents sink.new) }
 
     // At most one byte more is read than a journal may have, whatever the answer is.
-    ensures few { ConsumesAtMost (S.remaining source.old) (S.remaining source.new) 67108865 }
+    ensures few { ConsumesAtMost (S.remaining source.old) (S.remaining source.new) (most_bytes + 1) }
 
     // No other call of either device failed.
     ensures reads_once { ¬ IsErrOf result ReplayFault.Read

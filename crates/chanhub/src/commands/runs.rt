@@ -82,7 +82,6 @@ fn run_bytes<R: Threads + Wait + Sync, W: Sink>(
     ensures refused { IfErr result (λ refusal. IsRefused refusal (output.new ≡ output.old)
         (Failed (W.failures output.old) (W.failures output.new))) }
     ensures found { IfErr result (λ refusal. RefusesRun bytes.now refusal) }
-    ensures known { ¬ IsErrOf result Refusal.BadArguments }
 {
     let scenario = read_scenario(alloc, bytes)?;
     let report = run_scenario(rt, alloc, &scenario, &NoGate)?;
@@ -111,7 +110,6 @@ pub(crate) fn run_from<R: Files + Threads + Wait + Sync, S: Source, W: Sink>(
         (S.remaining input.old) (S.remaining input.new) (input.new ≡ input.old)
         (Failed (S.failures input.old) (S.failures input.new)) refusal) }
     ensures file { IsSome file.entry → input.new ≡ input.old }
-    ensures known { ¬ IsErrOf result Refusal.BadArguments }
 {
     let bytes = scenario_bytes(rt, alloc, file, input)?;
     run_bytes(rt, alloc, &bytes, journal, output)

@@ -1,6 +1,6 @@
 //! `chanhub verify JOURNAL EVENTS`.
 
-ghost use Rattle.std.specs.Prelude.{◌≡◌, ℕ, List, IfOk, IfErr, OnOk, OnErr, IsErrOf};
+ghost use Rattle.std.specs.Prelude.{◌≡◌, ℕ, List, IfOk, IfErr, OnOk, OnErr};
 ghost use Rattle.std.specs.Io.KnownBytes.{Appends};
 ghost use Rattle.hub_replay.specs.Devices.{Failed};
 ghost use Rattle.chanhub.specs.Promises.{TellsComparison, IsRefused, RefusesComparison, RefusesFiles, difference_line};
@@ -43,7 +43,6 @@ fn tell_comparison<W: Sink>(
     ensures refused { IfErr result (λ refusal. IsRefused refusal (output.new ≡ output.old)
         (Failed (W.failures output.old) (W.failures output.new))) }
     ensures found { IfErr result (λ refusal. RefusesComparison journal.now refusal) }
-    ensures known { ¬ IsErrOf result Refusal.BadArguments }
 {
     match verify(alloc, journal, events)? {
         Compared::Same => {
@@ -71,7 +70,6 @@ pub(crate) fn verify_files<R: Files, W: Sink>(
     ensures refused { IfErr result (λ refusal. IsRefused refusal (output.new ≡ output.old)
         (Failed (W.failures output.old) (W.failures output.new))) }
     ensures found { IfErr result (λ refusal. RefusesFiles refusal) }
-    ensures known { ¬ IsErrOf result Refusal.BadArguments }
 {
     let journal_bytes = read_file(rt, alloc, journal, MOST_JOURNAL_BYTES)?;
     let event_bytes = read_file(rt, alloc, events, MOST_EVENT_BYTES)?;

@@ -22,11 +22,11 @@ pub struct Trickle<'a> {
 }
 
 impl<'a> Trickle<'a> {
-    pub fn new(bytes: &'a [u8]) -> Trickle<'a> {
+    pub(crate) fn new(bytes: &'a [u8]) -> Trickle<'a> {
         Trickle::failing(bytes, 0)
     }
 
-    pub fn failing(bytes: &'a [u8], fails_at: u64) -> Trickle<'a> {
+    pub(crate) fn failing(bytes: &'a [u8], fails_at: u64) -> Trickle<'a> {
         Trickle {
             rest: bytes,
             fails_at,
@@ -34,7 +34,7 @@ impl<'a> Trickle<'a> {
         }
     }
 
-    pub fn calls(&self) -> u64 {
+    pub(crate) fn calls(&self) -> u64 {
         self.calls
     }
 }
@@ -61,11 +61,11 @@ pub struct Jar {
 }
 
 impl Jar {
-    pub fn new(alloc: Global, most: usize) -> Jar {
+    pub(crate) fn new(alloc: Global, most: usize) -> Jar {
         Jar::failing(alloc, most, 0, Wrong::Fails)
     }
 
-    pub fn failing(alloc: Global, most: usize, wrong_at: u64, wrong: Wrong) -> Jar {
+    pub(crate) fn failing(alloc: Global, most: usize, wrong_at: u64, wrong: Wrong) -> Jar {
         Jar {
             held: Vec::new(alloc),
             most,
@@ -75,11 +75,11 @@ impl Jar {
         }
     }
 
-    pub fn held(&self) -> &[u8] {
+    pub(crate) fn held(&self) -> &[u8] {
         &self.held
     }
 
-    pub fn calls(&self) -> u64 {
+    pub(crate) fn calls(&self) -> u64 {
         self.calls
     }
 }

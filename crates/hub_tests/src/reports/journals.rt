@@ -13,7 +13,7 @@ fn journal_text(alloc: Global, procs: u8, entries: &str) -> Result<String, Fail>
 }
 
 /// The report of a hub that has made these steps.
-pub fn report_of(
+pub(crate) fn report_of(
     rt: &impl Abort,
     alloc: Global,
     mut hub: Hub,
@@ -29,7 +29,12 @@ pub fn report_of(
 }
 
 /// The text of the report of these entries, each of which is admitted.
-pub fn told(rt: &impl Abort, alloc: Global, procs: u8, entries: &str) -> Result<Vec<u8>, Fail> {
+pub(crate) fn told(
+    rt: &impl Abort,
+    alloc: Global,
+    procs: u8,
+    entries: &str,
+) -> Result<Vec<u8>, Fail> {
     let text = journal_text(alloc, procs, entries)?;
     let journal = read_journal(alloc, text.as_bytes())?;
     let hub = Hub::open(alloc, procs, 1000)?;

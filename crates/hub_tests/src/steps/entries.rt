@@ -2,22 +2,22 @@
 
 use hub_base::{Case, Cases, Entry, Event, Outcome, Pid, Port, Step, Value, What};
 
-pub fn by(pid: u8, step: Step) -> Entry {
+pub(crate) fn by(pid: u8, step: Step) -> Entry {
     Entry {
         pid: Pid(pid),
         step,
     }
 }
 
-pub fn make(pid: u8, cap: u32) -> Entry {
+pub(crate) fn make(pid: u8, cap: u32) -> Entry {
     by(pid, Step::Make(cap))
 }
 
-pub fn close(pid: u8, port: u16) -> Entry {
+pub(crate) fn close(pid: u8, port: u16) -> Entry {
     by(pid, Step::Close(Port(port)))
 }
 
-pub fn exit(pid: u8) -> Entry {
+pub(crate) fn exit(pid: u8) -> Entry {
     by(pid, Step::Exit)
 }
 
@@ -34,15 +34,15 @@ fn call(pid: u8, case: Case) -> Entry {
     )
 }
 
-pub fn send(pid: u8, port: u16, number: u64) -> Entry {
+pub(crate) fn send(pid: u8, port: u16, number: u64) -> Entry {
     call(pid, Case::Send(Port(port), Value::num(number)))
 }
 
-pub fn recv(pid: u8, port: u16) -> Entry {
+pub(crate) fn recv(pid: u8, port: u16) -> Entry {
     call(pid, Case::Recv(Port(port)))
 }
 
-pub fn told(pid: u8, what: What) -> Event {
+pub(crate) fn told(pid: u8, what: What) -> Event {
     Event {
         pid: Pid(pid),
         what,
@@ -50,10 +50,10 @@ pub fn told(pid: u8, what: What) -> Event {
 }
 
 /// The only case of the call fired.
-pub fn fired(pid: u8, outcome: Outcome) -> Event {
+pub(crate) fn fired(pid: u8, outcome: Outcome) -> Event {
     told(pid, What::Fired { case: 0, outcome })
 }
 
-pub fn got(pid: u8, number: u64) -> Event {
+pub(crate) fn got(pid: u8, number: u64) -> Event {
     fired(pid, Outcome::Got(Value::num(number)))
 }

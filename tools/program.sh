@@ -2,7 +2,8 @@
 # program.sh [PROGRAM]: runs the built program on the examples, journals and scenarios; on the rows of tests/; on random
 # journals beside the events that model.py makes of them; on the longest journal and one entry more; and with each of its
 # allocations refused. Runs the live hub's tests, which `./test` has built, with theirs refused; compares model.py, CLAIMS
-# and the quotations of README with what they speak of; and tries a close by an end that receives. The last line counts:
+# and the quotations of README with what they speak of; looks for limits that are written as numbers; and tries a close by
+# an end that receives. The last line counts:
 # 'N passed, M failed'.
 set -u
 root=$(cd "$(dirname "$0")/.." && pwd)
@@ -117,6 +118,9 @@ for scenario in stalled ring; do
     count $? "sixty-four processes: $scenario"
 done
 
+"$program" "$(printf 'replay\377')" < "$work/journal" > "$work/told" 2> "$work/errors"
+[ $? -eq 2 ] && [ ! -s "$work/told" ] && [ "$(cat "$work/errors")" = 'chanhub: bad arguments' ]
+count $? "a word that is not UTF-8"
 "$program" verify "$work/journal" "$work/missing" > "$work/told" 2> "$work/errors"
 [ $? -eq 1 ] && [ ! -s "$work/told" ] && [ "$(cat "$work/errors")" = 'chanhub: read failed' ]
 count $? "a file that is not there"
@@ -149,6 +153,9 @@ count $? "a close by an end that receives"
 
 "$root/tools/check_claims.py"
 count $? "docs/CLAIMS.md beside the sources"
+
+"$root/tools/check_limits.py"
+count $? "limits that are written as numbers"
 
 "$root/tools/check_quotes.py"
 count $? "what README.md quotes"

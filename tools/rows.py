@@ -59,6 +59,7 @@ def long_journals(_):
     makes = '0 make 0\n' * 64
     made = ''.join('0 made %d\n' % port for port in range(1, 65))
     everyone = range(64)
+    others = range(1, 64)
     rows = {
         'sixty_four_ports_at_most': (1, makes + '0 make 0\n', made + '0 fault 7\n'),
         # Each select ends at its second case, and leaves nothing behind at the port of its first.
@@ -76,6 +77,20 @@ def long_journals(_):
             64,
             makes + ''.join('%d send %d %d\n' % (pid, pid + 1, pid + 1) for pid in everyone),
             made + ''.join('%d parked\n' % pid for pid in everyone) + ''.join('%d stalled\n' % pid for pid in everyone),
+        ),
+        # All others are told, in the order in which they came.
+        'sixty_three_receive_and_one_closes': (
+            64,
+            '0 make 0\n' + ''.join('%d recv 1\n' % pid for pid in reversed(others)) + '0 close 1\n',
+            '0 made 1\n'
+            + ''.join('%d parked\n' % pid for pid in reversed(others))
+            + '0 done\n'
+            + ''.join('%d case 0 drained\n' % pid for pid in reversed(others)),
+        ),
+        'greatest_capacity_at_the_last_port': (
+            1,
+            '0 make 0\n' * 63 + '0 make 1024\n' + ''.join('0 send 64 %d\n' % value for value in range(1025)),
+            made + '0 case 0 sent\n' * 1024 + '0 parked\n0 stalled\n',
         ),
     }
     for name, (procs, steps, events) in rows.items():

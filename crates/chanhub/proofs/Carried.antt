@@ -1,26 +1,54 @@
 -- What was done for a request is what the program has done; and why a request was refused, why the program did nothing.
-use Rattle.std.proofs.Common.{ℕ, List, Bool, Option, inl, inr, refl, codes}
+use Rattle.std.proofs.Common.{ℕ, zero, suc, arith, List, Bool, Option, inl, inr, refl, codes}
 use Rattle.hub_words.specs.Words.{AsksFor, AsksForReplay}
 use Rattle.hub_words.specs.declared.request.ArgumentsFault.{ArgumentsFault}
 use Rattle.hub_words.specs.declared.request.ArgumentsFault.TheVariants as arguments
+use Rattle.hub_replay.specs.Devices.{AppendsBeginning}
+use Rattle.hub_replay.specs.Replay.{Replays}
 use Rattle.chanhub.specs.declared.outcome.Outcome.{Outcome}
+use Rattle.chanhub.specs.declared.outcome.Outcome.TheVariants.{Done, Stalled}
 use Rattle.chanhub.specs.declared.refusal.Refusal.{Refusal}
-use Rattle.chanhub.specs.Promises.{HasDone, HasRefused, TellsComparison, TakesScenario, RunsScenario, RefusesReplay, RefusesFiles, RefusesScenario}
+use Rattle.chanhub.specs.Promises.{HasDone, HasBegun, HasRefused, IsRefused, TellsStalls, TellsComparison, TakesScenario, RunsScenario, RefusesReplay, RefusesFiles, RefusesScenario}
 use Rattle.chanhub.specs.Refusals.{of_arguments}
 
+-- a refusal whose failed write says more
+pub refused-more : (why : Refusal) {unchanged failed begun more : Type 0} → (begun → more) → IsRefused why unchanged failed begun → IsRefused why unchanged failed more
+refused-more why says r = record { unwritten = r.unwritten; write = λ is. let (failed, begun) = r.write is in (failed, says begun) }
+
+-- a run has one of the two outcomes
+pub some-outcome : (stalled : ℕ) → (outcome : Outcome) × TellsStalls outcome stalled
+some-outcome zero = (Done, refl)
+some-outcome (suc n) = (Stalled, omega arith)
+
 module _ (words : List (List ℕ)) (unread left : Option (List ℕ)) (alone : Type 0) where
-  module _ (outcome : Outcome) (held holds : Option (List ℕ)) where
+  module _ (outcome : Outcome) (Writes : List ℕ → Type 0) where
     pub has-verified : AsksFor (codes "verify") words → alone →
-        (journal : List ℕ) × (events : List ℕ) × TellsComparison journal events outcome held holds →
-        HasDone words outcome unread left alone held holds
+        (journal : List ℕ) × (events : List ℕ) × TellsComparison journal events outcome Writes →
+        HasDone words outcome unread left alone Writes
     has-verified asked untouched (journal, events, tells) =
         inr (inl (record { asked = asked; untouched = untouched; journal = journal; events = events; tells = tells }))
 
     pub has-run : (journal : Bool) → AsksFor (codes "run") words →
-        (bytes : List ℕ) × TakesScenario unread left alone bytes × RunsScenario bytes journal outcome held holds →
-        HasDone words outcome unread left alone held holds
+        (bytes : List ℕ) × TakesScenario unread left alone bytes × RunsScenario bytes journal outcome Writes →
+        HasDone words outcome unread left alone Writes
     has-run journal asked (bytes, taken, runs) =
         inr (inr (record { asked = asked; bytes = bytes; taken = taken; journal = journal; runs = runs }))
+
+  module _ (held holds : Option (List ℕ)) where
+    pub begun-replay : AsksForReplay words → Replays unread left (AppendsBeginning held holds) → HasBegun words unread left alone held holds
+    begun-replay asked replays = (Done, inl (record { asked = asked; done = refl; replays = replays }))
+
+    pub begun-verify : AsksFor (codes "verify") words → alone →
+        (outcome : Outcome) × (journal : List ℕ) × (events : List ℕ) × TellsComparison journal events outcome (AppendsBeginning held holds) →
+        HasBegun words unread left alone held holds
+    begun-verify asked untouched (outcome, journal, events, tells) =
+        (outcome, has-verified outcome (AppendsBeginning held holds) asked untouched (journal, events, tells))
+
+    pub begun-run : (journal : Bool) → AsksFor (codes "run") words →
+        (outcome : Outcome) × (bytes : List ℕ) × TakesScenario unread left alone bytes × RunsScenario bytes journal outcome (AppendsBeginning held holds) →
+        HasBegun words unread left alone held holds
+    begun-run journal asked (outcome, bytes, taken, runs) =
+        (outcome, has-run outcome (AppendsBeginning held holds) journal asked (bytes, taken, runs))
 
   module _ (failed : Type 0) where
     pub refused-arguments : (fault : ArgumentsFault) → alone → HasRefused words (of_arguments fault) unread left alone failed

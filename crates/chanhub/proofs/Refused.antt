@@ -4,8 +4,9 @@ use Rattle.hub_base.specs.declared.text.faults.TextFault.{TextFault}
 use Rattle.hub_replay.specs.declared.fault.ReplayFault.{ReplayFault}
 use Rattle.hub_replay.specs.declared.fault.ReplayFault.TheVariants as fault
 use Rattle.hub_replay.specs.Replay.{ReadsFaulty}
+use Rattle.chanhub.specs.declared.refusal.Refusal.{Refusal}
 use Rattle.chanhub.specs.declared.refusal.Refusal.TheVariants.{Write}
-use Rattle.chanhub.specs.Promises.{RefusesReplay}
+use Rattle.chanhub.specs.Promises.{IsRefused, RefusesReplay}
 use Rattle.chanhub.specs.Refusals.{of_replay}
 use Rattle.chanhub.specs.Statuses.{status_of}
 
@@ -16,6 +17,11 @@ if_err (Err f) p = p
 pub handed : {A E F : Type 0} (r : Result A F) (of : E → F) (e : E) (Q : F → Type 0) → IsErr r × IsErrAnd r (λ given. given ≡ of e) → Q (of e) → IfErr r Q
 handed (Ok x) of e Q given q = tt
 handed (Err f) of e Q given q = subst Q (sym given.1) q
+
+-- a failed write
+pub wrote_less : {A failed begun : Type 0} (unchanged : Type 0) (r : Result A Refusal) → IsErr r × IsErrAnd r (λ given. given ≡ Write) → failed × begun →
+    IfErr r (λ why. IsRefused why unchanged failed begun)
+wrote_less unchanged r given left = handed r (λ (x : Unit {0}). Write) tt _ given (record { unwritten = λ other. absurd (other refl); write = λ _. left })
 
 -- all faults but a failed write leave this
 pub but_write : (P : Type 0) (f : ReplayFault) → ((at : TextFault) → f ≡ fault.Text at → P) → (f ≡ fault.Read → P) → (f ≡ fault.NoMemory → P) →

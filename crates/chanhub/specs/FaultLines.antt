@@ -1,10 +1,12 @@
 -- The one line that the program writes to standard error where it did not do what it was asked for.
-use Rattle.std.specs.Prelude.{ℕ, List, [], ◌∷◌, ◌++◌, codes, decimal}
+use Rattle.std.specs.Prelude.{◌≡◌, ◌⊎◌, ℕ, List, [], ◌∷◌, ◌++◌, codes, decimal, Option}
 use Rattle.std.specs.Borrow.{Bor}
+use Rattle.std.specs.Io.KnownBytes.{Appends}
 use Rattle.hub_base.specs.declared.text.faults.Kind.{Kind}
 use Rattle.hub_base.specs.declared.text.faults.Kind.TheVariants as kind
 use Rattle.hub_scenario.specs.declared.fault.ScenarioFault.{ScenarioFault}
 use Rattle.hub_scenario.specs.declared.fault.ScenarioFault.TheVariants as scenario
+use Rattle.hub_replay.specs.Devices.{AppendsBeginning, Failed}
 use Rattle.chanhub.specs.declared.refusal.Refusal.{Refusal}
 use Rattle.chanhub.specs.declared.refusal.Refusal.TheVariants.{BadArguments, Read, Write, NoMemory, JournalFull, Journal, Scenario}
 
@@ -46,3 +48,8 @@ fault_text (Scenario fault) = codes "scenario: " ++ scenario_text fault
 
 abbrev pub fault_line : Refusal → List ℕ
 fault_line refusal = codes "chanhub: " ++ fault_text refusal ++ codes "\n"
+
+-- these bytes were written and no write failed, or a beginning of them was and one write failed
+abbrev pub TellsOnce : (held holds : Option (List ℕ)) → (before after : ℕ) → List ℕ → Type 0
+TellsOnce held holds before after bytes =
+    (Appends held holds bytes × (after ≡ before)) ⊎ (AppendsBeginning held holds bytes × Failed before after)

@@ -1,17 +1,18 @@
 -- What the program has done where it did what it was asked for, command by command.
 -- Of a named file's bytes nothing is known to a contract: 'these bytes' are those that were read, whatever they are.
 use Rattle.std.specs.Prelude.{◌≡◌, ℕ, ◌<◌, ◌≤◌, ◌⊎◌, ◌++◌, Bool, List, length, codes, decimal, Option, Ok, Err, if◌then◌else◌}
-use Rattle.std.specs.Io.KnownBytes.{Consumes, Appends, IsAtEnd}
+use Rattle.std.specs.Io.KnownBytes.{Consumes, IsAtEnd}
 use Rattle.hub_base.specs.Reading.{text}
 use Rattle.hub_base.specs.Text.{IsFaulty}
 use Rattle.hub_laws.specs.Journals.{IsLegal}
+use Rattle.hub_replay.specs.Devices.{AppendsBeginning}
 use Rattle.hub_replay.specs.Replay.{IsEventText, Replays, ReadsFaulty}
 use Rattle.hub_replay.specs.Verify.{DiffersAt}
 use Rattle.hub_report.specs.declared.report.Report.{Report}
 use Rattle.hub_report.specs.ReportText.{report_text}
 use Rattle.hub_report.specs.Reports.{IsReportOf}
 use Rattle.hub_runner.specs.Scripts.{AllFollow}
-use Rattle.hub_scenario.specs.Limits.{most_bytes}
+use Rattle.hub_scenario.specs.declared.limits.TheConstants.{MOST_FILE_BYTES}
 use Rattle.hub_scenario.specs.Scenario.{ScenarioData, reading}
 use Rattle.hub_words.specs.Words.{AsksFor, AsksForReplay}
 use Rattle.chanhub.specs.declared.refusal.Refusal.{Refusal}
@@ -25,12 +26,11 @@ abbrev pub difference_line : ℕ → List ℕ
 difference_line line = codes "differs at line " ++ decimal line ++ codes "\n"
 
 -- how the events compare with the event text of the journal, and the line that says so
-abbrev pub TellsComparison : List ℕ → List ℕ → Outcome → Option (List ℕ) → Option (List ℕ) → Type 0
-TellsComparison journal events Done held holds =
-    IsEventText journal events × Appends held holds (codes "same\n")
-TellsComparison journal events Differs held holds =
-    (line : ℕ) × DiffersAt journal events line × Appends held holds (difference_line line)
-TellsComparison journal events Stalled held holds = ⊥
+abbrev pub TellsComparison : List ℕ → List ℕ → Outcome → (Writes : List ℕ → Type 0) → Type 0
+TellsComparison journal events Done Writes = IsEventText journal events × Writes (codes "same\n")
+TellsComparison journal events Differs Writes =
+    (line : ℕ) × DiffersAt journal events line × Writes (difference_line line)
+TellsComparison journal events Stalled Writes = ⊥
 
 -- ---- run
 -- what is printed of a run: its journal, or its report
@@ -44,7 +44,7 @@ TellsStalls Stalled stalled = 0 < stalled
 TellsStalls Differs stalled = ⊥
 
 -- these bytes say a scenario, each process followed its script, and the report or the journal was written
-pub record RunsScenario (bytes : List ℕ) (journal : Bool) (outcome : Outcome) (held holds : Option (List ℕ)) : Type 0 where
+pub record RunsScenario (bytes : List ℕ) (journal : Bool) (outcome : Outcome) (Writes : List ℕ → Type 0) : Type 0 where
   pub scenario : ScenarioData
   pub report : Report
   pub said : reading bytes ≡ Ok scenario
@@ -53,42 +53,48 @@ pub record RunsScenario (bytes : List ℕ) (journal : Bool) (outcome : Outcome) 
   pub follows : AllFollow scenario report.journal.entries
   pub told : IsReportOf report.journal report
   pub stalls : TellsStalls outcome report.stalled
-  pub written : Appends held holds (printed journal report)
+  pub written : Writes (printed journal report)
 
 -- these bytes were read: all that there are, or one more than a scenario may have
 pub record ReadsScenario (unread left : Option (List ℕ)) (bytes : List ℕ) : Type 0 where
   pub consumed : Consumes unread left bytes
-  pub end : length bytes ≤ most_bytes → IsAtEnd left
+  pub end : length bytes ≤ MOST_FILE_BYTES → IsAtEnd left
 
 -- they are of standard input; or that was left alone, and they are a named file's
 abbrev pub TakesScenario : (unread left : Option (List ℕ)) → (alone : Type 0) → List ℕ → Type 0
 TakesScenario unread left alone bytes = ReadsScenario unread left bytes ⊎ alone
 
 -- ---- the program
-pub record HasReplayed (words : List (List ℕ)) (outcome : Outcome) (unread left held holds : Option (List ℕ)) : Type 0 where
+pub record HasReplayed (words : List (List ℕ)) (outcome : Outcome) (unread left : Option (List ℕ)) (Writes : List ℕ → Type 0) : Type 0 where
   pub asked : AsksForReplay words
   pub done : outcome ≡ Done
-  pub replays : Replays unread left held holds
+  pub replays : Replays unread left Writes
 
-pub record HasVerified (words : List (List ℕ)) (outcome : Outcome) (alone : Type 0) (held holds : Option (List ℕ)) : Type 0 where
+pub record HasVerified (words : List (List ℕ)) (outcome : Outcome) (alone : Type 0) (Writes : List ℕ → Type 0) : Type 0 where
   pub asked : AsksFor (codes "verify") words
   pub untouched : alone
   pub journal : List ℕ
   pub events : List ℕ
-  pub tells : TellsComparison journal events outcome held holds
+  pub tells : TellsComparison journal events outcome Writes
 
-pub record HasRun (words : List (List ℕ)) (outcome : Outcome) (unread left : Option (List ℕ)) (alone : Type 0) (held holds : Option (List ℕ)) : Type 0 where
+pub record HasRun (words : List (List ℕ)) (outcome : Outcome) (unread left : Option (List ℕ)) (alone : Type 0) (Writes : List ℕ → Type 0) : Type 0 where
   pub asked : AsksFor (codes "run") words
   pub bytes : List ℕ
   pub taken : TakesScenario unread left alone bytes
   pub journal : Bool
-  pub runs : RunsScenario bytes journal outcome held holds
+  pub runs : RunsScenario bytes journal outcome Writes
 
--- what it was asked for by its arguments was done, with this outcome
-abbrev pub HasDone : List (List ℕ) → Outcome → (unread left : Option (List ℕ)) → (alone : Type 0) → (held holds : Option (List ℕ)) → Type 0
-HasDone words outcome unread left alone held holds =
-    HasReplayed words outcome unread left held holds
-    ⊎ (HasVerified words outcome alone held holds ⊎ HasRun words outcome unread left alone held holds)
+-- what it was asked for by its arguments was done, with this outcome, and of the text that tells it this holds: that it
+-- was written whole and nothing else, or that a beginning of it was
+abbrev pub HasDone : List (List ℕ) → Outcome → (unread left : Option (List ℕ)) → (alone : Type 0) → (Writes : List ℕ → Type 0) → Type 0
+HasDone words outcome unread left alone Writes =
+    HasReplayed words outcome unread left Writes
+    ⊎ (HasVerified words outcome alone Writes ⊎ HasRun words outcome unread left alone Writes)
+
+-- the same up to its last write, which failed: of the text a beginning was written
+abbrev pub HasBegun : List (List ℕ) → (unread left : Option (List ℕ)) → (alone : Type 0) → (held holds : Option (List ℕ)) → Type 0
+HasBegun words unread left alone held holds =
+    (outcome : Outcome) × HasDone words outcome unread left alone (AppendsBeginning held holds)
 
 -- ---- refusals
 -- why these bytes are not run
@@ -155,7 +161,8 @@ HasRefused words why unread left alone failed =
     ⊎ ((AsksFor (codes "verify") words × alone × RefusesFiles why)
     ⊎ ((AsksFor (codes "run") words × RefusesScenario unread left alone failed why) ⊎ (alone × RefusesArguments why)))
 
--- what a refusal leaves: the output is as it was, but for a failed write, which is told only where a write failed
-pub record IsRefused (why : Refusal) (unchanged failed : Type 0) : Type 0 where
+-- what a refusal leaves: the output is as it was, but for a failed write, which is told only where a write failed, once,
+-- behind a beginning of what was to be written
+pub record IsRefused (why : Refusal) (unchanged failed begun : Type 0) : Type 0 where
   pub unwritten : ¬ (why ≡ refusal.Write) → unchanged
-  pub write : why ≡ refusal.Write → failed
+  pub write : why ≡ refusal.Write → failed × begun

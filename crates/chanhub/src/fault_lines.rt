@@ -2,8 +2,8 @@
 
 ghost use Rattle.std.specs.Prelude.{◌≡◌, OnOk, OnErr};
 ghost use Rattle.std.specs.Io.KnownBytes.{Appends};
-ghost use Rattle.hub_replay.specs.Devices.{AppendsBeginning};
-ghost use Rattle.chanhub.specs.FaultLines.{kind_text, fault_line};
+ghost use Rattle.hub_replay.specs.Devices.{Failed, AppendsBeginning};
+ghost use Rattle.chanhub.specs.FaultLines.{kind_text, fault_line, TellsOnce};
 ghost use Rattle.chanhub.specs.Statuses.{status_of};
 
 use crate::pieces::write_pieces;
@@ -32,6 +32,8 @@ fn write_scenario_line<X: Sink>(fault: ScenarioFault, errors: &mut X) -> Result<
         (fault_line (Refusal.Scenario fault))) }
     ensures beginning { OnErr result (AppendsBeginning (X.contents errors.old)
         (X.contents errors.new) (fault_line (Refusal.Scenario fault))) }
+    ensures err { OnErr result (Failed (X.failures errors.old) (X.failures errors.new)) }
+    ensures ok { OnOk result (X.failures errors.new ≡ X.failures errors.old) }
 {
     let text = match fault {
         ScenarioFault::TooLong => "too long",
@@ -65,6 +67,8 @@ fn write_line<X: Sink>(refusal: Refusal, errors: &mut X) -> Result<(), WriteFail
         (Appends (X.contents errors.old) (X.contents errors.new) (fault_line refusal)) }
     ensures beginning { OnErr result
         (AppendsBeginning (X.contents errors.old) (X.contents errors.new) (fault_line refusal)) }
+    ensures err { OnErr result (Failed (X.failures errors.old) (X.failures errors.new)) }
+    ensures ok { OnOk result (X.failures errors.new ≡ X.failures errors.old) }
 {
     match refusal {
         Refusal::BadArguments => write_pieces(errors, &["chanhub: bad arguments\n"]),
@@ -92,8 +96,8 @@ fn write_line<X: Sink>(refusal: Refusal, errors: &mut X) -> Result<(), WriteFail
 /// Tells the refusal as one line, and answers its status, also where the line can't be written.
 pub fn refuse<X: Sink>(refusal: Refusal, errors: &mut X) -> u8
     ensures status { result ≡ status_of refusal }
-    ensures told { AppendsBeginning (X.contents errors.old) (X.contents errors.new)
-        (fault_line refusal) }
+    ensures told { TellsOnce (X.contents errors.old) (X.contents errors.new)
+        (X.failures errors.old) (X.failures errors.new) (fault_line refusal) }
 {
     let _ = write_line(refusal, errors);
     refusal.status()

@@ -13,7 +13,10 @@ pub(crate) fn write_pieces<W: Sink>(sink: &mut W, pieces: &[&str]) -> Result<(),
         (Appends (W.contents sink.old) (W.contents sink.new) (joined pieces.now)) }
     ensures beginning { OnErr result
         (AppendsBeginning (W.contents sink.old) (W.contents sink.new) (joined pieces.now)) }
+
+    // One write failed at `Err`, and else none.
     ensures err { OnErr result (Failed (W.failures sink.old) (W.failures sink.new)) }
+    ensures ok { OnOk result (W.failures sink.new ≡ W.failures sink.old) }
 {
     for piece in pieces {
         write_whole(sink, piece.as_bytes())?;

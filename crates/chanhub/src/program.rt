@@ -2,13 +2,14 @@
 
 ghost use Rattle.std.specs.Prelude.{◌≡◌, ◌≤◌, ◌⊎◌, map, IfOk, IfErr, IsErrOf};
 ghost use Rattle.hub_base.specs.declared.text.faults.TextFault.{TextFault};
-ghost use Rattle.hub_replay.specs.Devices.{Failed, AppendsBeginning};
+ghost use Rattle.std.specs.Io.KnownBytes.{Appends};
+ghost use Rattle.hub_replay.specs.Devices.{Failed};
 ghost use Rattle.hub_replay.specs.Replay.{Replays, ReadsFaulty};
 ghost use Rattle.hub_words.specs.Words.{AsksForReplay, HasUnknownOption};
 ghost use Rattle.chanhub.specs.declared.outcome.Outcome.{Outcome};
 ghost use Rattle.chanhub.specs.declared.refusal.Refusal.{Refusal};
-ghost use Rattle.chanhub.specs.FaultLines.{fault_line};
-ghost use Rattle.chanhub.specs.Promises.{HasDone, HasRefused, IsRefused};
+ghost use Rattle.chanhub.specs.FaultLines.{fault_line, TellsOnce};
+ghost use Rattle.chanhub.specs.Promises.{HasDone, HasBegun, HasRefused, IsRefused};
 ghost use Rattle.chanhub.specs.Statuses.{status_of, status_of_outcome};
 
 use crate::commands::{replay_input, run_from, verify_files};
@@ -31,10 +32,13 @@ fn carry_out<R: Files + AllocGlobal + Threads + Wait + Sync, T: AsStr, S: Source
 ) -> Result<Outcome, Refusal>
     ensures done { IfOk result (λ outcome. HasDone (map T.text words.now) outcome
         (S.remaining input.old) (S.remaining input.new) (input.new ≡ input.old)
-        (W.contents output.old) (W.contents output.new)) }
+        (Appends (W.contents output.old) (W.contents output.new))) }
 
     ensures refused { IfErr result (λ refusal. IsRefused refusal (output.new ≡ output.old)
-        (Failed (W.failures output.old) (W.failures output.new))) }
+        (Failed (W.failures output.old) (W.failures output.new))
+        (HasBegun (map T.text words.now)
+        (S.remaining input.old) (S.remaining input.new) (input.new ≡ input.old)
+        (W.contents output.old) (W.contents output.new))) }
     ensures found { IfErr result (λ refusal. HasRefused (map T.text words.now) refusal
         (S.remaining input.old) (S.remaining input.new) (input.new ≡ input.old)
         (Failed (S.failures input.old) (S.failures input.new))) }
@@ -71,7 +75,7 @@ pub fn run_words<
         × (result ≡ status_of_outcome outcome)
         × HasDone (map T.text words.now) outcome
         (S.remaining input.old) (S.remaining input.new) (input.new ≡ input.old)
-        (W.contents output.old) (W.contents output.new) }
+        (Appends (W.contents output.old) (W.contents output.new)) }
     ensures silent { ¬ (result ≡ 1) → ¬ (result ≡ 2) → errors.new ≡ errors.old }
 
     // 1 and 2: why not is told to `errors`.
@@ -80,9 +84,13 @@ pub fn run_words<
         × HasRefused (map T.text words.now) refusal
         (S.remaining input.old) (S.remaining input.new) (input.new ≡ input.old)
         (Failed (S.failures input.old) (S.failures input.new))
-        × AppendsBeginning (X.contents errors.old) (X.contents errors.new) (fault_line refusal) }
+        × TellsOnce (X.contents errors.old) (X.contents errors.new)
+        (X.failures errors.old) (X.failures errors.new) (fault_line refusal) }
     ensures unwritten { (result ≡ 1) → (output.new ≡ output.old)
-        ⊎ Failed (W.failures output.old) (W.failures output.new) }
+        ⊎ (Failed (W.failures output.old) (W.failures output.new)
+        × HasBegun (map T.text words.now)
+        (S.remaining input.old) (S.remaining input.new) (input.new ≡ input.old)
+        (W.contents output.old) (W.contents output.new)) }
     ensures malformed { result ≡ 2 → output.new ≡ output.old }
     ensures option { HasUnknownOption (map T.text words.now)
         → (result ≡ 2) × (input.new ≡ input.old) }
@@ -90,7 +98,7 @@ pub fn run_words<
     // The same of a replay in full.
     ensures replays { result ≡ 0 → AsksForReplay (map T.text words.now)
         → Replays (S.remaining input.old) (S.remaining input.new)
-        (W.contents output.old) (W.contents output.new) }
+        (Appends (W.contents output.old) (W.contents output.new)) }
     ensures faulty { result ≡ 2 → AsksForReplay (map T.text words.now)
         → (fault : TextFault) × ReadsFaulty (S.remaining input.old) (S.remaining input.new) fault }
 {

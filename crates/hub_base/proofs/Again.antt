@@ -9,6 +9,7 @@ use Rattle.hub_base.specs.declared.case.Case.TheVariants.{Send, Recv}
 use Rattle.hub_base.specs.declared.entry.Entry.{Entry}
 use Rattle.hub_base.specs.declared.entry.Step.{Step}
 use Rattle.hub_base.specs.declared.entry.Step.TheVariants.{Make, Call, Close, Exit}
+use Rattle.hub_base.specs.declared.limits.TheConstants.{CASE_PLACES, GREATEST_PID, GREATEST_PORT, GREATEST_CAP, GREATEST_VALUE, GREATEST_WORD}
 use Rattle.hub_base.specs.declared.text.faults.Kind.TheVariants.{BadStep}
 use Rattle.hub_base.specs.Lines.Draft.{Sends, Receives}
 use Rattle.hub_base.specs.Lines.{numeral, ◌>>=◌, Draft, read_select, read_fields, choose, step_fields, call_fields, select_fields, default_field, case_field, case_of, cases_of, draft_of, drafts_of, send_draft, recv_draft, spelled, ends_default, last_default, same_text, by, call}
@@ -28,11 +29,11 @@ below n most h k = omega arith
 -- the field of a case has its shape
 pub draft-again : (c : Case) → CaseFits c → draft_of (case_field c) ≡ Ok (draft_for c)
 draft-again (Send p v) fits =
-    let port = decimal-lacks-colon p.0 (below p.0 65535 fits.0 (omega arith)) in
-    let value = decimal-lacks-colon v.0 (below v.0 18446744073709551615 fits.1 (omega arith)) in
+    let port = decimal-lacks-colon p.0 (below p.0 GREATEST_PORT fits.0 (omega arith)) in
+    let value = decimal-lacks-colon v.0 (below v.0 GREATEST_VALUE fits.1 (omega arith)) in
     ap draft_of (send-field p.0 v.0) ∙ ap send_draft (pieces-more 58 (decimal p.0) (decimal v.0) port ∙ ap (λ ps. decimal p.0 ∷ ps) (pieces-last 58 (decimal v.0) value))
 draft-again (Recv p) fits =
-    ap recv_draft (pieces-last 58 (decimal p.0) (decimal-lacks-colon p.0 (below p.0 65535 fits (omega arith))))
+    ap recv_draft (pieces-last 58 (decimal p.0) (decimal-lacks-colon p.0 (below p.0 GREATEST_PORT fits (omega arith))))
 
 -- and so have all of a select
 pub drafts-again : (cs : List Case) → AllByRecursion CaseFits cs → drafts_of (map case_field cs) ≡ Ok (map draft_for cs)
@@ -41,8 +42,8 @@ drafts-again (c ∷ cs) fits = rw (draft-again c fits.0, drafts-again cs fits.1)
 
 -- the numbers of that shape are the case
 pub case-again : (c : Case) → CaseFits c → case_of (draft_for c) ≡ Ok c
-case-again (Send p v) fits = rw (numeral-again 65535 p.0 (omega arith) fits.0, numeral-again 18446744073709551615 v.0 (omega arith) fits.1) refl
-case-again (Recv p) fits = rw (numeral-again 65535 p.0 (omega arith) fits) refl
+case-again (Send p v) fits = rw (numeral-again GREATEST_PORT p.0 (omega arith) fits.0, numeral-again GREATEST_VALUE v.0 (omega arith) fits.1) refl
+case-again (Recv p) fits = rw (numeral-again GREATEST_PORT p.0 (omega arith) fits) refl
 
 -- and all of a select are its cases
 pub cases-again : (cs : List Case) → AllByRecursion CaseFits cs → cases_of (map draft_for cs) ≡ Ok cs
@@ -65,49 +66,49 @@ ends-again (c ∷ cs) d =
     ends-step (case_field c) (map case_field cs ++ default_field d) (not-last c (map case_field cs ++ default_field d))
     ∙ ap (λ (r : (List (List ℕ)) × Bool). (case_field c ∷ r.0, r.1)) (ends-again cs d)
 
-few : (n : ℕ) → n ≤ 16 → nat_lt 16 n ≡ false
+few : (n : ℕ) → n ≤ CASE_PLACES → nat_lt CASE_PLACES n ≡ false
 few n h = grind (arith, common_steps)
 
 -- a select is read as it is spelled
-pub select-again : (pid : ℕ) (cs : List Case) (d : Bool) (w : ℕ) → pid ≤ 255 → CallFits cs w → spelled cs d w ≡ Ok (call cs d w) → call_fields cs d w ≡ select_fields cs d w →
+pub select-again : (pid : ℕ) (cs : List Case) (d : Bool) (w : ℕ) → pid ≤ GREATEST_PID → CallFits cs w → spelled cs d w ≡ Ok (call cs d w) → call_fields cs d w ≡ select_fields cs d w →
     read_fields (decimal pid ∷ call_fields cs d w) ≡ Ok (by pid (call cs d w))
 select-again pid cs d w small fits whole fields =
     let ends = ends-again cs d in
-    let count : nat_lt 16 (length (map draft_for cs)) ≡ false = (let n = length-map cs draft_for in few (length (map draft_for cs)) (omega (arith, n, fits.few))) in
+    let count : nat_lt CASE_PLACES (length (map draft_for cs)) ≡ false = (let n = length-map cs draft_for in few (length (map draft_for cs)) (omega (arith, n, fits.few))) in
     ap (λ gs. read_fields (decimal pid ∷ gs)) fields
     ∙ ap (read_select (decimal pid) (decimal w)) ends
-    ∙ ap (λ r. r >>= λ ds. cond (nat_lt 16 (length ds)) (Err BadStep) (choose (decimal pid) (decimal w) (cases_of ds) d)) (drafts-again cs fits.each)
+    ∙ ap (λ r. r >>= λ ds. cond (nat_lt CASE_PLACES (length ds)) (Err BadStep) (choose (decimal pid) (decimal w) (cases_of ds) d)) (drafts-again cs fits.each)
     ∙ ap (λ b. cond b (Err BadStep) (choose (decimal pid) (decimal w) (cases_of (map draft_for cs)) d)) count
     ∙ ap (λ r. choose (decimal pid) (decimal w) r d) (cases-again cs fits.each)
-    ∙ ap (λ r. r >>= λ pid. numeral 18446744073709551615 (decimal w) >>= λ word. spelled cs d word >>= λ step. Ok (by pid step)) (numeral-again 255 pid (omega arith) small)
-    ∙ ap (λ r. r >>= λ word. spelled cs d word >>= λ step. Ok (by pid step)) (numeral-again 18446744073709551615 w (omega arith) fits.word_fits)
+    ∙ ap (λ r. r >>= λ pid. numeral GREATEST_WORD (decimal w) >>= λ word. spelled cs d word >>= λ step. Ok (by pid step)) (numeral-again GREATEST_PID pid (omega arith) small)
+    ∙ ap (λ r. r >>= λ word. spelled cs d word >>= λ step. Ok (by pid step)) (numeral-again GREATEST_WORD w (omega arith) fits.word_fits)
     ∙ ap (λ r. r >>= λ step. Ok (by pid step)) whole
 
 -- a call is read as it is spelled, in its short form or as a select
-pub call-again : (pid : ℕ) (cs : List Case) (d : Bool) (w : ℕ) → pid ≤ 255 → CallFits cs w → read_fields (decimal pid ∷ call_fields cs d w) ≡ Ok (by pid (call cs d w))
+pub call-again : (pid : ℕ) (cs : List Case) (d : Bool) (w : ℕ) → pid ≤ GREATEST_PID → CallFits cs w → read_fields (decimal pid ∷ call_fields cs d w) ≡ Ok (by pid (call cs d w))
 call-again pid [] d w small fits = select-again pid [] d w small fits refl refl
 call-again pid (Send p v ∷ []) true w small fits = select-again pid (Send p v ∷ []) true w small fits refl refl
 call-again pid (Send p v ∷ []) false zero small fits =
-    ap (λ r. r >>= λ pid. case_of (Sends (decimal p.0) (decimal v.0)) >>= λ c. Ok (by pid (call (c ∷ []) false 0))) (numeral-again 255 pid (omega arith) small)
+    ap (λ r. r >>= λ pid. case_of (Sends (decimal p.0) (decimal v.0)) >>= λ c. Ok (by pid (call (c ∷ []) false 0))) (numeral-again GREATEST_PID pid (omega arith) small)
     ∙ ap (λ r. r >>= λ c. Ok (by pid (call (c ∷ []) false 0))) (case-again (Send p v) fits.each.0)
 call-again pid (Send p v ∷ []) false (suc w) small fits = select-again pid (Send p v ∷ []) false (suc w) small fits refl refl
 call-again pid (Recv p ∷ []) true w small fits = select-again pid (Recv p ∷ []) true w small fits refl refl
 call-again pid (Recv p ∷ []) false zero small fits =
-    ap (λ r. r >>= λ pid. case_of (Receives (decimal p.0)) >>= λ c. Ok (by pid (call (c ∷ []) false 0))) (numeral-again 255 pid (omega arith) small)
+    ap (λ r. r >>= λ pid. case_of (Receives (decimal p.0)) >>= λ c. Ok (by pid (call (c ∷ []) false 0))) (numeral-again GREATEST_PID pid (omega arith) small)
     ∙ ap (λ r. r >>= λ c. Ok (by pid (call (c ∷ []) false 0))) (case-again (Recv p) fits.each.0)
 call-again pid (Recv p ∷ []) false (suc w) small fits = select-again pid (Recv p ∷ []) false (suc w) small fits refl refl
 call-again pid (Send p v ∷ c ∷ cs) d w small fits = select-again pid (Send p v ∷ c ∷ cs) d w small fits refl refl
 call-again pid (Recv p ∷ c ∷ cs) d w small fits = select-again pid (Recv p ∷ c ∷ cs) d w small fits refl refl
 
-step-again : (pid : ℕ) (step : Step) → pid ≤ 255 → StepFits step → read_fields (decimal pid ∷ step_fields step) ≡ Ok (by pid step)
+step-again : (pid : ℕ) (step : Step) → pid ≤ GREATEST_PID → StepFits step → read_fields (decimal pid ∷ step_fields step) ≡ Ok (by pid step)
 step-again pid (Make cap) small fits =
-    ap (λ r. r >>= λ pid. numeral 4294967295 (decimal cap) >>= λ cap. Ok (by pid (Make cap))) (numeral-again 255 pid (omega arith) small)
-    ∙ ap (λ r. r >>= λ cap. Ok (by pid (Make cap))) (numeral-again 4294967295 cap (omega arith) fits)
+    ap (λ r. r >>= λ pid. numeral GREATEST_CAP (decimal cap) >>= λ cap. Ok (by pid (Make cap))) (numeral-again GREATEST_PID pid (omega arith) small)
+    ∙ ap (λ r. r >>= λ cap. Ok (by pid (Make cap))) (numeral-again GREATEST_CAP cap (omega arith) fits)
 step-again pid (Call cases d w) small fits = call-again pid cases.items d w small fits
 step-again pid (Close p) small fits =
-    ap (λ r. r >>= λ pid. numeral 65535 (decimal p.0) >>= λ p. Ok (by pid (Close (record { 0 = p })))) (numeral-again 255 pid (omega arith) small)
-    ∙ ap (λ r. r >>= λ p. Ok (by pid (Close (record { 0 = p })))) (numeral-again 65535 p.0 (omega arith) fits)
-step-again pid Exit small fits = ap (λ r. r >>= λ pid. Ok (by pid Exit)) (numeral-again 255 pid (omega arith) small)
+    ap (λ r. r >>= λ pid. numeral GREATEST_PORT (decimal p.0) >>= λ p. Ok (by pid (Close (record { 0 = p })))) (numeral-again GREATEST_PID pid (omega arith) small)
+    ∙ ap (λ r. r >>= λ p. Ok (by pid (Close (record { 0 = p })))) (numeral-again GREATEST_PORT p.0 (omega arith) fits)
+step-again pid Exit small fits = ap (λ r. r >>= λ pid. Ok (by pid Exit)) (numeral-again GREATEST_PID pid (omega arith) small)
 
 -- what an entry spells is read as that entry
 pub fields-again : (e : Entry) → Fits e → read_fields (fields_of e) ≡ Ok e

@@ -7,6 +7,7 @@ use Rattle.hub_base.specs.declared.case.Case.{Case}
 use Rattle.hub_base.specs.declared.case.Case.TheVariants.{Send, Recv}
 use Rattle.hub_base.specs.declared.entry.Entry.{Entry}
 use Rattle.hub_base.specs.declared.entry.Step.{Step}
+use Rattle.hub_base.specs.declared.limits.TheConstants.{GREATEST_PID, GREATEST_PORT, GREATEST_CAP, GREATEST_VALUE, GREATEST_WORD}
 use Rattle.hub_base.specs.declared.entry.Step.TheVariants.{Make, Call, Close, Exit}
 use Rattle.hub_base.specs.Lines.{step_fields, call_fields, select_fields, default_field, case_field, read_fields, pieces, line}
 use Rattle.hub_base.specs.Reading.{rows, front}
@@ -38,12 +39,12 @@ small n most h k = omega arith
 
 case-lacks : (m : ℕ) (c : Case) → m < 48 → CaseFits c → lacks m (case_field c) ≡ true
 case-lacks m (Send p v) low fits =
-    let port = decimal-lacks m p.0 low (small p.0 65535 fits.0 (omega arith)) in
-    let value = decimal-lacks m v.0 low (small v.0 18446744073709551615 fits.1 (omega arith)) in
+    let port = decimal-lacks m p.0 low (small p.0 GREATEST_PORT fits.0 (omega arith)) in
+    let value = decimal-lacks m v.0 low (small v.0 GREATEST_VALUE fits.1 (omega arith)) in
     both (not (115 == m)) (lacks m (decimal p.0 ++ 58 ∷ decimal v.0)) (high m 115 low refl)
     (lacks-append m (decimal p.0) (58 ∷ decimal v.0) port (both (not (58 == m)) (lacks m (decimal v.0)) (high m 58 low refl) value))
 case-lacks m (Recv p) low fits =
-    both (not (114 == m)) (lacks m (decimal p.0)) (high m 114 low refl) (decimal-lacks m p.0 low (small p.0 65535 fits (omega arith)))
+    both (not (114 == m)) (lacks m (decimal p.0)) (high m 114 low refl) (decimal-lacks m p.0 low (small p.0 GREATEST_PORT fits (omega arith)))
 
 default-lacks : (m : ℕ) (d : Bool) → m < 48 → all_lack m (default_field d) ≡ true
 default-lacks m true low = both (lacks m (codes "default")) true (lacks-high m (codes "default") low refl) refl
@@ -56,7 +57,7 @@ cases-lack m (c ∷ cs) d low fits = both (lacks m (case_field c)) (all_lack m (
 select-lacks : (m : ℕ) (cs : List Case) (d : Bool) (w : ℕ) → m < 48 → CallFits cs w → all_lack m (select_fields cs d w) ≡ true
 select-lacks m cs d w low fits =
     both (lacks m (codes "select")) (all_lack m (decimal w ∷ map case_field cs ++ default_field d)) (lacks-high m (codes "select") low refl)
-    (both (lacks m (decimal w)) (all_lack m (map case_field cs ++ default_field d)) (decimal-lacks m w low (small w 18446744073709551615 fits.word_fits (omega arith))) (cases-lack m cs d low fits.each))
+    (both (lacks m (decimal w)) (all_lack m (map case_field cs ++ default_field d)) (decimal-lacks m w low (small w GREATEST_WORD fits.word_fits (omega arith))) (cases-lack m cs d low fits.each))
 
 one-lacks : (m most n : ℕ) → m < 48 → most < 2 ^ 64 → n ≤ most → all_lack m (decimal n ∷ []) ≡ true
 one-lacks m most n low wide fits = both (lacks m (decimal n)) true (decimal-lacks m n low (small n most fits wide)) refl
@@ -69,23 +70,23 @@ call-lacks m [] d w low fits = select-lacks m [] d w low fits
 call-lacks m (Send p v ∷ []) true w low fits = select-lacks m (Send p v ∷ []) true w low fits
 call-lacks m (Send p v ∷ []) false zero low fits =
     named m (codes "send") (decimal p.0 ∷ decimal v.0 ∷ []) low refl
-    (both (lacks m (decimal p.0)) (all_lack m (decimal v.0 ∷ [])) (decimal-lacks m p.0 low (small p.0 65535 fits.each.0.0 (omega arith))) (one-lacks m 18446744073709551615 v.0 low (omega arith) fits.each.0.1))
+    (both (lacks m (decimal p.0)) (all_lack m (decimal v.0 ∷ [])) (decimal-lacks m p.0 low (small p.0 GREATEST_PORT fits.each.0.0 (omega arith))) (one-lacks m GREATEST_VALUE v.0 low (omega arith) fits.each.0.1))
 call-lacks m (Send p v ∷ []) false (suc w) low fits = select-lacks m (Send p v ∷ []) false (suc w) low fits
 call-lacks m (Recv p ∷ []) true w low fits = select-lacks m (Recv p ∷ []) true w low fits
-call-lacks m (Recv p ∷ []) false zero low fits = named m (codes "recv") (decimal p.0 ∷ []) low refl (one-lacks m 65535 p.0 low (omega arith) fits.each.0)
+call-lacks m (Recv p ∷ []) false zero low fits = named m (codes "recv") (decimal p.0 ∷ []) low refl (one-lacks m GREATEST_PORT p.0 low (omega arith) fits.each.0)
 call-lacks m (Recv p ∷ []) false (suc w) low fits = select-lacks m (Recv p ∷ []) false (suc w) low fits
 call-lacks m (Send p v ∷ c ∷ cs) d w low fits = select-lacks m (Send p v ∷ c ∷ cs) d w low fits
 call-lacks m (Recv p ∷ c ∷ cs) d w low fits = select-lacks m (Recv p ∷ c ∷ cs) d w low fits
 
 step-lacks : (m : ℕ) (step : Step) → m < 48 → StepFits step → all_lack m (step_fields step) ≡ true
-step-lacks m (Make cap) low fits = named m (codes "make") (decimal cap ∷ []) low refl (one-lacks m 4294967295 cap low (omega arith) fits)
+step-lacks m (Make cap) low fits = named m (codes "make") (decimal cap ∷ []) low refl (one-lacks m GREATEST_CAP cap low (omega arith) fits)
 step-lacks m (Call cases d w) low fits = call-lacks m cases.items d w low fits
-step-lacks m (Close p) low fits = named m (codes "close") (decimal p.0 ∷ []) low refl (one-lacks m 65535 p.0 low (omega arith) fits)
+step-lacks m (Close p) low fits = named m (codes "close") (decimal p.0 ∷ []) low refl (one-lacks m GREATEST_PORT p.0 low (omega arith) fits)
 step-lacks m Exit low fits = named m (codes "exit") [] low refl refl
 
 -- no field of an entry holds such a mark
 pub fields-lack : (m : ℕ) (e : Entry) → m < 48 → Fits e → all_lack m (fields_of e) ≡ true
-fields-lack m e low fits = both (lacks m (decimal e.pid.0)) (all_lack m (step_fields e.step)) (decimal-lacks m e.pid.0 low (small e.pid.0 255 fits.pid (omega arith))) (step-lacks m e.step low fits.step)
+fields-lack m e low fits = both (lacks m (decimal e.pid.0)) (all_lack m (step_fields e.step)) (decimal-lacks m e.pid.0 low (small e.pid.0 GREATEST_PID fits.pid (omega arith))) (step-lacks m e.step low fits.step)
 
 -- a line without its newline is read as its entry
 pub body-again : (e : Entry) → Fits e → read_fields (pieces 32 (body e)) ≡ Ok e

@@ -1,6 +1,7 @@
 -- Faulty texts: what is refused is faulty there, and what is faulty is refused for it.
 use Rattle.std.proofs.Common.{◌≡◌, ℕ, ◌≤◌, Bool, true, false, cond, List, [], ◌∷◌, ◌⊎◌, inl, inr, length, refl, ap, ◌∙◌, sym, subst, Option, Some, None, arith, codes}
 use Rattle.hub_base.specs.declared.text.faults.Kind.{Kind}
+use Rattle.hub_base.specs.declared.limits.TheConstants.{MOST_BYTES}
 use Rattle.hub_base.specs.declared.text.faults.Kind.TheVariants.{BadHeader, BadProcs}
 use Rattle.hub_base.specs.Lines.{same_text}
 use Rattle.hub_base.specs.Reading.{Row, rows, Reading, Faulty, head, procs_line, entries_from, row_fault, faulty_or, end_of, procs_number, procs_say, procs_from, reading, read_text}
@@ -80,7 +81,7 @@ second-faulty (r ∷ rs) kind h = go (row_fault (end_of 18 r) r) (procs_number r
   go None None h = let same : BadProcs ≡ kind = cc in ap (Faulty 2) same
   go None (Some n) h = cc
 
-head-fits : (n : ℕ) (rs : List Row) (k : ℕ) (kind : Kind) → EntryFails (length (head n)) 0 3 rs k kind → length (head n) ≤ 67108864
+head-fits : (n : ℕ) (rs : List Row) (k : ℕ) (kind : Kind) → EntryFails (length (head n)) 0 3 rs k kind → length (head n) ≤ MOST_BYTES
 head-fits n rs k kind f = let l = f.bytes_fit in omega (arith, l)
 
 -- what is faulty is refused there, for that fault

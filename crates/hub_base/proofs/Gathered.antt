@@ -5,6 +5,7 @@ use Rattle.std.specs.Prelude.{nat_lt}
 use Rattle.hub_base.specs.declared.case.Case.{Case}
 use Rattle.hub_base.specs.declared.entry.Entry.{Entry}
 use Rattle.hub_base.specs.declared.text.faults.Kind.{Kind}
+use Rattle.hub_base.specs.declared.limits.TheConstants.{CASE_PLACES, GREATEST_PORT, GREATEST_VALUE}
 use Rattle.hub_base.specs.declared.text.faults.Kind.TheVariants.{BadStep, BadNumber}
 use Rattle.hub_base.specs.Lines.Draft.{Sends, Receives}
 use Rattle.hub_base.specs.Lines.{◌>>=◌, Draft, draft_of, send_draft, recv_draft, drafts_of, case_of, cases_of, case_read, choose, read_select, ends_default, last_default, numeral, number, must, pieces}
@@ -20,7 +21,7 @@ joined acc r = acc >>= λ a. r >>= λ b. Ok (a ++ b)
 -- a select of which so many cases were read, and what their numbers say
 abbrev pub rest_of : List ℕ → List ℕ → ℕ → Result (List Case) Kind → (List (List ℕ)) × Bool → Result Entry Kind
 rest_of pid word n acc fields =
-    drafts_of fields.0 >>= λ ds. cond (nat_lt 16 (n + length ds)) (Err BadStep) (choose pid word (joined acc (cases_of ds)) fields.1)
+    drafts_of fields.0 >>= λ ds. cond (nat_lt CASE_PLACES (n + length ds)) (Err BadStep) (choose pid word (joined acc (cases_of ds)) fields.1)
 
 joined-nil : (r : Result (List Case) Kind) → joined (Ok []) r ≡ r
 joined-nil (Ok cs) = refl
@@ -49,27 +50,27 @@ cases-first (Err k) rs = refl
 pub rest-init : (pid word : List ℕ) (fs : (List (List ℕ)) × Bool) → read_select pid word fs ≡ rest_of pid word 0 (Ok []) fs
 rest-init pid word fs = init pid word (drafts_of fs.0) fs.1 where
   init : (pid word : List ℕ) (ds : Result (List Draft) Kind) (d : Bool) →
-      (ds >>= λ ds. cond (nat_lt 16 (length ds)) (Err BadStep) (choose pid word (cases_of ds) d)) ≡ (ds >>= λ ds. cond (nat_lt 16 (0 + length ds)) (Err BadStep) (choose pid word (joined (Ok []) (cases_of ds)) d))
-  init pid word (Ok ds) d = let zero : 0 + length ds ≡ length ds = omega arith in rw zero (ap (λ r. cond (nat_lt 16 (length ds)) (Err BadStep) (choose pid word r d)) (sym (joined-nil (cases_of ds))))
+      (ds >>= λ ds. cond (nat_lt CASE_PLACES (length ds)) (Err BadStep) (choose pid word (cases_of ds) d)) ≡ (ds >>= λ ds. cond (nat_lt CASE_PLACES (0 + length ds)) (Err BadStep) (choose pid word (joined (Ok []) (cases_of ds)) d))
+  init pid word (Ok ds) d = let zero : 0 + length ds ≡ length ds = omega arith in rw zero (ap (λ r. cond (nat_lt CASE_PLACES (length ds)) (Err BadStep) (choose pid word r d)) (sym (joined-nil (cases_of ds))))
   init pid word (Err k) d = refl
 
-small : (n : ℕ) → n ≤ 16 → nat_lt 16 (n + 0) ≡ false
+small : (n : ℕ) → n ≤ CASE_PLACES → nat_lt CASE_PLACES (n + 0) ≡ false
 small n h = grind (arith, common_steps)
 
 -- at the end all
-pub rest-end : (pid word : List ℕ) (n : ℕ) (acc : Result (List Case) Kind) (d : Bool) → n ≤ 16 → rest_of pid word n acc ([], d) ≡ choose pid word acc d
+pub rest-end : (pid word : List ℕ) (n : ℕ) (acc : Result (List Case) Kind) (d : Bool) → n ≤ CASE_PLACES → rest_of pid word n acc ([], d) ≡ choose pid word acc d
 rest-end pid word n acc d h = rw (small n h) (ap (λ r. choose pid word r d) (joined-none acc))
 
 after-draft : (pid word : List ℕ) (n : ℕ) (acc : Result (List Case) Kind) (f : Draft) (ds : Result (List Draft) Kind) (d : Bool) →
-    ((ds >>= λ ds. Ok (f ∷ ds)) >>= λ ds. cond (nat_lt 16 (n + length ds)) (Err BadStep) (choose pid word (joined acc (cases_of ds)) d))
-    ≡ (ds >>= λ ds. cond (nat_lt 16 ((n + 1) + length ds)) (Err BadStep) (choose pid word (joined (joined acc (one (case_of f))) (cases_of ds)) d))
+    ((ds >>= λ ds. Ok (f ∷ ds)) >>= λ ds. cond (nat_lt CASE_PLACES (n + length ds)) (Err BadStep) (choose pid word (joined acc (cases_of ds)) d))
+    ≡ (ds >>= λ ds. cond (nat_lt CASE_PLACES ((n + 1) + length ds)) (Err BadStep) (choose pid word (joined (joined acc (one (case_of f))) (cases_of ds)) d))
 after-draft pid word n acc f (Err k) d = refl
 after-draft pid word n acc f (Ok ds) d =
     let more : n + length (f ∷ ds) ≡ (n + 1) + length ds = omega arith in
     let cases : joined acc (cases_of (f ∷ ds)) ≡ joined (joined acc (one (case_of f))) (cases_of ds) =
     ap (joined acc) (cases-first (case_of f) (cases_of ds)) ∙ joined-assoc acc (one (case_of f)) (cases_of ds) in
-    ap (λ m. cond (nat_lt 16 m) (Err BadStep) (choose pid word (joined acc (cases_of (f ∷ ds))) d)) more
-    ∙ ap (λ r. cond (nat_lt 16 ((n + 1) + length ds)) (Err BadStep) (choose pid word r d)) cases
+    ap (λ m. cond (nat_lt CASE_PLACES m) (Err BadStep) (choose pid word (joined acc (cases_of (f ∷ ds))) d)) more
+    ∙ ap (λ r. cond (nat_lt CASE_PLACES ((n + 1) + length ds)) (Err BadStep) (choose pid word r d)) cases
 
 -- behind one more field of the right shape
 pub rest-step : (pid word : List ℕ) (n : ℕ) (acc : Result (List Case) Kind) (f : List ℕ) (draft : Draft) (fs : (List (List ℕ)) × Bool) → draft_of f ≡ Ok draft →
@@ -114,13 +115,13 @@ drafts-bad [] k e = cc
 drafts-bad (f ∷ fs) k e = two-bad (draft_of f) (drafts_of fs) k (draft-bad f) (drafts-bad fs) e
 
 many : (ds : Result (List Draft) Kind) (draft : Draft) (x : List Draft → Result Entry Kind) → ((k : Kind) → ds ≡ Err k → k ≡ BadStep) →
-    ((ds >>= λ ds. Ok (draft ∷ ds)) >>= λ ds. cond (nat_lt 16 (16 + length ds)) (Err BadStep) (x ds)) ≡ Err BadStep
-many (Ok ds) draft x h = let big : nat_lt 16 (16 + length (draft ∷ ds)) ≡ true = grind (arith, common_steps) in rw big refl
+    ((ds >>= λ ds. Ok (draft ∷ ds)) >>= λ ds. cond (nat_lt CASE_PLACES (CASE_PLACES + length ds)) (Err BadStep) (x ds)) ≡ Err BadStep
+many (Ok ds) draft x h = let big : nat_lt CASE_PLACES (CASE_PLACES + length (draft ∷ ds)) ≡ true = grind (arith, common_steps) in rw big refl
 many (Err k) draft x h = ap (λ k. Err k) (h k refl)
 
 -- a case behind sixteen is a bad step
 pub rest-many : (pid word : List ℕ) (acc : Result (List Case) Kind) (f : List ℕ) (draft : Draft) (fs : (List (List ℕ)) × Bool) → draft_of f ≡ Ok draft →
-    rest_of pid word 16 acc (f ∷ fs.0, fs.1) ≡ Err BadStep
+    rest_of pid word CASE_PLACES acc (f ∷ fs.0, fs.1) ≡ Err BadStep
 rest-many pid word acc f draft fs e = rw e (many (drafts_of fs.0) draft (λ ds. choose pid word (joined acc (cases_of ds)) fs.1) (drafts-bad fs.0))
 
 -- a wrong number is always one fault
@@ -138,8 +139,8 @@ both-bad (Err j) s f k h g e = h k (cc)
 
 -- a wrong number is a bad number
 pub case-bad : (d : Draft) (k : Kind) → case_of d ≡ Err k → k ≡ BadNumber
-case-bad (Sends p v) k e = both-bad (numeral 65535 p) (numeral 18446744073709551615 v) _ k (must-bad (number 65535 p)) (must-bad (number 18446744073709551615 v)) e
-case-bad (Receives p) k e = one-bad (numeral 65535 p) _ k (must-bad (number 65535 p)) e
+case-bad (Sends p v) k e = both-bad (numeral GREATEST_PORT p) (numeral GREATEST_VALUE v) _ k (must-bad (number GREATEST_PORT p)) (must-bad (number GREATEST_VALUE v)) e
+case-bad (Receives p) k e = one-bad (numeral GREATEST_PORT p) _ k (must-bad (number GREATEST_PORT p)) e
 
 -- one more case
 pub joined-ok : (fine : Bool) (cases : List Case) (c : Case) → joined (so_far fine cases) (one (Ok c)) ≡ so_far fine (cases ++ c ∷ [])
@@ -212,7 +213,7 @@ goes-err pid word f fields rest n fine cases whole r k same is plain read bad =
 
 -- a seventeenth case
 pub goes-many : (pid word f : List ℕ) (fields rest : List (List ℕ)) (n : ℕ) (acc : Result (List Case) Kind) (whole : Result Entry Kind) (r : Result Case Kind) →
-    whole ≡ rest_of pid word n acc (ends_default fields) → fields ≡ f ∷ rest → last_default f rest ≡ false → Ok r ≡ case_read f → n ≡ 16 → whole ≡ Err BadStep
+    whole ≡ rest_of pid word n acc (ends_default fields) → fields ≡ f ∷ rest → last_default f rest ≡ false → Ok r ≡ case_read f → n ≡ CASE_PLACES → whole ≡ Err BadStep
 goes-many pid word f fields rest n acc whole r same is plain read full =
     let d = read-of f r (sym read) in
     same ∙ ap (λ fs. rest_of pid word n acc (ends_default fs)) is ∙ ap (rest_of pid word n acc) (ends-step f rest plain)
@@ -227,6 +228,6 @@ goes-bad pid word f fields rest n acc whole k same is plain read =
 
 -- a last default
 pub goes-last : (pid word f : List ℕ) (fields rest : List (List ℕ)) (n : ℕ) (acc : Result (List Case) Kind) (whole : Result Entry Kind) →
-    whole ≡ rest_of pid word n acc (ends_default fields) → fields ≡ f ∷ rest → last_default f rest ≡ true → n ≤ 16 → whole ≡ choose pid word acc true
+    whole ≡ rest_of pid word n acc (ends_default fields) → fields ≡ f ∷ rest → last_default f rest ≡ true → n ≤ CASE_PLACES → whole ≡ choose pid word acc true
 goes-last pid word f fields rest n acc whole same is last few =
     same ∙ ap (λ fs. rest_of pid word n acc (ends_default fs)) is ∙ ap (rest_of pid word n acc) (ends-last f rest last) ∙ rest-end pid word n acc true few

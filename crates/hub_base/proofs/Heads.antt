@@ -4,6 +4,7 @@ use Rattle.std.proofs.lemmas.Grind.{common_steps}
 use Rattle.std.specs.Prelude.{decimal, nat_lt}
 use Rattle.std.specs.List.{join_with_byte, AllByRecursion, flat_map}
 use Rattle.hub_base.specs.declared.entry.Entry.{Entry}
+use Rattle.hub_base.specs.declared.limits.TheConstants.{MOST_PROCS, MOST_STEPS, MOST_BYTES}
 use Rattle.hub_base.specs.declared.text.faults.Kind.TheVariants.{BadHeader, TooLong}
 use Rattle.hub_base.specs.Lines.{number, pieces, line, same_text}
 use Rattle.hub_base.specs.Reading.{Row, rows, front, Reading, Reads, Faulty, text, head, procs_line, entries_from, row_fault, faulty_or, end_of, procs_field, above_zero, procs_number, procs_say, procs_from, reading, read_text}
@@ -14,24 +15,24 @@ use Rattle.hub_base.proofs.Numerals.{number-again, pieces-last, decimal-lacks, l
 use Rattle.hub_base.proofs.Pieces.{pieces-some}
 use Rattle.hub_base.proofs.Running.{entries-again, entries-take, said-reads, row-none}
 
-small : (n : ℕ) → n ≤ 64 → n < 2 ^ 64
+small : (n : ℕ) → n ≤ MOST_PROCS → n < 2 ^ 64
 small n h = omega arith
 
 above : (n : ℕ) → 1 ≤ n → (n == 0) ≡ false
 above n h = grind (arith, common_steps)
 
 -- the second line is read as it is spelled
-pub procs-again : (n : ℕ) → 1 ≤ n → n ≤ 64 → procs_number (procs_line n) ≡ Some n
+pub procs-again : (n : ℕ) → 1 ≤ n → n ≤ MOST_PROCS → procs_number (procs_line n) ≡ Some n
 procs-again n some few =
     ap (λ ps. above_zero (procs_field (codes "procs" ∷ ps))) (pieces-last 32 (decimal n) (decimal-lacks 32 n (omega arith) (small n few)))
-    ∙ ap above_zero (number-again 64 n (omega arith) few)
+    ∙ ap above_zero (number-again MOST_PROCS n (omega arith) few)
     ∙ ap (λ b. cond b None (Some n)) (above n some)
 
-field-some : (fs : List (List ℕ)) (n : ℕ) → procs_field fs ≡ Some n → (w : List ℕ) × (p : List ℕ) × (fs ≡ w ∷ p ∷ []) × (same_text w (codes "procs") ≡ true) × (number 64 p ≡ Some n)
+field-some : (fs : List (List ℕ)) (n : ℕ) → procs_field fs ≡ Some n → (w : List ℕ) × (p : List ℕ) × (fs ≡ w ∷ p ∷ []) × (same_text w (codes "procs") ≡ true) × (number MOST_PROCS p ≡ Some n)
 field-some [] n h = cc
 field-some (w ∷ []) n h = cc
 field-some (w ∷ p ∷ []) n h = go (same_text w (codes "procs")) refl h where
-  go : (b : Bool) → same_text w (codes "procs") ≡ b → cond b (number 64 p) None ≡ Some n → (w' : List ℕ) × (p' : List ℕ) × (w ∷ p ∷ [] ≡ w' ∷ p' ∷ []) × (same_text w' (codes "procs") ≡ true) × (number 64 p' ≡ Some n)
+  go : (b : Bool) → same_text w (codes "procs") ≡ b → cond b (number MOST_PROCS p) None ≡ Some n → (w' : List ℕ) × (p' : List ℕ) × (w ∷ p ∷ [] ≡ w' ∷ p' ∷ []) × (same_text w' (codes "procs") ≡ true) × (number MOST_PROCS p' ≡ Some n)
   go true s h = (w, p, refl, s, h)
   go false s h = cc
 field-some (w ∷ p ∷ q ∷ fs) n h = cc
@@ -47,14 +48,14 @@ positive (Some m) n h = go (m == 0) refl h where
 pub record ProcsSpelled (bytes : List ℕ) (n : ℕ) : Type 0 where
   pub spelled : bytes ≡ procs_line n
   pub some : 1 ≤ n
-  pub few : n ≤ 64
+  pub few : n ≤ MOST_PROCS
 
 -- what says n processes is their spelling
 pub procs-take : (bytes : List ℕ) (n : ℕ) → procs_number bytes ≡ Some n → ProcsSpelled bytes n
 procs-take bytes n h =
     let a = positive (procs_field (pieces 32 bytes)) n h in
     let f = field-some (pieces 32 bytes) n a.0 in
-    let x = number-ok 64 f.1 n (omega arith) f.4 in
+    let x = number-ok MOST_PROCS f.1 n (omega arith) f.4 in
     record {
       spelled = sym (joined-pieces 32 bytes (pieces-some 32)) ∙ ap (join_with_byte 32) f.2
           ∙ ap (λ w. w ++ 32 ∷ f.1) (same-true f.0 (codes "procs") f.3) ∙ ap (λ p. codes "procs" ++ 32 ∷ p) x.0;
@@ -70,18 +71,18 @@ first-place : end_of 0 header_row ≡ 18
 first-place = refl
 
 -- ---- a text is read
-pub heads-again : (n : ℕ) (rs : List Row) → 1 ≤ n → n ≤ 64 → length (head n) ≤ 67108864 → reading (header_row ∷ procs_row n ∷ rs) ≡ entries_from n 3 (length (head n)) 0 rs
+pub heads-again : (n : ℕ) (rs : List Row) → 1 ≤ n → n ≤ MOST_PROCS → length (head n) ≤ MOST_BYTES → reading (header_row ∷ procs_row n ∷ rs) ≡ entries_from n 3 (length (head n)) 0 rs
 heads-again n rs some few lim =
     let place : end_of 18 (procs_row n) ≡ length (head n) = sym (head-length n) in
-    let fits : nat_lt 67108864 (end_of 18 (procs_row n)) ≡ false = (let l = head-length n in grind (arith, common_steps)) in
+    let fits : nat_lt MOST_BYTES (end_of 18 (procs_row n)) ≡ false = (let l = head-length n in grind (arith, common_steps)) in
     ap (λ b. faulty_or 2 (procs_say (procs_number (procs_line n)) (end_of 18 (procs_row n)) rs) (cond b (Some TooLong) None)) fits
     ∙ ap (λ o. procs_say o (end_of 18 (procs_row n)) rs) (procs-again n some few)
     ∙ ap (λ p. entries_from n 3 p 0 rs) place
 
-procs-lacks : (n : ℕ) → n ≤ 64 → lacks 10 (procs_line n) ≡ true
+procs-lacks : (n : ℕ) → n ≤ MOST_PROCS → lacks 10 (procs_line n) ≡ true
 procs-lacks n few = lacks-append 10 (codes "procs ") (decimal n) refl (decimal-lacks 10 n (omega arith) (small n few))
 
-text-rows : (n : ℕ) (es : List Entry) → n ≤ 64 → AllByRecursion Fits es → rows (text n es) ≡ header_row ∷ procs_row n ∷ map row_of es
+text-rows : (n : ℕ) (es : List Entry) → n ≤ MOST_PROCS → AllByRecursion Fits es → rows (text n es) ≡ header_row ∷ procs_row n ∷ map row_of es
 text-rows n es few fits =
     ap (λ x. rows (codes "chanhub journal 1\n" ++ x)) (append_assoc (procs_line n) (codes "\n") (flat_map line es))
     ∙ ap (λ rs. header_row ∷ rs) (rows-line (procs_line n) (flat_map line es) (procs-lacks n few)
@@ -127,10 +128,10 @@ unrows-entries (e ∷ es) = ap (λ r. line e ++ r) (unrows-entries es)
 pub record HeadTook (rs : List Row) (n : ℕ) (es : List Entry) : Type 0 where
   pub lines : rs ≡ header_row ∷ procs_row n ∷ map row_of es
   pub some : 1 ≤ n
-  pub few : n ≤ 64
+  pub few : n ≤ MOST_PROCS
   pub fits : AllByRecursion Fits es
-  pub bytes_fit : length (head n) + length (flat_map line es) ≤ 67108864
-  pub steps_fit : steps_of es ≤ 1000000
+  pub bytes_fit : length (head n) + length (flat_map line es) ≤ MOST_BYTES
+  pub steps_fit : steps_of es ≤ MOST_STEPS
 
 -- a line is its bytes and a newline
 pub whole-row : (r : Row) (bytes : List ℕ) → r.bytes ≡ bytes → r.whole ≡ true → r ≡ record { bytes = bytes; whole = true }

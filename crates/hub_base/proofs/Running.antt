@@ -5,6 +5,7 @@ use Rattle.std.specs.Prelude.{nat_lt, nat_le}
 use Rattle.std.specs.List.{join_with_byte, AllByRecursion, flat_map}
 use Rattle.hub_base.specs.declared.entry.Entry.{Entry}
 use Rattle.hub_base.specs.declared.text.faults.Kind.{Kind}
+use Rattle.hub_base.specs.declared.limits.TheConstants.{MOST_STEPS, MOST_BYTES}
 use Rattle.hub_base.specs.declared.text.faults.Kind.TheVariants.{CutLine, TooLong}
 use Rattle.std.proofs.Common.{◌⊎◌, inl, inr}
 use Rattle.hub_base.specs.Lines.{read_fields, pieces, line}
@@ -24,13 +25,13 @@ with-behind : (e : Entry) (es : List Entry) (x : Reading) → with_entry e (behi
 with-behind e es (Reads n fs) = refl
 with-behind e es (Faulty k kind) = refl
 
-within-limit : (n : ℕ) → n ≤ 67108864 → nat_lt 67108864 n ≡ false
+within-limit : (n : ℕ) → n ≤ MOST_BYTES → nat_lt MOST_BYTES n ≡ false
 within-limit n h = grind (arith, common_steps)
 
-row-fine : (end : ℕ) (b : List ℕ) → end ≤ 67108864 → row_fault end (record { bytes = b; whole = true }) ≡ None
+row-fine : (end : ℕ) (b : List ℕ) → end ≤ MOST_BYTES → row_fault end (record { bytes = b; whole = true }) ≡ None
 row-fine end b h = ap (λ t. cond t (Some TooLong) None) (within-limit end h)
 
-not-over : (x : Bool) (steps : ℕ) → steps + cond x 0 1 ≤ 1000000 → (not x && nat_le 1000000 steps) ≡ false
+not-over : (x : Bool) (steps : ℕ) → steps + cond x 0 1 ≤ MOST_STEPS → (not x && nat_le MOST_STEPS steps) ≡ false
 not-over true steps h = refl
 not-over false steps h = grind (arith, common_steps)
 
@@ -46,7 +47,7 @@ same-from n k k' start start' steps steps' rs a b c = ap (λ k. entries_from n k
 
 -- lines of entries are read as these, and the lines behind them go on
 pub entries-again : (n : ℕ) (es : List Entry) (rest : List Row) (k start steps k' start' steps' : ℕ) → AllByRecursion Fits es →
-    k' ≡ k + length es → start' ≡ start + length (flat_map line es) → steps' ≡ steps + steps_of es → start' ≤ 67108864 → steps' ≤ 1000000 →
+    k' ≡ k + length es → start' ≡ start + length (flat_map line es) → steps' ≡ steps + steps_of es → start' ≤ MOST_BYTES → steps' ≤ MOST_STEPS →
     entries_from n k start steps (map row_of es ++ rest) ≡ behind es (entries_from n k' start' steps' rest)
 entries-again n [] rest k start steps k' start' steps' fits a b c lim most =
     same-from n k k' start start' steps steps' rest (omega arith) (omega arith) (omega arith) ∙ behind-nil (entries_from n k' start' steps' rest)
@@ -55,7 +56,7 @@ entries-again n (e ∷ es) rest k start steps k' start' steps' fits a b c lim mo
     let all : length (flat_map line (e ∷ es)) ≡ length (line e) + length (flat_map line es) = length-append (line e) (flat_map line es) in
     let here : length (line e) ≡ length (body e) + 1 = line-length e in
     let goes : Entry → Reading = λ f. entries_from n (k + 1) end (counted steps f) (map row_of es ++ rest) in
-    let small : end ≤ 67108864 = omega (arith, all, here) in
+    let small : end ≤ MOST_BYTES = omega (arith, all, here) in
     let few : over steps e ≡ false = not-over (is_exit e.step) steps (omega arith) in
     let next : counted steps e ≡ steps + one_step e = count (is_exit e.step) steps in
     ap (faulty_or k (entry_says k steps (read_fields (pieces 32 (body e))) goes)) (row-fine end (body e) small)
@@ -70,8 +71,8 @@ pub record Took (n start steps : ℕ) (rs : List Row) (m : ℕ) (es : List Entry
   pub procs : n ≡ m
   pub lines : rs ≡ map row_of es
   pub fits : AllByRecursion Fits es
-  pub bytes_fit : start + length (flat_map line es) ≤ 67108864
-  pub steps_fit : steps + steps_of es ≤ 1000000
+  pub bytes_fit : start + length (flat_map line es) ≤ MOST_BYTES
+  pub steps_fit : steps + steps_of es ≤ MOST_STEPS
 
 -- a journal is said only where the line itself is fine
 pub said-reads : (k : ℕ) (said : Reading) (o : Option Kind) (m : ℕ) (es : List Entry) → faulty_or k said o ≡ Reads m es → (o ≡ None) × (said ≡ Reads m es)
@@ -83,17 +84,17 @@ fault-none true w h = cc
 fault-none false true h = (refl, refl)
 fault-none false false h = cc
 
-limit-of : (n : ℕ) → nat_lt 67108864 n ≡ false → n ≤ 67108864
+limit-of : (n : ℕ) → nat_lt MOST_BYTES n ≡ false → n ≤ MOST_BYTES
 limit-of n h = grind (arith, common_steps)
 
 -- a line with its newline, within the limit of bytes
 pub record Whole (end : ℕ) (r : Row) : Type 0 where
-  pub fits : end ≤ 67108864
+  pub fits : end ≤ MOST_BYTES
   pub whole : r.whole ≡ true
 
 -- a line of which nothing is wrong before it is read
 pub row-none : (end : ℕ) (r : Row) → row_fault end r ≡ None → Whole end r
-row-none end r h = let o = fault-none (nat_lt 67108864 end) r.whole h in record { fits = limit-of end o.0; whole = o.1 }
+row-none end r h = let o = fault-none (nat_lt MOST_BYTES end) r.whole h in record { fits = limit-of end o.0; whole = o.1 }
 
 -- a line that was read as an entry, and what the lines behind it said
 pub record Went (steps : ℕ) (res : Result Entry Kind) (goes : Entry → Reading) (m : ℕ) (es : List Entry) : Type 0 where
@@ -119,7 +120,7 @@ went k steps (Ok e) goes m es h =
     let b = with-reads e (goes e) m es a.1 in
     record { e = e; rest = b.0; read = refl; few = a.0; later = b.1; is = b.2 }
 
-few-steps : (x : Bool) (steps : ℕ) → steps ≤ 1000000 → (not x && nat_le 1000000 steps) ≡ false → steps + cond x 0 1 ≤ 1000000
+few-steps : (x : Bool) (steps : ℕ) → steps ≤ MOST_STEPS → (not x && nat_le MOST_STEPS steps) ≡ false → steps + cond x 0 1 ≤ MOST_STEPS
 few-steps true steps lim h = omega arith
 few-steps false steps lim h = grind (arith, common_steps)
 
@@ -135,7 +136,7 @@ pub end-is : (start : ℕ) (r : Row) (e : Entry) → r ≡ row_of e → end_of s
 end-is start r e is = let l = line-length e in ap (end_of start) is ∙ (omega (arith, l))
 
 -- what is read without a fault is lines of entries, within the limits
-pub entries-take : (n m : ℕ) (rs : List Row) (es : List Entry) (k start steps : ℕ) → start ≤ 67108864 → steps ≤ 1000000 → entries_from n k start steps rs ≡ Reads m es → Took n start steps rs m es
+pub entries-take : (n m : ℕ) (rs : List Row) (es : List Entry) (k start steps : ℕ) → start ≤ MOST_BYTES → steps ≤ MOST_STEPS → entries_from n k start steps rs ≡ Reads m es → Took n start steps rs m es
 entries-take n m [] es k start steps lim most h =
     let P : List Entry → Type 0 = Took n start steps [] m in
     let none : [] ≡ es = cc in
@@ -150,7 +151,7 @@ entries-take n m (r ∷ rs) es k start steps lim most h =
     let here : r ≡ row_of g.e = row-is r g.e w.whole spells.0 in
     let end : end_of start r ≡ start + length (line g.e) = end-is start r g.e here in
     let next : counted steps g.e ≡ steps + one_step g.e = count (is_exit g.e.step) steps in
-    let some : steps + one_step g.e ≤ 1000000 = few-steps (is_exit g.e.step) steps most g.few in
+    let some : steps + one_step g.e ≤ MOST_STEPS = few-steps (is_exit g.e.step) steps most g.few in
     let t = entries-take n m rs g.rest (k + 1) (end_of start r) (counted steps g.e) w.fits (omega (arith, next, some)) g.later in
     let all : length (flat_map line (g.e ∷ g.rest)) ≡ length (line g.e) + length (flat_map line g.rest) = length-append (line g.e) (flat_map line g.rest) in
     let P : List Entry → Type 0 = Took n start steps (r ∷ rs) m in
@@ -197,7 +198,7 @@ fault-at : (place place' steps steps' : ℕ) (r : Row) (kind : Kind) → place �
 fault-at place place' steps steps' r kind a b h = sym (ap (λ p. entry_fault p steps r) a ∙ ap (λ s. entry_fault place' s r) b) ∙ h
 
 -- where reading stops at a fault there stand lines of entries, and then a faulty line
-pub entries-fail : (n : ℕ) (rs : List Row) (k start steps faulty : ℕ) (kind : Kind) → start ≤ 67108864 → steps ≤ 1000000 → entries_from n k start steps rs ≡ Faulty faulty kind → EntryFails start steps k rs faulty kind
+pub entries-fail : (n : ℕ) (rs : List Row) (k start steps faulty : ℕ) (kind : Kind) → start ≤ MOST_BYTES → steps ≤ MOST_STEPS → entries_from n k start steps rs ≡ Faulty faulty kind → EntryFails start steps k rs faulty kind
 entries-fail n [] k start steps faulty kind lim most h = cc
 entries-fail n (r ∷ rs) k start steps faulty kind lim most h =
     let goes : Entry → Reading = λ e. entries_from n (k + 1) (end_of start r) (counted steps e) rs in
@@ -220,7 +221,7 @@ entries-fail n (r ∷ rs) k start steps faulty kind lim most h =
           let here : r ≡ row_of g.e = row-is r g.e w.whole spells.0 in
           let end : end_of start r ≡ start + length (line g.e) = end-is start r g.e here in
           let next : counted steps g.e ≡ steps + one_step g.e = count (is_exit g.e.step) steps in
-          let some : steps + one_step g.e ≤ 1000000 = few-steps (is_exit g.e.step) steps most g.few in
+          let some : steps + one_step g.e ≤ MOST_STEPS = few-steps (is_exit g.e.step) steps most g.few in
           let t = entries-fail n rs (k + 1) (end_of start r) (counted steps g.e) faulty kind w.fits (omega (arith, next, some)) g.later in
           let all : length (flat_map line (g.e ∷ t.es)) ≡ length (line g.e) + length (flat_map line t.es) = length-append (line g.e) (flat_map line t.es) in
           record {
@@ -257,11 +258,11 @@ entries-fail-again n rs k start steps faulty kind f =
 
 -- ---- the first entry
 -- a fault stands in the first of the lines that are read or behind it
-fault-later : (n k start steps : ℕ) (rs : List Row) (faulty : ℕ) (kind : Kind) → start ≤ 67108864 → steps ≤ 1000000 → entries_from n k start steps rs ≡ Faulty faulty kind → k ≤ faulty
+fault-later : (n k start steps : ℕ) (rs : List Row) (faulty : ℕ) (kind : Kind) → start ≤ MOST_BYTES → steps ≤ MOST_STEPS → entries_from n k start steps rs ≡ Faulty faulty kind → k ≤ faulty
 fault-later n k start steps rs faulty kind lim most h = let c = (entries-fail n rs k start steps faulty kind lim most h).count in omega (arith, c)
 
 -- where an entry is read that stands behind the head, some entry is said
-pub has-entry : (n k start steps : ℕ) (rs : List Row) (e : Entry) (said : Reading) → 3 ≤ k → start ≤ 67108864 → steps ≤ 1000000 → said ≡ with_entry e (entries_from n (k + 1) start steps rs) → HasEntry said
+pub has-entry : (n k start steps : ℕ) (rs : List Row) (e : Entry) (said : Reading) → 3 ≤ k → start ≤ MOST_BYTES → steps ≤ MOST_STEPS → said ≡ with_entry e (entries_from n (k + 1) start steps rs) → HasEntry said
 has-entry n k start steps rs e said head lim most is = subst HasEntry (sym is) (by (entries_from n (k + 1) start steps rs) refl)
   where
     by : (r : Reading) → entries_from n (k + 1) start steps rs ≡ r → HasEntry (with_entry e r)

@@ -9,6 +9,7 @@ use Rattle.hub_base.specs.declared.entry.Entry.{Entry}
 use Rattle.hub_base.specs.declared.entry.Step.{Step}
 use Rattle.hub_base.specs.declared.entry.Step.TheVariants.{Make, Close, Exit}
 use Rattle.hub_base.specs.declared.text.faults.Kind.{Kind}
+use Rattle.hub_base.specs.declared.limits.TheConstants.{CASE_PLACES, GREATEST_PID, GREATEST_PORT, GREATEST_CAP, GREATEST_VALUE, GREATEST_WORD}
 use Rattle.hub_base.specs.declared.text.faults.Kind.TheVariants.{BadStep}
 use Rattle.hub_base.specs.Lines.Draft.{Sends, Receives}
 use Rattle.hub_base.specs.Lines.{numeral, ◌>>=◌, Draft, read_close, read_make, read_exit, read_send, read_recv, read_choice, read_select, read_step, read_fields, choose, step_fields, call_fields, select_fields, default_field, case_field, case_of, cases_of, draft_of, drafts_of, send_draft, recv_draft, spelled, ends_default, same_text, by, call, pieces}
@@ -18,7 +19,7 @@ use Rattle.hub_base.proofs.Pieces.{pieces-some}
 use Rattle.hub_base.proofs.Numerals.{same-true, joined-pieces}
 
 one-field : (word : List ℕ) (pid p : List ℕ) (m n : ℕ) (step : Step) (e : Entry) → (step_fields step ≡ word ∷ decimal n ∷ []) → StepFits step →
-    (pid ≡ decimal m) × (m ≤ 255) → p ≡ decimal n → by m step ≡ e → Spells (pid ∷ word ∷ p ∷ []) e
+    (pid ≡ decimal m) × (m ≤ GREATEST_PID) → p ≡ decimal n → by m step ≡ e → Spells (pid ∷ word ∷ p ∷ []) e
 one-field word pid p m n step e fields fits a b is =
     subst (Spells (pid ∷ word ∷ p ∷ [])) is
     (ap (λ f. f ∷ word ∷ p ∷ []) a.0 ∙ ap (λ f. decimal m ∷ word ∷ f ∷ []) b ∙ ap (λ fs. decimal m ∷ fs) (sym fields), record { pid = a.1; step = fits })
@@ -27,27 +28,27 @@ one-field word pid p m n step e fields fits a b is =
 pub make-takes : (pid : List ℕ) (fs : List (List ℕ)) (e : Entry) → read_make pid fs ≡ Ok e → Spells (pid ∷ codes "make" ∷ fs) e
 make-takes pid [] e h = cc
 make-takes pid (p ∷ []) e h =
-    let a = bind_ok (numeral 255 pid) (λ pid. numeral 4294967295 p >>= λ p. Ok (by pid (Make p))) e h in
-    let b = bind_ok (numeral 4294967295 p) (λ p. Ok (by a.0 (Make p))) e a.2 in
-    let y = numeral-ok 4294967295 p b.0 (omega arith) b.1 in
-    one-field (codes "make") pid p a.0 b.0 (Make b.0) e refl y.1 (numeral-ok 255 pid a.0 (omega arith) a.1) y.0 (cc)
+    let a = bind_ok (numeral GREATEST_PID pid) (λ pid. numeral GREATEST_CAP p >>= λ p. Ok (by pid (Make p))) e h in
+    let b = bind_ok (numeral GREATEST_CAP p) (λ p. Ok (by a.0 (Make p))) e a.2 in
+    let y = numeral-ok GREATEST_CAP p b.0 (omega arith) b.1 in
+    one-field (codes "make") pid p a.0 b.0 (Make b.0) e refl y.1 (numeral-ok GREATEST_PID pid a.0 (omega arith) a.1) y.0 (cc)
 make-takes pid (p ∷ q ∷ fs) e h = cc
 
 -- a close
 pub close-spells : (pid : List ℕ) (fs : List (List ℕ)) (e : Entry) → read_close pid fs ≡ Ok e → Spells (pid ∷ codes "close" ∷ fs) e
 close-spells pid [] e h = cc
 close-spells pid (p ∷ []) e h =
-    let a = bind_ok (numeral 255 pid) (λ pid. numeral 65535 p >>= λ p. Ok (by pid (Close (record { 0 = p })))) e h in
-    let b = bind_ok (numeral 65535 p) (λ p. Ok (by a.0 (Close (record { 0 = p })))) e a.2 in
-    let y = numeral-ok 65535 p b.0 (omega arith) b.1 in
-    one-field (codes "close") pid p a.0 b.0 (Close (record { 0 = b.0 })) e refl y.1 (numeral-ok 255 pid a.0 (omega arith) a.1) y.0 (cc)
+    let a = bind_ok (numeral GREATEST_PID pid) (λ pid. numeral GREATEST_PORT p >>= λ p. Ok (by pid (Close (record { 0 = p })))) e h in
+    let b = bind_ok (numeral GREATEST_PORT p) (λ p. Ok (by a.0 (Close (record { 0 = p })))) e a.2 in
+    let y = numeral-ok GREATEST_PORT p b.0 (omega arith) b.1 in
+    one-field (codes "close") pid p a.0 b.0 (Close (record { 0 = b.0 })) e refl y.1 (numeral-ok GREATEST_PID pid a.0 (omega arith) a.1) y.0 (cc)
 close-spells pid (p ∷ q ∷ fs) e h = cc
 
 -- an exit
 pub exit-takes : (pid : List ℕ) (fs : List (List ℕ)) (e : Entry) → read_exit pid fs ≡ Ok e → Spells (pid ∷ codes "exit" ∷ fs) e
 exit-takes pid [] e h =
-    let a = bind_ok (numeral 255 pid) (λ pid. Ok (by pid Exit)) e h in
-    let x = numeral-ok 255 pid a.0 (omega arith) a.1 in
+    let a = bind_ok (numeral GREATEST_PID pid) (λ pid. Ok (by pid Exit)) e h in
+    let x = numeral-ok GREATEST_PID pid a.0 (omega arith) a.1 in
     let is : by a.0 Exit ≡ e = cc in
     subst (Spells (pid ∷ codes "exit" ∷ [])) is (ap (λ f. f ∷ codes "exit" ∷ []) x.0, record { pid = x.1; step = omega arith })
 exit-takes pid (q ∷ fs) e h = cc
@@ -64,16 +65,16 @@ pub record SendSpelled (p v : List ℕ) (c : Case) : Type 0 where
   pub port_is : p ≡ decimal port
   pub value_is : v ≡ decimal value
   pub is : Send (record { 0 = port }) (record { 0 = value }) ≡ c
-  pub port_fits : port ≤ 65535
-  pub value_fits : value ≤ 18446744073709551615
+  pub port_fits : port ≤ GREATEST_PORT
+  pub value_fits : value ≤ GREATEST_VALUE
 
 -- a sending case that was read was so spelled
 pub sends-takes : (p v : List ℕ) (c : Case) → case_of (Sends p v) ≡ Ok c → SendSpelled p v c
 sends-takes p v c h =
-    let a = bind_ok (numeral 65535 p) (λ p. numeral 18446744073709551615 v >>= λ v. Ok (Send (record { 0 = p }) (record { 0 = v }))) c h in
-    let b = bind_ok (numeral 18446744073709551615 v) (λ v. Ok (Send (record { 0 = a.0 }) (record { 0 = v }))) c a.2 in
-    let x = numeral-ok 65535 p a.0 (omega arith) a.1 in
-    let y = numeral-ok 18446744073709551615 v b.0 (omega arith) b.1 in
+    let a = bind_ok (numeral GREATEST_PORT p) (λ p. numeral GREATEST_VALUE v >>= λ v. Ok (Send (record { 0 = p }) (record { 0 = v }))) c h in
+    let b = bind_ok (numeral GREATEST_VALUE v) (λ v. Ok (Send (record { 0 = a.0 }) (record { 0 = v }))) c a.2 in
+    let x = numeral-ok GREATEST_PORT p a.0 (omega arith) a.1 in
+    let y = numeral-ok GREATEST_VALUE v b.0 (omega arith) b.1 in
     record { port = a.0; value = b.0; port_is = x.0; value_is = y.0; is = cc; port_fits = x.1; value_fits = y.1 }
 
 -- the spelling of a case that receives
@@ -81,13 +82,13 @@ pub record RecvSpelled (p : List ℕ) (c : Case) : Type 0 where
   pub port : ℕ
   pub port_is : p ≡ decimal port
   pub is : Recv (record { 0 = port }) ≡ c
-  pub port_fits : port ≤ 65535
+  pub port_fits : port ≤ GREATEST_PORT
 
 -- a receiving case
 pub receives-takes : (p : List ℕ) (c : Case) → case_of (Receives p) ≡ Ok c → RecvSpelled p c
 receives-takes p c h =
-    let a = bind_ok (numeral 65535 p) (λ p. Ok (Recv (record { 0 = p }))) c h in
-    let x = numeral-ok 65535 p a.0 (omega arith) a.1 in
+    let a = bind_ok (numeral GREATEST_PORT p) (λ p. Ok (Recv (record { 0 = p }))) c h in
+    let x = numeral-ok GREATEST_PORT p a.0 (omega arith) a.1 in
     record { port = a.0; port_is = x.0; is = cc; port_fits = x.1 }
 
 -- the field of a sending case, byte by byte
@@ -188,22 +189,22 @@ few-ok : (b : Bool) (x : Result Entry Kind) (e : Entry) → cond b (Err BadStep)
 few-ok true x e h = cc
 few-ok false x e h = (refl, h)
 
-few-le : (n : ℕ) → nat_lt 16 n ≡ false → n ≤ 16
+few-le : (n : ℕ) → nat_lt CASE_PLACES n ≡ false → n ≤ CASE_PLACES
 few-le n h = grind (arith, common_steps)
 
 -- a select behind its word
 pub select-takes : (pid word : List ℕ) (fs : List (List ℕ)) (e : Entry) → read_select pid word (ends_default fs) ≡ Ok e → Spells (pid ∷ codes "select" ∷ word ∷ fs) e
 select-takes pid word fs e h =
     let d = (ends_default fs).1 in
-    let o = bind_ok (drafts_of (ends_default fs).0) (λ ds. cond (nat_lt 16 (length ds)) (Err BadStep) (choose pid word (cases_of ds) d)) e h in
+    let o = bind_ok (drafts_of (ends_default fs).0) (λ ds. cond (nat_lt CASE_PLACES (length ds)) (Err BadStep) (choose pid word (cases_of ds) d)) e h in
     let ds = o.0 in
-    let few = few-ok (nat_lt 16 (length ds)) (choose pid word (cases_of ds) d) e o.2 in
-    let a = bind_ok (numeral 255 pid) (λ pid. numeral 18446744073709551615 word >>= λ word. cases_of ds >>= λ cases. spelled cases d word >>= λ step. Ok (by pid step)) e few.1 in
-    let b = bind_ok (numeral 18446744073709551615 word) (λ word. cases_of ds >>= λ cases. spelled cases d word >>= λ step. Ok (by a.0 step)) e a.2 in
+    let few = few-ok (nat_lt CASE_PLACES (length ds)) (choose pid word (cases_of ds) d) e o.2 in
+    let a = bind_ok (numeral GREATEST_PID pid) (λ pid. numeral GREATEST_WORD word >>= λ word. cases_of ds >>= λ cases. spelled cases d word >>= λ step. Ok (by pid step)) e few.1 in
+    let b = bind_ok (numeral GREATEST_WORD word) (λ word. cases_of ds >>= λ cases. spelled cases d word >>= λ step. Ok (by a.0 step)) e a.2 in
     let c = bind_ok (cases_of ds) (λ cases. spelled cases d b.0 >>= λ step. Ok (by a.0 step)) e b.2 in
     let s = bind_ok (spelled c.0 d b.0) (λ step. Ok (by a.0 step)) e c.2 in
-    let x = numeral-ok 255 pid a.0 (omega arith) a.1 in
-    let y = numeral-ok 18446744073709551615 word b.0 (omega arith) b.1 in
+    let x = numeral-ok GREATEST_PID pid a.0 (omega arith) a.1 in
+    let y = numeral-ok GREATEST_WORD word b.0 (omega arith) b.1 in
     let cases = cases-take ds c.0 c.1 in
     let w = spelled-takes c.0 d b.0 s.0 s.1 in
     let is : by a.0 (call c.0 d b.0) ≡ e = ap (by a.0) w.step_is ∙ (cc) in
@@ -224,9 +225,9 @@ pub send-takes : (pid : List ℕ) (fs : List (List ℕ)) (e : Entry) → read_se
 send-takes pid [] e h = cc
 send-takes pid (p ∷ []) e h = cc
 send-takes pid (p ∷ v ∷ []) e h =
-    let a = bind_ok (numeral 255 pid) (λ pid. case_of (Sends p v) >>= λ c. Ok (by pid (call (c ∷ []) false 0))) e h in
+    let a = bind_ok (numeral GREATEST_PID pid) (λ pid. case_of (Sends p v) >>= λ c. Ok (by pid (call (c ∷ []) false 0))) e h in
     let b = bind_ok (case_of (Sends p v)) (λ c. Ok (by a.0 (call (c ∷ []) false 0))) e a.2 in
-    let x = numeral-ok 255 pid a.0 (omega arith) a.1 in
+    let x = numeral-ok GREATEST_PID pid a.0 (omega arith) a.1 in
     let s = sends-takes p v b.0 b.1 in
     let last : by a.0 (call (b.0 ∷ []) false 0) ≡ e = cc in
     let is : by a.0 (call (Send (record { 0 = s.port }) (record { 0 = s.value }) ∷ []) false 0) ≡ e = ap (λ c. by a.0 (call (c ∷ []) false 0)) s.is ∙ last in
@@ -240,9 +241,9 @@ send-takes pid (p ∷ v ∷ q ∷ fs) e h = cc
 pub recv-takes : (pid : List ℕ) (fs : List (List ℕ)) (e : Entry) → read_recv pid fs ≡ Ok e → Spells (pid ∷ codes "recv" ∷ fs) e
 recv-takes pid [] e h = cc
 recv-takes pid (p ∷ []) e h =
-    let a = bind_ok (numeral 255 pid) (λ pid. case_of (Receives p) >>= λ c. Ok (by pid (call (c ∷ []) false 0))) e h in
+    let a = bind_ok (numeral GREATEST_PID pid) (λ pid. case_of (Receives p) >>= λ c. Ok (by pid (call (c ∷ []) false 0))) e h in
     let b = bind_ok (case_of (Receives p)) (λ c. Ok (by a.0 (call (c ∷ []) false 0))) e a.2 in
-    let x = numeral-ok 255 pid a.0 (omega arith) a.1 in
+    let x = numeral-ok GREATEST_PID pid a.0 (omega arith) a.1 in
     let s = receives-takes p b.0 b.1 in
     let last : by a.0 (call (b.0 ∷ []) false 0) ≡ e = cc in
     let is : by a.0 (call (Recv (record { 0 = s.port }) ∷ []) false 0) ≡ e = ap (λ c. by a.0 (call (c ∷ []) false 0)) s.is ∙ last in

@@ -8,7 +8,6 @@ pub mod Values
 pub mod Notation
 pub mod Rows
 pub mod EventText
-pub mod Limits
 pub mod Lines
 pub mod Reading
 pub mod Text

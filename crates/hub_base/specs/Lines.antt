@@ -11,8 +11,8 @@ use Rattle.hub_base.specs.declared.entry.Step.TheVariants.{Make, Call, Close, Ex
 use Rattle.hub_base.specs.declared.entry.Entry.{Entry}
 use Rattle.hub_base.specs.Value.{value_of, value_field}
 use Rattle.hub_base.specs.declared.text.faults.Kind.{Kind}
+use Rattle.hub_base.specs.declared.limits.TheConstants.{CASE_PLACES, GREATEST_PID, GREATEST_PORT, GREATEST_CAP, GREATEST_VALUE, GREATEST_WORD}
 use Rattle.hub_base.specs.declared.text.faults.Kind.TheVariants.{BadStep, BadNumber}
-use Rattle.hub_base.specs.Limits.{greatest_cap, greatest_pid, greatest_port, greatest_value, greatest_word, most_cases}
 
 -- ---- writing
 -- a case of a select: `s1:7` or `r1`; 58 is the colon
@@ -130,9 +130,9 @@ drafts_of (f ∷ fs) = draft_of f >>= λ d. drafts_of fs >>= λ ds. Ok (d ∷ ds
 -- the case of such a field, where its parts are numbers
 abbrev pub case_of : Draft → Result Case Kind
 case_of (Sends p v) =
-    numeral greatest_port p >>= λ p. numeral greatest_value v >>= λ v.
+    numeral GREATEST_PORT p >>= λ p. numeral GREATEST_VALUE v >>= λ v.
     Ok (Send (record { 0 = p }) (value_of v))
-case_of (Receives p) = numeral greatest_port p >>= λ p. Ok (Recv (record { 0 = p }))
+case_of (Receives p) = numeral GREATEST_PORT p >>= λ p. Ok (Recv (record { 0 = p }))
 
 -- a fault of its shape, or else what its numbers say
 abbrev pub case_read : List ℕ → Result (Result Case Kind) Kind
@@ -170,46 +170,46 @@ spelled cases default word = Ok (call cases default word)
 -- a select whose fields have the right shape: its numbers, and then its spelling
 abbrev pub choose : List ℕ → List ℕ → Result (List Case) Kind → Bool → Result Entry Kind
 choose pid word cases default =
-    numeral greatest_pid pid >>= λ pid. numeral greatest_word word >>= λ word.
+    numeral GREATEST_PID pid >>= λ pid. numeral GREATEST_WORD word >>= λ word.
     cases >>= λ cases. spelled cases default word >>= λ step. Ok (by pid step)
 
 -- the fields behind the word of a select: all shapes are looked at before any number
 abbrev pub read_select : List ℕ → List ℕ → (List (List ℕ)) × Bool → Result Entry Kind
 read_select pid word fields =
     drafts_of fields.0 >>= λ drafts.
-    if nat_lt most_cases (length drafts) then Err BadStep
+    if nat_lt CASE_PLACES (length drafts) then Err BadStep
     else choose pid word (cases_of drafts) fields.1
 
 -- `P make C`
 abbrev pub read_make : List ℕ → List (List ℕ) → Result Entry Kind
 read_make pid (cap ∷ []) =
-    numeral greatest_pid pid >>= λ pid. numeral greatest_cap cap >>= λ cap. Ok (by pid (Make cap))
+    numeral GREATEST_PID pid >>= λ pid. numeral GREATEST_CAP cap >>= λ cap. Ok (by pid (Make cap))
 read_make pid other = Err BadStep
 
 -- `P send PORT V`
 abbrev pub read_send : List ℕ → List (List ℕ) → Result Entry Kind
 read_send pid (p ∷ v ∷ []) =
-    numeral greatest_pid pid >>= λ pid. case_of (Sends p v) >>= λ c.
+    numeral GREATEST_PID pid >>= λ pid. case_of (Sends p v) >>= λ c.
     Ok (by pid (call (c ∷ []) false 0))
 read_send pid other = Err BadStep
 
 -- `P recv PORT`
 abbrev pub read_recv : List ℕ → List (List ℕ) → Result Entry Kind
 read_recv pid (p ∷ []) =
-    numeral greatest_pid pid >>= λ pid. case_of (Receives p) >>= λ c.
+    numeral GREATEST_PID pid >>= λ pid. case_of (Receives p) >>= λ c.
     Ok (by pid (call (c ∷ []) false 0))
 read_recv pid other = Err BadStep
 
 -- `P close PORT`
 abbrev pub read_close : List ℕ → List (List ℕ) → Result Entry Kind
 read_close pid (p ∷ []) =
-    numeral greatest_pid pid >>= λ pid. numeral greatest_port p >>= λ p.
+    numeral GREATEST_PID pid >>= λ pid. numeral GREATEST_PORT p >>= λ p.
     Ok (by pid (Close (record { 0 = p })))
 read_close pid other = Err BadStep
 
 -- `P exit`
 abbrev pub read_exit : List ℕ → List (List ℕ) → Result Entry Kind
-read_exit pid [] = numeral greatest_pid pid >>= λ pid. Ok (by pid Exit)
+read_exit pid [] = numeral GREATEST_PID pid >>= λ pid. Ok (by pid Exit)
 read_exit pid other = Err BadStep
 
 -- `P select W CASE.. [default]`

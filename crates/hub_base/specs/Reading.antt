@@ -8,9 +8,9 @@ use Rattle.hub_base.specs.declared.entry.Step.{Step}
 use Rattle.hub_base.specs.declared.entry.Step.TheVariants.{Make, Call, Close, Exit}
 use Rattle.hub_base.specs.declared.entry.Entry.{Entry}
 use Rattle.hub_base.specs.declared.text.faults.Kind.{Kind}
+use Rattle.hub_base.specs.declared.limits.TheConstants.{MOST_PROCS, MOST_STEPS, MOST_BYTES}
 use Rattle.hub_base.specs.declared.text.faults.Kind.TheVariants.{BadHeader, BadProcs, CutLine, TooLong}
 use Rattle.hub_base.specs.Lines.{line, pieces, read_fields, number, same_text}
-use Rattle.hub_base.specs.Limits.{most_bytes, most_procs, most_steps}
 
 -- the second line without its newline
 abbrev pub procs_line : ℕ → List ℕ
@@ -60,7 +60,7 @@ end_of start r = start + length r.bytes + (if r.whole then 1 else 0)
 -- what is wrong with a line that ends before this place, before anything is read of it
 abbrev pub row_fault : ℕ → Row → Option Kind
 row_fault end r =
-    if nat_lt most_bytes end then Some TooLong else if r.whole then None else Some CutLine
+    if nat_lt MOST_BYTES end then Some TooLong else if r.whole then None else Some CutLine
 
 -- the same of the first line
 abbrev pub line_fault : ℕ → List Row → Option Kind
@@ -97,7 +97,7 @@ counted steps e = if is_exit e.step then steps else steps + 1
 
 -- this entry is one step too many
 abbrev pub over : ℕ → Entry → Bool
-over steps e = not (is_exit e.step) && nat_le most_steps steps
+over steps e = not (is_exit e.step) && nat_le MOST_STEPS steps
 
 -- what line k says, and the lines behind it: `goes` tells those, by the entry
 abbrev pub entry_says : ℕ → ℕ → Result Entry Kind → (Entry → Reading) → Reading
@@ -113,9 +113,9 @@ entries_from n k start steps (r ∷ rs) =
     entry_says k steps (read_fields (pieces 32 r.bytes)) (
     λ e. entries_from n (k + 1) (end_of start r) (counted steps e) rs))
 
--- `procs`, and a number up to 64
+-- `procs`, and a number that a hub may have
 abbrev pub procs_field : List (List ℕ) → Option ℕ
-procs_field (w ∷ n ∷ []) = if same_text w (codes "procs") then number most_procs n else None
+procs_field (w ∷ n ∷ []) = if same_text w (codes "procs") then number MOST_PROCS n else None
 procs_field other = None
 
 -- not 0

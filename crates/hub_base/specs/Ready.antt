@@ -68,12 +68,12 @@ without pid calls = filter (λ call. not (call.pid.0 == pid.0)) calls
 -- a send can proceed on a closed port, where a receiver waits, and where there is room
 abbrev pub send_can : State → Port → Channel → Bool
 send_can s p c =
-    c.closed || is_some (first_with (is_recv_on p) s.parked) || nat_lt (length c.done - c.taken) c.cap
+    c.closed || is_some (first_with (is_recv_on p) s.parked) || nat_lt (length c.sent - c.received) c.cap
 
 -- a receive can proceed where a sender waits, where a value is left, and on a closed port
 abbrev pub recv_can : State → Port → Channel → Bool
 recv_can s p c =
-    is_some (first_with (is_send_on p) s.parked) || nat_lt c.taken (length c.done) || c.closed
+    is_some (first_with (is_send_on p) s.parked) || nat_lt c.received (length c.sent) || c.closed
 
 -- on port 0, and on a port that was not made, nothing can. Go: a nil channel is never ready
 abbrev pub can_proceed : State → Case → Bool

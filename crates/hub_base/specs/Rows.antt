@@ -6,3 +6,4 @@ pub mod Closing
 pub mod Selecting
 pub mod Leaving
 pub mod Refusing
+pub mod Limits

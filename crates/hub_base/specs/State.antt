@@ -11,19 +11,25 @@ pub record OpenCall : Type 0 where
   pub pid : Pid
   pub cases : List Case
 
--- a channel: the values of all completed sends, oldest first, and how many of them were received
+-- a channel
 pub record Channel : Type 0 where
+  -- how many values its buffer holds
   pub cap : ℕ
   pub closed : Bool
-  pub done : List Value
-  pub taken : ℕ
+  -- the values of all completed sends, oldest first
+  pub sent : List Value
+  -- how many of them were received
+  pub received : ℕ
 
--- the number of processes, those that have exited, the calls that wait in order of arrival, and the
--- channels in order of making
+-- a hub
 pub record State : Type 0 where
+  -- the number of processes
   pub procs : ℕ
+  -- those that have exited
   pub gone : List Pid
+  -- the calls that wait, in order of arrival
   pub parked : List OpenCall
+  -- in order of making: port 1 first
   pub channels : List Channel
 
 -- n processes, and nothing made, gone or open
@@ -40,4 +46,4 @@ with_channel s p c = record s { channels = slice_set s.channels (p.0 - 1) c }
 
 -- what was sent and not yet received, oldest first
 abbrev pub buffer_of : Channel → List Value
-buffer_of c = drop c.taken c.done
+buffer_of c = drop c.received c.sent

@@ -2,7 +2,7 @@
 -- exit, the stall rule, the faults that are journaled, and why an entry is not admitted.
 -- Go: "Send statements", "Receive operator", "Select statements", "Close". Which waiting call is
 -- served and which ready case fires are this project's choice.
-use Rattle.std.specs.Prelude.{ℕ, ◌+◌, ◌%◌, ◌==◌, nat_lt, Bool, true, false, not, ◌&&◌, ◌||◌, List, [], ◌∷◌, ◌++◌, length, filter, Option, None, Some, slice_get, if◌then◌else◌}
+use Rattle.std.specs.Prelude.{ℕ, ◌+◌, ◌%◌, ◌==◌, nat_le, nat_lt, Bool, true, false, not, ◌&&◌, ◌||◌, List, [], ◌∷◌, ◌++◌, length, filter, Option, None, Some, slice_get, if◌then◌else◌}
 use Rattle.std.specs.List.{list_any, list_all, filter_map, range_with_len}
 use Rattle.std.specs.Option.{option_map}
 use Rattle.hub_base.specs.declared.value.Pid.{Pid}
@@ -20,6 +20,7 @@ use Rattle.hub_base.specs.declared.fault.Fault.TheVariants as fault
 use Rattle.hub_base.specs.declared.event.What.{What}
 use Rattle.hub_base.specs.declared.event.What.TheVariants as what
 use Rattle.hub_base.specs.declared.event.Event.{Event}
+use Rattle.hub_base.specs.declared.limits.TheConstants.{MOST_CAP, MOST_CASES, MOST_PORTS}
 use Rattle.hub_base.specs.State.{OpenCall, Channel, State, channel_at, with_channel}
 use Rattle.hub_base.specs.Ready.{is_recv_on, is_send_on, is_on, port_of, Ending, lowest, first_with, without, ready}
 
@@ -43,16 +44,16 @@ abbrev pub tells : Pid → What → Event
 tells pid w = record { pid = pid; what = w }
 
 -- the channel once its oldest value that was not received is received
-abbrev pub received : Channel → Channel
-received c = record { cap = c.cap; closed = c.closed; done = c.done; taken = c.taken + 1 }
+abbrev pub after_receive : Channel → Channel
+after_receive c = record { cap = c.cap; closed = c.closed; sent = c.sent; received = c.received + 1 }
 
 -- the channel once this value is sent
-abbrev pub sent : Value → Channel → Channel
-sent v c = record { cap = c.cap; closed = c.closed; done = c.done ++ v ∷ []; taken = c.taken }
+abbrev pub after_send : Value → Channel → Channel
+after_send v c = record { cap = c.cap; closed = c.closed; sent = c.sent ++ v ∷ []; received = c.received }
 
 -- the oldest value that was not received
 abbrev pub next_value : Channel → Option Value
-next_value c = slice_get c.done c.taken
+next_value c = slice_get c.sent c.received
 
 -- what a receive is answered: a value, or that the closed channel is drained
 abbrev pub outcome_of : Option Value → Outcome
@@ -66,7 +67,7 @@ send_meets s p c None = record { outcome = Sent; state = with_channel s p c; end
 send_meets s p c (Some e) =
     record {
       outcome = Sent;
-      state = with_channel (record s { parked = without e.pid s.parked }) p (received c);
+      state = with_channel (record s { parked = without e.pid s.parked }) p (after_receive c);
       ended = fired e.pid e.at.index (outcome_of (next_value c)) ∷ [];
     }
 
@@ -74,11 +75,11 @@ send_meets s p c (Some e) =
 abbrev pub send_fires : State → Port → Value → Channel → Firing
 send_fires s p v c =
     if c.closed then record { outcome = Closed; state = s; ended = [] }
-    else send_meets s p (sent v c) (first_with (is_recv_on p) s.parked)
+    else send_meets s p (after_send v c) (first_with (is_recv_on p) s.parked)
 
 -- the channel once the value of this case is sent, where it is a send
 abbrev pub with_sent : Case → Channel → Channel
-with_sent (Send p v) c = sent v c
+with_sent (Send p v) c = after_send v c
 with_sent (Recv p) c = c
 
 -- a receive, after the oldest sender that waits was let in
@@ -86,7 +87,7 @@ abbrev pub recv_takes : State → Port → Channel → List Event → Option Val
 recv_takes s p c ended None =
     record { outcome = Drained; state = with_channel s p c; ended = ended }
 recv_takes s p c ended (Some v) =
-    record { outcome = Got v; state = with_channel s p (received c); ended = ended }
+    record { outcome = Got v; state = with_channel s p (after_receive c); ended = ended }
 
 -- a receive, with the oldest sender that waits, if any: it ends, and its value is let in first
 abbrev pub recv_meets : State → Port → Channel → Option Ending → Firing
@@ -142,7 +143,7 @@ closing_event p call =
 
 -- the channel once it is closed
 abbrev pub shut : Channel → Channel
-shut c = record { cap = c.cap; closed = true; done = c.done; taken = c.taken }
+shut c = record { cap = c.cap; closed = true; sent = c.sent; received = c.received }
 
 -- a close: each call that waits with a case on the port ends, by arrival; the buffer stays
 abbrev pub closes : State → Pid → Port → Option Channel → Change
@@ -160,7 +161,7 @@ abbrev pub makes : State → Pid → ℕ → Change
 makes s pid cap =
     record {
       state = record s {
-        channels = s.channels ++ record { cap = cap; closed = false; done = []; taken = 0 } ∷ [];
+        channels = s.channels ++ record { cap = cap; closed = false; sent = []; received = 0 } ∷ [];
       };
       events = tells pid (what.Made (record { 0 = length s.channels + 1 })) ∷ [];
     }
@@ -210,14 +211,14 @@ abbrev pub close_fault : Option Channel → Option Fault
 close_fault None = Some fault.NilClose
 close_fault (Some c) = if c.closed then Some fault.AlreadyClosed else None
 
--- why an admitted step has no effect: a capacity above 1,024, a sixty-fifth port, more than 8
--- cases, a port that was not made, a close of the nil channel or of a closed one
+-- why an admitted step has no effect: too great a capacity, a port too many, too many cases, a port
+-- that was not made, a close of the nil channel or of a closed one
 abbrev pub fault_of : State → Step → Option Fault
 fault_of s (Make cap) =
-    if nat_lt 1024 cap then Some fault.BadCap
-    else if nat_lt 63 (length s.channels) then Some fault.TooManyPorts else None
+    if nat_lt MOST_CAP cap then Some fault.BadCap
+    else if nat_le MOST_PORTS (length s.channels) then Some fault.TooManyPorts else None
 fault_of s (Call cases default word) =
-    if nat_lt 8 (length cases.items) then Some fault.TooManyCases
+    if nat_lt MOST_CASES (length cases.items) then Some fault.TooManyCases
     else if list_any (λ c. is_unmade s (port_of c)) cases.items then Some fault.NoPort else None
 fault_of s (Close p) = if is_unmade s p then Some fault.NoPort else close_fault (channel_at s p)
 fault_of s Exit = None

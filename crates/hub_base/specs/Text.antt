@@ -10,32 +10,32 @@ use Rattle.hub_base.specs.declared.entry.Step.TheVariants.{Make, Call, Close, Ex
 use Rattle.hub_base.specs.declared.entry.Entry.{Entry}
 use Rattle.hub_base.specs.Value.{number_of}
 use Rattle.hub_base.specs.declared.text.faults.Kind.{Kind}
+use Rattle.hub_base.specs.declared.limits.TheConstants.{MOST_PROCS, CASE_PLACES, MOST_STEPS, MOST_BYTES, GREATEST_PID, GREATEST_PORT, GREATEST_CAP, GREATEST_VALUE, GREATEST_WORD}
 use Rattle.hub_base.specs.declared.text.faults.Kind.TheVariants.{BadHeader, BadProcs, TooLong}
 use Rattle.hub_base.specs.Lines.{line, step_fields, pieces, read_fields, same_text}
 use Rattle.hub_base.specs.Reading.{text, head, procs_line, Row, rows, is_exit, row_fault, end_of, over, procs_number}
-use Rattle.hub_base.specs.Limits.{greatest_cap, greatest_pid, greatest_port, greatest_value, greatest_word, most_bytes, most_cases, most_procs, most_steps}
 
 -- the numbers of a case are such as a text can hold
 abbrev pub CaseFits : Case → Type 0
-CaseFits (Send p v) = (p.0 ≤ greatest_port) × (number_of v ≤ greatest_value)
-CaseFits (Recv p) = p.0 ≤ greatest_port
+CaseFits (Send p v) = (p.0 ≤ GREATEST_PORT) × (number_of v ≤ GREATEST_VALUE)
+CaseFits (Recv p) = p.0 ≤ GREATEST_PORT
 
--- a call of at most 16 cases, with such numbers
+-- a call whose cases have places in an entry, with such numbers
 pub record CallFits (cases : List Case) (word : ℕ) : Type 0 where
-  pub few : length cases ≤ most_cases
+  pub few : length cases ≤ CASE_PLACES
   pub each : AllByRecursion CaseFits cases
-  pub word_fits : word ≤ greatest_word
+  pub word_fits : word ≤ GREATEST_WORD
 
 -- the same of a step
 abbrev pub StepFits : Step → Type 0
-StepFits (Make cap) = cap ≤ greatest_cap
+StepFits (Make cap) = cap ≤ GREATEST_CAP
 StepFits (Call cases default word) = CallFits cases.items word
-StepFits (Close p) = p.0 ≤ greatest_port
+StepFits (Close p) = p.0 ≤ GREATEST_PORT
 StepFits Exit = 0 ≤ 0
 
 -- and of an entry
 pub record Fits (e : Entry) : Type 0 where
-  pub pid : e.pid.0 ≤ greatest_pid
+  pub pid : e.pid.0 ≤ GREATEST_PID
   pub step : StepFits e.step
 
 -- 1 for a step, 0 for an exit
@@ -51,10 +51,10 @@ steps_of (e ∷ es) = one_step e + steps_of es
 pub record IsText (bytes : List ℕ) (n : ℕ) (es : List Entry) : Type 0 where
   pub spelled : bytes ≡ text n es
   pub some : 1 ≤ n
-  pub few : n ≤ most_procs
+  pub few : n ≤ MOST_PROCS
   pub fits : AllByRecursion Fits es
-  pub bytes_fit : length bytes ≤ most_bytes
-  pub steps_fit : steps_of es ≤ most_steps
+  pub bytes_fit : length bytes ≤ MOST_BYTES
+  pub steps_fit : steps_of es ≤ MOST_STEPS
 
 -- the fields of an entry's line
 abbrev pub fields_of : Entry → List (List ℕ)
@@ -96,8 +96,8 @@ pub record EntryFails (place steps k : ℕ) (rs : List Row) (faulty : ℕ) (kind
   pub lines : rs ≡ map row_of es ++ bad ∷ more
   pub count : faulty ≡ k + length es
   pub fits : AllByRecursion Fits es
-  pub bytes_fit : place + length (flat_map line es) ≤ most_bytes
-  pub steps_fit : steps + steps_of es ≤ most_steps
+  pub bytes_fit : place + length (flat_map line es) ≤ MOST_BYTES
+  pub steps_fit : steps + steps_of es ≤ MOST_STEPS
   pub fault : entry_fault (place + length (flat_map line es)) (steps + steps_of es) bad ≡ Some kind
 
 -- ---- the head
@@ -147,7 +147,7 @@ pub record FaultyEntry (rs : List Row) (k : ℕ) (kind : Kind) : Type 0 where
   pub more : List Row
   pub lines : rs ≡ header_row ∷ procs_row n ∷ more
   pub some : 1 ≤ n
-  pub few : n ≤ most_procs
+  pub few : n ≤ MOST_PROCS
   pub fails : EntryFails (length (head n)) 0 3 more k kind
 
 -- the lines before the k-th are head lines and spellings within the limits, and of the k-th this is

@@ -3,6 +3,7 @@
 ghost use Rattle.std.specs.Prelude.{◌≡◌, ◌∷◌, []};
 ghost use Rattle.hub_base.specs.Ready.{port_of};
 
+use crate::limits::CASE_PLACES;
 use crate::{Port, Value};
 use arrayvec::ArrayVec;
 
@@ -39,9 +40,9 @@ impl Default for Case {
     }
 }
 
-/// The cases of a call, in order and numbered from 0. An entry holds up to 16; a call may have up
-/// to 8.
-pub type Cases = ArrayVec<Case, 16>;
+/// The cases of a call, in order and numbered from 0. An entry holds up to `CASE_PLACES`; a call may
+/// have up to `MOST_CASES`.
+pub type Cases = ArrayVec<Case, CASE_PLACES>;
 
 /// What `Cases` offers beside what every `ArrayVec` does.
 pub trait CasesExt {

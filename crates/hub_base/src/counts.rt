@@ -16,7 +16,7 @@ pub struct Counts {
 /// The capacity of a port, and its counts.
 #[derive(Clone, Copy, Debug, Default, PartialEq, Eq)]
 pub struct Look {
-    /// The capacity, 0 to 1,024.
+    /// The capacity, 0 to `MOST_CAP`.
     pub cap: u32,
     /// The counts.
     pub counts: Counts,

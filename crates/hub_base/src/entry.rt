@@ -7,8 +7,8 @@ use crate::{Cases, Pid, Port};
 /// One step of a process.
 #[derive(Debug, Drop, PartialEq, Eq)]
 pub enum Step {
-    /// Makes a port of this capacity, 0 for an unbuffered one. Above 1,024 the answer is
-    /// `Fault::BadCap`.
+    /// Makes a port of this capacity, 0 for an unbuffered one. Above `MOST_CAP` the answer
+    /// is `Fault::BadCap`.
     Make(u32),
     /// Sends or receives: one of the cases that can proceed fires, or the default is taken, or the
     /// call waits. A plain send or receive is a call of one case without default and with word 0.
@@ -30,7 +30,9 @@ pub enum Step {
 /// A step and the process that makes it.
 #[derive(Debug, Drop, PartialEq, Eq)]
 pub struct Entry {
+    /// Whose step it is.
     pub pid: Pid,
+    /// The step.
     pub step: Step,
 }
 

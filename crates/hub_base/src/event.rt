@@ -1,5 +1,6 @@
 //! What processes are told.
 
+use crate::limits::MOST_EVENTS;
 use crate::{Fault, Pid, Port, Value};
 use arrayvec::ArrayVec;
 
@@ -38,7 +39,9 @@ pub enum What {
 /// What one process is told.
 #[derive(Clone, Copy, Debug, PartialEq, Eq)]
 pub struct Event {
+    /// The process that is told.
     pub pid: Pid,
+    /// What it is told.
     pub what: What,
 }
 
@@ -58,5 +61,5 @@ impl Default for Event {
 }
 
 /// The events of one step: the caller's answer, then the calls that ended with it in order of
-/// arrival. A park after which 64 processes stall gives 65.
-pub type Events = ArrayVec<Event, 65>;
+/// arrival. A park after which every process of the largest hub stalls gives `MOST_EVENTS`.
+pub type Events = ArrayVec<Event, MOST_EVENTS>;

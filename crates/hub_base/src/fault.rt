@@ -20,16 +20,16 @@ pub enum Fault {
     /// 3: the process has an open call.
     #[error("the process has an open call")]
     Busy,
-    /// 4: a call has more than 8 cases.
+    /// 4: a call has more than `MOST_CASES` cases.
     #[error("too many cases")]
     TooManyCases,
     /// 5: a case or a close names a port other than 0 that was not made.
     #[error("no such port")]
     NoPort,
-    /// 6: a capacity above 1,024.
+    /// 6: a capacity above `MOST_CAP`.
     #[error("the capacity is too large")]
     BadCap,
-    /// 7: 64 ports are made already.
+    /// 7: `MOST_PORTS` ports are made already.
     #[error("too many ports")]
     TooManyPorts,
     /// 8: a close of port 0. Go: a close of the nil channel panics ("Close").

@@ -8,7 +8,9 @@ use std::marker::Model;
 /// The number of processes, and the entries in order.
 #[derive(Drop)]
 pub struct Journal {
+    /// The number of processes.
     procs: u8,
+    /// The entries, in order.
     list: Vec<Entry>,
 }
 

@@ -13,6 +13,7 @@ mod entry;
 mod event;
 mod fault;
 mod journal;
+mod limits;
 mod text;
 mod value;
 
@@ -22,6 +23,10 @@ pub use entry::{Entry, Step, copy_cases};
 pub use event::{Event, Events, Outcome, What};
 pub use fault::Fault;
 pub use journal::Journal;
+pub use limits::{
+    CASE_PLACES, GREATEST_CAP, GREATEST_PID, GREATEST_PORT, GREATEST_VALUE, GREATEST_WORD, MOST_BYTES, MOST_CAP,
+    MOST_CASES, MOST_EVENTS, MOST_PORTS, MOST_PROCS, MOST_STEPS,
+};
 pub use text::faults::{Kind, NoMemory, ReadFault, TextFault};
 pub use text::fields::Fields;
 pub use text::numbers::number;

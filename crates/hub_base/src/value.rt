@@ -38,7 +38,7 @@ impl Value {
 #[derive(Clone, Copy, Debug, Default, PartialEq, Eq)]
 pub struct Port(pub u16);
 
-/// The number of a process, from 0. A hub has 1 to 64 of them; an entry may name any number up to
-/// 255.
+/// The number of a process, from 0. A hub has 1 to `MOST_PROCS` of them; an entry may name any number
+/// up to `GREATEST_PID`.
 #[derive(Clone, Copy, Debug, Default, PartialEq, Eq)]
 pub struct Pid(pub u8);

@@ -11,6 +11,7 @@ use Rattle.hub_base.specs.declared.entry.Step.{Step}
 use Rattle.hub_base.specs.declared.entry.Step.TheVariants.{Make, Call, Close, Exit}
 use Rattle.hub_base.specs.declared.fault.Fault.TheVariants as fault
 use Rattle.hub_base.specs.declared.event.What.TheVariants as what
+use Rattle.hub_base.specs.declared.limits.TheConstants.{MOST_CASES}
 use Rattle.hub_base.specs.State.{State, Channel, channel_at}
 use Rattle.hub_base.specs.Ready.{is_on, port_of}
 use Rattle.hub_base.specs.Steps.{shut, closes, makes, exits, effect, tells, closing_event, is_unmade, fault_of, close_fault}
@@ -53,8 +54,8 @@ makes_on-as s m pid cap h = record {
   state = record {
     procs = h.procs;
     calls = h.calls;
-    ports = ap (λ ps. ps ++ new_port cap ∷ []) h.ports ∙ sym (map-append lists_of s.channels (record { cap = cap; closed = false; done = []; taken = 0 } ∷ []));
-    counts = ap (λ ts. ts ++ no_tally ∷ []) h.counts ∙ sym (map-append tally_of s.channels (record { cap = cap; closed = false; done = []; taken = 0 } ∷ []));
+    ports = ap (λ ps. ps ++ new_port cap ∷ []) h.ports ∙ sym (map-append lists_of s.channels (record { cap = cap; closed = false; sent = []; received = 0 } ∷ []));
+    counts = ap (λ ts. ts ++ no_tally ∷ []) h.counts ∙ sym (map-append tally_of s.channels (record { cap = cap; closed = false; sent = []; received = 0 } ∷ []));
     gone = h.gone;
   };
 }
@@ -95,7 +96,7 @@ unmade-as : (s : State) (m : MachineLists) (p : Port) → Matches s m → is_unm
 unmade-as s m p h = ap (λ n. nat_lt n p.0) (count-ports s m h)
 
 call_fault-as : (s : State) (m : MachineLists) (cases : List Case) → Matches s m →
-    call_fault_on m.board cases ≡ cond (nat_lt 8 (length cases)) (Some fault.TooManyCases) (cond (list_any (λ c. is_unmade s (port_of c)) cases) (Some fault.NoPort) None)
+    call_fault_on m.board cases ≡ cond (nat_lt MOST_CASES (length cases)) (Some fault.TooManyCases) (cond (list_any (λ c. is_unmade s (port_of c)) cases) (Some fault.NoPort) None)
 call_fault-as s m cases h = rw (count-ports s m h) refl
 
 close_fault_by : (s : State) (m : MachineLists) (p : Port) (unmade nil : Bool) → Matches s m → is_unmade s p ≡ unmade → (p.0 == 0) ≡ nil →
@@ -118,6 +119,6 @@ named_cases s cases many e = (none_false (list_any (λ c. is_unmade s (port_of c
 
 pub effect_on-as : (s : State) (m : MachineLists) (pid : Pid) (step : Step) → IsSound s → Matches s m → pid.0 < length m.gone → fault_of s step ≡ None → StepsAs (effect s pid step) (effect_on m pid step)
 effect_on-as s m pid (Make cap) sound h room fine = makes_on-as s m pid cap h
-effect_on-as s m pid (Call cases default word) sound h room fine = calls_on-as s m pid cases.items default word sound h (named_cases s cases.items (nat_lt 8 (length cases.items)) fine)
+effect_on-as s m pid (Call cases default word) sound h room fine = calls_on-as s m pid cases.items default word sound h (named_cases s cases.items (nat_lt MOST_CASES (length cases.items)) fine)
 effect_on-as s m pid (Close p) sound h room fine = closes_on-as s m pid p (channel_at s p) h refl (none_false (is_unmade s p) fault.NoPort (close_fault (channel_at s p)) fine).1
 effect_on-as s m pid Exit sound h room fine = exits_on-as s m pid h room

@@ -9,7 +9,7 @@ use Rattle.hub_base.specs.declared.case.Case.TheVariants.{Send, Recv}
 use Rattle.hub_base.specs.declared.event.Outcome.TheVariants.{Sent, Closed}
 use Rattle.hub_base.specs.State.{State, Channel, channel_at}
 use Rattle.hub_base.specs.Ready.{Ending, first_with, is_recv_on, is_send_on, without}
-use Rattle.hub_base.specs.Steps.{sent, received, next_value, outcome_of, send_fires, send_meets, recv_fires, recv_meets, recv_takes, with_sent, fired}
+use Rattle.hub_base.specs.Steps.{after_send, after_receive, next_value, outcome_of, send_fires, send_meets, recv_fires, recv_meets, recv_takes, with_sent, fired}
 use Rattle.hub_laws.specs.Sound.{IsSound, PortSound, some_call, CallFits}
 use Rattle.hub_laws.proofs.Fires.{some_first}
 use Rattle.hub_laws.proofs.Calls.{first-found}
@@ -26,11 +26,11 @@ length-snoc : (xs : List Value) (x : Value) → length xs + 1 ≡ length (xs ++ 
 length-snoc [] x = refl
 length-snoc (y ∷ ys) x = omega (arith, length-snoc ys x)
 
-sent-tally_of : (v : Value) (c : Channel) → sent_tally (tally_of c) ≡ tally_of (sent v c)
-sent-tally_of v c = ap (λ n. record { sent = n; received = c.taken }) (length-snoc c.done v)
+sent-tally_of : (v : Value) (c : Channel) → sent_tally (tally_of c) ≡ tally_of (after_send v c)
+sent-tally_of v c = ap (λ n. record { sent = n; received = c.received }) (length-snoc c.sent v)
 
-handed-tally_of : (v : Value) (c : Channel) → handed_tally (tally_of c) ≡ tally_of (received (sent v c))
-handed-tally_of v c = ap (λ n. record { sent = n; received = c.taken + 1 }) (length-snoc c.done v)
+handed-tally_of : (v : Value) (c : Channel) → handed_tally (tally_of c) ≡ tally_of (after_receive (after_send v c))
+handed-tally_of v c = ap (λ n. record { sent = n; received = c.received + 1 }) (length-snoc c.sent v)
 
 -- the open calls without the one that ends
 calls_left : (s : State) (m : MachineLists) (pid : Pid) → Matches s m → open_calls (still_open pid m.board.waiting) ≡ without pid s.parked
@@ -38,35 +38,35 @@ calls_left s m pid h = open_calls-still_open pid m.board.waiting ∙ ap (without
 
 -- ---- sends
 send_to-as : (s : State) (m : MachineLists) (p : Port) (v : Value) (c : Channel) (o : Option Ending) → PortSound p c s.parked → Matches s m → channel_at s p ≡ Some c → o ≡ first_with (is_recv_on p) s.parked →
-    FiresAs (send_meets s p (sent v c) o) m (send_to m.board m.counts p v o)
+    FiresAs (send_meets s p (after_send v c) o) m (send_to m.board m.counts p v o)
 send_to-as s m p v c None sound h e is = record {
   outcome = refl;
   ended = refl;
   state = record {
     procs = h.procs;
     calls = h.calls;
-    ports = ports-set s m p (sent v c) _ h (ap (pushed v) (port-lists_of s m p c h e) ∙ pushed-lists_of v c sound.taken);
-    counts = counts-set s m p (sent v c) _ h (ap sent_tally (tally-tally_of s m p c h e) ∙ sent-tally_of v c);
+    ports = ports-set s m p (after_send v c) _ h (ap (pushed v) (port-lists_of s m p c h e) ∙ pushed-lists_of v c sound.received);
+    counts = counts-set s m p (after_send v c) _ h (ap sent_tally (tally-tally_of s m p c h e) ∙ sent-tally_of v c);
     gone = h.gone;
   };
 }
 send_to-as s m p v c (Some x) sound h e is =
     let met : some_call (is_recv_on p) s.parked ≡ true = sym (some_first (is_recv_on p) s.parked (Some x) is) in
-    let empty : c.taken ≡ length c.done = sound.receivers met in
+    let empty : c.received ≡ length c.sent = sound.receivers met in
     record {
       outcome = refl;
       ended = ap (λ o. fired x.pid x.at.index (outcome_of o) ∷ []) (sym (next-through v c empty));
       state = record {
         procs = h.procs;
         calls = calls_left s m x.pid h;
-        ports = ports-same s m p c (received (sent v c)) h e (through-lists_of v c empty);
-        counts = counts-set s m p (received (sent v c)) _ h (ap handed_tally (tally-tally_of s m p c h e) ∙ handed-tally_of v c);
+        ports = ports-same s m p c (after_receive (after_send v c)) h e (through-lists_of v c empty);
+        counts = counts-set s m p (after_receive (after_send v c)) _ h (ap handed_tally (tally-tally_of s m p c h e) ∙ handed-tally_of v c);
         gone = h.gone;
       };
     }
 
 send_by : (closed : Bool) (s : State) (m : MachineLists) (p : Port) (v : Value) (c : Channel) (o : Option Ending) → PortSound p c s.parked → Matches s m → channel_at s p ≡ Some c → o ≡ first_with (is_recv_on p) s.parked →
-    FiresAs (cond closed (record { outcome = Closed; state = s; ended = [] }) (send_meets s p (sent v c) o)) m (cond closed (record { outcome = Closed; board = m.board; counts = m.counts; ended = None }) (send_to m.board m.counts p v o))
+    FiresAs (cond closed (record { outcome = Closed; state = s; ended = [] }) (send_meets s p (after_send v c) o)) m (cond closed (record { outcome = Closed; board = m.board; counts = m.counts; ended = None }) (send_to m.board m.counts p v o))
 send_by true s m p v c o sound h e is = record { outcome = refl; ended = refl; state = record { procs = h.procs; calls = h.calls; ports = h.ports; counts = h.counts; gone = h.gone } }
 send_by false s m p v c o sound h e is = send_to-as s m p v c o sound h e is
 
@@ -84,7 +84,7 @@ take_value-as s m p c None sound h e is = record {
   state = record {
     procs = h.procs;
     calls = h.calls;
-    ports = ports-set s m p c _ h (ap popped (port-lists_of s m p c h e) ∙ popped-drained c (sym is) sound.taken);
+    ports = ports-set s m p c _ h (ap popped (port-lists_of s m p c h e) ∙ popped-drained c (sym is) sound.received);
     counts = counts-same s m p c c h e refl;
     gone = h.gone;
   };
@@ -95,24 +95,24 @@ take_value-as s m p c (Some v) sound h e is = record {
   state = record {
     procs = h.procs;
     calls = h.calls;
-    ports = ports-set s m p (received c) _ h (ap popped (port-lists_of s m p c h e) ∙ popped-lists_of c);
-    counts = counts-set s m p (received c) _ h (ap received_tally (tally-tally_of s m p c h e));
+    ports = ports-set s m p (after_receive c) _ h (ap popped (port-lists_of s m p c h e) ∙ popped-lists_of c);
+    counts = counts-set s m p (after_receive c) _ h (ap received_tally (tally-tally_of s m p c h e));
     gone = h.gone;
   };
 }
 
 fetch_on-as : (s : State) (m : MachineLists) (p : Port) (c : Channel) (x : Ending) (u : Value) (o : Option Value) → PortSound p c s.parked → Matches s m → channel_at s p ≡ Some c → o ≡ next_value c →
-    FiresAs (recv_takes (record s { parked = without x.pid s.parked }) p (sent u c) (fired x.pid x.at.index Sent ∷ []) (next_value (sent u c))) m (fetch_on m.board m.counts p x u o)
+    FiresAs (recv_takes (record s { parked = without x.pid s.parked }) p (after_send u c) (fired x.pid x.at.index Sent ∷ []) (next_value (after_send u c))) m (fetch_on m.board m.counts p x u o)
 fetch_on-as s m p c x u None sound h e is =
-    let empty : c.taken ≡ length c.done = next_none c (sym is) sound.taken in
+    let empty : c.received ≡ length c.sent = next_none c (sym is) sound.received in
     rw (next-through u c empty) (record {
       outcome = refl;
       ended = refl;
       state = record {
         procs = h.procs;
         calls = calls_left s m x.pid h;
-        ports = ports-set s m p (received (sent u c)) _ h (ap popped (port-lists_of s m p c h e) ∙ popped-drained c (sym is) sound.taken ∙ sym (through-lists_of u c empty));
-        counts = counts-set s m p (received (sent u c)) _ h (ap handed_tally (tally-tally_of s m p c h e) ∙ handed-tally_of u c);
+        ports = ports-set s m p (after_receive (after_send u c)) _ h (ap popped (port-lists_of s m p c h e) ∙ popped-drained c (sym is) sound.received ∙ sym (through-lists_of u c empty));
+        counts = counts-set s m p (after_receive (after_send u c)) _ h (ap handed_tally (tally-tally_of s m p c h e) ∙ handed-tally_of u c);
         gone = h.gone;
       };
     })
@@ -123,8 +123,8 @@ fetch_on-as s m p c x u (Some v) sound h e is =
       state = record {
         procs = h.procs;
         calls = calls_left s m x.pid h;
-        ports = ports-set s m p (received (sent u c)) _ h (ap (λ (q : PortLists). pushed u (popped q)) (port-lists_of s m p c h e) ∙ shifted-lists_of u c v (sym is));
-        counts = counts-set s m p (received (sent u c)) _ h (ap handed_tally (tally-tally_of s m p c h e) ∙ handed-tally_of u c);
+        ports = ports-set s m p (after_receive (after_send u c)) _ h (ap (λ (q : PortLists). pushed u (popped q)) (port-lists_of s m p c h e) ∙ shifted-lists_of u c v (sym is));
+        counts = counts-set s m p (after_receive (after_send u c)) _ h (ap handed_tally (tally-tally_of s m p c h e) ∙ handed-tally_of u c);
         gone = h.gone;
       };
     })

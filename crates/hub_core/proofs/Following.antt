@@ -9,6 +9,7 @@ use Rattle.hub_base.specs.declared.fault.Fault.{Fault}
 use Rattle.hub_base.specs.declared.fault.Fault.TheVariants as fault
 use Rattle.hub_base.specs.declared.event.Event.{Event}
 use Rattle.hub_base.specs.declared.event.What.TheVariants as what
+use Rattle.hub_base.specs.declared.limits.TheConstants.{MOST_PROCS}
 use Rattle.hub_base.specs.State.{State, OpenCall}
 use Rattle.hub_base.specs.Steps.{Change, tells, refusal, turn, fault_of, answers, effect}
 use Rattle.hub_base.specs.Runs.{admits, moves, keeps, kept, state}
@@ -142,7 +143,7 @@ none-gone (suc k) (suc q) = none-gone k q
 
 pub follows_opening : (n : ℕ) → Follows n [] (opened_machine n)
 follows_opening n = record {
-  matches = record { procs = refl; calls = refl; ports = refl; counts = refl; gone = λ q below. none-gone 64 q };
+  matches = record { procs = refl; calls = refl; ports = refl; counts = refl; gone = λ q below. none-gone MOST_PROCS q };
   steps = refl;
   later = omega arith;
   tickets = tt;
@@ -150,7 +151,7 @@ follows_opening n = record {
 
 -- ---- the step of a machine
 pub admits_on : (n : ℕ) (es : List Entry) (e : Entry) (m next : MachineLists) (told : List Event) → Follows n es m →
-    refusal_of m.board m.gone e.pid ≡ None → m.board.procs ≤ 64 → length m.gone ≡ 64 →
+    refusal_of m.board m.gone e.pid ≡ None → m.board.procs ≤ MOST_PROCS → length m.gone ≡ MOST_PROCS →
     next ≡ (turn_on m e).machine → told ≡ (turn_on m e).events → Admits n es e next told
 admits_on n es e m next told h free few places machine events =
     let adm = admitted_as n es e m h free in
@@ -158,7 +159,7 @@ admits_on n es e m next told h free few places machine events =
     rw (machine, events) (follows_on n es e m h adm (omega (arith, below, h.matches.procs, few, places)))
 
 pub reached_next : (e : Entry) (m next : MachineLists) → IsReached m →
-    refusal_of m.board m.gone e.pid ≡ None → m.board.procs ≤ 64 → length m.gone ≡ 64 →
+    refusal_of m.board m.gone e.pid ≡ None → m.board.procs ≤ MOST_PROCS → length m.gone ≡ MOST_PROCS →
     next ≡ (turn_on m e).machine → IsReached next
 reached_next e m next r free few places machine =
     (r.0, r.1 ++ e ∷ [], (admits_on r.0 r.1 e m next (turn_on m e).events r.2 free few places machine refl).follows)

@@ -5,6 +5,7 @@ use Rattle.std.proofs.lemmas.Grind.{common_steps}
 use Rattle.hub_base.specs.declared.entry.Step.{Step}
 use Rattle.hub_base.specs.declared.entry.Step.TheVariants.{Make, Call, Close, Exit}
 use Rattle.hub_base.specs.declared.entry.Entry.{Entry}
+use Rattle.hub_base.specs.declared.limits.TheConstants.{MOST_PROCS, MOST_STEPS}
 use Rattle.hub_base.specs.Steps.{refusal}
 use Rattle.hub_base.specs.Runs.{state, kept}
 use Rattle.hub_base.specs.Reading.{is_exit}
@@ -22,7 +23,7 @@ pub journal_short : (n : ℕ) (journal : List Entry) → kept n journal ≡ jour
 journal_short n journal legal = subst (λ (es : List Entry). length es ≤ steps_of es + n) legal (limits-law n journal).length
 
 -- a machine that follows a legal journal has made few steps
-pub steps_few : (n limit : ℕ) (journal : List Entry) (m : MachineLists) → Follows n journal m → kept n journal ≡ journal → steps_of journal ≤ limit → limit ≤ 1000000 → n ≤ 64 → m.steps < 2 ^ 32 - 1
+pub steps_few : (n limit : ℕ) (journal : List Entry) (m : MachineLists) → Follows n journal m → kept n journal ≡ journal → steps_of journal ≤ limit → limit ≤ MOST_STEPS → n ≤ MOST_PROCS → m.steps < 2 ^ 32 - 1
 steps_few n limit journal m h legal within limits few =
     omega (arith, h.steps, ap (λ (es : List Entry). length es) legal, journal_short n journal legal)
 

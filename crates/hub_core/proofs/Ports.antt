@@ -9,7 +9,7 @@ use Rattle.std.proofs.Math.Seq.{map-set_same}
 use Rattle.hub_base.specs.declared.value.Port.{Port}
 use Rattle.hub_base.specs.declared.value.Value.{Value}
 use Rattle.hub_base.specs.State.{State, Channel, channel_at, buffer_of}
-use Rattle.hub_base.specs.Steps.{sent, received, next_value}
+use Rattle.hub_base.specs.Steps.{after_send, after_receive, next_value}
 use Rattle.hub_parts.specs.Records.{PortLists}
 use Rattle.hub_parts.specs.Lists.{port_at, pushed, popped}
 use Rattle.hub_core.specs.declared.tally.Tally.{Tally}
@@ -17,7 +17,7 @@ use Rattle.hub_core.specs.Records.{MachineLists, tally_at, with_tally}
 use Rattle.hub_core.specs.Follows.{lists_of, tally_of, Matches}
 
 abbrev blank : Channel
-blank = record { cap = 0; closed = false; done = []; taken = 0 }
+blank = record { cap = 0; closed = false; sent = []; received = 0 }
 
 some_else : {A : Type 0} (t : Bool) (o : Option A) (x : A) → cond t None o ≡ Some x → o ≡ Some x
 some_else true o x e = cc
@@ -94,36 +94,36 @@ suc-add n = omega arith
 
 -- the oldest value in the buffer is the next to be received
 pub first-next_value : (c : Channel) → slice_get (lists_of c).buffer 0 ≡ next_value c
-first-next_value c = get-drop c.taken c.done
+first-next_value c = get-drop c.received c.sent
 
-pub pushed-lists_of : (v : Value) (c : Channel) → c.taken ≤ length c.done → pushed v (lists_of c) ≡ lists_of (sent v c)
-pushed-lists_of v c h = ap (with_buffer c) (sym (drop-append-le c.taken c.done (v ∷ []) h))
+pub pushed-lists_of : (v : Value) (c : Channel) → c.received ≤ length c.sent → pushed v (lists_of c) ≡ lists_of (after_send v c)
+pushed-lists_of v c h = ap (with_buffer c) (sym (drop-append-le c.received c.sent (v ∷ []) h))
 
-pub popped-lists_of : (c : Channel) → popped (lists_of c) ≡ lists_of (received c)
-popped-lists_of c = ap (with_buffer c) (drop-one c.taken c.done ∙ ap (λ n. drop n c.done) (sym (suc-add c.taken)))
+pub popped-lists_of : (c : Channel) → popped (lists_of c) ≡ lists_of (after_receive c)
+popped-lists_of c = ap (with_buffer c) (drop-one c.received c.sent ∙ ap (λ n. drop n c.sent) (sym (suc-add c.received)))
 
 -- nothing to receive: nothing leaves the buffer
-pub popped-drained : (c : Channel) → next_value c ≡ None → c.taken ≤ length c.done → popped (lists_of c) ≡ lists_of c
+pub popped-drained : (c : Channel) → next_value c ≡ None → c.received ≤ length c.sent → popped (lists_of c) ≡ lists_of c
 popped-drained c e fits =
-    let all : c.taken ≡ length c.done = omega (arith, get_nothing c.done c.taken e) in
-    let none : buffer_of c ≡ [] = ap (λ n. drop n c.done) all ∙ drop_all c.done in
+    let all : c.received ≡ length c.sent = omega (arith, get_nothing c.sent c.received e) in
+    let none : buffer_of c ≡ [] = ap (λ n. drop n c.sent) all ∙ drop_all c.sent in
     ap (with_buffer c) (ap (drop 1) none ∙ sym none)
 
 -- a value goes through an empty buffer
-pub through-lists_of : (v : Value) (c : Channel) → c.taken ≡ length c.done → lists_of (received (sent v c)) ≡ lists_of c
-through-lists_of v c h = ap (with_buffer c) (rw h (drop_seam c.done v ∙ sym (drop_all c.done)))
+pub through-lists_of : (v : Value) (c : Channel) → c.received ≡ length c.sent → lists_of (after_receive (after_send v c)) ≡ lists_of c
+through-lists_of v c h = ap (with_buffer c) (rw h (drop_seam c.sent v ∙ sym (drop_all c.sent)))
 
-pub next-through : (v : Value) (c : Channel) → c.taken ≡ length c.done → next_value (sent v c) ≡ Some v
-next-through v c h = rw h (get_seam c.done v)
+pub next-through : (v : Value) (c : Channel) → c.received ≡ length c.sent → next_value (after_send v c) ≡ Some v
+next-through v c h = rw h (get_seam c.sent v)
 
 -- the oldest value leaves, and a new one comes in behind the others
-pub shifted-lists_of : (u : Value) (c : Channel) (v : Value) → next_value c ≡ Some v → pushed u (popped (lists_of c)) ≡ lists_of (received (sent u c))
+pub shifted-lists_of : (u : Value) (c : Channel) (v : Value) → next_value c ≡ Some v → pushed u (popped (lists_of c)) ≡ lists_of (after_receive (after_send u c))
 shifted-lists_of u c v e =
-    let some : c.taken + 1 ≤ length c.done = omega (arith, get_some c.done c.taken v e) in
-    ap (pushed u) (popped-lists_of c) ∙ ap (with_buffer c) (sym (drop-append-le (c.taken + 1) c.done (u ∷ []) some))
+    let some : c.received + 1 ≤ length c.sent = omega (arith, get_some c.sent c.received v e) in
+    ap (pushed u) (popped-lists_of c) ∙ ap (with_buffer c) (sym (drop-append-le (c.received + 1) c.sent (u ∷ []) some))
 
-pub next-shifted : (u : Value) (c : Channel) (v : Value) → next_value c ≡ Some v → next_value (sent u c) ≡ Some v
-next-shifted u c v e = get_before c.done u v c.taken e
+pub next-shifted : (u : Value) (c : Channel) (v : Value) → next_value c ≡ Some v → next_value (after_send u c) ≡ Some v
+next-shifted u c v e = get_before c.sent u v c.received e
 
-pub next_none : (c : Channel) → next_value c ≡ None → c.taken ≤ length c.done → c.taken ≡ length c.done
-next_none c e fits = omega (arith, get_nothing c.done c.taken e)
+pub next_none : (c : Channel) → next_value c ≡ None → c.received ≤ length c.sent → c.received ≡ length c.sent
+next_none c e fits = omega (arith, get_nothing c.sent c.received e)

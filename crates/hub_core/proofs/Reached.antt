@@ -10,6 +10,7 @@ use Rattle.hub_base.specs.declared.entry.Step.{Step}
 use Rattle.hub_base.specs.declared.entry.Entry.{Entry}
 use Rattle.hub_base.specs.declared.event.Event.{Event}
 use Rattle.hub_base.specs.declared.fault.Fault.TheVariants as fault
+use Rattle.hub_base.specs.declared.limits.TheConstants.{MOST_CASES, MOST_EVENTS, MOST_PROCS}
 use Rattle.hub_base.specs.State.{State, Channel, channel_at}
 use Rattle.hub_base.specs.Ready.{port_of}
 use Rattle.hub_base.specs.Steps.{fault_of, effect}
@@ -82,7 +83,7 @@ calls_apart m r = subst Apart (sym r.2.matches.calls) (state-sound r.0 r.1).apar
 is_admitted : (m : MachineLists) (pid : Pid) (r : IsReached m) → refusal_of m.board m.gone pid ≡ None → Admitted (state r.0 r.1) pid
 is_admitted m pid r h = admitted (state r.0 r.1) pid (sym (refusal_of-as (state r.0 r.1) m pid r.2.matches) ∙ h)
 
-pub room_left : (m : MachineLists) (pid : Pid) → IsReached m → refusal_of m.board m.gone pid ≡ None → m.board.procs ≤ 64 → length m.board.waiting < 64
+pub room_left : (m : MachineLists) (pid : Pid) → IsReached m → refusal_of m.board m.gone pid ≡ None → m.board.procs ≤ MOST_PROCS → length m.board.waiting < MOST_PROCS
 room_left m pid r h few =
     let s = state r.0 r.1 in
     omega (arith, room-law s pid (state-sound r.0 r.1) (is_admitted m pid r h), count-calls s m r.2.matches, r.2.matches.procs)
@@ -90,10 +91,10 @@ room_left m pid r h few =
 -- what is known behind a step, before the stall rule
 pub record BeforeStall (m : MachineLists) (told : List Event) : Type 0 where
   pub apart : Apart (open_calls m.board.waiting)
-  pub room : length told + length m.board.waiting ≤ 65
+  pub room : length told + length m.board.waiting ≤ MOST_EVENTS
 
 before_stall : (m : MachineLists) (pid : Pid) (step : Step) → IsReached m → refusal_of m.board m.gone pid ≡ None →
-    fault_on m.board step ≡ None → m.board.procs ≤ 64 → length m.gone ≡ 64 → BeforeStall (effect_on m pid step).machine (effect_on m pid step).events
+    fault_on m.board step ≡ None → m.board.procs ≤ MOST_PROCS → length m.gone ≡ MOST_PROCS → BeforeStall (effect_on m pid step).machine (effect_on m pid step).events
 before_stall m pid step r h fine few places =
     let s = state r.0 r.1 in
     let sound = state-sound r.0 r.1 in
@@ -107,7 +108,7 @@ before_stall m pid step r h fine few places =
 
 -- the same, of the machine and the events that a step left
 pub before_stall_of : (m next : MachineLists) (pid : Pid) (step : Step) (told : List Event) → IsReached m → refusal_of m.board m.gone pid ≡ None →
-    fault_on m.board step ≡ None → m.board.procs ≤ 64 → length m.gone ≡ 64 →
+    fault_on m.board step ≡ None → m.board.procs ≤ MOST_PROCS → length m.gone ≡ MOST_PROCS →
     next ≡ (effect_on m pid step).machine → told ≡ (effect_on m pid step).events → BeforeStall next told
 before_stall_of m next pid step told r h fine few places machine events =
     rw (machine, events) (before_stall m pid step r h fine few places)
@@ -121,4 +122,4 @@ named_by ports (c ∷ cases) h =
 
 pub call_named : (b : Lists) (cases : List Case) → call_fault_on b cases ≡ None → AllMade (length b.ports) cases
 call_named b cases h =
-    named_by (length b.ports) cases (none_false (list_any (λ c. is_unmade_on b (port_of c)) cases) fault.NoPort None (none_false (nat_lt 8 (length cases)) fault.TooManyCases _ h).1).0
+    named_by (length b.ports) cases (none_false (list_any (λ c. is_unmade_on b (port_of c)) cases) fault.NoPort None (none_false (nat_lt MOST_CASES (length cases)) fault.TooManyCases _ h).1).0

@@ -45,8 +45,8 @@ is_made s m p h named made =
     (n.0, omega (arith, n.1, count-ports s m h))
 
 -- ---- one case
-pub length-buffer_of : (c : Channel) → length (buffer_of c) ≡ length c.done - c.taken
-length-buffer_of c = length-drop c.taken c.done
+pub length-buffer_of : (c : Channel) → length (buffer_of c) ≡ length c.sent - c.received
+length-buffer_of c = length-drop c.received c.sent
 
 some_left : (a b : ℕ) → nat_lt 0 (a - b) ≡ nat_lt b a
 some_left a b = grind (arith, common_steps)
@@ -57,7 +57,7 @@ send_as s m p c h e = rw (port-lists_of s m p c h e, h.calls, length-buffer_of c
 
 recv_as : (s : State) (m : MachineLists) (p : Port) (c : Channel) → Matches s m → channel_at s p ≡ Some c →
     (is_some (first_with (is_send_on p) (open_calls m.board.waiting)) || nat_lt 0 (length (port_at m.board p).buffer) || (port_at m.board p).closed) ≡ recv_can s p c
-recv_as s m p c h e = rw (port-lists_of s m p c h e, h.calls, length-buffer_of c, some_left (length c.done) c.taken) refl
+recv_as s m p c h e = rw (port-lists_of s m p c h e, h.calls, length-buffer_of c, some_left (length c.sent) c.received) refl
 
 can_by : (s : State) (m : MachineLists) (p : Port) (nil : Bool) (mine : Bool) (test : Channel → Bool) → (p.0 == 0) ≡ nil → is_unmade s p ≡ false → ((c : Channel) → channel_at s p ≡ Some c → mine ≡ test c) →
     (not nil && mine) ≡ option_map_or test (channel_at s p) false

@@ -23,7 +23,7 @@ lists_of c = record { cap = c.cap; closed = c.closed; buffer = buffer_of c }
 
 -- how many values the channel has carried
 abbrev pub tally_of : Channel → Tally
-tally_of c = record { sent = length c.done; received = c.taken }
+tally_of c = record { sent = length c.sent; received = c.received }
 
 -- the machine's lists stand for the state: its open calls in order, its buffers, its counts, and who has exited
 pub record Matches (s : State) (m : MachineLists) : Type 0 where

@@ -7,6 +7,7 @@ use Rattle.hub_base.specs.declared.entry.Entry.{Entry}
 use Rattle.hub_base.specs.declared.event.Event.{Event}
 use Rattle.hub_base.specs.declared.fault.Fault.{Fault}
 use Rattle.hub_base.specs.declared.fault.Fault.TheVariants as fault
+use Rattle.hub_base.specs.declared.limits.TheConstants.{MOST_PROCS, MOST_STEPS}
 use Rattle.hub_base.specs.State.{State}
 use Rattle.hub_base.specs.Steps.{refusal}
 use Rattle.hub_base.specs.Runs.{state, moves}
@@ -99,14 +100,14 @@ opened_hub n limit = record { procs = n; limit = limit; journal = []; places = 0
 
 -- a number of processes
 abbrev pub IsProcs : ℕ → Type 0
-IsProcs n = (1 ≤ n) × (n ≤ 64)
+IsProcs n = (1 ≤ n) × (n ≤ MOST_PROCS)
 
 -- a limit of a journal
 abbrev pub IsLimit : ℕ → Type 0
-IsLimit limit = (1 ≤ limit) × (limit ≤ 1000000)
+IsLimit limit = (1 ≤ limit) × (limit ≤ MOST_STEPS)
 
 -- when each refusal of an opening comes. The tests stand in the order of these lines
 abbrev pub RefusesOpening : ℕ → ℕ → OpenFault → Type 0
-RefusesOpening n limit opening_fault.BadProcs = (n ≡ 0) ⊎ (64 < n)
-RefusesOpening n limit opening_fault.BadLimit = IsProcs n × ((limit ≡ 0) ⊎ (1000000 < limit))
+RefusesOpening n limit opening_fault.BadProcs = (n ≡ 0) ⊎ (MOST_PROCS < n)
+RefusesOpening n limit opening_fault.BadLimit = IsProcs n × ((limit ≡ 0) ⊎ (MOST_STEPS < limit))
 RefusesOpening n limit opening_fault.NoMemory = IsProcs n × IsLimit limit

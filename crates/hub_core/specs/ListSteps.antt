@@ -1,6 +1,6 @@
 -- What one step does to a machine's lists, and what it tells: the rules of a step over buffers and
 -- counts, where the meaning has whole histories. Most names are those of the meaning, with `_on`.
-use Rattle.std.specs.Prelude.{ℕ, ◌+◌, ◌%◌, ◌==◌, nat_lt, Bool, true, false, not, ◌&&◌, ◌||◌, List, [], ◌∷◌, ◌++◌, length, filter, map, Option, None, Some, slice_get, slice_index_or, slice_set, if◌then◌else◌}
+use Rattle.std.specs.Prelude.{ℕ, ◌+◌, ◌%◌, ◌==◌, nat_le, nat_lt, Bool, true, false, not, ◌&&◌, ◌||◌, List, [], ◌∷◌, ◌++◌, length, filter, map, Option, None, Some, slice_get, slice_index_or, slice_set, if◌then◌else◌}
 use Rattle.std.specs.List.{list_any, list_all, filter_map, range_with_len}
 use Rattle.hub_base.specs.declared.value.Pid.{Pid}
 use Rattle.hub_base.specs.declared.value.Port.{Port}
@@ -13,6 +13,7 @@ use Rattle.hub_base.specs.declared.fault.Fault.TheVariants as fault
 use Rattle.hub_base.specs.declared.event.What.{What}
 use Rattle.hub_base.specs.declared.event.What.TheVariants as what
 use Rattle.hub_base.specs.declared.event.Event.{Event}
+use Rattle.hub_base.specs.declared.limits.TheConstants.{MOST_CAP, MOST_CASES, MOST_PORTS}
 use Rattle.hub_base.specs.Ready.{is_on, port_of}
 use Rattle.hub_base.specs.Steps.{tells, closing_event}
 use Rattle.hub_parts.specs.Records.{Lists, Ticketed}
@@ -186,15 +187,15 @@ is_unmade_on b p = nat_lt (length b.ports) p.0
 -- why a call has no effect
 abbrev pub call_fault_on : Lists → List Case → Option Fault
 call_fault_on b cases =
-    if nat_lt 8 (length cases) then Some fault.TooManyCases
+    if nat_lt MOST_CASES (length cases) then Some fault.TooManyCases
     else if list_any (λ c. is_unmade_on b (port_of c)) cases then Some fault.NoPort
     else None
 
 -- why a step has no effect
 abbrev pub fault_on : Lists → Step → Option Fault
 fault_on b (Make cap) =
-    if nat_lt 1024 cap then Some fault.BadCap
-    else if nat_lt 63 (length b.ports) then Some fault.TooManyPorts
+    if nat_lt MOST_CAP cap then Some fault.BadCap
+    else if nat_le MOST_PORTS (length b.ports) then Some fault.TooManyPorts
     else None
 fault_on b (Call cases default word) = call_fault_on b cases.items
 fault_on b (Close p) =

@@ -15,9 +15,9 @@ use Rattle.hub_core.specs.Records.{tally_at}
 abbrev pub counts_of : Channel → Counts
 counts_of c =
     record {
-      len = length c.done - c.taken;
-      sent = length c.done;
-      received = c.taken;
+      len = length c.sent - c.received;
+      sent = length c.sent;
+      received = c.received;
       closed = c.closed;
     }
 

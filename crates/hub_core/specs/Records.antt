@@ -2,13 +2,14 @@
 -- many entries were admitted. Names no struct but `Tally`.
 use Rattle.std.specs.Prelude.{ℕ, ◌+◌, ◌-◌, Bool, false, List, [], replicate, slice_index_or, slice_set}
 use Rattle.hub_base.specs.declared.value.Port.{Port}
+use Rattle.hub_base.specs.declared.limits.TheConstants.{MOST_PROCS}
 use Rattle.hub_core.specs.declared.tally.Tally.{Tally}
 use Rattle.hub_parts.specs.Records.{Lists}
 use Rattle.hub_parts.specs.Lists.{opened}
 
 pub record MachineLists : Type 0 where
   pub board : Lists
-  -- for each number below 64 whether that process has exited
+  -- for each number that a process may have whether that process has exited
   pub gone : List Bool
   -- for each port made, how many values were sent and received
   pub counts : List Tally
@@ -17,7 +18,7 @@ pub record MachineLists : Type 0 where
 
 -- n processes, and nothing made, gone or open
 abbrev pub opened_machine : ℕ → MachineLists
-opened_machine n = record { board = opened n; gone = replicate 64 false; counts = []; steps = 0 }
+opened_machine n = record { board = opened n; gone = replicate MOST_PROCS false; counts = []; steps = 0 }
 
 -- nothing was sent
 abbrev pub no_tally : Tally

@@ -1,7 +1,8 @@
 -- What a machine's state keeps, also in the midst of a step.
 use Rattle.std.specs.Prelude.{◌≤◌, ◌≡◌}
+use Rattle.hub_base.specs.declared.limits.TheConstants.{MOST_PROCS}
 use Rattle.hub_core.specs.declared.machine_state.MachineState.TheInside.{Inside}
 
 pub record StateKeeps (s : Inside) : Type 0 where
   pub procs : s.board.procs ≡ s.procs
-  pub few : s.procs ≤ 64
+  pub few : s.procs ≤ MOST_PROCS

@@ -7,7 +7,7 @@ ghost use Rattle.hub_laws.specs.Sound.{Apart};
 ghost use Rattle.hub_parts.specs.Lists.{IsMade, open_calls};
 ghost use Rattle.hub_core.specs.ListSteps.{cleared, closed_on, closing_events};
 
-use hub_base::{Case, Event, Events, Outcome, Port, What};
+use hub_base::{Case, Event, Events, MOST_EVENTS, Outcome, Port, What};
 use hub_parts::{Board, Ended, Side};
 
 /// What a waiting call is told whose port is closed.
@@ -31,7 +31,7 @@ fn closing_event(ended: &Ended) -> Event
 fn end_calls(board: &mut Board, events: &mut Events, port: Port)
     requires made { IsMade board.old port }
     requires apart { Apart (open_calls board.old.waiting) }
-    requires room { array_vec_len events.old + length board.old.waiting ≤ 65 }
+    requires room { array_vec_len events.old + length board.old.waiting ≤ MOST_EVENTS }
     ensures board { board.new ≡ cleared port board.old }
     ensures events { events.new.items ≡ events.old.items ++ closing_events port board.old.waiting }
 {
@@ -44,7 +44,7 @@ fn end_calls(board: &mut Board, events: &mut Events, port: Port)
 pub(crate) fn close(board: &mut Board, events: &mut Events, port: Port)
     requires made { IsMade board.old port }
     requires apart { Apart (open_calls board.old.waiting) }
-    requires room { array_vec_len events.old + length board.old.waiting ≤ 65 }
+    requires room { array_vec_len events.old + length board.old.waiting ≤ MOST_EVENTS }
     ensures board { board.new ≡ closed_on board.old port }
     ensures events { events.new.items ≡ events.old.items ++ closing_events port board.old.waiting }
 {

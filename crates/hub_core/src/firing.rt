@@ -44,6 +44,7 @@ fn send(
         return;
     }
     events.push(fired(pid, index, Outcome::Sent));
+    // A receiver waits only where nothing is buffered, so no older value is passed over.
     match board.take(port, Side::Recv) {
         Some(receiver) => {
             tallies.count_handed(port);
@@ -107,6 +108,7 @@ fn receive(
     };
     tallies.count_handed(port);
     let ended = fired(sender.pid, sender.index, Outcome::Sent);
+    // A sender waits only where the buffer is full, or where there is none: its value takes the place of the oldest.
     match board.pop(port) {
         Some(oldest) => {
             board.push(port, sent);

@@ -14,13 +14,14 @@ ghost use Rattle.hub_core.specs.HubView.{HubInMemory, Steps, Refuses, Grows, Has
 ghost use Rattle.hub_core.specs.HubKeeps.{is_full, count_after};
 
 use crate::{Machine, OpenFault};
-use hub_base::{Entry, Events, Fault, Journal, Look, Port, Step, Value};
+use hub_base::{Entry, Events, Fault, Journal, Look, MOST_PROCS, MOST_STEPS, Port, Step, Value};
 use std::alloc::{AllocError, Global};
 use std::marker::Model;
 
 /// A hub of channels: makes the steps of its processes, tells what follows, and keeps a journal.
 #[derive(Drop)]
 pub struct Hub {
+    /// The number of processes.
     procs: u8,
     /// How many entries that are no exits the journal may hold.
     limit: u32,
@@ -28,7 +29,9 @@ pub struct Hub {
     places: u32,
     /// How many entries of the journal are no exits.
     count: u32,
+    /// What the journal has led to.
     machine: Machine,
+    /// The journal: the admitted entries, in order.
     entries: Vec<Entry>,
 }
 
@@ -135,21 +138,21 @@ fn make_room(
 }
 
 impl Hub {
-    /// A hub of 1 to 64 processes whose journal may hold `limit` entries that are no exits, 1 to
-    /// 1,000,000.
+    /// A hub of 1 to `MOST_PROCS` processes whose journal may hold `limit` entries that are no exits, 1
+    /// to `MOST_STEPS`.
     pub fn open(alloc: Global, procs: u8, limit: u32) -> Result<Hub, OpenFault>
         ensures ok { IfOk result (λ h. h.hub ≡ opened_hub procs limit) }
         ensures exact { IfOk result (λ h. h.capacity ≡ procs) }
         ensures bounds { OnOk result (IsProcs procs × IsLimit limit) }
         ensures err { IfErr result (λ f. RefusesOpening procs limit f) }
     {
-        if procs == 0 || procs > 64 {
+        if procs == 0 || procs as usize > MOST_PROCS {
             return Err(OpenFault::BadProcs);
         }
-        if limit == 0 || limit > 1_000_000 {
+        if limit == 0 || limit > MOST_STEPS {
             return Err(OpenFault::BadLimit);
         }
-        let machine = Machine::open(alloc, procs)?;
+        let machine = Machine::new(alloc, procs)?;
         let entries = Vec::with_capacity(alloc, procs.into())?;
         Ok(Hub {
             procs,

@@ -1,7 +1,6 @@
 //! The step function of a hub: a machine, the hub with its journal, and runs of steps.
 #![tactic(auto)]
 
-mod calling;
 mod closing;
 mod firing;
 mod hub;
@@ -12,6 +11,7 @@ mod opening;
 mod ready_cases;
 mod refusals;
 mod runs;
+mod select;
 mod stalling;
 mod tally;
 mod touching;

@@ -12,13 +12,14 @@ ghost use Rattle.hub_core.specs.Looks.{look_at, value_at};
 ghost use Rattle.hub_core.specs.Follows.{Follows, Admits, Answers, IsMake, IsFine, RefusesFor};
 
 use crate::machine_state::MachineState;
-use hub_base::{Entry, Event, Events, Fault, Look, Pid, Port, Value, What};
+use hub_base::{Entry, Event, Events, Fault, Look, MOST_PROCS, Pid, Port, Value, What};
 use std::alloc::{AllocError, Global};
 use std::marker::Model;
 
 /// The step function of a hub: makes steps and tells what follows, without a journal.
 #[derive(Drop)]
 pub struct Machine {
+    /// What the entries so far have led to.
     state: MachineState,
 }
 
@@ -34,14 +35,14 @@ impl Model for Machine {
 }
 
 impl Machine {
-    /// A machine of 1 to 64 processes, at which nothing has happened. It takes all the memory that
+    /// A machine of 1 to `MOST_PROCS` processes, at which nothing has happened. It takes all the memory that
     /// the open calls will ever need.
-    pub fn open(alloc: Global, procs: u8) -> Result<Machine, AllocError>
-        requires { (1 ≤ procs) × (procs ≤ 64) }
+    pub fn new(alloc: Global, procs: u8) -> Result<Machine, AllocError>
+        requires { (1 ≤ procs) × (procs ≤ MOST_PROCS) }
         ensures { IfOk result (λ m. Follows procs [] m) }
     {
         Ok(Machine {
-            state: MachineState::open(alloc, procs)?,
+            state: MachineState::new(alloc, procs)?,
         })
     }
 

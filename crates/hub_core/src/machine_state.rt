@@ -9,16 +9,16 @@ ghost use Rattle.hub_core.specs.Looks.{look_on, value_on};
 ghost use Rattle.hub_core.specs.Records.{opened_machine};
 ghost use Rattle.hub_core.specs.Follows.{IsMake, IsReached};
 
-use crate::calling::{case_at, choose, wait};
 use crate::closing::close;
 use crate::firing::fire;
 use crate::looking::{buffered, look};
 use crate::ready_cases::find_ready;
 use crate::refusals::{fault_of, refusal};
+use crate::select::{case_at, nth_ready, wait};
 use crate::stalling::{all_wait, stop_all};
 use crate::tally::Tallies;
 use arrayvec::ArrayVec;
-use hub_base::{Cases, Entry, Event, Events, Fault, Look, Pid, Port, Step, Value, What};
+use hub_base::{Cases, Entry, Event, Events, Fault, Look, MOST_CASES, MOST_PROCS, Pid, Port, Step, Value, What};
 use hub_parts::Board;
 use std::alloc::{AllocError, Global};
 use std::marker::Model;
@@ -26,10 +26,15 @@ use std::marker::Model;
 /// The board, who has exited, what each port has carried, and how many steps were made.
 #[derive(Drop)]
 pub(crate) struct MachineState {
+    /// The number of processes.
     procs: u8,
+    /// The buffers, and the calls that wait.
     board: Board,
-    gone: [bool; 64],
+    /// Whether each process has exited, by its number.
+    gone: [bool; MOST_PROCS],
+    /// How many values were sent and received on each port.
     tallies: Tallies,
+    /// How many entries came, from which each call has its ticket.
     steps: u32,
 }
 
@@ -47,10 +52,10 @@ impl Model for MachineState {
 }
 
 /// No process has exited.
-fn none_gone() -> [bool; 64]
-    ensures { result ≡ replicate 64 false }
+fn none_gone() -> [bool; MOST_PROCS]
+    ensures { result ≡ replicate MOST_PROCS false }
 {
-    [false; 64]
+    [false; MOST_PROCS]
 }
 
 pub(crate) fn tells(pid: Pid, what: What) -> Event
@@ -61,8 +66,8 @@ pub(crate) fn tells(pid: Pid, what: What) -> Event
 
 impl MachineState {
     /// Nothing has happened. This takes all the memory that the open calls will ever need.
-    pub(crate) fn open(alloc: Global, procs: u8) -> Result<MachineState, AllocError>
-        requires { procs ≤ 64 }
+    pub(crate) fn new(alloc: Global, procs: u8) -> Result<MachineState, AllocError>
+        requires { procs ≤ MOST_PROCS }
         ensures { IfOk result (λ s. s ≡ opened_machine procs) }
     {
         Ok(MachineState {
@@ -85,7 +90,7 @@ impl MachineState {
     fn call(&mut self, pid: Pid, cases: &Cases, default: bool, word: u64, events: &mut Events)
         requires below { pid.0 < self.old.board.procs }
         requires free { open_on self.old.board.waiting pid.0 ≡ false }
-        requires few { length cases.now.items ≤ 8 }
+        requires few { length cases.now.items ≤ MOST_CASES }
         requires named { AllMade (length self.old.board.ports) cases.now.items }
         requires keep { PortsKeep self.old.board self.old.counts }
         requires later { self.old.board.next_ticket ≤ self.old.steps }
@@ -97,7 +102,7 @@ impl MachineState {
     {
         let mut ready = ArrayVec::new();
         find_ready(&self.board, cases.as_slice(), &mut ready);
-        match choose(ready.as_slice(), word) {
+        match nth_ready(ready.as_slice(), word) {
             None => wait(&mut self.board, events, self.steps, pid, cases, default),
             Some(index) => match case_at(cases, index) {
                 Some(case) => { fire(&mut self.board, &mut self.tallies, events, pid, index, case) }
@@ -154,8 +159,8 @@ impl MachineState {
         ensures fine { OnErr result (fault_on self.old.board entry.now.step ≡ None) }
         ensures unchanged { OnErr result (self.new ≡ self.old) }
         ensures empty { OnErr result (events.new.items ≡ []) }
-        ensures places { length self.old.gone ≡ 64 }
-        ensures few { self.old.board.procs ≤ 64 }
+        ensures places { length self.old.gone ≡ MOST_PROCS }
+        ensures few { self.old.board.procs ≤ MOST_PROCS }
     {
         if let Some(fault) = fault_of(&self.board, &entry.step) {
             events.push(tells(entry.pid, What::Fault(fault)));

@@ -9,10 +9,10 @@ use thiserror::Error;
 /// Why a hub was not opened; tested in this order. Nothing is kept.
 #[derive(Clone, Copy, Debug, PartialEq, Eq, Error)]
 pub enum OpenFault {
-    /// The number of processes is not 1 to 64.
+    /// The number of processes is not 1 to `MOST_PROCS`.
     #[error("the number of processes is not 1 to 64")]
     BadProcs,
-    /// The limit is not 1 to 1,000,000.
+    /// The limit is not 1 to `MOST_STEPS`.
     #[error("the limit is not 1 to 1000000")]
     BadLimit,
     /// A growth was refused.

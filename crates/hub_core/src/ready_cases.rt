@@ -7,7 +7,7 @@ ghost use Rattle.hub_core.specs.ListReady.{can_on, ready_on};
 ghost use Rattle.hub_core.specs.ListKeeps.{IsNamed};
 
 use arrayvec::ArrayVec;
-use hub_base::Case;
+use hub_base::{CASE_PLACES, Case};
 use hub_parts::{Board, Side};
 
 /// Whether a case can proceed.
@@ -31,8 +31,8 @@ fn can_proceed(board: &Board, case: Case) -> bool
 
 /// Adds the numbers of the cases that can proceed, in order. The list that it adds to is not moved, since it
 /// is read at once.
-pub(crate) fn find_ready(board: &Board, cases: &[Case], ready: &mut ArrayVec<u8, 16>)
-    requires few { length cases.now ≤ 16 }
+pub(crate) fn find_ready(board: &Board, cases: &[Case], ready: &mut ArrayVec<u8, CASE_PLACES>)
+    requires few { length cases.now ≤ CASE_PLACES }
     requires named { AllMade (length board.now.ports) cases.now }
     requires empty { ready.old.items ≡ [] }
     ensures { ready.new.items ≡ ready_on board.now 0 cases.now }

@@ -6,13 +6,13 @@ ghost use Rattle.hub_base.specs.Ready.{port_of};
 ghost use Rattle.hub_core.specs.ListSteps.{refusal_of, fault_on, call_fault_on, is_unmade_on};
 
 use crate::stalling::has_gone;
-use hub_base::{Case, Fault, Pid, Port, Step};
+use hub_base::{Case, Fault, MOST_CAP, MOST_CASES, MOST_PORTS, MOST_PROCS, Pid, Port, Step};
 use hub_parts::Board;
 
 /// Why a step of this process is not admitted.
-pub(crate) fn refusal(board: &Board, gone: &[bool; 64], procs: u8, pid: Pid) -> Option<Fault>
+pub(crate) fn refusal(board: &Board, gone: &[bool; MOST_PROCS], procs: u8, pid: Pid) -> Option<Fault>
     requires procs { board.now.procs ≡ procs }
-    requires few { procs ≤ 64 }
+    requires few { procs ≤ MOST_PROCS }
     ensures { result ≡ refusal_of board.now gone.now pid }
 {
     if pid.0 >= procs {
@@ -42,7 +42,7 @@ fn names_unmade(board: &Board, cases: &[Case]) -> bool
 fn call_fault(board: &Board, cases: &[Case]) -> Option<Fault>
     ensures { result ≡ call_fault_on board.now cases.now }
 {
-    if cases.len() > 8 {
+    if cases.len() > MOST_CASES {
         Some(Fault::TooManyCases)
     } else if names_unmade(board, cases) {
         Some(Fault::NoPort)
@@ -57,9 +57,9 @@ pub(crate) fn fault_of(board: &Board, step: &Step) -> Option<Fault>
 {
     match step {
         Step::Make(cap) => {
-            if *cap > 1024 {
+            if *cap > MOST_CAP {
                 Some(Fault::BadCap)
-            } else if board.ports() > 63 {
+            } else if board.ports() >= MOST_PORTS {
                 Some(Fault::TooManyPorts)
             } else {
                 None

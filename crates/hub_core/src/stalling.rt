@@ -7,29 +7,29 @@ ghost use Rattle.hub_laws.specs.Sound.{Apart};
 ghost use Rattle.hub_parts.specs.Lists.{open_calls};
 ghost use Rattle.hub_core.specs.ListSteps.{gone_on, each_gone_or_open_on, all_wait_on, none_open, stalled_events};
 
-use hub_base::{Event, Events, Pid, What};
+use hub_base::{Event, Events, MOST_EVENTS, MOST_PROCS, Pid, What};
 use hub_parts::Board;
 
 /// Whether the process has exited.
-pub(crate) fn has_gone(gone: &[bool; 64], pid: u8) -> bool
-    requires { pid < 64 }
+pub(crate) fn has_gone(gone: &[bool; MOST_PROCS], pid: u8) -> bool
+    requires { pid < MOST_PROCS }
     ensures { result ≡ gone_on gone.now pid }
 {
     gone[pid as usize]
 }
 
 /// Whether every process has exited or has an open call.
-fn each_gone_or_open(board: &Board, gone: &[bool; 64], procs: u8) -> bool
-    requires { procs ≤ 64 }
+fn each_gone_or_open(board: &Board, gone: &[bool; MOST_PROCS], procs: u8) -> bool
+    requires { procs ≤ MOST_PROCS }
     ensures { result ≡ each_gone_or_open_on board.now gone.now procs }
 {
     (0..procs).all(|pid| has_gone(gone, pid) || board.open(Pid(pid)))
 }
 
 /// Whether some call is open, and every process that has not exited has one.
-pub(crate) fn all_wait(board: &Board, gone: &[bool; 64], procs: u8) -> bool
+pub(crate) fn all_wait(board: &Board, gone: &[bool; MOST_PROCS], procs: u8) -> bool
     requires procs { board.now.procs ≡ procs }
-    requires few { procs ≤ 64 }
+    requires few { procs ≤ MOST_PROCS }
     ensures { result ≡ all_wait_on board.now gone.now }
 {
     board.open_count() != 0 && each_gone_or_open(board, gone, procs)
@@ -38,7 +38,7 @@ pub(crate) fn all_wait(board: &Board, gone: &[bool; 64], procs: u8) -> bool
 /// Ends every open call, oldest first.
 pub(crate) fn stop_all(board: &mut Board, events: &mut Events)
     requires apart { Apart (open_calls board.old.waiting) }
-    requires room { array_vec_len events.old + length board.old.waiting ≤ 65 }
+    requires room { array_vec_len events.old + length board.old.waiting ≤ MOST_EVENTS }
     ensures board { board.new ≡ none_open board.old }
     ensures events { events.new.items ≡ events.old.items ++ stalled_events board.old.waiting }
 {

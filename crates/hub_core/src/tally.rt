@@ -4,7 +4,7 @@ ghost use Rattle.std.specs.Prelude.{◌≡◌, ◌≤◌, ◌<◌, ◌-◌, ◌^
 ghost use Rattle.hub_core.specs.Records.{tally_at, no_tally, one_sent, one_received, one_handed};
 
 use arrayvec::ArrayVec;
-use hub_base::Port;
+use hub_base::{MOST_PORTS, Port};
 use std::marker::Model;
 
 /// What a port has carried.
@@ -16,10 +16,11 @@ pub struct Tally {
     pub received: u32,
 }
 
-/// The tallies of the ports that are made, in order; there is a place for each of the 64 ports.
+/// The tallies of the ports that are made, in order; there is a place for each that there may be.
 #[derive(Drop)]
 pub(crate) struct Tallies {
-    list: ArrayVec<Tally, 64>,
+    /// By port number less one.
+    list: ArrayVec<Tally, MOST_PORTS>,
 }
 
 impl Model for Tallies {
@@ -43,7 +44,7 @@ impl Tallies {
 
     /// A port more, which has carried nothing.
     pub(crate) fn add(&mut self)
-        requires { length self.old < 64 }
+        requires { length self.old < MOST_PORTS }
         ensures { self.new ≡ self.old ++ no_tally ∷ [] }
     {
         self.list.push(Tally {

@@ -15,8 +15,11 @@ use std::thread::{Promise, PromisedHandle, Threads};
 /// What a thread owes: the seat of its process, and where it began, what its task promises of it.
 #[derive(Clone, Copy)]
 struct Owed<K, R, T> {
+    /// The number of the process.
     pid: Pid,
+    /// What its thread is to do.
     task: T,
+    /// Which hub, and which run time.
     of: PhantomData<(K, R)>,
 }
 

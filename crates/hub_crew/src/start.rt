@@ -5,7 +5,9 @@ use std::sync::{Condvar, Mutex, Wait};
 /// Whether the threads may begin, once this is known.
 #[derive(Drop)]
 pub(crate) struct Start {
+    /// Whether all threads are to begin, once that is known; `Some(false)` where one could not be started.
     told: Mutex<Option<bool>>,
+    /// Wakes those that wait for it.
     changed: Condvar,
 }
 

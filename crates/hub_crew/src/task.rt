@@ -28,6 +28,8 @@ pub trait Task<K: HubName, R>: Copy + Send {
 /// A seat whose thread has ended, and what the thread told.
 #[derive(Drop)]
 pub struct Member<K: HubName, P> {
+    /// Its seat, given back.
     pub seat: Held<K>,
+    /// What its task answered.
     pub report: P,
 }

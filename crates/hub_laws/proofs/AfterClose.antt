@@ -14,7 +14,7 @@ use Rattle.hub_base.specs.declared.event.Outcome.{Outcome}
 use Rattle.hub_base.specs.declared.event.Outcome.TheVariants.{Sent}
 use Rattle.hub_base.specs.State.{State, Channel, channel_at, opening, buffer_of}
 use Rattle.hub_base.specs.Ready.{port_of}
-use Rattle.hub_base.specs.Steps.{received, shut, Change, stalls, closes, close_fault, is_unmade, fault_of, answers, refusal}
+use Rattle.hub_base.specs.Steps.{after_receive, shut, Change, stalls, closes, close_fault, is_unmade, fault_of, answers, refusal}
 use Rattle.hub_base.specs.Runs.{admits, moves, state_after, state}
 use Rattle.hub_base.specs.Values.{Turned, turns_after, values_from}
 use Rattle.hub_laws.specs.Sound.{IsSound}
@@ -68,18 +68,18 @@ stays_moved p c d ts deeds new over (buffers v live is e) = cc
 stays_moved p c d ts deeds new over (hands v w live next is e) = cc
 stays_moved p c d ts deeds new over (fetches v w live next is e) = cc
 stays_moved p c d ts deeds new over (gives w next is e) = record {
-  after = received c;
+  after = after_receive c;
   stands = new ∙ ap (λ x. Some x) is;
   closed = over;
   none = rw e refl;
-  drains = λ os h. rw (e, same_number p.0, drop_next c.done c.taken w next) (refl, (let k : Drains (drop (suc c.taken) c.done) os = rw add-one at h in k));
+  drains = λ os h. rw (e, same_number p.0, drop_next c.sent c.received w next) (refl, (let k : Drains (drop (suc c.received) c.sent) os = rw add-one at h in k));
 }
 stays_moved p c d ts deeds new over (drains next is e) = record {
   after = c;
   stands = new ∙ ap (λ x. Some x) is;
   closed = over;
   none = rw e refl;
-  drains = λ os h. let k : buffer_of c ≡ [] = drop_end c.done c.taken next in rw (e, same_number p.0, k) (refl, rw k at h);
+  drains = λ os h. let k : buffer_of c ≡ [] = drop_end c.sent c.received next in rw (e, same_number p.0, k) (refl, rw k at h);
 }
 stays_moved p c d ts deeds new over (refuses v closed is e) = stays_same p c ts deeds (new ∙ ap (λ x. Some x) is) over (rw e refl) (rw e refl)
 stays_moved p c d ts deeds new over (shuts live is all) = cc

@@ -8,16 +8,16 @@ use Rattle.hub_base.specs.declared.event.Outcome.TheVariants.{Closed}
 use Rattle.hub_base.specs.declared.event.What.TheVariants as what
 use Rattle.hub_base.specs.State.{State, Channel, OpenCall}
 use Rattle.hub_base.specs.Ready.{is_recv_on, first_with}
-use Rattle.hub_base.specs.Steps.{Change, Firing, tells, sent, send_meets, send_fires, all_wait, stalls}
+use Rattle.hub_base.specs.Steps.{Change, Firing, tells, after_send, send_meets, send_fires, all_wait, stalls}
 
 -- a send on a closed port
 abbrev pub refused_send : State → Firing
 refused_send s = record { outcome = Closed; state = s; ended = [] }
 
-pub by-closed : (P : Firing → Type 0) (s : State) (p : Port) (v : Value) (c : Channel) → (c.closed ≡ true → P (refused_send s)) → (c.closed ≡ false → P (send_meets s p (sent v c) (first_with (is_recv_on p) s.parked))) → P (send_fires s p v c)
+pub by-closed : (P : Firing → Type 0) (s : State) (p : Port) (v : Value) (c : Channel) → (c.closed ≡ true → P (refused_send s)) → (c.closed ≡ false → P (send_meets s p (after_send v c) (first_with (is_recv_on p) s.parked))) → P (send_fires s p v c)
 by-closed P s p v c over live = by c.closed refl
   where
-    by : (b : Bool) → b ≡ c.closed → P (cond b (refused_send s) (send_meets s p (sent v c) (first_with (is_recv_on p) s.parked)))
+    by : (b : Bool) → b ≡ c.closed → P (cond b (refused_send s) (send_meets s p (after_send v c) (first_with (is_recv_on p) s.parked)))
     by true is = over (sym is)
     by false is = live (sym is)
 

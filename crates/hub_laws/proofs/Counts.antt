@@ -28,11 +28,11 @@ use Rattle.hub_laws.proofs.Turns.{in_force, moves-turn}
 
 -- how many values were sent on a port
 abbrev pub sends_of : Option Channel → ℕ
-sends_of o = option_map_or (λ c. length c.done) o 0
+sends_of o = option_map_or (λ c. length c.sent) o 0
 
 -- One step sends at most one
 
-moved_sends : (q : Port) (c d : Channel) (deeds : List Deed) → Moved q c d deeds → length d.done ≤ length c.done + 1
+moved_sends : (q : Port) (c d : Channel) (deeds : List Deed) → Moved q c d deeds → length d.sent ≤ length c.sent + 1
 moved_sends q c d deeds (buffers v live is e) = rw is (omega (arith, longer v c))
 moved_sends q c d deeds (hands v w live next is e) = rw is (omega (arith, longer v c))
 moved_sends q c d deeds (fetches v w live next is e) = rw is (omega (arith, longer v c))
@@ -115,6 +115,6 @@ no_sends false i = refl
 pub counts-law : (n : ℕ) (es : List Entry) → CountsLaw n es
 counts-law n es p c e =
     let most = sends_after (opening n) [] es p (sound-opening n) tt in
-    let here : sends_of (channel_at (state n es) p) ≡ length c.done = rw e refl in
+    let here : sends_of (channel_at (state n es) p) ≡ length c.sent = rw e refl in
     let none : sends_of (channel_at (opening n) p) ≡ 0 = no_sends (p.0 == 0) (p.0 - 1) in
-    record { received = ((state-sound n es).ports p c e).taken; sent = omega (arith, most, here, none) }
+    record { received = ((state-sound n es).ports p c e).received; sent = omega (arith, most, here, none) }

@@ -1,5 +1,5 @@
 -- What one step does to a channel, and the communications that it completes.
-use Rattle.std.specs.Prelude.{◌≡◌, ◌≤◌, ◌==◌, ◌-◌, ◌+◌, ◌++◌, ℕ, true, false, List, [], ◌∷◌, length, Option, Some, None, slice_get, if◌then◌else◌}
+use Rattle.std.specs.Prelude.{◌≡◌, ◌≤◌, ◌<◌, ◌==◌, ◌-◌, ◌+◌, ◌++◌, ℕ, true, false, List, [], ◌∷◌, length, Option, Some, None, slice_get, if◌then◌else◌}
 use Rattle.std.specs.List.{filter_map, AllByRecursion}
 use Rattle.hub_base.specs.declared.value.Port.{Port}
 use Rattle.hub_base.specs.declared.value.Pid.{Pid}
@@ -9,9 +9,10 @@ use Rattle.hub_base.specs.declared.case.Case.TheVariants.{Send, Recv}
 use Rattle.hub_base.specs.declared.event.Outcome.{Outcome}
 use Rattle.hub_base.specs.declared.event.Outcome.TheVariants.{Sent, Got, Drained, Closed}
 use Rattle.hub_base.specs.declared.event.Event.{Event}
+use Rattle.hub_base.specs.declared.limits.TheConstants.{MOST_PORTS}
 use Rattle.hub_base.specs.State.{Channel, OpenCall}
 use Rattle.hub_base.specs.Ready.{port_of}
-use Rattle.hub_base.specs.Steps.{sent, received, shut, next_value, closing_outcome}
+use Rattle.hub_base.specs.Steps.{after_send, after_receive, shut, next_value, closing_outcome}
 use Rattle.hub_base.specs.Values.{of_what}
 
 -- a case that fired, with its outcome
@@ -42,15 +43,15 @@ pub record IsClosing (q : Port) (d : Deed) : Type 0 where
 -- what one step can do to the channel of port q
 pub data Moved (q : Port) (c d : Channel) (deeds : List Deed) : Type 0 where
   -- a value goes into the buffer
-  buffers : (v : Value) → c.closed ≡ false → d ≡ sent v c → deeds ≡ record { case = Send q v; outcome = Sent } ∷ [] → Moved q c d deeds
+  buffers : (v : Value) → c.closed ≡ false → d ≡ after_send v c → deeds ≡ record { case = Send q v; outcome = Sent } ∷ [] → Moved q c d deeds
   -- a send meets a receiver that waits
-  hands : (v w : Value) → c.closed ≡ false → next_value (sent v c) ≡ Some w → d ≡ received (sent v c) →
+  hands : (v w : Value) → c.closed ≡ false → next_value (after_send v c) ≡ Some w → d ≡ after_receive (after_send v c) →
       deeds ≡ record { case = Send q v; outcome = Sent } ∷ record { case = Recv q; outcome = Got w } ∷ [] → Moved q c d deeds
   -- a receive meets a sender that waits
-  fetches : (v w : Value) → c.closed ≡ false → next_value (sent v c) ≡ Some w → d ≡ received (sent v c) →
+  fetches : (v w : Value) → c.closed ≡ false → next_value (after_send v c) ≡ Some w → d ≡ after_receive (after_send v c) →
       deeds ≡ record { case = Recv q; outcome = Got w } ∷ record { case = Send q v; outcome = Sent } ∷ [] → Moved q c d deeds
   -- a value comes out of the buffer
-  gives : (w : Value) → next_value c ≡ Some w → d ≡ received c → deeds ≡ record { case = Recv q; outcome = Got w } ∷ [] → Moved q c d deeds
+  gives : (w : Value) → next_value c ≡ Some w → d ≡ after_receive c → deeds ≡ record { case = Recv q; outcome = Got w } ∷ [] → Moved q c d deeds
   drains : next_value c ≡ None → d ≡ c → deeds ≡ record { case = Recv q; outcome = Drained } ∷ [] → Moved q c d deeds
   refuses : (v : Value) → c.closed ≡ true → d ≡ c → deeds ≡ record { case = Send q v; outcome = Closed } ∷ [] → Moved q c d deeds
   shuts : c.closed ≡ false → d ≡ shut c → AllByRecursion (IsClosing q) deeds → Moved q c d deeds
@@ -64,13 +65,13 @@ pub record Wrote (cs ts : List Channel) (q : Port) (c d : Channel) : Type 0 wher
 
 -- a channel that is made
 abbrev pub fresh : ℕ → Channel
-fresh cap = record { cap = cap; closed = false; done = []; taken = 0 }
+fresh cap = record { cap = cap; closed = false; sent = []; received = 0 }
 
 -- what one step can do to the channels, where its answer names this port
 pub data Does (cs ts : List Channel) (named : Option Port) (deeds : List Deed) : Type 0 where
   idle : named ≡ None → ts ≡ cs → deeds ≡ [] → Does cs ts named deeds
-  -- one channel more, and at most 64
-  adds : (cap : ℕ) → length cs ≤ 63 → named ≡ Some (record { 0 = length cs + 1 }) → ts ≡ cs ++ fresh cap ∷ [] → deeds ≡ [] → Does cs ts named deeds
+  -- one channel more, where there may be one
+  adds : (cap : ℕ) → length cs < MOST_PORTS → named ≡ Some (record { 0 = length cs + 1 }) → ts ≡ cs ++ fresh cap ∷ [] → deeds ≡ [] → Does cs ts named deeds
   wrote : (q : Port) (c d : Channel) → named ≡ Some q → Wrote cs ts q c d → Moved q c d deeds → Does cs ts named deeds
 
 -- every open call's cases are those in force of its process

@@ -7,8 +7,9 @@ use Rattle.std.proofs.lemmas.List.{length-append}
 use Rattle.std.proofs.lemmas.Option.{slice_get_within, slice_get-get_or}
 use Rattle.hub_base.specs.declared.value.Port.{Port}
 use Rattle.hub_base.specs.declared.value.Value.{Value}
+use Rattle.hub_base.specs.declared.limits.TheConstants.{MOST_PORTS}
 use Rattle.hub_base.specs.State.{State, Channel, channel_at}
-use Rattle.hub_base.specs.Steps.{sent, next_value}
+use Rattle.hub_base.specs.Steps.{after_send, next_value}
 use Rattle.hub_laws.specs.OnePort.{is_port, IsMade}
 use Rattle.hub_laws.specs.Sound.{IsSound}
 use Rattle.hub_laws.proofs.Deeds.{Deed, at, fresh, Wrote, Does, idle, adds, wrote}
@@ -37,10 +38,10 @@ wrote-same s q c e = record { old = e; new = e; others = λ p h. refl; ports = r
 
 -- where a value is sent there is one to receive
 
-pub next_sent : (s : State) (p : Port) (v : Value) (c : Channel) → IsSound s → channel_at s p ≡ Some c → (w : Value) × (next_value (sent v c) ≡ Some w)
+pub next_sent : (s : State) (p : Port) (v : Value) (c : Channel) → IsSound s → channel_at s p ≡ Some c → (w : Value) × (next_value (after_send v c) ≡ Some w)
 next_sent s p v c sound e =
-    let within : c.taken < length (c.done ++ v ∷ []) = omega (arith, (sound.ports p c e).taken, longer v c) in
-    (get_or (c.done ++ v ∷ []) c.taken v, slice_get-get_or (c.done ++ v ∷ []) c.taken v within)
+    let within : c.received < length (c.sent ++ v ∷ []) = omega (arith, (sound.ports p c e).received, longer v c) in
+    (get_or (c.sent ++ v ∷ []) c.received v, slice_get-get_or (c.sent ++ v ∷ []) c.received v within)
 
 -- one channel more
 
@@ -62,7 +63,7 @@ added_other false xs q d is h = get_snoc xs (q.0 - 1) d (λ e.
 -- a step that writes none: each port stays, and a new one is empty
 pub record Quiet (cs ts : List Channel) : Type 0 where
   pub same : (p : Port) (c : Channel) → at cs p ≡ Some c → at ts p ≡ Some c
-  pub fresh : (p : Port) (c : Channel) → at cs p ≡ None → at ts p ≡ Some c → (c.done ≡ []) × (c.taken ≡ 0)
+  pub fresh : (p : Port) (c : Channel) → at cs p ≡ None → at ts p ≡ Some c → (c.sent ≡ []) × (c.received ≡ 0)
 
 pub quiet-idle : (cs ts : List Channel) → ts ≡ cs → Quiet cs ts
 quiet-idle cs ts is = record {
@@ -105,9 +106,9 @@ does-others cs ts named deeds (adds cap room names same e) p h =
     rw same (added_other (p.0 == 0) cs p (fresh cap) refl (rw names at h))
 does-others cs ts named deeds (wrote q c d names w m) p h = w.others p (rw names at h)
 
--- at most 64 ports
+-- no more ports than there may be
 pub does-few : (cs ts : List Channel) (named : Option Port) (deeds : List Deed) → Does cs ts named deeds →
-    length cs ≤ 64 → length ts ≤ 64
+    length cs ≤ MOST_PORTS → length ts ≤ MOST_PORTS
 does-few cs ts named deeds (idle none same e) few = rw same few
 does-few cs ts named deeds (adds cap room names same e) few =
     omega (arith, room, ap length same, length-append cs (fresh cap ∷ []))

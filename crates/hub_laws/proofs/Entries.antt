@@ -1,8 +1,8 @@
 -- The account of each admitted entry: every step, the stall that can follow it, and a fault.
-use Rattle.std.proofs.Common.{Bool, false, ◌≡◌, ◌≤◌, ℕ, ◌+◌, ◌-◌, nat_lt, not, filter, inl, inr, true, List, [], ◌∷◌, ◌++◌, length, refl, ap, ◌∙◌, sym, subst, Option, Some, None, append-nil, if◌then◌else◌}
+use Rattle.std.proofs.Common.{Bool, false, ◌≡◌, ◌≤◌, ◌<◌, ℕ, ◌+◌, ◌-◌, nat_le, nat_lt, not, filter, inl, inr, true, List, [], ◌∷◌, ◌++◌, length, refl, ap, ◌∙◌, sym, subst, Option, Some, None, append-nil, if◌then◌else◌}
 use Rattle.std.specs.Prelude.{slice_set}
 use Rattle.std.specs.List.{list_any, AllByRecursion}
-use Rattle.std.proofs.lemmas.Bool.{ltb-false}
+use Rattle.std.proofs.lemmas.Bool.{leb-false}
 use Rattle.std.proofs.lemmas.List.{map-append}
 use Rattle.std.proofs.lemmas.List.Elements.{filter_map-append}
 use Rattle.hub_base.specs.declared.value.Port.{Port}
@@ -15,6 +15,7 @@ use Rattle.hub_base.specs.declared.fault.Fault.{Fault}
 use Rattle.hub_base.specs.declared.fault.Fault.TheVariants as fault
 use Rattle.hub_base.specs.declared.event.What.{What}
 use Rattle.hub_base.specs.declared.event.What.TheVariants as what
+use Rattle.hub_base.specs.declared.limits.TheConstants.{MOST_CAP, MOST_PORTS}
 use Rattle.hub_base.specs.State.{State, Channel, OpenCall, channel_at}
 use Rattle.hub_base.specs.Ready.{is_on}
 use Rattle.hub_base.specs.Steps.{closes, effect, Change, tells, fault_of, close_fault, is_unmade, answers, turn, shut}
@@ -75,12 +76,12 @@ close_account s pid p (Some c) is h =
 
 -- A step that meets no fault
 
-room_for_port : (s : State) (cap : ℕ) → fault_of s (Make cap) ≡ None → length s.channels ≤ 63
+room_for_port : (s : State) (cap : ℕ) → fault_of s (Make cap) ≡ None → length s.channels < MOST_PORTS
 room_for_port s cap h =
-    let full : Option Fault = if nat_lt 63 (length s.channels) then Some fault.TooManyPorts else None in
-    let a = none_false (nat_lt 1024 cap) fault.BadCap full h in
-    let b = none_false (nat_lt 63 (length s.channels)) fault.TooManyPorts None a.1 in
-    ltb-false 63 (length s.channels) b.0
+    let full : Option Fault = if nat_le MOST_PORTS (length s.channels) then Some fault.TooManyPorts else None in
+    let a = none_false (nat_lt MOST_CAP cap) fault.BadCap full h in
+    let b = none_false (nat_le MOST_PORTS (length s.channels)) fault.TooManyPorts None a.1 in
+    leb-false MOST_PORTS (length s.channels) b.0
 
 pub effect-account : (s : State) (pid : Pid) (step : Step) → fault_of s step ≡ None →
     Account s pid step (effect s pid step)

@@ -1,5 +1,5 @@
 -- Which faults answer an entry.
-use Rattle.std.proofs.Common.{◌≡◌, ℕ, ◌<◌, nat_lt, Bool, true, false, cond, not, length, refl, subst, Option, Some, None, arith}
+use Rattle.std.proofs.Common.{◌≡◌, ℕ, ◌<◌, nat_le, nat_lt, Bool, true, false, cond, not, length, refl, subst, Option, Some, None, arith}
 use Rattle.std.specs.List.{list_any}
 use Rattle.std.proofs.lemmas.Grind.{common_steps}
 use Rattle.hub_base.specs.declared.value.Port.{Port}
@@ -8,6 +8,7 @@ use Rattle.hub_base.specs.declared.entry.Step.{Step}
 use Rattle.hub_base.specs.declared.entry.Step.TheVariants.{Make, Call, Close}
 use Rattle.hub_base.specs.declared.fault.Fault.{Fault}
 use Rattle.hub_base.specs.declared.fault.Fault.TheVariants as fault
+use Rattle.hub_base.specs.declared.limits.TheConstants.{MOST_CAP, MOST_CASES, MOST_PORTS}
 use Rattle.hub_base.specs.State.{State, Channel, channel_at}
 use Rattle.hub_base.specs.Ready.{port_of}
 use Rattle.hub_base.specs.Steps.{fault_of, close_fault, is_unmade, refusal, has_gone, is_waiting}
@@ -32,10 +33,10 @@ close_journaled p (Some c) f e = last_fault (Close p) c.closed fault.AlreadyClos
 -- it is one of its step's faults
 pub journaled : (s : State) (step : Step) (f : Fault) → fault_of s step ≡ Some f → is_fault_of step f ≡ true
 journaled s (Make cap) f e =
-    or_fault (Journaled (Make cap)) (nat_lt 1024 cap) fault.BadCap f (cond (nat_lt 63 (length s.channels)) (Some fault.TooManyPorts) None) refl
-    (last_fault (Make cap) (nat_lt 63 (length s.channels)) fault.TooManyPorts f refl) e
+    or_fault (Journaled (Make cap)) (nat_lt MOST_CAP cap) fault.BadCap f (cond (nat_le MOST_PORTS (length s.channels)) (Some fault.TooManyPorts) None) refl
+    (last_fault (Make cap) (nat_le MOST_PORTS (length s.channels)) fault.TooManyPorts f refl) e
 journaled s (Call cases default word) f e =
-    or_fault (Journaled (Call cases default word)) (nat_lt 8 (length cases.items)) fault.TooManyCases f (cond (list_any (λ c. is_unmade s (port_of c)) cases.items) (Some fault.NoPort) None) refl
+    or_fault (Journaled (Call cases default word)) (nat_lt MOST_CASES (length cases.items)) fault.TooManyCases f (cond (list_any (λ c. is_unmade s (port_of c)) cases.items) (Some fault.NoPort) None) refl
     (last_fault (Call cases default word) (list_any (λ c. is_unmade s (port_of c)) cases.items) fault.NoPort f refl) e
 journaled s (Close p) f e = or_fault (Journaled (Close p)) (is_unmade s p) fault.NoPort f (close_fault (channel_at s p)) refl (close_journaled p (channel_at s p) f) e
 journaled s step f e = absurd (let g : ⊥ = cc in g)

@@ -17,8 +17,8 @@ use Rattle.hub_laws.proofs.Ports.{same_port}
 pub some_first : (test : Case → Bool) (calls : List OpenCall) (o : Option Ending) → o ≡ first_with test calls → is_some o ≡ some_call test calls
 some_first test calls o is = ap (λ x. is_some x) is ∙ first-some test calls
 
-abbrev pub longer : (v : Value) (c : Channel) → length (c.done ++ v ∷ []) ≡ length c.done + 1
-longer v c = length-append c.done (v ∷ [])
+abbrev pub longer : (v : Value) (c : Channel) → length (c.sent ++ v ∷ []) ≡ length c.sent + 1
+longer v c = length-append c.sent (v ∷ [])
 
 -- what a case is, by its test
 pub is_send : (p : Port) (c : Case) → is_send_on p c ≡ true → (v : Value) × (c ≡ Send p v)

@@ -17,7 +17,7 @@ use Rattle.hub_base.specs.declared.event.Outcome.TheVariants.{Sent, Got, Drained
 use Rattle.hub_base.specs.declared.event.What.TheVariants as what
 use Rattle.hub_base.specs.State.{State, Channel, OpenCall, channel_at}
 use Rattle.hub_base.specs.Ready.{is_send_on, is_recv_on, can_proceed, ready, port_of, first_with, Ending, without, send_can, recv_can}
-use Rattle.hub_base.specs.Steps.{Firing, fires, send_fires, proceeds, chooses, calls, sent, received, next_value, outcome_of, with_sent, send_meets, recv_takes, recv_meets, fired}
+use Rattle.hub_base.specs.Steps.{Firing, fires, send_fires, proceeds, chooses, calls, after_send, after_receive, next_value, outcome_of, with_sent, send_meets, recv_takes, recv_meets, fired}
 use Rattle.hub_laws.specs.Sound.{IsSound, PortSound, some_call}
 use Rattle.hub_laws.proofs.Branches.{by-closed}
 use Rattle.hub_laws.proofs.Calls.{Fewer, fewer-filter}
@@ -88,17 +88,17 @@ module _ (s : State) (pid : Pid) (cases : List Case) (default : Bool) (word i : 
 
   send_account : (p : Port) (v : Value) (c : Channel) (o : Option Ending) → slice_get cases i ≡ Some (Send p v) →
       channel_at s p ≡ Some c → send_can s p c ≡ true → c.closed ≡ false → o ≡ first_with (is_recv_on p) s.parked →
-      Fires (send_meets s p (sent v c) o)
+      Fires (send_meets s p (after_send v c) o)
   send_account p v c None mine e can live is =
-      let d : Channel = sent v c in
+      let d : Channel = after_send v c in
       let none : some_call (is_recv_on p) s.parked ≡ false = sym (some_first (is_recv_on p) s.parked None is) in
       let first : is_some (first_with (is_recv_on p) s.parked) ≡ false = ap (λ x. is_some x) (sym is) in
       let room = room_by c.closed (is_some (first_with (is_recv_on p) s.parked)) c live first can in
       alone_fires (slice_set s.channels (p.0 - 1) d) (Send p v) Sent c d mine (wrote-set s p c d e)
       (buffers v live refl refl) (λ sound. port-sent p v c s.parked (sound.ports p c e) live none room)
   send_account p v c (Some x) mine e can live is =
-      let d : Channel = received (sent v c) in
-      let its : Outcome = outcome_of (next_value (sent v c)) in
+      let d : Channel = after_receive (after_send v c) in
+      let its : Outcome = outcome_of (next_value (after_send v c)) in
       meets (slice_set s.channels (p.0 - 1) d) (Send p v) Sent its (is_recv_on p) x c d mine (sym is) e
       (wrote-set s p c d e) (λ sound passes.
       let w = next_sent s p v c sound e in
@@ -112,10 +112,10 @@ module _ (s : State) (pid : Pid) (cases : List Case) (default : Bool) (word i : 
       alone_fires (slice_set s.channels (p.0 - 1) c) (Recv p) Drained c c mine (wrote-set s p c c e)
       (drains (sym is) refl refl) (λ sound. sound.ports p c e)
   takes_account p c (Some w) mine e none is =
-      let d : Channel = received c in
+      let d : Channel = after_receive c in
       alone_fires (slice_set s.channels (p.0 - 1) d) (Recv p) (Got w) c d mine (wrote-set s p c d e)
       (gives w (sym is) refl refl)
-      (λ sound. port-received p c s.parked (sound.ports p c e) none (slice_get_within c.done c.taken w (sym is)))
+      (λ sound. port-received p c s.parked (sound.ports p c e) none (slice_get_within c.sent c.received w (sym is)))
 
   fetches_account : (p : Port) (c : Channel) (x : Ending) (o : Option Value) → slice_get cases i ≡ Some (Recv p) →
       channel_at s p ≡ Some c → first_with (is_send_on p) s.parked ≡ Some x → o ≡ next_value (with_sent x.at.case c) →
@@ -127,14 +127,14 @@ module _ (s : State) (pid : Pid) (cases : List Case) (default : Bool) (word i : 
       (wrote-set s p c d e) (λ sound passes.
       let u = is_send p x.at.case passes in
       let w = next_sent s p u.0 c sound e in
-      let none : None ≡ next_value (sent u.0 c) = rw u.1 at after in
+      let none : None ≡ next_value (after_send u.0 c) = rw u.1 at after in
       absurd (let g : ⊥ = cc in g))
   fetches_account p c x (Some w) mine e is after =
-      let d : Channel = received (with_sent x.at.case c) in
+      let d : Channel = after_receive (with_sent x.at.case c) in
       meets (slice_set s.channels (p.0 - 1) d) (Recv p) (Got w) Sent (is_send_on p) x c d mine is e
       (wrote-set s p c d e) (λ sound passes.
       let u = is_send p x.at.case passes in
-      let some : Some w ≡ next_value (sent u.0 c) = rw u.1 at after in
+      let some : Some w ≡ next_value (after_send u.0 c) = rw u.1 at after in
       let waits : some_call (is_send_on p) s.parked ≡ true =
       sym (some_first (is_send_on p) s.parked (Some x) (sym is)) in
       let live : c.closed ≡ false = false_from_ne_true c.closed (λ h. let g = ((sound.ports p c e).ended h).1 in cc) in

@@ -11,7 +11,7 @@ use Rattle.hub_base.specs.declared.case.Case.{Case}
 use Rattle.hub_base.specs.declared.case.Case.TheVariants.{Send, Recv}
 use Rattle.hub_base.specs.State.{State, Channel, OpenCall, channel_at, opening}
 use Rattle.hub_base.specs.Ready.{is_send_on, is_recv_on, is_on, can_proceed, port_of, first_with}
-use Rattle.hub_base.specs.Steps.{sent, received, shut}
+use Rattle.hub_base.specs.Steps.{after_send, after_receive, shut}
 use Rattle.hub_laws.specs.Sound.{some_call, Alone, CallFits, PortSound, IsSound}
 use Rattle.hub_laws.proofs.Calls.{Fewer, fewer-filter, first-some, any_snoc, alone_snoc}
 use Rattle.hub_laws.proofs.Deeds.{fresh}
@@ -32,7 +32,7 @@ none_fewer kept calls test fewer e = false_from_ne_true (some_call test kept) (�
 -- a channel that stays, while calls end
 pub port-fewer : (p : Port) (c : Channel) (kept calls : List OpenCall) → Fewer kept calls → PortSound p c calls → PortSound p c kept
 port-fewer p c kept calls fewer f = record {
-  taken = f.taken;
+  received = f.received;
   fits = f.fits;
   receivers = λ h. f.receivers (fewer.some (is_recv_on p) h);
   senders = λ h. f.senders (fewer.some (is_send_on p) h);
@@ -41,9 +41,9 @@ port-fewer p c kept calls fewer f = record {
 }
 
 -- a value that goes through
-pub port-through : (p : Port) (v : Value) (c : Channel) (calls : List OpenCall) → PortSound p c calls → c.closed ≡ false → PortSound p (received (sent v c)) calls
+pub port-through : (p : Port) (v : Value) (c : Channel) (calls : List OpenCall) → PortSound p c calls → c.closed ≡ false → PortSound p (after_receive (after_send v c)) calls
 port-through p v c calls f live = record {
-  taken = omega (arith, f.taken, longer v c);
+  received = omega (arith, f.received, longer v c);
   fits = omega (arith, f.fits, longer v c);
   receivers = λ h. let r = f.receivers h in omega (arith, longer v c);
   senders = λ h. let r = f.senders h in omega (arith, longer v c);
@@ -52,9 +52,9 @@ port-through p v c calls f live = record {
 }
 
 -- a value that goes into the buffer
-pub port-sent : (p : Port) (v : Value) (c : Channel) (calls : List OpenCall) → PortSound p c calls → c.closed ≡ false → some_call (is_recv_on p) calls ≡ false → length c.done < c.taken + c.cap → PortSound p (sent v c) calls
+pub port-sent : (p : Port) (v : Value) (c : Channel) (calls : List OpenCall) → PortSound p c calls → c.closed ≡ false → some_call (is_recv_on p) calls ≡ false → length c.sent < c.received + c.cap → PortSound p (after_send v c) calls
 port-sent p v c calls f live none room = record {
-  taken = omega (arith, f.taken, longer v c);
+  received = omega (arith, f.received, longer v c);
   fits = omega (arith, longer v c);
   receivers = λ h. absurd (let g : some_call (is_recv_on p) calls ≡ true = h in cc);
   senders = λ h. let r = f.senders h in absurd (omega arith);
@@ -63,9 +63,9 @@ port-sent p v c calls f live none room = record {
 }
 
 -- a value that comes out of the buffer
-pub port-received : (p : Port) (c : Channel) (calls : List OpenCall) → PortSound p c calls → some_call (is_send_on p) calls ≡ false → c.taken < length c.done → PortSound p (received c) calls
+pub port-received : (p : Port) (c : Channel) (calls : List OpenCall) → PortSound p c calls → some_call (is_send_on p) calls ≡ false → c.received < length c.sent → PortSound p (after_receive c) calls
 port-received p c calls f none some = record {
-  taken = omega arith;
+  received = omega arith;
   fits = omega (arith, f.fits);
   receivers = λ h. let r = f.receivers h in absurd (omega arith);
   senders = λ h. absurd (let g : some_call (is_send_on p) calls ≡ true = h in cc);
@@ -73,7 +73,7 @@ port-received p c calls f none some = record {
   alone = f.alone;
 }
 
-pub room_by : (x y : Bool) (c : Channel) → x ≡ false → y ≡ false → (x || y || nat_lt (length c.done - c.taken) c.cap) ≡ true → length c.done < c.taken + c.cap
+pub room_by : (x y : Bool) (c : Channel) → x ≡ false → y ≡ false → (x || y || nat_lt (length c.sent - c.received) c.cap) ≡ true → length c.sent < c.received + c.cap
 room_by true y c d e h = cc
 room_by false true c d e h = cc
 room_by false false c d e h = grind (arith, common_steps)
@@ -92,13 +92,13 @@ port-parks s pid cases p c e none f =
     let recvs = any_snoc (λ call. list_any (is_recv_on p) call.cases) s.parked (record { pid = pid; cases = cases }) in
     let sends = any_snoc (λ call. list_any (is_send_on p) call.cases) s.parked (record { pid = pid; cases = cases }) in
     -- what the test said of a receive, and of a send
-    let recv = λ (h : list_any (is_recv_on p) cases ≡ true). or3_none (is_some (first_with (is_send_on p) s.parked)) (nat_lt c.taken (length c.done)) c.closed (no_recv s p c cases e none h) in
-    let send = λ (h : list_any (is_send_on p) cases ≡ true). or3_none c.closed (is_some (first_with (is_recv_on p) s.parked)) (nat_lt (length c.done - c.taken) c.cap) (no_send s p c cases e none h) in
+    let recv = λ (h : list_any (is_recv_on p) cases ≡ true). or3_none (is_some (first_with (is_send_on p) s.parked)) (nat_lt c.received (length c.sent)) c.closed (no_recv s p c cases e none h) in
+    let send = λ (h : list_any (is_send_on p) cases ≡ true). or3_none c.closed (is_some (first_with (is_recv_on p) s.parked)) (nat_lt (length c.sent - c.received) c.cap) (no_send s p c cases e none h) in
     record {
-      taken = f.taken;
+      received = f.received;
       fits = f.fits;
-      receivers = λ h. elim (or_cases (some_call (is_recv_on p) s.parked) (list_any (is_recv_on p) cases) (sym recvs ∙ h)) [ inl l ↦ f.receivers l | inr r ↦ omega (arith, f.taken, ltb-false c.taken (length c.done) (recv r).1) ];
-      senders = λ h. elim (or_cases (some_call (is_send_on p) s.parked) (list_any (is_send_on p) cases) (sym sends ∙ h)) [ inl l ↦ f.senders l | inr r ↦ omega (arith, f.fits, f.taken, ltb-false (length c.done - c.taken) c.cap (send r).2) ];
+      receivers = λ h. elim (or_cases (some_call (is_recv_on p) s.parked) (list_any (is_recv_on p) cases) (sym recvs ∙ h)) [ inl l ↦ f.receivers l | inr r ↦ omega (arith, f.received, ltb-false c.received (length c.sent) (recv r).1) ];
+      senders = λ h. elim (or_cases (some_call (is_send_on p) s.parked) (list_any (is_send_on p) cases) (sym sends ∙ h)) [ inl l ↦ f.senders l | inr r ↦ omega (arith, f.fits, f.received, ltb-false (length c.sent - c.received) c.cap (send r).2) ];
       ended = λ h. (
         recvs ∙ or_from (some_call (is_recv_on p) s.parked) (list_any (is_recv_on p) cases) (f.ended h).0 (false_from_ne_true (list_any (is_recv_on p) cases) (λ r. let g = (recv r).2 in cc)),
         sends ∙ or_from (some_call (is_send_on p) s.parked) (list_any (is_send_on p) cases) (f.ended h).1 (false_from_ne_true (list_any (is_send_on p) cases) (λ r. let g = (send r).0 in cc)),
@@ -128,7 +128,7 @@ port-shut p c calls f =
     let recvs : some_call (is_recv_on p) kept ≡ false = gone_on (is_recv_on p) (is_on p) calls (λ k e. or_right (is_send_on p k) (is_recv_on p k) e) in
     let sends : some_call (is_send_on p) kept ≡ false = gone_on (is_send_on p) (is_on p) calls (λ k e. or_left (is_send_on p k) (is_recv_on p k) e) in
     record {
-      taken = f.taken;
+      received = f.received;
       fits = f.fits;
       receivers = λ h. absurd (let g : some_call (is_recv_on p) kept ≡ true = h in cc);
       senders = λ h. absurd (let g : some_call (is_send_on p) kept ≡ true = h in cc);
@@ -166,7 +166,7 @@ port-fresh s q cap sound new =
     let sends : some_call (is_send_on q) s.parked ≡ false =
     unmade (length s.channels) (is_send_on q) s.parked sound.calls (λ c. send_unmade (length s.channels) q c (omega (arith, new))) in
     record {
-      taken = omega arith;
+      received = omega arith;
       fits = omega arith;
       receivers = λ e. refl;
       senders = λ e. absurd (let g : some_call (is_send_on q) s.parked ≡ true = e in cc);

@@ -5,6 +5,7 @@ use Rattle.std.proofs.Math.Bool.{and-false, or-false}
 use Rattle.hub_base.specs.declared.value.Pid.{Pid}
 use Rattle.hub_base.specs.declared.entry.Entry.{Entry}
 use Rattle.hub_base.specs.declared.fault.Fault.{Fault}
+use Rattle.hub_base.specs.declared.limits.TheConstants.{MOST_PORTS}
 use Rattle.hub_base.specs.State.{State, opening}
 use Rattle.hub_base.specs.Steps.{turn, refusal, has_gone}
 use Rattle.hub_base.specs.Runs.{admits, moves, state_after, state}
@@ -40,19 +41,19 @@ pub procs-after : (s : State) (es : List Entry) → (state_after s es).procs ≡
 procs-after s [] = refl
 procs-after s (e ∷ es) = procs-after (moves s e).state es ∙ procs-entry s e (refusal s e.pid)
 
-ports_entry : (s : State) (e : Entry) (o : Option Fault) → IsSound s → length s.channels ≤ 64 →
-    length (admits s e o).state.channels ≤ 64
+ports_entry : (s : State) (e : Entry) (o : Option Fault) → IsSound s → length s.channels ≤ MOST_PORTS →
+    length (admits s e o).state.channels ≤ MOST_PORTS
 ports_entry s e None sound few =
     let a = turn-account s e in
     does-few s.channels (turn s e).state.channels (port_touched_by e.step a.answer) (deeds_of e.step a.answer a.ended) (a.does sound) few
 ports_entry s e (Some f) sound few = few
 
-ports_after : (s : State) (es : List Entry) → IsSound s → length s.channels ≤ 64 →
-    length (state_after s es).channels ≤ 64
+ports_after : (s : State) (es : List Entry) → IsSound s → length s.channels ≤ MOST_PORTS →
+    length (state_after s es).channels ≤ MOST_PORTS
 ports_after s [] sound few = few
 ports_after s (e ∷ es) sound few =
     ports_after (moves s e).state es (moves-sound s e sound) (ports_entry s e (refusal s e.pid) sound few)
 
--- at most 64 ports are made
-pub ports-law : (n : ℕ) (es : List Entry) → length (state n es).channels ≤ 64
+-- no more ports are made than there may be
+pub ports-law : (n : ℕ) (es : List Entry) → length (state n es).channels ≤ MOST_PORTS
 ports-law n es = ports_after (opening n) es (sound-opening n) (omega arith)

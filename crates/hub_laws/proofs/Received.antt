@@ -93,7 +93,7 @@ moves-received s e None p sound =
     ∙ got_one (cases_or e.step []) a.answer (got_in (events_of a.ended)) (ended_deeds a.ended) a.placed
     (got_ended a.ended a.ends) in
     let same : port_touched e.step (turn s e).events ≡ named = ap (port_touched e.step) a.told in
-    got-does s.channels (turn s e).state.channels named deeds p (λ c h. (sound.ports p c h).taken) (a.does sound)
+    got-does s.channels (turn s e).state.channels named deeds p (λ c h. (sound.ports p c h).received) (a.does sound)
     ∙ ap (λ xs. received_on s p ++ xs)
     (got_named s.channels (turn s e).state.channels named deeds p (a.does sound) ∙ rw (same, got) refl)
 moves-received s e (Some f) p sound = rw (fault_names_none e.step f) (sym (append-nil (received_on s p)))

@@ -12,6 +12,7 @@ use Rattle.hub_base.specs.declared.event.What.{What}
 use Rattle.hub_base.specs.declared.event.What.TheVariants as what
 use Rattle.hub_base.specs.declared.fault.Fault.{Fault}
 use Rattle.hub_base.specs.declared.fault.Fault.TheVariants as fault
+use Rattle.hub_base.specs.declared.limits.TheConstants.{MOST_CASES}
 use Rattle.hub_base.specs.Reading.{is_exit}
 use Rattle.hub_base.specs.State.{State, Channel, OpenCall, channel_at, opening}
 use Rattle.hub_base.specs.Ready.{can_proceed, port_of}
@@ -37,9 +38,9 @@ fitting : (s : State) (pid : Pid) (step : Step) → fault_of s step ≡ None →
     CallFits (length s.channels) (call_of pid step)
 fitting s pid (Call cases default word) h =
     let unmade : Bool = list_any (λ c. is_unmade s (port_of c)) cases.items in
-    let a = none_false (nat_lt 8 (length cases.items)) fault.TooManyCases (cond unmade (Some fault.NoPort) None) h in
+    let a = none_false (nat_lt MOST_CASES (length cases.items)) fault.TooManyCases (cond unmade (Some fault.NoPort) None) h in
     let b = none_false unmade fault.NoPort None a.1 in
-    record { few = ltb-false 8 (length cases.items) a.0; made = b.0 }
+    record { few = ltb-false MOST_CASES (length cases.items) a.0; made = b.0 }
 fitting s pid step h = record { few = omega arith; made = refl }
 
 parks_sound : (s : State) (call : OpenCall) → IsSound s → Admitted s call.pid → CallFits (length s.channels) call →

@@ -37,9 +37,9 @@ on_none p (call ∷ calls) r w =
 
 port-laws : (p : Port) (c : Channel) (calls : List OpenCall) → PortSound p c calls → PortLaws p c calls
 port-laws p c calls f = record {
-  fits = omega (arith, f.fits, length-drop c.taken c.done);
-  receivers = λ r. drop_all c.done c.taken (f.receivers r);
-  senders = λ w. omega (arith, f.senders w, length-drop c.taken c.done);
+  fits = omega (arith, f.fits, length-drop c.received c.sent);
+  receivers = λ r. drop_all c.sent c.received (f.receivers r);
+  senders = λ w. omega (arith, f.senders w, length-drop c.received c.sent);
   closed = λ h. on_none p calls (f.ended h).0 (f.ended h).1;
   both = λ r w. omega (arith, f.receivers r, f.senders w);
   alone = f.alone;

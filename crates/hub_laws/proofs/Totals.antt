@@ -18,7 +18,7 @@ use Rattle.hub_base.specs.declared.event.What.{What}
 use Rattle.hub_base.specs.declared.event.What.TheVariants as what
 use Rattle.hub_base.specs.State.{Channel}
 use Rattle.hub_base.specs.Ready.{port_of}
-use Rattle.hub_base.specs.Steps.{sent, received, next_value, closing_outcome}
+use Rattle.hub_base.specs.Steps.{after_send, after_receive, next_value, closing_outcome}
 use Rattle.hub_base.specs.Values.{sent_on, got_on, of_what}
 use Rattle.hub_laws.specs.Received.{received_from}
 use Rattle.hub_laws.proofs.Deeds.{Deed, deed_of, told, picks, at, IsClosing, Moved, Wrote, Does, buffers, hands, fetches, gives, drains, refuses, shuts, idle, adds, wrote}
@@ -69,7 +69,7 @@ others-none pick p q c d deeds none differ m =
 abbrev pub total : {A : Type 0} → (Channel → List A) → List Channel → Port → List A
 total f cs p = option_map_or f (at cs p) []
 
-total_quiet : {A : Type 0} (f : Channel → List A) (cs ts : List Channel) (p : Port) (o x : Option Channel) → o ≡ at cs p → x ≡ at ts p → Quiet cs ts → ((c : Channel) → c.done ≡ [] → c.taken ≡ 0 → f c ≡ []) → option_map_or f x [] ≡ option_map_or f o []
+total_quiet : {A : Type 0} (f : Channel → List A) (cs ts : List Channel) (p : Port) (o x : Option Channel) → o ≡ at cs p → x ≡ at ts p → Quiet cs ts → ((c : Channel) → c.sent ≡ [] → c.received ≡ 0 → f c ≡ []) → option_map_or f x [] ≡ option_map_or f o []
 total_quiet f cs ts p (Some c) x is to q empty = rw (to ∙ q.same p c (sym is)) refl
 total_quiet f cs ts p None None is to q empty = refl
 total_quiet f cs ts p None (Some d) is to q empty = let h = q.fresh p d (sym is) (sym to) in empty d h.0 h.1
@@ -84,7 +84,7 @@ total_wrote f cs ts p q c d xs false is w here other = rw (w.others p (sym is), 
 
 pub total-does : {A : Type 0} (f : Channel → List A) (pick : Option Case → Outcome → Option A) (cs ts : List Channel)
     (named : Option Port) (deeds : List Deed) (p : Port) → Does cs ts named deeds →
-    ((c : Channel) → c.done ≡ [] → c.taken ≡ 0 → f c ≡ []) →
+    ((c : Channel) → c.sent ≡ [] → c.received ≡ 0 → f c ≡ []) →
     ((k : Case) (o : Outcome) → ((port_of k).0 == p.0) ≡ false → pick (Some k) o ≡ None) →
     ((c d : Channel) → at cs p ≡ Some c → Moved p c d deeds → f d ≡ f c ++ picks pick deeds) →
     total f ts p ≡ total f cs p ++ picks pick deeds
@@ -107,21 +107,21 @@ sent_closing : (p : Port) (k : Case) → sent_on p (Some k) (closing_outcome k) 
 sent_closing p (Send q v) = refl
 sent_closing p (Recv q) = refl
 
-sent_here : (p : Port) (c d : Channel) (deeds : List Deed) → Moved p c d deeds → d.done ≡ c.done ++ picks (sent_on p) deeds
+sent_here : (p : Port) (c d : Channel) (deeds : List Deed) → Moved p c d deeds → d.sent ≡ c.sent ++ picks (sent_on p) deeds
 sent_here p c d deeds (buffers v live is e) = rw (e, is, same_number p.0) refl
 sent_here p c d deeds (hands v w live next is e) = rw (e, is, same_number p.0) refl
 sent_here p c d deeds (fetches v w live next is e) = rw (e, is, same_number p.0) refl
-sent_here p c d deeds (gives w next is e) = rw (e, is) (sym (append-nil c.done))
-sent_here p c d deeds (drains next is e) = rw (e, is) (sym (append-nil c.done))
-sent_here p c d deeds (refuses v over is e) = rw (e, is) (sym (append-nil c.done))
+sent_here p c d deeds (gives w next is e) = rw (e, is) (sym (append-nil c.sent))
+sent_here p c d deeds (drains next is e) = rw (e, is) (sym (append-nil c.sent))
+sent_here p c d deeds (refuses v over is e) = rw (e, is) (sym (append-nil c.sent))
 sent_here p c d deeds (shuts live is all) =
     let none : picks (sent_on p) deeds ≡ [] = picks-none (sent_on p) deeds (all_more (IsClosing p) (λ x. sent_on p (Some x.case) x.outcome ≡ None) deeds (λ x h. rw h.outcome (sent_closing p x.case)) all) in
-    rw (is, none) (sym (append-nil c.done))
+    rw (is, none) (sym (append-nil c.sent))
 
 pub sent-does : (cs ts : List Channel) (named : Option Port) (deeds : List Deed) (p : Port) → Does cs ts named deeds →
-    total (λ c. c.done) ts p ≡ total (λ c. c.done) cs p ++ picks (sent_on p) deeds
+    total (λ c. c.sent) ts p ≡ total (λ c. c.sent) cs p ++ picks (sent_on p) deeds
 sent-does cs ts named deeds p does =
-    total-does (λ c. c.done) (sent_on p) cs ts named deeds p does (λ c e t. e) (sent_none p)
+    total-does (λ c. c.sent) (sent_on p) cs ts named deeds p does (λ c e t. e) (sent_none p)
     (λ c d e m. sent_here p c d deeds m)
 
 -- Received
@@ -142,14 +142,14 @@ take_suc (x ∷ xs) (suc i) w e = ap (λ ys. x ∷ ys) (take_suc xs i w e)
 pub take_next : {A : Type 0} (xs : List A) (i : ℕ) (w : A) → slice_get xs i ≡ Some w → take (i + 1) xs ≡ take i xs ++ w ∷ []
 take_next xs i w e = rw add-one (take_suc xs i w e)
 
-pub through : (v w : Value) (c d : Channel) → c.taken ≤ length c.done → next_value (sent v c) ≡ Some w → d ≡ received (sent v c) → received_from d ≡ received_from c ++ w ∷ []
-through v w c d fits next is = rw is (take_next (c.done ++ v ∷ []) c.taken w next ∙ ap (λ xs. xs ++ w ∷ []) (take-append-le c.taken c.done (v ∷ []) fits))
+pub through : (v w : Value) (c d : Channel) → c.received ≤ length c.sent → next_value (after_send v c) ≡ Some w → d ≡ after_receive (after_send v c) → received_from d ≡ received_from c ++ w ∷ []
+through v w c d fits next is = rw is (take_next (c.sent ++ v ∷ []) c.received w next ∙ ap (λ xs. xs ++ w ∷ []) (take-append-le c.received c.sent (v ∷ []) fits))
 
-got_here : (p : Port) (c d : Channel) (deeds : List Deed) → c.taken ≤ length c.done → Moved p c d deeds → received_from d ≡ received_from c ++ picks (got_on p) deeds
-got_here p c d deeds fits (buffers v live is e) = rw (e, is) (take-append-le c.taken c.done (v ∷ []) fits ∙ sym (append-nil (received_from c)))
+got_here : (p : Port) (c d : Channel) (deeds : List Deed) → c.received ≤ length c.sent → Moved p c d deeds → received_from d ≡ received_from c ++ picks (got_on p) deeds
+got_here p c d deeds fits (buffers v live is e) = rw (e, is) (take-append-le c.received c.sent (v ∷ []) fits ∙ sym (append-nil (received_from c)))
 got_here p c d deeds fits (hands v w live next is e) = rw (e, same_number p.0) (through v w c d fits next is)
 got_here p c d deeds fits (fetches v w live next is e) = rw (e, same_number p.0) (through v w c d fits next is)
-got_here p c d deeds fits (gives w next is e) = rw (e, is, same_number p.0) (take_next c.done c.taken w next)
+got_here p c d deeds fits (gives w next is e) = rw (e, is, same_number p.0) (take_next c.sent c.received w next)
 got_here p c d deeds fits (drains next is e) = rw (e, is) (sym (append-nil (received_from c)))
 got_here p c d deeds fits (refuses v over is e) = rw (e, is) (sym (append-nil (received_from c)))
 got_here p c d deeds fits (shuts live is all) =
@@ -157,8 +157,8 @@ got_here p c d deeds fits (shuts live is all) =
     rw (is, none) (sym (append-nil (received_from c)))
 
 pub got-does : (cs ts : List Channel) (named : Option Port) (deeds : List Deed) (p : Port) →
-    ((c : Channel) → at cs p ≡ Some c → c.taken ≤ length c.done) → Does cs ts named deeds →
-    total (λ c. take c.taken c.done) ts p ≡ total (λ c. take c.taken c.done) cs p ++ picks (got_on p) deeds
+    ((c : Channel) → at cs p ≡ Some c → c.received ≤ length c.sent) → Does cs ts named deeds →
+    total (λ c. take c.received c.sent) ts p ≡ total (λ c. take c.received c.sent) cs p ++ picks (got_on p) deeds
 got-does cs ts named deeds p fits does =
     total-does received_from (got_on p) cs ts named deeds p does (λ c e t. rw t refl) (got_none p)
     (λ c d e m. got_here p c d deeds (fits c e) m)

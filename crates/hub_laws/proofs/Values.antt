@@ -31,20 +31,20 @@ grows f pick p one s ts (e ∷ es) sound knows =
     ∙ append_assoc (total f s.channels p) (told pick (in_force (ts ++ t ∷ [])) t.events) (values_from pick (ts ++ t ∷ []) (turns_after (moves s e).state es))
 
 pub sent-after : (s : State) (ts : List Turned) (es : List Entry) (p : Port) → IsSound s → Knows (in_force ts) s.parked →
-    total (λ c. c.done) (state_after s es).channels p ≡ total (λ c. c.done) s.channels p ++ values_from (sent_on p) ts (turns_after s es)
-sent-after s ts es p = grows (λ c. c.done) (sent_on p) p (λ s e ts sound knows.
+    total (λ c. c.sent) (state_after s es).channels p ≡ total (λ c. c.sent) s.channels p ++ values_from (sent_on p) ts (turns_after s es)
+sent-after s ts es p = grows (λ c. c.sent) (sent_on p) p (λ s e ts sound knows.
     let t : Turned = record { entry = e; events = (moves s e).events } in
     sent-does s.channels (moves s e).state.channels (port_touched e.step (moves s e).events)
     (told deed_of (in_force (ts ++ t ∷ [])) (moves s e).events) p (moves-turn s e ts sound knows).does
-    ∙ ap (λ xs. total (λ c. c.done) s.channels p ++ xs) (sym (told-picks (sent_on p) (in_force (ts ++ t ∷ [])) (moves s e).events (λ o. refl)))) s ts es
+    ∙ ap (λ xs. total (λ c. c.sent) s.channels p ++ xs) (sym (told-picks (sent_on p) (in_force (ts ++ t ∷ [])) (moves s e).events (λ o. refl)))) s ts es
 
 pub got-after : (s : State) (ts : List Turned) (es : List Entry) (p : Port) → IsSound s → Knows (in_force ts) s.parked →
-    total (λ c. take c.taken c.done) (state_after s es).channels p ≡ total (λ c. take c.taken c.done) s.channels p ++ values_from (got_on p) ts (turns_after s es)
-got-after s ts es p = grows (λ c. take c.taken c.done) (got_on p) p (λ s e ts sound knows.
+    total (λ c. take c.received c.sent) (state_after s es).channels p ≡ total (λ c. take c.received c.sent) s.channels p ++ values_from (got_on p) ts (turns_after s es)
+got-after s ts es p = grows (λ c. take c.received c.sent) (got_on p) p (λ s e ts sound knows.
     let t : Turned = record { entry = e; events = (moves s e).events } in
     got-does s.channels (moves s e).state.channels (port_touched e.step (moves s e).events)
-    (told deed_of (in_force (ts ++ t ∷ [])) (moves s e).events) p (λ c h. (sound.ports p c h).taken) (moves-turn s e ts sound knows).does
-    ∙ ap (λ xs. total (λ c. take c.taken c.done) s.channels p ++ xs) (sym (told-picks (got_on p) (in_force (ts ++ t ∷ [])) (moves s e).events (λ o. refl)))) s ts es
+    (told deed_of (in_force (ts ++ t ∷ [])) (moves s e).events) p (λ c h. (sound.ports p c h).received) (moves-turn s e ts sound knows).does
+    ∙ ap (λ xs. total (λ c. take c.received c.sent) s.channels p ++ xs) (sym (told-picks (got_on p) (in_force (ts ++ t ∷ [])) (moves s e).events (λ o. refl)))) s ts es
 
 -- before anything is made
 pub no_total : {A : Type 0} (f : Channel → List A) (p : Port) → total f [] p ≡ []
@@ -57,16 +57,16 @@ no_total f p = by (p.0 == 0)
 total_at : {A : Type 0} (f : Channel → List A) (s : State) (p : Port) (c : Channel) → channel_at s p ≡ Some c → total f s.channels p ≡ f c
 total_at f s p c e = let h : at s.channels p ≡ Some c = e in rw h refl
 
-pub sent-law : (n : ℕ) (es : List Entry) (p : Port) (c : Channel) → channel_at (state n es) p ≡ Some c → sent_values n es p ≡ c.done
+pub sent-law : (n : ℕ) (es : List Entry) (p : Port) (c : Channel) → channel_at (state n es) p ≡ Some c → sent_values n es p ≡ c.sent
 sent-law n es p c e =
     let h = sent-after (opening n) [] es p (sound-opening n) tt in
-    sym (sym (total_at (λ c. c.done) (state n es) p c e) ∙ h ∙ ap (λ xs. xs ++ sent_values n es p) (no_total (λ c. c.done) p))
+    sym (sym (total_at (λ c. c.sent) (state n es) p c e) ∙ h ∙ ap (λ xs. xs ++ sent_values n es p) (no_total (λ c. c.sent) p))
 
-pub received-law : (n : ℕ) (es : List Entry) (p : Port) (c : Channel) → channel_at (state n es) p ≡ Some c → received_values n es p ≡ take c.taken c.done
+pub received-law : (n : ℕ) (es : List Entry) (p : Port) (c : Channel) → channel_at (state n es) p ≡ Some c → received_values n es p ≡ take c.received c.sent
 received-law n es p c e =
     let h = got-after (opening n) [] es p (sound-opening n) tt in
-    sym (sym (total_at (λ c. take c.taken c.done) (state n es) p c e) ∙ h ∙ ap (λ xs. xs ++ received_values n es p) (no_total (λ c. take c.taken c.done) p))
+    sym (sym (total_at (λ c. take c.received c.sent) (state n es) p c e) ∙ h ∙ ap (λ xs. xs ++ received_values n es p) (no_total (λ c. take c.received c.sent) p))
 
 -- the values received, then those in the buffer, are the values sent
 pub values-law : (n : ℕ) (es : List Entry) (p : Port) (c : Channel) → channel_at (state n es) p ≡ Some c → received_values n es p ++ buffer_of c ≡ sent_values n es p
-values-law n es p c e = ap (λ xs. xs ++ buffer_of c) (received-law n es p c e) ∙ take-append-drop c.taken c.done ∙ sym (sent-law n es p c e)
+values-law n es p c e = ap (λ xs. xs ++ buffer_of c) (received-law n es p c e) ∙ take-append-drop c.received c.sent ∙ sym (sent-law n es p c e)

@@ -1,5 +1,5 @@
 -- How many values a run can send and receive on a port: no more than the entries of its journal that
--- are no exits. So where a journal has at most 1,000,000 of these, no count passes 1,000,000.
+-- are no exits. So no count passes the limit of a journal.
 use Rattle.std.specs.Prelude.{◌≡◌, ◌≤◌, ℕ, List, length, Some}
 use Rattle.hub_base.specs.declared.value.Port.{Port}
 use Rattle.hub_base.specs.declared.entry.Entry.{Entry}
@@ -9,8 +9,8 @@ use Rattle.hub_base.specs.Text.{steps_of}
 
 -- a channel that received no more than it sent, and that sent at most so many
 pub record CountsWithin (c : Channel) (most : ℕ) : Type 0 where
-  pub received : c.taken ≤ length c.done
-  pub sent : length c.done ≤ most
+  pub received : c.received ≤ length c.sent
+  pub sent : length c.sent ≤ most
 
 -- each channel of a run, against the run's admitted entries that are no exits
 abbrev pub CountsLaw : ℕ → List Entry → Type 0

@@ -185,7 +185,7 @@ two_sent = make 0 2 ∷ send 0 1 7 ∷ send 0 1 8 ∷ recv 1 1 ∷ exit 1 ∷ []
 pub steps_row : steps_of (kept 2 two_sent) ≡ 4
 steps_row = refl
 
-pub count_row : option_map (λ c. length c.done) (channel_at (state 2 two_sent) (port 1)) ≡ Some 2
+pub count_row : option_map (λ c. length c.sent) (channel_at (state 2 two_sent) (port 1)) ≡ Some 2
 count_row = refl
 
 pub buffer_row : option_map (λ c. buffer_of c) (channel_at (state 2 two_sent) (port 1)) ≡ Some (value_of 8 ∷ [])

@@ -44,7 +44,7 @@ got_at named events p = if is_port named p then got_in events else []
 
 -- the values of a channel that were received, oldest first
 abbrev pub received_from : Channel → List Value
-received_from c = take c.taken c.done
+received_from c = take c.received c.sent
 
 -- those of a port; none of port 0 and of a port that was not made
 abbrev pub received_on : State → Port → List Value

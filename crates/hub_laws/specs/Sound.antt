@@ -3,6 +3,7 @@ use Rattle.std.specs.Prelude.{◌≡◌, ◌≤◌, ◌<◌, ◌+◌, ◌==◌, 
 use Rattle.std.specs.List.{list_any, AllByRecursion}
 use Rattle.hub_base.specs.declared.value.Port.{Port}
 use Rattle.hub_base.specs.declared.case.Case.{Case}
+use Rattle.hub_base.specs.declared.limits.TheConstants.{MOST_CASES}
 use Rattle.hub_base.specs.State.{State, Channel, OpenCall, channel_at}
 use Rattle.hub_base.specs.Ready.{is_send_on, is_recv_on, port_of}
 use Rattle.hub_base.specs.Steps.{is_waiting, has_gone}
@@ -28,19 +29,19 @@ Alone p (call ∷ calls) =
     × (list_any (is_send_on p) call.cases ≡ true → some_call (is_recv_on p) calls ≡ false)
     × Alone p calls
 
--- a call of at most 8 cases, on ports that are made, where so many are, or on port 0
+-- a call of no more cases than it may have, on ports that are made, where so many are, or on port 0
 pub record CallFits (ports : ℕ) (call : OpenCall) : Type 0 where
-  pub few : length call.cases ≤ 8
+  pub few : length call.cases ≤ MOST_CASES
   pub made : list_any (λ c. nat_lt ports (port_of c).0) call.cases ≡ false
 
 -- a channel against the calls that wait
 pub record PortSound (p : Port) (c : Channel) (calls : List OpenCall) : Type 0 where
-  pub taken : c.taken ≤ length c.done
-  pub fits : length c.done ≤ c.taken + c.cap
+  pub received : c.received ≤ length c.sent
+  pub fits : length c.sent ≤ c.received + c.cap
   -- a receiver waits only where the buffer is empty
-  pub receivers : some_call (is_recv_on p) calls ≡ true → c.taken ≡ length c.done
+  pub receivers : some_call (is_recv_on p) calls ≡ true → c.received ≡ length c.sent
   -- a sender waits only where the buffer is full
-  pub senders : some_call (is_send_on p) calls ≡ true → length c.done ≡ c.taken + c.cap
+  pub senders : some_call (is_send_on p) calls ≡ true → length c.sent ≡ c.received + c.cap
   -- nobody waits on a closed port
   pub ended :
       c.closed ≡ true →

@@ -4,6 +4,7 @@
 use Rattle.std.specs.Prelude.{◌≡◌, ◌≤◌, ◌<◌, ℕ, true, false, List, [], length, Some}
 use Rattle.std.specs.List.{AllByRecursion}
 use Rattle.hub_base.specs.declared.value.Port.{Port}
+use Rattle.hub_base.specs.declared.limits.TheConstants.{MOST_PORTS}
 use Rattle.hub_base.specs.State.{State, Channel, OpenCall, channel_at, buffer_of}
 use Rattle.hub_base.specs.Ready.{is_send_on, is_recv_on, is_on}
 use Rattle.hub_base.specs.Steps.{is_waiting, has_gone}
@@ -26,6 +27,6 @@ pub record StateLaws (s : State) : Type 0 where
   pub present : (q : ℕ) → is_waiting s q ≡ true → (q < s.procs) × (has_gone s q ≡ false)
   pub calls : AllByRecursion (CallFits (length s.channels)) s.parked
   pub ports : (p : Port) (c : Channel) → channel_at s p ≡ Some c → PortLaws p c s.parked
-  -- at most 64 ports are made, and no more calls wait than there are processes
-  pub few : length s.channels ≤ 64
+  -- no more ports are made than there may be, and no more calls wait than there are processes
+  pub few : length s.channels ≤ MOST_PORTS
   pub count : length s.parked ≤ s.procs

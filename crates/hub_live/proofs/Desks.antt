@@ -5,6 +5,7 @@ use Rattle.atomic_table.specs.declared.shared.Seat.{Seat}
 use Rattle.hub_base.specs.declared.value.Pid.{Pid}
 use Rattle.hub_base.specs.declared.entry.Entry.{Entry}
 use Rattle.hub_base.specs.declared.event.Event.{Event}
+use Rattle.hub_base.specs.declared.limits.TheConstants.{MOST_PORTS}
 use Rattle.hub_base.specs.Steps.{refusal, is_waiting}
 use Rattle.hub_base.specs.Runs.{state}
 use Rattle.hub_base.specs.Reading.{is_exit}
@@ -176,10 +177,10 @@ marks_served t old new e answer seen word is s same at =
     (λ i. mark (sym is.procs i) (same i ++ e ∷ []) word) ∙ sym (ap (λ (h : HubView). mark_at (state_of h) (port_numbered word)) s.step.journal) in
     subst (MarksOne t.procs seen e word) new_mark m
 
-pub word_served : (t : Terms) (old new : LockedView) (e : Entry) (answer : Event) (word : ℕ) → IsHub t old.hub → Serves old e new answer → word ≡ number_of (port_touched_by e.step answer.what) → word < 65
+pub word_served : (t : Terms) (old new : LockedView) (e : Entry) (answer : Event) (word : ℕ) → IsHub t old.hub → Serves old e new answer → word ≡ number_of (port_touched_by e.step answer.what) → word ≤ MOST_PORTS
 word_served t old new e answer word is s at =
     let few = touched-few t.procs old.hub.journal e in
-    subst (λ (n : ℕ). n < 65) (sym (at ∙ touched_served t old new e answer old.hub.journal is s refl)) few
+    subst (λ (n : ℕ). n ≤ MOST_PORTS) (sym (at ∙ touched_served t old new e answer old.hub.journal is s refl)) few
 
 pub told_served : (t : Terms) (old new : LockedView) (e : Entry) (answer : Event) (seen : List Entry) → IsHub t old.hub → Serves old e new answer → seen ≡ new.hub.journal → IsReplyTo new.hub.procs e.pid.0 new.hub.journal answer → IsReplyTo t.procs e.pid.0 seen answer
 told_served t old new e answer seen is s same r =

@@ -12,6 +12,7 @@ use Rattle.hub_base.specs.declared.entry.Step.{Step}
 use Rattle.hub_base.specs.declared.entry.Step.TheVariants.{Make, Call, Close, Exit}
 use Rattle.hub_base.specs.declared.event.What.{What}
 use Rattle.hub_base.specs.declared.event.What.TheVariants as what
+use Rattle.hub_base.specs.declared.limits.TheConstants.{MOST_PROCS}
 use Rattle.hub_laws.specs.Answers.{is_answer_to, Answered, IsAnswered}
 use Rattle.hub_laws.specs.Journals.{IsLegal}
 use Rattle.hub_laws.specs.Replies.{reply, last_from, is_told, is_parked, IsReply, IsLeft, Replied, AreReplied}
@@ -128,30 +129,30 @@ waits_after hub e answer ended q o r h = last_replies (grown hub e) q (cond (e.p
 -- ---- a step of the locked hub
 
 -- the events were put into the places
-pub serves : (old : LockedView) (e : Entry) (hub : HubView) (told : List Event) (answer : Event) (ended : List Event) (cleared waiting : List (Option Event)) (answered : List Pid) →
-    length old.waiting ≡ 64 → Steps old.hub e hub told → told ≡ answer ∷ ended → cleared ≡ slice_set old.waiting e.pid.0 None → length waiting ≡ length cleared →
-    ((q : ℕ) → q < length cleared → answer_for waiting q ≡ last_told q (answer_for cleared q) ended) → answered ≡ pids_of ended → Serves old e (record { hub = hub; waiting = waiting; answered = answered }) answer
-serves old e hub told answer ended cleared waiting answered places s first clear same each pids =
-    let room : length cleared ≡ 64 = ap length clear ∙ length-set old.waiting e.pid.0 None ∙ places in
+pub serves : (old : LockedView) (e : Entry) (hub : HubView) (told : List Event) (answer : Event) (ended : List Event) (cleared answers : List (Option Event)) (of_them : List Pid) →
+    length old.answers ≡ MOST_PROCS → Steps old.hub e hub told → told ≡ answer ∷ ended → cleared ≡ slice_set old.answers e.pid.0 None → length answers ≡ length cleared →
+    ((q : ℕ) → q < length cleared → answer_for answers q ≡ last_told q (answer_for cleared q) ended) → of_them ≡ pids_of ended → Serves old e (record { hub = hub; answers = answers; ended = of_them }) answer
+serves old e hub told answer ended cleared answers of_them places s first clear same each pids =
+    let room : length cleared ≡ MOST_PROCS = ap length clear ∙ length-set old.answers e.pid.0 None ∙ places in
     record {
       ended = ended;
       step = subst (Steps old.hub e hub) first s;
       places = same ∙ room;
-      waiting = λ q lt.
+      answers = λ q lt.
           each q (omega (arith, room))
-          ∙ ap (λ (o : Option Event). last_told q o ended) (ap (λ (ws : List (Option Event)). answer_for ws q) clear ∙ answer_for-set old.waiting e.pid.0 q None (omega (arith, places)));
-      answered = pids;
+          ∙ ap (λ (o : Option Event). last_told q o ended) (ap (λ (ws : List (Option Event)). answer_for ws q) clear ∙ answer_for-set old.answers e.pid.0 q None (omega (arith, places)));
+      pids = pids;
     }
 
-pub lawful_served : (old new : LockedView) (e : Entry) (answer : Event) → IsLawful old.hub old.waiting → Serves old e new answer → IsLawful new.hub new.waiting
+pub lawful_served : (old new : LockedView) (e : Entry) (answer : Event) → IsLawful old.hub old.answers → Serves old e new answer → IsLawful new.hub new.answers
 lawful_served old new e answer h s =
-    subst (λ (hub : HubView). IsLawful hub new.waiting) (sym s.step.journal) (record {
+    subst (λ (hub : HubView). IsLawful hub new.answers) (sym s.step.journal) (record {
       legal = (begins-law old.hub.procs old.hub.journal []).goes_on e h.legal s.step.admitted;
       places = s.places;
-      replies = λ q. elim (cases_lt q 64) [
-        | inl lt ↦ subst (λ (o : Option Event). IfSome o (IsReplyIn (grown old.hub e) q)) (sym (s.waiting q lt))
-            (waits_after old.hub e answer s.ended q (answer_for old.waiting q) (replied old.hub new.hub e answer s.ended s.step) (h.replies q))
-        | inr past ↦ subst (λ (o : Option Event). IfSome o (IsReplyIn (grown old.hub e) q)) (sym (get_or_past new.waiting q None (omega (arith, s.places)))) tt
+      replies = λ q. elim (cases_lt q MOST_PROCS) [
+        | inl lt ↦ subst (λ (o : Option Event). IfSome o (IsReplyIn (grown old.hub e) q)) (sym (s.answers q lt))
+            (waits_after old.hub e answer s.ended q (answer_for old.answers q) (replied old.hub new.hub e answer s.ended s.step) (h.replies q))
+        | inr past ↦ subst (λ (o : Option Event). IfSome o (IsReplyIn (grown old.hub e) q)) (sym (get_or_past new.answers q None (omega (arith, s.places)))) tt
       ];
     })
 
@@ -162,11 +163,11 @@ answer_for-replicate zero q = refl
 answer_for-replicate (suc n) zero = refl
 answer_for-replicate (suc n) (suc q) = answer_for-replicate n q
 
-pub lawful_none : (hub : HubView) → IsLegal hub.procs hub.journal → IsLawful hub (replicate 64 None)
+pub lawful_none : (hub : HubView) → IsLegal hub.procs hub.journal → IsLawful hub (replicate MOST_PROCS None)
 lawful_none hub legal = record {
   legal = legal;
-  places = length-replicate {A = Option Event} 64 None;
-  replies = λ q. subst (λ (o : Option Event). IfSome o (IsReplyIn hub q)) (sym (answer_for-replicate 64 q)) tt;
+  places = length-replicate {A = Option Event} MOST_PROCS None;
+  replies = λ q. subst (λ (o : Option Event). IfSome o (IsReplyIn hub q)) (sym (answer_for-replicate MOST_PROCS q)) tt;
 }
 
 -- ---- what answers a step

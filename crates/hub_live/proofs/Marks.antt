@@ -9,6 +9,7 @@ use Rattle.hub_base.specs.declared.value.Port.{Port}
 use Rattle.hub_base.specs.declared.counts.Counts.{Counts}
 use Rattle.hub_base.specs.declared.counts.Look.{Look}
 use Rattle.hub_base.specs.declared.entry.Entry.{Entry}
+use Rattle.hub_base.specs.declared.limits.TheConstants.{MOST_PORTS, MOST_STEPS}
 use Rattle.hub_base.specs.State.{Channel, channel_at}
 use Rattle.hub_base.specs.Runs.{state}
 use Rattle.hub_base.specs.Text.{steps_of}
@@ -24,10 +25,10 @@ use Rattle.hub_live.specs.Mark.{of_a_send, of_a_port, of_a_close, mark_of, count
 pub record IsCounted (c : Counts) : Type 0 where
   pub len : c.len ≡ c.sent - c.received
   pub received : c.received ≤ c.sent
-  pub sent : c.sent ≤ 1000000
+  pub sent : c.sent ≤ MOST_STEPS
 
 -- the parts of a mark
-parts : (b : Bool) (sent received : ℕ) → sent ≤ 1000000 → received ≤ 1000000 → (m : ℕ) → m ≡ cond b of_a_close 0 + of_a_port + of_a_send * sent + received
+parts : (b : Bool) (sent received : ℕ) → sent ≤ MOST_STEPS → received ≤ MOST_STEPS → (m : ℕ) → m ≡ cond b of_a_close 0 + of_a_port + of_a_send * sent + received
     → (m % of_a_send ≡ received) × (m / of_a_send % of_a_send ≡ sent) × (nat_le of_a_close m ≡ b) × ((m == 0) ≡ false)
 parts true sent received s r m is = (omega arith, omega arith, grind (arith, nat_tests), grind (arith, nat_tests))
 parts false sent received s r m is = (omega arith, omega arith, grind (arith, nat_tests), grind (arith, nat_tests))
@@ -42,55 +43,55 @@ read_back-mark c is =
 -- ---- the counts of a run
 
 -- the counts of a channel in a run with no more than so many steps
-counted : (n : ℕ) (es : List Entry) (p : Port) (o : Option Channel) → channel_at (state n es) p ≡ o → IsLegal n es → steps_of es ≤ 1000000
+counted : (n : ℕ) (es : List Entry) (p : Port) (o : Option Channel) → channel_at (state n es) p ≡ o → IsLegal n es → steps_of es ≤ MOST_STEPS
     → read_back (option_map_or mark_of (option_map counts_of o) 0) ≡ option_map counts_of o
 counted n es p None is legal few = refl
 counted n es p (Some c) is legal few = read_back-mark (counts_of c) (is_counted n es p c is legal few)
   where
-    is_counted : (n : ℕ) (es : List Entry) (p : Port) (c : Channel) → channel_at (state n es) p ≡ Some c → IsLegal n es → steps_of es ≤ 1000000 → IsCounted (counts_of c)
+    is_counted : (n : ℕ) (es : List Entry) (p : Port) (c : Channel) → channel_at (state n es) p ≡ Some c → IsLegal n es → steps_of es ≤ MOST_STEPS → IsCounted (counts_of c)
     is_counted n es p c is legal few =
         let k = counts-law n es p c is in
         record { len = refl; received = k.received; sent = omega (arith, k.sent, ap steps_of legal, few) }
 
 -- a mark tells the counts of its port
-pub mark-tells : (n : ℕ) (es : List Entry) (p : Port) → IsLegal n es → steps_of es ≤ 1000000 → read_back (mark_at (state n es) p) ≡ counts_at (state n es) p
+pub mark-tells : (n : ℕ) (es : List Entry) (p : Port) → IsLegal n es → steps_of es ≤ MOST_STEPS → read_back (mark_at (state n es) p) ≡ counts_at (state n es) p
 mark-tells n es p legal few = counted n es p (channel_at (state n es) p) refl legal few
 
-few_counts : (n : ℕ) (es : List Entry) (p : Port) (o : Option Channel) (l : Look) → channel_at (state n es) p ≡ o → IsLegal n es → steps_of es ≤ 1000000
-    → option_map (λ c. record { cap = c.cap; counts = counts_of c }) o ≡ Some l → (l.counts.sent ≤ 1000000) × (l.counts.received ≤ 1000000) × (mark_of l.counts ≡ option_map_or mark_of (option_map counts_of o) 0)
+few_counts : (n : ℕ) (es : List Entry) (p : Port) (o : Option Channel) (l : Look) → channel_at (state n es) p ≡ o → IsLegal n es → steps_of es ≤ MOST_STEPS
+    → option_map (λ c. record { cap = c.cap; counts = counts_of c }) o ≡ Some l → (l.counts.sent ≤ MOST_STEPS) × (l.counts.received ≤ MOST_STEPS) × (mark_of l.counts ≡ option_map_or mark_of (option_map counts_of o) 0)
 few_counts n es p None l is legal few at = absurd (let h : ⊥ = cc in h)
 few_counts n es p (Some c) l is legal few at =
     let k = counts-law n es p c is in
     let same : l ≡ record { cap = c.cap; counts = counts_of c } = cc in
-    let sent : length c.done ≤ 1000000 = omega (arith, k.sent, ap steps_of legal, few) in (
-      subst (λ (x : Look). x.counts.sent ≤ 1000000) (sym same) sent,
-      subst (λ (x : Look). x.counts.received ≤ 1000000) (sym same) (omega (arith, sent, k.received)),
+    let sent : length c.sent ≤ MOST_STEPS = omega (arith, k.sent, ap steps_of legal, few) in (
+      subst (λ (x : Look). x.counts.sent ≤ MOST_STEPS) (sym same) sent,
+      subst (λ (x : Look). x.counts.received ≤ MOST_STEPS) (sym same) (omega (arith, sent, k.received)),
       ap (λ (x : Look). mark_of x.counts) same,
     )
 
 -- a look tells counts that have a mark
-pub look-mark : (n : ℕ) (es : List Entry) (p : Port) (l : Look) → IsLegal n es → steps_of es ≤ 1000000 → look_at (state n es) p ≡ Some l
-    → (l.counts.sent ≤ 1000000) × (l.counts.received ≤ 1000000) × (mark_of l.counts ≡ mark_at (state n es) p)
+pub look-mark : (n : ℕ) (es : List Entry) (p : Port) (l : Look) → IsLegal n es → steps_of es ≤ MOST_STEPS → look_at (state n es) p ≡ Some l
+    → (l.counts.sent ≤ MOST_STEPS) × (l.counts.received ≤ MOST_STEPS) × (mark_of l.counts ≡ mark_at (state n es) p)
 look-mark n es p l legal few at = few_counts n es p (channel_at (state n es) p) l refl legal few at
 
 none_at : (b : Bool) (cs : List Channel) (i : ℕ) → (b ≡ false → length cs ≤ i) → option_map counts_of (cond b None (slice_get cs i)) ≡ None
 none_at true cs i le = refl
 none_at false cs i le = ap (option_map counts_of) (slice_get_past cs i (le refl))
 
--- port 0 and the ports above 64 are not made
-pub no_port : (n : ℕ) (es : List Entry) (p : Port) → (0 < p.0 → p.0 < 65 → ⊥) → counts_at (state n es) p ≡ None
+-- port 0 and those above the greatest are not made
+pub no_port : (n : ℕ) (es : List Entry) (p : Port) → (0 < p.0 → p.0 ≤ MOST_PORTS → ⊥) → counts_at (state n es) p ≡ None
 no_port n es p out =
     let few = (state-laws n es).few in
-    none_at (p.0 == 0) (state n es).channels (p.0 - 1) (λ h. let some : 0 < p.0 = grind (arith, nat_tests) in let many : p.0 < 65 → ⊥ = out some in omega (arith, few, many))
+    none_at (p.0 == 0) (state n es).channels (p.0 - 1) (λ h. let some : 0 < p.0 = grind (arith, nat_tests) in let many : p.0 ≤ MOST_PORTS → ⊥ = out some in omega (arith, few, many))
 
 -- ---- one entry, one mark
 
--- the number of the port that an entry may write: 0 for none, and no more than 64
-few_ports : (n : ℕ) (es : List Entry) (e : Entry) (o : Option Port) → ((p : Port) → o ≡ Some p → IsPort p (state n (es ++ e ∷ []))) → number_of o < 65
+-- the number of the port that an entry may write: 0 for none, and no more than there may be ports
+few_ports : (n : ℕ) (es : List Entry) (e : Entry) (o : Option Port) → ((p : Port) → o ≡ Some p → IsPort p (state n (es ++ e ∷ []))) → number_of o ≤ MOST_PORTS
 few_ports n es e None made = omega arith
 few_ports n es e (Some p) made = omega (arith, (made p refl).few, (state-laws n (es ++ e ∷ [])).few)
 
-pub touched-few : (n : ℕ) (es : List Entry) (e : Entry) → number_of (touched n es e) < 65
+pub touched-few : (n : ℕ) (es : List Entry) (e : Entry) → number_of (touched n es e) ≤ MOST_PORTS
 touched-few n es e = few_ports n es e (touched n es e) (one_port-law n es e).made
 
 one_mark : (n : ℕ) (es : List Entry) (e : Entry) (word number : ℕ) (b : Bool) → (number == word) ≡ b → word ≡ number_of (touched n es e)

@@ -16,7 +16,7 @@ use Rattle.hub_core.specs.Looks.{counts_of}
 use Rattle.hub_live.specs.declared.name.Terms.{Terms}
 use Rattle.hub_live.specs.declared.rule.View.{View}
 use Rattle.hub_live.specs.Mark.{mark_of}
-use Rattle.hub_live.specs.Rule.{blank, spent, Knows, Holds, Fits, Kept}
+use Rattle.hub_live.specs.Rule.{next_word, word_count, blank, spent, Knows, Holds, Fits, Kept}
 use Rattle.hub_live.specs.Moves.{Entered, Drew, with_joined, parted, given_back, numbered}
 use Rattle.hub_live.proofs.Histories.{own_none}
 use Rattle.hub_live.proofs.Steps.{fits_set, some_of}
@@ -67,19 +67,19 @@ no_mark : (b : Bool) (i : ℕ) → option_map_or mark_of (option_map counts_of (
 no_mark true i = refl
 no_mark false i = refl
 
-pub begins : (t : Terms) → Kept t (opening (replicate 66 0) [] (blank t))
+pub begins : (t : Terms) → Kept t (opening (replicate word_count 0) [] (blank t))
 begins t = record {
   journal = [];
   at = λ _. 0;
   count = refl;
   history = record { legal = refl; few = omega arith };
-  marks = λ n lo hi. get_or-replicate 66 n 0 0 (omega arith) ∙ sym (no_mark (n == 0) (n - 1));
+  marks = λ n lo hi. get_or-replicate word_count n 0 0 (omega arith) ∙ sym (no_mark (n == 0) (n - 1));
   drawn = λ _ _. refl;
   fits = λ id v e. one id v e;
 }
   where
-    one : (id : ℕ) (v : View) → get_elem? (blank t ∷ []) id ≡ some v → Fits t [] (λ _. 0) (slice_index (replicate 66 0) 65) id v
-    one zero v e = subst (Fits t [] (λ _. 0) (slice_index (replicate 66 0) 65) 0) (some-injective _ _ e) (idle_fits t [] (λ _. 0) (slice_index (replicate 66 0) 65) 0 (blank t) refl refl)
+    one : (id : ℕ) (v : View) → get_elem? (blank t ∷ []) id ≡ some v → Fits t [] (λ _. 0) (slice_index (replicate word_count 0) next_word) id v
+    one zero v e = subst (Fits t [] (λ _. 0) (slice_index (replicate word_count 0) next_word) 0) (some-injective _ _ e) (idle_fits t [] (λ _. 0) (slice_index (replicate word_count 0) next_word) 0 (blank t) refl refl)
     one (suc id) v e = absurd (some-ne-none v (sym e))
 
 pub enters : (t : Terms) (slots i : ℕ) → Enters (Kept t) slots i (λ n w. Entered (step slots i 0 0 none) (blank t, []) n (w, []))
@@ -94,7 +94,7 @@ enters t slots i s kept homes bound = (
     drawn = kept.drawn;
     fits = λ j u e. ⊎_elim
         (λ (was : get_elem? s.views j ≡ some u). kept.fits j u was)
-        (λ (x : (j ≡ length s.views) × (blank t ≡ u)). subst (Fits t kept.journal kept.at (slice_index s.words 65) j) x.1 (idle_fits t kept.journal kept.at (slice_index s.words 65) j (blank t) refl refl))
+        (λ (x : (j ≡ length s.views) × (blank t ≡ u)). subst (Fits t kept.journal kept.at (slice_index s.words next_word) j) x.1 (idle_fits t kept.journal kept.at (slice_index s.words next_word) j (blank t) refl refl))
         (at_end s.views (blank t) u j e);
   },
   refl,
@@ -122,21 +122,21 @@ numbered_fits t journal at k id v same second empty knows = record {
 
 -- what a draw leaves, where the word has become y
 abbrev pub Drawn : (t : Terms) (id k : ℕ) (v : View) (s : State (Unit {0}) View) → ℕ → Type 0
-Drawn t id k v s y = (w : View) × Kept t record { words = set s.words 65 y; homes = s.homes; views = set s.views id w } × MatchBool (slice_index s.words 65 == k) (w ≡ numbered v k) (w ≡ v)
+Drawn t id k v s y = (w : View) × Kept t record { words = set s.words next_word y; homes = s.homes; views = set s.views id w } × MatchBool (slice_index s.words next_word == k) (w ≡ numbered v k) (w ≡ v)
 
-draws_hit : (t : Terms) (id k : ℕ) (v : View) (s : State (Unit {0}) View) → Kept t s → get_elem? s.views id ≡ some v → v.terms ≡ t → v.number ≡ None → v.joined ≡ None → v.seen ≡ [] → slice_index s.words 65 ≡ k → Drawn t id k v s (k + 1)
+draws_hit : (t : Terms) (id k : ℕ) (v : View) (s : State (Unit {0}) View) → Kept t s → get_elem? s.views id ≡ some v → v.terms ≡ t → v.number ≡ None → v.joined ≡ None → v.seen ≡ [] → slice_index s.words next_word ≡ k → Drawn t id k v s (k + 1)
 draws_hit t id k v s kept at same first second empty is =
     let w = numbered v k in
-    let next = slice_index s.words 65 in
-    let words' = set s.words 65 (k + 1) in
-    let next' : slice_index words' 65 ≡ k + 1 = get_or-set_same s.words 65 (k + 1) 0 (omega (arith, kept.count)) in (
+    let next = slice_index s.words next_word in
+    let words' = set s.words next_word (k + 1) in
+    let next' : slice_index words' next_word ≡ k + 1 = get_or-set_same s.words next_word (k + 1) 0 (omega (arith, kept.count)) in (
       w,
       record {
         journal = kept.journal;
         at = moved kept.at k id;
-        count = length-set s.words 65 (k + 1) ∙ kept.count;
+        count = length-set s.words next_word (k + 1) ∙ kept.count;
         history = kept.history;
-        marks = λ n lo hi. get_or-set_other s.words 65 n (k + 1) 0 (λ (e : n ≡ 65). omega arith) ∙ kept.marks n lo hi;
+        marks = λ n lo hi. get_or-set_other s.words next_word n (k + 1) 0 (λ (e : n ≡ next_word). omega arith) ∙ kept.marks n lo hi;
         drawn = λ p le. kept.drawn p (let le' : k + 1 ≤ p + 1 = subst (λ (x : ℕ). x ≤ p + 1) next' le in omega arith);
         fits = subst (λ (x : ℕ). (j : ℕ) (u : View) → get_elem? (set s.views id w) j ≡ some u → Fits t kept.journal (moved kept.at k id) x j u) (sym next')
             (fits_set t kept.journal (moved kept.at k id) (k + 1) s.views id w
@@ -148,17 +148,17 @@ draws_hit t id k v s kept at same first second empty is =
       subst (λ (b : Bool). MatchBool b (w ≡ numbered v k) (w ≡ v)) (sym (eq-eqb next k is)) refl,
     )
 
-draws_miss : (t : Terms) (id k : ℕ) (v : View) (s : State (Unit {0}) View) → Kept t s → get_elem? s.views id ≡ some v → slice_index s.words 65 ≢ k → Drawn t id k v s (slice_index s.words 65)
+draws_miss : (t : Terms) (id k : ℕ) (v : View) (s : State (Unit {0}) View) → Kept t s → get_elem? s.views id ≡ some v → slice_index s.words next_word ≢ k → Drawn t id k v s (slice_index s.words next_word)
 draws_miss t id k v s kept at not = (
   v,
-  subst (λ (x : List ℕ × List View). Kept t record { words = x.0; homes = s.homes; views = x.1 }) (λ i. (sym (set-get_or s.words 65 0) i, sym (set_again s.views id v at) i)) kept,
-  subst (λ (b : Bool). MatchBool b (v ≡ numbered v k) (v ≡ v)) (sym (ne_eqb (slice_index s.words 65) k not)) refl,
+  subst (λ (x : List ℕ × List View). Kept t record { words = x.0; homes = s.homes; views = x.1 }) (λ i. (sym (set-get_or s.words next_word 0) i, sym (set_again s.views id v at) i)) kept,
+  subst (λ (b : Bool). MatchBool b (v ≡ numbered v k) (v ≡ v)) (sym (ne_eqb (slice_index s.words next_word) k not)) refl,
 )
 
 pub draws : (t : Terms) (slots id k : ℕ) (v : View) → v.terms ≡ t → v.number ≡ None → v.joined ≡ None → v.seen ≡ []
-    → Allows (Kept t) slots id (v, []) 65 (λ n. either (n == k) (k + 1) n) (Drew (step slots 65 k (k + 1) none) (v, []))
+    → Allows (Kept t) slots id (v, []) next_word (λ n. either (n == k) (k + 1) n) (Drew (step slots next_word k (k + 1) none) (v, []))
 draws t slots id k v same first second empty s kept homes at bound =
-    let r = exchanged (slice_index s.words 65) k (k + 1) (Drawn t id k v s)
+    let r = exchanged (slice_index s.words next_word) k (k + 1) (Drawn t id k v s)
     (draws_hit t id k v s kept at same first second empty)
     (draws_miss t id k v s kept at) in
     (r.0, keeps, tt, r.1, (refl, r.2))
@@ -179,7 +179,7 @@ joined_fits t journal at next id other m v w terms_same first apart f g =
 
 pub joins : (t : Terms) (id other m : ℕ) (v w : View) → v.terms ≡ w.terms → w.number ≡ Some m → w.joined ≡ None → Joins (Kept t) id v other w (with_joined v w) spent
 joins t id other m v w terms_same first alone s kept at apart there =
-    let next = slice_index s.words 65 in
+    let next = slice_index s.words next_word in
     let both = with_joined v w in
     let at' = moved kept.at m id in
     let f = kept.fits id v at in
@@ -203,7 +203,7 @@ joins t id other m v w terms_same first alone s kept at apart there =
 
 pub parts : (t : Terms) (id m : ℕ) (v : View) → v.joined ≡ Some m → Splits (Kept t) id v (parted v) (given_back v)
 parts t id m v second s kept at =
-    let next = slice_index s.words 65 in
+    let next = slice_index s.words next_word in
     let left = parted v in
     let right = given_back v in
     let new = length (set s.views id left) in
@@ -239,9 +239,9 @@ parts t id m v second s kept at =
     }
 
 pub draws_as : (t : Terms) (slots id k : ℕ) (me : Me (Unit {0}) View) → me ≡ (blank t, [])
-    → Allows (Kept t) slots id me 65 (λ n. either (n == k) (k + 1) n) (Drew (step slots 65 k (k + 1) none) me)
+    → Allows (Kept t) slots id me next_word (λ n. either (n == k) (k + 1) n) (Drew (step slots next_word k (k + 1) none) me)
 draws_as t slots id k me is =
-    subst (λ (m : Me (Unit {0}) View). Allows (Kept t) slots id m 65 (λ n. either (n == k) (k + 1) n) (Drew (step slots 65 k (k + 1) none) m)) (sym is)
+    subst (λ (m : Me (Unit {0}) View). Allows (Kept t) slots id m next_word (λ n. either (n == k) (k + 1) n) (Drew (step slots next_word k (k + 1) none) m)) (sym is)
     (draws t slots id k (blank t) refl refl refl refl)
 
 pub joins_some : (t : Terms) (id other : ℕ) (v w : View) → v.terms ≡ w.terms → IsSome w.number → w.joined ≡ None → Joins (Kept t) id v other w (with_joined v w) spent

@@ -9,10 +9,11 @@ use lib.ListN.{get_elem?}
 use Rattle.atomic_table.specs.Table.{Me, keeps, step, Allows}
 use Rattle.atomic_table.proofs.Lists.{at_set}
 use Rattle.hub_base.specs.declared.entry.Entry.{Entry}
+use Rattle.hub_base.specs.declared.limits.TheConstants.{MOST_PORTS}
 use Rattle.hub_live.specs.declared.name.Terms.{Terms}
 use Rattle.hub_live.specs.declared.rule.View.{View}
 use Rattle.hub_live.specs.Mark.{mark, MarksOne}
-use Rattle.hub_live.specs.Rule.{IsHistory, Knows, Holds, Fits, Kept}
+use Rattle.hub_live.specs.Rule.{next_word, IsHistory, Knows, Holds, Fits, Kept}
 use Rattle.hub_live.specs.Moves.{Looked, Published, grown}
 use Rattle.hub_live.proofs.Prefixes.{prefix_self, prefix_trans}
 use Rattle.hub_live.proofs.Histories.{own_other}
@@ -62,9 +63,9 @@ looks t slots id i k v first s kept homes at bound =
         count = length-set s.words i (slice_index s.words i) ∙ kept.count;
         history = kept.history;
         marks = λ n lo hi. word_same s.words i n ∙ kept.marks n lo hi;
-        drawn = λ p le. kept.drawn p (subst (λ (k : ℕ). k ≤ p + 1) (word_same s.words i 65) le);
-        fits = subst (λ (k : ℕ). (j : ℕ) (u : View) → get_elem? (set s.views id w) j ≡ some u → Fits t kept.journal kept.at k j u) (sym (word_same s.words i 65))
-            (fits_set t kept.journal kept.at (slice_index s.words 65) s.views id w (λ j u _ e. kept.fits j u e) (seeing_fits t kept.journal kept.at (slice_index s.words 65) id v f));
+        drawn = λ p le. kept.drawn p (subst (λ (k : ℕ). k ≤ p + 1) (word_same s.words i next_word) le);
+        fits = subst (λ (k : ℕ). (j : ℕ) (u : View) → get_elem? (set s.views id w) j ≡ some u → Fits t kept.journal kept.at k j u) (sym (word_same s.words i next_word))
+            (fits_set t kept.journal kept.at (slice_index s.words next_word) s.views id w (λ j u _ e. kept.fits j u e) (seeing_fits t kept.journal kept.at (slice_index s.words next_word) id v f));
       },
       (
         refl,
@@ -118,7 +119,7 @@ mark_after procs journal e ws i new n false is lt was m =
     let apart : n ≢ i = grind (arith, nat_tests) in
     get_or-set_other ws i n new 0 apart ∙ (was ∙ sym m)
 
-publishes : (t : Terms) (slots id i new : ℕ) (v : View) (e : Entry) → v.number ≡ Some 0 → v.joined ≡ Some (suc e.pid.0) → IsHistory t (v.seen ++ e ∷ []) → i < 65 → MarksOne t.procs v.seen e i new
+publishes : (t : Terms) (slots id i new : ℕ) (v : View) (e : Entry) → v.number ≡ Some 0 → v.joined ≡ Some (suc e.pid.0) → IsHistory t (v.seen ++ e ∷ []) → i ≤ MOST_PORTS → MarksOne t.procs v.seen e i new
     → Allows (Kept t) slots id (v, []) i (λ _. new) (λ _. Published e (step slots i new 0 none) (v, []) new)
 publishes t slots id i new v e first second history small marks s kept homes at bound =
     let f = kept.fits id v at in
@@ -126,7 +127,7 @@ publishes t slots id i new v e first second history small marks s kept homes at 
     let mine = f.joined (suc e.pid.0) second in
     let same : v.seen ≡ kept.journal = hub.knows in
     let w = grown v e in
-    let last : slice_index (set s.words i new) 65 ≡ slice_index s.words 65 = get_or-set_other s.words i 65 new 0 (λ (is : 65 ≡ i). omega arith) in (
+    let last : slice_index (set s.words i new) next_word ≡ slice_index s.words next_word = get_or-set_other s.words i next_word new 0 (λ (is : next_word ≡ i). omega arith) in (
       w,
       keeps,
       tt,
@@ -138,12 +139,12 @@ publishes t slots id i new v e first second history small marks s kept homes at 
         marks = λ n lo hi. mark_after t.procs kept.journal e s.words i new n (n == i) refl (omega (arith, kept.count)) (kept.marks n lo hi)
             (subst (λ (l : List Entry). MatchBool (n == i) (mark t.procs (l ++ e ∷ []) n ≡ new) (mark t.procs (l ++ e ∷ []) n ≡ mark t.procs l n)) same (marks n lo hi));
         drawn = λ p le.
-            let le' : slice_index s.words 65 ≤ p + 1 = subst (λ (k : ℕ). k ≤ p + 1) last le in
-            own_other p kept.journal e (λ (is : e.pid.0 ≡ p). let lt : suc e.pid.0 < slice_index s.words 65 = mine.drawn in omega arith) ∙ kept.drawn p le';
+            let le' : slice_index s.words next_word ≤ p + 1 = subst (λ (k : ℕ). k ≤ p + 1) last le in
+            own_other p kept.journal e (λ (is : e.pid.0 ≡ p). let lt : suc e.pid.0 < slice_index s.words next_word = mine.drawn in omega arith) ∙ kept.drawn p le';
         fits = subst (λ (k : ℕ). (j : ℕ) (u : View) → get_elem? (set s.views id w) j ≡ some u → Fits t (kept.journal ++ e ∷ []) kept.at k j u) (sym last)
-            (fits_set t (kept.journal ++ e ∷ []) kept.at (slice_index s.words 65) s.views id w
-            (λ j u apart there. other_fits t kept.journal kept.at (slice_index s.words 65) id j u e apart hub.here mine.here (kept.fits j u there))
-            (grown_fits t kept.journal kept.at (slice_index s.words 65) id v e same f));
+            (fits_set t (kept.journal ++ e ∷ []) kept.at (slice_index s.words next_word) s.views id w
+            (λ j u apart there. other_fits t kept.journal kept.at (slice_index s.words next_word) id j u e apart hub.here mine.here (kept.fits j u there))
+            (grown_fits t kept.journal kept.at (slice_index s.words next_word) id v e same f));
       },
       (refl, refl),
     )
@@ -159,7 +160,7 @@ looks_as t slots id i me empty has =
     let k = some_of me.0.number has in
     subst (λ (l : List (ℕ × Unit {0})). Allows (Kept t) slots id (me.0, l) i (λ n. n) (Looked (step slots i 0 0 none) (me.0, l))) (sym empty) (looks t slots id i k.0 me.0 k.1)
 
-pub publishes_as : (t : Terms) (slots id i new : ℕ) (me : Me (Unit {0}) View) (e : Entry) → me.1 ≡ [] → me.0.number ≡ Some 0 → me.0.joined ≡ Some (e.pid.0 + 1) → IsHistory t (me.0.seen ++ e ∷ []) → i < 65 → MarksOne t.procs me.0.seen e i new
+pub publishes_as : (t : Terms) (slots id i new : ℕ) (me : Me (Unit {0}) View) (e : Entry) → me.1 ≡ [] → me.0.number ≡ Some 0 → me.0.joined ≡ Some (e.pid.0 + 1) → IsHistory t (me.0.seen ++ e ∷ []) → i ≤ MOST_PORTS → MarksOne t.procs me.0.seen e i new
     → Allows (Kept t) slots id me i (λ _. new) (λ _. Published e (step slots i new 0 none) me new)
 publishes_as t slots id i new me e empty first second history small marks =
     subst (λ (l : List (ℕ × Unit {0})). Allows (Kept t) slots id (me.0, l) i (λ _. new) (λ _. Published e (step slots i new 0 none) (me.0, l) new)) (sym empty)

@@ -4,6 +4,7 @@ use Rattle.std.specs.Prelude.{◌≡◌, ◌<◌, ◌==◌, ℕ, false, List, []
 use Rattle.hub_base.specs.declared.value.Pid.{Pid}
 use Rattle.hub_base.specs.declared.entry.Entry.{Entry}
 use Rattle.hub_base.specs.declared.event.Event.{Event}
+use Rattle.hub_base.specs.declared.limits.TheConstants.{MOST_PROCS}
 use Rattle.hub_base.specs.Steps.{is_waiting}
 use Rattle.hub_laws.specs.Journals.{IsLegal}
 use Rattle.hub_laws.specs.Replies.{reply, last_from}
@@ -13,18 +14,18 @@ use Rattle.hub_core.specs.HubView.{HubView, Steps}
 -- a hub, and the answers that wait
 pub record LockedView : Type 0 where
   pub hub : HubView
-  -- for each number below 64 the answer that waits for that process, if one does
-  pub waiting : List (Option Event)
+  -- for each number that a process may have the answer that waits for that process, if one does
+  pub answers : List (Option Event)
   -- whose calls the last step that was made ended, in the order in which they were told
-  pub answered : List Pid
+  pub ended : List Pid
 
 -- the answer that waits for process q, if one does
 abbrev pub answer_for : List (Option Event) → ℕ → Option Event
-answer_for waiting q = slice_index_or waiting q None
+answer_for answers q = slice_index_or answers q None
 
 -- a hub for which no answer waits
 abbrev pub none_waits : HubView → LockedView
-none_waits hub = record { hub = hub; waiting = replicate 64 None; answered = [] }
+none_waits hub = record { hub = hub; answers = replicate MOST_PROCS None; ended = [] }
 
 -- ---- what every locked hub keeps
 
@@ -35,10 +36,10 @@ pub record IsReplyTo (n q : ℕ) (es : List Entry) (x : Event) : Type 0 where
 
 -- the journal is legal, and an answer that waits is its process's reply. So none waits for a process
 -- that has an open call
-pub record IsLawful (hub : HubView) (waiting : List (Option Event)) : Type 0 where
+pub record IsLawful (hub : HubView) (answers : List (Option Event)) : Type 0 where
   pub legal : IsLegal hub.procs hub.journal
-  pub places : length waiting ≡ 64
-  pub replies : (q : ℕ) → IfSome (answer_for waiting q) (IsReplyTo hub.procs q hub.journal)
+  pub places : length answers ≡ MOST_PROCS
+  pub replies : (q : ℕ) → IfSome (answer_for answers q) (IsReplyTo hub.procs q hub.journal)
 
 -- ---- a step
 
@@ -49,8 +50,8 @@ last_told q before xs = last_from before (filter (λ x. x.pid.0 == q) xs)
 -- what waits for process q after a step of this caller that ended these calls: the last event of q
 -- among them, or else what waited before, but for the caller nothing
 abbrev pub answer_after : List (Option Event) → Pid → List Event → ℕ → Option Event
-answer_after waiting caller ended q =
-    last_told q (if caller.0 == q then None else answer_for waiting q) ended
+answer_after answers caller ended q =
+    last_told q (if caller.0 == q then None else answer_for answers q) ended
 
 -- the processes of these events
 abbrev pub pids_of : List Event → List Pid
@@ -61,14 +62,14 @@ pids_of xs = map (λ x. x.pid) xs
 pub record Serves (old : LockedView) (e : Entry) (new : LockedView) (answer : Event) : Type 0 where
   pub ended : List Event
   pub step : Steps old.hub e new.hub (answer ∷ ended)
-  pub places : length new.waiting ≡ 64
-  pub waiting :
-      (q : ℕ) → q < 64 → answer_for new.waiting q ≡ answer_after old.waiting e.pid ended q
-  pub answered : new.answered ≡ pids_of ended
+  pub places : length new.answers ≡ MOST_PROCS
+  pub answers :
+      (q : ℕ) → q < MOST_PROCS → answer_for new.answers q ≡ answer_after old.answers e.pid ended q
+  pub pids : new.ended ≡ pids_of ended
 
 -- ---- an answer is taken
 
 -- nothing waits for process q any longer, and all else is as before
 abbrev pub without_answer : LockedView → ℕ → LockedView
 without_answer l q =
-    record { hub = l.hub; waiting = slice_set l.waiting q None; answered = l.answered }
+    record { hub = l.hub; answers = slice_set l.answers q None; ended = l.ended }

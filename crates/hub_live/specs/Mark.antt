@@ -1,10 +1,11 @@
 -- The mark of a port: whether it is closed and its two counts, as one number below 2^64. A port
 -- that is not made has the mark 0.
-use Rattle.std.specs.Prelude.{◌≡◌, ◌<◌, ◌==◌, ℕ, ◌+◌, ◌-◌, ◌*◌, ◌/◌, ◌%◌, ◌^◌, ◌++◌, nat_le, List, [], ◌∷◌, Option, None, Some, MatchBool, if◌then◌else◌}
+use Rattle.std.specs.Prelude.{◌≡◌, ◌<◌, ◌≤◌, ◌==◌, ℕ, ◌+◌, ◌-◌, ◌*◌, ◌/◌, ◌%◌, ◌^◌, ◌++◌, nat_le, List, [], ◌∷◌, Option, None, Some, MatchBool, if◌then◌else◌}
 use Rattle.std.specs.Option.{option_map, option_map_or}
 use Rattle.hub_base.specs.declared.value.Port.{Port}
 use Rattle.hub_base.specs.declared.counts.Counts.{Counts}
 use Rattle.hub_base.specs.declared.entry.Entry.{Entry}
+use Rattle.hub_base.specs.declared.limits.TheConstants.{MOST_PORTS}
 use Rattle.hub_base.specs.State.{State, channel_at}
 use Rattle.hub_base.specs.Runs.{state}
 use Rattle.hub_core.specs.Looks.{counts_of}
@@ -57,7 +58,7 @@ mark n es number = mark_at (state n es) (port_numbered number)
 -- the entry changes at most the mark of this number, which it makes `new`
 abbrev pub MarksOne : ℕ → List Entry → Entry → ℕ → ℕ → Type 0
 MarksOne n es e word new =
-    (number : ℕ) → 0 < number → number < 65 →
+    (number : ℕ) → 0 < number → number ≤ MOST_PORTS →
     MatchBool (number == word)
     (mark n (es ++ e ∷ []) number ≡ new)
     (mark n (es ++ e ∷ []) number ≡ mark n es number)

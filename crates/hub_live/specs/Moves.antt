@@ -1,12 +1,13 @@
 -- What each step on a hub's words changes in the view of the seat that makes it.
-use Rattle.std.specs.Prelude.{◌≡◌, ℕ, ◌==◌, ◌<◌, List, [], ◌∷◌, ◌++◌, Some, None, MatchBool}
+use Rattle.std.specs.Prelude.{◌≡◌, ℕ, ◌==◌, ◌<◌, ◌≤◌, List, [], ◌∷◌, ◌++◌, Some, None, MatchBool}
 use mathlib.Core.List.{IsPrefix}
 use Rattle.atomic_table.specs.Table.{Me, Step}
 use Rattle.hub_base.specs.declared.entry.Entry.{Entry}
 use Rattle.hub_base.specs.declared.entry.Step.TheVariants.{Exit}
+use Rattle.hub_base.specs.declared.limits.TheConstants.{MOST_PORTS}
 use Rattle.hub_live.specs.declared.rule.View.{View}
 use Rattle.hub_live.specs.Mark.{mark}
-use Rattle.hub_live.specs.Rule.{IsHistory, Knows, next_word}
+use Rattle.hub_live.specs.Rule.{IsHistory, Knows}
 
 abbrev pub no_entry : Entry
 no_entry = record { pid = record { 0 = 0 }; step = Exit }
@@ -31,7 +32,7 @@ pub record Sees (v w : View) : Type 0 where
 abbrev pub Looked : Step (Unit {0}) → Me (Unit {0}) View → ℕ → Me (Unit {0}) View → Type 0
 Looked s v found w =
     (w.1 ≡ v.1) × Sees v.0 w.0
-    × (0 < s.word → s.word < next_word → found ≡ mark v.0.terms.procs w.0.seen s.word)
+    × (0 < s.word → s.word ≤ MOST_PORTS → found ≡ mark v.0.terms.procs w.0.seen s.word)
 
 -- ---- a number is drawn
 

@@ -5,7 +5,7 @@ use mathlib.Core.List.{IsPrefix}
 use lib.ListN.{get_elem?}
 use Rattle.atomic_table.specs.Table.{State}
 use Rattle.hub_base.specs.declared.entry.Entry.{Entry}
-use Rattle.hub_base.specs.Limits.{most_steps}
+use Rattle.hub_base.specs.declared.limits.TheConstants.{MOST_PORTS, MOST_STEPS}
 use Rattle.hub_base.specs.Text.{steps_of}
 use Rattle.hub_laws.specs.Journals.{IsLegal}
 use Rattle.hub_laws.specs.Replies.{own}
@@ -13,18 +13,18 @@ use Rattle.hub_live.specs.declared.name.Terms.{Terms}
 use Rattle.hub_live.specs.declared.rule.View.{View}
 use Rattle.hub_live.specs.Mark.{mark}
 
--- the words: 1 to 64 hold the marks of the ports of these numbers, the last one the next number to
--- be drawn. Of word 0 nothing is known
+-- the words: those from 1 to `MOST_PORTS` hold the marks of the ports of these numbers, the last one the
+-- next number to be drawn. Of word 0 nothing is known
 abbrev pub word_count : ℕ
-word_count = 66
+word_count = MOST_PORTS + 2
 
 abbrev pub next_word : ℕ
-next_word = 65
+next_word = MOST_PORTS + 1
 
 -- what a journal of a hub is
 pub record IsHistory (t : Terms) (journal : List Entry) : Type 0 where
   pub legal : IsLegal t.procs journal
-  pub few : steps_of journal ≤ most_steps
+  pub few : steps_of journal ≤ MOST_STEPS
 
 -- a new seat, which has no number yet
 abbrev pub blank : Terms → View
@@ -62,7 +62,7 @@ pub record Kept (t : Terms) (s : State (Unit {0}) View) : Type 0 where
   pub at : ℕ → ℕ
   pub count : length s.words ≡ word_count
   pub history : IsHistory t journal
-  pub marks : (n : ℕ) → 0 < n → n < next_word → slice_index s.words n ≡ mark t.procs journal n
+  pub marks : (n : ℕ) → 0 < n → n ≤ MOST_PORTS → slice_index s.words n ≡ mark t.procs journal n
   -- a process whose number is not drawn has no entry
   pub drawn : (p : ℕ) → slice_index s.words next_word ≤ p + 1 → own p journal ≡ []
   pub fits :

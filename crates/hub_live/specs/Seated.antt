@@ -3,7 +3,7 @@ use Rattle.std.specs.Prelude.{◌≡◌, ℕ, ◌+◌, ◌<◌, ◌≤◌, [], O
 use Rattle.atomic_table.specs.Seated.{TableId}
 use Rattle.atomic_table.specs.declared.shared.Seat.{Seat}
 use Rattle.hub_base.specs.declared.value.Pid.{Pid}
-use Rattle.hub_base.specs.Limits.{most_steps}
+use Rattle.hub_base.specs.declared.limits.TheConstants.{MOST_STEPS}
 use Rattle.hub_base.specs.Text.{steps_of}
 use Rattle.hub_core.specs.HubView.{HubView}
 use Rattle.hub_live.specs.declared.name.Terms.{Terms}
@@ -36,7 +36,7 @@ IsSeated pid (Some t) = IsAlone pid t
 pub record IsHub (t : Terms) (h : HubView) : Type 0 where
   pub procs : h.procs ≡ t.procs
   pub limit : h.limit ≡ t.limit
-  pub most : t.limit ≤ most_steps
+  pub most : t.limit ≤ MOST_STEPS
   pub history : IsHistory t h.journal
   pub within : steps_of h.journal ≤ t.limit
 

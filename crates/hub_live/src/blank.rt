@@ -24,9 +24,13 @@ use std::sync::Condvar;
 /// under its lock.
 #[derive(Drop)]
 pub struct Blank {
+    /// The words, on which nothing was written.
     table: HubTable,
+    /// The seat of the table that is the hub's own.
     token: Token,
+    /// The hub, at which nothing has happened.
     locked: Locked,
+    /// What the thread of each process waits on.
     wakers: Vec<Condvar>,
 }
 
@@ -76,8 +80,8 @@ fn seats_of(alloc: Global, table: &HubTable, procs: u8) -> Result<Vec<Seat>, All
 }
 
 impl Blank {
-    /// A hub of 1 to 64 processes whose journal may hold 1 to 1,000,000 entries that are no exits,
-    /// and a seat for each process, in order. Refused as `Hub::open` is, and nothing is kept; by
+    /// A hub of 1 to `MOST_PROCS` processes whose journal may hold 1 to `MOST_STEPS` entries that are no
+    /// exits, and a seat for each process, in order. Refused as `Hub::open` is, and nothing is kept; by
     /// `NoMemory` also where the words, the condition variables or the seats were refused memory, or a
     /// seat can't draw its number.
     #[tactic(auto, using(crate::proofs::Laters::all_of_hub))]

@@ -7,7 +7,6 @@
 ghost use Rattle.std.specs.Prelude.{◌≡◌, ◌≤◌, ◌<◌, ◌+◌, ◌++◌, ◌∷◌, [], List, length, Some, None, false, IfOk, IfErr, OnOk, OnErr, IfSome, IfNone, OnSome};
 ghost use mathlib.Core.List.{IsPrefix};
 ghost use Rattle.hub_base.specs.declared.entry.Entry.{Entry};
-ghost use Rattle.hub_base.specs.Limits.{most_steps};
 ghost use Rattle.hub_base.specs.Runs.{state};
 ghost use Rattle.hub_base.specs.Steps.{is_waiting};
 ghost use Rattle.hub_base.specs.Text.{steps_of};
@@ -29,15 +28,18 @@ use crate::name::HubName;
 use crate::rule::Token;
 use crate::seat::InnerSeat;
 use crate::words::Words;
-use hub_base::{Entry, Event, Fault, Journal, Pid, Port, Step, What};
+use hub_base::{Entry, Event, Fault, Journal, MOST_STEPS, Pid, Port, Step, What};
 use hub_core::port_touched;
 use std::marker::{Model, PhantomData};
 
 /// The locked hub, and the hub's own seat. To a contract it is the locked hub.
 #[derive(Drop)]
 pub struct Desk<K: HubName> {
+    /// The hub, and the answers that wait.
     locked: Locked,
+    /// The seat of the table that is the hub's own.
     token: Token,
+    /// Which hub it is.
     of: PhantomData<K>,
 }
 
@@ -63,7 +65,7 @@ fn touched(step: &Step, answer: What) -> Port
 /// The mark of a port, 0 where it is not made.
 fn mark_at(locked: &Locked, port: Port) -> u64
     requires legal { IsLegal locked.now.hub.procs locked.now.hub.journal }
-    requires few { steps_of locked.now.hub.journal ≤ most_steps }
+    requires few { steps_of locked.now.hub.journal ≤ MOST_STEPS }
     ensures { result ≡ mark_at (state_of locked.now.hub) port }
 {
     match locked.look(port) {
@@ -210,7 +212,7 @@ impl<K: HubName> Desk<K> {
         requires hub { seat.old.hub ≡ K.name }
 
         ensures same { (seat.new.hub ≡ seat.old.hub) × (seat.new.pid ≡ seat.old.pid) }
-        ensures answer { result ≡ answer_for self.old.waiting seat.old.pid.0 }
+        ensures answer { result ≡ answer_for self.old.answers seat.old.pid.0 }
         ensures taken { self.new ≡ without_answer self.old seat.old.pid.0 }
         ensures none { IfNone result ((self.new ≡ self.old) × (seat.new ≡ seat.old)) }
 
@@ -239,10 +241,10 @@ impl<K: HubName> Desk<K> {
     }
 
     /// Whose calls the last step ended, where it was made.
-    pub(crate) fn answered(&self) -> Pids
-        ensures { result.items ≡ self.now.answered }
+    pub(crate) fn ended(&self) -> Pids
+        ensures { result.items ≡ self.now.ended }
     {
-        self.locked.answered()
+        self.locked.ended()
     }
 
     /// Shows that the journal begins with what the seat has seen, and that its process asked nothing

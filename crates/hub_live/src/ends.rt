@@ -9,6 +9,7 @@ use std::marker::Model;
 /// A channel, which gives out its ends.
 #[derive(Clone, Copy, Debug, PartialEq, Eq)]
 pub struct Chan {
+    /// Its number.
     port: Port,
 }
 
@@ -25,6 +26,7 @@ impl Model for Chan {
 /// The end of a channel that sends and closes. It offers no call that makes the other end.
 #[derive(Clone, Copy, Debug, PartialEq, Eq)]
 pub struct SendPort {
+    /// Its number.
     port: Port,
 }
 
@@ -42,6 +44,7 @@ impl Model for SendPort {
 /// closes.
 #[derive(Clone, Copy, Debug, PartialEq, Eq)]
 pub struct RecvPort {
+    /// Its number.
     port: Port,
 }
 

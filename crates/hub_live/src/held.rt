@@ -25,7 +25,9 @@ use std::sync::Wait;
 /// A seat of the hub that `K` names. To a contract it is the seat. Each call is that of `LiveHub`.
 #[derive(Drop)]
 pub struct Held<K: HubName> {
+    /// The seat.
     seat: Seat,
+    /// Whose seat it is.
     of: PhantomData<K>,
 }
 

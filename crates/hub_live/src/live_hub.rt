@@ -23,15 +23,15 @@ use crate::name::HubName;
 use crate::rule::Token;
 use crate::seat::Seat;
 use crate::words::Words;
-use hub_base::{
-    Cases, CasesExt, Counts, Entry, Event, Fault, Journal, Pid, Port, Step, Value, What,
-};
+use hub_base::{Cases, CasesExt, Counts, Entry, Event, Fault, Journal, MOST_PORTS, Pid, Port, Step, Value, What};
 use std::sync::{Condvar, Mutex, Wait};
 
 /// A hub that threads share. Each seat that is passed to it must come from its own `Blank::open`.
 #[derive(Drop)]
 pub struct LiveHub<K: HubName> {
+    /// What threads read without the lock.
     words: Words<K>,
+    /// What a step takes the lock for.
     desk: Mutex<Desk<K>>,
     /// By process number: told when an answer waits for that process. A wake is only a hint: a call
     /// ends where it finds its own answer.
@@ -56,7 +56,7 @@ fn look_as<K: HubName>(
     requires alone { IsAlone pid mine }
     requires terms { mine.me.0.terms ≡ K.name.terms }
     requires idle { IsIdle (seat_of pid (Some mine)) }
-    requires port { (0 < port.0) × (port.0 < 65) }
+    requires port { (0 < port.0) × (port.0 ≤ MOST_PORTS) }
     ensures alone { IsAlone pid result.1 }
     ensures later { Later (seat_of pid (Some mine)) (seat_of pid (Some result.1)) }
     ensures same { AskedNothing (seat_of pid (Some mine)) (seat_of pid (Some result.1)) }
@@ -102,8 +102,8 @@ impl<K: HubName> LiveHub<K> {
     }
 
     /// Wakes the processes whose calls ended, and no others.
-    fn wake(&self, answered: &Pids) {
-        for pid in answered.as_slice() {
+    fn wake(&self, ended: &Pids) {
+        for pid in ended.as_slice() {
             if let Some(waker) = self.wakers.get(usize::from(pid.0)) {
                 waker.notify_one();
             }
@@ -122,14 +122,14 @@ impl<K: HubName> LiveHub<K> {
         let waker = &self.wakers[usize::from(seat.pid().0)];
         let mut desk = self.desk.lock(rt);
         let answer = desk.step(&self.words, &mut seat.inner, entry)?;
-        let answered = desk.answered();
+        let ended = desk.ended();
         if !is_parked(answer.what) {
             // Those who wake find the lock free.
             drop(desk);
-            self.wake(&answered);
+            self.wake(&ended);
             return Ok(answer);
         }
-        self.wake(&answered);
+        self.wake(&ended);
         for _ in rt.forever() {
             // A `Stalled` of its own may lie there already.
             if let Some(answer) = desk.pick(&self.words, &mut seat.inner) {
@@ -142,7 +142,7 @@ impl<K: HubName> LiveHub<K> {
 
     /// Makes a call of these cases, and waits until it ends: where a case fired, where the default was
     /// taken, or `Stalled` where everybody waits; never `What::Parked`. Of `k` cases that can proceed
-    /// number `word mod k` fires, counted from 0. More than 8 cases are answered by the fault
+    /// number `word mod k` fires, counted from 0. More than `MOST_CASES` cases are answered by the fault
     /// `TooManyCases`, and a port that was not made by `NoPort`. Others may take the lock while it waits.
     ///
     /// Refused, with no entry made and the hub as before, by `JournalFull` where the journal holds as
@@ -215,9 +215,9 @@ impl<K: HubName> LiveHub<K> {
         self.call(rt, seat, Cases::one(receiver.recv()), false, 0)
     }
 
-    /// Makes a channel with a buffer of `cap` values, 0 to 1,024; with 0 it is unbuffered. Answered
-    /// `Made` with its port, the next number from 1 on, or the fault `BadCap` above 1,024 or
-    /// `TooManyPorts` where 64 are made. It takes the lock, and waits for no other step.
+    /// Makes a channel with a buffer of `cap` values, 0 to `MOST_CAP`; with 0 it is unbuffered. Answered
+    /// `Made` with its port, the next number from 1 on, or the fault `BadCap` above that or `TooManyPorts`
+    /// where `MOST_PORTS` are made. It takes the lock, and waits for no other step.
     ///
     /// Refused as a call is, and by `NoMemory` also where the channel's memory was refused. Go: "Making
     /// slices, maps and channels".
@@ -297,7 +297,7 @@ impl<K: HubName> LiveHub<K> {
     {
         // Its contract says that the seat is idle, which holds still where nothing is loaded.
         let _pid = seat.pid();
-        if port.0 == 0 || port.0 > 64 {
+        if port.0 == 0 || port.0 as usize > MOST_PORTS {
             return None;
         }
         self.load(seat, port)
@@ -306,7 +306,7 @@ impl<K: HubName> LiveHub<K> {
     /// The counts of a port that has a word.
     fn load(&self, seat: &mut Seat, port: Port) -> Option<Counts>
         requires hub { seat.old.hub ≡ K.name }
-        requires port { (0 < port.0) × (port.0 < 65) }
+        requires port { (0 < port.0) × (port.0 ≤ MOST_PORTS) }
         ensures later { Later seat.old seat.new }
         ensures same { AskedNothing seat.old seat.new }
         ensures counts { result ≡ counts_at (state_seen seat.new) port }

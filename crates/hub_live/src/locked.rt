@@ -13,21 +13,22 @@ ghost use Rattle.hub_core.specs.HubView.{Refuses, state_of};
 ghost use Rattle.hub_live.specs.Locked.{answer_for, none_waits, IsReplyTo, last_told, pids_of, Serves, without_answer};
 
 use arrayvec::ArrayVec;
-use hub_base::{Entry, Event, Events, Fault, Journal, Look, Pid, Port};
+use hub_base::{Entry, Event, Events, Fault, Journal, Look, MOST_PROCS, Pid, Port};
 use hub_core::Hub;
 use std::marker::Model;
 
-/// Processes, of which a hub has at most 64.
-pub type Pids = ArrayVec<Pid, 64>;
+/// Processes of a hub.
+pub type Pids = ArrayVec<Pid, MOST_PROCS>;
 
 /// A hub, and for each process an answer that may wait to be picked up.
 #[derive(Drop)]
 pub struct Locked {
+    /// The hub.
     hub: Hub,
-    /// By process number. A hub has at most 64 processes.
-    waiting: [Option<Event>; 64],
+    /// The answer that waits for each process, by its number.
+    answers: [Option<Event>; MOST_PROCS],
     /// Whose calls the last step that was made ended.
-    answered: Pids,
+    ended: Pids,
     /// Where the hub leaves the events of a step. Contracts do not see them.
     events: Events,
 }
@@ -38,34 +39,34 @@ impl Model for Locked {
     ghost Value = { LockedView };
 
     ghost view = { λ l.
-        record { hub = l.hub.hub; waiting = l.waiting; answered = l.answered.items } };
+        record { hub = l.hub.hub; answers = l.answers; ended = l.ended.items } };
 
-    ghost invariant = { λ l. IsLawful l.hub.hub l.waiting };
+    ghost invariant = { λ l. IsLawful l.hub.hub l.answers };
 }
 
 /// Puts an answer, or none, into the place of a process, where it has one.
-fn put(waiting: &mut [Option<Event>], pid: Pid, answer: Option<Event>)
-    ensures { waiting.new ≡ slice_set waiting.old pid.0 answer }
+fn put(answers: &mut [Option<Event>], pid: Pid, answer: Option<Event>)
+    ensures { answers.new ≡ slice_set answers.old pid.0 answer }
 {
     let place = usize::from(pid.0);
-    if place < waiting.len() {
-        waiting[place] = answer;
+    if place < answers.len() {
+        answers[place] = answer;
     }
 }
 
 /// Puts each event into the place of its process, in order.
-fn put_all(waiting: &mut [Option<Event>], events: &[Event])
-    ensures { (q : ℕ) → q < length waiting.old →
-        answer_for waiting.new q ≡ last_told q (answer_for waiting.old q) events.now }
+fn put_all(answers: &mut [Option<Event>], events: &[Event])
+    ensures { (q : ℕ) → q < length answers.old →
+        answer_for answers.new q ≡ last_told q (answer_for answers.old q) events.now }
 {
     for event in events {
-        put(waiting, event.pid, Some(*event));
+        put(answers, event.pid, Some(*event));
     }
 }
 
 /// The processes of these events.
 fn pids_of(events: &[Event]) -> Pids
-    requires { length events.now ≤ 64 }
+    requires { length events.now ≤ MOST_PROCS }
     ensures { result.items ≡ pids_of events.now }
 {
     let mut pids = Pids::new();
@@ -84,8 +85,8 @@ impl Locked {
         let _journal = hub.entries();
         Locked {
             hub,
-            waiting: [None; 64],
-            answered: Pids::new(),
+            answers: [None; MOST_PROCS],
+            ended: Pids::new(),
             events: Events::new(),
         }
     }
@@ -109,23 +110,23 @@ impl Locked {
             unreachable!()
         };
         let answer = *first;
-        put(&mut self.waiting, caller, None);
-        put_all(&mut self.waiting, ended);
-        self.answered = pids_of(ended);
+        put(&mut self.answers, caller, None);
+        put_all(&mut self.answers, ended);
+        self.ended = pids_of(ended);
         Ok(answer)
     }
 
     /// Takes out the answer that waits for a process: the process's reply, and the process has no open
     /// call. `None` where no answer waits for it, and where there is no such process.
     pub fn take(&mut self, pid: Pid) -> Option<Event>
-        ensures answer { result ≡ answer_for self.old.waiting pid.0 }
+        ensures answer { result ≡ answer_for self.old.answers pid.0 }
         ensures taken { self.new ≡ without_answer self.old pid.0 }
         ensures reply { IfSome result (IsReplyTo self.old.hub.procs pid.0 self.old.hub.journal) }
         ensures none { IfNone result (self.new ≡ self.old) }
     {
         let place = usize::from(pid.0);
-        if place < self.waiting.len() {
-            self.waiting[place].take()
+        if place < self.answers.len() {
+            self.answers[place].take()
         } else {
             None
         }
@@ -133,11 +134,11 @@ impl Locked {
 
     /// Whose calls the last step that was made ended: they are to be woken. A wake is only a hint: no
     /// clause says that one comes.
-    pub fn answered(&self) -> Pids
-        ensures { result.items ≡ self.now.answered }
+    pub fn ended(&self) -> Pids
+        ensures { result.items ≡ self.now.ended }
     {
         let mut pids = Pids::new();
-        match pids.try_extend_from_slice(self.answered.as_slice()) {
+        match pids.try_extend_from_slice(self.ended.as_slice()) {
             Ok(()) => pids,
             Err(_full) => unreachable!(),
         }
@@ -165,8 +166,8 @@ impl Locked {
     {
         let Locked {
             hub,
-            waiting: _,
-            answered: _,
+            answers: _,
+            ended: _,
             events: _,
         } = self;
         hub.into_journal()

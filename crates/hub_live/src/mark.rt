@@ -1,10 +1,9 @@
 //! Marks: whether a port is closed and its two counts in one word, so that one load tells them.
 
 ghost use Rattle.std.specs.Prelude.{◌≡◌, ◌≤◌};
-ghost use Rattle.hub_base.specs.Limits.{most_steps};
 ghost use Rattle.hub_live.specs.Mark.{mark_of, read_back};
 
-use hub_base::Counts;
+use hub_base::{Counts, MOST_STEPS};
 
 /// A count is below this.
 const COUNTS: u64 = 1 << 31;
@@ -16,10 +15,10 @@ const MADE: u64 = 1 << 62;
 const CLOSED: u64 = 1 << 63;
 
 /// The mark of a port that was made: `2^63 * closed + 2^62 + 2^31 * sent + received`, both counts at
-/// most 1,000,000. How many values are buffered is told by their difference alone.
+/// most `MOST_STEPS`. How many values are buffered is told by their difference alone.
 pub fn mark_of(counts: &Counts) -> u64
-    requires sent { counts.now.sent ≤ most_steps }
-    requires received { counts.now.received ≤ most_steps }
+    requires sent { counts.now.sent ≤ MOST_STEPS }
+    requires received { counts.now.received ≤ MOST_STEPS }
     ensures { result ≡ mark_of counts.now }
 {
     let closed = if counts.closed { CLOSED } else { 0 };

@@ -5,9 +5,9 @@ use std::marker::Brand;
 /// What a hub was opened with.
 #[derive(Clone, Copy)]
 pub struct Terms {
-    /// The number of processes, 1 to 64.
+    /// The number of processes, 1 to `MOST_PROCS`.
     pub procs: u8,
-    /// How many entries that are no exits the journal may hold, 1 to 1,000,000.
+    /// How many entries that are no exits the journal may hold, 1 to `MOST_STEPS`.
     pub limit: u32,
 }
 

@@ -13,6 +13,7 @@ use std::marker::{Brand, PhantomData};
 
 /// What a seat of the table knows. No value of it is made.
 pub(crate) struct View {
+    /// What its hub was opened with.
     pub terms: Terms,
     /// The seat's number, once it has drawn it: 0 for the hub's own, `p + 1` for that of process
     /// `p`.
@@ -77,6 +78,7 @@ impl NamesEntry for Brand {
 
 /// The store that publishes: the journal gains the entry.
 pub(crate) struct PublishStep<E> {
+    /// The type that names the entry.
     of: PhantomData<E>,
 }
 

@@ -11,6 +11,7 @@ use std::marker::Model;
 /// The seat of a process, which may have an open call.
 #[derive(Drop)]
 pub struct InnerSeat {
+    /// The process whose seat it is.
     pub(crate) pid: Pid,
     /// Taken out while it is joined to another.
     pub(crate) token: Option<Token>,
@@ -51,6 +52,7 @@ impl InnerSeat {
 /// The seat of a process that has no open call.
 #[derive(Drop)]
 pub struct Seat {
+    /// What the hub's calls take.
     pub(crate) inner: InnerSeat,
 }
 

@@ -1,6 +1,6 @@
 //! The words that threads share, and the steps that seats make on them.
 
-ghost use Rattle.std.specs.Prelude.{◌≡◌, ◌<◌, ◌+◌, [], ◌∷◌, ◌++◌, Some, None, IsSome, IfOk};
+ghost use Rattle.std.specs.Prelude.{◌≡◌, ◌<◌, ◌≤◌, ◌+◌, [], ◌∷◌, ◌++◌, Some, None, IsSome, IfOk};
 ghost use Rattle.hub_live.specs.Mark.{mark, MarksOne};
 ghost use Rattle.hub_live.specs.Rule.{IsHistory, blank, next_word, word_count};
 ghost use Rattle.hub_live.specs.Moves.{Sees, grown, numbered, with_joined, parted, given_back};
@@ -10,20 +10,22 @@ use crate::name::{HubName, Terms};
 use crate::rule::{
     DrawStep, EnterStep, HubTable, LookStep, NamesEntry, PublishStep, TakesIn, Token,
 };
-use hub_base::Entry;
+use hub_base::{Entry, MOST_PORTS};
 use std::alloc::{AllocError, Global};
 use std::marker::{Brand, PhantomData};
 
-/// A spare word, one for each of 64 ports, and `NEXT`.
-const WORDS: usize = 66;
+/// A spare word, one for each port that there may be, and `NEXT`.
+const WORDS: usize = MOST_PORTS + 2;
 
 /// The word that holds the next number to be drawn.
-const NEXT: usize = 65;
+const NEXT: usize = MOST_PORTS + 1;
 
 /// The words of the hub that `K` names.
 #[derive(Drop)]
 pub struct Words<K: HubName> {
+    /// The words, and what holds of them between any two steps.
     table: HubTable,
+    /// Which hub they are of.
     of: PhantomData<K>,
     ghost is: { IsTableOf K.name table.shared.table_id table.shared.key },
 }
@@ -44,7 +46,7 @@ impl<K: HubName> Words<K> {
         requires hub { token.old.me.0.number ≡ Some 0 }
         requires caller { token.old.me.0.joined ≡ Some (entry.now.pid.0 + 1) }
         requires history { IsHistory K.name.terms (token.old.me.0.seen ++ entry.now ∷ []) }
-        requires word { word < next_word }
+        requires word { word ≤ MOST_PORTS }
         requires mark { MarksOne K.name.terms.procs token.old.me.0.seen entry.now word mark }
         ensures same { (token.new.table_id ≡ token.old.table_id) × (token.new.me.1 ≡ []) }
         ensures view { token.new.me.0 ≡ grown token.old.me.0 entry.now }
@@ -59,7 +61,7 @@ impl<K: HubName> Words<K> {
         requires hub { token.old.me.0.number ≡ Some 0 }
         requires caller { token.old.me.0.joined ≡ Some (entry.now.pid.0 + 1) }
         requires history { IsHistory K.name.terms (token.old.me.0.seen ++ entry.now ∷ []) }
-        requires word { word < next_word }
+        requires word { word ≤ MOST_PORTS }
         requires mark { MarksOne K.name.terms.procs token.old.me.0.seen entry.now word mark }
         ensures same { (token.new.table_id ≡ token.old.table_id) × (token.new.me.1 ≡ []) }
         ensures view { token.new.me.0 ≡ grown token.old.me.0 entry.now }
@@ -72,7 +74,7 @@ impl<K: HubName> Words<K> {
     pub(crate) fn look(&self, token: &mut Token, word: usize) -> u64
         requires token { IsToken K.name token.old }
         requires number { IsSome token.old.me.0.number }
-        requires word { word < next_word }
+        requires word { word ≤ MOST_PORTS }
         ensures same { (token.new.table_id ≡ token.old.table_id) × (token.new.me.1 ≡ []) }
         ensures sees { Sees token.old.me.0 token.new.me.0 }
         ensures mark { 0 < word → result ≡ mark token.old.me.0.terms.procs token.new.me.0.seen word }

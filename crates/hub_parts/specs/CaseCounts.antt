@@ -4,7 +4,7 @@ use Rattle.hub_base.specs.declared.value.Port.{Port}
 use Rattle.hub_base.specs.declared.case.Case.{Case}
 use Rattle.hub_base.specs.declared.case.Case.TheVariants.{Send, Recv}
 use Rattle.hub_base.specs.Ready.{is_send_on, is_recv_on}
-use Rattle.hub_parts.specs.declared.limits.TheConstants.{MOST_PORTS}
+use Rattle.hub_base.specs.declared.limits.TheConstants.{MOST_PORTS}
 use Rattle.hub_parts.specs.Records.{Ticketed}
 use Rattle.hub_parts.specs.declared.side.Side.{Side}
 use Rattle.hub_parts.specs.declared.side.Side.TheVariants as side

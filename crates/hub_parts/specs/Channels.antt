@@ -3,7 +3,7 @@ use Rattle.std.specs.Prelude.{ℕ, ◌≡◌, ◌≤◌, ◌-◌, ◌*◌, List,
 use Rattle.circular_buffer.specs.Buffer.{Buffer, buffer}
 use Rattle.hub_base.specs.declared.value.Port.{Port}
 use Rattle.hub_base.specs.declared.value.Value.{Value}
-use Rattle.hub_parts.specs.declared.limits.TheConstants.{PLACES}
+use Rattle.hub_parts.specs.declared.wait_queue.TheConstants.{PLACES}
 use Rattle.hub_parts.specs.declared.side.Side.{Side}
 use Rattle.hub_parts.specs.declared.side.Side.TheVariants as side
 use Rattle.hub_parts.specs.declared.wait_queue.Waiter.{Waiter}

@@ -7,7 +7,8 @@ use Rattle.hub_base.specs.declared.value.Port.{Port}
 use Rattle.hub_base.specs.declared.value.Pid.{Pid}
 use Rattle.hub_base.specs.declared.case.Case.{Case}
 use Rattle.hub_base.specs.Ready.{is_send_on, is_recv_on, port_of}
-use Rattle.hub_parts.specs.declared.limits.TheConstants.{MOST_CASES, MOST_PORTS, PLACES}
+use Rattle.hub_base.specs.declared.limits.TheConstants.{MOST_CASES, MOST_PORTS}
+use Rattle.hub_parts.specs.declared.wait_queue.TheConstants.{PLACES}
 use Rattle.hub_parts.specs.declared.side.Side.{Side}
 use Rattle.hub_parts.specs.declared.side.Side.TheVariants as side
 use Rattle.hub_parts.specs.declared.wait_queue.Waiter.{Waiter}

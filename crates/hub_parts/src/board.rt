@@ -17,8 +17,8 @@ mod parking;
 #[cfg(test)]
 mod tests;
 
-use crate::{Channel, Ended, MOST_CASES, MOST_PORTS, Side, Tickets};
-use hub_base::{Cases, Pid, Port, Value};
+use crate::{Channel, Ended, Side, Tickets};
+use hub_base::{Cases, MOST_CASES, MOST_PORTS, Pid, Port, Value};
 use parking::{join, make_room};
 use std::alloc::{AllocError, Global};
 use std::marker::Model;
@@ -29,7 +29,9 @@ use std::marker::Model;
 /// their tickets, oldest first; and the least ticket that may come next. Only `new` and `make` take memory.
 #[derive(Drop)]
 pub struct Board {
+    /// The channels, in order of their ports from 1.
     ports: Vec<Channel>,
+    /// The calls that wait.
     calls: Tickets,
 }
 

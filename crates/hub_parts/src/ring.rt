@@ -12,6 +12,7 @@ use std::marker::Model;
 /// and the capacity.
 #[derive(Drop)]
 pub struct Ring {
+    /// What is buffered, oldest first.
     values: HeapCircularBuffer<Value>,
 }
 

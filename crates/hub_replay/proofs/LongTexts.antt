@@ -5,13 +5,13 @@ use Rattle.std.specs.Prelude.{codes, nat_lt, if◌then◌else◌}
 use Rattle.hub_base.specs.declared.entry.Entry.{Entry}
 use Rattle.hub_base.specs.declared.text.faults.Kind.{Kind}
 use Rattle.hub_base.specs.declared.text.faults.Kind.TheVariants.{TooLong, BadHeader}
-use Rattle.hub_base.specs.Limits.{most_bytes}
+use Rattle.hub_base.specs.declared.limits.TheConstants.{MOST_BYTES}
 use Rattle.hub_base.specs.Lines.{pieces, read_fields, same_text}
 use Rattle.hub_base.specs.Reading.{Reading, Faulty, Row, rows, front, end_of, within, faulty_or, entry_says, entries_from, counted, over, with_entry, procs_number, procs_say, procs_from, reading, read_text}
 
 -- the same rows up to one that ends past the limit in both
 data Alike : ℕ → List Row → List Row → Type 0 where
-  past : (start : ℕ) (r s : Row) (rs ss : List Row) → most_bytes < end_of start r → most_bytes < end_of start s → Alike start (r ∷ rs) (s ∷ ss)
+  past : (start : ℕ) (r s : Row) (rs ss : List Row) → MOST_BYTES < end_of start r → MOST_BYTES < end_of start s → Alike start (r ∷ rs) (s ∷ ss)
   next : (start : ℕ) (r : Row) (rs ss : List Row) → Alike (end_of start r) rs ss → Alike start (r ∷ rs) (r ∷ ss)
 
 -- a row that ends past the limit is too long
@@ -19,8 +19,8 @@ too_long_by : (b : Bool) (k : ℕ) (said : Reading) (other : Option Kind) → b 
 too_long_by true k said other e = refl
 too_long_by false k said other e = cc
 
-too_long : (end k : ℕ) (r : Row) (said : Reading) → most_bytes < end → within end k r said ≡ Faulty k TooLong
-too_long end k r said h = too_long_by (nat_lt most_bytes end) k said _ (lt-ltb most_bytes end h)
+too_long : (end k : ℕ) (r : Row) (said : Reading) → MOST_BYTES < end → within end k r said ≡ Faulty k TooLong
+too_long end k r said h = too_long_by (nat_lt MOST_BYTES end) k said _ (lt-ltb MOST_BYTES end h)
 
 entry_says-same : (k steps : ℕ) (r : Result Entry Kind) (f g : Entry → Reading) → ((e : Entry) → f e ≡ g e) → entry_says k steps r f ≡ entry_says k steps r g
 entry_says-same k steps (Err kind) f g same = refl
@@ -53,11 +53,11 @@ front-alike start c _ _ (next _ r rs ss h) =
     next start _ rs ss (let P : ℕ → Type 0 = λ place. Alike place rs ss in subst P (omega arith) h)
 
 -- the first row begins here, so it ends behind here
-front-last : (start c : ℕ) (rs : List Row) → most_bytes < start + 1 → Alike start (front c rs) (front c [])
+front-last : (start c : ℕ) (rs : List Row) → MOST_BYTES < start + 1 → Alike start (front c rs) (front c [])
 front-last start c [] h = past start _ _ [] [] (omega arith) (omega arith)
 front-last start c (r ∷ rs) h = past start _ _ rs [] (omega arith) (omega arith)
 
-last-by : (b : Bool) (start c : ℕ) (rs : List Row) → most_bytes < start + 1 →
+last-by : (b : Bool) (start c : ℕ) (rs : List Row) → MOST_BYTES < start + 1 →
     Alike start (if b then record { bytes = []; whole = true } ∷ rs else front c rs) (if b then record { bytes = []; whole = true } ∷ [] else front c [])
 last-by true start c rs h = past start _ _ rs [] (omega arith) (omega arith)
 last-by false start c rs h = front-last start c rs h
@@ -68,16 +68,16 @@ more-by true start c rs ss h = next start _ rs ss (let P : ℕ → Type 0 = λ p
 more-by false start c rs ss h = front-alike start c rs ss h
 
 -- bytes that pass the limit, and more behind them
-rows-alike : (start c : ℕ) (xs ys : List ℕ) → most_bytes < start + length (c ∷ xs) → Alike start (rows ((c ∷ xs) ++ ys)) (rows (c ∷ xs))
+rows-alike : (start c : ℕ) (xs ys : List ℕ) → MOST_BYTES < start + length (c ∷ xs) → Alike start (rows ((c ∷ xs) ++ ys)) (rows (c ∷ xs))
 rows-alike start c [] ys h = last-by (c == 10) start c (rows ys) (omega arith)
 rows-alike start c (d ∷ xs) ys h = more-by (c == 10) start c (rows ((d ∷ xs) ++ ys)) (rows (d ∷ xs)) (rows-alike (start + 1) d xs ys (omega arith))
 
-long_text_by : (xs ys : List ℕ) → most_bytes < length xs → read_text (xs ++ ys) ≡ read_text xs
+long_text_by : (xs ys : List ℕ) → MOST_BYTES < length xs → read_text (xs ++ ys) ≡ read_text xs
 long_text_by [] ys h = absurd (omega arith)
 long_text_by (c ∷ xs) ys h = reading-alike _ _ (rows-alike 0 c xs ys (omega arith))
 
-pub read_text-take : (n : ℕ) (bytes : List ℕ) → most_bytes < n → n ≤ length bytes → read_text (take n bytes) ≡ read_text bytes
+pub read_text-take : (n : ℕ) (bytes : List ℕ) → MOST_BYTES < n → n ≤ length bytes → read_text (take n bytes) ≡ read_text bytes
 read_text-take n bytes long most =
     let all = take-append-drop n bytes in
-    let some : most_bytes < length (take n bytes) = simp length-take (omega arith) in
+    let some : MOST_BYTES < length (take n bytes) = simp length-take (omega arith) in
     sym (long_text_by (take n bytes) (drop n bytes) some) ∙ ap read_text all

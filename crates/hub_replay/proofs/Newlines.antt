@@ -15,6 +15,7 @@ use Rattle.hub_base.specs.declared.event.Outcome.{Outcome}
 use Rattle.hub_base.specs.declared.event.Outcome.TheVariants.{Sent, Got, Drained, Closed}
 use Rattle.hub_base.specs.declared.event.What.{What}
 use Rattle.hub_base.specs.declared.event.What.TheVariants as what
+use Rattle.hub_base.specs.declared.limits.TheConstants.{MOST_EVENTS}
 use Rattle.hub_base.specs.EventText.{event_line, what_text, outcome_text}
 use Rattle.hub_base.specs.Faults.{fault_number}
 use Rattle.hub_base.specs.Lines.{line, step_fields, call_fields}
@@ -136,7 +137,7 @@ lines_are_long (e ∷ es) =
     omega (arith, all, one, rest)
 
 -- no journal has so many events that their number passes 32 bits
-pub lines-few : {bytes told : List ℕ} {n : ℕ} {es : List Entry} → told ≡ event_lines n es → length (events n es) ≤ 65 * length es → IsText bytes n es → newlines_in told < 2 ^ 32 - 1
+pub lines-few : {bytes told : List ℕ} {n : ℕ} {es : List Entry} → told ≡ event_lines n es → length (events n es) ≤ MOST_EVENTS * length es → IsText bytes n es → newlines_in told < 2 ^ 32 - 1
 lines-few {bytes} {told} {n} {es} is few spelled =
     let counted = ap newlines_in is ∙ newlines_in-events (events n es) in
     let long = lines_are_long es in

@@ -4,6 +4,7 @@ use Rattle.std.proofs.lemmas.Grind.{flat_map-append}
 use Rattle.std.specs.List.{flat_map}
 use Rattle.hub_base.specs.declared.entry.Entry.{Entry}
 use Rattle.hub_base.specs.declared.event.Event.{Event}
+use Rattle.hub_base.specs.declared.limits.TheConstants.{MOST_EVENTS}
 use Rattle.hub_base.specs.EventText.{event_line}
 use Rattle.hub_base.specs.Reader.{ReaderView, Continues}
 use Rattle.hub_base.specs.Reading.{Reading, Reads, Faulty, read_text, with_entry, behind}
@@ -30,8 +31,8 @@ events_after-more s (f ∷ es) e =
 event_lines-more : (n : ℕ) (es : List Entry) (e : Entry) → event_lines n (es ++ e ∷ []) ≡ event_lines n es ++ flat_map event_line (moves (state n es) e).events
 event_lines-more n es e = ap (flat_map event_line) (events_after-more (opening n) es e) ∙ flat_map-append event_line (events n es) (moves (state n es) e).events
 
--- each entry has at most 65 events
-few-more : (n : ℕ) (es : List Entry) (e : Entry) → length (events n es) ≤ 65 * length es → length (moves (state n es) e).events ≤ 65 → length (events n (es ++ e ∷ [])) ≤ 65 * length (es ++ e ∷ [])
+-- each entry has at most `MOST_EVENTS` events
+few-more : (n : ℕ) (es : List Entry) (e : Entry) → length (events n es) ≤ MOST_EVENTS * length es → length (moves (state n es) e).events ≤ MOST_EVENTS → length (events n (es ++ e ∷ [])) ≤ MOST_EVENTS * length (es ++ e ∷ [])
 few-more n es e few one =
     let all = ap length (events_after-more (opening n) es e) in
     let sum = length-append (events n es) (moves (state n es) e).events in
@@ -41,12 +42,12 @@ few-more n es e few one =
 module _ {bytes text : List ℕ} {old : ReaderView} {machine : MachineLists} (so_far : Replayed bytes text old machine) where
   -- the reader gave one more entry, and the machine made its step
   pub one-more-replayed : {new : ReaderView} {machine' : MachineLists} (e : Entry) (told : List Event) → Continues old new (Some e) →
-      Answers old.procs so_far.entries e machine' told → length told ≤ 65 →
+      Answers old.procs so_far.entries e machine' told → length told ≤ MOST_EVENTS →
       Replayed bytes (text ++ flat_map event_line told) new machine'
   one-more-replayed {new} {machine'} e told goes answers one =
       let procs : old.procs ≡ new.procs = sym goes.1 in
       let P : ℕ → Type 0 = λ n. Follows n (so_far.entries ++ e ∷ []) machine' in
-      let Q : ℕ → Type 0 = λ n. length (events n (so_far.entries ++ e ∷ [])) ≤ 65 * length (so_far.entries ++ e ∷ []) in
+      let Q : ℕ → Type 0 = λ n. length (events n (so_far.entries ++ e ∷ [])) ≤ MOST_EVENTS * length (so_far.entries ++ e ∷ []) in
       record {
         entries = so_far.entries ++ e ∷ [];
         said = so_far.said ∙ ap (behind so_far.entries) goes.0 ∙ behind-more so_far.entries e new.left;

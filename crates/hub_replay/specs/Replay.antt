@@ -2,9 +2,10 @@
 -- What a journal's text is and what a hub does are hub_base's; nothing here says how either is computed.
 use Rattle.std.specs.Prelude.{◌≡◌, ℕ, ◌≤◌, List, length, Option}
 use Rattle.std.specs.List.{flat_map}
-use Rattle.std.specs.Io.KnownBytes.{Consumes, Appends, IsAtEnd}
+use Rattle.std.specs.Io.KnownBytes.{Consumes, IsAtEnd}
 use Rattle.hub_base.specs.declared.entry.Entry.{Entry}
 use Rattle.hub_base.specs.declared.text.faults.TextFault.{TextFault}
+use Rattle.hub_base.specs.declared.limits.TheConstants.{MOST_BYTES}
 use Rattle.hub_base.specs.EventText.{event_line}
 use Rattle.hub_base.specs.Runs.{events}
 use Rattle.hub_base.specs.Text.{IsText, IsFaulty}
@@ -12,7 +13,6 @@ use Rattle.hub_replay.specs.declared.fault.SourceFault.{SourceFault}
 use Rattle.hub_replay.specs.declared.fault.SourceFault.TheVariants as source
 use Rattle.hub_replay.specs.declared.fault.ReplayFault.{ReplayFault}
 use Rattle.hub_replay.specs.declared.fault.ReplayFault.TheVariants as replay
-use Rattle.hub_replay.specs.Devices.{AppendsBeginning}
 
 -- the lines of the events that follow these entries, for so many processes
 abbrev pub event_lines : ℕ → List Entry → List ℕ
@@ -28,23 +28,16 @@ pub record IsEventText (journal text : List ℕ) : Type 0 where
 -- these bytes were read: all that there are, or more than a journal may have
 pub record ReadsWhole (old new : Option (List ℕ)) (bytes : List ℕ) : Type 0 where
   pub consumed : Consumes old new bytes
-  pub end : length bytes ≤ 67108864 → IsAtEnd new
+  pub end : length bytes ≤ MOST_BYTES → IsAtEnd new
 
--- a journal was read, and its event text was written and nothing else
-pub record Replays (unread left held holds : Option (List ℕ)) : Type 0 where
+-- a journal was read, and of its event text this holds: that it was written whole and nothing else, or that a
+-- beginning of it was
+pub record Replays (unread left : Option (List ℕ)) (Writes : List ℕ → Type 0) : Type 0 where
   pub journal : List ℕ
   pub text : List ℕ
   pub read : ReadsWhole unread left journal
   pub is : IsEventText journal text
-  pub written : Appends held holds text
-
--- a journal was read, and a beginning of its event text was written and nothing else
-pub record BeginsReplay (unread left held holds : Option (List ℕ)) : Type 0 where
-  pub journal : List ℕ
-  pub text : List ℕ
-  pub read : ReadsWhole unread left journal
-  pub is : IsEventText journal text
-  pub written : AppendsBeginning held holds text
+  pub written : Writes text
 
 -- what was read has this as its first fault
 pub record ReadsFaulty (unread left : Option (List ℕ)) (fault : TextFault) : Type 0 where

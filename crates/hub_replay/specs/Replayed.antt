@@ -3,6 +3,7 @@ use Rattle.std.specs.Prelude.{◌≡◌, ℕ, ◌-◌, ◌*◌, ◌≤◌, ◌<�
 use Rattle.std.specs.List.{flat_map}
 use Rattle.hub_base.specs.declared.entry.Entry.{Entry}
 use Rattle.hub_base.specs.declared.event.Event.{Event}
+use Rattle.hub_base.specs.declared.limits.TheConstants.{MOST_EVENTS}
 use Rattle.hub_base.specs.EventText.{event_line}
 use Rattle.hub_base.specs.Reader.{ReaderView}
 use Rattle.hub_base.specs.Reading.{read_text, behind}
@@ -18,7 +19,7 @@ pub record Replayed (bytes text : List ℕ) (reader : ReaderView) (machine : Mac
   pub said : read_text bytes ≡ behind entries reader.left
   pub follows : Follows reader.procs entries machine
   pub told : text ≡ event_lines reader.procs entries
-  pub few : length (events reader.procs entries) ≤ 65 * length entries
+  pub few : length (events reader.procs entries) ≤ MOST_EVENTS * length entries
 
 -- the bytes are a journal's text, and this is its event text, whose lines can be counted
 pub record ReplayedWhole (bytes text : List ℕ) : Type 0 where

@@ -36,8 +36,11 @@ pub fn newlines(bytes: &[u8]) -> usize
 /// the text so far is no longer than that.
 #[derive(Drop)]
 pub struct Comparison<'a> {
+    /// The text that the events are compared with.
     bytes: &'a [u8],
+    /// How many of its bytes were the same so far.
     agreed: usize,
+    /// Whether one differed.
     parted: bool,
     ghost within: { agreed ≤ length bytes.now },
 }

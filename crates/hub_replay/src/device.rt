@@ -45,7 +45,9 @@ pub trait Sink {
 /// Any reader or writer of std, with a count of its failures.
 #[derive(Drop)]
 pub struct Counted<T> {
+    /// What is read or written.
     inner: T,
+    /// How many calls have failed.
     failures: u64,
 }
 

@@ -7,14 +7,14 @@ ghost use Rattle.std.specs.Prelude.{◌≡◌, ℕ, ◌+◌, ◌-◌, ◌^◌, �
 ghost use Rattle.std.specs.List.{flat_map};
 ghost use Rattle.hub_base.specs.declared.text.faults.TextFault.{TextFault};
 ghost use Rattle.hub_base.specs.EventText.{event_line};
-ghost use Rattle.hub_base.specs.Limits.{most_bytes};
-ghost use Rattle.hub_replay.specs.Devices.{Failed, ConsumesAtMost};
-ghost use Rattle.hub_replay.specs.Replay.{IsEventText, HasNone, Replays, BeginsReplay, ReadsFaulty};
+ghost use Rattle.std.specs.Io.KnownBytes.{Appends};
+ghost use Rattle.hub_replay.specs.Devices.{Failed, AppendsBeginning, ConsumesAtMost};
+ghost use Rattle.hub_replay.specs.Replay.{IsEventText, HasNone, Replays, ReadsFaulty};
 
 use crate::pieces::{read_up_to, write_whole};
-use crate::steps::{MOST_BYTES, Steps};
+use crate::steps::Steps;
 use crate::{ReplayFault, Sink, Source};
-use hub_base::{Event, NoMemory, write_event};
+use hub_base::{Event, MOST_BYTES, NoMemory, write_event};
 use std::alloc::Global;
 
 /// Appends the lines of these events.
@@ -40,7 +40,7 @@ fn event_text(alloc: Global, bytes: &[u8]) -> Result<Vec<u8>, ReplayFault>
     Ok(text)
 }
 
-/// Reads a journal to its end, or until more than 67,108,864 bytes have come, makes the event text of its
+/// Reads a journal to its end, or until more than `MOST_BYTES` bytes have come, makes the event text of its
 /// run, and writes that text. Nothing is tried again.
 pub fn replay<S: Source, W: Sink>(
     alloc: Global,
@@ -48,7 +48,7 @@ pub fn replay<S: Source, W: Sink>(
     sink: &mut W,
 ) -> Result<(), ReplayFault>
     ensures ok { OnOk result (Replays (S.remaining source.old) (S.remaining source.new)
-        (W.contents sink.old) (W.contents sink.new)) }
+        (Appends (W.contents sink.old) (W.contents sink.new))) }
 
     // Nothing is written where the journal is malformed, a read fails or memory is refused.
     ensures text { (fault : TextFault) → IsErrOf result (ReplayFault.Text fault)
@@ -61,11 +61,11 @@ pub fn replay<S: Source, W: Sink>(
     // A beginning of the event text is written where a write fails.
     ensures write { IsErrOf result ReplayFault.Write
         → Failed (W.failures sink.old) (W.failures sink.new)
-        × BeginsReplay (S.remaining source.old) (S.remaining source.new)
-        (W.contents sink.old) (W.contents sink.new) }
+        × Replays (S.remaining source.old) (S.remaining source.new)
+        (AppendsBeginning (W.contents sink.old) (W.contents sink.new)) }
 
     // At most one byte more is read than a journal may have, whatever the answer is.
-    ensures few { ConsumesAtMost (S.remaining source.old) (S.remaining source.new) (most_bytes + 1) }
+    ensures few { ConsumesAtMost (S.remaining source.old) (S.remaining source.new) (MOST_BYTES + 1) }
 
     // No other call of either device failed.
     ensures reads_once { ¬ IsErrOf result ReplayFault.Read

@@ -10,18 +10,15 @@ ghost use Rattle.hub_replay.specs.Replay.{HasNone};
 ghost use Rattle.hub_replay.specs.Replayed.{Replayed, GoesOn};
 
 use crate::ReplayFault;
-use hub_base::{Entry, Event, Events, Pid, Reader, Step, one_reading};
+use hub_base::{Entry, Event, Events, MOST_BYTES, MOST_EVENTS, Pid, Reader, Step, one_reading};
 use hub_core::Machine;
 use std::alloc::Global;
-
-/// The most bytes of a journal.
-pub const MOST_BYTES: usize = 67_108_864;
 
 /// The bytes that decide what a text says: of a text of too many bytes the first that is one too many
 /// stands in a faulty line.
 fn deciding(bytes: &[u8]) -> &[u8]
     ensures same { read_text result.now ≡ read_text bytes.now }
-    ensures few { length result.now ≤ 67108865 }
+    ensures few { length result.now ≤ MOST_BYTES + 1 }
 {
     if bytes.len() <= MOST_BYTES {
         bytes
@@ -36,9 +33,13 @@ fn deciding(bytes: &[u8]) -> &[u8]
 /// read into again and again, since it is large.
 #[derive(Drop)]
 pub struct Steps<'a> {
+    /// What is left of the journal.
     reader: Reader<'a>,
+    /// What the entries so far have led to.
     machine: Machine,
+    /// The last of them.
     entry: Entry,
+    /// Its events.
     events: Events,
     ghost room: { machine.steps + reader.bytes < 2 ^ 32 - 1 },
 }
@@ -52,7 +53,7 @@ impl<'a> Steps<'a> {
         // Its clauses say of which text the reader's fault is the first.
         one_reading();
         let reader = Reader::open(deciding(bytes))?;
-        let machine = Machine::open(alloc, reader.procs())?;
+        let machine = Machine::new(alloc, reader.procs())?;
         Ok(Steps {
             reader,
             machine,
@@ -81,11 +82,11 @@ impl<'a> Steps<'a> {
         }
         self.machine.answer(&self.entry, &mut self.events)?;
         // So few that the lines of all events can be counted in 32 bits.
-        prove!(self.events.len() <= 65);
+        prove!(self.events.len() <= MOST_EVENTS);
         Ok(true)
     }
 
-    /// The events of the last step, at most 65.
+    /// The events of the last step, at most `MOST_EVENTS`.
     pub fn events(&self) -> &[Event]
         ensures { result.now ≡ self.now.events.items }
     {

@@ -15,6 +15,7 @@ use Rattle.hub_base.specs.declared.entry.Entry.{Entry}
 use Rattle.hub_base.specs.declared.entry.Step.{Step}
 use Rattle.hub_base.specs.declared.event.Event.{Event}
 use Rattle.hub_base.specs.declared.event.What.{What}
+use Rattle.hub_base.specs.declared.limits.TheConstants.{MOST_EVENTS, MOST_PORTS, MOST_PROCS, MOST_STEPS}
 use Rattle.hub_base.specs.Runs.{state, events, moves}
 use Rattle.hub_base.specs.Text.{steps_of}
 use Rattle.hub_base.specs.Value.{number_of}
@@ -51,7 +52,7 @@ how_many-most test es = rw (length-filter (λ (e : Event). test e.what) es) (cou
 
 -- ---- the sums
 -- the sum of a port, after one port's sum has grown
-sum_at : (sums : List ℕ) (o : Option Port) (more : ℕ) (p : Port) → length sums ≡ 64 → IsMade p 64 → ((q : Port) → o ≡ Some q → IsMade q 64) →
+sum_at : (sums : List ℕ) (o : Option Port) (more : ℕ) (p : Port) → length sums ≡ MOST_PORTS → IsMade p MOST_PORTS → ((q : Port) → o ≡ Some q → IsMade q MOST_PORTS) →
     slice_index_or (with_sum sums o more) (p.0 - 1) 0 ≡ slice_index_or sums (p.0 - 1) 0 + cond (is_port o p) more 0
 sum_at sums None more p places made named = omega arith
 sum_at sums (Some q) more p places made named = by (q.0 == p.0) refl
@@ -95,7 +96,7 @@ module _ (n : ℕ) (es : List Entry) (e : Entry) (old : Replayed) (machine : Mac
   abbrev now : Replayed
   now = with_told (record old { machine = machine }) e.step told
 
-  pub one-more-told : ((q : Port) → port_touched e.step told ≡ Some q → IsMade q 64) → Tells n (es ++ e ∷ []) now
+  pub one-more-told : ((q : Port) → port_touched e.step told ≡ Some q → IsMade q MOST_PORTS) → Tells n (es ++ e ∷ []) now
   one-more-told named = record {
     follows = answers.follows;
     places = length-with_sum old.sums (port_touched e.step told) (sum_by number_told told) ∙ tells.places;
@@ -117,27 +118,27 @@ module _ (n : ℕ) (es : List Entry) (e : Entry) (old : Replayed) (machine : Mac
       counted test is = ap (λ k. k + how_many test told) is ∙ ap (λ ts. how_many test (events n es) + how_many test ts) answers.events ∙ sym (how_many-append test (events n es) (moves (state n es) e).events) ∙ ap (how_many test) (sym (events-entry n es e))
 
 -- a port that is named is made
-pub made_by : (n : ℕ) (es : List Entry) (e : Entry) (machine : MachineLists) (told : List Event) → Answers n es e machine told → (q : Port) → port_touched e.step told ≡ Some q → IsMade q 64
+pub made_by : (n : ℕ) (es : List Entry) (e : Entry) (machine : MachineLists) (told : List Event) → Answers n es e machine told → (q : Port) → port_touched e.step told ≡ Some q → IsMade q MOST_PORTS
 made_by n es e machine told answers q h =
     let touched : port_touched e.step (moves (state n es) e).events ≡ Some q = ap (port_touched e.step) (sym answers.events) ∙ h in
     let made = (one_port-law n es e).made q touched in
     record { some = made.some; few = omega (arith, made.few, ports-law n (es ++ e ∷ [])) }
 
 -- ---- bounds
-pub entries_fit : (n : ℕ) (es : List Entry) → IsLegal n es → n ≤ 64 → steps_of es ≤ 1000000 → length es ≤ 1000064
+pub entries_fit : (n : ℕ) (es : List Entry) → IsLegal n es → n ≤ MOST_PROCS → steps_of es ≤ MOST_STEPS → length es ≤ MOST_STEPS + MOST_PROCS
 entries_fit n es legal procs few =
     let law = (limits-law n es).length in
     let short : length es ≤ steps_of es + n = rw legal at law in
     omega arith
 
-pub room-within : (i : ℕ) (r : Replayed) (machine : MachineLists) → Within i r → i ≤ 1000064 → HasRoom (record r { machine = machine })
+pub room-within : (i : ℕ) (r : Replayed) (machine : MachineLists) → Within i r → i ≤ MOST_STEPS + MOST_PROCS → HasRoom (record r { machine = machine })
 room-within i r machine within few = record {
   sums = λ k. omega (arith, within.sums k);
   stalled = omega (arith, within.stalled);
   faults = omega (arith, within.faults);
 }
 
-within_more : (i : ℕ) (old : Replayed) (machine : MachineLists) (step : Step) (told : List Event) → Within i old → machine.steps ≤ old.machine.steps + 1 → length told ≤ 65 → sum_by number_told told ≤ most_got →
+within_more : (i : ℕ) (old : Replayed) (machine : MachineLists) (step : Step) (told : List Event) → Within i old → machine.steps ≤ old.machine.steps + 1 → length told ≤ MOST_EVENTS → sum_by number_told told ≤ most_got →
     Within (i + 1) (with_told (record old { machine = machine }) step told)
 within_more i old machine step told within steps few fits = record {
   steps = omega (arith, within.steps);
@@ -148,26 +149,26 @@ within_more i old machine step told within steps few fits = record {
 
 pub next-told : (n : ℕ) (entries : List Entry) (i : ℕ) (e : Entry) (old : Replayed) (machine : MachineLists) (told : List Event) (new : Replayed) →
     i < length entries → e ≡ get_or entries i e → Tells n (take i entries) old → Within i old → Answers n (take i entries) e machine told → machine.steps ≤ old.machine.steps + 1 →
-    length told ≤ 65 → sum_by number_told told ≤ most_got → new ≡ with_told (record old { machine = machine }) e.step told →
+    length told ≤ MOST_EVENTS → sum_by number_told told ≤ most_got → new ≡ with_told (record old { machine = machine }) e.step told →
     Tells n (take (i + 1) entries) new × Within (i + 1) new
 next-told n entries i e old machine told new below is tells within answers steps few fits made =
     let grown : take (i + 1) entries ≡ take i entries ++ e ∷ [] = rw add-one (take-suc entries i e below) ∙ ap (λ x. take i entries ++ x ∷ []) (sym is) in
     rw (grown, made) (one-more-told n (take i entries) e old machine told tells answers (made_by n (take i entries) e machine told answers), within_more i old machine e.step told within steps few fits)
 
 -- ---- before any entry
-pub none-told : (n : ℕ) (machine : MachineLists) (sums : List ℕ) → sums ≡ replicate 64 0 → Follows n [] machine → Tells n [] (record { machine = machine; sums = sums; stalled = 0; faults = 0 })
+pub none-told : (n : ℕ) (machine : MachineLists) (sums : List ℕ) → sums ≡ replicate MOST_PORTS 0 → Follows n [] machine → Tells n [] (record { machine = machine; sums = sums; stalled = 0; faults = 0 })
 none-told n machine sums is follows = record {
   follows = follows;
   places = rw is refl;
-  sums = λ p made. rw is (none-summed 64 (p.0 - 1) ∙ ap (sum_by number_of) (sym (no_total received_from p)));
+  sums = λ p made. rw is (none-summed MOST_PORTS (p.0 - 1) ∙ ap (sum_by number_of) (sym (no_total received_from p)));
   stalled = refl;
   faults = refl;
 }
 
-pub none-within : (n : ℕ) (machine : MachineLists) (sums : List ℕ) → sums ≡ replicate 64 0 → Follows n [] machine → Within 0 (record { machine = machine; sums = sums; stalled = 0; faults = 0 })
+pub none-within : (n : ℕ) (machine : MachineLists) (sums : List ℕ) → sums ≡ replicate MOST_PORTS 0 → Follows n [] machine → Within 0 (record { machine = machine; sums = sums; stalled = 0; faults = 0 })
 none-within n machine sums is follows = record {
   steps = omega (arith, follows.steps);
-  sums = λ k. rw (is, none-summed 64 k) (omega arith);
+  sums = λ k. rw (is, none-summed MOST_PORTS k) (omega arith);
   stalled = omega arith;
   faults = omega arith;
 }

@@ -7,6 +7,7 @@ use Rattle.hub_base.specs.declared.value.Port.{Port}
 use Rattle.hub_base.specs.declared.entry.Step.{Step}
 use Rattle.hub_base.specs.declared.entry.Entry.{Entry}
 use Rattle.hub_base.specs.declared.event.Event.{Event}
+use Rattle.hub_base.specs.declared.limits.TheConstants.{MOST_EVENTS, MOST_PORTS}
 use Rattle.hub_base.specs.Runs.{state}
 use Rattle.hub_base.specs.Value.{number_of}
 use Rattle.hub_base.specs.Values.{is_fault}
@@ -36,19 +37,19 @@ with_told r step told =
 
 -- the most that one step adds to a sum
 abbrev pub most_got : ℕ
-most_got = 65 * 2 ^ 64
+most_got = MOST_EVENTS * 2 ^ 64
 
 -- there is room for what one more step adds
 pub record HasRoom (r : Replayed) : Type 0 where
   pub sums : (k : ℕ) → slice_index_or r.sums k 0 + most_got < 2 ^ 128
-  pub stalled : r.stalled + 65 < 2 ^ 32
-  pub faults : r.faults + 65 < 2 ^ 32
+  pub stalled : r.stalled + MOST_EVENTS < 2 ^ 32
+  pub faults : r.faults + MOST_EVENTS < 2 ^ 32
 
 -- n processes and these entries lead to it
 pub record Tells (n : ℕ) (es : List Entry) (r : Replayed) : Type 0 where
   pub follows : Follows n es r.machine
-  pub places : length r.sums ≡ 64
-  pub sums : (p : Port) → IsMade p 64
+  pub places : length r.sums ≡ MOST_PORTS
+  pub sums : (p : Port) → IsMade p MOST_PORTS
       → slice_index_or r.sums (p.0 - 1) 0 ≡ sum_by number_of (received_on (state n es) p)
   pub stalled : r.stalled ≡ stalled_told n es
   pub faults : r.faults ≡ faults_told n es
@@ -57,5 +58,5 @@ pub record Tells (n : ℕ) (es : List Entry) (r : Replayed) : Type 0 where
 pub record Within (i : ℕ) (r : Replayed) : Type 0 where
   pub steps : r.machine.steps ≤ i
   pub sums : (k : ℕ) → slice_index_or r.sums k 0 ≤ i * most_got
-  pub stalled : r.stalled ≤ i * 65
-  pub faults : r.faults ≤ i * 65
+  pub stalled : r.stalled ≤ i * MOST_EVENTS
+  pub faults : r.faults ≤ i * MOST_EVENTS

@@ -21,9 +21,9 @@ abbrev pub told_of : Channel → PortReport
 told_of c =
     record {
       cap = c.cap;
-      sent = length c.done;
-      received = c.taken;
-      left = length c.done - c.taken;
+      sent = length c.sent;
+      received = c.received;
+      left = length c.sent - c.received;
       sum = sum_by number_of (received_from c);
       closed = c.closed;
     }

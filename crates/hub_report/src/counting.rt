@@ -8,7 +8,7 @@ ghost use Rattle.hub_laws.specs.OnePort.{port_touched};
 ghost use Rattle.hub_report.specs.Reports.{how_many, is_stalled};
 ghost use Rattle.hub_report.specs.Replays.{most_got, number_told};
 
-use hub_base::{Event, Outcome, Port, Step, What};
+use hub_base::{Event, MOST_EVENTS, Outcome, Port, Step, What};
 use hub_core::port_touched;
 
 /// The number that the process is told it got, 0 where it got none.
@@ -37,12 +37,12 @@ pub(crate) struct Told {
 
 /// What the events of a step tell, in one pass.
 pub(crate) fn tell(events: &[Event]) -> Told
-    requires few { length events.now ≤ 65 }
+    requires few { length events.now ≤ MOST_EVENTS }
     ensures got { result.got ≡ sum_by number_told events.now }
     ensures stalled { result.stalled ≡ how_many is_stalled events.now }
     ensures faults { result.faults ≡ how_many is_fault events.now }
     ensures fits { result.got ≤ most_got }
-    ensures bounds { (result.stalled ≤ 65) × (result.faults ≤ 65) }
+    ensures bounds { (result.stalled ≤ MOST_EVENTS) × (result.faults ≤ MOST_EVENTS) }
 {
     let mut told = Told {
         got: 0,

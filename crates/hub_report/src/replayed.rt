@@ -6,7 +6,6 @@ ghost use Rattle.std.specs.List.{sum_by};
 ghost use Rattle.std.specs.Option.{option_map};
 ghost use Rattle.hub_base.specs.declared.value.Port.{Port};
 ghost use Rattle.hub_base.specs.declared.entry.Entry.{Entry};
-ghost use Rattle.hub_base.specs.Limits.{most_procs, most_steps};
 ghost use Rattle.hub_base.specs.Runs.{state};
 ghost use Rattle.hub_base.specs.State.{channel_at};
 ghost use Rattle.hub_base.specs.Text.{steps_of};
@@ -17,16 +16,17 @@ ghost use Rattle.hub_report.specs.Replays.{HasRoom, Tells, Within, most_got, num
 
 use crate::PortReport;
 use crate::counting::{port_named, tell};
-use hub_base::{Event, Events, Journal, Port, Step};
+use hub_base::{Event, Events, Journal, MOST_EVENTS, MOST_PORTS, MOST_PROCS, MOST_STEPS, Port, Step};
 use hub_core::Machine;
 use std::alloc::{AllocError, Global};
 
 /// What some entries led to, and what their events told.
 #[derive(Drop)]
 pub(crate) struct Replayed {
+    /// What the entries so far have led to.
     machine: Machine,
     /// The sum of the values received on each port, port 1 first. It is 0 where no port is made.
-    sums: [u128; 64],
+    sums: [u128; MOST_PORTS],
     /// How many events were `Stalled`.
     pub(crate) stalled: u32,
     /// How many events were faults.
@@ -34,15 +34,15 @@ pub(crate) struct Replayed {
 }
 
 /// No value was received.
-fn no_sums() -> [u128; 64]
-    ensures { result ≡ replicate 64 0 }
+fn no_sums() -> [u128; MOST_PORTS]
+    ensures { result ≡ replicate MOST_PORTS 0 }
 {
-    [0; 64]
+    [0; MOST_PORTS]
 }
 
 /// Adds so much to the sum of the port, if there is one.
-fn add_to_sum(sums: &mut [u128; 64], port: Option<Port>, more: u128)
-    requires made { (p : Port) → port ≡ Some p → IsMade p 64 }
+fn add_to_sum(sums: &mut [u128; MOST_PORTS], port: Option<Port>, more: u128)
+    requires made { (p : Port) → port ≡ Some p → IsMade p MOST_PORTS }
     requires room { (k : ℕ) → slice_index_or sums.old k 0 + more < 2 ^ 128 }
     ensures { sums.new ≡ with_sum sums.old port more }
 {
@@ -53,13 +53,13 @@ fn add_to_sum(sums: &mut [u128; 64], port: Option<Port>, more: u128)
 
 impl Replayed {
     /// Nothing has happened at this number of processes.
-    fn open(alloc: Global, procs: u8) -> Result<Replayed, AllocError>
-        requires { (1 ≤ procs) × (procs ≤ most_procs) }
+    fn new(alloc: Global, procs: u8) -> Result<Replayed, AllocError>
+        requires { (1 ≤ procs) × (procs ≤ MOST_PROCS) }
         ensures tells { IfOk result (λ r. Tells procs [] r) }
         ensures within { IfOk result (λ r. Within 0 r) }
     {
         Ok(Replayed {
-            machine: Machine::open(alloc, procs)?,
+            machine: Machine::new(alloc, procs)?,
             sums: no_sums(),
             stalled: 0,
             faults: 0,
@@ -68,8 +68,8 @@ impl Replayed {
 
     /// Adds what the events of a step tell.
     fn add(&mut self, step: &Step, events: &[Event])
-        requires few { length events.now ≤ 65 }
-        requires made { (p : Port) → port_touched step.now events.now ≡ Some p → IsMade p 64 }
+        requires few { length events.now ≤ MOST_EVENTS }
+        requires made { (p : Port) → port_touched step.now events.now ≡ Some p → IsMade p MOST_PORTS }
         requires room { HasRoom self.old }
         ensures told { self.new ≡ with_told self.old step.now events.now }
         ensures fits { sum_by number_told events.now ≤ most_got }
@@ -82,7 +82,7 @@ impl Replayed {
 
     /// What one port carried, or `None` where it is not made.
     fn port(&self, port: Port) -> Option<PortReport>
-        requires { IsMade port 64 }
+        requires { IsMade port MOST_PORTS }
         ensures { (n : ℕ) (es : List Entry) → Tells n es self.now
             → result ≡ option_map told_of (channel_at (state n es) port) }
     {
@@ -115,12 +115,12 @@ impl Replayed {
 
 /// Replays a legal journal.
 pub(crate) fn replay(alloc: Global, journal: &Journal) -> Result<Replayed, AllocError>
-    requires procs { (1 ≤ journal.now.procs) × (journal.now.procs ≤ most_procs) }
+    requires procs { (1 ≤ journal.now.procs) × (journal.now.procs ≤ MOST_PROCS) }
     requires legal { IsLegal journal.now.procs journal.now.entries }
-    requires few { steps_of journal.now.entries ≤ most_steps }
+    requires few { steps_of journal.now.entries ≤ MOST_STEPS }
     ensures { IfOk result (λ r. Tells journal.now.procs journal.now.entries r) }
 {
-    let mut replayed = Replayed::open(alloc, journal.procs())?;
+    let mut replayed = Replayed::new(alloc, journal.procs())?;
     let mut events = Events::new();
     for entry in journal.entries() {
         replayed.machine.answer(entry, &mut events)?;

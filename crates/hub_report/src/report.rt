@@ -2,19 +2,18 @@
 //! were told.
 
 ghost use Rattle.std.specs.Prelude.{◌≡◌, ◌≤◌, IfOk};
-ghost use Rattle.hub_base.specs.Limits.{most_procs, most_steps};
 ghost use Rattle.hub_base.specs.Text.{steps_of};
 ghost use Rattle.hub_laws.specs.Journals.{IsLegal};
 ghost use Rattle.hub_report.specs.Reports.{IsReportOf};
 
 use crate::replayed::replay;
-use hub_base::Journal;
+use hub_base::{Journal, MOST_PROCS, MOST_STEPS};
 use std::alloc::{AllocError, Global};
 
 /// What a port carried.
 #[derive(Clone, Copy, Debug, PartialEq, Eq)]
 pub struct PortReport {
-    /// How many values it can buffer, 0 to 1,024.
+    /// How many values it can buffer, 0 to `MOST_CAP`.
     pub cap: u32,
     /// How many sends completed.
     pub sent: u32,
@@ -42,12 +41,12 @@ pub struct Report {
 }
 
 impl Report {
-    /// The report of a legal journal of 1 to 64 processes with at most 1,000,000 steps (an exit is
-    /// not one). Its entries are replayed once; they are not copied.
+    /// The report of a legal journal of 1 to `MOST_PROCS` processes with at most `MOST_STEPS` steps (an
+    /// exit is not one). Its entries are replayed once; they are not copied.
     pub fn of(alloc: Global, journal: Journal) -> Result<Report, AllocError>
-        requires procs { (1 ≤ journal.procs) × (journal.procs ≤ most_procs) }
+        requires procs { (1 ≤ journal.procs) × (journal.procs ≤ MOST_PROCS) }
         requires legal { IsLegal journal.procs journal.entries }
-        requires few { steps_of journal.entries ≤ most_steps }
+        requires few { steps_of journal.entries ≤ MOST_STEPS }
 
         ensures ok { IfOk result (λ r. IsReportOf journal r) }
     {

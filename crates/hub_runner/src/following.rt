@@ -13,7 +13,9 @@ use std::sync::Wait;
 /// Each process follows its script, and passes the gate before its calls.
 #[derive_where(Clone, Copy)]
 pub struct Following<'a, G> {
+    /// Whose script is followed.
     pub scenario: &'a Scenario,
+    /// What each step passes.
     pub gate: &'a G,
 }
 

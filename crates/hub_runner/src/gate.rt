@@ -21,8 +21,11 @@ impl Gate for NoGate {
 /// The gate and how often a process has passed it.
 #[derive(Drop)]
 pub struct Passes<'a, G> {
+    /// What is passed.
     gate: &'a G,
+    /// The process that passes it.
     pid: Pid,
+    /// How often it has.
     count: u32,
 }
 

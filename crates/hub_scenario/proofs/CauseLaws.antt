@@ -8,6 +8,8 @@ use Rattle.std.proofs.lemmas.Bool.Decides.{nat_tests}
 use Rattle.std.proofs.lemmas.Str.{IsUtf8-from_is_utf8, is_utf8-from_IsUtf8}
 use Rattle.toml.specs.Data.{Items, Members}
 use Rattle.toml.specs.Parse.{parse_document}
+use Rattle.hub_base.specs.declared.limits.TheConstants.{MOST_PROCS, MOST_STEPS}
+use Rattle.hub_scenario.specs.declared.limits.TheConstants.{MOST_FILE_BYTES, GREATEST_SEED}
 use Rattle.hub_scenario.specs.declared.fault.ScenarioFault.{ScenarioFault}
 use Rattle.hub_scenario.specs.declared.fault.ScenarioFault.TheVariants.{TooLong, BadToml, BadKey, BadSeed, BadLimit, BadPorts, BadProcesses, BadScript, NoMemory}
 use Rattle.hub_scenario.specs.declared.script.ScriptStep.{ScriptStep}
@@ -33,27 +35,27 @@ abbrev after_limit : FrameData → ℕ → ℕ → Result ScenarioData ScenarioF
 after_limit f seed limit = must BadPorts (ports_of f.ports) >>= λ ports. after_ports f seed limit ports
 
 abbrev after_seed : FrameData → ℕ → Result ScenarioData ScenarioFault
-after_seed f seed = must BadLimit (within 1 1000000 f.limit) >>= λ limit. after_limit f seed limit
+after_seed f seed = must BadLimit (within 1 MOST_STEPS f.limit) >>= λ limit. after_limit f seed limit
 
 -- a cause of the fault that is told
 told : {T : Type 0} (ms : Members) (a e : ScenarioFault) (r : Result T ScenarioFault) → r ≡ Err a → r ≡ Err e → IsCause ms a → IsCause ms e
 told ms a e r is h cause = subst (IsCause ms) (same_err a e r h is) cause
 
 -- ---- processes and scripts
-counted : (dss : List Items) → (nat_le 1 (length dss) && nat_le (length dss) 64) ≡ true → AreProcesses dss
+counted : (dss : List Items) → (nat_le 1 (length dss) && nat_le (length dss) MOST_PROCS) ≡ true → AreProcesses dss
 counted dss is = (
-  at_most 1 (length dss) (first_so (nat_le 1 (length dss)) (nat_le (length dss) 64) is),
-  at_most (length dss) 64 (second_so (nat_le 1 (length dss)) (nat_le (length dss) 64) is),
+  at_most 1 (length dss) (first_so (nat_le 1 (length dss)) (nat_le (length dss) MOST_PROCS) is),
+  at_most (length dss) MOST_PROCS (second_so (nat_le 1 (length dss)) (nat_le (length dss) MOST_PROCS) is),
 )
 
-not_counted : (dss : List Items) → (nat_le 1 (length dss) && nat_le (length dss) 64) ≡ false → AreProcesses dss → ⊥
+not_counted : (dss : List Items) → (nat_le 1 (length dss) && nat_le (length dss) MOST_PROCS) ≡ false → AreProcesses dss → ⊥
 not_counted dss is (low, high) = grind (arith, nat_tests)
 
 script-case : (ms : Members) (f : FrameData) (e : ScenarioFault) → ProcessesPass ms f → scripts_from 0 f.process ≡ Err e → IsCause ms e
 script-case ms f e passes h =
     let (q, k, is, first) = first-bad f.process e h in subst (IsCause ms) (sym is) (f, passes, first)
 
-scripts-case : (ms : Members) (f : FrameData) (e : ScenarioFault) (b : Bool) → PortsPass ms f → (nat_le 1 (length f.process) && nat_le (length f.process) 64) ≡ b
+scripts-case : (ms : Members) (f : FrameData) (e : ScenarioFault) (b : Bool) → PortsPass ms f → (nat_le 1 (length f.process) && nat_le (length f.process) MOST_PROCS) ≡ b
     → (if b then scripts_from 0 f.process else Err BadProcesses) ≡ Err e → IsCause ms e
 scripts-case ms f e false passes is h = told ms BadProcesses e _ refl h (f, passes, not_counted f.process is)
 scripts-case ms f e true passes is h = script-case ms f e (passes, counted f.process is) h
@@ -67,23 +69,23 @@ ports-case : (ms : Members) (f : FrameData) (e : ScenarioFault) (seed limit : �
     → (must BadPorts o >>= λ ports. after_ports f seed limit ports) ≡ Err e → IsCause ms e
 ports-case ms f e seed limit None passes is h = told ms BadPorts e _ refl h (f, passes, ports-none f.ports is)
 ports-case ms f e seed limit (Some ports) passes is h =
-    scripts-case ms f e (nat_le 1 (length f.process) && nat_le (length f.process) 64) (passes, ports-some f.ports ports is) refl
+    scripts-case ms f e (nat_le 1 (length f.process) && nat_le (length f.process) MOST_PROCS) (passes, ports-some f.ports ports is) refl
     (with_scripts-err seed limit ports (scripts_of f.process) e h)
 
-limit-case : (ms : Members) (f : FrameData) (e : ScenarioFault) (seed : ℕ) (o : Option ℕ) → SeedPasses ms f → within 1 1000000 f.limit ≡ o
+limit-case : (ms : Members) (f : FrameData) (e : ScenarioFault) (seed : ℕ) (o : Option ℕ) → SeedPasses ms f → within 1 MOST_STEPS f.limit ≡ o
     → (must BadLimit o >>= λ limit. after_limit f seed limit) ≡ Err e → IsCause ms e
-limit-case ms f e seed None passes is h = told ms BadLimit e _ refl h (f, passes, within-none 1 1000000 f.limit is)
+limit-case ms f e seed None passes is h = told ms BadLimit e _ refl h (f, passes, within-none 1 MOST_STEPS f.limit is)
 limit-case ms f e seed (Some limit) passes is h =
-    ports-case ms f e seed limit (ports_of f.ports) (passes, within-some 1 1000000 f.limit limit is) refl h
+    ports-case ms f e seed limit (ports_of f.ports) (passes, within-some 1 MOST_STEPS f.limit limit is) refl h
 
-seed-case : (ms : Members) (f : FrameData) (e : ScenarioFault) (o : Option ℕ) → frame_of ms ≡ Ok f → within 0 9223372036854775807 f.seed ≡ o
+seed-case : (ms : Members) (f : FrameData) (e : ScenarioFault) (o : Option ℕ) → frame_of ms ≡ Ok f → within 0 GREATEST_SEED f.seed ≡ o
     → (must BadSeed o >>= λ seed. after_seed f seed) ≡ Err e → IsCause ms e
-seed-case ms f e None framed is h = told ms BadSeed e _ refl h (f, framed, within-none 0 9223372036854775807 f.seed is)
+seed-case ms f e None framed is h = told ms BadSeed e _ refl h (f, framed, within-none 0 GREATEST_SEED f.seed is)
 seed-case ms f e (Some seed) framed is h =
-    limit-case ms f e seed (within 1 1000000 f.limit) (framed, within-some 0 9223372036854775807 f.seed seed is) refl h
+    limit-case ms f e seed (within 1 MOST_STEPS f.limit) (framed, within-some 0 GREATEST_SEED f.seed seed is) refl h
 
 frame-case : (ms : Members) (e : ScenarioFault) (r : Result FrameData ScenarioFault) → frame_of ms ≡ r → (r >>= values_of) ≡ Err e → IsCause ms e
-frame-case ms e (Ok f) is h = seed-case ms f e (within 0 9223372036854775807 f.seed) is refl h
+frame-case ms e (Ok f) is h = seed-case ms f e (within 0 GREATEST_SEED f.seed) is refl h
 frame-case ms e (Err a) is h =
     told ms a e _ refl h (subst (IsCause ms) (bad_key ms a is) (no_shape ms a is))
 
@@ -92,17 +94,17 @@ pub cause : (ms : Members) (e : ScenarioFault) → scenario_of ms ≡ Err e → 
 cause ms e h = frame-case ms e (frame_of ms) refl h
 
 -- ---- the bytes
-long : (bytes : List ℕ) → nat_lt 1048576 (length bytes) ≡ true → 1048576 < length bytes
+long : (bytes : List ℕ) → nat_lt MOST_FILE_BYTES (length bytes) ≡ true → MOST_FILE_BYTES < length bytes
 long bytes h = grind (arith, nat_tests)
 
-not_long : (bytes : List ℕ) → nat_lt 1048576 (length bytes) ≡ false → length bytes ≤ 1048576
+not_long : (bytes : List ℕ) → nat_lt MOST_FILE_BYTES (length bytes) ≡ false → length bytes ≤ MOST_FILE_BYTES
 not_long bytes h = grind (arith, nat_tests)
 
 told_in : {T : Type 0} (bytes : List ℕ) (a e : ScenarioFault) (r : Result T ScenarioFault) → r ≡ Err a → r ≡ Err e → IsCauseIn bytes a → IsCauseIn bytes e
 told_in bytes a e r is h why = subst (IsCauseIn bytes) (same_err a e r h is) why
 
 -- the cause of a tree is one of its bytes
-of_tree : (bytes : List ℕ) (ms : Members) (e : ScenarioFault) → length bytes ≤ 1048576 → IsUtf8 bytes → parse_document bytes ≡ Some ms → IsCause ms e → IsCauseIn bytes e
+of_tree : (bytes : List ℕ) (ms : Members) (e : ScenarioFault) → length bytes ≤ MOST_FILE_BYTES → IsUtf8 bytes → parse_document bytes ≡ Some ms → IsCause ms e → IsCauseIn bytes e
 of_tree bytes ms TooLong short utf8 is why = absurd why
 of_tree bytes ms BadToml short utf8 is why = absurd why
 of_tree bytes ms BadKey short utf8 is why = (ms, short, utf8, is, why)
@@ -113,7 +115,7 @@ of_tree bytes ms BadProcesses short utf8 is why = (ms, short, utf8, is, why)
 of_tree bytes ms (BadScript p k) short utf8 is why = (ms, short, utf8, is, why)
 of_tree bytes ms NoMemory short utf8 is why = absurd why
 
-tree-case : (bytes : List ℕ) (e : ScenarioFault) (b : Bool) (o : Option Members) → length bytes ≤ 1048576 → is_utf8 bytes ≡ b → parse_document bytes ≡ o
+tree-case : (bytes : List ℕ) (e : ScenarioFault) (b : Bool) (o : Option Members) → length bytes ≤ MOST_FILE_BYTES → is_utf8 bytes ≡ b → parse_document bytes ≡ o
     → ((if b then must BadToml o else Err BadToml) >>= scenario_of) ≡ Err e → IsCauseIn bytes e
 tree-case bytes e false o short utf8 is h =
     told_in bytes BadToml e _ refl h (short, λ u. absurd (false≢true (sym utf8 ∙ is_utf8-from_IsUtf8 bytes u)))
@@ -121,7 +123,7 @@ tree-case bytes e true None short utf8 is h = told_in bytes BadToml e _ refl h (
 tree-case bytes e true (Some ms) short utf8 is h =
     of_tree bytes ms e short (IsUtf8-from_is_utf8 bytes utf8) is (cause ms e h)
 
-long-case : (bytes : List ℕ) (e : ScenarioFault) (b : Bool) → nat_lt 1048576 (length bytes) ≡ b
+long-case : (bytes : List ℕ) (e : ScenarioFault) (b : Bool) → nat_lt MOST_FILE_BYTES (length bytes) ≡ b
     → (if b then Err TooLong else tree_of bytes >>= scenario_of) ≡ Err e → IsCauseIn bytes e
 long-case bytes e true is h = told_in bytes TooLong e _ refl h (long bytes is)
 long-case bytes e false is h =
@@ -129,7 +131,7 @@ long-case bytes e false is h =
 
 -- why bytes are refused
 pub cause_in : (bytes : List ℕ) (e : ScenarioFault) → reading bytes ≡ Err e → IsCauseIn bytes e
-cause_in bytes e h = long-case bytes e (nat_lt 1048576 (length bytes)) refl h
+cause_in bytes e h = long-case bytes e (nat_lt MOST_FILE_BYTES (length bytes)) refl h
 
 -- ---- a file that is read
 -- the frame of a tree that passes each test
@@ -140,7 +142,7 @@ with_scripts-ok : (seed limit : ℕ) (ports : List ℕ) (r : Result (List (List 
 with_scripts-ok seed limit ports (Ok all) s h = (all, refl)
 with_scripts-ok seed limit ports (Err a) s h = absurd (fails s a h)
 
-sound_scripts-case : (ms : Members) (f : FrameData) (all : List (List ScriptStep)) (b : Bool) → PortsPass ms f → (nat_le 1 (length f.process) && nat_le (length f.process) 64) ≡ b
+sound_scripts-case : (ms : Members) (f : FrameData) (all : List (List ScriptStep)) (b : Bool) → PortsPass ms f → (nat_le 1 (length f.process) && nat_le (length f.process) MOST_PROCS) ≡ b
     → (if b then scripts_from 0 f.process else Err BadProcesses) ≡ Ok all → Sound ms
 sound_scripts-case ms f all false passes is h = absurd (fails all BadProcesses h)
 sound_scripts-case ms f all true passes is h = (
@@ -157,25 +159,25 @@ sound_ports-case : (ms : Members) (f : FrameData) (s : ScenarioData) (seed limit
 sound_ports-case ms f s seed limit None passes is h = absurd (fails s BadPorts h)
 sound_ports-case ms f s seed limit (Some ports) passes is h =
     let (all, read) = with_scripts-ok seed limit ports (scripts_of f.process) s h in
-    sound_scripts-case ms f all (nat_le 1 (length f.process) && nat_le (length f.process) 64) (passes, ports-some f.ports ports is) refl read
+    sound_scripts-case ms f all (nat_le 1 (length f.process) && nat_le (length f.process) MOST_PROCS) (passes, ports-some f.ports ports is) refl read
 
-sound_limit-case : (ms : Members) (f : FrameData) (s : ScenarioData) (seed : ℕ) (o : Option ℕ) → SeedPasses ms f → within 1 1000000 f.limit ≡ o
+sound_limit-case : (ms : Members) (f : FrameData) (s : ScenarioData) (seed : ℕ) (o : Option ℕ) → SeedPasses ms f → within 1 MOST_STEPS f.limit ≡ o
     → (must BadLimit o >>= λ limit. after_limit f seed limit) ≡ Ok s → Sound ms
 sound_limit-case ms f s seed None passes is h = absurd (fails s BadLimit h)
 sound_limit-case ms f s seed (Some limit) passes is h =
-    sound_ports-case ms f s seed limit (ports_of f.ports) (passes, within-some 1 1000000 f.limit limit is) refl h
+    sound_ports-case ms f s seed limit (ports_of f.ports) (passes, within-some 1 MOST_STEPS f.limit limit is) refl h
 
-sound_seed-case : (ms : Members) (f : FrameData) (s : ScenarioData) (o : Option ℕ) → frame_of ms ≡ Ok f → within 0 9223372036854775807 f.seed ≡ o
+sound_seed-case : (ms : Members) (f : FrameData) (s : ScenarioData) (o : Option ℕ) → frame_of ms ≡ Ok f → within 0 GREATEST_SEED f.seed ≡ o
     → (must BadSeed o >>= λ seed. after_seed f seed) ≡ Ok s → Sound ms
 sound_seed-case ms f s None framed is h = absurd (fails s BadSeed h)
 sound_seed-case ms f s (Some seed) framed is h =
-    sound_limit-case ms f s seed (within 1 1000000 f.limit) (framed, within-some 0 9223372036854775807 f.seed seed is) refl h
+    sound_limit-case ms f s seed (within 1 MOST_STEPS f.limit) (framed, within-some 0 GREATEST_SEED f.seed seed is) refl h
 
 sound_frame-case : (ms : Members) (s : ScenarioData) (r : Result FrameData ScenarioFault) → frame_of ms ≡ r → (r >>= values_of) ≡ Ok s → Sound ms
-sound_frame-case ms s (Ok f) is h = sound_seed-case ms f s (within 0 9223372036854775807 f.seed) is refl h
+sound_frame-case ms s (Ok f) is h = sound_seed-case ms f s (within 0 GREATEST_SEED f.seed) is refl h
 sound_frame-case ms s (Err a) is h = absurd (fails s a h)
 
-sound_tree-case : (bytes : List ℕ) (s : ScenarioData) (b : Bool) (o : Option Members) → length bytes ≤ 1048576 → is_utf8 bytes ≡ b → parse_document bytes ≡ o
+sound_tree-case : (bytes : List ℕ) (s : ScenarioData) (b : Bool) (o : Option Members) → length bytes ≤ MOST_FILE_BYTES → is_utf8 bytes ≡ b → parse_document bytes ≡ o
     → ((if b then must BadToml o else Err BadToml) >>= scenario_of) ≡ Ok s → IsSoundIn bytes
 sound_tree-case bytes s false o short utf8 is h = absurd (fails s BadToml h)
 sound_tree-case bytes s true None short utf8 is h = absurd (fails s BadToml h)
@@ -183,7 +185,7 @@ sound_tree-case bytes s true (Some ms) short utf8 is h =
     let (f, sound) = sound_frame-case ms s (frame_of ms) refl h in
     (ms, f, short, IsUtf8-from_is_utf8 bytes utf8, is, sound)
 
-sound_long-case : (bytes : List ℕ) (s : ScenarioData) (b : Bool) → nat_lt 1048576 (length bytes) ≡ b
+sound_long-case : (bytes : List ℕ) (s : ScenarioData) (b : Bool) → nat_lt MOST_FILE_BYTES (length bytes) ≡ b
     → (if b then Err TooLong else tree_of bytes >>= scenario_of) ≡ Ok s → IsSoundIn bytes
 sound_long-case bytes s true is h = absurd (fails s TooLong h)
 sound_long-case bytes s false is h =
@@ -191,4 +193,4 @@ sound_long-case bytes s false is h =
 
 -- bytes that are read pass each test
 pub sound_in : (bytes : List ℕ) (s : ScenarioData) → reading bytes ≡ Ok s → IsSoundIn bytes
-sound_in bytes s h = sound_long-case bytes s (nat_lt 1048576 (length bytes)) refl h
+sound_in bytes s h = sound_long-case bytes s (nat_lt MOST_FILE_BYTES (length bytes)) refl h

@@ -3,6 +3,7 @@ use Rattle.std.proofs.Common.{◌≡◌, ◌≤◌, ℕ, ◌∙◌, ℤ, pos, ne
 use Rattle.std.specs.Cmp.{first_so, second_so}
 use Rattle.std.proofs.lemmas.Bool.Decides.{nat_tests}
 use Rattle.toml.specs.Data.{Data, string, integer, float, boolean, datetime, array, table, Items, no_items, item}
+use Rattle.hub_base.specs.declared.limits.TheConstants.{MOST_CAP, MOST_PORTS}
 use Rattle.hub_scenario.specs.Causes.{IsWithin, IsCapacity, ArePorts}
 use Rattle.hub_scenario.specs.Faults.{cons_some}
 use Rattle.hub_scenario.specs.Numbers.{within, capacity_of, capacities_of, count_items, ports_of}
@@ -34,7 +35,7 @@ within-none least most z h (n, is, low, high) =
 
 -- ---- ports
 capacity-some : (d : Data) (n : ℕ) → capacity_of d ≡ Some n → IsCapacity d
-capacity-some (integer z) n h = (z, refl, within-some 0 1024 z n h)
+capacity-some (integer z) n h = (z, refl, within-some 0 MOST_CAP z n h)
 capacity-some (string s) n h = absurd (apart n None h refl)
 capacity-some (float x) n h = absurd (apart n None h refl)
 capacity-some (boolean b) n h = absurd (apart n None h refl)
@@ -43,23 +44,23 @@ capacity-some (array ds) n h = absurd (apart n None h refl)
 capacity-some (table ms) n h = absurd (apart n None h refl)
 
 capacity-none : (d : Data) → capacity_of d ≡ None → IsCapacity d → ⊥
-capacity-none d h (z, is, in_it) = within-none 0 1024 z (sym (ap capacity_of is) ∙ h) in_it
+capacity-none d h (z, is, in_it) = within-none 0 MOST_CAP z (sym (ap capacity_of is) ∙ h) in_it
 
 capacities-by : (ds : Items) → capacities_of ds ≡ all_by capacity_of ds
 capacities-by no_items = refl
 capacities-by (item d ds) = ap (cons_some (capacity_of d)) (capacities-by ds)
 
-ports-some-case : (ds : Items) (ns : List ℕ) (b : Bool) → nat_le (count_items ds) 64 ≡ b → (if b then capacities_of ds else None) ≡ Some ns → ArePorts ds
+ports-some-case : (ds : Items) (ns : List ℕ) (b : Bool) → nat_le (count_items ds) MOST_PORTS ≡ b → (if b then capacities_of ds else None) ≡ Some ns → ArePorts ds
 ports-some-case ds ns false is h = absurd (apart ns None h refl)
 ports-some-case ds ns true is h = (
-  at_most (count_items ds) 64 is,
+  at_most (count_items ds) MOST_PORTS is,
   all-some capacity_of IsCapacity capacity-some ds ns (sym (capacities-by ds) ∙ h),
 )
 
 pub ports-some : (ds : Items) (ns : List ℕ) → ports_of ds ≡ Some ns → ArePorts ds
-ports-some ds ns h = ports-some-case ds ns (nat_le (count_items ds) 64) refl h
+ports-some ds ns h = ports-some-case ds ns (nat_le (count_items ds) MOST_PORTS) refl h
 
-few : (ds : Items) → count_items ds ≤ 64 → ports_of ds ≡ capacities_of ds
+few : (ds : Items) → count_items ds ≤ MOST_PORTS → ports_of ds ≡ capacities_of ds
 few ds h = grind (arith, nat_tests)
 
 pub ports-none : (ds : Items) → ports_of ds ≡ None → ArePorts ds → ⊥

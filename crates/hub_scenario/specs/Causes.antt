@@ -4,6 +4,8 @@ use Rattle.std.specs.Prelude.{◌≡◌, ◌≤◌, ◌<◌, ℕ, ℤ, pos, true
 use Rattle.std.specs.Option.{IsSomeAnd}
 use Rattle.toml.specs.Data.{Data, integer, array, table, Items, get_item, Members, get_member}
 use Rattle.toml.specs.Parse.{parse_document}
+use Rattle.hub_base.specs.declared.limits.TheConstants.{MOST_CAP, MOST_PORTS, MOST_PROCS, MOST_STEPS}
+use Rattle.hub_scenario.specs.declared.limits.TheConstants.{MOST_FILE_BYTES, GREATEST_SEED}
 use Rattle.hub_scenario.specs.declared.keys.Owner.{Owner}
 use Rattle.hub_scenario.specs.declared.keys.Owner.TheVariants.{File, Process}
 use Rattle.hub_scenario.specs.declared.fault.ScenarioFault.{ScenarioFault}
@@ -11,7 +13,6 @@ use Rattle.hub_scenario.specs.declared.fault.ScenarioFault.TheVariants.{TooLong,
 use Rattle.hub_scenario.specs.Firsts.{FirstBadScript, AllSteps}
 use Rattle.hub_scenario.specs.Frames.{FrameData, frame_of}
 use Rattle.hub_scenario.specs.Keys.{is_key}
-use Rattle.hub_scenario.specs.Limits.{most_bytes, greatest_seed, greatest_limit, greatest_capacity, most_ports, most_processes}
 use Rattle.hub_scenario.specs.Numbers.{count_items}
 
 -- ---- keys and kinds
@@ -55,22 +56,22 @@ abbrev pub IsWithin : ℕ → ℕ → ℤ → Type 0
 IsWithin least most z = (n : ℕ) × (z ≡ pos n) × (least ≤ n) × (n ≤ most)
 
 abbrev pub IsCapacity : Data → Type 0
-IsCapacity d = (z : ℤ) × (d ≡ integer z) × IsWithin 0 greatest_capacity z
+IsCapacity d = (z : ℤ) × (d ≡ integer z) × IsWithin 0 MOST_CAP z
 
--- at most 64 capacities
+-- as many capacities as there may be ports
 abbrev pub ArePorts : Items → Type 0
-ArePorts ds = (count_items ds ≤ most_ports) × Each IsCapacity ds
+ArePorts ds = (count_items ds ≤ MOST_PORTS) × Each IsCapacity ds
 
--- 1 to 64 processes
+-- a process or more, as many as there may be
 abbrev pub AreProcesses : List Items → Type 0
-AreProcesses dss = (1 ≤ length dss) × (length dss ≤ most_processes)
+AreProcesses dss = (1 ≤ length dss) × (length dss ≤ MOST_PROCS)
 
 -- ---- the tests passed so far
 abbrev pub SeedPasses : Members → FrameData → Type 0
-SeedPasses ms f = (frame_of ms ≡ Ok f) × IsWithin 0 greatest_seed f.seed
+SeedPasses ms f = (frame_of ms ≡ Ok f) × IsWithin 0 GREATEST_SEED f.seed
 
 abbrev pub LimitPasses : Members → FrameData → Type 0
-LimitPasses ms f = SeedPasses ms f × IsWithin 1 greatest_limit f.limit
+LimitPasses ms f = SeedPasses ms f × IsWithin 1 MOST_STEPS f.limit
 
 abbrev pub PortsPass : Members → FrameData → Type 0
 PortsPass ms f = LimitPasses ms f × ArePorts f.ports
@@ -84,8 +85,8 @@ abbrev pub IsCause : Members → ScenarioFault → Type 0
 IsCause ms TooLong = ⊥
 IsCause ms BadToml = ⊥
 IsCause ms BadKey = ¬ HasShape ms
-IsCause ms BadSeed = (f : FrameData) × (frame_of ms ≡ Ok f) × ¬ IsWithin 0 greatest_seed f.seed
-IsCause ms BadLimit = (f : FrameData) × SeedPasses ms f × ¬ IsWithin 1 greatest_limit f.limit
+IsCause ms BadSeed = (f : FrameData) × (frame_of ms ≡ Ok f) × ¬ IsWithin 0 GREATEST_SEED f.seed
+IsCause ms BadLimit = (f : FrameData) × SeedPasses ms f × ¬ IsWithin 1 MOST_STEPS f.limit
 IsCause ms BadPorts = (f : FrameData) × LimitPasses ms f × ¬ ArePorts f.ports
 IsCause ms BadProcesses = (f : FrameData) × PortsPass ms f × ¬ AreProcesses f.process
 IsCause ms (BadScript p k) = (f : FrameData) × ProcessesPass ms f × FirstBadScript f.process p k
@@ -93,11 +94,11 @@ IsCause ms NoMemory = ⊥
 
 -- why the bytes of a file are refused
 abbrev pub IsCauseIn : List ℕ → ScenarioFault → Type 0
-IsCauseIn bytes TooLong = most_bytes < length bytes
+IsCauseIn bytes TooLong = MOST_FILE_BYTES < length bytes
 IsCauseIn bytes BadToml =
-    (length bytes ≤ most_bytes) × (IsUtf8 bytes → parse_document bytes ≡ None)
+    (length bytes ≤ MOST_FILE_BYTES) × (IsUtf8 bytes → parse_document bytes ≡ None)
 IsCauseIn bytes e =
-    (ms : Members) × (length bytes ≤ most_bytes) × IsUtf8 bytes
+    (ms : Members) × (length bytes ≤ MOST_FILE_BYTES) × IsUtf8 bytes
     × (parse_document bytes ≡ Some ms) × IsCause ms e
 
 -- ---- no cause
@@ -110,5 +111,5 @@ pub record IsSound (ms : Members) (f : FrameData) : Type 0 where
 -- and so do the bytes of a file
 abbrev pub IsSoundIn : List ℕ → Type 0
 IsSoundIn bytes =
-    (ms : Members) × (f : FrameData) × (length bytes ≤ most_bytes) × IsUtf8 bytes
+    (ms : Members) × (f : FrameData) × (length bytes ≤ MOST_FILE_BYTES) × IsUtf8 bytes
     × (parse_document bytes ≡ Some ms) × IsSound ms f

@@ -2,8 +2,8 @@
 
 ghost use Rattle.std.specs.Prelude.{◌≡◌, ◌≤◌, ◌<◌, ◌+◌, ◌-◌, ◌^◌};
 ghost use Rattle.hub_scenario.specs.ChoiceWords.{choice_word};
-ghost use Rattle.hub_scenario.specs.Limits.{greatest_seed};
 
+use crate::limits::GREATEST_SEED;
 use hub_base::Pid;
 use rand_core::SeedableRng;
 use rand_core::utils::NextWord;
@@ -14,8 +14,11 @@ use std::marker::Model;
 /// scenario's seed and the number of the process alone.
 #[derive(Drop)]
 pub struct ChoiceWords {
+    /// The seed of the scenario.
     seed: u64,
+    /// How many words were drawn.
     drawn: u64,
+    /// What draws the next.
     generator: Xoshiro256PlusPlus,
 }
 
@@ -34,7 +37,7 @@ impl ChoiceWords {
     /// The words of this process in a scenario with this seed, none of them drawn yet.
     #[tactic(auto, using(crate::proofs::Words::generator_first))]
     pub fn of(seed: u64, pid: Pid) -> ChoiceWords
-        requires { seed ≤ greatest_seed }
+        requires { seed ≤ GREATEST_SEED }
         ensures { result ≡ record { seed = seed + pid.0; drawn = 0 } }
     {
         let seed = seed + u64::from(pid.0);

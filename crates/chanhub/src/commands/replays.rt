@@ -2,7 +2,8 @@
 
 ghost use Rattle.std.specs.Prelude.{◌≡◌, IfOk, IfErr};
 ghost use Rattle.hub_base.specs.declared.text.faults.TextFault.{TextFault};
-ghost use Rattle.hub_replay.specs.Devices.{Failed};
+ghost use Rattle.std.specs.Io.KnownBytes.{Appends};
+ghost use Rattle.hub_replay.specs.Devices.{Failed, AppendsBeginning};
 ghost use Rattle.hub_replay.specs.Replay.{Replays, ReadsFaulty};
 ghost use Rattle.chanhub.specs.Promises.{IsRefused, RefusesReplay};
 ghost use Rattle.chanhub.specs.Statuses.{status_of};
@@ -20,10 +21,12 @@ pub(crate) fn replay_input<S: Source, W: Sink>(
 ) -> Result<Outcome, Refusal>
     ensures ok { IfOk result (λ outcome. (outcome ≡ Outcome.Done)
         × Replays (S.remaining input.old) (S.remaining input.new)
-        (W.contents output.old) (W.contents output.new)) }
+        (Appends (W.contents output.old) (W.contents output.new))) }
 
     ensures refused { IfErr result (λ refusal. IsRefused refusal (output.new ≡ output.old)
-        (Failed (W.failures output.old) (W.failures output.new))) }
+        (Failed (W.failures output.old) (W.failures output.new))
+        (Replays (S.remaining input.old) (S.remaining input.new)
+        (AppendsBeginning (W.contents output.old) (W.contents output.new)))) }
     ensures found { IfErr result (λ refusal. RefusesReplay
         (S.remaining input.old) (S.remaining input.new)
         (Failed (S.failures input.old) (S.failures input.new)) refusal) }

@@ -1,24 +1,23 @@
 //! `chanhub run [FILE] [--journal]`.
 
 ghost use Rattle.std.specs.Prelude.{◌≡◌, ◌≤◌, ℕ, List, IfOk, IfErr, IsErrOf, IsSome, IsNone};
-ghost use Rattle.hub_replay.specs.Devices.{Failed};
+ghost use Rattle.std.specs.Io.KnownBytes.{Appends};
+ghost use Rattle.hub_replay.specs.Devices.{Failed, AppendsBeginning};
+ghost use Rattle.chanhub.specs.declared.outcome.Outcome.{Outcome};
 ghost use Rattle.chanhub.specs.Promises.{RunsScenario, ReadsScenario, TakesScenario, IsRefused, RefusesRun, RefusesScenario, TellsStalls, printed};
 
 use crate::files::read_file;
 use crate::outcome::Outcome;
 use crate::refusal::Refusal;
-use hub_base::{NoMemory, write_journal};
+use hub_base::{MOST_PROCS, NoMemory, write_journal};
 use hub_replay::{Sink, Source, SourceFault, read_up_to, write_whole};
 use hub_report::{Report, write_report};
 use hub_runner::{NoGate, run_scenario};
-use hub_scenario::read_scenario;
+use hub_scenario::{MOST_FILE_BYTES, read_scenario};
 use std::alloc::Global;
 use std::rt::Files;
 use std::sync::Wait;
 use std::thread::Threads;
-
-/// The most bytes of a scenario.
-const MOST_BYTES: usize = 1_048_576;
 
 /// The bytes of the scenario in this file, or on standard input.
 fn scenario_bytes<R: Files, S: Source>(
@@ -37,15 +36,15 @@ fn scenario_bytes<R: Files, S: Source>(
     ensures file { IsSome file.entry → input.new ≡ input.old }
 {
     match file {
-        Some(path) => read_file(rt, alloc, path, MOST_BYTES),
-        None => read_up_to(alloc, input, MOST_BYTES),
+        Some(path) => read_file(rt, alloc, path, MOST_FILE_BYTES),
+        None => read_up_to(alloc, input, MOST_FILE_BYTES),
     }
 }
 
 /// What is printed of a run.
 fn text_of(alloc: Global, report: &Report, journal: bool) -> Result<Vec<u8>, NoMemory>
     requires some { 1 ≤ report.now.journal.procs }
-    requires few { report.now.journal.procs ≤ 64 }
+    requires few { report.now.journal.procs ≤ MOST_PROCS }
     ensures { IfOk result (λ text. text.items ≡ printed journal report.now) }
 {
     let mut text = Vec::new(alloc);
@@ -77,10 +76,12 @@ fn run_bytes<R: Threads + Wait + Sync, W: Sink>(
     output: &mut W,
 ) -> Result<Outcome, Refusal>
     ensures ok { IfOk result (λ outcome. RunsScenario bytes.now journal outcome
-        (W.contents output.old) (W.contents output.new)) }
+        (Appends (W.contents output.old) (W.contents output.new))) }
 
     ensures refused { IfErr result (λ refusal. IsRefused refusal (output.new ≡ output.old)
-        (Failed (W.failures output.old) (W.failures output.new))) }
+        (Failed (W.failures output.old) (W.failures output.new))
+        ((outcome : Outcome) × RunsScenario bytes.now journal outcome
+        (AppendsBeginning (W.contents output.old) (W.contents output.new)))) }
     ensures found { IfErr result (λ refusal. RefusesRun bytes.now refusal) }
 {
     let scenario = read_scenario(alloc, bytes)?;
@@ -102,10 +103,16 @@ pub(crate) fn run_from<R: Files + Threads + Wait + Sync, S: Source, W: Sink>(
     ensures ok { IfOk result (λ outcome. (bytes : List ℕ)
         × TakesScenario (S.remaining input.old) (S.remaining input.new)
         (input.new ≡ input.old) bytes
-        × RunsScenario bytes journal outcome (W.contents output.old) (W.contents output.new)) }
+        × RunsScenario bytes journal outcome
+        (Appends (W.contents output.old) (W.contents output.new))) }
 
     ensures refused { IfErr result (λ refusal. IsRefused refusal (output.new ≡ output.old)
-        (Failed (W.failures output.old) (W.failures output.new))) }
+        (Failed (W.failures output.old) (W.failures output.new))
+        ((outcome : Outcome) × (bytes : List ℕ)
+        × TakesScenario (S.remaining input.old) (S.remaining input.new)
+        (input.new ≡ input.old) bytes
+        × RunsScenario bytes journal outcome
+        (AppendsBeginning (W.contents output.old) (W.contents output.new)))) }
     ensures found { IfErr result (λ refusal. RefusesScenario
         (S.remaining input.old) (S.remaining input.new) (input.new ≡ input.old)
         (Failed (S.failures input.old) (S.failures input.new)) refusal) }

@@ -2,20 +2,19 @@
 
 ghost use Rattle.std.specs.Prelude.{◌≡◌, ℕ, List, IfOk, IfErr, OnOk, OnErr};
 ghost use Rattle.std.specs.Io.KnownBytes.{Appends};
-ghost use Rattle.hub_replay.specs.Devices.{Failed};
+ghost use Rattle.hub_replay.specs.Devices.{Failed, AppendsBeginning};
+ghost use Rattle.chanhub.specs.declared.outcome.Outcome.{Outcome};
 ghost use Rattle.chanhub.specs.Promises.{TellsComparison, IsRefused, RefusesComparison, RefusesFiles, difference_line};
 
 use crate::files::read_file;
 use crate::outcome::Outcome;
 use crate::pieces::write_pieces;
 use crate::refusal::Refusal;
+use hub_base::MOST_BYTES;
 use hub_replay::{Compared, Sink, WriteFailed, verify};
 use itoa::Buffer;
 use std::alloc::Global;
 use std::rt::Files;
-
-/// The most bytes of a journal.
-const MOST_JOURNAL_BYTES: usize = 67_108_864;
 
 /// No event text has more bytes.
 const MOST_EVENT_BYTES: usize = 268_435_456;
@@ -24,6 +23,8 @@ const MOST_EVENT_BYTES: usize = 268_435_456;
 fn tell_difference<W: Sink>(line: u32, output: &mut W) -> Result<(), WriteFailed>
     ensures whole { OnOk result
         (Appends (W.contents output.old) (W.contents output.new) (difference_line line)) }
+    ensures beginning { OnErr result
+        (AppendsBeginning (W.contents output.old) (W.contents output.new) (difference_line line)) }
     ensures err { OnErr result (Failed (W.failures output.old) (W.failures output.new)) }
 {
     let mut digits = Buffer::new();
@@ -38,10 +39,12 @@ fn tell_comparison<W: Sink>(
     output: &mut W,
 ) -> Result<Outcome, Refusal>
     ensures ok { IfOk result (λ outcome. TellsComparison journal.now events.now outcome
-        (W.contents output.old) (W.contents output.new)) }
+        (Appends (W.contents output.old) (W.contents output.new))) }
 
     ensures refused { IfErr result (λ refusal. IsRefused refusal (output.new ≡ output.old)
-        (Failed (W.failures output.old) (W.failures output.new))) }
+        (Failed (W.failures output.old) (W.failures output.new))
+        ((outcome : Outcome) × TellsComparison journal.now events.now outcome
+        (AppendsBeginning (W.contents output.old) (W.contents output.new)))) }
     ensures found { IfErr result (λ refusal. RefusesComparison journal.now refusal) }
 {
     match verify(alloc, journal, events)? {
@@ -65,13 +68,17 @@ pub(crate) fn verify_files<R: Files, W: Sink>(
     output: &mut W,
 ) -> Result<Outcome, Refusal>
     ensures ok { IfOk result (λ outcome. (journal : List ℕ) × (events : List ℕ)
-        × TellsComparison journal events outcome (W.contents output.old) (W.contents output.new)) }
+        × TellsComparison journal events outcome
+        (Appends (W.contents output.old) (W.contents output.new))) }
 
     ensures refused { IfErr result (λ refusal. IsRefused refusal (output.new ≡ output.old)
-        (Failed (W.failures output.old) (W.failures output.new))) }
+        (Failed (W.failures output.old) (W.failures output.new))
+        ((outcome : Outcome) × (journal : List ℕ) × (events : List ℕ)
+        × TellsComparison journal events outcome
+        (AppendsBeginning (W.contents output.old) (W.contents output.new)))) }
     ensures found { IfErr result (λ refusal. RefusesFiles refusal) }
 {
-    let journal_bytes = read_file(rt, alloc, journal, MOST_JOURNAL_BYTES)?;
+    let journal_bytes = read_file(rt, alloc, journal, MOST_BYTES)?;
     let event_bytes = read_file(rt, alloc, events, MOST_EVENT_BYTES)?;
     tell_comparison(alloc, &journal_bytes, &event_bytes, output)
 }

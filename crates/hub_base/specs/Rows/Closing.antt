@@ -25,7 +25,7 @@ close_then_drain = refl
 -- of it one value stays sent and received
 pub drained_port :
     channel_at (state 1 close_and_drain) (port 1)
-    ≡ Some (record { cap = 2; closed = true; done = value_of 7 ∷ []; taken = 1 })
+    ≡ Some (record { cap = 2; closed = true; sent = value_of 7 ∷ []; received = 1 })
 drained_port = refl
 
 -- receivers that wait are told so, in order of arrival

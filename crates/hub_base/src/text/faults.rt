@@ -7,24 +7,26 @@ use thiserror::Error;
 pub enum Kind {
     /// 1: line 1 is anything else than `chanhub journal 1`, or the text is empty.
     BadHeader,
-    /// 2: line 2 is anything else than `procs N` with N from 1 to 64, or the text ends before it.
+    /// 2: line 2 is anything else than `procs N` with N from 1 to `MOST_PROCS`, or the text ends before it.
     BadProcs,
     /// 3: a further line has not the shape of a step, or spells a plain send or receive as a select.
     BadStep,
     /// 4: a number is neither `0` nor a digit from 1 to 9 followed by digits, or is above its
-    /// greatest: 255 for a process, 65,535 for a port, 32 bits for a capacity, 64 for the others.
+    /// greatest: `GREATEST_PID`, `GREATEST_PORT`, `GREATEST_CAP`, `GREATEST_VALUE` or `GREATEST_WORD`.
     BadNumber,
     /// 5: the line has no newline.
     CutLine,
-    /// 6: a byte of the line, its newline included, stands at place 67,108,864 or later, counted
-    /// from 0; or the step is no exit, and 1,000,000 lines before it are none.
+    /// 6: a byte of the line, its newline included, stands behind the first `MOST_BYTES`; or the step is no
+    /// exit, and `MOST_STEPS` lines before it are none.
     TooLong,
 }
 
 /// The first faulty line of a text, counted from 1, and what is wrong with it.
 #[derive(Clone, Copy, Debug, PartialEq, Eq)]
 pub struct TextFault {
+    /// The number of the line, from 1.
     pub line: u32,
+    /// What is wrong with it.
     pub kind: Kind,
 }
 

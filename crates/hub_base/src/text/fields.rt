@@ -9,6 +9,7 @@ use std::marker::Model;
 /// The fields that are left to be read. There is at least one at first, and a field may be empty.
 #[derive(Drop)]
 pub struct Fields<'a> {
+    /// The byte that stands between two fields.
     mark: u8,
     /// What stands behind the last mark that was passed; `None` once the last field was read.
     rest: Option<&'a [u8]>,

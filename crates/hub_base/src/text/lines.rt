@@ -1,14 +1,11 @@
 //! The lines of a text, and their limit of bytes.
 
 ghost use Rattle.std.specs.Prelude.{◌≡◌, ◌+◌, ◌<◌, ◌≤◌, ◌∷◌, [], length, MatchOption, IfOk, IfErr, IfSome, Some, true, false};
-ghost use Rattle.hub_base.specs.Limits.{most_bytes};
 ghost use Rattle.hub_base.specs.Reading.{rows, line_fault};
 
 use crate::Kind;
+use crate::limits::MOST_BYTES;
 use memchr::memchr;
-
-/// The most bytes of a text.
-pub const MOST_BYTES: usize = 67_108_864;
 
 /// The first line without its newline, and what stands behind it; `None` where there is no newline.
 fn cut_line(bytes: &[u8]) -> Option<(&[u8], &[u8])>
@@ -28,11 +25,11 @@ fn cut_line(bytes: &[u8]) -> Option<(&[u8], &[u8])>
 /// newline.
 pub fn line_at(bytes: &[u8], place: usize) -> Result<(&[u8], &[u8]), Kind>
     requires some { 0 < length bytes.now }
-    requires place { place ≤ most_bytes }
+    requires place { place ≤ MOST_BYTES }
     ensures line { IfOk result (λ x.
         rows bytes.now ≡ record { bytes = x.0.now; whole = true } ∷ rows x.1.now) }
     ensures left { IfOk result (λ x. length x.0.now + length x.1.now + 1 ≡ length bytes.now) }
-    ensures fits { IfOk result (λ x. place + length x.0.now + 1 ≤ most_bytes) }
+    ensures fits { IfOk result (λ x. place + length x.0.now + 1 ≤ MOST_BYTES) }
     ensures fault { IfErr result (λ kind. line_fault place (rows bytes.now) ≡ Some kind) }
 {
     match cut_line(bytes) {

@@ -6,7 +6,6 @@
 
 ghost use Rattle.std.specs.Prelude.{◌≡◌, ◌≤◌, ℕ, length, drop, Some, IfOk, IfErr, IsErrOf, OnSome, List, ◌++◌};
 ghost use Rattle.std.specs.Bool.{OnTrue};
-ghost use Rattle.hub_base.specs.Limits.{most_bytes};
 ghost use Rattle.hub_base.specs.Lines.{line};
 ghost use Rattle.hub_base.specs.Reading.{read_text, procs_number, procs_from, rows, is_exit, HasEntry};
 ghost use Rattle.hub_base.specs.ReadJournal.{Gives, IsFaultOf};
@@ -16,6 +15,7 @@ ghost use Rattle.hub_base.specs.Reader.{ReadsOn, FillsOn, procs_said};
 ghost use Rattle.hub_base.specs.declared.entry.Entry.{Entry};
 ghost use Rattle.hub_base.specs.declared.text.faults.Kind.{Kind};
 
+use crate::limits::{MOST_BYTES, MOST_PROCS, MOST_STEPS};
 use crate::text::fields::Fields;
 use crate::text::lines::line_at;
 use crate::text::numbers::number;
@@ -23,9 +23,6 @@ use crate::text::steps::{read_line, same_text};
 use crate::{Entry, Journal, Kind, Pid, ReadFault, Step, TextFault};
 use std::alloc::Global;
 use std::marker::Model;
-
-/// The most steps of a journal that are no exits.
-const MOST_STEPS: u32 = 1_000_000;
 
 /// Whether the entry is an exit.
 fn is_exit(entry: &Entry) -> bool
@@ -44,7 +41,7 @@ fn procs_number(line: &[u8]) -> Option<u8>
     if fields.next_field().is_some() || !same_text(word, b"procs") {
         return None;
     }
-    let procs = number(procs, 64)?;
+    let procs = number(procs, MOST_PROCS as u64)?;
     if procs == 0 { None } else { Some(procs as u8) }
 }
 
@@ -55,10 +52,15 @@ fn procs_number(line: &[u8]) -> Option<u8>
 /// of a text.
 #[derive(Drop)]
 pub struct Reader<'a> {
+    /// The number of processes that the second line says.
     procs: u8,
+    /// The bytes behind the lines that were read.
     rest: &'a [u8],
+    /// The number of the line that is read next, from 1.
     line: u32,
+    /// How many bytes stand before it.
     place: usize,
+    /// How many of the entries before it are no exits.
     steps: u32,
 }
 
@@ -77,7 +79,7 @@ impl<'a> Model for Reader<'a> {
 
 /// The reader behind the second line, which begins at this place.
 fn open_entries(bytes: &[u8], place: usize) -> Result<Reader<'_>, Kind>
-    requires place { place ≤ most_bytes }
+    requires place { place ≤ MOST_BYTES }
     ensures ok { IfOk result (λ r. procs_from place (rows bytes.now) ≡ r.left) }
     ensures procs { IfOk result (λ r. procs_said (rows bytes.now) ≡ Some r.procs) }
     ensures bytes { IfOk result (λ r. r.bytes ≤ length bytes.now) }
@@ -124,10 +126,10 @@ impl<'a> Reader<'a> {
         open_entries(rest, line.len() + 1).map_err(|kind| TextFault { line: 2, kind })
     }
 
-    /// The number of processes, 1 to 64.
+    /// The number of processes, 1 to `MOST_PROCS`.
     pub fn procs(&self) -> u8
         ensures value { result ≡ self.now.procs }
-        ensures range { (1 ≤ result) × (result ≤ 64) }
+        ensures range { (1 ≤ result) × (result ≤ MOST_PROCS) }
     {
         self.procs
     }

@@ -8,12 +8,10 @@ ghost use Rattle.hub_base.specs.Lines.{read_choice, case_read, choose, last_defa
 ghost use Rattle.hub_base.specs.Filling.{Fills};
 ghost use Rattle.hub_base.specs.declared.text.faults.Kind.TheVariants.{BadNumber};
 
+use crate::limits::{CASE_PLACES, GREATEST_WORD};
 use crate::text::fields::Fields;
 use crate::text::steps::{numeral, process, recv_of, same_text, send_of};
 use crate::{Case, Cases, Entry, Kind, Pid, Step};
-
-/// The most cases of a select.
-const MOST_CASES: u8 = 16;
 
 /// What a case field says: a fault of its shape, or else a case or a fault of its numbers.
 pub fn read_case(field: &[u8]) -> Result<Result<Case, Kind>, Kind>
@@ -65,7 +63,7 @@ fn choose(
         (choose pid.now word.now (if fine then Ok cases.items else Err BadNumber) default) }
 {
     let pid = process(pid)?;
-    let word = numeral(word, u64::MAX)?;
+    let word = numeral(word, GREATEST_WORD)?;
     if !fine {
         return Err(Kind::BadNumber);
     }
@@ -90,14 +88,14 @@ pub fn read_select(pid: &[u8], fields: &mut Fields, entry: &mut Entry) -> Result
     };
     let mut cases = Cases::new();
     let mut fine = true;
-    let mut count: u8 = 0;
+    let mut count = 0;
     while let Some(field) = fields.next_field() {
         if is_last_default(field, fields) {
             return choose(pid, word, cases, fine, true, entry);
         }
         let case = read_case(field)?;
         // One case too many is a fault of shape, as any in the fields behind it would be.
-        if count == MOST_CASES {
+        if count == CASE_PLACES {
             return Err(Kind::BadStep);
         }
         count += 1;

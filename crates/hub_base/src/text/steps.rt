@@ -3,11 +3,11 @@
 //! It is read into a given entry, which may be any after a fault.
 
 ghost use Rattle.std.specs.Prelude.{◌≡◌, ◌≤◌, ◌<◌, ◌∷◌, [], false, IfOk};
-ghost use Rattle.hub_base.specs.Limits.{greatest_cap, greatest_pid, greatest_port};
 ghost use Rattle.hub_base.specs.Lines.{numeral, read_close, read_make, read_exit, read_send, read_recv, read_step, read_fields, pieces, case_of, by, call, same_text};
 ghost use Rattle.hub_base.specs.Lines.Draft.{Sends, Receives};
 ghost use Rattle.hub_base.specs.Filling.{Fills};
 
+use crate::limits::{GREATEST_CAP, GREATEST_PID, GREATEST_PORT, GREATEST_VALUE};
 use crate::text::fields::Fields;
 use crate::text::numbers::number;
 use crate::text::selects::read_select;
@@ -23,23 +23,23 @@ pub fn numeral(bytes: &[u8], most: u64) -> Result<u64, Kind>
 
 /// The number of a process that a field spells.
 pub fn process(bytes: &[u8]) -> Result<u8, Kind>
-    ensures { result ≡ numeral greatest_pid bytes.now }
+    ensures { result ≡ numeral GREATEST_PID bytes.now }
 {
-    Ok(numeral(bytes, u8::MAX.into())? as u8)
+    Ok(numeral(bytes, GREATEST_PID.into())? as u8)
 }
 
 /// The number of a port that a field spells.
 fn port_number(bytes: &[u8]) -> Result<u16, Kind>
-    ensures { result ≡ numeral greatest_port bytes.now }
+    ensures { result ≡ numeral GREATEST_PORT bytes.now }
 {
-    Ok(numeral(bytes, u16::MAX.into())? as u16)
+    Ok(numeral(bytes, GREATEST_PORT.into())? as u16)
 }
 
 /// The capacity that a field spells.
 fn capacity(bytes: &[u8]) -> Result<u32, Kind>
-    ensures { result ≡ numeral greatest_cap bytes.now }
+    ensures { result ≡ numeral GREATEST_CAP bytes.now }
 {
-    Ok(numeral(bytes, u32::MAX.into())? as u32)
+    Ok(numeral(bytes, GREATEST_CAP.into())? as u32)
 }
 
 /// Whether two fields are the same bytes.
@@ -54,7 +54,7 @@ pub fn send_of(port: &[u8], value: &[u8]) -> Result<Case, Kind>
     ensures { result ≡ case_of (Sends port.now value.now) }
 {
     let port = port_number(port)?;
-    let value = numeral(value, u64::MAX)?;
+    let value = numeral(value, GREATEST_VALUE)?;
     Ok(Case::Send(Port(port), Value::num(value)))
 }
 

@@ -10,6 +10,7 @@ ghost use Rattle.hub_base.specs.Reading.{head, text};
 ghost use Rattle.hub_base.specs.Writing.{spaced, spaced_cases, HasRoomFor};
 ghost use Rattle.hub_base.specs.Value.{value_field};
 
+use crate::limits::MOST_PROCS;
 use crate::{Case, Entry, Event, Journal, NoMemory, Outcome, Step, Value, What};
 use itoa::Buffer;
 use std::alloc::AllocError;
@@ -279,10 +280,10 @@ fn put_head(out: &mut Vec<u8>, procs: u8) -> Result<(), AllocError>
     put(out, b"\n")
 }
 
-/// Appends the first two lines of a journal of 1 to 64 processes; `Err` where a growth was refused,
+/// Appends the first two lines of a journal of 1 to `MOST_PROCS` processes; `Err` where a growth was refused,
 /// with nothing appended.
 pub fn write_head(out: &mut Vec<u8>, procs: u8) -> Result<(), NoMemory>
-    requires { (1 ≤ procs) × (procs ≤ 64) }
+    requires { (1 ≤ procs) × (procs ≤ MOST_PROCS) }
     ensures ok { OnOk result (out.new.items ≡ out.old.items ++ head procs) }
     ensures err { OnErr result (out.new.items ≡ out.old.items) }
     ensures capacity { vec_capacity out.old ≤ vec_capacity out.new }
@@ -321,10 +322,10 @@ fn put_journal(out: &mut Vec<u8>, journal: &Journal) -> Result<(), AllocError>
     put_entries(out, journal.entries())
 }
 
-/// Appends the text of a journal of 1 to 64 processes; `Err` where a growth was refused, with
+/// Appends the text of a journal of 1 to `MOST_PROCS` processes; `Err` where a growth was refused, with
 /// nothing appended. It is read again as this journal, where it keeps within the limits of texts.
 pub fn write_journal(out: &mut Vec<u8>, journal: &Journal) -> Result<(), NoMemory>
-    requires { (1 ≤ journal.now.procs) × (journal.now.procs ≤ 64) }
+    requires { (1 ≤ journal.now.procs) × (journal.now.procs ≤ MOST_PROCS) }
     ensures ok { OnOk result (
         out.new.items ≡ out.old.items ++ text journal.now.procs journal.now.entries) }
     ensures err { OnErr result (out.new.items ≡ out.old.items) }

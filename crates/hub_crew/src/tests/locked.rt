@@ -35,7 +35,7 @@ fn answer_waits_until_it_is_taken(rt: HostRuntime) -> Result<(), Fail> {
         told(1, What::Parked),
     )?;
     take(&rt, &mut locked, 1, None);
-    assert_eq!(rt; locked.answered().len(), 0);
+    assert_eq!(rt; locked.ended().len(), 0);
 
     let nine = Value::num(9);
     step(
@@ -44,7 +44,7 @@ fn answer_waits_until_it_is_taken(rt: HostRuntime) -> Result<(), Fail> {
         call(0, Case::Send(Port(1), nine)),
         fired(0, Outcome::Sent),
     )?;
-    assert_eq!(rt; locked.answered().as_slice(), [Pid(1)].as_slice());
+    assert_eq!(rt; locked.ended().as_slice(), [Pid(1)].as_slice());
     take(&rt, &mut locked, 0, None);
     take(&rt, &mut locked, 1, Some(fired(1, Outcome::Got(nine))));
     take(&rt, &mut locked, 1, None);

@@ -9,8 +9,8 @@ ghost use Rattle.hub_parts.specs.Queues.{roomy, joined};
 ghost use Rattle.hub_parts.specs.Parking.{with_line, with_case, all_roomy, all_joined, IsWithin, HasPlace, CaseFits, CanJoin};
 ghost use Rattle.hub_parts.specs.Keeps.{AllMade};
 
-use crate::{Channel, MOST_CASES, Side, Tickets, Waiter};
-use hub_base::{Case, Pid, Port};
+use crate::{Channel, Side, Tickets, Waiter};
+use hub_base::{Case, MOST_CASES, Pid, Port};
 
 /// Makes room in the queue of a side of a port; port 0 has none.
 fn room_at(ports: &mut Vec<Channel>, tickets: &Tickets, side: Side, port: Port)

@@ -6,8 +6,8 @@
 ghost use Rattle.std.specs.Prelude.{◌≡◌, ◌≤◌, replicate};
 ghost use Rattle.hub_parts.specs.CaseCounts.{raised, lowered, with_raised, with_lowered, Raises, Lowers, CanRaise, CanLower, has_case};
 
-use crate::{MOST_PORTS, Side};
-use hub_base::{Case, Port};
+use crate::Side;
+use hub_base::{Case, MOST_PORTS, Port};
 
 /// The ports, and port 0.
 const PORT_NUMBERS: usize = MOST_PORTS + 1;
@@ -18,7 +18,9 @@ type Counts = [u16; PORT_NUMBERS];
 /// How many cases of open calls there are on each side of each port.
 #[derive(Drop)]
 pub(crate) struct CaseCounts {
+    /// Of the cases that send, by port number.
     sends: Counts,
+    /// Of those that receive.
     recvs: Counts,
 }
 

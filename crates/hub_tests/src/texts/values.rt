@@ -1,6 +1,7 @@
-//! Values, cases and the numbers of faults.
+//! Values, cases, and the numbers and texts of faults.
 
 use hub_base::{Case, Cases, Fault, Port, Value, copy_cases};
+use std::test::Fail;
 
 #[test]
 fn values_are_numbers(rt: HostRuntime) {
@@ -18,20 +19,22 @@ fn cases_are_copied_in_order(rt: HostRuntime) {
 }
 
 #[test]
-fn faults_have_numbers(rt: HostRuntime) {
-    for (fault, number) in [
-        (Fault::NoProcess, 1),
-        (Fault::Gone, 2),
-        (Fault::Busy, 3),
-        (Fault::TooManyCases, 4),
-        (Fault::NoPort, 5),
-        (Fault::BadCap, 6),
-        (Fault::TooManyPorts, 7),
-        (Fault::NilClose, 8),
-        (Fault::AlreadyClosed, 9),
-        (Fault::JournalFull, 10),
-        (Fault::NoMemory, 11),
+fn faults_have_numbers_and_texts(rt: HostRuntime) -> Result<(), Fail> {
+    for (fault, number, text) in [
+        (Fault::NoProcess, 1, "no such process"),
+        (Fault::Gone, 2, "the process has exited"),
+        (Fault::Busy, 3, "the process has an open call"),
+        (Fault::TooManyCases, 4, "too many cases"),
+        (Fault::NoPort, 5, "no such port"),
+        (Fault::BadCap, 6, "the capacity is too large"),
+        (Fault::TooManyPorts, 7, "too many ports"),
+        (Fault::NilClose, 8, "close of the nil port"),
+        (Fault::AlreadyClosed, 9, "close of a closed port"),
+        (Fault::JournalFull, 10, "the journal is full"),
+        (Fault::NoMemory, 11, "out of memory"),
     ] {
         assert_eq!(rt; fault.number(), number, "{fault:?}");
+        assert_eq!(rt; format!(in rt.alloc(); "{fault}")?.as_str(), text);
     }
+    Ok(())
 }

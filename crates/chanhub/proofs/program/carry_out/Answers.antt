@@ -1,17 +1,29 @@
 use Rattle.std.proofs.Common.{rules, refl}
 use Rattle.std.proofs.lemmas.Result.{IfErr-weaker, IfOk-weaker}
 use Rattle.chanhub.specs.Refusals.{of_arguments}
-use Rattle.chanhub.proofs.Carried.{has-run, has-verified, refused-arguments, refused-replay, refused-run, refused-verify}
+use Rattle.chanhub.proofs.Carried.{begun-replay, begun-run, begun-verify, has-run, has-verified, refused-more, refused-arguments, refused-replay, refused-run, refused-verify}
 use Rattle.chanhub.proofs.Refused.{handed}
 use Rattle.chanhub.proofs.program.carry_out.Goals as goal
 
 pub returns-in-Run-clause-done : goal.returns-in-Run-clause-done
 returns-in-Run-clause-done g c =
-    IfOk-weaker c.run_from.result _ _ (λ outcome. has-run _ _ _ _ outcome _ _ _ (search rules)) c.run_from.ensures.ok
+    IfOk-weaker c.run_from.result _ _ (λ outcome. has-run _ _ _ _ outcome _ _ (search rules)) c.run_from.ensures.ok
 
 pub returns-in-Verify-clause-done : goal.returns-in-Verify-clause-done
 returns-in-Verify-clause-done g c =
-    IfOk-weaker c.verify_files.result _ _ (λ outcome. has-verified _ _ _ _ outcome _ _ (search rules) refl) c.verify_files.ensures.ok
+    IfOk-weaker c.verify_files.result _ _ (λ outcome. has-verified _ _ _ _ outcome _ (search rules) refl) c.verify_files.ensures.ok
+
+pub returns-in-Replay-clause-refused : goal.returns-in-Replay-clause-refused
+returns-in-Replay-clause-refused g c =
+    IfErr-weaker c.replay_input.result _ _ (λ why. refused-more why (begun-replay _ _ _ _ _ _ (search rules))) c.replay_input.ensures.refused
+
+pub returns-in-Run-clause-refused : goal.returns-in-Run-clause-refused
+returns-in-Run-clause-refused g c =
+    IfErr-weaker c.run_from.result _ _ (λ why. refused-more why (begun-run _ _ _ _ _ _ _ (search rules))) c.run_from.ensures.refused
+
+pub returns-in-Verify-clause-refused : goal.returns-in-Verify-clause-refused
+returns-in-Verify-clause-refused g c =
+    IfErr-weaker c.verify_files.result _ _ (λ why. refused-more why (begun-verify _ _ _ _ _ _ (search rules) refl)) c.verify_files.ensures.refused
 
 pub returns-in_err-read_words-clause-found : goal.returns-in_err-read_words-clause-found
 returns-in_err-read_words-clause-found g c =

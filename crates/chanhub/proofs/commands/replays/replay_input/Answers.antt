@@ -11,7 +11,7 @@ returns-in_err-replay-clause-refused g c =
           (λ at is. (c.in_err-replay.ensures.text at (ap (λ f. Err f) is)).1)
           (λ is. (c.in_err-replay.ensures.read (ap (λ f. Err f) is)).1)
           (λ is. c.in_err-replay.ensures.memory (ap (λ f. Err f) is));
-      write = but_other _ c.in_err-replay.field-0.0 (λ is. (c.in_err-replay.ensures.write (ap (λ f. Err f) is)).0);
+      write = but_other _ c.in_err-replay.field-0.0 (λ is. c.in_err-replay.ensures.write (ap (λ f. Err f) is));
     })
 
 pub returns-in_err-replay-clause-found : goal.returns-in_err-replay-clause-found

@@ -3,10 +3,10 @@ use Rattle.hub_base.specs.Lines.{read_choice}
 use Rattle.hub_base.proofs.Gathered.{so_far, goes-ok, goes-late, goes-err, goes-many}
 use Rattle.hub_base.proofs.text.selects.read_select.Goals as goal
 
-pub returns-then-count-eq-MOST_CASES : goal.returns-then-count-eq-MOST_CASES
-returns-then-count-eq-MOST_CASES c =
+pub returns-then-count-eq-CASE_PLACES : goal.returns-then-count-eq-CASE_PLACES
+returns-then-count-eq-CASE_PLACES c =
     ap (read_choice c.args.pid.now) c.in-Some.ensures
-    ∙ goes-many c.args.pid.now c.in-Some.word.now c.in-Some-next_field.field.now c.loop-field.fields c.next_field-in-loop-field.new.self c.loop-field.count (so_far c.loop-field.fine c.loop-field.cases.items) (read_choice c.args.pid.now (c.in-Some.word.now ∷ c.next_field.new.self)) c.in_ok-case.case c.loop-field.invariant.same c.in-Some-next_field.ensures (sym c.is_last_default.ensures ∙ c.if-is_last_default.false) (sym c.in_ok-case.was ∙ c.read_case.ensures) c.if-count-eq-MOST_CASES.true
+    ∙ goes-many c.args.pid.now c.in-Some.word.now c.in-Some-next_field.field.now c.loop-field.fields c.next_field-in-loop-field.new.self c.loop-field.count (so_far c.loop-field.fine c.loop-field.cases.items) (read_choice c.args.pid.now (c.in-Some.word.now ∷ c.next_field.new.self)) c.in_ok-case.case c.loop-field.invariant.same c.in-Some-next_field.ensures (sym c.is_last_default.ensures ∙ c.if-is_last_default.false) (sym c.in_ok-case.was ∙ c.read_case.ensures) c.if-count-eq-CASE_PLACES.true
 
 pub loop-field-preserved-then-fine : goal.loop-field-preserved-then-fine
 loop-field-preserved-then-fine c = record {

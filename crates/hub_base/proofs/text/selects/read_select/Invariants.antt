@@ -1,3 +1,4 @@
+use Rattle.hub_base.specs.declared.limits.TheConstants.{CASE_PLACES}
 use Rattle.std.proofs.Common.{◌≡◌, ◌≤◌, length}
 use Rattle.arrayvec.specs.ArrayVec.{array_vec_len}
 use Rattle.hub_base.specs.Lines.{read_select, ends_default}
@@ -9,7 +10,7 @@ abbrev pub invariant-loop-field : goal.invariant-loop-field
 invariant-loop-field l = record {
   same : read_select l.pid l.word (ends_default l.initial.fields) ≡ rest_of l.pid l.word l.count (so_far l.fine l.cases.items) (ends_default l.fields);
   room : array_vec_len l.cases ≤ l.count;
-  few : l.count ≤ 16;
+  few : l.count ≤ CASE_PLACES;
 }
 
 abbrev pub decreases-loop-field : goal.decreases-loop-field

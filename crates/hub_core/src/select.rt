@@ -6,11 +6,11 @@ ghost use Rattle.hub_base.specs.Steps.{tells};
 ghost use Rattle.hub_parts.specs.Keeps.{AllMade};
 ghost use Rattle.hub_core.specs.ListSteps.{wait_on, told_to_wait, open_on};
 
-use hub_base::{Case, Cases, Event, Events, Pid, What};
+use hub_base::{Case, Cases, Event, Events, MOST_CASES, Pid, What};
 use hub_parts::Board;
 
 /// The number of the case that the choice word names among those that can proceed.
-pub(crate) fn choose(ready: &[u8], word: u64) -> Option<u8>
+pub(crate) fn nth_ready(ready: &[u8], word: u64) -> Option<u8>
     ensures { result ≡ slice_get ready.now (word % length ready.now) }
 {
     if ready.is_empty() {
@@ -37,7 +37,7 @@ pub(crate) fn wait(
 )
     requires below { pid.0 < board.old.procs }
     requires free { open_on board.old.waiting pid.0 ≡ false }
-    requires few { length cases.now.items ≤ 8 }
+    requires few { length cases.now.items ≤ MOST_CASES }
     requires named { AllMade (length board.old.ports) cases.now.items }
     requires later { board.old.next_ticket ≤ ticket }
     requires ticket { ticket < 2 ^ 32 - 1 }

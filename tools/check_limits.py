@@ -1,0 +1,54 @@
+#!/usr/bin/env python3
+"""Looks for limits that are written as numbers.
+
+    check_limits.py [ROOT]
+
+The limits of hubs, texts and scenarios stand in the files limits.rt of the crates, and all others name them. Tells each
+line of sources, definitions and proofs that has one of these numbers, comments included; tests and worked rows may, and
+so may widths of machine words. The status is 1 where any is told.
+"""
+import glob
+import os
+import re
+import sys
+
+ROOT = sys.argv[1] if len(sys.argv) > 1 else os.path.join(os.path.dirname(os.path.abspath(__file__)), '..')
+NUMBERS = ['63', '64', '65', '66', '1024', '1000000', '67108864', '67108865', '65535', '4294967295',
+           '9223372036854775807', '18446744073709551615']
+LIMIT = re.compile(r'(?<![\w.])(?:%s)(?![\w])' % '|'.join(NUMBERS))
+TEXT = re.compile(r'"(?:[^"\\]|\\.)*"')
+WIDTH = re.compile(r'2 ?\^ ?6[34]|1 << 63|\b64[- ]bits?\b|digits_onto 64')
+TEST_CRATES = ('hub_tests', 'hub_trials')
+
+
+def may_have_numbers(path):
+    """Whether the file is one of limits, of tests or of worked rows."""
+    crate, part = path.split(os.sep, 1)
+    return (crate in TEST_CRATES or 'Rows' in part or os.path.basename(part) in ('limits.rt', 'tests.rt')
+            or os.sep + 'tests' + os.sep in part)
+
+
+def bare(line):
+    """The first limit that the line has as a number, or nothing."""
+    line = WIDTH.sub('', TEXT.sub('""', line))
+    line = re.sub(r'(?<=\d)[_,](?=\d\d\d)', '', line)
+    return LIMIT.search(line)
+
+
+def main():
+    crates = os.path.join(ROOT, 'crates')
+    found = []
+    for part in ('src', 'specs', 'proofs'):
+        for path in sorted(glob.glob(os.path.join(crates, '*', part, '**', '*.*t*'), recursive=True)):
+            name = os.path.relpath(path, crates)
+            if not name.endswith(('.rt', '.antt')) or may_have_numbers(name):
+                continue
+            with open(path) as file:
+                found += ['%s:%d: %s' % (name, number, bare(line).group())
+                          for number, line in enumerate(file, 1) if bare(line)]
+    print(''.join('a limit as a number: crates/%s\n' % line for line in found), end='')
+    sys.exit(1 if found else 0)
+
+
+if __name__ == '__main__':
+    main()

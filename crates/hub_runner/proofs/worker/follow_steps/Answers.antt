@@ -1,4 +1,5 @@
-use Rattle.std.proofs.Common.{rules, ◌≤◌, ◌≡◌, ◌∷◌, ◌+◌, ℕ, Bool, sym, ap, ◌∙◌, drop, subst, arith}
+use Rattle.std.proofs.Common.{rules, List, ◌≤◌, ◌≡◌, ◌∷◌, ◌+◌, ℕ, Bool, sym, ap, ◌∙◌, drop, subst, arith}
+use Rattle.std.proofs.lemmas.List.{drop_all}
 use Rattle.hub_scenario.specs.declared.script.ScriptStep.{ScriptStep}
 use Rattle.hub_scenario.specs.ChoiceWords.{choice_word}
 use Rattle.hub_runner.specs.Scripts.{asks, taken_after}
@@ -39,3 +40,19 @@ loop-step-preserved g c =
       subst (λ (n : ℕ). Leads (asked_of c.args.seat.now) (asked_of c.take_step.new.seat) (choice_word seed) script 0 (drop (i + 1) script) n) next
           (subst (λ (b : Bool). Leads (asked_of c.args.seat.now) (asked_of c.take_step.new.seat) (choice_word seed) script 0 (goes_on_with b (drop (i + 1) script)) (taken_after s drawn)) c.if-not-branch.false all),
     )
+
+pub returns-then-not-branch-clause-onward : goal.returns-then-not-branch-clause-onward
+returns-then-not-branch-clause-onward g c =
+    later_onward c.args.seat.now c.take_step.new.seat (onward_later c.args.seat.now c.loop-step.seat c.take_step.new.seat c.loop-step.invariant.2 c.in_ok-take_step.ensures.later)
+
+pub returns-in_err-take_step-clause-onward : goal.returns-in_err-take_step-clause-onward
+returns-in_err-take_step-clause-onward g c =
+    later_onward c.args.seat.now c.take_step.new.seat (onward_later c.args.seat.now c.loop-step.seat c.take_step.new.seat c.loop-step.invariant.2 c.in_err-take_step.ensures.later)
+
+pub returns-clause-onward : goal.returns-clause-onward
+returns-clause-onward g c = c.loop-step.invariant.2
+
+pub returns-clause-ok : goal.returns-clause-ok
+returns-clause-ok g c =
+    let none = drop_all c.loop-step.step-index c.args.script.now c.loop-step-test.false in
+    (c.loop-step.words.drawn, subst (λ (rest : List ScriptStep). Leads (asked_of c.args.seat.now) (asked_of c.loop-step.seat) (choice_word c.args.words.now.seed) c.args.script.now 0 rest c.loop-step.words.drawn) none c.loop-step.invariant.3)

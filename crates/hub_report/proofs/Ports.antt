@@ -4,7 +4,7 @@ use Rattle.std.specs.Prelude.{slice_get}
 use Rattle.std.specs.Option.{option_map}
 use Rattle.std.proofs.lemmas.Grind.{common_steps}
 use Rattle.std.proofs.lemmas.List.{map-append, take_all}
-use Rattle.std.proofs.lemmas.Option.{slice_get_within}
+use Rattle.std.proofs.lemmas.Option.{slice_get_within, slice_get_cases}
 use Rattle.hub_base.specs.declared.value.Port.{Port}
 use Rattle.hub_base.specs.State.{State, Channel, channel_at}
 use Rattle.hub_laws.proofs.Totals.{take_next}
@@ -39,3 +39,11 @@ next-port s k p r ports is far some = by (slice_get s.channels k) refl (some ∙
           told = rw (take_next s.channels k c (sym here), far.told, same) (sym (map-append told_of (take k s.channels) (c ∷ [])));
           within = omega (arith, slice_get_within s.channels k c (sym here));
         }
+
+-- none more: these are all
+pub last-port : (s : State) (k : ℕ) (p : Port) (ports : List PortReport) → p.0 ≡ k + 1 → PortsSoFar s k ports → None ≡ option_map told_of (channel_at s p) → ports ≡ map told_of s.channels
+last-port s k p ports is far none = by (slice_get s.channels k) refl (none ∙ ap (option_map told_of) (channel_of_place s k p is))
+  where
+    by : (o : Option Channel) → o ≡ slice_get s.channels k → None ≡ option_map told_of o → ports ≡ map told_of s.channels
+    by None here h = all-ports s k ports far (grind (arith, here, slice_get_cases s.channels k))
+    by (Some c) here h = absurd (let g : ⊥ = cc in g)

@@ -1,7 +1,7 @@
-use Rattle.std.proofs.Common.{refl, arith}
+use Rattle.std.proofs.Common.{◌∙◌, sym, refl, arith}
 use Rattle.hub_base.specs.Runs.{state}
 use Rattle.hub_laws.proofs.Lasting.{ports-law}
-use Rattle.hub_report.proofs.Ports.{all-ports, next-port}
+use Rattle.hub_report.proofs.Ports.{all-ports, last-port, next-port}
 use Rattle.hub_report.proofs.replayed.Replayed.ports.Goals as goal
 
 pub loop-place-preserved : goal.loop-place-preserved
@@ -11,3 +11,7 @@ loop-place-preserved c = λ n es tells.
 pub returns : goal.returns
 returns c = λ n es tells.
     all-ports (state n es) c.loop-place.place c.loop-place.ports.items (c.loop-place.invariant n es tells) (omega (arith, ports-law n es))
+
+pub returns-in_default : goal.returns-in_default
+returns-in_default c = λ n es tells.
+    last-port (state n es) c.loop-place.place _ c.loop-place.ports.items refl (c.loop-place.invariant n es tells) (sym c.in_default.is ∙ c.port.ensures n es tells)

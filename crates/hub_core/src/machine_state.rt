@@ -94,7 +94,6 @@ impl MachineState {
         requires named { AllMade (length self.old.board.ports) cases.now.items }
         requires keep { PortsKeep self.old.board self.old.counts }
         requires later { self.old.board.next_ticket ≤ self.old.steps }
-        requires ticket { self.old.steps < 2 ^ 32 - 1 }
         requires empty { events.old.items ≡ [] }
         ensures machine { self.new ≡ (call_on self.old pid cases.now.items default word).machine }
         ensures events { events.new.items
@@ -116,7 +115,7 @@ impl MachineState {
         requires reached { IsReached self.old }
         requires admitted { refusal_of self.old.board self.old.gone pid ≡ None }
         requires fault { fault_on self.old.board step.now ≡ None }
-        requires ticket { self.old.steps < 2 ^ 32 - 1 }
+        requires steps { self.old.steps < 2 ^ 32 - 1 }
         requires empty { events.old.items ≡ [] }
         ensures machine { OnOk result (self.new ≡ (effect_on self.old pid step.now).machine) }
         ensures events { OnOk result (events.new.items ≡ (effect_on self.old pid step.now).events) }
@@ -151,7 +150,7 @@ impl MachineState {
     pub(crate) fn turn(&mut self, entry: &Entry, events: &mut Events) -> Result<(), AllocError>
         requires reached { IsReached self.old }
         requires admitted { refusal_of self.old.board self.old.gone entry.now.pid ≡ None }
-        requires ticket { self.old.steps < 2 ^ 32 - 1 }
+        requires steps { self.old.steps < 2 ^ 32 - 1 }
         requires empty { events.old.items ≡ [] }
         ensures machine { OnOk result (self.new ≡ (turn_on self.old entry.now).machine) }
         ensures events { OnOk result (events.new.items ≡ (turn_on self.old entry.now).events) }

@@ -1,7 +1,7 @@
 //! A call: which of its cases fires, and what follows where none can proceed.
 //! Go: "Select statements".
 
-ghost use Rattle.std.specs.Prelude.{◌≡◌, ◌≤◌, ◌<◌, ◌-◌, ◌^◌, ◌%◌, ◌∷◌, [], false, length, slice_get};
+ghost use Rattle.std.specs.Prelude.{◌≡◌, ◌≤◌, ◌<◌, ◌%◌, ◌∷◌, [], false, length, slice_get};
 ghost use Rattle.hub_base.specs.Steps.{tells};
 ghost use Rattle.hub_parts.specs.Keeps.{AllMade};
 ghost use Rattle.hub_core.specs.ListSteps.{wait_on, told_to_wait, open_on};
@@ -40,7 +40,6 @@ pub(crate) fn wait(
     requires few { length cases.now.items ≤ MOST_CASES }
     requires named { AllMade (length board.old.ports) cases.now.items }
     requires later { board.old.next_ticket ≤ ticket }
-    requires ticket { ticket < 2 ^ 32 - 1 }
     requires empty { events.old.items ≡ [] }
     ensures board { board.new ≡ wait_on board.old ticket pid cases.now.items default }
     ensures events { events.new.items ≡ tells pid (told_to_wait default) ∷ [] }

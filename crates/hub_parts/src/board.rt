@@ -6,7 +6,7 @@
 //! places for each process, and no process has more than one open call, of at most `MOST_CASES` cases: so the
 //! live entries leave room for one call more.
 
-ghost use Rattle.std.specs.Prelude.{◌≡◌, ◌≤◌, ◌<◌, ◌+◌, ◌-◌, [], length, IfOk, IfSome, OnErr, ◌==◌, ◌^◌, true, false, slice_get, is_some};
+ghost use Rattle.std.specs.Prelude.{◌≡◌, ◌≤◌, ◌<◌, ◌+◌, [], length, IfOk, IfSome, OnErr, ◌==◌, true, false, slice_get, is_some};
 ghost use Rattle.std.specs.Option.{option_map};
 ghost use Rattle.std.specs.List.{list_any};
 ghost use Rattle.hub_base.specs.Ready.{first_with};
@@ -85,7 +85,6 @@ impl Board {
         requires few { length cases.now.items ≤ MOST_CASES }
         requires made { AllMade (length self.old.ports) cases.now.items }
         requires later { self.old.next_ticket ≤ ticket }
-        requires ticket { ticket < 2 ^ 32 - 1 }
         ensures { self.new ≡ parked pid ticket cases.now.items self.old }
     {
         make_room(&mut self.ports, &self.calls, cases.as_slice());

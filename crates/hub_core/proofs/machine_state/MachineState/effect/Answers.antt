@@ -11,7 +11,7 @@ call-requires-clause-named c =
     call_named c.args.self.now.board c.in-Call.cases.items (ap (fault_on c.args.self.now.board) (sym c.in-Call.is) ∙ c.requires.fault)
 
 pub call-requires-clause-keep : goal.call-requires-clause-keep
-call-requires-clause-keep c = ports_keep c.args.self.now c.requires.reached c.requires.ticket
+call-requires-clause-keep c = ports_keep c.args.self.now c.requires.reached c.requires.steps
 
 pub close-requires-clause-apart : goal.close-requires-clause-apart
 close-requires-clause-apart c =

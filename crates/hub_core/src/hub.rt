@@ -14,7 +14,7 @@ ghost use Rattle.hub_core.specs.HubView.{HubInMemory, Steps, Refuses, Grows, Has
 ghost use Rattle.hub_core.specs.HubKeeps.{is_full, count_after};
 
 use crate::{Machine, OpenFault};
-use hub_base::{Entry, Events, Fault, Journal, Look, MOST_PROCS, MOST_STEPS, Port, Step, Value};
+use hub_base::{Entry, Events, Fault, Journal, Look, MOST_PROCS, MOST_STEPS, NoMemory, Port, Step, Value};
 use std::alloc::{AllocError, Global};
 use std::marker::Model;
 
@@ -220,7 +220,7 @@ impl Hub {
 
     /// Makes room in the journal: after `Ok` the next `k` steps other than makes take no memory. After
     /// a refusal the hub is as before.
-    pub fn reserve(&mut self, k: u32) -> Result<(), AllocError>
+    pub fn reserve(&mut self, k: u32) -> Result<(), NoMemory>
         ensures ok { OnOk result (
             self.new.hub ≡ record self.old.hub { places = max self.old.hub.places k }) }
         ensures more { OnErr result (self.old.hub.places < k) }

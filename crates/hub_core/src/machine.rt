@@ -12,8 +12,8 @@ ghost use Rattle.hub_core.specs.Looks.{look_at, value_at};
 ghost use Rattle.hub_core.specs.Follows.{Follows, Admits, Answers, IsMake, IsFine, RefusesFor};
 
 use crate::machine_state::MachineState;
-use hub_base::{Entry, Event, Events, Fault, Look, MOST_PROCS, Pid, Port, Value, What};
-use std::alloc::{AllocError, Global};
+use hub_base::{Entry, Event, Events, Fault, Look, MOST_PROCS, NoMemory, Pid, Port, Value, What};
+use std::alloc::Global;
 use std::marker::Model;
 
 /// The step function of a hub: makes steps and tells what follows, without a journal.
@@ -37,7 +37,7 @@ impl Model for Machine {
 impl Machine {
     /// A machine of 1 to `MOST_PROCS` processes, at which nothing has happened. It takes all the memory that
     /// the open calls will ever need.
-    pub fn new(alloc: Global, procs: u8) -> Result<Machine, AllocError>
+    pub fn new(alloc: Global, procs: u8) -> Result<Machine, NoMemory>
         requires { (1 ≤ procs) × (procs ≤ MOST_PROCS) }
         ensures { IfOk result (λ m. Follows procs [] m) }
     {
@@ -80,7 +80,7 @@ impl Machine {
     /// Makes a step, and tells what follows: a refusal by `NoProcess`, `Gone` or `Busy` is told as
     /// one event. Memory is refused to a make alone; the machine is then as before, and `events` are
     /// empty.
-    pub fn answer(&mut self, entry: &Entry, events: &mut Events) -> Result<(), AllocError>
+    pub fn answer(&mut self, entry: &Entry, events: &mut Events) -> Result<(), NoMemory>
         requires { self.old.steps < 2 ^ 32 - 1 }
 
         ensures ok { OnOk result ((n : ℕ) (es : List Entry) → Follows n es self.old
@@ -97,7 +97,7 @@ impl Machine {
             return Ok(());
         };
         match fault {
-            Fault::NoMemory => Err(AllocError),
+            Fault::NoMemory => Err(NoMemory),
             fault => {
                 events.clear();
                 events.push(Event {

@@ -18,9 +18,9 @@ use crate::select::{case_at, nth_ready, wait};
 use crate::stalling::{all_wait, stop_all};
 use crate::tally::Tallies;
 use arrayvec::ArrayVec;
-use hub_base::{Cases, Entry, Event, Events, Fault, Look, MOST_CASES, MOST_PROCS, Pid, Port, Step, Value, What};
+use hub_base::{Cases, Entry, Event, Events, Fault, Look, MOST_CASES, MOST_PROCS, NoMemory, Pid, Port, Step, Value, What};
 use hub_parts::Board;
-use std::alloc::{AllocError, Global};
+use std::alloc::Global;
 use std::marker::Model;
 
 /// The board, who has exited, what each port has carried, and how many steps were made.
@@ -66,7 +66,7 @@ pub(crate) fn tells(pid: Pid, what: What) -> Event
 
 impl MachineState {
     /// Nothing has happened. This takes all the memory that the open calls will ever need.
-    pub(crate) fn new(alloc: Global, procs: u8) -> Result<MachineState, AllocError>
+    pub(crate) fn new(alloc: Global, procs: u8) -> Result<MachineState, NoMemory>
         requires { procs ≤ MOST_PROCS }
         ensures { IfOk result (λ s. s ≡ opened_machine procs) }
     {
@@ -111,7 +111,7 @@ impl MachineState {
     }
 
     /// What a step without a fault does. A make that is refused memory changes nothing.
-    fn effect(&mut self, pid: Pid, step: &Step, events: &mut Events) -> Result<(), AllocError>
+    fn effect(&mut self, pid: Pid, step: &Step, events: &mut Events) -> Result<(), NoMemory>
         requires reached { IsReached self.old }
         requires admitted { refusal_of self.old.board self.old.gone pid ≡ None }
         requires fault { fault_on self.old.board step.now ≡ None }
@@ -147,7 +147,7 @@ impl MachineState {
     }
 
     /// An admitted step: its fault, or what it does and the stall rule behind it.
-    pub(crate) fn turn(&mut self, entry: &Entry, events: &mut Events) -> Result<(), AllocError>
+    pub(crate) fn turn(&mut self, entry: &Entry, events: &mut Events) -> Result<(), NoMemory>
         requires reached { IsReached self.old }
         requires admitted { refusal_of self.old.board self.old.gone entry.now.pid ≡ None }
         requires steps { self.old.steps < 2 ^ 32 - 1 }

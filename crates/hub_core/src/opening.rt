@@ -3,6 +3,7 @@
 ghost use Rattle.std.specs.Prelude.{◌≡◌};
 ghost use Rattle.hub_core.specs.declared.opening.OpenFault.TheVariants as open_fault;
 
+use hub_base::NoMemory;
 use std::alloc::AllocError;
 use thiserror::Error;
 
@@ -18,6 +19,14 @@ pub enum OpenFault {
     /// A growth was refused.
     #[error("out of memory")]
     NoMemory,
+}
+
+impl From<NoMemory> for OpenFault {
+    ghost from_gives = { λ _ fault. fault ≡ open_fault.NoMemory };
+
+    fn from(_: NoMemory) -> OpenFault {
+        OpenFault::NoMemory
+    }
 }
 
 impl From<AllocError> for OpenFault {

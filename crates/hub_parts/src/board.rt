@@ -18,9 +18,9 @@ mod parking;
 mod tests;
 
 use crate::{Channel, Ended, Side, Tickets};
-use hub_base::{Cases, MOST_CASES, MOST_PORTS, Pid, Port, Value};
+use hub_base::{Cases, MOST_CASES, MOST_PORTS, NoMemory, Pid, Port, Value};
 use parking::{join, make_room};
-use std::alloc::{AllocError, Global};
+use std::alloc::Global;
 use std::marker::Model;
 
 /// The ports of a hub and its open calls.
@@ -49,7 +49,7 @@ impl Model for Board {
 
 impl Board {
     /// A board without ports and open calls. It takes the memory for an open call of each process.
-    pub fn new(alloc: Global, procs: u8) -> Result<Board, AllocError>
+    pub fn new(alloc: Global, procs: u8) -> Result<Board, NoMemory>
         ensures { IfOk result (λ b. b ≡ opened procs) }
     {
         Ok(Board {
@@ -60,14 +60,16 @@ impl Board {
 
     /// Makes the next port, empty and open. It takes all the memory that the port will ever need; after an error
     /// the board is as before. Go: "Making slices, maps and channels".
-    pub fn make(&mut self, cap: u32) -> Result<Port, AllocError>
+    pub fn make(&mut self, cap: u32) -> Result<Port, NoMemory>
         requires { length self.old.ports < MOST_PORTS }
         ensures made { IfOk result (λ p. (p.0 ≡ length self.old.ports + 1) × (self.new ≡ with_new cap self.old)) }
         ensures err { OnErr result (self.new ≡ self.old) }
     {
         let port = Port(self.ports.len() as u16 + 1);
         let channel = Channel::make(*self.ports.allocator(), cap, self.calls.procs())?;
-        self.ports.push(channel)?;
+        let Ok(()) = self.ports.push(channel) else {
+            return Err(NoMemory);
+        };
         Ok(port)
     }
 

@@ -16,7 +16,7 @@ ghost use Rattle.hub_report.specs.Replays.{HasRoom, Tells, Within, most_got, num
 
 use crate::PortReport;
 use crate::counting::{port_named, tell};
-use hub_base::{Event, Events, Journal, MOST_EVENTS, MOST_PORTS, MOST_PROCS, MOST_STEPS, Port, Step};
+use hub_base::{Event, Events, Journal, MOST_EVENTS, MOST_PORTS, MOST_PROCS, MOST_STEPS, NoMemory, Port, Step};
 use hub_core::Machine;
 use std::alloc::{AllocError, Global};
 
@@ -53,7 +53,7 @@ fn add_to_sum(sums: &mut [u128; MOST_PORTS], port: Option<Port>, more: u128)
 
 impl Replayed {
     /// Nothing has happened at this number of processes.
-    fn new(alloc: Global, procs: u8) -> Result<Replayed, AllocError>
+    fn new(alloc: Global, procs: u8) -> Result<Replayed, NoMemory>
         requires { (1 ≤ procs) × (procs ≤ MOST_PROCS) }
         ensures tells { IfOk result (λ r. Tells procs [] r) }
         ensures within { IfOk result (λ r. Within 0 r) }
@@ -114,7 +114,7 @@ impl Replayed {
 }
 
 /// Replays a legal journal.
-pub(crate) fn replay(alloc: Global, journal: &Journal) -> Result<Replayed, AllocError>
+pub(crate) fn replay(alloc: Global, journal: &Journal) -> Result<Replayed, NoMemory>
     requires procs { (1 ≤ journal.now.procs) × (journal.now.procs ≤ MOST_PROCS) }
     requires legal { IsLegal journal.now.procs journal.now.entries }
     requires few { steps_of journal.now.entries ≤ MOST_STEPS }

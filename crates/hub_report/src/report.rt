@@ -7,8 +7,8 @@ ghost use Rattle.hub_laws.specs.Journals.{IsLegal};
 ghost use Rattle.hub_report.specs.Reports.{IsReportOf};
 
 use crate::replayed::replay;
-use hub_base::{Journal, MOST_PROCS, MOST_STEPS};
-use std::alloc::{AllocError, Global};
+use hub_base::{Journal, MOST_PROCS, MOST_STEPS, NoMemory};
+use std::alloc::Global;
 
 /// What a port carried.
 #[derive(Clone, Copy, Debug, PartialEq, Eq)]
@@ -43,7 +43,7 @@ pub struct Report {
 impl Report {
     /// The report of a legal journal of 1 to `MOST_PROCS` processes with at most `MOST_STEPS` steps (an
     /// exit is not one). Its entries are replayed once; they are not copied.
-    pub fn of(alloc: Global, journal: Journal) -> Result<Report, AllocError>
+    pub fn of(alloc: Global, journal: Journal) -> Result<Report, NoMemory>
         requires procs { (1 ≤ journal.procs) × (journal.procs ≤ MOST_PROCS) }
         requires legal { IsLegal journal.procs journal.entries }
         requires few { steps_of journal.entries ≤ MOST_STEPS }

@@ -2,7 +2,7 @@
 
 ghost use Rattle.std.specs.Prelude.{◌≡◌, None, IsOk};
 
-use hub_base::Fault;
+use hub_base::{Fault, NoMemory};
 use std::alloc::AllocError;
 use thiserror::Error;
 
@@ -26,6 +26,12 @@ impl From<Fault> for RunFault {
             // No other refusal comes: a script makes no exit, and a seat is of a process that is there.
             _ => RunFault::JournalFull,
         }
+    }
+}
+
+impl From<NoMemory> for RunFault {
+    fn from(_: NoMemory) -> RunFault {
+        RunFault::NoMemory
     }
 }
 

@@ -1,5 +1,6 @@
 //! Why a text was not read.
 
+use std::alloc::AllocError;
 use thiserror::Error;
 
 /// What is wrong with a line of a journal's text.
@@ -39,7 +40,13 @@ pub enum ReadFault {
     NoMemory,
 }
 
-/// A growth was refused. Nothing was appended.
+/// A growth was refused. Nothing was changed.
 #[derive(Clone, Copy, Debug, PartialEq, Eq, Error)]
 #[error("out of memory")]
 pub struct NoMemory;
+
+impl From<AllocError> for NoMemory {
+    fn from(_: AllocError) -> NoMemory {
+        NoMemory
+    }
+}

@@ -21,4 +21,4 @@ pub use machine::Machine;
 pub use opening::OpenFault;
 pub use runs::{ListFault, run};
 pub use tally::Tally;
-pub use touching::port_touched;
+pub use touching::{port_changed, port_touched};

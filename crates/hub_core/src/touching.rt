@@ -1,9 +1,9 @@
 //! Which port a step may have changed.
 
 ghost use Rattle.std.specs.Prelude.{◌≡◌};
-ghost use Rattle.hub_laws.specs.OnePort.{port_touched_by};
+ghost use Rattle.hub_laws.specs.OnePort.{port_touched_by, port_changed_by, found_closed};
 
-use hub_base::{Port, Step, What};
+use hub_base::{Outcome, Port, Step, What};
 
 /// The one port whose channel a step with this answer may have changed: the port that was made or
 /// closed, or that of the case that fired. `None` for any other answer, as of a call that waits or
@@ -19,5 +19,30 @@ pub fn port_touched(step: &Step, answer: What) -> Option<Port>
         }
         (Step::Close(port), What::Done) => Some(*port),
         _ => None,
+    }
+}
+
+/// Whether a case fired that found its port closed.
+fn found_closed(answer: What) -> bool
+    ensures { result ≡ found_closed answer }
+{
+    matches!(
+        answer,
+        What::Fired {
+            outcome: Outcome::Drained | Outcome::Closed,
+            ..
+        }
+    )
+}
+
+/// The one port whose channel a step with this answer changed: as `port_touched`, but `None` where a
+/// case fired that found its port closed, so a send there or a receive from it when drained.
+pub fn port_changed(step: &Step, answer: What) -> Option<Port>
+    ensures { result ≡ port_changed_by step.now answer }
+{
+    if found_closed(answer) {
+        None
+    } else {
+        port_touched(step, answer)
     }
 }

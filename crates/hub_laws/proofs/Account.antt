@@ -13,7 +13,7 @@ use Rattle.hub_base.specs.Reading.{is_exit}
 use Rattle.hub_base.specs.Values.{cases_or, of_what}
 use Rattle.hub_laws.specs.Sound.{Apart, IsSound, PortSound}
 use Rattle.hub_laws.specs.Answers.{is_answer_to}
-use Rattle.hub_laws.specs.OnePort.{port_touched_by}
+use Rattle.hub_laws.specs.OnePort.{port_touched_by, found_closed}
 use Rattle.hub_laws.specs.Replies.{is_parked}
 use Rattle.hub_laws.proofs.Calls.{Fewer, fewer-same, all_snoc}
 use Rattle.hub_laws.proofs.Deeds.{Deed, deed_of, at, Wrote, Does, idle}
@@ -62,6 +62,8 @@ pub record Account (s : State) (pid : Pid) (step : Step) (c : Change) : Type 0 w
   pub blocked : is_parked answer ≡ true → list_any (can_proceed s) (cases_or step []) ≡ false
   -- at most one channel is written or made, that of the port which the answer names, as the communications say
   pub does : IsSound s → Does s.channels c.state.channels (port_touched_by step answer) (deeds_of step answer ended)
+  -- and none where a case found its port closed
+  pub still : found_closed answer ≡ true → IsSound s → (p : Port) → at c.state.channels p ≡ at s.channels p
   -- and it suits those that wait then
   pub sound : IsSound s → NamedSound (port_touched_by step answer) c.state.channels c.state.parked
   -- the processes are as many, and the caller alone can exit
@@ -86,6 +88,7 @@ pub alone : (s : State) (ts : List Channel) (pid : Pid) (step : Step) (answer : 
     is_answer_to step answer ≡ true → InPlace (cases_or step []) answer →
     (is_parked answer ≡ true → list_any (can_proceed s) (cases_or step []) ≡ false) →
     (IsSound s → Does s.channels ts (port_touched_by step answer) (deeds_of step answer [])) →
+    (found_closed answer ≡ true → IsSound s → (p : Port) → at ts p ≡ at s.channels p) →
     (IsSound s → NamedSound (port_touched_by step answer) ts (with_caller s.parked pid step answer)) →
     Account s pid step (record {
       state = record s {
@@ -95,7 +98,7 @@ pub alone : (s : State) (ts : List Channel) (pid : Pid) (step : Step) (answer : 
       };
       events = tells pid answer ∷ [];
     })
-alone s ts pid step answer fits placed blocked does sound = record {
+alone s ts pid step answer fits placed blocked does still sound = record {
   answer = answer;
   ended = [];
   told = refl;
@@ -106,6 +109,7 @@ alone s ts pid step answer fits placed blocked does sound = record {
   fewer = fewer-same (with_caller s.parked pid step answer);
   blocked = blocked;
   does = does;
+  still = still;
   sound = sound;
   procs = refl;
   gone = refl;
@@ -121,7 +125,7 @@ pub silent : (s : State) (pid : Pid) (step : Step) (answer : What) → is_answer
       events = tells pid answer ∷ [];
     })
 silent s pid step answer fits blocked none placed quiet =
-    alone s s.channels pid step answer fits placed blocked (λ sound. idle none refl (rw quiet refl))
+    alone s s.channels pid step answer fits placed blocked (λ sound. idle none refl (rw quiet refl)) (λ h sound p. refl)
     (λ sound p c names e. absurd (let g : ⊥ = cc in g))
 
 -- the port that is written, where it is the one that is named

@@ -1,8 +1,8 @@
 -- What a write does to the channels, and what follows of each port from what a step can do to them.
-use Rattle.std.proofs.Common.{◌≡◌, ◌≤◌, ℕ, ◌+◌, ◌-◌, ◌<◌, ◌==◌, Bool, true, false, cond, zero, suc, List, [], ◌∷◌, ◌++◌, length, refl, ap, sym, subst, Option, Some, None, arith, inl, inr}
+use Rattle.std.proofs.Common.{◌≡◌, ◌≤◌, ℕ, ◌+◌, ◌-◌, ◌<◌, ◌==◌, Bool, true, false, cond, zero, suc, List, [], ◌∷◌, ◌++◌, length, refl, ap, ◌∙◌, sym, subst, Option, Some, None, arith, inl, inr}
 use Rattle.std.specs.Prelude.{slice_get, slice_set, get_or}
 use Rattle.std.proofs.Math.ListN.{length-set}
-use Rattle.std.proofs.lemmas.Bool.{eqb-false}
+use Rattle.std.proofs.lemmas.Bool.{eqb-false, eqb-true}
 use Rattle.std.proofs.lemmas.List.{length-append}
 use Rattle.std.proofs.lemmas.Option.{slice_get_within, slice_get-get_or}
 use Rattle.hub_base.specs.declared.value.Port.{Port}
@@ -14,7 +14,7 @@ use Rattle.hub_laws.specs.OnePort.{is_port, IsMade}
 use Rattle.hub_laws.specs.Sound.{IsSound}
 use Rattle.hub_laws.proofs.Deeds.{Deed, at, fresh, Wrote, Does, idle, adds, wrote}
 use Rattle.hub_laws.proofs.Fires.{longer}
-use Rattle.hub_laws.proofs.Ports.{above_zero, made, at_made, written, get_set_other, new_port}
+use Rattle.hub_laws.proofs.Ports.{above_zero, made, at_made, written, get_set_other, new_port, same_port}
 
 -- the channels after a write
 
@@ -35,6 +35,16 @@ wrote-set s q c d e = record {
 
 pub wrote-same : (s : State) (q : Port) (c : Channel) → channel_at s q ≡ Some c → Wrote s.channels s.channels q c c
 wrote-same s q c e = record { old = e; new = e; others = λ p h. refl; ports = refl }
+
+-- where it leaves the port as it was, nothing changes
+pub wrote-still : (cs ts : List Channel) (q : Port) (c d : Channel) → Wrote cs ts q c d → d ≡ c → (p : Port) → at ts p ≡ at cs p
+wrote-still cs ts q c d w same p = by (q.0 == p.0) refl
+  where
+    by : (b : Bool) → b ≡ (q.0 == p.0) → at ts p ≡ at cs p
+    by true is =
+        let here : q ≡ p = same_port q p (eqb-true q.0 p.0 (sym is)) in
+        subst (λ (r : Port). at ts r ≡ at cs r) here (w.new ∙ ap (λ x. Some x) same ∙ sym w.old)
+    by false is = w.others p (sym is)
 
 -- where a value is sent there is one to receive
 

@@ -70,6 +70,7 @@ close_account s pid p (Some c) is h =
           let fine : PortSound p (shut c) (filter off s.parked) = port-shut p c s.parked (sound.ports p c (sym is)) in
           named_sound (Some p) s.channels (slice_set s.channels (p.0 - 1) (shut c)) p c (shut c) (filter off s.parked) refl w fine;
       does = λ sound. wrote p c (shut c) refl w (shuts live refl (closed_deeds p parts.ended parts.each));
+      still = λ h. cc;
       procs = refl;
       gone = refl;
     }
@@ -88,7 +89,7 @@ pub effect-account : (s : State) (pid : Pid) (step : Step) → fault_of s step �
 effect-account s pid (Make cap) h =
     let ts : List Channel = s.channels ++ fresh cap ∷ [] in
     let new : What = what.Made (record { 0 = length s.channels + 1 }) in
-    alone s ts pid (Make cap) new refl tt (λ h. cc) (λ sound. adds cap (room_for_port s cap h) refl refl refl)
+    alone s ts pid (Make cap) new refl tt (λ h. cc) (λ sound. adds cap (room_for_port s cap h) refl refl refl) (λ h. cc)
     (λ sound p c names e. elim (new_port s (record s { channels = ts }) p (fresh cap) c refl e) [
       | inl l ↦ rw l.1 (port-fresh s p cap sound l.0)
       | inr r ↦ sound.ports p c r
@@ -130,6 +131,7 @@ stalled_account s pid step c a =
       sound = λ sound p d names e.
           port-fewer p d [] c.state.parked (fewer-none c.state.parked) (a.sound sound p d names e);
       does = λ sound. rw none (a.does sound);
+      still = a.still;
       procs = a.procs;
       gone = a.gone;
     }

@@ -1,5 +1,5 @@
 -- One entry writes at most the port that its answer names.
-use Rattle.std.proofs.Common.{◌≡◌, ◌==◌, ℕ, false, List, [], ◌∷◌, ◌++◌, length, refl, ap, ◌∙◌, sym, subst, Option, Some, None}
+use Rattle.std.proofs.Common.{◌≡◌, ◌==◌, ℕ, Bool, true, false, cond, List, [], ◌∷◌, ◌++◌, length, refl, ap, ◌∙◌, sym, subst, Option, Some, None}
 use Rattle.std.specs.Option.{option_map_or}
 use Rattle.hub_base.specs.declared.value.Port.{Port}
 use Rattle.hub_base.specs.declared.entry.Entry.{Entry}
@@ -7,11 +7,11 @@ use Rattle.hub_base.specs.declared.fault.Fault.{Fault}
 use Rattle.hub_base.specs.State.{State, opening, channel_at}
 use Rattle.hub_base.specs.Steps.{turn, refusal}
 use Rattle.hub_base.specs.Runs.{admits, moves, state}
-use Rattle.hub_laws.specs.OnePort.{port_touched_by, port_touched, is_port, IsMade, OnePortLaw}
+use Rattle.hub_laws.specs.OnePort.{port_touched_by, port_touched, port_changed_by, port_changed, found_closed, is_port, IsMade, OnePortLaw}
 use Rattle.hub_laws.specs.Sound.{IsSound}
 use Rattle.hub_laws.proofs.Account.{deeds_of}
 use Rattle.hub_laws.proofs.Entries.{fault_names_none, turn-account}
-use Rattle.hub_laws.proofs.Deeds.{Deed, Does, idle}
+use Rattle.hub_laws.proofs.Deeds.{Deed, Does, at, idle}
 use Rattle.hub_laws.proofs.Does.{does-made, does-others}
 use Rattle.hub_laws.proofs.Longer.{state_after-append}
 use Rattle.hub_laws.proofs.Rules.{state-sound}
@@ -25,6 +25,22 @@ moves-does s e None sound =
     (deeds_of e.step a.answer a.ended, rw named (a.does sound))
 moves-does s e (Some f) sound = ([], idle (fault_names_none e.step f) refl refl)
 
+-- and which of them it leaves as they are
+pub moves-leaves : (s : State) (e : Entry) (o : Option Fault) → IsSound s → (p : Port) →
+    is_port (port_changed e.step (admits s e o).events) p ≡ false → at (admits s e o).state.channels p ≡ at s.channels p
+moves-leaves s e None sound p h =
+    by (found_closed (turn-account s e).answer) refl
+    (sym (ap (λ xs. is_port (port_changed e.step xs) p) (turn-account s e).told) ∙ h)
+  where
+    by : (b : Bool) → b ≡ found_closed (turn-account s e).answer →
+        is_port (cond b None (port_touched_by e.step (turn-account s e).answer)) p ≡ false →
+        at (turn s e).state.channels p ≡ at s.channels p
+    by true is h = (turn-account s e).still (sym is) sound p
+    by false is h =
+        let a = turn-account s e in
+        does-others s.channels (turn s e).state.channels (port_touched_by e.step a.answer) (deeds_of e.step a.answer a.ended) (a.does sound) p h
+moves-leaves s e (Some f) sound p h = refl
+
 other_number : (o : Option Port) (p : Port) → (option_map_or (λ q. q.0) o 0 == p.0) ≡ false → is_port o p ≡ false
 other_number None p h = refl
 other_number (Some q) p h = h
@@ -35,12 +51,13 @@ one_port-law n es e =
     let after : state n (es ++ e ∷ []) ≡ (moves s e).state = state_after-append (opening n) es (e ∷ []) in
     let named : Option Port = port_touched e.step (moves s e).events in
     let d = moves-does s e (refusal s e.pid) (state-sound n es) in
-    let others : (p : Port) → is_port named p ≡ false → channel_at (state n (es ++ e ∷ [])) p ≡ channel_at s p =
-    λ p h. ap (λ (s : State). channel_at s p) after ∙ does-others s.channels (moves s e).state.channels named d.0 d.1 p h in
+    let changed : Option Port = port_changed e.step (moves s e).events in
+    let others : (p : Port) → is_port changed p ≡ false → channel_at (state n (es ++ e ∷ [])) p ≡ channel_at s p =
+    λ p h. ap (λ (s : State). channel_at s p) after ∙ moves-leaves s e (refusal s e.pid) (state-sound n es) p h in
     record {
       made = λ p h.
           subst (λ (s : State). IsMade p (length s.channels)) (sym after)
           (does-made s.channels (moves s e).state.channels named d.0 d.1 p h);
       others = others;
-      numbers = λ p h. others p (other_number named p h);
+      numbers = λ p h. others p (other_number changed p h);
     }

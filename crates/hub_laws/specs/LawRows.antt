@@ -19,7 +19,7 @@ use Rattle.hub_laws.specs.Answers.{is_answer_to}
 use Rattle.hub_laws.specs.Replies.{own, reply}
 use Rattle.hub_laws.specs.Journals.{IsLegal}
 use Rattle.hub_laws.specs.Limits.{exits_of}
-use Rattle.hub_laws.specs.OnePort.{touched, number_of}
+use Rattle.hub_laws.specs.OnePort.{touched, changed, number_of}
 use Rattle.hub_laws.specs.Received.{got_at, received_on}
 
 -- ---- states
@@ -131,6 +131,17 @@ refused_row = refl
 
 pub number_row : number_of (touched 1 (exit 0 ∷ []) (make 0 1)) ≡ 0
 number_row = refl
+
+-- and changed
+pub writes_row : changed 1 (make 0 1 ∷ []) (send 0 1 5) ≡ Some (port 1)
+writes_row = refl
+
+-- a case that finds its port closed changes none
+pub found_closed_row : changed 1 (make 0 1 ∷ close 0 1 ∷ []) (send 0 1 5) ≡ None
+found_closed_row = refl
+
+pub found_drained_row : changed 1 (make 0 1 ∷ close 0 1 ∷ []) (recv 0 1) ≡ None
+found_drained_row = refl
 
 -- ---- replies
 

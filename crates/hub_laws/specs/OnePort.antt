@@ -1,12 +1,14 @@
 -- One step writes the channel of at most one port, which its answer names: the port of the case
 -- that fired, the port that was made, or the port that was closed. A call that waits or takes its
--- default, an exit and a fault write none, and what follows an answer (calls that end) no other.
-use Rattle.std.specs.Prelude.{◌≡◌, ◌≤◌, ◌<◌, ◌==◌, ◌++◌, ℕ, Bool, false, List, [], ◌∷◌, length, Option, Some, None, slice_get}
+-- default, an exit and a fault write none, and what follows an answer (calls that end) no other. Nor
+-- does a case write any that found its port closed: a send there, or a receive from it when drained.
+use Rattle.std.specs.Prelude.{◌≡◌, ◌≤◌, ◌<◌, ◌==◌, ◌++◌, ℕ, Bool, true, false, List, [], ◌∷◌, length, Option, Some, None, slice_get, if◌then◌else◌}
 use Rattle.std.specs.Option.{option_map, option_map_or}
 use Rattle.hub_base.specs.declared.value.Port.{Port}
 use Rattle.hub_base.specs.declared.entry.Step.{Step}
 use Rattle.hub_base.specs.declared.entry.Step.TheVariants.{Make, Call, Close}
 use Rattle.hub_base.specs.declared.entry.Entry.{Entry}
+use Rattle.hub_base.specs.declared.event.Outcome.TheVariants.{Drained, Closed}
 use Rattle.hub_base.specs.declared.event.What.{What}
 use Rattle.hub_base.specs.declared.event.What.TheVariants as what
 use Rattle.hub_base.specs.declared.event.Event.{Event}
@@ -25,6 +27,20 @@ port_touched_by step answer = None
 abbrev pub port_touched : Step → List Event → Option Port
 port_touched step [] = None
 port_touched step (answer ∷ ended) = port_touched_by step answer.what
+
+-- the case that fired found its port closed
+abbrev pub found_closed : What → Bool
+found_closed (what.Fired i Drained) = true
+found_closed (what.Fired i Closed) = true
+found_closed answer = false
+
+-- the port whose channel a step changes, from the step and its answer alone
+abbrev pub port_changed_by : Step → What → Option Port
+port_changed_by step answer = if found_closed answer then None else port_touched_by step answer
+
+abbrev pub port_changed : Step → List Event → Option Port
+port_changed step [] = None
+port_changed step (answer ∷ ended) = port_changed_by step answer.what
 
 abbrev pub is_port : Option Port → Port → Bool
 is_port None p = false
@@ -48,12 +64,17 @@ IsPort p s = IsMade p (length s.channels)
 abbrev pub touched : ℕ → List Entry → Entry → Option Port
 touched n es e = port_touched e.step (moves (state n es) e).events
 
+-- the port that it changes
+abbrev pub changed : ℕ → List Entry → Entry → Option Port
+changed n es e = port_changed e.step (moves (state n es) e).events
+
 -- the port has the channel that it had: its capacity, whether it is closed, and its counts
 abbrev pub Untouched : ℕ → List Entry → Entry → Port → Type 0
 Untouched n es e p = channel_at (state n (es ++ e ∷ [])) p ≡ channel_at (state n es) p
 
--- the port that is named is made, and every other one is as it was, also where it is told by numbers
+-- the port that is named is made; but for the port that is changed every one is as it was, also where
+-- it is told by numbers
 pub record OnePortLaw (n : ℕ) (es : List Entry) (e : Entry) : Type 0 where
   pub made : (p : Port) → touched n es e ≡ Some p → IsPort p (state n (es ++ e ∷ []))
-  pub others : (p : Port) → is_port (touched n es e) p ≡ false → Untouched n es e p
-  pub numbers : (p : Port) → (number_of (touched n es e) == p.0) ≡ false → Untouched n es e p
+  pub others : (p : Port) → is_port (changed n es e) p ≡ false → Untouched n es e p
+  pub numbers : (p : Port) → (number_of (changed n es e) == p.0) ≡ false → Untouched n es e p

@@ -4,7 +4,8 @@ ghost use Rattle.hub_laws.specs.OnePort.{OnePortLaw};
 
 use hub_base::Entry;
 
-/// One entry writes the channel of at most one port, which its answer names.
+/// One entry writes the channel of at most one port, which its answer names, and none where the case
+/// that fired found its port closed.
 pub fn one_port_moves(procs: u8, before: &[Entry], entry: &Entry)
     ensures { OnePortLaw procs before.now entry.now }
 {}

@@ -11,7 +11,7 @@ use Rattle.hub_base.specs.Runs.{state}
 use Rattle.hub_base.specs.Reading.{is_exit}
 use Rattle.hub_base.specs.Text.{one_step, steps_of}
 use Rattle.hub_laws.specs.Journals.{IsLegal}
-use Rattle.hub_laws.specs.OnePort.{touched, port_touched, port_touched_by, number_of}
+use Rattle.hub_laws.specs.OnePort.{changed, port_changed, port_changed_by, number_of}
 use Rattle.hub_laws.specs.Replies.{own, reply}
 use Rattle.hub_laws.proofs.Journals.{begins-law}
 use Rattle.hub_laws.proofs.Replies.{own-mine}
@@ -26,7 +26,7 @@ use Rattle.hub_live.specs.Moves.{Sees, grown, with_joined, parted, given_back}
 use Rattle.hub_live.specs.Named.{IsToken}
 use Rattle.hub_live.specs.Seated.{IsAlone, IsHub, IsDesk}
 use Rattle.hub_live.proofs.Prefixes.{prefix_trans}
-use Rattle.hub_live.proofs.Marks.{marks_one, touched-few}
+use Rattle.hub_live.proofs.Marks.{marks_one, changed-few}
 
 -- the hub's view, joined to that of a process, once it has seen the journal
 pub record IsJoined (t : Terms) (journal : List Entry) (pid : Pid) (before : List Entry) (w : View) : Type 0 where
@@ -164,23 +164,23 @@ history_served t old new e answer seen is s same =
     let after = hub_steps t old.hub new.hub e (answer ∷ s.ended) is s.step in
     subst (IsHistory t) (ap (λ (h : HubView). h.journal) s.step.journal ∙ ap (λ (es : List Entry). es ++ e ∷ []) (sym same)) after.history
 
-touched_served : (t : Terms) (old new : LockedView) (e : Entry) (answer : Event) (seen : List Entry) → IsHub t old.hub → Serves old e new answer → seen ≡ old.hub.journal → number_of (port_touched_by e.step answer.what) ≡ number_of (touched t.procs seen e)
-touched_served t old new e answer seen is s same =
-    ap (λ (xs : List Event). number_of (port_touched e.step xs)) s.step.events
-    ∙ (λ i. number_of (touched (is.procs i) (sym same i) e))
+changed_served : (t : Terms) (old new : LockedView) (e : Entry) (answer : Event) (seen : List Entry) → IsHub t old.hub → Serves old e new answer → seen ≡ old.hub.journal → number_of (port_changed_by e.step answer.what) ≡ number_of (changed t.procs seen e)
+changed_served t old new e answer seen is s same =
+    ap (λ (xs : List Event). number_of (port_changed e.step xs)) s.step.events
+    ∙ (λ i. number_of (changed (is.procs i) (sym same i) e))
 
-pub marks_served : (t : Terms) (old new : LockedView) (e : Entry) (answer : Event) (seen : List Entry) (word : ℕ) → IsHub t old.hub → Serves old e new answer → seen ≡ old.hub.journal → word ≡ number_of (port_touched_by e.step answer.what)
+pub marks_served : (t : Terms) (old new : LockedView) (e : Entry) (answer : Event) (seen : List Entry) (word : ℕ) → IsHub t old.hub → Serves old e new answer → seen ≡ old.hub.journal → word ≡ number_of (port_changed_by e.step answer.what)
     → MarksOne t.procs seen e word (mark_at (state_of new.hub) (port_numbered word))
 marks_served t old new e answer seen word is s same at =
-    let m : MarksOne t.procs seen e word (mark t.procs (seen ++ e ∷ []) word) = marks_one t.procs seen e word (at ∙ touched_served t old new e answer seen is s same) in
+    let m : MarksOne t.procs seen e word (mark t.procs (seen ++ e ∷ []) word) = marks_one t.procs seen e word (at ∙ changed_served t old new e answer seen is s same) in
     let new_mark : mark t.procs (seen ++ e ∷ []) word ≡ mark_at (state_of new.hub) (port_numbered word) =
     (λ i. mark (sym is.procs i) (same i ++ e ∷ []) word) ∙ sym (ap (λ (h : HubView). mark_at (state_of h) (port_numbered word)) s.step.journal) in
     subst (MarksOne t.procs seen e word) new_mark m
 
-pub word_served : (t : Terms) (old new : LockedView) (e : Entry) (answer : Event) (word : ℕ) → IsHub t old.hub → Serves old e new answer → word ≡ number_of (port_touched_by e.step answer.what) → word ≤ MOST_PORTS
+pub word_served : (t : Terms) (old new : LockedView) (e : Entry) (answer : Event) (word : ℕ) → IsHub t old.hub → Serves old e new answer → word ≡ number_of (port_changed_by e.step answer.what) → word ≤ MOST_PORTS
 word_served t old new e answer word is s at =
-    let few = touched-few t.procs old.hub.journal e in
-    subst (λ (n : ℕ). n ≤ MOST_PORTS) (sym (at ∙ touched_served t old new e answer old.hub.journal is s refl)) few
+    let few = changed-few t.procs old.hub.journal e in
+    subst (λ (n : ℕ). n ≤ MOST_PORTS) (sym (at ∙ changed_served t old new e answer old.hub.journal is s refl)) few
 
 pub told_served : (t : Terms) (old new : LockedView) (e : Entry) (answer : Event) (seen : List Entry) → IsHub t old.hub → Serves old e new answer → seen ≡ new.hub.journal → IsReplyTo new.hub.procs e.pid.0 new.hub.journal answer → IsReplyTo t.procs e.pid.0 seen answer
 told_served t old new e answer seen is s same r =

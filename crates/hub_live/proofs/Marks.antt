@@ -10,11 +10,13 @@ use Rattle.hub_base.specs.declared.counts.Counts.{Counts}
 use Rattle.hub_base.specs.declared.counts.Look.{Look}
 use Rattle.hub_base.specs.declared.entry.Entry.{Entry}
 use Rattle.hub_base.specs.declared.limits.TheConstants.{MOST_PORTS, MOST_STEPS}
+use Rattle.hub_base.specs.declared.entry.Step.{Step}
+use Rattle.hub_base.specs.declared.event.Event.{Event}
 use Rattle.hub_base.specs.State.{Channel, channel_at}
-use Rattle.hub_base.specs.Runs.{state}
+use Rattle.hub_base.specs.Runs.{moves, state}
 use Rattle.hub_base.specs.Text.{steps_of}
 use Rattle.hub_laws.specs.Journals.{IsLegal}
-use Rattle.hub_laws.specs.OnePort.{touched, number_of, IsPort}
+use Rattle.hub_laws.specs.OnePort.{changed, found_closed, number_of, port_changed, port_touched, port_touched_by, IsPort}
 use Rattle.hub_laws.proofs.OnePort.{one_port-law}
 use Rattle.hub_laws.proofs.Counts.{counts-law}
 use Rattle.hub_laws.proofs.States.{state-laws}
@@ -91,16 +93,24 @@ few_ports : (n : ℕ) (es : List Entry) (e : Entry) (o : Option Port) → ((p : 
 few_ports n es e None made = omega arith
 few_ports n es e (Some p) made = omega (arith, (made p refl).few, (state-laws n (es ++ e ∷ [])).few)
 
-pub touched-few : (n : ℕ) (es : List Entry) (e : Entry) → number_of (touched n es e) ≤ MOST_PORTS
-touched-few n es e = few_ports n es e (touched n es e) (one_port-law n es e).made
+changed_named : (step : Step) (events : List Event) (p : Port) → port_changed step events ≡ Some p → port_touched step events ≡ Some p
+changed_named step [] p h = h
+changed_named step (x ∷ xs) p h = by (found_closed x.what) h
+  where
+    by : (b : Bool) → cond b None (port_touched_by step x.what) ≡ Some p → port_touched_by step x.what ≡ Some p
+    by true h = cc
+    by false h = h
 
-one_mark : (n : ℕ) (es : List Entry) (e : Entry) (word number : ℕ) (b : Bool) → (number == word) ≡ b → word ≡ number_of (touched n es e)
+pub changed-few : (n : ℕ) (es : List Entry) (e : Entry) → number_of (changed n es e) ≤ MOST_PORTS
+changed-few n es e = few_ports n es e (changed n es e) (λ p h. (one_port-law n es e).made p (changed_named e.step (moves (state n es) e).events p h))
+
+one_mark : (n : ℕ) (es : List Entry) (e : Entry) (word number : ℕ) (b : Bool) → (number == word) ≡ b → word ≡ number_of (changed n es e)
     → MatchBool b (mark n (es ++ e ∷ []) number ≡ mark n (es ++ e ∷ []) word) (mark n (es ++ e ∷ []) number ≡ mark n es number)
 one_mark n es e word number true same is = ap (mark n (es ++ e ∷ [])) (eqb-true number word same)
 one_mark n es e word number false other is =
-    let apart : (number_of (touched n es e) == number) ≡ false = let h : number ≢ number_of (touched n es e) = λ k. (let g : number ≢ word = grind (arith, nat_tests) in g) (k ∙ sym is) in grind (arith, nat_tests) in
+    let apart : (number_of (changed n es e) == number) ≡ false = let h : number ≢ number_of (changed n es e) = λ k. (let g : number ≢ word = grind (arith, nat_tests) in g) (k ∙ sym is) in grind (arith, nat_tests) in
     ap (λ (o : Option Channel). option_map_or mark_of (option_map counts_of o) 0) ((one_port-law n es e).numbers (port_numbered number) apart)
 
--- one entry changes at most the mark of the port that its answer names
-pub marks_one : (n : ℕ) (es : List Entry) (e : Entry) (word : ℕ) → word ≡ number_of (touched n es e) → MarksOne n es e word (mark n (es ++ e ∷ []) word)
+-- one entry changes at most the mark of the port that it changes
+pub marks_one : (n : ℕ) (es : List Entry) (e : Entry) (word : ℕ) → word ≡ number_of (changed n es e) → MarksOne n es e word (mark n (es ++ e ∷ []) word)
 marks_one n es e word is number lo hi = one_mark n es e word number (number == word) refl is

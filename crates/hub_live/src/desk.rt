@@ -11,7 +11,7 @@ ghost use Rattle.hub_base.specs.Runs.{state};
 ghost use Rattle.hub_base.specs.Steps.{is_waiting};
 ghost use Rattle.hub_base.specs.Text.{steps_of};
 ghost use Rattle.hub_laws.specs.Journals.{IsLegal};
-ghost use Rattle.hub_laws.specs.OnePort.{number_of, port_touched_by};
+ghost use Rattle.hub_laws.specs.OnePort.{number_of, port_changed_by};
 ghost use Rattle.hub_laws.specs.Replies.{own};
 ghost use Rattle.hub_core.specs.HubView.{Refuses, state_of};
 ghost use Rattle.hub_live.specs.Mark.{mark_at};
@@ -29,7 +29,7 @@ use crate::rule::Token;
 use crate::seat::InnerSeat;
 use crate::words::Words;
 use hub_base::{Entry, Event, Fault, Journal, MOST_STEPS, Pid, Port, Step, What};
-use hub_core::port_touched;
+use hub_core::port_changed;
 use std::marker::{Model, PhantomData};
 
 /// The locked hub, and the hub's own seat. To a contract it is the locked hub.
@@ -55,11 +55,11 @@ impl<K: HubName> Model for Desk<K> {
     ghost invariant = { λ d. IsDesk K.name d.locked d.token };
 }
 
-/// The port that a step with this answer may have changed, port 0 for none.
-fn touched(step: &Step, answer: What) -> Port
-    ensures { result.0 ≡ number_of (port_touched_by step.now answer) }
+/// The port that a step with this answer changed, port 0 for none.
+fn changed(step: &Step, answer: What) -> Port
+    ensures { result.0 ≡ number_of (port_changed_by step.now answer) }
 {
-    port_touched(step, answer).unwrap_or(Port(0))
+    port_changed(step, answer).unwrap_or(Port(0))
 }
 
 /// The mark of a port, 0 where it is not made.
@@ -118,7 +118,7 @@ fn step_as<K: HubName>(
     match locked.step(entry) {
         Ok(answer) => {
             let made = newest(locked);
-            let port = touched(&made.step, answer.what);
+            let port = changed(&made.step, answer.what);
             let mark = mark_at(locked, port);
             words.publish(hub, usize::from(port.0), mark, made);
             let back = words.part(hub);

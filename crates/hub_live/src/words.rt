@@ -54,8 +54,8 @@ impl<K: HubName> Words<K> {
         self.table.shared.store::<PublishStep<E>>(token, word, mark);
     }
 
-    /// Publishes an entry by one store: of the mark of the port that its answer names, or to word 0
-    /// where it names none. The seat is the hub's, joined to that of the entry's process.
+    /// Publishes an entry by one store: of the mark of the port that it changes, or to word 0 where it
+    /// changes none. The seat is the hub's, joined to that of the entry's process.
     pub(crate) fn publish(&self, token: &mut Token, word: usize, mark: u64, entry: &Entry)
         requires token { IsToken K.name token.old }
         requires hub { token.old.me.0.number ≡ Some 0 }

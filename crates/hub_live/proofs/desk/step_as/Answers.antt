@@ -8,7 +8,7 @@ use Rattle.hub_core.specs.HubView.{HubView, state_of}
 use Rattle.hub_live.specs.declared.name.Terms.{Terms}
 use Rattle.hub_live.specs.Mark.{mark_at, port_numbered, MarksOne}
 use Rattle.hub_live.specs.Locked.{LockedView}
-use Rattle.hub_laws.specs.OnePort.{number_of, port_touched_by}
+use Rattle.hub_laws.specs.OnePort.{number_of, port_changed_by}
 use Rattle.hub_live.specs.Rule.{IsHistory}
 use Rattle.hub_live.specs.Moves.{grown}
 use Rattle.hub_live.specs.Seated.{IsHub}
@@ -17,9 +17,9 @@ use Rattle.hub_live.proofs.Desks.{newest_made, joined_desk, IsMade, made_back, I
 use Rattle.hub_live.proofs.Refusals.{asks_nothing, shows}
 use Rattle.hub_live.proofs.desk.step_as.Given.{Over}
 use Rattle.hub_live.proofs.desk.step_as.Goals as goal
-use Rattle.hub_live.proofs.desk.step_as.Goals.{After-touched-port, After-part-back, After-part-back-in-Err}
+use Rattle.hub_live.proofs.desk.step_as.Goals.{After-changed-port, After-part-back, After-part-back-in-Err}
 
-hub_after : (g : Over) (c : After-touched-port g) → IsHub g.K.HubName.name.terms c.step.new.self.hub
+hub_after : (g : Over) (c : After-changed-port g) → IsHub g.K.HubName.name.terms c.step.new.self.hub
 hub_after g c = hub_steps g.K.HubName.name.terms c.args.locked.now.hub c.step.new.self.hub c.args.entry _ c.requires.desk.hub c.in-Ok.ensures.ok.step
 
 pub newest-made-requires : goal.newest-made-requires
@@ -44,11 +44,11 @@ publish-requires-clause-history g c =
     (history_served g.K.HubName.name.terms c.args.locked.now c.step.new.self c.args.entry c.in-Ok.answer c.join.new.token.me.0.seen c.requires.desk.hub c.in-Ok.ensures.ok (joined_desk g.K.HubName.name c.args.locked.now c.args.hub.now c.args.mine c.args.entry.pid c.join.new.token.me.0 c.requires.desk c.requires.alone c.join.ensures.sees).whole)
 
 pub publish-requires-clause-word : goal.publish-requires-clause-word
-publish-requires-clause-word g c = word_served g.K.HubName.name.terms c.args.locked.now c.step.new.self c.args.entry c.in-Ok.answer c.from.result c.requires.desk.hub c.in-Ok.ensures.ok (c.from.ensures ∙ (c.touched-port.ensures ∙ ap (λ (e : Entry). number_of (port_touched_by e.step c.in-Ok.answer.what)) (newest_made c.args.locked.now c.step.new.self c.args.entry c.newest-made.result.now c.in-Ok.answer c.in-Ok.ensures.ok c.newest-made.ensures)))
+publish-requires-clause-word g c = word_served g.K.HubName.name.terms c.args.locked.now c.step.new.self c.args.entry c.in-Ok.answer c.from.result c.requires.desk.hub c.in-Ok.ensures.ok (c.from.ensures ∙ (c.changed-port.ensures ∙ ap (λ (e : Entry). number_of (port_changed_by e.step c.in-Ok.answer.what)) (newest_made c.args.locked.now c.step.new.self c.args.entry c.newest-made.result.now c.in-Ok.answer c.in-Ok.ensures.ok c.newest-made.ensures)))
 
 pub publish-requires-clause-mark : goal.publish-requires-clause-mark
 publish-requires-clause-mark g c =
-    let m = marks_served g.K.HubName.name.terms c.args.locked.now c.step.new.self c.args.entry c.in-Ok.answer c.join.new.token.me.0.seen c.from.result c.requires.desk.hub c.in-Ok.ensures.ok (joined_desk g.K.HubName.name c.args.locked.now c.args.hub.now c.args.mine c.args.entry.pid c.join.new.token.me.0 c.requires.desk c.requires.alone c.join.ensures.sees).whole (c.from.ensures ∙ (c.touched-port.ensures ∙ ap (λ (e : Entry). number_of (port_touched_by e.step c.in-Ok.answer.what)) (newest_made c.args.locked.now c.step.new.self c.args.entry c.newest-made.result.now c.in-Ok.answer c.in-Ok.ensures.ok c.newest-made.ensures))) in
+    let m = marks_served g.K.HubName.name.terms c.args.locked.now c.step.new.self c.args.entry c.in-Ok.answer c.join.new.token.me.0.seen c.from.result c.requires.desk.hub c.in-Ok.ensures.ok (joined_desk g.K.HubName.name c.args.locked.now c.args.hub.now c.args.mine c.args.entry.pid c.join.new.token.me.0 c.requires.desk c.requires.alone c.join.ensures.sees).whole (c.from.ensures ∙ (c.changed-port.ensures ∙ ap (λ (e : Entry). number_of (port_changed_by e.step c.in-Ok.answer.what)) (newest_made c.args.locked.now c.step.new.self c.args.entry c.newest-made.result.now c.in-Ok.answer c.in-Ok.ensures.ok c.newest-made.ensures))) in
     let same : mark_at (state_of c.step.new.self.hub) (port_numbered c.from.result) ≡ c.mark_at-mark.result = ap (λ n. mark_at (state_of c.step.new.self.hub) (port_numbered n)) c.from.ensures ∙ sym c.mark_at-mark.ensures in
     subst (λ (e : Entry). MarksOne g.K.HubName.name.terms.procs c.join.new.token.me.0.seen e c.from.result c.mark_at-mark.result) (sym (newest_made c.args.locked.now c.step.new.self c.args.entry c.newest-made.result.now c.in-Ok.answer c.in-Ok.ensures.ok c.newest-made.ensures))
     (subst (λ n. MarksOne g.K.HubName.name.terms.procs c.join.new.token.me.0.seen c.args.entry c.from.result n) same m)

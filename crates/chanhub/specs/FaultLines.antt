@@ -2,8 +2,7 @@
 use Rattle.std.specs.Prelude.{◌≡◌, ◌⊎◌, ℕ, List, [], ◌∷◌, ◌++◌, codes, decimal, Option}
 use Rattle.std.specs.Borrow.{Bor}
 use Rattle.std.specs.Io.KnownBytes.{Appends}
-use Rattle.hub_base.specs.declared.text.faults.Kind.{Kind}
-use Rattle.hub_base.specs.declared.text.faults.Kind.TheVariants as kind
+use Rattle.hub_base.specs.Faults.{kind_text}
 use Rattle.hub_scenario.specs.declared.fault.ScenarioFault.{ScenarioFault}
 use Rattle.hub_scenario.specs.declared.fault.ScenarioFault.TheVariants as scenario
 use Rattle.hub_replay.specs.Devices.{AppendsBeginning, Failed}
@@ -14,15 +13,6 @@ use Rattle.chanhub.specs.declared.refusal.Refusal.TheVariants.{BadArguments, Rea
 abbrev pub joined : List (Bor (List ℕ)) → List ℕ
 joined [] = []
 joined (piece ∷ pieces) = piece.now ++ joined pieces
-
--- what is wrong with a journal's line
-abbrev pub kind_text : Kind → List ℕ
-kind_text kind.BadHeader = codes "bad header"
-kind_text kind.BadProcs = codes "bad procs"
-kind_text kind.BadStep = codes "bad step"
-kind_text kind.BadNumber = codes "bad number"
-kind_text kind.CutLine = codes "cut line"
-kind_text kind.TooLong = codes "too long"
 
 -- what is wrong with a scenario
 abbrev pub scenario_text : ScenarioFault → List ℕ

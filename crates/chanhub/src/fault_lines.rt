@@ -3,29 +3,14 @@
 ghost use Rattle.std.specs.Prelude.{◌≡◌, OnOk, OnErr};
 ghost use Rattle.std.specs.Io.KnownBytes.{Appends};
 ghost use Rattle.hub_replay.specs.Devices.{Failed, AppendsBeginning};
-ghost use Rattle.chanhub.specs.FaultLines.{kind_text, fault_line, TellsOnce};
+ghost use Rattle.chanhub.specs.FaultLines.{fault_line, TellsOnce};
 ghost use Rattle.chanhub.specs.Statuses.{status_of};
 
 use crate::pieces::write_pieces;
 use crate::refusal::Refusal;
-use hub_base::Kind;
 use hub_replay::{Sink, WriteFailed};
 use hub_scenario::ScenarioFault;
 use itoa::Buffer;
-
-/// What is wrong with a journal's line.
-fn kind_text(kind: Kind) -> &'static str
-    ensures { result.now ≡ kind_text kind }
-{
-    match kind {
-        Kind::BadHeader => "bad header",
-        Kind::BadProcs => "bad procs",
-        Kind::BadStep => "bad step",
-        Kind::BadNumber => "bad number",
-        Kind::CutLine => "cut line",
-        Kind::TooLong => "too long",
-    }
-}
 
 fn write_scenario_line<X: Sink>(fault: ScenarioFault, errors: &mut X) -> Result<(), WriteFailed>
     ensures whole { OnOk result (Appends (X.contents errors.old) (X.contents errors.new)
@@ -84,7 +69,7 @@ fn write_line<X: Sink>(refusal: Refusal, errors: &mut X) -> Result<(), WriteFail
                     "chanhub: line ",
                     digits.format(fault.line),
                     ": ",
-                    kind_text(fault.kind),
+                    fault.kind.text(),
                     "\n",
                 ],
             )

@@ -106,6 +106,12 @@ IsProcs n = (1 ≤ n) × (n ≤ MOST_PROCS)
 abbrev pub IsLimit : ℕ → Type 0
 IsLimit limit = (1 ≤ limit) × (limit ≤ MOST_STEPS)
 
+-- the number of what refuses an opening
+abbrev pub open_fault_number : OpenFault → ℕ
+open_fault_number opening_fault.BadProcs = 1
+open_fault_number opening_fault.BadLimit = 2
+open_fault_number opening_fault.NoMemory = 3
+
 -- when each refusal of an opening comes. The tests stand in the order of these lines
 abbrev pub RefusesOpening : ℕ → ℕ → OpenFault → Type 0
 RefusesOpening n limit opening_fault.BadProcs = (n ≡ 0) ⊎ (MOST_PROCS < n)

@@ -10,15 +10,26 @@ use thiserror::Error;
 /// Why a hub was not opened; tested in this order. Nothing is kept.
 #[derive(Clone, Copy, Debug, PartialEq, Eq, Error)]
 pub enum OpenFault {
-    /// The number of processes is not 1 to `MOST_PROCS`.
+    /// 1: the number of processes is not 1 to `MOST_PROCS`.
     #[error("the number of processes is not 1 to 64")]
     BadProcs,
-    /// The limit is not 1 to `MOST_STEPS`.
+    /// 2: the limit is not 1 to `MOST_STEPS`.
     #[error("the limit is not 1 to 1000000")]
     BadLimit,
-    /// A growth was refused.
+    /// 3: a growth was refused.
     #[error("out of memory")]
     NoMemory,
+}
+
+impl OpenFault {
+    ghost use Rattle.hub_core.specs.HubView.{open_fault_number};
+
+    /// The fault's number, 1 to 3.
+    pub fn number(self) -> u8
+        ensures { result ≡ open_fault_number self }
+    {
+        self as u8 + 1
+    }
 }
 
 impl From<NoMemory> for OpenFault {

@@ -5,7 +5,7 @@ ghost use Rattle.hub_replay.specs.declared.fault.SourceFault.TheVariants as sour
 ghost use Rattle.hub_replay.specs.declared.fault.ReplayFault.TheVariants as replay;
 ghost use Rattle.hub_replay.specs.Replay.{replay_fault};
 
-use hub_base::{Kind, NoMemory, TextFault};
+use hub_base::{NoMemory, TextFault};
 use std::alloc::AllocError;
 use thiserror::Error;
 
@@ -29,7 +29,7 @@ pub struct WriteFailed;
 #[derive(Clone, Copy, Debug, PartialEq, Eq, Error)]
 pub enum ReplayFault {
     /// 1: the journal is malformed; its first faulty line. Nothing was written.
-    #[error("line {}: {}", .0.line, kind_text(.0.kind))]
+    #[error("line {}: {}", .0.line, .0.kind.text())]
     Text(TextFault),
     /// 2: a read failed. Nothing was written.
     #[error("read failed")]
@@ -41,18 +41,6 @@ pub enum ReplayFault {
     /// 4: a growth was refused. Nothing was written.
     #[error("out of memory")]
     NoMemory,
-}
-
-/// What is wrong with a line, in two words.
-fn kind_text(kind: Kind) -> &'static str {
-    match kind {
-        Kind::BadHeader => "bad header",
-        Kind::BadProcs => "bad procs",
-        Kind::BadStep => "bad step",
-        Kind::BadNumber => "bad number",
-        Kind::CutLine => "cut line",
-        Kind::TooLong => "too long",
-    }
 }
 
 impl From<AllocError> for SourceFault {

@@ -1,5 +1,7 @@
 //! Why a text was not read.
 
+ghost use Rattle.std.specs.Prelude.{◌≡◌};
+
 use std::alloc::AllocError;
 use thiserror::Error;
 
@@ -20,6 +22,31 @@ pub enum Kind {
     /// 6: a byte of the line, its newline included, stands behind the first `MOST_BYTES`; or the step is no
     /// exit, and `MOST_STEPS` lines before it are none.
     TooLong,
+}
+
+impl Kind {
+    ghost use Rattle.hub_base.specs.Faults.{kind_number, kind_text};
+
+    /// The kind's number, 1 to 6.
+    pub fn number(self) -> u8
+        ensures { result ≡ kind_number self }
+    {
+        self as u8 + 1
+    }
+
+    /// What is wrong, in two words, as fault lines print it.
+    pub fn text(self) -> &'static str
+        ensures { result.now ≡ kind_text self }
+    {
+        match self {
+            Kind::BadHeader => "bad header",
+            Kind::BadProcs => "bad procs",
+            Kind::BadStep => "bad step",
+            Kind::BadNumber => "bad number",
+            Kind::CutLine => "cut line",
+            Kind::TooLong => "too long",
+        }
+    }
 }
 
 /// The first faulty line of a text, counted from 1, and what is wrong with it.

@@ -28,6 +28,17 @@ fn openings_have_bounds(rt: HostRuntime) {
 }
 
 #[test]
+fn opening_faults_have_numbers(rt: HostRuntime) {
+    for (fault, number) in [
+        (OpenFault::BadProcs, 1),
+        (OpenFault::BadLimit, 2),
+        (OpenFault::NoMemory, 3),
+    ] {
+        assert_eq!(rt; fault.number(), number, "{fault:?}");
+    }
+}
+
+#[test]
 fn faults_have_texts(rt: HostRuntime) -> Result<(), Fail> {
     let full = ListFault::At {
         index: 3,

@@ -1,6 +1,6 @@
-//! Values, cases, and the numbers and texts of faults.
+//! Values, cases, and the numbers and texts of faults and of what is wrong with a line.
 
-use hub_base::{Case, Cases, Fault, Port, Value, copy_cases};
+use hub_base::{Case, Cases, Fault, Kind, Port, Value, copy_cases};
 use std::test::Fail;
 
 #[test]
@@ -37,4 +37,19 @@ fn faults_have_numbers_and_texts(rt: HostRuntime) -> Result<(), Fail> {
         assert_eq!(rt; format!(in rt.alloc(); "{fault}")?.as_str(), text);
     }
     Ok(())
+}
+
+#[test]
+fn kinds_have_numbers_and_texts(rt: HostRuntime) {
+    for (kind, number, text) in [
+        (Kind::BadHeader, 1, "bad header"),
+        (Kind::BadProcs, 2, "bad procs"),
+        (Kind::BadStep, 3, "bad step"),
+        (Kind::BadNumber, 4, "bad number"),
+        (Kind::CutLine, 5, "cut line"),
+        (Kind::TooLong, 6, "too long"),
+    ] {
+        assert_eq!(rt; kind.number(), number, "{kind:?}");
+        assert_eq!(rt; kind.text(), text, "{kind:?}");
+    }
 }

@@ -1,12 +1,13 @@
 -- The text of an event: one line, `P made 1`, `P case 0 got 7`, `P done` and so on.
-use Rattle.std.specs.Prelude.{ℕ, List, ◌++◌, codes, decimal}
+use Rattle.std.specs.Prelude.{ℕ, ◌≤◌, List, ◌++◌, codes, decimal}
 use Rattle.hub_base.specs.declared.event.Outcome.{Outcome}
 use Rattle.hub_base.specs.declared.event.Outcome.TheVariants.{Sent, Got, Drained, Closed}
 use Rattle.hub_base.specs.declared.event.What.{What}
 use Rattle.hub_base.specs.declared.event.What.TheVariants as what
 use Rattle.hub_base.specs.declared.event.Event.{Event}
-use Rattle.hub_base.specs.Value.{value_field}
+use Rattle.hub_base.specs.Value.{number_of, value_field}
 use Rattle.hub_base.specs.Faults.{fault_number}
+use Rattle.hub_base.specs.declared.limits.TheConstants.{GREATEST_CASE, GREATEST_PID, GREATEST_PORT, GREATEST_VALUE}
 
 -- how a communication ended
 abbrev pub outcome_text : Outcome → List ℕ
@@ -28,3 +29,25 @@ what_text (what.Fault f) = codes " fault " ++ decimal (fault_number f)
 -- the process, what it is told, and a newline
 abbrev pub event_line : Event → List ℕ
 event_line e = decimal e.pid.0 ++ what_text e.what ++ codes "\n"
+
+-- its numbers are such as an event can hold: the value that was got
+abbrev pub OutcomeFits : Outcome → Type 0
+OutcomeFits Sent = Unit {0}
+OutcomeFits (Got v) = number_of v ≤ GREATEST_VALUE
+OutcomeFits Drained = Unit {0}
+OutcomeFits Closed = Unit {0}
+
+-- the port that was made, the case that fired
+abbrev pub WhatFits : What → Type 0
+WhatFits (what.Made p) = p.0 ≤ GREATEST_PORT
+WhatFits (what.Fired i o) = (i ≤ GREATEST_CASE) × OutcomeFits o
+WhatFits what.Default = Unit {0}
+WhatFits what.Done = Unit {0}
+WhatFits what.Parked = Unit {0}
+WhatFits what.Stalled = Unit {0}
+WhatFits (what.Fault f) = Unit {0}
+
+-- and the process
+pub record EventFits (e : Event) : Type 0 where
+  pub pid : e.pid.0 ≤ GREATEST_PID
+  pub what : WhatFits e.what

@@ -28,6 +28,9 @@ pub const MOST_EVENTS: usize = MOST_PROCS + 1;
 /// The greatest number that an entry can give a process. It may pass those of any hub.
 pub const GREATEST_PID: u8 = u8::MAX;
 
+/// The greatest number that an event can give a case.
+pub const GREATEST_CASE: u8 = u8::MAX;
+
 /// The greatest number that an entry can give a port.
 pub const GREATEST_PORT: u16 = u16::MAX;
 

@@ -6,6 +6,9 @@
 
 ghost use Rattle.std.specs.Prelude.{◌≡◌, ◌≤◌, ℕ, length, drop, Some, IfOk, IfErr, IsErrOf, OnSome, List, ◌++◌};
 ghost use Rattle.std.specs.Bool.{OnTrue};
+ghost use Rattle.std.specs.List.{AllByRecursion, flat_map};
+ghost use mathlib.Core.List.{IsPrefix};
+ghost use Rattle.hub_base.specs.EventText.{event_line, EventFits};
 ghost use Rattle.hub_base.specs.Lines.{line};
 ghost use Rattle.hub_base.specs.Reading.{read_text, procs_number, procs_from, rows, is_exit, HasEntry};
 ghost use Rattle.hub_base.specs.ReadJournal.{Gives, IsFaultOf};
@@ -13,6 +16,7 @@ ghost use Rattle.hub_base.specs.Text.{IsText, IsFaulty, IsEither, Fits};
 ghost use Rattle.hub_base.specs.Reading.Reading.{Reads, Faulty};
 ghost use Rattle.hub_base.specs.Reader.{ReadsOn, FillsOn, procs_said};
 ghost use Rattle.hub_base.specs.declared.entry.Entry.{Entry};
+ghost use Rattle.hub_base.specs.declared.event.Event.{Event};
 ghost use Rattle.hub_base.specs.declared.text.faults.Kind.{Kind};
 
 use crate::limits::{MOST_BYTES, MOST_PROCS, MOST_STEPS};
@@ -265,4 +269,17 @@ pub fn one_reading()
 pub fn one_spelling()
     ensures { (e f : Entry) (x y : List ℕ)
         → Fits e → Fits f → line e ++ x ≡ line f ++ y → (e ≡ f) × (x ≡ y) }
+{}
+
+/// A law: no event's line begins another's, so a list of lines can be read in one way; and where the
+/// text of some events begins that of others, the events begin the others.
+pub fn one_event_spelling()
+    ensures line { (e f : Event) (x y : List ℕ)
+        → EventFits e → EventFits f → event_line e ++ x ≡ event_line f ++ y → (e ≡ f) × (x ≡ y) }
+    ensures text { (es fs : List Event)
+        → AllByRecursion EventFits es → AllByRecursion EventFits fs
+        → flat_map event_line es ≡ flat_map event_line fs → es ≡ fs }
+    ensures begins { (es fs : List Event) (rest : List ℕ)
+        → AllByRecursion EventFits es → AllByRecursion EventFits fs
+        → flat_map event_line es ++ rest ≡ flat_map event_line fs → IsPrefix es fs }
 {}

@@ -1,10 +1,9 @@
 #!/bin/sh
 # program.sh [PROGRAM]: runs the built program on the examples, journals and scenarios; on the rows of tests/; on random
 # journals beside the events that model.py makes of them; on the longest journal and one entry more; and with each of its
-# allocations refused. Runs the live hub's tests, which `./test` has built, with theirs refused; compares model.py, CLAIMS
-# and the quotations of README with what they speak of; looks for limits that are written as numbers; and tries a close by
-# an end that receives. The last line counts:
-# 'N passed, M failed'.
+# allocations refused. Runs a hub's tests and the live hub's, which `./test` has built, with theirs refused; compares
+# model.py, CLAIMS and the quotations of README with what they speak of; looks for limits that are written as numbers; and
+# tries a close by an end that receives. The last line counts: 'N passed, M failed'.
 set -u
 root=$(cd "$(dirname "$0")/.." && pwd)
 program=${1:-$root/crates/chanhub/out/chanhub}
@@ -34,6 +33,8 @@ replays() {
 refusals=$!
 "$root/tools/live_refusals.sh" > "$work/live_refusals" 2>&1 &
 live_refusals=$!
+"$root/tools/hub_refusals.sh" > "$work/hub_refusals" 2>&1 &
+hub_refusals=$!
 
 for events in "$root"/examples/journals/*.stdout; do
     journal=${events%.stdout}
@@ -164,6 +165,8 @@ wait "$refusals"
 count $? "refused allocations: $(cat "$work/refusals")"
 wait "$live_refusals"
 count $? "refused allocations of the live hub: $(cat "$work/live_refusals")"
+wait "$hub_refusals"
+count $? "refused allocations of a hub: $(cat "$work/hub_refusals")"
 
 echo "$passed passed, $failed failed"
 [ "$failed" -eq 0 ]

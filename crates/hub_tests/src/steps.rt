@@ -4,3 +4,4 @@ mod entries;
 mod hubs;
 mod machines;
 mod openings;
+mod refusals;

@@ -21,9 +21,7 @@ pub(crate) fn exit(pid: u8) -> Entry {
     by(pid, Step::Exit)
 }
 
-fn call(pid: u8, case: Case) -> Entry {
-    let mut cases = Cases::new();
-    cases.push(case);
+fn call_of(pid: u8, cases: Cases) -> Entry {
     by(
         pid,
         Step::Call {
@@ -32,6 +30,20 @@ fn call(pid: u8, case: Case) -> Entry {
             word: 0,
         },
     )
+}
+
+fn call(pid: u8, case: Case) -> Entry {
+    let mut cases = Cases::new();
+    cases.push(case);
+    call_of(pid, cases)
+}
+
+/// A call that receives from either of two ports.
+pub(crate) fn recv_either(pid: u8, first: u16, second: u16) -> Entry {
+    let mut cases = Cases::new();
+    cases.push(Case::Recv(Port(first)));
+    cases.push(Case::Recv(Port(second)));
+    call_of(pid, cases)
 }
 
 pub(crate) fn send(pid: u8, port: u16, number: u64) -> Entry {

@@ -7,7 +7,12 @@ use std::process::Abort;
 use std::test::Fail;
 
 /// Makes the step, and compares what the processes are told.
-fn step(rt: &impl Abort, hub: &mut Hub, entry: Entry, wanted: &[Event]) -> Result<(), Fail> {
+pub(super) fn step(
+    rt: &impl Abort,
+    hub: &mut Hub,
+    entry: Entry,
+    wanted: &[Event],
+) -> Result<(), Fail> {
     let events = hub.step(entry)?;
     assert_eq!(rt; events.as_slice(), wanted);
     Ok(())

@@ -1,0 +1,51 @@
+#!/bin/sh
+# hub_refusals.sh [TESTS]: runs a hub's tests of refused memory with the first allocation after their mark refused, then
+# with the second, and so on until a run meets no refusal; and that of reserved steps with all of them refused. Each run
+# must pass. TESTS is the built program of hub_tests' tests, where they stand, if it is not said. It needs a C compiler
+# (CC, or cc).
+set -eu
+root=$(cd "$(dirname "$0")/.." && pwd)
+tests=${1:-$root/crates/hub_tests/out/hub_tests_tests}
+if [ ! -x "$tests" ]; then
+    echo "hub_refusals.sh: $tests is not built" >&2
+    exit 2
+fi
+mark=7777777
+
+work=$(mktemp -d)
+trap 'rm -rf "$work"' EXIT
+trap 'exit 130' INT TERM
+"${CC:-cc}" -O1 -shared -fPIC -fno-builtin -o "$work/refuse.so" "$root/tools/refuse.c"
+
+# passes WHICH TEST: whether the test passes with these allocations refused.
+passes() {
+    rm -f "$work/refused"
+    timeout 60 env LD_PRELOAD="$work/refuse.so" REFUSE="$1" REFUSE_AFTER=$mark REFUSED="$work/refused" \
+        "$tests" "steps::refusals::$2" > "$work/output" 2>&1 && return 0
+    echo "hub_refusals.sh: $2, with allocation $1 after its mark refused:" >&2
+    cat "$work/output" >&2
+    return 1
+}
+
+total=0
+for test in refused_opening_and_steps_are_made_again refused_steps_leave_the_buffer refused_run_is_made_again \
+    refused_reservation_is_made_again; do
+    number=1
+    passes $number "$test"
+    while [ -e "$work/refused" ]; do
+        number=$((number + 1))
+        passes $number "$test"
+    done
+    if [ $number -eq 1 ]; then
+        echo "hub_refusals.sh: $test met no refusal, so nothing was shown" >&2
+        exit 1
+    fi
+    total=$((total + number - 1))
+done
+
+passes all reserved_steps_take_no_memory
+if [ ! -e "$work/refused" ]; then
+    echo "hub_refusals.sh: reserved_steps_take_no_memory met no refusal, so nothing was shown" >&2
+    exit 1
+fi
+echo "hub_refusals.sh: $total allocations refused, each answered as it must be; reserved steps took none"

@@ -24,8 +24,9 @@ pub use event::{Event, Events, Outcome, What};
 pub use fault::Fault;
 pub use journal::Journal;
 pub use limits::{
-    CASE_PLACES, GREATEST_CAP, GREATEST_CASE, GREATEST_PID, GREATEST_PORT, GREATEST_VALUE, GREATEST_WORD,
-    MOST_BYTES, MOST_CAP, MOST_CASES, MOST_EVENTS, MOST_PORTS, MOST_PROCS, MOST_STEPS,
+    CASE_PLACES, GREATEST_CAP, GREATEST_CASE, GREATEST_PID, GREATEST_PORT, GREATEST_VALUE,
+    GREATEST_WORD, MOST_BYTES, MOST_CAP, MOST_CASES, MOST_EVENTS, MOST_PORTS, MOST_PROCS,
+    MOST_STEPS,
 };
 pub use text::faults::{Kind, NoMemory, ReadFault, TextFault};
 pub use text::fields::Fields;

@@ -14,7 +14,9 @@ ghost use Rattle.hub_core.specs.HubView.{HubInMemory, Steps, Refuses, Grows, Has
 ghost use Rattle.hub_core.specs.HubKeeps.{is_full, count_after};
 
 use crate::{Machine, OpenFault};
-use hub_base::{Entry, Events, Fault, Journal, Look, MOST_PROCS, MOST_STEPS, NoMemory, Port, Step, Value};
+use hub_base::{
+    Entry, Events, Fault, Journal, Look, MOST_PROCS, MOST_STEPS, NoMemory, Port, Step, Value,
+};
 use std::alloc::{AllocError, Global};
 use std::marker::Model;
 

@@ -18,7 +18,10 @@ use crate::select::{case_at, nth_ready, wait};
 use crate::stalling::{all_wait, stop_all};
 use crate::tally::Tallies;
 use arrayvec::ArrayVec;
-use hub_base::{Cases, Entry, Event, Events, Fault, Look, MOST_CASES, MOST_PROCS, NoMemory, Pid, Port, Step, Value, What};
+use hub_base::{
+    Cases, Entry, Event, Events, Fault, Look, MOST_CASES, MOST_PROCS, NoMemory, Pid, Port, Step,
+    Value, What,
+};
 use hub_parts::Board;
 use std::alloc::Global;
 use std::marker::Model;

@@ -10,7 +10,12 @@ use hub_base::{Case, Fault, MOST_CAP, MOST_CASES, MOST_PORTS, MOST_PROCS, Pid, P
 use hub_parts::Board;
 
 /// Why a step of this process is not admitted.
-pub(crate) fn refusal(board: &Board, gone: &[bool; MOST_PROCS], procs: u8, pid: Pid) -> Option<Fault>
+pub(crate) fn refusal(
+    board: &Board,
+    gone: &[bool; MOST_PROCS],
+    procs: u8,
+    pid: Pid,
+) -> Option<Fault>
     requires procs { board.now.procs ≡ procs }
     requires few { procs ≤ MOST_PROCS }
     ensures { result ≡ refusal_of board.now gone.now pid }

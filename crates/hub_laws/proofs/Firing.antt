@@ -128,10 +128,10 @@ module _ (s : State) (pid : Pid) (cases : List Case) (default : Bool) (word i : 
   fetches_account p c x None mine e is after =
       let d : Channel = with_sent x.at.case c in
       let never : IsSound s → is_send_on p x.at.case ≡ true → ⊥ = λ sound passes.
-          let u = is_send p x.at.case passes in
-          let w = next_sent s p u.0 c sound e in
-          let none : None ≡ next_value (after_send u.0 c) = rw u.1 at after in
-          cc in
+      let u = is_send p x.at.case passes in
+      let w = next_sent s p u.0 c sound e in
+      let none : None ≡ next_value (after_send u.0 c) = rw u.1 at after in
+      cc in
       meets (slice_set s.channels (p.0 - 1) d) (Recv p) Drained Sent (is_send_on p) x c d mine is e
       (wrote-set s p c d e) (λ h. never) (λ sound passes. absurd (never sound passes))
   fetches_account p c x (Some w) mine e is after =

@@ -23,7 +23,9 @@ use crate::name::HubName;
 use crate::rule::Token;
 use crate::seat::Seat;
 use crate::words::Words;
-use hub_base::{Cases, CasesExt, Counts, Entry, Event, Fault, Journal, MOST_PORTS, Pid, Port, Step, Value, What};
+use hub_base::{
+    Cases, CasesExt, Counts, Entry, Event, Fault, Journal, MOST_PORTS, Pid, Port, Step, Value, What,
+};
 use std::sync::{Condvar, Mutex, Wait};
 
 /// A hub that threads share. Each seat that is passed to it must come from its own `Blank::open`.

@@ -16,7 +16,9 @@ ghost use Rattle.hub_report.specs.Replays.{HasRoom, Tells, Within, most_got, num
 
 use crate::PortReport;
 use crate::counting::{port_named, tell};
-use hub_base::{Event, Events, Journal, MOST_EVENTS, MOST_PORTS, MOST_PROCS, MOST_STEPS, NoMemory, Port, Step};
+use hub_base::{
+    Event, Events, Journal, MOST_EVENTS, MOST_PORTS, MOST_PROCS, MOST_STEPS, NoMemory, Port, Step,
+};
 use hub_core::Machine;
 use std::alloc::{AllocError, Global};
 

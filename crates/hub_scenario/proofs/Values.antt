@@ -2,34 +2,35 @@
 use Rattle.std.proofs.Common.{◌≡◌, ◌≤◌, ℕ, List, length, Some, None, Ok, Err, refl, arith}
 use Rattle.std.proofs.lemmas.Bool.Decides.{nat_tests}
 use Rattle.toml.specs.Data.{Items}
+use Rattle.hub_base.specs.declared.limits.TheConstants.{MOST_PROCS, MOST_STEPS}
+use Rattle.hub_scenario.specs.declared.limits.TheConstants.{GREATEST_SEED}
 use Rattle.hub_scenario.specs.declared.fault.ScenarioFault.{ScenarioFault}
 use Rattle.hub_scenario.specs.declared.fault.ScenarioFault.TheVariants.{BadSeed, BadLimit, BadPorts}
 use Rattle.hub_scenario.specs.declared.script.ScriptStep.{ScriptStep}
 use Rattle.hub_scenario.specs.Faults.{must}
 use Rattle.hub_scenario.specs.Frames.{FrameData}
-use Rattle.hub_scenario.specs.Limits.{greatest_seed, greatest_limit, most_processes}
 use Rattle.hub_scenario.specs.Numbers.{within, ports_of}
 use Rattle.hub_scenario.specs.Scenario.{scripts_of, values_of}
 use Rattle.hub_scenario.specs.Scripts.{scripts_from}
 
-pub scripts-within : (dss : List Items) → 1 ≤ length dss → length dss ≤ most_processes → scripts_of dss ≡ scripts_from 0 dss
+pub scripts-within : (dss : List Items) → 1 ≤ length dss → length dss ≤ MOST_PROCS → scripts_of dss ≡ scripts_from 0 dss
 scripts-within dss some few = grind (arith, nat_tests)
 
-pub seed-bad : (f : FrameData) → within 0 greatest_seed f.seed ≡ None → values_of f ≡ Err BadSeed
+pub seed-bad : (f : FrameData) → within 0 GREATEST_SEED f.seed ≡ None → values_of f ≡ Err BadSeed
 seed-bad f e = rw e refl
 
-pub limit-bad : (f : FrameData) (seed : ℕ) → within 0 greatest_seed f.seed ≡ Some seed → within 1 greatest_limit f.limit ≡ None → values_of f ≡ Err BadLimit
+pub limit-bad : (f : FrameData) (seed : ℕ) → within 0 GREATEST_SEED f.seed ≡ Some seed → within 1 MOST_STEPS f.limit ≡ None → values_of f ≡ Err BadLimit
 limit-bad f seed e₁ e₂ = rw (e₁, e₂) refl
 
-pub ports-bad : (f : FrameData) (seed limit : ℕ) (e : ScenarioFault) → within 0 greatest_seed f.seed ≡ Some seed → within 1 greatest_limit f.limit ≡ Some limit
+pub ports-bad : (f : FrameData) (seed limit : ℕ) (e : ScenarioFault) → within 0 GREATEST_SEED f.seed ≡ Some seed → within 1 MOST_STEPS f.limit ≡ Some limit
     → must BadPorts (ports_of f.ports) ≡ Err e → values_of f ≡ Err e
 ports-bad f seed limit e e₁ e₂ e₃ = rw (e₁, e₂, e₃) refl
 
-pub scripts-bad : (f : FrameData) (seed limit : ℕ) (ports : List ℕ) (e : ScenarioFault) → within 0 greatest_seed f.seed ≡ Some seed
-    → within 1 greatest_limit f.limit ≡ Some limit → must BadPorts (ports_of f.ports) ≡ Ok ports → scripts_of f.process ≡ Err e → values_of f ≡ Err e
+pub scripts-bad : (f : FrameData) (seed limit : ℕ) (ports : List ℕ) (e : ScenarioFault) → within 0 GREATEST_SEED f.seed ≡ Some seed
+    → within 1 MOST_STEPS f.limit ≡ Some limit → must BadPorts (ports_of f.ports) ≡ Ok ports → scripts_of f.process ≡ Err e → values_of f ≡ Err e
 scripts-bad f seed limit ports e e₁ e₂ e₃ e₄ = rw (e₁, e₂, e₃, e₄) refl
 
-pub values-good : (f : FrameData) (seed limit : ℕ) (ports : List ℕ) (scripts : List (List ScriptStep)) → within 0 greatest_seed f.seed ≡ Some seed
-    → within 1 greatest_limit f.limit ≡ Some limit → must BadPorts (ports_of f.ports) ≡ Ok ports → scripts_of f.process ≡ Ok scripts
+pub values-good : (f : FrameData) (seed limit : ℕ) (ports : List ℕ) (scripts : List (List ScriptStep)) → within 0 GREATEST_SEED f.seed ≡ Some seed
+    → within 1 MOST_STEPS f.limit ≡ Some limit → must BadPorts (ports_of f.ports) ≡ Ok ports → scripts_of f.process ≡ Ok scripts
     → values_of f ≡ Ok (record { seed = seed; limit = limit; ports = ports; scripts = scripts })
 values-good f seed limit ports scripts e₁ e₂ e₃ e₄ = rw (e₁, e₂, e₃, e₄) refl

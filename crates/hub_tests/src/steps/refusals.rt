@@ -207,12 +207,7 @@ fn refused_reservation_is_made_again(rt: HostRuntime) -> Result<(), Fail> {
     let entries = [make(0, 1), send(0, 1, 5), recv(1, 1)];
     let made = told(0, What::Made(Port(1)));
     let sent = fired(0, Outcome::Sent);
-    steps_again(
-        &rt,
-        &mut hub,
-        &entries,
-        &[&[made], &[sent], &[got(1, 5)]],
-    )
+    steps_again(&rt, &mut hub, &entries, &[&[made], &[sent], &[got(1, 5)]])
 }
 
 // A send, a receive, a park and a stall.

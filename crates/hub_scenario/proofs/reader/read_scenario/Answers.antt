@@ -10,14 +10,14 @@ pub returns-in_err-table-clause-fault : goal.returns-in_err-table-clause-fault
 returns-in_err-table-clause-fault c =
     let e = c.in_err-table.field-0.0 in
     let said : ¬ (e ≡ NoMemory) → reading c.args.bytes.now ≡ Err e =
-    λ own. no-tree c.args.bytes.now e c.if-bytes-gt-MOST_BYTES.false (c.in_err-table.ensures.fault own) in
+    λ own. no-tree c.args.bytes.now e c.if-bytes-gt-MOST_FILE_BYTES.false (c.in_err-table.ensures.fault own) in
     search (rules, said)
 
 pub returns-in_err-frame-clause-fault : goal.returns-in_err-frame-clause-fault
 returns-in_err-frame-clause-fault c =
     let e = c.in_err-frame.field-0.0 in
     let ms = table_view c.in_ok-table.table in
-    let said : ¬ (e ≡ NoMemory) → reading c.args.bytes.now ≡ Err e = λ own. by-tree c.args.bytes.now ms c.if-bytes-gt-MOST_BYTES.false c.in_ok-table.ensures.ok
+    let said : ¬ (e ≡ NoMemory) → reading c.args.bytes.now ≡ Err e = λ own. by-tree c.args.bytes.now ms c.if-bytes-gt-MOST_FILE_BYTES.false c.in_ok-table.ensures.ok
     ∙ no-frame ms e (c.in_err-frame.ensures.fault own) in
     search (rules, said)
 
@@ -26,7 +26,7 @@ returns-clause-ok c =
     let ms = table_view c.in_ok-table.table in
     let f = frame_view c.in_ok-frame.frame in
     let says : reading c.args.bytes.now ≡ values_of f =
-    by-tree c.args.bytes.now ms c.if-bytes-gt-MOST_BYTES.false c.in_ok-table.ensures.ok ∙ by-frame ms f c.in_ok-frame.ensures.ok in
+    by-tree c.args.bytes.now ms c.if-bytes-gt-MOST_FILE_BYTES.false c.in_ok-table.ensures.ok ∙ by-frame ms f c.in_ok-frame.ensures.ok in
     rw says c.values_of.ensures.ok
 
 pub returns-clause-fault : goal.returns-clause-fault
@@ -34,5 +34,5 @@ returns-clause-fault c =
     let ms = table_view c.in_ok-table.table in
     let f = frame_view c.in_ok-frame.frame in
     let says : reading c.args.bytes.now ≡ values_of f =
-    by-tree c.args.bytes.now ms c.if-bytes-gt-MOST_BYTES.false c.in_ok-table.ensures.ok ∙ by-frame ms f c.in_ok-frame.ensures.ok in
+    by-tree c.args.bytes.now ms c.if-bytes-gt-MOST_FILE_BYTES.false c.in_ok-table.ensures.ok ∙ by-frame ms f c.in_ok-frame.ensures.ok in
     rw says c.values_of.ensures.fault

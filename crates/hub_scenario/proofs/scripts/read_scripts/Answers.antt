@@ -2,6 +2,7 @@ use Rattle.std.proofs.Common.{rules, ◌≡◌, ◌∙◌, ◌+◌, ◌≤◌, �
 use Rattle.std.specs.List.{All}
 use Rattle.std.proofs.lemmas.List.{map-append, drop_all, drop_more}
 use Rattle.std.proofs.lemmas.List.Elements.{All-push}
+use Rattle.hub_scenario.specs.declared.limits.TheConstants.{MOST_SCRIPT_STEPS}
 use Rattle.hub_scenario.specs.declared.fault.ScenarioFault.TheVariants.{NoMemory}
 use Rattle.hub_scenario.specs.FrameView.{seen}
 use Rattle.hub_scenario.specs.Scripts.{scripts_from}
@@ -25,7 +26,7 @@ loop-steps-preserved c =
           ∙ ap (λ xs. onto xs (scripts_from (p + 1) rest)) (sym (map-append vec_items done (script ∷ []))) ∙ ap (λ xs. onto (map vec_items xs) (scripts_from (p + 1) rest)) (sym pushed);
       place = ap (λ n. n + 1) c.loop-steps.invariant.place;
       count = search rules;
-      few = subst (All (λ s. vec_len s ≤ 10000)) (sym pushed) (All-push (λ s. vec_len s ≤ 10000) done script c.loop-steps.invariant.few c.in_ok-script.ensures.few);
+      few = subst (All (λ s. vec_len s ≤ MOST_SCRIPT_STEPS)) (sym pushed) (All-push (λ s. vec_len s ≤ MOST_SCRIPT_STEPS) done script c.loop-steps.invariant.few c.in_ok-script.ensures.few);
     }
 
 pub returns-in_err-script-clause-fault : goal.returns-in_err-script-clause-fault

@@ -21,15 +21,19 @@ pub returns-in_err-write_whole-clause-refused : goal.returns-in_err-write_whole-
 returns-in_err-write_whole-clause-refused g c =
     let told = some-outcome c.in_ok-report.report.stalled in
     wrote_less _ _ c.from_residual-in_err-write_whole.ensures (
-      search rules, (told.0, record {
-        scenario = scenario_view c.in_ok-scenario.scenario;
-        report = c.in_ok-report.report;
-        said = c.in_ok-scenario.ensures.ok;
-        procs = c.in_ok-report.ensures.procs;
-        legal = c.in_ok-report.ensures.legal;
-        follows = c.in_ok-report.ensures.follows;
-        told = c.in_ok-report.ensures.report;
-        stalls = told.1;
-        written = search rules;
-      }),
+      search rules,
+      (
+        told.0,
+        record {
+          scenario = scenario_view c.in_ok-scenario.scenario;
+          report = c.in_ok-report.report;
+          said = c.in_ok-scenario.ensures.ok;
+          procs = c.in_ok-report.ensures.procs;
+          legal = c.in_ok-report.ensures.legal;
+          follows = c.in_ok-report.ensures.follows;
+          told = c.in_ok-report.ensures.report;
+          stalls = told.1;
+          written = search rules;
+        },
+      ),
     )

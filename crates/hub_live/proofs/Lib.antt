@@ -1,5 +1,6 @@
 pub mod Locks
 pub mod Marks
+pub mod Openings
 pub mod Prefixes
 pub mod Histories
 pub mod Steps

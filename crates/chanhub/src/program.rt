@@ -84,6 +84,11 @@ pub fn run_words<
         × HasRefused (map T.text words.now) refusal
         (S.remaining input.old) (S.remaining input.new) (input.new ≡ input.old)
         (Failed (S.failures input.old) (S.failures input.new))
+        × IsRefused refusal (output.new ≡ output.old)
+        (Failed (W.failures output.old) (W.failures output.new))
+        (HasBegun (map T.text words.now)
+        (S.remaining input.old) (S.remaining input.new) (input.new ≡ input.old)
+        (W.contents output.old) (W.contents output.new))
         × TellsOnce (X.contents errors.old) (X.contents errors.new)
         (X.failures errors.old) (X.failures errors.new) (fault_line refusal) }
     ensures unwritten { (result ≡ 1) → (output.new ≡ output.old)

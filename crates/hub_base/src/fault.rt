@@ -6,7 +6,8 @@ use thiserror::Error;
 
 /// Why a step had no effect.
 ///
-/// They are tested in the order 10, 1, 2, 3, 11, then those of 4 to 9 that apply, by number. Faults
+/// They are tested in the order 10, 1, 2, 3, then 11 where the journal has to grow and can't, then those
+/// of 4 to 9 that apply, by number, and last, for a make, 11 where its channel's memory is refused. Faults
 /// 4 to 9 are answers to journaled steps, which change no channel and no open call. The others are
 /// refusals: the step is not journaled and nothing changes.
 #[derive(Clone, Copy, Debug, PartialEq, Eq, Error)]

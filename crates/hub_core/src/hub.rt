@@ -141,7 +141,9 @@ fn make_room(
 
 impl Hub {
     /// A hub of 1 to `MOST_PROCS` processes whose journal may hold `limit` entries that are no exits, 1
-    /// to `MOST_STEPS`.
+    /// to `MOST_STEPS`. It takes the memory of all open calls, and of an exit of each process in the journal.
+    ///
+    /// Err, tested in this order, with nothing kept: `BadProcs`, `BadLimit`, `NoMemory`.
     pub fn open(alloc: Global, procs: u8, limit: u32) -> Result<Hub, OpenFault>
         ensures ok { IfOk result (λ h. h.hub ≡ opened_hub procs limit) }
         ensures exact { IfOk result (λ h. h.capacity ≡ procs) }

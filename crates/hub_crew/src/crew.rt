@@ -130,10 +130,11 @@ fn join_all<K: HubName, R: Threads, T: Task<K, R>>(
 }
 
 /// The task in a thread for each seat, and the seats with what their threads told, in order. None
-/// begins before all are started; it returns when all have ended.
+/// begins before all are started; it returns when all have ended. It makes no exit for a task: a task for
+/// which others may wait makes its own before it ends.
 ///
 /// Err where a thread or memory was refused: then none has begun, no step was made, and the seats are
-/// dropped.
+/// dropped. The hub has no seats then, and can only be finished.
 pub fn run_crew<K: HubName + Send + Sync, R: Threads + Wait + Sync, T: Task<K, R>>(
     rt: &R,
     alloc: Global,

@@ -32,8 +32,9 @@ Gains e before seen = own e.pid.0 seen ≡ own e.pid.0 before ++ e ∷ []
 abbrev pub LeavesRoom : Terms → Entry → List Entry → Type 0
 LeavesRoom t e seen = is_exit e.step ≡ false → steps_of seen < t.limit
 
--- what was seen shows why an entry is refused: the journal is full, or its process has exited, or else
--- a growth was refused, which no exit asks for. The tests stand in the order of these lines
+-- what was seen shows why an entry is refused: the journal is full, or its process has exited; or else
+-- neither is so and it is no exit, and then memory was refused, which nothing that was seen can show. The
+-- tests stand in the order of these lines
 abbrev pub Shows : Terms → Entry → List Entry → Fault → Type 0
 Shows t e seen fault.JournalFull = (is_exit e.step ≡ false) × (steps_of seen ≡ t.limit)
 Shows t e seen fault.Gone =

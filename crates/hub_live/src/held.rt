@@ -74,7 +74,8 @@ impl<K: HubName> Held<K> {
         seat
     }
 
-    /// Makes a call of these cases, and waits until it ends.
+    /// Makes a call of these cases, and waits until it ends. Answers and refusals: `LiveHub::call`. `Ok` is an answer and
+    /// no success: a closed port and a fault are answers too.
     pub fn call<R: Wait>(
         &mut self,
         rt: &R,
@@ -90,7 +91,7 @@ impl<K: HubName> Held<K> {
         hub.call(rt, &mut self.seat, cases, default, word)
     }
 
-    /// Sends the value, and waits until it is sent.
+    /// Sends the value, and waits until it is sent. Answers and refusals: `LiveHub::send`.
     pub fn send<R: Wait>(
         &mut self,
         rt: &R,
@@ -107,7 +108,7 @@ impl<K: HubName> Held<K> {
         hub.send(rt, &mut self.seat, sender, value)
     }
 
-    /// Receives a value, and waits until one comes.
+    /// Receives a value, and waits until one comes. Answers and refusals: `LiveHub::recv`.
     pub fn recv<R: Wait>(
         &mut self,
         rt: &R,
@@ -123,7 +124,7 @@ impl<K: HubName> Held<K> {
         hub.recv(rt, &mut self.seat, receiver)
     }
 
-    /// Makes a channel with a buffer of `cap` values.
+    /// Makes a channel with a buffer of `cap` values. Answers and refusals: `LiveHub::make`.
     pub fn make<R: Wait>(&mut self, rt: &R, hub: &LiveHub<K>, cap: u32) -> Result<Event, Fault>
         ensures later { Later self.old self.new }
         ensures ok { IfOk result (λ x. Made self.old self.new (Make cap) x) }
@@ -133,7 +134,8 @@ impl<K: HubName> Held<K> {
         hub.make(rt, &mut self.seat, cap)
     }
 
-    /// Makes a channel with a buffer of `cap` values, and gives it.
+    /// Makes a channel with a buffer of `cap` values, and gives it. `Err` where the make was refused, and where it was
+    /// answered by a fault.
     pub fn make_chan<R: Wait>(&mut self, rt: &R, hub: &LiveHub<K>, cap: u32) -> Result<Chan, Fault>
         ensures later { Later self.old self.new }
         ensures ok { IfOk result (λ chan.
@@ -145,7 +147,7 @@ impl<K: HubName> Held<K> {
         hub.make_chan(rt, &mut self.seat, cap)
     }
 
-    /// Closes a port, by its end that sends.
+    /// Closes a port, by its end that sends. Answers and refusals: `LiveHub::close`.
     pub fn close<R: Wait>(
         &mut self,
         rt: &R,
@@ -160,7 +162,7 @@ impl<K: HubName> Held<K> {
         hub.close(rt, &mut self.seat, sender)
     }
 
-    /// Ends the process.
+    /// Ends the process: `LiveHub::exit`. A thread that others may wait for does so before it ends.
     pub fn exit<R: Wait>(&mut self, rt: &R, hub: &LiveHub<K>) -> Result<Event, Fault>
         ensures later { Later self.old self.new }
         ensures ok { IfOk result (λ x. Made self.old self.new Exit x) }
@@ -179,7 +181,7 @@ impl<K: HubName> Held<K> {
         hub.look(&mut self.seat, port)
     }
 
-    /// Both seats have then seen one journal.
+    /// Both seats have then seen one and the same beginning of the journal, all that either had seen among it.
     pub fn meet(&mut self, hub: &LiveHub<K>, other: &mut Held<K>)
         ensures together { self.new.seen ≡ other.new.seen }
         ensures later { Later self.old self.new }

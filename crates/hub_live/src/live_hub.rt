@@ -273,7 +273,9 @@ impl<K: HubName> LiveHub<K> {
     }
 
     /// Ends the process. Answered `Done`; its later steps are refused by `Gone`. It takes the lock and
-    /// no memory, and waits for no other step.
+    /// no memory, and waits for no other step. A process that makes no exit, and has no open call, counts as
+    /// one that can act: while there is one, no call that waits ends by `Stalled`. A seat that is dropped is
+    /// no exit.
     ///
     /// Refused by `Gone` alone, where the process has exited before.
     pub fn exit<R: Wait>(&self, rt: &R, seat: &mut Seat) -> Result<Event, Fault>

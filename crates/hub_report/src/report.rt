@@ -42,7 +42,8 @@ pub struct Report {
 
 impl Report {
     /// The report of a legal journal of 1 to `MOST_PROCS` processes with at most `MOST_STEPS` steps (an
-    /// exit is not one). Its entries are replayed once; they are not copied.
+    /// exit is not one). Its entries are replayed once; they are not copied. `Err` where
+    /// memory was refused; the journal is then dropped.
     pub fn of(alloc: Global, journal: Journal) -> Result<Report, NoMemory>
         requires procs { (1 ≤ journal.procs) × (journal.procs ≤ MOST_PROCS) }
         requires legal { IsLegal journal.procs journal.entries }

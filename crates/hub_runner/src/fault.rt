@@ -9,7 +9,7 @@ use thiserror::Error;
 /// Why a run has no report. Whatever the fault, every thread of the run has ended.
 #[derive(Clone, Copy, Debug, PartialEq, Eq, Error)]
 pub enum RunFault {
-    /// 1: an allocation failed, or a thread could not be started; then no script has made a step. It
+    /// 1: an allocation failed; or a thread could not be started, and then no script has made a step. It
     /// goes before `JournalFull` where both came.
     #[error("out of memory")]
     NoMemory,
@@ -23,7 +23,7 @@ impl From<Fault> for RunFault {
     fn from(fault: Fault) -> RunFault {
         match fault {
             Fault::NoMemory => RunFault::NoMemory,
-            // No other refusal comes: a script makes no exit, and a seat is of a process that is there.
+            // No other refusal comes: exits are made last, and a seat is of a process that is there.
             _ => RunFault::JournalFull,
         }
     }

@@ -26,7 +26,7 @@ impl<K: HubName, R: Wait> Task<K, R> for HandOver {
     }
 }
 
-/// Process 0 sends 9 on the channel, and every other process receives from it.
+/// Process 0 sends 9 on the channel, and process 1 receives it. Of more processes all but one would wait for ever.
 pub fn hand_over<K: HubName + Send + Sync, R: Threads + Wait + Sync>(
     rt: &R,
     alloc: Global,

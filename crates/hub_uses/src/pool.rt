@@ -46,7 +46,13 @@ fn hand_out<K: HubName, R: Wait>(
     ensures closed { IfOk result (λ w. last_answer seat.new ≡ Some (ended_by w)) }
 {
     for job in 0..jobs {
-        seat.send(rt, hub, sender, Value::num(u64::from(job) + 1))?;
+        match seat.send(rt, hub, sender, Value::num(u64::from(job) + 1))?.what {
+            What::Fired {
+                outcome: Outcome::Sent,
+                ..
+            } => {}
+            other => return Err(Stopped::Told(other)),
+        }
     }
     match seat.close(rt, hub, sender)?.what {
         What::Done => Ok(Work::HandedOut),
@@ -97,15 +103,20 @@ impl<K: HubName, R: Wait> Task<K, R> for Pool {
     ghost ends = { λ task seat told. IfOk told (λ w. last_answer seat ≡ Some (ended_by w)) };
 
     fn perform(self, rt: &R, hub: &LiveHub<K>, seat: &mut Held<K>) -> Result<Work, Stopped> {
-        match seat.pid() {
+        let work = match seat.pid() {
             Pid(0) => hand_out(rt, hub, seat, &self.chan.sender(), self.jobs),
             _ => do_jobs(rt, hub, seat, &self.chan.receiver()),
+        };
+        if work.is_err() {
+            // Who does not do its part must leave, or those who wait for it wait for ever.
+            let _ = seat.exit(rt, hub);
         }
+        work
     }
 }
 
 /// Process 0 sends this many jobs on the channel and closes it; the others do them. Each who did its
-/// part was told so last: that the close is done, or that the channel is drained.
+/// part was told so last: that the close is done, or that the channel is drained. Who did not has made its exit.
 pub fn work_off<K: HubName + Send + Sync, R: Threads + Wait + Sync>(
     rt: &R,
     alloc: Global,

@@ -67,7 +67,7 @@ pub enum ReadFault {
     NoMemory,
 }
 
-/// A growth was refused. Nothing was changed.
+/// A growth was refused. Each call says what it leaves then.
 #[derive(Clone, Copy, Debug, PartialEq, Eq, Error)]
 #[error("out of memory")]
 pub struct NoMemory;

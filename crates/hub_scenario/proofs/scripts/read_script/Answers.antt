@@ -17,12 +17,12 @@ loop-value-preserved c =
     let pushed : c.push.new.self.items ≡ done ++ c.in-Some.read ∷ [] = search rules in
     let cut = subst (λ (vs : List Value). drop k vs ≡ v ∷ drop (k + 1) vs) c.deref-value-items.ensures.value
     (drop_more c.deref-value-items.result.now k v c.loop-value-test.true ∙ ap (λ x. x ∷ drop (k + 1) c.deref-value-items.result.now) (sym c.value-item.is)) in
-    let said = step-within i (view v) c.if-step-ge-MOST_SCRIPT_STEPS.false ∙ sym c.step_in.ensures ∙ c.in-Some.is in
+    let said = step-within i (view v) (omega arith) ∙ sym c.step_in.ensures ∙ c.in-Some.is in
     record {
       same = c.loop-value.invariant.same ∙ step-more c.args.process i done (items_view (drop k all)) (view v) rest c.in-Some.read (ap items_view cut) said
           ∙ ap (λ xs. onto xs (script_from c.args.process (i + 1) rest)) (sym pushed);
       count = search rules;
-      few = omega (arith, c.if-step-ge-MOST_SCRIPT_STEPS.false);
+      few = omega arith;
     }
 
 pub returns-then-step-ge-MOST_SCRIPT_STEPS-clause-fault : goal.returns-then-step-ge-MOST_SCRIPT_STEPS-clause-fault
@@ -34,7 +34,7 @@ returns-then-step-ge-MOST_SCRIPT_STEPS-clause-fault c _ =
     let cut = subst (λ (vs : List Value). drop k vs ≡ v ∷ drop (k + 1) vs) c.deref-value-items.ensures.value
     (drop_more c.deref-value-items.result.now k v c.loop-value-test.true ∙ ap (λ x. x ∷ drop (k + 1) c.deref-value-items.result.now) (sym c.value-item.is)) in
     c.loop-value.invariant.same ∙ step-refused c.args.process i c.loop-value.script.items (items_view (drop k all)) (view v) (items_view (drop (k + 1) all))
-    (ap items_view cut) (step-past i (view v) c.if-step-ge-MOST_SCRIPT_STEPS.true)
+    (ap items_view cut) (step-past i (view v) (omega arith))
 
 pub returns-in_default-clause-fault : goal.returns-in_default-clause-fault
 returns-in_default-clause-fault c _ =
@@ -44,7 +44,7 @@ returns-in_default-clause-fault c _ =
     let v = c.value-item.result in
     let cut = subst (λ (vs : List Value). drop k vs ≡ v ∷ drop (k + 1) vs) c.deref-value-items.ensures.value
     (drop_more c.deref-value-items.result.now k v c.loop-value-test.true ∙ ap (λ x. x ∷ drop (k + 1) c.deref-value-items.result.now) (sym c.value-item.is)) in
-    let said = step-within i (view v) c.if-step-ge-MOST_SCRIPT_STEPS.false ∙ sym c.step_in.ensures ∙ c.in_default.is in
+    let said = step-within i (view v) (omega arith) ∙ sym c.step_in.ensures ∙ c.in_default.is in
     c.loop-value.invariant.same ∙ step-refused c.args.process i c.loop-value.script.items (items_view (drop k all)) (view v) (items_view (drop (k + 1) all))
     (ap items_view cut) said
 

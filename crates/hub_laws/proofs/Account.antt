@@ -1,7 +1,8 @@
 -- The account of an entry, whatever its step: what its process is answered, which open calls end and what tells
 -- it, who waits then, what is written on which port, and who has gone. The laws follow from it.
-use Rattle.std.proofs.Common.{◌≡◌, Bool, true, false, List, [], ◌∷◌, ◌++◌, refl, sym, subst, Option, Some, None, if◌then◌else◌}
+use Rattle.std.proofs.Common.{◌≡◌, Bool, true, false, List, [], ◌∷◌, ◌++◌, refl, ◌∙◌, sym, subst, Option, Some, None, if◌then◌else◌}
 use Rattle.std.specs.List.{list_any, AllByRecursion, filter_map, cons_option}
+use Rattle.std.specs.Option.{option_map}
 use Rattle.hub_base.specs.declared.value.Port.{Port}
 use Rattle.hub_base.specs.declared.value.Pid.{Pid}
 use Rattle.hub_base.specs.declared.entry.Step.{Step}
@@ -13,7 +14,7 @@ use Rattle.hub_base.specs.Reading.{is_exit}
 use Rattle.hub_base.specs.Values.{cases_or, of_what}
 use Rattle.hub_laws.specs.Sound.{Apart, IsSound, PortSound}
 use Rattle.hub_laws.specs.Answers.{is_answer_to}
-use Rattle.hub_laws.specs.OnePort.{port_touched_by, found_closed}
+use Rattle.hub_laws.specs.OnePort.{port_touched_by, found_closed, shown}
 use Rattle.hub_laws.specs.Replies.{is_parked}
 use Rattle.hub_laws.proofs.Calls.{Fewer, fewer-same, all_snoc}
 use Rattle.hub_laws.proofs.Deeds.{Deed, deed_of, at, Wrote, Does, idle}
@@ -43,6 +44,10 @@ deeds_of step answer xs = cons_option (of_what deed_of (cases_or step []) answer
 abbrev pub NamedSound : Option Port → List Channel → List OpenCall → Type 0
 NamedSound named cs calls = (p : Port) (c : Channel) → named ≡ Some p → at cs p ≡ Some c → PortSound p c calls
 
+-- the port that is named shows something else
+abbrev pub Moves : Option Port → List Channel → List Channel → Type 0
+Moves named cs ts = (p : Port) → named ≡ Some p → option_map shown (at cs p) ≡ option_map shown (at ts p) → ⊥
+
 pub record Account (s : State) (pid : Pid) (step : Step) (c : Change) : Type 0 where
   -- what the caller is told, first
   pub answer : What
@@ -64,6 +69,8 @@ pub record Account (s : State) (pid : Pid) (step : Step) (c : Change) : Type 0 w
   pub does : IsSound s → Does s.channels c.state.channels (port_touched_by step answer) (deeds_of step answer ended)
   -- and none where a case found its port closed
   pub still : found_closed answer ≡ true → IsSound s → (p : Port) → at c.state.channels p ≡ at s.channels p
+  -- and else what the port shows is another
+  pub moved : found_closed answer ≡ false → IsSound s → Moves (port_touched_by step answer) s.channels c.state.channels
   -- and it suits those that wait then
   pub sound : IsSound s → NamedSound (port_touched_by step answer) c.state.channels c.state.parked
   -- the processes are as many, and the caller alone can exit
@@ -89,6 +96,7 @@ pub alone : (s : State) (ts : List Channel) (pid : Pid) (step : Step) (answer : 
     (is_parked answer ≡ true → list_any (can_proceed s) (cases_or step []) ≡ false) →
     (IsSound s → Does s.channels ts (port_touched_by step answer) (deeds_of step answer [])) →
     (found_closed answer ≡ true → IsSound s → (p : Port) → at ts p ≡ at s.channels p) →
+    (found_closed answer ≡ false → IsSound s → Moves (port_touched_by step answer) s.channels ts) →
     (IsSound s → NamedSound (port_touched_by step answer) ts (with_caller s.parked pid step answer)) →
     Account s pid step (record {
       state = record s {
@@ -98,7 +106,7 @@ pub alone : (s : State) (ts : List Channel) (pid : Pid) (step : Step) (answer : 
       };
       events = tells pid answer ∷ [];
     })
-alone s ts pid step answer fits placed blocked does still sound = record {
+alone s ts pid step answer fits placed blocked does still moved sound = record {
   answer = answer;
   ended = [];
   told = refl;
@@ -110,6 +118,7 @@ alone s ts pid step answer fits placed blocked does still sound = record {
   blocked = blocked;
   does = does;
   still = still;
+  moved = moved;
   sound = sound;
   procs = refl;
   gone = refl;
@@ -126,6 +135,7 @@ pub silent : (s : State) (pid : Pid) (step : Step) (answer : What) → is_answer
     })
 silent s pid step answer fits blocked none placed quiet =
     alone s s.channels pid step answer fits placed blocked (λ sound. idle none refl (rw quiet refl)) (λ h sound p. refl)
+    (λ h sound p named same. let g : None ≡ Some p = sym none ∙ named in cc)
     (λ sound p c names e. absurd (let g : ⊥ = cc in g))
 
 -- the port that is written, where it is the one that is named

@@ -1,7 +1,9 @@
 -- What a write does to the channels, and what follows of each port from what a step can do to them.
 use Rattle.std.proofs.Common.{◌≡◌, ◌≤◌, ℕ, ◌+◌, ◌-◌, ◌<◌, ◌==◌, Bool, true, false, cond, zero, suc, List, [], ◌∷◌, ◌++◌, length, refl, ap, ◌∙◌, sym, subst, Option, Some, None, arith, inl, inr}
 use Rattle.std.specs.Prelude.{slice_get, slice_set, get_or}
+use Rattle.std.specs.Option.{option_map}
 use Rattle.std.proofs.Math.ListN.{length-set}
+use Rattle.std.proofs.lemmas.Bool.Decides.{nat_tests}
 use Rattle.std.proofs.lemmas.Bool.{eqb-false, eqb-true}
 use Rattle.std.proofs.lemmas.List.{length-append}
 use Rattle.std.proofs.lemmas.Option.{slice_get_within, slice_get-get_or}
@@ -10,7 +12,7 @@ use Rattle.hub_base.specs.declared.value.Value.{Value}
 use Rattle.hub_base.specs.declared.limits.TheConstants.{MOST_PORTS}
 use Rattle.hub_base.specs.State.{State, Channel, channel_at}
 use Rattle.hub_base.specs.Steps.{after_send, next_value}
-use Rattle.hub_laws.specs.OnePort.{is_port, IsMade}
+use Rattle.hub_laws.specs.OnePort.{is_port, IsMade, shown}
 use Rattle.hub_laws.specs.Sound.{IsSound}
 use Rattle.hub_laws.proofs.Deeds.{Deed, at, fresh, Wrote, Does, idle, adds, wrote}
 use Rattle.hub_laws.proofs.Fires.{longer}
@@ -45,6 +47,46 @@ wrote-still cs ts q c d w same p = by (q.0 == p.0) refl
         let here : q ≡ p = same_port q p (eqb-true q.0 p.0 (sym is)) in
         subst (λ (r : Port). at ts r ≡ at cs r) here (w.new ∙ ap (λ x. Some x) same ∙ sym w.old)
     by false is = w.others p (sym is)
+
+-- where it leaves another to be shown, so does the port
+pub wrote-moves : (cs ts : List Channel) (q : Port) (c d : Channel) → Wrote cs ts q c d → (shown c ≡ shown d → ⊥) →
+    (p : Port) → Some q ≡ Some p → option_map shown (at cs p) ≡ option_map shown (at ts p) → ⊥
+wrote-moves cs ts q c d w other p named h =
+    let same : q ≡ p = cc in
+    let here : option_map shown (at cs q) ≡ option_map shown (at ts q) =
+    subst (λ (r : Port). option_map shown (at cs r) ≡ option_map shown (at ts r)) (sym same) h in
+    let told : Some (shown c) ≡ Some (shown d) = sym (ap (option_map shown) w.old) ∙ here ∙ ap (option_map shown) w.new in
+    let one : shown c ≡ shown d = cc in
+    other one
+
+-- a port that is made was none before
+last_one : (xs : List Channel) (d : Channel) → slice_get (xs ++ d ∷ []) (length xs) ≡ Some d
+last_one [] d = refl
+last_one (x ∷ xs) d = last_one xs d
+
+past_last : (xs : List Channel) → slice_get xs (length xs) ≡ None
+past_last [] = refl
+past_last (x ∷ xs) = past_last xs
+
+at_next : (cs : List Channel) (n : ℕ) (b : Bool) → n ≡ length cs → b ≡ false → cond b None (slice_get cs n) ≡ None
+at_next cs n true is h = refl
+at_next cs n false is h = ap (slice_get cs) is ∙ past_last cs
+
+at_made_last : (cs : List Channel) (d : Channel) (n : ℕ) (b : Bool) → n ≡ length cs → b ≡ false → cond b None (slice_get (cs ++ d ∷ []) n) ≡ Some d
+at_made_last cs d n true is h = cc
+at_made_last cs d n false is h = ap (slice_get (cs ++ d ∷ [])) is ∙ last_one cs d
+
+pub made-moves : (cs : List Channel) (cap : ℕ) (p : Port) → Some (record { 0 = length cs + 1 }) ≡ Some p →
+    option_map shown (at cs p) ≡ option_map shown (at (cs ++ fresh cap ∷ []) p) → ⊥
+made-moves cs cap p named h =
+    let same : record { 0 = length cs + 1 } ≡ p = cc in
+    let number : p.0 ≡ length cs + 1 = sym (ap (λ (r : Port). r.0) same) in
+    let place : p.0 - 1 ≡ length cs = omega (arith, number) in
+    let some : (p.0 == 0) ≡ false = grind (arith, nat_tests) in
+    let before = at_next cs (p.0 - 1) (p.0 == 0) place some in
+    let after = at_made_last cs (fresh cap) (p.0 - 1) (p.0 == 0) place some in
+    let told : None ≡ Some (shown (fresh cap)) = sym (ap (option_map shown) before) ∙ h ∙ ap (option_map shown) after in
+    absurd (let g : ⊥ = cc in g)
 
 -- where a value is sent there is one to receive
 

@@ -22,11 +22,11 @@ use Rattle.hub_base.specs.Steps.{closes, effect, Change, tells, fault_of, close_
 use Rattle.hub_base.specs.Values.{of_what}
 use Rattle.hub_laws.specs.Sound.{PortSound}
 use Rattle.hub_laws.specs.Answers.{ends_waiting, IsAnswered}
-use Rattle.hub_laws.specs.OnePort.{port_touched_by}
+use Rattle.hub_laws.specs.OnePort.{port_touched_by, Shown}
 use Rattle.hub_laws.proofs.Branches.{by-stall, stalled}
 use Rattle.hub_laws.proofs.Calls.{fewer-none, fewer-filter, all_append, all_more}
 use Rattle.hub_laws.proofs.Deeds.{deed_of, fresh, IsClosing, shuts, adds, wrote}
-use Rattle.hub_laws.proofs.Does.{wrote-set}
+use Rattle.hub_laws.proofs.Does.{wrote-set, wrote-moves, made-moves}
 use Rattle.hub_laws.proofs.Faults.{journaled}
 use Rattle.hub_laws.proofs.Fires.{is_on_port}
 use Rattle.hub_laws.proofs.Kept.{port-fewer, port-shut, port-fresh}
@@ -71,6 +71,7 @@ close_account s pid p (Some c) is h =
           named_sound (Some p) s.channels (slice_set s.channels (p.0 - 1) (shut c)) p c (shut c) (filter off s.parked) refl w fine;
       does = λ sound. wrote p c (shut c) refl w (shuts live refl (closed_deeds p parts.ended parts.each));
       still = λ h. cc;
+      moved = λ h sound. wrote-moves s.channels (slice_set s.channels (p.0 - 1) (shut c)) p c (shut c) w (λ same. let g : c.closed ≡ true = ap (λ (x : Shown). x.closed) same in cc);
       procs = refl;
       gone = refl;
     }
@@ -90,6 +91,7 @@ effect-account s pid (Make cap) h =
     let ts : List Channel = s.channels ++ fresh cap ∷ [] in
     let new : What = what.Made (record { 0 = length s.channels + 1 }) in
     alone s ts pid (Make cap) new refl tt (λ h. cc) (λ sound. adds cap (room_for_port s cap h) refl refl refl) (λ h. cc)
+    (λ h sound p named. made-moves s.channels cap p named)
     (λ sound p c names e. elim (new_port s (record s { channels = ts }) p (fresh cap) c refl e) [
       | inl l ↦ rw l.1 (port-fresh s p cap sound l.0)
       | inr r ↦ sound.ports p c r
@@ -132,6 +134,7 @@ stalled_account s pid step c a =
           port-fewer p d [] c.state.parked (fewer-none c.state.parked) (a.sound sound p d names e);
       does = λ sound. rw none (a.does sound);
       still = a.still;
+      moved = a.moved;
       procs = a.procs;
       gone = a.gone;
     }

@@ -1,9 +1,10 @@
 -- The account of a call: a case that fires, alone or with an open call, or none.
-use Rattle.std.proofs.Common.{◌≡◌, ℕ, ◌-◌, ◌%◌, ◌==◌, not, Bool, true, false, List, [], ◌∷◌, length, refl, ap, sym, Option, Some, None, arith}
+use Rattle.std.proofs.Common.{◌≡◌, ℕ, ◌-◌, ◌%◌, ◌==◌, not, Bool, true, false, List, [], ◌∷◌, ◌++◌, length, refl, ap, sym, Option, Some, None, arith}
 use Rattle.std.specs.Prelude.{slice_get, slice_set, is_some}
 use Rattle.std.specs.List.{list_any}
 use Rattle.std.specs.Option.{option_map_or}
 use Rattle.std.proofs.lemmas.Bool.{false_from_ne_true}
+use Rattle.std.proofs.lemmas.List.{length-append}
 use Rattle.std.proofs.lemmas.Option.{slice_get_within}
 use Rattle.hub_base.specs.declared.value.Port.{Port}
 use Rattle.hub_base.specs.declared.value.Pid.{Pid}
@@ -18,12 +19,12 @@ use Rattle.hub_base.specs.declared.event.What.TheVariants as what
 use Rattle.hub_base.specs.State.{State, Channel, OpenCall, channel_at}
 use Rattle.hub_base.specs.Ready.{is_send_on, is_recv_on, can_proceed, ready, port_of, first_with, Ending, without, send_can, recv_can}
 use Rattle.hub_base.specs.Steps.{Firing, fires, send_fires, proceeds, chooses, calls, after_send, after_receive, next_value, outcome_of, with_sent, send_meets, recv_takes, recv_meets, fired}
-use Rattle.hub_laws.specs.OnePort.{found_closed}
+use Rattle.hub_laws.specs.OnePort.{found_closed, Shown, shown}
 use Rattle.hub_laws.specs.Sound.{IsSound, PortSound, some_call}
 use Rattle.hub_laws.proofs.Branches.{by-closed}
 use Rattle.hub_laws.proofs.Calls.{Fewer, fewer-filter}
 use Rattle.hub_laws.proofs.Deeds.{Deed, Moved, Wrote, buffers, hands, fetches, gives, drains, refuses, wrote}
-use Rattle.hub_laws.proofs.Does.{wrote-set, wrote-same, wrote-still, next_sent}
+use Rattle.hub_laws.proofs.Does.{wrote-set, wrote-same, wrote-still, wrote-moves, next_sent}
 use Rattle.hub_laws.proofs.Fires.{is_recv, is_send, some_first}
 use Rattle.hub_laws.proofs.Kept.{port-fewer, port-through, port-sent, port-received, room_by}
 use Rattle.hub_laws.proofs.Leaving.{Ended, nobody, next, first-goes}
@@ -35,6 +36,21 @@ use Rattle.hub_laws.proofs.Account.{Account, alone, silent, named_sound}
 abbrev deed : Case → Outcome → Deed
 deed k o = record { case = k; outcome = o }
 
+-- what is sent or received is shown
+
+sent_more : (c : Channel) (v : Value) → shown c ≡ shown (after_send v c) → ⊥
+sent_more c v h =
+    let more : length c.sent ≡ length (c.sent ++ v ∷ []) = ap (λ (x : Shown). x.sent) h in
+    absurd (omega (arith, more, length-append c.sent (v ∷ [])))
+
+received_more : (c : Channel) → shown c ≡ shown (after_receive c) → ⊥
+received_more c h = absurd (omega (arith, ap (λ (x : Shown). x.received) h))
+
+through_more : (c : Channel) (v : Value) → shown c ≡ shown (after_receive (after_send v c)) → ⊥
+through_more c v h =
+    let more : length c.sent ≡ length (c.sent ++ v ∷ []) = ap (λ (x : Shown). x.sent) h in
+    absurd (omega (arith, more, length-append c.sent (v ∷ [])))
+
 module _ (s : State) (pid : Pid) (cases : List Case) (default : Bool) (word i : ℕ) where
   abbrev this : Step
   this = Call (record { items = cases }) default word
@@ -44,12 +60,14 @@ module _ (s : State) (pid : Pid) (cases : List Case) (default : Bool) (word i : 
 
   alone_fires : (ts : List Channel) (k : Case) (o : Outcome) (c d : Channel) → slice_get cases i ≡ Some k →
       Wrote s.channels ts (port_of k) c d → Moved (port_of k) c d (deed k o ∷ []) →
-      (found_closed (what.Fired i o) ≡ true → d ≡ c) → (IsSound s → PortSound (port_of k) d s.parked) →
+      (found_closed (what.Fired i o) ≡ true → d ≡ c) → (found_closed (what.Fired i o) ≡ false → shown c ≡ shown d → ⊥) →
+      (IsSound s → PortSound (port_of k) d s.parked) →
       Fires (record { outcome = o; state = record s { channels = ts }; ended = [] })
-  alone_fires ts k o c d mine w m still fine =
+  alone_fires ts k o c d mine w m still moved fine =
       let p : Port = port_of k in
       alone s ts pid this (what.Fired i o) refl (k, mine) (λ h. cc) (λ sound. rw mine (wrote p c d refl w m))
       (λ h sound. wrote-still s.channels ts p c d w (still h))
+      (λ h sound. rw mine (wrote-moves s.channels ts p c d w (moved h)))
       (λ sound. rw mine (named_sound (Some p) s.channels ts p c d s.parked refl w (fine sound)))
 
   -- with the oldest call that waits for it
@@ -57,6 +75,7 @@ module _ (s : State) (pid : Pid) (cases : List Case) (default : Bool) (word i : 
       slice_get cases i ≡ Some k → first_with test s.parked ≡ Some x → channel_at s (port_of k) ≡ Some c →
       Wrote s.channels ts (port_of k) c d →
       (found_closed (what.Fired i o) ≡ true → IsSound s → test x.at.case ≡ true → ⊥) →
+      (found_closed (what.Fired i o) ≡ false → IsSound s → test x.at.case ≡ true → shown c ≡ shown d → ⊥) →
       (IsSound s → test x.at.case ≡ true →
       Moved (port_of k) c d (deed k o ∷ deed x.at.case its ∷ [])
       × ((calls : List OpenCall) → PortSound (port_of k) c calls → PortSound (port_of k) d calls)) →
@@ -65,7 +84,7 @@ module _ (s : State) (pid : Pid) (cases : List Case) (default : Bool) (word i : 
         state = record s { parked = without x.pid s.parked; channels = ts };
         ended = fired x.pid x.at.index its ∷ [];
       })
-  meets ts k o its test x c d mine is old w open_still does =
+  meets ts k o its test x c d mine is old w open_still moved does =
       let p : Port = port_of k in
       let f = first-goes test s.parked x is in
       let e : Ended = record { call = f.call; what = what.Fired x.at.index its } in
@@ -83,6 +102,7 @@ module _ (s : State) (pid : Pid) (cases : List Case) (default : Bool) (word i : 
         blocked = λ h. cc;
         does = λ sound. rw (mine, f.stands) (wrote p c d refl w (does sound f.passes).0);
         still = λ h sound. absurd (open_still h sound f.passes);
+        moved = λ h sound. rw mine (wrote-moves s.channels ts p c d w (moved h sound f.passes));
         sound = λ sound.
             let still : PortSound p c kept = port-fewer p c kept s.parked fewer (sound.ports p c old) in
             rw mine (named_sound (Some p) s.channels ts p c d kept refl w ((does sound f.passes).1 kept still));
@@ -99,12 +119,12 @@ module _ (s : State) (pid : Pid) (cases : List Case) (default : Bool) (word i : 
       let first : is_some (first_with (is_recv_on p) s.parked) ≡ false = ap (λ x. is_some x) (sym is) in
       let room = room_by c.closed (is_some (first_with (is_recv_on p) s.parked)) c live first can in
       alone_fires (slice_set s.channels (p.0 - 1) d) (Send p v) Sent c d mine (wrote-set s p c d e)
-      (buffers v live refl refl) (λ h. cc) (λ sound. port-sent p v c s.parked (sound.ports p c e) live none room)
+      (buffers v live refl refl) (λ h. cc) (λ h. sent_more c v) (λ sound. port-sent p v c s.parked (sound.ports p c e) live none room)
   send_account p v c (Some x) mine e can live is =
       let d : Channel = after_receive (after_send v c) in
       let its : Outcome = outcome_of (next_value (after_send v c)) in
       meets (slice_set s.channels (p.0 - 1) d) (Send p v) Sent its (is_recv_on p) x c d mine (sym is) e
-      (wrote-set s p c d e) (λ h sound passes. cc) (λ sound passes.
+      (wrote-set s p c d e) (λ h sound passes. cc) (λ h sound passes. through_more c v) (λ sound passes.
       let w = next_sent s p v c sound e in
       let moved = hands v w.0 live w.1 refl (rw (is_recv p x.at.case passes, w.1) refl) in
       (moved, λ calls fine. port-through p v c calls fine live))
@@ -114,11 +134,11 @@ module _ (s : State) (pid : Pid) (cases : List Case) (default : Bool) (word i : 
       Fires (recv_takes s p c [] o)
   takes_account p c None mine e none is =
       alone_fires (slice_set s.channels (p.0 - 1) c) (Recv p) Drained c c mine (wrote-set s p c c e)
-      (drains (sym is) refl refl) (λ h. refl) (λ sound. sound.ports p c e)
+      (drains (sym is) refl refl) (λ h. refl) (λ h. cc) (λ sound. sound.ports p c e)
   takes_account p c (Some w) mine e none is =
       let d : Channel = after_receive c in
       alone_fires (slice_set s.channels (p.0 - 1) d) (Recv p) (Got w) c d mine (wrote-set s p c d e)
-      (gives w (sym is) refl refl) (λ h. cc)
+      (gives w (sym is) refl refl) (λ h. cc) (λ h. received_more c)
       (λ sound. port-received p c s.parked (sound.ports p c e) none (slice_get_within c.sent c.received w (sym is)))
 
   fetches_account : (p : Port) (c : Channel) (x : Ending) (o : Option Value) → slice_get cases i ≡ Some (Recv p) →
@@ -133,11 +153,13 @@ module _ (s : State) (pid : Pid) (cases : List Case) (default : Bool) (word i : 
       let none : None ≡ next_value (after_send u.0 c) = rw u.1 at after in
       cc in
       meets (slice_set s.channels (p.0 - 1) d) (Recv p) Drained Sent (is_send_on p) x c d mine is e
-      (wrote-set s p c d e) (λ h. never) (λ sound passes. absurd (never sound passes))
+      (wrote-set s p c d e) (λ h. never) (λ h. cc) (λ sound passes. absurd (never sound passes))
   fetches_account p c x (Some w) mine e is after =
       let d : Channel = after_receive (with_sent x.at.case c) in
       meets (slice_set s.channels (p.0 - 1) d) (Recv p) (Got w) Sent (is_send_on p) x c d mine is e
-      (wrote-set s p c d e) (λ h sound passes. cc) (λ sound passes.
+      (wrote-set s p c d e) (λ h sound passes. cc) (λ h sound passes same.
+      let u = is_send p x.at.case passes in
+      through_more c u.0 (rw u.1 at same)) (λ sound passes.
       let u = is_send p x.at.case passes in
       let some : Some w ≡ next_value (after_send u.0 c) = rw u.1 at after in
       let waits : some_call (is_send_on p) s.parked ≡ true =
@@ -158,7 +180,7 @@ module _ (s : State) (pid : Pid) (cases : List Case) (default : Bool) (word i : 
       by-closed Fires s p v c
       (λ over.
       alone_fires s.channels (Send p v) Closed c c mine (wrote-same s p c e) (refuses v over refl refl)
-      (λ h. refl) (λ sound. sound.ports p c e))
+      (λ h. refl) (λ h. cc) (λ sound. sound.ports p c e))
       (λ live. send_account p v c (first_with (is_recv_on p) s.parked) mine e can live refl)
 
   -- a case that can proceed has a channel

@@ -1,13 +1,13 @@
 -- One entry writes at most the port that its answer names.
 use Rattle.std.proofs.Common.{◌≡◌, ◌==◌, ℕ, Bool, true, false, cond, List, [], ◌∷◌, ◌++◌, length, refl, ap, ◌∙◌, sym, subst, Option, Some, None}
-use Rattle.std.specs.Option.{option_map_or}
+use Rattle.std.specs.Option.{option_map, option_map_or}
 use Rattle.hub_base.specs.declared.value.Port.{Port}
 use Rattle.hub_base.specs.declared.entry.Entry.{Entry}
 use Rattle.hub_base.specs.declared.fault.Fault.{Fault}
 use Rattle.hub_base.specs.State.{State, opening, channel_at}
 use Rattle.hub_base.specs.Steps.{turn, refusal}
 use Rattle.hub_base.specs.Runs.{admits, moves, state}
-use Rattle.hub_laws.specs.OnePort.{port_touched_by, port_touched, port_changed_by, port_changed, found_closed, is_port, IsMade, OnePortLaw}
+use Rattle.hub_laws.specs.OnePort.{port_touched_by, port_touched, port_changed, found_closed, shown, is_port, IsMade, OnePortLaw}
 use Rattle.hub_laws.specs.Sound.{IsSound}
 use Rattle.hub_laws.proofs.Account.{deeds_of}
 use Rattle.hub_laws.proofs.Entries.{fault_names_none, turn-account}
@@ -41,6 +41,22 @@ moves-leaves s e None sound p h =
         does-others s.channels (turn s e).state.channels (port_touched_by e.step a.answer) (deeds_of e.step a.answer a.ended) (a.does sound) p h
 moves-leaves s e (Some f) sound p h = refl
 
+-- and that the one which it changes shows something else
+pub moves-moved : (s : State) (e : Entry) (o : Option Fault) → IsSound s → (p : Port) →
+    port_changed e.step (admits s e o).events ≡ Some p →
+    option_map shown (at s.channels p) ≡ option_map shown (at (admits s e o).state.channels p) → ⊥
+moves-moved s e None sound p h =
+    by (found_closed (turn-account s e).answer) refl (sym (ap (port_changed e.step) (turn-account s e).told) ∙ h)
+  where
+    by : (b : Bool) → b ≡ found_closed (turn-account s e).answer →
+        cond b None (port_touched_by e.step (turn-account s e).answer) ≡ Some p →
+        option_map shown (at s.channels p) ≡ option_map shown (at (turn s e).state.channels p) → ⊥
+    by true is h = cc
+    by false is h = (turn-account s e).moved (sym is) sound p h
+moves-moved s e (Some f) sound p h =
+    let none : port_changed e.step (admits s e (Some f)).events ≡ None = fault_names_none e.step f in
+    absurd (let g : ⊥ = cc in g)
+
 other_number : (o : Option Port) (p : Port) → (option_map_or (λ q. q.0) o 0 == p.0) ≡ false → is_port o p ≡ false
 other_number None p h = refl
 other_number (Some q) p h = h
@@ -60,4 +76,6 @@ one_port-law n es e =
           (does-made s.channels (moves s e).state.channels named d.0 d.1 p h);
       others = others;
       numbers = λ p h. others p (other_number changed p h);
+      moved = λ p h same.
+          moves-moved s e (refusal s e.pid) (state-sound n es) p h (same ∙ ap (λ (s : State). option_map shown (channel_at s p)) after);
     }

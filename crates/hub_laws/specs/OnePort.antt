@@ -12,7 +12,7 @@ use Rattle.hub_base.specs.declared.event.Outcome.TheVariants.{Drained, Closed}
 use Rattle.hub_base.specs.declared.event.What.{What}
 use Rattle.hub_base.specs.declared.event.What.TheVariants as what
 use Rattle.hub_base.specs.declared.event.Event.{Event}
-use Rattle.hub_base.specs.State.{State, channel_at}
+use Rattle.hub_base.specs.State.{State, Channel, channel_at}
 use Rattle.hub_base.specs.Ready.{port_of}
 use Rattle.hub_base.specs.Runs.{state, moves}
 
@@ -68,13 +68,24 @@ touched n es e = port_touched e.step (moves (state n es) e).events
 abbrev pub changed : ℕ → List Entry → Entry → Option Port
 changed n es e = port_changed e.step (moves (state n es) e).events
 
+-- what a channel shows besides its capacity: whether it is closed, and how many values were sent and received
+pub record Shown : Type 0 where
+  pub closed : Bool
+  pub sent : ℕ
+  pub received : ℕ
+
+abbrev pub shown : Channel → Shown
+shown c = record { closed = c.closed; sent = length c.sent; received = c.received }
+
 -- the port has the channel that it had: its capacity, whether it is closed, and its counts
 abbrev pub Untouched : ℕ → List Entry → Entry → Port → Type 0
 Untouched n es e p = channel_at (state n (es ++ e ∷ [])) p ≡ channel_at (state n es) p
 
 -- the port that is named is made; but for the port that is changed every one is as it was, also where
--- it is told by numbers
+-- it is told by numbers; and that port is made then, or shows something else
 pub record OnePortLaw (n : ℕ) (es : List Entry) (e : Entry) : Type 0 where
   pub made : (p : Port) → touched n es e ≡ Some p → IsPort p (state n (es ++ e ∷ []))
   pub others : (p : Port) → is_port (changed n es e) p ≡ false → Untouched n es e p
   pub numbers : (p : Port) → (number_of (changed n es e) == p.0) ≡ false → Untouched n es e p
+  pub moved : (p : Port) → changed n es e ≡ Some p
+      → option_map shown (channel_at (state n es) p) ≡ option_map shown (channel_at (state n (es ++ e ∷ [])) p) → ⊥

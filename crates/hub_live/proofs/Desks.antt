@@ -19,14 +19,14 @@ use Rattle.hub_core.specs.HubView.{HubView, Steps, state_of}
 use Rattle.hub_live.specs.declared.name.Terms.{Terms}
 use Rattle.hub_live.specs.declared.rule.View.{View}
 use Rattle.hub_live.specs.Locked.{LockedView, Serves, IsReplyTo}
-use Rattle.hub_live.specs.Mark.{mark, mark_at, port_numbered, MarksOne}
+use Rattle.hub_live.specs.Mark.{mark, mark_at, port_numbered, MarksOne, IsOther}
 use Rattle.hub_live.specs.Name.{Name}
 use Rattle.hub_live.specs.Rule.{IsHistory}
 use Rattle.hub_live.specs.Moves.{Sees, grown, with_joined, parted, given_back}
 use Rattle.hub_live.specs.Named.{IsToken}
 use Rattle.hub_live.specs.Seated.{IsAlone, IsHub, IsDesk}
 use Rattle.hub_live.proofs.Prefixes.{prefix_trans}
-use Rattle.hub_live.proofs.Marks.{marks_one, changed-few}
+use Rattle.hub_live.proofs.Marks.{marks_one, mark_other, changed-few}
 
 -- the hub's view, joined to that of a process, once it has seen the journal
 pub record IsJoined (t : Terms) (journal : List Entry) (pid : Pid) (before : List Entry) (w : View) : Type 0 where
@@ -176,6 +176,16 @@ marks_served t old new e answer seen word is s same at =
     let new_mark : mark t.procs (seen ++ e ∷ []) word ≡ mark_at (state_of new.hub) (port_numbered word) =
     (λ i. mark (sym is.procs i) (same i ++ e ∷ []) word) ∙ sym (ap (λ (h : HubView). mark_at (state_of h) (port_numbered word)) s.step.journal) in
     subst (MarksOne t.procs seen e word) new_mark m
+
+pub other_served : (t : Terms) (old new : LockedView) (e : Entry) (answer : Event) (seen : List Entry) (word : ℕ) → IsHub t old.hub → Serves old e new answer → seen ≡ old.hub.journal → word ≡ number_of (port_changed_by e.step answer.what)
+    → IsOther t.procs seen word (mark_at (state_of new.hub) (port_numbered word))
+other_served t old new e answer seen word is s same at =
+    let before : IsHistory t seen = subst (IsHistory t) (sym same) is.history in
+    let after = history_served t old new e answer seen is s same in
+    let m = mark_other t.procs seen e word before.legal before.few after.legal after.few (at ∙ changed_served t old new e answer seen is s same) in
+    let new_mark : mark t.procs (seen ++ e ∷ []) word ≡ mark_at (state_of new.hub) (port_numbered word) =
+    (λ i. mark (sym is.procs i) (same i ++ e ∷ []) word) ∙ sym (ap (λ (h : HubView). mark_at (state_of h) (port_numbered word)) s.step.journal) in
+    subst (IsOther t.procs seen word) new_mark m
 
 pub word_served : (t : Terms) (old new : LockedView) (e : Entry) (answer : Event) (word : ℕ) → IsHub t old.hub → Serves old e new answer → word ≡ number_of (port_changed_by e.step answer.what) → word ≤ MOST_PORTS
 word_served t old new e answer word is s at =

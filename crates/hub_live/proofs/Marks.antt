@@ -16,12 +16,12 @@ use Rattle.hub_base.specs.State.{Channel, channel_at}
 use Rattle.hub_base.specs.Runs.{moves, state}
 use Rattle.hub_base.specs.Text.{steps_of}
 use Rattle.hub_laws.specs.Journals.{IsLegal}
-use Rattle.hub_laws.specs.OnePort.{changed, found_closed, number_of, port_changed, port_touched, port_touched_by, IsPort}
+use Rattle.hub_laws.specs.OnePort.{changed, found_closed, Shown, shown, number_of, port_changed, port_touched, port_touched_by, IsPort}
 use Rattle.hub_laws.proofs.OnePort.{one_port-law}
 use Rattle.hub_laws.proofs.Counts.{counts-law}
 use Rattle.hub_laws.proofs.States.{state-laws}
 use Rattle.hub_core.specs.Looks.{counts_of, look_at}
-use Rattle.hub_live.specs.Mark.{of_a_send, of_a_port, of_a_close, mark_of, counts_in, read_back, counts_at, mark_at, port_numbered, mark, MarksOne}
+use Rattle.hub_live.specs.Mark.{of_a_send, of_a_port, of_a_close, mark_of, counts_in, read_back, counts_at, mark_at, port_numbered, mark, MarksOne, IsOther}
 
 -- counts as a hub has them
 pub record IsCounted (c : Counts) : Type 0 where
@@ -114,3 +114,26 @@ one_mark n es e word number false other is =
 -- one entry changes at most the mark of the port that it changes
 pub marks_one : (n : ℕ) (es : List Entry) (e : Entry) (word : ℕ) → word ≡ number_of (changed n es e) → MarksOne n es e word (mark n (es ++ e ∷ []) word)
 marks_one n es e word is number lo hi = one_mark n es e word number (number == word) refl is
+
+abbrev shown_of : Counts → Shown
+shown_of k = record { closed = k.closed; sent = k.sent; received = k.received }
+
+shown_at : (o : Option Channel) → option_map shown_of (option_map counts_of o) ≡ option_map shown o
+shown_at None = refl
+shown_at (Some c) = refl
+
+-- and that mark is another than before
+pub mark_other : (n : ℕ) (es : List Entry) (e : Entry) (word : ℕ) → IsLegal n es → steps_of es ≤ MOST_STEPS → IsLegal n (es ++ e ∷ []) → steps_of (es ++ e ∷ []) ≤ MOST_STEPS →
+    word ≡ number_of (changed n es e) → IsOther n es word (mark n (es ++ e ∷ []) word)
+mark_other n es e word legal few legal_then few_then is above same = by (changed n es e) refl is
+  where
+    by : (o : Option Port) → changed n es e ≡ o → word ≡ number_of o → ⊥
+    by None none is = absurd (omega (arith, is, above))
+    by (Some p) named is =
+        let q : Port = port_numbered word in
+        let here : p ≡ q = ap port_numbered (sym is) in
+        let counts : counts_at (state n es) q ≡ counts_at (state n (es ++ e ∷ [])) q =
+        sym (mark-tells n es q legal few) ∙ ap read_back same ∙ mark-tells n (es ++ e ∷ []) q legal_then few_then in
+        let told : option_map shown (channel_at (state n es) q) ≡ option_map shown (channel_at (state n (es ++ e ∷ [])) q) =
+        sym (shown_at (channel_at (state n es) q)) ∙ ap (option_map shown_of) counts ∙ shown_at (channel_at (state n (es ++ e ∷ [])) q) in
+        (one_port-law n es e).moved q (named ∙ ap (λ r. Some r) here) told

@@ -62,3 +62,7 @@ MarksOne n es e word new =
     MatchBool (number == word)
     (mark n (es ++ e ∷ []) number ≡ new)
     (mark n (es ++ e ∷ []) number ≡ mark n es number)
+
+-- but for word 0 this mark is another than the word's port had
+abbrev pub IsOther : ℕ → List Entry → ℕ → ℕ → Type 0
+IsOther n es word new = 0 < word → mark n es word ≡ new → ⊥

@@ -1,7 +1,7 @@
 //! The words that threads share, and the steps that seats make on them.
 
 ghost use Rattle.std.specs.Prelude.{◌≡◌, ◌<◌, ◌≤◌, ◌+◌, [], ◌∷◌, ◌++◌, Some, None, IsSome, IfOk};
-ghost use Rattle.hub_live.specs.Mark.{mark, MarksOne};
+ghost use Rattle.hub_live.specs.Mark.{mark, MarksOne, IsOther};
 ghost use Rattle.hub_live.specs.Rule.{IsHistory, blank, next_word, word_count};
 ghost use Rattle.hub_live.specs.Moves.{Sees, grown, numbered, with_joined, parted, given_back};
 ghost use Rattle.hub_live.specs.Named.{IsTableOf, IsNewTable, IsToken};
@@ -63,6 +63,7 @@ impl<K: HubName> Words<K> {
         requires history { IsHistory K.name.terms (token.old.me.0.seen ++ entry.now ∷ []) }
         requires word { word ≤ MOST_PORTS }
         requires mark { MarksOne K.name.terms.procs token.old.me.0.seen entry.now word mark }
+        requires other { IsOther K.name.terms.procs token.old.me.0.seen word mark }
         ensures same { (token.new.table_id ≡ token.old.table_id) × (token.new.me.1 ≡ []) }
         ensures view { token.new.me.0 ≡ grown token.old.me.0 entry.now }
     {

@@ -6,14 +6,14 @@ use Rattle.hub_base.specs.Steps.{is_waiting}
 use Rattle.hub_base.specs.Runs.{state}
 use Rattle.hub_core.specs.HubView.{HubView, state_of}
 use Rattle.hub_live.specs.declared.name.Terms.{Terms}
-use Rattle.hub_live.specs.Mark.{mark_at, port_numbered, MarksOne}
+use Rattle.hub_live.specs.Mark.{mark_at, port_numbered, MarksOne, IsOther}
 use Rattle.hub_live.specs.Locked.{LockedView}
 use Rattle.hub_laws.specs.OnePort.{number_of, port_changed_by}
 use Rattle.hub_live.specs.Rule.{IsHistory}
 use Rattle.hub_live.specs.Moves.{grown}
 use Rattle.hub_live.specs.Seated.{IsHub}
 use Rattle.hub_live.specs.Calls.{Shows, AsksNothing}
-use Rattle.hub_live.proofs.Desks.{newest_made, joined_desk, IsMade, made_back, IsBack, seen_back, hub_steps, history_served, marks_served, word_served, told_served}
+use Rattle.hub_live.proofs.Desks.{newest_made, joined_desk, IsMade, made_back, IsBack, seen_back, hub_steps, history_served, marks_served, other_served, word_served, told_served}
 use Rattle.hub_live.proofs.Refusals.{asks_nothing, shows}
 use Rattle.hub_live.proofs.desk.step_as.Given.{Over}
 use Rattle.hub_live.proofs.desk.step_as.Goals as goal
@@ -52,6 +52,12 @@ publish-requires-clause-mark g c =
     let same : mark_at (state_of c.step.new.self.hub) (port_numbered c.from.result) ≡ c.mark_at-mark.result = ap (λ n. mark_at (state_of c.step.new.self.hub) (port_numbered n)) c.from.ensures ∙ sym c.mark_at-mark.ensures in
     subst (λ (e : Entry). MarksOne g.K.HubName.name.terms.procs c.join.new.token.me.0.seen e c.from.result c.mark_at-mark.result) (sym (newest_made c.args.locked.now c.step.new.self c.args.entry c.newest-made.result.now c.in-Ok.answer c.in-Ok.ensures.ok c.newest-made.ensures))
     (subst (λ n. MarksOne g.K.HubName.name.terms.procs c.join.new.token.me.0.seen c.args.entry c.from.result n) same m)
+
+pub publish-requires-clause-other : goal.publish-requires-clause-other
+publish-requires-clause-other g c =
+    let m = other_served g.K.HubName.name.terms c.args.locked.now c.step.new.self c.args.entry c.in-Ok.answer c.join.new.token.me.0.seen c.from.result c.requires.desk.hub c.in-Ok.ensures.ok (joined_desk g.K.HubName.name c.args.locked.now c.args.hub.now c.args.mine c.args.entry.pid c.join.new.token.me.0 c.requires.desk c.requires.alone c.join.ensures.sees).whole (c.from.ensures ∙ (c.changed-port.ensures ∙ ap (λ (e : Entry). number_of (port_changed_by e.step c.in-Ok.answer.what)) (newest_made c.args.locked.now c.step.new.self c.args.entry c.newest-made.result.now c.in-Ok.answer c.in-Ok.ensures.ok c.newest-made.ensures))) in
+    let same : mark_at (state_of c.step.new.self.hub) (port_numbered c.from.result) ≡ c.mark_at-mark.result = ap (λ n. mark_at (state_of c.step.new.self.hub) (port_numbered n)) c.from.ensures ∙ sym c.mark_at-mark.ensures in
+    subst (λ n. IsOther g.K.HubName.name.terms.procs c.join.new.token.me.0.seen c.from.result n) same m
 
 made : (g : Over) (c : After-part-back g) → IsMade g.K.HubName.name c.step.new.self c.part-back.new.token c.part-back.result c.args.entry c.args.mine.me.0.seen
 made g c =

@@ -46,7 +46,10 @@ fn hand_out<K: HubName, R: Wait>(
     ensures closed { IfOk result (λ w. last_answer seat.new ≡ Some (ended_by w)) }
 {
     for job in 0..jobs {
-        match seat.send(rt, hub, sender, Value::num(u64::from(job) + 1))?.what {
+        match seat
+            .send(rt, hub, sender, Value::num(u64::from(job) + 1))?
+            .what
+        {
             What::Fired {
                 outcome: Outcome::Sent,
                 ..

@@ -51,9 +51,10 @@ module _ (words : List (List ℕ)) (unread left : Option (List ℕ)) (alone : Ty
         (outcome, has-run outcome (AppendsBeginning held holds) journal asked (bytes, taken, runs))
 
   module _ (failed : Type 0) where
-    pub refused-arguments : (fault : ArgumentsFault) → alone → HasRefused words (of_arguments fault) unread left alone failed
-    refused-arguments arguments.BadArguments untouched = inr (inr (inr (untouched, inl refl)))
-    refused-arguments arguments.NoMemory untouched = inr (inr (inr (untouched, inr refl)))
+    pub refused-arguments : (fault : ArgumentsFault) → alone → ¬ AsksForReplay words →
+        HasRefused words (of_arguments fault) unread left alone failed
+    refused-arguments arguments.BadArguments untouched other = inr (inr (inr (untouched, other, inl refl)))
+    refused-arguments arguments.NoMemory untouched other = inr (inr (inr (untouched, other, inr refl)))
 
     module _ (why : Refusal) where
       pub refused-replay : AsksForReplay words → RefusesReplay unread left failed why → HasRefused words why unread left alone failed

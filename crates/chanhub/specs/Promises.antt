@@ -149,7 +149,7 @@ RefusesScenario unread left alone failed refusal.Write = Unit {0}
 RefusesScenario unread left alone failed (refusal.Journal fault) = ⊥
 RefusesScenario unread left alone failed refusal.BadArguments = ⊥
 
--- why the arguments are not carried out: they are no command's, or memory was refused to their reading
+-- why arguments that ask for no replay are not carried out: they are no command's, or memory was refused to their reading
 abbrev pub RefusesArguments : Refusal → Type 0
 RefusesArguments why = (why ≡ refusal.BadArguments) ⊎ (why ≡ refusal.NoMemory)
 
@@ -159,7 +159,8 @@ abbrev pub HasRefused : List (List ℕ) → Refusal → (unread left : Option (L
 HasRefused words why unread left alone failed =
     (AsksForReplay words × RefusesReplay unread left failed why)
     ⊎ ((AsksFor (codes "verify") words × alone × RefusesFiles why)
-    ⊎ ((AsksFor (codes "run") words × RefusesScenario unread left alone failed why) ⊎ (alone × RefusesArguments why)))
+    ⊎ ((AsksFor (codes "run") words × RefusesScenario unread left alone failed why)
+    ⊎ (alone × ¬ AsksForReplay words × RefusesArguments why)))
 
 -- what a refusal leaves: the output is as it was, but for a failed write, which is told only where a write failed, once,
 -- behind a beginning of what was to be written

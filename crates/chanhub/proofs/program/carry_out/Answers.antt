@@ -1,4 +1,4 @@
-use Rattle.std.proofs.Common.{rules, refl}
+use Rattle.std.proofs.Common.{◌≡◌, true, false, rules, refl}
 use Rattle.std.proofs.lemmas.Result.{IfErr-weaker, IfOk-weaker}
 use Rattle.chanhub.specs.Refusals.{of_arguments}
 use Rattle.chanhub.proofs.Carried.{begun-replay, begun-run, begun-verify, has-run, has-verified, refused-more, refused-arguments, refused-replay, refused-run, refused-verify}
@@ -27,7 +27,8 @@ returns-in-Verify-clause-refused g c =
 
 pub returns-in_err-read_words-clause-found : goal.returns-in_err-read_words-clause-found
 returns-in_err-read_words-clause-found g c =
-    handed _ of_arguments _ _ c.from_residual.ensures (refused-arguments _ _ _ _ _ c.in_err-read_words.field-0.0 refl)
+    handed _ of_arguments _ _ c.from_residual.ensures (refused-arguments _ _ _ _ _ c.in_err-read_words.field-0.0 refl
+    (λ asks. let not : false ≡ true = c.in_err-read_words.ensures.replay asks in cc))
 
 pub returns-in-Replay-clause-found : goal.returns-in-Replay-clause-found
 returns-in-Replay-clause-found g c =

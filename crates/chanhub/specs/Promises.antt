@@ -13,7 +13,7 @@ use Rattle.hub_report.specs.ReportText.{report_text}
 use Rattle.hub_report.specs.Reports.{IsReportOf}
 use Rattle.hub_runner.specs.Scripts.{AllFollow}
 use Rattle.hub_scenario.specs.declared.limits.TheConstants.{MOST_FILE_BYTES}
-use Rattle.hub_scenario.specs.Scenario.{ScenarioData, reading}
+use Rattle.hub_scenario.specs.Scenario.{ScenarioData, reading, run_head}
 use Rattle.hub_words.specs.Words.{AsksFor, AsksForReplay}
 use Rattle.chanhub.specs.declared.refusal.Refusal.{Refusal}
 use Rattle.chanhub.specs.declared.refusal.Refusal.TheVariants as refusal
@@ -35,7 +35,7 @@ TellsComparison journal events Stalled Writes = ⊥
 -- ---- run
 -- what is printed of a run: its journal, or its report
 abbrev pub printed : Bool → Report → List ℕ
-printed journal report = if journal then text report.journal.procs report.journal.entries else report_text report
+printed journal report = if journal then text report.journal.head report.journal.entries else report_text report
 
 -- the outcome of a run: whether some call stalled
 abbrev pub TellsStalls : Outcome → ℕ → Type 0
@@ -48,8 +48,8 @@ pub record RunsScenario (bytes : List ℕ) (journal : Bool) (outcome : Outcome) 
   pub scenario : ScenarioData
   pub report : Report
   pub said : reading bytes ≡ Ok scenario
-  pub procs : report.journal.procs ≡ length scenario.scripts
-  pub legal : IsLegal report.journal.procs report.journal.entries
+  pub head : report.journal.head ≡ run_head scenario
+  pub legal : IsLegal report.journal.head report.journal.entries
   pub follows : AllFollow scenario report.journal.entries
   pub told : IsReportOf report.journal report
   pub stalls : TellsStalls outcome report.stalled

@@ -1,10 +1,12 @@
 -- Faulty texts: what is refused is faulty there, and what is faulty is refused for it.
 use Rattle.std.proofs.Common.{◌≡◌, ℕ, ◌≤◌, Bool, true, false, cond, List, [], ◌∷◌, ◌⊎◌, inl, inr, length, refl, ap, ◌∙◌, sym, subst, Option, Some, None, arith, codes}
+use Rattle.hub_base.specs.declared.head.Head.{Head}
 use Rattle.hub_base.specs.declared.text.faults.Kind.{Kind}
 use Rattle.hub_base.specs.declared.limits.TheConstants.{MOST_BYTES}
 use Rattle.hub_base.specs.declared.text.faults.Kind.TheVariants.{BadHeader, BadProcs}
+use Rattle.hub_base.specs.Head.{head_of}
 use Rattle.hub_base.specs.Lines.{same_text}
-use Rattle.hub_base.specs.Reading.{Row, rows, Reading, Faulty, head, procs_line, entries_from, row_fault, faulty_or, end_of, procs_number, procs_say, procs_from, reading, read_text}
+use Rattle.hub_base.specs.Reading.{Row, rows, Reading, Faulty, head_lines, procs_line, entries_from, row_fault, faulty_or, end_of, procs_number, procs_say, procs_from, reading, read_text}
 use Rattle.hub_base.specs.Text.{header_row, procs_row, header_fault, procs_fault, fault_of_procs, fault_of_first, first_fault, FaultyFirst, FaultySecond, FaultyEntry, IsFaulty, EntryFails}
 use Rattle.hub_base.proofs.Numerals.{same-true}
 use Rattle.hub_base.proofs.Running.{entries-fail, entries-fail-again, row-none}
@@ -17,10 +19,10 @@ header-faulty None true x k kind h = inr (refl, refl, h)
 header-faulty None false x k kind h = inl (cc, let same : BadHeader ≡ kind = cc in ap (λ k. Some k) same)
 
 procs-faulty : (o : Option Kind) (p : Option ℕ) (end : ℕ) (rs : List Row) (k : ℕ) (kind : Kind) → faulty_or 2 (procs_say p end rs) o ≡ Faulty k kind →
-    ((k ≡ 2) × (first_fault o (fault_of_procs p) ≡ Some kind)) ⊎ ((n : ℕ) × (o ≡ None) × (p ≡ Some n) × (entries_from n 3 end 0 rs ≡ Faulty k kind))
+    ((k ≡ 2) × (first_fault o (fault_of_procs p) ≡ Some kind)) ⊎ ((said : Head) × (o ≡ None) × (p ≡ Some said.procs) × (entries_from said 3 end 0 rs ≡ Faulty k kind))
 procs-faulty (Some other) p end rs k kind h = inl (cc, let same : other ≡ kind = cc in ap (λ k. Some k) same)
 procs-faulty None None end rs k kind h = inl (cc, let same : BadProcs ≡ kind = cc in ap (λ k. Some k) same)
-procs-faulty None (Some n) end rs k kind h = inr (n, refl, refl, h)
+procs-faulty None (Some n) end rs k kind h = inr (head_of n, refl, refl, h)
 
 fails-at : (place place' : ℕ) (rs : List Row) (k : ℕ) (kind : Kind) → place ≡ place' → EntryFails place 0 3 rs k kind → EntryFails place' 0 3 rs k kind
 fails-at place place' rs k kind e f = let P : ℕ → Type 0 = λ p. EntryFails p 0 3 rs k kind in subst P e f
@@ -32,16 +34,15 @@ second-fail (r ∷ rs) k kind h =
       | inl a ↦ inl (record { more = r ∷ rs; lines = refl; number = a.0; fault = a.1 })
       | inr a ↦ (
           let v = row-none (end_of 18 r) r a.1 in
-          let p = procs-take r.bytes a.0 a.2 in
-          let row : r ≡ procs_row a.0 = whole-row r (procs_line a.0) p.spelled v.whole in
-          let end : end_of 18 r ≡ length (head a.0) = second-place r a.0 row in
+          let p = procs-take r.bytes a.0.procs a.2 in
+          let row : r ≡ procs_row a.0.procs = whole-row r (procs_line a.0.procs) p.spelled v.whole in
+          let end : end_of 18 r ≡ length (head_lines a.0) = second-place r a.0 row in
           inr (record {
-            n = a.0;
+            head = a.0;
             more = rs;
             lines = ap (λ r. header_row ∷ r ∷ rs) row;
-            some = p.some;
-            few = p.few;
-            fails = fails-at (end_of 18 r) (length (head a.0)) rs k kind end (entries-fail a.0 rs 3 (end_of 18 r) 0 k kind v.fits (omega arith) a.3);
+            possible = (p.some, p.few);
+            fails = fails-at (end_of 18 r) (length (head_lines a.0)) rs k kind end (entries-fail a.0 rs 3 (end_of 18 r) 0 k kind v.fits (omega arith) a.3);
           }))
     ]
 
@@ -81,8 +82,8 @@ second-faulty (r ∷ rs) kind h = go (row_fault (end_of 18 r) r) (procs_number r
   go None None h = let same : BadProcs ≡ kind = cc in ap (Faulty 2) same
   go None (Some n) h = cc
 
-head-fits : (n : ℕ) (rs : List Row) (k : ℕ) (kind : Kind) → EntryFails (length (head n)) 0 3 rs k kind → length (head n) ≤ MOST_BYTES
-head-fits n rs k kind f = let l = f.bytes_fit in omega (arith, l)
+head-fits : (h : Head) (rs : List Row) (k : ℕ) (kind : Kind) → EntryFails (length (head_lines h)) 0 3 rs k kind → length (head_lines h) ≤ MOST_BYTES
+head-fits h rs k kind f = let l = f.bytes_fit in omega (arith, l)
 
 -- what is faulty is refused there, for that fault
 pub fault-again : (bytes : List ℕ) (k : ℕ) (kind : Kind) → IsFaulty bytes k kind → read_text bytes ≡ Faulty k kind
@@ -91,6 +92,6 @@ fault-again bytes k kind f =
       | inl a ↦ first-faulty (rows bytes) kind a.fault ∙ ap (λ k. Faulty k kind) (sym a.number)
       | inr b ↦ elim b as (λ _. read_text bytes ≡ Faulty k kind) [
         | inl a ↦ ap reading a.lines ∙ second-faulty a.more kind a.fault ∙ ap (λ k. Faulty k kind) (sym a.number)
-        | inr a ↦ ap reading a.lines ∙ heads-again a.n a.more a.some a.few (head-fits a.n a.more k kind a.fails) ∙ entries-fail-again a.n a.more 3 (length (head a.n)) 0 k kind a.fails
+        | inr a ↦ ap reading a.lines ∙ heads-again a.head a.more a.possible (head-fits a.head a.more k kind a.fails) ∙ entries-fail-again a.head a.more 3 (length (head_lines a.head)) 0 k kind a.fails
       ]
     ]

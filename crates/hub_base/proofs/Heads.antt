@@ -4,10 +4,12 @@ use Rattle.std.proofs.lemmas.Grind.{common_steps}
 use Rattle.std.specs.Prelude.{decimal, nat_lt}
 use Rattle.std.specs.List.{join_with_byte, AllByRecursion, flat_map}
 use Rattle.hub_base.specs.declared.entry.Entry.{Entry}
+use Rattle.hub_base.specs.declared.head.Head.{Head}
 use Rattle.hub_base.specs.declared.limits.TheConstants.{MOST_PROCS, MOST_STEPS, MOST_BYTES}
 use Rattle.hub_base.specs.declared.text.faults.Kind.TheVariants.{BadHeader, TooLong}
+use Rattle.hub_base.specs.Head.{IsHead, head_of}
 use Rattle.hub_base.specs.Lines.{number, pieces, line, same_text}
-use Rattle.hub_base.specs.Reading.{Row, rows, front, Reading, Reads, Faulty, text, head, procs_line, entries_from, row_fault, faulty_or, end_of, procs_field, above_zero, procs_number, procs_say, procs_from, reading, read_text}
+use Rattle.hub_base.specs.Reading.{Row, rows, front, Reading, Reads, Faulty, text, head_lines, procs_line, entries_from, row_fault, faulty_or, end_of, procs_field, above_zero, procs_number, procs_say, procs_from, reading, read_text}
 use Rattle.hub_base.specs.Text.{Fits, IsText, row_of, steps_of, header_row, procs_row}
 use Rattle.hub_base.proofs.Bodies.{rows-line, rows-entries}
 use Rattle.hub_base.proofs.Bound.{number-ok}
@@ -63,45 +65,48 @@ procs-take bytes n h =
       few = x.1;
     }
 
-head-length : (n : ℕ) → length (head n) ≡ 18 + length (procs_line n) + 1
-head-length n = let a : length (head n) ≡ 18 + length (procs_line n ++ codes "\n") = length-append (codes "chanhub journal 1\n") (procs_line n ++ codes "\n") in
-    let b : length (procs_line n ++ codes "\n") ≡ length (procs_line n) + 1 = length-append (procs_line n) (codes "\n") in omega (arith, a, b)
+head-length : (h : Head) → length (head_lines h) ≡ 18 + length (procs_line h.procs) + 1
+head-length h =
+    let a : length (head_lines h) ≡ 18 + length (procs_line h.procs ++ codes "\n") = length-append (codes "chanhub journal 1\n") (procs_line h.procs ++ codes "\n") in
+    let b : length (procs_line h.procs ++ codes "\n") ≡ length (procs_line h.procs) + 1 = length-append (procs_line h.procs) (codes "\n") in omega (arith, a, b)
 
 first-place : end_of 0 header_row ≡ 18
 first-place = refl
 
 -- ---- a text is read
-pub heads-again : (n : ℕ) (rs : List Row) → 1 ≤ n → n ≤ MOST_PROCS → length (head n) ≤ MOST_BYTES → reading (header_row ∷ procs_row n ∷ rs) ≡ entries_from n 3 (length (head n)) 0 rs
-heads-again n rs some few lim =
-    let place : end_of 18 (procs_row n) ≡ length (head n) = sym (head-length n) in
-    let fits : nat_lt MOST_BYTES (end_of 18 (procs_row n)) ≡ false = (let l = head-length n in grind (arith, common_steps)) in
+pub heads-again : (h : Head) (rs : List Row) → IsHead h → length (head_lines h) ≤ MOST_BYTES → reading (header_row ∷ procs_row h.procs ∷ rs) ≡ entries_from h 3 (length (head_lines h)) 0 rs
+heads-again h rs is lim =
+    let n : ℕ = h.procs in
+    let place : end_of 18 (procs_row n) ≡ length (head_lines h) = sym (head-length h) in
+    let fits : nat_lt MOST_BYTES (end_of 18 (procs_row n)) ≡ false = (let l = head-length h in grind (arith, common_steps)) in
     ap (λ b. faulty_or 2 (procs_say (procs_number (procs_line n)) (end_of 18 (procs_row n)) rs) (cond b (Some TooLong) None)) fits
-    ∙ ap (λ o. procs_say o (end_of 18 (procs_row n)) rs) (procs-again n some few)
-    ∙ ap (λ p. entries_from n 3 p 0 rs) place
+    ∙ ap (λ o. procs_say o (end_of 18 (procs_row n)) rs) (procs-again n is.0 is.1)
+    ∙ ap (λ p. entries_from h 3 p 0 rs) place
 
 procs-lacks : (n : ℕ) → n ≤ MOST_PROCS → lacks 10 (procs_line n) ≡ true
 procs-lacks n few = lacks-append 10 (codes "procs ") (decimal n) refl (decimal-lacks 10 n (omega arith) (small n few))
 
-text-rows : (n : ℕ) (es : List Entry) → n ≤ MOST_PROCS → AllByRecursion Fits es → rows (text n es) ≡ header_row ∷ procs_row n ∷ map row_of es
-text-rows n es few fits =
+text-rows : (h : Head) (es : List Entry) → IsHead h → AllByRecursion Fits es → rows (text h es) ≡ header_row ∷ procs_row h.procs ∷ map row_of es
+text-rows h es is fits =
+    let n : ℕ = h.procs in
     ap (λ x. rows (codes "chanhub journal 1\n" ++ x)) (append_assoc (procs_line n) (codes "\n") (flat_map line es))
-    ∙ ap (λ rs. header_row ∷ rs) (rows-line (procs_line n) (flat_map line es) (procs-lacks n few)
+    ∙ ap (λ rs. header_row ∷ rs) (rows-line (procs_line n) (flat_map line es) (procs-lacks n is.1)
     ∙ ap (λ rs. procs_row n ∷ rs) (ap rows (sym (append-nil (flat_map line es))) ∙ rows-entries es [] fits ∙ append-nil (map row_of es)))
 
-text-length : (n : ℕ) (es : List Entry) → length (text n es) ≡ length (head n) + length (flat_map line es)
-text-length n es = length-append (head n) (flat_map line es)
+text-length : (h : Head) (es : List Entry) → length (text h es) ≡ length (head_lines h) + length (flat_map line es)
+text-length h es = length-append (head_lines h) (flat_map line es)
 
 -- a text is read as its entries
-pub text-again : (bytes : List ℕ) (n : ℕ) (es : List Entry) → IsText bytes n es → read_text bytes ≡ Reads n es
-text-again bytes n es t =
-    let l : length bytes ≡ length (head n) + length (flat_map line es) = ap length t.spelled ∙ text-length n es in
+pub text-again : (bytes : List ℕ) (h : Head) (es : List Entry) → IsText bytes h es → read_text bytes ≡ Reads h es
+text-again bytes h es t =
+    let l : length bytes ≡ length (head_lines h) + length (flat_map line es) = ap length t.spelled ∙ text-length h es in
     let f = t.bytes_fit in
     let all : map row_of es ≡ map row_of es ++ [] = sym (append-nil (map row_of es)) in
-    ap read_text t.spelled ∙ ap reading (text-rows n es t.few t.fits)
-    ∙ heads-again n (map row_of es) t.some t.few (omega (arith, l, f))
-    ∙ ap (entries_from n 3 (length (head n)) 0) all
-    ∙ entries-again n es [] 3 (length (head n)) 0 (3 + length es) (length (head n) + length (flat_map line es)) (steps_of es) t.fits refl refl (omega arith) (omega (arith, l, f)) t.steps_fit
-    ∙ ap (Reads n) (append-nil es)
+    ap read_text t.spelled ∙ ap reading (text-rows h es t.head t.fits)
+    ∙ heads-again h (map row_of es) t.head (omega (arith, l, f))
+    ∙ ap (entries_from h 3 (length (head_lines h)) 0) all
+    ∙ entries-again h es [] 3 (length (head_lines h)) 0 (3 + length es) (length (head_lines h) + length (flat_map line es)) (steps_of es) t.fits refl refl (omega arith) (omega (arith, l, f)) t.steps_fit
+    ∙ ap (Reads h) (append-nil es)
 
 -- ---- what is read is such a text
 abbrev pub row_bytes : Row → List ℕ
@@ -125,76 +130,74 @@ unrows-entries [] = refl
 unrows-entries (e ∷ es) = ap (λ r. line e ++ r) (unrows-entries es)
 
 -- two head lines and the lines of entries, within the limits
-pub record HeadTook (rs : List Row) (n : ℕ) (es : List Entry) : Type 0 where
-  pub lines : rs ≡ header_row ∷ procs_row n ∷ map row_of es
-  pub some : 1 ≤ n
-  pub few : n ≤ MOST_PROCS
+pub record HeadTook (rs : List Row) (h : Head) (es : List Entry) : Type 0 where
+  pub lines : rs ≡ header_row ∷ procs_row h.procs ∷ map row_of es
+  pub head : IsHead h
   pub fits : AllByRecursion Fits es
-  pub bytes_fit : length (head n) + length (flat_map line es) ≤ MOST_BYTES
+  pub bytes_fit : length (head_lines h) + length (flat_map line es) ≤ MOST_BYTES
   pub steps_fit : steps_of es ≤ MOST_STEPS
 
 -- a line is its bytes and a newline
 pub whole-row : (r : Row) (bytes : List ℕ) → r.bytes ≡ bytes → r.whole ≡ true → r ≡ record { bytes = bytes; whole = true }
 whole-row r bytes b w = ap (λ b. record { bytes = b; whole = r.whole }) b ∙ ap (λ w. record { bytes = bytes; whole = w }) w
 
-header-said : (b : Bool) (x : Reading) (n : ℕ) (es : List Entry) → cond b x (Faulty 1 BadHeader) ≡ Reads n es → (b ≡ true) × (x ≡ Reads n es)
-header-said true x n es h = (refl, h)
-header-said false x n es h = cc
+header-said : (b : Bool) (x : Reading) (h : Head) (es : List Entry) → cond b x (Faulty 1 BadHeader) ≡ Reads h es → (b ≡ true) × (x ≡ Reads h es)
+header-said true x h es is = (refl, is)
+header-said false x h es is = cc
 
 -- a second line that was read, and what the lines behind it say
-pub record Second (start : ℕ) (rs : List Row) (n : ℕ) (es : List Entry) : Type 0 where
+pub record Second (start : ℕ) (rs : List Row) (h : Head) (es : List Entry) : Type 0 where
   pub first : Row
   pub more : List Row
   pub lines : rs ≡ first ∷ more
   pub fine : row_fault (end_of start first) first ≡ None
-  pub procs : ℕ
-  pub procs_is : procs_number first.bytes ≡ Some procs
-  pub said : entries_from procs 3 (end_of start first) 0 more ≡ Reads n es
+  pub head : Head
+  pub procs_is : procs_number first.bytes ≡ Some head.procs
+  pub said : entries_from head 3 (end_of start first) 0 more ≡ Reads h es
 
-procs-said : (o : Option ℕ) (start : ℕ) (rs : List Row) (n : ℕ) (es : List Entry) → procs_say o start rs ≡ Reads n es → (m : ℕ) × (o ≡ Some m) × (entries_from m 3 start 0 rs ≡ Reads n es)
-procs-said None start rs n es h = cc
-procs-said (Some m) start rs n es h = (m, refl, h)
+procs-said : (o : Option ℕ) (start : ℕ) (rs : List Row) (h : Head) (es : List Entry) → procs_say o start rs ≡ Reads h es → (k : Head) × (o ≡ Some k.procs) × (entries_from k 3 start 0 rs ≡ Reads h es)
+procs-said None start rs h es is = cc
+procs-said (Some m) start rs h es is = (head_of m, refl, is)
 
-second : (start : ℕ) (rs : List Row) (n : ℕ) (es : List Entry) → procs_from start rs ≡ Reads n es → Second start rs n es
-second start [] n es h = cc
-second start (r ∷ rs) n es h =
-    let a = said-reads 2 (procs_say (procs_number r.bytes) (end_of start r) rs) (row_fault (end_of start r) r) n es h in
-    let b = procs-said (procs_number r.bytes) (end_of start r) rs n es a.1 in
-    record { first = r; more = rs; lines = refl; fine = a.0; procs = b.0; procs_is = b.1; said = b.2 }
+second : (start : ℕ) (rs : List Row) (h : Head) (es : List Entry) → procs_from start rs ≡ Reads h es → Second start rs h es
+second start [] h es is = cc
+second start (r ∷ rs) h es is =
+    let a = said-reads 2 (procs_say (procs_number r.bytes) (end_of start r) rs) (row_fault (end_of start r) r) h es is in
+    let b = procs-said (procs_number r.bytes) (end_of start r) rs h es a.1 in
+    record { first = r; more = rs; lines = refl; fine = a.0; head = b.0; procs_is = b.1; said = b.2 }
 
 -- where the second line ends
-pub second-place : (r : Row) (n : ℕ) → r ≡ procs_row n → end_of 18 r ≡ length (head n)
-second-place r n is = ap (end_of 18) is ∙ sym (head-length n)
+pub second-place : (r : Row) (h : Head) → r ≡ procs_row h.procs → end_of 18 r ≡ length (head_lines h)
+second-place r h is = ap (end_of 18) is ∙ sym (head-length h)
 
 -- what is read without a fault is head lines and lines of entries
-pub head-take : (rs : List Row) (n : ℕ) (es : List Entry) → reading rs ≡ Reads n es → HeadTook rs n es
-head-take [] n es h = cc
-head-take (r ∷ rs) n es h =
-    let a = said-reads 1 (cond (same_text r.bytes (codes "chanhub journal 1")) (procs_from (end_of 0 r) rs) (Faulty 1 BadHeader)) (row_fault (end_of 0 r) r) n es h in
-    let b = header-said (same_text r.bytes (codes "chanhub journal 1")) (procs_from (end_of 0 r) rs) n es a.1 in
+pub head-take : (rs : List Row) (h : Head) (es : List Entry) → reading rs ≡ Reads h es → HeadTook rs h es
+head-take [] h es said = cc
+head-take (r ∷ rs) h es said =
+    let a = said-reads 1 (cond (same_text r.bytes (codes "chanhub journal 1")) (procs_from (end_of 0 r) rs) (Faulty 1 BadHeader)) (row_fault (end_of 0 r) r) h es said in
+    let b = header-said (same_text r.bytes (codes "chanhub journal 1")) (procs_from (end_of 0 r) rs) h es a.1 in
     let w = row-none (end_of 0 r) r a.0 in
     let is : r ≡ header_row = whole-row r (codes "chanhub journal 1") (same-true r.bytes (codes "chanhub journal 1") b.0) w.whole in
     let place : end_of 0 r ≡ 18 = ap (end_of 0) is in
-    let s = second 18 rs n es (ap (λ p. procs_from p rs) (sym place) ∙ b.1) in
+    let s = second 18 rs h es (ap (λ p. procs_from p rs) (sym place) ∙ b.1) in
     let v = row-none (end_of 18 s.first) s.first s.fine in
-    let p = procs-take s.first.bytes s.procs s.procs_is in
-    let row : s.first ≡ procs_row s.procs = whole-row s.first (procs_line s.procs) p.spelled v.whole in
-    let end : end_of 18 s.first ≡ length (head s.procs) = second-place s.first s.procs row in
-    let t = entries-take s.procs n s.more es 3 (end_of 18 s.first) 0 v.fits (omega arith) s.said in
-    let P : ℕ → Type 0 = λ n. HeadTook (r ∷ rs) n es in
-    subst P t.procs (record {
-      lines = ap (λ r. r ∷ rs) is ∙ ap (λ rs. header_row ∷ rs) (s.lines ∙ ap (λ r. r ∷ s.more) row ∙ ap (λ rs. procs_row s.procs ∷ rs) t.lines);
-      some = p.some;
-      few = p.few;
+    let p = procs-take s.first.bytes s.head.procs s.procs_is in
+    let row : s.first ≡ procs_row s.head.procs = whole-row s.first (procs_line s.head.procs) p.spelled v.whole in
+    let end : end_of 18 s.first ≡ length (head_lines s.head) = second-place s.first s.head row in
+    let t = entries-take s.head h s.more es 3 (end_of 18 s.first) 0 v.fits (omega arith) s.said in
+    let P : Head → Type 0 = λ h. HeadTook (r ∷ rs) h es in
+    subst P t.head_is (record {
+      lines = ap (λ r. r ∷ rs) is ∙ ap (λ rs. header_row ∷ rs) (s.lines ∙ ap (λ r. r ∷ s.more) row ∙ ap (λ rs. procs_row s.head.procs ∷ rs) t.lines);
+      head = (p.some, p.few);
       fits = t.fits;
       bytes_fit = (let f = t.bytes_fit in omega (arith, end, f));
       steps_fit = (let f = t.steps_fit in omega (arith, f));
     })
 
 -- what is read without a fault is a text
-pub text-take : (bytes : List ℕ) (n : ℕ) (es : List Entry) → read_text bytes ≡ Reads n es → IsText bytes n es
-text-take bytes n es h =
-    let t = head-take (rows bytes) n es h in
-    let spelled : bytes ≡ text n es = sym (unrows bytes) ∙ ap (flat_map row_bytes) t.lines ∙ ap (λ x. codes "chanhub journal 1\n" ++ ((procs_line n ++ codes "\n") ++ x)) (unrows-entries es) in
-    let l : length bytes ≡ length (head n) + length (flat_map line es) = ap length spelled ∙ text-length n es in
-    record { spelled = spelled; some = t.some; few = t.few; fits = t.fits; bytes_fit = (let f = t.bytes_fit in omega (arith, l, f)); steps_fit = t.steps_fit }
+pub text-take : (bytes : List ℕ) (h : Head) (es : List Entry) → read_text bytes ≡ Reads h es → IsText bytes h es
+text-take bytes h es said =
+    let t = head-take (rows bytes) h es said in
+    let spelled : bytes ≡ text h es = sym (unrows bytes) ∙ ap (flat_map row_bytes) t.lines ∙ ap (λ x. codes "chanhub journal 1\n" ++ ((procs_line h.procs ++ codes "\n") ++ x)) (unrows-entries es) in
+    let l : length bytes ≡ length (head_lines h) + length (flat_map line es) = ap length spelled ∙ text-length h es in
+    record { spelled = spelled; head = t.head; fits = t.fits; bytes_fit = (let f = t.bytes_fit in omega (arith, l, f)); steps_fit = t.steps_fit }

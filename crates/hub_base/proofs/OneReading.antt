@@ -3,6 +3,7 @@ use Rattle.std.proofs.Common.{◌≡◌, ℕ, List, ◌∷◌, ◌++◌, inl, in
 use Rattle.std.specs.Prelude.{IfOk, IfErr}
 use Rattle.std.specs.List.{flat_map}
 use Rattle.hub_base.specs.declared.entry.Entry.{Entry}
+use Rattle.hub_base.specs.declared.head.Head.{Head}
 use Rattle.hub_base.specs.declared.text.faults.Kind.{Kind}
 use Rattle.hub_base.specs.Lines.{pieces, line, read_fields}
 use Rattle.hub_base.specs.Reading.{Row, rows, Reading, Reads, Faulty, read_text}
@@ -16,33 +17,33 @@ use Rattle.hub_base.proofs.Heads.{row_bytes, text-again, text-take, unrows}
 use Rattle.hub_base.proofs.FaultyTexts.{fault-again, fault-take}
 
 either : (bytes : List ℕ) (r : Reading) → read_text bytes ≡ r → IsEither bytes
-either bytes (Reads n es) h = inl (n, es, text-take bytes n es h)
+either bytes (Reads head es) h = inl (head, es, text-take bytes head es h)
 either bytes (Faulty k kind) h = inr (k, kind, fault-take bytes k kind h)
 
 -- each list of bytes is a text or faulty
 pub is-either : (bytes : List ℕ) → IsEither bytes
 is-either bytes = either bytes (read_text bytes) refl
 
-reads-one : (n m : ℕ) (es fs : List Entry) → Reads n es ≡ Reads m fs → (n ≡ m) × (es ≡ fs)
-reads-one n m es fs h = (cc, cc)
+reads-one : (head other : Head) (es fs : List Entry) → Reads head es ≡ Reads other fs → (head ≡ other) × (es ≡ fs)
+reads-one head other es fs h = (cc, cc)
 
 faulty-one : (j k : ℕ) (kind other : Kind) → Faulty j kind ≡ Faulty k other → (j ≡ k) × (kind ≡ other)
 faulty-one j k kind other h = (cc, cc)
 
-reads-faulty : (n k : ℕ) (es : List Entry) (kind : Kind) → Reads n es ≡ Faulty k kind → ⊥
-reads-faulty n k es kind h = cc
+reads-faulty : (head : Head) (k : ℕ) (es : List Entry) (kind : Kind) → Reads head es ≡ Faulty k kind → ⊥
+reads-faulty head k es kind h = cc
 
 -- a text of one journal
-pub one-text : (bytes : List ℕ) (n m : ℕ) (es fs : List Entry) → IsText bytes n es → IsText bytes m fs → (n ≡ m) × (es ≡ fs)
-one-text bytes n m es fs s t = reads-one n m es fs (sym (text-again bytes n es s) ∙ text-again bytes m fs t)
+pub one-text : (bytes : List ℕ) (head other : Head) (es fs : List Entry) → IsText bytes head es → IsText bytes other fs → (head ≡ other) × (es ≡ fs)
+one-text bytes head other es fs s t = reads-one head other es fs (sym (text-again bytes head es s) ∙ text-again bytes other fs t)
 
 -- faulty at one line, for one fault
 pub one-fault : (bytes : List ℕ) (j k : ℕ) (kind other : Kind) → IsFaulty bytes j kind → IsFaulty bytes k other → (j ≡ k) × (kind ≡ other)
 one-fault bytes j k kind other s t = faulty-one j k kind other (sym (fault-again bytes j kind s) ∙ fault-again bytes k other t)
 
 -- and not both
-pub apart : (bytes : List ℕ) (n k : ℕ) (es : List Entry) (kind : Kind) → IsText bytes n es → IsFaulty bytes k kind → ⊥
-apart bytes n k es kind s t = reads-faulty n k es kind (sym (text-again bytes n es s) ∙ fault-again bytes k kind t)
+pub apart : (bytes : List ℕ) (head : Head) (k : ℕ) (es : List Entry) (kind : Kind) → IsText bytes head es → IsFaulty bytes k kind → ⊥
+apart bytes head k es kind s t = reads-faulty head k es kind (sym (text-again bytes head es s) ∙ fault-again bytes k kind t)
 
 abbrev told : Entry → Result Entry Kind
 told e = Ok e
@@ -62,16 +63,16 @@ one-spelling e f x y fe ff h =
     )
 
 -- what answers the reading answers the text
-pub gives-text : (bytes : List ℕ) (r : Result JournalView ReadFault) → Gives r (read_text bytes) → (n : ℕ) (es : List Entry) → IsText bytes n es → Gives r (Reads n es)
-gives-text bytes r g n es t = let P : Reading → Type 0 = λ x. Gives r x in subst P (text-again bytes n es t) g
+pub gives-text : (bytes : List ℕ) (r : Result JournalView ReadFault) → Gives r (read_text bytes) → (head : Head) (es : List Entry) → IsText bytes head es → Gives r (Reads head es)
+gives-text bytes r g head es t = let P : Reading → Type 0 = λ x. Gives r x in subst P (text-again bytes head es t) g
 
 -- and the fault
 pub gives-fault : (bytes : List ℕ) (r : Result JournalView ReadFault) → Gives r (read_text bytes) → (k : ℕ) (kind : Kind) → IsFaulty bytes k kind → Gives r (Faulty k kind)
 gives-fault bytes r g k kind f = let P : Reading → Type 0 = λ x. Gives r x in subst P (fault-again bytes k kind f) g
 
 -- a journal that was answered is the text's
-pub found-text : (bytes : List ℕ) (r : Result JournalView ReadFault) → Gives r (read_text bytes) → IfOk r (λ j. IsText bytes j.procs j.entries)
-found-text bytes (Ok j) g = text-take bytes j.procs j.entries g
+pub found-text : (bytes : List ℕ) (r : Result JournalView ReadFault) → Gives r (read_text bytes) → IfOk r (λ j. IsText bytes j.head j.entries)
+found-text bytes (Ok j) g = text-take bytes j.head j.entries g
 found-text bytes (Err f) g = tt
 
 fault-of : (bytes : List ℕ) (f : ReadFault) → Gives (Err f) (read_text bytes) → IsFaultOf bytes f

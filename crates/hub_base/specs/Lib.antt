@@ -17,5 +17,6 @@ pub mod Fields
 pub mod Writing
 pub mod ReadJournal
 pub mod Filling
+pub mod Head
 pub mod Reader
 pub mod ReaderKeeps

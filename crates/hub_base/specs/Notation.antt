@@ -1,5 +1,6 @@
--- Short words for entries and events, in which the worked rows are written: `send 0 1 7` is process
--- 0 that sends 7 on port 1, and `case 0 0 (got 7)` tells it that case 0 of its call got 7.
+-- Short words for heads, entries and events, in which the worked rows are written: `procs 2` is the head
+-- of a journal of two processes, `send 0 1 7` is process 0 that sends 7 on port 1, and
+-- `case 0 0 (got 7)` tells it that case 0 of its call got 7.
 use Rattle.std.specs.Prelude.{ℕ, Bool, false, List, [], ◌∷◌}
 use Rattle.hub_base.specs.declared.value.Port.{Port}
 use Rattle.hub_base.specs.declared.case.Case.{Case}
@@ -12,8 +13,15 @@ use Rattle.hub_base.specs.declared.event.What.{What}
 use Rattle.hub_base.specs.declared.event.What.TheVariants as what
 use Rattle.hub_base.specs.declared.event.Event.{Event}
 use Rattle.hub_base.specs.declared.fault.Fault.{Fault}
+use Rattle.hub_base.specs.declared.head.Head.{Head}
+use Rattle.hub_base.specs.Head.{head_of}
 use Rattle.hub_base.specs.Value.{value_of}
 use Rattle.hub_base.specs.Lines.{by, call}
+
+-- ---- heads
+-- the head of a journal of so many processes
+abbrev pub procs : ℕ → Head
+procs n = head_of n
 
 -- ---- cases
 -- the port of this number

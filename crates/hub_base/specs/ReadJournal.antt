@@ -14,7 +14,7 @@ Fails fault.NoMemory reading = Unit {0}
 
 -- what was answered is what the reading is, unless memory was refused
 abbrev pub Gives : Result JournalView ReadFault → Reading → Type 0
-Gives (Ok j) reading = reading ≡ Reads j.procs j.entries
+Gives (Ok j) reading = reading ≡ Reads j.head j.entries
 Gives (Err f) reading = Fails f reading
 
 -- a fault of the text is its first one, as the definition of faulty texts has it

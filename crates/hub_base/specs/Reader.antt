@@ -1,13 +1,14 @@
--- What contracts see of a reader: the number of processes, what the rest of the text says, and in
--- how many bytes it stands.
+-- What contracts see of a reader: the head, what the rest of the text says, and in how many bytes it
+-- stands.
 use Rattle.std.specs.Prelude.{ℕ, ◌<◌, ◌≡◌, List, [], ◌∷◌, Option, None, Some, Result, Ok, Err, Bool, true, false}
 use Rattle.hub_base.specs.declared.entry.Entry.{Entry}
+use Rattle.hub_base.specs.declared.head.Head.{Head}
 use Rattle.hub_base.specs.declared.text.faults.TextFault.{TextFault}
 use Rattle.hub_base.specs.Reading.{Reading, Reads, Faulty, Row, procs_number, with_entry}
 
 -- a reader
 pub record ReaderView : Type 0 where
-  pub procs : ℕ
+  pub head : Head
   pub left : Reading
   pub bytes : ℕ
 
@@ -19,9 +20,9 @@ procs_said (r ∷ rs) = procs_number r.bytes
 -- where nothing is left the text ends; else what is left is this entry and what the reader says
 -- after it
 abbrev pub Continues : ReaderView → ReaderView → Option Entry → Type 0
-Continues old new None = (old.left ≡ Reads old.procs []) × (new ≡ old)
+Continues old new None = (old.left ≡ Reads old.head []) × (new ≡ old)
 Continues old new (Some e) =
-    (old.left ≡ with_entry e new.left) × (new.procs ≡ old.procs) × (new.bytes < old.bytes)
+    (old.left ≡ with_entry e new.left) × (new.head ≡ old.head) × (new.bytes < old.bytes)
 
 -- the first fault of what is left; the reader stays where it is
 pub record StopsAt (old new : ReaderView) (at : TextFault) : Type 0 where

@@ -7,9 +7,11 @@ use Rattle.std.specs.List.{flat_map}
 use Rattle.hub_base.specs.declared.entry.Step.{Step}
 use Rattle.hub_base.specs.declared.entry.Step.TheVariants.{Make, Call, Close, Exit}
 use Rattle.hub_base.specs.declared.entry.Entry.{Entry}
+use Rattle.hub_base.specs.declared.head.Head.{Head}
 use Rattle.hub_base.specs.declared.text.faults.Kind.{Kind}
 use Rattle.hub_base.specs.declared.limits.TheConstants.{MOST_PROCS, MOST_STEPS, MOST_BYTES}
 use Rattle.hub_base.specs.declared.text.faults.Kind.TheVariants.{BadHeader, BadProcs, CutLine, TooLong}
+use Rattle.hub_base.specs.Head.{head_of}
 use Rattle.hub_base.specs.Lines.{line, pieces, read_fields, number, same_text}
 
 -- the second line without its newline
@@ -17,12 +19,12 @@ abbrev pub procs_line : ℕ → List ℕ
 procs_line n = codes "procs " ++ decimal n
 
 -- the two head lines
-abbrev pub head : ℕ → List ℕ
-head n = codes "chanhub journal 1\n" ++ (procs_line n ++ codes "\n")
+abbrev pub head_lines : Head → List ℕ
+head_lines h = codes "chanhub journal 1\n" ++ (procs_line h.procs ++ codes "\n")
 
--- the text of n processes and these entries
-abbrev pub text : ℕ → List Entry → List ℕ
-text n es = head n ++ flat_map line es
+-- the text of this head and these entries
+abbrev pub text : Head → List Entry → List ℕ
+text h es = head_lines h ++ flat_map line es
 
 -- a line without its newline, and whether it has one
 pub record Row : Type 0 where
@@ -47,10 +49,10 @@ is_exit (Call cases default word) = false
 is_exit (Close p) = false
 is_exit Exit = true
 
--- what a text says: so many processes and these entries, or its first faulty line, counted from 1,
+-- what a text says: this head and these entries, or its first faulty line, counted from 1,
 -- and the fault
 pub data Reading : Type 0 where
-  Reads : ℕ → List Entry → Reading
+  Reads : Head → List Entry → Reading
   Faulty : ℕ → Kind → Reading
 
 -- the place behind a line that begins at this place
@@ -78,17 +80,17 @@ within end k r said = faulty_or k said (row_fault end r)
 
 -- what is said, behind this entry
 abbrev pub with_entry : Entry → Reading → Reading
-with_entry e (Reads n es) = Reads n (e ∷ es)
+with_entry e (Reads h es) = Reads h (e ∷ es)
 with_entry e (Faulty k kind) = Faulty k kind
 
 -- what is said, behind these entries
 abbrev pub behind : List Entry → Reading → Reading
-behind es (Reads n fs) = Reads n (es ++ fs)
+behind es (Reads h fs) = Reads h (es ++ fs)
 behind es (Faulty k kind) = Faulty k kind
 
 -- some entry is said: no fault stands in the head or in the first line behind it
 abbrev pub HasEntry : Reading → Type 0
-HasEntry (Reads n es) = 0 < length es
+HasEntry (Reads h es) = 0 < length es
 HasEntry (Faulty k kind) = 3 < k
 
 -- how many steps stand up to this entry, where so many stand before it
@@ -106,12 +108,12 @@ entry_says k steps (Ok e) goes = if over steps e then Faulty k TooLong else with
 
 -- what the lines from the k-th on say, where the k-th begins at this place and so many steps stand
 -- before it
-abbrev pub entries_from : ℕ → ℕ → ℕ → ℕ → List Row → Reading
-entries_from n k start steps [] = Reads n []
-entries_from n k start steps (r ∷ rs) =
+abbrev pub entries_from : Head → ℕ → ℕ → ℕ → List Row → Reading
+entries_from h k start steps [] = Reads h []
+entries_from h k start steps (r ∷ rs) =
     within (end_of start r) k r (
     entry_says k steps (read_fields (pieces 32 r.bytes)) (
-    λ e. entries_from n (k + 1) (end_of start r) (counted steps e) rs))
+    λ e. entries_from h (k + 1) (end_of start r) (counted steps e) rs))
 
 -- `procs`, and a number that a hub may have
 abbrev pub procs_field : List (List ℕ) → Option ℕ
@@ -130,7 +132,7 @@ procs_number bytes = above_zero (procs_field (pieces 32 bytes))
 -- the lines behind the second, where it says so
 abbrev pub procs_say : Option ℕ → ℕ → List Row → Reading
 procs_say None start rs = Faulty 2 BadProcs
-procs_say (Some n) start rs = entries_from n 3 start 0 rs
+procs_say (Some n) start rs = entries_from (head_of n) 3 start 0 rs
 
 -- what the lines from the second on say
 abbrev pub procs_from : ℕ → List Row → Reading

@@ -1,9 +1,10 @@
 -- Lists of entries: the state after them, the events that they give, and which of them are
 -- admitted.
-use Rattle.std.specs.Prelude.{ℕ, List, [], ◌∷◌, ◌++◌, Option, None, Some}
+use Rattle.std.specs.Prelude.{List, [], ◌∷◌, ◌++◌, Option, None, Some}
 use Rattle.hub_base.specs.declared.entry.Entry.{Entry}
 use Rattle.hub_base.specs.declared.fault.Fault.{Fault}
 use Rattle.hub_base.specs.declared.event.Event.{Event}
+use Rattle.hub_base.specs.declared.head.Head.{Head}
 use Rattle.hub_base.specs.declared.event.What.TheVariants as what
 use Rattle.hub_base.specs.State.{State, opening}
 use Rattle.hub_base.specs.Steps.{Change, turn, refusal, tells}
@@ -37,14 +38,14 @@ abbrev pub kept_after : State → List Entry → List Entry
 kept_after s [] = []
 kept_after s (e ∷ es) = keeps (refusal s e.pid) e (kept_after (moves s e).state es)
 
--- the same from the opening of a hub of n processes: its state
-abbrev pub state : ℕ → List Entry → State
-state n es = state_after (opening n) es
+-- the same from the opening of a hub with this head: its state
+abbrev pub state : Head → List Entry → State
+state h es = state_after (opening h) es
 
 -- its events
-abbrev pub events : ℕ → List Entry → List Event
-events n es = events_after (opening n) es
+abbrev pub events : Head → List Entry → List Event
+events h es = events_after (opening h) es
 
 -- its journal
-abbrev pub kept : ℕ → List Entry → List Entry
-kept n es = kept_after (opening n) es
+abbrev pub kept : Head → List Entry → List Entry
+kept h es = kept_after (opening h) es

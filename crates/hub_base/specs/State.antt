@@ -5,6 +5,7 @@ use Rattle.hub_base.specs.declared.value.Pid.{Pid}
 use Rattle.hub_base.specs.declared.value.Port.{Port}
 use Rattle.hub_base.specs.declared.value.Value.{Value}
 use Rattle.hub_base.specs.declared.case.Case.{Case}
+use Rattle.hub_base.specs.declared.head.Head.{Head}
 
 -- a call that waits
 pub record OpenCall : Type 0 where
@@ -23,8 +24,8 @@ pub record Channel : Type 0 where
 
 -- a hub
 pub record State : Type 0 where
-  -- the number of processes
-  pub procs : ℕ
+  -- what its journal's head says: the number of processes
+  pub head : Head
   -- those that have exited
   pub gone : List Pid
   -- the calls that wait, in order of arrival
@@ -32,9 +33,9 @@ pub record State : Type 0 where
   -- in order of making: port 1 first
   pub channels : List Channel
 
--- n processes, and nothing made, gone or open
-abbrev pub opening : ℕ → State
-opening n = record { procs = n; gone = []; parked = []; channels = [] }
+-- a hub with this head, and nothing made, gone or open
+abbrev pub opening : Head → State
+opening h = record { head = h; gone = []; parked = []; channels = [] }
 
 -- the channel of a port. Ports are numbered from 1; port 0 is nil
 abbrev pub channel_at : State → Port → Option Channel

@@ -190,7 +190,7 @@ is_waiting s q = list_any (λ call. call.pid.0 == q) s.parked
 abbrev pub all_wait : State → Bool
 all_wait s =
     not (length s.parked == 0)
-    && list_all (λ q. has_gone s q || is_waiting s q) (range_with_len 0 s.procs)
+    && list_all (λ q. has_gone s q || is_waiting s q) (range_with_len 0 s.head.procs)
 
 -- the stall rule: when everyone waits, all open calls end with `Stalled`, in order of arrival
 abbrev pub stalls : Change → Change
@@ -235,6 +235,6 @@ turn s e = answers s e (fault_of s e.step)
 -- why an entry is not admitted
 abbrev pub refusal : State → Pid → Option Fault
 refusal s pid =
-    if not (nat_lt pid.0 s.procs) then Some fault.NoProcess
+    if not (nat_lt pid.0 s.head.procs) then Some fault.NoProcess
     else if has_gone s pid.0 then Some fault.Gone
     else if is_waiting s pid.0 then Some fault.Busy else None

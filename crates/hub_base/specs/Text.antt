@@ -8,12 +8,14 @@ use Rattle.hub_base.specs.declared.case.Case.TheVariants.{Send, Recv}
 use Rattle.hub_base.specs.declared.entry.Step.{Step}
 use Rattle.hub_base.specs.declared.entry.Step.TheVariants.{Make, Call, Close, Exit}
 use Rattle.hub_base.specs.declared.entry.Entry.{Entry}
+use Rattle.hub_base.specs.declared.head.Head.{Head}
 use Rattle.hub_base.specs.Value.{number_of}
 use Rattle.hub_base.specs.declared.text.faults.Kind.{Kind}
-use Rattle.hub_base.specs.declared.limits.TheConstants.{MOST_PROCS, CASE_PLACES, MOST_STEPS, MOST_BYTES, GREATEST_PID, GREATEST_PORT, GREATEST_CAP, GREATEST_VALUE, GREATEST_WORD}
+use Rattle.hub_base.specs.declared.limits.TheConstants.{CASE_PLACES, MOST_STEPS, MOST_BYTES, GREATEST_PID, GREATEST_PORT, GREATEST_CAP, GREATEST_VALUE, GREATEST_WORD}
 use Rattle.hub_base.specs.declared.text.faults.Kind.TheVariants.{BadHeader, BadProcs, TooLong}
 use Rattle.hub_base.specs.Lines.{line, step_fields, pieces, read_fields, same_text}
-use Rattle.hub_base.specs.Reading.{text, head, procs_line, Row, rows, is_exit, row_fault, end_of, over, procs_number}
+use Rattle.hub_base.specs.Head.{IsHead}
+use Rattle.hub_base.specs.Reading.{text, head_lines, procs_line, Row, rows, is_exit, row_fault, end_of, over, procs_number}
 
 -- the numbers of a case are such as a text can hold
 abbrev pub CaseFits : Case → Type 0
@@ -47,11 +49,10 @@ abbrev pub steps_of : List Entry → ℕ
 steps_of [] = 0
 steps_of (e ∷ es) = one_step e + steps_of es
 
--- the bytes are the text of these processes and entries, and keep within its limits
-pub record IsText (bytes : List ℕ) (n : ℕ) (es : List Entry) : Type 0 where
-  pub spelled : bytes ≡ text n es
-  pub some : 1 ≤ n
-  pub few : n ≤ MOST_PROCS
+-- the bytes are the text of this head and these entries, and keep within its limits
+pub record IsText (bytes : List ℕ) (h : Head) (es : List Entry) : Type 0 where
+  pub spelled : bytes ≡ text h es
+  pub head : IsHead h
   pub fits : AllByRecursion Fits es
   pub bytes_fit : length bytes ≤ MOST_BYTES
   pub steps_fit : steps_of es ≤ MOST_STEPS
@@ -143,12 +144,11 @@ pub record FaultySecond (rs : List Row) (k : ℕ) (kind : Kind) : Type 0 where
 
 -- a further line is, behind the head lines and lines of entries
 pub record FaultyEntry (rs : List Row) (k : ℕ) (kind : Kind) : Type 0 where
-  pub n : ℕ
+  pub head : Head
   pub more : List Row
-  pub lines : rs ≡ header_row ∷ procs_row n ∷ more
-  pub some : 1 ≤ n
-  pub few : n ≤ MOST_PROCS
-  pub fails : EntryFails (length (head n)) 0 3 more k kind
+  pub lines : rs ≡ header_row ∷ procs_row head.procs ∷ more
+  pub possible : IsHead head
+  pub fails : EntryFails (length (head_lines head)) 0 3 more k kind
 
 -- the lines before the k-th are head lines and spellings within the limits, and of the k-th this is
 -- the first fault
@@ -160,5 +160,5 @@ IsFaulty bytes k kind =
 -- each list of bytes is a text or faulty
 abbrev pub IsEither : List ℕ → Type 0
 IsEither bytes =
-    ((n : ℕ) × (es : List Entry) × IsText bytes n es)
+    ((h : Head) × (es : List Entry) × IsText bytes h es)
     ⊎ ((k : ℕ) × (kind : Kind) × IsFaulty bytes k kind)

@@ -3,7 +3,7 @@
 use Rattle.std.specs.Prelude.{◌≡◌, List, ℕ, [], ◌∷◌, ◌++◌, codes, map, refl, true, false}
 use Rattle.std.specs.List.{flat_map, range_with_len}
 use Rattle.hub_base.specs.declared.text.faults.Kind.TheVariants.{BadHeader, BadProcs, BadStep, BadNumber, CutLine}
-use Rattle.hub_base.specs.Notation.{s, r, make, send, recv, select, close, exit}
+use Rattle.hub_base.specs.Notation.{procs, s, r, make, send, recv, select, close, exit}
 use Rattle.hub_base.specs.Reading.{read_text, Reads, Faulty}
 
 -- the text of these lines
@@ -25,7 +25,7 @@ greatest_numbers = text_of (
 
 pub every_kind_of_line :
     read_text greatest_numbers
-    ≡ Reads 64 (make 255 4294967295
+    ≡ Reads (procs 64) (make 255 4294967295
     ∷ send 0 65535 18446744073709551615
     ∷ recv 0 65535
     ∷ select 1 18446744073709551615 (s 65535 18446744073709551615 ∷ r 65535 ∷ []) true
@@ -45,14 +45,14 @@ selects_of_few_cases = text_of (
 
 pub few_cases :
     read_text selects_of_few_cases
-    ≡ Reads 1 (select 0 0 [] false
+    ≡ Reads (procs 1) (select 0 0 [] false
     ∷ select 0 0 [] true
     ∷ select 0 7 (s 1 2 ∷ []) false
     ∷ select 0 0 (r 1 ∷ []) true ∷ [])
 few_cases = refl
 
 -- a journal of no entries
-pub head_alone : read_text (codes "chanhub journal 1\nprocs 64\n") ≡ Reads 64 []
+pub head_alone : read_text (codes "chanhub journal 1\nprocs 64\n") ≡ Reads (procs 64) []
 head_alone = refl
 
 -- ---- the two head lines
@@ -119,7 +119,7 @@ sixteen_cases = codes "0 select 0 r0 r1 r2 r3 r4 r5 r6 r7 r8 r9 r10 r11 r12 r13 
 
 pub most_cases_of_a_select :
     read_text (with_line sixteen_cases)
-    ≡ Reads 1 (select 0 0 (map r (range_with_len 0 16)) false ∷ [])
+    ≡ Reads (procs 1) (select 0 0 (map r (range_with_len 0 16)) false ∷ [])
 most_cases_of_a_select = refl
 
 pub seventeen_cases : read_text (with_line (sixteen_cases ++ codes " r16")) ≡ Faulty 3 BadStep

@@ -11,6 +11,7 @@ use Rattle.hub_base.specs.declared.case.Case.TheVariants.{Send, Recv}
 use Rattle.hub_base.specs.declared.entry.Step.{Step}
 use Rattle.hub_base.specs.declared.entry.Step.TheVariants.{Make, Call, Close, Exit}
 use Rattle.hub_base.specs.declared.entry.Entry.{Entry}
+use Rattle.hub_base.specs.declared.head.Head.{Head}
 use Rattle.hub_base.specs.declared.event.Outcome.{Outcome}
 use Rattle.hub_base.specs.declared.event.Outcome.TheVariants.{Sent, Got}
 use Rattle.hub_base.specs.declared.event.What.{What}
@@ -93,9 +94,9 @@ values_from pick before (t ∷ ts) =
     ++ values_from pick (before ++ t ∷ []) ts
 
 -- the values that were sent on a port
-abbrev pub sent_values : ℕ → List Entry → Port → List Value
-sent_values n es p = values_from (sent_on p) [] (turns_after (opening n) es)
+abbrev pub sent_values : Head → List Entry → Port → List Value
+sent_values h es p = values_from (sent_on p) [] (turns_after (opening h) es)
 
 -- the values that were received from it
-abbrev pub received_values : ℕ → List Entry → Port → List Value
-received_values n es p = values_from (got_on p) [] (turns_after (opening n) es)
+abbrev pub received_values : Head → List Entry → Port → List Value
+received_values h es p = values_from (got_on p) [] (turns_after (opening h) es)

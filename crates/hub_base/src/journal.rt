@@ -1,15 +1,16 @@
-//! A journal: the number of processes, and the entries in order.
+//! A journal: its head, and the entries in order.
 
 ghost use Rattle.std.specs.Prelude.{◌≡◌};
+ghost use Rattle.hub_base.specs.Head.{head_of};
 
-use crate::Entry;
+use crate::{Entry, Head};
 use std::marker::Model;
 
-/// The number of processes, and the entries in order.
+/// What the head lines say, and the entries in order.
 #[derive(Drop)]
 pub struct Journal {
-    /// The number of processes.
-    procs: u8,
+    /// What the head lines say.
+    head: Head,
     /// The entries, in order.
     list: Vec<Entry>,
 }
@@ -19,25 +20,32 @@ impl Model for Journal {
 
     ghost Value = { JournalView };
 
-    ghost view = { λ j. record { procs = j.procs; entries = j.list.items } };
+    ghost view = { λ j. record { head = j.head; entries = j.list.items } };
 }
 
 impl Journal {
     /// A journal of these entries. They need not be such as a hub admits.
     pub fn of(procs: u8, entries: Vec<Entry>) -> Journal
-        ensures { result ≡ record { procs = procs; entries = entries.items } }
+        ensures { result ≡ record { head = head_of procs; entries = entries.items } }
     {
         Journal {
-            procs,
+            head: Head { procs },
             list: entries,
         }
     }
 
     /// The number of processes.
     pub fn procs(&self) -> u8
-        ensures { result ≡ self.now.procs }
+        ensures { result ≡ self.now.head.procs }
     {
-        self.procs
+        self.head.procs
+    }
+
+    /// What the head lines say.
+    pub fn head(&self) -> Head
+        ensures { result ≡ self.now.head }
+    {
+        self.head
     }
 
     /// The entries, in order.

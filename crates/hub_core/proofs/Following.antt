@@ -1,6 +1,7 @@
 -- A machine that follows a run follows it by one entry more.
 use Rattle.std.proofs.Common.{◌≡◌, ℕ, zero, suc, ◌+◌, ◌≤◌, ◌<◌, Bool, true, false, cond, List, [], ◌∷◌, ◌++◌, length, append-nil, refl, ap, ◌∙◌, sym, subst, Option, Some, None, arith}
 use Rattle.std.specs.Prelude.{slice_get, replicate}
+use Rattle.hub_base.specs.declared.head.Head.{Head}
 use Rattle.hub_base.specs.declared.value.Pid.{Pid}
 use Rattle.hub_base.specs.declared.entry.Step.{Step}
 use Rattle.hub_base.specs.declared.entry.Step.TheVariants.{Make, Call, Close, Exit}
@@ -27,11 +28,11 @@ use Rattle.hub_core.proofs.Stalls.{stalls_on-as, refusal_of-as}
 use Rattle.hub_core.proofs.Kept.{Opens, answers_on_leaves}
 
 -- ---- a run goes on by one entry
-pub kept-admitted : (n : ℕ) (es : List Entry) (e : Entry) → refusal (state n es) e.pid ≡ None → kept n (es ++ e ∷ []) ≡ kept n es ++ e ∷ []
-kept-admitted n es e h = kept-entry n es e ∙ ap (λ o. kept n es ++ keeps o e []) h
+pub kept-admitted : (head : Head) (es : List Entry) (e : Entry) → refusal (state head es) e.pid ≡ None → kept head (es ++ e ∷ []) ≡ kept head es ++ e ∷ []
+kept-admitted head es e h = kept-entry head es e ∙ ap (λ o. kept head es ++ keeps o e []) h
 
-pub kept-refused : (n : ℕ) (es : List Entry) (e : Entry) (f : Fault) → refusal (state n es) e.pid ≡ Some f → kept n (es ++ e ∷ []) ≡ kept n es
-kept-refused n es e f h = kept-entry n es e ∙ ap (λ o. kept n es ++ keeps o e []) h ∙ append-nil (kept n es)
+pub kept-refused : (head : Head) (es : List Entry) (e : Entry) (f : Fault) → refusal (state head es) e.pid ≡ Some f → kept head (es ++ e ∷ []) ≡ kept head es
+kept-refused head es e f h = kept-entry head es e ∙ ap (λ o. kept head es ++ keeps o e []) h ∙ append-nil (kept head es)
 
 pub moves-admitted : (s : State) (e : Entry) → refusal s e.pid ≡ None → moves s e ≡ turn s e
 moves-admitted s e h = ap (admits s e) h
@@ -76,31 +77,31 @@ length-snoc : (xs : List Entry) (x : Entry) → length xs + 1 ≡ length (xs ++ 
 length-snoc [] x = refl
 length-snoc (y ∷ ys) x = omega (arith, length-snoc ys x)
 
-pub follows_on : (n : ℕ) (es : List Entry) (e : Entry) (m : MachineLists) → Follows n es m → refusal (state n es) e.pid ≡ None → e.pid.0 < length m.gone →
-    Admits n es e (turn_on m e).machine (turn_on m e).events
-follows_on n es e m h adm room =
-    let same = answers_on-as (state n es) m e (state-sound n es) h.matches room in
-    let moved = moves-admitted (state n es) e adm in
-    let grown = kept-admitted n es e adm in
-    let last : slice_get (kept n (es ++ e ∷ [])) m.steps ≡ Some e = rw (grown, h.steps) (get_last (kept n es) e) in
-    let left = answers_on_leaves (IsTicket (kept n (es ++ e ∷ []))) m.steps m e (fault_on m.board e.step) refl (opens_by (kept n (es ++ e ∷ [])) m.steps e.pid e.step last) in
+pub follows_on : (head : Head) (es : List Entry) (e : Entry) (m : MachineLists) → Follows head es m → refusal (state head es) e.pid ≡ None → e.pid.0 < length m.gone →
+    Admits head es e (turn_on m e).machine (turn_on m e).events
+follows_on head es e m h adm room =
+    let same = answers_on-as (state head es) m e (state-sound head es) h.matches room in
+    let moved = moves-admitted (state head es) e adm in
+    let grown = kept-admitted head es e adm in
+    let last : slice_get (kept head (es ++ e ∷ [])) m.steps ≡ Some e = rw (grown, h.steps) (get_last (kept head es) e) in
+    let left = answers_on_leaves (IsTicket (kept head (es ++ e ∷ []))) m.steps m e (fault_on m.board e.step) refl (opens_by (kept head (es ++ e ∷ [])) m.steps e.pid e.step last) in
     record {
       admitted = adm;
       events = same.events ∙ ap (λ (c : Change). c.events) (sym moved);
       follows = record {
-        matches = subst (λ (s : State). Matches s (turn_on m e).machine) (sym (state-entry n es e ∙ ap (λ (c : Change). c.state) moved))
+        matches = subst (λ (s : State). Matches s (turn_on m e).machine) (sym (state-entry head es e ∙ ap (λ (c : Change). c.state) moved))
             (record { procs = same.state.procs; calls = same.state.calls; ports = same.state.ports; counts = same.state.counts; gone = same.state.gone });
-        steps = ap (λ k. k + 1) h.steps ∙ length-snoc (kept n es) e ∙ ap length (sym grown);
+        steps = ap (λ k. k + 1) h.steps ∙ length-snoc (kept head es) e ∙ ap length (sym grown);
         later = left.next h.later;
-        tickets = left.waiting (subst (λ (j : List Entry). TicketsAre j m.board.waiting) (sym grown) (tickets_longer (kept n es) e m.board.waiting h.tickets));
+        tickets = left.waiting (subst (λ (j : List Entry). TicketsAre j m.board.waiting) (sym grown) (tickets_longer (kept head es) e m.board.waiting h.tickets));
       };
     }
 
-pub follows_refused : (n : ℕ) (es : List Entry) (e : Entry) (m : MachineLists) (f : Fault) → Follows n es m → refusal (state n es) e.pid ≡ Some f → Answers n es e m (tells e.pid (what.Fault f) ∷ [])
-follows_refused n es e m f h is =
-    let moved = moves-refused (state n es) e f is in
-    let same : state n (es ++ e ∷ []) ≡ state n es = state-entry n es e ∙ ap (λ (c : Change). c.state) moved in
-    let stays = kept-refused n es e f is in
+pub follows_refused : (head : Head) (es : List Entry) (e : Entry) (m : MachineLists) (f : Fault) → Follows head es m → refusal (state head es) e.pid ≡ Some f → Answers head es e m (tells e.pid (what.Fault f) ∷ [])
+follows_refused head es e m f h is =
+    let moved = moves-refused (state head es) e f is in
+    let same : state head (es ++ e ∷ []) ≡ state head es = state-entry head es e ∙ ap (λ (c : Change). c.state) moved in
+    let stays = kept-refused head es e f is in
     record {
       events = ap (λ (c : Change). c.events) (sym moved);
       follows = record {
@@ -118,22 +119,22 @@ never_memory false true c h = cc
 never_memory false false true h = cc
 never_memory false false false h = cc
 
-refuses_by : (n : ℕ) (es : List Entry) (e : Entry) (f : Fault) → refusal (state n es) e.pid ≡ Some f → RefusesFor n es e f
-refuses_by n es e fault.NoMemory h = absurd (never_memory _ _ _ h)
-refuses_by n es e f h = h
+refuses_by : (head : Head) (es : List Entry) (e : Entry) (f : Fault) → refusal (state head es) e.pid ≡ Some f → RefusesFor head es e f
+refuses_by head es e fault.NoMemory h = absurd (never_memory _ _ _ h)
+refuses_by head es e f h = h
 
-pub refuses_for : (n : ℕ) (es : List Entry) (e : Entry) (m : MachineLists) (f : Fault) → Follows n es m → Some f ≡ refusal_of m.board m.gone e.pid → RefusesFor n es e f
-refuses_for n es e m f h is = refuses_by n es e f (sym (refusal_of-as (state n es) m e.pid h.matches) ∙ sym is)
+pub refuses_for : (head : Head) (es : List Entry) (e : Entry) (m : MachineLists) (f : Fault) → Follows head es m → Some f ≡ refusal_of m.board m.gone e.pid → RefusesFor head es e f
+refuses_for head es e m f h is = refuses_by head es e f (sym (refusal_of-as (state head es) m e.pid h.matches) ∙ sym is)
 
-pub refused_as : (n : ℕ) (es : List Entry) (e : Entry) (f : Fault) → (f ≡ fault.NoMemory → ⊥) → RefusesFor n es e f → refusal (state n es) e.pid ≡ Some f
-refused_as n es e fault.NoMemory other h = absurd (other refl)
-refused_as n es e f other h = h
+pub refused_as : (head : Head) (es : List Entry) (e : Entry) (f : Fault) → (f ≡ fault.NoMemory → ⊥) → RefusesFor head es e f → refusal (state head es) e.pid ≡ Some f
+refused_as head es e fault.NoMemory other h = absurd (other refl)
+refused_as head es e f other h = h
 
-pub admitted_as : (n : ℕ) (es : List Entry) (e : Entry) (m : MachineLists) → Follows n es m → refusal_of m.board m.gone e.pid ≡ None → refusal (state n es) e.pid ≡ None
-admitted_as n es e m h is = sym (refusal_of-as (state n es) m e.pid h.matches) ∙ is
+pub admitted_as : (head : Head) (es : List Entry) (e : Entry) (m : MachineLists) → Follows head es m → refusal_of m.board m.gone e.pid ≡ None → refusal (state head es) e.pid ≡ None
+admitted_as head es e m h is = sym (refusal_of-as (state head es) m e.pid h.matches) ∙ is
 
-pub fine_as : (n : ℕ) (es : List Entry) (e : Entry) (m : MachineLists) → Follows n es m → fault_on m.board e.step ≡ None → IsFine (state n es) e
-fine_as n es e m h is = sym (fault_on-as (state n es) m e.step h.matches) ∙ is
+pub fine_as : (head : Head) (es : List Entry) (e : Entry) (m : MachineLists) → Follows head es m → fault_on m.board e.step ≡ None → IsFine (state head es) e
+fine_as head es e m h is = sym (fault_on-as (state head es) m e.step h.matches) ∙ is
 
 -- ---- the opening
 none-gone : (k q : ℕ) → gone_on (replicate k false) q ≡ false
@@ -141,8 +142,8 @@ none-gone zero q = refl
 none-gone (suc k) zero = refl
 none-gone (suc k) (suc q) = none-gone k q
 
-pub follows_opening : (n : ℕ) → Follows n [] (opened_machine n)
-follows_opening n = record {
+pub follows_opening : (head : Head) → Follows head [] (opened_machine head)
+follows_opening head = record {
   matches = record { procs = refl; calls = refl; ports = refl; counts = refl; gone = λ q below. none-gone MOST_PROCS q };
   steps = refl;
   later = omega arith;
@@ -150,13 +151,13 @@ follows_opening n = record {
 }
 
 -- ---- the step of a machine
-pub admits_on : (n : ℕ) (es : List Entry) (e : Entry) (m next : MachineLists) (told : List Event) → Follows n es m →
+pub admits_on : (head : Head) (es : List Entry) (e : Entry) (m next : MachineLists) (told : List Event) → Follows head es m →
     refusal_of m.board m.gone e.pid ≡ None → m.board.procs ≤ MOST_PROCS → length m.gone ≡ MOST_PROCS →
-    next ≡ (turn_on m e).machine → told ≡ (turn_on m e).events → Admits n es e next told
-admits_on n es e m next told h free few places machine events =
-    let adm = admitted_as n es e m h free in
-    let below = (admitted (state n es) e.pid adm).below in
-    rw (machine, events) (follows_on n es e m h adm (omega (arith, below, h.matches.procs, few, places)))
+    next ≡ (turn_on m e).machine → told ≡ (turn_on m e).events → Admits head es e next told
+admits_on head es e m next told h free few places machine events =
+    let adm = admitted_as head es e m h free in
+    let below = (admitted (state head es) e.pid adm).below in
+    rw (machine, events) (follows_on head es e m h adm (omega (arith, below, h.matches.procs, few, places)))
 
 pub reached_next : (e : Entry) (m next : MachineLists) → IsReached m →
     refusal_of m.board m.gone e.pid ≡ None → m.board.procs ≤ MOST_PROCS → length m.gone ≡ MOST_PROCS →

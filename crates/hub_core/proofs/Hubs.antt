@@ -2,6 +2,7 @@
 use Rattle.std.proofs.Common.{◌≡◌, ℕ, zero, suc, ◌+◌, ◌-◌, ◌≤◌, ◌<◌, ◌^◌, Bool, true, false, cond, List, [], ◌∷◌, ◌++◌, length, refl, ap, ◌∙◌, sym, subst, None, arith, not, ◌&&◌, length-append}
 use Rattle.std.specs.Prelude.{nat_le}
 use Rattle.std.proofs.lemmas.Grind.{common_steps}
+use Rattle.hub_base.specs.declared.head.Head.{Head}
 use Rattle.hub_base.specs.declared.entry.Step.{Step}
 use Rattle.hub_base.specs.declared.entry.Step.TheVariants.{Make, Call, Close, Exit}
 use Rattle.hub_base.specs.declared.entry.Entry.{Entry}
@@ -19,13 +20,13 @@ use Rattle.hub_core.proofs.Reached.{steps-length}
 use Rattle.hub_core.proofs.Following.{kept-admitted}
 
 -- a journal is not longer than its steps and its processes
-pub journal_short : (n : ℕ) (journal : List Entry) → kept n journal ≡ journal → length journal ≤ steps_of journal + n
-journal_short n journal legal = subst (λ (es : List Entry). length es ≤ steps_of es + n) legal (limits-law n journal).length
+pub journal_short : (head : Head) (journal : List Entry) → kept head journal ≡ journal → length journal ≤ steps_of journal + head.procs
+journal_short head journal legal = subst (λ (es : List Entry). length es ≤ steps_of es + head.procs) legal (limits-law head journal).length
 
 -- a machine that follows a legal journal has made few steps
-pub steps_few : (n limit : ℕ) (journal : List Entry) (m : MachineLists) → Follows n journal m → kept n journal ≡ journal → steps_of journal ≤ limit → limit ≤ MOST_STEPS → n ≤ MOST_PROCS → m.steps < 2 ^ 32 - 1
-steps_few n limit journal m h legal within limits few =
-    omega (arith, h.steps, ap (λ (es : List Entry). length es) legal, journal_short n journal legal)
+pub steps_few : (head : Head) (limit : ℕ) (journal : List Entry) (m : MachineLists) → Follows head journal m → kept head journal ≡ journal → steps_of journal ≤ limit → limit ≤ MOST_STEPS → head.procs ≤ MOST_PROCS → m.steps < 2 ^ 32 - 1
+steps_few head limit journal m h legal within limits few =
+    omega (arith, h.steps, ap (λ (es : List Entry). length es) legal, journal_short head journal legal)
 
 one-count : (e : Entry) (count : ℕ) → count + one_step e ≡ count_after e.step count
 one-count e count = one_by (is_exit e.step) count where
@@ -41,8 +42,8 @@ pub count-snoc : (es : List Entry) (e : Entry) (count : ℕ) → count ≡ steps
 count-snoc es e count is = sym (one-count e count) ∙ ap (λ k. k + one_step e) is ∙ sym (steps_of-snoc es e)
 
 -- the journal with one admitted entry more is legal
-pub legal_longer : (n : ℕ) (journal : List Entry) (e : Entry) → kept n journal ≡ journal → refusal (state n journal) e.pid ≡ None → kept n (journal ++ e ∷ []) ≡ journal ++ e ∷ []
-legal_longer n journal e legal adm = kept-admitted n journal e adm ∙ ap (λ (es : List Entry). es ++ e ∷ []) legal
+pub legal_longer : (head : Head) (journal : List Entry) (e : Entry) → kept head journal ≡ journal → refusal (state head journal) e.pid ≡ None → kept head (journal ++ e ∷ []) ≡ journal ++ e ∷ []
+legal_longer head journal e legal adm = kept-admitted head journal e adm ∙ ap (λ (es : List Entry). es ++ e ∷ []) legal
 
 -- the capacity is enough after room was made, for a journal with so many steps and entries
 pub room_after : (step : Step) (count length places procs old new : ℕ) → count ≤ length → count + places + procs ≤ old → old ≤ new → (Grows step places → length + places + procs + 1 ≤ new) →
@@ -72,8 +73,8 @@ pub has_room : (step : Step) (count limit : ℕ) → is_full step count limit �
 has_room step count limit h is = room_by (is_exit step) count limit h is
 
 -- one admitted entry more finds a place
-pub entry_fits : (n : ℕ) (journal : List Entry) (e : Entry) (count places capacity : ℕ) → kept n journal ≡ journal → refusal (state n journal) e.pid ≡ None → count ≡ steps_of journal →
-    count_after e.step count + places + n ≤ capacity → length journal + 1 ≤ capacity
-entry_fits n journal e count places capacity legal adm is room =
-    let short = journal_short n (journal ++ e ∷ []) (legal_longer n journal e legal adm) in
+pub entry_fits : (head : Head) (journal : List Entry) (e : Entry) (count places capacity : ℕ) → kept head journal ≡ journal → refusal (state head journal) e.pid ≡ None → count ≡ steps_of journal →
+    count_after e.step count + places + head.procs ≤ capacity → length journal + 1 ≤ capacity
+entry_fits head journal e count places capacity legal adm is room =
+    let short = journal_short head (journal ++ e ∷ []) (legal_longer head journal e legal adm) in
     omega (arith, short, count-snoc journal e count is, length-append journal (e ∷ []))

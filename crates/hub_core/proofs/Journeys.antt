@@ -12,15 +12,16 @@ use Rattle.hub_base.specs.Text.{steps_of}
 use Rattle.hub_laws.proofs.Journals.{state-kept}
 use Rattle.hub_laws.proofs.Longer.{events-entry, kept-entry}
 use Rattle.hub_laws.proofs.Values.{values-law}
+use Rattle.hub_core.specs.declared.terms.Terms.{Terms}
 use Rattle.hub_core.specs.HubView.{HubView, state_of, HasRoom, IsFullFor}
 use Rattle.hub_base.specs.declared.fault.Fault.{Fault}
 use Rattle.hub_base.specs.declared.fault.Fault.TheVariants as fault
 use Rattle.hub_core.specs.RunsTo.{RunsTo, TellsOn, StopsAt, IsFullAt, IsFirstFull, IsOpenUpTo, RefusesAt, KeepsValues}
 
 -- the run so far, and no place so far where the journal was full
-pub record RunSoFar (n most : ℕ) (es : List Entry) (i : ℕ) (hub : HubView) (told : List Event) : Type 0 where
-  pub run : RunsTo n most (take i es) hub told
-  pub room : (j : ℕ) → j < i → ¬ IsFullAt n most es j
+pub record RunSoFar (terms : Terms) (es : List Entry) (i : ℕ) (hub : HubView) (told : List Event) : Type 0 where
+  pub run : RunsTo terms (take i es) hub told
+  pub room : (j : ℕ) → j < i → ¬ IsFullAt terms es j
 
 take_one : (es : List Entry) (i : ℕ) (e : Entry) → slice_get es i ≡ Some e → take (i + 1) es ≡ take i es ++ e ∷ []
 take_one es i e h = ap (λ k. take k es) (suc-of i) ∙ take_suc es i e h where
@@ -32,83 +33,85 @@ take_one es i e h = ap (λ k. take k es) (suc-of i) ∙ take_suc es i e h where
   take_suc (x ∷ es) zero e h = let same : x ≡ e = cc in ap (λ y. y ∷ []) same
   take_suc (x ∷ es) (suc i) e h = ap (λ ys. x ∷ ys) (take_suc es i e h)
 
+limit-of : {s t : Terms} → s ≡ t → s.limit ≡ t.limit
+limit-of is = ap (λ (t : Terms). t.limit) is
+
 -- the hub's state is the run's
-pub state_of-run : (n most : ℕ) (es : List Entry) (hub : HubView) (told : List Event) → RunsTo n most es hub told → state_of hub ≡ state n es
-state_of-run n most es hub told r = ap (λ k. state k hub.journal) r.procs ∙ ap (state n) r.journal ∙ state-kept n es
+pub state_of-run : (terms : Terms) (es : List Entry) (hub : HubView) (told : List Event) → RunsTo terms es hub told → state_of hub ≡ state terms.head es
+state_of-run terms es hub told r = ap (λ (t : Terms). state t.head hub.journal) r.terms ∙ ap (state terms.head) r.journal ∙ state-kept terms.head es
 
 same_entry : (es : List Entry) (i : ℕ) (e f : Entry) → slice_get es i ≡ Some e → slice_get es i ≡ Some f → f ≡ e
 same_entry es i e f h g = cc
 
-not_full : (n most : ℕ) (es : List Entry) (i : ℕ) (e : Entry) (hub : HubView) (told : List Event) → RunsTo n most (take i es) hub told → slice_get es i ≡ Some e → HasRoom hub e → ¬ IsFullAt n most es i
-not_full n most es i e hub told r h room = λ full.
+not_full : (terms : Terms) (es : List Entry) (i : ℕ) (e : Entry) (hub : HubView) (told : List Event) → RunsTo terms (take i es) hub told → slice_get es i ≡ Some e → HasRoom hub e → ¬ IsFullAt terms es i
+not_full terms es i e hub told r h room = λ full.
     let same = same_entry es i e full.entry h full.stands in
     let step : is_exit e.step ≡ false = ap (λ (f : Entry). is_exit f.step) (sym same) ∙ full.step in
-    absurd (omega (arith, room step, full.full, ap steps_of r.journal, r.limit))
+    absurd (omega (arith, room step, full.full, ap steps_of r.journal, limit-of r.terms))
 
 -- one entry more that is no place where the journal is full
-more_room : (n most : ℕ) (es : List Entry) (i : ℕ) → ((j : ℕ) → j < i → ¬ IsFullAt n most es j) → ¬ IsFullAt n most es i → (j : ℕ) → j < i + 1 → ¬ IsFullAt n most es j
-more_room n most es i before here j h = by_order (nat_lt j i) refl where
-  by_order : (b : Bool) → nat_lt j i ≡ b → ¬ IsFullAt n most es j
+more_room : (terms : Terms) (es : List Entry) (i : ℕ) → ((j : ℕ) → j < i → ¬ IsFullAt terms es j) → ¬ IsFullAt terms es i → (j : ℕ) → j < i + 1 → ¬ IsFullAt terms es j
+more_room terms es i before here j h = by_order (nat_lt j i) refl where
+  by_order : (b : Bool) → nat_lt j i ≡ b → ¬ IsFullAt terms es j
   by_order true is = before j (grind (arith, common_steps))
-  by_order false is = let same : j ≡ i = grind (arith, common_steps) in subst (λ (k : ℕ). ¬ IsFullAt n most es k) (sym same) here
+  by_order false is = let same : j ≡ i = grind (arith, common_steps) in subst (λ (k : ℕ). ¬ IsFullAt terms es k) (sym same) here
 
-pub run_on : (n most : ℕ) (es : List Entry) (i : ℕ) (e : Entry) (old new : HubView) (before after : List Event) → RunSoFar n most es i old before → slice_get es i ≡ Some e → TellsOn old e new before after →
-    RunSoFar n most es (i + 1) new after
-run_on n most es i e old new before after r h t =
+pub run_on : (terms : Terms) (es : List Entry) (i : ℕ) (e : Entry) (old new : HubView) (before after : List Event) → RunSoFar terms es i old before → slice_get es i ≡ Some e → TellsOn old e new before after →
+    RunSoFar terms es (i + 1) new after
+run_on terms es i e old new before after r h t =
     let grown = take_one es i e h in
-    let same = state_of-run n most (take i es) old before r.run in
+    let same = state_of-run terms (take i es) old before r.run in
     record {
       run = record {
-        procs = t.procs ∙ r.run.procs;
-        limit = t.limit ∙ r.run.limit;
+        terms = t.terms ∙ r.run.terms;
         events =
             t.events
             ∙ ap (λ xs. xs ++ (moves (state_of old) e).events) r.run.events
-            ∙ ap (λ (s : State). events n (take i es) ++ (moves s e).events) same
-            ∙ sym (events-entry n (take i es) e)
-            ∙ ap (events n) (sym grown);
+            ∙ ap (λ (s : State). events terms.head (take i es) ++ (moves s e).events) same
+            ∙ sym (events-entry terms.head (take i es) e)
+            ∙ ap (events terms.head) (sym grown);
         journal =
             t.journal
             ∙ ap (λ xs. xs ++ keeps (refusal (state_of old) e.pid) e []) r.run.journal
-            ∙ ap (λ (s : State). kept n (take i es) ++ keeps (refusal s e.pid) e []) same
-            ∙ sym (kept-entry n (take i es) e)
-            ∙ ap (kept n) (sym grown);
+            ∙ ap (λ (s : State). kept terms.head (take i es) ++ keeps (refusal s e.pid) e []) same
+            ∙ sym (kept-entry terms.head (take i es) e)
+            ∙ ap (kept terms.head) (sym grown);
       };
-      room = more_room n most es i r.room (not_full n most es i e old before r.run h t.room);
+      room = more_room terms es i r.room (not_full terms es i e old before r.run h t.room);
     }
 
-pub first_full : (n most : ℕ) (es : List Entry) (i : ℕ) (e : Entry) (hub : HubView) (told : List Event) → RunSoFar n most es i hub told → slice_get es i ≡ Some e → IsFullFor hub e → IsFirstFull n most es i
-first_full n most es i e hub told r h full =
-    (record { entry = e; stands = h; step = full.0; full = omega (arith, full.1, ap steps_of r.run.journal, r.run.limit) }, r.room)
+pub first_full : (terms : Terms) (es : List Entry) (i : ℕ) (e : Entry) (hub : HubView) (told : List Event) → RunSoFar terms es i hub told → slice_get es i ≡ Some e → IsFullFor hub e → IsFirstFull terms es i
+first_full terms es i e hub told r h full =
+    (record { entry = e; stands = h; step = full.0; full = omega (arith, full.1, ap steps_of r.run.journal, limit-of r.run.terms) }, r.room)
 
 get_below : (es : List Entry) (i : ℕ) (e : Entry) → slice_get es i ≡ Some e → i < length es
 get_below [] i e h = cc
 get_below (x ∷ es) zero e h = omega arith
 get_below (x ∷ es) (suc i) e h = omega (arith, get_below es i e h)
 
-pub room_up_to : (n most : ℕ) (es : List Entry) (i : ℕ) (e : Entry) (hub : HubView) (told : List Event) → RunSoFar n most es i hub told → slice_get es i ≡ Some e → HasRoom hub e → IsOpenUpTo n most es i
-room_up_to n most es i e hub told r h room = (get_below es i e h, more_room n most es i r.room (not_full n most es i e hub told r.run h room))
+pub room_up_to : (terms : Terms) (es : List Entry) (i : ℕ) (e : Entry) (hub : HubView) (told : List Event) → RunSoFar terms es i hub told → slice_get es i ≡ Some e → HasRoom hub e → IsOpenUpTo terms es i
+room_up_to terms es i e hub told r h room = (get_below es i e h, more_room terms es i r.room (not_full terms es i e hub told r.run h room))
 
 take_all : (es : List Entry) → take (length es) es ≡ es
 take_all [] = refl
 take_all (e ∷ es) = ap (λ xs. e ∷ xs) (take_all es)
 
-pub run_whole : (n most : ℕ) (es : List Entry) (i : ℕ) (hub : HubView) (told : List Event) → RunSoFar n most es i hub told → i ≡ length es → RunsTo n most es hub told
-run_whole n most es i hub told r is = subst (λ (xs : List Entry). RunsTo n most xs hub told) (ap (λ k. take k es) is ∙ take_all es) r.run
+pub run_whole : (terms : Terms) (es : List Entry) (i : ℕ) (hub : HubView) (told : List Event) → RunSoFar terms es i hub told → i ≡ length es → RunsTo terms es hub told
+run_whole terms es i hub told r is = subst (λ (xs : List Entry). RunsTo terms xs hub told) (ap (λ k. take k es) is ∙ take_all es) r.run
 
-pub never_full : (n most : ℕ) (es : List Entry) (i : ℕ) (hub : HubView) (told : List Event) → RunSoFar n most es i hub told → i ≡ length es → (j : ℕ) → ¬ IsFullAt n most es j
-never_full n most es i hub told r is j = λ full. r.room j (omega (arith, get_below es j full.entry full.stands)) full
+pub never_full : (terms : Terms) (es : List Entry) (i : ℕ) (hub : HubView) (told : List Event) → RunSoFar terms es i hub told → i ≡ length es → (j : ℕ) → ¬ IsFullAt terms es j
+never_full terms es i hub told r is j = λ full. r.room j (omega (arith, get_below es j full.entry full.stands)) full
 
-pub values_kept : (n most : ℕ) (es : List Entry) (hub : HubView) (told : List Event) → RunsTo n most es hub told → KeepsValues n es hub
-values_kept n most es hub told r = λ p c h. values-law n es p c (subst (λ (s : State). channel_at s p ≡ Some c) (state_of-run n most es hub told r) h)
+pub values_kept : (terms : Terms) (es : List Entry) (hub : HubView) (told : List Event) → RunsTo terms es hub told → KeepsValues terms.head es hub
+values_kept terms es hub told r = λ p c h. values-law terms.head es p c (subst (λ (s : State). channel_at s p ≡ Some c) (state_of-run terms es hub told r) h)
 
-pub run_opening : (n most : ℕ) (es : List Entry) (hub : HubView) → hub.procs ≡ n → hub.limit ≡ most → hub.journal ≡ [] → RunSoFar n most es 0 hub []
-run_opening n most es hub procs limit journal = record { run = record { procs = procs; limit = limit; events = refl; journal = journal }; room = λ j h. absurd (omega arith) }
+pub run_opening : (terms : Terms) (es : List Entry) (hub : HubView) → hub.terms ≡ terms → hub.journal ≡ [] → RunSoFar terms es 0 hub []
+run_opening terms es hub is journal = record { run = record { terms = is; events = refl; journal = journal }; room = λ j h. absurd (omega arith) }
 
-pub refuses_at : (n most : ℕ) (es : List Entry) (i : ℕ) (e : Entry) (hub : HubView) (told : List Event) (f : Fault) → RunSoFar n most es i hub told → slice_get es i ≡ Some e → StopsAt hub e f → RefusesAt n most es i f
-refuses_at n most es i e hub told fault.JournalFull r h stop = first_full n most es i e hub told r h stop
-refuses_at n most es i e hub told fault.NoMemory r h stop = room_up_to n most es i e hub told r h stop
-refuses_at n most es i e hub told other r h stop = absurd stop
+pub refuses_at : (terms : Terms) (es : List Entry) (i : ℕ) (e : Entry) (hub : HubView) (told : List Event) (f : Fault) → RunSoFar terms es i hub told → slice_get es i ≡ Some e → StopsAt hub e f → RefusesAt terms es i f
+refuses_at terms es i e hub told fault.JournalFull r h stop = first_full terms es i e hub told r h stop
+refuses_at terms es i e hub told fault.NoMemory r h stop = room_up_to terms es i e hub told r h stop
+refuses_at terms es i e hub told other r h stop = absurd stop
 
 -- the entry that was read at a place
 pub entry_at : (es : List Entry) (i : ℕ) (e : Entry) → i < length es → e ≡ get_or es i e → slice_get es i ≡ Some e

@@ -3,6 +3,7 @@ use Rattle.std.proofs.Common.{◌≡◌, ℕ, ◌+◌, ◌-◌, ◌==◌, ◌≤
 use Rattle.std.specs.List.{list_any}
 use Rattle.std.proofs.lemmas.Grind.{common_steps}
 use Rattle.std.proofs.lemmas.List.{length-map}
+use Rattle.hub_base.specs.declared.head.Head.{Head}
 use Rattle.hub_base.specs.declared.value.Pid.{Pid}
 use Rattle.hub_base.specs.declared.value.Port.{Port}
 use Rattle.hub_base.specs.declared.case.Case.{Case}
@@ -57,11 +58,11 @@ pub steps-length : (es : List Entry) → steps_of es ≤ length es
 steps-length [] = omega arith
 steps-length (e ∷ es) = omega (arith, at_most_one (is_exit e.step), steps-length es)
 
-can_count : (n : ℕ) (es : List Entry) (m : MachineLists) (p : Port) (c : Channel) → Follows n es m → m.steps < 2 ^ 32 - 1 → channel_at (state n es) p ≡ Some c → CanCount m.counts p
-can_count n es m p c h few e =
-    let within = counts-law n es p c e in
-    let short = steps-length (kept n es) in
-    let tally : tally_at m.counts p ≡ tally_of c = tally-tally_of (state n es) m p c h.matches e in
+can_count : (head : Head) (es : List Entry) (m : MachineLists) (p : Port) (c : Channel) → Follows head es m → m.steps < 2 ^ 32 - 1 → channel_at (state head es) p ≡ Some c → CanCount m.counts p
+can_count head es m p c h few e =
+    let within = counts-law head es p c e in
+    let short = steps-length (kept head es) in
+    let tally : tally_at m.counts p ≡ tally_of c = tally-tally_of (state head es) m p c h.matches e in
     record {
       sent = rw tally (omega (arith, within.sent, short, h.steps));
       received = rw tally (omega (arith, within.received, within.sent, short, h.steps));

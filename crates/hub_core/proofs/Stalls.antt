@@ -33,8 +33,8 @@ count-calls s m h = sym (length-map m.board.waiting (λ (w : Ticketed). w.call))
 
 pub all_wait_on-as : (s : State) (m : MachineLists) → Matches s m → all_wait_on m.board m.gone ≡ all_wait s
 all_wait_on-as s m h =
-    let each : list_all (λ q. gone_on m.gone q || open_on m.board.waiting q) (range_with_len 0 s.procs) ≡ list_all (λ q. has_gone s q || is_waiting s q) (range_with_len 0 s.procs) =
-    all_in_range _ _ 0 s.procs (λ q below. ap (λ b. b || open_on m.board.waiting q) (h.gone q (omega arith)) ∙ ap (λ b. has_gone s q || b) (open_on-as s m q h)) in
+    let each : list_all (λ q. gone_on m.gone q || open_on m.board.waiting q) (range_with_len 0 s.head.procs) ≡ list_all (λ q. has_gone s q || is_waiting s q) (range_with_len 0 s.head.procs) =
+    all_in_range _ _ 0 s.head.procs (λ q below. ap (λ b. b || open_on m.board.waiting q) (h.gone q (omega arith)) ∙ ap (λ b. has_gone s q || b) (open_on-as s m q h)) in
     rw (count-calls s m h, h.procs) (ap (λ b. not (length s.parked == 0) && b) each)
 
 stalled-calls : (ws : List Ticketed) → stalled_events ws ≡ filter_map (λ call. Some (tells call.pid what.Stalled)) (open_calls ws)
@@ -56,11 +56,11 @@ pub stalls_on-as : (c : Change) (d : ListChange) → StepsAs c d → StepsAs (st
 stalls_on-as c d same = rw (all_wait_on-as c.state d.machine same.state) (stalls_by c d (all_wait c.state) same)
 
 -- ---- why an entry is not admitted
-refusal_by : (s : State) (m : MachineLists) (pid : Pid) (below : Bool) → Matches s m → nat_lt pid.0 s.procs ≡ below →
+refusal_by : (s : State) (m : MachineLists) (pid : Pid) (below : Bool) → Matches s m → nat_lt pid.0 s.head.procs ≡ below →
     cond (not below) (Some fault.NoProcess) (cond (gone_on m.gone pid.0) (Some fault.Gone) (cond (open_on m.board.waiting pid.0) (Some fault.Busy) None))
     ≡ cond (not below) (Some fault.NoProcess) (cond (has_gone s pid.0) (Some fault.Gone) (cond (is_waiting s pid.0) (Some fault.Busy) None))
 refusal_by s m pid false h is = refl
-refusal_by s m pid true h is = let less : pid.0 < s.procs = grind (arith, common_steps) in rw (h.gone pid.0 less, open_on-as s m pid.0 h) refl
+refusal_by s m pid true h is = let less : pid.0 < s.head.procs = grind (arith, common_steps) in rw (h.gone pid.0 less, open_on-as s m pid.0 h) refl
 
 pub refusal_of-as : (s : State) (m : MachineLists) (pid : Pid) → Matches s m → refusal_of m.board m.gone pid ≡ refusal s pid
-refusal_of-as s m pid h = rw h.procs (refusal_by s m pid (nat_lt pid.0 s.procs) h refl)
+refusal_of-as s m pid h = rw h.procs (refusal_by s m pid (nat_lt pid.0 s.head.procs) h refl)

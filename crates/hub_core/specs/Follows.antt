@@ -5,6 +5,7 @@ use Rattle.hub_base.specs.declared.case.Case.{Case}
 use Rattle.hub_base.specs.declared.entry.Step.{Step}
 use Rattle.hub_base.specs.declared.entry.Step.TheVariants.{Make, Call, Close, Exit}
 use Rattle.hub_base.specs.declared.entry.Entry.{Entry}
+use Rattle.hub_base.specs.declared.head.Head.{Head}
 use Rattle.hub_base.specs.declared.event.Event.{Event}
 use Rattle.hub_base.specs.declared.fault.Fault.{Fault}
 use Rattle.hub_base.specs.declared.fault.Fault.TheVariants as fault
@@ -27,11 +28,11 @@ tally_of c = record { sent = length c.sent; received = c.received }
 
 -- the machine's lists stand for the state: its open calls in order, its buffers, its counts, and who has exited
 pub record Matches (s : State) (m : MachineLists) : Type 0 where
-  pub procs : m.board.procs ≡ s.procs
+  pub procs : m.board.procs ≡ s.head.procs
   pub calls : open_calls m.board.waiting ≡ s.parked
   pub ports : m.board.ports ≡ map lists_of s.channels
   pub counts : m.counts ≡ map tally_of s.channels
-  pub gone : (q : ℕ) → q < s.procs → gone_on m.gone q ≡ has_gone s q
+  pub gone : (q : ℕ) → q < s.head.procs → gone_on m.gone q ≡ has_gone s q
 
 -- the step is a call of these cases
 abbrev pub HasCases : Step → List Case → Type 0
@@ -49,27 +50,27 @@ IsEntryOf (Some e) call = (e.pid ≡ call.pid) × HasCases e.step call.cases
 abbrev pub TicketsAre : List Entry → List Ticketed → Type 0
 TicketsAre journal ws = AllByRecursion (λ w. IsEntryOf (slice_get journal w.ticket) w.call) ws
 
--- the machine is what n processes and these entries, admitted or not, lead to
-pub record Follows (n : ℕ) (es : List Entry) (m : MachineLists) : Type 0 where
-  pub matches : Matches (state n es) m
-  pub steps : m.steps ≡ length (kept n es)
+-- the machine is what these entries, admitted or not, lead to in a hub with this head
+pub record Follows (h : Head) (es : List Entry) (m : MachineLists) : Type 0 where
+  pub matches : Matches (state h es) m
+  pub steps : m.steps ≡ length (kept h es)
   pub later : m.board.next_ticket ≤ m.steps
-  pub tickets : TicketsAre (kept n es) m.board.waiting
+  pub tickets : TicketsAre (kept h es) m.board.waiting
 
 -- some run leads to the machine
 abbrev pub IsReached : MachineLists → Type 0
-IsReached m = (n : ℕ) × (es : List Entry) × Follows n es m
+IsReached m = (h : Head) × (es : List Entry) × Follows h es m
 
 -- what an admitted entry leads to
-pub record Admits (n : ℕ) (es : List Entry) (e : Entry) (m : MachineLists) (told : List Event) : Type 0 where
-  pub admitted : refusal (state n es) e.pid ≡ None
-  pub events : told ≡ (moves (state n es) e).events
-  pub follows : Follows n (es ++ e ∷ []) m
+pub record Admits (h : Head) (es : List Entry) (e : Entry) (m : MachineLists) (told : List Event) : Type 0 where
+  pub admitted : refusal (state h es) e.pid ≡ None
+  pub events : told ≡ (moves (state h es) e).events
+  pub follows : Follows h (es ++ e ∷ []) m
 
 -- what any entry leads to
-pub record Answers (n : ℕ) (es : List Entry) (e : Entry) (m : MachineLists) (told : List Event) : Type 0 where
-  pub events : told ≡ (moves (state n es) e).events
-  pub follows : Follows n (es ++ e ∷ []) m
+pub record Answers (h : Head) (es : List Entry) (e : Entry) (m : MachineLists) (told : List Event) : Type 0 where
+  pub events : told ≡ (moves (state h es) e).events
+  pub follows : Follows h (es ++ e ∷ []) m
 
 -- the step is a make
 abbrev pub IsMake : Step → Type 0
@@ -83,6 +84,6 @@ abbrev pub IsFine : State → Entry → Type 0
 IsFine s e = fault_of s e.step ≡ None
 
 -- why an entry is refused: memory, which only a make asks for, or because it is not admitted
-abbrev pub RefusesFor : ℕ → List Entry → Entry → Fault → Type 0
-RefusesFor n es e fault.NoMemory = IsMake e.step × (refusal (state n es) e.pid ≡ None)
-RefusesFor n es e f = refusal (state n es) e.pid ≡ Some f
+abbrev pub RefusesFor : Head → List Entry → Entry → Fault → Type 0
+RefusesFor h es e fault.NoMemory = IsMake e.step × (refusal (state h es) e.pid ≡ None)
+RefusesFor h es e f = refusal (state h es) e.pid ≡ Some f

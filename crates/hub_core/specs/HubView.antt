@@ -1,5 +1,5 @@
 -- What contracts see of a hub, and what a step of it does. All else that a hub shows is a function
--- of `state procs journal`.
+-- of `state terms.head journal`.
 use Rattle.std.specs.Prelude.{◌≡◌, ◌≤◌, ◌<◌, ◌+◌, ◌-◌, ◌⊎◌, ℕ, false, List, [], ◌∷◌, ◌++◌, length, None, Some}
 use Rattle.hub_base.specs.declared.entry.Step.{Step}
 use Rattle.hub_base.specs.declared.entry.Step.TheVariants.{Make, Call, Close, Exit}
@@ -11,17 +11,17 @@ use Rattle.hub_base.specs.declared.limits.TheConstants.{MOST_PROCS, MOST_STEPS}
 use Rattle.hub_base.specs.State.{State}
 use Rattle.hub_base.specs.Steps.{refusal}
 use Rattle.hub_base.specs.Runs.{state, moves}
+use Rattle.hub_base.specs.Head.{IsHead, head_of}
 use Rattle.hub_base.specs.Reading.{is_exit}
 use Rattle.hub_base.specs.Text.{steps_of}
+use Rattle.hub_core.specs.declared.terms.Terms.{Terms}
 use Rattle.hub_core.specs.declared.opening.OpenFault.{OpenFault}
 use Rattle.hub_core.specs.declared.opening.OpenFault.TheVariants as opening_fault
 
 -- a hub
 pub record HubView : Type 0 where
-  -- how many processes it has
-  pub procs : ℕ
-  -- how many entries that are no exits the journal may hold
-  pub limit : ℕ
+  -- what it was opened with
+  pub terms : Terms
   -- the admitted entries, in order
   pub journal : List Entry
   -- how many steps other than makes take no memory
@@ -35,15 +35,15 @@ pub record HubInMemory : Type 0 where
 
 -- the state that its journal leads to
 abbrev pub state_of : HubView → State
-state_of h = state h.procs h.journal
+state_of h = state h.terms.head h.journal
 
 -- the journal can take the entry: it is an exit, or fewer than `limit` entries are no exits
 abbrev pub HasRoom : HubView → Entry → Type 0
-HasRoom h e = is_exit e.step ≡ false → steps_of h.journal < h.limit
+HasRoom h e = is_exit e.step ≡ false → steps_of h.journal < h.terms.limit
 
 -- the journal can't take the entry: it is no exit, and `limit` entries are no exits
 abbrev pub IsFullFor : HubView → Entry → Type 0
-IsFullFor h e = (is_exit e.step ≡ false) × (h.limit ≤ steps_of h.journal)
+IsFullFor h e = (is_exit e.step ≡ false) × (h.terms.limit ≤ steps_of h.journal)
 
 -- a close or a call takes one place
 abbrev pub places_after : Step → ℕ → ℕ
@@ -56,8 +56,7 @@ places_after Exit places = places
 abbrev pub with_entry : Entry → HubView → HubView
 with_entry e h =
     record {
-      procs = h.procs;
-      limit = h.limit;
+      terms = h.terms;
       journal = h.journal ++ e ∷ [];
       places = places_after e.step h.places;
     }
@@ -78,7 +77,7 @@ Grows Exit places = ⊥
 
 -- an entry more fits beside the places and an exit of each process, so that the journal need not grow
 abbrev pub HasSpare : HubInMemory → Type 0
-HasSpare m = length m.hub.journal + m.hub.places + m.hub.procs + 1 ≤ m.capacity
+HasSpare m = length m.hub.journal + m.hub.places + m.hub.terms.head.procs + 1 ≤ m.capacity
 
 -- the entry is refused so, where the journal is not full
 abbrev pub RefusedBy : HubView → Entry → Fault → Type 0
@@ -94,13 +93,13 @@ Refuses h e fault.NoMemory =
     HasRoom h e × (refusal (state_of h) e.pid ≡ None) × Grows e.step h.places
 Refuses h e other = ⊥
 
--- a hub of n processes with this limit, at which nothing has happened
-abbrev pub opened_hub : ℕ → ℕ → HubView
-opened_hub n limit = record { procs = n; limit = limit; journal = []; places = 0 }
+-- a hub with these terms, at which nothing has happened
+abbrev pub opened_hub : Terms → HubView
+opened_hub t = record { terms = t; journal = []; places = 0 }
 
--- a number of processes
-abbrev pub IsProcs : ℕ → Type 0
-IsProcs n = (1 ≤ n) × (n ≤ MOST_PROCS)
+-- so many processes, and this limit
+abbrev pub terms_of : ℕ → ℕ → Terms
+terms_of procs limit = record { head = head_of procs; limit = limit }
 
 -- a limit of a journal
 abbrev pub IsLimit : ℕ → Type 0
@@ -113,7 +112,7 @@ open_fault_number opening_fault.BadLimit = 2
 open_fault_number opening_fault.NoMemory = 3
 
 -- when each refusal of an opening comes. The tests stand in the order of these lines
-abbrev pub RefusesOpening : ℕ → ℕ → OpenFault → Type 0
-RefusesOpening n limit opening_fault.BadProcs = (n ≡ 0) ⊎ (MOST_PROCS < n)
-RefusesOpening n limit opening_fault.BadLimit = IsProcs n × ((limit ≡ 0) ⊎ (MOST_STEPS < limit))
-RefusesOpening n limit opening_fault.NoMemory = IsProcs n × IsLimit limit
+abbrev pub RefusesOpening : Terms → OpenFault → Type 0
+RefusesOpening t opening_fault.BadProcs = (t.head.procs ≡ 0) ⊎ (MOST_PROCS < t.head.procs)
+RefusesOpening t opening_fault.BadLimit = IsHead t.head × ((t.limit ≡ 0) ⊎ (MOST_STEPS < t.limit))
+RefusesOpening t opening_fault.NoMemory = IsHead t.head × IsLimit t.limit

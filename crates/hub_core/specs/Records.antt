@@ -1,6 +1,7 @@
 -- What contracts see of a machine: the board, who has exited, what each port has carried, and how
 -- many entries were admitted. Names no struct but `Tally`.
 use Rattle.std.specs.Prelude.{ℕ, ◌+◌, ◌-◌, Bool, false, List, [], replicate, slice_index_or, slice_set}
+use Rattle.hub_base.specs.declared.head.Head.{Head}
 use Rattle.hub_base.specs.declared.value.Port.{Port}
 use Rattle.hub_base.specs.declared.limits.TheConstants.{MOST_PROCS}
 use Rattle.hub_core.specs.declared.tally.Tally.{Tally}
@@ -16,9 +17,9 @@ pub record MachineLists : Type 0 where
   -- how many entries were admitted: the next call's ticket
   pub steps : ℕ
 
--- n processes, and nothing made, gone or open
-abbrev pub opened_machine : ℕ → MachineLists
-opened_machine n = record { board = opened n; gone = replicate MOST_PROCS false; counts = []; steps = 0 }
+-- a machine with this head, and nothing made, gone or open
+abbrev pub opened_machine : Head → MachineLists
+opened_machine h = record { board = opened h.procs; gone = replicate MOST_PROCS false; counts = []; steps = 0 }
 
 -- nothing was sent
 abbrev pub no_tally : Tally

@@ -4,6 +4,7 @@ use Rattle.hub_base.specs.declared.value.Pid.{Pid}
 use Rattle.hub_base.specs.declared.value.Port.{Port}
 use Rattle.hub_base.specs.declared.entry.Step.TheVariants.{Close}
 use Rattle.hub_base.specs.declared.entry.Entry.{Entry}
+use Rattle.hub_base.specs.declared.head.Head.{Head}
 use Rattle.hub_base.specs.declared.event.Event.{Event}
 use Rattle.hub_base.specs.declared.fault.Fault.{Fault}
 use Rattle.hub_base.specs.declared.fault.Fault.TheVariants as fault
@@ -14,6 +15,7 @@ use Rattle.hub_base.specs.Values.{sent_values, received_values}
 use Rattle.hub_base.specs.Reading.{is_exit}
 use Rattle.hub_base.specs.Text.{steps_of}
 use Rattle.hub_laws.specs.AfterClose.{AfterCloseLaw}
+use Rattle.hub_core.specs.declared.terms.Terms.{Terms}
 use Rattle.hub_core.specs.declared.runs.ListFault.{ListFault}
 use Rattle.hub_core.specs.declared.runs.ListFault.TheVariants.{Open, At}
 use Rattle.hub_core.specs.HubView.{HubView, state_of, HasRoom, IsFullFor, RefusesOpening}
@@ -23,56 +25,54 @@ abbrev pub close_of : Pid → Port → Entry
 close_of pid port = record { pid = pid; step = Close port }
 
 -- the hub holds the admitted entries, and the events are the definition's
-pub record RunsTo (n most : ℕ) (es : List Entry) (hub : HubView) (told : List Event) : Type 0 where
-  pub procs : hub.procs ≡ n
-  pub limit : hub.limit ≡ most
-  pub events : told ≡ events n es
-  pub journal : hub.journal ≡ kept n es
+pub record RunsTo (t : Terms) (es : List Entry) (hub : HubView) (told : List Event) : Type 0 where
+  pub terms : hub.terms ≡ t
+  pub events : told ≡ events t.head es
+  pub journal : hub.journal ≡ kept t.head es
 
 -- on each port the values received, and then those in the hub's buffer, are the values sent
-abbrev pub KeepsValues : ℕ → List Entry → HubView → Type 0
-KeepsValues n es hub = (p : Port) (c : Channel) → channel_at (state_of hub) p ≡ Some c
-    → received_values n es p ++ buffer_of c ≡ sent_values n es p
+abbrev pub KeepsValues : Head → List Entry → HubView → Type 0
+KeepsValues h es hub = (p : Port) (c : Channel) → channel_at (state_of hub) p ≡ Some c
+    → received_values h es p ++ buffer_of c ≡ sent_values h es p
 
 -- after each close in the list no send completes on the port, and receives drain it
-abbrev pub ClosesForGood : ℕ → List Entry → Type 0
-ClosesForGood n es = (before : List Entry) (pid : Pid) (port : Port) (later : List Entry)
-    → es ≡ before ++ close_of pid port ∷ later → AfterCloseLaw n before pid port later
+abbrev pub ClosesForGood : Head → List Entry → Type 0
+ClosesForGood h es = (before : List Entry) (pid : Pid) (port : Port) (later : List Entry)
+    → es ≡ before ++ close_of pid port ∷ later → AfterCloseLaw h before pid port later
 
 -- at entry i, which is no exit, the journal holds `limit` entries that are none
-pub record IsFullAt (n limit : ℕ) (es : List Entry) (i : ℕ) : Type 0 where
+pub record IsFullAt (t : Terms) (es : List Entry) (i : ℕ) : Type 0 where
   pub entry : Entry
   pub stands : slice_get es i ≡ Some entry
   pub step : is_exit entry.step ≡ false
-  pub full : limit ≤ steps_of (kept n (take i es))
+  pub full : t.limit ≤ steps_of (kept t.head (take i es))
 
 -- so it is at entry i, and at none before it
-abbrev pub IsFirstFull : ℕ → ℕ → List Entry → ℕ → Type 0
-IsFirstFull n limit es i =
-    IsFullAt n limit es i × ((j : ℕ) → j < i → ¬ IsFullAt n limit es j)
+abbrev pub IsFirstFull : Terms → List Entry → ℕ → Type 0
+IsFirstFull t es i =
+    IsFullAt t es i × ((j : ℕ) → j < i → ¬ IsFullAt t es j)
 
 -- it is so neither at entry i nor before
-abbrev pub IsOpenUpTo : ℕ → ℕ → List Entry → ℕ → Type 0
-IsOpenUpTo n limit es i = (i < length es) × ((j : ℕ) → j < i + 1 → ¬ IsFullAt n limit es j)
+abbrev pub IsOpenUpTo : Terms → List Entry → ℕ → Type 0
+IsOpenUpTo t es i = (i < length es) × ((j : ℕ) → j < i + 1 → ¬ IsFullAt t es j)
 
 -- when each refusal at entry i comes
-abbrev pub RefusesAt : ℕ → ℕ → List Entry → ℕ → Fault → Type 0
-RefusesAt n limit es i fault.JournalFull = IsFirstFull n limit es i
-RefusesAt n limit es i fault.NoMemory = IsOpenUpTo n limit es i
-RefusesAt n limit es i other = ⊥
+abbrev pub RefusesAt : Terms → List Entry → ℕ → Fault → Type 0
+RefusesAt t es i fault.JournalFull = IsFirstFull t es i
+RefusesAt t es i fault.NoMemory = IsOpenUpTo t es i
+RefusesAt t es i other = ⊥
 
 -- when each refusal of a run comes
-abbrev pub RefusesRun : ℕ → ℕ → List Entry → ListFault → Type 0
-RefusesRun n limit es (Open f) = RefusesOpening n limit f
-RefusesRun n limit es (At i f) = RefusesAt n limit es i f
+abbrev pub RefusesRun : Terms → List Entry → ListFault → Type 0
+RefusesRun t es (Open f) = RefusesOpening t f
+RefusesRun t es (At i f) = RefusesAt t es i f
 
 -- ---- one entry of a run
 -- what one entry, admitted or not, leaves of the hub, and of the events so far
 pub record TellsOn (old : HubView) (e : Entry) (new : HubView) (before after : List Event) : Type 0 where
   pub room : HasRoom old e
   pub events : after ≡ before ++ (moves (state_of old) e).events
-  pub procs : new.procs ≡ old.procs
-  pub limit : new.limit ≡ old.limit
+  pub terms : new.terms ≡ old.terms
   pub journal : new.journal ≡ old.journal ++ keeps (refusal (state_of old) e.pid) e []
 
 -- when one entry ends the run

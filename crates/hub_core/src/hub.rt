@@ -6,16 +6,17 @@
 
 ghost use Rattle.std.specs.Prelude.{◌≡◌, ◌≤◌, ◌<◌, ◌+◌, ◌-◌, ◌^◌, [], IfOk, IfErr, OnOk, OnErr, IsErrOf, vec_len, length, max};
 ghost use Rattle.std.specs.Vec.{vec_capacity};
+ghost use Rattle.hub_base.specs.Head.{IsHead, head_of};
 ghost use Rattle.hub_base.specs.Reading.{is_exit};
 ghost use Rattle.hub_base.specs.Runs.{kept};
 ghost use Rattle.hub_core.specs.Follows.{IsMake, IsFine};
 ghost use Rattle.hub_core.specs.Looks.{look_at, value_at};
-ghost use Rattle.hub_core.specs.HubView.{HubInMemory, Steps, Refuses, Grows, HasSpare, RefusesOpening, opened_hub, places_after, state_of, IsProcs, IsLimit};
+ghost use Rattle.hub_core.specs.HubView.{HubInMemory, Steps, Refuses, Grows, HasSpare, RefusesOpening, opened_hub, places_after, state_of, terms_of, IsLimit};
 ghost use Rattle.hub_core.specs.HubKeeps.{is_full, count_after};
 
-use crate::{Machine, OpenFault};
+use crate::{Machine, OpenFault, Terms};
 use hub_base::{
-    Entry, Events, Fault, Journal, Look, MOST_PROCS, MOST_STEPS, NoMemory, Port, Step, Value,
+    Entry, Events, Fault, Head, Journal, Look, MOST_PROCS, MOST_STEPS, NoMemory, Port, Step, Value,
 };
 use std::alloc::{AllocError, Global};
 use std::marker::Model;
@@ -23,10 +24,8 @@ use std::marker::Model;
 /// A hub of channels: makes the steps of its processes, tells what follows, and keeps a journal.
 #[derive(Drop)]
 pub struct Hub {
-    /// The number of processes.
-    procs: u8,
-    /// How many entries that are no exits the journal may hold.
-    limit: u32,
+    /// What it was opened with.
+    terms: Terms,
     /// How many steps other than makes take no memory.
     places: u32,
     /// How many entries of the journal are no exits.
@@ -48,8 +47,7 @@ impl Model for Hub {
     ghost view = { λ h.
         record {
           hub = record {
-            procs = h.procs;
-            limit = h.limit;
+            terms = h.terms;
             journal = h.entries.items;
             places = h.places;
           };
@@ -145,10 +143,10 @@ impl Hub {
     ///
     /// Err, tested in this order, with nothing kept: `BadProcs`, `BadLimit`, `NoMemory`.
     pub fn open(alloc: Global, procs: u8, limit: u32) -> Result<Hub, OpenFault>
-        ensures ok { IfOk result (λ h. h.hub ≡ opened_hub procs limit) }
+        ensures ok { IfOk result (λ h. h.hub ≡ opened_hub (terms_of procs limit)) }
         ensures exact { IfOk result (λ h. h.capacity ≡ procs) }
-        ensures bounds { OnOk result (IsProcs procs × IsLimit limit) }
-        ensures err { IfErr result (λ f. RefusesOpening procs limit f) }
+        ensures bounds { OnOk result (IsHead (head_of procs) × IsLimit limit) }
+        ensures err { IfErr result (λ f. RefusesOpening (terms_of procs limit) f) }
     {
         if procs == 0 || procs as usize > MOST_PROCS {
             return Err(OpenFault::BadProcs);
@@ -156,11 +154,14 @@ impl Hub {
         if limit == 0 || limit > MOST_STEPS {
             return Err(OpenFault::BadLimit);
         }
-        let machine = Machine::new(alloc, procs)?;
+        let terms = Terms {
+            head: Head { procs },
+            limit,
+        };
+        let machine = Machine::new(alloc, terms.head)?;
         let entries = Vec::with_capacity(alloc, procs.into())?;
         Ok(Hub {
-            procs,
-            limit,
+            terms,
             places: 0,
             count: 0,
             machine,
@@ -204,13 +205,13 @@ impl Hub {
         ensures kept { ¬ Grows entry.step self.old.hub.places → self.new.capacity ≡ self.old.capacity }
         ensures capacity { self.old.capacity ≤ self.new.capacity }
     {
-        if is_full(&entry.step, self.count, self.limit) {
+        if is_full(&entry.step, self.count, self.terms.limit) {
             return Err(Fault::JournalFull);
         }
         if let Some(fault) = self.machine.refusal(entry.pid) {
             return Err(fault);
         }
-        let Ok(()) = make_room(&mut self.entries, &entry.step, self.places, self.procs) else {
+        let Ok(()) = make_room(&mut self.entries, &entry.step, self.places, self.terms.head.procs) else {
             return Err(Fault::NoMemory);
         };
         let Ok(()) = self.machine.step(&entry, events) else {
@@ -229,15 +230,15 @@ impl Hub {
             self.new.hub ≡ record self.old.hub { places = max self.old.hub.places k }) }
         ensures more { OnErr result (self.old.hub.places < k) }
         ensures full { OnErr result (
-            self.old.capacity < length self.old.hub.journal + k + self.old.hub.procs) }
+            self.old.capacity < length self.old.hub.journal + k + self.old.hub.terms.head.procs) }
         ensures unchanged { OnErr result (self.new ≡ self.old) }
-        ensures spare { length self.old.hub.journal + k + self.old.hub.procs ≤ self.old.capacity
+        ensures spare { length self.old.hub.journal + k + self.old.hub.terms.head.procs ≤ self.old.capacity
             → self.new.capacity ≡ self.old.capacity }
         ensures kept { k ≤ self.old.hub.places → self.new.capacity ≡ self.old.capacity }
         ensures capacity { self.old.capacity ≤ self.new.capacity }
     {
         if k > self.places {
-            reserve_more(&mut self.entries, k as usize + self.procs as usize)?;
+            reserve_more(&mut self.entries, k as usize + self.terms.head.procs as usize)?;
             self.places = k;
         }
         Ok(())
@@ -261,16 +262,16 @@ impl Hub {
     /// The journal so far. Each of its entries was admitted when it came.
     pub fn entries(&self) -> &[Entry]
         ensures journal { result.now ≡ self.now.hub.journal }
-        ensures legal { kept self.now.hub.procs self.now.hub.journal ≡ self.now.hub.journal }
+        ensures legal { kept self.now.hub.terms.head self.now.hub.journal ≡ self.now.hub.journal }
     {
         &self.entries
     }
 
     /// The journal of the hub, which ends.
     pub fn into_journal(self) -> Journal
-        ensures journal { result ≡ record { procs = self.hub.procs; entries = self.hub.journal } }
-        ensures legal { kept self.hub.procs self.hub.journal ≡ self.hub.journal }
+        ensures journal { result ≡ record { head = self.hub.terms.head; entries = self.hub.journal } }
+        ensures legal { kept self.hub.terms.head self.hub.journal ≡ self.hub.journal }
     {
-        Journal::of(self.procs, self.entries)
+        Journal::of(self.terms.head.procs, self.entries)
     }
 }

@@ -14,6 +14,7 @@ mod runs;
 mod select;
 mod stalling;
 mod tally;
+mod terms;
 mod touching;
 
 pub use hub::Hub;
@@ -21,4 +22,5 @@ pub use machine::Machine;
 pub use opening::OpenFault;
 pub use runs::{ListFault, run};
 pub use tally::Tally;
+pub use terms::Terms;
 pub use touching::{port_changed, port_touched};

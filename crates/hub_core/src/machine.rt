@@ -6,13 +6,15 @@
 
 ghost use Rattle.std.specs.Prelude.{◌≡◌, ◌≤◌, ◌<◌, ◌+◌, ◌-◌, ◌^◌, ℕ, List, [], IfOk, IfErr, OnOk, OnErr, IsErrOf};
 ghost use Rattle.hub_base.specs.declared.entry.Entry.{Entry};
+ghost use Rattle.hub_base.specs.declared.head.Head.{Head};
+ghost use Rattle.hub_base.specs.Head.{IsHead};
 ghost use Rattle.hub_base.specs.Steps.{refusal};
 ghost use Rattle.hub_base.specs.Runs.{state};
 ghost use Rattle.hub_core.specs.Looks.{look_at, value_at};
 ghost use Rattle.hub_core.specs.Follows.{Follows, Admits, Answers, IsMake, IsFine, RefusesFor};
 
 use crate::machine_state::MachineState;
-use hub_base::{Entry, Event, Events, Fault, Look, MOST_PROCS, NoMemory, Pid, Port, Value, What};
+use hub_base::{Entry, Event, Events, Fault, Head, Look, NoMemory, Pid, Port, Value, What};
 use std::alloc::Global;
 use std::marker::Model;
 
@@ -37,12 +39,12 @@ impl Model for Machine {
 impl Machine {
     /// A machine of 1 to `MOST_PROCS` processes, at which nothing has happened. It takes all the memory that
     /// the open calls will ever need.
-    pub fn new(alloc: Global, procs: u8) -> Result<Machine, NoMemory>
-        requires { (1 ≤ procs) × (procs ≤ MOST_PROCS) }
-        ensures { IfOk result (λ m. Follows procs [] m) }
+    pub fn new(alloc: Global, head: Head) -> Result<Machine, NoMemory>
+        requires { IsHead head }
+        ensures { IfOk result (λ m. Follows head [] m) }
     {
         Ok(Machine {
-            state: MachineState::new(alloc, procs)?,
+            state: MachineState::new(alloc, head)?,
         })
     }
 
@@ -55,15 +57,15 @@ impl Machine {
     pub fn step(&mut self, entry: &Entry, events: &mut Events) -> Result<(), Fault>
         requires { self.old.steps < 2 ^ 32 - 1 }
 
-        ensures ok { OnOk result ((n : ℕ) (es : List Entry) → Follows n es self.old
-            → Admits n es entry.now self.new events.new.items) }
+        ensures ok { OnOk result ((h : Head) (es : List Entry) → Follows h es self.old
+            → Admits h es entry.now self.new events.new.items) }
         ensures steps { OnOk result (self.new.steps ≡ self.old.steps + 1) }
 
-        ensures refused { IfErr result (λ f. (n : ℕ) (es : List Entry) → Follows n es self.old
-            → RefusesFor n es entry.now f) }
+        ensures refused { IfErr result (λ f. (h : Head) (es : List Entry) → Follows h es self.old
+            → RefusesFor h es entry.now f) }
         ensures memory { IsErrOf result Fault.NoMemory → IsMake entry.now.step }
-        ensures fine { IsErrOf result Fault.NoMemory → (n : ℕ) (es : List Entry)
-            → Follows n es self.old → IsFine (state n es) entry.now }
+        ensures fine { IsErrOf result Fault.NoMemory → (h : Head) (es : List Entry)
+            → Follows h es self.old → IsFine (state h es) entry.now }
         ensures unchanged { OnErr result (self.new ≡ self.old) }
         ensures empty { OnErr result (events.new.items ≡ []) }
     {
@@ -83,13 +85,13 @@ impl Machine {
     pub fn answer(&mut self, entry: &Entry, events: &mut Events) -> Result<(), NoMemory>
         requires { self.old.steps < 2 ^ 32 - 1 }
 
-        ensures ok { OnOk result ((n : ℕ) (es : List Entry) → Follows n es self.old
-            → Answers n es entry.now self.new events.new.items) }
+        ensures ok { OnOk result ((h : Head) (es : List Entry) → Follows h es self.old
+            → Answers h es entry.now self.new events.new.items) }
         ensures steps { OnOk result (self.new.steps ≤ self.old.steps + 1) }
 
         ensures make { OnErr result (IsMake entry.now.step) }
-        ensures fine { OnErr result ((n : ℕ) (es : List Entry) → Follows n es self.old
-            → IsFine (state n es) entry.now) }
+        ensures fine { OnErr result ((h : Head) (es : List Entry) → Follows h es self.old
+            → IsFine (state h es) entry.now) }
         ensures unchanged { OnErr result (self.new ≡ self.old) }
         ensures empty { OnErr result (events.new.items ≡ []) }
     {
@@ -111,16 +113,16 @@ impl Machine {
 
     /// Why a step of this process would be refused now: `NoProcess`, `Gone`, `Busy`, or nothing.
     pub fn refusal(&self, pid: Pid) -> Option<Fault>
-        ensures { (n : ℕ) (es : List Entry) → Follows n es self.now
-            → result ≡ refusal (state n es) pid }
+        ensures { (h : Head) (es : List Entry) → Follows h es self.now
+            → result ≡ refusal (state h es) pid }
     {
         self.state.refusal(pid)
     }
 
     /// The capacity and the counts of a port, or `None` for port 0 and for a port that was not made.
     pub fn look(&self, port: Port) -> Option<Look>
-        ensures { (n : ℕ) (es : List Entry) → Follows n es self.now
-            → result ≡ look_at (state n es) port }
+        ensures { (h : Head) (es : List Entry) → Follows h es self.now
+            → result ≡ look_at (state h es) port }
     {
         self.state.look(port)
     }
@@ -128,8 +130,8 @@ impl Machine {
     /// The value at a place of a port's buffer, 0 the oldest. `None` past its end, for port 0 and
     /// for a port that was not made.
     pub fn buffered(&self, port: Port, place: u32) -> Option<Value>
-        ensures { (n : ℕ) (es : List Entry) → Follows n es self.now
-            → result ≡ value_at (state n es) port place }
+        ensures { (h : Head) (es : List Entry) → Follows h es self.now
+            → result ≡ value_at (state h es) port place }
     {
         self.state.buffered(port, place)
     }

@@ -19,7 +19,7 @@ use crate::stalling::{all_wait, stop_all};
 use crate::tally::Tallies;
 use arrayvec::ArrayVec;
 use hub_base::{
-    Cases, Entry, Event, Events, Fault, Look, MOST_CASES, MOST_PROCS, NoMemory, Pid, Port, Step,
+    Cases, Entry, Event, Events, Fault, Head, Look, MOST_CASES, MOST_PROCS, NoMemory, Pid, Port, Step,
     Value, What,
 };
 use hub_parts::Board;
@@ -29,8 +29,8 @@ use std::marker::Model;
 /// The board, who has exited, what each port has carried, and how many steps were made.
 #[derive(Drop)]
 pub(crate) struct MachineState {
-    /// The number of processes.
-    procs: u8,
+    /// What the journal's head says.
+    head: Head,
     /// The buffers, and the calls that wait.
     board: Board,
     /// Whether each process has exited, by its number.
@@ -69,13 +69,13 @@ pub(crate) fn tells(pid: Pid, what: What) -> Event
 
 impl MachineState {
     /// Nothing has happened. This takes all the memory that the open calls will ever need.
-    pub(crate) fn new(alloc: Global, procs: u8) -> Result<MachineState, NoMemory>
-        requires { procs ≤ MOST_PROCS }
-        ensures { IfOk result (λ s. s ≡ opened_machine procs) }
+    pub(crate) fn new(alloc: Global, head: Head) -> Result<MachineState, NoMemory>
+        requires { head.procs ≤ MOST_PROCS }
+        ensures { IfOk result (λ s. s ≡ opened_machine head) }
     {
         Ok(MachineState {
-            procs,
-            board: Board::new(alloc, procs)?,
+            head,
+            board: Board::new(alloc, head.procs)?,
             gone: none_gone(),
             tallies: Tallies::new(),
             steps: 0,
@@ -86,7 +86,7 @@ impl MachineState {
     pub(crate) fn refusal(&self, pid: Pid) -> Option<Fault>
         ensures { result ≡ refusal_of self.now.board self.now.gone pid }
     {
-        refusal(&self.board, &self.gone, self.procs, pid)
+        refusal(&self.board, &self.gone, self.head.procs, pid)
     }
 
     /// A call of a process that has none open, and what follows it.
@@ -168,7 +168,7 @@ impl MachineState {
             events.push(tells(entry.pid, What::Fault(fault)));
         } else {
             self.effect(entry.pid, &entry.step, events)?;
-            if all_wait(&self.board, &self.gone, self.procs) {
+            if all_wait(&self.board, &self.gone, self.head.procs) {
                 stop_all(&mut self.board, events);
             }
         }

@@ -1,7 +1,9 @@
 //! Runs: a hub is opened, and makes the steps of a list in order.
 
 ghost use Rattle.std.specs.Prelude.{◌≡◌, ℕ, IfOk, IfErr, OnOk};
+ghost use Rattle.hub_base.specs.Head.{head_of};
 ghost use Rattle.hub_laws.specs.Once.{OnceLaw};
+ghost use Rattle.hub_core.specs.HubView.{terms_of};
 ghost use Rattle.hub_core.specs.RunsTo.{RunsTo, TellsOn, StopsAt, KeepsValues, ClosesForGood, RefusesRun, IsFullAt};
 
 use crate::{Hub, OpenFault};
@@ -60,22 +62,22 @@ pub fn run(
     entries: &[Entry],
 ) -> Result<(Hub, Vec<Event>), ListFault>
     // The events are the definition's, and the journal holds the admitted entries.
-    ensures ok { IfOk result (λ r. RunsTo procs limit entries.now r.0.hub r.1.items) }
+    ensures ok { IfOk result (λ r. RunsTo (terms_of procs limit) entries.now r.0.hub r.1.items) }
 
     // On each port the values received, then those buffered, are those sent, in order.
-    ensures received_then_buffered { IfOk result (λ r. KeepsValues procs entries.now r.0.hub) }
+    ensures received_then_buffered { IfOk result (λ r. KeepsValues (head_of procs) entries.now r.0.hub) }
 
     // Each admitted call completes at most one of its cases, once.
-    ensures at_most_one_case { OnOk result (OnceLaw procs entries.now) }
+    ensures at_most_one_case { OnOk result (OnceLaw (head_of procs) entries.now) }
 
     // After a close no send completes on the port, and receives drain it, then learn the close.
-    ensures after_close { OnOk result (ClosesForGood procs entries.now) }
+    ensures after_close { OnOk result (ClosesForGood (head_of procs) entries.now) }
 
     // The journal was never full at an entry that is no exit.
-    ensures never_full { OnOk result ((i : ℕ) → ¬ IsFullAt procs limit entries.now i) }
+    ensures never_full { OnOk result ((i : ℕ) → ¬ IsFullAt (terms_of procs limit) entries.now i) }
 
     // A full journal is answered at the first place where it is full.
-    ensures refused { IfErr result (λ f. RefusesRun procs limit entries.now f) }
+    ensures refused { IfErr result (λ f. RefusesRun (terms_of procs limit) entries.now f) }
 {
     let mut hub = match Hub::open(alloc, procs, limit) {
         Ok(hub) => hub,

@@ -1,8 +1,9 @@
 -- The account of an entry, whatever its step: what its process is answered, which open calls end and what tells
 -- it, who waits then, what is written on which port, and who has gone. The laws follow from it.
-use Rattle.std.proofs.Common.{◌≡◌, Bool, true, false, List, [], ◌∷◌, ◌++◌, refl, ◌∙◌, sym, subst, Option, Some, None, if◌then◌else◌}
+use Rattle.std.proofs.Common.{◌≡◌, Bool, true, false, List, [], ◌∷◌, ◌++◌, refl, ap, ◌∙◌, sym, subst, Option, Some, None, if◌then◌else◌}
 use Rattle.std.specs.List.{list_any, AllByRecursion, filter_map, cons_option}
 use Rattle.std.specs.Option.{option_map}
+use Rattle.hub_base.specs.declared.head.Head.{Head}
 use Rattle.hub_base.specs.declared.value.Port.{Port}
 use Rattle.hub_base.specs.declared.value.Pid.{Pid}
 use Rattle.hub_base.specs.declared.entry.Step.{Step}
@@ -73,9 +74,13 @@ pub record Account (s : State) (pid : Pid) (step : Step) (c : Change) : Type 0 w
   pub moved : found_closed answer ≡ false → IsSound s → Moves (port_touched_by step answer) s.channels c.state.channels
   -- and it suits those that wait then
   pub sound : IsSound s → NamedSound (port_touched_by step answer) c.state.channels c.state.parked
-  -- the processes are as many, and the caller alone can exit
-  pub procs : c.state.procs ≡ s.procs
+  -- the head is the same, and the caller alone can exit
+  pub head : c.state.head ≡ s.head
   pub gone : c.state.gone ≡ with_leaver s.gone pid step
+
+-- the same head has as many processes
+pub procs-of : {h k : Head} → h ≡ k → h.procs ≡ k.procs
+procs-of same = ap (λ (h : Head). h.procs) same
 
 -- what holds of the open calls, and of the caller's where it waits, holds of those that end and of those that stay
 pub account-all : (P : OpenCall → Type 0) (s : State) (pid : Pid) (step : Step) (c : Change) → Apart s.parked →
@@ -120,7 +125,7 @@ alone s ts pid step answer fits placed blocked does still moved sound = record {
   still = still;
   moved = moved;
   sound = sound;
-  procs = refl;
+  head = refl;
   gone = refl;
 }
 

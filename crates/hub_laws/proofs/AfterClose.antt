@@ -8,6 +8,7 @@ use Rattle.hub_base.specs.declared.case.Case.{Case}
 use Rattle.hub_base.specs.declared.case.Case.TheVariants.{Send, Recv}
 use Rattle.hub_base.specs.declared.entry.Step.TheVariants.{Close}
 use Rattle.hub_base.specs.declared.entry.Entry.{Entry}
+use Rattle.hub_base.specs.declared.head.Head.{Head}
 use Rattle.hub_base.specs.declared.fault.Fault.{Fault}
 use Rattle.hub_base.specs.declared.fault.Fault.TheVariants as fault
 use Rattle.hub_base.specs.declared.event.Outcome.{Outcome}
@@ -159,14 +160,14 @@ knows_after s ts (e ∷ es) sound knows =
     let h = knows_after (moves s e).state (ts ++ t ∷ []) es (moves-sound s e sound) (moves-turn s e ts sound knows).knows in
     rw append_assoc at h
 
-pub state-knows : (n : ℕ) (es : List Entry) → Knows (in_force (turns_after (opening n) es)) (state n es).parked
-state-knows n es = knows_after (opening n) [] es (sound-opening n) tt
+pub state-knows : (head : Head) (es : List Entry) → Knows (in_force (turns_after (opening head) es)) (state head es).parked
+state-knows head es = knows_after (opening head) [] es (sound-opening head) tt
 
-pub after_close-law : (n : ℕ) (es fs : List Entry) (pid : Pid) (p : Port) → answers_done (moves (state n es) (record { pid = pid; step = Close p })).events ≡ true → StaysClosed n (es ++ record { pid = pid; step = Close p } ∷ []) fs p
-after_close-law n es fs pid p h =
+pub after_close-law : (head : Head) (es fs : List Entry) (pid : Pid) (p : Port) → answers_done (moves (state head es) (record { pid = pid; step = Close p })).events ≡ true → StaysClosed head (es ++ record { pid = pid; step = Close p } ∷ []) fs p
+after_close-law head es fs pid p h =
     let e : Entry = record { pid = pid; step = Close p } in
     let all : List Entry = es ++ e ∷ [] in
-    let c = close-closes (state n es) pid p h in
-    let there : channel_at (state n all) p ≡ Some c.0 = ap (λ (s : State). channel_at s p) (state-entry n es e) ∙ c.1 in
-    let l = later p c.0 (turns_after (opening n) all) (state n all) fs (state-sound n all) (state-knows n all) there c.2 in
+    let c = close-closes (state head es) pid p h in
+    let there : channel_at (state head all) p ≡ Some c.0 = ap (λ (s : State). channel_at s p) (state-entry head es e) ∙ c.1 in
+    let l = later p c.0 (turns_after (opening head) all) (state head all) fs (state-sound head all) (state-knows head all) there c.2 in
     record { left = c.0; made = there; closed = c.2; sent = l.none; heard = l.drains }

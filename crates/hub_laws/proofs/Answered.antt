@@ -1,6 +1,7 @@
 -- An admitted entry is answered first, and any other changes nothing.
 use Rattle.std.proofs.Common.{◌≡◌, ℕ, List, ap, Option, Some, None}
 use Rattle.hub_base.specs.declared.entry.Entry.{Entry}
+use Rattle.hub_base.specs.declared.head.Head.{Head}
 use Rattle.hub_base.specs.declared.fault.Fault.{Fault}
 use Rattle.hub_base.specs.State.{State}
 use Rattle.hub_base.specs.Steps.{refusal}
@@ -17,12 +18,12 @@ admits_answered s e (Some f) is = absurd (let g : ⊥ = cc in g)
 pub moves-answered : (s : State) (e : Entry) → refusal s e.pid ≡ None → IsAnswered e.pid e.step (moves s e).events
 moves-answered s e is = admits_answered s e (refusal s e.pid) is
 
-pub answers-law : (n : ℕ) (es : List Entry) (e : Entry) → AnswersLaw n es e
-answers-law n es e is = moves-answered (state n es) e is
+pub answers-law : (head : Head) (es : List Entry) (e : Entry) → AnswersLaw head es e
+answers-law head es e is = moves-answered (state head es) e is
 
-pub passed_over-law : (n : ℕ) (es : List Entry) (e : Entry) → PassedOverLaw n es e
-passed_over-law n es e f is = record {
-  events = ap (λ o. (admits (state n es) e o).events) is;
-  state = ap (λ o. (admits (state n es) e o).state) is;
-  refuses = refusal-refuses (state n es) e.pid f is;
+pub passed_over-law : (head : Head) (es : List Entry) (e : Entry) → PassedOverLaw head es e
+passed_over-law head es e f is = record {
+  events = ap (λ o. (admits (state head es) e o).events) is;
+  state = ap (λ o. (admits (state head es) e o).state) is;
+  refuses = refusal-refuses (state head es) e.pid f is;
 }

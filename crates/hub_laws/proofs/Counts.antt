@@ -7,6 +7,7 @@ use Rattle.hub_base.specs.declared.value.Port.{Port}
 use Rattle.hub_base.specs.declared.entry.Step.{Step}
 use Rattle.hub_base.specs.declared.entry.Step.TheVariants.{Exit}
 use Rattle.hub_base.specs.declared.entry.Entry.{Entry}
+use Rattle.hub_base.specs.declared.head.Head.{Head}
 use Rattle.hub_base.specs.declared.event.Event.{Event}
 use Rattle.hub_base.specs.declared.fault.Fault.{Fault}
 use Rattle.hub_base.specs.Reading.{is_exit}
@@ -112,9 +113,9 @@ no_sends true i = refl
 no_sends false i = refl
 
 -- no count of a run passes the number of its admitted entries that are no exits
-pub counts-law : (n : ℕ) (es : List Entry) → CountsLaw n es
-counts-law n es p c e =
-    let most = sends_after (opening n) [] es p (sound-opening n) tt in
-    let here : sends_of (channel_at (state n es) p) ≡ length c.sent = rw e refl in
-    let none : sends_of (channel_at (opening n) p) ≡ 0 = no_sends (p.0 == 0) (p.0 - 1) in
-    record { received = ((state-sound n es).ports p c e).received; sent = omega (arith, most, here, none) }
+pub counts-law : (head : Head) (es : List Entry) → CountsLaw head es
+counts-law head es p c e =
+    let most = sends_after (opening head) [] es p (sound-opening head) tt in
+    let here : sends_of (channel_at (state head es) p) ≡ length c.sent = rw e refl in
+    let none : sends_of (channel_at (opening head) p) ≡ 0 = no_sends (p.0 == 0) (p.0 - 1) in
+    record { received = ((state-sound head es).ports p c e).received; sent = omega (arith, most, here, none) }

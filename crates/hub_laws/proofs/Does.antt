@@ -125,8 +125,8 @@ quiet-idle cs ts is = record {
 
 pub quiet-adds : (cs ts : List Channel) (cap : ℕ) → ts ≡ cs ++ fresh cap ∷ [] → Quiet cs ts
 quiet-adds cs ts cap is =
-    let s : State = record { procs = 0; gone = []; parked = []; channels = cs } in
-    let t : State = record { procs = 0; gone = []; parked = []; channels = ts } in
+    let s : State = record { head = record { procs = 0 }; gone = []; parked = []; channels = cs } in
+    let t : State = record { head = record { procs = 0 }; gone = []; parked = []; channels = ts } in
     record {
       same = λ p c e.
           let m = made s p c e in
@@ -146,7 +146,7 @@ does-made cs ts named deeds (adds cap room names same e) p h =
     subst (λ r. IsMade r (length ts)) n (record { some = omega arith; few = omega (arith, ap length same, length-append cs (fresh cap ∷ [])) })
 does-made cs ts named deeds (wrote q c d names w m) p h =
     let n : q ≡ p = cc in
-    let m = made (record { procs = 0; gone = []; parked = []; channels = cs }) q c w.old in
+    let m = made (record { head = record { procs = 0 }; gone = []; parked = []; channels = cs }) q c w.old in
     let within : q.0 - 1 < length cs = slice_get_within cs (q.0 - 1) c m.channel in
     subst (λ r. IsMade r (length ts)) n (record { some = m.number; few = omega (arith, within, m.number, w.ports) })
 

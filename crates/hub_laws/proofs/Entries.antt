@@ -72,7 +72,7 @@ close_account s pid p (Some c) is h =
       does = λ sound. wrote p c (shut c) refl w (shuts live refl (closed_deeds p parts.ended parts.each));
       still = λ h. cc;
       moved = λ h sound. wrote-moves s.channels (slice_set s.channels (p.0 - 1) (shut c)) p c (shut c) w (λ same. let g : c.closed ≡ true = ap (λ (x : Shown). x.closed) same in cc);
-      procs = refl;
+      head = refl;
       gone = refl;
     }
 
@@ -135,7 +135,7 @@ stalled_account s pid step c a =
       does = λ sound. rw none (a.does sound);
       still = a.still;
       moved = a.moved;
-      procs = a.procs;
+      head = a.head;
       gone = a.gone;
     }
 

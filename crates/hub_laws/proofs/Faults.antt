@@ -48,7 +48,7 @@ Refuses f = refuses_entry f ≡ true
 
 pub refusal-refuses : (s : State) (pid : Pid) (f : Fault) → refusal s pid ≡ Some f → refuses_entry f ≡ true
 refusal-refuses s pid f e =
-    or_fault Refuses (not (nat_lt pid.0 s.procs)) fault.NoProcess f (cond (has_gone s pid.0) (Some fault.Gone) (cond (is_waiting s pid.0) (Some fault.Busy) None)) refl
+    or_fault Refuses (not (nat_lt pid.0 s.head.procs)) fault.NoProcess f (cond (has_gone s pid.0) (Some fault.Gone) (cond (is_waiting s pid.0) (Some fault.Busy) None)) refl
     (λ e. or_fault Refuses (has_gone s pid.0) fault.Gone f (cond (is_waiting s pid.0) (Some fault.Busy) None) refl
     (λ e. or_fault Refuses (is_waiting s pid.0) fault.Busy f None refl (λ h. absurd (let g : ⊥ = cc in g)) e) e) e
 
@@ -56,7 +56,7 @@ below_true : (a b : ℕ) → a < b → not (nat_lt a b) ≡ false
 below_true a b h = grind (arith, common_steps)
 
 -- a process that is there and has not exited is refused only where its call is open
-pub refusal-busy : (s : State) (pid : Pid) (f : Fault) → pid.0 < s.procs → has_gone s pid.0 ≡ false → refusal s pid ≡ Some f → is_busy f ≡ true
+pub refusal-busy : (s : State) (pid : Pid) (f : Fault) → pid.0 < s.head.procs → has_gone s pid.0 ≡ false → refusal s pid ≡ Some f → is_busy f ≡ true
 refusal-busy s pid f below here e =
-    let h : cond (is_waiting s pid.0) (Some fault.Busy) None ≡ Some f = rw (below_true pid.0 s.procs below, here) at e in
+    let h : cond (is_waiting s pid.0) (Some fault.Busy) None ≡ Some f = rw (below_true pid.0 s.head.procs below, here) at e in
     or_fault (λ f. is_busy f ≡ true) (is_waiting s pid.0) fault.Busy f None refl (λ h. absurd (let g : ⊥ = cc in g)) h

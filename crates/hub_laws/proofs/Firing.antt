@@ -106,7 +106,7 @@ module _ (s : State) (pid : Pid) (cases : List Case) (default : Bool) (word i : 
         sound = λ sound.
             let still : PortSound p c kept = port-fewer p c kept s.parked fewer (sound.ports p c old) in
             rw mine (named_sound (Some p) s.channels ts p c d kept refl w ((does sound f.passes).1 kept still));
-        procs = refl;
+        head = refl;
         gone = refl;
       }
 

@@ -3,6 +3,7 @@ use Rattle.std.proofs.Common.{◌≡◌, ◌≤◌, ℕ, Bool, true, not, List, 
 use Rattle.std.specs.List.{AllByRecursion}
 use Rattle.std.proofs.lemmas.List.Elements.{filter-append}
 use Rattle.hub_base.specs.declared.entry.Entry.{Entry}
+use Rattle.hub_base.specs.declared.head.Head.{Head}
 use Rattle.hub_base.specs.declared.event.Event.{Event}
 use Rattle.hub_base.specs.declared.fault.Fault.{Fault}
 use Rattle.hub_base.specs.State.{State, opening}
@@ -39,12 +40,12 @@ kept_after-kept s [] = refl
 kept_after-kept s (e ∷ es) = kept_by s e es (refusal s e.pid) refl (λ t. kept_after-kept t es)
 
 -- the journal of a run has the run's state
-pub state-kept : (n : ℕ) (es : List Entry) → state n (kept n es) ≡ state n es
-state-kept n es = state_after-kept (opening n) es
+pub state-kept : (head : Head) (es : List Entry) → state head (kept head es) ≡ state head es
+state-kept head es = state_after-kept (opening head) es
 
 -- the journal of a run is legal
-pub kept-kept : (n : ℕ) (es : List Entry) → kept n (kept n es) ≡ kept n es
-kept-kept n es = kept_after-kept (opening n) es
+pub kept-kept : (head : Head) (es : List Entry) → kept head (kept head es) ≡ kept head es
+kept-kept head es = kept_after-kept (opening head) es
 
 -- The events
 
@@ -73,17 +74,17 @@ events_after-kept : (s : State) (es : List Entry) → events_after s (kept_after
 events_after-kept s [] = refl
 events_after-kept s (e ∷ es) = events_by s e es (refusal s e.pid) refl (λ t. events_after-kept t es)
 
-pub journal-law : (n : ℕ) (es : List Entry) → JournalLaw n es
-journal-law n es = record { legal = kept-kept n es; state = state-kept n es; events = events_after-kept (opening n) es }
+pub journal-law : (head : Head) (es : List Entry) → JournalLaw head es
+journal-law head es = record { legal = kept-kept head es; state = state-kept head es; events = events_after-kept (opening head) es }
 
 -- A further entry
 
-pub grows-law : (n : ℕ) (es : List Entry) (e : Entry) → Grows n es e
-grows-law n es e = record {
-  refused_alike = ap (λ s. refusal s e.pid) (state-kept n es);
-  moves_alike = ap (λ s. moves s e) (state-kept n es);
-  admitted = λ is. kept-entry n es e ∙ ap (λ o. kept n es ++ keeps o e []) is;
-  refused = λ f is. kept-entry n es e ∙ ap (λ o. kept n es ++ keeps o e []) is ∙ append-nil (kept n es);
+pub grows-law : (head : Head) (es : List Entry) (e : Entry) → Grows head es e
+grows-law head es e = record {
+  refused_alike = ap (λ s. refusal s e.pid) (state-kept head es);
+  moves_alike = ap (λ s. moves s e) (state-kept head es);
+  admitted = λ is. kept-entry head es e ∙ ap (λ o. kept head es ++ keeps o e []) is;
+  refused = λ f is. kept-entry head es e ∙ ap (λ o. kept head es ++ keeps o e []) is ∙ append-nil (kept head es);
 }
 
 -- A beginning
@@ -108,9 +109,9 @@ begin_after s (e ∷ es) fs h =
     let rest = begin_after (moves s e).state es fs f.1 in
     (ap (λ o. keeps o e (kept_after (moves s e).state es)) f.0 ∙ ap (λ xs. e ∷ xs) rest.0, rest.1)
 
-pub begins-law : (n : ℕ) (es fs : List Entry) → Begins n es fs
-begins-law n es fs = record {
-  legal = λ h. (begin_after (opening n) es fs h).0;
-  goes_on = λ e legal is. (grows-law n es e).admitted is ∙ ap (λ xs. xs ++ e ∷ []) legal;
-  next = λ e h. (first_kept (state n es) e fs (refusal (state n es) e.pid) (begin_after (opening n) es (e ∷ fs) h).1).0;
+pub begins-law : (head : Head) (es fs : List Entry) → Begins head es fs
+begins-law head es fs = record {
+  legal = λ h. (begin_after (opening head) es fs h).0;
+  goes_on = λ e legal is. (grows-law head es e).admitted is ∙ ap (λ xs. xs ++ e ∷ []) legal;
+  next = λ e h. (first_kept (state head es) e fs (refusal (state head es) e.pid) (begin_after (opening head) es (e ∷ fs) h).1).0;
 }

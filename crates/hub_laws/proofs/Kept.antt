@@ -4,6 +4,7 @@ use Rattle.std.specs.Prelude.{slice_get, is_some}
 use Rattle.std.specs.List.{list_any, AllByRecursion}
 use Rattle.std.proofs.lemmas.Grind.{common_steps}
 use Rattle.std.proofs.lemmas.Bool.{or_left, or_right, or_parts, or_from, or_cases, false_from_ne_true, eqb-true, ltb-false, lt-ltb}
+use Rattle.hub_base.specs.declared.head.Head.{Head}
 use Rattle.hub_base.specs.declared.value.Port.{Port}
 use Rattle.hub_base.specs.declared.value.Pid.{Pid}
 use Rattle.hub_base.specs.declared.value.Value.{Value}
@@ -19,8 +20,8 @@ use Rattle.hub_laws.proofs.Fires.{longer}
 use Rattle.hub_laws.proofs.Ready.{no_recv, no_send}
 
 -- at the opening
-pub sound-opening : (n : ℕ) → IsSound (opening n)
-sound-opening n = record { apart = tt; present = λ q e. cc; calls = tt; ports = λ p c e. absurd (no_channel (p.0 == 0) (p.0 - 1) c e) }
+pub sound-opening : (head : Head) → IsSound (opening head)
+sound-opening head = record { apart = tt; present = λ q e. cc; calls = tt; ports = λ p c e. absurd (no_channel (p.0 == 0) (p.0 - 1) c e) }
   where
     no_channel : (b : Bool) (i : ℕ) (c : Channel) → cond b None (slice_get {X = Channel} [] i) ≡ Some c → ⊥
     no_channel true i c e = cc

@@ -4,6 +4,7 @@ use Rattle.std.specs.List.{list_any}
 use Rattle.std.proofs.Math.Bool.{and-false, or-false}
 use Rattle.hub_base.specs.declared.value.Pid.{Pid}
 use Rattle.hub_base.specs.declared.entry.Entry.{Entry}
+use Rattle.hub_base.specs.declared.head.Head.{Head}
 use Rattle.hub_base.specs.declared.fault.Fault.{Fault}
 use Rattle.hub_base.specs.declared.limits.TheConstants.{MOST_PORTS}
 use Rattle.hub_base.specs.State.{State, opening}
@@ -33,13 +34,13 @@ turn-gone q s e (inl l) = turn-leaves q s e ∙ rw l (or-false (has_gone s q))
 turn-gone q s e (inr r) = turn-leaves q s e ∙ rw (r, and-false (is_exit e.step)) (or-false (has_gone s q))
 
 -- any entry
-pub procs-entry : (s : State) (e : Entry) (o : Option Fault) → (admits s e o).state.procs ≡ s.procs
-procs-entry s e None = (turn-account s e).procs
-procs-entry s e (Some f) = refl
+pub head-entry : (s : State) (e : Entry) (o : Option Fault) → (admits s e o).state.head ≡ s.head
+head-entry s e None = (turn-account s e).head
+head-entry s e (Some f) = refl
 
-pub procs-after : (s : State) (es : List Entry) → (state_after s es).procs ≡ s.procs
-procs-after s [] = refl
-procs-after s (e ∷ es) = procs-after (moves s e).state es ∙ procs-entry s e (refusal s e.pid)
+pub head-after : (s : State) (es : List Entry) → (state_after s es).head ≡ s.head
+head-after s [] = refl
+head-after s (e ∷ es) = head-after (moves s e).state es ∙ head-entry s e (refusal s e.pid)
 
 ports_entry : (s : State) (e : Entry) (o : Option Fault) → IsSound s → length s.channels ≤ MOST_PORTS →
     length (admits s e o).state.channels ≤ MOST_PORTS
@@ -55,5 +56,5 @@ ports_after s (e ∷ es) sound few =
     ports_after (moves s e).state es (moves-sound s e sound) (ports_entry s e (refusal s e.pid) sound few)
 
 -- no more ports are made than there may be
-pub ports-law : (n : ℕ) (es : List Entry) → length (state n es).channels ≤ MOST_PORTS
-ports-law n es = ports_after (opening n) es (sound-opening n) (omega arith)
+pub ports-law : (head : Head) (es : List Entry) → length (state head es).channels ≤ MOST_PORTS
+ports-law head es = ports_after (opening head) es (sound-opening head) (omega arith)

@@ -5,6 +5,7 @@ use Rattle.std.proofs.lemmas.List.{length-append}
 use Rattle.std.proofs.lemmas.Bool.{or_cases, and_parts, eqb-true}
 use Rattle.hub_base.specs.declared.value.Pid.{Pid}
 use Rattle.hub_base.specs.declared.entry.Entry.{Entry}
+use Rattle.hub_base.specs.declared.head.Head.{Head}
 use Rattle.hub_base.specs.declared.fault.Fault.{Fault}
 use Rattle.hub_base.specs.State.{State, opening}
 use Rattle.hub_base.specs.Steps.{has_gone, refusal, turn}
@@ -15,9 +16,9 @@ use Rattle.hub_laws.specs.Limits.{exits_of, LimitsLaw}
 use Rattle.hub_laws.proofs.Ready.{Admitted, admitted}
 use Rattle.hub_laws.proofs.Leaving.{one}
 use Rattle.hub_laws.proofs.Distinct.{Different, different_snoc, count-different}
-use Rattle.hub_laws.proofs.Account.{with_leaver}
+use Rattle.hub_laws.proofs.Account.{with_leaver, procs-of}
 use Rattle.hub_laws.proofs.Entries.{turn-account}
-use Rattle.hub_laws.proofs.Lasting.{turn-leaves, procs-entry, procs-after}
+use Rattle.hub_laws.proofs.Lasting.{turn-leaves, head-entry, head-after}
 
 -- Once
 
@@ -46,30 +47,30 @@ once_after q s (e ∷ es) = once_entry q s e (kept_after (moves s e).state es) (
 
 -- Below
 
-below_entry : (n : ℕ) (s : State) (e : Entry) (es : List Entry) (o : Option Fault) → s.procs ≡ n → o ≡ refusal s e.pid → AllByRecursion (λ e. e.pid.0 < n) es → AllByRecursion (λ e. e.pid.0 < n) (keeps o e es)
+below_entry : (n : ℕ) (s : State) (e : Entry) (es : List Entry) (o : Option Fault) → s.head.procs ≡ n → o ≡ refusal s e.pid → AllByRecursion (λ e. e.pid.0 < n) es → AllByRecursion (λ e. e.pid.0 < n) (keeps o e es)
 below_entry n s e es None procs is all = (omega (arith, (admitted s e.pid (sym is)).below), all)
 below_entry n s e es (Some f) procs is all = all
 
-below_after : (n : ℕ) (s : State) (es : List Entry) → s.procs ≡ n → AllByRecursion (λ e. e.pid.0 < n) (kept_after s es)
+below_after : (n : ℕ) (s : State) (es : List Entry) → s.head.procs ≡ n → AllByRecursion (λ e. e.pid.0 < n) (kept_after s es)
 below_after n s [] procs = tt
-below_after n s (e ∷ es) procs = below_entry n s e (kept_after (moves s e).state es) (refusal s e.pid) procs refl (below_after n (moves s e).state es (procs-entry s e (refusal s e.pid) ∙ procs))
+below_after n s (e ∷ es) procs = below_entry n s e (kept_after (moves s e).state es) (refusal s e.pid) procs refl (below_after n (moves s e).state es (procs-of (head-entry s e (refusal s e.pid)) ∙ procs))
 
 -- Length
 
 -- no process has exited twice, and none that there is not
 pub record GoneSound (s : State) : Type 0 where
   pub apart : Different s.gone
-  pub below : (q : ℕ) → has_gone s q ≡ true → q < s.procs
+  pub below : (q : ℕ) → has_gone s q ≡ true → q < s.head.procs
 
 gone_turn : (s : State) (e : Entry) → GoneSound s → Admitted s e.pid → GoneSound (turn s e).state
 gone_turn s e sound adm = record {
   apart = subst Different (sym (turn-account s e).gone) (by (is_exit e.step));
   below = λ q h.
-      let b : q < s.procs = elim (or_cases (has_gone s q) (is_exit e.step && (e.pid.0 == q)) (sym (turn-leaves q s e) ∙ h)) [
+      let b : q < s.head.procs = elim (or_cases (has_gone s q) (is_exit e.step && (e.pid.0 == q)) (sym (turn-leaves q s e) ∙ h)) [
         | inl l ↦ sound.below q l
-        | inr r ↦ subst (λ (n : ℕ). n < s.procs) (eqb-true e.pid.0 q (and_parts (is_exit e.step) (e.pid.0 == q) r).1) adm.below
+        | inr r ↦ subst (λ (n : ℕ). n < s.head.procs) (eqb-true e.pid.0 q (and_parts (is_exit e.step) (e.pid.0 == q) r).1) adm.below
       ] in
-      omega (arith, b, (turn-account s e).procs);
+      omega (arith, b, procs-of (turn-account s e).head);
 }
   where
     by : (b : Bool) → Different (cond b (s.gone ++ e.pid ∷ []) s.gone)
@@ -100,14 +101,14 @@ length_after s [] = omega arith
 length_after s (e ∷ es) = length_entry s e (kept_after (moves s e).state es) (length (state_after (moves s e).state es).gone) (refusal s e.pid) (length_after (moves s e).state es)
 
 -- no more processes have exited than there are
-pub gone-law : (n : ℕ) (es : List Entry) → length (state n es).gone ≤ n
-gone-law n es =
-    let sound = gone_after (opening n) es (record { apart = tt; below = λ q e. absurd (let g : ⊥ = cc in g) }) in
-    count-different n (state n es).gone sound.apart (λ q e. omega (arith, sound.below q e, procs-after (opening n) es))
+pub gone-law : (head : Head) (es : List Entry) → length (state head es).gone ≤ head.procs
+gone-law head es =
+    let sound = gone_after (opening head) es (record { apart = tt; below = λ q e. absurd (let g : ⊥ = cc in g) }) in
+    count-different head.procs (state head es).gone sound.apart (λ q e. omega (arith, sound.below q e, procs-of (head-after (opening head) es)))
 
-pub limits-law : (n : ℕ) (es : List Entry) → LimitsLaw n es
-limits-law n es = record {
-  once = λ q. omega (arith, once_after q (opening n) es);
-  below = below_after n (opening n) es refl;
-  length = omega (arith, length_after (opening n) es, gone-law n es);
+pub limits-law : (head : Head) (es : List Entry) → LimitsLaw head es
+limits-law head es = record {
+  once = λ q. omega (arith, once_after q (opening head) es);
+  below = below_after head.procs (opening head) es refl;
+  length = omega (arith, length_after (opening head) es, gone-law head es);
 }

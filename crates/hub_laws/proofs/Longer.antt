@@ -1,6 +1,7 @@
 -- A run that goes on: by more entries, and by one.
 use Rattle.std.proofs.Common.{◌≡◌, ℕ, List, [], ◌∷◌, ◌++◌, refl, ap, ◌∙◌, sym, Option, Some, None, append-nil, append_assoc}
 use Rattle.hub_base.specs.declared.entry.Entry.{Entry}
+use Rattle.hub_base.specs.declared.head.Head.{Head}
 use Rattle.hub_base.specs.declared.fault.Fault.{Fault}
 use Rattle.hub_base.specs.State.{State, opening}
 use Rattle.hub_base.specs.Steps.{refusal}
@@ -26,11 +27,11 @@ kept_after-append s (e ∷ es) fs = ap (keeps (refusal s e.pid) e) (kept_after-a
 
 -- By one entry
 
-pub state-entry : (n : ℕ) (es : List Entry) (e : Entry) → state n (es ++ e ∷ []) ≡ (moves (state n es) e).state
-state-entry n es e = state_after-append (opening n) es (e ∷ [])
+pub state-entry : (head : Head) (es : List Entry) (e : Entry) → state head (es ++ e ∷ []) ≡ (moves (state head es) e).state
+state-entry head es e = state_after-append (opening head) es (e ∷ [])
 
-pub events-entry : (n : ℕ) (es : List Entry) (e : Entry) → events n (es ++ e ∷ []) ≡ events n es ++ (moves (state n es) e).events
-events-entry n es e = events_after-append (opening n) es (e ∷ []) ∙ ap (λ xs. events n es ++ xs) (append-nil (moves (state n es) e).events)
+pub events-entry : (head : Head) (es : List Entry) (e : Entry) → events head (es ++ e ∷ []) ≡ events head es ++ (moves (state head es) e).events
+events-entry head es e = events_after-append (opening head) es (e ∷ []) ∙ ap (λ xs. events head es ++ xs) (append-nil (moves (state head es) e).events)
 
-pub kept-entry : (n : ℕ) (es : List Entry) (e : Entry) → kept n (es ++ e ∷ []) ≡ kept n es ++ keeps (refusal (state n es) e.pid) e []
-kept-entry n es e = kept_after-append (opening n) es (e ∷ [])
+pub kept-entry : (head : Head) (es : List Entry) (e : Entry) → kept head (es ++ e ∷ []) ≡ kept head es ++ keeps (refusal (state head es) e.pid) e []
+kept-entry head es e = kept_after-append (opening head) es (e ∷ [])

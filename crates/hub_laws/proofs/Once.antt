@@ -5,6 +5,7 @@ use Rattle.hub_base.specs.declared.value.Pid.{Pid}
 use Rattle.hub_base.specs.declared.entry.Step.{Step}
 use Rattle.hub_base.specs.declared.entry.Step.TheVariants.{Exit}
 use Rattle.hub_base.specs.declared.entry.Entry.{Entry}
+use Rattle.hub_base.specs.declared.head.Head.{Head}
 use Rattle.hub_base.specs.declared.event.Event.{Event}
 use Rattle.hub_base.specs.declared.fault.Fault.{Fault}
 use Rattle.hub_base.specs.declared.event.What.TheVariants as what
@@ -18,6 +19,7 @@ use Rattle.hub_laws.specs.Answers.{ends_waiting, IsAnswered}
 use Rattle.std.specs.List.{AllByRecursion}
 use Rattle.std.proofs.Math.Bool.{and-false}
 use Rattle.std.proofs.lemmas.Bool.{and_parts, eqb-true}
+use Rattle.hub_laws.proofs.Account.{procs-of}
 use Rattle.hub_laws.proofs.Calls.{all_append}
 use Rattle.hub_laws.proofs.Events.{answered_admits, answer_ends, waiting-ends}
 use Rattle.hub_laws.proofs.Entries.{turn-account, turn-answered}
@@ -84,7 +86,7 @@ no_end : (q : ℕ) (pid : Pid) (f : Fault) (b : Bool) → b ≡ (pid.0 == q) →
 no_end q pid f true m busy = rw (busy refl) refl
 no_end q pid f false m busy = rw (sym m, and-false (not (is_busy f))) refl
 
-until_refused : (q : ℕ) (s : State) (e : Entry) (f : Fault) (rest : List Event) → refusal s e.pid ≡ Some f → q < s.procs → has_gone s q ≡ false → AtMost (open_calls q s.parked) rest →
+until_refused : (q : ℕ) (s : State) (e : Entry) (f : Fault) (rest : List Event) → refusal s e.pid ≡ Some f → q < s.head.procs → has_gone s q ≡ false → AtMost (open_calls q s.parked) rest →
     AtMost (open_calls q s.parked) (cond (not (refuses_entry f) && (e.pid.0 == q)) [] (endings q (tells e.pid (what.Fault f) ∷ []) ++ rest))
 until_refused q s e f rest is below here after =
     let none : endings q (tells e.pid (what.Fault f) ∷ []) ≡ [] = no_end q e.pid f (e.pid.0 == q) refl (λ m.
@@ -92,17 +94,17 @@ until_refused q s e f rest is below here after =
     refusal-busy s e.pid f (omega (arith, same)) (subst (λ (n : ℕ). has_gone s n ≡ false) (sym same) here) is) in
     rw (refusal-refuses s e.pid f is, none) after
 
-until_by : (q : ℕ) (s : State) (e : Entry) (es : List Entry) (o : Option Fault) → o ≡ refusal s e.pid → IsSound s → q < s.procs → has_gone s q ≡ false →
-    ((t : State) → IsSound t → q < t.procs → has_gone t q ≡ false → AtMost (open_calls q t.parked) (endings_until q (turns_after t es))) → IsSound (admits s e o).state →
+until_by : (q : ℕ) (s : State) (e : Entry) (es : List Entry) (o : Option Fault) → o ≡ refusal s e.pid → IsSound s → q < s.head.procs → has_gone s q ≡ false →
+    ((t : State) → IsSound t → q < t.head.procs → has_gone t q ≡ false → AtMost (open_calls q t.parked) (endings_until q (turns_after t es))) → IsSound (admits s e o).state →
     AtMost (open_calls q s.parked) (cond (was_admitted (admits s e o).events && (e.pid.0 == q)) [] (endings q (admits s e o).events ++ endings_until q (turns_after (admits s e o).state es)))
 until_by q s e es None is sound below here rest after =
     until_admitted q s e (endings_until q (turns_after (turn s e).state es)) (was_admitted (turn s e).events) (e.pid.0 == q) (turn-admitted s e) refl sound (λ m.
-    rest (turn s e).state after (omega (arith, (turn-account s e).procs)) (turn-gone q s e (inr m) ∙ here))
+    rest (turn s e).state after (omega (arith, procs-of (turn-account s e).head)) (turn-gone q s e (inr m) ∙ here))
 until_by q s e es (Some f) is sound below here rest after =
     until_refused q s e f (endings_until q (turns_after s es)) (sym is) below here (rest s sound below here)
 
 -- a process that is there is told no more than its open call's end, before its next admitted entry
-until_most : (q : ℕ) (s : State) (es : List Entry) → IsSound s → q < s.procs → has_gone s q ≡ false → AtMost (open_calls q s.parked) (endings_until q (turns_after s es))
+until_most : (q : ℕ) (s : State) (es : List Entry) → IsSound s → q < s.head.procs → has_gone s q ≡ false → AtMost (open_calls q s.parked) (endings_until q (turns_after s es))
 until_most q s [] sound below here = record { most = omega arith; each = tt }
 until_most q s (e ∷ es) sound below here = until_by q s e es (refusal s e.pid) refl sound below here (λ t. until_most q t es) (moves-sound s e sound)
 
@@ -117,7 +119,7 @@ once_by : (s : State) (e : Entry) (es : List Entry) (o : Option Fault) → o ≡
 once_by s e es None is sound after call adm =
     let a = admitted s e.pid (sym is) in
     let gone = turn-gone e.pid.0 s e (inl (call_stays e.step call)) in
-    let rest = until_most e.pid.0 (turn s e).state es after (omega (arith, (turn-account s e).procs, a.below)) (gone ∙ a.here) in
+    let rest = until_most e.pid.0 (turn s e).state es after (omega (arith, procs-of (turn-account s e).head, a.below)) (gone ∙ a.here) in
     let bal : ends e.pid.0 (turn s e).events + open_calls e.pid.0 (turn s e).state.parked ≡ open_calls e.pid.0 s.parked + 1 = rw (same_number e.pid.0) at (turn-balance e.pid.0 s e sound) in
     let one : ends e.pid.0 (turn s e).events + open_calls e.pid.0 (turn s e).state.parked ≤ 1 = omega (arith, bal, open_none e.pid.0 s.parked a.free) in
     let all = joined 1 (open_calls e.pid.0 (turn s e).state.parked) (endings e.pid.0 (turn s e).events) (endings_until e.pid.0 (turns_after (turn s e).state es)) (own_each e (turn s e).events call (turn-answered s e)) rest one in
@@ -129,5 +131,5 @@ once-after s [] sound = tt
 once-after s (e ∷ es) sound = (once_by s e es (refusal s e.pid) refl sound (moves-sound s e sound), once-after (moves s e).state es (moves-sound s e sound))
 
 -- each admitted call of a run has at most one event besides `Parked`
-pub once-law : (n : ℕ) (es : List Entry) → AtMostOnce (turns_after (opening n) es)
-once-law n es = once-after (opening n) es (sound-opening n)
+pub once-law : (head : Head) (es : List Entry) → AtMostOnce (turns_after (opening head) es)
+once-law head es = once-after (opening head) es (sound-opening head)

@@ -3,6 +3,7 @@ use Rattle.std.proofs.Common.{◌≡◌, ◌==◌, ℕ, Bool, true, false, cond,
 use Rattle.std.specs.Option.{option_map, option_map_or}
 use Rattle.hub_base.specs.declared.value.Port.{Port}
 use Rattle.hub_base.specs.declared.entry.Entry.{Entry}
+use Rattle.hub_base.specs.declared.head.Head.{Head}
 use Rattle.hub_base.specs.declared.fault.Fault.{Fault}
 use Rattle.hub_base.specs.State.{State, opening, channel_at}
 use Rattle.hub_base.specs.Steps.{turn, refusal}
@@ -61,15 +62,15 @@ other_number : (o : Option Port) (p : Port) → (option_map_or (λ q. q.0) o 0 =
 other_number None p h = refl
 other_number (Some q) p h = h
 
-pub one_port-law : (n : ℕ) (es : List Entry) (e : Entry) → OnePortLaw n es e
-one_port-law n es e =
-    let s : State = state n es in
-    let after : state n (es ++ e ∷ []) ≡ (moves s e).state = state_after-append (opening n) es (e ∷ []) in
+pub one_port-law : (head : Head) (es : List Entry) (e : Entry) → OnePortLaw head es e
+one_port-law head es e =
+    let s : State = state head es in
+    let after : state head (es ++ e ∷ []) ≡ (moves s e).state = state_after-append (opening head) es (e ∷ []) in
     let named : Option Port = port_touched e.step (moves s e).events in
-    let d = moves-does s e (refusal s e.pid) (state-sound n es) in
+    let d = moves-does s e (refusal s e.pid) (state-sound head es) in
     let changed : Option Port = port_changed e.step (moves s e).events in
-    let others : (p : Port) → is_port changed p ≡ false → channel_at (state n (es ++ e ∷ [])) p ≡ channel_at s p =
-    λ p h. ap (λ (s : State). channel_at s p) after ∙ moves-leaves s e (refusal s e.pid) (state-sound n es) p h in
+    let others : (p : Port) → is_port changed p ≡ false → channel_at (state head (es ++ e ∷ [])) p ≡ channel_at s p =
+    λ p h. ap (λ (s : State). channel_at s p) after ∙ moves-leaves s e (refusal s e.pid) (state-sound head es) p h in
     record {
       made = λ p h.
           subst (λ (s : State). IsMade p (length s.channels)) (sym after)
@@ -77,5 +78,5 @@ one_port-law n es e =
       others = others;
       numbers = λ p h. others p (other_number changed p h);
       moved = λ p h same.
-          moves-moved s e (refusal s e.pid) (state-sound n es) p h (same ∙ ap (λ (s : State). option_map shown (channel_at s p)) after);
+          moves-moved s e (refusal s e.pid) (state-sound head es) p h (same ∙ ap (λ (s : State). option_map shown (channel_at s p)) after);
     }

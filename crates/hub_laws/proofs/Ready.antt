@@ -79,7 +79,7 @@ no_send s p c (Send q v ∷ cs) e none some =
 
 -- an entry that is admitted
 pub record Admitted (s : State) (pid : Pid) : Type 0 where
-  pub below : pid.0 < s.procs
+  pub below : pid.0 < s.head.procs
   pub here : has_gone s pid.0 ≡ false
   pub free : is_waiting s pid.0 ≡ false
 
@@ -92,7 +92,7 @@ below a b e = grind (arith, common_steps)
 
 pub admitted : (s : State) (pid : Pid) → refusal s pid ≡ None → Admitted s pid
 admitted s pid h =
-    let a = none_false (not (nat_lt pid.0 s.procs)) fault.NoProcess (cond (has_gone s pid.0) (Some fault.Gone) (cond (is_waiting s pid.0) (Some fault.Busy) None)) h in
+    let a = none_false (not (nat_lt pid.0 s.head.procs)) fault.NoProcess (cond (has_gone s pid.0) (Some fault.Gone) (cond (is_waiting s pid.0) (Some fault.Busy) None)) h in
     let b = none_false (has_gone s pid.0) fault.Gone (cond (is_waiting s pid.0) (Some fault.Busy) None) a.1 in
     let d = none_false (is_waiting s pid.0) fault.Busy None b.1 in
-    record { below = below pid.0 s.procs a.0; here = b.0; free = d.0 }
+    record { below = below pid.0 s.head.procs a.0; here = b.0; free = d.0 }

@@ -7,6 +7,7 @@ use Rattle.hub_base.specs.declared.value.Value.{Value}
 use Rattle.hub_base.specs.declared.case.Case.{Case}
 use Rattle.hub_base.specs.declared.case.Case.TheVariants.{Send, Recv}
 use Rattle.hub_base.specs.declared.entry.Entry.{Entry}
+use Rattle.hub_base.specs.declared.head.Head.{Head}
 use Rattle.hub_base.specs.declared.fault.Fault.{Fault}
 use Rattle.hub_base.specs.declared.event.What.{What}
 use Rattle.hub_base.specs.declared.event.What.TheVariants as what
@@ -99,13 +100,13 @@ moves-received s e None p sound =
 moves-received s e (Some f) p sound = rw (fault_names_none e.step f) (sym (append-nil (received_on s p)))
 
 -- what is received on a port, by the channel and by the events
-told_by_events : (n : ℕ) (es : List Entry) (p : Port) → received_on (state n es) p ≡ received_values n es p
-told_by_events n es p = got-after (opening n) [] es p (sound-opening n) tt ∙ ap (λ xs. xs ++ received_values n es p) (no_total received_from p)
+told_by_events : (head : Head) (es : List Entry) (p : Port) → received_on (state head es) p ≡ received_values head es p
+told_by_events head es p = got-after (opening head) [] es p (sound-opening head) tt ∙ ap (λ xs. xs ++ received_values head es p) (no_total received_from p)
 
-pub received_values-law : (n : ℕ) (es : List Entry) (e : Entry) → ReceivedLaw n es e
-received_values-law n es e = record {
+pub received_values-law : (head : Head) (es : List Entry) (e : Entry) → ReceivedLaw head es e
+received_values-law head es e = record {
   adds = λ p.
-      ap (λ (s : State). received_on s p) (state-entry n es e)
-      ∙ moves-received (state n es) e (refusal (state n es) e.pid) p (state-sound n es);
-  told = told_by_events n es;
+      ap (λ (s : State). received_on s p) (state-entry head es e)
+      ∙ moves-received (state head es) e (refusal (state head es) e.pid) p (state-sound head es);
+  told = told_by_events head es;
 }

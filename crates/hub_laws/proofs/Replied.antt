@@ -7,6 +7,7 @@ use Rattle.std.proofs.lemmas.Grind.{common_steps}
 use Rattle.std.proofs.lemmas.Bool.{or_parts, eqb-true}
 use Rattle.hub_base.specs.declared.value.Pid.{Pid}
 use Rattle.hub_base.specs.declared.entry.Entry.{Entry}
+use Rattle.hub_base.specs.declared.head.Head.{Head}
 use Rattle.hub_base.specs.declared.event.Event.{Event}
 use Rattle.hub_base.specs.State.{State, OpenCall}
 use Rattle.hub_base.specs.Steps.{refusal, is_waiting}
@@ -84,8 +85,8 @@ one_left test (y ∷ ys) (suc i) x at passes most = by (test y) (one_left test y
 -- Replies
 
 -- who waits after one entry more
-after_entry : (q n : ℕ) (es : List Entry) (e : Entry) → is_waiting (state n (es ++ e ∷ [])) q ≡ is_among q (moves (state n es) e).state.parked
-after_entry q n es e = ap (λ (s : State). is_waiting s q) (state-entry n es e)
+after_entry : (q : ℕ) (head : Head) (es : List Entry) (e : Entry) → is_waiting (state head (es ++ e ∷ [])) q ≡ is_among q (moves (state head es) e).state.parked
+after_entry q head es e = ap (λ (s : State). is_waiting s q) (state-entry head es e)
 
 -- a process that was told of its call does not wait
 free_from : (q : ℕ) (s : State) (e : Entry) → IsSound s → refusal s e.pid ≡ None → ends q (moves s e).events ≡ 1 → is_among q (moves s e).state.parked ≡ false
@@ -93,49 +94,49 @@ free_from q s e sound is told =
     let none : open_calls q (moves s e).state.parked ≡ 0 = omega (arith, told, one_told q s e sound is) in
     among-count q (moves s e).state.parked ∙ ap (λ n. nat_lt 0 n) none
 
-event_replies : (n : ℕ) (es : List Entry) (e : Entry) → refusal (state n es) e.pid ≡ None → AllByRecursion Counted (moves (state n es) e).events →
-    (i : ℕ) (x : Event) → slice_get (moves (state n es) e).events i ≡ Some x → is_parked x.what ≡ false → IsReply n (es ++ e ∷ []) x
-event_replies n es e is counted i x at clear =
+event_replies : (head : Head) (es : List Entry) (e : Entry) → refusal (state head es) e.pid ≡ None → AllByRecursion Counted (moves (state head es) e).events →
+    (i : ℕ) (x : Event) → slice_get (moves (state head es) e).events i ≡ Some x → is_parked x.what ≡ false → IsReply head (es ++ e ∷ []) x
+event_replies head es e is counted i x at clear =
     let q : ℕ = x.pid.0 in
-    let s : State = state n es in
+    let s : State = state head es in
     let same : told_to q (moves s e).events ≡ endings q (moves s e).events = told_endings q (moves s e).events counted in
-    let most : length (told_to q (moves s e).events) ≤ 1 = omega (arith, ap length same, one_told q s e (state-sound n es) is) in
+    let most : length (told_to q (moves s e).events) ≤ 1 = omega (arith, ap length same, one_told q s e (state-sound head es) is) in
     let here : ((x.pid.0 == q) && not (is_parked x.what)) ≡ true = rw (same_number x.pid.0, clear) refl in
     let one : told_to q (moves s e).events ≡ x ∷ [] = one_left (λ y. (y.pid.0 == q) && not (is_parked y.what)) (moves s e).events i x at here most in
     record {
-      reply = reply-entry q n es e ∙ ap (λ xs. last_from (reply q n es) xs) one;
-      free = after_entry q n es e ∙ free_from q s e (state-sound n es) is (ap length (sym same ∙ one));
+      reply = reply-entry q head es e ∙ ap (λ xs. last_from (reply q head es) xs) one;
+      free = after_entry q head es e ∙ free_from q s e (state-sound head es) is (ap length (sym same ∙ one));
     }
 
 -- a process that was told nothing
-untold_left : (n : ℕ) (es : List Entry) (e : Entry) (q : ℕ) → refusal (state n es) e.pid ≡ None → AllByRecursion Counted (moves (state n es) e).events → (e.pid.0 == q) ≡ false → is_told q (moves (state n es) e).events ≡ false → IsLeft n es e q
-untold_left n es e q is counted other untold =
-    let s : State = state n es in
+untold_left : (head : Head) (es : List Entry) (e : Entry) (q : ℕ) → refusal (state head es) e.pid ≡ None → AllByRecursion Counted (moves (state head es) e).events → (e.pid.0 == q) ≡ false → is_told q (moves (state head es) e).events ≡ false → IsLeft head es e q
+untold_left head es e q is counted other untold =
+    let s : State = state head es in
     let none : endings q (moves s e).events ≡ [] = sym (told_endings q (moves s e).events counted) ∙ told_none q (moves s e).events untold in
-    let bal : ends q (moves s e).events + open_calls q (moves s e).state.parked ≡ open_calls q s.parked + 0 = rw other at (moves-balance q s e (state-sound n es) is) in
+    let bal : ends q (moves s e).events + open_calls q (moves s e).state.parked ≡ open_calls q s.parked + 0 = rw other at (moves-balance q s e (state-sound head es) is) in
     let count : open_calls q (moves s e).state.parked ≡ open_calls q s.parked = omega (arith, bal, ap length none) in
     record {
       own = own-others q es (e ∷ []) (rw other refl);
-      reply = reply-untold q n es (e ∷ []) (rw append-nil untold);
-      waits = after_entry q n es e ∙ among-count q (moves s e).state.parked ∙ ap (λ n. nat_lt 0 n) count ∙ sym (among-count q s.parked);
+      reply = reply-untold q head es (e ∷ []) (rw append-nil untold);
+      waits = after_entry q head es e ∙ among-count q (moves s e).state.parked ∙ ap (λ n. nat_lt 0 n) count ∙ sym (among-count q s.parked);
     }
 
 -- a caller that was told `Parked` alone
-parked_waits : (n : ℕ) (es : List Entry) (e : Entry) → refusal (state n es) e.pid ≡ None → AllByRecursion Counted (moves (state n es) e).events → told_to e.pid.0 (moves (state n es) e).events ≡ [] → is_waiting (state n (es ++ e ∷ [])) e.pid.0 ≡ true
-parked_waits n es e is counted none =
-    let s : State = state n es in
-    let bal : ends e.pid.0 (moves s e).events + open_calls e.pid.0 (moves s e).state.parked ≡ open_calls e.pid.0 s.parked + 1 = rw (same_number e.pid.0) at (moves-balance e.pid.0 s e (state-sound n es) is) in
+parked_waits : (head : Head) (es : List Entry) (e : Entry) → refusal (state head es) e.pid ≡ None → AllByRecursion Counted (moves (state head es) e).events → told_to e.pid.0 (moves (state head es) e).events ≡ [] → is_waiting (state head (es ++ e ∷ [])) e.pid.0 ≡ true
+parked_waits head es e is counted none =
+    let s : State = state head es in
+    let bal : ends e.pid.0 (moves s e).events + open_calls e.pid.0 (moves s e).state.parked ≡ open_calls e.pid.0 s.parked + 1 = rw (same_number e.pid.0) at (moves-balance e.pid.0 s e (state-sound head es) is) in
     let free : open_calls e.pid.0 s.parked ≡ 0 = open_none e.pid.0 s.parked (admitted s e.pid is).free in
     let zero_ends : endings e.pid.0 (moves s e).events ≡ [] = sym (told_endings e.pid.0 (moves s e).events counted) ∙ none in
     let one : open_calls e.pid.0 (moves s e).state.parked ≡ 1 = omega (arith, bal, free, ap length zero_ends) in
-    after_entry e.pid.0 n es e ∙ among-count e.pid.0 (moves s e).state.parked ∙ ap (λ n. nat_lt 0 n) one
+    after_entry e.pid.0 head es e ∙ among-count e.pid.0 (moves s e).state.parked ∙ ap (λ n. nat_lt 0 n) one
 
-replied_by : (n : ℕ) (es : List Entry) (e : Entry) (events : List Event) → events ≡ (moves (state n es) e).events → IsAnswered e.pid e.step events →
-    ((i : ℕ) (x : Event) → slice_get events i ≡ Some x → is_parked x.what ≡ false → IsReply n (es ++ e ∷ []) x) →
-    (told_to e.pid.0 events ≡ [] → is_waiting (state n (es ++ e ∷ [])) e.pid.0 ≡ true) →
-    ((q : ℕ) → (e.pid.0 == q) ≡ false → is_told q events ≡ false → IsLeft n es e q) → AreReplied n es e events
-replied_by n es e [] is a each waits left = a
-replied_by n es e (x ∷ xs) is a each waits left = record {
+replied_by : (head : Head) (es : List Entry) (e : Entry) (events : List Event) → events ≡ (moves (state head es) e).events → IsAnswered e.pid e.step events →
+    ((i : ℕ) (x : Event) → slice_get events i ≡ Some x → is_parked x.what ≡ false → IsReply head (es ++ e ∷ []) x) →
+    (told_to e.pid.0 events ≡ [] → is_waiting (state head (es ++ e ∷ [])) e.pid.0 ≡ true) →
+    ((q : ℕ) → (e.pid.0 == q) ≡ false → is_told q events ≡ false → IsLeft head es e q) → AreReplied head es e events
+replied_by head es e [] is a each waits left = a
+replied_by head es e (x ∷ xs) is a each waits left = record {
   caller = a.own;
   answered = each 0 x refl;
   parked = λ parked untold. waits (rw (parked, and-false (x.pid.0 == e.pid.0)) (told_none e.pid.0 xs untold));
@@ -143,12 +144,12 @@ replied_by n es e (x ∷ xs) is a each waits left = record {
   others = λ q untold. left q (ap (λ (p : Pid). p.0 == q) (sym a.own) ∙ (or_parts (x.pid.0 == q) (is_told q xs) untold).0) untold;
 }
   where
-    ended_replies : (xs : List Event) → AllByRecursion (λ x. ends_waiting x.what ≡ true) xs → ((i : ℕ) (x : Event) → slice_get xs i ≡ Some x → is_parked x.what ≡ false → IsReply n (es ++ e ∷ []) x) → AllByRecursion (IsReply n (es ++ e ∷ [])) xs
+    ended_replies : (xs : List Event) → AllByRecursion (λ x. ends_waiting x.what ≡ true) xs → ((i : ℕ) (x : Event) → slice_get xs i ≡ Some x → is_parked x.what ≡ false → IsReply head (es ++ e ∷ []) x) → AllByRecursion (IsReply head (es ++ e ∷ [])) xs
     ended_replies [] ends each = tt
     ended_replies (x ∷ xs) ends each = (each 0 x refl ((waiting-ends x.what ends.0).clear), ended_replies xs ends.1 (λ i y e. each (suc i) y e))
 
-pub replied-law : (n : ℕ) (es : List Entry) (e : Entry) → RepliedLaw n es e
-replied-law n es e is =
-    let answered = moves-answered (state n es) e is in
-    let counted = answered_counts e (moves (state n es) e).events answered in
-    replied_by n es e (moves (state n es) e).events refl answered (event_replies n es e is counted) (parked_waits n es e is counted) (λ q. untold_left n es e q is counted)
+pub replied-law : (head : Head) (es : List Entry) (e : Entry) → RepliedLaw head es e
+replied-law head es e is =
+    let answered = moves-answered (state head es) e is in
+    let counted = answered_counts e (moves (state head es) e).events answered in
+    replied_by head es e (moves (state head es) e).events refl answered (event_replies head es e is counted) (parked_waits head es e is counted) (λ q. untold_left head es e q is counted)

@@ -4,6 +4,7 @@ use Rattle.std.specs.List.{list_any, AllByRecursion}
 use Rattle.std.proofs.lemmas.List.Elements.{filter-append}
 use Rattle.std.proofs.lemmas.Bool.{or_parts, or_from}
 use Rattle.hub_base.specs.declared.entry.Entry.{Entry}
+use Rattle.hub_base.specs.declared.head.Head.{Head}
 use Rattle.hub_base.specs.declared.event.Event.{Event}
 use Rattle.hub_base.specs.declared.fault.Fault.{Fault}
 use Rattle.hub_base.specs.State.{State, OpenCall, opening}
@@ -83,23 +84,23 @@ untold q [] a = refl
 untold q (e ∷ es) a = or_from (e.pid.0 == q) (is_told q es) a.0 (untold q es a.1)
 
 -- what a process was told by a run that goes on
-pub told_to-append : (q n : ℕ) (es fs : List Entry) → told_to q (events n (es ++ fs)) ≡ told_to q (events n es) ++ told_to q (events_after (state n es) fs)
-told_to-append q n es fs = ap (told_to q) (events_after-append (opening n) es fs) ∙ filter-append (λ (e : Event). (e.pid.0 == q) && not (is_parked e.what)) (events n es) (events_after (state n es) fs)
+pub told_to-append : (q : ℕ) (head : Head) (es fs : List Entry) → told_to q (events head (es ++ fs)) ≡ told_to q (events head es) ++ told_to q (events_after (state head es) fs)
+told_to-append q head es fs = ap (told_to q) (events_after-append (opening head) es fs) ∙ filter-append (λ (e : Event). (e.pid.0 == q) && not (is_parked e.what)) (events head es) (events_after (state head es) fs)
 
 -- a process that is not told anything keeps its reply
-pub reply-untold : (q n : ℕ) (es fs : List Entry) → is_told q (events_after (state n es) fs) ≡ false → reply q n (es ++ fs) ≡ reply q n es
-reply-untold q n es fs e = ap (λ xs. last_from None xs) (told_to-append q n es fs ∙ ap (λ xs. told_to q (events n es) ++ xs) (told_none q (events_after (state n es) fs) e) ∙ append-nil (told_to q (events n es)))
+pub reply-untold : (q : ℕ) (head : Head) (es fs : List Entry) → is_told q (events_after (state head es) fs) ≡ false → reply q head (es ++ fs) ≡ reply q head es
+reply-untold q head es fs e = ap (λ xs. last_from None xs) (told_to-append q head es fs ∙ ap (λ xs. told_to q (events head es) ++ xs) (told_none q (events_after (state head es) fs) e) ∙ append-nil (told_to q (events head es)))
 
 last_append : {A : Type 0} (o : Option A) (xs ys : List A) → last_from o (xs ++ ys) ≡ last_from (last_from o xs) ys
 last_append o [] ys = refl
 last_append o (x ∷ xs) ys = last_append (Some x) xs ys
 
 -- one entry more: the last of its events for the process, or what it had
-pub reply-entry : (q n : ℕ) (es : List Entry) (e : Entry) → reply q n (es ++ e ∷ []) ≡ last_from (reply q n es) (told_to q (moves (state n es) e).events)
-reply-entry q n es e =
-    ap (λ xs. last_from None (told_to q xs)) (events-entry n es e)
-    ∙ ap (λ xs. last_from None xs) (filter-append (λ (x : Event). (x.pid.0 == q) && not (is_parked x.what)) (events n es) (moves (state n es) e).events)
-    ∙ last_append None (told_to q (events n es)) (told_to q (moves (state n es) e).events)
+pub reply-entry : (q : ℕ) (head : Head) (es : List Entry) (e : Entry) → reply q head (es ++ e ∷ []) ≡ last_from (reply q head es) (told_to q (moves (state head es) e).events)
+reply-entry q head es e =
+    ap (λ xs. last_from None (told_to q xs)) (events-entry head es e)
+    ∙ ap (λ xs. last_from None xs) (filter-append (λ (x : Event). (x.pid.0 == q) && not (is_parked x.what)) (events head es) (moves (state head es) e).events)
+    ∙ last_append None (told_to q (events head es)) (told_to q (moves (state head es) e).events)
 
 pub own-others : (q : ℕ) (es fs : List Entry) → list_any (λ e. e.pid.0 == q) fs ≡ false → own q (es ++ fs) ≡ own q es
 own-others q es fs e = filter-append (λ (e : Entry). e.pid.0 == q) es fs ∙ ap (λ xs. own q es ++ xs) (own_none q fs (none_by q fs e)) ∙ append-nil (own q es)
@@ -107,13 +108,13 @@ own-others q es fs e = filter-append (λ (e : Entry). e.pid.0 == q) es fs ∙ ap
 pub own-mine : (es : List Entry) (e : Entry) → own e.pid.0 (es ++ e ∷ []) ≡ own e.pid.0 es ++ e ∷ []
 own-mine es e = filter-append (λ (x : Entry). x.pid.0 == e.pid.0) es (e ∷ []) ∙ ap (λ xs. own e.pid.0 es ++ xs) (let h : own e.pid.0 (e ∷ []) ≡ e ∷ [] = rw (same_number e.pid.0) refl in h)
 
-pub replies-law : (n : ℕ) (es : List Entry) (q : ℕ) (fs : List Entry) → RepliesLaw n es q fs
-replies-law n es q fs free others =
-    let after = events_told (Not q) (state n es) fs (state-sound n es) (none_waiting q (state n es).parked free) (none_by q fs others) in
-    let quiet : is_told q (events_after (state n es) fs) ≡ false = untold q (events_after (state n es) fs) after.0 in
+pub replies-law : (head : Head) (es : List Entry) (q : ℕ) (fs : List Entry) → RepliesLaw head es q fs
+replies-law head es q fs free others =
+    let after = events_told (Not q) (state head es) fs (state-sound head es) (none_waiting q (state head es).parked free) (none_by q fs others) in
+    let quiet : is_told q (events_after (state head es) fs) ≡ false = untold q (events_after (state head es) fs) after.0 in
     record {
       own = own-others q es fs others;
       untold = quiet;
-      reply = reply-untold q n es fs quiet;
-      free = ap (λ (s : State). is_waiting s q) (state_after-append (opening n) es fs) ∙ waiting_none q (state_after (state n es) fs).parked after.1;
+      reply = reply-untold q head es fs quiet;
+      free = ap (λ (s : State). is_waiting s q) (state_after-append (opening head) es fs) ∙ waiting_none q (state_after (state head es) fs).parked after.1;
     }

@@ -8,6 +8,7 @@ use Rattle.hub_base.specs.declared.case.Case.{Case}
 use Rattle.hub_base.specs.declared.entry.Step.{Step}
 use Rattle.hub_base.specs.declared.entry.Step.TheVariants.{Call, Exit}
 use Rattle.hub_base.specs.declared.entry.Entry.{Entry}
+use Rattle.hub_base.specs.declared.head.Head.{Head}
 use Rattle.hub_base.specs.declared.event.What.{What}
 use Rattle.hub_base.specs.declared.event.What.TheVariants as what
 use Rattle.hub_base.specs.declared.fault.Fault.{Fault}
@@ -23,7 +24,7 @@ use Rattle.hub_laws.specs.Answers.{is_answer_to}
 use Rattle.hub_laws.specs.OnePort.{port_touched_by, is_port}
 use Rattle.hub_laws.specs.Replies.{is_parked}
 use Rattle.hub_laws.specs.Sound.{is_among, CallFits, PortSound, IsSound}
-use Rattle.hub_laws.proofs.Account.{Account, NamedSound, call_of, deeds_of, with_caller, with_leaver}
+use Rattle.hub_laws.proofs.Account.{Account, NamedSound, call_of, deeds_of, with_caller, with_leaver, procs-of}
 use Rattle.hub_laws.proofs.Entries.{answers-account, effect-account}
 use Rattle.hub_laws.proofs.Calls.{Fewer, all_more, all_snoc, any_snoc, apart_snoc}
 use Rattle.hub_laws.proofs.Deeds.{Deed, at}
@@ -49,7 +50,7 @@ parks_sound s call sound adm fits none = record {
   apart = apart_snoc s.parked call sound.apart adm.free;
   present = λ q h. elim (or_cases (is_waiting s q) (call.pid.0 == q) (sym (any_snoc (λ call. call.pid.0 == q) s.parked call) ∙ h)) [
     | inl l ↦ sound.present q l
-    | inr r ↦ let P : ℕ → Type 0 = λ n. (n < s.procs) × (has_gone s n ≡ false) in subst P (eqb-true call.pid.0 q r) (adm.below, adm.here)
+    | inr r ↦ let P : ℕ → Type 0 = λ n. (n < s.head.procs) × (has_gone s n ≡ false) in subst P (eqb-true call.pid.0 q r) (adm.below, adm.here)
   ];
   calls = all_snoc (CallFits (length s.channels)) s.parked call sound.calls fits;
   ports = λ p c e. port-parks s call.pid call.cases p c e none (sound.ports p c e);
@@ -126,7 +127,7 @@ account_sound s pid step c sound adm h a =
           let among = a.fewer.among q w in
           let there = before.present q among in
           let here = none_left q s pid step a.answer adm a.fits among there.1 in
-          (omega (arith, there.0, a.procs), ap (λ xs. list_any (λ (g : Pid). g.0 == q) xs) a.gone ∙ here);
+          (omega (arith, there.0, procs-of a.head), ap (λ xs. list_any (λ (g : Pid). g.0 == q) xs) a.gone ∙ here);
       calls =
           all_more (CallFits (length s.channels)) (CallFits (length c.state.channels)) c.state.parked
           (λ call. fits_more (length s.channels) (length c.state.channels) call grows) (a.fewer.each (length s.channels) before.calls);
@@ -156,5 +157,5 @@ state_after-sound s [] sound = sound
 state_after-sound s (e ∷ es) sound = state_after-sound (moves s e).state es (moves-sound s e sound)
 
 -- every state of a run is sound
-pub state-sound : (n : ℕ) (es : List Entry) → IsSound (state n es)
-state-sound n es = state_after-sound (opening n) es (sound-opening n)
+pub state-sound : (head : Head) (es : List Entry) → IsSound (state head es)
+state-sound head es = state_after-sound (opening head) es (sound-opening head)

@@ -7,6 +7,7 @@ use Rattle.hub_base.specs.declared.value.Pid.{Pid}
 use Rattle.hub_base.specs.declared.entry.Step.{Step}
 use Rattle.hub_base.specs.declared.entry.Step.TheVariants.{Call, Close}
 use Rattle.hub_base.specs.declared.entry.Entry.{Entry}
+use Rattle.hub_base.specs.declared.head.Head.{Head}
 use Rattle.hub_base.specs.declared.event.What.{What}
 use Rattle.hub_base.specs.declared.fault.Fault.{Fault}
 use Rattle.hub_base.specs.State.{State, Channel, OpenCall, channel_at, opening}
@@ -14,11 +15,11 @@ use Rattle.hub_base.specs.Steps.{Change, calls, closes, effect, turn, refusal}
 use Rattle.hub_base.specs.Runs.{admits, moves, state}
 use Rattle.hub_laws.specs.Sound.{IsSound, is_among, Apart}
 use Rattle.hub_laws.specs.Replies.{is_parked}
-use Rattle.hub_laws.proofs.Account.{Account, with_caller, call_of}
+use Rattle.hub_laws.proofs.Account.{Account, with_caller, call_of, procs-of}
 use Rattle.hub_laws.proofs.Entries.{turn-account}
 use Rattle.hub_laws.proofs.Firing.{calls-account}
 use Rattle.hub_laws.proofs.Distinct.{count-below}
-use Rattle.hub_laws.proofs.Lasting.{procs-after}
+use Rattle.hub_laws.proofs.Lasting.{head-after}
 use Rattle.hub_laws.proofs.Leaving.{Ended, event_of, events_of, Leave, count, count_ended, leave-count, closed}
 use Rattle.hub_laws.proofs.Ready.{Admitted, admitted}
 use Rattle.hub_laws.proofs.Rules.{state-sound}
@@ -74,16 +75,16 @@ effect_size s pid (Close p) sound = closes_size s pid p (channel_at s p)
 effect_size s pid step sound = omega arith
 
 -- beside a caller that is admitted there is room for its call
-pub room-law : (s : State) (pid : Pid) → IsSound s → Admitted s pid → length s.parked < s.procs
+pub room-law : (s : State) (pid : Pid) → IsSound s → Admitted s pid → length s.parked < s.head.procs
 room-law s pid sound adm =
-    let most : length (record { pid = pid; cases = [] } ∷ s.parked) ≤ s.procs = count-below s.procs (record { pid = pid; cases = [] } ∷ s.parked) (adm.free, sound.apart) (λ q e.
-    elim (or_cases (pid.0 == q) (is_among q s.parked) e) [ inl l ↦ subst (λ (n : ℕ). n < s.procs) (eqb-true pid.0 q l) adm.below | inr r ↦ (sound.present q r).0 ]) in
+    let most : length (record { pid = pid; cases = [] } ∷ s.parked) ≤ s.head.procs = count-below s.head.procs (record { pid = pid; cases = [] } ∷ s.parked) (adm.free, sound.apart) (λ q e.
+    elim (or_cases (pid.0 == q) (is_among q s.parked) e) [ inl l ↦ subst (λ (n : ℕ). n < s.head.procs) (eqb-true pid.0 q l) adm.below | inr r ↦ (sound.present q r).0 ]) in
     omega arith
 
-admits_size : (s : State) (e : Entry) (o : Option Fault) → o ≡ refusal s e.pid → IsSound s → length (admits s e o).events ≤ s.procs + 1
+admits_size : (s : State) (e : Entry) (o : Option Fault) → o ≡ refusal s e.pid → IsSound s → length (admits s e o).events ≤ s.head.procs + 1
 admits_size s e None is sound =
     omega (arith, size s e.pid e.step (turn s e) sound.apart (turn-account s e), room-law s e.pid sound (admitted s e.pid (sym is)))
 admits_size s e (Some f) is sound = omega arith
 
-pub events-law : (n : ℕ) (es : List Entry) (e : Entry) → length (moves (state n es) e).events ≤ n + 1
-events-law n es e = omega (arith, admits_size (state n es) e (refusal (state n es) e.pid) refl (state-sound n es), procs-after (opening n) es)
+pub events-law : (head : Head) (es : List Entry) (e : Entry) → length (moves (state head es) e).events ≤ head.procs + 1
+events-law head es e = omega (arith, admits_size (state head es) e (refusal (state head es) e.pid) refl (state-sound head es), procs-of (head-after (opening head) es))

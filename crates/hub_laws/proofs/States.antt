@@ -6,6 +6,7 @@ use Rattle.std.proofs.lemmas.Bool.{or_parts, or_from}
 use Rattle.hub_base.specs.declared.value.Port.{Port}
 use Rattle.hub_base.specs.declared.case.Case.{Case}
 use Rattle.hub_base.specs.declared.entry.Entry.{Entry}
+use Rattle.hub_base.specs.declared.head.Head.{Head}
 use Rattle.hub_base.specs.State.{State, Channel, OpenCall}
 use Rattle.hub_base.specs.Ready.{is_send_on, is_recv_on, is_on}
 use Rattle.hub_base.specs.Runs.{state}
@@ -45,10 +46,10 @@ port-laws p c calls f = record {
   alone = f.alone;
 }
 
-pub count-law : (s : State) → IsSound s → length s.parked ≤ s.procs
-count-law s sound = count-below s.procs s.parked sound.apart (λ q e. (sound.present q e).0)
+pub count-law : (s : State) → IsSound s → length s.parked ≤ s.head.procs
+count-law s sound = count-below s.head.procs s.parked sound.apart (λ q e. (sound.present q e).0)
 
-pub state-laws : (n : ℕ) (es : List Entry) → StateLaws (state n es)
-state-laws n es =
-    let sound = state-sound n es in
-    record { apart = sound.apart; present = sound.present; calls = sound.calls; ports = λ p c e. port-laws p c (state n es).parked (sound.ports p c e); few = ports-law n es; count = count-law (state n es) sound }
+pub state-laws : (head : Head) (es : List Entry) → StateLaws (state head es)
+state-laws head es =
+    let sound = state-sound head es in
+    record { apart = sound.apart; present = sound.present; calls = sound.calls; ports = λ p c e. port-laws p c (state head es).parked (sound.ports p c e); few = ports-law head es; count = count-law (state head es) sound }

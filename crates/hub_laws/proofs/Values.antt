@@ -6,6 +6,7 @@ use Rattle.hub_base.specs.declared.value.Port.{Port}
 use Rattle.hub_base.specs.declared.case.Case.{Case}
 use Rattle.hub_base.specs.declared.event.Outcome.{Outcome}
 use Rattle.hub_base.specs.declared.entry.Entry.{Entry}
+use Rattle.hub_base.specs.declared.head.Head.{Head}
 use Rattle.hub_base.specs.State.{State, Channel, channel_at, opening, buffer_of}
 use Rattle.hub_base.specs.Runs.{moves, state_after, state}
 use Rattle.hub_base.specs.Values.{Turned, turns_after, values_from, sent_on, got_on, sent_values, received_values}
@@ -57,16 +58,16 @@ no_total f p = by (p.0 == 0)
 total_at : {A : Type 0} (f : Channel → List A) (s : State) (p : Port) (c : Channel) → channel_at s p ≡ Some c → total f s.channels p ≡ f c
 total_at f s p c e = let h : at s.channels p ≡ Some c = e in rw h refl
 
-pub sent-law : (n : ℕ) (es : List Entry) (p : Port) (c : Channel) → channel_at (state n es) p ≡ Some c → sent_values n es p ≡ c.sent
-sent-law n es p c e =
-    let h = sent-after (opening n) [] es p (sound-opening n) tt in
-    sym (sym (total_at (λ c. c.sent) (state n es) p c e) ∙ h ∙ ap (λ xs. xs ++ sent_values n es p) (no_total (λ c. c.sent) p))
+pub sent-law : (head : Head) (es : List Entry) (p : Port) (c : Channel) → channel_at (state head es) p ≡ Some c → sent_values head es p ≡ c.sent
+sent-law head es p c e =
+    let h = sent-after (opening head) [] es p (sound-opening head) tt in
+    sym (sym (total_at (λ c. c.sent) (state head es) p c e) ∙ h ∙ ap (λ xs. xs ++ sent_values head es p) (no_total (λ c. c.sent) p))
 
-pub received-law : (n : ℕ) (es : List Entry) (p : Port) (c : Channel) → channel_at (state n es) p ≡ Some c → received_values n es p ≡ take c.received c.sent
-received-law n es p c e =
-    let h = got-after (opening n) [] es p (sound-opening n) tt in
-    sym (sym (total_at (λ c. take c.received c.sent) (state n es) p c e) ∙ h ∙ ap (λ xs. xs ++ received_values n es p) (no_total (λ c. take c.received c.sent) p))
+pub received-law : (head : Head) (es : List Entry) (p : Port) (c : Channel) → channel_at (state head es) p ≡ Some c → received_values head es p ≡ take c.received c.sent
+received-law head es p c e =
+    let h = got-after (opening head) [] es p (sound-opening head) tt in
+    sym (sym (total_at (λ c. take c.received c.sent) (state head es) p c e) ∙ h ∙ ap (λ xs. xs ++ received_values head es p) (no_total (λ c. take c.received c.sent) p))
 
 -- the values received, then those in the buffer, are the values sent
-pub values-law : (n : ℕ) (es : List Entry) (p : Port) (c : Channel) → channel_at (state n es) p ≡ Some c → received_values n es p ++ buffer_of c ≡ sent_values n es p
-values-law n es p c e = ap (λ xs. xs ++ buffer_of c) (received-law n es p c e) ∙ take-append-drop c.received c.sent ∙ sym (sent-law n es p c e)
+pub values-law : (head : Head) (es : List Entry) (p : Port) (c : Channel) → channel_at (state head es) p ≡ Some c → received_values head es p ++ buffer_of c ≡ sent_values head es p
+values-law head es p c e = ap (λ xs. xs ++ buffer_of c) (received-law head es p c e) ∙ take-append-drop c.received c.sent ∙ sym (sent-law head es p c e)

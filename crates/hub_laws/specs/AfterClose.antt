@@ -9,6 +9,7 @@ use Rattle.hub_base.specs.declared.case.Case.{Case}
 use Rattle.hub_base.specs.declared.case.Case.TheVariants.{Recv}
 use Rattle.hub_base.specs.declared.entry.Step.TheVariants.{Close}
 use Rattle.hub_base.specs.declared.entry.Entry.{Entry}
+use Rattle.hub_base.specs.declared.head.Head.{Head}
 use Rattle.hub_base.specs.declared.event.Event.{Event}
 use Rattle.hub_base.specs.declared.event.Outcome.{Outcome}
 use Rattle.hub_base.specs.declared.event.Outcome.TheVariants.{Sent, Got, Drained}
@@ -46,24 +47,24 @@ answers_done (e ∷ es) = is_done e.what
 
 -- what a reading tells of the entries `fs` that follow the entries `es`
 abbrev pub told_later :
-    {A : Type 0} → (Option Case → Outcome → Option A) → ℕ → List Entry → List Entry → List A
-told_later pick n es fs =
-    values_from pick (turns_after (opening n) es) (turns_after (state n es) fs)
+    {A : Type 0} → (Option Case → Outcome → Option A) → Head → List Entry → List Entry → List A
+told_later pick h es fs =
+    values_from pick (turns_after (opening h) es) (turns_after (state h es) fs)
 
 -- of a port that the last of the entries `es` closed: the channel that this left, and what the
 -- entries `fs` tell
-pub record StaysClosed (n : ℕ) (es fs : List Entry) (p : Port) : Type 0 where
+pub record StaysClosed (h : Head) (es fs : List Entry) (p : Port) : Type 0 where
   pub left : Channel
-  pub made : channel_at (state n es) p ≡ Some left
+  pub made : channel_at (state h es) p ≡ Some left
   pub closed : left.closed ≡ true
-  pub sent : told_later (sent_at p) n es fs ≡ []
-  pub heard : Drains (buffer_of left) (told_later (heard p) n es fs)
+  pub sent : told_later (sent_at p) h es fs ≡ []
+  pub heard : Drains (buffer_of left) (told_later (heard p) h es fs)
 
 abbrev pub close_by : Pid → Port → Entry
 close_by pid p = record { pid = pid; step = Close p }
 
 -- after a close that was answered `Done`, whatever entries follow
-abbrev pub AfterCloseLaw : ℕ → List Entry → Pid → Port → List Entry → Type 0
-AfterCloseLaw n es pid p fs =
-    answers_done (moves (state n es) (close_by pid p)).events ≡ true →
-    StaysClosed n (es ++ close_by pid p ∷ []) fs p
+abbrev pub AfterCloseLaw : Head → List Entry → Pid → Port → List Entry → Type 0
+AfterCloseLaw h es pid p fs =
+    answers_done (moves (state h es) (close_by pid p)).events ≡ true →
+    StaysClosed h (es ++ close_by pid p ∷ []) fs p

@@ -6,6 +6,7 @@ use Rattle.hub_base.specs.declared.value.Pid.{Pid}
 use Rattle.hub_base.specs.declared.entry.Step.{Step}
 use Rattle.hub_base.specs.declared.entry.Step.TheVariants.{Make, Call, Close, Exit}
 use Rattle.hub_base.specs.declared.entry.Entry.{Entry}
+use Rattle.hub_base.specs.declared.head.Head.{Head}
 use Rattle.hub_base.specs.declared.fault.Fault.{Fault}
 use Rattle.hub_base.specs.declared.event.What.{What}
 use Rattle.hub_base.specs.declared.event.What.TheVariants as what
@@ -43,16 +44,16 @@ IsAnswered pid step [] = ⊥
 IsAnswered pid step (answer ∷ ended) = Answered pid step answer ended
 
 -- an admitted entry is answered so
-abbrev pub AnswersLaw : ℕ → List Entry → Entry → Type 0
-AnswersLaw n es e =
-    refusal (state n es) e.pid ≡ None → IsAnswered e.pid e.step (moves (state n es) e).events
+abbrev pub AnswersLaw : Head → List Entry → Entry → Type 0
+AnswersLaw h es e =
+    refusal (state h es) e.pid ≡ None → IsAnswered e.pid e.step (moves (state h es) e).events
 
 -- an entry that is not admitted gives one event, a fault of its process, and changes nothing
-pub record PassedOver (n : ℕ) (es : List Entry) (e : Entry) (f : Fault) : Type 0 where
-  pub events : (moves (state n es) e).events ≡ tells e.pid (what.Fault f) ∷ []
-  pub state : (moves (state n es) e).state ≡ state n es
+pub record PassedOver (h : Head) (es : List Entry) (e : Entry) (f : Fault) : Type 0 where
+  pub events : (moves (state h es) e).events ≡ tells e.pid (what.Fault f) ∷ []
+  pub state : (moves (state h es) e).state ≡ state h es
   pub refuses : refuses_entry f ≡ true
 
-abbrev pub PassedOverLaw : ℕ → List Entry → Entry → Type 0
-PassedOverLaw n es e =
-    (f : Fault) → refusal (state n es) e.pid ≡ Some f → PassedOver n es e f
+abbrev pub PassedOverLaw : Head → List Entry → Entry → Type 0
+PassedOverLaw h es e =
+    (f : Fault) → refusal (state h es) e.pid ≡ Some f → PassedOver h es e f

@@ -3,6 +3,7 @@
 use Rattle.std.specs.Prelude.{◌≡◌, ◌≤◌, ℕ, List, length, Some}
 use Rattle.hub_base.specs.declared.value.Port.{Port}
 use Rattle.hub_base.specs.declared.entry.Entry.{Entry}
+use Rattle.hub_base.specs.declared.head.Head.{Head}
 use Rattle.hub_base.specs.State.{Channel, channel_at}
 use Rattle.hub_base.specs.Runs.{state, kept}
 use Rattle.hub_base.specs.Text.{steps_of}
@@ -13,7 +14,7 @@ pub record CountsWithin (c : Channel) (most : ℕ) : Type 0 where
   pub sent : length c.sent ≤ most
 
 -- each channel of a run, against the run's admitted entries that are no exits
-abbrev pub CountsLaw : ℕ → List Entry → Type 0
-CountsLaw n es =
-    (p : Port) (c : Channel) → channel_at (state n es) p ≡ Some c →
-    CountsWithin c (steps_of (kept n es))
+abbrev pub CountsLaw : Head → List Entry → Type 0
+CountsLaw h es =
+    (p : Port) (c : Channel) → channel_at (state h es) p ≡ Some c →
+    CountsWithin c (steps_of (kept h es))

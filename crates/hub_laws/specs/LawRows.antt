@@ -11,7 +11,7 @@ use Rattle.hub_base.specs.Runs.{state, moves, events, kept}
 use Rattle.hub_base.specs.Values.{turns_after}
 use Rattle.hub_base.specs.Text.{steps_of}
 use Rattle.hub_base.specs.Value.{value_of}
-use Rattle.hub_base.specs.Notation.{port, s, r, make, send, recv, close, exit, select, case, told, got}
+use Rattle.hub_base.specs.Notation.{procs, port, s, r, make, send, recv, close, exit, select, case, told, got}
 use Rattle.hub_laws.specs.Sound.{some_call}
 use Rattle.hub_laws.specs.Once.{endings, endings_until, ends_call, is_refusal}
 use Rattle.hub_laws.specs.AfterClose.{told_later, sent_at, heard, answers_done}
@@ -28,10 +28,10 @@ use Rattle.hub_laws.specs.Received.{got_at, received_on}
 abbrev both_wait : List Entry
 both_wait = make 0 0 ∷ select 1 0 (s 1 4 ∷ r 1 ∷ []) false ∷ []
 
-pub receiver_row : some_call (is_recv_on (port 1)) (state 2 both_wait).parked ≡ true
+pub receiver_row : some_call (is_recv_on (port 1)) (state (procs 2) both_wait).parked ≡ true
 receiver_row = refl
 
-pub sender_row : some_call (is_send_on (port 1)) (state 2 both_wait).parked ≡ true
+pub sender_row : some_call (is_send_on (port 1)) (state (procs 2) both_wait).parked ≡ true
 sender_row = refl
 
 -- ---- after a close
@@ -43,17 +43,17 @@ until_close = make 0 2 ∷ send 0 1 7 ∷ send 0 1 8 ∷ recv 1 1 ∷ close 0 1 
 abbrev then_drained : List Entry
 then_drained = recv 1 1 ∷ send 0 1 9 ∷ recv 0 1 ∷ recv 1 1 ∷ []
 
-pub closed_row : told_later (heard (port 1)) 2 until_close then_drained ≡ got 8 ∷ Drained ∷ Drained ∷ []
+pub closed_row : told_later (heard (port 1)) (procs 2) until_close then_drained ≡ got 8 ∷ Drained ∷ Drained ∷ []
 closed_row = refl
 
-pub unsent_row : told_later (sent_at (port 1)) 2 until_close then_drained ≡ []
+pub unsent_row : told_later (sent_at (port 1)) (procs 2) until_close then_drained ≡ []
 unsent_row = refl
 
 -- without the close the send completes
-pub sent_row : told_later (sent_at (port 1)) 2 (make 0 2 ∷ []) (send 0 1 9 ∷ recv 0 1 ∷ []) ≡ s 1 9 ∷ []
+pub sent_row : told_later (sent_at (port 1)) (procs 2) (make 0 2 ∷ []) (send 0 1 9 ∷ recv 0 1 ∷ []) ≡ s 1 9 ∷ []
 sent_row = refl
 
-pub done_row : answers_done (moves (state 2 (make 0 2 ∷ [])) (close 0 1)).events ≡ true
+pub done_row : answers_done (moves (state (procs 2) (make 0 2 ∷ [])) (close 0 1)).events ≡ true
 done_row = refl
 
 -- ---- at most one event
@@ -69,23 +69,23 @@ either = select 1 0 (r 1 ∷ r 2 ∷ []) false
 abbrev then_sent : List Entry
 then_sent = recv 1 1 ∷ send 0 2 8 ∷ send 0 1 9 ∷ recv 1 1 ∷ send 0 2 3 ∷ []
 
-pub once_row : endings 1 (moves (state 3 two_ports) either).events ≡ []
+pub once_row : endings 1 (moves (state (procs 3) two_ports) either).events ≡ []
 once_row = refl
 
-pub until_row : endings_until 1 (turns_after (moves (state 3 two_ports) either).state then_sent) ≡ case 1 1 (got 8) ∷ []
+pub until_row : endings_until 1 (turns_after (moves (state (procs 3) two_ports) either).state then_sent) ≡ case 1 1 (got 8) ∷ []
 until_row = refl
 
 -- a call that parks and stalls in one step, one that takes its default, and one that is faulty
-pub stalled_row : endings 0 (moves (state 1 (make 0 0 ∷ [])) (recv 0 1)).events ≡ told 0 what.Stalled ∷ []
+pub stalled_row : endings 0 (moves (state (procs 1) (make 0 0 ∷ [])) (recv 0 1)).events ≡ told 0 what.Stalled ∷ []
 stalled_row = refl
 
 abbrev try_recv : Entry
 try_recv = select 0 0 (r 1 ∷ []) true
 
-pub default_row : endings 0 (moves (state 1 (make 0 0 ∷ [])) try_recv).events ≡ told 0 what.Default ∷ []
+pub default_row : endings 0 (moves (state (procs 1) (make 0 0 ∷ [])) try_recv).events ≡ told 0 what.Default ∷ []
 default_row = refl
 
-pub faulty_row : endings 0 (moves (state 1 []) (recv 0 1)).events ≡ told 0 (what.Fault fault.NoPort) ∷ []
+pub faulty_row : endings 0 (moves (state (procs 1) []) (recv 0 1)).events ≡ told 0 (what.Fault fault.NoPort) ∷ []
 faulty_row = refl
 
 pub no_end_row : ends_call what.Done ≡ false
@@ -101,46 +101,46 @@ no_answer_row = refl
 
 -- ---- the one port that is written
 
-pub fired_row : touched 2 (make 0 1 ∷ make 0 1 ∷ send 0 2 5 ∷ []) either ≡ Some (port 2)
+pub fired_row : touched (procs 2) (make 0 1 ∷ make 0 1 ∷ send 0 2 5 ∷ []) either ≡ Some (port 2)
 fired_row = refl
 
-pub made_row : touched 1 (make 0 1 ∷ []) (make 0 3) ≡ Some (port 2)
+pub made_row : touched (procs 1) (make 0 1 ∷ []) (make 0 3) ≡ Some (port 2)
 made_row = refl
 
-pub shut_row : touched 1 (make 0 1 ∷ []) (close 0 1) ≡ Some (port 1)
+pub shut_row : touched (procs 1) (make 0 1 ∷ []) (close 0 1) ≡ Some (port 1)
 shut_row = refl
 
-pub parked_row : touched 2 (make 0 1 ∷ []) (recv 1 1) ≡ None
+pub parked_row : touched (procs 2) (make 0 1 ∷ []) (recv 1 1) ≡ None
 parked_row = refl
 
-pub passed_row : touched 1 (make 0 0 ∷ []) try_recv ≡ None
+pub passed_row : touched (procs 1) (make 0 0 ∷ []) try_recv ≡ None
 passed_row = refl
 
 -- who waits for ever is told so, and no port is written
-pub stalls_row : touched 2 (make 0 0 ∷ recv 1 1 ∷ []) (recv 0 1) ≡ None
+pub stalls_row : touched (procs 2) (make 0 0 ∷ recv 1 1 ∷ []) (recv 0 1) ≡ None
 stalls_row = refl
 
-pub gone_row : touched 1 [] (exit 0) ≡ None
+pub gone_row : touched (procs 1) [] (exit 0) ≡ None
 gone_row = refl
 
-pub fault_row : touched 1 [] (close 0 1) ≡ None
+pub fault_row : touched (procs 1) [] (close 0 1) ≡ None
 fault_row = refl
 
-pub refused_row : touched 1 (exit 0 ∷ []) (make 0 1) ≡ None
+pub refused_row : touched (procs 1) (exit 0 ∷ []) (make 0 1) ≡ None
 refused_row = refl
 
-pub number_row : number_of (touched 1 (exit 0 ∷ []) (make 0 1)) ≡ 0
+pub number_row : number_of (touched (procs 1) (exit 0 ∷ []) (make 0 1)) ≡ 0
 number_row = refl
 
 -- and changed
-pub writes_row : changed 1 (make 0 1 ∷ []) (send 0 1 5) ≡ Some (port 1)
+pub writes_row : changed (procs 1) (make 0 1 ∷ []) (send 0 1 5) ≡ Some (port 1)
 writes_row = refl
 
 -- a case that finds its port closed changes none
-pub found_closed_row : changed 1 (make 0 1 ∷ close 0 1 ∷ []) (send 0 1 5) ≡ None
+pub found_closed_row : changed (procs 1) (make 0 1 ∷ close 0 1 ∷ []) (send 0 1 5) ≡ None
 found_closed_row = refl
 
-pub found_drained_row : changed 1 (make 0 1 ∷ close 0 1 ∷ []) (recv 0 1) ≡ None
+pub found_drained_row : changed (procs 1) (make 0 1 ∷ close 0 1 ∷ []) (recv 0 1) ≡ None
 found_drained_row = refl
 
 -- ---- replies
@@ -151,20 +151,20 @@ until_met = make 0 0 ∷ recv 1 1 ∷ send 0 1 5 ∷ []
 pub own_row : own 0 until_met ≡ make 0 0 ∷ send 0 1 5 ∷ []
 own_row = refl
 
-pub caller_row : reply 0 2 until_met ≡ Some (case 0 0 Sent)
+pub caller_row : reply 0 (procs 2) until_met ≡ Some (case 0 0 Sent)
 caller_row = refl
 
-pub ended_row : reply 1 2 until_met ≡ Some (case 1 0 (got 5))
+pub ended_row : reply 1 (procs 2) until_met ≡ Some (case 1 0 (got 5))
 ended_row = refl
 
 -- while it waits it has none
-pub waits_row : reply 1 2 (make 0 0 ∷ recv 1 1 ∷ []) ≡ None
+pub waits_row : reply 1 (procs 2) (make 0 0 ∷ recv 1 1 ∷ []) ≡ None
 waits_row = refl
 
-pub stall_row : reply 1 2 (make 0 0 ∷ recv 1 1 ∷ exit 0 ∷ []) ≡ Some (told 1 what.Stalled)
+pub stall_row : reply 1 (procs 2) (make 0 0 ∷ recv 1 1 ∷ exit 0 ∷ []) ≡ Some (told 1 what.Stalled)
 stall_row = refl
 
-pub own_stall_row : reply 0 1 (make 0 0 ∷ recv 0 1 ∷ []) ≡ Some (told 0 what.Stalled)
+pub own_stall_row : reply 0 (procs 1) (make 0 0 ∷ recv 0 1 ∷ []) ≡ Some (told 0 what.Stalled)
 own_stall_row = refl
 
 -- ---- journals
@@ -173,33 +173,33 @@ own_stall_row = refl
 abbrev with_refused : List Entry
 with_refused = make 0 0 ∷ recv 1 1 ∷ recv 1 1 ∷ exit 7 ∷ send 0 1 5 ∷ []
 
-pub kept_row : kept 2 with_refused ≡ until_met
+pub kept_row : kept (procs 2) with_refused ≡ until_met
 kept_row = refl
 
-pub legal_row : IsLegal 2 until_met
+pub legal_row : IsLegal (procs 2) until_met
 legal_row = refl
 
-pub events_row : filter (λ x. not (is_refusal x.what)) (events 2 with_refused) ≡ events 2 until_met
+pub events_row : filter (λ x. not (is_refusal x.what)) (events (procs 2) with_refused) ≡ events (procs 2) until_met
 events_row = refl
 
-pub length_row : length (events 2 with_refused) ≡ 6
+pub length_row : length (events (procs 2) with_refused) ≡ 6
 length_row = refl
 
 -- ---- limits and counts
 
-pub exits_row : exits_of 0 (kept 2 (exit 0 ∷ exit 0 ∷ exit 1 ∷ [])) ≡ exit 0 ∷ []
+pub exits_row : exits_of 0 (kept (procs 2) (exit 0 ∷ exit 0 ∷ exit 1 ∷ [])) ≡ exit 0 ∷ []
 exits_row = refl
 
 abbrev two_sent : List Entry
 two_sent = make 0 2 ∷ send 0 1 7 ∷ send 0 1 8 ∷ recv 1 1 ∷ exit 1 ∷ []
 
-pub steps_row : steps_of (kept 2 two_sent) ≡ 4
+pub steps_row : steps_of (kept (procs 2) two_sent) ≡ 4
 steps_row = refl
 
-pub count_row : option_map (λ c. length c.sent) (channel_at (state 2 two_sent) (port 1)) ≡ Some 2
+pub count_row : option_map (λ c. length c.sent) (channel_at (state (procs 2) two_sent) (port 1)) ≡ Some 2
 count_row = refl
 
-pub buffer_row : option_map (λ c. buffer_of c) (channel_at (state 2 two_sent) (port 1)) ≡ Some (value_of 8 ∷ [])
+pub buffer_row : option_map (λ c. buffer_of c) (channel_at (state (procs 2) two_sent) (port 1)) ≡ Some (value_of 8 ∷ [])
 buffer_row = refl
 
 -- ---- received values
@@ -209,17 +209,17 @@ abbrev until_handed : List Entry
 until_handed = make 0 0 ∷ make 0 0 ∷ select 1 0 (r 1 ∷ r 2 ∷ []) false ∷ []
 
 pub handed_row :
-    got_at (touched 2 until_handed (send 0 2 8)) (moves (state 2 until_handed) (send 0 2 8)).events (port 2)
+    got_at (touched (procs 2) until_handed (send 0 2 8)) (moves (state (procs 2) until_handed) (send 0 2 8)).events (port 2)
     ≡ value_of 8 ∷ []
 handed_row = refl
 
 pub other_port_row :
-    got_at (touched 2 until_handed (send 0 2 8)) (moves (state 2 until_handed) (send 0 2 8)).events (port 1) ≡ []
+    got_at (touched (procs 2) until_handed (send 0 2 8)) (moves (state (procs 2) until_handed) (send 0 2 8)).events (port 1) ≡ []
 other_port_row = refl
 
 -- a value that is only buffered is not received
-pub received_row : received_on (state 2 two_sent) (port 1) ≡ value_of 7 ∷ []
+pub received_row : received_on (state (procs 2) two_sent) (port 1) ≡ value_of 7 ∷ []
 received_row = refl
 
-pub unmade_row : received_on (state 2 two_sent) (port 2) ≡ []
+pub unmade_row : received_on (state (procs 2) two_sent) (port 2) ≡ []
 unmade_row = refl

@@ -4,6 +4,7 @@
 use Rattle.std.specs.Prelude.{◌≤◌, ◌<◌, ◌+◌, ◌==◌, ◌&&◌, ℕ, List, length, filter}
 use Rattle.std.specs.List.{AllByRecursion}
 use Rattle.hub_base.specs.declared.entry.Entry.{Entry}
+use Rattle.hub_base.specs.declared.head.Head.{Head}
 use Rattle.hub_base.specs.Reading.{is_exit}
 use Rattle.hub_base.specs.Runs.{kept}
 use Rattle.hub_base.specs.Text.{steps_of}
@@ -12,8 +13,8 @@ use Rattle.hub_base.specs.Text.{steps_of}
 abbrev pub exits_of : ℕ → List Entry → List Entry
 exits_of q es = filter (λ e. is_exit e.step && (e.pid.0 == q)) es
 
-pub record LimitsLaw (n : ℕ) (es : List Entry) : Type 0 where
-  pub once : (q : ℕ) → length (exits_of q (kept n es)) ≤ 1
+pub record LimitsLaw (h : Head) (es : List Entry) : Type 0 where
+  pub once : (q : ℕ) → length (exits_of q (kept h es)) ≤ 1
   -- admitted entries are of processes that there are
-  pub below : AllByRecursion (λ e. e.pid.0 < n) (kept n es)
-  pub length : length (kept n es) ≤ steps_of (kept n es) + n
+  pub below : AllByRecursion (λ e. e.pid.0 < h.procs) (kept h es)
+  pub length : length (kept h es) ≤ steps_of (kept h es) + h.procs

@@ -7,6 +7,7 @@ use Rattle.std.specs.List.{AllByRecursion}
 use Rattle.hub_base.specs.declared.entry.Step.{Step}
 use Rattle.hub_base.specs.declared.entry.Step.TheVariants.{Make, Call, Close, Exit}
 use Rattle.hub_base.specs.declared.entry.Entry.{Entry}
+use Rattle.hub_base.specs.declared.head.Head.{Head}
 use Rattle.hub_base.specs.declared.fault.Fault.TheVariants as fault
 use Rattle.hub_base.specs.declared.event.Event.{Event}
 use Rattle.hub_base.specs.declared.event.What.{What}
@@ -72,5 +73,5 @@ AtMostOnce (t ∷ ts) =
     × AtMostOnce ts
 
 -- of a whole run
-abbrev pub OnceLaw : ℕ → List Entry → Type 0
-OnceLaw n es = AtMostOnce (turns_after (opening n) es)
+abbrev pub OnceLaw : Head → List Entry → Type 0
+OnceLaw h es = AtMostOnce (turns_after (opening h) es)

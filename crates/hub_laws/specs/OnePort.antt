@@ -8,6 +8,7 @@ use Rattle.hub_base.specs.declared.value.Port.{Port}
 use Rattle.hub_base.specs.declared.entry.Step.{Step}
 use Rattle.hub_base.specs.declared.entry.Step.TheVariants.{Make, Call, Close}
 use Rattle.hub_base.specs.declared.entry.Entry.{Entry}
+use Rattle.hub_base.specs.declared.head.Head.{Head}
 use Rattle.hub_base.specs.declared.event.Outcome.TheVariants.{Drained, Closed}
 use Rattle.hub_base.specs.declared.event.What.{What}
 use Rattle.hub_base.specs.declared.event.What.TheVariants as what
@@ -61,12 +62,12 @@ IsPort p s = IsMade p (length s.channels)
 -- ---- entry e after the entries es
 
 -- the port that its answer names
-abbrev pub touched : ℕ → List Entry → Entry → Option Port
-touched n es e = port_touched e.step (moves (state n es) e).events
+abbrev pub touched : Head → List Entry → Entry → Option Port
+touched h es e = port_touched e.step (moves (state h es) e).events
 
 -- the port that it changes
-abbrev pub changed : ℕ → List Entry → Entry → Option Port
-changed n es e = port_changed e.step (moves (state n es) e).events
+abbrev pub changed : Head → List Entry → Entry → Option Port
+changed h es e = port_changed e.step (moves (state h es) e).events
 
 -- what a channel shows besides its capacity: whether it is closed, and how many values were sent and received
 pub record Shown : Type 0 where
@@ -78,14 +79,14 @@ abbrev pub shown : Channel → Shown
 shown c = record { closed = c.closed; sent = length c.sent; received = c.received }
 
 -- the port has the channel that it had: its capacity, whether it is closed, and its counts
-abbrev pub Untouched : ℕ → List Entry → Entry → Port → Type 0
-Untouched n es e p = channel_at (state n (es ++ e ∷ [])) p ≡ channel_at (state n es) p
+abbrev pub Untouched : Head → List Entry → Entry → Port → Type 0
+Untouched h es e p = channel_at (state h (es ++ e ∷ [])) p ≡ channel_at (state h es) p
 
 -- the port that is named is made; but for the port that is changed every one is as it was, also where
 -- it is told by numbers; and that port is made then, or shows something else
-pub record OnePortLaw (n : ℕ) (es : List Entry) (e : Entry) : Type 0 where
-  pub made : (p : Port) → touched n es e ≡ Some p → IsPort p (state n (es ++ e ∷ []))
-  pub others : (p : Port) → is_port (changed n es e) p ≡ false → Untouched n es e p
-  pub numbers : (p : Port) → (number_of (changed n es e) == p.0) ≡ false → Untouched n es e p
-  pub moved : (p : Port) → changed n es e ≡ Some p
-      → option_map shown (channel_at (state n es) p) ≡ option_map shown (channel_at (state n (es ++ e ∷ [])) p) → ⊥
+pub record OnePortLaw (h : Head) (es : List Entry) (e : Entry) : Type 0 where
+  pub made : (p : Port) → touched h es e ≡ Some p → IsPort p (state h (es ++ e ∷ []))
+  pub others : (p : Port) → is_port (changed h es e) p ≡ false → Untouched h es e p
+  pub numbers : (p : Port) → (number_of (changed h es e) == p.0) ≡ false → Untouched h es e p
+  pub moved : (p : Port) → changed h es e ≡ Some p
+      → option_map shown (channel_at (state h es) p) ≡ option_map shown (channel_at (state h (es ++ e ∷ [])) p) → ⊥

@@ -7,6 +7,7 @@ use Rattle.std.specs.Option.{option_map_or}
 use Rattle.hub_base.specs.declared.value.Port.{Port}
 use Rattle.hub_base.specs.declared.value.Value.{Value}
 use Rattle.hub_base.specs.declared.entry.Entry.{Entry}
+use Rattle.hub_base.specs.declared.head.Head.{Head}
 use Rattle.hub_base.specs.declared.event.Outcome.{Outcome}
 use Rattle.hub_base.specs.declared.event.Outcome.TheVariants.{Sent, Got, Drained, Closed}
 use Rattle.hub_base.specs.declared.event.What.{What}
@@ -51,9 +52,9 @@ abbrev pub received_on : State → Port → List Value
 received_on s p = option_map_or received_from (channel_at s p) []
 
 -- entry e after the entries es, for any port
-pub record ReceivedLaw (n : ℕ) (es : List Entry) (e : Entry) : Type 0 where
+pub record ReceivedLaw (h : Head) (es : List Entry) (e : Entry) : Type 0 where
   pub adds : (p : Port)
-      → received_on (state n (es ++ e ∷ [])) p
-      ≡ received_on (state n es) p ++ got_at (touched n es e) (moves (state n es) e).events p
+      → received_on (state h (es ++ e ∷ [])) p
+      ≡ received_on (state h es) p ++ got_at (touched h es e) (moves (state h es) e).events p
   -- these are the values that entries and events alone tell
-  pub told : (p : Port) → received_on (state n es) p ≡ received_values n es p
+  pub told : (p : Port) → received_on (state h es) p ≡ received_values h es p

@@ -50,6 +50,6 @@ pub record PortSound (p : Port) (c : Channel) (calls : List OpenCall) : Type 0 w
 
 pub record IsSound (s : State) : Type 0 where
   pub apart : Apart s.parked
-  pub present : (q : ℕ) → is_waiting s q ≡ true → (q < s.procs) × (has_gone s q ≡ false)
+  pub present : (q : ℕ) → is_waiting s q ≡ true → (q < s.head.procs) × (has_gone s q ≡ false)
   pub calls : AllByRecursion (CallFits (length s.channels)) s.parked
   pub ports : (p : Port) (c : Channel) → channel_at s p ≡ Some c → PortSound p c s.parked

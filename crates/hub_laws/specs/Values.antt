@@ -4,12 +4,13 @@
 use Rattle.std.specs.Prelude.{◌≡◌, ◌++◌, ℕ, List, Some}
 use Rattle.hub_base.specs.declared.value.Port.{Port}
 use Rattle.hub_base.specs.declared.entry.Entry.{Entry}
+use Rattle.hub_base.specs.declared.head.Head.{Head}
 use Rattle.hub_base.specs.State.{Channel, channel_at, buffer_of}
 use Rattle.hub_base.specs.Runs.{state}
 use Rattle.hub_base.specs.Values.{sent_values, received_values}
 
 -- of each port that is made
-abbrev pub ValuesLaw : ℕ → List Entry → Type 0
-ValuesLaw n es =
-    (p : Port) (c : Channel) → channel_at (state n es) p ≡ Some c →
-    received_values n es p ++ buffer_of c ≡ sent_values n es p
+abbrev pub ValuesLaw : Head → List Entry → Type 0
+ValuesLaw h es =
+    (p : Port) (c : Channel) → channel_at (state h es) p ≡ Some c →
+    received_values h es p ++ buffer_of c ≡ sent_values h es p

@@ -2,10 +2,10 @@
 
 ghost use Rattle.hub_laws.specs.Counts.{CountsLaw};
 
-use hub_base::Entry;
+use hub_base::{Entry, Head};
 
 /// No channel has received more than it sent, or sent more than the run's admitted entries that are
 /// no exits.
-pub fn counts_are_bounded(procs: u8, entries: &[Entry])
-    ensures { CountsLaw procs entries.now }
+pub fn counts_are_bounded(head: Head, entries: &[Entry])
+    ensures { CountsLaw head entries.now }
 {}

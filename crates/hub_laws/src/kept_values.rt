@@ -2,10 +2,10 @@
 
 ghost use Rattle.hub_laws.specs.Values.{ValuesLaw};
 
-use hub_base::Entry;
+use hub_base::{Entry, Head};
 
 /// The values received on a port, and then those in its buffer, are the values sent, in order of
 /// completion.
-pub fn values_are_kept(procs: u8, entries: &[Entry])
-    ensures { ValuesLaw procs entries.now }
+pub fn values_are_kept(head: Head, entries: &[Entry])
+    ensures { ValuesLaw head entries.now }
 {}

@@ -4,9 +4,9 @@
 ghost use Rattle.hub_base.specs.Runs.{state};
 ghost use Rattle.hub_laws.specs.States.{StateLaws};
 
-use hub_base::Entry;
+use hub_base::{Entry, Head};
 
 /// Every state that a run reaches is sound.
-pub fn states_are_sound(procs: u8, entries: &[Entry])
-    ensures { StateLaws (state procs entries.now) }
+pub fn states_are_sound(head: Head, entries: &[Entry])
+    ensures { StateLaws (state head entries.now) }
 {}

@@ -16,7 +16,7 @@ use Rattle.hub_laws.specs.Replies.{own, reply}
 use Rattle.hub_laws.proofs.Journals.{begins-law}
 use Rattle.hub_laws.proofs.Replies.{own-mine}
 use Rattle.hub_core.specs.HubView.{HubView, Steps, state_of}
-use Rattle.hub_live.specs.declared.name.Terms.{Terms}
+use Rattle.hub_core.specs.declared.terms.Terms.{Terms}
 use Rattle.hub_live.specs.declared.rule.View.{View}
 use Rattle.hub_live.specs.Locked.{LockedView, Serves, IsReplyTo}
 use Rattle.hub_live.specs.Mark.{mark, mark_at, port_numbered, MarksOne, IsOther}
@@ -61,7 +61,7 @@ pub record IsParted (name : Name) (l : LockedView) (hub back : Seat (Unit {0}) V
   pub seen : back.me.0.seen ≡ l.hub.journal
 
 pub parted_desk : (name : Name) (l : LockedView) (hub back : Seat (Unit {0}) View) (pid : Pid) (w : View) → hub.table_id ≡ name.table → back.table_id ≡ name.table → hub.me ≡ (parted w, []) → back.me ≡ (given_back w, [])
-    → w.seen ≡ l.hub.journal → w.joined_seen ≡ l.hub.journal → w.number ≡ Some 0 → w.joined ≡ Some (pid.0 + 1) → w.terms ≡ name.terms → IsHub name.terms l.hub → pid.0 < name.terms.procs → IsParted name l hub back pid
+    → w.seen ≡ l.hub.journal → w.joined_seen ≡ l.hub.journal → w.number ≡ Some 0 → w.joined ≡ Some (pid.0 + 1) → w.terms ≡ name.terms → IsHub name.terms l.hub → pid.0 < name.terms.head.procs → IsParted name l hub back pid
 parted_desk name l hub back pid w ht bt hm bm whole both number joined terms is below =
     let seen : back.me.0.seen ≡ l.hub.journal = ap (λ m. m.0.seen) bm ∙ both in
     let back_terms : back.me.0.terms ≡ name.terms = ap (λ m. m.0.terms) bm ∙ terms in
@@ -79,7 +79,7 @@ parted_desk name l hub back pid w ht bt hm bm whole both number joined terms is 
         free = ap (λ m. m.1) bm;
         number = ap (λ m. m.0.number) bm ∙ joined;
         joined = ap (λ m. m.0.joined) bm;
-        below = subst (λ (t : Terms). pid.0 < t.procs) (sym back_terms) below;
+        below = subst (λ (t : Terms). pid.0 < t.head.procs) (sym back_terms) below;
         history = subst (λ (t : Terms). IsHistory t back.me.0.seen) (sym back_terms) (subst (IsHistory name.terms) (sym seen) is.history);
       };
       terms = back_terms;
@@ -96,7 +96,7 @@ pub seen_back : (name : Name) (l : LockedView) (desk mine hub back : Seat (Unit 
     → hub.table_id ≡ name.table → back.table_id ≡ name.table → hub.me ≡ (parted w, []) → back.me ≡ (given_back w, []) → IsBack name l hub back pid mine.me.0.seen
 seen_back name l desk mine hub back pid w d m terms sees ht bt hm bm =
     let j = joined_desk name l desk mine pid w d m sees in
-    let below : pid.0 < name.terms.procs = subst (λ (t : Terms). pid.0 < t.procs) terms m.below in
+    let below : pid.0 < name.terms.head.procs = subst (λ (t : Terms). pid.0 < t.head.procs) terms m.below in
     let p = parted_desk name l hub back pid w ht bt hm bm j.whole j.both j.number j.joined j.terms d.hub below in
     record {
       parted = p;
@@ -116,15 +116,14 @@ within_after false count limit room was = omega (arith, room refl)
 
 pub hub_steps : (t : Terms) (old new : HubView) (e : Entry) (told : List Event) → IsHub t old → Steps old e new told → IsHub t new
 hub_steps t old new e told is s =
-    let procs : new.procs ≡ t.procs = ap (λ (h : HubView). h.procs) s.journal ∙ is.procs in
+    let terms : new.terms ≡ t = ap (λ (h : HubView). h.terms) s.journal ∙ is.terms in
     let journal : new.journal ≡ old.journal ++ e ∷ [] = ap (λ (h : HubView). h.journal) s.journal in
-    let admitted : refusal (state t.procs old.journal) e.pid ≡ None = subst (λ (n : ℕ). refusal (state n old.journal) e.pid ≡ None) is.procs s.admitted in
-    let legal : IsLegal t.procs (old.journal ++ e ∷ []) = (begins-law t.procs old.journal []).goes_on e is.history.legal admitted in
-    let room : is_exit e.step ≡ false → steps_of old.journal < t.limit = λ h. subst (λ (n : ℕ). steps_of old.journal < n) is.limit (s.room h) in
+    let admitted : refusal (state t.head old.journal) e.pid ≡ None = subst (λ (t : Terms). refusal (state t.head old.journal) e.pid ≡ None) is.terms s.admitted in
+    let legal : IsLegal t.head (old.journal ++ e ∷ []) = (begins-law t.head old.journal []).goes_on e is.history.legal admitted in
+    let room : is_exit e.step ≡ false → steps_of old.journal < t.limit = λ h. subst (λ (t : Terms). steps_of old.journal < t.limit) is.terms (s.room h) in
     let within : steps_of (old.journal ++ e ∷ []) ≤ t.limit = subst (λ (n : ℕ). n ≤ t.limit) (sym (steps_of-snoc old.journal e)) (within_after (is_exit e.step) (steps_of old.journal) t.limit room is.within) in
     record {
-      procs = procs;
-      limit = ap (λ (h : HubView). h.limit) s.journal ∙ is.limit;
+      terms = terms;
       most = is.most;
       history = subst (IsHistory t) (sym journal) (record { legal = legal; few = omega (arith, within, is.most) });
       within = subst (λ (es : List Entry). steps_of es ≤ t.limit) (sym journal) within;
@@ -140,7 +139,7 @@ pub made_back : (name : Name) (old new : LockedView) (e : Entry) (answer : Event
     → Serves old e new answer → v ≡ grown w e → hub.table_id ≡ name.table → back.table_id ≡ name.table → hub.me ≡ (parted v, []) → back.me ≡ (given_back v, []) → IsMade name new hub back e mine.me.0.seen
 made_back name old new e answer desk mine hub back w v d m terms sees s grows ht bt hm bm =
     let j = joined_desk name old desk mine e.pid w d m sees in
-    let below : e.pid.0 < name.terms.procs = subst (λ (t : Terms). e.pid.0 < t.procs) terms m.below in
+    let below : e.pid.0 < name.terms.head.procs = subst (λ (t : Terms). e.pid.0 < t.head.procs) terms m.below in
     let journal : new.hub.journal ≡ old.hub.journal ++ e ∷ [] = ap (λ (h : HubView). h.journal) s.step.journal in
     let whole : w.seen ++ e ∷ [] ≡ new.hub.journal = ap (λ (es : List Entry). es ++ e ∷ []) j.whole ∙ sym journal in
     let p = parted_desk name new hub back e.pid v ht bt hm bm (ap (λ (x : View). x.seen) grows ∙ whole) (ap (λ (x : View). x.joined_seen) grows ∙ whole)
@@ -164,38 +163,38 @@ history_served t old new e answer seen is s same =
     let after = hub_steps t old.hub new.hub e (answer ∷ s.ended) is s.step in
     subst (IsHistory t) (ap (λ (h : HubView). h.journal) s.step.journal ∙ ap (λ (es : List Entry). es ++ e ∷ []) (sym same)) after.history
 
-changed_served : (t : Terms) (old new : LockedView) (e : Entry) (answer : Event) (seen : List Entry) → IsHub t old.hub → Serves old e new answer → seen ≡ old.hub.journal → number_of (port_changed_by e.step answer.what) ≡ number_of (changed t.procs seen e)
+changed_served : (t : Terms) (old new : LockedView) (e : Entry) (answer : Event) (seen : List Entry) → IsHub t old.hub → Serves old e new answer → seen ≡ old.hub.journal → number_of (port_changed_by e.step answer.what) ≡ number_of (changed t.head seen e)
 changed_served t old new e answer seen is s same =
     ap (λ (xs : List Event). number_of (port_changed e.step xs)) s.step.events
-    ∙ (λ i. number_of (changed (is.procs i) (sym same i) e))
+    ∙ (λ i. number_of (changed (is.terms i).head (sym same i) e))
 
 pub marks_served : (t : Terms) (old new : LockedView) (e : Entry) (answer : Event) (seen : List Entry) (word : ℕ) → IsHub t old.hub → Serves old e new answer → seen ≡ old.hub.journal → word ≡ number_of (port_changed_by e.step answer.what)
-    → MarksOne t.procs seen e word (mark_at (state_of new.hub) (port_numbered word))
+    → MarksOne t.head seen e word (mark_at (state_of new.hub) (port_numbered word))
 marks_served t old new e answer seen word is s same at =
-    let m : MarksOne t.procs seen e word (mark t.procs (seen ++ e ∷ []) word) = marks_one t.procs seen e word (at ∙ changed_served t old new e answer seen is s same) in
-    let new_mark : mark t.procs (seen ++ e ∷ []) word ≡ mark_at (state_of new.hub) (port_numbered word) =
-    (λ i. mark (sym is.procs i) (same i ++ e ∷ []) word) ∙ sym (ap (λ (h : HubView). mark_at (state_of h) (port_numbered word)) s.step.journal) in
-    subst (MarksOne t.procs seen e word) new_mark m
+    let m : MarksOne t.head seen e word (mark t.head (seen ++ e ∷ []) word) = marks_one t.head seen e word (at ∙ changed_served t old new e answer seen is s same) in
+    let new_mark : mark t.head (seen ++ e ∷ []) word ≡ mark_at (state_of new.hub) (port_numbered word) =
+    (λ i. mark (sym is.terms i).head (same i ++ e ∷ []) word) ∙ sym (ap (λ (h : HubView). mark_at (state_of h) (port_numbered word)) s.step.journal) in
+    subst (MarksOne t.head seen e word) new_mark m
 
 pub other_served : (t : Terms) (old new : LockedView) (e : Entry) (answer : Event) (seen : List Entry) (word : ℕ) → IsHub t old.hub → Serves old e new answer → seen ≡ old.hub.journal → word ≡ number_of (port_changed_by e.step answer.what)
-    → IsOther t.procs seen word (mark_at (state_of new.hub) (port_numbered word))
+    → IsOther t.head seen word (mark_at (state_of new.hub) (port_numbered word))
 other_served t old new e answer seen word is s same at =
     let before : IsHistory t seen = subst (IsHistory t) (sym same) is.history in
     let after = history_served t old new e answer seen is s same in
-    let m = mark_other t.procs seen e word before.legal before.few after.legal after.few (at ∙ changed_served t old new e answer seen is s same) in
-    let new_mark : mark t.procs (seen ++ e ∷ []) word ≡ mark_at (state_of new.hub) (port_numbered word) =
-    (λ i. mark (sym is.procs i) (same i ++ e ∷ []) word) ∙ sym (ap (λ (h : HubView). mark_at (state_of h) (port_numbered word)) s.step.journal) in
-    subst (IsOther t.procs seen word) new_mark m
+    let m = mark_other t.head seen e word before.legal before.few after.legal after.few (at ∙ changed_served t old new e answer seen is s same) in
+    let new_mark : mark t.head (seen ++ e ∷ []) word ≡ mark_at (state_of new.hub) (port_numbered word) =
+    (λ i. mark (sym is.terms i).head (same i ++ e ∷ []) word) ∙ sym (ap (λ (h : HubView). mark_at (state_of h) (port_numbered word)) s.step.journal) in
+    subst (IsOther t.head seen word) new_mark m
 
 pub word_served : (t : Terms) (old new : LockedView) (e : Entry) (answer : Event) (word : ℕ) → IsHub t old.hub → Serves old e new answer → word ≡ number_of (port_changed_by e.step answer.what) → word ≤ MOST_PORTS
 word_served t old new e answer word is s at =
-    let few = changed-few t.procs old.hub.journal e in
+    let few = changed-few t.head old.hub.journal e in
     subst (λ (n : ℕ). n ≤ MOST_PORTS) (sym (at ∙ changed_served t old new e answer old.hub.journal is s refl)) few
 
-pub told_served : (t : Terms) (old new : LockedView) (e : Entry) (answer : Event) (seen : List Entry) → IsHub t old.hub → Serves old e new answer → seen ≡ new.hub.journal → IsReplyTo new.hub.procs e.pid.0 new.hub.journal answer → IsReplyTo t.procs e.pid.0 seen answer
+pub told_served : (t : Terms) (old new : LockedView) (e : Entry) (answer : Event) (seen : List Entry) → IsHub t old.hub → Serves old e new answer → seen ≡ new.hub.journal → IsReplyTo new.hub.terms.head e.pid.0 new.hub.journal answer → IsReplyTo t.head e.pid.0 seen answer
 told_served t old new e answer seen is s same r =
-    let procs : t.procs ≡ new.hub.procs = sym (hub_steps t old.hub new.hub e (answer ∷ s.ended) is s.step).procs in
+    let terms : t ≡ new.hub.terms = sym (hub_steps t old.hub new.hub e (answer ∷ s.ended) is s.step).terms in
     record {
-      reply = (λ i. reply e.pid.0 (procs i) (same i)) ∙ r.reply;
-      free = (λ i. is_waiting (state (procs i) (same i)) e.pid.0) ∙ r.free;
+      reply = (λ i. reply e.pid.0 (terms i).head (same i)) ∙ r.reply;
+      free = (λ i. is_waiting (state (terms i).head (same i)) e.pid.0) ∙ r.free;
     }

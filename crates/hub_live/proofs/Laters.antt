@@ -4,13 +4,14 @@ use Rattle.std.specs.Prelude.{All}
 use Rattle.std.proofs.lemmas.List.Elements.{All-cons}
 use Rattle.std.proofs.lemmas.Bool.{and_parts}
 use Rattle.atomic_table.specs.declared.shared.Seat.{Seat}
+use Rattle.hub_base.specs.declared.head.Head.{Head}
 use Rattle.hub_base.specs.declared.value.Pid.{Pid}
 use Rattle.hub_base.specs.declared.entry.Entry.{Entry}
 use Rattle.hub_base.specs.declared.event.Event.{Event}
 use Rattle.hub_base.specs.Steps.{is_waiting}
 use Rattle.hub_base.specs.Runs.{state, events}
 use Rattle.hub_laws.specs.Replies.{own, reply, last_from, is_parked}
-use Rattle.hub_live.specs.declared.name.Terms.{Terms}
+use Rattle.hub_core.specs.declared.terms.Terms.{Terms}
 use Rattle.hub_live.specs.declared.rule.View.{View}
 use Rattle.hub_live.specs.Locked.{IsReplyTo}
 use Rattle.hub_live.specs.Name.{Name, name_of}
@@ -44,7 +45,7 @@ looking pid mine back idle table terms history k =
         begins = k.begins;
         idle = record {
           history = subst (λ (t : Terms). IsHistory t back.me.0.seen) (sym terms) history;
-          free = subst (λ (t : Terms). is_waiting (state t.procs back.me.0.seen) pid.0 ≡ false) (sym terms) same.free;
+          free = subst (λ (t : Terms). is_waiting (state t.head back.me.0.seen) pid.0 ≡ false) (sym terms) same.free;
         };
       };
       same = same;
@@ -66,19 +67,19 @@ not_true true h = sym h
 not_true false h = refl
 
 -- no reply is `Parked`
-reply_ended : (q n : ℕ) (es : List Entry) (x : Event) → reply q n es ≡ Some x → is_parked x.what ≡ false
-reply_ended q n es x is =
-    let told = last_tests (λ (e : Event). (e.pid.0 == q) && not (is_parked e.what)) None (events n es) x (λ y h. absurd (let g : ⊥ = cc in g)) is in
+reply_ended : (q : ℕ) (head : Head) (es : List Entry) (x : Event) → reply q head es ≡ Some x → is_parked x.what ≡ false
+reply_ended q head es x is =
+    let told = last_tests (λ (e : Event). (e.pid.0 == q) && not (is_parked e.what)) None (events head es) x (λ y h. absurd (let g : ⊥ = cc in g)) is in
     not_true (is_parked x.what) (and_parts (x.pid.0 == q) (not (is_parked x.what)) told).1
 
 -- s made the entry and became a, and then b, which was told so
-pub made_later : (t : Terms) (s a b : SeatView) (e : Entry) (x : Event) → s.hub.terms ≡ t → a.hub ≡ s.hub → own_of a ≡ own_of s ++ e ∷ [] → b.hub ≡ a.hub → b.pid ≡ a.pid → own_of b ≡ own_of a → IsReplyTo t.procs a.pid.0 b.seen x → MadeEntry s b e x
+pub made_later : (t : Terms) (s a b : SeatView) (e : Entry) (x : Event) → s.hub.terms ≡ t → a.hub ≡ s.hub → own_of a ≡ own_of s ++ e ∷ [] → b.hub ≡ a.hub → b.pid ≡ a.pid → own_of b ≡ own_of a → IsReplyTo t.head a.pid.0 b.seen x → MadeEntry s b e x
 made_later t s a b e x terms ah ao bh bp bo told =
-    let procs : b.hub.terms ≡ t = ap (λ (n : Name). n.terms) (bh ∙ ah) ∙ terms in
+    let same_terms : b.hub.terms ≡ t = ap (λ (n : Name). n.terms) (bh ∙ ah) ∙ terms in
     record {
       own = bo ∙ ao;
-      reply = (λ i. reply (bp i).0 (procs i).procs b.seen) ∙ told.reply;
-      ended = reply_ended a.pid.0 t.procs b.seen x told.reply;
+      reply = (λ i. reply (bp i).0 (same_terms i).head b.seen) ∙ told.reply;
+      ended = reply_ended a.pid.0 t.head b.seen x told.reply;
     }
 
 -- ---- the seats of a new hub

@@ -73,16 +73,16 @@ put_next start before after xs i d here is h =
 
 -- the event is the reply of process q in a hub
 abbrev IsReplyIn : HubView → ℕ → Event → Type 0
-IsReplyIn hub q = IsReplyTo hub.procs q hub.journal
+IsReplyIn hub q = IsReplyTo hub.terms.head q hub.journal
 
-is_reply_to : (hub : HubView) (q : ℕ) (x : Event) → x.pid.0 ≡ q → IsReply hub.procs hub.journal x → IsReplyIn hub q x
+is_reply_to : (hub : HubView) (q : ℕ) (x : Event) → x.pid.0 ≡ q → IsReply hub.terms.head hub.journal x → IsReplyIn hub q x
 is_reply_to hub q x is r = record {
-  reply = subst (λ (k : ℕ). reply k hub.procs hub.journal ≡ Some x) is r.reply;
+  reply = subst (λ (k : ℕ). reply k hub.terms.head hub.journal ≡ Some x) is r.reply;
   free = subst (λ (k : ℕ). is_waiting (state_of hub) k ≡ false) is r.free;
 }
 
 -- the last of these events is a reply where each of them is, and where there is none what there was before
-last_replies : (hub : HubView) (q : ℕ) (o : Option Event) (xs : List Event) → AllByRecursion (IsReply hub.procs hub.journal) xs →
+last_replies : (hub : HubView) (q : ℕ) (o : Option Event) (xs : List Event) → AllByRecursion (IsReply hub.terms.head hub.journal) xs →
     (is_told q xs ≡ false → IfSome o (IsReplyIn hub q)) → IfSome (last_told q o xs) (IsReplyIn hub q)
 last_replies hub q o [] all h = h refl
 last_replies hub q o (x ∷ xs) all h = subst (λ (r : Option Event). IfSome r (IsReplyIn hub q)) (sym (last_told-cons q o x xs)) (by (x.pid.0 == q) refl h (λ o h. last_replies hub q o xs all.1 h))
@@ -99,26 +99,26 @@ pub told_some : (old new : HubView) (e : Entry) (told : List Event) → Steps ol
 told_some old new e [] s none = subst (IsAnswered e.pid e.step) (sym s.events) (moves-answered (state_of old) e s.admitted)
 told_some old new e (x ∷ told) s none = omega arith
 
-replied : (old new : HubView) (e : Entry) (answer : Event) (ended : List Event) → Steps old e new (answer ∷ ended) → Replied old.procs old.journal e answer ended
-replied old new e answer ended s = subst (AreReplied old.procs old.journal e) (sym s.events) (replied-law old.procs old.journal e s.admitted)
+replied : (old new : HubView) (e : Entry) (answer : Event) (ended : List Event) → Steps old e new (answer ∷ ended) → Replied old.terms.head old.journal e answer ended
+replied old new e answer ended s = subst (AreReplied old.terms.head old.journal e) (sym s.events) (replied-law old.terms.head old.journal e s.admitted)
 
 -- the answer is the caller's reply, unless its call waits
 pub answer_replies : (old new : HubView) (e : Entry) (answer : Event) (ended : List Event) → Steps old e new (answer ∷ ended) → is_parked answer.what ≡ false → IsReplyIn new e.pid.0 answer
 answer_replies old new e answer ended s clear =
     let r = replied old new e answer ended s in
-    is_reply_to new e.pid.0 answer (ap (λ (p : Pid). p.0) r.caller) (subst (λ (h : HubView). IsReply h.procs h.journal answer) (sym s.journal) (r.answered clear))
+    is_reply_to new e.pid.0 answer (ap (λ (p : Pid). p.0) r.caller) (subst (λ (h : HubView). IsReply h.terms.head h.journal answer) (sym s.journal) (r.answered clear))
 
 -- the hub with one entry more
 abbrev grown : HubView → Entry → HubView
-grown hub e = record { procs = hub.procs; limit = hub.limit; journal = hub.journal ++ e ∷ []; places = places_after e.step hub.places }
+grown hub e = record { terms = hub.terms; journal = hub.journal ++ e ∷ []; places = places_after e.step hub.places }
 
 -- a process that is left as it was keeps its reply
-left_replies : (hub : HubView) (e : Entry) (q : ℕ) (o : Option Event) → IsLeft hub.procs hub.journal e q → IfSome o (IsReplyIn hub q) → IfSome o (IsReplyIn (grown hub e) q)
+left_replies : (hub : HubView) (e : Entry) (q : ℕ) (o : Option Event) → IsLeft hub.terms.head hub.journal e q → IfSome o (IsReplyIn hub q) → IfSome o (IsReplyIn (grown hub e) q)
 left_replies hub e q None left h = tt
 left_replies hub e q (Some x) left h = record { reply = left.reply ∙ h.reply; free = left.waits ∙ h.free }
 
 -- what waits for process q after a step is its reply
-waits_after : (hub : HubView) (e : Entry) (answer : Event) (ended : List Event) (q : ℕ) (o : Option Event) → Replied hub.procs hub.journal e answer ended → IfSome o (IsReplyIn hub q) →
+waits_after : (hub : HubView) (e : Entry) (answer : Event) (ended : List Event) (q : ℕ) (o : Option Event) → Replied hub.terms.head hub.journal e answer ended → IfSome o (IsReplyIn hub q) →
     IfSome (last_told q (cond (e.pid.0 == q) None o) ended) (IsReplyIn (grown hub e) q)
 waits_after hub e answer ended q o r h = last_replies (grown hub e) q (cond (e.pid.0 == q) None o) ended r.ends (by (e.pid.0 == q) refl)
   where
@@ -147,7 +147,7 @@ serves old e hub told answer ended cleared answers of_them places s first clear 
 pub lawful_served : (old new : LockedView) (e : Entry) (answer : Event) → IsLawful old.hub old.answers → Serves old e new answer → IsLawful new.hub new.answers
 lawful_served old new e answer h s =
     subst (λ (hub : HubView). IsLawful hub new.answers) (sym s.step.journal) (record {
-      legal = (begins-law old.hub.procs old.hub.journal []).goes_on e h.legal s.step.admitted;
+      legal = (begins-law old.hub.terms.head old.hub.journal []).goes_on e h.legal s.step.admitted;
       places = s.places;
       replies = λ q. elim (cases_lt q MOST_PROCS) [
         | inl lt ↦ subst (λ (o : Option Event). IfSome o (IsReplyIn (grown old.hub e) q)) (sym (s.answers q lt))
@@ -163,7 +163,7 @@ answer_for-replicate zero q = refl
 answer_for-replicate (suc n) zero = refl
 answer_for-replicate (suc n) (suc q) = answer_for-replicate n q
 
-pub lawful_none : (hub : HubView) → IsLegal hub.procs hub.journal → IsLawful hub (replicate MOST_PROCS None)
+pub lawful_none : (hub : HubView) → IsLegal hub.terms.head hub.journal → IsLawful hub (replicate MOST_PROCS None)
 lawful_none hub legal = record {
   legal = legal;
   places = length-replicate {A = Option Event} MOST_PROCS None;

@@ -5,6 +5,7 @@ use Rattle.std.specs.Option.{option_map, option_map_or}
 use Rattle.std.proofs.lemmas.Bool.Decides.{nat_tests}
 use Rattle.std.proofs.lemmas.Bool.{eqb-true}
 use Rattle.std.proofs.lemmas.Option.{slice_get_past}
+use Rattle.hub_base.specs.declared.head.Head.{Head}
 use Rattle.hub_base.specs.declared.value.Port.{Port}
 use Rattle.hub_base.specs.declared.counts.Counts.{Counts}
 use Rattle.hub_base.specs.declared.counts.Look.{Look}
@@ -45,25 +46,25 @@ read_back-mark c is =
 -- ---- the counts of a run
 
 -- the counts of a channel in a run with no more than so many steps
-counted : (n : ℕ) (es : List Entry) (p : Port) (o : Option Channel) → channel_at (state n es) p ≡ o → IsLegal n es → steps_of es ≤ MOST_STEPS
+counted : (head : Head) (es : List Entry) (p : Port) (o : Option Channel) → channel_at (state head es) p ≡ o → IsLegal head es → steps_of es ≤ MOST_STEPS
     → read_back (option_map_or mark_of (option_map counts_of o) 0) ≡ option_map counts_of o
-counted n es p None is legal few = refl
-counted n es p (Some c) is legal few = read_back-mark (counts_of c) (is_counted n es p c is legal few)
+counted head es p None is legal few = refl
+counted head es p (Some c) is legal few = read_back-mark (counts_of c) (is_counted head es p c is legal few)
   where
-    is_counted : (n : ℕ) (es : List Entry) (p : Port) (c : Channel) → channel_at (state n es) p ≡ Some c → IsLegal n es → steps_of es ≤ MOST_STEPS → IsCounted (counts_of c)
-    is_counted n es p c is legal few =
-        let k = counts-law n es p c is in
+    is_counted : (head : Head) (es : List Entry) (p : Port) (c : Channel) → channel_at (state head es) p ≡ Some c → IsLegal head es → steps_of es ≤ MOST_STEPS → IsCounted (counts_of c)
+    is_counted head es p c is legal few =
+        let k = counts-law head es p c is in
         record { len = refl; received = k.received; sent = omega (arith, k.sent, ap steps_of legal, few) }
 
 -- a mark tells the counts of its port
-pub mark-tells : (n : ℕ) (es : List Entry) (p : Port) → IsLegal n es → steps_of es ≤ MOST_STEPS → read_back (mark_at (state n es) p) ≡ counts_at (state n es) p
-mark-tells n es p legal few = counted n es p (channel_at (state n es) p) refl legal few
+pub mark-tells : (head : Head) (es : List Entry) (p : Port) → IsLegal head es → steps_of es ≤ MOST_STEPS → read_back (mark_at (state head es) p) ≡ counts_at (state head es) p
+mark-tells head es p legal few = counted head es p (channel_at (state head es) p) refl legal few
 
-few_counts : (n : ℕ) (es : List Entry) (p : Port) (o : Option Channel) (l : Look) → channel_at (state n es) p ≡ o → IsLegal n es → steps_of es ≤ MOST_STEPS
+few_counts : (head : Head) (es : List Entry) (p : Port) (o : Option Channel) (l : Look) → channel_at (state head es) p ≡ o → IsLegal head es → steps_of es ≤ MOST_STEPS
     → option_map (λ c. record { cap = c.cap; counts = counts_of c }) o ≡ Some l → (l.counts.sent ≤ MOST_STEPS) × (l.counts.received ≤ MOST_STEPS) × (mark_of l.counts ≡ option_map_or mark_of (option_map counts_of o) 0)
-few_counts n es p None l is legal few at = absurd (let h : ⊥ = cc in h)
-few_counts n es p (Some c) l is legal few at =
-    let k = counts-law n es p c is in
+few_counts head es p None l is legal few at = absurd (let h : ⊥ = cc in h)
+few_counts head es p (Some c) l is legal few at =
+    let k = counts-law head es p c is in
     let same : l ≡ record { cap = c.cap; counts = counts_of c } = cc in
     let sent : length c.sent ≤ MOST_STEPS = omega (arith, k.sent, ap steps_of legal, few) in (
       subst (λ (x : Look). x.counts.sent ≤ MOST_STEPS) (sym same) sent,
@@ -72,26 +73,26 @@ few_counts n es p (Some c) l is legal few at =
     )
 
 -- a look tells counts that have a mark
-pub look-mark : (n : ℕ) (es : List Entry) (p : Port) (l : Look) → IsLegal n es → steps_of es ≤ MOST_STEPS → look_at (state n es) p ≡ Some l
-    → (l.counts.sent ≤ MOST_STEPS) × (l.counts.received ≤ MOST_STEPS) × (mark_of l.counts ≡ mark_at (state n es) p)
-look-mark n es p l legal few at = few_counts n es p (channel_at (state n es) p) l refl legal few at
+pub look-mark : (head : Head) (es : List Entry) (p : Port) (l : Look) → IsLegal head es → steps_of es ≤ MOST_STEPS → look_at (state head es) p ≡ Some l
+    → (l.counts.sent ≤ MOST_STEPS) × (l.counts.received ≤ MOST_STEPS) × (mark_of l.counts ≡ mark_at (state head es) p)
+look-mark head es p l legal few at = few_counts head es p (channel_at (state head es) p) l refl legal few at
 
 none_at : (b : Bool) (cs : List Channel) (i : ℕ) → (b ≡ false → length cs ≤ i) → option_map counts_of (cond b None (slice_get cs i)) ≡ None
 none_at true cs i le = refl
 none_at false cs i le = ap (option_map counts_of) (slice_get_past cs i (le refl))
 
 -- port 0 and those above the greatest are not made
-pub no_port : (n : ℕ) (es : List Entry) (p : Port) → (0 < p.0 → p.0 ≤ MOST_PORTS → ⊥) → counts_at (state n es) p ≡ None
-no_port n es p out =
-    let few = (state-laws n es).few in
-    none_at (p.0 == 0) (state n es).channels (p.0 - 1) (λ h. let some : 0 < p.0 = grind (arith, nat_tests) in let many : p.0 ≤ MOST_PORTS → ⊥ = out some in omega (arith, few, many))
+pub no_port : (head : Head) (es : List Entry) (p : Port) → (0 < p.0 → p.0 ≤ MOST_PORTS → ⊥) → counts_at (state head es) p ≡ None
+no_port head es p out =
+    let few = (state-laws head es).few in
+    none_at (p.0 == 0) (state head es).channels (p.0 - 1) (λ h. let some : 0 < p.0 = grind (arith, nat_tests) in let many : p.0 ≤ MOST_PORTS → ⊥ = out some in omega (arith, few, many))
 
 -- ---- one entry, one mark
 
 -- the number of the port that an entry may write: 0 for none, and no more than there may be ports
-few_ports : (n : ℕ) (es : List Entry) (e : Entry) (o : Option Port) → ((p : Port) → o ≡ Some p → IsPort p (state n (es ++ e ∷ []))) → number_of o ≤ MOST_PORTS
-few_ports n es e None made = omega arith
-few_ports n es e (Some p) made = omega (arith, (made p refl).few, (state-laws n (es ++ e ∷ [])).few)
+few_ports : (head : Head) (es : List Entry) (e : Entry) (o : Option Port) → ((p : Port) → o ≡ Some p → IsPort p (state head (es ++ e ∷ []))) → number_of o ≤ MOST_PORTS
+few_ports head es e None made = omega arith
+few_ports head es e (Some p) made = omega (arith, (made p refl).few, (state-laws head (es ++ e ∷ [])).few)
 
 changed_named : (step : Step) (events : List Event) (p : Port) → port_changed step events ≡ Some p → port_touched step events ≡ Some p
 changed_named step [] p h = h
@@ -101,19 +102,19 @@ changed_named step (x ∷ xs) p h = by (found_closed x.what) h
     by true h = cc
     by false h = h
 
-pub changed-few : (n : ℕ) (es : List Entry) (e : Entry) → number_of (changed n es e) ≤ MOST_PORTS
-changed-few n es e = few_ports n es e (changed n es e) (λ p h. (one_port-law n es e).made p (changed_named e.step (moves (state n es) e).events p h))
+pub changed-few : (head : Head) (es : List Entry) (e : Entry) → number_of (changed head es e) ≤ MOST_PORTS
+changed-few head es e = few_ports head es e (changed head es e) (λ p h. (one_port-law head es e).made p (changed_named e.step (moves (state head es) e).events p h))
 
-one_mark : (n : ℕ) (es : List Entry) (e : Entry) (word number : ℕ) (b : Bool) → (number == word) ≡ b → word ≡ number_of (changed n es e)
-    → MatchBool b (mark n (es ++ e ∷ []) number ≡ mark n (es ++ e ∷ []) word) (mark n (es ++ e ∷ []) number ≡ mark n es number)
-one_mark n es e word number true same is = ap (mark n (es ++ e ∷ [])) (eqb-true number word same)
-one_mark n es e word number false other is =
-    let apart : (number_of (changed n es e) == number) ≡ false = let h : number ≢ number_of (changed n es e) = λ k. (let g : number ≢ word = grind (arith, nat_tests) in g) (k ∙ sym is) in grind (arith, nat_tests) in
-    ap (λ (o : Option Channel). option_map_or mark_of (option_map counts_of o) 0) ((one_port-law n es e).numbers (port_numbered number) apart)
+one_mark : (head : Head) (es : List Entry) (e : Entry) (word number : ℕ) (b : Bool) → (number == word) ≡ b → word ≡ number_of (changed head es e)
+    → MatchBool b (mark head (es ++ e ∷ []) number ≡ mark head (es ++ e ∷ []) word) (mark head (es ++ e ∷ []) number ≡ mark head es number)
+one_mark head es e word number true same is = ap (mark head (es ++ e ∷ [])) (eqb-true number word same)
+one_mark head es e word number false other is =
+    let apart : (number_of (changed head es e) == number) ≡ false = let h : number ≢ number_of (changed head es e) = λ k. (let g : number ≢ word = grind (arith, nat_tests) in g) (k ∙ sym is) in grind (arith, nat_tests) in
+    ap (λ (o : Option Channel). option_map_or mark_of (option_map counts_of o) 0) ((one_port-law head es e).numbers (port_numbered number) apart)
 
 -- one entry changes at most the mark of the port that it changes
-pub marks_one : (n : ℕ) (es : List Entry) (e : Entry) (word : ℕ) → word ≡ number_of (changed n es e) → MarksOne n es e word (mark n (es ++ e ∷ []) word)
-marks_one n es e word is number lo hi = one_mark n es e word number (number == word) refl is
+pub marks_one : (head : Head) (es : List Entry) (e : Entry) (word : ℕ) → word ≡ number_of (changed head es e) → MarksOne head es e word (mark head (es ++ e ∷ []) word)
+marks_one head es e word is number lo hi = one_mark head es e word number (number == word) refl is
 
 abbrev shown_of : Counts → Shown
 shown_of k = record { closed = k.closed; sent = k.sent; received = k.received }
@@ -123,17 +124,17 @@ shown_at None = refl
 shown_at (Some c) = refl
 
 -- and that mark is another than before
-pub mark_other : (n : ℕ) (es : List Entry) (e : Entry) (word : ℕ) → IsLegal n es → steps_of es ≤ MOST_STEPS → IsLegal n (es ++ e ∷ []) → steps_of (es ++ e ∷ []) ≤ MOST_STEPS →
-    word ≡ number_of (changed n es e) → IsOther n es word (mark n (es ++ e ∷ []) word)
-mark_other n es e word legal few legal_then few_then is above same = by (changed n es e) refl is
+pub mark_other : (head : Head) (es : List Entry) (e : Entry) (word : ℕ) → IsLegal head es → steps_of es ≤ MOST_STEPS → IsLegal head (es ++ e ∷ []) → steps_of (es ++ e ∷ []) ≤ MOST_STEPS →
+    word ≡ number_of (changed head es e) → IsOther head es word (mark head (es ++ e ∷ []) word)
+mark_other head es e word legal few legal_then few_then is above same = by (changed head es e) refl is
   where
-    by : (o : Option Port) → changed n es e ≡ o → word ≡ number_of o → ⊥
+    by : (o : Option Port) → changed head es e ≡ o → word ≡ number_of o → ⊥
     by None none is = absurd (omega (arith, is, above))
     by (Some p) named is =
         let q : Port = port_numbered word in
         let here : p ≡ q = ap port_numbered (sym is) in
-        let counts : counts_at (state n es) q ≡ counts_at (state n (es ++ e ∷ [])) q =
-        sym (mark-tells n es q legal few) ∙ ap read_back same ∙ mark-tells n (es ++ e ∷ []) q legal_then few_then in
-        let told : option_map shown (channel_at (state n es) q) ≡ option_map shown (channel_at (state n (es ++ e ∷ [])) q) =
-        sym (shown_at (channel_at (state n es) q)) ∙ ap (option_map shown_of) counts ∙ shown_at (channel_at (state n (es ++ e ∷ [])) q) in
-        (one_port-law n es e).moved q (named ∙ ap (λ r. Some r) here) told
+        let counts : counts_at (state head es) q ≡ counts_at (state head (es ++ e ∷ [])) q =
+        sym (mark-tells head es q legal few) ∙ ap read_back same ∙ mark-tells head (es ++ e ∷ []) q legal_then few_then in
+        let told : option_map shown (channel_at (state head es) q) ≡ option_map shown (channel_at (state head (es ++ e ∷ [])) q) =
+        sym (shown_at (channel_at (state head es) q)) ∙ ap (option_map shown_of) counts ∙ shown_at (channel_at (state head (es ++ e ∷ [])) q) in
+        (one_port-law head es e).moved q (named ∙ ap (λ r. Some r) here) told

@@ -5,6 +5,7 @@ use Rattle.std.proofs.lemmas.List.{length-append}
 use Rattle.std.proofs.lemmas.List.Elements.{filter-append}
 use Rattle.std.proofs.lemmas.Bool.Decides.{nat_tests}
 use mathlib.Core.List.{IsPrefix}
+use Rattle.hub_base.specs.declared.head.Head.{Head}
 use Rattle.hub_base.specs.declared.value.Pid.{Pid}
 use Rattle.hub_base.specs.declared.entry.Step.{Step}
 use Rattle.hub_base.specs.declared.entry.Step.TheVariants.{Make, Call, Close, Exit}
@@ -18,10 +19,11 @@ use Rattle.hub_base.specs.Reading.{is_exit}
 use Rattle.hub_base.specs.Text.{steps_of}
 use Rattle.hub_laws.specs.Journals.{IsLegal}
 use Rattle.hub_laws.specs.Replies.{own, reply}
-use Rattle.hub_laws.proofs.Lasting.{turn-leaves, procs-after}
+use Rattle.hub_laws.proofs.Account.{procs-of}
+use Rattle.hub_laws.proofs.Lasting.{turn-leaves, head-after}
 use Rattle.hub_laws.proofs.Replies.{replies-law}
 use Rattle.hub_core.specs.HubView.{HubView, Refuses, Grows, state_of}
-use Rattle.hub_live.specs.declared.name.Terms.{Terms}
+use Rattle.hub_core.specs.declared.terms.Terms.{Terms}
 use Rattle.hub_live.specs.SeatView.{SeatView, IsFree, own_of}
 use Rattle.hub_live.specs.Seated.{IsHub}
 use Rattle.hub_live.specs.Calls.{LeavesRoom, Shows, AsksNothing, StandsIn}
@@ -46,14 +48,14 @@ none_own q [] none = refl
 none_own q (f ∷ fs) none = none_more q f fs (f.pid.0 == q) (none_own q fs) none
 
 -- a process without an open call asked nothing where the journal went on with no entry of it
-pub asks_nothing : (t : Terms) (pid : Pid) (before after : List Entry) → IsPrefix before after → own pid.0 after ≡ own pid.0 before → is_waiting (state t.procs before) pid.0 ≡ false → AsksNothing t pid before after
+pub asks_nothing : (t : Terms) (pid : Pid) (before after : List Entry) → IsPrefix before after → own pid.0 after ≡ own pid.0 before → is_waiting (state t.head before) pid.0 ≡ false → AsksNothing t pid before after
 asks_nothing t pid before after p same free =
     let same' : own pid.0 (before ++ p.0) ≡ own pid.0 before = ap (own pid.0) p.1 ∙ same in
-    let still = replies-law t.procs before pid.0 p.0 free (none_own pid.0 p.0 (own_nothing pid.0 before p.0 same')) in
+    let still = replies-law t.head before pid.0 p.0 free (none_own pid.0 p.0 (own_nothing pid.0 before p.0 same')) in
     record {
       own = same;
-      reply = subst (λ (es : List Entry). reply pid.0 t.procs es ≡ reply pid.0 t.procs before) p.1 still.reply;
-      free = subst (λ (es : List Entry). is_waiting (state t.procs es) pid.0 ≡ false) p.1 still.free;
+      reply = subst (λ (es : List Entry). reply pid.0 t.head es ≡ reply pid.0 t.head before) p.1 still.reply;
+      free = subst (λ (es : List Entry). is_waiting (state t.head es) pid.0 ≡ false) p.1 still.free;
     }
 
 pub stands_in : (s : SeatView) (journal : List Entry) → IsPrefix s.seen journal → own s.pid.0 journal ≡ own_of s → IsFree s → StandsIn s journal
@@ -99,8 +101,8 @@ gone_after q s (e ∷ es) was is =
     gone_entry q s e (kept_after (moves s e).state es) (refusal s e.pid) (gone_here q s e (kept_after (moves s e).state es) (refusal s e.pid)) (λ h. gone_after q (moves s e).state es h is) was
 
 -- a process that has exited has an exit in the journal
-pub gone_exited : (n q : ℕ) (es : List Entry) → IsLegal n es → has_gone (state n es) q ≡ true → exited q es ≡ true
-gone_exited n q es legal is = subst (λ (xs : List Entry). exited q xs ≡ true) legal (gone_after q (opening n) es refl is)
+pub gone_exited : (head : Head) (q : ℕ) (es : List Entry) → IsLegal head es → has_gone (state head es) q ≡ true → exited q es ≡ true
+gone_exited head q es legal is = subst (λ (xs : List Entry). exited q xs ≡ true) legal (gone_after q (opening head) es refl is)
 
 -- ---- refusals
 
@@ -135,19 +137,19 @@ below_not : (p n : ℕ) → p < n → not (nat_lt p n) ≡ true → ⊥
 below_not p n lt h = grind (arith, nat_tests)
 
 -- what a refusal shows, where the process is one of the hub's and has no open call
-pub shows : (t : Terms) (h : HubView) (e : Entry) (f : Fault) → IsHub t h → e.pid.0 < t.procs → is_waiting (state_of h) e.pid.0 ≡ false → Refuses h e f → Shows t e h.journal f
-shows t h e fault.JournalFull is below free r = (r.0, let le : h.limit ≤ steps_of h.journal = r.1 in omega (arith, is.within, is.limit))
-shows t h e fault.NoProcess is below free r = absurd (below_not e.pid.0 (state_of h).procs (omega (arith, below, is.procs, procs-after (opening h.procs) h.journal)) (refused_none (not (nat_lt e.pid.0 (state_of h).procs)) (has_gone (state_of h) e.pid.0) (is_waiting (state_of h) e.pid.0) r.1))
+pub shows : (t : Terms) (h : HubView) (e : Entry) (f : Fault) → IsHub t h → e.pid.0 < t.head.procs → is_waiting (state_of h) e.pid.0 ≡ false → Refuses h e f → Shows t e h.journal f
+shows t h e fault.JournalFull is below free r = (r.0, let le : h.terms.limit ≤ steps_of h.journal = r.1 in omega (arith, is.within, ap (λ (t : Terms). t.limit) is.terms))
+shows t h e fault.NoProcess is below free r = absurd (below_not e.pid.0 (state_of h).head.procs (omega (arith, below, ap (λ (t : Terms). t.head.procs) is.terms, procs-of (head-after (opening h.terms.head) h.journal))) (refused_none (not (nat_lt e.pid.0 (state_of h).head.procs)) (has_gone (state_of h) e.pid.0) (is_waiting (state_of h) e.pid.0) r.1))
 shows t h e fault.Gone is below free r =
-    let room : LeavesRoom t e h.journal = λ exit. subst (λ (n : ℕ). steps_of h.journal < n) is.limit (r.0 exit) in
-    let gone : has_gone (state_of h) e.pid.0 ≡ true = refused_gone (not (nat_lt e.pid.0 (state_of h).procs)) (has_gone (state_of h) e.pid.0) (is_waiting (state_of h) e.pid.0) r.1 in
-    (room, gone_exited h.procs e.pid.0 h.journal (subst (λ (n : ℕ). IsLegal n h.journal) (sym is.procs) is.history.legal) gone)
+    let room : LeavesRoom t e h.journal = λ exit. subst (λ (t : Terms). steps_of h.journal < t.limit) is.terms (r.0 exit) in
+    let gone : has_gone (state_of h) e.pid.0 ≡ true = refused_gone (not (nat_lt e.pid.0 (state_of h).head.procs)) (has_gone (state_of h) e.pid.0) (is_waiting (state_of h) e.pid.0) r.1 in
+    (room, gone_exited h.terms.head e.pid.0 h.journal (subst (λ (t : Terms). IsLegal t.head h.journal) (sym is.terms) is.history.legal) gone)
 shows t h e fault.Busy is below free r =
-    let busy : is_waiting (state_of h) e.pid.0 ≡ true = refused_busy (not (nat_lt e.pid.0 (state_of h).procs)) (has_gone (state_of h) e.pid.0) (is_waiting (state_of h) e.pid.0) r.1 in
+    let busy : is_waiting (state_of h) e.pid.0 ≡ true = refused_busy (not (nat_lt e.pid.0 (state_of h).head.procs)) (has_gone (state_of h) e.pid.0) (is_waiting (state_of h) e.pid.0) r.1 in
     absurd (let g : ⊥ = cc in g)
 shows t h e fault.NoMemory is below free r =
     let step : is_exit e.step ≡ false = growing e.step h.places r.2 in
-    (step, subst (λ (n : ℕ). steps_of h.journal < n) is.limit (r.0 step), subst (λ (n : ℕ). refusal (state n h.journal) e.pid ≡ None) is.procs r.1)
+    (step, subst (λ (t : Terms). steps_of h.journal < t.limit) is.terms (r.0 step), subst (λ (t : Terms). refusal (state t.head h.journal) e.pid ≡ None) is.terms r.1)
 shows t h e fault.TooManyCases is below free r = absurd r
 shows t h e fault.NoPort is below free r = absurd r
 shows t h e fault.BadCap is below free r = absurd r

@@ -13,7 +13,7 @@ use Rattle.hub_base.specs.declared.entry.Entry.{Entry}
 use Rattle.hub_base.specs.State.{Channel}
 use Rattle.hub_laws.specs.Replies.{own}
 use Rattle.hub_core.specs.Looks.{counts_of}
-use Rattle.hub_live.specs.declared.name.Terms.{Terms}
+use Rattle.hub_core.specs.declared.terms.Terms.{Terms}
 use Rattle.hub_live.specs.declared.rule.View.{View}
 use Rattle.hub_live.specs.Mark.{mark_of}
 use Rattle.hub_live.specs.Rule.{next_word, word_count, blank, spent, Knows, Holds, Fits, Kept}

@@ -8,9 +8,10 @@ use mathlib.Core.List.{IsPrefix}
 use lib.ListN.{get_elem?}
 use Rattle.atomic_table.specs.Table.{Me, keeps, step, Allows}
 use Rattle.atomic_table.proofs.Lists.{at_set}
+use Rattle.hub_base.specs.declared.head.Head.{Head}
 use Rattle.hub_base.specs.declared.entry.Entry.{Entry}
 use Rattle.hub_base.specs.declared.limits.TheConstants.{MOST_PORTS}
-use Rattle.hub_live.specs.declared.name.Terms.{Terms}
+use Rattle.hub_core.specs.declared.terms.Terms.{Terms}
 use Rattle.hub_live.specs.declared.rule.View.{View}
 use Rattle.hub_live.specs.Mark.{mark, MarksOne}
 use Rattle.hub_live.specs.Rule.{next_word, IsHistory, Knows, Holds, Fits, Kept}
@@ -78,7 +79,7 @@ looks t slots id i k v first s kept homes at bound =
           own = λ n has. let k = f.own n has in record { begins = k.begins; knows = k.knows };
           others = λ n has. let k = f.joined n has in record { begins = k.begins; knows = k.knows };
         },
-        λ lo hi. kept.marks i lo hi ∙ ap (λ (x : Terms). mark x.procs kept.journal i) (sym terms),
+        λ lo hi. kept.marks i lo hi ∙ ap (λ (x : Terms). mark x.head kept.journal i) (sym terms),
       ),
     )
 
@@ -110,16 +111,16 @@ other_fits t journal at next id j u e apart hub mine f = record {
     grow : (n : ℕ) (seen : List Entry) → Holds t journal at next j u seen n → Holds t (journal ++ e ∷ []) at next j u seen n
     grow n seen k = record { terms = k.terms; here = k.here; drawn = k.drawn; begins = prefix_trans seen journal (journal ++ e ∷ []) k.begins (e ∷ [], refl); knows = knows n seen k.here k.knows }
 
-mark_after : (procs : ℕ) (journal : List Entry) (e : Entry) (ws : List ℕ) (i new n : ℕ) (b : Bool) → (n == i) ≡ b → i < length ws → slice_index ws n ≡ mark procs journal n
-    → MatchBool b (mark procs (journal ++ e ∷ []) n ≡ new) (mark procs (journal ++ e ∷ []) n ≡ mark procs journal n) → slice_index (set ws i new) n ≡ mark procs (journal ++ e ∷ []) n
-mark_after procs journal e ws i new n true is lt was m =
+mark_after : (head : Head) (journal : List Entry) (e : Entry) (ws : List ℕ) (i new n : ℕ) (b : Bool) → (n == i) ≡ b → i < length ws → slice_index ws n ≡ mark head journal n
+    → MatchBool b (mark head (journal ++ e ∷ []) n ≡ new) (mark head (journal ++ e ∷ []) n ≡ mark head journal n) → slice_index (set ws i new) n ≡ mark head (journal ++ e ∷ []) n
+mark_after head journal e ws i new n true is lt was m =
     let same : n ≡ i = grind (arith, nat_tests) in
     ap (λ (k : ℕ). slice_index (set ws i new) k) same ∙ (get_or-set_same ws i new 0 lt ∙ sym m)
-mark_after procs journal e ws i new n false is lt was m =
+mark_after head journal e ws i new n false is lt was m =
     let apart : n ≢ i = grind (arith, nat_tests) in
     get_or-set_other ws i n new 0 apart ∙ (was ∙ sym m)
 
-publishes : (t : Terms) (slots id i new : ℕ) (v : View) (e : Entry) → v.number ≡ Some 0 → v.joined ≡ Some (suc e.pid.0) → IsHistory t (v.seen ++ e ∷ []) → i ≤ MOST_PORTS → MarksOne t.procs v.seen e i new
+publishes : (t : Terms) (slots id i new : ℕ) (v : View) (e : Entry) → v.number ≡ Some 0 → v.joined ≡ Some (suc e.pid.0) → IsHistory t (v.seen ++ e ∷ []) → i ≤ MOST_PORTS → MarksOne t.head v.seen e i new
     → Allows (Kept t) slots id (v, []) i (λ _. new) (λ _. Published e (step slots i new 0 none) (v, []) new)
 publishes t slots id i new v e first second history small marks s kept homes at bound =
     let f = kept.fits id v at in
@@ -136,8 +137,8 @@ publishes t slots id i new v e first second history small marks s kept homes at 
         at = kept.at;
         count = length-set s.words i new ∙ kept.count;
         history = subst (λ (l : List Entry). IsHistory t (l ++ e ∷ [])) same history;
-        marks = λ n lo hi. mark_after t.procs kept.journal e s.words i new n (n == i) refl (omega (arith, kept.count)) (kept.marks n lo hi)
-            (subst (λ (l : List Entry). MatchBool (n == i) (mark t.procs (l ++ e ∷ []) n ≡ new) (mark t.procs (l ++ e ∷ []) n ≡ mark t.procs l n)) same (marks n lo hi));
+        marks = λ n lo hi. mark_after t.head kept.journal e s.words i new n (n == i) refl (omega (arith, kept.count)) (kept.marks n lo hi)
+            (subst (λ (l : List Entry). MatchBool (n == i) (mark t.head (l ++ e ∷ []) n ≡ new) (mark t.head (l ++ e ∷ []) n ≡ mark t.head l n)) same (marks n lo hi));
         drawn = λ p le.
             let le' : slice_index s.words next_word ≤ p + 1 = subst (λ (k : ℕ). k ≤ p + 1) last le in
             own_other p kept.journal e (λ (is : e.pid.0 ≡ p). let lt : suc e.pid.0 < slice_index s.words next_word = mine.drawn in omega arith) ∙ kept.drawn p le';
@@ -160,7 +161,7 @@ looks_as t slots id i me empty has =
     let k = some_of me.0.number has in
     subst (λ (l : List (ℕ × Unit {0})). Allows (Kept t) slots id (me.0, l) i (λ n. n) (Looked (step slots i 0 0 none) (me.0, l))) (sym empty) (looks t slots id i k.0 me.0 k.1)
 
-pub publishes_as : (t : Terms) (slots id i new : ℕ) (me : Me (Unit {0}) View) (e : Entry) → me.1 ≡ [] → me.0.number ≡ Some 0 → me.0.joined ≡ Some (e.pid.0 + 1) → IsHistory t (me.0.seen ++ e ∷ []) → i ≤ MOST_PORTS → MarksOne t.procs me.0.seen e i new
+pub publishes_as : (t : Terms) (slots id i new : ℕ) (me : Me (Unit {0}) View) (e : Entry) → me.1 ≡ [] → me.0.number ≡ Some 0 → me.0.joined ≡ Some (e.pid.0 + 1) → IsHistory t (me.0.seen ++ e ∷ []) → i ≤ MOST_PORTS → MarksOne t.head me.0.seen e i new
     → Allows (Kept t) slots id me i (λ _. new) (λ _. Published e (step slots i new 0 none) me new)
 publishes_as t slots id i new me e empty first second history small marks =
     subst (λ (l : List (ℕ × Unit {0})). Allows (Kept t) slots id (me.0, l) i (λ _. new) (λ _. Published e (step slots i new 0 none) (me.0, l) new)) (sym empty)

@@ -15,14 +15,14 @@ use Rattle.hub_base.specs.Runs.{state}
 use Rattle.hub_base.specs.Text.{steps_of}
 use Rattle.hub_laws.specs.Answers.{is_answer_to}
 use Rattle.hub_laws.specs.Replies.{own, reply, is_parked}
-use Rattle.hub_live.specs.declared.name.Terms.{Terms}
+use Rattle.hub_core.specs.declared.terms.Terms.{Terms}
 use Rattle.hub_live.specs.Locked.{IsReplyTo}
 use Rattle.hub_live.specs.Name.{Name}
 use Rattle.hub_live.specs.SeatView.{SeatView, IsIdle, own_of, reply_to}
 
 -- an answer that is not `Parked` is the process's reply
 abbrev pub Tells : Terms → Pid → List Entry → Event → Type 0
-Tells t pid seen x = is_parked x.what ≡ false → IsReplyTo t.procs pid.0 seen x
+Tells t pid seen x = is_parked x.what ≡ false → IsReplyTo t.head pid.0 seen x
 
 -- the process asked this entry more
 abbrev pub Gains : Entry → List Entry → List Entry → Type 0
@@ -41,15 +41,15 @@ Shows t e seen fault.Gone =
     LeavesRoom t e seen × (list_any (λ x. is_exit x.step) (own e.pid.0 seen) ≡ true)
 Shows t e seen fault.NoMemory =
     (is_exit e.step ≡ false) × (steps_of seen < t.limit)
-    × (refusal (state t.procs seen) e.pid ≡ None)
+    × (refusal (state t.head seen) e.pid ≡ None)
 Shows t e seen other = ⊥
 
 -- between two beginnings of the journal the process made no entry; its last answer is the same, and
 -- it has no open call
 pub record AsksNothing (t : Terms) (pid : Pid) (before seen : List Entry) : Type 0 where
   pub own : own pid.0 seen ≡ own pid.0 before
-  pub reply : reply pid.0 t.procs seen ≡ reply pid.0 t.procs before
-  pub free : is_waiting (state t.procs seen) pid.0 ≡ false
+  pub reply : reply pid.0 t.head seen ≡ reply pid.0 t.head before
+  pub free : is_waiting (state t.head seen) pid.0 ≡ false
 
 -- ---- what a call leaves in its seat
 

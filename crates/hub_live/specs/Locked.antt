@@ -1,6 +1,7 @@
 -- What contracts see of a locked hub: a hub, and for each process an answer that may wait to be picked
 -- up. Where a step ends the call of another process, the answer waits until that process takes it.
 use Rattle.std.specs.Prelude.{◌≡◌, ◌<◌, ◌==◌, ℕ, false, List, [], ◌∷◌, length, map, replicate, filter, Option, None, Some, IfSome, slice_index_or, slice_set, if◌then◌else◌}
+use Rattle.hub_base.specs.declared.head.Head.{Head}
 use Rattle.hub_base.specs.declared.value.Pid.{Pid}
 use Rattle.hub_base.specs.declared.entry.Entry.{Entry}
 use Rattle.hub_base.specs.declared.event.Event.{Event}
@@ -30,16 +31,16 @@ none_waits hub = record { hub = hub; answers = replicate MOST_PROCS None; ended 
 -- ---- what every locked hub keeps
 
 -- after these entries the event is the reply of process q, and q has no open call
-pub record IsReplyTo (n q : ℕ) (es : List Entry) (x : Event) : Type 0 where
-  pub reply : reply q n es ≡ Some x
-  pub free : is_waiting (state n es) q ≡ false
+pub record IsReplyTo (h : Head) (q : ℕ) (es : List Entry) (x : Event) : Type 0 where
+  pub reply : reply q h es ≡ Some x
+  pub free : is_waiting (state h es) q ≡ false
 
 -- the journal is legal, and an answer that waits is its process's reply. So none waits for a process
 -- that has an open call
 pub record IsLawful (hub : HubView) (answers : List (Option Event)) : Type 0 where
-  pub legal : IsLegal hub.procs hub.journal
+  pub legal : IsLegal hub.terms.head hub.journal
   pub places : length answers ≡ MOST_PROCS
-  pub replies : (q : ℕ) → IfSome (answer_for answers q) (IsReplyTo hub.procs q hub.journal)
+  pub replies : (q : ℕ) → IfSome (answer_for answers q) (IsReplyTo hub.terms.head q hub.journal)
 
 -- ---- a step
 

@@ -2,6 +2,7 @@
 -- that is not made has the mark 0.
 use Rattle.std.specs.Prelude.{◌≡◌, ◌<◌, ◌≤◌, ◌==◌, ℕ, ◌+◌, ◌-◌, ◌*◌, ◌/◌, ◌%◌, ◌^◌, ◌++◌, nat_le, List, [], ◌∷◌, Option, None, Some, MatchBool, if◌then◌else◌}
 use Rattle.std.specs.Option.{option_map, option_map_or}
+use Rattle.hub_base.specs.declared.head.Head.{Head}
 use Rattle.hub_base.specs.declared.value.Port.{Port}
 use Rattle.hub_base.specs.declared.counts.Counts.{Counts}
 use Rattle.hub_base.specs.declared.entry.Entry.{Entry}
@@ -52,17 +53,17 @@ abbrev pub port_numbered : ℕ → Port
 port_numbered number = record { 0 = number }
 
 -- the mark of the port of this number after these entries
-abbrev pub mark : ℕ → List Entry → ℕ → ℕ
-mark n es number = mark_at (state n es) (port_numbered number)
+abbrev pub mark : Head → List Entry → ℕ → ℕ
+mark h es number = mark_at (state h es) (port_numbered number)
 
 -- the entry changes at most the mark of this number, which it makes `new`
-abbrev pub MarksOne : ℕ → List Entry → Entry → ℕ → ℕ → Type 0
-MarksOne n es e word new =
+abbrev pub MarksOne : Head → List Entry → Entry → ℕ → ℕ → Type 0
+MarksOne h es e word new =
     (number : ℕ) → 0 < number → number ≤ MOST_PORTS →
     MatchBool (number == word)
-    (mark n (es ++ e ∷ []) number ≡ new)
-    (mark n (es ++ e ∷ []) number ≡ mark n es number)
+    (mark h (es ++ e ∷ []) number ≡ new)
+    (mark h (es ++ e ∷ []) number ≡ mark h es number)
 
 -- but for word 0 this mark is another than the word's port had
-abbrev pub IsOther : ℕ → List Entry → ℕ → ℕ → Type 0
-IsOther n es word new = 0 < word → mark n es word ≡ new → ⊥
+abbrev pub IsOther : Head → List Entry → ℕ → ℕ → Type 0
+IsOther h es word new = 0 < word → mark h es word ≡ new → ⊥

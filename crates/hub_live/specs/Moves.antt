@@ -32,7 +32,7 @@ pub record Sees (v w : View) : Type 0 where
 abbrev pub Looked : Step (Unit {0}) → Me (Unit {0}) View → ℕ → Me (Unit {0}) View → Type 0
 Looked s v found w =
     (w.1 ≡ v.1) × Sees v.0 w.0
-    × (0 < s.word → s.word ≤ MOST_PORTS → found ≡ mark v.0.terms.procs w.0.seen s.word)
+    × (0 < s.word → s.word ≤ MOST_PORTS → found ≡ mark v.0.terms.head w.0.seen s.word)
 
 -- ---- a number is drawn
 

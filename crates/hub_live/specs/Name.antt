@@ -1,7 +1,8 @@
 -- What names a hub.
 use Rattle.std.specs.Prelude.{[]}
 use Rattle.atomic_table.specs.Seated.{TableId}
-use Rattle.hub_live.specs.declared.name.Terms.{Terms}
+use Rattle.hub_core.specs.HubView.{terms_of}
+use Rattle.hub_core.specs.declared.terms.Terms.{Terms}
 
 -- its table, and what it was opened with
 pub record Name : Type 0 where
@@ -25,5 +26,5 @@ no_name =
         offset = 0;
         slot_names = [];
       };
-      terms = record { procs = 0; limit = 0 };
+      terms = terms_of 0 0;
     }

@@ -7,9 +7,10 @@ use Rattle.atomic_table.specs.Table.{State}
 use Rattle.hub_base.specs.declared.entry.Entry.{Entry}
 use Rattle.hub_base.specs.declared.limits.TheConstants.{MOST_PORTS, MOST_STEPS}
 use Rattle.hub_base.specs.Text.{steps_of}
+use Rattle.hub_core.specs.HubView.{terms_of}
 use Rattle.hub_laws.specs.Journals.{IsLegal}
 use Rattle.hub_laws.specs.Replies.{own}
-use Rattle.hub_live.specs.declared.name.Terms.{Terms}
+use Rattle.hub_core.specs.declared.terms.Terms.{Terms}
 use Rattle.hub_live.specs.declared.rule.View.{View}
 use Rattle.hub_live.specs.Mark.{mark}
 
@@ -23,7 +24,7 @@ next_word = MOST_PORTS + 1
 
 -- what a journal of a hub is
 pub record IsHistory (t : Terms) (journal : List Entry) : Type 0 where
-  pub legal : IsLegal t.procs journal
+  pub legal : IsLegal t.head journal
   pub few : steps_of journal ≤ MOST_STEPS
 
 -- a new seat, which has no number yet
@@ -32,7 +33,7 @@ blank t = record { terms = t; number = None; seen = []; joined = None; joined_se
 
 -- a seat that another took in
 abbrev pub spent : View
-spent = blank (record { procs = 0; limit = 0 })
+spent = blank (terms_of 0 0)
 
 -- number 0, the hub's, has seen the whole journal, a process's number every entry of the process
 abbrev pub Knows : List Entry → List Entry → ℕ → Type 0
@@ -62,7 +63,7 @@ pub record Kept (t : Terms) (s : State (Unit {0}) View) : Type 0 where
   pub at : ℕ → ℕ
   pub count : length s.words ≡ word_count
   pub history : IsHistory t journal
-  pub marks : (n : ℕ) → 0 < n → n ≤ MOST_PORTS → slice_index s.words n ≡ mark t.procs journal n
+  pub marks : (n : ℕ) → 0 < n → n ≤ MOST_PORTS → slice_index s.words n ≡ mark t.head journal n
   -- a process whose number is not drawn has no entry
   pub drawn : (p : ℕ) → slice_index s.words next_word ≤ p + 1 → own p journal ≡ []
   pub fits :

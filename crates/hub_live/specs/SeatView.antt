@@ -19,7 +19,7 @@ pub record SeatView : Type 0 where
 
 -- the state of the hub there
 abbrev pub state_seen : SeatView → State
-state_seen s = state s.hub.terms.procs s.seen
+state_seen s = state s.hub.terms.head s.seen
 
 -- the process has no open call there
 abbrev pub IsFree : SeatView → Type 0
@@ -31,7 +31,7 @@ own_of s = own s.pid.0 s.seen
 
 -- what the process was told last there, `Parked` left aside
 abbrev pub reply_to : SeatView → Option Event
-reply_to s = reply s.pid.0 s.hub.terms.procs s.seen
+reply_to s = reply s.pid.0 s.hub.terms.head s.seen
 
 -- what holds of each seat between two calls: what it has seen is a legal journal, in which its
 -- process has no open call

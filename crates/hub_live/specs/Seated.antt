@@ -6,7 +6,7 @@ use Rattle.hub_base.specs.declared.value.Pid.{Pid}
 use Rattle.hub_base.specs.declared.limits.TheConstants.{MOST_STEPS}
 use Rattle.hub_base.specs.Text.{steps_of}
 use Rattle.hub_core.specs.HubView.{HubView}
-use Rattle.hub_live.specs.declared.name.Terms.{Terms}
+use Rattle.hub_core.specs.declared.terms.Terms.{Terms}
 use Rattle.hub_live.specs.declared.rule.View.{View}
 use Rattle.hub_live.specs.Locked.{LockedView}
 use Rattle.hub_live.specs.Name.{Name, name_of, no_name}
@@ -25,7 +25,7 @@ pub record IsAlone (pid : Pid) (t : Seat (Unit {0}) View) : Type 0 where
   pub free : t.me.1 ≡ []
   pub number : t.me.0.number ≡ Some (pid.0 + 1)
   pub joined : t.me.0.joined ≡ None
-  pub below : pid.0 < t.me.0.terms.procs
+  pub below : pid.0 < t.me.0.terms.head.procs
   pub history : IsHistory t.me.0.terms t.me.0.seen
 
 abbrev pub IsSeated : Pid → Option (Seat (Unit {0}) View) → Type 0
@@ -34,8 +34,7 @@ IsSeated pid (Some t) = IsAlone pid t
 
 -- a hub that was opened so
 pub record IsHub (t : Terms) (h : HubView) : Type 0 where
-  pub procs : h.procs ≡ t.procs
-  pub limit : h.limit ≡ t.limit
+  pub terms : h.terms ≡ t
   pub most : t.limit ≤ MOST_STEPS
   pub history : IsHistory t h.journal
   pub within : steps_of h.journal ≤ t.limit
@@ -61,4 +60,4 @@ pub record IsBlank
     Type 0 where
   pub made : IsTableOf (name_of table terms) table terms
   pub desk : IsDesk (name_of table terms) l t
-  pub wakers : count ≡ terms.procs
+  pub wakers : count ≡ terms.head.procs

@@ -1,7 +1,8 @@
 //! A hub that has no name yet.
 
 ghost use Rattle.std.specs.Prelude.{◌≡◌, IfOk, IfErr, OnOk, All, vec_len};
-ghost use Rattle.hub_core.specs.HubView.{RefusesOpening, IsProcs, IsLimit, opened_hub};
+ghost use Rattle.hub_base.specs.Head.{IsHead, head_of};
+ghost use Rattle.hub_core.specs.HubView.{RefusesOpening, IsLimit, opened_hub, terms_of};
 ghost use Rattle.hub_live.specs.Locked.{none_waits};
 ghost use Rattle.hub_live.specs.Name.{name_of};
 ghost use Rattle.hub_live.specs.Calls.{AreSeats};
@@ -10,12 +11,12 @@ ghost use Rattle.hub_live.specs.Rule.{word_count};
 use crate::desk::Desk;
 use crate::live_hub::LiveHub;
 use crate::locked::Locked;
-use crate::name::{HubName, Terms};
+use crate::name::HubName;
 use crate::rule::{HubTable, Token};
 use crate::seat::{InnerSeat, Seat};
 use crate::words::{Words, draw, open_table};
-use hub_base::Pid;
-use hub_core::{Hub, OpenFault};
+use hub_base::{Head, Pid};
+use hub_core::{Hub, OpenFault, Terms};
 use std::alloc::{AllocError, Global};
 use std::marker::Model;
 use std::sync::Condvar;
@@ -65,7 +66,7 @@ fn wakers_of(alloc: Global, procs: u8) -> Result<Vec<Condvar>, AllocError>
 fn seats_of(alloc: Global, table: &HubTable, procs: u8) -> Result<Vec<Seat>, AllocError>
     requires words { table.now.shared.table_id.words ≡ word_count }
     requires slots { table.now.shared.table_id.slots ≡ 0 }
-    requires procs { table.now.shared.key.procs ≡ procs }
+    requires procs { table.now.shared.key.head.procs ≡ procs }
     ensures count { IfOk result (λ seats. vec_len seats ≡ procs) }
     ensures seats { IfOk result (λ seats.
         AreSeats (name_of table.now.shared.table_id table.now.shared.key) 0 seats.items) }
@@ -86,16 +87,20 @@ impl Blank {
     /// seat can't draw its number.
     #[tactic(auto, using(crate::proofs::Laters::all_of_hub))]
     pub fn open(alloc: Global, procs: u8, limit: u32) -> Result<(Blank, Vec<Seat>), OpenFault>
-        ensures hub { IfOk result (λ r. r.0.locked ≡ none_waits (opened_hub procs limit)) }
-        ensures terms { IfOk result (λ r. r.0.name.terms ≡ record { procs = procs; limit = limit }) }
-        ensures bounds { OnOk result (IsProcs procs × IsLimit limit) }
+        ensures hub { IfOk result (λ r. r.0.locked ≡ none_waits (opened_hub (terms_of procs limit))) }
+        ensures terms { IfOk result (λ r. r.0.name.terms ≡ terms_of procs limit) }
+        ensures bounds { OnOk result (IsHead (head_of procs) × IsLimit limit) }
         ensures count { IfOk result (λ r. vec_len r.1 ≡ procs) }
         ensures seats { IfOk result (λ r. AreSeats r.0.name 0 r.1.items) }
         ensures together { IfOk result (λ r. All (λ s. s.hub ≡ r.0.name) r.1.items) }
-        ensures err { IfErr result (λ f. RefusesOpening procs limit f) }
+        ensures err { IfErr result (λ f. RefusesOpening (terms_of procs limit) f) }
     {
         let hub = Hub::open(alloc, procs, limit)?;
-        let (table, token) = open_table(alloc, Terms { procs, limit })?;
+        let terms = Terms {
+            head: Head { procs },
+            limit,
+        };
+        let (table, token) = open_table(alloc, terms)?;
         let wakers = wakers_of(alloc, procs)?;
         let seats = seats_of(alloc, &table, procs)?;
         let blank = Blank {

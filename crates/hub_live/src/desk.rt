@@ -64,7 +64,7 @@ fn changed(step: &Step, answer: What) -> Port
 
 /// The mark of a port, 0 where it is not made.
 fn mark_at(locked: &Locked, port: Port) -> u64
-    requires legal { IsLegal locked.now.hub.procs locked.now.hub.journal }
+    requires legal { IsLegal locked.now.hub.terms.head locked.now.hub.journal }
     requires few { steps_of locked.now.hub.journal ≤ MOST_STEPS }
     ensures { result ≡ mark_at (state_of locked.now.hub) port }
 {
@@ -96,7 +96,7 @@ fn step_as<K: HubName>(
     requires token { IsToken K.name mine }
     requires alone { IsAlone entry.pid mine }
     requires terms { mine.me.0.terms ≡ K.name.terms }
-    requires free { is_waiting (state K.name.terms.procs mine.me.0.seen) entry.pid.0 ≡ false }
+    requires free { is_waiting (state K.name.terms.head mine.me.0.seen) entry.pid.0 ≡ false }
 
     ensures desk { IsDesk K.name locked.new hub.new }
     ensures token { IsToken K.name result.1 }
@@ -217,7 +217,7 @@ impl<K: HubName> Desk<K> {
         ensures none { IfNone result ((self.new ≡ self.old) × (seat.new ≡ seat.old)) }
 
         ensures told { IfSome result (λ x.
-            IsReplyTo K.name.terms.procs seat.old.pid.0 seat.new.seen x) }
+            IsReplyTo K.name.terms.head seat.old.pid.0 seat.new.seen x) }
         ensures seen { OnSome result (seat.new.seen ≡ self.new.hub.journal) }
         ensures history { OnSome result (IsHistory K.name.terms seat.new.seen) }
         ensures begins { OnSome result (IsPrefix seat.old.seen seat.new.seen) }
@@ -263,8 +263,8 @@ impl<K: HubName> Desk<K> {
 
     /// The journal. Answers that wait are dropped.
     pub(crate) fn into_journal(self) -> Journal
-        ensures journal { result ≡ record { procs = K.name.terms.procs; entries = self.hub.journal } }
-        ensures legal { IsLegal K.name.terms.procs self.hub.journal }
+        ensures journal { result ≡ record { head = K.name.terms.head; entries = self.hub.journal } }
+        ensures legal { IsLegal K.name.terms.head self.hub.journal }
         ensures few { steps_of self.hub.journal ≤ K.name.terms.limit }
     {
         let Desk {

@@ -58,7 +58,7 @@ impl<K: HubName> Held<K> {
     /// the process has no open call.
     pub fn pid(&self) -> Pid
         ensures pid { result ≡ self.now.pid }
-        ensures below { result.0 < self.now.hub.terms.procs }
+        ensures below { result.0 < self.now.hub.terms.head.procs }
         ensures idle { IsIdle self.now }
         ensures hub { self.now.hub ≡ K.name }
     {
@@ -196,8 +196,8 @@ impl<K: HubName> Held<K> {
 impl<K: HubName> LiveHub<K> {
     /// The journal, as `finish` gives it.
     pub fn finish_held(self, held: Vec<Held<K>>) -> Journal
-        ensures procs { result.procs ≡ K.name.terms.procs }
-        ensures legal { IsLegal result.procs result.entries }
+        ensures head { result.head ≡ K.name.terms.head }
+        ensures legal { IsLegal result.head result.entries }
         ensures few { steps_of result.entries ≤ K.name.terms.limit }
         ensures seats { All (λ s. StandsIn s result.entries) held.items }
     {

@@ -18,6 +18,7 @@ pub use blank::Blank;
 pub use ends::{Chan, RecvPort, SendPort};
 pub use held::{Held, hold_all};
 pub use live_hub::LiveHub;
+pub use hub_core::Terms;
 pub use mark::mark_of;
-pub use name::{HubName, Terms};
+pub use name::HubName;
 pub use seat::Seat;

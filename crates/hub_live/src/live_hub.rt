@@ -38,7 +38,7 @@ pub struct LiveHub<K: HubName> {
     /// By process number: told when an answer waits for that process. A wake is only a hint: a call
     /// ends where it finds its own answer.
     wakers: Vec<Condvar>,
-    ghost is: { vec_len wakers ≡ K.name.terms.procs },
+    ghost is: { vec_len wakers ≡ K.name.terms.head.procs },
 }
 
 fn is_parked(what: What) -> bool
@@ -94,7 +94,7 @@ fn meet_as<K: HubName>(
 
 impl<K: HubName> LiveHub<K> {
     pub(crate) fn of(words: Words<K>, desk: Desk<K>, wakers: Vec<Condvar>) -> LiveHub<K>
-        requires { vec_len wakers ≡ K.name.terms.procs }
+        requires { vec_len wakers ≡ K.name.terms.head.procs }
     {
         LiveHub {
             words,
@@ -361,8 +361,8 @@ impl<K: HubName> LiveHub<K> {
     /// more in it. The list may be empty. Answers that wait are dropped. Waits for nobody.
     pub fn finish(self, seats: Vec<Seat>) -> Journal
         requires { All (λ s. s.hub ≡ K.name) seats.items }
-        ensures procs { result.procs ≡ K.name.terms.procs }
-        ensures legal { IsLegal result.procs result.entries }
+        ensures head { result.head ≡ K.name.terms.head }
+        ensures legal { IsLegal result.head result.entries }
         ensures few { steps_of result.entries ≤ K.name.terms.limit }
         ensures seats { All (λ s. StandsIn s result.entries) seats.items }
     {

@@ -100,7 +100,7 @@ impl Locked {
     pub fn step(&mut self, entry: Entry) -> Result<Event, Fault>
         ensures ok { IfOk result (λ answer. Serves self.old entry self.new answer) }
         ensures reply { IfOk result (λ answer. is_parked answer.what ≡ false →
-            IsReplyTo self.new.hub.procs entry.pid.0 self.new.hub.journal answer) }
+            IsReplyTo self.new.hub.terms.head entry.pid.0 self.new.hub.journal answer) }
         ensures refused { IfErr result (λ f. Refuses self.old.hub entry f) }
         ensures unchanged { OnErr result (self.new ≡ self.old) }
     {
@@ -121,7 +121,7 @@ impl Locked {
     pub fn take(&mut self, pid: Pid) -> Option<Event>
         ensures answer { result ≡ answer_for self.old.answers pid.0 }
         ensures taken { self.new ≡ without_answer self.old pid.0 }
-        ensures reply { IfSome result (IsReplyTo self.old.hub.procs pid.0 self.old.hub.journal) }
+        ensures reply { IfSome result (IsReplyTo self.old.hub.terms.head pid.0 self.old.hub.journal) }
         ensures none { IfNone result (self.new ≡ self.old) }
     {
         let place = usize::from(pid.0);
@@ -154,15 +154,15 @@ impl Locked {
     /// The journal so far. It is legal: each of its entries was admitted when it came.
     pub fn entries(&self) -> &[Entry]
         ensures journal { result.now ≡ self.now.hub.journal }
-        ensures legal { IsLegal self.now.hub.procs self.now.hub.journal }
+        ensures legal { IsLegal self.now.hub.terms.head self.now.hub.journal }
     {
         self.hub.entries()
     }
 
     /// The journal. Answers that wait are dropped.
     pub fn into_journal(self) -> Journal
-        ensures journal { result ≡ record { procs = self.hub.procs; entries = self.hub.journal } }
-        ensures legal { IsLegal self.hub.procs self.hub.journal }
+        ensures journal { result ≡ record { head = self.hub.terms.head; entries = self.hub.journal } }
+        ensures legal { IsLegal self.hub.terms.head self.hub.journal }
     {
         let Locked {
             hub,

@@ -4,9 +4,9 @@
 //! which take no memory: the hub's seat knows it whole, the seat of a process a beginning of it,
 //! with every entry of that process.
 
-use crate::name::Terms;
 use atomic_table::{Join, Play, Seat, Split, Table, TableRule};
 use hub_base::Entry;
+use hub_core::Terms;
 use std::alloc::Global;
 use std::collections::LinkedList;
 use std::marker::{Brand, PhantomData};

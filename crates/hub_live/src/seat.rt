@@ -43,7 +43,7 @@ impl InnerSeat {
     /// Its process, which is one of its hub's.
     pub fn pid(&self) -> Pid
         ensures pid { result ≡ self.now.pid }
-        ensures below { result.0 < self.now.hub.terms.procs }
+        ensures below { result.0 < self.now.hub.terms.head.procs }
     {
         self.pid
     }
@@ -78,7 +78,7 @@ impl Seat {
     /// the process has no open call.
     pub fn pid(&self) -> Pid
         ensures pid { result ≡ self.now.pid }
-        ensures below { result.0 < self.now.hub.terms.procs }
+        ensures below { result.0 < self.now.hub.terms.head.procs }
         ensures idle { IsIdle self.now }
     {
         self.inner.pid()

@@ -6,11 +6,12 @@ ghost use Rattle.hub_live.specs.Rule.{IsHistory, blank, next_word, word_count};
 ghost use Rattle.hub_live.specs.Moves.{Sees, grown, numbered, with_joined, parted, given_back};
 ghost use Rattle.hub_live.specs.Named.{IsTableOf, IsNewTable, IsToken};
 
-use crate::name::{HubName, Terms};
+use crate::name::HubName;
 use crate::rule::{
     DrawStep, EnterStep, HubTable, LookStep, NamesEntry, PublishStep, TakesIn, Token,
 };
 use hub_base::{Entry, MOST_PORTS};
+use hub_core::Terms;
 use std::alloc::{AllocError, Global};
 use std::marker::{Brand, PhantomData};
 
@@ -47,7 +48,7 @@ impl<K: HubName> Words<K> {
         requires caller { token.old.me.0.joined ≡ Some (entry.now.pid.0 + 1) }
         requires history { IsHistory K.name.terms (token.old.me.0.seen ++ entry.now ∷ []) }
         requires word { word ≤ MOST_PORTS }
-        requires mark { MarksOne K.name.terms.procs token.old.me.0.seen entry.now word mark }
+        requires mark { MarksOne K.name.terms.head token.old.me.0.seen entry.now word mark }
         ensures same { (token.new.table_id ≡ token.old.table_id) × (token.new.me.1 ≡ []) }
         ensures view { token.new.me.0 ≡ grown token.old.me.0 entry.now }
     {
@@ -62,8 +63,8 @@ impl<K: HubName> Words<K> {
         requires caller { token.old.me.0.joined ≡ Some (entry.now.pid.0 + 1) }
         requires history { IsHistory K.name.terms (token.old.me.0.seen ++ entry.now ∷ []) }
         requires word { word ≤ MOST_PORTS }
-        requires mark { MarksOne K.name.terms.procs token.old.me.0.seen entry.now word mark }
-        requires other { IsOther K.name.terms.procs token.old.me.0.seen word mark }
+        requires mark { MarksOne K.name.terms.head token.old.me.0.seen entry.now word mark }
+        requires other { IsOther K.name.terms.head token.old.me.0.seen word mark }
         ensures same { (token.new.table_id ≡ token.old.table_id) × (token.new.me.1 ≡ []) }
         ensures view { token.new.me.0 ≡ grown token.old.me.0 entry.now }
     {
@@ -78,7 +79,7 @@ impl<K: HubName> Words<K> {
         requires word { word ≤ MOST_PORTS }
         ensures same { (token.new.table_id ≡ token.old.table_id) × (token.new.me.1 ≡ []) }
         ensures sees { Sees token.old.me.0 token.new.me.0 }
-        ensures mark { 0 < word → result ≡ mark token.old.me.0.terms.procs token.new.me.0.seen word }
+        ensures mark { 0 < word → result ≡ mark token.old.me.0.terms.head token.new.me.0.seen word }
     {
         self.table.shared.load::<LookStep>(token, word)
     }

@@ -2,11 +2,13 @@
 use Rattle.std.proofs.Common.{◌≡◌, ℕ, ◌+◌, ◌<◌, ◌≤◌, ◌==◌, Bool, true, false, List, [], ◌∷◌, ◌++◌, length, take, drop, refl, sym, ap, subst, ◌∙◌, arith, Option, Some, None, Result, Ok, Err, take-append-drop, length-take}
 use Rattle.std.proofs.lemmas.Bool.{lt-ltb}
 use Rattle.std.specs.Prelude.{codes, nat_lt, if◌then◌else◌}
+use Rattle.hub_base.specs.declared.head.Head.{Head}
 use Rattle.hub_base.specs.declared.entry.Entry.{Entry}
 use Rattle.hub_base.specs.declared.text.faults.Kind.{Kind}
 use Rattle.hub_base.specs.declared.text.faults.Kind.TheVariants.{TooLong, BadHeader}
 use Rattle.hub_base.specs.declared.limits.TheConstants.{MOST_BYTES}
 use Rattle.hub_base.specs.Lines.{pieces, read_fields, same_text}
+use Rattle.hub_base.specs.Head.{head_of}
 use Rattle.hub_base.specs.Reading.{Reading, Faulty, Row, rows, front, end_of, within, faulty_or, entry_says, entries_from, counted, over, with_entry, procs_number, procs_say, procs_from, reading, read_text}
 
 -- the same rows up to one that ends past the limit in both
@@ -26,15 +28,15 @@ entry_says-same : (k steps : ℕ) (r : Result Entry Kind) (f g : Entry → Readi
 entry_says-same k steps (Err kind) f g same = refl
 entry_says-same k steps (Ok e) f g same = ap (λ said. if over steps e then Faulty k TooLong else with_entry e said) (same e)
 
-entries_from-alike : (n k start steps : ℕ) (rs ss : List Row) → Alike start rs ss → entries_from n k start steps rs ≡ entries_from n k start steps ss
-entries_from-alike n k start steps _ _ (past _ r s rs ss p q) = too_long (end_of start r) k r _ p ∙ sym (too_long (end_of start s) k s _ q)
-entries_from-alike n k start steps _ _ (next _ r rs ss h) =
+entries_from-alike : (head : Head) (k start steps : ℕ) (rs ss : List Row) → Alike start rs ss → entries_from head k start steps rs ≡ entries_from head k start steps ss
+entries_from-alike head k start steps _ _ (past _ r s rs ss p q) = too_long (end_of start r) k r _ p ∙ sym (too_long (end_of start s) k s _ q)
+entries_from-alike head k start steps _ _ (next _ r rs ss h) =
     ap (within (end_of start r) k r) (entry_says-same k steps (read_fields (pieces 32 r.bytes)) _ _
-    (λ e. entries_from-alike n (k + 1) (end_of start r) (counted steps e) rs ss h))
+    (λ e. entries_from-alike head (k + 1) (end_of start r) (counted steps e) rs ss h))
 
 procs_say-alike : (o : Option ℕ) (start : ℕ) (rs ss : List Row) → Alike start rs ss → procs_say o start rs ≡ procs_say o start ss
 procs_say-alike None start rs ss h = refl
-procs_say-alike (Some n) start rs ss h = entries_from-alike n 3 start 0 rs ss h
+procs_say-alike (Some n) start rs ss h = entries_from-alike (head_of n) 3 start 0 rs ss h
 
 procs_from-alike : (start : ℕ) (rs ss : List Row) → Alike start rs ss → procs_from start rs ≡ procs_from start ss
 procs_from-alike start _ _ (past _ r s rs ss p q) = too_long (end_of start r) 2 r _ p ∙ sym (too_long (end_of start s) 2 s _ q)

@@ -5,6 +5,7 @@ use Rattle.std.specs.List.{flat_map, join_with_byte}
 use Rattle.std.specs.Fmt.{digits, digits_onto, digit_glyph}
 use Rattle.std.proofs.lemmas.Bool.{ne_eqb}
 use Rattle.std.proofs.lemmas.List.Sums.{sum_by-append}
+use Rattle.hub_base.specs.declared.head.Head.{Head}
 use Rattle.hub_base.specs.declared.case.Case.{Case}
 use Rattle.hub_base.specs.declared.case.Case.TheVariants.{Send, Recv}
 use Rattle.hub_base.specs.declared.entry.Entry.{Entry}
@@ -19,7 +20,7 @@ use Rattle.hub_base.specs.declared.limits.TheConstants.{MOST_EVENTS}
 use Rattle.hub_base.specs.EventText.{event_line, what_text, outcome_text}
 use Rattle.hub_base.specs.Faults.{fault_number}
 use Rattle.hub_base.specs.Lines.{line, step_fields, call_fields}
-use Rattle.hub_base.specs.Reading.{head}
+use Rattle.hub_base.specs.Reading.{head_lines}
 use Rattle.hub_base.specs.Runs.{events}
 use Rattle.hub_base.specs.Text.{IsText}
 use Rattle.hub_replay.specs.Replay.{event_lines}
@@ -137,10 +138,10 @@ lines_are_long (e ∷ es) =
     omega (arith, all, one, rest)
 
 -- no journal has so many events that their number passes 32 bits
-pub lines-few : {bytes told : List ℕ} {n : ℕ} {es : List Entry} → told ≡ event_lines n es → length (events n es) ≤ MOST_EVENTS * length es → IsText bytes n es → newlines_in told < 2 ^ 32 - 1
-lines-few {bytes} {told} {n} {es} is few spelled =
-    let counted = ap newlines_in is ∙ newlines_in-events (events n es) in
+pub lines-few : {bytes told : List ℕ} {head : Head} {es : List Entry} → told ≡ event_lines head es → length (events head es) ≤ MOST_EVENTS * length es → IsText bytes head es → newlines_in told < 2 ^ 32 - 1
+lines-few {bytes} {told} {head} {es} is few spelled =
+    let counted = ap newlines_in is ∙ newlines_in-events (events head es) in
     let long = lines_are_long es in
-    let size = ap length spelled.spelled ∙ length-append (head n) (flat_map line es) in
+    let size = ap length spelled.spelled ∙ length-append (head_lines head) (flat_map line es) in
     let fit = spelled.bytes_fit in
     omega (arith, counted, few, long, size, fit)

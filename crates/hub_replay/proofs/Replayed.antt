@@ -2,6 +2,7 @@
 use Rattle.std.proofs.Common.{◌≡◌, ℕ, ◌*◌, ◌≤◌, Bool, false, List, [], ◌∷◌, ◌++◌, length, refl, sym, ap, subst, ◌∙◌, append_assoc, append-nil, arith, Some, length-append}
 use Rattle.std.proofs.lemmas.Grind.{flat_map-append}
 use Rattle.std.specs.List.{flat_map}
+use Rattle.hub_base.specs.declared.head.Head.{Head}
 use Rattle.hub_base.specs.declared.entry.Entry.{Entry}
 use Rattle.hub_base.specs.declared.event.Event.{Event}
 use Rattle.hub_base.specs.declared.limits.TheConstants.{MOST_EVENTS}
@@ -18,7 +19,7 @@ use Rattle.hub_replay.specs.Replayed.{Replayed, ReplayedWhole, GoesOn}
 use Rattle.hub_replay.proofs.Newlines.{lines-few}
 
 behind-more : (es : List Entry) (e : Entry) (r : Reading) → behind es (with_entry e r) ≡ behind (es ++ e ∷ []) r
-behind-more es e (Reads n fs) = ap (Reads n) (sym (append_assoc es (e ∷ []) fs))
+behind-more es e (Reads head fs) = ap (Reads head) (sym (append_assoc es (e ∷ []) fs))
 behind-more es e (Faulty k kind) = refl
 
 -- one more entry gives its events at the end
@@ -28,43 +29,43 @@ events_after-more s (f ∷ es) e =
     ap (λ xs. (moves s f).events ++ xs) (events_after-more (moves s f).state es e)
     ∙ sym (append_assoc (moves s f).events (events_after (moves s f).state es) (moves (state_after (moves s f).state es) e).events)
 
-event_lines-more : (n : ℕ) (es : List Entry) (e : Entry) → event_lines n (es ++ e ∷ []) ≡ event_lines n es ++ flat_map event_line (moves (state n es) e).events
-event_lines-more n es e = ap (flat_map event_line) (events_after-more (opening n) es e) ∙ flat_map-append event_line (events n es) (moves (state n es) e).events
+event_lines-more : (head : Head) (es : List Entry) (e : Entry) → event_lines head (es ++ e ∷ []) ≡ event_lines head es ++ flat_map event_line (moves (state head es) e).events
+event_lines-more head es e = ap (flat_map event_line) (events_after-more (opening head) es e) ∙ flat_map-append event_line (events head es) (moves (state head es) e).events
 
 -- each entry has at most `MOST_EVENTS` events
-few-more : (n : ℕ) (es : List Entry) (e : Entry) → length (events n es) ≤ MOST_EVENTS * length es → length (moves (state n es) e).events ≤ MOST_EVENTS → length (events n (es ++ e ∷ [])) ≤ MOST_EVENTS * length (es ++ e ∷ [])
-few-more n es e few one =
-    let all = ap length (events_after-more (opening n) es e) in
-    let sum = length-append (events n es) (moves (state n es) e).events in
+few-more : (head : Head) (es : List Entry) (e : Entry) → length (events head es) ≤ MOST_EVENTS * length es → length (moves (state head es) e).events ≤ MOST_EVENTS → length (events head (es ++ e ∷ [])) ≤ MOST_EVENTS * length (es ++ e ∷ [])
+few-more head es e few one =
+    let all = ap length (events_after-more (opening head) es e) in
+    let sum = length-append (events head es) (moves (state head es) e).events in
     let more = length-append es (e ∷ []) in
     omega (arith, few, one, all, sum, more)
 
 module _ {bytes text : List ℕ} {old : ReaderView} {machine : MachineLists} (so_far : Replayed bytes text old machine) where
   -- the reader gave one more entry, and the machine made its step
   pub one-more-replayed : {new : ReaderView} {machine' : MachineLists} (e : Entry) (told : List Event) → Continues old new (Some e) →
-      Answers old.procs so_far.entries e machine' told → length told ≤ MOST_EVENTS →
+      Answers old.head so_far.entries e machine' told → length told ≤ MOST_EVENTS →
       Replayed bytes (text ++ flat_map event_line told) new machine'
   one-more-replayed {new} {machine'} e told goes answers one =
-      let procs : old.procs ≡ new.procs = sym goes.1 in
-      let P : ℕ → Type 0 = λ n. Follows n (so_far.entries ++ e ∷ []) machine' in
-      let Q : ℕ → Type 0 = λ n. length (events n (so_far.entries ++ e ∷ [])) ≤ MOST_EVENTS * length (so_far.entries ++ e ∷ []) in
+      let head : old.head ≡ new.head = sym goes.1 in
+      let P : Head → Type 0 = λ head. Follows head (so_far.entries ++ e ∷ []) machine' in
+      let Q : Head → Type 0 = λ head. length (events head (so_far.entries ++ e ∷ [])) ≤ MOST_EVENTS * length (so_far.entries ++ e ∷ []) in
       record {
         entries = so_far.entries ++ e ∷ [];
         said = so_far.said ∙ ap (behind so_far.entries) goes.0 ∙ behind-more so_far.entries e new.left;
-        follows = subst P procs answers.follows;
+        follows = subst P head answers.follows;
         told = ap (λ xs. xs ++ flat_map event_line told) so_far.told
-            ∙ ap (λ es. event_lines old.procs so_far.entries ++ flat_map event_line es) answers.events
-            ∙ sym (event_lines-more old.procs so_far.entries e) ∙ ap (λ n. event_lines n (so_far.entries ++ e ∷ [])) procs;
-        few = subst Q procs (few-more old.procs so_far.entries e so_far.few (let same = ap length answers.events in omega (arith, same, one)));
+            ∙ ap (λ es. event_lines old.head so_far.entries ++ flat_map event_line es) answers.events
+            ∙ sym (event_lines-more old.head so_far.entries e) ∙ ap (λ head. event_lines head (so_far.entries ++ e ∷ [])) head;
+        few = subst Q head (few-more old.head so_far.entries e so_far.few (let same = ap length answers.events in omega (arith, same, one)));
       }
 
   -- the reader gave no more entry: this is the event text of the whole journal
-  pub all-replayed : ((n : ℕ) (es : List Entry) → read_text bytes ≡ Reads n es → IsText bytes n es) → old.left ≡ Reads old.procs [] → ReplayedWhole bytes text
+  pub all-replayed : ((head : Head) (es : List Entry) → read_text bytes ≡ Reads head es → IsText bytes head es) → old.left ≡ Reads old.head [] → ReplayedWhole bytes text
   all-replayed reads ends =
-      let spelled : IsText bytes old.procs so_far.entries = reads old.procs so_far.entries
-      (so_far.said ∙ ap (behind so_far.entries) ends ∙ ap (Reads old.procs) (append-nil so_far.entries)) in
+      let spelled : IsText bytes old.head so_far.entries = reads old.head so_far.entries
+      (so_far.said ∙ ap (behind so_far.entries) ends ∙ ap (Reads old.head) (append-nil so_far.entries)) in
       record {
-        is = record { procs = old.procs; entries = so_far.entries; spelled = spelled; lines = so_far.told };
+        is = record { head = old.head; entries = so_far.entries; spelled = spelled; lines = so_far.told };
         lines = lines-few so_far.told so_far.few spelled;
       }
 

@@ -1,6 +1,7 @@
 -- What a comparison knows behind each step of a journal, and what it says at the end.
 use Rattle.std.proofs.Common.{◌≡◌, ℕ, ◌-◌, ◌^◌, ◌<◌, Bool, List, ◌++◌, take, Result, Ok, Err, sym, ap, subst, ◌∙◌, arith}
 use Rattle.std.specs.Prelude.{IfErr, IsErrAnd}
+use Rattle.hub_base.specs.declared.head.Head.{Head}
 use Rattle.hub_base.specs.declared.entry.Entry.{Entry}
 use Rattle.hub_base.specs.Reader.{ReaderView}
 use Rattle.hub_base.specs.Text.{IsText}
@@ -38,14 +39,14 @@ pub lines-fit : {journal text bytes : List ℕ} {agreed : ℕ} {parted : Bool} �
 lines-fit whole agrees = let fit = whole.lines in let fewer = agreed-newlines agrees in omega (arith, fit, fewer)
 
 -- a journal has one event text
-one-event-text : {journal xs ys : List ℕ} → ((n m : ℕ) (es fs : List Entry) → IsText journal n es → IsText journal m fs → (n ≡ m) × (es ≡ fs)) →
+one-event-text : {journal xs ys : List ℕ} → ((head other : Head) (es fs : List Entry) → IsText journal head es → IsText journal other fs → (head ≡ other) × (es ≡ fs)) →
     IsEventText journal xs → IsEventText journal ys → xs ≡ ys
 one-event-text {journal} {xs} {ys} one first second =
-    let same = one first.procs second.procs first.entries second.entries first.spelled second.spelled in
-    first.lines ∙ ap (λ n. event_lines n first.entries) same.0 ∙ ap (event_lines second.procs) same.1 ∙ sym second.lines
+    let same = one first.head second.head first.entries second.entries first.spelled second.spelled in
+    first.lines ∙ ap (λ head. event_lines head first.entries) same.0 ∙ ap (event_lines second.head) same.1 ∙ sym second.lines
 
 -- what is said of the whole text is said of the journal
-pub tells-all : {journal text bytes events : List ℕ} (compared : Compared) → ((n m : ℕ) (es fs : List Entry) → IsText journal n es → IsText journal m fs → (n ≡ m) × (es ≡ fs)) →
+pub tells-all : {journal text bytes events : List ℕ} (compared : Compared) → ((head other : Head) (es fs : List Entry) → IsText journal head es → IsText journal other fs → (head ≡ other) × (es ≡ fs)) →
     ReplayedWhole journal text → bytes ≡ events → Tells text bytes compared → Compares journal events compared
 tells-all {journal} {text} {bytes} {events} Same one whole given tells = subst (λ (l : List ℕ). IsEventText journal l) (sym tells ∙ given) whole.is
 tells-all {journal} {text} {bytes} {events} (Differs line) one whole given tells = record {

@@ -3,6 +3,7 @@
 use Rattle.std.specs.Prelude.{◌≡◌, ℕ, ◌≤◌, List, length, Option}
 use Rattle.std.specs.List.{flat_map}
 use Rattle.std.specs.Io.KnownBytes.{Consumes, IsAtEnd}
+use Rattle.hub_base.specs.declared.head.Head.{Head}
 use Rattle.hub_base.specs.declared.entry.Entry.{Entry}
 use Rattle.hub_base.specs.declared.text.faults.TextFault.{TextFault}
 use Rattle.hub_base.specs.declared.limits.TheConstants.{MOST_BYTES}
@@ -15,15 +16,15 @@ use Rattle.hub_replay.specs.declared.fault.ReplayFault.{ReplayFault}
 use Rattle.hub_replay.specs.declared.fault.ReplayFault.TheVariants as replay
 
 -- the lines of the events that follow these entries, for so many processes
-abbrev pub event_lines : ℕ → List Entry → List ℕ
-event_lines procs entries = flat_map event_line (events procs entries)
+abbrev pub event_lines : Head → List Entry → List ℕ
+event_lines head entries = flat_map event_line (events head entries)
 
 -- the first bytes are a journal's text, and the others its event text
 pub record IsEventText (journal text : List ℕ) : Type 0 where
-  pub procs : ℕ
+  pub head : Head
   pub entries : List Entry
-  pub spelled : IsText journal procs entries
-  pub lines : text ≡ event_lines procs entries
+  pub spelled : IsText journal head entries
+  pub lines : text ≡ event_lines head entries
 
 -- these bytes were read: all that there are, or more than a journal may have
 pub record ReadsWhole (old new : Option (List ℕ)) (bytes : List ℕ) : Type 0 where

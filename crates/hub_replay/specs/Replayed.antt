@@ -17,9 +17,9 @@ use Rattle.hub_replay.specs.Verify.{newlines_in}
 pub record Replayed (bytes text : List ℕ) (reader : ReaderView) (machine : MachineLists) : Type 0 where
   pub entries : List Entry
   pub said : read_text bytes ≡ behind entries reader.left
-  pub follows : Follows reader.procs entries machine
-  pub told : text ≡ event_lines reader.procs entries
-  pub few : length (events reader.procs entries) ≤ MOST_EVENTS * length entries
+  pub follows : Follows reader.head entries machine
+  pub told : text ≡ event_lines reader.head entries
+  pub few : length (events reader.head entries) ≤ MOST_EVENTS * length entries
 
 -- the bytes are a journal's text, and this is its event text, whose lines can be counted
 pub record ReplayedWhole (bytes text : List ℕ) : Type 0 where

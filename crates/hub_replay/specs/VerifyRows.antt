@@ -2,7 +2,7 @@
 -- The one process sends on a channel without a buffer, so it waits, and nobody is left who could end that.
 use Rattle.std.specs.Prelude.{◌≡◌, List, ℕ, [], ◌∷◌, codes, refl}
 use Rattle.std.specs.Fmt.{digits}
-use Rattle.hub_base.specs.Notation.{make, send}
+use Rattle.hub_base.specs.Notation.{procs, make, send}
 use Rattle.hub_replay.specs.Replay.{event_lines}
 use Rattle.hub_replay.specs.Verify.{common_beginning, line_of_difference}
 
@@ -10,7 +10,7 @@ use Rattle.hub_replay.specs.Verify.{common_beginning, line_of_difference}
 abbrev told : List ℕ
 told = codes "0 made 1\n0 parked\n0 stalled\n"
 
-pub lone_sender_stalls : event_lines 1 (make 0 0 ∷ send 0 1 7 ∷ []) ≡ told
+pub lone_sender_stalls : event_lines (procs 1) (make 0 0 ∷ send 0 1 7 ∷ []) ≡ told
 unfolding digits
 lone_sender_stalls = refl
 

@@ -53,7 +53,7 @@ impl<'a> Steps<'a> {
         // Its clauses say of which text the reader's fault is the first.
         one_reading();
         let reader = Reader::open(deciding(bytes))?;
-        let machine = Machine::new(alloc, reader.procs())?;
+        let machine = Machine::new(alloc, reader.head())?;
         Ok(Steps {
             reader,
             machine,

@@ -9,6 +9,7 @@ use Rattle.std.proofs.lemmas.Bool.{eqb-true, eqb-false}
 use Rattle.std.proofs.lemmas.List.{length-append, get_or-set_same, get_or-set_other}
 use Rattle.std.proofs.lemmas.List.Elements.{filter-append}
 use Rattle.std.proofs.lemmas.List.Sums.{sum_by-cons, sum_by-append, length-filter, count_by-le-length}
+use Rattle.hub_base.specs.declared.head.Head.{Head}
 use Rattle.hub_base.specs.declared.value.Port.{Port}
 use Rattle.hub_base.specs.declared.value.Value.{Value}
 use Rattle.hub_base.specs.declared.entry.Entry.{Entry}
@@ -92,43 +93,43 @@ sum_cond true vs = refl
 sum_cond false vs = refl
 
 -- ---- an entry
-module _ (n : ℕ) (es : List Entry) (e : Entry) (old : Replayed) (machine : MachineLists) (told : List Event) (tells : Tells n es old) (answers : Answers n es e machine told) where
+module _ (head : Head) (es : List Entry) (e : Entry) (old : Replayed) (machine : MachineLists) (told : List Event) (tells : Tells head es old) (answers : Answers head es e machine told) where
   abbrev now : Replayed
   now = with_told (record old { machine = machine }) e.step told
 
-  pub one-more-told : ((q : Port) → port_touched e.step told ≡ Some q → IsMade q MOST_PORTS) → Tells n (es ++ e ∷ []) now
+  pub one-more-told : ((q : Port) → port_touched e.step told ≡ Some q → IsMade q MOST_PORTS) → Tells head (es ++ e ∷ []) now
   one-more-told named = record {
     follows = answers.follows;
     places = length-with_sum old.sums (port_touched e.step told) (sum_by number_told told) ∙ tells.places;
     sums = λ p made.
-        let grown = (received_values-law n es e).adds p in
-        let same : port_touched e.step told ≡ port_touched e.step (moves (state n es) e).events = ap (port_touched e.step) answers.events in
+        let grown = (received_values-law head es e).adds p in
+        let same : port_touched e.step told ≡ port_touched e.step (moves (state head es) e).events = ap (port_touched e.step) answers.events in
         sum_at old.sums (port_touched e.step told) (sum_by number_told told) p tells.places made named
         ∙ ap (λ k. k + cond (is_port (port_touched e.step told) p) (sum_by number_told told) 0) (tells.sums p made)
-        ∙ ap (λ k. sum_by number_of (received_on (state n es) p) + cond (is_port (port_touched e.step told) p) k 0) (sum-told told)
-        ∙ ap (λ k. sum_by number_of (received_on (state n es) p) + k) (sym (sum_cond (is_port (port_touched e.step told) p) (got_in told)))
-        ∙ ap (λ (ts : List Event). sum_by number_of (received_on (state n es) p) + sum_by number_of (got_at (port_touched e.step ts) ts p)) answers.events
-        ∙ sym (sum_by-append number_of (received_on (state n es) p) (got_at (port_touched e.step (moves (state n es) e).events) (moves (state n es) e).events p))
+        ∙ ap (λ k. sum_by number_of (received_on (state head es) p) + cond (is_port (port_touched e.step told) p) k 0) (sum-told told)
+        ∙ ap (λ k. sum_by number_of (received_on (state head es) p) + k) (sym (sum_cond (is_port (port_touched e.step told) p) (got_in told)))
+        ∙ ap (λ (ts : List Event). sum_by number_of (received_on (state head es) p) + sum_by number_of (got_at (port_touched e.step ts) ts p)) answers.events
+        ∙ sym (sum_by-append number_of (received_on (state head es) p) (got_at (port_touched e.step (moves (state head es) e).events) (moves (state head es) e).events p))
         ∙ ap (sum_by number_of) (sym grown);
     stalled = counted _ tells.stalled;
     faults = counted _ tells.faults;
   }
     where
-      counted : {k : ℕ} (test : What → Bool) → k ≡ how_many test (events n es) → k + how_many test told ≡ how_many test (events n (es ++ e ∷ []))
-      counted test is = ap (λ k. k + how_many test told) is ∙ ap (λ ts. how_many test (events n es) + how_many test ts) answers.events ∙ sym (how_many-append test (events n es) (moves (state n es) e).events) ∙ ap (how_many test) (sym (events-entry n es e))
+      counted : {k : ℕ} (test : What → Bool) → k ≡ how_many test (events head es) → k + how_many test told ≡ how_many test (events head (es ++ e ∷ []))
+      counted test is = ap (λ k. k + how_many test told) is ∙ ap (λ ts. how_many test (events head es) + how_many test ts) answers.events ∙ sym (how_many-append test (events head es) (moves (state head es) e).events) ∙ ap (how_many test) (sym (events-entry head es e))
 
 -- a port that is named is made
-pub made_by : (n : ℕ) (es : List Entry) (e : Entry) (machine : MachineLists) (told : List Event) → Answers n es e machine told → (q : Port) → port_touched e.step told ≡ Some q → IsMade q MOST_PORTS
-made_by n es e machine told answers q h =
-    let touched : port_touched e.step (moves (state n es) e).events ≡ Some q = ap (port_touched e.step) (sym answers.events) ∙ h in
-    let made = (one_port-law n es e).made q touched in
-    record { some = made.some; few = omega (arith, made.few, ports-law n (es ++ e ∷ [])) }
+pub made_by : (head : Head) (es : List Entry) (e : Entry) (machine : MachineLists) (told : List Event) → Answers head es e machine told → (q : Port) → port_touched e.step told ≡ Some q → IsMade q MOST_PORTS
+made_by head es e machine told answers q h =
+    let touched : port_touched e.step (moves (state head es) e).events ≡ Some q = ap (port_touched e.step) (sym answers.events) ∙ h in
+    let made = (one_port-law head es e).made q touched in
+    record { some = made.some; few = omega (arith, made.few, ports-law head (es ++ e ∷ [])) }
 
 -- ---- bounds
-pub entries_fit : (n : ℕ) (es : List Entry) → IsLegal n es → n ≤ MOST_PROCS → steps_of es ≤ MOST_STEPS → length es ≤ MOST_STEPS + MOST_PROCS
-entries_fit n es legal procs few =
-    let law = (limits-law n es).length in
-    let short : length es ≤ steps_of es + n = rw legal at law in
+pub entries_fit : (head : Head) (es : List Entry) → IsLegal head es → head.procs ≤ MOST_PROCS → steps_of es ≤ MOST_STEPS → length es ≤ MOST_STEPS + MOST_PROCS
+entries_fit head es legal procs few =
+    let law = (limits-law head es).length in
+    let short : length es ≤ steps_of es + head.procs = rw legal at law in
     omega arith
 
 pub room-within : (i : ℕ) (r : Replayed) (machine : MachineLists) → Within i r → i ≤ MOST_STEPS + MOST_PROCS → HasRoom (record r { machine = machine })
@@ -147,17 +148,17 @@ within_more i old machine step told within steps few fits = record {
   faults = omega (arith, within.faults, how_many-most is_fault told);
 }
 
-pub next-told : (n : ℕ) (entries : List Entry) (i : ℕ) (e : Entry) (old : Replayed) (machine : MachineLists) (told : List Event) (new : Replayed) →
-    i < length entries → e ≡ get_or entries i e → Tells n (take i entries) old → Within i old → Answers n (take i entries) e machine told → machine.steps ≤ old.machine.steps + 1 →
+pub next-told : (head : Head) (entries : List Entry) (i : ℕ) (e : Entry) (old : Replayed) (machine : MachineLists) (told : List Event) (new : Replayed) →
+    i < length entries → e ≡ get_or entries i e → Tells head (take i entries) old → Within i old → Answers head (take i entries) e machine told → machine.steps ≤ old.machine.steps + 1 →
     length told ≤ MOST_EVENTS → sum_by number_told told ≤ most_got → new ≡ with_told (record old { machine = machine }) e.step told →
-    Tells n (take (i + 1) entries) new × Within (i + 1) new
-next-told n entries i e old machine told new below is tells within answers steps few fits made =
+    Tells head (take (i + 1) entries) new × Within (i + 1) new
+next-told head entries i e old machine told new below is tells within answers steps few fits made =
     let grown : take (i + 1) entries ≡ take i entries ++ e ∷ [] = rw add-one (take-suc entries i e below) ∙ ap (λ x. take i entries ++ x ∷ []) (sym is) in
-    rw (grown, made) (one-more-told n (take i entries) e old machine told tells answers (made_by n (take i entries) e machine told answers), within_more i old machine e.step told within steps few fits)
+    rw (grown, made) (one-more-told head (take i entries) e old machine told tells answers (made_by head (take i entries) e machine told answers), within_more i old machine e.step told within steps few fits)
 
 -- ---- before any entry
-pub none-told : (n : ℕ) (machine : MachineLists) (sums : List ℕ) → sums ≡ replicate MOST_PORTS 0 → Follows n [] machine → Tells n [] (record { machine = machine; sums = sums; stalled = 0; faults = 0 })
-none-told n machine sums is follows = record {
+pub none-told : (head : Head) (machine : MachineLists) (sums : List ℕ) → sums ≡ replicate MOST_PORTS 0 → Follows head [] machine → Tells head [] (record { machine = machine; sums = sums; stalled = 0; faults = 0 })
+none-told head machine sums is follows = record {
   follows = follows;
   places = rw is refl;
   sums = λ p made. rw is (none-summed MOST_PORTS (p.0 - 1) ∙ ap (sum_by number_of) (sym (no_total received_from p)));
@@ -165,8 +166,8 @@ none-told n machine sums is follows = record {
   faults = refl;
 }
 
-pub none-within : (n : ℕ) (machine : MachineLists) (sums : List ℕ) → sums ≡ replicate MOST_PORTS 0 → Follows n [] machine → Within 0 (record { machine = machine; sums = sums; stalled = 0; faults = 0 })
-none-within n machine sums is follows = record {
+pub none-within : (head : Head) (machine : MachineLists) (sums : List ℕ) → sums ≡ replicate MOST_PORTS 0 → Follows head [] machine → Within 0 (record { machine = machine; sums = sums; stalled = 0; faults = 0 })
+none-within head machine sums is follows = record {
   steps = omega (arith, follows.steps);
   sums = λ k. rw (is, none-summed MOST_PORTS k) (omega arith);
   stalled = omega arith;

@@ -3,6 +3,7 @@
 use Rattle.std.specs.Prelude.{◌≡◌, ◌≤◌, ◌<◌, ◌+◌, ◌-◌, ◌*◌, ◌^◌, ℕ, List, length, Option, None, Some, slice_set, slice_index_or}
 use Rattle.std.specs.List.{sum_by}
 use Rattle.std.specs.Option.{option_map_or}
+use Rattle.hub_base.specs.declared.head.Head.{Head}
 use Rattle.hub_base.specs.declared.value.Port.{Port}
 use Rattle.hub_base.specs.declared.entry.Step.{Step}
 use Rattle.hub_base.specs.declared.entry.Entry.{Entry}
@@ -45,14 +46,14 @@ pub record HasRoom (r : Replayed) : Type 0 where
   pub stalled : r.stalled + MOST_EVENTS < 2 ^ 32
   pub faults : r.faults + MOST_EVENTS < 2 ^ 32
 
--- n processes and these entries lead to it
-pub record Tells (n : ℕ) (es : List Entry) (r : Replayed) : Type 0 where
-  pub follows : Follows n es r.machine
+-- these entries lead to it in a hub with this head
+pub record Tells (h : Head) (es : List Entry) (r : Replayed) : Type 0 where
+  pub follows : Follows h es r.machine
   pub places : length r.sums ≡ MOST_PORTS
   pub sums : (p : Port) → IsMade p MOST_PORTS
-      → slice_index_or r.sums (p.0 - 1) 0 ≡ sum_by number_of (received_on (state n es) p)
-  pub stalled : r.stalled ≡ stalled_told n es
-  pub faults : r.faults ≡ faults_told n es
+      → slice_index_or r.sums (p.0 - 1) 0 ≡ sum_by number_of (received_on (state h es) p)
+  pub stalled : r.stalled ≡ stalled_told h es
+  pub faults : r.faults ≡ faults_told h es
 
 -- how much so many entries can have added
 pub record Within (i : ℕ) (r : Replayed) : Type 0 where

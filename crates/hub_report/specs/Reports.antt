@@ -2,6 +2,7 @@
 -- leads to; and how many calls stalled and how many faults were told, from its events.
 use Rattle.std.specs.Prelude.{◌≡◌, ℕ, ◌-◌, Bool, true, false, List, length, map, filter}
 use Rattle.std.specs.List.{sum_by}
+use Rattle.hub_base.specs.declared.head.Head.{Head}
 use Rattle.hub_base.specs.declared.entry.Entry.{Entry}
 use Rattle.hub_base.specs.declared.event.What.{What}
 use Rattle.hub_base.specs.declared.event.What.TheVariants as what
@@ -28,9 +29,9 @@ told_of c =
       closed = c.closed;
     }
 
--- the ports of a journal of n processes, in order of number
-abbrev pub ports_told : ℕ → List Entry → List PortReport
-ports_told n journal = map told_of (state n journal).channels
+-- the ports of a journal with this head, in order of number
+abbrev pub ports_told : Head → List Entry → List PortReport
+ports_told h journal = map told_of (state h journal).channels
 
 -- a call ended because everyone waited
 abbrev pub is_stalled : What → Bool
@@ -47,16 +48,16 @@ abbrev pub how_many : (What → Bool) → List Event → ℕ
 how_many test es = length (filter (λ e. test e.what) es)
 
 -- the events `Stalled` of a journal
-abbrev pub stalled_told : ℕ → List Entry → ℕ
-stalled_told n journal = how_many is_stalled (events n journal)
+abbrev pub stalled_told : Head → List Entry → ℕ
+stalled_told h journal = how_many is_stalled (events h journal)
 
 -- its faults
-abbrev pub faults_told : ℕ → List Entry → ℕ
-faults_told n journal = how_many is_fault (events n journal)
+abbrev pub faults_told : Head → List Entry → ℕ
+faults_told h journal = how_many is_fault (events h journal)
 
 -- the report holds the journal, and tells these things of it
 pub record IsReportOf (given : JournalView) (r : Report) : Type 0 where
   pub journal : r.journal ≡ given
-  pub ports : r.ports.items ≡ ports_told given.procs given.entries
-  pub stalled : r.stalled ≡ stalled_told given.procs given.entries
-  pub faults : r.faults ≡ faults_told given.procs given.entries
+  pub ports : r.ports.items ≡ ports_told given.head given.entries
+  pub stalled : r.stalled ≡ stalled_told given.head given.entries
+  pub faults : r.faults ≡ faults_told given.head given.entries

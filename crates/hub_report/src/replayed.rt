@@ -6,6 +6,8 @@ ghost use Rattle.std.specs.List.{sum_by};
 ghost use Rattle.std.specs.Option.{option_map};
 ghost use Rattle.hub_base.specs.declared.value.Port.{Port};
 ghost use Rattle.hub_base.specs.declared.entry.Entry.{Entry};
+ghost use Rattle.hub_base.specs.declared.head.Head.{Head};
+ghost use Rattle.hub_base.specs.Head.{IsHead};
 ghost use Rattle.hub_base.specs.Runs.{state};
 ghost use Rattle.hub_base.specs.State.{channel_at};
 ghost use Rattle.hub_base.specs.Text.{steps_of};
@@ -17,7 +19,7 @@ ghost use Rattle.hub_report.specs.Replays.{HasRoom, Tells, Within, most_got, num
 use crate::PortReport;
 use crate::counting::{port_named, tell};
 use hub_base::{
-    Event, Events, Journal, MOST_EVENTS, MOST_PORTS, MOST_PROCS, MOST_STEPS, NoMemory, Port, Step,
+    Event, Events, Head, Journal, MOST_EVENTS, MOST_PORTS, MOST_STEPS, NoMemory, Port, Step,
 };
 use hub_core::Machine;
 use std::alloc::{AllocError, Global};
@@ -55,13 +57,13 @@ fn add_to_sum(sums: &mut [u128; MOST_PORTS], port: Option<Port>, more: u128)
 
 impl Replayed {
     /// Nothing has happened at this number of processes.
-    fn new(alloc: Global, procs: u8) -> Result<Replayed, NoMemory>
-        requires { (1 ≤ procs) × (procs ≤ MOST_PROCS) }
-        ensures tells { IfOk result (λ r. Tells procs [] r) }
+    fn new(alloc: Global, head: Head) -> Result<Replayed, NoMemory>
+        requires { IsHead head }
+        ensures tells { IfOk result (λ r. Tells head [] r) }
         ensures within { IfOk result (λ r. Within 0 r) }
     {
         Ok(Replayed {
-            machine: Machine::new(alloc, procs)?,
+            machine: Machine::new(alloc, head)?,
             sums: no_sums(),
             stalled: 0,
             faults: 0,
@@ -85,8 +87,8 @@ impl Replayed {
     /// What one port carried, or `None` where it is not made.
     fn port(&self, port: Port) -> Option<PortReport>
         requires { IsMade port MOST_PORTS }
-        ensures { (n : ℕ) (es : List Entry) → Tells n es self.now
-            → result ≡ option_map told_of (channel_at (state n es) port) }
+        ensures { (h : Head) (es : List Entry) → Tells h es self.now
+            → result ≡ option_map told_of (channel_at (state h es) port) }
     {
         let look = self.machine.look(port)?;
         Some(PortReport {
@@ -101,8 +103,8 @@ impl Replayed {
 
     /// What each port carried, in order of number.
     pub(crate) fn ports(&self, alloc: Global) -> Result<Vec<PortReport>, AllocError>
-        ensures { IfOk result (λ ports. (n : ℕ) (es : List Entry) → Tells n es self.now
-            → ports.items ≡ ports_told n es) }
+        ensures { IfOk result (λ ports. (h : Head) (es : List Entry) → Tells h es self.now
+            → ports.items ≡ ports_told h es) }
     {
         let mut ports = Vec::new(alloc);
         for place in 0..64u16 {
@@ -117,12 +119,12 @@ impl Replayed {
 
 /// Replays a legal journal.
 pub(crate) fn replay(alloc: Global, journal: &Journal) -> Result<Replayed, NoMemory>
-    requires procs { (1 ≤ journal.now.procs) × (journal.now.procs ≤ MOST_PROCS) }
-    requires legal { IsLegal journal.now.procs journal.now.entries }
+    requires head { IsHead journal.now.head }
+    requires legal { IsLegal journal.now.head journal.now.entries }
     requires few { steps_of journal.now.entries ≤ MOST_STEPS }
-    ensures { IfOk result (λ r. Tells journal.now.procs journal.now.entries r) }
+    ensures { IfOk result (λ r. Tells journal.now.head journal.now.entries r) }
 {
-    let mut replayed = Replayed::new(alloc, journal.procs())?;
+    let mut replayed = Replayed::new(alloc, journal.head())?;
     let mut events = Events::new();
     for entry in journal.entries() {
         replayed.machine.answer(entry, &mut events)?;

@@ -2,12 +2,13 @@
 //! were told.
 
 ghost use Rattle.std.specs.Prelude.{◌≡◌, ◌≤◌, IfOk};
+ghost use Rattle.hub_base.specs.Head.{IsHead};
 ghost use Rattle.hub_base.specs.Text.{steps_of};
 ghost use Rattle.hub_laws.specs.Journals.{IsLegal};
 ghost use Rattle.hub_report.specs.Reports.{IsReportOf};
 
 use crate::replayed::replay;
-use hub_base::{Journal, MOST_PROCS, MOST_STEPS, NoMemory};
+use hub_base::{Journal, MOST_STEPS, NoMemory};
 use std::alloc::Global;
 
 /// What a port carried.
@@ -45,8 +46,8 @@ impl Report {
     /// exit is not one). Its entries are replayed once; they are not copied. `Err` where
     /// memory was refused; the journal is then dropped.
     pub fn of(alloc: Global, journal: Journal) -> Result<Report, NoMemory>
-        requires procs { (1 ≤ journal.procs) × (journal.procs ≤ MOST_PROCS) }
-        requires legal { IsLegal journal.procs journal.entries }
+        requires head { IsHead journal.head }
+        requires legal { IsLegal journal.head journal.entries }
         requires few { steps_of journal.entries ≤ MOST_STEPS }
 
         ensures ok { IfOk result (λ r. IsReportOf journal r) }

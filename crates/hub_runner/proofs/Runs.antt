@@ -6,6 +6,7 @@ use Rattle.std.proofs.lemmas.List.{take_more, get_or-map, length-map}
 use Rattle.std.proofs.lemmas.Grind.{common_steps}
 use Rattle.std.specs.Option.{option_map}
 use Rattle.std.proofs.lemmas.Option.{slice_get_within, slice_get-map}
+use Rattle.hub_base.specs.declared.head.Head.{Head}
 use Rattle.hub_base.specs.declared.value.Pid.{Pid}
 use Rattle.hub_base.specs.declared.entry.Entry.{Entry}
 use Rattle.hub_base.specs.declared.event.Event.{Event}
@@ -14,7 +15,7 @@ use Rattle.hub_live.specs.Name.{Name}
 use Rattle.hub_live.specs.SeatView.{SeatView, IsFree}
 use Rattle.hub_live.specs.Calls.{Later, Made, AreSeats, StandsIn}
 use Rattle.hub_scenario.specs.declared.script.ScriptStep.{ScriptStep}
-use Rattle.hub_scenario.specs.Scenario.{ScenarioData, scenario_view}
+use Rattle.hub_scenario.specs.Scenario.{ScenarioData, scenario_view, run_head}
 use Rattle.hub_scenario.specs.declared.scenario.Scenario.{Scenario}
 use Rattle.hub_scenario.specs.ChoiceWords.{words_of_process}
 use Rattle.hub_runner.specs.Asked.{Asked, asked}
@@ -78,21 +79,21 @@ blank_at name first (s ∷ ss) zero d h low = h.0 ∙ ap (λ (n : ℕ). record {
 blank_at name first (s ∷ ss) (suc k) d h low = blank_at name (first + 1) ss k d h.1 (omega arith) ∙ ap (λ (n : ℕ). record { hub = name; pid = record { 0 = n }; seen = [] }) (let z : (first + 1) + k ≡ first + suc k = omega arith in z)
 
 -- what a process asked in the journal is what it asked in what its seat has seen
-stands_asked : (s : SeatView) (journal : List Entry) → StandsIn s journal → asked s.pid.0 s.hub.terms.procs journal ≡ asked_of s
-stands_asked s journal st = asked-same s.pid.0 s.hub.terms.procs s.seen journal st.begins st.same.own st.same.reply
+stands_asked : (s : SeatView) (journal : List Entry) → StandsIn s journal → asked s.pid.0 s.hub.terms.head journal ≡ asked_of s
+stands_asked s journal st = asked-same s.pid.0 s.hub.terms.head s.seen journal st.begins st.same.own st.same.reply
 
 one_follows : (sc : ScenarioData) (s : SeatView) (journal : List Entry) (q : ℕ) (script : List ScriptStep)
-    → s.hub.terms.procs ≡ length sc.scripts → s.pid.0 ≡ q → HasFollowed sc s → StandsIn s journal → slice_get sc.scripts q ≡ Some script
-    → FollowsScript sc q script (asked q (length sc.scripts) journal)
-one_follows sc s journal q script n pid f st at =
+    → s.hub.terms.head ≡ run_head sc → s.pid.0 ≡ q → HasFollowed sc s → StandsIn s journal → slice_get sc.scripts q ≡ Some script
+    → FollowsScript sc q script (asked q (run_head sc) journal)
+one_follows sc s journal q script head pid f st at =
     let seen = f script (ap (slice_get sc.scripts) pid ∙ at) in
-    let all : asked_of s ≡ asked q (length sc.scripts) journal = sym (stands_asked s journal st) ∙ (λ i. asked (pid i) (n i) journal) in
+    let all : asked_of s ≡ asked q (run_head sc) journal = sym (stands_asked s journal st) ∙ (λ i. asked (pid i) (head i) journal) in
     subst (λ (zs : List Asked). FollowsScript sc q script zs) all (subst (λ (p : ℕ). FollowsScript sc p script (asked_of s)) pid seen)
 
 pub all_follow : (name : Name) (sc : ScenarioData) (before done : List SeatView) (journal : List Entry)
-    → name.terms.procs ≡ length sc.scripts → length before ≡ length sc.scripts → AreSeats name 0 before → map (λ s. s.pid) done ≡ map (λ s. s.pid) before
+    → name.terms.head ≡ run_head sc → length before ≡ length sc.scripts → AreSeats name 0 before → map (λ s. s.pid) done ≡ map (λ s. s.pid) before
     → All (λ s. s.hub ≡ name) done → All (HasFollowed sc) done → All (λ s. StandsIn s journal) done → AllFollow sc journal
-all_follow name sc before done journal procs many seats pids hubs followed stands q script at =
+all_follow name sc before done journal head many seats pids hubs followed stands q script at =
     let d : SeatView = record { hub = name; pid = record { 0 = q }; seen = [] } in
     let low : q < length sc.scripts = slice_get_within sc.scripts q script at in
     let same : length done ≡ length before = sym (length-map done (λ (s : SeatView). s.pid)) ∙ ap length pids ∙ length-map before (λ (s : SeatView). s.pid) in
@@ -101,8 +102,8 @@ all_follow name sc before done journal procs many seats pids hubs followed stand
     let pid : (get_or done q d).pid.0 ≡ q =
     ap (λ (p : Pid). p.0) (sym (get_or-map (λ (s : SeatView). s.pid) done q d d.pid here) ∙ ap (λ (ps : List Pid). get_or ps q d.pid) pids ∙ get_or-map (λ (s : SeatView). s.pid) before q d d.pid there)
     ∙ ap (λ (s : SeatView). s.pid.0) (blank_at name 0 before q d seats there) ∙ (let z : 0 + q ≡ q = omega arith in z) in
-    let n : (get_or done q d).hub.terms.procs ≡ length sc.scripts = ap (λ (m : Name). m.terms.procs) (hubs q d here) ∙ procs in
-    one_follows sc (get_or done q d) journal q script n pid (followed q d here) (stands q d here) at
+    let same_head : (get_or done q d).hub.terms.head ≡ run_head sc = ap (λ (m : Name). m.terms.head) (hubs q d here) ∙ head in
+    one_follows sc (get_or done q d) journal q script same_head pid (followed q d here) (stands q d here) at
 
 -- ---- results
 
@@ -112,30 +113,30 @@ from_ok (Err e) P ok h = absurd (let g : ⊥ = cc in g)
 
 -- ---- the seats once the ports are made
 
-asked-nil : (q n : ℕ) → asked q n [] ≡ []
+asked-nil : (q : ℕ) (head : Head) → asked q head [] ≡ []
 unfolding asked
-asked-nil q n = refl
+asked-nil q head = refl
 
 pub asked_blank : (name : Name) (ss : List SeatView) (k : ℕ) (d : SeatView) → AreSeats name 0 ss → k < length ss → asked_of (get_or ss k d) ≡ []
-asked_blank name ss k d h low = ap asked_of (blank_at name 0 ss k d h low) ∙ asked-nil (0 + k) name.terms.procs
+asked_blank name ss k d h low = ap asked_of (blank_at name 0 ss k d h low) ∙ asked-nil (0 + k) name.terms.head
 
-ready_later : (name : Name) (sc : ScenarioData) (k : ℕ) (s : SeatView) → name.terms.procs ≡ length sc.scripts → s ≡ record { hub = name; pid = record { 0 = 1 + k }; seen = [] } → IsReady sc s
-ready_later name sc k s procs is = subst (λ (t : SeatView). IsReady sc t) (sym is) (record {
-  procs = procs;
+ready_later : (name : Name) (sc : ScenarioData) (k : ℕ) (s : SeatView) → name.terms.head ≡ run_head sc → s ≡ record { hub = name; pid = record { 0 = 1 + k }; seen = [] } → IsReady sc s
+ready_later name sc k s head is = subst (λ (t : SeatView). IsReady sc t) (sym is) (record {
+  head = head;
   makes =
       let z : ((1 + k) == 0) ≡ false = grind (arith, common_steps) in
-      subst (λ (zs : List Asked). AreMakes (made_by (1 + k) sc.ports) zs) (sym (asked-nil (1 + k) name.terms.procs)) (subst (λ (b : Bool). AreMakes (cond b sc.ports []) []) (sym z) tt);
+      subst (λ (zs : List Asked). AreMakes (made_by (1 + k) sc.ports) zs) (sym (asked-nil (1 + k) name.terms.head)) (subst (λ (b : Bool). AreMakes (cond b sc.ports []) []) (sym z) tt);
 })
 
-ready_at : (name : Name) (sc : ScenarioData) (s : SeatView) (ss : List SeatView) (t : SeatView) (k : ℕ) (e : SeatView) → name.terms.procs ≡ length sc.scripts → AreSeats name 0 (s ∷ ss) → Onward s t → AreMakes sc.ports (asked_of t) → k < length (t ∷ ss) → IsReady sc (get_or (t ∷ ss) k e)
-ready_at name sc s ss t zero e procs h on made low = record {
-  procs = ap (λ (m : Name). m.terms.procs) (on.hub ∙ ap (λ (z : SeatView). z.hub) h.0) ∙ procs;
+ready_at : (name : Name) (sc : ScenarioData) (s : SeatView) (ss : List SeatView) (t : SeatView) (k : ℕ) (e : SeatView) → name.terms.head ≡ run_head sc → AreSeats name 0 (s ∷ ss) → Onward s t → AreMakes sc.ports (asked_of t) → k < length (t ∷ ss) → IsReady sc (get_or (t ∷ ss) k e)
+ready_at name sc s ss t zero e head h on made low = record {
+  head = ap (λ (m : Name). m.terms.head) (on.hub ∙ ap (λ (z : SeatView). z.hub) h.0) ∙ head;
   makes =
       let pid : 0 ≡ t.pid.0 = sym (ap (λ (p : Pid). p.0) on.pid ∙ ap (λ (z : SeatView). z.pid.0) h.0) in
       subst (λ (n : ℕ). AreMakes (made_by n sc.ports) (asked_of t)) pid made;
 }
-ready_at name sc s ss t (suc k) e procs h on made low = ready_later name sc k (get_or ss k e) procs (blank_at name 1 ss k e h.1 (omega arith))
+ready_at name sc s ss t (suc k) e head h on made low = ready_later name sc k (get_or ss k e) head (blank_at name 1 ss k e h.1 (omega arith))
 
-pub all_ready : (name : Name) (sc : ScenarioData) (ss : List SeatView) (d t : SeatView) → name.terms.procs ≡ length sc.scripts → AreSeats name 0 ss → 0 < length ss → Onward (get_or ss 0 d) t → AreMakes sc.ports (asked_of t) → All (IsReady sc) (slice_set ss 0 t)
-all_ready name sc [] d t procs h some on made = absurd (omega arith)
-all_ready name sc (s ∷ ss) d t procs h some on made = λ k e low. ready_at name sc s ss t k e procs h on made low
+pub all_ready : (name : Name) (sc : ScenarioData) (ss : List SeatView) (d t : SeatView) → name.terms.head ≡ run_head sc → AreSeats name 0 ss → 0 < length ss → Onward (get_or ss 0 d) t → AreMakes sc.ports (asked_of t) → All (IsReady sc) (slice_set ss 0 t)
+all_ready name sc [] d t head h some on made = absurd (omega arith)
+all_ready name sc (s ∷ ss) d t head h some on made = λ k e low. ready_at name sc s ss t k e head h on made low

@@ -27,8 +27,8 @@ use Rattle.hub_runner.proofs.Askings.{answered, asked-gains}
 pub made_asks : (s t : SeatView) (asking : Step) (x : Event) → IsFree s → Later s t → Made s t asking x → asked_of t ≡ asked_of s ++ answered asking (Some x) ∷ []
 made_asks s t asking x free later made =
     let own_is : own s.pid.0 t.seen ≡ own s.pid.0 s.seen ++ entry_of s asking ∷ [] = subst (λ (p : Pid). own p.0 t.seen ≡ own s.pid.0 s.seen ++ entry_of s asking ∷ []) later.pid made.own in
-    let told : reply s.pid.0 s.hub.terms.procs t.seen ≡ Some x = (λ i. reply (sym later.pid i).0 (sym later.hub i).terms.procs t.seen) ∙ made.reply in
-    (λ i. asked (later.pid i).0 (later.hub i).terms.procs t.seen) ∙ asked-gains s.pid.0 s.hub.terms.procs s.seen t.seen (entry_of s asking) x later.begins own_is free told
+    let told : reply s.pid.0 s.hub.terms.head t.seen ≡ Some x = (λ i. reply (sym later.pid i).0 (sym later.hub i).terms.head t.seen) ∙ made.reply in
+    (λ i. asked (later.pid i).0 (later.hub i).terms.head t.seen) ∙ asked-gains s.pid.0 s.hub.terms.head s.seen t.seen (entry_of s asking) x later.begins own_is free told
 
 -- the same of a call's result, by what the script's step asks
 pub made_ok : (s t : SeatView) (asking wanted : Step) (r : Result Event Fault) → asking ≡ wanted → IsFree s → Later s t → IfOk r (λ x. Made s t asking x) → IfOk r (λ x. asked_of t ≡ asked_of s ++ answered wanted (Some x) ∷ [])

@@ -16,7 +16,7 @@ use Rattle.hub_laws.specs.Received.{value_got}
 use Rattle.hub_report.specs.Reports.{is_stalled}
 use Rattle.hub_scenario.specs.declared.script.ScriptStep.{ScriptStep}
 use Rattle.hub_scenario.specs.declared.script.ScriptStep.TheVariants.{Send, Recv, Select, Close, Range}
-use Rattle.hub_scenario.specs.Scenario.{ScenarioData}
+use Rattle.hub_scenario.specs.Scenario.{ScenarioData, run_head}
 use Rattle.hub_scenario.specs.ChoiceWords.{words_of_process}
 use Rattle.hub_runner.specs.Asked.{Asked, asked}
 
@@ -86,4 +86,4 @@ FollowsScript s q script all = MakesThenFollows (made_by q s.ports) script (word
 abbrev pub AllFollow : ScenarioData → List Entry → Type 0
 AllFollow s journal =
     (q : ℕ) (script : List ScriptStep) → slice_get s.scripts q ≡ Some script →
-    FollowsScript s q script (asked q (length s.scripts) journal)
+    FollowsScript s q script (asked q (run_head s) journal)

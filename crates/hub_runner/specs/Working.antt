@@ -8,7 +8,7 @@ use Rattle.hub_runner.specs.Scripts.{Follows}
 
 -- what the process of a seat asked, in what the seat has seen
 abbrev pub asked_of : SeatView → List Asked
-asked_of s = asked s.pid.0 s.hub.terms.procs s.seen
+asked_of s = asked s.pid.0 s.hub.terms.head s.seen
 
 -- the same seat, which has seen no less
 pub record Onward (s t : SeatView) : Type 0 where

@@ -4,7 +4,7 @@ ghost use Rattle.std.specs.Prelude.{◌≡◌, ◌≤◌, ◌<◌, [], None, IfO
 ghost use Rattle.hub_base.specs.Text.{steps_of};
 ghost use Rattle.hub_laws.specs.Journals.{IsLegal};
 ghost use Rattle.hub_live.specs.Calls.{AreSeats};
-ghost use Rattle.hub_scenario.specs.Scenario.{scenario_view};
+ghost use Rattle.hub_scenario.specs.Scenario.{scenario_view, run_head};
 ghost use Rattle.hub_report.specs.Reports.{IsReportOf};
 ghost use Rattle.hub_runner.specs.Running.{AreMakes, IsReady, HasFollowed};
 ghost use Rattle.hub_runner.specs.Scripts.{AllFollow};
@@ -49,7 +49,7 @@ fn make_ready<K: HubName, R: Wait>(
     seats: Vec<Held<K>>,
     scenario: &Scenario,
 ) -> Result<Vec<Held<K>>, Fault>
-    requires procs { K.name.terms.procs ≡ vec_len scenario.now.scripts }
+    requires procs { K.name.terms.head.procs ≡ vec_len scenario.now.scripts }
     requires some { 0 < vec_len seats }
     requires seats { AreSeats K.name 0 seats.items }
     ensures pids { IfOk result (λ r. map (λ s. s.pid) r.items ≡ map (λ s. s.pid) seats.items) }
@@ -95,12 +95,12 @@ fn run_named<K: HubName + Send + Sync, R: Threads + Wait + Sync, G: Gate + Sync>
     gate: &G,
 ) -> Result<Journal, RunFault>
     requires named { blank.name ≡ K.name }
-    requires procs { K.name.terms.procs ≡ vec_len scenario.now.scripts }
+    requires procs { K.name.terms.head.procs ≡ vec_len scenario.now.scripts }
     requires count { vec_len seats ≡ vec_len scenario.now.scripts }
     requires seats { AreSeats K.name 0 seats.items }
     requires hubs { All (λ s. s.hub ≡ K.name) seats.items }
-    ensures procs { IfOk result (λ j. j.procs ≡ length (scenario_view scenario.now).scripts) }
-    ensures legal { IfOk result (λ j. IsLegal j.procs j.entries) }
+    ensures head { IfOk result (λ j. j.head ≡ run_head (scenario_view scenario.now)) }
+    ensures legal { IfOk result (λ j. IsLegal j.head j.entries) }
     ensures few { IfOk result (λ j. steps_of j.entries ≤ K.name.terms.limit) }
     ensures follows { IfOk result (λ j. AllFollow (scenario_view scenario.now) j.entries) }
 {
@@ -128,9 +128,8 @@ pub fn run_scenario<R: Threads + Wait + Sync, G: Gate + Sync>(
     scenario: &Scenario,
     gate: &G,
 ) -> Result<Report, RunFault>
-    ensures procs { IfOk result (λ r.
-        r.journal.procs ≡ length (scenario_view scenario.now).scripts) }
-    ensures legal { IfOk result (λ r. IsLegal r.journal.procs r.journal.entries) }
+    ensures head { IfOk result (λ r. r.journal.head ≡ run_head (scenario_view scenario.now)) }
+    ensures legal { IfOk result (λ r. IsLegal r.journal.head r.journal.entries) }
     ensures follows { IfOk result (λ r. AllFollow (scenario_view scenario.now) r.journal.entries) }
     ensures report { IfOk result (λ r. IsReportOf r.journal r) }
 {

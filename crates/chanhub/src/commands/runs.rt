@@ -2,6 +2,7 @@
 
 ghost use Rattle.std.specs.Prelude.{◌≡◌, ◌≤◌, ℕ, List, IfOk, IfErr, IsErrOf, IsSome, IsNone};
 ghost use Rattle.std.specs.Io.KnownBytes.{Appends};
+ghost use Rattle.hub_base.specs.Head.{IsHead};
 ghost use Rattle.hub_replay.specs.Devices.{Failed, AppendsBeginning};
 ghost use Rattle.chanhub.specs.declared.outcome.Outcome.{Outcome};
 ghost use Rattle.chanhub.specs.Promises.{RunsScenario, ReadsScenario, TakesScenario, IsRefused, RefusesRun, RefusesScenario, TellsStalls, printed};
@@ -9,7 +10,7 @@ ghost use Rattle.chanhub.specs.Promises.{RunsScenario, ReadsScenario, TakesScena
 use crate::files::read_file;
 use crate::outcome::Outcome;
 use crate::refusal::Refusal;
-use hub_base::{MOST_PROCS, NoMemory, write_journal};
+use hub_base::{NoMemory, write_journal};
 use hub_replay::{Sink, Source, SourceFault, read_up_to, write_whole};
 use hub_report::{Report, write_report};
 use hub_runner::{NoGate, run_scenario};
@@ -43,8 +44,7 @@ fn scenario_bytes<R: Files, S: Source>(
 
 /// What is printed of a run.
 fn text_of(alloc: Global, report: &Report, journal: bool) -> Result<Vec<u8>, NoMemory>
-    requires some { 1 ≤ report.now.journal.procs }
-    requires few { report.now.journal.procs ≤ MOST_PROCS }
+    requires head { IsHead report.now.journal.head }
     ensures { IfOk result (λ text. text.items ≡ printed journal report.now) }
 {
     let mut text = Vec::new(alloc);

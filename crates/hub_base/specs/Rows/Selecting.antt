@@ -7,19 +7,19 @@ use Rattle.hub_base.specs.declared.event.Outcome.TheVariants.{Sent}
 use Rattle.hub_base.specs.declared.fault.Fault.TheVariants.{TooManyCases}
 use Rattle.hub_base.specs.Value.{value_of}
 use Rattle.hub_base.specs.Values.{sent_values, received_values}
-use Rattle.hub_base.specs.Notation.{port, s, r, make, select, send, recv, made, case, got, defaulted, parked, faulted}
+use Rattle.hub_base.specs.Notation.{procs, port, s, r, make, select, send, recv, made, case, got, defaulted, parked, faulted}
 use Rattle.hub_base.specs.Runs.{events}
 
 -- of two cases that can proceed the word 3 chooses the second: 3 mod 2 = 1
 pub word_chooses :
-    events 1 (
+    events (procs 1) (
     make 0 1 ∷ make 0 1 ∷ send 0 1 1 ∷ send 0 2 2 ∷ select 0 3 (r 1 ∷ r 2 ∷ []) false ∷ [])
     ≡ made 0 1 ∷ made 0 2 ∷ case 0 0 Sent ∷ case 0 0 Sent ∷ case 0 1 (got 2) ∷ []
 word_chooses = refl
 
 -- of three cases that can proceed the word 4 chooses the second: 4 mod 3 = 1
 pub word_chooses_of_three :
-    events 2 (
+    events (procs 2) (
     make 0 0 ∷ make 0 0 ∷ select 1 0 (s 2 6 ∷ r 1 ∷ []) false
     ∷ select 0 4 (r 2 ∷ s 1 3 ∷ r 2 ∷ []) false ∷ [])
     ≡ made 0 1 ∷ made 0 2 ∷ parked 1 ∷ case 0 1 Sent ∷ case 1 1 (got 3) ∷ []
@@ -33,39 +33,39 @@ select_on_two_ports =
 
 -- a select that waits ends once: the second sender finds nobody
 pub select_ends_once :
-    events 3 select_on_two_ports
+    events (procs 3) select_on_two_ports
     ≡ made 0 1 ∷ made 0 2 ∷ parked 1 ∷ case 0 0 Sent ∷ case 1 1 (got 8)
     ∷ parked 0 ∷ case 1 0 (got 9) ∷ case 0 0 Sent ∷ []
 select_ends_once = refl
 
 -- of these steps 9 was sent on port 1, and 8 was received from port 2
-pub sent_on_one_port : sent_values 3 select_on_two_ports (port 1) ≡ value_of 9 ∷ []
+pub sent_on_one_port : sent_values (procs 3) select_on_two_ports (port 1) ≡ value_of 9 ∷ []
 sent_on_one_port = refl
 
-pub received_from_the_other : received_values 3 select_on_two_ports (port 2) ≡ value_of 8 ∷ []
+pub received_from_the_other : received_values (procs 3) select_on_two_ports (port 2) ≡ value_of 8 ∷ []
 received_from_the_other = refl
 
 -- a default is taken where no case can proceed, and where there is no case
 pub default_where_nothing_can_proceed :
-    events 1 (make 0 0 ∷ select 0 0 (r 1 ∷ []) true ∷ select 0 0 [] true ∷ [])
+    events (procs 1) (make 0 0 ∷ select 0 0 (r 1 ∷ []) true ∷ select 0 0 [] true ∷ [])
     ≡ made 0 1 ∷ defaulted 0 ∷ defaulted 0 ∷ []
 default_where_nothing_can_proceed = refl
 
 -- a send in a select is a sender like others, and waits in its place
 pub select_sends_in_its_turn :
-    events 3 (make 0 0 ∷ select 1 0 (s 1 5 ∷ r 0 ∷ []) false ∷ send 2 1 6 ∷ recv 0 1 ∷ [])
+    events (procs 3) (make 0 0 ∷ select 1 0 (s 1 5 ∷ r 0 ∷ []) false ∷ send 2 1 6 ∷ recv 0 1 ∷ [])
     ≡ made 0 1 ∷ parked 1 ∷ parked 2 ∷ case 0 0 (got 5) ∷ case 1 0 Sent ∷ []
 select_sends_in_its_turn = refl
 
 -- a waiting call fires at its lowest case that fits
 pub lowest_case_fires :
-    events 2 (make 0 0 ∷ select 1 0 (r 1 ∷ r 1 ∷ []) false ∷ send 0 1 3 ∷ [])
+    events (procs 2) (make 0 0 ∷ select 1 0 (r 1 ∷ r 1 ∷ []) false ∷ send 0 1 3 ∷ [])
     ≡ made 0 1 ∷ parked 1 ∷ case 0 0 Sent ∷ case 1 0 (got 3) ∷ []
 lowest_case_fires = refl
 
 -- a call has at most eight cases
 pub eight_cases_at_most :
-    events 1 (
+    events (procs 1) (
     select 0 0 (r 0 ∷ r 0 ∷ r 0 ∷ r 0 ∷ r 0 ∷ r 0 ∷ r 0 ∷ r 0 ∷ []) true
     ∷ select 0 0 (r 0 ∷ r 0 ∷ r 0 ∷ r 0 ∷ r 0 ∷ r 0 ∷ r 0 ∷ r 0 ∷ r 0 ∷ []) true ∷ [])
     ≡ defaulted 0 ∷ faulted 0 TooManyCases ∷ []
@@ -73,7 +73,7 @@ eight_cases_at_most = refl
 
 -- each of a hundred selects ends at its second case, and leaves nothing behind at the port of its first
 pub hundred_selects_end_once :
-    events 2 (
+    events (procs 2) (
     make 0 0 ∷ make 0 0
     ∷ flat_map (λ v. select 1 0 (r 1 ∷ r 2 ∷ []) false ∷ send 0 2 v ∷ []) (range_with_len 1 100)
     ++ select 1 0 (r 1 ∷ r 2 ∷ []) false ∷ send 0 1 7 ∷ [])

@@ -9,6 +9,7 @@ ghost use Rattle.std.specs.Bool.{OnTrue};
 ghost use Rattle.std.specs.List.{AllByRecursion, flat_map};
 ghost use mathlib.Core.List.{IsPrefix};
 ghost use Rattle.hub_base.specs.EventText.{event_line, EventFits};
+ghost use Rattle.hub_base.specs.Head.{IsHead};
 ghost use Rattle.hub_base.specs.Lines.{line};
 ghost use Rattle.hub_base.specs.Reading.{read_text, procs_number, procs_from, rows, is_exit, HasEntry};
 ghost use Rattle.hub_base.specs.ReadJournal.{Gives, IsFaultOf};
@@ -17,6 +18,7 @@ ghost use Rattle.hub_base.specs.Reading.Reading.{Reads, Faulty};
 ghost use Rattle.hub_base.specs.Reader.{ReadsOn, FillsOn, procs_said};
 ghost use Rattle.hub_base.specs.declared.entry.Entry.{Entry};
 ghost use Rattle.hub_base.specs.declared.event.Event.{Event};
+ghost use Rattle.hub_base.specs.declared.head.Head.{Head};
 ghost use Rattle.hub_base.specs.declared.text.faults.Kind.{Kind};
 
 use crate::limits::{MOST_BYTES, MOST_PROCS, MOST_STEPS};
@@ -24,7 +26,7 @@ use crate::text::fields::Fields;
 use crate::text::lines::line_at;
 use crate::text::numbers::number;
 use crate::text::steps::{read_line, same_text};
-use crate::{Entry, Journal, Kind, Pid, ReadFault, Step, TextFault};
+use crate::{Entry, Head, Journal, Kind, Pid, ReadFault, Step, TextFault};
 use std::alloc::Global;
 use std::marker::Model;
 
@@ -56,8 +58,8 @@ fn procs_number(line: &[u8]) -> Option<u8>
 /// of a text.
 #[derive(Drop)]
 pub struct Reader<'a> {
-    /// The number of processes that the second line says.
-    procs: u8,
+    /// What the head lines say.
+    head: Head,
     /// The bytes behind the lines that were read.
     rest: &'a [u8],
     /// The number of the line that is read next, from 1.
@@ -76,7 +78,7 @@ impl<'a> Model for Reader<'a> {
 
     ghost use Rattle.hub_base.specs.ReaderKeeps.{ReaderKeeps, left_of};
 
-    ghost view = { λ r. record { procs = r.procs; left = left_of r; bytes = length r.rest.now } };
+    ghost view = { λ r. record { head = r.head; left = left_of r; bytes = length r.rest.now } };
 
     ghost invariant = { λ r. ReaderKeeps r };
 }
@@ -85,7 +87,7 @@ impl<'a> Model for Reader<'a> {
 fn open_entries(bytes: &[u8], place: usize) -> Result<Reader<'_>, Kind>
     requires place { place ≤ MOST_BYTES }
     ensures ok { IfOk result (λ r. procs_from place (rows bytes.now) ≡ r.left) }
-    ensures procs { IfOk result (λ r. procs_said (rows bytes.now) ≡ Some r.procs) }
+    ensures procs { IfOk result (λ r. procs_said (rows bytes.now) ≡ Some r.head.procs) }
     ensures bytes { IfOk result (λ r. r.bytes ≤ length bytes.now) }
     ensures fault { IfErr result (λ kind. procs_from place (rows bytes.now) ≡ Faulty 2 kind) }
 {
@@ -96,7 +98,7 @@ fn open_entries(bytes: &[u8], place: usize) -> Result<Reader<'_>, Kind>
     match procs_number(line) {
         None => Err(Kind::BadProcs),
         Some(procs) => Ok(Reader {
-            procs,
+            head: Head { procs },
             rest,
             line: 3,
             place: place + line.len() + 1,
@@ -110,7 +112,7 @@ impl<'a> Reader<'a> {
     /// line's also where a later line is faulty.
     pub fn open(bytes: &'a [u8]) -> Result<Reader<'a>, TextFault>
         ensures ok { IfOk result (λ r. read_text bytes.now ≡ r.left) }
-        ensures procs { IfOk result (λ r. procs_said (drop 1 (rows bytes.now)) ≡ Some r.procs) }
+        ensures procs { IfOk result (λ r. procs_said (drop 1 (rows bytes.now)) ≡ Some r.head.procs) }
         ensures bytes { IfOk result (λ r. r.bytes ≤ length bytes.now) }
         ensures fault { IfErr result (λ f. read_text bytes.now ≡ Faulty f.line f.kind) }
     {
@@ -130,12 +132,20 @@ impl<'a> Reader<'a> {
         open_entries(rest, line.len() + 1).map_err(|kind| TextFault { line: 2, kind })
     }
 
+    /// What the head lines say.
+    pub fn head(&self) -> Head
+        ensures value { result ≡ self.now.head }
+        ensures range { IsHead result }
+    {
+        self.head
+    }
+
     /// The number of processes, 1 to `MOST_PROCS`.
     pub fn procs(&self) -> u8
-        ensures value { result ≡ self.now.procs }
+        ensures value { result ≡ self.now.head.procs }
         ensures range { (1 ≤ result) × (result ≤ MOST_PROCS) }
     {
-        self.procs
+        self.head.procs
     }
 
     /// Reads the next entry into the place of this one; `false` at the end of the text. At the end and
@@ -234,9 +244,9 @@ fn read_all(alloc: Global, bytes: &[u8]) -> Result<Journal, ReadFault>
 /// `NoMemory` is answered only where a growth was refused, and `Text` for the first faulty line.
 pub fn read_journal(alloc: Global, bytes: &[u8]) -> Result<Journal, ReadFault>
     // What is read is so spelled, each byte of it.
-    ensures found { IfOk result (λ j. IsText bytes.now j.procs j.entries) }
+    ensures found { IfOk result (λ j. IsText bytes.now j.head j.entries) }
     // What is so spelled is read, unless memory is refused.
-    ensures only { (n : ℕ) (es : List Entry) → IsText bytes.now n es → Gives result (Reads n es) }
+    ensures only { (h : Head) (es : List Entry) → IsText bytes.now h es → Gives result (Reads h es) }
     // A fault is the first one.
     ensures faulty { IfErr result (λ f. IsFaultOf bytes.now f) }
     // What is faulty is refused for its first fault, unless memory is refused.
@@ -253,16 +263,16 @@ pub fn read_journal(alloc: Global, bytes: &[u8]) -> Result<Journal, ReadFault>
 /// reading of it says, it is.
 pub fn one_reading()
     ensures some { (bytes : List ℕ) → IsEither bytes }
-    ensures reads { (bytes : List ℕ) (n : ℕ) (es : List Entry)
-        → read_text bytes ≡ Reads n es → IsText bytes n es }
+    ensures reads { (bytes : List ℕ) (h : Head) (es : List Entry)
+        → read_text bytes ≡ Reads h es → IsText bytes h es }
     ensures faults { (bytes : List ℕ) (k : ℕ) (kind : Kind)
         → read_text bytes ≡ Faulty k kind → IsFaulty bytes k kind }
-    ensures text { (bytes : List ℕ) (n m : ℕ) (es fs : List Entry)
-        → IsText bytes n es → IsText bytes m fs → (n ≡ m) × (es ≡ fs) }
+    ensures text { (bytes : List ℕ) (h k : Head) (es fs : List Entry)
+        → IsText bytes h es → IsText bytes k fs → (h ≡ k) × (es ≡ fs) }
     ensures fault { (bytes : List ℕ) (j k : ℕ) (kind other : Kind)
         → IsFaulty bytes j kind → IsFaulty bytes k other → (j ≡ k) × (kind ≡ other) }
-    ensures apart { (bytes : List ℕ) (n k : ℕ) (es : List Entry) (kind : Kind)
-        → IsText bytes n es → IsFaulty bytes k kind → ⊥ }
+    ensures apart { (bytes : List ℕ) (h : Head) (k : ℕ) (es : List Entry) (kind : Kind)
+        → IsText bytes h es → IsFaulty bytes k kind → ⊥ }
 {}
 
 /// A law: no spelling begins another, so a list of lines can be read in one way.

@@ -6,12 +6,13 @@ ghost use Rattle.hub_base.specs.EventText.{event_line, what_text, outcome_text};
 ghost use Rattle.hub_base.specs.Lines.{case_field, select_fields, call_fields, step_fields, line};
 ghost use Rattle.std.specs.List.{flat_map};
 ghost use Rattle.std.specs.Vec.{vec_capacity};
-ghost use Rattle.hub_base.specs.Reading.{head, text};
+ghost use Rattle.hub_base.specs.Head.{IsHead, head_of};
+ghost use Rattle.hub_base.specs.Reading.{head_lines, text};
 ghost use Rattle.hub_base.specs.Writing.{spaced, spaced_cases, HasRoomFor};
 ghost use Rattle.hub_base.specs.Value.{value_field};
 
 use crate::limits::MOST_PROCS;
-use crate::{Case, Entry, Event, Journal, NoMemory, Outcome, Step, Value, What};
+use crate::{Case, Entry, Event, Head, Journal, NoMemory, Outcome, Step, Value, What};
 use itoa::Buffer;
 use std::alloc::AllocError;
 
@@ -268,15 +269,15 @@ pub fn write_entry(out: &mut Vec<u8>, entry: &Entry) -> Result<(), NoMemory>
 }
 
 /// Appends the two head lines.
-fn put_head(out: &mut Vec<u8>, procs: u8) -> Result<(), AllocError>
-    ensures ok { OnOk result (out.new.items ≡ out.old.items ++ head procs) }
+fn put_head(out: &mut Vec<u8>, head: Head) -> Result<(), AllocError>
+    ensures ok { OnOk result (out.new.items ≡ out.old.items ++ head_lines head) }
     ensures err { OnErr result ((rest : List ℕ) × (out.new.items ≡ out.old.items ++ rest)) }
     ensures capacity { vec_capacity out.old ≤ vec_capacity out.new }
-    ensures succeeds { HasRoomFor out.old (head procs) → IsOk result }
+    ensures succeeds { HasRoomFor out.old (head_lines head) → IsOk result }
 {
     put(out, b"chanhub journal 1\n")?;
     put(out, b"procs ")?;
-    put_number(out, procs.into())?;
+    put_number(out, head.procs.into())?;
     put(out, b"\n")
 }
 
@@ -284,13 +285,13 @@ fn put_head(out: &mut Vec<u8>, procs: u8) -> Result<(), AllocError>
 /// with nothing appended.
 pub fn write_head(out: &mut Vec<u8>, procs: u8) -> Result<(), NoMemory>
     requires { (1 ≤ procs) × (procs ≤ MOST_PROCS) }
-    ensures ok { OnOk result (out.new.items ≡ out.old.items ++ head procs) }
+    ensures ok { OnOk result (out.new.items ≡ out.old.items ++ head_lines (head_of procs)) }
     ensures err { OnErr result (out.new.items ≡ out.old.items) }
     ensures capacity { vec_capacity out.old ≤ vec_capacity out.new }
-    ensures succeeds { HasRoomFor out.old (head procs) → IsOk result }
+    ensures succeeds { HasRoomFor out.old (head_lines (head_of procs)) → IsOk result }
 {
     let before = out.len();
-    let done = put_head(out, procs);
+    let done = put_head(out, Head { procs });
     undo_if_refused(out, before, done)
 }
 
@@ -313,24 +314,24 @@ fn put_entries(out: &mut Vec<u8>, entries: &[Entry]) -> Result<(), AllocError>
 /// Appends the head lines and the line of each entry.
 fn put_journal(out: &mut Vec<u8>, journal: &Journal) -> Result<(), AllocError>
     ensures ok { OnOk result (
-        out.new.items ≡ out.old.items ++ text journal.now.procs journal.now.entries) }
+        out.new.items ≡ out.old.items ++ text journal.now.head journal.now.entries) }
     ensures err { OnErr result ((rest : List ℕ) × (out.new.items ≡ out.old.items ++ rest)) }
     ensures capacity { vec_capacity out.old ≤ vec_capacity out.new }
-    ensures succeeds { HasRoomFor out.old (text journal.now.procs journal.now.entries) → IsOk result }
+    ensures succeeds { HasRoomFor out.old (text journal.now.head journal.now.entries) → IsOk result }
 {
-    put_head(out, journal.procs())?;
+    put_head(out, journal.head())?;
     put_entries(out, journal.entries())
 }
 
 /// Appends the text of a journal of 1 to `MOST_PROCS` processes; `Err` where a growth was refused, with
 /// nothing appended. It is read again as this journal, where it keeps within the limits of texts.
 pub fn write_journal(out: &mut Vec<u8>, journal: &Journal) -> Result<(), NoMemory>
-    requires { (1 ≤ journal.now.procs) × (journal.now.procs ≤ MOST_PROCS) }
+    requires { IsHead journal.now.head }
     ensures ok { OnOk result (
-        out.new.items ≡ out.old.items ++ text journal.now.procs journal.now.entries) }
+        out.new.items ≡ out.old.items ++ text journal.now.head journal.now.entries) }
     ensures err { OnErr result (out.new.items ≡ out.old.items) }
     ensures capacity { vec_capacity out.old ≤ vec_capacity out.new }
-    ensures succeeds { HasRoomFor out.old (text journal.now.procs journal.now.entries) → IsOk result }
+    ensures succeeds { HasRoomFor out.old (text journal.now.head journal.now.entries) → IsOk result }
 {
     let before = out.len();
     let done = put_journal(out, journal);

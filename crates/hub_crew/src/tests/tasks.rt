@@ -120,7 +120,7 @@ impl<'a, K: HubName, R: Wait> Task<K, R> for MakeOwn<'a> {
     ghost use Rattle.hub_base.specs.declared.event.What.TheVariants as what;
     ghost use Rattle.hub_live.specs.SeatView.{reply_to};
 
-    ghost begins = { λ task seat. seat.hub.terms.procs ≤ length task.capacities.now };
+    ghost begins = { λ task seat. seat.hub.terms.head.procs ≤ length task.capacities.now };
 
     ghost ends = { λ task seat made.
         IfOk made (λ chan. reply_to seat ≡ Some (tells seat.pid (what.Made chan))) };

@@ -207,7 +207,7 @@ fn make_in_threads<K: HubName + Send + Sync, R: Threads + Wait + Abort + Sync>(
 ) -> Result<(), Fail>
     requires named { blank.name ≡ K.name }
     requires seats { All (λ s. s.hub ≡ K.name) seats.items }
-    requires procs { K.name.terms.procs ≡ 3 }
+    requires procs { K.name.terms.head.procs ≡ 3 }
 {
     let capacities = [7, 8, 9];
     let hub = blank.named::<K>();

@@ -2,4 +2,4 @@ use Rattle.hub_laws.proofs.Values.{values-law}
 use Rattle.hub_laws.proofs.kept_values.values_are_kept.Goals as goal
 
 pub returns : goal.returns
-returns c = values-law c.args.procs c.args.entries.now
+returns c = values-law c.args.head c.args.entries.now

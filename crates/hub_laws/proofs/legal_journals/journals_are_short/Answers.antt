@@ -2,4 +2,4 @@ use Rattle.hub_laws.proofs.Limits.{limits-law}
 use Rattle.hub_laws.proofs.legal_journals.journals_are_short.Goals as goal
 
 pub returns : goal.returns
-returns c = limits-law c.args.procs c.args.entries.now
+returns c = limits-law c.args.head c.args.entries.now

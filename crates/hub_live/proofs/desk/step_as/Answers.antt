@@ -5,7 +5,7 @@ use Rattle.hub_base.specs.declared.entry.Entry.{Entry}
 use Rattle.hub_base.specs.Steps.{is_waiting}
 use Rattle.hub_base.specs.Runs.{state}
 use Rattle.hub_core.specs.HubView.{HubView, state_of}
-use Rattle.hub_live.specs.declared.name.Terms.{Terms}
+use Rattle.hub_core.specs.declared.terms.Terms.{Terms}
 use Rattle.hub_live.specs.Mark.{mark_at, port_numbered, MarksOne, IsOther}
 use Rattle.hub_live.specs.Locked.{LockedView}
 use Rattle.hub_laws.specs.OnePort.{number_of, port_changed_by}
@@ -28,7 +28,7 @@ newest-made-requires g c =
     omega (arith, grows, length-append c.args.locked.now.hub.journal (c.args.entry ∷ []))
 
 pub mark_at-mark-requires-clause-legal : goal.mark_at-mark-requires-clause-legal
-mark_at-mark-requires-clause-legal g c = let is = hub_after g c in subst (λ n. IsLegal n c.step.new.self.hub.journal) (sym is.procs) is.history.legal
+mark_at-mark-requires-clause-legal g c = let is = hub_after g c in subst (λ (t : Terms). IsLegal t.head c.step.new.self.hub.journal) (sym is.terms) is.history.legal
 
 pub mark_at-mark-requires-clause-few : goal.mark_at-mark-requires-clause-few
 mark_at-mark-requires-clause-few g c = (hub_after g c).history.few
@@ -50,14 +50,14 @@ pub publish-requires-clause-mark : goal.publish-requires-clause-mark
 publish-requires-clause-mark g c =
     let m = marks_served g.K.HubName.name.terms c.args.locked.now c.step.new.self c.args.entry c.in-Ok.answer c.join.new.token.me.0.seen c.from.result c.requires.desk.hub c.in-Ok.ensures.ok (joined_desk g.K.HubName.name c.args.locked.now c.args.hub.now c.args.mine c.args.entry.pid c.join.new.token.me.0 c.requires.desk c.requires.alone c.join.ensures.sees).whole (c.from.ensures ∙ (c.changed-port.ensures ∙ ap (λ (e : Entry). number_of (port_changed_by e.step c.in-Ok.answer.what)) (newest_made c.args.locked.now c.step.new.self c.args.entry c.newest-made.result.now c.in-Ok.answer c.in-Ok.ensures.ok c.newest-made.ensures))) in
     let same : mark_at (state_of c.step.new.self.hub) (port_numbered c.from.result) ≡ c.mark_at-mark.result = ap (λ n. mark_at (state_of c.step.new.self.hub) (port_numbered n)) c.from.ensures ∙ sym c.mark_at-mark.ensures in
-    subst (λ (e : Entry). MarksOne g.K.HubName.name.terms.procs c.join.new.token.me.0.seen e c.from.result c.mark_at-mark.result) (sym (newest_made c.args.locked.now c.step.new.self c.args.entry c.newest-made.result.now c.in-Ok.answer c.in-Ok.ensures.ok c.newest-made.ensures))
-    (subst (λ n. MarksOne g.K.HubName.name.terms.procs c.join.new.token.me.0.seen c.args.entry c.from.result n) same m)
+    subst (λ (e : Entry). MarksOne g.K.HubName.name.terms.head c.join.new.token.me.0.seen e c.from.result c.mark_at-mark.result) (sym (newest_made c.args.locked.now c.step.new.self c.args.entry c.newest-made.result.now c.in-Ok.answer c.in-Ok.ensures.ok c.newest-made.ensures))
+    (subst (λ n. MarksOne g.K.HubName.name.terms.head c.join.new.token.me.0.seen c.args.entry c.from.result n) same m)
 
 pub publish-requires-clause-other : goal.publish-requires-clause-other
 publish-requires-clause-other g c =
     let m = other_served g.K.HubName.name.terms c.args.locked.now c.step.new.self c.args.entry c.in-Ok.answer c.join.new.token.me.0.seen c.from.result c.requires.desk.hub c.in-Ok.ensures.ok (joined_desk g.K.HubName.name c.args.locked.now c.args.hub.now c.args.mine c.args.entry.pid c.join.new.token.me.0 c.requires.desk c.requires.alone c.join.ensures.sees).whole (c.from.ensures ∙ (c.changed-port.ensures ∙ ap (λ (e : Entry). number_of (port_changed_by e.step c.in-Ok.answer.what)) (newest_made c.args.locked.now c.step.new.self c.args.entry c.newest-made.result.now c.in-Ok.answer c.in-Ok.ensures.ok c.newest-made.ensures))) in
     let same : mark_at (state_of c.step.new.self.hub) (port_numbered c.from.result) ≡ c.mark_at-mark.result = ap (λ n. mark_at (state_of c.step.new.self.hub) (port_numbered n)) c.from.ensures ∙ sym c.mark_at-mark.ensures in
-    subst (λ n. IsOther g.K.HubName.name.terms.procs c.join.new.token.me.0.seen c.from.result n) same m
+    subst (λ n. IsOther g.K.HubName.name.terms.head c.join.new.token.me.0.seen c.from.result n) same m
 
 made : (g : Over) (c : After-part-back g) → IsMade g.K.HubName.name c.step.new.self c.part-back.new.token c.part-back.result c.args.entry c.args.mine.me.0.seen
 made g c =
@@ -119,8 +119,8 @@ returns-in-Err-clause-shows g c =
     let t = g.K.HubName.name.terms in
     let is = c.requires.desk.hub in
     let seen : c.part-back-in-Err.result.me.0.seen ≡ c.args.locked.now.hub.journal = (left g c).parted.seen ∙ ap (λ (l : LockedView). l.hub.journal) c.in-Err.ensures.unchanged in
-    let below = subst (λ (x : Terms). c.args.entry.pid.0 < x.procs) c.requires.terms c.requires.alone.below in
-    let free : is_waiting (state c.args.locked.now.hub.procs c.args.locked.now.hub.journal) c.args.entry.pid.0 ≡ false = (λ i. is_waiting (state (is.procs i) (sym seen i)) c.args.entry.pid.0) ∙ (nothing g c).free in
+    let below = subst (λ (x : Terms). c.args.entry.pid.0 < x.head.procs) c.requires.terms c.requires.alone.below in
+    let free : is_waiting (state c.args.locked.now.hub.terms.head c.args.locked.now.hub.journal) c.args.entry.pid.0 ≡ false = (λ i. is_waiting (state (is.terms i).head (sym seen i)) c.args.entry.pid.0) ∙ (nothing g c).free in
     subst (λ (es : List Entry). Shows t c.args.entry es c.in-Err.fault) (sym seen) (shows t c.args.locked.now.hub c.args.entry c.in-Err.fault is below free c.in-Err.ensures.refused)
 
 pub returns-in-Err-clause-left : goal.returns-in-Err-clause-left

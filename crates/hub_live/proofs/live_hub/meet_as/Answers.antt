@@ -1,6 +1,6 @@
 use Rattle.std.proofs.Common.{◌≡◌, ◌+◌, ◌∙◌, List, sym, ap, subst}
 use Rattle.hub_base.specs.declared.entry.Entry.{Entry}
-use Rattle.hub_live.specs.declared.name.Terms.{Terms}
+use Rattle.hub_core.specs.declared.terms.Terms.{Terms}
 use Rattle.hub_live.specs.Rule.{IsHistory}
 use Rattle.hub_live.specs.Moves.{Knew}
 use Rattle.hub_live.proofs.Laters.{Looking, looking}

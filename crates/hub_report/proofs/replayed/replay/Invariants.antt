@@ -4,6 +4,6 @@ use Rattle.hub_report.proofs.replayed.replay.Given as goal
 
 abbrev pub invariant-loop-entry : goal.invariant-loop-entry
 invariant-loop-entry l = record {
-  tells : Tells l.journal.procs (take l.entry-index l.journal.entries) l.replayed;
+  tells : Tells l.journal.head (take l.entry-index l.journal.entries) l.replayed;
   within : Within l.entry-index l.replayed;
 }

@@ -11,10 +11,10 @@ invariant_of-self-then-k-self c =
     let same = c.in_ok-reserve_more.ensures.same in
     let few = count-length c.self.inside.entries.items in
     record {
-      procs = c.self.invariant.procs;
+      head = c.self.invariant.head;
       limit = c.self.invariant.limit;
-      legal = ap (kept c.self.inside.procs) same ∙ c.self.invariant.legal ∙ sym same;
-      follows = subst (λ (es : List Entry). Follows c.self.inside.procs es c.self.inside.machine) (sym same) c.self.invariant.follows;
+      legal = ap (kept c.self.inside.terms.head) same ∙ c.self.invariant.legal ∙ sym same;
+      follows = subst (λ (es : List Entry). Follows c.self.inside.terms.head es c.self.inside.machine) (sym same) c.self.invariant.follows;
       count = c.self.invariant.count ∙ ap steps_of (sym same);
       within = c.self.invariant.within;
       room = omega (arith, few, c.in_ok-reserve_more.ensures.ok, ap (λ (es : List Entry). length es) same, c.self.invariant.count, c.self.inside.entries.ok);

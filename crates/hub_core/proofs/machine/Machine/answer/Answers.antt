@@ -11,9 +11,9 @@ returns-in_default-fault c =
     let told = c.push.ensures.items ∙ ap (λ (es : List Event). es ++ tells c.args.entry.now.pid (what.Fault c.in-Err.fault) ∷ []) c.clear.ensures in
     let stays = c.in-Err.ensures.unchanged in
     record {
-      ok = λ n es h.
-          rw (told, stays) (follows_refused n es c.args.entry.now c.args.self.now c.in-Err.fault h
-          (refused_as n es c.args.entry.now c.in-Err.fault c.in_default-fault.not-NoMemory (c.in-Err.ensures.refused n es h)));
+      ok = λ head es h.
+          rw (told, stays) (follows_refused head es c.args.entry.now c.args.self.now c.in-Err.fault h
+          (refused_as head es c.args.entry.now c.in-Err.fault c.in_default-fault.not-NoMemory (c.in-Err.ensures.refused head es h)));
       steps = omega (arith, ap (λ (m : MachineLists). m.steps) stays);
       make = tt;
       fine = tt;

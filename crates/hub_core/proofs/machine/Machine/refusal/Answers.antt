@@ -5,5 +5,5 @@ use Rattle.hub_core.proofs.Stalls.{refusal_of-as}
 use Rattle.hub_core.proofs.machine.Machine.refusal.Goals as goal
 
 pub returns : goal.returns
-returns c = λ n es h.
-    c.refusal.ensures ∙ refusal_of-as (state n es) _ c.args.pid (subst (Follows n es) (sym c.self.view_is) h).matches
+returns c = λ head es h.
+    c.refusal.ensures ∙ refusal_of-as (state head es) _ c.args.pid (subst (Follows head es) (sym c.self.view_is) h).matches

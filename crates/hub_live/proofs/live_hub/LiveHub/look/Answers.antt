@@ -14,4 +14,4 @@ returns-then-port-eq0-clause-counts g c =
       | then-port-eq0-via-then-port-eq0 w ↦ omega (arith, w.if-port-eq0)
       | then-port-eq0-via-else-port-eq0+then-port-gt-MOST_PORTS w ↦ omega (arith, w.if-port-gt-MOST_PORTS)
     ] in
-    sym (no_port c.args.seat.now.hub.terms.procs c.args.seat.now.seen c.args.port out)
+    sym (no_port c.args.seat.now.hub.terms.head c.args.seat.now.seen c.args.port out)

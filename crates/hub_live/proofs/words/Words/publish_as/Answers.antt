@@ -2,7 +2,7 @@ use Rattle.std.proofs.Common.{arith, sym, ◌∙◌, subst, ◌∷◌, [], ◌++
 use Rattle.atomic_table.specs.Table.{Allows, step}
 use mathlib.Core.Option.{none}
 use Rattle.hub_base.specs.declared.entry.Entry.{Entry}
-use Rattle.hub_live.specs.declared.name.Terms.{Terms}
+use Rattle.hub_core.specs.declared.terms.Terms.{Terms}
 use Rattle.hub_live.specs.Mark.{MarksOne}
 use Rattle.hub_live.specs.Rule.{IsHistory, Kept}
 use Rattle.hub_live.specs.Moves.{Published}
@@ -19,7 +19,7 @@ store-requires g c =
     let words = b.words in
     let small = c.requires.word in
     let history = subst (λ (x : Terms). IsHistory x (me.0.seen ++ e ∷ [])) (sym b.key) c.requires.history in
-    let mark = subst (λ (x : Terms). MarksOne x.procs me.0.seen e c.args.word c.args.mark) (sym b.key) c.requires.mark in (
+    let mark = subst (λ (x : Terms). MarksOne x.head me.0.seen e c.args.word c.args.mark) (sym b.key) c.requires.mark in (
       t.table ∙ sym b.same,
       omega arith,
       subst (λ (x : Entry). Allows (Kept z.key) z.table_id.slots c.args.token.now.id me c.args.word (λ _. c.args.mark) (λ _. Published x (step z.table_id.slots c.args.word c.args.mark 0 none) me c.args.mark)) c.requires.named

@@ -5,13 +5,13 @@ use Rattle.hub_report.proofs.Ports.{all-ports, last-port, next-port}
 use Rattle.hub_report.proofs.replayed.Replayed.ports.Goals as goal
 
 pub loop-place-preserved : goal.loop-place-preserved
-loop-place-preserved c = λ n es tells.
-    rw c.in_ok-push.ensures.items (next-port (state n es) c.loop-place.place _ c.in-Some.port c.loop-place.ports.items refl (c.loop-place.invariant n es tells) (c.in-Some.ensures n es tells))
+loop-place-preserved c = λ head es tells.
+    rw c.in_ok-push.ensures.items (next-port (state head es) c.loop-place.place _ c.in-Some.port c.loop-place.ports.items refl (c.loop-place.invariant head es tells) (c.in-Some.ensures head es tells))
 
 pub returns : goal.returns
-returns c = λ n es tells.
-    all-ports (state n es) c.loop-place.place c.loop-place.ports.items (c.loop-place.invariant n es tells) (omega (arith, ports-law n es))
+returns c = λ head es tells.
+    all-ports (state head es) c.loop-place.place c.loop-place.ports.items (c.loop-place.invariant head es tells) (omega (arith, ports-law head es))
 
 pub returns-in_default : goal.returns-in_default
-returns-in_default c = λ n es tells.
-    last-port (state n es) c.loop-place.place _ c.loop-place.ports.items refl (c.loop-place.invariant n es tells) (sym c.in_default.is ∙ c.port.ensures n es tells)
+returns-in_default c = λ head es tells.
+    last-port (state head es) c.loop-place.place _ c.loop-place.ports.items refl (c.loop-place.invariant head es tells) (sym c.in_default.is ∙ c.port.ensures head es tells)

@@ -2,6 +2,7 @@ use Rattle.std.proofs.Common.{arith, ◌≡◌, ℕ, ◌<◌, ◌+◌, ◌∙◌
 use Rattle.std.specs.Prelude.{slice_get, vec_items}
 use Rattle.std.proofs.lemmas.List.{length-map}
 use Rattle.std.proofs.lemmas.Option.{slice_get_read}
+use Rattle.hub_base.specs.declared.head.Head.{Head}
 use Rattle.hub_base.specs.declared.value.Pid.{Pid}
 use Rattle.hub_scenario.specs.Scenario.{scenario_view}
 use Rattle.hub_scenario.specs.declared.script.ScriptStep.{ScriptStep}
@@ -17,7 +18,7 @@ returns-clause-ends g c =
     let script = c.index-script.result.now in
     let seat = c.args.seat.now in
     let place : c.from.result ≡ seat.pid.0 = c.from.ensures ∙ ap (λ (p : Pid). p.0) c.pid-pid.ensures.pid in
-    let low : c.from.result < length scripts = omega (arith, c.requires.procs, sym (length-map scripts vec_items), c.pid-pid.ensures.below, c.from.ensures) in
+    let low : c.from.result < length scripts = omega (arith, ap (λ (h : Head). h.procs) c.requires.head, sym (length-map scripts vec_items), c.pid-pid.ensures.below, c.from.ensures) in
     let seed : c.of-words.result.seed ≡ sc.seed + seat.pid.0 = ap (λ (w : WordsDrawn). w.seed) c.of-words.ensures ∙ ap (λ (p : Pid). sc.seed + p.0) c.pid-pid.ensures.pid in
     let followed : OnOk c.follow.result (Followed (asked_of seat) (asked_of c.follow.new.seat) (choice_word (sc.seed + seat.pid.0)) c.index-script.result.now.items) =
     subst (λ (steps : List ScriptStep). OnOk c.follow.result (Followed (asked_of seat) (asked_of c.follow.new.seat) (choice_word (sc.seed + seat.pid.0)) steps)) c.deref.ensures.value

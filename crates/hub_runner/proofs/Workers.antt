@@ -16,6 +16,7 @@ use Rattle.hub_live.specs.Calls.{Later, Made, entry_of}
 use Rattle.hub_live.proofs.Prefixes.{prefix_trans}
 use Rattle.hub_scenario.specs.declared.script.ScriptStep.{ScriptStep}
 use Rattle.hub_scenario.specs.declared.script.ScriptStep.TheVariants.{Send, Recv, Select, Close, Range}
+use Rattle.hub_scenario.specs.ChoiceWords.{choice_word}
 use Rattle.hub_report.specs.Reports.{is_stalled}
 use Rattle.hub_runner.specs.Asked.{Asked, asked}
 use Rattle.hub_runner.specs.Scripts.{asks, gets, is_range, taken_after, left, Follows}
@@ -37,11 +38,8 @@ made_ok s t asking wanted (Err f) is free later made = tt
 
 -- ---- the seat
 
-pub onward_later : (s t u : SeatView) → Onward s t → Later t u → Later s u
-onward_later s t u o l = record { hub = l.hub ∙ o.hub; pid = l.pid ∙ o.pid; begins = prefix_trans s.seen t.seen u.seen o.begins l.begins; idle = l.idle }
-
-pub later_onward : (s t : SeatView) → Later s t → Onward s t
-later_onward s t l = record { hub = l.hub; pid = l.pid; begins = l.begins }
+pub still_onward : (s t u : SeatView) → Onward s t → Later t u → Onward s u
+still_onward s t u o l = record { hub = l.hub ∙ o.hub; pid = l.pid ∙ o.pid; begins = prefix_trans s.seen t.seen u.seen o.begins l.begins }
 
 -- ---- the script
 
@@ -106,22 +104,29 @@ followed a b c words script k x p is = record {
   follows = p.leads (answered step.Exit (Some x) ∷ []) (refl, refl);
 }
 
--- from one step of a script to the next
-pub leads_next : (a b c : List Asked) (words : ℕ → ℕ) (script : List ScriptStep) (i used word : ℕ) (s : ScriptStep) (goes_on : Bool)
-    → Leads a b words script 0 (drop i script) used → drop i script ≡ s ∷ drop (i + 1) script → asks s word ≡ asks s (words used)
-    → ((words : ℕ → ℕ) (rest : List ScriptStep) (j : ℕ) → asks s word ≡ asks s (words j) → Leads b c words (s ∷ rest) j (goes_on_with goes_on rest) (taken_after s j))
-    → Leads a c words script 0 (goes_on_with goes_on (drop (i + 1) script)) (taken_after s used)
-leads_next a b c words script i used word s goes_on p cut chosen takes =
-    leads_trans a b c words script (s ∷ drop (i + 1) script) (goes_on_with goes_on (drop (i + 1) script)) 0 used (taken_after s used)
-    (subst (λ (z : List ScriptStep). Leads a b words script 0 z used) cut p) (takes words (drop (i + 1) script) used chosen)
+-- from one step of a script to the next, which takes the choice words from where the one before left them
+pub leads_next : (a b c : List Asked) (seed given : ℕ) (script : List ScriptStep) (i used k word : ℕ) (s : ScriptStep) (taken goes_on : Bool)
+    → given ≡ seed → drop i script ≡ s ∷ drop (i + 1) script → Leads a b (choice_word seed) script 0 (drop i script) used → asks s word ≡ asks s (choice_word given used)
+    → ((words : ℕ → ℕ) (rest : List ScriptStep) (j : ℕ) → asks s word ≡ asks s (words j) → Leads b c words (s ∷ rest) j (goes_on_with taken rest) (taken_after s j))
+    → taken ≡ goes_on → k ≡ taken_after s used → Leads a c (choice_word seed) script 0 (goes_on_with goes_on (drop (i + 1) script)) k
+leads_next a b c seed given script i used k word s taken goes_on same cut p chosen takes is drawn =
+    let rest = drop (i + 1) script in
+    let next = takes (choice_word seed) rest used (chosen ∙ ap (λ (n : ℕ). asks s (choice_word n used)) same) in
+    let all = leads_trans a b c (choice_word seed) script (s ∷ rest) (goes_on_with taken rest) 0 used (taken_after s used)
+    (subst (λ (z : List ScriptStep). Leads a b (choice_word seed) script 0 z used) cut p) next in
+    subst (λ (b : Bool). Leads a c (choice_word seed) script 0 (goes_on_with b rest) k) is
+    (subst (λ (n : ℕ). Leads a c (choice_word seed) script 0 (goes_on_with taken rest) n) (sym drawn) all)
 
 -- a step draws at most one word
-pub taken_low : (s : ScriptStep) (j i : ℕ) → j ≤ i → taken_after s j ≤ i + 1
-taken_low (Send p v) j i h = omega arith
-taken_low (Recv p) j i h = omega arith
-taken_low (Select cases default) j i h = omega arith
-taken_low (Close p) j i h = omega arith
-taken_low (Range p) j i h = omega arith
+one_word : (s : ScriptStep) (j i : ℕ) → j ≤ i → taken_after s j ≤ i + 1
+one_word (Send p v) j i h = omega arith
+one_word (Recv p) j i h = omega arith
+one_word (Select cases default) j i h = omega arith
+one_word (Close p) j i h = omega arith
+one_word (Range p) j i h = omega arith
+
+pub taken_low : (s : ScriptStep) (j i k : ℕ) → k ≡ taken_after s j → j ≤ i → k ≤ i + 1
+taken_low s j i k is h = subst (λ (n : ℕ). n ≤ i + 1) (sym is) (one_word s j i h)
 
 pub at_place : {A : Type 0} (xs : List A) (i : ℕ) (x : A) → i < length xs → x ≡ get_or xs i x → drop i xs ≡ x ∷ drop (i + 1) xs
 at_place xs i x low is = drop-cons xs i x low ∙ (λ k. sym is k ∷ drop (sym (add-one i) k) xs)

@@ -62,10 +62,9 @@ fn word_for(step: &ScriptStep, words: &mut ChoiceWords) -> u64
 }
 
 /// Makes the entry that a step of a script asks for.
-fn ask<K: HubName, R: Wait, G: Gate>(
+fn ask<K: HubName, R: Wait>(
     rt: &R,
     hub: &LiveHub<K>,
-    passes: &mut Passes<G>,
     seat: &mut Held<K>,
     step: &ScriptStep,
     word: u64,
@@ -77,7 +76,6 @@ fn ask<K: HubName, R: Wait, G: Gate>(
 {
     // Its contract says that the process has no open call.
     let _pid = seat.pid();
-    passes.pass();
     match step {
         ScriptStep::Send(port, value) => seat.send(rt, hub, &Chan::of(*port).sender(), *value),
         ScriptStep::Recv(port) | ScriptStep::Range(port) => {
@@ -90,8 +88,8 @@ fn ask<K: HubName, R: Wait, G: Gate>(
     }
 }
 
-/// Makes the entries of one step of a script, of a range until it gets no value. Whether the script
-/// goes on: not after `Stalled`.
+/// Makes the entries of one step of a script, of a range until it gets no value, and passes the gate
+/// before each. Whether the script goes on: not after `Stalled`.
 fn take_step<K: HubName, R: Wait, G: Gate>(
     rt: &R,
     hub: &LiveHub<K>,
@@ -107,7 +105,8 @@ fn take_step<K: HubName, R: Wait, G: Gate>(
         (goes_on_with goes_on rest) (taken_after step.now j)) }
 {
     for _ in rt.forever() {
-        let event = ask(rt, hub, passes, seat, step, word)?;
+        passes.pass();
+        let event = ask(rt, hub, seat, step, word)?;
         if is_stalled(event.what) {
             return Ok(false);
         }

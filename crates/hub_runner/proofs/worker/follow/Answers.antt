@@ -1,6 +1,6 @@
 use Rattle.hub_scenario.specs.ChoiceWords.{choice_word}
 use Rattle.hub_runner.specs.Working.{asked_of}
-use Rattle.hub_runner.proofs.Workers.{followed, later_onward, onward_later}
+use Rattle.hub_runner.proofs.Workers.{followed, still_onward}
 use Rattle.hub_runner.proofs.worker.follow.Goals as goal
 
 pub returns-in_ok-leave-in-Ok-clause-ok : goal.returns-in_ok-leave-in-Ok-clause-ok
@@ -10,12 +10,12 @@ returns-in_ok-leave-in-Ok-clause-ok g c =
 
 pub returns-in_ok-leave-in-Ok-clause-onward : goal.returns-in_ok-leave-in-Ok-clause-onward
 returns-in_ok-leave-in-Ok-clause-onward g c =
-    later_onward c.args.seat.now c.leave.new.seat (onward_later c.args.seat.now c.follow_steps.new.seat c.leave.new.seat c.follow_steps.ensures.onward c.leave.ensures.later)
+    still_onward c.args.seat.now c.follow_steps.new.seat c.leave.new.seat c.follow_steps.ensures.onward c.leave.ensures.later
 
 pub returns-in_err-leave-in-Ok-clause-onward : goal.returns-in_err-leave-in-Ok-clause-onward
 returns-in_err-leave-in-Ok-clause-onward g c =
-    later_onward c.args.seat.now c.leave.new.seat (onward_later c.args.seat.now c.follow_steps.new.seat c.leave.new.seat c.follow_steps.ensures.onward c.leave.ensures.later)
+    still_onward c.args.seat.now c.follow_steps.new.seat c.leave.new.seat c.follow_steps.ensures.onward c.leave.ensures.later
 
 pub returns-in-Err-clause-onward : goal.returns-in-Err-clause-onward
 returns-in-Err-clause-onward g c =
-    later_onward c.args.seat.now c.leave-in-Err.new.seat (onward_later c.args.seat.now c.follow_steps.new.seat c.leave-in-Err.new.seat c.follow_steps.ensures.onward c.leave-in-Err.ensures.later)
+    still_onward c.args.seat.now c.follow_steps.new.seat c.leave-in-Err.new.seat c.follow_steps.ensures.onward c.leave-in-Err.ensures.later

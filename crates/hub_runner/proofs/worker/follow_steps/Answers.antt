@@ -1,53 +1,38 @@
-use Rattle.std.proofs.Common.{rules, List, ◌≤◌, ◌≡◌, ◌∷◌, ◌+◌, ℕ, Bool, sym, ap, ◌∙◌, drop, subst, arith}
+use Rattle.std.proofs.Common.{rules, List, true, false, refl, ◌∙◌, subst, arith}
 use Rattle.std.proofs.lemmas.List.{drop_all}
 use Rattle.hub_scenario.specs.declared.script.ScriptStep.{ScriptStep}
 use Rattle.hub_scenario.specs.ChoiceWords.{choice_word}
-use Rattle.hub_runner.specs.Scripts.{asks, taken_after}
-use Rattle.hub_runner.specs.Working.{asked_of, Leads, goes_on_with}
-use Rattle.hub_runner.proofs.Workers.{leads_next, onward_later, later_onward, taken_low, at_place}
+use Rattle.hub_runner.specs.Scripts.{taken_after}
+use Rattle.hub_runner.specs.Working.{asked_of, Leads}
+use Rattle.hub_runner.proofs.Workers.{leads_next, still_onward, taken_low, at_place}
 use Rattle.hub_runner.proofs.worker.follow_steps.Goals as goal
 
 pub returns-then-not-branch-clause-ok : goal.returns-then-not-branch-clause-ok
 returns-then-not-branch-clause-ok g c =
-    let seed = c.args.words.now.seed in
-    let script = c.args.script.now in
-    let i = c.loop-step.step-index in
-    let s : ScriptStep = c.step-item.result in
-    let drawn = c.loop-step.words.drawn in
-    let cut : drop i script ≡ s ∷ drop (i + 1) script = at_place script i s (omega arith) (search rules) in
-    let chosen : asks s c.word_for-word.result ≡ asks s (choice_word seed drawn) =
-    c.word_for-word.ensures.chosen ∙ ap (λ (n : ℕ). asks s (choice_word n drawn)) c.loop-step.invariant.1 in
-    let all = leads_next (asked_of c.args.seat.now) (asked_of c.loop-step.seat) (asked_of c.take_step.new.seat) (choice_word seed) script i drawn c.word_for-word.result s c.in_ok-take_step.field-0
-    c.loop-step.invariant.3 cut chosen c.in_ok-take_step.ensures.ok in
-    (taken_after s drawn, subst (λ (b : Bool). Leads (asked_of c.args.seat.now) (asked_of c.take_step.new.seat) (choice_word seed) script 0 (goes_on_with b (drop (i + 1) script)) (taken_after s drawn)) c.if-not-branch.true all)
+    let s : ScriptStep = c.step-item.result in (
+      taken_after s c.loop-step.words.drawn,
+      leads_next _ _ _ _ _ c.args.script.now c.loop-step.step-index _ _ _ s _ false c.loop-step.invariant.1 (at_place c.args.script.now c.loop-step.step-index s (omega arith) (search rules))
+          c.loop-step.invariant.3 c.word_for-word.ensures.chosen c.in_ok-take_step.ensures.ok c.if-not-branch.true refl,
+    )
 
 pub loop-step-preserved : goal.loop-step-preserved
 loop-step-preserved g c =
-    let seed = c.args.words.now.seed in
-    let script = c.args.script.now in
     let i = c.loop-step.step-index in
-    let s : ScriptStep = c.step-item.result in
-    let drawn = c.loop-step.words.drawn in
-    let cut : drop i script ≡ s ∷ drop (i + 1) script = at_place script i s (omega arith) (search rules) in
-    let chosen : asks s c.word_for-word.result ≡ asks s (choice_word seed drawn) =
-    c.word_for-word.ensures.chosen ∙ ap (λ (n : ℕ). asks s (choice_word n drawn)) c.loop-step.invariant.1 in
-    let all = leads_next (asked_of c.args.seat.now) (asked_of c.loop-step.seat) (asked_of c.take_step.new.seat) (choice_word seed) script i drawn c.word_for-word.result s c.in_ok-take_step.field-0
-    c.loop-step.invariant.3 cut chosen c.in_ok-take_step.ensures.ok in
-    let next : taken_after s drawn ≡ c.word_for-word.new.words.drawn = sym c.word_for-word.ensures.taken in (
-      subst (λ (n : ℕ). n ≤ i + 1) next (taken_low s drawn i c.loop-step.invariant.0),
+    let s : ScriptStep = c.step-item.result in (
+      taken_low s c.loop-step.words.drawn i c.word_for-word.new.words.drawn c.word_for-word.ensures.taken c.loop-step.invariant.0,
       c.word_for-word.ensures.seed ∙ c.loop-step.invariant.1,
-      later_onward c.args.seat.now c.take_step.new.seat (onward_later c.args.seat.now c.loop-step.seat c.take_step.new.seat c.loop-step.invariant.2 c.in_ok-take_step.ensures.later),
-      subst (λ (n : ℕ). Leads (asked_of c.args.seat.now) (asked_of c.take_step.new.seat) (choice_word seed) script 0 (drop (i + 1) script) n) next
-          (subst (λ (b : Bool). Leads (asked_of c.args.seat.now) (asked_of c.take_step.new.seat) (choice_word seed) script 0 (goes_on_with b (drop (i + 1) script)) (taken_after s drawn)) c.if-not-branch.false all),
+      still_onward c.args.seat.now c.loop-step.seat c.take_step.new.seat c.loop-step.invariant.2 c.in_ok-take_step.ensures.later,
+      leads_next _ _ _ _ _ c.args.script.now i _ _ _ s _ true c.loop-step.invariant.1 (at_place c.args.script.now i s (omega arith) (search rules))
+          c.loop-step.invariant.3 c.word_for-word.ensures.chosen c.in_ok-take_step.ensures.ok c.if-not-branch.false c.word_for-word.ensures.taken,
     )
 
 pub returns-then-not-branch-clause-onward : goal.returns-then-not-branch-clause-onward
 returns-then-not-branch-clause-onward g c =
-    later_onward c.args.seat.now c.take_step.new.seat (onward_later c.args.seat.now c.loop-step.seat c.take_step.new.seat c.loop-step.invariant.2 c.in_ok-take_step.ensures.later)
+    still_onward c.args.seat.now c.loop-step.seat c.take_step.new.seat c.loop-step.invariant.2 c.in_ok-take_step.ensures.later
 
 pub returns-in_err-take_step-clause-onward : goal.returns-in_err-take_step-clause-onward
 returns-in_err-take_step-clause-onward g c =
-    later_onward c.args.seat.now c.take_step.new.seat (onward_later c.args.seat.now c.loop-step.seat c.take_step.new.seat c.loop-step.invariant.2 c.in_err-take_step.ensures.later)
+    still_onward c.args.seat.now c.loop-step.seat c.take_step.new.seat c.loop-step.invariant.2 c.in_err-take_step.ensures.later
 
 pub returns-clause-onward : goal.returns-clause-onward
 returns-clause-onward g c = c.loop-step.invariant.2

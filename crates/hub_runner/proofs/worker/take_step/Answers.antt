@@ -1,6 +1,6 @@
 use Rattle.std.proofs.Common.{false, true, sym, ◌∙◌}
 use Rattle.hub_runner.specs.Working.{asked_of}
-use Rattle.hub_runner.proofs.Workers.{leads_end, leads_again, left_stalled, left_done, onward_later, later_onward}
+use Rattle.hub_runner.proofs.Workers.{leads_end, leads_again, left_stalled, left_done, still_onward}
 use Rattle.hub_runner.proofs.worker.take_step.Goals as goal
 
 pub returns-then-is_stalled-clause-ok : goal.returns-then-is_stalled-clause-ok
@@ -19,7 +19,7 @@ pub loop-preserved : goal.loop-preserved
 loop-preserved g c = (
   tt,
   tt,
-  later_onward c.args.seat.now c.ask.new.seat (onward_later c.args.seat.now c.loop.seat c.ask.new.seat c.loop.invariant.2 c.in_ok-event.ensures.later),
+  still_onward c.args.seat.now c.loop.seat c.ask.new.seat c.loop.invariant.2 c.in_ok-event.ensures.later,
   λ words rest j chosen.
       leads_again (asked_of c.args.seat.now) (asked_of c.loop.seat) (asked_of c.ask.new.seat) words c.args.step.now rest j c.args.word c.in_ok-event.event
       (c.loop.invariant.3 words rest j chosen) c.in_ok-event.ensures.ok chosen (sym c.is_stalled.ensures ∙ c.if-is_stalled.false) (sym c.repeats.ensures ∙ c.if-not-repeats.false),

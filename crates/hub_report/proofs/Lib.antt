@@ -1,2 +1,3 @@
 pub mod Ports
 pub mod Replays
+mod Appended

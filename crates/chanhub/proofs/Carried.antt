@@ -1,14 +1,19 @@
 -- What was done for a request is what the program has done; and why a request was refused, why the program did nothing.
-use Rattle.std.proofs.Common.{ℕ, zero, suc, arith, List, Bool, Option, inl, inr, refl, codes}
+use Rattle.std.proofs.Common.{◌≡◌, ℕ, zero, suc, arith, List, Bool, Option, Ok, inl, inr, refl, codes}
+use Rattle.hub_laws.specs.Journals.{IsLegal}
 use Rattle.hub_words.specs.Words.{AsksFor, AsksForReplay}
 use Rattle.hub_words.specs.declared.request.ArgumentsFault.{ArgumentsFault}
 use Rattle.hub_words.specs.declared.request.ArgumentsFault.TheVariants as arguments
 use Rattle.hub_replay.specs.Devices.{AppendsBeginning}
 use Rattle.hub_replay.specs.Replay.{Replays}
+use Rattle.hub_report.specs.declared.report.Report.{Report}
+use Rattle.hub_report.specs.Reports.{IsReportOf}
+use Rattle.hub_runner.specs.Scripts.{AllFollow}
+use Rattle.hub_scenario.specs.Scenario.{ScenarioData, reading, run_head}
 use Rattle.chanhub.specs.declared.outcome.Outcome.{Outcome}
 use Rattle.chanhub.specs.declared.outcome.Outcome.TheVariants.{Done, Stalled}
 use Rattle.chanhub.specs.declared.refusal.Refusal.{Refusal}
-use Rattle.chanhub.specs.Promises.{HasDone, HasBegun, HasRefused, IsRefused, TellsStalls, TellsComparison, TakesScenario, RunsScenario, RefusesReplay, RefusesFiles, RefusesScenario}
+use Rattle.chanhub.specs.Promises.{HasDone, HasBegun, HasRefused, IsRefused, TellsStalls, printed, TellsComparison, TakesScenario, RunsScenario, RefusesReplay, RefusesFiles, RefusesScenario}
 use Rattle.chanhub.specs.Refusals.{of_arguments}
 
 -- a refusal whose failed write says more
@@ -19,6 +24,22 @@ refused-more why says r = record { unwritten = r.unwritten; write = λ is. let (
 pub some-outcome : (stalled : ℕ) → (outcome : Outcome) × TellsStalls outcome stalled
 some-outcome zero = (Done, refl)
 some-outcome (suc n) = (Stalled, omega arith)
+
+-- a run, and what holds of the text that tells it
+pub ran : (bytes : List ℕ) (journal : Bool) (scenario : ScenarioData) (report : Report) → reading bytes ≡ Ok scenario → report.journal.head ≡ run_head scenario
+    → IsLegal report.journal.head report.journal.entries → AllFollow scenario report.journal.entries → IsReportOf report.journal report
+    → (outcome : Outcome) (Writes : List ℕ → Type 0) → TellsStalls outcome report.stalled → Writes (printed journal report) → RunsScenario bytes journal outcome Writes
+ran bytes journal s r says head is_legal all_follow is_report outcome Writes tells is_written = record {
+  scenario = s;
+  report = r;
+  said = says;
+  head = head;
+  legal = is_legal;
+  follows = all_follow;
+  told = is_report;
+  stalls = tells;
+  written = is_written;
+}
 
 module _ (words : List (List ℕ)) (unread left : Option (List ℕ)) (alone : Type 0) where
   module _ (outcome : Outcome) (Writes : List ℕ → Type 0) where

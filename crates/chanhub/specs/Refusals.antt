@@ -2,9 +2,9 @@
 use Rattle.hub_words.specs.declared.request.ArgumentsFault.{ArgumentsFault}
 use Rattle.hub_words.specs.declared.request.ArgumentsFault.TheVariants as arguments
 use Rattle.hub_replay.specs.declared.fault.SourceFault.{SourceFault}
-use Rattle.hub_replay.specs.declared.fault.SourceFault.TheVariants as source
 use Rattle.hub_replay.specs.declared.fault.ReplayFault.{ReplayFault}
 use Rattle.hub_replay.specs.declared.fault.ReplayFault.TheVariants as replay
+use Rattle.hub_replay.specs.Replay.{replay_fault}
 use Rattle.hub_scenario.specs.declared.fault.ScenarioFault.{ScenarioFault}
 use Rattle.hub_scenario.specs.declared.fault.ScenarioFault.TheVariants as scenario
 use Rattle.hub_runner.specs.declared.fault.RunFault.{RunFault}
@@ -16,15 +16,15 @@ abbrev pub of_arguments : ArgumentsFault → Refusal
 of_arguments arguments.BadArguments = BadArguments
 of_arguments arguments.NoMemory = NoMemory
 
-abbrev pub of_source : SourceFault → Refusal
-of_source source.Read = Read
-of_source source.NoMemory = NoMemory
-
 abbrev pub of_replay : ReplayFault → Refusal
 of_replay (replay.Text fault) = Journal fault
 of_replay replay.Read = Read
 of_replay replay.Write = Write
 of_replay replay.NoMemory = NoMemory
+
+-- a source gives no bytes to a file's reader for what it gives none to a replay
+abbrev pub of_source : SourceFault → Refusal
+of_source fault = of_replay (replay_fault fault)
 
 -- all faults but want of memory are the scenario's own
 abbrev pub of_scenario : ScenarioFault → Refusal

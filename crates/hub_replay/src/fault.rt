@@ -70,22 +70,6 @@ impl From<SourceFault> for ReplayFault {
     }
 }
 
-impl From<WriteFailed> for ReplayFault {
-    ghost from_gives = { λ _ fault. fault ≡ replay.Write };
-
-    fn from(_: WriteFailed) -> ReplayFault {
-        ReplayFault::Write
-    }
-}
-
-impl From<AllocError> for ReplayFault {
-    ghost from_gives = { λ _ fault. fault ≡ replay.NoMemory };
-
-    fn from(_: AllocError) -> ReplayFault {
-        ReplayFault::NoMemory
-    }
-}
-
 impl From<NoMemory> for ReplayFault {
     ghost from_gives = { λ _ fault. fault ≡ replay.NoMemory };
 

@@ -75,6 +75,5 @@ pub fn replay<S: Source, W: Sink>(
 {
     let bytes = read_up_to(alloc, source, MOST_BYTES)?;
     let text = event_text(alloc, &bytes)?;
-    write_whole(sink, &text)?;
-    Ok(())
+    write_whole(sink, &text).map_err(|_| ReplayFault::Write)
 }

@@ -86,7 +86,9 @@ fn run_bytes<R: Threads + Wait + Sync, W: Sink>(
 {
     let scenario = read_scenario(alloc, bytes)?;
     let report = run_scenario(rt, alloc, &scenario, &NoGate)?;
-    let text = text_of(alloc, &report, journal)?;
+    let Ok(text) = text_of(alloc, &report, journal) else {
+        return Err(Refusal::NoMemory);
+    };
     write_whole(output, &text)?;
     Ok(outcome_of(&report))
 }

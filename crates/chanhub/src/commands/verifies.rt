@@ -1,17 +1,17 @@
 //! `chanhub verify JOURNAL EVENTS`.
 
-ghost use Rattle.std.specs.Prelude.{◌≡◌, ℕ, List, IfOk, IfErr, OnOk, OnErr};
+ghost use Rattle.std.specs.Prelude.{◌≡◌, ℕ, List, IfOk, IfErr};
 ghost use Rattle.std.specs.Io.KnownBytes.{Appends};
 ghost use Rattle.hub_replay.specs.Devices.{Failed, AppendsBeginning};
 ghost use Rattle.chanhub.specs.declared.outcome.Outcome.{Outcome};
-ghost use Rattle.chanhub.specs.Promises.{TellsComparison, IsRefused, RefusesComparison, RefusesFiles, difference_line};
+ghost use Rattle.chanhub.specs.Promises.{TellsComparison, IsRefused, RefusesComparison, RefusesFiles};
 
 use crate::files::read_file;
 use crate::outcome::Outcome;
 use crate::pieces::write_pieces;
 use crate::refusal::Refusal;
 use hub_base::MOST_BYTES;
-use hub_replay::{Compared, Sink, WriteFailed, verify};
+use hub_replay::{Compared, Sink, verify};
 use itoa::Buffer;
 use std::alloc::Global;
 use std::rt::Files;
@@ -19,19 +19,7 @@ use std::rt::Files;
 /// No event text has more bytes.
 const MOST_EVENT_BYTES: usize = 268_435_456;
 
-/// Tells the first line that differs, counted from 1.
-fn tell_difference<W: Sink>(line: u32, output: &mut W) -> Result<(), WriteFailed>
-    ensures whole { OnOk result
-        (Appends (W.contents output.old) (W.contents output.new) (difference_line line)) }
-    ensures beginning { OnErr result
-        (AppendsBeginning (W.contents output.old) (W.contents output.new) (difference_line line)) }
-    ensures err { OnErr result (Failed (W.failures output.old) (W.failures output.new)) }
-{
-    let mut digits = Buffer::new();
-    write_pieces(output, &["differs at line ", digits.format(line), "\n"])
-}
-
-/// Tells whether the events are those of the journal.
+/// Tells whether the events are those of the journal, or else the first line that differs.
 fn tell_comparison<W: Sink>(
     alloc: Global,
     journal: &[u8],
@@ -53,7 +41,8 @@ fn tell_comparison<W: Sink>(
             Ok(Outcome::Done)
         }
         Compared::Differs(line) => {
-            tell_difference(line, output)?;
+            let mut digits = Buffer::new();
+            write_pieces(output, &["differs at line ", digits.format(line), "\n"])?;
             Ok(Outcome::Differs)
         }
     }

@@ -1,21 +1,13 @@
 use Rattle.std.proofs.Common.{rules}
 use Rattle.hub_scenario.specs.Scenario.{scenario_view}
-use Rattle.chanhub.proofs.Carried.{some-outcome}
+use Rattle.chanhub.proofs.Carried.{ran, some-outcome}
 use Rattle.chanhub.proofs.Refused.{wrote_less}
 use Rattle.chanhub.proofs.commands.runs.run_bytes.Goals as goal
 
 pub returns-clause-ok : goal.returns-clause-ok
-returns-clause-ok g c = record {
-  scenario = scenario_view c.in_ok-scenario.scenario;
-  report = c.in_ok-report.report;
-  said = c.in_ok-scenario.ensures.ok;
-  head = c.in_ok-report.ensures.head;
-  legal = c.in_ok-report.ensures.legal;
-  follows = c.in_ok-report.ensures.follows;
-  told = c.in_ok-report.ensures.report;
-  stalls = c.outcome_of.ensures;
-  written = search rules;
-}
+returns-clause-ok g c =
+    ran _ _ (scenario_view c.in_ok-scenario.scenario) c.in_ok-report.report c.in_ok-scenario.ensures.ok c.in_ok-report.ensures.head c.in_ok-report.ensures.legal
+    c.in_ok-report.ensures.follows c.in_ok-report.ensures.report _ _ c.outcome_of.ensures (search rules)
 
 pub returns-in_err-write_whole-clause-refused : goal.returns-in_err-write_whole-clause-refused
 returns-in_err-write_whole-clause-refused g c =
@@ -24,16 +16,7 @@ returns-in_err-write_whole-clause-refused g c =
       search rules,
       (
         told.0,
-        record {
-          scenario = scenario_view c.in_ok-scenario.scenario;
-          report = c.in_ok-report.report;
-          said = c.in_ok-scenario.ensures.ok;
-          head = c.in_ok-report.ensures.head;
-          legal = c.in_ok-report.ensures.legal;
-          follows = c.in_ok-report.ensures.follows;
-          told = c.in_ok-report.ensures.report;
-          stalls = told.1;
-          written = search rules;
-        },
+        ran _ _ (scenario_view c.in_ok-scenario.scenario) c.in_ok-report.report c.in_ok-scenario.ensures.ok c.in_ok-report.ensures.head c.in_ok-report.ensures.legal
+            c.in_ok-report.ensures.follows c.in_ok-report.ensures.report told.0 _ told.1 (search rules),
       ),
     )

@@ -29,17 +29,8 @@ some-outcome (suc n) = (Stalled, omega arith)
 pub ran : (bytes : List ℕ) (journal : Bool) (scenario : ScenarioData) (report : Report) → reading bytes ≡ Ok scenario → report.journal.head ≡ run_head scenario
     → IsLegal report.journal.head report.journal.entries → AllFollow scenario report.journal.entries → IsReportOf report.journal report
     → (outcome : Outcome) (Writes : List ℕ → Type 0) → TellsStalls outcome report.stalled → Writes (printed journal report) → RunsScenario bytes journal outcome Writes
-ran bytes journal s r says head is_legal all_follow is_report outcome Writes tells is_written = record {
-  scenario = s;
-  report = r;
-  said = says;
-  head = head;
-  legal = is_legal;
-  follows = all_follow;
-  told = is_report;
-  stalls = tells;
-  written = is_written;
-}
+ran bytes journal s r said head legal follows told outcome Writes stalls written =
+    record { scenario = s; report = r; said = said; head = head; legal = legal; follows = follows; told = told; stalls = stalls; written = written }
 
 module _ (words : List (List ℕ)) (unread left : Option (List ℕ)) (alone : Type 0) where
   module _ (outcome : Outcome) (Writes : List ℕ → Type 0) where

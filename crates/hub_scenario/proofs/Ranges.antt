@@ -2,7 +2,7 @@
 use Rattle.std.proofs.Common.{◌≡◌, ◌≤◌, ℕ, ◌∙◌, ℤ, pos, negsuc, Bool, true, false, ◌&&◌, nat_le, List, None, Some, refl, ap, sym, arith, if◌then◌else◌}
 use Rattle.std.specs.Cmp.{first_so, second_so}
 use Rattle.std.proofs.lemmas.Bool.Decides.{nat_tests}
-use Rattle.toml.specs.Data.{Data, string, integer, float, boolean, datetime, array, table, Items, no_items, item}
+use Rattle.toml.specs.Data.{Data, integer, Items, no_items, item}
 use Rattle.hub_base.specs.declared.limits.TheConstants.{MOST_CAP, MOST_PORTS}
 use Rattle.hub_scenario.specs.Causes.{IsWithin, IsCapacity, ArePorts}
 use Rattle.hub_scenario.specs.Faults.{cons_some}
@@ -36,12 +36,7 @@ within-none least most z h (n, is, low, high) =
 -- ---- ports
 capacity-some : (d : Data) (n : ℕ) → capacity_of d ≡ Some n → IsCapacity d
 capacity-some (integer z) n h = (z, refl, within-some 0 MOST_CAP z n h)
-capacity-some (string s) n h = absurd (apart n None h refl)
-capacity-some (float x) n h = absurd (apart n None h refl)
-capacity-some (boolean b) n h = absurd (apart n None h refl)
-capacity-some (datetime t) n h = absurd (apart n None h refl)
-capacity-some (array ds) n h = absurd (apart n None h refl)
-capacity-some (table ms) n h = absurd (apart n None h refl)
+capacity-some other n h = absurd (apart n None h refl)
 
 capacity-none : (d : Data) → capacity_of d ≡ None → IsCapacity d → ⊥
 capacity-none d h (z, is, in_it) = within-none 0 MOST_CAP z (sym (ap capacity_of is) ∙ h) in_it

@@ -10,7 +10,7 @@ use Rattle.std.proofs.lemmas.Bool.{false≢true}
 use Rattle.std.proofs.lemmas.Cmp.{nat_list_cmp_total, tied_itself}
 use Rattle.std.proofs.lemmas.Map.Lookups.{exact_bytes}
 use Rattle.std.specs.Cmp.{first_so, second_so}
-use Rattle.toml.specs.Data.{Data, string, integer, float, boolean, datetime, array, table, Items, no_items, item, Members, no_members, member, get_member}
+use Rattle.toml.specs.Data.{Data, integer, array, table, Items, no_items, item, Members, no_members, member, get_member}
 use Rattle.hub_scenario.specs.declared.limits.TheConstants.{DEFAULT_LIMIT}
 use Rattle.hub_scenario.specs.declared.keys.Owner.{Owner}
 use Rattle.hub_scenario.specs.declared.keys.Owner.TheVariants.{File, Process}
@@ -64,12 +64,7 @@ keys-unknown owner (member l d ms) h only =
 pub whole-some : (default z : ℤ) (o : Option Data) → whole_or default o ≡ Some z → IfSome o IsWhole
 whole-some default z None h = tt
 whole-some default z (Some (integer n)) h = (n, refl)
-whole-some default z (Some (string s)) h = absurd (apart z None h refl)
-whole-some default z (Some (float x)) h = absurd (apart z None h refl)
-whole-some default z (Some (boolean b)) h = absurd (apart z None h refl)
-whole-some default z (Some (datetime t)) h = absurd (apart z None h refl)
-whole-some default z (Some (array ds)) h = absurd (apart z None h refl)
-whole-some default z (Some (table ms)) h = absurd (apart z None h refl)
+whole-some default z (Some other) h = absurd (apart z None h refl)
 
 pub whole-none : (default : ℤ) (o : Option Data) → whole_or default o ≡ None → IfSome o IsWhole → ⊥
 whole-none default None h is = apart default (Some default) refl h
@@ -78,12 +73,7 @@ whole-none default (Some d) h (z, is) = apart z (whole_or default (Some d)) (ap 
 pub array-some : (ds : Items) (o : Option Data) → array_at o ≡ Some ds → o ≡ Some (array ds)
 array-some ds None h = absurd (apart ds None h refl)
 array-some ds (Some (array es)) h = ap (option_map array) h
-array-some ds (Some (string s)) h = absurd (apart ds None h refl)
-array-some ds (Some (integer n)) h = absurd (apart ds None h refl)
-array-some ds (Some (float x)) h = absurd (apart ds None h refl)
-array-some ds (Some (boolean b)) h = absurd (apart ds None h refl)
-array-some ds (Some (datetime t)) h = absurd (apart ds None h refl)
-array-some ds (Some (table ms)) h = absurd (apart ds None h refl)
+array-some ds (Some other) h = absurd (apart ds None h refl)
 
 is_array : (ds : Items) (o : Option Data) → array_at o ≡ Some ds → IsSomeAnd o IsArray
 is_array ds o h = rw (array-some ds o h) (ds, refl)
@@ -128,12 +118,7 @@ process-case ds ms true is h = (ms, refl, keys-known Process ms is, is_array ds 
 
 steps-some : (d : Data) (ds : Items) → steps_of d ≡ Some ds → IsProcess d
 steps-some (table ms) ds h = process-case ds ms (keys_known Process ms) refl h
-steps-some (string s) ds h = absurd (apart ds None h refl)
-steps-some (integer n) ds h = absurd (apart ds None h refl)
-steps-some (float x) ds h = absurd (apart ds None h refl)
-steps-some (boolean b) ds h = absurd (apart ds None h refl)
-steps-some (datetime t) ds h = absurd (apart ds None h refl)
-steps-some (array es) ds h = absurd (apart ds None h refl)
+steps-some other ds h = absurd (apart ds None h refl)
 
 no_process-case : (ms : Members) (b : Bool) → keys_known Process ms ≡ b → (if b then array_at (get_member (codes "steps") ms) else None) ≡ None → HasOnly Process ms → IsSomeAnd (get_member (codes "steps") ms) IsArray → ⊥
 no_process-case ms false is h only steps = keys-unknown Process ms is only

@@ -1,7 +1,10 @@
 -- The tests of a frame's values, as far as they come.
-use Rattle.std.proofs.Common.{◌≡◌, ◌≤◌, ℕ, List, length, Some, None, Ok, Err, refl, arith}
+use Rattle.std.proofs.Common.{◌≡◌, ◌∙◌, ◌≤◌, ℕ, List, length, map, Some, None, Result, Ok, Err, Bor, refl, ap, sym, arith}
+use Rattle.std.specs.Prelude.{Vec}
+use Rattle.std.specs.declared.alloc.Global.{Global}
 use Rattle.std.proofs.lemmas.Bool.Decides.{nat_tests}
 use Rattle.toml.specs.Data.{Items}
+use Rattle.toml.specs.declared.value.Value.{Value}
 use Rattle.hub_base.specs.declared.limits.TheConstants.{MOST_PROCS, MOST_STEPS}
 use Rattle.hub_scenario.specs.declared.limits.TheConstants.{GREATEST_SEED}
 use Rattle.hub_scenario.specs.declared.fault.ScenarioFault.{ScenarioFault}
@@ -9,12 +12,18 @@ use Rattle.hub_scenario.specs.declared.fault.ScenarioFault.TheVariants.{BadSeed,
 use Rattle.hub_scenario.specs.declared.script.ScriptStep.{ScriptStep}
 use Rattle.hub_scenario.specs.Faults.{must}
 use Rattle.hub_scenario.specs.Frames.{FrameData}
+use Rattle.hub_scenario.specs.FrameView.{seen}
 use Rattle.hub_scenario.specs.Numbers.{within, ports_of}
 use Rattle.hub_scenario.specs.Scenario.{scripts_of, values_of}
 use Rattle.hub_scenario.specs.Scripts.{scripts_from}
 
-pub scripts-within : (dss : List Items) → 1 ≤ length dss → length dss ≤ MOST_PROCS → scripts_of dss ≡ scripts_from 0 dss
+scripts-within : (dss : List Items) → 1 ≤ length dss → length dss ≤ MOST_PROCS → scripts_of dss ≡ scripts_from 0 dss
 scripts-within dss some few = grind (arith, nat_tests)
+
+-- what the scripts of a lent slice say is what those of the frame say
+pub scripts-say : (process slice : List (Bor (Vec Value Global))) (r : Result (List (List ScriptStep)) ScenarioFault) → slice ≡ process
+    → 1 ≤ length (map seen process) → length (map seen process) ≤ MOST_PROCS → scripts_from 0 (map seen slice) ≡ r → scripts_of (map seen process) ≡ r
+scripts-say process slice r same some few says = scripts-within (map seen process) some few ∙ ap (λ xs. scripts_from 0 (map seen xs)) (sym same) ∙ says
 
 pub seed-bad : (f : FrameData) → within 0 GREATEST_SEED f.seed ≡ None → values_of f ≡ Err BadSeed
 seed-bad f e = rw e refl

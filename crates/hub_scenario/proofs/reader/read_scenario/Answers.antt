@@ -2,8 +2,8 @@ use Rattle.std.proofs.Common.{rules, ◌≡◌, ◌∙◌, Err}
 use Rattle.toml.specs.View.{table_view}
 use Rattle.hub_scenario.specs.declared.fault.ScenarioFault.TheVariants.{NoMemory}
 use Rattle.hub_scenario.specs.FrameView.{frame_view}
-use Rattle.hub_scenario.specs.Scenario.{reading, values_of}
-use Rattle.hub_scenario.proofs.Reading.{no-tree, by-tree, no-frame, by-frame}
+use Rattle.hub_scenario.specs.Scenario.{reading}
+use Rattle.hub_scenario.proofs.Reading.{no-tree, by-tree, no-frame, by-both}
 use Rattle.hub_scenario.proofs.reader.read_scenario.Goals as goal
 
 pub returns-in_err-table-clause-fault : goal.returns-in_err-table-clause-fault
@@ -23,16 +23,10 @@ returns-in_err-frame-clause-fault c =
 
 pub returns-clause-ok : goal.returns-clause-ok
 returns-clause-ok c =
-    let ms = table_view c.in_ok-table.table in
-    let f = frame_view c.in_ok-frame.frame in
-    let says : reading c.args.bytes.now ≡ values_of f =
-    by-tree c.args.bytes.now ms c.if-bytes-gt-MOST_FILE_BYTES.false c.in_ok-table.ensures.ok ∙ by-frame ms f c.in_ok-frame.ensures.ok in
-    rw says c.values_of.ensures.ok
+    rw (by-both c.args.bytes.now (table_view c.in_ok-table.table) (frame_view c.in_ok-frame.frame) c.if-bytes-gt-MOST_FILE_BYTES.false c.in_ok-table.ensures.ok c.in_ok-frame.ensures.ok)
+    c.values_of.ensures.ok
 
 pub returns-clause-fault : goal.returns-clause-fault
 returns-clause-fault c =
-    let ms = table_view c.in_ok-table.table in
-    let f = frame_view c.in_ok-frame.frame in
-    let says : reading c.args.bytes.now ≡ values_of f =
-    by-tree c.args.bytes.now ms c.if-bytes-gt-MOST_FILE_BYTES.false c.in_ok-table.ensures.ok ∙ by-frame ms f c.in_ok-frame.ensures.ok in
-    rw says c.values_of.ensures.fault
+    rw (by-both c.args.bytes.now (table_view c.in_ok-table.table) (frame_view c.in_ok-frame.frame) c.if-bytes-gt-MOST_FILE_BYTES.false c.in_ok-table.ensures.ok c.in_ok-frame.ensures.ok)
+    c.values_of.ensures.fault

@@ -1,9 +1,8 @@
-use Rattle.std.proofs.Common.{rules, arith, ◌≡◌, ◌∙◌, ◌+◌, ◌∷◌, ◌++◌, [], List, Ok, drop, ap, sym, subst, append-nil}
-use Rattle.std.proofs.lemmas.List.{drop_all, drop_more}
+use Rattle.std.proofs.Common.{rules, arith, ◌≡◌, ◌∙◌, ◌+◌, ◌∷◌, ◌++◌, [], Ok, drop, ap, sym, append-nil}
+use Rattle.std.proofs.lemmas.List.{drop_all}
 use Rattle.toml.specs.View.{view, items_view}
-use Rattle.toml.specs.declared.value.Value.{Value}
 use Rattle.hub_scenario.specs.Scripts.{script_from}
-use Rattle.hub_scenario.proofs.Lists.{onto, step-within, step-past, step-more, step-refused}
+use Rattle.hub_scenario.proofs.Lists.{onto, cut_at, step-within, step-past, step-more, step-refused}
 use Rattle.hub_scenario.proofs.scripts.read_script.Goals as goal
 
 pub loop-value-preserved : goal.loop-value-preserved
@@ -15,11 +14,10 @@ loop-value-preserved c =
     let v = c.value-item.result in
     let rest = items_view (drop (k + 1) all) in
     let pushed : c.push.new.self.items ≡ done ++ c.in-Some.read ∷ [] = search rules in
-    let cut = subst (λ (vs : List Value). drop k vs ≡ v ∷ drop (k + 1) vs) c.deref-value-items.ensures.value
-    (drop_more c.deref-value-items.result.now k v c.loop-value-test.true ∙ ap (λ x. x ∷ drop (k + 1) c.deref-value-items.result.now) (sym c.value-item.is)) in
+    let cut = cut_at all c.deref-value-items.result.now k v c.deref-value-items.ensures.value c.loop-value-test.true c.value-item.is in
     let said = step-within i (view v) (omega arith) ∙ sym c.step_in.ensures ∙ c.in-Some.is in
     record {
-      same = c.loop-value.invariant.same ∙ step-more c.args.process i done (items_view (drop k all)) (view v) rest c.in-Some.read (ap items_view cut) said
+      same = c.loop-value.invariant.same ∙ step-more c.args.process i done (items_view (drop k all)) (view v) rest c.in-Some.read cut said
           ∙ ap (λ xs. onto xs (script_from c.args.process (i + 1) rest)) (sym pushed);
       count = search rules;
       few = omega arith;
@@ -31,10 +29,9 @@ returns-then-step-ge-MOST_SCRIPT_STEPS-clause-fault c _ =
     let k = c.loop-value.value-index in
     let all = c.args.steps.now.items in
     let v = c.value-item.result in
-    let cut = subst (λ (vs : List Value). drop k vs ≡ v ∷ drop (k + 1) vs) c.deref-value-items.ensures.value
-    (drop_more c.deref-value-items.result.now k v c.loop-value-test.true ∙ ap (λ x. x ∷ drop (k + 1) c.deref-value-items.result.now) (sym c.value-item.is)) in
+    let cut = cut_at all c.deref-value-items.result.now k v c.deref-value-items.ensures.value c.loop-value-test.true c.value-item.is in
     c.loop-value.invariant.same ∙ step-refused c.args.process i c.loop-value.script.items (items_view (drop k all)) (view v) (items_view (drop (k + 1) all))
-    (ap items_view cut) (step-past i (view v) (omega arith))
+    cut (step-past i (view v) (omega arith))
 
 pub returns-in_default-clause-fault : goal.returns-in_default-clause-fault
 returns-in_default-clause-fault c _ =
@@ -42,11 +39,10 @@ returns-in_default-clause-fault c _ =
     let k = c.loop-value.value-index in
     let all = c.args.steps.now.items in
     let v = c.value-item.result in
-    let cut = subst (λ (vs : List Value). drop k vs ≡ v ∷ drop (k + 1) vs) c.deref-value-items.ensures.value
-    (drop_more c.deref-value-items.result.now k v c.loop-value-test.true ∙ ap (λ x. x ∷ drop (k + 1) c.deref-value-items.result.now) (sym c.value-item.is)) in
+    let cut = cut_at all c.deref-value-items.result.now k v c.deref-value-items.ensures.value c.loop-value-test.true c.value-item.is in
     let said = step-within i (view v) (omega arith) ∙ sym c.step_in.ensures ∙ c.in_default.is in
     c.loop-value.invariant.same ∙ step-refused c.args.process i c.loop-value.script.items (items_view (drop k all)) (view v) (items_view (drop (k + 1) all))
-    (ap items_view cut) said
+    cut said
 
 pub returns-clause-ok : goal.returns-clause-ok
 returns-clause-ok c =

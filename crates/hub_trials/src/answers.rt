@@ -1,6 +1,6 @@
 //! What a process is answered, and where that is not what a replay answers it.
 
-ghost use Rattle.std.specs.Prelude.{◌≡◌, ◌↔◌, true, IfOk, IsNone};
+ghost use Rattle.std.specs.Prelude.{◌≡◌, ◌↔◌, true, IfOk, IsNone, IsTrue};
 ghost use Rattle.hub_trials.specs.Answers.{is_answer_to, answers_to};
 
 use hub_base::{Counts, Event, Pid, What};
@@ -23,11 +23,17 @@ fn answers_to(alloc: Global, pid: Pid, events: &[Event]) -> Result<Vec<Event>, A
         .collect(alloc)
 }
 
+fn are_equal(one: &[Event], other: &[Event]) -> bool
+    ensures { IsTrue result ↔ (one.now ≡ other.now) }
+{
+    one == other
+}
+
 /// The first place where one list has another event than the other, or none.
 fn first_difference(one: &[Event], other: &[Event]) -> Option<usize>
     ensures { IsNone result ↔ (one.now ≡ other.now) }
 {
-    if one == other {
+    if are_equal(one, other) {
         return None;
     }
     let differs = one

@@ -4,7 +4,7 @@ ghost use Rattle.std.specs.Prelude.{◌≡◌, ◌++◌, ◌∷◌, [], IsOk, If
 
 use crate::chances::{Chances, PORTS, value_of};
 use crate::trouble::Trouble;
-use hub_base::{Counts, Event, Fault, Pid};
+use hub_base::{Cases, Counts, Event, Fault, Pid};
 use hub_crew::Task;
 use hub_live::{Chan, Held, HubName, LiveHub};
 use std::alloc::{AllocError, Global};
@@ -97,20 +97,13 @@ impl RandomCalls {
         }
     }
 
-    fn call<K: HubName, R: Wait>(
-        &mut self,
-        rt: &R,
-        hub: &LiveHub<K>,
-        seat: &mut Held<K>,
-    ) -> Result<(), Trouble>
-        ensures { seat.new.pid ≡ seat.old.pid }
-    {
-        let value = value_of(seat.pid(), self.sent);
+    /// The next call: its cases, whether it has a default, and its choice word.
+    fn next_call(&mut self, pid: Pid) -> (Cases, bool, u64) {
+        let value = value_of(pid, self.sent);
         self.sent = self.sent.wrapping_add(1);
         let cases = self.chances.cases(value);
         let default = self.chances.below(4) == 0;
-        let word = self.chances.word();
-        self.keep(seat.call(rt, hub, cases, default, word))
+        (cases, default, self.chances.word())
     }
 
     fn look<K: HubName>(&mut self, hub: &LiveHub<K>, seat: &mut Held<K>) -> Result<(), Trouble>
@@ -129,25 +122,21 @@ impl RandomCalls {
         Ok(())
     }
 
-    fn turn<K: HubName, R: Wait>(
+    /// Makes a call, or now and then a close.
+    fn step<K: HubName, R: Wait>(
         &mut self,
         rt: &R,
         hub: &LiveHub<K>,
         seat: &mut Held<K>,
-    ) -> Result<(), Trouble>
+    ) -> Result<Event, Fault>
         ensures { seat.new.pid ≡ seat.old.pid }
     {
-        match self.chances.below(4_096) {
-            0 => {
-                let sender = Chan::of(self.chances.port()).sender();
-                self.keep(seat.close(rt, hub, &sender))
-            }
-            1..=255 => {
-                self.look(hub, seat)?;
-                self.call(rt, hub, seat)
-            }
-            _ => self.call(rt, hub, seat),
+        if self.chances.below(4_096) == 0 {
+            let sender = Chan::of(self.chances.port()).sender();
+            return seat.close(rt, hub, &sender);
         }
+        let (cases, default, word) = self.next_call(seat.pid());
+        seat.call(rt, hub, cases, default, word)
     }
 
     fn turns<K: HubName, R: Wait + Clock>(
@@ -162,27 +151,13 @@ impl RandomCalls {
             if self.until.is_over(rt)? {
                 return Ok(());
             }
-            self.turn(rt, hub, seat)?;
+            if self.chances.below(16) == 0 {
+                self.look(hub, seat)?;
+            }
+            let answer = self.step(rt, hub, seat);
+            self.keep(answer)?;
         }
         Ok(())
-    }
-
-    fn turns_and_exit<K: HubName, R: Wait + Clock>(
-        &mut self,
-        rt: &R,
-        hub: &LiveHub<K>,
-        seat: &mut Held<K>,
-    ) -> Result<(), Trouble>
-        ensures { seat.new.pid ≡ seat.old.pid }
-    {
-        let turns = self.turns(rt, hub, seat);
-        // So that those who still wait are told, and the round ends.
-        self.keep(seat.exit(rt, hub))?;
-        match turns {
-            // All processes together ask for more calls than the journal has room for.
-            Err(Trouble::Refused(Fault::JournalFull)) => Ok(()),
-            turns => turns,
-        }
     }
 }
 
@@ -216,7 +191,13 @@ impl<'a, K: HubName, R: Wait + Clock> Task<K, R> for RandomTask<'a> {
 
     fn perform(self, rt: &R, hub: &LiveHub<K>, seat: &mut Held<K>) -> Result<Vec<Event>, Trouble> {
         let mut calls = self.calls_of(seat.pid())?;
-        calls.turns_and_exit(rt, hub, seat)?;
-        Ok(calls.told)
+        let turns = calls.turns(rt, hub, seat);
+        // So that those who still wait are told, and the round ends.
+        calls.keep(seat.exit(rt, hub))?;
+        match turns {
+            // All processes together ask for more calls than the journal has room for.
+            Ok(()) | Err(Trouble::Refused(Fault::JournalFull)) => Ok(calls.told),
+            Err(trouble) => Err(trouble),
+        }
     }
 }

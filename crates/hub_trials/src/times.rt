@@ -172,8 +172,7 @@ fn run_named<K: HubName + Send + Sync, R: Threads + Wait + Clock + Sync>(
     alloc: Global,
     blank: Blank,
     seats: Vec<Seat>,
-    workload: Workload,
-    calls: u32,
+    turns: Turns,
 ) -> Result<Duration, Trouble>
     requires named { blank.name ≡ K.name }
     requires seats { All (λ s. s.hub ≡ K.name) seats.items }
@@ -181,9 +180,8 @@ fn run_named<K: HubName + Send + Sync, R: Threads + Wait + Clock + Sync>(
     let hub = blank.named::<K>();
     let mut seats = hold_all::<K>(alloc, seats)?;
     let first = seats.first_mut().ok_or(Trouble::NotStarted)?;
-    make_ports(rt, &hub, first, workload.capacities())?;
-    let task = Turns { workload, calls };
-    let done = run_crew(rt, alloc, &hub, seats, task).map_err(|_| Trouble::NotStarted)?;
+    make_ports(rt, &hub, first, turns.workload.capacities())?;
+    let done = run_crew(rt, alloc, &hub, seats, turns).map_err(|_| Trouble::NotStarted)?;
     let mut whole: Option<Span> = None;
     for member in done {
         let span = member.report?;
@@ -207,7 +205,8 @@ fn rate_of<R: Threads + Wait + Clock + Sync>(
 ) -> Result<u64, Trouble> {
     let limit = limit_of(workload, calls);
     let (blank, seats) = Blank::open(alloc, workload.procs(), limit)?;
-    let took = run_named::<Brand, R>(rt, alloc, blank, seats, workload, calls)?;
+    let turns = Turns { workload, calls };
+    let took = run_named::<Brand, R>(rt, alloc, blank, seats, turns)?;
     Ok(per_second(workload.operations(calls), took))
 }
 

@@ -25,10 +25,16 @@ const MOST_CALLS: u32 = 900_000;
 
 const MOST_RUNS: u32 = 1_000;
 
-fn soak_of(seconds: &str, seed: &str) -> Option<Trial> {
-    let seconds = seconds.parse().ok()?;
-    let seed = seed.parse().ok()?;
-    Some(Trial::Soak { seconds, seed })
+/// `soak SECONDS SEED`: what stands behind the first word.
+fn soak_in<T: AsStr>(words: &[T]) -> Option<Trial> {
+    match words {
+        [seconds, seed] => {
+            let seconds = seconds.as_str().parse().ok()?;
+            let seed = seed.as_str().parse().ok()?;
+            Some(Trial::Soak { seconds, seed })
+        }
+        _ => None,
+    }
 }
 
 fn times_of(calls: u32, runs: u32) -> Option<Trial>
@@ -42,20 +48,24 @@ fn times_of(calls: u32, runs: u32) -> Option<Trial>
     }
 }
 
+/// `times [CALLS [RUNS]]`: what stands behind the first word.
+fn times_in<T: AsStr>(words: &[T]) -> Option<Trial> {
+    match words {
+        [] => times_of(CALLS, RUNS),
+        [calls] => times_of(calls.as_str().parse().ok()?, RUNS),
+        [calls, runs] => times_of(calls.as_str().parse().ok()?, runs.as_str().parse().ok()?),
+        _ => None,
+    }
+}
+
 /// What these words ask for, of which the first is the program's name.
 pub fn trial_of<T: AsStr>(words: &[T]) -> Option<Trial> {
     match words {
-        [_, task, seconds, seed] if task.as_str() == "soak" => {
-            soak_of(seconds.as_str(), seed.as_str())
-        }
-        [_, task] if task.as_str() == "times" => times_of(CALLS, RUNS),
-        [_, task, calls] if task.as_str() == "times" => times_of(
-            calls.as_str().parse().ok()?,
-            RUNS,
-        ),
-        [_, task, calls, runs] if task.as_str() == "times" => {
-            times_of(calls.as_str().parse().ok()?, runs.as_str().parse().ok()?)
-        }
+        [_, task, rest @ ..] => match task.as_str() {
+            "soak" => soak_in(rest),
+            "times" => times_in(rest),
+            _ => None,
+        },
         _ => None,
     }
 }

@@ -1,14 +1,12 @@
 //! Marks, channels, looks, meetings, a stall and refusals, in one thread.
 
-ghost use Rattle.std.specs.Prelude.{◌≡◌, All, vec_len};
-ghost use Rattle.hub_live.specs.Calls.{AreSeats};
+ghost use Rattle.std.specs.Prelude.{◌≡◌};
 
-use super::{fired, told};
+use super::opened::{Opened, Runtime, Story, tell, tell_often};
+use super::{ONE_WAITS, fired, got, told};
 use hub_base::{Cases, CasesExt, Counts, Fault, Outcome, Pid, Port, Value, What};
 use hub_core::OpenFault;
-use hub_live::{Blank, Chan, Held, HubName, LiveHub, Seat, hold_all, mark_of};
-use std::alloc::Global;
-use std::marker::Brand;
+use hub_live::{Blank, Chan, Held, HubName, LiveHub, Seat, mark_of};
 use std::process::Abort;
 use std::sync::Wait;
 use std::test::*;
@@ -29,47 +27,35 @@ fn mark_of_a_drained_port(rt: HostRuntime) -> Result<(), Fail> {
 
 #[test]
 fn look_shows_a_drained_port(rt: HostRuntime) -> Result<(), Fail> {
-    let (blank, seats) = Blank::open(rt.alloc(), 1, 10)?;
-    look_after_draining::<Brand, _>(&rt, blank, seats)
+    tell(&rt, 1, 10, Story::Draining)
+}
+
+pub fn drain<K: HubName, R: Runtime>(opened: Opened<K, R>) -> Result<(), Fail> {
+    let Opened { rt, hub, mut seats } = opened;
+    let mut seat = seats.pop().ok_or("one seat")?.into_seat();
+    close_and_drain(rt, &hub, &mut seat)?;
+    assert_eq!(rt; hub.look(&mut seat, Port(1)), Some(DRAINED));
+    assert_eq!(rt; hub.make_chan(rt, &mut seat, 1025), Err(Fault::BadCap));
+    Ok(())
 }
 
 /// A value goes through a channel that is then closed, and drained.
-fn drain<K: HubName, R: Wait + Abort>(rt: &R, hub: &LiveHub<K>, seat: &mut Seat) -> Result<(), Fail>
+fn close_and_drain<K: HubName, R: Wait + Abort>(
+    rt: &R,
+    hub: &LiveHub<K>,
+    seat: &mut Seat,
+) -> Result<(), Fail>
     requires { seat.old.hub ≡ K.name }
-    ensures { (seat.new.hub ≡ K.name) × (seat.new.pid ≡ seat.old.pid) }
+    ensures { seat.new.hub ≡ K.name }
 {
     let chan = hub.make_chan(rt, seat, 2)?;
     assert_eq!(rt; chan, Chan::of(Port(1)));
     let (sender, receiver) = (chan.sender(), chan.receiver());
-    let seven = Value::num(7);
-    assert_eq!(rt;
-        hub.send(rt, seat, &sender, seven)?,
-        fired(0, Outcome::Sent)
-    );
+    let sent = hub.send(rt, seat, &sender, Value::num(7))?;
+    assert_eq!(rt; sent, fired(0, Outcome::Sent));
     hub.close(rt, seat, &sender)?;
-    assert_eq!(rt;
-        hub.recv(rt, seat, &receiver)?,
-        fired(0, Outcome::Got(seven))
-    );
+    assert_eq!(rt; hub.recv(rt, seat, &receiver)?, got(0, 7));
     assert_eq!(rt; hub.recv(rt, seat, &receiver)?, fired(0, Outcome::Drained));
-    Ok(())
-}
-
-fn look_after_draining<K: HubName, R: Wait + Abort>(
-    rt: &R,
-    blank: Blank,
-    seats: Vec<Seat>,
-) -> Result<(), Fail>
-    requires named { blank.name ≡ K.name }
-    requires seats { AreSeats K.name 0 seats.items }
-    requires count { vec_len seats ≡ 1 }
-{
-    let mut seats = seats;
-    let hub = blank.named::<K>();
-    let mut seat = seats.pop().ok_or("one seat")?;
-    drain(rt, &hub, &mut seat)?;
-    assert_eq!(rt; hub.look(&mut seat, Port(1)), Some(DRAINED));
-    assert_eq!(rt; hub.make_chan(rt, &mut seat, 1025), Err(Fault::BadCap));
     Ok(())
 }
 
@@ -93,104 +79,88 @@ fn openings_are_refused(rt: HostRuntime) -> Result<(), Fail> {
 // A seat that sent looks; a second seat that received the value looks at no less.
 #[test]
 fn looks_show_what_the_seat_knows(rt: HostRuntime) -> Result<(), Fail> {
-    let (blank, seats) = Blank::open(rt.alloc(), 2, 100)?;
-    look_after_steps::<Brand, _>(&rt, rt.alloc(), blank, seats)
+    tell(&rt, 2, 100, Story::Looking)
 }
 
-fn look_after_steps<K: HubName, R: Wait + Abort>(
-    rt: &R,
-    alloc: Global,
-    blank: Blank,
-    seats: Vec<Seat>,
-) -> Result<(), Fail>
-    requires named { blank.name ≡ K.name }
-    requires seats { All (λ s. s.hub ≡ K.name) seats.items }
-{
-    let hub = blank.named::<K>();
-    let mut held = hold_all::<K>(alloc, seats)?;
-    let mut second = held.pop().ok_or("two seats")?;
-    let mut first = held.pop().ok_or("two seats")?;
+pub fn look<K: HubName, R: Runtime>(opened: Opened<K, R>) -> Result<(), Fail> {
+    let Opened { rt, hub, mut seats } = opened;
+    let mut second = seats.pop().ok_or("two seats")?;
+    let first = seats.first_mut().ok_or("two seats")?;
     assert_eq!(rt; (first.pid(), second.pid()), (Pid(0), Pid(1)));
-
-    assert_eq!(rt; first.look(&hub, Port(1)), None);
-    assert_eq!(rt; first.make(rt, &hub, 1)?, told(0, What::Made(Port(1))));
-    let chan = Chan::of(Port(1));
-    let sent = first.send(rt, &hub, &chan.sender(), Value::num(4))?;
-    assert_eq!(rt; sent, fired(0, Outcome::Sent));
-    let mut counts = Counts {
-        len: 1,
-        sent: 1,
-        received: 0,
-        closed: false,
-    };
-    assert_eq!(rt; first.look(&hub, Port(1)), Some(counts));
-
-    let got = second.recv(rt, &hub, &chan.receiver())?;
-    assert_eq!(rt; got, fired(1, Outcome::Got(Value::num(4))));
-    counts.len = 0;
-    counts.received = 1;
-    assert_eq!(rt; second.look(&hub, Port(1)), Some(counts));
-    assert_eq!(rt; second.look(&hub, Port(0)), None);
-    assert_eq!(rt; second.look(&hub, Port(2)), None);
-    assert_eq!(rt; second.look(&hub, Port(65)), None);
-
-    held.push(first)?;
-    held.push(second)?;
-    let journal = hub.finish_held(held);
+    look_and_send(rt, &hub, first)?;
+    receive_and_look(rt, &hub, &mut second)?;
+    seats.push(second)?;
+    let journal = hub.finish_held(seats);
     assert_eq!(rt; journal.procs(), 2);
     assert_eq!(rt; journal.entries().len(), 3);
+    Ok(())
+}
+
+fn look_and_send<K: HubName, R: Wait + Abort>(
+    rt: &R,
+    hub: &LiveHub<K>,
+    seat: &mut Held<K>,
+) -> Result<(), Fail> {
+    assert_eq!(rt; seat.look(hub, Port(1)), None);
+    assert_eq!(rt; seat.make(rt, hub, 1)?, told(0, What::Made(Port(1))));
+    let sender = Chan::of(Port(1)).sender();
+    let sent = seat.send(rt, hub, &sender, Value::num(4))?;
+    assert_eq!(rt; sent, fired(0, Outcome::Sent));
+    assert_eq!(rt; seat.look(hub, Port(1)), Some(ONE_WAITS));
+    Ok(())
+}
+
+fn receive_and_look<K: HubName, R: Wait + Abort>(
+    rt: &R,
+    hub: &LiveHub<K>,
+    seat: &mut Held<K>,
+) -> Result<(), Fail> {
+    let receiver = Chan::of(Port(1)).receiver();
+    assert_eq!(rt; seat.recv(rt, hub, &receiver)?, got(1, 4));
+    let mut received = ONE_WAITS;
+    received.len = 0;
+    received.received = 1;
+    for (port, counts) in [(1, Some(received)), (0, None), (2, None), (65, None)] {
+        assert_eq!(rt; seat.look(hub, Port(port)), counts, "port {port}");
+    }
     Ok(())
 }
 
 // A close is seen after a meeting, and a second close is told so.
 #[test]
 fn meeting_shows_a_close(rt: HostRuntime) -> Result<(), Fail> {
-    for _ in 0..100 {
-        let (blank, seats) = Blank::open(rt.alloc(), 2, 100)?;
-        look_after_a_meeting::<Brand, _>(&rt, rt.alloc(), blank, seats)?;
-    }
-    Ok(())
+    tell_often(&rt, Story::Meeting)
 }
 
-fn look_after_a_meeting<K: HubName, R: Wait + Abort>(
-    rt: &R,
-    alloc: Global,
-    blank: Blank,
-    seats: Vec<Seat>,
-) -> Result<(), Fail>
-    requires named { blank.name ≡ K.name }
-    requires seats { All (λ s. s.hub ≡ K.name) seats.items }
-{
-    let hub = blank.named::<K>();
-    let mut held = hold_all::<K>(alloc, seats)?;
-    let mut second = held.pop().ok_or("two seats")?;
-    let first = held.first_mut().ok_or("two seats")?;
-    close_and_meet(rt, &hub, first, &mut second)
-}
-
-fn close_and_meet<K: HubName, R: Wait + Abort>(
-    rt: &R,
-    hub: &LiveHub<K>,
-    first: &mut Held<K>,
-    second: &mut Held<K>,
-) -> Result<(), Fail> {
-    let sender = first.make_chan(rt, hub, 0)?.sender();
+pub fn meet<K: HubName, R: Runtime>(opened: Opened<K, R>) -> Result<(), Fail> {
+    let Opened { rt, hub, mut seats } = opened;
+    let mut second = seats.pop().ok_or("two seats")?;
+    let first = seats.first_mut().ok_or("two seats")?;
+    let sender = first.make_chan(rt, &hub, 0)?.sender();
     let mut counts = Counts::default();
-    assert_eq!(rt; second.look(hub, Port(1)), Some(counts));
-    assert_eq!(rt; first.close(rt, hub, &sender)?, told(0, What::Done));
-    first.meet(hub, second);
+    assert_eq!(rt; second.look(&hub, Port(1)), Some(counts));
+    assert_eq!(rt; first.close(rt, &hub, &sender)?, told(0, What::Done));
+    first.meet(&hub, &mut second);
     counts.closed = true;
-    assert_eq!(rt; second.look(hub, Port(1)), Some(counts));
+    assert_eq!(rt; second.look(&hub, Port(1)), Some(counts));
     let again = told(1, What::Fault(Fault::AlreadyClosed));
-    assert_eq!(rt; second.close(rt, hub, &sender)?, again);
+    assert_eq!(rt; second.close(rt, &hub, &sender)?, again);
     Ok(())
 }
 
 // The only process waits for ever: its own step tells it so.
 #[test]
 fn lone_process_stalls(rt: HostRuntime) -> Result<(), Fail> {
-    let (blank, seats) = Blank::open(rt.alloc(), 1, 2)?;
-    stall_alone::<Brand, _>(&rt, blank, seats)
+    tell(&rt, 1, 2, Story::StallingAlone)
+}
+
+pub fn stall_alone<K: HubName, R: Runtime>(opened: Opened<K, R>) -> Result<(), Fail> {
+    let Opened { rt, hub, mut seats } = opened;
+    let mut held = seats.pop().ok_or("one seat")?;
+    stall_and_leave(rt, &hub, &mut held)?;
+    let mut seat = held.into_seat();
+    assert_eq!(rt; hub.exit(rt, &mut seat), Err(Fault::Gone));
+    Ok(())
 }
 
 /// Twice its call stalls; then the journal is full, and it exits.
@@ -210,29 +180,19 @@ fn stall_and_leave<K: HubName, R: Wait + Abort>(
     Ok(())
 }
 
-fn stall_alone<K: HubName, R: Wait + Abort>(
-    rt: &R,
-    blank: Blank,
-    seats: Vec<Seat>,
-) -> Result<(), Fail>
-    requires named { blank.name ≡ K.name }
-    requires seats { AreSeats K.name 0 seats.items }
-    requires count { vec_len seats ≡ 1 }
-{
-    let mut seats = seats;
-    let hub = blank.named::<K>();
-    let mut seat = Held::<K>::of(seats.pop().ok_or("one seat")?);
-    stall_and_leave(rt, &hub, &mut seat)?;
-    let mut seat = seat.into_seat();
-    assert_eq!(rt; hub.exit(rt, &mut seat), Err(Fault::Gone));
-    Ok(())
-}
-
-// The select of two cases and a default: the default is taken, then the case that can proceed.
+// The select of two cases and a default: the case that can proceed is taken, then the default.
 #[test]
 fn select_takes_its_default(rt: HostRuntime) -> Result<(), Fail> {
-    let (blank, seats) = Blank::open(rt.alloc(), 1, 100)?;
-    select_alone::<Brand, _>(&rt, rt.alloc(), blank, seats)
+    tell(&rt, 1, 100, Story::Selecting)
+}
+
+pub fn select<K: HubName, R: Runtime>(opened: Opened<K, R>) -> Result<(), Fail> {
+    let Opened { rt, hub, mut seats } = opened;
+    let seat = seats.first_mut().ok_or("one seat")?;
+    select_twice(rt, &hub, seat)?;
+    assert_eq!(rt; seat.exit(rt, &hub)?, told(0, What::Done));
+    assert_eq!(rt; hub.finish_held(seats).entries().len(), 5);
+    Ok(())
 }
 
 /// Of two cases the second can proceed, once.
@@ -241,36 +201,17 @@ fn select_twice<K: HubName, R: Wait + Abort>(
     hub: &LiveHub<K>,
     seat: &mut Held<K>,
 ) -> Result<(), Fail> {
-    let (one, two) = (Chan::of(Port(1)), Chan::of(Port(2)));
-    seat.make(rt, hub, 0)?;
-    seat.make(rt, hub, 1)?;
+    let receiver = seat.make_chan(rt, hub, 0)?.receiver();
+    let sender = seat.make_chan(rt, hub, 1)?.sender();
     let sent = What::Fired {
         case: 1,
         outcome: Outcome::Sent,
     };
     for what in [sent, What::Default] {
         let mut cases = Cases::new();
-        cases.push(one.receiver().recv());
-        cases.push(two.sender().send(Value::num(5)));
+        cases.push(receiver.recv());
+        cases.push(sender.send(Value::num(5)));
         assert_eq!(rt; seat.call(rt, hub, cases, true, 0)?, told(0, what));
     }
-    assert_eq!(rt; seat.exit(rt, hub)?, told(0, What::Done));
-    Ok(())
-}
-
-fn select_alone<K: HubName, R: Wait + Abort>(
-    rt: &R,
-    alloc: Global,
-    blank: Blank,
-    seats: Vec<Seat>,
-) -> Result<(), Fail>
-    requires named { blank.name ≡ K.name }
-    requires seats { All (λ s. s.hub ≡ K.name) seats.items }
-{
-    let hub = blank.named::<K>();
-    let mut held = hold_all::<K>(alloc, seats)?;
-    let seat = held.first_mut().ok_or("one seat")?;
-    select_twice(rt, &hub, seat)?;
-    assert_eq!(rt; hub.finish_held(held).entries().len(), 5);
     Ok(())
 }

@@ -1,14 +1,12 @@
 //! What stays where memory is refused. The gate has memory; `tools/live_refusals.sh` runs these tests with each of
 //! their allocations refused that comes after `begin`.
 
-ghost use Rattle.std.specs.Prelude.{◌≡◌, All};
-
-use super::{fired, told};
-use hub_base::{Case, Cases, CasesExt, Counts, Event, Fault, Outcome, Port, Value, What};
+use super::opened::{Opened, Runtime, Story, tell};
+use super::{ONE_WAITS, fired, got, told};
+use hub_base::{Case, Cases, CasesExt, Event, Fault, Outcome, Port, Value, What};
 use hub_core::OpenFault;
-use hub_live::{Blank, Chan, Held, HubName, LiveHub, Seat, hold_all};
+use hub_live::{Blank, Chan, Held, HubName, LiveHub};
 use std::alloc::Global;
-use std::marker::Brand;
 use std::process::Abort;
 use std::sync::Wait;
 use std::test::*;
@@ -35,8 +33,15 @@ fn opening_is_whole_or_refused(rt: HostRuntime) -> Result<(), Fail> {
 // A step that was refused memory left no entry, and is answered where it is made again.
 #[test]
 fn refused_step_is_made_again(rt: HostRuntime) -> Result<(), Fail> {
-    let (blank, seats) = Blank::open(rt.alloc(), 1, 100)?;
-    make_again::<Brand, _>(&rt, rt.alloc(), blank, seats)
+    tell(&rt, 1, 100, Story::MakingAgain)
+}
+
+pub fn make_again<K: HubName, R: Runtime>(opened: Opened<K, R>) -> Result<(), Fail> {
+    let Opened { rt, hub, mut seats } = opened;
+    begin(rt.alloc())?;
+    pass_again(rt, &hub, seats.first_mut().ok_or("one seat")?)?;
+    assert_eq!(rt; hub.finish_held(seats).entries().len(), 41);
+    Ok(())
 }
 
 /// Makes a call and, where memory was refused, the same once more.
@@ -65,48 +70,33 @@ fn pass_again<K: HubName, R: Wait + Abort>(
     assert_eq!(rt; made, told(0, What::Made(Port(1))));
     let chan = Chan::of(Port(1));
     for number in 0..20 {
-        let value = Value::num(number);
-        let sent = call_again(rt, hub, seat, chan.sender().send(value))?;
+        let send = chan.sender().send(Value::num(number));
+        let sent = call_again(rt, hub, seat, send)?;
         assert_eq!(rt; sent, fired(0, Outcome::Sent));
-        let got = call_again(rt, hub, seat, chan.receiver().recv())?;
-        assert_eq!(rt; got, fired(0, Outcome::Got(value)));
+        let received = call_again(rt, hub, seat, chan.receiver().recv())?;
+        assert_eq!(rt; received, got(0, number));
     }
-    Ok(())
-}
-
-fn make_again<K: HubName, R: Wait + Abort>(
-    rt: &R,
-    alloc: Global,
-    blank: Blank,
-    seats: Vec<Seat>,
-) -> Result<(), Fail>
-    requires named { blank.name ≡ K.name }
-    requires seats { All (λ s. s.hub ≡ K.name) seats.items }
-{
-    let hub = blank.named::<K>();
-    let mut held = hold_all::<K>(alloc, seats)?;
-    let seat = held.first_mut().ok_or("one seat")?;
-    begin(alloc)?;
-    pass_again(rt, &hub, seat)?;
-    assert_eq!(rt; hub.finish_held(held).entries().len(), 41);
     Ok(())
 }
 
 // Looks, meetings, exits and the end take no memory.
 #[test]
 fn last_calls_take_no_memory(rt: HostRuntime) -> Result<(), Fail> {
-    let (blank, seats) = Blank::open(rt.alloc(), 2, 100)?;
-    end_without_memory::<Brand, _>(&rt, rt.alloc(), blank, seats)
+    tell(&rt, 2, 100, Story::Ending)
 }
 
-/// Leaves one value in the buffer of port 1.
-fn send_one<K: HubName, R: Wait>(
-    rt: &R,
-    hub: &LiveHub<K>,
-    seat: &mut Held<K>,
-) -> Result<(), Fault> {
-    let sender = seat.make_chan(rt, hub, 1)?.sender();
-    seat.send(rt, hub, &sender, Value::num(4))?;
+pub fn end<K: HubName, R: Runtime>(opened: Opened<K, R>) -> Result<(), Fail> {
+    let Opened { rt, hub, mut seats } = opened;
+    let mut second = seats.pop().ok_or("two seats")?;
+    let first = seats.first_mut().ok_or("two seats")?;
+    let sender = first.make_chan(rt, &hub, 1)?.sender();
+    first.send(rt, &hub, &sender, Value::num(4))?;
+    begin(rt.alloc())?;
+    // It shows the script that memory is refused by now.
+    let _refused: Result<Vec<u8>, _> = Vec::with_capacity(rt.alloc(), 1);
+    look_and_leave(rt, &hub, first, &mut second)?;
+    seats.push(second)?;
+    assert_eq!(rt; hub.finish_held(seats).entries().len(), 4);
     Ok(())
 }
 
@@ -117,39 +107,10 @@ fn look_and_leave<K: HubName, R: Wait + Abort>(
     first: &mut Held<K>,
     second: &mut Held<K>,
 ) -> Result<(), Fail> {
-    let counts = Counts {
-        len: 1,
-        sent: 1,
-        received: 0,
-        closed: false,
-    };
-    assert_eq!(rt; first.look(hub, Port(1)), Some(counts));
+    assert_eq!(rt; first.look(hub, Port(1)), Some(ONE_WAITS));
     first.meet(hub, second);
-    assert_eq!(rt; second.look(hub, Port(1)), Some(counts));
+    assert_eq!(rt; second.look(hub, Port(1)), Some(ONE_WAITS));
     assert_eq!(rt; first.exit(rt, hub)?, told(0, What::Done));
     assert_eq!(rt; second.exit(rt, hub)?, told(1, What::Done));
-    Ok(())
-}
-
-fn end_without_memory<K: HubName, R: Wait + Abort>(
-    rt: &R,
-    alloc: Global,
-    blank: Blank,
-    seats: Vec<Seat>,
-) -> Result<(), Fail>
-    requires named { blank.name ≡ K.name }
-    requires seats { All (λ s. s.hub ≡ K.name) seats.items }
-{
-    let hub = blank.named::<K>();
-    let mut held = hold_all::<K>(alloc, seats)?;
-    let mut second = held.pop().ok_or("two seats")?;
-    let first = held.first_mut().ok_or("two seats")?;
-    send_one(rt, &hub, first)?;
-    begin(alloc)?;
-    // It shows the script that memory is refused by now.
-    let _refused: Result<Vec<u8>, _> = Vec::with_capacity(alloc, 1);
-    look_and_leave(rt, &hub, first, &mut second)?;
-    held.push(second)?;
-    assert_eq!(rt; hub.finish_held(held).entries().len(), 4);
     Ok(())
 }

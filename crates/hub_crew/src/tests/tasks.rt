@@ -7,43 +7,28 @@ use hub_base::{Event, Fault, Pid, Port, Value};
 use hub_live::{Chan, Held, HubName, LiveHub};
 use std::sync::Wait;
 
-/// Process 0 sends 9 on port 1, every other receives from it.
+/// One call of each process.
 #[derive(Clone, Copy)]
-pub struct Pass;
+pub enum OneCall {
+    /// Process 0 sends 9 on port 1, every other receives from it.
+    Pass,
+    /// Each receives from the nil port, so that all stall.
+    Stall,
+    /// Each closes port 1.
+    Close,
+}
 
-impl<K: HubName, R: Wait> Task<K, R> for Pass {
+impl<K: HubName, R: Wait> Task<K, R> for OneCall {
     type Report = Result<Event, Fault>;
 
     fn perform(self, rt: &R, hub: &LiveHub<K>, seat: &mut Held<K>) -> Result<Event, Fault> {
-        let chan = Chan::of(Port(1));
-        match seat.pid() {
-            Pid(0) => seat.send(rt, hub, &chan.sender(), Value::num(9)),
-            _ => seat.recv(rt, hub, &chan.receiver()),
+        let (nil, chan) = (Chan::of(Port(0)), Chan::of(Port(1)));
+        match (self, seat.pid()) {
+            (OneCall::Pass, Pid(0)) => seat.send(rt, hub, &chan.sender(), Value::num(9)),
+            (OneCall::Pass, _) => seat.recv(rt, hub, &chan.receiver()),
+            (OneCall::Stall, _) => seat.recv(rt, hub, &nil.receiver()),
+            (OneCall::Close, _) => seat.close(rt, hub, &chan.sender()),
         }
-    }
-}
-
-/// Each receives from the nil port, so that all stall.
-#[derive(Clone, Copy)]
-pub struct Stall;
-
-impl<K: HubName, R: Wait> Task<K, R> for Stall {
-    type Report = Result<Event, Fault>;
-
-    fn perform(self, rt: &R, hub: &LiveHub<K>, seat: &mut Held<K>) -> Result<Event, Fault> {
-        seat.recv(rt, hub, &Chan::of(Port(0)).receiver())
-    }
-}
-
-/// Each closes port 1.
-#[derive(Clone, Copy)]
-pub struct Close;
-
-impl<K: HubName, R: Wait> Task<K, R> for Close {
-    type Report = Result<Event, Fault>;
-
-    fn perform(self, rt: &R, hub: &LiveHub<K>, seat: &mut Held<K>) -> Result<Event, Fault> {
-        seat.close(rt, hub, &Chan::of(Port(1)).sender())
     }
 }
 

@@ -2,8 +2,9 @@
 # program.sh [PROGRAM]: runs the built program on the examples, journals and scenarios; on the rows of tests/; on random
 # journals beside the events that model.py makes of them; on the longest journal and one entry more; and with each of its
 # allocations refused. Runs a hub's tests and the live hub's, which `./test` has built, with theirs refused; compares
-# model.py, CLAIMS and the quotations of README with what they speak of; looks for limits that are written as numbers; and
-# tries a close by an end that receives. The last line counts: 'N passed, M failed'.
+# model.py, CLAIMS and the quotations of README with what they speak of; looks for limits that are written as numbers, and
+# for definitions and proofs that are too wide; and tries a close by an end that receives. The last line counts:
+# 'N passed, M failed'.
 set -u
 root=$(cd "$(dirname "$0")/.." && pwd)
 program=${1:-$root/crates/chanhub/out/chanhub}
@@ -157,6 +158,9 @@ count $? "docs/CLAIMS.md beside the sources"
 
 "$root/tools/check_limits.py"
 count $? "limits that are written as numbers"
+
+"$root/tools/check_width.py"
+count $? "lines of definitions and proofs that are too wide"
 
 "$root/tools/check_quotes.py"
 count $? "what README.md quotes"

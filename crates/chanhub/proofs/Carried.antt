@@ -13,11 +13,13 @@ use Rattle.hub_scenario.specs.Scenario.{ScenarioData, reading, run_head}
 use Rattle.chanhub.specs.declared.outcome.Outcome.{Outcome}
 use Rattle.chanhub.specs.declared.outcome.Outcome.TheVariants.{Done, Stalled}
 use Rattle.chanhub.specs.declared.refusal.Refusal.{Refusal}
-use Rattle.chanhub.specs.Promises.{HasDone, HasBegun, HasRefused, IsRefused, TellsStalls, printed, TellsComparison, TakesScenario, RunsScenario, RefusesReplay, RefusesFiles, RefusesScenario}
+use Rattle.chanhub.specs.Promises.{HasDone, HasBegun, HasRefused, IsRefused, TellsStalls, printed, TellsComparison}
+use Rattle.chanhub.specs.Promises.{TakesScenario, RunsScenario, RefusesReplay, RefusesFiles, RefusesScenario}
 use Rattle.chanhub.specs.Refusals.{of_arguments}
 
 -- a refusal whose failed write says more
-pub refused-more : (why : Refusal) {unchanged failed begun more : Type 0} → (begun → more) → IsRefused why unchanged failed begun → IsRefused why unchanged failed more
+pub refused-more : (why : Refusal) {unchanged failed begun more : Type 0} → (begun → more) → IsRefused why unchanged failed begun
+    → IsRefused why unchanged failed more
 refused-more why says r = record { unwritten = r.unwritten; write = λ is. let (failed, begun) = r.write is in (failed, says begun) }
 
 -- a run has one of the two outcomes
@@ -26,9 +28,10 @@ some-outcome zero = (Done, refl)
 some-outcome (suc n) = (Stalled, omega arith)
 
 -- a run, and what holds of the text that tells it
-pub ran : (bytes : List ℕ) (journal : Bool) (scenario : ScenarioData) (report : Report) → reading bytes ≡ Ok scenario → report.journal.head ≡ run_head scenario
-    → IsLegal report.journal.head report.journal.entries → AllFollow scenario report.journal.entries → IsReportOf report.journal report
-    → (outcome : Outcome) (Writes : List ℕ → Type 0) → TellsStalls outcome report.stalled → Writes (printed journal report) → RunsScenario bytes journal outcome Writes
+pub ran : (bytes : List ℕ) (journal : Bool) (scenario : ScenarioData) (report : Report) → reading bytes ≡ Ok scenario
+    → report.journal.head ≡ run_head scenario → IsLegal report.journal.head report.journal.entries → AllFollow scenario report.journal.entries
+    → IsReportOf report.journal report → (outcome : Outcome) (Writes : List ℕ → Type 0) → TellsStalls outcome report.stalled
+    → Writes (printed journal report) → RunsScenario bytes journal outcome Writes
 ran bytes journal s r said head legal follows told outcome Writes stalls written =
     record { scenario = s; report = r; said = said; head = head; legal = legal; follows = follows; told = told; stalls = stalls; written = written }
 

@@ -38,8 +38,8 @@ but_other P fault.Read write is = cc
 but_other P fault.Write write is = write refl
 but_other P fault.NoMemory write is = cc
 
-pub found : (unread left : Option (List ℕ)) (failed : Type 0) (f : ReplayFault) → ((at : TextFault) → f ≡ fault.Text at → ReadsFaulty unread left at) → (f ≡ fault.Read → failed) →
-    RefusesReplay unread left failed (of_replay f)
+pub found : (unread left : Option (List ℕ)) (failed : Type 0) (f : ReplayFault) → ((at : TextFault) → f ≡ fault.Text at → ReadsFaulty unread left at)
+    → (f ≡ fault.Read → failed) → RefusesReplay unread left failed (of_replay f)
 found unread left failed (fault.Text at) text read = text at refl
 found unread left failed fault.Read text read = read refl
 found unread left failed fault.Write text read = tt

@@ -1,5 +1,6 @@
 -- What an entry spells is read as that entry.
-use Rattle.std.proofs.Common.{◌≡◌, ℕ, zero, suc, ◌≤◌, ◌<◌, ◌^◌, Bool, true, false, cond, List, [], ◌∷◌, ◌++◌, length, map, refl, ap, ◌∙◌, Ok, Err, arith, codes}
+use Rattle.std.proofs.Common.{◌≡◌, ℕ, zero, suc, ◌≤◌, ◌<◌, ◌^◌, Bool, true, false, cond, List, []}
+use Rattle.std.proofs.Common.{◌∷◌, ◌++◌, length, map, refl, ap, ◌∙◌, Ok, Err, arith, codes}
 use Rattle.std.proofs.lemmas.Grind.{common_steps}
 use Rattle.std.proofs.lemmas.List.{length-map}
 use Rattle.std.specs.Prelude.{decimal, nat_lt}
@@ -12,7 +13,9 @@ use Rattle.hub_base.specs.declared.entry.Step.TheVariants.{Make, Call, Close, Ex
 use Rattle.hub_base.specs.declared.limits.TheConstants.{CASE_PLACES, GREATEST_PID, GREATEST_PORT, GREATEST_CAP, GREATEST_VALUE, GREATEST_WORD}
 use Rattle.hub_base.specs.declared.text.faults.Kind.TheVariants.{BadStep}
 use Rattle.hub_base.specs.Lines.Draft.{Sends, Receives}
-use Rattle.hub_base.specs.Lines.{numeral, ◌>>=◌, Draft, read_select, read_fields, choose, step_fields, call_fields, select_fields, default_field, case_field, case_of, cases_of, draft_of, drafts_of, send_draft, recv_draft, spelled, ends_default, last_default, same_text, by, call}
+use Rattle.hub_base.specs.Lines.{numeral, ◌>>=◌, Draft, read_select, read_fields, choose, step_fields, call_fields}
+use Rattle.hub_base.specs.Lines.{select_fields, default_field, case_field, case_of, cases_of, draft_of, drafts_of}
+use Rattle.hub_base.specs.Lines.{send_draft, recv_draft, spelled, ends_default, last_default, same_text, by, call}
 use Rattle.hub_base.specs.Text.{Fits, CaseFits, CallFits, StepFits, fields_of}
 use Rattle.hub_base.proofs.Takes.{send-field}
 use Rattle.hub_base.proofs.Gathered.{ends-step}
@@ -31,7 +34,8 @@ pub draft-again : (c : Case) → CaseFits c → draft_of (case_field c) ≡ Ok (
 draft-again (Send p v) fits =
     let port = decimal-lacks-colon p.0 (below p.0 GREATEST_PORT fits.0 (omega arith)) in
     let value = decimal-lacks-colon v.0 (below v.0 GREATEST_VALUE fits.1 (omega arith)) in
-    ap draft_of (send-field p.0 v.0) ∙ ap send_draft (pieces-more 58 (decimal p.0) (decimal v.0) port ∙ ap (λ ps. decimal p.0 ∷ ps) (pieces-last 58 (decimal v.0) value))
+    ap draft_of (send-field p.0 v.0)
+    ∙ ap send_draft (pieces-more 58 (decimal p.0) (decimal v.0) port ∙ ap (λ ps. decimal p.0 ∷ ps) (pieces-last 58 (decimal v.0) value))
 draft-again (Recv p) fits =
     ap recv_draft (pieces-last 58 (decimal p.0) (decimal-lacks-colon p.0 (below p.0 GREATEST_PORT fits (omega arith))))
 
@@ -70,26 +74,30 @@ few : (n : ℕ) → n ≤ CASE_PLACES → nat_lt CASE_PLACES n ≡ false
 few n h = grind (arith, common_steps)
 
 -- a select is read as it is spelled
-pub select-again : (pid : ℕ) (cs : List Case) (d : Bool) (w : ℕ) → pid ≤ GREATEST_PID → CallFits cs w → spelled cs d w ≡ Ok (call cs d w) → call_fields cs d w ≡ select_fields cs d w →
-    read_fields (decimal pid ∷ call_fields cs d w) ≡ Ok (by pid (call cs d w))
+pub select-again : (pid : ℕ) (cs : List Case) (d : Bool) (w : ℕ) → pid ≤ GREATEST_PID → CallFits cs w → spelled cs d w ≡ Ok (call cs d w)
+    → call_fields cs d w ≡ select_fields cs d w → read_fields (decimal pid ∷ call_fields cs d w) ≡ Ok (by pid (call cs d w))
 select-again pid cs d w small fits whole fields =
     let ends = ends-again cs d in
-    let count : nat_lt CASE_PLACES (length (map draft_for cs)) ≡ false = (let n = length-map cs draft_for in few (length (map draft_for cs)) (omega (arith, n, fits.few))) in
+    let count : nat_lt CASE_PLACES (length (map draft_for cs)) ≡ false =
+    (let n = length-map cs draft_for in few (length (map draft_for cs)) (omega (arith, n, fits.few))) in
     ap (λ gs. read_fields (decimal pid ∷ gs)) fields
     ∙ ap (read_select (decimal pid) (decimal w)) ends
     ∙ ap (λ r. r >>= λ ds. cond (nat_lt CASE_PLACES (length ds)) (Err BadStep) (choose (decimal pid) (decimal w) (cases_of ds) d)) (drafts-again cs fits.each)
     ∙ ap (λ b. cond b (Err BadStep) (choose (decimal pid) (decimal w) (cases_of (map draft_for cs)) d)) count
     ∙ ap (λ r. choose (decimal pid) (decimal w) r d) (cases-again cs fits.each)
-    ∙ ap (λ r. r >>= λ pid. numeral GREATEST_WORD (decimal w) >>= λ word. spelled cs d word >>= λ step. Ok (by pid step)) (numeral-again GREATEST_PID pid (omega arith) small)
+    ∙ ap (λ r. r >>= λ pid. numeral GREATEST_WORD (decimal w) >>= λ word. spelled cs d word >>= λ step. Ok (by pid step))
+    (numeral-again GREATEST_PID pid (omega arith) small)
     ∙ ap (λ r. r >>= λ word. spelled cs d word >>= λ step. Ok (by pid step)) (numeral-again GREATEST_WORD w (omega arith) fits.word_fits)
     ∙ ap (λ r. r >>= λ step. Ok (by pid step)) whole
 
 -- a call is read as it is spelled, in its short form or as a select
-pub call-again : (pid : ℕ) (cs : List Case) (d : Bool) (w : ℕ) → pid ≤ GREATEST_PID → CallFits cs w → read_fields (decimal pid ∷ call_fields cs d w) ≡ Ok (by pid (call cs d w))
+pub call-again : (pid : ℕ) (cs : List Case) (d : Bool) (w : ℕ) → pid ≤ GREATEST_PID → CallFits cs w
+    → read_fields (decimal pid ∷ call_fields cs d w) ≡ Ok (by pid (call cs d w))
 call-again pid [] d w small fits = select-again pid [] d w small fits refl refl
 call-again pid (Send p v ∷ []) true w small fits = select-again pid (Send p v ∷ []) true w small fits refl refl
 call-again pid (Send p v ∷ []) false zero small fits =
-    ap (λ r. r >>= λ pid. case_of (Sends (decimal p.0) (decimal v.0)) >>= λ c. Ok (by pid (call (c ∷ []) false 0))) (numeral-again GREATEST_PID pid (omega arith) small)
+    ap (λ r. r >>= λ pid. case_of (Sends (decimal p.0) (decimal v.0)) >>= λ c. Ok (by pid (call (c ∷ []) false 0)))
+    (numeral-again GREATEST_PID pid (omega arith) small)
     ∙ ap (λ r. r >>= λ c. Ok (by pid (call (c ∷ []) false 0))) (case-again (Send p v) fits.each.0)
 call-again pid (Send p v ∷ []) false (suc w) small fits = select-again pid (Send p v ∷ []) false (suc w) small fits refl refl
 call-again pid (Recv p ∷ []) true w small fits = select-again pid (Recv p ∷ []) true w small fits refl refl
@@ -106,7 +114,8 @@ step-again pid (Make cap) small fits =
     ∙ ap (λ r. r >>= λ cap. Ok (by pid (Make cap))) (numeral-again GREATEST_CAP cap (omega arith) fits)
 step-again pid (Call cases d w) small fits = call-again pid cases.items d w small fits
 step-again pid (Close p) small fits =
-    ap (λ r. r >>= λ pid. numeral GREATEST_PORT (decimal p.0) >>= λ p. Ok (by pid (Close (record { 0 = p })))) (numeral-again GREATEST_PID pid (omega arith) small)
+    ap (λ r. r >>= λ pid. numeral GREATEST_PORT (decimal p.0) >>= λ p. Ok (by pid (Close (record { 0 = p }))))
+    (numeral-again GREATEST_PID pid (omega arith) small)
     ∙ ap (λ r. r >>= λ p. Ok (by pid (Close (record { 0 = p })))) (numeral-again GREATEST_PORT p.0 (omega arith) fits)
 step-again pid Exit small fits = ap (λ r. r >>= λ pid. Ok (by pid Exit)) (numeral-again GREATEST_PID pid (omega arith) small)
 

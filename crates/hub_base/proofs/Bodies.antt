@@ -1,5 +1,6 @@
 -- A line of an entry holds no space but between its fields, and no newline but at its end.
-use Rattle.std.proofs.Common.{◌≡◌, ℕ, zero, suc, ◌≤◌, ◌<◌, ◌^◌, Bool, true, false, List, [], ◌∷◌, ◌++◌, map, refl, ap, ◌∙◌, Ok, arith, codes, not, ◌==◌, ◌&&◌, append_assoc}
+use Rattle.std.proofs.Common.{◌≡◌, ℕ, zero, suc, ◌≤◌, ◌<◌, ◌^◌, Bool, true, false, List, [], ◌∷◌, ◌++◌}
+use Rattle.std.proofs.Common.{map, refl, ap, ◌∙◌, Ok, arith, codes, not, ◌==◌, ◌&&◌, append_assoc}
 use Rattle.std.proofs.lemmas.Grind.{common_steps}
 use Rattle.std.specs.Prelude.{decimal, nat_le}
 use Rattle.std.specs.List.{AllByRecursion, list_all, flat_map}
@@ -52,12 +53,14 @@ default-lacks m false low = refl
 
 cases-lack : (m : ℕ) (cs : List Case) (d : Bool) → m < 48 → AllByRecursion CaseFits cs → all_lack m (map case_field cs ++ default_field d) ≡ true
 cases-lack m [] d low fits = default-lacks m d low
-cases-lack m (c ∷ cs) d low fits = both (lacks m (case_field c)) (all_lack m (map case_field cs ++ default_field d)) (case-lacks m c low fits.0) (cases-lack m cs d low fits.1)
+cases-lack m (c ∷ cs) d low fits =
+    both (lacks m (case_field c)) (all_lack m (map case_field cs ++ default_field d)) (case-lacks m c low fits.0) (cases-lack m cs d low fits.1)
 
 select-lacks : (m : ℕ) (cs : List Case) (d : Bool) (w : ℕ) → m < 48 → CallFits cs w → all_lack m (select_fields cs d w) ≡ true
 select-lacks m cs d w low fits =
     both (lacks m (codes "select")) (all_lack m (decimal w ∷ map case_field cs ++ default_field d)) (lacks-high m (codes "select") low refl)
-    (both (lacks m (decimal w)) (all_lack m (map case_field cs ++ default_field d)) (decimal-lacks m w low (small w GREATEST_WORD fits.word_fits (omega arith))) (cases-lack m cs d low fits.each))
+    (both (lacks m (decimal w)) (all_lack m (map case_field cs ++ default_field d))
+    (decimal-lacks m w low (small w GREATEST_WORD fits.word_fits (omega arith))) (cases-lack m cs d low fits.each))
 
 one-lacks : (m most n : ℕ) → m < 48 → most < 2 ^ 64 → n ≤ most → all_lack m (decimal n ∷ []) ≡ true
 one-lacks m most n low wide fits = both (lacks m (decimal n)) true (decimal-lacks m n low (small n most fits wide)) refl
@@ -70,10 +73,12 @@ call-lacks m [] d w low fits = select-lacks m [] d w low fits
 call-lacks m (Send p v ∷ []) true w low fits = select-lacks m (Send p v ∷ []) true w low fits
 call-lacks m (Send p v ∷ []) false zero low fits =
     named m (codes "send") (decimal p.0 ∷ decimal v.0 ∷ []) low refl
-    (both (lacks m (decimal p.0)) (all_lack m (decimal v.0 ∷ [])) (decimal-lacks m p.0 low (small p.0 GREATEST_PORT fits.each.0.0 (omega arith))) (one-lacks m GREATEST_VALUE v.0 low (omega arith) fits.each.0.1))
+    (both (lacks m (decimal p.0)) (all_lack m (decimal v.0 ∷ [])) (decimal-lacks m p.0 low (small p.0 GREATEST_PORT fits.each.0.0 (omega arith)))
+    (one-lacks m GREATEST_VALUE v.0 low (omega arith) fits.each.0.1))
 call-lacks m (Send p v ∷ []) false (suc w) low fits = select-lacks m (Send p v ∷ []) false (suc w) low fits
 call-lacks m (Recv p ∷ []) true w low fits = select-lacks m (Recv p ∷ []) true w low fits
-call-lacks m (Recv p ∷ []) false zero low fits = named m (codes "recv") (decimal p.0 ∷ []) low refl (one-lacks m GREATEST_PORT p.0 low (omega arith) fits.each.0)
+call-lacks m (Recv p ∷ []) false zero low fits =
+    named m (codes "recv") (decimal p.0 ∷ []) low refl (one-lacks m GREATEST_PORT p.0 low (omega arith) fits.each.0)
 call-lacks m (Recv p ∷ []) false (suc w) low fits = select-lacks m (Recv p ∷ []) false (suc w) low fits
 call-lacks m (Send p v ∷ c ∷ cs) d w low fits = select-lacks m (Send p v ∷ c ∷ cs) d w low fits
 call-lacks m (Recv p ∷ c ∷ cs) d w low fits = select-lacks m (Recv p ∷ c ∷ cs) d w low fits
@@ -86,7 +91,8 @@ step-lacks m Exit low fits = named m (codes "exit") [] low refl refl
 
 -- no field of an entry holds such a mark
 pub fields-lack : (m : ℕ) (e : Entry) → m < 48 → Fits e → all_lack m (fields_of e) ≡ true
-fields-lack m e low fits = both (lacks m (decimal e.pid.0)) (all_lack m (step_fields e.step)) (decimal-lacks m e.pid.0 low (small e.pid.0 GREATEST_PID fits.pid (omega arith))) (step-lacks m e.step low fits.step)
+fields-lack m e low fits = both (lacks m (decimal e.pid.0)) (all_lack m (step_fields e.step))
+    (decimal-lacks m e.pid.0 low (small e.pid.0 GREATEST_PID fits.pid (omega arith))) (step-lacks m e.step low fits.step)
 
 -- a line without its newline is read as its entry
 pub body-again : (e : Entry) → Fits e → read_fields (pieces 32 (body e)) ≡ Ok e
@@ -113,4 +119,5 @@ rows-entry e rest fits =
 pub rows-entries : (es : List Entry) (rest : List ℕ) → AllByRecursion Fits es → rows (flat_map line es ++ rest) ≡ map row_of es ++ rows rest
 rows-entries [] rest fits = refl
 rows-entries (e ∷ es) rest fits =
-    ap rows (append_assoc (line e) (flat_map line es) rest) ∙ rows-entry e (flat_map line es ++ rest) fits.0 ∙ ap (λ rs. row_of e ∷ rs) (rows-entries es rest fits.1)
+    ap rows (append_assoc (line e) (flat_map line es) rest) ∙ rows-entry e (flat_map line es ++ rest) fits.0
+    ∙ ap (λ rs. row_of e ∷ rs) (rows-entries es rest fits.1)

@@ -1,5 +1,6 @@
 -- No event's line begins another's: a line is cut into its fields, and these are read as its event.
-use Rattle.std.proofs.Common.{◌≡◌, ℕ, ◌≤◌, ◌<◌, ◌^◌, ◌==◌, Bool, true, false, List, [], ◌∷◌, ◌++◌, length, refl, ap, ◌∙◌, sym, Option, Some, None, arith, codes, append_assoc, append-nil, ◌&&◌, length-append}
+use Rattle.std.proofs.Common.{◌≡◌, ℕ, ◌≤◌, ◌<◌, ◌^◌, ◌==◌, Bool, true, false, List, [], ◌∷◌, ◌++◌, length, refl, ap, ◌∙◌}
+use Rattle.std.proofs.Common.{sym, Option, Some, None, arith, codes, append_assoc, append-nil, ◌&&◌, length-append}
 use Rattle.std.specs.Prelude.{decimal, if◌then◌else◌}
 use Rattle.std.specs.List.{AllByRecursion, flat_map, join_with_byte}
 use Rattle.std.specs.Option.{option_map}
@@ -99,7 +100,8 @@ word-lacks m word h = both (lacks m word) true h refl
 
 what-lacks : (m : ℕ) (w : What) → m < 48 → WhatFits w → all_lack m (what_fields w) ≡ true
 what-lacks m (what.Made p) low fits =
-    both (lacks m (codes "made")) (all_lack m (decimal p.0 ∷ [])) (lacks-high m (codes "made") low refl) (one-lacks m p.0 low (small p.0 GREATEST_PORT fits (omega arith)))
+    both (lacks m (codes "made")) (all_lack m (decimal p.0 ∷ [])) (lacks-high m (codes "made") low refl)
+    (one-lacks m p.0 low (small p.0 GREATEST_PORT fits (omega arith)))
 what-lacks m (what.Fired i o) low fits =
     both (lacks m (codes "case")) (all_lack m (decimal i ∷ outcome_fields o)) (lacks-high m (codes "case") low refl)
     (both (lacks m (decimal i)) (all_lack m (outcome_fields o)) (decimal-lacks m i low (small i 255 fits.0 (omega arith))) (outcome-lacks m o low fits.1))
@@ -113,7 +115,8 @@ what-lacks m (what.Fault f) low fits =
 
 fields-lack : (m : ℕ) (e : Event) → m < 48 → EventFits e → all_lack m (decimal e.pid.0 ∷ what_fields e.what) ≡ true
 fields-lack m e low fits =
-    both (lacks m (decimal e.pid.0)) (all_lack m (what_fields e.what)) (decimal-lacks m e.pid.0 low (small e.pid.0 255 fits.pid (omega arith))) (what-lacks m e.what low fits.what)
+    both (lacks m (decimal e.pid.0)) (all_lack m (what_fields e.what)) (decimal-lacks m e.pid.0 low (small e.pid.0 255 fits.pid (omega arith)))
+    (what-lacks m e.what low fits.what)
 
 -- ---- fields are read as their event
 
@@ -166,7 +169,8 @@ read_what (word ∷ i ∷ ended ∷ more) = read_fired (number 255 i) (read_outc
 outcome-some : (word : List ℕ) (i : ℕ) (o : Outcome) → OutcomeFits o → i ≤ 255 → read_what (word ∷ decimal i ∷ outcome_fields o) ≡ Some (what.Fired i o)
 outcome-some word i Sent fits few = ap (λ n. read_fired n (Some Sent)) (number-again 255 i (omega arith) few)
 outcome-some word i (Got v) fits few =
-    ap (λ n. read_fired n (read_outcome (outcome_fields (Got v)))) (number-again 255 i (omega arith) few) ∙ ap (λ o. read_fired (Some i) o) (outcome-again (Got v) fits)
+    ap (λ n. read_fired n (read_outcome (outcome_fields (Got v)))) (number-again 255 i (omega arith) few)
+    ∙ ap (λ o. read_fired (Some i) o) (outcome-again (Got v) fits)
 outcome-some word i Drained fits few = ap (λ n. read_fired n (Some Drained)) (number-again 255 i (omega arith) few)
 outcome-some word i Closed fits few = ap (λ n. read_fired n (Some Closed)) (number-again 255 i (omega arith) few)
 
@@ -178,7 +182,8 @@ what-again what.Done fits = refl
 what-again what.Parked fits = refl
 what-again what.Stalled fits = refl
 what-again (what.Fault f) fits =
-    ap (option_map (λ n. what.Fault (read_fault n))) (number-again 255 (fault_number f) (omega arith) (fault-small f)) ∙ ap (λ f. Some (what.Fault f)) (fault-again f)
+    ap (option_map (λ n. what.Fault (read_fault n))) (number-again 255 (fault_number f) (omega arith) (fault-small f))
+    ∙ ap (λ f. Some (what.Fault f)) (fault-again f)
 
 abbrev read_told : Option ℕ → Option What → Option Event
 read_told None w = None
@@ -190,7 +195,8 @@ read_event (p ∷ fields) = read_told (number 255 p) (read_what fields)
 
 event-again : (e : Event) → EventFits e → read_event (decimal e.pid.0 ∷ what_fields e.what) ≡ Some e
 event-again e fits =
-    ap (λ p. read_told p (read_what (what_fields e.what))) (number-again 255 e.pid.0 (omega arith) fits.pid) ∙ ap (read_told (Some e.pid.0)) (what-again e.what fits.what)
+    ap (λ p. read_told p (read_what (what_fields e.what))) (number-again 255 e.pid.0 (omega arith) fits.pid)
+    ∙ ap (read_told (Some e.pid.0)) (what-again e.what fits.what)
 
 body-again : (e : Event) → EventFits e → read_event (pieces 32 (event_body e)) ≡ Some e
 body-again e fits = ap read_event (pieces-joined 32 (decimal e.pid.0) (what_fields e.what) (fields-lack 32 e (omega arith) fits)) ∙ event-again e fits
@@ -237,7 +243,8 @@ one-text [] fs rest fe ff h = (fs, refl, h)
 one-text (e ∷ es) [] rest fe ff h =
     absurd (some-line e (flat_map event_line es ++ rest) (sym h ∙ append_assoc (event_line e) (flat_map event_line es) rest))
 one-text (e ∷ es) (f ∷ fs) rest fe ff h =
-    let one = one-line e f (flat_map event_line es ++ rest) (flat_map event_line fs) fe.0 ff.0 (sym (append_assoc (event_line e) (flat_map event_line es) rest) ∙ h) in
+    let one = one-line e f (flat_map event_line es ++ rest) (flat_map event_line fs) fe.0 ff.0
+    (sym (append_assoc (event_line e) (flat_map event_line es) rest) ∙ h) in
     let more = one-text es fs rest fe.1 ff.1 one.1 in
     (more.0, ap (λ x. x ∷ es ++ more.0) one.0 ∙ ap (λ xs. f ∷ xs) more.1, more.2)
 

@@ -1,5 +1,6 @@
 -- What is left of a select while its case fields are read.
-use Rattle.std.proofs.Common.{◌≡◌, ℕ, ◌+◌, ◌≤◌, Bool, true, false, cond, List, [], ◌∷◌, ◌++◌, length, refl, ap, ◌∙◌, sym, Option, Some, None, Result, Ok, Err, arith, append_assoc, append-nil, ◌==◌}
+use Rattle.std.proofs.Common.{◌≡◌, ℕ, ◌+◌, ◌≤◌, Bool, true, false, cond, List, [], ◌∷◌, ◌++◌, length, refl, ap, ◌∙◌}
+use Rattle.std.proofs.Common.{sym, Option, Some, None, Result, Ok, Err, arith, append_assoc, append-nil, ◌==◌}
 use Rattle.std.proofs.lemmas.Grind.{common_steps}
 use Rattle.std.specs.Prelude.{nat_lt}
 use Rattle.hub_base.specs.declared.case.Case.{Case}
@@ -8,7 +9,8 @@ use Rattle.hub_base.specs.declared.text.faults.Kind.{Kind}
 use Rattle.hub_base.specs.declared.limits.TheConstants.{CASE_PLACES, GREATEST_PORT, GREATEST_VALUE}
 use Rattle.hub_base.specs.declared.text.faults.Kind.TheVariants.{BadStep, BadNumber}
 use Rattle.hub_base.specs.Lines.Draft.{Sends, Receives}
-use Rattle.hub_base.specs.Lines.{◌>>=◌, Draft, draft_of, send_draft, recv_draft, drafts_of, case_of, cases_of, case_read, choose, read_select, ends_default, last_default, numeral, number, must, pieces}
+use Rattle.hub_base.specs.Lines.{◌>>=◌, Draft, draft_of, send_draft, recv_draft, drafts_of, case_of, cases_of, case_read}
+use Rattle.hub_base.specs.Lines.{choose, read_select, ends_default, last_default, numeral, number, must, pieces}
 
 -- the cases so far, unless a number was wrong
 abbrev pub so_far : Bool → List Case → Result (List Case) Kind
@@ -49,16 +51,20 @@ cases-first (Err k) rs = refl
 -- at first none
 pub rest-init : (pid word : List ℕ) (fs : (List (List ℕ)) × Bool) → read_select pid word fs ≡ rest_of pid word 0 (Ok []) fs
 rest-init pid word fs = init pid word (drafts_of fs.0) fs.1 where
-  init : (pid word : List ℕ) (ds : Result (List Draft) Kind) (d : Bool) →
-      (ds >>= λ ds. cond (nat_lt CASE_PLACES (length ds)) (Err BadStep) (choose pid word (cases_of ds) d)) ≡ (ds >>= λ ds. cond (nat_lt CASE_PLACES (0 + length ds)) (Err BadStep) (choose pid word (joined (Ok []) (cases_of ds)) d))
-  init pid word (Ok ds) d = let zero : 0 + length ds ≡ length ds = omega arith in rw zero (ap (λ r. cond (nat_lt CASE_PLACES (length ds)) (Err BadStep) (choose pid word r d)) (sym (joined-nil (cases_of ds))))
+  init : (pid word : List ℕ) (ds : Result (List Draft) Kind) (d : Bool)
+      → (ds >>= λ ds. cond (nat_lt CASE_PLACES (length ds)) (Err BadStep) (choose pid word (cases_of ds) d))
+      ≡ (ds >>= λ ds. cond (nat_lt CASE_PLACES (0 + length ds)) (Err BadStep) (choose pid word (joined (Ok []) (cases_of ds)) d))
+  init pid word (Ok ds) d =
+      let zero : 0 + length ds ≡ length ds = omega arith in
+      rw zero (ap (λ r. cond (nat_lt CASE_PLACES (length ds)) (Err BadStep) (choose pid word r d)) (sym (joined-nil (cases_of ds))))
   init pid word (Err k) d = refl
 
 small : (n : ℕ) → n ≤ CASE_PLACES → nat_lt CASE_PLACES (n + 0) ≡ false
 small n h = grind (arith, common_steps)
 
 -- at the end all
-pub rest-end : (pid word : List ℕ) (n : ℕ) (acc : Result (List Case) Kind) (d : Bool) → n ≤ CASE_PLACES → rest_of pid word n acc ([], d) ≡ choose pid word acc d
+pub rest-end : (pid word : List ℕ) (n : ℕ) (acc : Result (List Case) Kind) (d : Bool) → n ≤ CASE_PLACES
+    → rest_of pid word n acc ([], d) ≡ choose pid word acc d
 rest-end pid word n acc d h = rw (small n h) (ap (λ r. choose pid word r d) (joined-none acc))
 
 after-draft : (pid word : List ℕ) (n : ℕ) (acc : Result (List Case) Kind) (f : Draft) (ds : Result (List Draft) Kind) (d : Bool) →
@@ -73,8 +79,8 @@ after-draft pid word n acc f (Ok ds) d =
     ∙ ap (λ r. cond (nat_lt CASE_PLACES ((n + 1) + length ds)) (Err BadStep) (choose pid word r d)) cases
 
 -- behind one more field of the right shape
-pub rest-step : (pid word : List ℕ) (n : ℕ) (acc : Result (List Case) Kind) (f : List ℕ) (draft : Draft) (fs : (List (List ℕ)) × Bool) → draft_of f ≡ Ok draft →
-    rest_of pid word n acc (f ∷ fs.0, fs.1) ≡ rest_of pid word (n + 1) (joined acc (one (case_of draft))) fs
+pub rest-step : (pid word : List ℕ) (n : ℕ) (acc : Result (List Case) Kind) (f : List ℕ) (draft : Draft) (fs : (List (List ℕ)) × Bool)
+    → draft_of f ≡ Ok draft → rest_of pid word n acc (f ∷ fs.0, fs.1) ≡ rest_of pid word (n + 1) (joined acc (one (case_of draft))) fs
 rest-step pid word n acc f draft fs e = rw e (after-draft pid word n acc draft (drafts_of fs.0) fs.1)
 
 -- behind a field of a wrong shape
@@ -94,7 +100,8 @@ recv-bad [] k e = cc
 recv-bad (p ∷ []) k e = cc
 recv-bad (p ∷ v ∷ ps) k e = cc
 
-letter-bad : (s r : Bool) (a b : Result Draft Kind) (k : Kind) → ((k : Kind) → a ≡ Err k → k ≡ BadStep) → ((k : Kind) → b ≡ Err k → k ≡ BadStep) → cond s a (cond r b (Err BadStep)) ≡ Err k → k ≡ BadStep
+letter-bad : (s r : Bool) (a b : Result Draft Kind) (k : Kind) → ((k : Kind) → a ≡ Err k → k ≡ BadStep)
+    → ((k : Kind) → b ≡ Err k → k ≡ BadStep) → cond s a (cond r b (Err BadStep)) ≡ Err k → k ≡ BadStep
 letter-bad true r a b k f g e = f k e
 letter-bad false true a b k f g e = g k e
 letter-bad false false a b k f g e = cc
@@ -102,9 +109,11 @@ letter-bad false false a b k f g e = cc
 -- a wrong shape is a bad step
 pub draft-bad : (f : List ℕ) (k : Kind) → draft_of f ≡ Err k → k ≡ BadStep
 draft-bad [] k e = cc
-draft-bad (c ∷ cs) k e = letter-bad (c == 115) (c == 114) (send_draft (pieces 58 cs)) (recv_draft (pieces 58 cs)) k (send-bad (pieces 58 cs)) (recv-bad (pieces 58 cs)) e
+draft-bad (c ∷ cs) k e =
+    letter-bad (c == 115) (c == 114) (send_draft (pieces 58 cs)) (recv_draft (pieces 58 cs)) k (send-bad (pieces 58 cs)) (recv-bad (pieces 58 cs)) e
 
-two-bad : (r : Result Draft Kind) (rs : Result (List Draft) Kind) (k : Kind) → ((k : Kind) → r ≡ Err k → k ≡ BadStep) → ((k : Kind) → rs ≡ Err k → k ≡ BadStep) → (r >>= λ d. rs >>= λ ds. Ok (d ∷ ds)) ≡ Err k → k ≡ BadStep
+two-bad : (r : Result Draft Kind) (rs : Result (List Draft) Kind) (k : Kind) → ((k : Kind) → r ≡ Err k → k ≡ BadStep)
+    → ((k : Kind) → rs ≡ Err k → k ≡ BadStep) → (r >>= λ d. rs >>= λ ds. Ok (d ∷ ds)) ≡ Err k → k ≡ BadStep
 two-bad (Ok d) (Ok ds) k f g e = cc
 two-bad (Ok d) (Err j) k f g e = g k (cc)
 two-bad (Err j) rs k f g e = f k (cc)
@@ -133,13 +142,15 @@ one-bad : {A : Type 0} (r : Result ℕ Kind) (f : ℕ → A) (k : Kind) → ((k 
 one-bad (Ok x) f k h e = cc
 one-bad (Err j) f k h e = h k (cc)
 
-both-bad : {A : Type 0} (r s : Result ℕ Kind) (f : ℕ → ℕ → A) (k : Kind) → ((k : Kind) → r ≡ Err k → k ≡ BadNumber) → ((k : Kind) → s ≡ Err k → k ≡ BadNumber) → (r >>= λ x. s >>= λ y. Ok (f x y)) ≡ Err k → k ≡ BadNumber
+both-bad : {A : Type 0} (r s : Result ℕ Kind) (f : ℕ → ℕ → A) (k : Kind) → ((k : Kind) → r ≡ Err k → k ≡ BadNumber)
+    → ((k : Kind) → s ≡ Err k → k ≡ BadNumber) → (r >>= λ x. s >>= λ y. Ok (f x y)) ≡ Err k → k ≡ BadNumber
 both-bad (Ok x) s f k h g e = one-bad s (f x) k g e
 both-bad (Err j) s f k h g e = h k (cc)
 
 -- a wrong number is a bad number
 pub case-bad : (d : Draft) (k : Kind) → case_of d ≡ Err k → k ≡ BadNumber
-case-bad (Sends p v) k e = both-bad (numeral GREATEST_PORT p) (numeral GREATEST_VALUE v) _ k (must-bad (number GREATEST_PORT p)) (must-bad (number GREATEST_VALUE v)) e
+case-bad (Sends p v) k e =
+    both-bad (numeral GREATEST_PORT p) (numeral GREATEST_VALUE v) _ k (must-bad (number GREATEST_PORT p)) (must-bad (number GREATEST_VALUE v)) e
 case-bad (Receives p) k e = one-bad (numeral GREATEST_PORT p) _ k (must-bad (number GREATEST_PORT p)) e
 
 -- one more case
@@ -148,7 +159,8 @@ joined-ok true cases c = refl
 joined-ok false cases c = refl
 
 -- a case whose numbers are wrong
-pub joined-err : (fine : Bool) (cases : List Case) (d : Draft) (k : Kind) → case_of d ≡ Err k → joined (so_far fine cases) (one (case_of d)) ≡ so_far false cases
+pub joined-err : (fine : Bool) (cases : List Case) (d : Draft) (k : Kind) → case_of d ≡ Err k
+    → joined (so_far fine cases) (one (case_of d)) ≡ so_far false cases
 joined-err true cases d k e = rw e (ap (λ k. Err k) (case-bad d k e))
 joined-err false cases d k e = refl
 
@@ -176,27 +188,28 @@ read-bad f k e = go (draft_of f) k e where
   go (Ok d) k e = cc
   go (Err j) k e = cc
 
-goes : (pid word f : List ℕ) (fields rest : List (List ℕ)) (n : ℕ) (acc next : Result (List Case) Kind) (whole : Result Entry Kind) (draft : Draft) →
-    whole ≡ rest_of pid word n acc (ends_default fields) → fields ≡ f ∷ rest → last_default f rest ≡ false → draft_of f ≡ Ok draft → joined acc (one (case_of draft)) ≡ next →
-    whole ≡ rest_of pid word (n + 1) next (ends_default rest)
+goes : (pid word f : List ℕ) (fields rest : List (List ℕ)) (n : ℕ) (acc next : Result (List Case) Kind) (whole : Result Entry Kind) (draft : Draft)
+    → whole ≡ rest_of pid word n acc (ends_default fields) → fields ≡ f ∷ rest → last_default f rest ≡ false → draft_of f ≡ Ok draft
+    → joined acc (one (case_of draft)) ≡ next → whole ≡ rest_of pid word (n + 1) next (ends_default rest)
 goes pid word f fields rest n acc next whole draft same is plain d now =
     same ∙ ap (λ fs. rest_of pid word n acc (ends_default fs)) is ∙ ap (rest_of pid word n acc) (ends-step f rest plain)
     ∙ rest-step pid word n acc f draft (ends_default rest) d ∙ ap (λ r. rest_of pid word (n + 1) r (ends_default rest)) now
 
 -- ---- one turn of the loop, by what its field is
 -- a case
-pub goes-ok : (pid word f : List ℕ) (fields rest : List (List ℕ)) (n : ℕ) (fine : Bool) (cases new : List Case) (whole : Result Entry Kind) (r : Result Case Kind) (c : Case) →
-    whole ≡ rest_of pid word n (so_far fine cases) (ends_default fields) → fields ≡ f ∷ rest → last_default f rest ≡ false → Ok r ≡ case_read f → r ≡ Ok c → new ≡ cases ++ c ∷ [] →
-    whole ≡ rest_of pid word (n + 1) (so_far fine new) (ends_default rest)
+pub goes-ok : (pid word f : List ℕ) (fields rest : List (List ℕ)) (n : ℕ) (fine : Bool) (cases new : List Case)
+    (whole : Result Entry Kind) (r : Result Case Kind) (c : Case) → whole ≡ rest_of pid word n (so_far fine cases) (ends_default fields)
+    → fields ≡ f ∷ rest → last_default f rest ≡ false → Ok r ≡ case_read f → r ≡ Ok c → new ≡ cases ++ c ∷ []
+    → whole ≡ rest_of pid word (n + 1) (so_far fine new) (ends_default rest)
 goes-ok pid word f fields rest n fine cases new whole r c same is plain read ok grown =
     let d = read-of f r (sym read) in
     goes pid word f fields rest n (so_far fine cases) (so_far fine new) whole d.0 same is plain d.1
     (ap (λ r. joined (so_far fine cases) (one r)) (d.2 ∙ ok) ∙ joined-ok fine cases c ∙ ap (so_far fine) (sym grown))
 
 -- a case behind one whose numbers are wrong
-pub goes-late : (pid word f : List ℕ) (fields rest : List (List ℕ)) (n : ℕ) (fine : Bool) (cases : List Case) (whole : Result Entry Kind) (r : Result Case Kind) (c : Case) →
-    whole ≡ rest_of pid word n (so_far fine cases) (ends_default fields) → fields ≡ f ∷ rest → last_default f rest ≡ false → Ok r ≡ case_read f → r ≡ Ok c → fine ≡ false →
-    whole ≡ rest_of pid word (n + 1) (so_far fine cases) (ends_default rest)
+pub goes-late : (pid word f : List ℕ) (fields rest : List (List ℕ)) (n : ℕ) (fine : Bool) (cases : List Case) (whole : Result Entry Kind)
+    (r : Result Case Kind) (c : Case) → whole ≡ rest_of pid word n (so_far fine cases) (ends_default fields) → fields ≡ f ∷ rest
+    → last_default f rest ≡ false → Ok r ≡ case_read f → r ≡ Ok c → fine ≡ false → whole ≡ rest_of pid word (n + 1) (so_far fine cases) (ends_default rest)
 goes-late pid word f fields rest n fine cases whole r c same is plain read ok late =
     let d = read-of f r (sym read) in
     goes pid word f fields rest n (so_far fine cases) (so_far fine cases) whole d.0 same is plain d.1
@@ -204,16 +217,17 @@ goes-late pid word f fields rest n fine cases whole r c same is plain read ok la
     ∙ ap (λ b. so_far b (cases ++ c ∷ [])) late ∙ sym (ap (λ b. so_far b cases) late))
 
 -- a case whose numbers are wrong
-pub goes-err : (pid word f : List ℕ) (fields rest : List (List ℕ)) (n : ℕ) (fine : Bool) (cases : List Case) (whole : Result Entry Kind) (r : Result Case Kind) (k : Kind) →
-    whole ≡ rest_of pid word n (so_far fine cases) (ends_default fields) → fields ≡ f ∷ rest → last_default f rest ≡ false → Ok r ≡ case_read f → r ≡ Err k →
-    whole ≡ rest_of pid word (n + 1) (Err BadNumber) (ends_default rest)
+pub goes-err : (pid word f : List ℕ) (fields rest : List (List ℕ)) (n : ℕ) (fine : Bool) (cases : List Case) (whole : Result Entry Kind)
+    (r : Result Case Kind) (k : Kind) → whole ≡ rest_of pid word n (so_far fine cases) (ends_default fields) → fields ≡ f ∷ rest
+    → last_default f rest ≡ false → Ok r ≡ case_read f → r ≡ Err k → whole ≡ rest_of pid word (n + 1) (Err BadNumber) (ends_default rest)
 goes-err pid word f fields rest n fine cases whole r k same is plain read bad =
     let d = read-of f r (sym read) in
     goes pid word f fields rest n (so_far fine cases) (Err BadNumber) whole d.0 same is plain d.1 (joined-err fine cases d.0 k (d.2 ∙ bad))
 
 -- a seventeenth case
-pub goes-many : (pid word f : List ℕ) (fields rest : List (List ℕ)) (n : ℕ) (acc : Result (List Case) Kind) (whole : Result Entry Kind) (r : Result Case Kind) →
-    whole ≡ rest_of pid word n acc (ends_default fields) → fields ≡ f ∷ rest → last_default f rest ≡ false → Ok r ≡ case_read f → n ≡ CASE_PLACES → whole ≡ Err BadStep
+pub goes-many : (pid word f : List ℕ) (fields rest : List (List ℕ)) (n : ℕ) (acc : Result (List Case) Kind) (whole : Result Entry Kind) (r : Result Case Kind)
+    → whole ≡ rest_of pid word n acc (ends_default fields) → fields ≡ f ∷ rest → last_default f rest ≡ false → Ok r ≡ case_read f
+    → n ≡ CASE_PLACES → whole ≡ Err BadStep
 goes-many pid word f fields rest n acc whole r same is plain read full =
     let d = read-of f r (sym read) in
     same ∙ ap (λ fs. rest_of pid word n acc (ends_default fs)) is ∙ ap (rest_of pid word n acc) (ends-step f rest plain)

@@ -1,5 +1,6 @@
 -- The two head lines, and whole texts: a text is read as its entries, and what is read is such a text.
-use Rattle.std.proofs.Common.{◌≡◌, ℕ, ◌+◌, ◌≤◌, ◌<◌, ◌^◌, Bool, true, false, cond, List, [], ◌∷◌, ◌++◌, length, map, refl, ap, ◌∙◌, sym, subst, Option, Some, None, arith, codes, ◌==◌, append_assoc, append-nil, length-append}
+use Rattle.std.proofs.Common.{◌≡◌, ℕ, ◌+◌, ◌≤◌, ◌<◌, ◌^◌, Bool, true, false, cond, List, [], ◌∷◌, ◌++◌, length, map, refl, ap, ◌∙◌}
+use Rattle.std.proofs.Common.{sym, subst, Option, Some, None, arith, codes, ◌==◌, append_assoc, append-nil, length-append}
 use Rattle.std.proofs.lemmas.Grind.{common_steps}
 use Rattle.std.specs.Prelude.{decimal, nat_lt}
 use Rattle.std.specs.List.{join_with_byte, AllByRecursion, flat_map}
@@ -9,7 +10,8 @@ use Rattle.hub_base.specs.declared.limits.TheConstants.{MOST_PROCS, MOST_STEPS, 
 use Rattle.hub_base.specs.declared.text.faults.Kind.TheVariants.{BadHeader, TooLong}
 use Rattle.hub_base.specs.Head.{IsHead, head_of}
 use Rattle.hub_base.specs.Lines.{number, pieces, line, same_text}
-use Rattle.hub_base.specs.Reading.{Row, rows, front, Reading, Reads, Faulty, text, head_lines, procs_line, entries_from, row_fault, faulty_or, end_of, procs_field, above_zero, procs_number, procs_say, procs_from, reading, read_text}
+use Rattle.hub_base.specs.Reading.{Row, rows, front, Reading, Reads, Faulty, text, head_lines, procs_line, entries_from, row_fault}
+use Rattle.hub_base.specs.Reading.{faulty_or, end_of, procs_field, above_zero, procs_number, procs_say, procs_from, reading, read_text}
 use Rattle.hub_base.specs.Text.{Fits, IsText, row_of, steps_of, header_row, procs_row}
 use Rattle.hub_base.proofs.Bodies.{rows-line, rows-entries}
 use Rattle.hub_base.proofs.Bound.{number-ok}
@@ -30,11 +32,13 @@ procs-again n some few =
     ∙ ap above_zero (number-again MOST_PROCS n (omega arith) few)
     ∙ ap (λ b. cond b None (Some n)) (above n some)
 
-field-some : (fs : List (List ℕ)) (n : ℕ) → procs_field fs ≡ Some n → (w : List ℕ) × (p : List ℕ) × (fs ≡ w ∷ p ∷ []) × (same_text w (codes "procs") ≡ true) × (number MOST_PROCS p ≡ Some n)
+field-some : (fs : List (List ℕ)) (n : ℕ) → procs_field fs ≡ Some n
+    → (w : List ℕ) × (p : List ℕ) × (fs ≡ w ∷ p ∷ []) × (same_text w (codes "procs") ≡ true) × (number MOST_PROCS p ≡ Some n)
 field-some [] n h = cc
 field-some (w ∷ []) n h = cc
 field-some (w ∷ p ∷ []) n h = go (same_text w (codes "procs")) refl h where
-  go : (b : Bool) → same_text w (codes "procs") ≡ b → cond b (number MOST_PROCS p) None ≡ Some n → (w' : List ℕ) × (p' : List ℕ) × (w ∷ p ∷ [] ≡ w' ∷ p' ∷ []) × (same_text w' (codes "procs") ≡ true) × (number MOST_PROCS p' ≡ Some n)
+  go : (b : Bool) → same_text w (codes "procs") ≡ b → cond b (number MOST_PROCS p) None ≡ Some n
+      → (w' : List ℕ) × (p' : List ℕ) × (w ∷ p ∷ [] ≡ w' ∷ p' ∷ []) × (same_text w' (codes "procs") ≡ true) × (number MOST_PROCS p' ≡ Some n)
   go true s h = (w, p, refl, s, h)
   go false s h = cc
 field-some (w ∷ p ∷ q ∷ fs) n h = cc
@@ -67,14 +71,17 @@ procs-take bytes n h =
 
 head-length : (h : Head) → length (head_lines h) ≡ 18 + length (procs_line h.procs) + 1
 head-length h =
-    let a : length (head_lines h) ≡ 18 + length (procs_line h.procs ++ codes "\n") = length-append (codes "chanhub journal 1\n") (procs_line h.procs ++ codes "\n") in
-    let b : length (procs_line h.procs ++ codes "\n") ≡ length (procs_line h.procs) + 1 = length-append (procs_line h.procs) (codes "\n") in omega (arith, a, b)
+    let a : length (head_lines h) ≡ 18 + length (procs_line h.procs ++ codes "\n") =
+    length-append (codes "chanhub journal 1\n") (procs_line h.procs ++ codes "\n") in
+    let b : length (procs_line h.procs ++ codes "\n") ≡ length (procs_line h.procs) + 1 = length-append (procs_line h.procs) (codes "\n") in
+    omega (arith, a, b)
 
 first-place : end_of 0 header_row ≡ 18
 first-place = refl
 
 -- ---- a text is read
-pub heads-again : (h : Head) (rs : List Row) → IsHead h → length (head_lines h) ≤ MOST_BYTES → reading (header_row ∷ procs_row h.procs ∷ rs) ≡ entries_from h 3 (length (head_lines h)) 0 rs
+pub heads-again : (h : Head) (rs : List Row) → IsHead h → length (head_lines h) ≤ MOST_BYTES
+    → reading (header_row ∷ procs_row h.procs ∷ rs) ≡ entries_from h 3 (length (head_lines h)) 0 rs
 heads-again h rs is lim =
     let n : ℕ = h.procs in
     let place : end_of 18 (procs_row n) ≡ length (head_lines h) = sym (head-length h) in
@@ -105,7 +112,8 @@ text-again bytes h es t =
     ap read_text t.spelled ∙ ap reading (text-rows h es t.head t.fits)
     ∙ heads-again h (map row_of es) t.head (omega (arith, l, f))
     ∙ ap (entries_from h 3 (length (head_lines h)) 0) all
-    ∙ entries-again h es [] 3 (length (head_lines h)) 0 (3 + length es) (length (head_lines h) + length (flat_map line es)) (steps_of es) t.fits refl refl (omega arith) (omega (arith, l, f)) t.steps_fit
+    ∙ entries-again h es [] 3 (length (head_lines h)) 0 (3 + length es) (length (head_lines h) + length (flat_map line es))
+    (steps_of es) t.fits refl refl (omega arith) (omega (arith, l, f)) t.steps_fit
     ∙ ap (Reads h) (append-nil es)
 
 -- ---- what is read is such a text
@@ -116,7 +124,8 @@ unfront : (c : ℕ) (rs : List Row) → flat_map row_bytes (front c rs) ≡ c �
 unfront c [] = refl
 unfront c (r ∷ rs) = refl
 
-unrow-step : (c : ℕ) (cs : List ℕ) (b : Bool) → (c == 10) ≡ b → flat_map row_bytes (rows cs) ≡ cs → flat_map row_bytes (cond b (record { bytes = []; whole = true } ∷ rows cs) (front c (rows cs))) ≡ c ∷ cs
+unrow-step : (c : ℕ) (cs : List ℕ) (b : Bool) → (c == 10) ≡ b → flat_map row_bytes (rows cs) ≡ cs
+    → flat_map row_bytes (cond b (record { bytes = []; whole = true } ∷ rows cs) (front c (rows cs))) ≡ c ∷ cs
 unrow-step c cs true is h = let here : c ≡ 10 = grind (arith, common_steps) in ap (λ r. 10 ∷ r) h ∙ ap (λ c. c ∷ cs) (sym here)
 unrow-step c cs false is h = unfront c (rows cs) ∙ ap (λ r. c ∷ r) h
 
@@ -155,7 +164,8 @@ pub record Second (start : ℕ) (rs : List Row) (h : Head) (es : List Entry) : T
   pub procs_is : procs_number first.bytes ≡ Some head.procs
   pub said : entries_from head 3 (end_of start first) 0 more ≡ Reads h es
 
-procs-said : (o : Option ℕ) (start : ℕ) (rs : List Row) (h : Head) (es : List Entry) → procs_say o start rs ≡ Reads h es → (k : Head) × (o ≡ Some k.procs) × (entries_from k 3 start 0 rs ≡ Reads h es)
+procs-said : (o : Option ℕ) (start : ℕ) (rs : List Row) (h : Head) (es : List Entry) → procs_say o start rs ≡ Reads h es
+    → (k : Head) × (o ≡ Some k.procs) × (entries_from k 3 start 0 rs ≡ Reads h es)
 procs-said None start rs h es is = cc
 procs-said (Some m) start rs h es is = (head_of m, refl, is)
 
@@ -174,7 +184,8 @@ second-place r h is = ap (end_of 18) is ∙ sym (head-length h)
 pub head-take : (rs : List Row) (h : Head) (es : List Entry) → reading rs ≡ Reads h es → HeadTook rs h es
 head-take [] h es said = cc
 head-take (r ∷ rs) h es said =
-    let a = said-reads 1 (cond (same_text r.bytes (codes "chanhub journal 1")) (procs_from (end_of 0 r) rs) (Faulty 1 BadHeader)) (row_fault (end_of 0 r) r) h es said in
+    let a = said-reads 1 (cond (same_text r.bytes (codes "chanhub journal 1")) (procs_from (end_of 0 r) rs) (Faulty 1 BadHeader))
+    (row_fault (end_of 0 r) r) h es said in
     let b = header-said (same_text r.bytes (codes "chanhub journal 1")) (procs_from (end_of 0 r) rs) h es a.1 in
     let w = row-none (end_of 0 r) r a.0 in
     let is : r ≡ header_row = whole-row r (codes "chanhub journal 1") (same-true r.bytes (codes "chanhub journal 1") b.0) w.whole in
@@ -198,6 +209,7 @@ head-take (r ∷ rs) h es said =
 pub text-take : (bytes : List ℕ) (h : Head) (es : List Entry) → read_text bytes ≡ Reads h es → IsText bytes h es
 text-take bytes h es said =
     let t = head-take (rows bytes) h es said in
-    let spelled : bytes ≡ text h es = sym (unrows bytes) ∙ ap (flat_map row_bytes) t.lines ∙ ap (λ x. codes "chanhub journal 1\n" ++ ((procs_line h.procs ++ codes "\n") ++ x)) (unrows-entries es) in
+    let spelled : bytes ≡ text h es = sym (unrows bytes) ∙ ap (flat_map row_bytes) t.lines
+    ∙ ap (λ x. codes "chanhub journal 1\n" ++ ((procs_line h.procs ++ codes "\n") ++ x)) (unrows-entries es) in
     let l : length bytes ≡ length (head_lines h) + length (flat_map line es) = ap length spelled ∙ text-length h es in
     record { spelled = spelled; head = t.head; fits = t.fits; bytes_fit = (let f = t.bytes_fit in omega (arith, l, f)); steps_fit = t.steps_fit }

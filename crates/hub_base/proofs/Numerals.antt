@@ -1,5 +1,6 @@
 -- Numbers, words, and bytes without a mark.
-use Rattle.std.proofs.Common.{◌≡◌, ◌≢◌, ℕ, ◌≤◌, ◌<◌, ◌^◌, Bool, true, false, cond, List, [], ◌∷◌, ◌++◌, length, refl, ap, ◌∙◌, sym, Some, Ok, arith, get_or, not, ◌&&◌, ◌==◌}
+use Rattle.std.proofs.Common.{◌≡◌, ◌≢◌, ℕ, ◌≤◌, ◌<◌, ◌^◌, Bool, true, false, cond, List, [], ◌∷◌, ◌++◌}
+use Rattle.std.proofs.Common.{length, refl, ap, ◌∙◌, sym, Some, Ok, arith, get_or, not, ◌&&◌, ◌==◌}
 use Rattle.std.proofs.lemmas.Grind.{common_steps}
 use Rattle.std.specs.Prelude.{decimal}
 use Rattle.std.specs.List.{list_all, join_with_byte}
@@ -21,7 +22,8 @@ one-fits v n most e h = grind (arith, common_steps)
 pub number-again : (most n : ℕ) → most < 2 ^ 64 → n ≤ most → number most (decimal n) ≡ Some n
 number-again most n wide fits =
     let small : n < 2 ^ 64 = omega arith in
-    let shape : is_numeral (decimal n) ≡ true = numeral-shape (decimal n) (some-of (decimal n) n small refl) (digits-of (decimal n) n small refl) (lead-of (decimal n) n small refl) in
+    let shape : is_numeral (decimal n) ≡ true =
+    numeral-shape (decimal n) (some-of (decimal n) n small refl) (digits-of (decimal n) n small refl) (lead-of (decimal n) n small refl) in
     let value : digits_value 10 (decimal n) ≡ n = value-of (decimal n) n small refl in
     ap (λ b. one_number b (digits_value 10 (decimal n)) most) shape ∙ one-fits (digits_value 10 (decimal n)) n most value fits
 
@@ -55,7 +57,8 @@ lacks-append mark (x ∷ xs) ys h k =
     let both = and-true (not (x == mark)) (lacks mark xs) h in
     rw (both.0, lacks-append mark xs ys both.1 k) refl
 
-digits-lack : (mark : ℕ) (xs : List ℕ) → ((c : ℕ) → is_ascii_digit c ≡ true → not (c == mark) ≡ true) → list_all is_ascii_digit xs ≡ true → lacks mark xs ≡ true
+digits-lack : (mark : ℕ) (xs : List ℕ) → ((c : ℕ) → is_ascii_digit c ≡ true → not (c == mark) ≡ true)
+    → list_all is_ascii_digit xs ≡ true → lacks mark xs ≡ true
 digits-lack mark [] h d = refl
 digits-lack mark (x ∷ xs) h d =
     let both = and-true (is_ascii_digit x) (list_all is_ascii_digit xs) d in
@@ -113,7 +116,8 @@ joined-front mark c p [] = refl
 joined-front mark c p (q ∷ ps) = refl
 
 -- what is cut is put together again
-joined-step : (mark c : ℕ) (cs : List ℕ) (b : Bool) (ps : List (List ℕ)) → (c == mark) ≡ b → ps ≢ [] → join_with_byte mark ps ≡ cs → join_with_byte mark (cond b ([] ∷ ps) (join_front c ps)) ≡ c ∷ cs
+joined-step : (mark c : ℕ) (cs : List ℕ) (b : Bool) (ps : List (List ℕ)) → (c == mark) ≡ b → ps ≢ [] → join_with_byte mark ps ≡ cs
+    → join_with_byte mark (cond b ([] ∷ ps) (join_front c ps)) ≡ c ∷ cs
 joined-step mark c cs b [] e some h = absurd (some refl)
 joined-step mark c cs true (p ∷ ps) e some h = let is : c ≡ mark = grind (arith, common_steps) in ap (λ r. mark ∷ r) h ∙ ap (λ m. m ∷ cs) (sym is)
 joined-step mark c cs false (p ∷ ps) e some h = joined-front mark c p ps ∙ ap (λ r. c ∷ r) h

@@ -63,11 +63,13 @@ one-spelling e f x y fe ff h =
     )
 
 -- what answers the reading answers the text
-pub gives-text : (bytes : List ℕ) (r : Result JournalView ReadFault) → Gives r (read_text bytes) → (head : Head) (es : List Entry) → IsText bytes head es → Gives r (Reads head es)
+pub gives-text : (bytes : List ℕ) (r : Result JournalView ReadFault) → Gives r (read_text bytes) → (head : Head) (es : List Entry)
+    → IsText bytes head es → Gives r (Reads head es)
 gives-text bytes r g head es t = let P : Reading → Type 0 = λ x. Gives r x in subst P (text-again bytes head es t) g
 
 -- and the fault
-pub gives-fault : (bytes : List ℕ) (r : Result JournalView ReadFault) → Gives r (read_text bytes) → (k : ℕ) (kind : Kind) → IsFaulty bytes k kind → Gives r (Faulty k kind)
+pub gives-fault : (bytes : List ℕ) (r : Result JournalView ReadFault) → Gives r (read_text bytes) → (k : ℕ) (kind : Kind)
+    → IsFaulty bytes k kind → Gives r (Faulty k kind)
 gives-fault bytes r g k kind f = let P : Reading → Type 0 = λ x. Gives r x in subst P (fault-again bytes k kind f) g
 
 -- a journal that was answered is the text's

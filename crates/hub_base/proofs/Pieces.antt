@@ -40,6 +40,7 @@ nots true e h = cc
 nots false e h = cc
 
 -- no field is left where there is no rest
-pub left-done : (mark : ℕ) (o : Option (Bor (List ℕ))) (now : List (List ℕ)) (b : Bool) → pieces_left mark o ≡ now → is_some o ≡ not b → (IsTrue b → now ≡ []) × (now ≡ [] → IsTrue b)
+pub left-done : (mark : ℕ) (o : Option (Bor (List ℕ))) (now : List (List ℕ)) (b : Bool) → pieces_left mark o ≡ now → is_some o ≡ not b
+    → (IsTrue b → now ≡ []) × (now ≡ [] → IsTrue b)
 left-done mark None now b v e = (λ _. sym v, λ _. unnot b e)
 left-done mark (Some rest) now b v e = (λ h. absurd (nots b e h), λ h. absurd (pieces-some mark rest.now (v ∙ h)))

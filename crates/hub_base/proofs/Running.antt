@@ -1,5 +1,6 @@
 -- The lines of entries are read as these entries, and nothing else is.
-use Rattle.std.proofs.Common.{◌≡◌, ℕ, ◌+◌, ◌≤◌, Bool, true, false, cond, List, [], ◌∷◌, ◌++◌, length, map, refl, ap, ◌∙◌, sym, subst, Option, Some, None, Result, Ok, Err, arith, codes, not, ◌&&◌, length-append}
+use Rattle.std.proofs.Common.{◌≡◌, ℕ, ◌+◌, ◌≤◌, Bool, true, false, cond, List, [], ◌∷◌, ◌++◌, length, map, refl, ap, ◌∙◌}
+use Rattle.std.proofs.Common.{sym, subst, Option, Some, None, Result, Ok, Err, arith, codes, not, ◌&&◌, length-append}
 use Rattle.std.proofs.lemmas.Grind.{common_steps}
 use Rattle.std.specs.Prelude.{nat_lt, nat_le}
 use Rattle.std.specs.List.{join_with_byte, AllByRecursion, flat_map}
@@ -10,7 +11,8 @@ use Rattle.hub_base.specs.declared.limits.TheConstants.{MOST_STEPS, MOST_BYTES}
 use Rattle.hub_base.specs.declared.text.faults.Kind.TheVariants.{CutLine, TooLong}
 use Rattle.std.proofs.Common.{◌⊎◌, inl, inr}
 use Rattle.hub_base.specs.Lines.{read_fields, pieces, line}
-use Rattle.hub_base.specs.Reading.{Row, Reading, Reads, Faulty, entries_from, row_fault, faulty_or, end_of, over, counted, HasEntry, with_entry, entry_says, is_exit}
+use Rattle.hub_base.specs.Reading.{Row, Reading, Reads, Faulty, entries_from, row_fault, faulty_or}
+use Rattle.hub_base.specs.Reading.{end_of, over, counted, HasEntry, with_entry, entry_says, is_exit}
 use Rattle.hub_base.specs.Reading.{behind}
 use Rattle.hub_base.specs.Text.{Fits, fields_of, body, row_of, one_step, steps_of, EntryFails, entry_fault, first_fault, fault_of_entry}
 use Rattle.hub_base.proofs.Bodies.{body-again}
@@ -43,8 +45,10 @@ count false steps = refl
 line-length : (e : Entry) → length (line e) ≡ length (body e) + 1
 line-length e = length-append (body e) (codes "\n")
 
-same-from : (head : Head) (k k' start start' steps steps' : ℕ) (rs : List Row) → k ≡ k' → start ≡ start' → steps ≡ steps' → entries_from head k start steps rs ≡ entries_from head k' start' steps' rs
-same-from head k k' start start' steps steps' rs a b c = ap (λ k. entries_from head k start steps rs) a ∙ ap (λ start. entries_from head k' start steps rs) b ∙ ap (λ steps. entries_from head k' start' steps rs) c
+same-from : (head : Head) (k k' start start' steps steps' : ℕ) (rs : List Row) → k ≡ k' → start ≡ start' → steps ≡ steps'
+    → entries_from head k start steps rs ≡ entries_from head k' start' steps' rs
+same-from head k k' start start' steps steps' rs a b c = ap (λ k. entries_from head k start steps rs) a
+    ∙ ap (λ start. entries_from head k' start steps rs) b ∙ ap (λ steps. entries_from head k' start' steps rs) c
 
 -- lines of entries are read as these, and the lines behind them go on
 pub entries-again : (head : Head) (es : List Entry) (rest : List Row) (k start steps k' start' steps' : ℕ) → AllByRecursion Fits es →
@@ -64,7 +68,8 @@ entries-again head (e ∷ es) rest k start steps k' start' steps' fits a b c lim
     ∙ ap (λ r. entry_says k steps r goes) (body-again e fits.0)
     ∙ ap (λ t. cond t (Faulty k TooLong) (with_entry e (goes e))) few
     ∙ ap (λ s. with_entry e (entries_from head (k + 1) end s (map row_of es ++ rest))) next
-    ∙ ap (with_entry e) (entries-again head es rest (k + 1) end (steps + one_step e) k' start' steps' fits.1 (omega arith) (omega (arith, all, here)) (omega arith) lim most)
+    ∙ ap (with_entry e) (entries-again head es rest (k + 1) end (steps + one_step e) k' start' steps' fits.1 (omega arith)
+    (omega (arith, all, here)) (omega arith) lim most)
     ∙ with-behind e es (entries_from head k' start' steps' rest)
 
 -- ---- and back
@@ -76,7 +81,8 @@ pub record Took (head : Head) (start steps : ℕ) (rs : List Row) (other : Head)
   pub steps_fit : steps + steps_of es ≤ MOST_STEPS
 
 -- a journal is said only where the line itself is fine
-pub said-reads : (k : ℕ) (said : Reading) (o : Option Kind) (other : Head) (es : List Entry) → faulty_or k said o ≡ Reads other es → (o ≡ None) × (said ≡ Reads other es)
+pub said-reads : (k : ℕ) (said : Reading) (o : Option Kind) (other : Head) (es : List Entry) → faulty_or k said o ≡ Reads other es
+    → (o ≡ None) × (said ≡ Reads other es)
 said-reads k said None other es h = (refl, h)
 said-reads k said (Some kind) other es h = cc
 
@@ -106,15 +112,18 @@ pub record Went (steps : ℕ) (res : Result Entry Kind) (goes : Entry → Readin
   pub later : goes e ≡ Reads other rest
   pub is : e ∷ rest ≡ es
 
-with-reads : (e : Entry) (x : Reading) (other : Head) (es : List Entry) → with_entry e x ≡ Reads other es → (rest : List Entry) × (x ≡ Reads other rest) × (e ∷ rest ≡ es)
+with-reads : (e : Entry) (x : Reading) (other : Head) (es : List Entry) → with_entry e x ≡ Reads other es
+    → (rest : List Entry) × (x ≡ Reads other rest) × (e ∷ rest ≡ es)
 with-reads e (Reads head rest) other es h = let is : head ≡ other = cc in (rest, ap (λ head. Reads head rest) is, cc)
 with-reads e (Faulty k kind) other es h = cc
 
-not-faulty : (b : Bool) (k : ℕ) (x : Reading) (other : Head) (es : List Entry) → cond b (Faulty k TooLong) x ≡ Reads other es → (b ≡ false) × (x ≡ Reads other es)
+not-faulty : (b : Bool) (k : ℕ) (x : Reading) (other : Head) (es : List Entry) → cond b (Faulty k TooLong) x ≡ Reads other es
+    → (b ≡ false) × (x ≡ Reads other es)
 not-faulty true k x other es h = cc
 not-faulty false k x other es h = (refl, h)
 
-went : (k steps : ℕ) (res : Result Entry Kind) (goes : Entry → Reading) (other : Head) (es : List Entry) → entry_says k steps res goes ≡ Reads other es → Went steps res goes other es
+went : (k steps : ℕ) (res : Result Entry Kind) (goes : Entry → Reading) (other : Head) (es : List Entry)
+    → entry_says k steps res goes ≡ Reads other es → Went steps res goes other es
 went k steps (Err kind) goes other es h = cc
 went k steps (Ok e) goes other es h =
     let a = not-faulty (over steps e) k (with_entry e (goes e)) other es h in
@@ -137,7 +146,8 @@ pub end-is : (start : ℕ) (r : Row) (e : Entry) → r ≡ row_of e → end_of s
 end-is start r e is = let l = line-length e in ap (end_of start) is ∙ (omega (arith, l))
 
 -- what is read without a fault is lines of entries, within the limits
-pub entries-take : (head other : Head) (rs : List Row) (es : List Entry) (k start steps : ℕ) → start ≤ MOST_BYTES → steps ≤ MOST_STEPS → entries_from head k start steps rs ≡ Reads other es → Took head start steps rs other es
+pub entries-take : (head other : Head) (rs : List Row) (es : List Entry) (k start steps : ℕ) → start ≤ MOST_BYTES → steps ≤ MOST_STEPS
+    → entries_from head k start steps rs ≡ Reads other es → Took head start steps rs other es
 entries-take head other [] es k start steps lim most h =
     let P : List Entry → Type 0 = Took head start steps [] other in
     let none : [] ≡ es = cc in
@@ -180,13 +190,14 @@ with-faulty : (e : Entry) (x : Reading) (k : ℕ) (kind : Kind) → with_entry e
 with-faulty e (Reads head es) k kind h = cc
 with-faulty e (Faulty j other) k kind h = h
 
-ended-here : (b : Bool) (k faulty : ℕ) (kind : Kind) (x : Reading) → cond b (Faulty k TooLong) x ≡ Faulty faulty kind → ((cond b (Some TooLong) None ≡ Some kind) × (k ≡ faulty)) ⊎ ((b ≡ false) × (x ≡ Faulty faulty kind))
+ended-here : (b : Bool) (k faulty : ℕ) (kind : Kind) (x : Reading) → cond b (Faulty k TooLong) x ≡ Faulty faulty kind
+    → ((cond b (Some TooLong) None ≡ Some kind) × (k ≡ faulty)) ⊎ ((b ≡ false) × (x ≡ Faulty faulty kind))
 ended-here true k faulty kind x h = inl (let same : TooLong ≡ kind = cc in ap (λ k. Some k) same, cc)
 ended-here false k faulty kind x h = inr (refl, h)
 
 -- a fault stands in this line, or in those behind a line that was read
-pub at-first : (k steps : ℕ) (o : Option Kind) (res : Result Entry Kind) (goes : Entry → Reading) (faulty : ℕ) (kind : Kind) → faulty_or k (entry_says k steps res goes) o ≡ Faulty faulty kind →
-    Here steps k o res faulty kind ⊎ GoesOn steps k o res goes faulty kind
+pub at-first : (k steps : ℕ) (o : Option Kind) (res : Result Entry Kind) (goes : Entry → Reading) (faulty : ℕ) (kind : Kind)
+    → faulty_or k (entry_says k steps res goes) o ≡ Faulty faulty kind → Here steps k o res faulty kind ⊎ GoesOn steps k o res goes faulty kind
 at-first k steps (Some other) res goes faulty kind h = inl (let same : other ≡ kind = cc in ap (λ k. Some k) same, cc)
 at-first k steps None (Err other) goes faulty kind h = inl (let same : other ≡ kind = cc in ap (λ k. Some k) same, cc)
 at-first k steps None (Ok e) goes faulty kind h =
@@ -195,16 +206,19 @@ at-first k steps None (Ok e) goes faulty kind h =
       | inr a ↦ inr (record { e = e; fine = refl; read = refl; few = a.0; later = with-faulty e (goes e) faulty kind a.1 })
     ]
 
-fault-at : (place place' steps steps' : ℕ) (r : Row) (kind : Kind) → place ≡ place' → steps ≡ steps' → entry_fault place steps r ≡ Some kind → entry_fault place' steps' r ≡ Some kind
+fault-at : (place place' steps steps' : ℕ) (r : Row) (kind : Kind) → place ≡ place' → steps ≡ steps' → entry_fault place steps r ≡ Some kind
+    → entry_fault place' steps' r ≡ Some kind
 fault-at place place' steps steps' r kind a b h = sym (ap (λ p. entry_fault p steps r) a ∙ ap (λ s. entry_fault place' s r) b) ∙ h
 
 -- where reading stops at a fault there stand lines of entries, and then a faulty line
-pub entries-fail : (head : Head) (rs : List Row) (k start steps faulty : ℕ) (kind : Kind) → start ≤ MOST_BYTES → steps ≤ MOST_STEPS → entries_from head k start steps rs ≡ Faulty faulty kind → EntryFails start steps k rs faulty kind
+pub entries-fail : (head : Head) (rs : List Row) (k start steps faulty : ℕ) (kind : Kind) → start ≤ MOST_BYTES → steps ≤ MOST_STEPS
+    → entries_from head k start steps rs ≡ Faulty faulty kind → EntryFails start steps k rs faulty kind
 entries-fail head [] k start steps faulty kind lim most h = cc
 entries-fail head (r ∷ rs) k start steps faulty kind lim most h =
     let goes : Entry → Reading = λ e. entries_from head (k + 1) (end_of start r) (counted steps e) rs in
     let res = read_fields (pieces 32 r.bytes) in
-    elim (at-first k steps (row_fault (end_of start r) r) (read_fields (pieces 32 r.bytes)) goes faulty kind h) as (λ _. EntryFails start steps k (r ∷ rs) faulty kind) [
+    elim (at-first k steps (row_fault (end_of start r) r) (read_fields (pieces 32 r.bytes)) goes faulty kind h)
+    as (λ _. EntryFails start steps k (r ∷ rs) faulty kind) [
       | inl a ↦ (let is = a.1 in record {
         es = [];
         bad = r;
@@ -242,13 +256,15 @@ over-faulty : (b : Bool) (k : ℕ) (kind : Kind) (x : Reading) → cond b (Some 
 over-faulty true k kind x h = let same : TooLong ≡ kind = cc in ap (Faulty k) same
 over-faulty false k kind x h = cc
 
-faulty-again : (k steps : ℕ) (o : Option Kind) (res : Result Entry Kind) (goes : Entry → Reading) (kind : Kind) → first_fault o (fault_of_entry steps res) ≡ Some kind → faulty_or k (entry_says k steps res goes) o ≡ Faulty k kind
+faulty-again : (k steps : ℕ) (o : Option Kind) (res : Result Entry Kind) (goes : Entry → Reading) (kind : Kind)
+    → first_fault o (fault_of_entry steps res) ≡ Some kind → faulty_or k (entry_says k steps res goes) o ≡ Faulty k kind
 faulty-again k steps (Some other) res goes kind h = let same : other ≡ kind = cc in ap (Faulty k) same
 faulty-again k steps None (Err other) goes kind h = let same : other ≡ kind = cc in ap (Faulty k) same
 faulty-again k steps None (Ok e) goes kind h = over-faulty (over steps e) k kind (with_entry e (goes e)) h
 
 -- and where such lines stand, reading stops there
-pub entries-fail-again : (head : Head) (rs : List Row) (k start steps faulty : ℕ) (kind : Kind) → EntryFails start steps k rs faulty kind → entries_from head k start steps rs ≡ Faulty faulty kind
+pub entries-fail-again : (head : Head) (rs : List Row) (k start steps faulty : ℕ) (kind : Kind) → EntryFails start steps k rs faulty kind
+    → entries_from head k start steps rs ≡ Faulty faulty kind
 entries-fail-again head rs k start steps faulty kind f =
     let place = start + length (flat_map line f.es) in
     let done = steps + steps_of f.es in
@@ -259,11 +275,13 @@ entries-fail-again head rs k start steps faulty kind f =
 
 -- ---- the first entry
 -- a fault stands in the first of the lines that are read or behind it
-fault-later : (head : Head) (k start steps : ℕ) (rs : List Row) (faulty : ℕ) (kind : Kind) → start ≤ MOST_BYTES → steps ≤ MOST_STEPS → entries_from head k start steps rs ≡ Faulty faulty kind → k ≤ faulty
+fault-later : (head : Head) (k start steps : ℕ) (rs : List Row) (faulty : ℕ) (kind : Kind) → start ≤ MOST_BYTES → steps ≤ MOST_STEPS
+    → entries_from head k start steps rs ≡ Faulty faulty kind → k ≤ faulty
 fault-later head k start steps rs faulty kind lim most h = let c = (entries-fail head rs k start steps faulty kind lim most h).count in omega (arith, c)
 
 -- where an entry is read that stands behind the head, some entry is said
-pub has-entry : (head : Head) (k start steps : ℕ) (rs : List Row) (e : Entry) (said : Reading) → 3 ≤ k → start ≤ MOST_BYTES → steps ≤ MOST_STEPS → said ≡ with_entry e (entries_from head (k + 1) start steps rs) → HasEntry said
+pub has-entry : (head : Head) (k start steps : ℕ) (rs : List Row) (e : Entry) (said : Reading) → 3 ≤ k → start ≤ MOST_BYTES
+    → steps ≤ MOST_STEPS → said ≡ with_entry e (entries_from head (k + 1) start steps rs) → HasEntry said
 has-entry head k start steps rs e said behind_head lim most is = subst HasEntry (sym is) (by (entries_from head (k + 1) start steps rs) refl)
   where
     by : (r : Reading) → entries_from head (k + 1) start steps rs ≡ r → HasEntry (with_entry e r)

@@ -13,7 +13,8 @@ join-spaced f (g ∷ fs) = ap (λ r. f ++ 32 ∷ r) (join-spaced g fs)
 -- the cases of a select, and then the others
 pub spaced-select : (cs : List Case) (gs : List (List ℕ)) → spaced (map case_field cs ++ gs) ≡ spaced_cases cs ++ spaced gs
 spaced-select [] gs = refl
-spaced-select (c ∷ cs) gs = ap (λ r. 32 ∷ (case_field c ++ r)) (spaced-select cs gs) ∙ ap (λ r. 32 ∷ r) (sym (append_assoc (case_field c) (spaced_cases cs) (spaced gs)))
+spaced-select (c ∷ cs) gs = ap (λ r. 32 ∷ (case_field c ++ r)) (spaced-select cs gs)
+    ∙ ap (λ r. 32 ∷ r) (sym (append_assoc (case_field c) (spaced_cases cs) (spaced gs)))
 
 -- what grew twice grew
 pub grown-more : (x y z : List ℕ) → (a : List ℕ) × (y ≡ x ++ a) → (b : List ℕ) × (z ≡ y ++ b) → (r : List ℕ) × (z ≡ x ++ r)

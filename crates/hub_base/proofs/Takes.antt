@@ -1,5 +1,6 @@
 -- What fields say is what they spell.
-use Rattle.std.proofs.Common.{◌≡◌, ℕ, zero, suc, ◌≤◌, Bool, true, false, cond, List, [], ◌∷◌, ◌++◌, length, map, refl, ap, ◌∙◌, sym, subst, Result, Ok, Err, arith, codes, ◌==◌}
+use Rattle.std.proofs.Common.{◌≡◌, ℕ, zero, suc, ◌≤◌, Bool, true, false, cond, List, [], ◌∷◌, ◌++◌, length}
+use Rattle.std.proofs.Common.{map, refl, ap, ◌∙◌, sym, subst, Result, Ok, Err, arith, codes, ◌==◌}
 use Rattle.std.proofs.lemmas.Grind.{common_steps}
 use Rattle.std.specs.Prelude.{decimal, nat_lt}
 use Rattle.std.specs.List.{join_with_byte, AllByRecursion}
@@ -12,7 +13,9 @@ use Rattle.hub_base.specs.declared.text.faults.Kind.{Kind}
 use Rattle.hub_base.specs.declared.limits.TheConstants.{CASE_PLACES, GREATEST_PID, GREATEST_PORT, GREATEST_CAP, GREATEST_VALUE, GREATEST_WORD}
 use Rattle.hub_base.specs.declared.text.faults.Kind.TheVariants.{BadStep}
 use Rattle.hub_base.specs.Lines.Draft.{Sends, Receives}
-use Rattle.hub_base.specs.Lines.{numeral, ◌>>=◌, Draft, read_close, read_make, read_exit, read_send, read_recv, read_choice, read_select, read_step, read_fields, choose, step_fields, call_fields, select_fields, default_field, case_field, case_of, cases_of, draft_of, drafts_of, send_draft, recv_draft, spelled, ends_default, same_text, by, call, pieces}
+use Rattle.hub_base.specs.Lines.{numeral, ◌>>=◌, Draft, read_close, read_make, read_exit, read_send, read_recv, read_choice, read_select}
+use Rattle.hub_base.specs.Lines.{read_step, read_fields, choose, step_fields, call_fields, select_fields, default_field, case_field, case_of}
+use Rattle.hub_base.specs.Lines.{cases_of, draft_of, drafts_of, send_draft, recv_draft, spelled, ends_default, same_text, by, call, pieces}
 use Rattle.hub_base.specs.Text.{CaseFits, StepFits, Spells}
 use Rattle.hub_base.proofs.Bound.{bind_ok, numeral-ok}
 use Rattle.hub_base.proofs.Pieces.{pieces-some}
@@ -100,14 +103,18 @@ pub case-takes : (d : Draft) (c : Case) → case_of d ≡ Ok c → (draft_field 
 case-takes (Sends p v) c h =
     let s = sends-takes p v c h in
     let P : Case → Type 0 = λ c. (draft_field (Sends p v) ≡ case_field c) × CaseFits c in
-    subst P s.is (ap (λ p. 115 ∷ (p ++ 58 ∷ v)) s.port_is ∙ ap (λ v. 115 ∷ (decimal s.port ++ 58 ∷ v)) s.value_is ∙ sym (send-field s.port s.value), (s.port_fits, s.value_fits))
+    subst P s.is (
+      ap (λ p. 115 ∷ (p ++ 58 ∷ v)) s.port_is ∙ ap (λ v. 115 ∷ (decimal s.port ++ 58 ∷ v)) s.value_is ∙ sym (send-field s.port s.value),
+      (s.port_fits, s.value_fits),
+    )
 case-takes (Receives p) c h =
     let s = receives-takes p c h in
     let P : Case → Type 0 = λ c. (draft_field (Receives p) ≡ case_field c) × CaseFits c in
     subst P s.is (ap (λ p. 114 ∷ p) s.port_is, s.port_fits)
 
 -- all cases of a select
-pub cases-take : (ds : List Draft) (cs : List Case) → cases_of ds ≡ Ok cs → (map draft_field ds ≡ map case_field cs) × AllByRecursion CaseFits cs × (length ds ≡ length cs)
+pub cases-take : (ds : List Draft) (cs : List Case) → cases_of ds ≡ Ok cs
+    → (map draft_field ds ≡ map case_field cs) × AllByRecursion CaseFits cs × (length ds ≡ length cs)
 cases-take [] cs h =
     let P : List Case → Type 0 = λ cs. (map draft_field [] ≡ map case_field cs) × AllByRecursion CaseFits cs × (length {A = Draft} [] ≡ length cs) in
     let is : [] ≡ cs = cc in
@@ -132,8 +139,8 @@ one-part cs [] d j h = cc
 one-part cs (p ∷ []) d j h = let is : Receives p ≡ d = cc in ap (λ cs. 114 ∷ cs) (sym j) ∙ ap draft_field is
 one-part cs (p ∷ v ∷ ps) d j h = cc
 
-letter : (c : ℕ) (cs : List ℕ) (d : Draft) (s r : Bool) (a b : Result Draft Kind) → (c == 115) ≡ s → (c == 114) ≡ r → (a ≡ Ok d → 115 ∷ cs ≡ draft_field d) → (b ≡ Ok d → 114 ∷ cs ≡ draft_field d) →
-    cond s a (cond r b (Err BadStep)) ≡ Ok d → c ∷ cs ≡ draft_field d
+letter : (c : ℕ) (cs : List ℕ) (d : Draft) (s r : Bool) (a b : Result Draft Kind) → (c == 115) ≡ s → (c == 114) ≡ r
+    → (a ≡ Ok d → 115 ∷ cs ≡ draft_field d) → (b ≡ Ok d → 114 ∷ cs ≡ draft_field d) → cond s a (cond r b (Err BadStep)) ≡ Ok d → c ∷ cs ≡ draft_field d
 letter c cs d true r a b is other f g h = let here : c ≡ 115 = grind (arith, common_steps) in ap (λ c. c ∷ cs) here ∙ f h
 letter c cs d false true a b is other f g h = let here : c ≡ 114 = grind (arith, common_steps) in ap (λ c. c ∷ cs) here ∙ g h
 letter c cs d false false a b is other f g h = cc
@@ -143,7 +150,8 @@ pub draft-takes : (f : List ℕ) (d : Draft) → draft_of f ≡ Ok d → f ≡ d
 draft-takes [] d h = cc
 draft-takes (c ∷ cs) d h =
     let j = joined-pieces 58 cs (pieces-some 58) in
-    letter c cs d (c == 115) (c == 114) (send_draft (pieces 58 cs)) (recv_draft (pieces 58 cs)) refl refl (two-parts cs (pieces 58 cs) d j) (one-part cs (pieces 58 cs) d j) h
+    letter c cs d (c == 115) (c == 114) (send_draft (pieces 58 cs)) (recv_draft (pieces 58 cs)) refl refl (two-parts cs (pieces 58 cs) d j)
+    (one-part cs (pieces 58 cs) d j) h
 
 -- all such fields
 pub drafts-take : (fs : List (List ℕ)) (ds : List Draft) → drafts_of fs ≡ Ok ds → fs ≡ map draft_field ds
@@ -193,13 +201,15 @@ few-le : (n : ℕ) → nat_lt CASE_PLACES n ≡ false → n ≤ CASE_PLACES
 few-le n h = grind (arith, common_steps)
 
 -- a select behind its word
-pub select-takes : (pid word : List ℕ) (fs : List (List ℕ)) (e : Entry) → read_select pid word (ends_default fs) ≡ Ok e → Spells (pid ∷ codes "select" ∷ word ∷ fs) e
+pub select-takes : (pid word : List ℕ) (fs : List (List ℕ)) (e : Entry) → read_select pid word (ends_default fs) ≡ Ok e
+    → Spells (pid ∷ codes "select" ∷ word ∷ fs) e
 select-takes pid word fs e h =
     let d = (ends_default fs).1 in
     let o = bind_ok (drafts_of (ends_default fs).0) (λ ds. cond (nat_lt CASE_PLACES (length ds)) (Err BadStep) (choose pid word (cases_of ds) d)) e h in
     let ds = o.0 in
     let few = few-ok (nat_lt CASE_PLACES (length ds)) (choose pid word (cases_of ds) d) e o.2 in
-    let a = bind_ok (numeral GREATEST_PID pid) (λ pid. numeral GREATEST_WORD word >>= λ word. cases_of ds >>= λ cases. spelled cases d word >>= λ step. Ok (by pid step)) e few.1 in
+    let a = bind_ok (numeral GREATEST_PID pid)
+    (λ pid. numeral GREATEST_WORD word >>= λ word. cases_of ds >>= λ cases. spelled cases d word >>= λ step. Ok (by pid step)) e few.1 in
     let b = bind_ok (numeral GREATEST_WORD word) (λ word. cases_of ds >>= λ cases. spelled cases d word >>= λ step. Ok (by a.0 step)) e a.2 in
     let c = bind_ok (cases_of ds) (λ cases. spelled cases d b.0 >>= λ step. Ok (by a.0 step)) e b.2 in
     let s = bind_ok (spelled c.0 d b.0) (λ step. Ok (by a.0 step)) e c.2 in
@@ -208,7 +218,8 @@ select-takes pid word fs e h =
     let cases = cases-take ds c.0 c.1 in
     let w = spelled-takes c.0 d b.0 s.0 s.1 in
     let is : by a.0 (call c.0 d b.0) ≡ e = ap (by a.0) w.step_is ∙ (cc) in
-    let fields : fs ≡ map case_field c.0 ++ default_field d = ends-split fs ∙ ap (λ gs. gs ++ default_field d) (drafts-take (ends_default fs).0 ds o.1 ∙ cases.0) in
+    let fields : fs ≡ map case_field c.0 ++ default_field d =
+    ends-split fs ∙ ap (λ gs. gs ++ default_field d) (drafts-take (ends_default fs).0 ds o.1 ∙ cases.0) in
     subst (Spells (pid ∷ codes "select" ∷ word ∷ fs)) is (
       ap (λ f. f ∷ codes "select" ∷ word ∷ fs) x.0 ∙ ap (λ f. decimal a.0 ∷ codes "select" ∷ f ∷ fs) y.0
           ∙ ap (λ gs. decimal a.0 ∷ codes "select" ∷ decimal b.0 ∷ gs) fields ∙ ap (λ gs. decimal a.0 ∷ gs) (sym w.fields_are),
@@ -232,7 +243,8 @@ send-takes pid (p ∷ v ∷ []) e h =
     let last : by a.0 (call (b.0 ∷ []) false 0) ≡ e = cc in
     let is : by a.0 (call (Send (record { 0 = s.port }) (record { 0 = s.value }) ∷ []) false 0) ≡ e = ap (λ c. by a.0 (call (c ∷ []) false 0)) s.is ∙ last in
     subst (Spells (pid ∷ codes "send" ∷ p ∷ v ∷ [])) is (
-      ap (λ f. f ∷ codes "send" ∷ p ∷ v ∷ []) x.0 ∙ ap (λ f. decimal a.0 ∷ codes "send" ∷ f ∷ v ∷ []) s.port_is ∙ ap (λ f. decimal a.0 ∷ codes "send" ∷ decimal s.port ∷ f ∷ []) s.value_is,
+      ap (λ f. f ∷ codes "send" ∷ p ∷ v ∷ []) x.0 ∙ ap (λ f. decimal a.0 ∷ codes "send" ∷ f ∷ v ∷ []) s.port_is
+          ∙ ap (λ f. decimal a.0 ∷ codes "send" ∷ decimal s.port ∷ f ∷ []) s.value_is,
       record { pid = x.1; step = record { few = omega arith; each = ((s.port_fits, s.value_fits), tt); word_fits = omega arith } },
     )
 send-takes pid (p ∷ v ∷ q ∷ fs) e h = cc

@@ -1,7 +1,8 @@
 -- The numbers of faults, as event texts print them, and the numbers and texts of what is wrong with a line.
 use Rattle.std.specs.Prelude.{ℕ, List, codes}
 use Rattle.hub_base.specs.declared.fault.Fault.{Fault}
-use Rattle.hub_base.specs.declared.fault.Fault.TheVariants.{NoProcess, Gone, Busy, TooManyCases, NoPort, BadCap, TooManyPorts, NilClose, AlreadyClosed, JournalFull, NoMemory}
+use Rattle.hub_base.specs.declared.fault.Fault.TheVariants.{NoProcess, Gone, Busy, TooManyCases, NoPort, BadCap}
+use Rattle.hub_base.specs.declared.fault.Fault.TheVariants.{TooManyPorts, NilClose, AlreadyClosed, JournalFull, NoMemory}
 use Rattle.hub_base.specs.declared.text.faults.Kind.{Kind}
 use Rattle.hub_base.specs.declared.text.faults.Kind.TheVariants as kind
 

@@ -2,7 +2,8 @@
 -- exit, the stall rule, the faults that are journaled, and why an entry is not admitted.
 -- Go: "Send statements", "Receive operator", "Select statements", "Close". Which waiting call is
 -- served and which ready case fires are this project's choice.
-use Rattle.std.specs.Prelude.{ℕ, ◌+◌, ◌%◌, ◌==◌, nat_le, nat_lt, Bool, true, false, not, ◌&&◌, ◌||◌, List, [], ◌∷◌, ◌++◌, length, filter, Option, None, Some, slice_get, if◌then◌else◌}
+use Rattle.std.specs.Prelude.{ℕ, ◌+◌, ◌%◌, ◌==◌, nat_le, nat_lt, Bool, true, false, not, ◌&&◌, ◌||◌, List, []}
+use Rattle.std.specs.Prelude.{◌∷◌, ◌++◌, length, filter, Option, None, Some, slice_get, if◌then◌else◌}
 use Rattle.std.specs.List.{list_any, list_all, filter_map, range_with_len}
 use Rattle.std.specs.Option.{option_map}
 use Rattle.hub_base.specs.declared.value.Pid.{Pid}

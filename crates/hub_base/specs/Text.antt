@@ -1,7 +1,8 @@
 -- What a journal's text is, and where other bytes are faulty, said of whole lines and their
 -- spellings. How bytes are read is no part of it: that both agree is what `read_journal` and
 -- `one_reading` promise.
-use Rattle.std.specs.Prelude.{◌≡◌, ℕ, ◌+◌, ◌≤◌, true, List, [], ◌∷◌, ◌++◌, ◌⊎◌, length, map, codes, decimal, Option, None, Some, Result, Ok, Err, if◌then◌else◌}
+use Rattle.std.specs.Prelude.{◌≡◌, ℕ, ◌+◌, ◌≤◌, true, List, [], ◌∷◌, ◌++◌, ◌⊎◌, length, map, codes}
+use Rattle.std.specs.Prelude.{decimal, Option, None, Some, Result, Ok, Err, if◌then◌else◌}
 use Rattle.std.specs.List.{flat_map, AllByRecursion, join_with_byte}
 use Rattle.hub_base.specs.declared.case.Case.{Case}
 use Rattle.hub_base.specs.declared.case.Case.TheVariants.{Send, Recv}
@@ -11,7 +12,8 @@ use Rattle.hub_base.specs.declared.entry.Entry.{Entry}
 use Rattle.hub_base.specs.declared.head.Head.{Head}
 use Rattle.hub_base.specs.Value.{number_of}
 use Rattle.hub_base.specs.declared.text.faults.Kind.{Kind}
-use Rattle.hub_base.specs.declared.limits.TheConstants.{CASE_PLACES, MOST_STEPS, MOST_BYTES, GREATEST_PID, GREATEST_PORT, GREATEST_CAP, GREATEST_VALUE, GREATEST_WORD}
+use Rattle.hub_base.specs.declared.limits.TheConstants.{CASE_PLACES, MOST_STEPS, MOST_BYTES, GREATEST_PID}
+use Rattle.hub_base.specs.declared.limits.TheConstants.{GREATEST_PORT, GREATEST_CAP, GREATEST_VALUE, GREATEST_WORD}
 use Rattle.hub_base.specs.declared.text.faults.Kind.TheVariants.{BadHeader, BadProcs, TooLong}
 use Rattle.hub_base.specs.Lines.{line, step_fields, pieces, read_fields, same_text}
 use Rattle.hub_base.specs.Head.{IsHead}

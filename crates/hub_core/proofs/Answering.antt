@@ -24,7 +24,8 @@ use Rattle.hub_core.specs.Agrees.{FiresAs, StepsAs}
 use Rattle.hub_core.proofs.Firings.{send-as, recv-as}
 use Rattle.hub_core.proofs.Readiness.{ready_on-as, number_in}
 
-told : (s : State) (m : MachineLists) (pid : Pid) (index : ℕ) (f : Firing) (g : ListFiring) → FiresAs f m g → StepsAs (proceeds s pid index (Some f)) (after_call m (tell_firing pid index g))
+told : (s : State) (m : MachineLists) (pid : Pid) (index : ℕ) (f : Firing) (g : ListFiring) → FiresAs f m g
+    → StepsAs (proceeds s pid index (Some f)) (after_call m (tell_firing pid index g))
 told s m pid index f g same = record {
   events = ap (λ es. fired pid index g.outcome ∷ es) same.ended ∙ ap (λ o. fired pid index o ∷ f.ended) same.outcome;
   state = same.state;
@@ -34,23 +35,35 @@ no_channel : (test : Channel → Bool) → option_map_or test None false ≡ tru
 no_channel test e = cc
 
 -- a case that can proceed fires
-fires_by : (s : State) (m : MachineLists) (pid : Pid) (index : ℕ) (k : Case) (o : Option Channel) → IsSound s → Matches s m → o ≡ channel_at s (port_of k) → can_proceed s k ≡ true →
-    StepsAs (proceeds s pid index (fires s k o)) (after_call m (fires_on m.board m.counts pid index (Some k)))
-fires_by s m pid index (Send p v) None sound h is can = absurd (no_channel (send_can s p) (ap (λ (o : Option Channel). option_map_or (send_can s p) o false) is ∙ can))
-fires_by s m pid index (Recv p) None sound h is can = absurd (no_channel (recv_can s p) (ap (λ (o : Option Channel). option_map_or (recv_can s p) o false) is ∙ can))
+fires_by : (s : State) (m : MachineLists) (pid : Pid) (index : ℕ) (k : Case) (o : Option Channel) → IsSound s → Matches s m → o ≡ channel_at s (port_of k)
+    → can_proceed s k ≡ true → StepsAs (proceeds s pid index (fires s k o)) (after_call m (fires_on m.board m.counts pid index (Some k)))
+fires_by s m pid index (Send p v) None sound h is can =
+    absurd (no_channel (send_can s p) (ap (λ (o : Option Channel). option_map_or (send_can s p) o false) is ∙ can))
+fires_by s m pid index (Recv p) None sound h is can =
+    absurd (no_channel (recv_can s p) (ap (λ (o : Option Channel). option_map_or (recv_can s p) o false) is ∙ can))
 fires_by s m pid index (Send p v) (Some c) sound h is can = told s m pid index _ _ (send-as s m p v c sound h (sym is))
 fires_by s m pid index (Recv p) (Some c) sound h is can = told s m pid index _ _ (recv-as s m p c sound h (sym is))
 
-parked-calls : (s : State) (m : MachineLists) (pid : Pid) (ticket : ℕ) (cases : List Case) → Matches s m → open_calls (m.board.waiting ++ ticketed pid ticket cases ∷ []) ≡ s.parked ++ record { pid = pid; cases = cases } ∷ []
-parked-calls s m pid ticket cases h = map-append (λ (w : Ticketed). w.call) m.board.waiting (ticketed pid ticket cases ∷ []) ∙ ap (λ calls. calls ++ record { pid = pid; cases = cases } ∷ []) h.calls
+parked-calls : (s : State) (m : MachineLists) (pid : Pid) (ticket : ℕ) (cases : List Case) → Matches s m
+    → open_calls (m.board.waiting ++ ticketed pid ticket cases ∷ []) ≡ s.parked ++ record { pid = pid; cases = cases } ∷ []
+parked-calls s m pid ticket cases h = map-append (λ (w : Ticketed). w.call) m.board.waiting (ticketed pid ticket cases ∷ [])
+    ∙ ap (λ calls. calls ++ record { pid = pid; cases = cases } ∷ []) h.calls
 
-waits_on-as : (s : State) (m : MachineLists) (pid : Pid) (cases : List Case) (default : Bool) → Matches s m → StepsAs (waits s pid cases default) (after_call m (waits_on m.board m.counts m.steps pid cases default))
-waits_on-as s m pid cases true h = record { events = refl; state = record { procs = h.procs; calls = h.calls; ports = h.ports; counts = h.counts; gone = h.gone } }
-waits_on-as s m pid cases false h = record { events = refl; state = record { procs = h.procs; calls = parked-calls s m pid m.steps cases h; ports = h.ports; counts = h.counts; gone = h.gone } }
+waits_on-as : (s : State) (m : MachineLists) (pid : Pid) (cases : List Case) (default : Bool) → Matches s m
+    → StepsAs (waits s pid cases default) (after_call m (waits_on m.board m.counts m.steps pid cases default))
+waits_on-as s m pid cases true h = record {
+  events = refl;
+  state = record { procs = h.procs; calls = h.calls; ports = h.ports; counts = h.counts; gone = h.gone };
+}
+waits_on-as s m pid cases false h = record {
+  events = refl;
+  state = record { procs = h.procs; calls = parked-calls s m pid m.steps cases h; ports = h.ports; counts = h.counts; gone = h.gone };
+}
 
 -- o: the case that the choice word names among those that can proceed
-chooses_on-as : (s : State) (m : MachineLists) (pid : Pid) (cases : List Case) (default : Bool) (k : ℕ) (o : Option (ℕ × Case)) → IsSound s → Matches s m → o ≡ slice_get (ready s cases) k →
-    StepsAs (chooses s pid cases default o) (after_call m (chooses_on m.board m.counts m.steps pid cases default (option_map number_in o)))
+chooses_on-as : (s : State) (m : MachineLists) (pid : Pid) (cases : List Case) (default : Bool) (k : ℕ) (o : Option (ℕ × Case))
+    → IsSound s → Matches s m → o ≡ slice_get (ready s cases) k
+    → StepsAs (chooses s pid cases default o) (after_call m (chooses_on m.board m.counts m.steps pid cases default (option_map number_in o)))
 chooses_on-as s m pid cases default k None sound h is = waits_on-as s m pid cases default h
 chooses_on-as s m pid cases default k (Some x) sound h is =
     let named = chosen (can_proceed s) 0 k cases x (sym is) in
@@ -58,10 +71,13 @@ chooses_on-as s m pid cases default k (Some x) sound h is =
     let stands : slice_get cases x.0 ≡ Some x.1 = ap (slice_get cases) place ∙ named.stands.2 in
     rw stands (fires_by s m pid x.0 x.1 (channel_at s (port_of x.1)) sound h refl named.ready)
 
-pub calls_on-as : (s : State) (m : MachineLists) (pid : Pid) (cases : List Case) (default : Bool) (word : ℕ) → IsSound s → Matches s m → list_any (λ k. is_unmade s (port_of k)) cases ≡ false →
-    StepsAs (calls s pid cases default word) (after_call m (calls_on m.board m.counts m.steps pid cases default word))
+pub calls_on-as : (s : State) (m : MachineLists) (pid : Pid) (cases : List Case) (default : Bool) (word : ℕ)
+    → IsSound s → Matches s m → list_any (λ k. is_unmade s (port_of k)) cases ≡ false
+    → StepsAs (calls s pid cases default word) (after_call m (calls_on m.board m.counts m.steps pid cases default word))
 calls_on-as s m pid cases default word sound h named =
     let is : ready_on m.board 0 cases ≡ map number_in (ready s cases) = ready_on-as s m 0 cases h named in
-    let choice : slice_get (ready_on m.board 0 cases) (word % length (ready_on m.board 0 cases)) ≡ option_map number_in (slice_get (ready s cases) (word % length (ready s cases))) =
-    ap (λ xs. slice_get xs (word % length xs)) is ∙ ap (λ n. slice_get (map number_in (ready s cases)) (word % n)) (length-map (ready s cases) number_in) ∙ slice_get-map number_in (ready s cases) (word % length (ready s cases)) in
+    let choice : slice_get (ready_on m.board 0 cases) (word % length (ready_on m.board 0 cases))
+    ≡ option_map number_in (slice_get (ready s cases) (word % length (ready s cases))) =
+    ap (λ xs. slice_get xs (word % length xs)) is ∙ ap (λ n. slice_get (map number_in (ready s cases)) (word % n)) (length-map (ready s cases) number_in)
+    ∙ slice_get-map number_in (ready s cases) (word % length (ready s cases)) in
     rw choice (chooses_on-as s m pid cases default (word % length (ready s cases)) (slice_get (ready s cases) (word % length (ready s cases))) sound h refl)

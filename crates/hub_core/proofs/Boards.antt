@@ -19,8 +19,8 @@ pub port_at-with_port : (b : Lists) (p : Port) (q : PortLists) → IsMade b p �
 port_at-with_port b p q made = get_or-set_same b.ports (p.0 - 1) q no_port (omega (arith, made.0, made.1))
 
 -- the oldest value leaves the port, and then a new one comes
-pub pushed-popped : (b c d : Lists) (p : Port) (u : Value) → IsMade b p → c ≡ with_port b p (popped (port_at b p)) → d ≡ with_port c p (pushed u (port_at c p)) →
-    d ≡ with_port b p (pushed u (popped (port_at b p)))
+pub pushed-popped : (b c d : Lists) (p : Port) (u : Value) → IsMade b p → c ≡ with_port b p (popped (port_at b p))
+    → d ≡ with_port c p (pushed u (port_at c p)) → d ≡ with_port b p (pushed u (popped (port_at b p)))
 pushed-popped b c d p u made left push =
     push ∙ ap (λ x. with_port x p (pushed u (port_at x p))) left
     ∙ ap (λ q. with_port (with_port b p (popped (port_at b p))) p (pushed u q)) (port_at-with_port b p (popped (port_at b p)) made)

@@ -1,5 +1,6 @@
 -- A make, a close, an exit, and so each step, is on the lists what it is in the meaning.
-use Rattle.std.proofs.Common.{◌≡◌, ℕ, ◌+◌, ◌==◌, ◌<◌, ◌||◌, ◌≢◌, not, nat_lt, Bool, true, false, cond, List, [], ◌∷◌, ◌++◌, length, filter, refl, ap, ◌∙◌, sym, subst, Option, Some, None, arith}
+use Rattle.std.proofs.Common.{◌≡◌, ℕ, ◌+◌, ◌==◌, ◌<◌, ◌||◌, ◌≢◌, not, nat_lt, Bool, true, false, cond, List, []}
+use Rattle.std.proofs.Common.{◌∷◌, ◌++◌, length, filter, refl, ap, ◌∙◌, sym, subst, Option, Some, None, arith}
 use Rattle.std.specs.Prelude.{slice_set}
 use Rattle.std.specs.List.{list_any, filter_map}
 use Rattle.std.proofs.lemmas.Grind.{common_steps}
@@ -34,7 +35,8 @@ open_calls-off_port : (p : Port) (ws : List Ticketed) → open_calls (off_port p
 open_calls-off_port p [] = refl
 open_calls-off_port p (w ∷ ws) = grind (arith, common_steps, open_calls-off_port p ws)
 
-closes_on-as : (s : State) (m : MachineLists) (pid : Pid) (p : Port) (o : Option Channel) → Matches s m → o ≡ channel_at s p → close_fault o ≡ None → StepsAs (closes s pid p o) (closes_on m pid p)
+closes_on-as : (s : State) (m : MachineLists) (pid : Pid) (p : Port) (o : Option Channel) → Matches s m → o ≡ channel_at s p
+    → close_fault o ≡ None → StepsAs (closes s pid p o) (closes_on m pid p)
 closes_on-as s m pid p None h is fine = cc
 closes_on-as s m pid p (Some c) h is fine = record {
   events = ap (λ calls. tells pid what.Done ∷ filter_map (closing_event p) calls) h.calls;
@@ -54,15 +56,17 @@ makes_on-as s m pid cap h = record {
   state = record {
     procs = h.procs;
     calls = h.calls;
-    ports = ap (λ ps. ps ++ new_port cap ∷ []) h.ports ∙ sym (map-append lists_of s.channels (record { cap = cap; closed = false; sent = []; received = 0 } ∷ []));
-    counts = ap (λ ts. ts ++ no_tally ∷ []) h.counts ∙ sym (map-append tally_of s.channels (record { cap = cap; closed = false; sent = []; received = 0 } ∷ []));
+    ports = ap (λ ps. ps ++ new_port cap ∷ []) h.ports
+        ∙ sym (map-append lists_of s.channels (record { cap = cap; closed = false; sent = []; received = 0 } ∷ []));
+    counts = ap (λ ts. ts ++ no_tally ∷ []) h.counts
+        ∙ sym (map-append tally_of s.channels (record { cap = cap; closed = false; sent = []; received = 0 } ∷ []));
     gone = h.gone;
   };
 }
 
 -- ---- an exit
-gone_by : (gone : List Bool) (given : List Pid) (pid : Pid) (q : ℕ) (same : Bool) → pid.0 < length gone → (pid.0 == q) ≡ same → gone_on gone q ≡ list_any (λ g. g.0 == q) given →
-    gone_on (slice_set gone pid.0 true) q ≡ list_any (λ g. g.0 == q) given || same
+gone_by : (gone : List Bool) (given : List Pid) (pid : Pid) (q : ℕ) (same : Bool) → pid.0 < length gone → (pid.0 == q) ≡ same
+    → gone_on gone q ≡ list_any (λ g. g.0 == q) given → gone_on (slice_set gone pid.0 true) q ≡ list_any (λ g. g.0 == q) given || same
 gone_by gone given pid q true room is rest =
     let here : gone_on (slice_set gone pid.0 true) pid.0 ≡ true = get_or-set_same gone pid.0 true false room in
     subst (λ (n : ℕ). gone_on (slice_set gone pid.0 true) n ≡ true) (eqb-true pid.0 q is) here ∙ sym (always (list_any (λ g. g.0 == q) given)) where
@@ -95,12 +99,13 @@ exits_on-as s m pid h room = record {
 unmade-as : (s : State) (m : MachineLists) (p : Port) → Matches s m → is_unmade_on m.board p ≡ is_unmade s p
 unmade-as s m p h = ap (λ n. nat_lt n p.0) (count-ports s m h)
 
-call_fault-as : (s : State) (m : MachineLists) (cases : List Case) → Matches s m →
-    call_fault_on m.board cases ≡ cond (nat_lt MOST_CASES (length cases)) (Some fault.TooManyCases) (cond (list_any (λ c. is_unmade s (port_of c)) cases) (Some fault.NoPort) None)
+call_fault-as : (s : State) (m : MachineLists) (cases : List Case) → Matches s m → call_fault_on m.board cases
+    ≡ cond (nat_lt MOST_CASES (length cases)) (Some fault.TooManyCases) (cond (list_any (λ c. is_unmade s (port_of c)) cases) (Some fault.NoPort) None)
 call_fault-as s m cases h = rw (count-ports s m h) refl
 
-close_fault_by : (s : State) (m : MachineLists) (p : Port) (unmade nil : Bool) → Matches s m → is_unmade s p ≡ unmade → (p.0 == 0) ≡ nil →
-    cond unmade (Some fault.NoPort) (cond nil (Some fault.NilClose) (cond (port_at m.board p).closed (Some fault.AlreadyClosed) None)) ≡ cond unmade (Some fault.NoPort) (close_fault (channel_at s p))
+close_fault_by : (s : State) (m : MachineLists) (p : Port) (unmade nil : Bool) → Matches s m → is_unmade s p ≡ unmade → (p.0 == 0) ≡ nil
+    → cond unmade (Some fault.NoPort) (cond nil (Some fault.NilClose) (cond (port_at m.board p).closed (Some fault.AlreadyClosed) None))
+    ≡ cond unmade (Some fault.NoPort) (close_fault (channel_at s p))
 close_fault_by s m p true nil h named is = refl
 close_fault_by s m p false true h named is = rw is refl
 close_fault_by s m p false false h named is =
@@ -114,11 +119,16 @@ fault_on-as s m (Close p) h = rw (unmade-as s m p h) (close_fault_by s m p (is_u
 fault_on-as s m Exit h = refl
 
 -- ---- a step that has no fault
-named_cases : (s : State) (cases : List Case) (many : Bool) → cond many (Some fault.TooManyCases) (cond (list_any (λ c. is_unmade s (port_of c)) cases) (Some fault.NoPort) None) ≡ None → list_any (λ c. is_unmade s (port_of c)) cases ≡ false
+named_cases : (s : State) (cases : List Case) (many : Bool)
+    → cond many (Some fault.TooManyCases) (cond (list_any (λ c. is_unmade s (port_of c)) cases) (Some fault.NoPort) None) ≡ None
+    → list_any (λ c. is_unmade s (port_of c)) cases ≡ false
 named_cases s cases many e = (none_false (list_any (λ c. is_unmade s (port_of c)) cases) fault.NoPort None (none_false many fault.TooManyCases _ e).1).0
 
-pub effect_on-as : (s : State) (m : MachineLists) (pid : Pid) (step : Step) → IsSound s → Matches s m → pid.0 < length m.gone → fault_of s step ≡ None → StepsAs (effect s pid step) (effect_on m pid step)
+pub effect_on-as : (s : State) (m : MachineLists) (pid : Pid) (step : Step) → IsSound s → Matches s m → pid.0 < length m.gone
+    → fault_of s step ≡ None → StepsAs (effect s pid step) (effect_on m pid step)
 effect_on-as s m pid (Make cap) sound h room fine = makes_on-as s m pid cap h
-effect_on-as s m pid (Call cases default word) sound h room fine = calls_on-as s m pid cases.items default word sound h (named_cases s cases.items (nat_lt MOST_CASES (length cases.items)) fine)
-effect_on-as s m pid (Close p) sound h room fine = closes_on-as s m pid p (channel_at s p) h refl (none_false (is_unmade s p) fault.NoPort (close_fault (channel_at s p)) fine).1
+effect_on-as s m pid (Call cases default word) sound h room fine =
+    calls_on-as s m pid cases.items default word sound h (named_cases s cases.items (nat_lt MOST_CASES (length cases.items)) fine)
+effect_on-as s m pid (Close p) sound h room fine =
+    closes_on-as s m pid p (channel_at s p) h refl (none_false (is_unmade s p) fault.NoPort (close_fault (channel_at s p)) fine).1
 effect_on-as s m pid Exit sound h room fine = exits_on-as s m pid h room

@@ -22,7 +22,8 @@ open_calls-still_open pid [] = refl
 open_calls-still_open pid (w ∷ ws) = grind (arith, common_steps, open_calls-still_open pid ws)
 
 pub apart-still_open : (pid : Pid) (ws : List Ticketed) → Apart (open_calls ws) → Apart (open_calls (still_open pid ws))
-apart-still_open pid ws apart = subst Apart (sym (open_calls-still_open pid ws)) ((fewer-filter (λ call. not (call.pid.0 == pid.0)) (open_calls ws)).apart apart)
+apart-still_open pid ws apart =
+    subst Apart (sym (open_calls-still_open pid ws)) ((fewer-filter (λ call. not (call.pid.0 == pid.0)) (open_calls ws)).apart apart)
 
 passes_over : (pid : Pid) (w : Ticketed) (ws : List Ticketed) → (w.call.pid.0 == pid.0) ≡ false → still_open pid (w ∷ ws) ≡ w ∷ still_open pid ws
 passes_over pid w ws e = rw e refl
@@ -40,14 +41,19 @@ still_open-none pid (w ∷ ws) e =
 pub still_open-first : (w : Ticketed) (ws : List Ticketed) → is_among w.call.pid.0 (open_calls ws) ≡ false → still_open w.call.pid (w ∷ ws) ≡ ws
 still_open-first w ws e = ends w.call.pid w ws (same_number w.call.pid.0) ∙ still_open-none w.call.pid ws e
 
-other_pid : (pid : Pid) (w : Ticketed) (ws : List Ticketed) → is_among w.call.pid.0 (open_calls ws) ≡ false → is_among pid.0 (open_calls ws) ≡ true → (w.call.pid.0 == pid.0) ≡ false
-other_pid pid w ws apart among = false_from_ne_true (w.call.pid.0 == pid.0) (λ h. let g : is_among pid.0 (open_calls ws) ≡ false = subst (λ (n : ℕ). is_among n (open_calls ws) ≡ false) (eqb-true w.call.pid.0 pid.0 h) apart in cc)
+other_pid : (pid : Pid) (w : Ticketed) (ws : List Ticketed) → is_among w.call.pid.0 (open_calls ws) ≡ false → is_among pid.0 (open_calls ws) ≡ true
+    → (w.call.pid.0 == pid.0) ≡ false
+other_pid pid w ws apart among = false_from_ne_true (w.call.pid.0 == pid.0)
+    (λ h. let g : is_among pid.0 (open_calls ws) ≡ false = subst (λ (n : ℕ). is_among n (open_calls ws) ≡ false) (eqb-true w.call.pid.0 pid.0 h) apart in cc)
 
 -- one call fewer
-pub length-still_open : (pid : Pid) (ws : List Ticketed) → Apart (open_calls ws) → is_among pid.0 (open_calls ws) ≡ true → length (still_open pid ws) + 1 ≡ length ws
+pub length-still_open : (pid : Pid) (ws : List Ticketed) → Apart (open_calls ws) → is_among pid.0 (open_calls ws) ≡ true
+    → length (still_open pid ws) + 1 ≡ length ws
 length-still_open pid [] apart e = cc
 length-still_open pid (w ∷ ws) apart e = length_by pid w ws apart (w.call.pid.0 == pid.0) refl e (λ h. length-still_open pid ws apart.1 h) where
-  length_by : (pid : Pid) (w : Ticketed) (ws : List Ticketed) → Apart (open_calls (w ∷ ws)) → (b : Bool) → (w.call.pid.0 == pid.0) ≡ b → is_among pid.0 (open_calls (w ∷ ws)) ≡ true → (is_among pid.0 (open_calls ws) ≡ true → length (still_open pid ws) + 1 ≡ length ws) → length (still_open pid (w ∷ ws)) + 1 ≡ length (w ∷ ws)
+  length_by : (pid : Pid) (w : Ticketed) (ws : List Ticketed) → Apart (open_calls (w ∷ ws)) → (b : Bool) → (w.call.pid.0 == pid.0) ≡ b
+      → is_among pid.0 (open_calls (w ∷ ws)) ≡ true → (is_among pid.0 (open_calls ws) ≡ true → length (still_open pid ws) + 1 ≡ length ws)
+      → length (still_open pid (w ∷ ws)) + 1 ≡ length (w ∷ ws)
   length_by pid w ws apart true is e ih =
       let same : is_among pid.0 (open_calls ws) ≡ false = subst (λ (n : ℕ). is_among n (open_calls ws) ≡ false) (eqb-true w.call.pid.0 pid.0 is) apart.0 in
       let kept : still_open pid (w ∷ ws) ≡ ws = ends pid w ws is ∙ still_open-none pid ws same in
@@ -63,10 +69,11 @@ pub record ClosesOne (p : Port) (ws : List Ticketed) (e : Ending) : Type 0 where
   pub apart : Apart (open_calls (still_open e.pid ws))
   pub fewer : length (still_open e.pid ws) + 1 ≡ length ws
 
-off_by : (p : Port) (w : Ticketed) (ws : List Ticketed) (e : Ending) (o : Option Placed) (b : Bool) → b ≡ list_any (is_on p) w.call.cases → b ≡ is_some o →
-    is_among w.call.pid.0 (open_calls ws) ≡ false → (first_with (is_on p) (open_calls ws) ≡ Some e → off_port p (still_open e.pid ws) ≡ off_port p ws) →
-    (first_with (is_on p) (open_calls ws) ≡ Some e → is_among e.pid.0 (open_calls ws) ≡ true) →
-    or_else (option_map (λ c. record { pid = w.call.pid; at = c }) o) (first_with (is_on p) (open_calls ws)) ≡ Some e → off_port p (still_open e.pid (w ∷ ws)) ≡ off_port p (w ∷ ws)
+off_by : (p : Port) (w : Ticketed) (ws : List Ticketed) (e : Ending) (o : Option Placed) (b : Bool) → b ≡ list_any (is_on p) w.call.cases → b ≡ is_some o
+    → is_among w.call.pid.0 (open_calls ws) ≡ false → (first_with (is_on p) (open_calls ws) ≡ Some e → off_port p (still_open e.pid ws) ≡ off_port p ws)
+    → (first_with (is_on p) (open_calls ws) ≡ Some e → is_among e.pid.0 (open_calls ws) ≡ true)
+    → or_else (option_map (λ c. record { pid = w.call.pid; at = c }) o) (first_with (is_on p) (open_calls ws)) ≡ Some e
+    → off_port p (still_open e.pid (w ∷ ws)) ≡ off_port p (w ∷ ws)
 off_by p w ws e None false on some apart rest among h =
     let skip : (vs : List Ticketed) → off_port p (w ∷ vs) ≡ w ∷ off_port p vs = λ vs. rw (sym on) refl in
     ap (off_port p) (passes_over e.pid w ws (other_pid e.pid w ws apart (among h))) ∙ skip (still_open e.pid ws) ∙ ap (λ vs. w ∷ vs) (rest h) ∙ sym (skip ws)
@@ -77,10 +84,12 @@ off_by p w ws e (Some a) true on some apart rest among h =
     let left : off_port p (w ∷ ws) ≡ off_port p ws = rw (sym on) refl in
     ap (λ (q : Pid). off_port p (still_open q (w ∷ ws))) (sym same) ∙ ap (off_port p) (still_open-first w ws apart) ∙ sym left
 
-among_first : (p : Port) (ws : List Ticketed) (e : Ending) → Apart (open_calls ws) → first_with (is_on p) (open_calls ws) ≡ Some e → is_among e.pid.0 (open_calls ws) ≡ true
+among_first : (p : Port) (ws : List Ticketed) (e : Ending) → Apart (open_calls ws) → first_with (is_on p) (open_calls ws) ≡ Some e
+    → is_among e.pid.0 (open_calls ws) ≡ true
 among_first p ws e apart h = ((closes-next p (open_calls ws) apart).next e h).2
 
-off-still_open : (p : Port) (ws : List Ticketed) (e : Ending) → Apart (open_calls ws) → first_with (is_on p) (open_calls ws) ≡ Some e → off_port p (still_open e.pid ws) ≡ off_port p ws
+off-still_open : (p : Port) (ws : List Ticketed) (e : Ending) → Apart (open_calls ws) → first_with (is_on p) (open_calls ws) ≡ Some e
+    → off_port p (still_open e.pid ws) ≡ off_port p ws
 off-still_open p [] e apart h = cc
 off-still_open p (w ∷ ws) e apart h =
     off_by p w ws e (lowest (is_on p) w.call.cases) (list_any (is_on p) w.call.cases) refl (sym (lowest-some 0 (is_on p) w.call.cases)) apart.0
@@ -90,7 +99,8 @@ pub closes_one : (p : Port) (ws : List Ticketed) (e : Ending) → Apart (open_ca
 closes_one p ws e apart h =
     let next = (closes-next p (open_calls ws) apart).next e h in
     record {
-      events = next.0 ∙ ap (λ calls. fired e.pid e.at.index (closing_outcome e.at.case) ∷ filter_map (closing_event p) calls) (sym (open_calls-still_open e.pid ws));
+      events = next.0 ∙ ap (λ calls. fired e.pid e.at.index (closing_outcome e.at.case) ∷ filter_map (closing_event p) calls)
+          (sym (open_calls-still_open e.pid ws));
       kept = off-still_open p ws e apart h;
       apart = apart-still_open e.pid ws apart;
       fewer = length-still_open e.pid ws apart next.2;
@@ -101,9 +111,9 @@ pub record ClosesNone (p : Port) (ws : List Ticketed) : Type 0 where
   pub events : closing_events p ws ≡ []
   pub kept : off_port p ws ≡ ws
 
-none_by : (p : Port) (w : Ticketed) (ws : List Ticketed) (o : Option Placed) (b : Bool) → o ≡ lowest (is_on p) w.call.cases → b ≡ list_any (is_on p) w.call.cases → b ≡ is_some o →
-    (first_with (is_on p) (open_calls ws) ≡ None → ClosesNone p ws) →
-    or_else (option_map (λ c. record { pid = w.call.pid; at = c }) o) (first_with (is_on p) (open_calls ws)) ≡ None → ClosesNone p (w ∷ ws)
+none_by : (p : Port) (w : Ticketed) (ws : List Ticketed) (o : Option Placed) (b : Bool) → o ≡ lowest (is_on p) w.call.cases
+    → b ≡ list_any (is_on p) w.call.cases → b ≡ is_some o → (first_with (is_on p) (open_calls ws) ≡ None → ClosesNone p ws)
+    → or_else (option_map (λ c. record { pid = w.call.pid; at = c }) o) (first_with (is_on p) (open_calls ws)) ≡ None → ClosesNone p (w ∷ ws)
 none_by p w ws None false at on some rest h =
     let skip : off_port p (w ∷ ws) ≡ w ∷ off_port p ws = rw (sym on) refl in
     let quiet : closing_events p (w ∷ ws) ≡ closing_events p ws = rw (sym at) refl in
@@ -114,7 +124,8 @@ none_by p w ws (Some a) b at on some rest h = cc
 pub closes_none : (p : Port) (ws : List Ticketed) → first_with (is_on p) (open_calls ws) ≡ None → ClosesNone p ws
 closes_none p [] h = record { events = refl; kept = refl }
 closes_none p (w ∷ ws) h =
-    none_by p w ws (lowest (is_on p) w.call.cases) (list_any (is_on p) w.call.cases) refl refl (sym (lowest-some 0 (is_on p) w.call.cases)) (λ f. closes_none p ws f) h
+    none_by p w ws (lowest (is_on p) w.call.cases) (list_any (is_on p) w.call.cases) refl refl
+    (sym (lowest-some 0 (is_on p) w.call.cases)) (λ f. closes_none p ws f) h
 
 -- ---- a stall: what is left after the oldest call has ended
 pub record StopsOne (ws : List Ticketed) (pid : Pid) : Type 0 where

@@ -1,5 +1,6 @@
 -- A machine that follows a run follows it by one entry more.
-use Rattle.std.proofs.Common.{◌≡◌, ℕ, zero, suc, ◌+◌, ◌≤◌, ◌<◌, Bool, true, false, cond, List, [], ◌∷◌, ◌++◌, length, append-nil, refl, ap, ◌∙◌, sym, subst, Option, Some, None, arith}
+use Rattle.std.proofs.Common.{◌≡◌, ℕ, zero, suc, ◌+◌, ◌≤◌, ◌<◌, Bool, true, false, cond, List, [], ◌∷◌, ◌++◌}
+use Rattle.std.proofs.Common.{length, append-nil, refl, ap, ◌∙◌, sym, subst, Option, Some, None, arith}
 use Rattle.std.specs.Prelude.{slice_get, replicate}
 use Rattle.hub_base.specs.declared.head.Head.{Head}
 use Rattle.hub_base.specs.declared.value.Pid.{Pid}
@@ -41,11 +42,13 @@ pub moves-refused : (s : State) (e : Entry) (f : Fault) → refusal s e.pid ≡ 
 moves-refused s e f h = ap (admits s e) h
 
 -- ---- one admitted entry
-answers_by : (s : State) (m : MachineLists) (e : Entry) (o : Option Fault) → IsSound s → Matches s m → e.pid.0 < length m.gone → o ≡ fault_of s e.step → StepsAs (answers s e o) (answers_on m e o)
+answers_by : (s : State) (m : MachineLists) (e : Entry) (o : Option Fault) → IsSound s → Matches s m → e.pid.0 < length m.gone
+    → o ≡ fault_of s e.step → StepsAs (answers s e o) (answers_on m e o)
 answers_by s m e None sound h room is = stalls_on-as (effect s e.pid e.step) (effect_on m e.pid e.step) (effect_on-as s m e.pid e.step sound h room (sym is))
 answers_by s m e (Some f) sound h room is = record { events = refl; state = h }
 
-pub answers_on-as : (s : State) (m : MachineLists) (e : Entry) → IsSound s → Matches s m → e.pid.0 < length m.gone → StepsAs (turn s e) (answers_on m e (fault_on m.board e.step))
+pub answers_on-as : (s : State) (m : MachineLists) (e : Entry) → IsSound s → Matches s m → e.pid.0 < length m.gone
+    → StepsAs (turn s e) (answers_on m e (fault_on m.board e.step))
 answers_on-as s m e sound h room = rw (fault_on-as s m e.step h) (answers_by s m e (fault_of s e.step) sound h room refl)
 
 -- ---- tickets
@@ -66,7 +69,8 @@ tickets_longer journal e (w ∷ ws) h = (get_longer journal e w.ticket w.call h.
 abbrev IsTicket : List Entry → Ticketed → Type 0
 IsTicket journal w = IsEntryOf (slice_get journal w.ticket) w.call
 
-opens_by : (journal : List Entry) (n : ℕ) (pid : Pid) (step : Step) → slice_get journal n ≡ Some (record { pid = pid; step = step }) → Opens (IsTicket journal) n pid step
+opens_by : (journal : List Entry) (n : ℕ) (pid : Pid) (step : Step) → slice_get journal n ≡ Some (record { pid = pid; step = step })
+    → Opens (IsTicket journal) n pid step
 opens_by journal n pid (Make cap) h = tt
 opens_by journal n pid (Call cases default word) h = rw h (refl, refl)
 opens_by journal n pid (Close p) h = tt
@@ -77,14 +81,15 @@ length-snoc : (xs : List Entry) (x : Entry) → length xs + 1 ≡ length (xs ++ 
 length-snoc [] x = refl
 length-snoc (y ∷ ys) x = omega (arith, length-snoc ys x)
 
-pub follows_on : (head : Head) (es : List Entry) (e : Entry) (m : MachineLists) → Follows head es m → refusal (state head es) e.pid ≡ None → e.pid.0 < length m.gone →
-    Admits head es e (turn_on m e).machine (turn_on m e).events
+pub follows_on : (head : Head) (es : List Entry) (e : Entry) (m : MachineLists) → Follows head es m → refusal (state head es) e.pid ≡ None
+    → e.pid.0 < length m.gone → Admits head es e (turn_on m e).machine (turn_on m e).events
 follows_on head es e m h adm room =
     let same = answers_on-as (state head es) m e (state-sound head es) h.matches room in
     let moved = moves-admitted (state head es) e adm in
     let grown = kept-admitted head es e adm in
     let last : slice_get (kept head (es ++ e ∷ [])) m.steps ≡ Some e = rw (grown, h.steps) (get_last (kept head es) e) in
-    let left = answers_on_leaves (IsTicket (kept head (es ++ e ∷ []))) m.steps m e (fault_on m.board e.step) refl (opens_by (kept head (es ++ e ∷ [])) m.steps e.pid e.step last) in
+    let left = answers_on_leaves (IsTicket (kept head (es ++ e ∷ []))) m.steps m e (fault_on m.board e.step) refl
+    (opens_by (kept head (es ++ e ∷ [])) m.steps e.pid e.step last) in
     record {
       admitted = adm;
       events = same.events ∙ ap (λ (c : Change). c.events) (sym moved);
@@ -93,11 +98,13 @@ follows_on head es e m h adm room =
             (record { procs = same.state.procs; calls = same.state.calls; ports = same.state.ports; counts = same.state.counts; gone = same.state.gone });
         steps = ap (λ k. k + 1) h.steps ∙ length-snoc (kept head es) e ∙ ap length (sym grown);
         later = left.next h.later;
-        tickets = left.waiting (subst (λ (j : List Entry). TicketsAre j m.board.waiting) (sym grown) (tickets_longer (kept head es) e m.board.waiting h.tickets));
+        tickets =
+            left.waiting (subst (λ (j : List Entry). TicketsAre j m.board.waiting) (sym grown) (tickets_longer (kept head es) e m.board.waiting h.tickets));
       };
     }
 
-pub follows_refused : (head : Head) (es : List Entry) (e : Entry) (m : MachineLists) (f : Fault) → Follows head es m → refusal (state head es) e.pid ≡ Some f → Answers head es e m (tells e.pid (what.Fault f) ∷ [])
+pub follows_refused : (head : Head) (es : List Entry) (e : Entry) (m : MachineLists) (f : Fault) → Follows head es m
+    → refusal (state head es) e.pid ≡ Some f → Answers head es e m (tells e.pid (what.Fault f) ∷ [])
 follows_refused head es e m f h is =
     let moved = moves-refused (state head es) e f is in
     let same : state head (es ++ e ∷ []) ≡ state head es = state-entry head es e ∙ ap (λ (c : Change). c.state) moved in
@@ -123,14 +130,17 @@ refuses_by : (head : Head) (es : List Entry) (e : Entry) (f : Fault) → refusal
 refuses_by head es e fault.NoMemory h = absurd (never_memory _ _ _ h)
 refuses_by head es e f h = h
 
-pub refuses_for : (head : Head) (es : List Entry) (e : Entry) (m : MachineLists) (f : Fault) → Follows head es m → Some f ≡ refusal_of m.board m.gone e.pid → RefusesFor head es e f
+pub refuses_for : (head : Head) (es : List Entry) (e : Entry) (m : MachineLists) (f : Fault) → Follows head es m
+    → Some f ≡ refusal_of m.board m.gone e.pid → RefusesFor head es e f
 refuses_for head es e m f h is = refuses_by head es e f (sym (refusal_of-as (state head es) m e.pid h.matches) ∙ sym is)
 
-pub refused_as : (head : Head) (es : List Entry) (e : Entry) (f : Fault) → (f ≡ fault.NoMemory → ⊥) → RefusesFor head es e f → refusal (state head es) e.pid ≡ Some f
+pub refused_as : (head : Head) (es : List Entry) (e : Entry) (f : Fault) → (f ≡ fault.NoMemory → ⊥) → RefusesFor head es e f
+    → refusal (state head es) e.pid ≡ Some f
 refused_as head es e fault.NoMemory other h = absurd (other refl)
 refused_as head es e f other h = h
 
-pub admitted_as : (head : Head) (es : List Entry) (e : Entry) (m : MachineLists) → Follows head es m → refusal_of m.board m.gone e.pid ≡ None → refusal (state head es) e.pid ≡ None
+pub admitted_as : (head : Head) (es : List Entry) (e : Entry) (m : MachineLists) → Follows head es m → refusal_of m.board m.gone e.pid ≡ None
+    → refusal (state head es) e.pid ≡ None
 admitted_as head es e m h is = sym (refusal_of-as (state head es) m e.pid h.matches) ∙ is
 
 pub fine_as : (head : Head) (es : List Entry) (e : Entry) (m : MachineLists) → Follows head es m → fault_on m.board e.step ≡ None → IsFine (state head es) e

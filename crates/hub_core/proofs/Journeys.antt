@@ -1,5 +1,6 @@
 -- A run, entry by entry.
-use Rattle.std.proofs.Common.{◌≡◌, ℕ, zero, suc, ◌+◌, ◌<◌, Bool, true, false, List, [], ◌∷◌, ◌++◌, length, take, get_or, refl, ap, ◌∙◌, sym, subst, Some, arith, nat_lt}
+use Rattle.std.proofs.Common.{◌≡◌, ℕ, zero, suc, ◌+◌, ◌<◌, Bool, true, false, List, [], ◌∷◌, ◌++◌}
+use Rattle.std.proofs.Common.{length, take, get_or, refl, ap, ◌∙◌, sym, subst, Some, arith, nat_lt}
 use Rattle.std.specs.Prelude.{slice_get}
 use Rattle.std.proofs.lemmas.Grind.{common_steps}
 use Rattle.hub_base.specs.declared.entry.Entry.{Entry}
@@ -43,21 +44,23 @@ state_of-run terms es hub told r = ap (λ (t : Terms). state t.head hub.journal)
 same_entry : (es : List Entry) (i : ℕ) (e f : Entry) → slice_get es i ≡ Some e → slice_get es i ≡ Some f → f ≡ e
 same_entry es i e f h g = cc
 
-not_full : (terms : Terms) (es : List Entry) (i : ℕ) (e : Entry) (hub : HubView) (told : List Event) → RunsTo terms (take i es) hub told → slice_get es i ≡ Some e → HasRoom hub e → ¬ IsFullAt terms es i
+not_full : (terms : Terms) (es : List Entry) (i : ℕ) (e : Entry) (hub : HubView) (told : List Event) → RunsTo terms (take i es) hub told
+    → slice_get es i ≡ Some e → HasRoom hub e → ¬ IsFullAt terms es i
 not_full terms es i e hub told r h room = λ full.
     let same = same_entry es i e full.entry h full.stands in
     let step : is_exit e.step ≡ false = ap (λ (f : Entry). is_exit f.step) (sym same) ∙ full.step in
     absurd (omega (arith, room step, full.full, ap steps_of r.journal, limit-of r.terms))
 
 -- one entry more that is no place where the journal is full
-more_room : (terms : Terms) (es : List Entry) (i : ℕ) → ((j : ℕ) → j < i → ¬ IsFullAt terms es j) → ¬ IsFullAt terms es i → (j : ℕ) → j < i + 1 → ¬ IsFullAt terms es j
+more_room : (terms : Terms) (es : List Entry) (i : ℕ) → ((j : ℕ) → j < i → ¬ IsFullAt terms es j) → ¬ IsFullAt terms es i → (j : ℕ)
+    → j < i + 1 → ¬ IsFullAt terms es j
 more_room terms es i before here j h = by_order (nat_lt j i) refl where
   by_order : (b : Bool) → nat_lt j i ≡ b → ¬ IsFullAt terms es j
   by_order true is = before j (grind (arith, common_steps))
   by_order false is = let same : j ≡ i = grind (arith, common_steps) in subst (λ (k : ℕ). ¬ IsFullAt terms es k) (sym same) here
 
-pub run_on : (terms : Terms) (es : List Entry) (i : ℕ) (e : Entry) (old new : HubView) (before after : List Event) → RunSoFar terms es i old before → slice_get es i ≡ Some e → TellsOn old e new before after →
-    RunSoFar terms es (i + 1) new after
+pub run_on : (terms : Terms) (es : List Entry) (i : ℕ) (e : Entry) (old new : HubView) (before after : List Event)
+    → RunSoFar terms es i old before → slice_get es i ≡ Some e → TellsOn old e new before after → RunSoFar terms es (i + 1) new after
 run_on terms es i e old new before after r h t =
     let grown = take_one es i e h in
     let same = state_of-run terms (take i es) old before r.run in
@@ -80,7 +83,8 @@ run_on terms es i e old new before after r h t =
       room = more_room terms es i r.room (not_full terms es i e old before r.run h t.room);
     }
 
-pub first_full : (terms : Terms) (es : List Entry) (i : ℕ) (e : Entry) (hub : HubView) (told : List Event) → RunSoFar terms es i hub told → slice_get es i ≡ Some e → IsFullFor hub e → IsFirstFull terms es i
+pub first_full : (terms : Terms) (es : List Entry) (i : ℕ) (e : Entry) (hub : HubView) (told : List Event) → RunSoFar terms es i hub told
+    → slice_get es i ≡ Some e → IsFullFor hub e → IsFirstFull terms es i
 first_full terms es i e hub told r h full =
     (record { entry = e; stands = h; step = full.0; full = omega (arith, full.1, ap steps_of r.run.journal, limit-of r.run.terms) }, r.room)
 
@@ -89,17 +93,20 @@ get_below [] i e h = cc
 get_below (x ∷ es) zero e h = omega arith
 get_below (x ∷ es) (suc i) e h = omega (arith, get_below es i e h)
 
-pub room_up_to : (terms : Terms) (es : List Entry) (i : ℕ) (e : Entry) (hub : HubView) (told : List Event) → RunSoFar terms es i hub told → slice_get es i ≡ Some e → HasRoom hub e → IsOpenUpTo terms es i
+pub room_up_to : (terms : Terms) (es : List Entry) (i : ℕ) (e : Entry) (hub : HubView) (told : List Event) → RunSoFar terms es i hub told
+    → slice_get es i ≡ Some e → HasRoom hub e → IsOpenUpTo terms es i
 room_up_to terms es i e hub told r h room = (get_below es i e h, more_room terms es i r.room (not_full terms es i e hub told r.run h room))
 
 take_all : (es : List Entry) → take (length es) es ≡ es
 take_all [] = refl
 take_all (e ∷ es) = ap (λ xs. e ∷ xs) (take_all es)
 
-pub run_whole : (terms : Terms) (es : List Entry) (i : ℕ) (hub : HubView) (told : List Event) → RunSoFar terms es i hub told → i ≡ length es → RunsTo terms es hub told
+pub run_whole : (terms : Terms) (es : List Entry) (i : ℕ) (hub : HubView) (told : List Event) → RunSoFar terms es i hub told
+    → i ≡ length es → RunsTo terms es hub told
 run_whole terms es i hub told r is = subst (λ (xs : List Entry). RunsTo terms xs hub told) (ap (λ k. take k es) is ∙ take_all es) r.run
 
-pub never_full : (terms : Terms) (es : List Entry) (i : ℕ) (hub : HubView) (told : List Event) → RunSoFar terms es i hub told → i ≡ length es → (j : ℕ) → ¬ IsFullAt terms es j
+pub never_full : (terms : Terms) (es : List Entry) (i : ℕ) (hub : HubView) (told : List Event) → RunSoFar terms es i hub told
+    → i ≡ length es → (j : ℕ) → ¬ IsFullAt terms es j
 never_full terms es i hub told r is j = λ full. r.room j (omega (arith, get_below es j full.entry full.stands)) full
 
 pub values_kept : (terms : Terms) (es : List Entry) (hub : HubView) (told : List Event) → RunsTo terms es hub told → KeepsValues terms.head es hub
@@ -108,7 +115,8 @@ values_kept terms es hub told r = λ p c h. values-law terms.head es p c (subst 
 pub run_opening : (terms : Terms) (es : List Entry) (hub : HubView) → hub.terms ≡ terms → hub.journal ≡ [] → RunSoFar terms es 0 hub []
 run_opening terms es hub is journal = record { run = record { terms = is; events = refl; journal = journal }; room = λ j h. absurd (omega arith) }
 
-pub refuses_at : (terms : Terms) (es : List Entry) (i : ℕ) (e : Entry) (hub : HubView) (told : List Event) (f : Fault) → RunSoFar terms es i hub told → slice_get es i ≡ Some e → StopsAt hub e f → RefusesAt terms es i f
+pub refuses_at : (terms : Terms) (es : List Entry) (i : ℕ) (e : Entry) (hub : HubView) (told : List Event) (f : Fault)
+    → RunSoFar terms es i hub told → slice_get es i ≡ Some e → StopsAt hub e f → RefusesAt terms es i f
 refuses_at terms es i e hub told fault.JournalFull r h stop = first_full terms es i e hub told r h stop
 refuses_at terms es i e hub told fault.NoMemory r h stop = room_up_to terms es i e hub told r h stop
 refuses_at terms es i e hub told other r h stop = absurd stop

@@ -20,7 +20,8 @@ use Rattle.hub_core.specs.declared.tally.Tally.{Tally}
 use Rattle.hub_core.specs.Records.{MachineLists}
 use Rattle.hub_core.specs.ListReady.{ready_on}
 use Rattle.hub_core.specs.ListFirings.{send_on, send_to, oldest_on, take_value, fetch_on, let_in, recv_from, fire_on}
-use Rattle.hub_core.specs.ListSteps.{ListChange, fires_on, waits_on, chooses_on, effect_on, stalls_on, all_wait_on, answers_on, none_open, stalled_events, with_board}
+use Rattle.hub_core.specs.ListSteps.{ListChange, fires_on, waits_on, chooses_on, effect_on, stalls_on}
+use Rattle.hub_core.specs.ListSteps.{all_wait_on, answers_on, none_open, stalled_events, with_board}
 
 module _ (P : Ticketed → Type 0) (n : ℕ) where
   -- the board after a step that is the n-th, against the one before
@@ -33,7 +34,11 @@ module _ (P : Ticketed → Type 0) (n : ℕ) where
   same_calls b c calls next procs = record { waiting = λ h. subst (AllByRecursion P) (sym calls) h; next = λ h. omega (arith, next); procs = procs }
 
   one_ended : (b c : Lists) (pid : Pid) → c.waiting ≡ still_open pid b.waiting → c.next_ticket ≡ b.next_ticket → c.procs ≡ b.procs → Leaves b c
-  one_ended b c pid calls next procs = record { waiting = λ h. subst (AllByRecursion P) (sym calls) (all_kept P _ b.waiting h); next = λ h. omega (arith, next); procs = procs }
+  one_ended b c pid calls next procs = record {
+    waiting = λ h. subst (AllByRecursion P) (sym calls) (all_kept P _ b.waiting h);
+    next = λ h. omega (arith, next);
+    procs = procs;
+  }
 
   send_to_leaves : (b : Lists) (ts : List Tally) (p : Port) (v : Value) (o : Option Ending) → Leaves b (send_to b ts p v o).board
   send_to_leaves b ts p v None = same_calls b _ refl refl refl
@@ -41,7 +46,8 @@ module _ (P : Ticketed → Type 0) (n : ℕ) where
 
   send_on_leaves : (b : Lists) (ts : List Tally) (p : Port) (v : Value) → Leaves b (send_on b ts p v).board
   send_on_leaves b ts p v =
-      elim (port_at b p).closed as (λ x. Leaves b (cond x (record { outcome = Closed; board = b; counts = ts; ended = None }) (send_to b ts p v (first_with (is_recv_on p) (open_calls b.waiting)))).board)
+      elim (port_at b p).closed as (λ x. Leaves b
+      (cond x (record { outcome = Closed; board = b; counts = ts; ended = None }) (send_to b ts p v (first_with (is_recv_on p) (open_calls b.waiting)))).board)
       [ true ↦ same_calls b b refl refl refl | false ↦ send_to_leaves b ts p v (first_with (is_recv_on p) (open_calls b.waiting)) ]
 
   take_on_leaves : (b : Lists) (ts : List Tally) (p : Port) (o : Option Value) → Leaves b (take_value b ts p o).board
@@ -72,11 +78,13 @@ module _ (P : Ticketed → Type 0) (n : ℕ) where
   fires_on_leaves b ts pid index None = same_calls b b refl refl refl
   fires_on_leaves b ts pid index (Some k) = fire_on_leaves b ts k
 
-  waits_on_leaves : (b : Lists) (ts : List Tally) (pid : Pid) (cases : List Case) (default : Bool) → P (ticketed pid n cases) → Leaves b (waits_on b ts n pid cases default).board
+  waits_on_leaves : (b : Lists) (ts : List Tally) (pid : Pid) (cases : List Case) (default : Bool) → P (ticketed pid n cases)
+      → Leaves b (waits_on b ts n pid cases default).board
   waits_on_leaves b ts pid cases true new = same_calls b b refl refl refl
   waits_on_leaves b ts pid cases false new = record { waiting = λ h. all_snoc P b.waiting (ticketed pid n cases) h new; next = λ h. omega arith; procs = refl }
 
-  chooses_on_leaves : (b : Lists) (ts : List Tally) (pid : Pid) (cases : List Case) (default : Bool) (o : Option ℕ) → P (ticketed pid n cases) → Leaves b (chooses_on b ts n pid cases default o).board
+  chooses_on_leaves : (b : Lists) (ts : List Tally) (pid : Pid) (cases : List Case) (default : Bool) (o : Option ℕ) → P (ticketed pid n cases)
+      → Leaves b (chooses_on b ts n pid cases default o).board
   chooses_on_leaves b ts pid cases default None new = waits_on_leaves b ts pid cases default new
   chooses_on_leaves b ts pid cases default (Some index) new = fires_on_leaves b ts pid index (slice_get cases index)
 
@@ -89,16 +97,21 @@ module _ (P : Ticketed → Type 0) (n : ℕ) where
 
   pub effect_on_leaves : (m : MachineLists) (pid : Pid) (step : Step) → m.steps ≡ n → Opens pid step → Leaves m.board (effect_on m pid step).machine.board
   effect_on_leaves m pid (Make cap) is new = same_calls m.board _ refl refl refl
-  effect_on_leaves m pid (Call cases default word) is new = rw is (chooses_on_leaves m.board m.counts pid cases.items default (slice_get (ready_on m.board 0 cases.items) (word % length (ready_on m.board 0 cases.items))) new)
+  effect_on_leaves m pid (Call cases default word) is new = rw is (chooses_on_leaves m.board m.counts pid cases.items default
+      (slice_get (ready_on m.board 0 cases.items) (word % length (ready_on m.board 0 cases.items))) new)
   effect_on_leaves m pid (Close p) is new = record { waiting = λ h. all_kept P _ m.board.waiting h; next = λ h. omega arith; procs = refl }
   effect_on_leaves m pid Exit is new = same_calls m.board _ refl refl refl
 
   stalls_on_leaves : (b : Lists) (c : ListChange) → Leaves b c.machine.board → Leaves b (stalls_on c).machine.board
   stalls_on_leaves b c h =
-      elim (all_wait_on c.machine.board c.machine.gone) as (λ x. Leaves b (cond x (record { machine = with_board c.machine (none_open c.machine.board) c.machine.counts; events = c.events ++ stalled_events c.machine.board.waiting }) c).machine.board)
+      elim (all_wait_on c.machine.board c.machine.gone) as (λ x. Leaves b (cond x (record {
+        machine = with_board c.machine (none_open c.machine.board) c.machine.counts;
+        events = c.events ++ stalled_events c.machine.board.waiting;
+      }) c).machine.board)
       [ true ↦ record { waiting = λ a. tt; next = h.next; procs = h.procs } | false ↦ h ]
 
-  pub answers_on_leaves : (m : MachineLists) (e : Entry) (o : Option Fault) → m.steps ≡ n → Opens e.pid e.step → Leaves m.board (answers_on m e o).machine.board
+  pub answers_on_leaves : (m : MachineLists) (e : Entry) (o : Option Fault) → m.steps ≡ n → Opens e.pid e.step
+      → Leaves m.board (answers_on m e o).machine.board
   answers_on_leaves m e None is new = stalls_on_leaves m.board (effect_on m e.pid e.step) (effect_on_leaves m e.pid e.step is new)
   answers_on_leaves m e (Some f) is new = same_calls m.board m.board refl refl refl
 

@@ -1,5 +1,6 @@
 -- A port's lists and its channel, and what one write leaves of both.
-use Rattle.std.proofs.Common.{◌≡◌, ℕ, zero, suc, ◌+◌, ◌-◌, ◌==◌, ◌≤◌, ◌<◌, Bool, true, false, cond, List, [], ◌∷◌, ◌++◌, length, map, drop, get_or, refl, ap, ◌∙◌, sym, Option, Some, None, arith, unwrap_or}
+use Rattle.std.proofs.Common.{◌≡◌, ℕ, zero, suc, ◌+◌, ◌-◌, ◌==◌, ◌≤◌, ◌<◌, Bool, true, false, cond, List, [], ◌∷◌, ◌++◌}
+use Rattle.std.proofs.Common.{length, map, drop, get_or, refl, ap, ◌∙◌, sym, Option, Some, None, arith, unwrap_or}
 use Rattle.std.specs.Prelude.{slice_get, slice_set}
 use Rattle.std.proofs.lemmas.Grind.{common_steps}
 use Rattle.std.proofs.lemmas.List.{map-set, drop-append-le}
@@ -24,7 +25,8 @@ some_else true o x e = cc
 some_else false o x e = e
 
 channel_get : (s : State) (p : Port) (c : Channel) → channel_at s p ≡ Some c → get_or s.channels (p.0 - 1) blank ≡ c
-channel_get s p c e = sym (unwrap_or-slice_get s.channels (p.0 - 1) blank) ∙ ap (λ o. unwrap_or o blank) (some_else (p.0 == 0) (slice_get s.channels (p.0 - 1)) c e)
+channel_get s p c e =
+    sym (unwrap_or-slice_get s.channels (p.0 - 1) blank) ∙ ap (λ o. unwrap_or o blank) (some_else (p.0 == 0) (slice_get s.channels (p.0 - 1)) c e)
 
 pub port-lists_of : (s : State) (m : MachineLists) (p : Port) (c : Channel) → Matches s m → channel_at s p ≡ Some c → port_at m.board p ≡ lists_of c
 port-lists_of s m p c h e = rw h.ports (get_or-map lists_of s.channels (p.0 - 1) blank) ∙ ap lists_of (channel_get s p c e)
@@ -33,16 +35,22 @@ pub tally-tally_of : (s : State) (m : MachineLists) (p : Port) (c : Channel) →
 tally-tally_of s m p c h e = rw h.counts (get_or-map tally_of s.channels (p.0 - 1) blank) ∙ ap tally_of (channel_get s p c e)
 
 -- ---- writes
-pub ports-set : (s : State) (m : MachineLists) (p : Port) (d : Channel) (q : PortLists) → Matches s m → q ≡ lists_of d → slice_set m.board.ports (p.0 - 1) q ≡ map lists_of (slice_set s.channels (p.0 - 1) d)
-ports-set s m p d q h is = ap (λ ps. slice_set ps (p.0 - 1) q) h.ports ∙ ap (λ r. slice_set (map lists_of s.channels) (p.0 - 1) r) is ∙ sym (map-set lists_of s.channels (p.0 - 1) d)
+pub ports-set : (s : State) (m : MachineLists) (p : Port) (d : Channel) (q : PortLists) → Matches s m → q ≡ lists_of d
+    → slice_set m.board.ports (p.0 - 1) q ≡ map lists_of (slice_set s.channels (p.0 - 1) d)
+ports-set s m p d q h is = ap (λ ps. slice_set ps (p.0 - 1) q) h.ports ∙ ap (λ r. slice_set (map lists_of s.channels) (p.0 - 1) r) is
+    ∙ sym (map-set lists_of s.channels (p.0 - 1) d)
 
-pub ports-same : (s : State) (m : MachineLists) (p : Port) (c d : Channel) → Matches s m → channel_at s p ≡ Some c → lists_of d ≡ lists_of c → m.board.ports ≡ map lists_of (slice_set s.channels (p.0 - 1) d)
+pub ports-same : (s : State) (m : MachineLists) (p : Port) (c d : Channel) → Matches s m → channel_at s p ≡ Some c → lists_of d ≡ lists_of c
+    → m.board.ports ≡ map lists_of (slice_set s.channels (p.0 - 1) d)
 ports-same s m p c d h e same = h.ports ∙ sym (map-set_same lists_of s.channels (p.0 - 1) d blank (same ∙ ap lists_of (sym (channel_get s p c e))))
 
-pub counts-set : (s : State) (m : MachineLists) (p : Port) (d : Channel) (t : Tally) → Matches s m → t ≡ tally_of d → with_tally m.counts p t ≡ map tally_of (slice_set s.channels (p.0 - 1) d)
-counts-set s m p d t h is = ap (λ ts. slice_set ts (p.0 - 1) t) h.counts ∙ ap (λ r. slice_set (map tally_of s.channels) (p.0 - 1) r) is ∙ sym (map-set tally_of s.channels (p.0 - 1) d)
+pub counts-set : (s : State) (m : MachineLists) (p : Port) (d : Channel) (t : Tally) → Matches s m → t ≡ tally_of d
+    → with_tally m.counts p t ≡ map tally_of (slice_set s.channels (p.0 - 1) d)
+counts-set s m p d t h is = ap (λ ts. slice_set ts (p.0 - 1) t) h.counts ∙ ap (λ r. slice_set (map tally_of s.channels) (p.0 - 1) r) is
+    ∙ sym (map-set tally_of s.channels (p.0 - 1) d)
 
-pub counts-same : (s : State) (m : MachineLists) (p : Port) (c d : Channel) → Matches s m → channel_at s p ≡ Some c → tally_of d ≡ tally_of c → m.counts ≡ map tally_of (slice_set s.channels (p.0 - 1) d)
+pub counts-same : (s : State) (m : MachineLists) (p : Port) (c d : Channel) → Matches s m → channel_at s p ≡ Some c → tally_of d ≡ tally_of c
+    → m.counts ≡ map tally_of (slice_set s.channels (p.0 - 1) d)
 counts-same s m p c d h e same = h.counts ∙ sym (map-set_same tally_of s.channels (p.0 - 1) d blank (same ∙ ap tally_of (sym (channel_get s p c e))))
 
 -- ---- a channel's buffer
@@ -117,7 +125,8 @@ pub next-through : (v : Value) (c : Channel) → c.received ≡ length c.sent �
 next-through v c h = rw h (get_seam c.sent v)
 
 -- the oldest value leaves, and a new one comes in behind the others
-pub shifted-lists_of : (u : Value) (c : Channel) (v : Value) → next_value c ≡ Some v → pushed u (popped (lists_of c)) ≡ lists_of (after_receive (after_send u c))
+pub shifted-lists_of : (u : Value) (c : Channel) (v : Value) → next_value c ≡ Some v
+    → pushed u (popped (lists_of c)) ≡ lists_of (after_receive (after_send u c))
 shifted-lists_of u c v e =
     let some : c.received + 1 ≤ length c.sent = omega (arith, get_some c.sent c.received v e) in
     ap (pushed u) (popped-lists_of c) ∙ ap (with_buffer c) (sym (drop-append-le (c.received + 1) c.sent (u ∷ []) some))

@@ -1,5 +1,6 @@
 -- What is known of a machine that some run leads to.
-use Rattle.std.proofs.Common.{◌≡◌, ℕ, ◌+◌, ◌-◌, ◌==◌, ◌≤◌, ◌<◌, ◌^◌, Bool, true, false, cond, nat_lt, List, [], ◌∷◌, length, ap, ◌∙◌, sym, subst, Some, None, arith}
+use Rattle.std.proofs.Common.{◌≡◌, ℕ, ◌+◌, ◌-◌, ◌==◌, ◌≤◌, ◌<◌, ◌^◌, Bool, true, false, cond, nat_lt}
+use Rattle.std.proofs.Common.{List, [], ◌∷◌, length, ap, ◌∙◌, sym, subst, Some, None, arith}
 use Rattle.std.specs.List.{list_any}
 use Rattle.std.proofs.lemmas.Grind.{common_steps}
 use Rattle.std.proofs.lemmas.List.{length-map}
@@ -58,7 +59,8 @@ pub steps-length : (es : List Entry) → steps_of es ≤ length es
 steps-length [] = omega arith
 steps-length (e ∷ es) = omega (arith, at_most_one (is_exit e.step), steps-length es)
 
-can_count : (head : Head) (es : List Entry) (m : MachineLists) (p : Port) (c : Channel) → Follows head es m → m.steps < 2 ^ 32 - 1 → channel_at (state head es) p ≡ Some c → CanCount m.counts p
+can_count : (head : Head) (es : List Entry) (m : MachineLists) (p : Port) (c : Channel) → Follows head es m → m.steps < 2 ^ 32 - 1
+    → channel_at (state head es) p ≡ Some c → CanCount m.counts p
 can_count head es m p c h few e =
     let within = counts-law head es p c e in
     let short = steps-length (kept head es) in
@@ -84,7 +86,8 @@ calls_apart m r = subst Apart (sym r.2.matches.calls) (state-sound r.0 r.1).apar
 is_admitted : (m : MachineLists) (pid : Pid) (r : IsReached m) → refusal_of m.board m.gone pid ≡ None → Admitted (state r.0 r.1) pid
 is_admitted m pid r h = admitted (state r.0 r.1) pid (sym (refusal_of-as (state r.0 r.1) m pid r.2.matches) ∙ h)
 
-pub room_left : (m : MachineLists) (pid : Pid) → IsReached m → refusal_of m.board m.gone pid ≡ None → m.board.procs ≤ MOST_PROCS → length m.board.waiting < MOST_PROCS
+pub room_left : (m : MachineLists) (pid : Pid) → IsReached m → refusal_of m.board m.gone pid ≡ None → m.board.procs ≤ MOST_PROCS
+    → length m.board.waiting < MOST_PROCS
 room_left m pid r h few =
     let s = state r.0 r.1 in
     omega (arith, room-law s pid (state-sound r.0 r.1) (is_admitted m pid r h), count-calls s m r.2.matches, r.2.matches.procs)
@@ -94,8 +97,8 @@ pub record BeforeStall (m : MachineLists) (told : List Event) : Type 0 where
   pub apart : Apart (open_calls m.board.waiting)
   pub room : length told + length m.board.waiting ≤ MOST_EVENTS
 
-before_stall : (m : MachineLists) (pid : Pid) (step : Step) → IsReached m → refusal_of m.board m.gone pid ≡ None →
-    fault_on m.board step ≡ None → m.board.procs ≤ MOST_PROCS → length m.gone ≡ MOST_PROCS → BeforeStall (effect_on m pid step).machine (effect_on m pid step).events
+before_stall : (m : MachineLists) (pid : Pid) (step : Step) → IsReached m → refusal_of m.board m.gone pid ≡ None → fault_on m.board step ≡ None
+    → m.board.procs ≤ MOST_PROCS → length m.gone ≡ MOST_PROCS → BeforeStall (effect_on m pid step).machine (effect_on m pid step).events
 before_stall m pid step r h fine few places =
     let s = state r.0 r.1 in
     let sound = state-sound r.0 r.1 in
@@ -104,7 +107,14 @@ before_stall m pid step r h fine few places =
     let same = effect_on-as s m pid step sound r.2.matches (omega (arith, adm.below, r.2.matches.procs)) faultless in
     record {
       apart = subst Apart (sym same.state.calls) (effect-sound s pid step sound adm faultless).apart;
-      room = omega (arith, effect_size s pid step sound, ap length same.events, count-calls (effect s pid step).state (effect_on m pid step).machine same.state, room-law s pid sound adm, r.2.matches.procs);
+      room = omega (
+        arith,
+        effect_size s pid step sound,
+        ap length same.events,
+        count-calls (effect s pid step).state (effect_on m pid step).machine same.state,
+        room-law s pid sound adm,
+        r.2.matches.procs,
+      );
     }
 
 -- the same, of the machine and the events that a step left
@@ -123,4 +133,5 @@ named_by ports (c ∷ cases) h =
 
 pub call_named : (b : Lists) (cases : List Case) → call_fault_on b cases ≡ None → AllMade (length b.ports) cases
 call_named b cases h =
-    named_by (length b.ports) cases (none_false (list_any (λ c. is_unmade_on b (port_of c)) cases) fault.NoPort None (none_false (nat_lt MOST_CASES (length cases)) fault.TooManyCases _ h).1).0
+    named_by (length b.ports) cases (none_false (list_any (λ c. is_unmade_on b (port_of c)) cases) fault.NoPort None
+    (none_false (nat_lt MOST_CASES (length cases)) fault.TooManyCases _ h).1).0

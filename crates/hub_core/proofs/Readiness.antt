@@ -1,5 +1,6 @@
 -- The cases that can proceed on the lists are those that can in the meaning.
-use Rattle.std.proofs.Common.{◌≡◌, ℕ, zero, suc, ◌+◌, ◌-◌, ◌==◌, ◌≤◌, ◌<◌, ◌||◌, ◌&&◌, not, nat_lt, Bool, true, false, List, [], ◌∷◌, length, map, filter, refl, ap, ◌∙◌, sym, Some, arith, length-drop}
+use Rattle.std.proofs.Common.{◌≡◌, ℕ, zero, suc, ◌+◌, ◌-◌, ◌==◌, ◌≤◌, ◌<◌, ◌||◌, ◌&&◌, not, nat_lt, Bool, true, false}
+use Rattle.std.proofs.Common.{List, [], ◌∷◌, length, map, filter, refl, ap, ◌∙◌, sym, Some, arith, length-drop}
 use Rattle.std.specs.Prelude.{slice_get, is_some}
 use Rattle.std.specs.List.{list_any, enumerate_from}
 use Rattle.std.specs.Option.{option_map_or}
@@ -51,16 +52,17 @@ length-buffer_of c = length-drop c.received c.sent
 some_left : (a b : ℕ) → nat_lt 0 (a - b) ≡ nat_lt b a
 some_left a b = grind (arith, common_steps)
 
-send_as : (s : State) (m : MachineLists) (p : Port) (c : Channel) → Matches s m → channel_at s p ≡ Some c →
-    ((port_at m.board p).closed || is_some (first_with (is_recv_on p) (open_calls m.board.waiting)) || nat_lt (length (port_at m.board p).buffer) (port_at m.board p).cap) ≡ send_can s p c
+send_as : (s : State) (m : MachineLists) (p : Port) (c : Channel) → Matches s m → channel_at s p ≡ Some c → ((port_at m.board p).closed || is_some
+    (first_with (is_recv_on p) (open_calls m.board.waiting)) || nat_lt (length (port_at m.board p).buffer) (port_at m.board p).cap) ≡ send_can s p c
 send_as s m p c h e = rw (port-lists_of s m p c h e, h.calls, length-buffer_of c) refl
 
-recv_as : (s : State) (m : MachineLists) (p : Port) (c : Channel) → Matches s m → channel_at s p ≡ Some c →
-    (is_some (first_with (is_send_on p) (open_calls m.board.waiting)) || nat_lt 0 (length (port_at m.board p).buffer) || (port_at m.board p).closed) ≡ recv_can s p c
+recv_as : (s : State) (m : MachineLists) (p : Port) (c : Channel) → Matches s m → channel_at s p ≡ Some c
+    → (is_some (first_with (is_send_on p) (open_calls m.board.waiting)) || nat_lt 0 (length (port_at m.board p).buffer) || (port_at m.board p).closed)
+    ≡ recv_can s p c
 recv_as s m p c h e = rw (port-lists_of s m p c h e, h.calls, length-buffer_of c, some_left (length c.sent) c.received) refl
 
-can_by : (s : State) (m : MachineLists) (p : Port) (nil : Bool) (mine : Bool) (test : Channel → Bool) → (p.0 == 0) ≡ nil → is_unmade s p ≡ false → ((c : Channel) → channel_at s p ≡ Some c → mine ≡ test c) →
-    (not nil && mine) ≡ option_map_or test (channel_at s p) false
+can_by : (s : State) (m : MachineLists) (p : Port) (nil : Bool) (mine : Bool) (test : Channel → Bool) → (p.0 == 0) ≡ nil → is_unmade s p ≡ false
+    → ((c : Channel) → channel_at s p ≡ Some c → mine ≡ test c) → (not nil && mine) ≡ option_map_or test (channel_at s p) false
 can_by s m p true mine test is named same = rw is refl
 can_by s m p false mine test is named same =
     let found = made_channel s p named is in
@@ -74,8 +76,9 @@ can_on-as s m (Recv p) h named = can_by s m p (p.0 == 0) _ (recv_can s p) refl n
 abbrev pub number_in : ℕ × Case → ℕ
 number_in x = x.0
 
-ready_by : (s : State) (b : Lists) (i : ℕ) (k : Case) (cases : List Case) (can : Bool) → can_on b k ≡ can → can_proceed s k ≡ can →
-    ready_on b (i + 1) cases ≡ map number_in (filter (λ x. can_proceed s x.1) (enumerate_from (i + 1) cases)) → ready_on b i (k ∷ cases) ≡ map number_in (filter (λ x. can_proceed s x.1) (enumerate_from i (k ∷ cases)))
+ready_by : (s : State) (b : Lists) (i : ℕ) (k : Case) (cases : List Case) (can : Bool) → can_on b k ≡ can → can_proceed s k ≡ can
+    → ready_on b (i + 1) cases ≡ map number_in (filter (λ x. can_proceed s x.1) (enumerate_from (i + 1) cases))
+    → ready_on b i (k ∷ cases) ≡ map number_in (filter (λ x. can_proceed s x.1) (enumerate_from i (k ∷ cases)))
 ready_by s b i k cases true mine its rest = rw (mine, its) (ap (λ xs. i ∷ xs) rest)
 ready_by s b i k cases false mine its rest = rw (mine, its) rest
 

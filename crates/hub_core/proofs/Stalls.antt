@@ -1,5 +1,6 @@
 -- The stall rule on the lists is that of the meaning; and why an entry is not admitted.
-use Rattle.std.proofs.Common.{◌≡◌, ℕ, zero, suc, ◌+◌, ◌==◌, ◌<◌, ◌||◌, ◌&&◌, not, nat_lt, Bool, true, false, cond, List, [], ◌∷◌, ◌++◌, length, refl, ap, ◌∙◌, sym, Some, None, arith}
+use Rattle.std.proofs.Common.{◌≡◌, ℕ, zero, suc, ◌+◌, ◌==◌, ◌<◌, ◌||◌, ◌&&◌, not, nat_lt, Bool, true, false}
+use Rattle.std.proofs.Common.{cond, List, [], ◌∷◌, ◌++◌, length, refl, ap, ◌∙◌, sym, Some, None, arith}
 use Rattle.std.specs.List.{list_any, list_all, filter_map, range_with_len}
 use Rattle.std.proofs.lemmas.Grind.{common_steps}
 use Rattle.std.proofs.lemmas.List.{length-map}
@@ -33,8 +34,10 @@ count-calls s m h = sym (length-map m.board.waiting (λ (w : Ticketed). w.call))
 
 pub all_wait_on-as : (s : State) (m : MachineLists) → Matches s m → all_wait_on m.board m.gone ≡ all_wait s
 all_wait_on-as s m h =
-    let each : list_all (λ q. gone_on m.gone q || open_on m.board.waiting q) (range_with_len 0 s.head.procs) ≡ list_all (λ q. has_gone s q || is_waiting s q) (range_with_len 0 s.head.procs) =
-    all_in_range _ _ 0 s.head.procs (λ q below. ap (λ b. b || open_on m.board.waiting q) (h.gone q (omega arith)) ∙ ap (λ b. has_gone s q || b) (open_on-as s m q h)) in
+    let each : list_all (λ q. gone_on m.gone q || open_on m.board.waiting q) (range_with_len 0 s.head.procs)
+    ≡ list_all (λ q. has_gone s q || is_waiting s q) (range_with_len 0 s.head.procs) =
+    all_in_range _ _ 0 s.head.procs
+    (λ q below. ap (λ b. b || open_on m.board.waiting q) (h.gone q (omega arith)) ∙ ap (λ b. has_gone s q || b) (open_on-as s m q h)) in
     rw (count-calls s m h, h.procs) (ap (λ b. not (length s.parked == 0) && b) each)
 
 stalled-calls : (ws : List Ticketed) → stalled_events ws ≡ filter_map (λ call. Some (tells call.pid what.Stalled)) (open_calls ws)
@@ -42,8 +45,14 @@ stalled-calls [] = refl
 stalled-calls (w ∷ ws) = ap (λ es. tells w.call.pid what.Stalled ∷ es) (stalled-calls ws)
 
 stalls_by : (c : Change) (d : ListChange) (all : Bool) → StepsAs c d →
-    StepsAs (cond all (record { state = record c.state { parked = [] }; events = c.events ++ filter_map (λ call. Some (tells call.pid what.Stalled)) c.state.parked }) c)
-    (cond all (record { machine = with_board d.machine (none_open d.machine.board) d.machine.counts; events = d.events ++ stalled_events d.machine.board.waiting }) d)
+    StepsAs (cond all (record {
+      state = record c.state { parked = [] };
+      events = c.events ++ filter_map (λ call. Some (tells call.pid what.Stalled)) c.state.parked;
+    }) c)
+    (cond all (record {
+      machine = with_board d.machine (none_open d.machine.board) d.machine.counts;
+      events = d.events ++ stalled_events d.machine.board.waiting;
+    }) d)
 stalls_by c d true same = record {
   events =
       ap (λ es. es ++ stalled_events d.machine.board.waiting) same.events

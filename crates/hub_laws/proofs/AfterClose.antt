@@ -1,5 +1,6 @@
 -- After a close no case on the port is sent, and receives drain the buffer.
-use Rattle.std.proofs.Common.{◌≡◌, ℕ, ◌==◌, Bool, true, false, zero, suc, List, [], ◌∷◌, ◌++◌, drop, refl, ap, ◌∙◌, sym, subst, Option, Some, None, append-nil, append_assoc, add-one}
+use Rattle.std.proofs.Common.{◌≡◌, ℕ, ◌==◌, Bool, true, false, zero, suc, List, [], ◌∷◌, ◌++◌, drop, refl, ap}
+use Rattle.std.proofs.Common.{◌∙◌, sym, subst, Option, Some, None, append-nil, append_assoc, add-one}
 use Rattle.std.specs.Prelude.{slice_get}
 use Rattle.std.proofs.lemmas.Bool.{eqb-true}
 use Rattle.hub_base.specs.declared.value.Port.{Port}
@@ -21,7 +22,8 @@ use Rattle.hub_base.specs.Values.{Turned, turns_after, values_from}
 use Rattle.hub_laws.specs.Sound.{IsSound}
 use Rattle.hub_laws.specs.OnePort.{port_touched}
 use Rattle.hub_laws.proofs.Branches.{by-stall}
-use Rattle.hub_laws.proofs.Deeds.{Knows, Deed, deed_of, told, picks, at, Moved, Wrote, Does, buffers, hands, fetches, gives, drains, refuses, shuts, idle, adds, wrote}
+use Rattle.hub_laws.proofs.Deeds.{Knows, Deed, deed_of, told, picks, at, Moved, Wrote, Does, buffers}
+use Rattle.hub_laws.proofs.Deeds.{hands, fetches, gives, drains, refuses, shuts, idle, adds, wrote}
 use Rattle.hub_laws.specs.AfterClose.{sent_at, heard, Drains, answers_done, StaysClosed}
 use Rattle.hub_laws.proofs.Calls.{same_number}
 use Rattle.hub_laws.proofs.Ports.{same_port}
@@ -61,7 +63,8 @@ pub record Stays (p : Port) (c : Channel) (ts : List Channel) (deeds : List Deed
   pub none : picks (sent_at p) deeds ≡ []
   pub drains : (os : List Outcome) → Drains (buffer_of after) os → Drains (buffer_of c) (picks (heard p) deeds ++ os)
 
-stays_same : (p : Port) (c : Channel) (ts : List Channel) (deeds : List Deed) → at ts p ≡ Some c → c.closed ≡ true → picks (sent_at p) deeds ≡ [] → picks (heard p) deeds ≡ [] → Stays p c ts deeds
+stays_same : (p : Port) (c : Channel) (ts : List Channel) (deeds : List Deed) → at ts p ≡ Some c → c.closed ≡ true
+    → picks (sent_at p) deeds ≡ [] → picks (heard p) deeds ≡ [] → Stays p c ts deeds
 stays_same p c ts deeds new over none silent = record { after = c; stands = new; closed = over; none = none; drains = λ os h. rw silent h }
 
 stays_moved : (p : Port) (c d : Channel) (ts : List Channel) (deeds : List Deed) → at ts p ≡ Some d → c.closed ≡ true → Moved p c d deeds → Stays p c ts deeds
@@ -73,7 +76,8 @@ stays_moved p c d ts deeds new over (gives w next is e) = record {
   stands = new ∙ ap (λ x. Some x) is;
   closed = over;
   none = rw e refl;
-  drains = λ os h. rw (e, same_number p.0, drop_next c.sent c.received w next) (refl, (let k : Drains (drop (suc c.received) c.sent) os = rw add-one at h in k));
+  drains = λ os h. rw (e, same_number p.0, drop_next c.sent c.received w next)
+      (refl, (let k : Drains (drop (suc c.received) c.sent) os = rw add-one at h in k));
 }
 stays_moved p c d ts deeds new over (drains next is e) = record {
   after = c;
@@ -85,7 +89,8 @@ stays_moved p c d ts deeds new over (drains next is e) = record {
 stays_moved p c d ts deeds new over (refuses v closed is e) = stays_same p c ts deeds (new ∙ ap (λ x. Some x) is) over (rw e refl) (rw e refl)
 stays_moved p c d ts deeds new over (shuts live is all) = cc
 
-stays_wrote : (p q : Port) (c x d : Channel) (cs ts : List Channel) (deeds : List Deed) (b : Bool) → b ≡ (q.0 == p.0) → at cs p ≡ Some c → c.closed ≡ true → Wrote cs ts q x d → Moved q x d deeds → Stays p c ts deeds
+stays_wrote : (p q : Port) (c x d : Channel) (cs ts : List Channel) (deeds : List Deed) (b : Bool) → b ≡ (q.0 == p.0) → at cs p ≡ Some c
+    → c.closed ≡ true → Wrote cs ts q x d → Moved q x d deeds → Stays p c ts deeds
 stays_wrote p q c x d cs ts deeds true is old over w m =
     let same : q ≡ p = same_port q p (eqb-true q.0 p.0 (sym is)) in
     let there : at cs p ≡ Some x = subst (λ (r : Port). at cs r ≡ Some x) same w.old in
@@ -93,7 +98,8 @@ stays_wrote p q c x d cs ts deeds true is old over w m =
     let moved : Moved p x d deeds = subst (λ (r : Port). Moved r x d deeds) same m in
     stays_moved p c d ts deeds (subst (λ (r : Port). at ts r ≡ Some d) same w.new) over (subst (λ (y : Channel). Moved p y d deeds) one moved)
 stays_wrote p q c x d cs ts deeds false is old over w m =
-    stays_same p c ts deeds (w.others p (sym is) ∙ old) over (others-none (sent_at p) p q x d deeds (sent_none p) (sym is) m) (others-none (heard p) p q x d deeds (heard_none p) (sym is) m)
+    stays_same p c ts deeds (w.others p (sym is) ∙ old) over (others-none (sent_at p) p q x d deeds (sent_none p) (sym is) m)
+    (others-none (heard p) p q x d deeds (heard_none p) (sym is) m)
 
 stays-does : (p : Port) (c : Channel) (cs ts : List Channel) (named : Option Port) (deeds : List Deed) →
     at cs p ≡ Some c → c.closed ≡ true → Does cs ts named deeds → Stays p c ts deeds
@@ -109,7 +115,8 @@ pub record Later (p : Port) (c : Channel) (ts : List Turned) (s : State) (es : L
   pub none : values_from (sent_at p) ts (turns_after s es) ≡ []
   pub drains : Drains (buffer_of c) (values_from (heard p) ts (turns_after s es))
 
-later : (p : Port) (c : Channel) (ts : List Turned) (s : State) (es : List Entry) → IsSound s → Knows (in_force ts) s.parked → channel_at s p ≡ Some c → c.closed ≡ true → Later p c ts s es
+later : (p : Port) (c : Channel) (ts : List Turned) (s : State) (es : List Entry) → IsSound s → Knows (in_force ts) s.parked
+    → channel_at s p ≡ Some c → c.closed ≡ true → Later p c ts s es
 later p c ts s [] sound knows old over = record { none = refl; drains = tt }
 later p c ts s (e ∷ es) sound knows old over =
     let t : Turned = record { entry = e; events = (moves s e).events } in
@@ -121,7 +128,8 @@ later p c ts s (e ∷ es) sound knows old over =
     let rest = later p stays.after (ts ++ t ∷ []) (moves s e).state es (moves-sound s e sound) laws.knows stays.stands stays.closed in
     record {
       none = rw (told-picks (sent_at p) (in_force (ts ++ t ∷ [])) t.events (λ o. no_case_sent p o), stays.none) rest.none;
-      drains = rw (told-picks (heard p) (in_force (ts ++ t ∷ [])) t.events (λ o. refl)) (stays.drains (values_from (heard p) (ts ++ t ∷ []) (turns_after (moves s e).state es)) rest.drains);
+      drains = rw (told-picks (heard p) (in_force (ts ++ t ∷ [])) t.events (λ o. refl))
+          (stays.drains (values_from (heard p) (ts ++ t ∷ []) (turns_after (moves s e).state es)) rest.drains);
     }
   where
     no_case_sent : (p : Port) (o : Outcome) → sent_at p None o ≡ None
@@ -129,7 +137,8 @@ later p c ts s (e ∷ es) sound knows old over =
 
 -- The step that closes it
 
-closed_by : (s : State) (pid : Pid) (p : Port) (o : Option Channel) → o ≡ channel_at s p → close_fault o ≡ None → (c : Channel) × (channel_at (stalls (closes s pid p o)).state p ≡ Some c) × (c.closed ≡ true)
+closed_by : (s : State) (pid : Pid) (p : Port) (o : Option Channel) → o ≡ channel_at s p → close_fault o ≡ None
+    → (c : Channel) × (channel_at (stalls (closes s pid p o)).state p ≡ Some c) × (c.closed ≡ true)
 closed_by s pid p None is h = cc
 closed_by s pid p (Some c) is h = (shut c, stalled (closes s pid p (Some c)) (wrote-set s p c (shut c) (sym is)).new, refl)
   where
@@ -137,8 +146,9 @@ closed_by s pid p (Some c) is h = (shut c, stalled (closes s pid p (Some c)) (wr
     stalled d e =
         by-stall (λ (x : Change). channel_at x.state p ≡ Some (shut c)) d e e
 
-closed_answers : (s : State) (pid : Pid) (p : Port) (o : Option Fault) → o ≡ fault_of s (Close p) → answers_done (answers s (record { pid = pid; step = Close p }) o).events ≡ true →
-    (c : Channel) × (channel_at (answers s (record { pid = pid; step = Close p }) o).state p ≡ Some c) × (c.closed ≡ true)
+closed_answers : (s : State) (pid : Pid) (p : Port) (o : Option Fault) → o ≡ fault_of s (Close p)
+    → answers_done (answers s (record { pid = pid; step = Close p }) o).events ≡ true
+    → (c : Channel) × (channel_at (answers s (record { pid = pid; step = Close p }) o).state p ≡ Some c) × (c.closed ≡ true)
 closed_answers s pid p None is h = closed_by s pid p (channel_at s p) refl (none_false (is_unmade s p) fault.NoPort (close_fault (channel_at s p)) (sym is)).1
 closed_answers s pid p (Some f) is h = cc
 
@@ -148,12 +158,14 @@ closed_admits s pid p None h = closed_answers s pid p (fault_of s (Close p)) ref
 closed_admits s pid p (Some f) h = cc
 
 -- a close that was answered `Done` leaves the channel closed
-pub close-closes : (s : State) (pid : Pid) (p : Port) → answers_done (moves s (record { pid = pid; step = Close p })).events ≡ true → (c : Channel) × (channel_at (moves s (record { pid = pid; step = Close p })).state p ≡ Some c) × (c.closed ≡ true)
+pub close-closes : (s : State) (pid : Pid) (p : Port) → answers_done (moves s (record { pid = pid; step = Close p })).events ≡ true
+    → (c : Channel) × (channel_at (moves s (record { pid = pid; step = Close p })).state p ≡ Some c) × (c.closed ≡ true)
 close-closes s pid p h = closed_admits s pid p (refusal s pid) h
 
 -- Runs
 
-knows_after : (s : State) (ts : List Turned) (es : List Entry) → IsSound s → Knows (in_force ts) s.parked → Knows (in_force (ts ++ turns_after s es)) (state_after s es).parked
+knows_after : (s : State) (ts : List Turned) (es : List Entry) → IsSound s → Knows (in_force ts) s.parked
+    → Knows (in_force (ts ++ turns_after s es)) (state_after s es).parked
 knows_after s ts [] sound knows = rw append-nil knows
 knows_after s ts (e ∷ es) sound knows =
     let t : Turned = record { entry = e; events = (moves s e).events } in
@@ -163,7 +175,9 @@ knows_after s ts (e ∷ es) sound knows =
 pub state-knows : (head : Head) (es : List Entry) → Knows (in_force (turns_after (opening head) es)) (state head es).parked
 state-knows head es = knows_after (opening head) [] es (sound-opening head) tt
 
-pub after_close-law : (head : Head) (es fs : List Entry) (pid : Pid) (p : Port) → answers_done (moves (state head es) (record { pid = pid; step = Close p })).events ≡ true → StaysClosed head (es ++ record { pid = pid; step = Close p } ∷ []) fs p
+pub after_close-law : (head : Head) (es fs : List Entry) (pid : Pid) (p : Port)
+    → answers_done (moves (state head es) (record { pid = pid; step = Close p })).events ≡ true
+    → StaysClosed head (es ++ record { pid = pid; step = Close p } ∷ []) fs p
 after_close-law head es fs pid p h =
     let e : Entry = record { pid = pid; step = Close p } in
     let all : List Entry = es ++ e ∷ [] in

@@ -27,7 +27,10 @@ abbrev pub ends : ℕ → List Event → ℕ
 ends q events = length (endings q events)
 
 ends_cons : (q : ℕ) (e : Event) (es : List Event) → ends q (e ∷ es) ≡ one (counts e.what && (e.pid.0 == q)) + ends q es
-ends_cons q e es = elim (counts e.what && (e.pid.0 == q)) as (λ b. length (cond b (e ∷ endings q es) (endings q es)) ≡ one b + ends q es) [ true ↦ omega arith | false ↦ omega arith ]
+ends_cons q e es = elim (counts e.what && (e.pid.0 == q)) as (λ b. length (cond b (e ∷ endings q es) (endings q es)) ≡ one b + ends q es) [
+  | true ↦ omega arith
+  | false ↦ omega arith
+]
 
 pub open_none : (q : ℕ) (calls : List OpenCall) → is_among q calls ≡ false → open_calls q calls ≡ 0
 open_none q [] e = refl
@@ -40,7 +43,8 @@ open_one false n h most = omega arith
 -- no process has two open calls
 pub open_most : (q : ℕ) (calls : List OpenCall) → Apart calls → open_calls q calls ≤ 1
 open_most q [] a = omega arith
-open_most q (call ∷ calls) a = open_one (call.pid.0 == q) (open_calls q calls) (λ e. open_none q calls (subst (λ (n : ℕ). is_among n calls ≡ false) (eqb-true call.pid.0 q e) a.0)) (open_most q calls a.1)
+open_most q (call ∷ calls) a = open_one (call.pid.0 == q) (open_calls q calls)
+    (λ e. open_none q calls (subst (λ (n : ℕ). is_among n calls ≡ false) (eqb-true call.pid.0 q e) a.0)) (open_most q calls a.1)
 
 -- Balance: who steps gets one event or waits, and each call that ends gets one event
 

@@ -14,7 +14,8 @@ use Rattle.hub_base.specs.Steps.{Change, Firing, tells, after_send, send_meets, 
 abbrev pub refused_send : State → Firing
 refused_send s = record { outcome = Closed; state = s; ended = [] }
 
-pub by-closed : (P : Firing → Type 0) (s : State) (p : Port) (v : Value) (c : Channel) → (c.closed ≡ true → P (refused_send s)) → (c.closed ≡ false → P (send_meets s p (after_send v c) (first_with (is_recv_on p) s.parked))) → P (send_fires s p v c)
+pub by-closed : (P : Firing → Type 0) (s : State) (p : Port) (v : Value) (c : Channel) → (c.closed ≡ true → P (refused_send s))
+    → (c.closed ≡ false → P (send_meets s p (after_send v c) (first_with (is_recv_on p) s.parked))) → P (send_fires s p v c)
 by-closed P s p v c over live = by c.closed refl
   where
     by : (b : Bool) → b ≡ c.closed → P (cond b (refused_send s) (send_meets s p (after_send v c) (first_with (is_recv_on p) s.parked)))

@@ -1,5 +1,6 @@
 -- Lists of open calls: what stays when some of them end, and when one more parks.
-use Rattle.std.proofs.Common.{◌≡◌, ℕ, ◌+◌, ◌==◌, Bool, true, false, cond, suc, List, [], ◌∷◌, ◌++◌, filter, refl, ◌∙◌, sym, subst, Option, Some, None, arith, ◌||◌, inl, inr}
+use Rattle.std.proofs.Common.{◌≡◌, ℕ, ◌+◌, ◌==◌, Bool, true, false, cond, suc, List, [], ◌∷◌, ◌++◌}
+use Rattle.std.proofs.Common.{filter, refl, ◌∙◌, sym, subst, Option, Some, None, arith, ◌||◌, inl, inr}
 use Rattle.std.specs.Prelude.{slice_get, is_some}
 use Rattle.std.specs.List.{list_any, AllByRecursion}
 use Rattle.std.specs.Option.{option_map}
@@ -40,7 +41,10 @@ any_kept test keep [] e = e
 any_kept test keep (x ∷ xs) e =
     let P : Bool → Type 0 = λ b. list_any test (cond b (x ∷ filter keep xs) (filter keep xs)) ≡ true → (test x || list_any test xs) ≡ true in
     let at : (b : Bool) → P b = λ b. elim b as P [
-      | true ↦ λ h. elim (or_cases (test x) (list_any test (filter keep xs)) h) [ inl l ↦ or_left (test x) (list_any test xs) l | inr r ↦ or_right (test x) (list_any test xs) (any_kept test keep xs r) ]
+      | true ↦ λ h. elim (or_cases (test x) (list_any test (filter keep xs)) h) [
+        | inl l ↦ or_left (test x) (list_any test xs) l
+        | inr r ↦ or_right (test x) (list_any test xs) (any_kept test keep xs r)
+      ]
       | false ↦ λ h. or_right (test x) (list_any test xs) (any_kept test keep xs h)
     ] in
     at (keep x) e
@@ -58,14 +62,21 @@ alone_kept : (p : Port) (keep : OpenCall → Bool) (calls : List OpenCall) → A
 alone_kept p keep [] a = tt
 alone_kept p keep (call ∷ calls) a =
     elim (keep call) as (λ b. Alone p (cond b (call ∷ filter keep calls) (filter keep calls))) [
-      | true ↦ (λ r. none_kept (λ c. list_any (is_send_on p) c.cases) keep calls (a.0 r), λ w. none_kept (λ c. list_any (is_recv_on p) c.cases) keep calls (a.1 w), alone_kept p keep calls a.2)
+      | true ↦ (
+        λ r. none_kept (λ c. list_any (is_send_on p) c.cases) keep calls (a.0 r),
+        λ w. none_kept (λ c. list_any (is_recv_on p) c.cases) keep calls (a.1 w),
+        alone_kept p keep calls a.2,
+      )
       | false ↦ alone_kept p keep calls a.2
     ]
 
 pub all_kept : {A : Type 0} (P : A → Type 0) (keep : A → Bool) (xs : List A) → AllByRecursion P xs → AllByRecursion P (filter keep xs)
 all_kept P keep [] a = tt
 all_kept P keep (x ∷ xs) a =
-    elim (keep x) as (λ b. AllByRecursion P (cond b (x ∷ filter keep xs) (filter keep xs))) [ true ↦ (a.0, all_kept P keep xs a.1) | false ↦ all_kept P keep xs a.1 ]
+    elim (keep x) as (λ b. AllByRecursion P (cond b (x ∷ filter keep xs) (filter keep xs))) [
+      | true ↦ (a.0, all_kept P keep xs a.1)
+      | false ↦ all_kept P keep xs a.1
+    ]
 
 pub fewer-filter : (keep : OpenCall → Bool) (calls : List OpenCall) → Fewer (filter keep calls) calls
 fewer-filter keep calls = record {
@@ -80,7 +91,10 @@ fewer-filter keep calls = record {
 
 pub any_snoc : {A : Type 0} (test : A → Bool) (xs : List A) (x : A) → list_any test (xs ++ x ∷ []) ≡ (list_any test xs || test x)
 any_snoc test [] x = elim (test x) as (λ b. (b || false) ≡ b) [ true ↦ refl | false ↦ refl ]
-any_snoc test (y ∷ ys) x = elim (test y) as (λ b. (b || list_any test (ys ++ x ∷ [])) ≡ ((b || list_any test ys) || test x)) [ true ↦ refl | false ↦ any_snoc test ys x ]
+any_snoc test (y ∷ ys) x = elim (test y) as (λ b. (b || list_any test (ys ++ x ∷ [])) ≡ ((b || list_any test ys) || test x)) [
+  | true ↦ refl
+  | false ↦ any_snoc test ys x
+]
 
 pub all_snoc : {A : Type 0} (P : A → Type 0) (xs : List A) (x : A) → AllByRecursion P xs → P x → AllByRecursion P (xs ++ x ∷ [])
 all_snoc P [] x a p = (p, tt)
@@ -97,8 +111,10 @@ all_more P Q (x ∷ xs) imp a = (imp x a.0, all_more P Q xs imp a.1)
 pub apart_snoc : (calls : List OpenCall) (call : OpenCall) → Apart calls → is_among call.pid.0 calls ≡ false → Apart (calls ++ call ∷ [])
 apart_snoc [] call a free = (refl, tt)
 apart_snoc (c ∷ cs) call a free =
-    let f = or_parts (c.pid.0 == call.pid.0) (is_among call.pid.0 cs) free in
-    (any_snoc (λ x. x.pid.0 == c.pid.0) cs call ∙ or_from (is_among c.pid.0 cs) (call.pid.0 == c.pid.0) a.0 (differ-sym c.pid.0 call.pid.0 f.0), apart_snoc cs call a.1 f.1)
+    let f = or_parts (c.pid.0 == call.pid.0) (is_among call.pid.0 cs) free in (
+      any_snoc (λ x. x.pid.0 == c.pid.0) cs call ∙ or_from (is_among c.pid.0 cs) (call.pid.0 == c.pid.0) a.0 (differ-sym c.pid.0 call.pid.0 f.0),
+      apart_snoc cs call a.1 f.1,
+    )
 
 pub alone_snoc : (p : Port) (calls : List OpenCall) (call : OpenCall) → Alone p calls →
     (list_any (is_recv_on p) call.cases ≡ true → some_call (is_send_on p) calls ≡ false) →
@@ -106,39 +122,50 @@ pub alone_snoc : (p : Port) (calls : List OpenCall) (call : OpenCall) → Alone 
 alone_snoc p [] call a r w = (λ e. refl, λ e. refl, tt)
 alone_snoc p (c ∷ cs) call a r w = (
   λ e. any_snoc (λ x. list_any (is_send_on p) x.cases) cs call ∙ or_from (some_call (is_send_on p) cs) (list_any (is_send_on p) call.cases) (a.0 e)
-      (false_from_ne_true (list_any (is_send_on p) call.cases) (λ t. let f = or_parts (list_any (is_recv_on p) c.cases) (some_call (is_recv_on p) cs) (w t) in let g : list_any (is_recv_on p) c.cases ≡ false = f.0 in cc)),
+      (false_from_ne_true (list_any (is_send_on p) call.cases) (λ t. let f = or_parts (list_any (is_recv_on p) c.cases) (some_call (is_recv_on p) cs) (w t) in
+      let g : list_any (is_recv_on p) c.cases ≡ false = f.0 in cc)),
   λ e. any_snoc (λ x. list_any (is_recv_on p) x.cases) cs call ∙ or_from (some_call (is_recv_on p) cs) (list_any (is_recv_on p) call.cases) (a.1 e)
-      (false_from_ne_true (list_any (is_recv_on p) call.cases) (λ t. let f = or_parts (list_any (is_send_on p) c.cases) (some_call (is_send_on p) cs) (r t) in let g : list_any (is_send_on p) c.cases ≡ false = f.0 in cc)),
-  alone_snoc p cs call a.2 (λ t. (or_parts (list_any (is_send_on p) c.cases) (some_call (is_send_on p) cs) (r t)).1) (λ t. (or_parts (list_any (is_recv_on p) c.cases) (some_call (is_recv_on p) cs) (w t)).1),
+      (false_from_ne_true (list_any (is_recv_on p) call.cases) (λ t. let f = or_parts (list_any (is_send_on p) c.cases) (some_call (is_send_on p) cs) (r t) in
+      let g : list_any (is_send_on p) c.cases ≡ false = f.0 in cc)),
+  alone_snoc p cs call a.2 (λ t. (or_parts (list_any (is_send_on p) c.cases) (some_call (is_send_on p) cs) (r t)).1)
+      (λ t. (or_parts (list_any (is_recv_on p) c.cases) (some_call (is_recv_on p) cs) (w t)).1),
 )
 
 -- The first call with a case that passes
 
 pub lowest-some : (i : ℕ) (test : Case → Bool) (cases : List Case) → is_some (lowest_from i test cases) ≡ list_any test cases
 lowest-some i test [] = refl
-lowest-some i test (c ∷ cs) = elim (test c) as (λ b. is_some (cond b (Some (record { index = i; case = c })) (lowest_from (i + 1) test cs)) ≡ (b || list_any test cs)) [ true ↦ refl | false ↦ lowest-some (i + 1) test cs ]
+lowest-some i test (c ∷ cs) =
+    elim (test c) as (λ b. is_some (cond b (Some (record { index = i; case = c })) (lowest_from (i + 1) test cs)) ≡ (b || list_any test cs)) [
+      | true ↦ refl
+      | false ↦ lowest-some (i + 1) test cs
+    ]
 
-first_or : (o : Option Ending) (t b : Bool) (x : Option Placed) (pid : Pid) → is_some x ≡ t → is_some o ≡ b → is_some (or_else (option_map (λ c. record { pid = pid; at = c }) x) o) ≡ (t || b)
+first_or : (o : Option Ending) (t b : Bool) (x : Option Placed) (pid : Pid) → is_some x ≡ t → is_some o ≡ b
+    → is_some (or_else (option_map (λ c. record { pid = pid; at = c }) x) o) ≡ (t || b)
 first_or o t b None pid d e = rw (sym d) e
 first_or o t b (Some x) pid d e = rw (sym d) refl
 
 pub first-some : (test : Case → Bool) (calls : List OpenCall) → is_some (first_with test calls) ≡ some_call test calls
 first-some test [] = refl
-first-some test (call ∷ calls) = first_or (first_with test calls) (list_any test call.cases) (some_call test calls) (lowest test call.cases) call.pid (lowest-some 0 test call.cases) (first-some test calls)
+first-some test (call ∷ calls) = first_or (first_with test calls) (list_any test call.cases) (some_call test calls)
+    (lowest test call.cases) call.pid (lowest-some 0 test call.cases) (first-some test calls)
 
 -- where a case stands in a list that is numbered from `i`
 abbrev pub StandsAt : ℕ → List Case → Placed → Type 0
 StandsAt i cases at = (k : ℕ) × (at.index ≡ i + k) × (slice_get cases k ≡ Some at.case)
 
-placed : (b : Bool) (i : ℕ) (test : Case → Bool) (c : Case) (cs : List Case) (at : Placed) → b ≡ test c → cond b (Some (record { index = i; case = c })) (lowest_from (i + 1) test cs) ≡ Some at →
-    (lowest_from (i + 1) test cs ≡ Some at → (test at.case ≡ true) × StandsAt (i + 1) cs at) → (test at.case ≡ true) × StandsAt i (c ∷ cs) at
+placed : (b : Bool) (i : ℕ) (test : Case → Bool) (c : Case) (cs : List Case) (at : Placed) → b ≡ test c
+    → cond b (Some (record { index = i; case = c })) (lowest_from (i + 1) test cs) ≡ Some at
+    → (lowest_from (i + 1) test cs ≡ Some at → (test at.case ≡ true) × StandsAt (i + 1) cs at) → (test at.case ≡ true) × StandsAt i (c ∷ cs) at
 placed true i test c cs at is e rest =
     let P : Placed → Type 0 = λ x. (test x.case ≡ true) × StandsAt i (c ∷ cs) x in
     let h : record { index = i; case = c } ≡ at = cc in
     subst P h (sym is, (0, omega arith, refl))
 placed false i test c cs at is e rest = let r = rest e in (r.0, (suc r.1.0, omega (arith, r.1.1), r.1.2))
 
-pub lowest-at : (i : ℕ) (test : Case → Bool) (cases : List Case) (at : Placed) → lowest_from i test cases ≡ Some at → (test at.case ≡ true) × StandsAt i cases at
+pub lowest-at : (i : ℕ) (test : Case → Bool) (cases : List Case) (at : Placed) → lowest_from i test cases ≡ Some at
+    → (test at.case ≡ true) × StandsAt i cases at
 lowest-at i test [] at e = cc
 lowest-at i test (c ∷ cs) at e = placed (test c) i test c cs at refl e (lowest-at (i + 1) test cs at)
 
@@ -151,17 +178,33 @@ pub record Found (P : OpenCall → Type 0) (test : Case → Bool) (calls : List 
   pub stands : slice_get call.cases e.at.index ≡ Some e.at.case
   pub among : is_among e.pid.0 calls ≡ true
 
-found_here : (P : OpenCall → Type 0) (test : Case → Bool) (call : OpenCall) (calls : List OpenCall) (e : Ending) (o : Option Placed) → o ≡ lowest test call.cases →
-    or_else (option_map (λ c. record { pid = call.pid; at = c }) o) (first_with test calls) ≡ Some e → P call → (first_with test calls ≡ Some e → Found P test calls e) → Found P test (call ∷ calls) e
+found_here : (P : OpenCall → Type 0) (test : Case → Bool) (call : OpenCall) (calls : List OpenCall) (e : Ending) (o : Option Placed)
+    → o ≡ lowest test call.cases → or_else (option_map (λ c. record { pid = call.pid; at = c }) o) (first_with test calls) ≡ Some e → P call
+    → (first_with test calls ≡ Some e → Found P test calls e) → Found P test (call ∷ calls) e
 found_here P test call calls e None is h known rest =
     let r = rest h in
-    record { call = r.call; known = r.known; pid = r.pid; passes = r.passes; stands = r.stands; among = or_right (call.pid.0 == e.pid.0) (is_among e.pid.0 calls) r.among }
+    record {
+      call = r.call;
+      known = r.known;
+      pid = r.pid;
+      passes = r.passes;
+      stands = r.stands;
+      among = or_right (call.pid.0 == e.pid.0) (is_among e.pid.0 calls) r.among;
+    }
 found_here P test call calls e (Some at) is h known rest =
     let same : record { pid = call.pid; at = at } ≡ e = cc in
     let l = lowest-at 0 test call.cases at (sym is) in
     let k : at.index ≡ l.1.0 = omega (arith, l.1.1) in
-    subst (Found P test (call ∷ calls)) same (record { call = call; known = known; pid = refl; passes = l.0; stands = rw k l.1.2; among = or_left (call.pid.0 == call.pid.0) (is_among call.pid.0 calls) (same_number call.pid.0) })
+    subst (Found P test (call ∷ calls)) same (record {
+      call = call;
+      known = known;
+      pid = refl;
+      passes = l.0;
+      stands = rw k l.1.2;
+      among = or_left (call.pid.0 == call.pid.0) (is_among call.pid.0 calls) (same_number call.pid.0);
+    })
 
-pub first-found : (P : OpenCall → Type 0) (test : Case → Bool) (calls : List OpenCall) (e : Ending) → AllByRecursion P calls → first_with test calls ≡ Some e → Found P test calls e
+pub first-found : (P : OpenCall → Type 0) (test : Case → Bool) (calls : List OpenCall) (e : Ending) → AllByRecursion P calls
+    → first_with test calls ≡ Some e → Found P test calls e
 first-found P test [] e all h = cc
 first-found P test (call ∷ calls) e all h = found_here P test call calls e (lowest test call.cases) refl h all.0 (first-found P test calls e all.1)

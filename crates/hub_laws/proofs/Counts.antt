@@ -1,5 +1,6 @@
 -- No more values are sent on a port than there are admitted entries that are no exits.
-use Rattle.std.proofs.Common.{◌≡◌, ℕ, ◌+◌, ◌-◌, ◌≤◌, ◌==◌, Bool, true, false, cond, List, [], ◌∷◌, ◌++◌, length, refl, ◌∙◌, sym, subst, Option, Some, None, arith}
+use Rattle.std.proofs.Common.{◌≡◌, ℕ, ◌+◌, ◌-◌, ◌≤◌, ◌==◌, Bool, true, false, cond, List, [], ◌∷◌}
+use Rattle.std.proofs.Common.{◌++◌, length, refl, ◌∙◌, sym, subst, Option, Some, None, arith}
 use Rattle.std.specs.Prelude.{slice_get}
 use Rattle.std.specs.Option.{option_map_or}
 use Rattle.std.proofs.lemmas.Bool.{eqb-true}
@@ -19,7 +20,8 @@ use Rattle.hub_base.specs.Text.{one_step, steps_of}
 use Rattle.hub_laws.specs.Counts.{CountsLaw}
 use Rattle.hub_laws.specs.OnePort.{port_touched}
 use Rattle.hub_laws.specs.Sound.{IsSound}
-use Rattle.hub_laws.proofs.Deeds.{Knows, Deed, deed_of, told, at, Moved, Wrote, Does, buffers, hands, fetches, gives, drains, refuses, shuts, idle, adds, wrote}
+use Rattle.hub_laws.proofs.Deeds.{Knows, Deed, deed_of, told, at, Moved, Wrote, Does, buffers, hands}
+use Rattle.hub_laws.proofs.Deeds.{fetches, gives, drains, refuses, shuts, idle, adds, wrote}
 use Rattle.hub_laws.proofs.Does.{Quiet, quiet-idle, quiet-adds, does-others}
 use Rattle.hub_laws.proofs.Fires.{longer}
 use Rattle.hub_laws.proofs.Kept.{sound-opening}
@@ -47,7 +49,8 @@ quiet_sends cs ts p (Some c) x is to q = rw (to ∙ q.same p c (sym is)) (omega 
 quiet_sends cs ts p None None is to q = omega arith
 quiet_sends cs ts p None (Some d) is to q = rw (q.fresh p d (sym is) (sym to)).0 (omega arith)
 
-wrote_sends : (cs ts : List Channel) (p q : Port) (c d : Channel) (deeds : List Deed) (b : Bool) → b ≡ (q.0 == p.0) → Wrote cs ts q c d → Moved q c d deeds → sends_of (at ts p) ≤ sends_of (at cs p) + 1
+wrote_sends : (cs ts : List Channel) (p q : Port) (c d : Channel) (deeds : List Deed) (b : Bool) → b ≡ (q.0 == p.0) → Wrote cs ts q c d
+    → Moved q c d deeds → sends_of (at ts p) ≤ sends_of (at cs p) + 1
 wrote_sends cs ts p q c d deeds true is w m =
     let same : q ≡ p = same_port q p (eqb-true q.0 p.0 (sym is)) in
     let new : at ts p ≡ Some d = subst (λ (r : Port). at ts r ≡ Some d) same w.new in
@@ -96,7 +99,8 @@ keeps_steps None e es = omega arith
 keeps_steps (Some f) e es = omega arith
 
 -- a run from a state
-sends_after : (s : State) (ts : List Turned) (es : List Entry) (p : Port) → IsSound s → Knows (in_force ts) s.parked → sends_of (channel_at (state_after s es) p) ≤ sends_of (channel_at s p) + steps_of (kept_after s es)
+sends_after : (s : State) (ts : List Turned) (es : List Entry) (p : Port) → IsSound s → Knows (in_force ts) s.parked
+    → sends_of (channel_at (state_after s es) p) ≤ sends_of (channel_at s p) + steps_of (kept_after s es)
 sends_after s ts [] p sound knows = omega arith
 sends_after s ts (e ∷ es) p sound knows =
     let t : Turned = record { entry = e; events = (moves s e).events } in

@@ -1,5 +1,6 @@
 -- What a write does to the channels, and what follows of each port from what a step can do to them.
-use Rattle.std.proofs.Common.{◌≡◌, ◌≤◌, ℕ, ◌+◌, ◌-◌, ◌<◌, ◌==◌, Bool, true, false, cond, zero, suc, List, [], ◌∷◌, ◌++◌, length, refl, ap, ◌∙◌, sym, subst, Option, Some, None, arith, inl, inr}
+use Rattle.std.proofs.Common.{◌≡◌, ◌≤◌, ℕ, ◌+◌, ◌-◌, ◌<◌, ◌==◌, Bool, true, false, cond, zero, suc, List, [], ◌∷◌}
+use Rattle.std.proofs.Common.{◌++◌, length, refl, ap, ◌∙◌, sym, subst, Option, Some, None, arith, inl, inr}
 use Rattle.std.specs.Prelude.{slice_get, slice_set, get_or}
 use Rattle.std.specs.Option.{option_map}
 use Rattle.std.proofs.Math.ListN.{length-set}
@@ -20,7 +21,8 @@ use Rattle.hub_laws.proofs.Ports.{above_zero, made, at_made, written, get_set_ot
 
 -- the channels after a write
 
-other_by : (b : Bool) (cs : List Channel) (i : ℕ) (d : Channel) (p : Port) → b ≡ (p.0 == 0) → (b ≡ false → i ≡ p.0 - 1 → ⊥) → cond b None (slice_get (slice_set cs i d) (p.0 - 1)) ≡ cond b None (slice_get cs (p.0 - 1))
+other_by : (b : Bool) (cs : List Channel) (i : ℕ) (d : Channel) (p : Port) → b ≡ (p.0 == 0) → (b ≡ false → i ≡ p.0 - 1 → ⊥)
+    → cond b None (slice_get (slice_set cs i d) (p.0 - 1)) ≡ cond b None (slice_get cs (p.0 - 1))
 other_by true cs i d p is h = refl
 other_by false cs i d p is h = get_set_other cs i (p.0 - 1) d (h refl)
 

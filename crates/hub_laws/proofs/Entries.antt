@@ -1,5 +1,6 @@
 -- The account of each admitted entry: every step, the stall that can follow it, and a fault.
-use Rattle.std.proofs.Common.{Bool, false, ◌≡◌, ◌≤◌, ◌<◌, ℕ, ◌+◌, ◌-◌, nat_le, nat_lt, not, filter, inl, inr, true, List, [], ◌∷◌, ◌++◌, length, refl, ap, ◌∙◌, sym, subst, Option, Some, None, append-nil, if◌then◌else◌}
+use Rattle.std.proofs.Common.{Bool, false, ◌≡◌, ◌≤◌, ◌<◌, ℕ, ◌+◌, ◌-◌, nat_le, nat_lt, not, filter, inl, inr, true, List, []}
+use Rattle.std.proofs.Common.{◌∷◌, ◌++◌, length, refl, ap, ◌∙◌, sym, subst, Option, Some, None, append-nil, if◌then◌else◌}
 use Rattle.std.specs.Prelude.{slice_set}
 use Rattle.std.specs.List.{list_any, AllByRecursion}
 use Rattle.std.proofs.lemmas.Bool.{leb-false}
@@ -71,7 +72,8 @@ close_account s pid p (Some c) is h =
           named_sound (Some p) s.channels (slice_set s.channels (p.0 - 1) (shut c)) p c (shut c) (filter off s.parked) refl w fine;
       does = λ sound. wrote p c (shut c) refl w (shuts live refl (closed_deeds p parts.ended parts.each));
       still = λ h. cc;
-      moved = λ h sound. wrote-moves s.channels (slice_set s.channels (p.0 - 1) (shut c)) p c (shut c) w (λ same. let g : c.closed ≡ true = ap (λ (x : Shown). x.closed) same in cc);
+      moved = λ h sound. wrote-moves s.channels (slice_set s.channels (p.0 - 1) (shut c)) p c (shut c) w
+          (λ same. let g : c.closed ≡ true = ap (λ (x : Shown). x.closed) same in cc);
       head = refl;
       gone = refl;
     }

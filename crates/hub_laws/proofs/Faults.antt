@@ -36,9 +36,11 @@ journaled s (Make cap) f e =
     or_fault (Journaled (Make cap)) (nat_lt MOST_CAP cap) fault.BadCap f (cond (nat_le MOST_PORTS (length s.channels)) (Some fault.TooManyPorts) None) refl
     (last_fault (Make cap) (nat_le MOST_PORTS (length s.channels)) fault.TooManyPorts f refl) e
 journaled s (Call cases default word) f e =
-    or_fault (Journaled (Call cases default word)) (nat_lt MOST_CASES (length cases.items)) fault.TooManyCases f (cond (list_any (λ c. is_unmade s (port_of c)) cases.items) (Some fault.NoPort) None) refl
+    or_fault (Journaled (Call cases default word)) (nat_lt MOST_CASES (length cases.items)) fault.TooManyCases f
+    (cond (list_any (λ c. is_unmade s (port_of c)) cases.items) (Some fault.NoPort) None) refl
     (last_fault (Call cases default word) (list_any (λ c. is_unmade s (port_of c)) cases.items) fault.NoPort f refl) e
-journaled s (Close p) f e = or_fault (Journaled (Close p)) (is_unmade s p) fault.NoPort f (close_fault (channel_at s p)) refl (close_journaled p (channel_at s p) f) e
+journaled s (Close p) f e =
+    or_fault (Journaled (Close p)) (is_unmade s p) fault.NoPort f (close_fault (channel_at s p)) refl (close_journaled p (channel_at s p) f) e
 journaled s step f e = absurd (let g : ⊥ = cc in g)
 
 -- Why an entry is not admitted
@@ -48,7 +50,8 @@ Refuses f = refuses_entry f ≡ true
 
 pub refusal-refuses : (s : State) (pid : Pid) (f : Fault) → refusal s pid ≡ Some f → refuses_entry f ≡ true
 refusal-refuses s pid f e =
-    or_fault Refuses (not (nat_lt pid.0 s.head.procs)) fault.NoProcess f (cond (has_gone s pid.0) (Some fault.Gone) (cond (is_waiting s pid.0) (Some fault.Busy) None)) refl
+    or_fault Refuses (not (nat_lt pid.0 s.head.procs)) fault.NoProcess f
+    (cond (has_gone s pid.0) (Some fault.Gone) (cond (is_waiting s pid.0) (Some fault.Busy) None)) refl
     (λ e. or_fault Refuses (has_gone s pid.0) fault.Gone f (cond (is_waiting s pid.0) (Some fault.Busy) None) refl
     (λ e. or_fault Refuses (is_waiting s pid.0) fault.Busy f None refl (λ h. absurd (let g : ⊥ = cc in g)) e) e) e
 

@@ -18,7 +18,8 @@ use Rattle.hub_base.specs.declared.event.Outcome.TheVariants.{Sent, Got, Drained
 use Rattle.hub_base.specs.declared.event.What.TheVariants as what
 use Rattle.hub_base.specs.State.{State, Channel, OpenCall, channel_at}
 use Rattle.hub_base.specs.Ready.{is_send_on, is_recv_on, can_proceed, ready, port_of, first_with, Ending, without, send_can, recv_can}
-use Rattle.hub_base.specs.Steps.{Firing, fires, send_fires, proceeds, chooses, calls, after_send, after_receive, next_value, outcome_of, with_sent, send_meets, recv_takes, recv_meets, fired}
+use Rattle.hub_base.specs.Steps.{Firing, fires, send_fires, proceeds, chooses, calls, after_send, after_receive}
+use Rattle.hub_base.specs.Steps.{next_value, outcome_of, with_sent, send_meets, recv_takes, recv_meets, fired}
 use Rattle.hub_laws.specs.OnePort.{found_closed, Shown, shown}
 use Rattle.hub_laws.specs.Sound.{IsSound, PortSound, some_call}
 use Rattle.hub_laws.proofs.Branches.{by-closed}

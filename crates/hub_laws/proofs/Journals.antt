@@ -23,7 +23,9 @@ use Rattle.hub_laws.proofs.Longer.{kept-entry}
 passed_over : (s : State) (e : Entry) (f : Fault) → Some f ≡ refusal s e.pid → (moves s e).state ≡ s
 passed_over s e f is = ap (λ o. (admits s e o).state) (sym is)
 
-state_by : (s : State) (e : Entry) (es : List Entry) (o : Option Fault) → o ≡ refusal s e.pid → ((t : State) → state_after t (kept_after t es) ≡ state_after t es) → state_after s (keeps o e (kept_after (moves s e).state es)) ≡ state_after (moves s e).state es
+state_by : (s : State) (e : Entry) (es : List Entry) (o : Option Fault) → o ≡ refusal s e.pid
+    → ((t : State) → state_after t (kept_after t es) ≡ state_after t es)
+    → state_after s (keeps o e (kept_after (moves s e).state es)) ≡ state_after (moves s e).state es
 state_by s e es None is rest = rest (moves s e).state
 state_by s e es (Some f) is rest = rw (passed_over s e f is) (rest s)
 
@@ -31,8 +33,10 @@ state_after-kept : (s : State) (es : List Entry) → state_after s (kept_after s
 state_after-kept s [] = refl
 state_after-kept s (e ∷ es) = state_by s e es (refusal s e.pid) refl (λ t. state_after-kept t es)
 
-kept_by : (s : State) (e : Entry) (es : List Entry) (o : Option Fault) → o ≡ refusal s e.pid → ((t : State) → kept_after t (kept_after t es) ≡ kept_after t es) → kept_after s (keeps o e (kept_after (moves s e).state es)) ≡ keeps o e (kept_after (moves s e).state es)
-kept_by s e es None is rest = ap (λ o. keeps o e (kept_after (moves s e).state (kept_after (moves s e).state es))) (sym is) ∙ ap (λ xs. e ∷ xs) (rest (moves s e).state)
+kept_by : (s : State) (e : Entry) (es : List Entry) (o : Option Fault) → o ≡ refusal s e.pid → ((t : State) → kept_after t (kept_after t es) ≡ kept_after t es)
+    → kept_after s (keeps o e (kept_after (moves s e).state es)) ≡ keeps o e (kept_after (moves s e).state es)
+kept_by s e es None is rest = ap (λ o. keeps o e (kept_after (moves s e).state (kept_after (moves s e).state es))) (sym is)
+    ∙ ap (λ xs. e ∷ xs) (rest (moves s e).state)
 kept_by s e es (Some f) is rest = rw (passed_over s e f is) (rest s)
 
 kept_after-kept : (s : State) (es : List Entry) → kept_after s (kept_after s es) ≡ kept_after s es
@@ -60,8 +64,9 @@ answered_pass : (e : Entry) (events : List Event) → IsAnswered e.pid e.step ev
 answered_pass e [] a = refl
 answered_pass e (x ∷ xs) a = rw (answer_admits e.step x.what a.fits, ended_pass xs a.ends) refl
 
-events_by : (s : State) (e : Entry) (es : List Entry) (o : Option Fault) → o ≡ refusal s e.pid → ((t : State) → events_after t (kept_after t es) ≡ filter no_refusal (events_after t es)) →
-    events_after s (keeps o e (kept_after (moves s e).state es)) ≡ filter no_refusal ((admits s e o).events ++ events_after (moves s e).state es)
+events_by : (s : State) (e : Entry) (es : List Entry) (o : Option Fault) → o ≡ refusal s e.pid
+    → ((t : State) → events_after t (kept_after t es) ≡ filter no_refusal (events_after t es))
+    → events_after s (keeps o e (kept_after (moves s e).state es)) ≡ filter no_refusal ((admits s e o).events ++ events_after (moves s e).state es)
 events_by s e es None is rest =
     let same : moves s e ≡ turn s e = ap (admits s e) (sym is) in
     ap (λ c. c.events ++ events_after (moves s e).state (kept_after (moves s e).state es)) same
@@ -98,9 +103,11 @@ kept_most s (e ∷ es) = by (refusal s e.pid) (kept_most (moves s e).state es)
     by (Some f) most = omega arith
 
 -- where all entries are kept the first is admitted, and so are the others
-first_kept : (s : State) (e : Entry) (es : List Entry) (o : Option Fault) → keeps o e (kept_after (moves s e).state es) ≡ e ∷ es → (o ≡ None) × (kept_after (moves s e).state es ≡ es)
+first_kept : (s : State) (e : Entry) (es : List Entry) (o : Option Fault) → keeps o e (kept_after (moves s e).state es) ≡ e ∷ es
+    → (o ≡ None) × (kept_after (moves s e).state es ≡ es)
 first_kept s e es None h = (refl, cc)
-first_kept s e es (Some f) h = absurd (let l : length (kept_after (moves s e).state es) ≡ length (e ∷ es) = ap length h in omega (arith, l, kept_most (moves s e).state es))
+first_kept s e es (Some f) h =
+    absurd (let l : length (kept_after (moves s e).state es) ≡ length (e ∷ es) = ap length h in omega (arith, l, kept_most (moves s e).state es))
 
 begin_after : (s : State) (es fs : List Entry) → kept_after s (es ++ fs) ≡ es ++ fs → (kept_after s es ≡ es) × (kept_after (state_after s es) fs ≡ fs)
 begin_after s [] fs h = (refl, h)

@@ -1,5 +1,6 @@
 -- Soundness of one port: where calls end or wait, and after each thing that a step does to its channel.
-use Rattle.std.proofs.Common.{◌≡◌, ℕ, ◌+◌, ◌-◌, ◌<◌, ◌==◌, nat_lt, Bool, true, false, cond, not, List, [], ◌∷◌, ◌++◌, length, filter, refl, ◌∙◌, sym, Some, None, inl, inr, arith, ◌||◌}
+use Rattle.std.proofs.Common.{◌≡◌, ℕ, ◌+◌, ◌-◌, ◌<◌, ◌==◌, nat_lt, Bool, true, false, cond, not, List, [], ◌∷◌}
+use Rattle.std.proofs.Common.{◌++◌, length, filter, refl, ◌∙◌, sym, Some, None, inl, inr, arith, ◌||◌}
 use Rattle.std.specs.Prelude.{slice_get, is_some}
 use Rattle.std.specs.List.{list_any, AllByRecursion}
 use Rattle.std.proofs.lemmas.Grind.{common_steps}
@@ -42,7 +43,8 @@ port-fewer p c kept calls fewer f = record {
 }
 
 -- a value that goes through
-pub port-through : (p : Port) (v : Value) (c : Channel) (calls : List OpenCall) → PortSound p c calls → c.closed ≡ false → PortSound p (after_receive (after_send v c)) calls
+pub port-through : (p : Port) (v : Value) (c : Channel) (calls : List OpenCall) → PortSound p c calls → c.closed ≡ false
+    → PortSound p (after_receive (after_send v c)) calls
 port-through p v c calls f live = record {
   received = omega (arith, f.received, longer v c);
   fits = omega (arith, f.fits, longer v c);
@@ -53,7 +55,8 @@ port-through p v c calls f live = record {
 }
 
 -- a value that goes into the buffer
-pub port-sent : (p : Port) (v : Value) (c : Channel) (calls : List OpenCall) → PortSound p c calls → c.closed ≡ false → some_call (is_recv_on p) calls ≡ false → length c.sent < c.received + c.cap → PortSound p (after_send v c) calls
+pub port-sent : (p : Port) (v : Value) (c : Channel) (calls : List OpenCall) → PortSound p c calls → c.closed ≡ false
+    → some_call (is_recv_on p) calls ≡ false → length c.sent < c.received + c.cap → PortSound p (after_send v c) calls
 port-sent p v c calls f live none room = record {
   received = omega (arith, f.received, longer v c);
   fits = omega (arith, longer v c);
@@ -64,7 +67,8 @@ port-sent p v c calls f live none room = record {
 }
 
 -- a value that comes out of the buffer
-pub port-received : (p : Port) (c : Channel) (calls : List OpenCall) → PortSound p c calls → some_call (is_send_on p) calls ≡ false → c.received < length c.sent → PortSound p (after_receive c) calls
+pub port-received : (p : Port) (c : Channel) (calls : List OpenCall) → PortSound p c calls → some_call (is_send_on p) calls ≡ false
+    → c.received < length c.sent → PortSound p (after_receive c) calls
 port-received p c calls f none some = record {
   received = omega arith;
   fits = omega (arith, f.fits);
@@ -74,7 +78,8 @@ port-received p c calls f none some = record {
   alone = f.alone;
 }
 
-pub room_by : (x y : Bool) (c : Channel) → x ≡ false → y ≡ false → (x || y || nat_lt (length c.sent - c.received) c.cap) ≡ true → length c.sent < c.received + c.cap
+pub room_by : (x y : Bool) (c : Channel) → x ≡ false → y ≡ false → (x || y || nat_lt (length c.sent - c.received) c.cap) ≡ true
+    → length c.sent < c.received + c.cap
 room_by true y c d e h = cc
 room_by false true c d e h = cc
 room_by false false c d e h = grind (arith, common_steps)
@@ -93,32 +98,49 @@ port-parks s pid cases p c e none f =
     let recvs = any_snoc (λ call. list_any (is_recv_on p) call.cases) s.parked (record { pid = pid; cases = cases }) in
     let sends = any_snoc (λ call. list_any (is_send_on p) call.cases) s.parked (record { pid = pid; cases = cases }) in
     -- what the test said of a receive, and of a send
-    let recv = λ (h : list_any (is_recv_on p) cases ≡ true). or3_none (is_some (first_with (is_send_on p) s.parked)) (nat_lt c.received (length c.sent)) c.closed (no_recv s p c cases e none h) in
-    let send = λ (h : list_any (is_send_on p) cases ≡ true). or3_none c.closed (is_some (first_with (is_recv_on p) s.parked)) (nat_lt (length c.sent - c.received) c.cap) (no_send s p c cases e none h) in
+    let recv = λ (h : list_any (is_recv_on p) cases ≡ true). or3_none (is_some (first_with (is_send_on p) s.parked))
+    (nat_lt c.received (length c.sent)) c.closed (no_recv s p c cases e none h) in
+    let send = λ (h : list_any (is_send_on p) cases ≡ true). or3_none c.closed (is_some (first_with (is_recv_on p) s.parked))
+    (nat_lt (length c.sent - c.received) c.cap) (no_send s p c cases e none h) in
     record {
       received = f.received;
       fits = f.fits;
-      receivers = λ h. elim (or_cases (some_call (is_recv_on p) s.parked) (list_any (is_recv_on p) cases) (sym recvs ∙ h)) [ inl l ↦ f.receivers l | inr r ↦ omega (arith, f.received, ltb-false c.received (length c.sent) (recv r).1) ];
-      senders = λ h. elim (or_cases (some_call (is_send_on p) s.parked) (list_any (is_send_on p) cases) (sym sends ∙ h)) [ inl l ↦ f.senders l | inr r ↦ omega (arith, f.fits, f.received, ltb-false (length c.sent - c.received) c.cap (send r).2) ];
+      receivers = λ h. elim (or_cases (some_call (is_recv_on p) s.parked) (list_any (is_recv_on p) cases) (sym recvs ∙ h)) [
+        | inl l ↦ f.receivers l
+        | inr r ↦ omega (arith, f.received, ltb-false c.received (length c.sent) (recv r).1)
+      ];
+      senders = λ h. elim (or_cases (some_call (is_send_on p) s.parked) (list_any (is_send_on p) cases) (sym sends ∙ h)) [
+        | inl l ↦ f.senders l
+        | inr r ↦ omega (arith, f.fits, f.received, ltb-false (length c.sent - c.received) c.cap (send r).2)
+      ];
       ended = λ h. (
-        recvs ∙ or_from (some_call (is_recv_on p) s.parked) (list_any (is_recv_on p) cases) (f.ended h).0 (false_from_ne_true (list_any (is_recv_on p) cases) (λ r. let g = (recv r).2 in cc)),
-        sends ∙ or_from (some_call (is_send_on p) s.parked) (list_any (is_send_on p) cases) (f.ended h).1 (false_from_ne_true (list_any (is_send_on p) cases) (λ r. let g = (send r).0 in cc)),
+        recvs ∙ or_from (some_call (is_recv_on p) s.parked) (list_any (is_recv_on p) cases) (f.ended h).0
+            (false_from_ne_true (list_any (is_recv_on p) cases) (λ r. let g = (recv r).2 in cc)),
+        sends ∙ or_from (some_call (is_send_on p) s.parked) (list_any (is_send_on p) cases) (f.ended h).1
+            (false_from_ne_true (list_any (is_send_on p) cases) (λ r. let g = (send r).0 in cc)),
       );
-      alone = alone_snoc p s.parked (record { pid = pid; cases = cases }) f.alone (λ r. sym (first-some (is_send_on p) s.parked) ∙ (recv r).0) (λ r. sym (first-some (is_recv_on p) s.parked) ∙ (send r).1);
+      alone = alone_snoc p s.parked (record { pid = pid; cases = cases }) f.alone (λ r. sym (first-some (is_send_on p) s.parked) ∙ (recv r).0)
+          (λ r. sym (first-some (is_recv_on p) s.parked) ∙ (send r).1);
     }
 
 -- a close
 
 pub any_more : {A : Type 0} (t u : A → Bool) (xs : List A) → ((x : A) → t x ≡ true → u x ≡ true) → list_any t xs ≡ true → list_any u xs ≡ true
 any_more t u [] imp e = e
-any_more t u (x ∷ xs) imp e = elim (or_cases (t x) (list_any t xs) e) [ inl l ↦ or_left (u x) (list_any u xs) (imp x l) | inr r ↦ or_right (u x) (list_any u xs) (any_more t u xs imp r) ]
+any_more t u (x ∷ xs) imp e = elim (or_cases (t x) (list_any t xs) e) [
+  | inl l ↦ or_left (u x) (list_any u xs) (imp x l)
+  | inr r ↦ or_right (u x) (list_any u xs) (any_more t u xs imp r)
+]
 
-gone_by : (b : Bool) (t u : Case → Bool) (call : OpenCall) (rest : List OpenCall) → b ≡ list_any u call.cases → ((c : Case) → t c ≡ true → u c ≡ true) → some_call t rest ≡ false → some_call t (cond (not b) (call ∷ rest) rest) ≡ false
+gone_by : (b : Bool) (t u : Case → Bool) (call : OpenCall) (rest : List OpenCall) → b ≡ list_any u call.cases
+    → ((c : Case) → t c ≡ true → u c ≡ true) → some_call t rest ≡ false → some_call t (cond (not b) (call ∷ rest) rest) ≡ false
 gone_by true t u call rest is imp e = e
-gone_by false t u call rest is imp e = or_from (list_any t call.cases) (some_call t rest) (false_from_ne_true (list_any t call.cases) (λ h. let g = any_more t u call.cases imp h in cc)) e
+gone_by false t u call rest is imp e = or_from (list_any t call.cases) (some_call t rest)
+    (false_from_ne_true (list_any t call.cases) (λ h. let g = any_more t u call.cases imp h in cc)) e
 
 -- a close leaves no such call
-gone_on : (t u : Case → Bool) (calls : List OpenCall) → ((c : Case) → t c ≡ true → u c ≡ true) → some_call t (filter (λ call. not (list_any u call.cases)) calls) ≡ false
+gone_on : (t u : Case → Bool) (calls : List OpenCall) → ((c : Case) → t c ≡ true → u c ≡ true)
+    → some_call t (filter (λ call. not (list_any u call.cases)) calls) ≡ false
 gone_on t u [] imp = refl
 gone_on t u (call ∷ calls) imp = gone_by (list_any u call.cases) t u call (filter (λ call. not (list_any u call.cases)) calls) refl imp (gone_on t u calls imp)
 
@@ -140,9 +162,11 @@ port-shut p c calls f =
 -- a make
 
 -- nobody waits on a port that was not made
-unmade : (n : ℕ) (t : Case → Bool) (calls : List OpenCall) → AllByRecursion (CallFits n) calls → ((c : Case) → t c ≡ true → nat_lt n (port_of c).0 ≡ true) → some_call t calls ≡ false
+unmade : (n : ℕ) (t : Case → Bool) (calls : List OpenCall) → AllByRecursion (CallFits n) calls
+    → ((c : Case) → t c ≡ true → nat_lt n (port_of c).0 ≡ true) → some_call t calls ≡ false
 unmade n t [] a imp = refl
-unmade n t (call ∷ calls) a imp = or_from (list_any t call.cases) (some_call t calls) (false_from_ne_true (list_any t call.cases) (λ h. let g = any_more t (λ c. nat_lt n (port_of c).0) call.cases imp h in let k = a.0.made in cc)) (unmade n t calls a.1 imp)
+unmade n t (call ∷ calls) a imp = or_from (list_any t call.cases) (some_call t calls) (false_from_ne_true (list_any t call.cases)
+    (λ h. let g = any_more t (λ c. nat_lt n (port_of c).0) call.cases imp h in let k = a.0.made in cc)) (unmade n t calls a.1 imp)
 
 alone-none : (p : Port) (calls : List OpenCall) → some_call (is_recv_on p) calls ≡ false → some_call (is_send_on p) calls ≡ false → Alone p calls
 alone-none p [] r w = tt

@@ -1,5 +1,6 @@
 -- A step leaves the number of processes, only an exit adds to those that have exited, and only a make to the ports.
-use Rattle.std.proofs.Common.{◌≡◌, ◌≤◌, ℕ, ◌==◌, Bool, true, false, cond, List, [], ◌∷◌, ◌++◌, length, ap, ◌∙◌, sym, refl, Option, Some, None, arith, inl, inr, ◌⊎◌, ◌||◌, ◌&&◌}
+use Rattle.std.proofs.Common.{◌≡◌, ◌≤◌, ℕ, ◌==◌, Bool, true, false, cond, List, [], ◌∷◌, ◌++◌, length, ap}
+use Rattle.std.proofs.Common.{◌∙◌, sym, refl, Option, Some, None, arith, inl, inr, ◌⊎◌, ◌||◌, ◌&&◌}
 use Rattle.std.specs.List.{list_any}
 use Rattle.std.proofs.Math.Bool.{and-false, or-false}
 use Rattle.hub_base.specs.declared.value.Pid.{Pid}

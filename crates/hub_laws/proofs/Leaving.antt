@@ -1,5 +1,6 @@
 -- The open calls that end in one step, each with what its process is told, and those that stay.
-use Rattle.std.proofs.Common.{◌≡◌, ℕ, ◌+◌, ◌==◌, Bool, true, false, cond, not, List, [], ◌∷◌, ◌++◌, filter, map, refl, ap, sym, subst, Option, Some, None, arith}
+use Rattle.std.proofs.Common.{◌≡◌, ℕ, ◌+◌, ◌==◌, Bool, true, false, cond, not, List, [], ◌∷◌, ◌++◌}
+use Rattle.std.proofs.Common.{filter, map, refl, ap, sym, subst, Option, Some, None, arith}
 use Rattle.std.specs.Prelude.{slice_get, is_some}
 use Rattle.std.specs.List.{list_any, AllByRecursion, filter_map, cons_option}
 use Rattle.std.specs.Option.{option_map}
@@ -108,7 +109,9 @@ leave-later call xs calls kept (next y ys cs rest ks t l) =
 
 pub without_none : (pid : Pid) (calls : List OpenCall) → is_among pid.0 calls ≡ false → without pid calls ≡ calls
 without_none pid [] e = refl
-without_none pid (call ∷ calls) e = let f = or_parts (call.pid.0 == pid.0) (is_among pid.0 calls) e in rw f.0 (ap (λ cs. call ∷ cs) (without_none pid calls f.1))
+without_none pid (call ∷ calls) e =
+    let f = or_parts (call.pid.0 == pid.0) (is_among pid.0 calls) e in
+    rw f.0 (ap (λ cs. call ∷ cs) (without_none pid calls f.1))
 
 pub without_head : (call : OpenCall) (calls : List OpenCall) → is_among call.pid.0 calls ≡ false → without call.pid (call ∷ calls) ≡ calls
 without_head call calls apart = rw (same_number call.pid.0) (without_none call.pid calls apart)

@@ -1,5 +1,6 @@
 -- A journal holds at most one exit of each process.
-use Rattle.std.proofs.Common.{◌≡◌, ℕ, ◌+◌, ◌≤◌, ◌<◌, ◌==◌, Bool, true, false, cond, List, [], ◌∷◌, ◌++◌, length, refl, ap, ◌∙◌, sym, subst, Option, Some, None, arith, inl, inr, ◌||◌, ◌&&◌}
+use Rattle.std.proofs.Common.{◌≡◌, ℕ, ◌+◌, ◌≤◌, ◌<◌, ◌==◌, Bool, true, false, cond, List, [], ◌∷◌, ◌++◌, length}
+use Rattle.std.proofs.Common.{refl, ap, ◌∙◌, sym, subst, Option, Some, None, arith, inl, inr, ◌||◌, ◌&&◌}
 use Rattle.std.specs.List.{AllByRecursion}
 use Rattle.std.proofs.lemmas.List.{length-append}
 use Rattle.std.proofs.lemmas.Bool.{or_cases, and_parts, eqb-true}
@@ -28,7 +29,8 @@ once_by true false e es free most = omega arith
 once_by false true e es free most = most
 once_by false false e es free most = most
 
-once_entry : (q : ℕ) (s : State) (e : Entry) (es : List Entry) (o : Option Fault) → o ≡ refusal s e.pid → length (exits_of q es) + one (has_gone (admits s e o).state q) ≤ 1 → length (exits_of q (keeps o e es)) + one (has_gone s q) ≤ 1
+once_entry : (q : ℕ) (s : State) (e : Entry) (es : List Entry) (o : Option Fault) → o ≡ refusal s e.pid
+    → length (exits_of q es) + one (has_gone (admits s e o).state q) ≤ 1 → length (exits_of q (keeps o e es)) + one (has_gone s q) ≤ 1
 once_entry q s e es None is most =
     let after = turn-leaves q s e in
     let rest : length (exits_of q es) + one (has_gone s q || (is_exit e.step && (e.pid.0 == q))) ≤ 1 = rw after at most in
@@ -47,13 +49,15 @@ once_after q s (e ∷ es) = once_entry q s e (kept_after (moves s e).state es) (
 
 -- Below
 
-below_entry : (n : ℕ) (s : State) (e : Entry) (es : List Entry) (o : Option Fault) → s.head.procs ≡ n → o ≡ refusal s e.pid → AllByRecursion (λ e. e.pid.0 < n) es → AllByRecursion (λ e. e.pid.0 < n) (keeps o e es)
+below_entry : (n : ℕ) (s : State) (e : Entry) (es : List Entry) (o : Option Fault) → s.head.procs ≡ n → o ≡ refusal s e.pid
+    → AllByRecursion (λ e. e.pid.0 < n) es → AllByRecursion (λ e. e.pid.0 < n) (keeps o e es)
 below_entry n s e es None procs is all = (omega (arith, (admitted s e.pid (sym is)).below), all)
 below_entry n s e es (Some f) procs is all = all
 
 below_after : (n : ℕ) (s : State) (es : List Entry) → s.head.procs ≡ n → AllByRecursion (λ e. e.pid.0 < n) (kept_after s es)
 below_after n s [] procs = tt
-below_after n s (e ∷ es) procs = below_entry n s e (kept_after (moves s e).state es) (refusal s e.pid) procs refl (below_after n (moves s e).state es (procs-of (head-entry s e (refusal s e.pid)) ∙ procs))
+below_after n s (e ∷ es) procs = below_entry n s e (kept_after (moves s e).state es) (refusal s e.pid) procs refl
+    (below_after n (moves s e).state es (procs-of (head-entry s e (refusal s e.pid)) ∙ procs))
 
 -- Length
 
@@ -92,13 +96,15 @@ one_entry gone e = by (is_exit e.step)
     by true = omega (arith, length-append gone (e.pid ∷ []))
     by false = omega arith
 
-length_entry : (s : State) (e : Entry) (es : List Entry) (total : ℕ) (o : Option Fault) → length es + length (admits s e o).state.gone ≡ steps_of es + total → length (keeps o e es) + length s.gone ≡ steps_of (keeps o e es) + total
+length_entry : (s : State) (e : Entry) (es : List Entry) (total : ℕ) (o : Option Fault)
+    → length es + length (admits s e o).state.gone ≡ steps_of es + total → length (keeps o e es) + length s.gone ≡ steps_of (keeps o e es) + total
 length_entry s e es total None rest = omega (arith, rest, one_entry s.gone e, ap length (turn-account s e).gone)
 length_entry s e es total (Some f) rest = rest
 
 length_after : (s : State) (es : List Entry) → length (kept_after s es) + length s.gone ≡ steps_of (kept_after s es) + length (state_after s es).gone
 length_after s [] = omega arith
-length_after s (e ∷ es) = length_entry s e (kept_after (moves s e).state es) (length (state_after (moves s e).state es).gone) (refusal s e.pid) (length_after (moves s e).state es)
+length_after s (e ∷ es) = length_entry s e (kept_after (moves s e).state es) (length (state_after (moves s e).state es).gone)
+    (refusal s e.pid) (length_after (moves s e).state es)
 
 -- no more processes have exited than there are
 pub gone-law : (head : Head) (es : List Entry) → length (state head es).gone ≤ head.procs

@@ -15,13 +15,15 @@ state_after-append s (e ∷ es) fs = state_after-append (moves s e).state es fs
 
 pub events_after-append : (s : State) (es fs : List Entry) → events_after s (es ++ fs) ≡ events_after s es ++ events_after (state_after s es) fs
 events_after-append s [] fs = refl
-events_after-append s (e ∷ es) fs = ap (λ xs. (moves s e).events ++ xs) (events_after-append (moves s e).state es fs) ∙ sym (append_assoc (moves s e).events (events_after (moves s e).state es) (events_after (state_after (moves s e).state es) fs))
+events_after-append s (e ∷ es) fs = ap (λ xs. (moves s e).events ++ xs) (events_after-append (moves s e).state es fs)
+    ∙ sym (append_assoc (moves s e).events (events_after (moves s e).state es) (events_after (state_after (moves s e).state es) fs))
 
 pub kept_after-append : (s : State) (es fs : List Entry) → kept_after s (es ++ fs) ≡ kept_after s es ++ kept_after (state_after s es) fs
 kept_after-append s [] fs = refl
 kept_after-append s (e ∷ es) fs = ap (keeps (refusal s e.pid) e) (kept_after-append (moves s e).state es fs) ∙ by (refusal s e.pid)
   where
-    by : (o : Option Fault) → keeps o e (kept_after (moves s e).state es ++ kept_after (state_after (moves s e).state es) fs) ≡ keeps o e (kept_after (moves s e).state es) ++ kept_after (state_after (moves s e).state es) fs
+    by : (o : Option Fault) → keeps o e (kept_after (moves s e).state es ++ kept_after (state_after (moves s e).state es) fs)
+        ≡ keeps o e (kept_after (moves s e).state es) ++ kept_after (state_after (moves s e).state es) fs
     by None = refl
     by (Some f) = refl
 

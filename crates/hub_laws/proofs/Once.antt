@@ -1,5 +1,6 @@
 -- Each admitted call has at most one event besides `Parked`.
-use Rattle.std.proofs.Common.{◌≡◌, ℕ, ◌+◌, ◌<◌, ◌≤◌, ◌==◌, Bool, true, false, cond, not, List, [], ◌∷◌, ◌++◌, length, refl, ap, ◌∙◌, sym, subst, Option, Some, None, arith, inl, inr, ◌&&◌}
+use Rattle.std.proofs.Common.{◌≡◌, ℕ, ◌+◌, ◌<◌, ◌≤◌, ◌==◌, Bool, true, false, cond, not, List, [], ◌∷◌, ◌++◌}
+use Rattle.std.proofs.Common.{length, refl, ap, ◌∙◌, sym, subst, Option, Some, None, arith, inl, inr, ◌&&◌}
 use Rattle.std.proofs.lemmas.List.{length-append}
 use Rattle.hub_base.specs.declared.value.Pid.{Pid}
 use Rattle.hub_base.specs.declared.entry.Step.{Step}
@@ -43,11 +44,15 @@ pub record AtMost (n : ℕ) (events : List Event) : Type 0 where
   pub each : EachEnds events
 
 joined : (n m : ℕ) (xs ys : List Event) → EachEnds xs → AtMost m ys → length xs + m ≤ n → AtMost n (xs ++ ys)
-joined n m xs ys each rest fits = record { most = omega (arith, length-append xs ys, rest.most, fits); each = all_append (λ x. ends_call x.what ≡ true) xs ys each rest.each }
+joined n m xs ys each rest fits = record {
+  most = omega (arith, length-append xs ys, rest.most, fits);
+  each = all_append (λ x. ends_call x.what ≡ true) xs ys each rest.each;
+}
 
 -- Which events of a process count
 
-each_by : (q : ℕ) (x : Event) (xs : List Event) (b : Bool) → b ≡ (counts x.what && (x.pid.0 == q)) → (b ≡ true → ends_call x.what ≡ true) → EachEnds (endings q xs) → EachEnds (cond b (x ∷ endings q xs) (endings q xs))
+each_by : (q : ℕ) (x : Event) (xs : List Event) (b : Bool) → b ≡ (counts x.what && (x.pid.0 == q)) → (b ≡ true → ends_call x.what ≡ true)
+    → EachEnds (endings q xs) → EachEnds (cond b (x ∷ endings q xs) (endings q xs))
 each_by q x xs true is here rest = (here refl, rest)
 each_by q x xs false is here rest = rest
 
@@ -59,52 +64,60 @@ ended_each q (x ∷ xs) a = each_by q x xs (counts x.what && (x.pid.0 == q)) ref
 own_each : (e : Entry) (events : List Event) → is_call e.step ≡ true → IsAnswered e.pid e.step events → EachEnds (endings e.pid.0 events)
 own_each e [] call a = tt
 own_each e (x ∷ xs) call a =
-    each_by e.pid.0 x xs (counts x.what && (x.pid.0 == e.pid.0)) refl (λ h. answer_ends e.step x.what call a.fits ((and_parts (counts x.what) (x.pid.0 == e.pid.0) h).0)) (ended_each e.pid.0 xs a.ends)
+    each_by e.pid.0 x xs (counts x.what && (x.pid.0 == e.pid.0)) refl
+    (λ h. answer_ends e.step x.what call a.fits ((and_parts (counts x.what) (x.pid.0 == e.pid.0) h).0)) (ended_each e.pid.0 xs a.ends)
 
 -- the step of another process
 other_each : (q : ℕ) (e : Entry) (events : List Event) → (e.pid.0 == q) ≡ false → IsAnswered e.pid e.step events → EachEnds (endings q events)
 other_each q e [] other a = tt
 other_each q e (x ∷ xs) other a =
     let not_mine : (x.pid.0 == q) ≡ false = ap (λ (p : Pid). p.0 == q) a.own ∙ other in
-    each_by q x xs (counts x.what && (x.pid.0 == q)) refl (λ h. absurd (let mine = (and_parts (counts x.what) (x.pid.0 == q) h).1 in let g : ⊥ = cc in g)) (ended_each q xs a.ends)
+    each_by q x xs (counts x.what && (x.pid.0 == q)) refl
+    (λ h. absurd (let mine = (and_parts (counts x.what) (x.pid.0 == q) h).1 in let g : ⊥ = cc in g)) (ended_each q xs a.ends)
 
 -- Up to the next admitted entry
 
 turn-admitted : (s : State) (e : Entry) → was_admitted (turn s e).events ≡ true
 turn-admitted s e = answered_admits e (turn s e).events (turn-answered s e)
 
-until_admitted : (q : ℕ) (s : State) (e : Entry) (rest : List Event) (a b : Bool) → a ≡ true → b ≡ (e.pid.0 == q) → IsSound s → (b ≡ false → AtMost (open_calls q (turn s e).state.parked) rest) →
-    AtMost (open_calls q s.parked) (cond (a && b) [] (endings q (turn s e).events ++ rest))
+until_admitted : (q : ℕ) (s : State) (e : Entry) (rest : List Event) (a b : Bool) → a ≡ true
+    → b ≡ (e.pid.0 == q) → IsSound s → (b ≡ false → AtMost (open_calls q (turn s e).state.parked) rest)
+    → AtMost (open_calls q s.parked) (cond (a && b) [] (endings q (turn s e).events ++ rest))
 until_admitted q s e rest true true is m sound after = record { most = omega arith; each = tt }
 until_admitted q s e rest true false is m sound after =
     let other : (e.pid.0 == q) ≡ false = sym m in
     let bal : ends q (turn s e).events + open_calls q (turn s e).state.parked ≡ open_calls q s.parked + 0 = rw other at (turn-balance q s e sound) in
-    joined (open_calls q s.parked) (open_calls q (turn s e).state.parked) (endings q (turn s e).events) rest (other_each q e (turn s e).events other (turn-answered s e)) (after refl) (omega (arith, bal))
+    joined (open_calls q s.parked) (open_calls q (turn s e).state.parked) (endings q (turn s e).events) rest
+    (other_each q e (turn s e).events other (turn-answered s e)) (after refl) (omega (arith, bal))
 until_admitted q s e rest false b is m sound after = cc
 
 no_end : (q : ℕ) (pid : Pid) (f : Fault) (b : Bool) → b ≡ (pid.0 == q) → (b ≡ true → is_busy f ≡ true) → endings q (tells pid (what.Fault f) ∷ []) ≡ []
 no_end q pid f true m busy = rw (busy refl) refl
 no_end q pid f false m busy = rw (sym m, and-false (not (is_busy f))) refl
 
-until_refused : (q : ℕ) (s : State) (e : Entry) (f : Fault) (rest : List Event) → refusal s e.pid ≡ Some f → q < s.head.procs → has_gone s q ≡ false → AtMost (open_calls q s.parked) rest →
-    AtMost (open_calls q s.parked) (cond (not (refuses_entry f) && (e.pid.0 == q)) [] (endings q (tells e.pid (what.Fault f) ∷ []) ++ rest))
+until_refused : (q : ℕ) (s : State) (e : Entry) (f : Fault) (rest : List Event) → refusal s e.pid ≡ Some f
+    → q < s.head.procs → has_gone s q ≡ false → AtMost (open_calls q s.parked) rest
+    → AtMost (open_calls q s.parked) (cond (not (refuses_entry f) && (e.pid.0 == q)) [] (endings q (tells e.pid (what.Fault f) ∷ []) ++ rest))
 until_refused q s e f rest is below here after =
     let none : endings q (tells e.pid (what.Fault f) ∷ []) ≡ [] = no_end q e.pid f (e.pid.0 == q) refl (λ m.
     let same : e.pid.0 ≡ q = eqb-true e.pid.0 q m in
     refusal-busy s e.pid f (omega (arith, same)) (subst (λ (n : ℕ). has_gone s n ≡ false) (sym same) here) is) in
     rw (refusal-refuses s e.pid f is, none) after
 
-until_by : (q : ℕ) (s : State) (e : Entry) (es : List Entry) (o : Option Fault) → o ≡ refusal s e.pid → IsSound s → q < s.head.procs → has_gone s q ≡ false →
-    ((t : State) → IsSound t → q < t.head.procs → has_gone t q ≡ false → AtMost (open_calls q t.parked) (endings_until q (turns_after t es))) → IsSound (admits s e o).state →
-    AtMost (open_calls q s.parked) (cond (was_admitted (admits s e o).events && (e.pid.0 == q)) [] (endings q (admits s e o).events ++ endings_until q (turns_after (admits s e o).state es)))
+until_by : (q : ℕ) (s : State) (e : Entry) (es : List Entry) (o : Option Fault) → o ≡ refusal s e.pid → IsSound s → q < s.head.procs → has_gone s q ≡ false
+    → ((t : State) → IsSound t → q < t.head.procs → has_gone t q ≡ false → AtMost (open_calls q t.parked) (endings_until q (turns_after t es)))
+    → IsSound (admits s e o).state → AtMost (open_calls q s.parked)
+    (cond (was_admitted (admits s e o).events && (e.pid.0 == q)) [] (endings q (admits s e o).events ++ endings_until q (turns_after (admits s e o).state es)))
 until_by q s e es None is sound below here rest after =
-    until_admitted q s e (endings_until q (turns_after (turn s e).state es)) (was_admitted (turn s e).events) (e.pid.0 == q) (turn-admitted s e) refl sound (λ m.
+    until_admitted q s e (endings_until q (turns_after (turn s e).state es)) (was_admitted (turn s e).events) (e.pid.0 == q)
+    (turn-admitted s e) refl sound (λ m.
     rest (turn s e).state after (omega (arith, procs-of (turn-account s e).head)) (turn-gone q s e (inr m) ∙ here))
 until_by q s e es (Some f) is sound below here rest after =
     until_refused q s e f (endings_until q (turns_after s es)) (sym is) below here (rest s sound below here)
 
 -- a process that is there is told no more than its open call's end, before its next admitted entry
-until_most : (q : ℕ) (s : State) (es : List Entry) → IsSound s → q < s.head.procs → has_gone s q ≡ false → AtMost (open_calls q s.parked) (endings_until q (turns_after s es))
+until_most : (q : ℕ) (s : State) (es : List Entry) → IsSound s → q < s.head.procs → has_gone s q ≡ false
+    → AtMost (open_calls q s.parked) (endings_until q (turns_after s es))
 until_most q s [] sound below here = record { most = omega arith; each = tt }
 until_most q s (e ∷ es) sound below here = until_by q s e es (refusal s e.pid) refl sound below here (λ t. until_most q t es) (moves-sound s e sound)
 
@@ -114,15 +127,18 @@ call_stays : (step : Step) → is_call step ≡ true → is_exit step ≡ false
 call_stays Exit e = absurd (let g : ⊥ = cc in g)
 call_stays step e = refl
 
-once_by : (s : State) (e : Entry) (es : List Entry) (o : Option Fault) → o ≡ refusal s e.pid → IsSound s → IsSound (admits s e o).state → is_call e.step ≡ true → was_admitted (admits s e o).events ≡ true →
-    EndsOnce (endings e.pid.0 (admits s e o).events ++ endings_until e.pid.0 (turns_after (admits s e o).state es))
+once_by : (s : State) (e : Entry) (es : List Entry) (o : Option Fault) → o ≡ refusal s e.pid → IsSound s
+    → IsSound (admits s e o).state → is_call e.step ≡ true → was_admitted (admits s e o).events ≡ true
+    → EndsOnce (endings e.pid.0 (admits s e o).events ++ endings_until e.pid.0 (turns_after (admits s e o).state es))
 once_by s e es None is sound after call adm =
     let a = admitted s e.pid (sym is) in
     let gone = turn-gone e.pid.0 s e (inl (call_stays e.step call)) in
     let rest = until_most e.pid.0 (turn s e).state es after (omega (arith, procs-of (turn-account s e).head, a.below)) (gone ∙ a.here) in
-    let bal : ends e.pid.0 (turn s e).events + open_calls e.pid.0 (turn s e).state.parked ≡ open_calls e.pid.0 s.parked + 1 = rw (same_number e.pid.0) at (turn-balance e.pid.0 s e sound) in
+    let bal : ends e.pid.0 (turn s e).events + open_calls e.pid.0 (turn s e).state.parked ≡ open_calls e.pid.0 s.parked + 1 =
+    rw (same_number e.pid.0) at (turn-balance e.pid.0 s e sound) in
     let one : ends e.pid.0 (turn s e).events + open_calls e.pid.0 (turn s e).state.parked ≤ 1 = omega (arith, bal, open_none e.pid.0 s.parked a.free) in
-    let all = joined 1 (open_calls e.pid.0 (turn s e).state.parked) (endings e.pid.0 (turn s e).events) (endings_until e.pid.0 (turns_after (turn s e).state es)) (own_each e (turn s e).events call (turn-answered s e)) rest one in
+    let all = joined 1 (open_calls e.pid.0 (turn s e).state.parked) (endings e.pid.0 (turn s e).events)
+    (endings_until e.pid.0 (turns_after (turn s e).state es)) (own_each e (turn s e).events call (turn-answered s e)) rest one in
     record { most = all.most; each = all.each }
 once_by s e es (Some f) is sound after call adm = let h : not (refuses_entry f) ≡ false = ap (λ b. not b) (refusal-refuses s e.pid f (sym is)) in cc
 

@@ -1,5 +1,6 @@
 -- The channel of a port, after one channel or one more was written.
-use Rattle.std.proofs.Common.{◌≡◌, ℕ, ◌+◌, ◌-◌, ◌<◌, ◌==◌, Bool, true, false, cond, zero, suc, List, [], ◌∷◌, ◌++◌, length, refl, ap, sym, Some, None, arith, inl, inr, ◌⊎◌}
+use Rattle.std.proofs.Common.{◌≡◌, ℕ, ◌+◌, ◌-◌, ◌<◌, ◌==◌, Bool, true, false, cond, zero, suc, List, []}
+use Rattle.std.proofs.Common.{◌∷◌, ◌++◌, length, refl, ap, sym, Some, None, arith, inl, inr, ◌⊎◌}
 use Rattle.std.specs.Prelude.{slice_get, slice_set}
 use Rattle.std.proofs.lemmas.Grind.{common_steps}
 use Rattle.hub_base.specs.declared.value.Port.{Port}
@@ -32,7 +33,8 @@ snoc_at [] (suc i) d x e = cc
 snoc_at (y ∷ ys) zero d x e = inr e
 snoc_at (y ∷ ys) (suc i) d x e = elim (snoc_at ys i d x e) [ inl l ↦ inl (ap suc l.0, l.1) | inr r ↦ inr r ]
 
-pub new_port : (s t : State) (q : Port) (d x : Channel) → t.channels ≡ s.channels ++ d ∷ [] → channel_at t q ≡ Some x → ((q.0 ≡ length s.channels + 1) × (x ≡ d)) ⊎ (channel_at s q ≡ Some x)
+pub new_port : (s t : State) (q : Port) (d x : Channel) → t.channels ≡ s.channels ++ d ∷ [] → channel_at t q ≡ Some x
+    → ((q.0 ≡ length s.channels + 1) × (x ≡ d)) ⊎ (channel_at s q ≡ Some x)
 new_port s t q d x is h =
     let n = made t q x h in
     elim (snoc_at s.channels (q.0 - 1) d x (rw (sym is) n.channel)) [

@@ -1,5 +1,6 @@
 -- The cases of a call that can proceed, and why an entry is admitted.
-use Rattle.std.proofs.Common.{◌≡◌, ℕ, ◌+◌, ◌%◌, ◌<◌, ◌==◌, nat_lt, Bool, true, false, cond, not, zero, suc, List, [], ◌∷◌, length, filter, refl, sym, subst, Option, Some, None, arith, inl, inr, ◌||◌}
+use Rattle.std.proofs.Common.{◌≡◌, ℕ, ◌+◌, ◌%◌, ◌<◌, ◌==◌, nat_lt, Bool, true, false, cond, not, zero, suc, List, []}
+use Rattle.std.proofs.Common.{◌∷◌, length, filter, refl, sym, subst, Option, Some, None, arith, inl, inr, ◌||◌}
 use Rattle.std.specs.Prelude.{slice_get}
 use Rattle.std.specs.List.{list_any, enumerate_from}
 use Rattle.std.specs.Option.{option_map_or}
@@ -40,20 +41,23 @@ pub record Chosen (can : Case → Bool) (i : ℕ) (cases : List Case) (x : ℕ �
 chosen_later : (can : Case → Bool) (i : ℕ) (c : Case) (cs : List Case) (x : ℕ × Case) → Chosen can (i + 1) cs x → Chosen can i (c ∷ cs) x
 chosen_later can i c cs x h = record { ready = h.ready; stands = (suc h.stands.0, omega (arith, h.stands.1), h.stands.2) }
 
-chosen_by : (b : Bool) (can : Case → Bool) (i k : ℕ) (c : Case) (cs : List Case) (x : ℕ × Case) → b ≡ can c → slice_get (cond b ((i, c) ∷ filter (λ x. can x.1) (enumerate_from (i + 1) cs)) (filter (λ x. can x.1) (enumerate_from (i + 1) cs))) k ≡ Some x →
-    ((j : ℕ) → slice_get (filter (λ x. can x.1) (enumerate_from (i + 1) cs)) j ≡ Some x → Chosen can (i + 1) cs x) → Chosen can i (c ∷ cs) x
+chosen_by : (b : Bool) (can : Case → Bool) (i k : ℕ) (c : Case) (cs : List Case) (x : ℕ × Case) → b ≡ can c
+    → slice_get (cond b ((i, c) ∷ filter (λ x. can x.1) (enumerate_from (i + 1) cs)) (filter (λ x. can x.1) (enumerate_from (i + 1) cs))) k ≡ Some x
+    → ((j : ℕ) → slice_get (filter (λ x. can x.1) (enumerate_from (i + 1) cs)) j ≡ Some x → Chosen can (i + 1) cs x) → Chosen can i (c ∷ cs) x
 chosen_by true can i zero c cs x is e rest =
     let h : (i, c) ≡ x = cc in
     subst (Chosen can i (c ∷ cs)) h (record { ready = sym is; stands = (0, omega arith, refl) })
 chosen_by true can i (suc k) c cs x is e rest = chosen_later can i c cs x (rest k e)
 chosen_by false can i k c cs x is e rest = chosen_later can i c cs x (rest k e)
 
-pub chosen : (can : Case → Bool) (i k : ℕ) (cases : List Case) (x : ℕ × Case) → slice_get (filter (λ x. can x.1) (enumerate_from i cases)) k ≡ Some x → Chosen can i cases x
+pub chosen : (can : Case → Bool) (i k : ℕ) (cases : List Case) (x : ℕ × Case)
+    → slice_get (filter (λ x. can x.1) (enumerate_from i cases)) k ≡ Some x → Chosen can i cases x
 chosen can i k [] x e = cc
 chosen can i k (c ∷ cs) x e = chosen_by (can c) can i k c cs x refl e (λ j. chosen can (i + 1) j cs x)
 
 -- where no case of a call can proceed, neither can such a case
-pub no_recv : (s : State) (p : Port) (c : Channel) (cases : List Case) → channel_at s p ≡ Some c → list_any (can_proceed s) cases ≡ false → list_any (is_recv_on p) cases ≡ true → recv_can s p c ≡ false
+pub no_recv : (s : State) (p : Port) (c : Channel) (cases : List Case) → channel_at s p ≡ Some c → list_any (can_proceed s) cases ≡ false
+    → list_any (is_recv_on p) cases ≡ true → recv_can s p c ≡ false
 no_recv s p c [] e none some = cc
 no_recv s p c (Send q v ∷ cs) e none some = no_recv s p c cs e (or_parts (can_proceed s (Send q v)) (list_any (can_proceed s) cs) none).1 some
 no_recv s p c (Recv q ∷ cs) e none some =
@@ -65,7 +69,8 @@ no_recv s p c (Recv q ∷ cs) e none some =
       | inr r ↦ no_recv s p c cs e f.1 r
     ]
 
-pub no_send : (s : State) (p : Port) (c : Channel) (cases : List Case) → channel_at s p ≡ Some c → list_any (can_proceed s) cases ≡ false → list_any (is_send_on p) cases ≡ true → send_can s p c ≡ false
+pub no_send : (s : State) (p : Port) (c : Channel) (cases : List Case) → channel_at s p ≡ Some c → list_any (can_proceed s) cases ≡ false
+    → list_any (is_send_on p) cases ≡ true → send_can s p c ≡ false
 no_send s p c [] e none some = cc
 no_send s p c (Recv q ∷ cs) e none some = no_send s p c cs e (or_parts (can_proceed s (Recv q)) (list_any (can_proceed s) cs) none).1 some
 no_send s p c (Send q v ∷ cs) e none some =
@@ -92,7 +97,8 @@ below a b e = grind (arith, common_steps)
 
 pub admitted : (s : State) (pid : Pid) → refusal s pid ≡ None → Admitted s pid
 admitted s pid h =
-    let a = none_false (not (nat_lt pid.0 s.head.procs)) fault.NoProcess (cond (has_gone s pid.0) (Some fault.Gone) (cond (is_waiting s pid.0) (Some fault.Busy) None)) h in
+    let a = none_false (not (nat_lt pid.0 s.head.procs)) fault.NoProcess
+    (cond (has_gone s pid.0) (Some fault.Gone) (cond (is_waiting s pid.0) (Some fault.Busy) None)) h in
     let b = none_false (has_gone s pid.0) fault.Gone (cond (is_waiting s pid.0) (Some fault.Busy) None) a.1 in
     let d = none_false (is_waiting s pid.0) fault.Busy None b.1 in
     record { below = below pid.0 s.head.procs a.0; here = b.0; free = d.0 }

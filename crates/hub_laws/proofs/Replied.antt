@@ -1,5 +1,6 @@
 -- The events of an admitted entry are replies.
-use Rattle.std.proofs.Common.{◌≡◌, ℕ, ◌+◌, ◌≤◌, ◌==◌, nat_lt, Bool, true, false, cond, not, zero, suc, List, [], ◌∷◌, ◌++◌, length, filter, refl, ap, ◌∙◌, sym, subst, Some, None, arith, ◌&&◌, ◌||◌, append-nil}
+use Rattle.std.proofs.Common.{◌≡◌, ℕ, ◌+◌, ◌≤◌, ◌==◌, nat_lt, Bool, true, false, cond, not, zero, suc, List, [], ◌∷◌, ◌++◌}
+use Rattle.std.proofs.Common.{length, filter, refl, ap, ◌∙◌, sym, subst, Some, None, arith, ◌&&◌, ◌||◌, append-nil}
 use Rattle.std.specs.Prelude.{slice_get}
 use Rattle.std.specs.List.{AllByRecursion}
 use Rattle.std.proofs.Math.Bool.{and-false, and-true}
@@ -46,11 +47,14 @@ one_told q s e sound is = by (e.pid.0 == q) refl
   where
     by : (b : Bool) → b ≡ (e.pid.0 == q) → ends q (moves s e).events + open_calls q (moves s e).state.parked ≤ 1
     by true m =
-        let none : open_calls q s.parked ≡ 0 = open_none q s.parked (subst (λ (n : ℕ). is_among n s.parked ≡ false) (eqb-true e.pid.0 q (sym m)) (admitted s e.pid is).free) in
-        let bal : ends q (moves s e).events + open_calls q (moves s e).state.parked ≡ open_calls q s.parked + 1 = rw (sym m) at (moves-balance q s e sound is) in
+        let none : open_calls q s.parked ≡ 0 =
+        open_none q s.parked (subst (λ (n : ℕ). is_among n s.parked ≡ false) (eqb-true e.pid.0 q (sym m)) (admitted s e.pid is).free) in
+        let bal : ends q (moves s e).events + open_calls q (moves s e).state.parked ≡ open_calls q s.parked + 1 =
+        rw (sym m) at (moves-balance q s e sound is) in
         omega (arith, bal, none)
     by false m =
-        let bal : ends q (moves s e).events + open_calls q (moves s e).state.parked ≡ open_calls q s.parked + 0 = rw (sym m) at (moves-balance q s e sound is) in
+        let bal : ends q (moves s e).events + open_calls q (moves s e).state.parked ≡ open_calls q s.parked + 0 =
+        rw (sym m) at (moves-balance q s e sound is) in
         omega (arith, bal, open_most q s.parked sound.apart)
 
 -- What a process is told is what counts
@@ -69,7 +73,8 @@ nothing_left : {A : Type 0} (xs : List A) → length xs ≤ 0 → xs ≡ []
 nothing_left [] h = refl
 nothing_left (x ∷ xs) h = absurd (omega arith)
 
-pub one_left : {A : Type 0} (test : A → Bool) (xs : List A) (i : ℕ) (x : A) → slice_get xs i ≡ Some x → test x ≡ true → length (filter test xs) ≤ 1 → filter test xs ≡ x ∷ []
+pub one_left : {A : Type 0} (test : A → Bool) (xs : List A) (i : ℕ) (x : A) → slice_get xs i ≡ Some x → test x ≡ true
+    → length (filter test xs) ≤ 1 → filter test xs ≡ x ∷ []
 one_left test [] i x at passes most = cc
 one_left test (y ∷ ys) zero x at passes most =
     let same : y ≡ x = cc in
@@ -78,14 +83,16 @@ one_left test (y ∷ ys) zero x at passes most =
     rw (here, none) (ap (λ z. z ∷ []) same)
 one_left test (y ∷ ys) (suc i) x at passes most = by (test y) (one_left test ys i x at passes) most
   where
-    by : (b : Bool) → (length (filter test ys) ≤ 1 → filter test ys ≡ x ∷ []) → length (cond b (y ∷ filter test ys) (filter test ys)) ≤ 1 → cond b (y ∷ filter test ys) (filter test ys) ≡ x ∷ []
+    by : (b : Bool) → (length (filter test ys) ≤ 1 → filter test ys ≡ x ∷ []) → length (cond b (y ∷ filter test ys) (filter test ys)) ≤ 1
+        → cond b (y ∷ filter test ys) (filter test ys) ≡ x ∷ []
     by true rest h = let k : filter test ys ≡ x ∷ [] = rest (omega arith) in absurd (let l : length (filter test ys) ≡ 1 = ap length k in omega arith)
     by false rest h = rest h
 
 -- Replies
 
 -- who waits after one entry more
-after_entry : (q : ℕ) (head : Head) (es : List Entry) (e : Entry) → is_waiting (state head (es ++ e ∷ [])) q ≡ is_among q (moves (state head es) e).state.parked
+after_entry : (q : ℕ) (head : Head) (es : List Entry) (e : Entry)
+    → is_waiting (state head (es ++ e ∷ [])) q ≡ is_among q (moves (state head es) e).state.parked
 after_entry q head es e = ap (λ (s : State). is_waiting s q) (state-entry head es e)
 
 -- a process that was told of its call does not wait
@@ -109,11 +116,13 @@ event_replies head es e is counted i x at clear =
     }
 
 -- a process that was told nothing
-untold_left : (head : Head) (es : List Entry) (e : Entry) (q : ℕ) → refusal (state head es) e.pid ≡ None → AllByRecursion Counted (moves (state head es) e).events → (e.pid.0 == q) ≡ false → is_told q (moves (state head es) e).events ≡ false → IsLeft head es e q
+untold_left : (head : Head) (es : List Entry) (e : Entry) (q : ℕ) → refusal (state head es) e.pid ≡ None → AllByRecursion Counted
+    (moves (state head es) e).events → (e.pid.0 == q) ≡ false → is_told q (moves (state head es) e).events ≡ false → IsLeft head es e q
 untold_left head es e q is counted other untold =
     let s : State = state head es in
     let none : endings q (moves s e).events ≡ [] = sym (told_endings q (moves s e).events counted) ∙ told_none q (moves s e).events untold in
-    let bal : ends q (moves s e).events + open_calls q (moves s e).state.parked ≡ open_calls q s.parked + 0 = rw other at (moves-balance q s e (state-sound head es) is) in
+    let bal : ends q (moves s e).events + open_calls q (moves s e).state.parked ≡ open_calls q s.parked + 0 =
+    rw other at (moves-balance q s e (state-sound head es) is) in
     let count : open_calls q (moves s e).state.parked ≡ open_calls q s.parked = omega (arith, bal, ap length none) in
     record {
       own = own-others q es (e ∷ []) (rw other refl);
@@ -122,10 +131,12 @@ untold_left head es e q is counted other untold =
     }
 
 -- a caller that was told `Parked` alone
-parked_waits : (head : Head) (es : List Entry) (e : Entry) → refusal (state head es) e.pid ≡ None → AllByRecursion Counted (moves (state head es) e).events → told_to e.pid.0 (moves (state head es) e).events ≡ [] → is_waiting (state head (es ++ e ∷ [])) e.pid.0 ≡ true
+parked_waits : (head : Head) (es : List Entry) (e : Entry) → refusal (state head es) e.pid ≡ None → AllByRecursion Counted (moves (state head es) e).events
+    → told_to e.pid.0 (moves (state head es) e).events ≡ [] → is_waiting (state head (es ++ e ∷ [])) e.pid.0 ≡ true
 parked_waits head es e is counted none =
     let s : State = state head es in
-    let bal : ends e.pid.0 (moves s e).events + open_calls e.pid.0 (moves s e).state.parked ≡ open_calls e.pid.0 s.parked + 1 = rw (same_number e.pid.0) at (moves-balance e.pid.0 s e (state-sound head es) is) in
+    let bal : ends e.pid.0 (moves s e).events + open_calls e.pid.0 (moves s e).state.parked ≡ open_calls e.pid.0 s.parked + 1 =
+    rw (same_number e.pid.0) at (moves-balance e.pid.0 s e (state-sound head es) is) in
     let free : open_calls e.pid.0 s.parked ≡ 0 = open_none e.pid.0 s.parked (admitted s e.pid is).free in
     let zero_ends : endings e.pid.0 (moves s e).events ≡ [] = sym (told_endings e.pid.0 (moves s e).events counted) ∙ none in
     let one : open_calls e.pid.0 (moves s e).state.parked ≡ 1 = omega (arith, bal, free, ap length zero_ends) in
@@ -144,7 +155,9 @@ replied_by head es e (x ∷ xs) is a each waits left = record {
   others = λ q untold. left q (ap (λ (p : Pid). p.0 == q) (sym a.own) ∙ (or_parts (x.pid.0 == q) (is_told q xs) untold).0) untold;
 }
   where
-    ended_replies : (xs : List Event) → AllByRecursion (λ x. ends_waiting x.what ≡ true) xs → ((i : ℕ) (x : Event) → slice_get xs i ≡ Some x → is_parked x.what ≡ false → IsReply head (es ++ e ∷ []) x) → AllByRecursion (IsReply head (es ++ e ∷ [])) xs
+    ended_replies : (xs : List Event) → AllByRecursion (λ x. ends_waiting x.what ≡ true) xs
+        → ((i : ℕ) (x : Event) → slice_get xs i ≡ Some x → is_parked x.what ≡ false → IsReply head (es ++ e ∷ []) x)
+        → AllByRecursion (IsReply head (es ++ e ∷ [])) xs
     ended_replies [] ends each = tt
     ended_replies (x ∷ xs) ends each = (each 0 x refl ((waiting-ends x.what ends.0).clear), ended_replies xs ends.1 (λ i y e. each (suc i) y e))
 
@@ -152,4 +165,5 @@ pub replied-law : (head : Head) (es : List Entry) (e : Entry) → RepliedLaw hea
 replied-law head es e is =
     let answered = moves-answered (state head es) e is in
     let counted = answered_counts e (moves (state head es) e).events answered in
-    replied_by head es e (moves (state head es) e).events refl answered (event_replies head es e is counted) (parked_waits head es e is counted) (λ q. untold_left head es e q is counted)
+    replied_by head es e (moves (state head es) e).events refl answered (event_replies head es e is counted)
+    (parked_waits head es e is counted) (λ q. untold_left head es e q is counted)

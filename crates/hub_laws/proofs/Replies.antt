@@ -84,19 +84,23 @@ untold q [] a = refl
 untold q (e ∷ es) a = or_from (e.pid.0 == q) (is_told q es) a.0 (untold q es a.1)
 
 -- what a process was told by a run that goes on
-pub told_to-append : (q : ℕ) (head : Head) (es fs : List Entry) → told_to q (events head (es ++ fs)) ≡ told_to q (events head es) ++ told_to q (events_after (state head es) fs)
-told_to-append q head es fs = ap (told_to q) (events_after-append (opening head) es fs) ∙ filter-append (λ (e : Event). (e.pid.0 == q) && not (is_parked e.what)) (events head es) (events_after (state head es) fs)
+pub told_to-append : (q : ℕ) (head : Head) (es fs : List Entry)
+    → told_to q (events head (es ++ fs)) ≡ told_to q (events head es) ++ told_to q (events_after (state head es) fs)
+told_to-append q head es fs = ap (told_to q) (events_after-append (opening head) es fs)
+    ∙ filter-append (λ (e : Event). (e.pid.0 == q) && not (is_parked e.what)) (events head es) (events_after (state head es) fs)
 
 -- a process that is not told anything keeps its reply
 pub reply-untold : (q : ℕ) (head : Head) (es fs : List Entry) → is_told q (events_after (state head es) fs) ≡ false → reply q head (es ++ fs) ≡ reply q head es
-reply-untold q head es fs e = ap (λ xs. last_from None xs) (told_to-append q head es fs ∙ ap (λ xs. told_to q (events head es) ++ xs) (told_none q (events_after (state head es) fs) e) ∙ append-nil (told_to q (events head es)))
+reply-untold q head es fs e = ap (λ xs. last_from None xs) (told_to-append q head es fs
+    ∙ ap (λ xs. told_to q (events head es) ++ xs) (told_none q (events_after (state head es) fs) e) ∙ append-nil (told_to q (events head es)))
 
 last_append : {A : Type 0} (o : Option A) (xs ys : List A) → last_from o (xs ++ ys) ≡ last_from (last_from o xs) ys
 last_append o [] ys = refl
 last_append o (x ∷ xs) ys = last_append (Some x) xs ys
 
 -- one entry more: the last of its events for the process, or what it had
-pub reply-entry : (q : ℕ) (head : Head) (es : List Entry) (e : Entry) → reply q head (es ++ e ∷ []) ≡ last_from (reply q head es) (told_to q (moves (state head es) e).events)
+pub reply-entry : (q : ℕ) (head : Head) (es : List Entry) (e : Entry)
+    → reply q head (es ++ e ∷ []) ≡ last_from (reply q head es) (told_to q (moves (state head es) e).events)
 reply-entry q head es e =
     ap (λ xs. last_from None (told_to q xs)) (events-entry head es e)
     ∙ ap (λ xs. last_from None xs) (filter-append (λ (x : Event). (x.pid.0 == q) && not (is_parked x.what)) (events head es) (moves (state head es) e).events)
@@ -106,7 +110,8 @@ pub own-others : (q : ℕ) (es fs : List Entry) → list_any (λ e. e.pid.0 == q
 own-others q es fs e = filter-append (λ (e : Entry). e.pid.0 == q) es fs ∙ ap (λ xs. own q es ++ xs) (own_none q fs (none_by q fs e)) ∙ append-nil (own q es)
 
 pub own-mine : (es : List Entry) (e : Entry) → own e.pid.0 (es ++ e ∷ []) ≡ own e.pid.0 es ++ e ∷ []
-own-mine es e = filter-append (λ (x : Entry). x.pid.0 == e.pid.0) es (e ∷ []) ∙ ap (λ xs. own e.pid.0 es ++ xs) (let h : own e.pid.0 (e ∷ []) ≡ e ∷ [] = rw (same_number e.pid.0) refl in h)
+own-mine es e = filter-append (λ (x : Entry). x.pid.0 == e.pid.0) es (e ∷ [])
+    ∙ ap (λ xs. own e.pid.0 es ++ xs) (let h : own e.pid.0 (e ∷ []) ≡ e ∷ [] = rw (same_number e.pid.0) refl in h)
 
 pub replies-law : (head : Head) (es : List Entry) (q : ℕ) (fs : List Entry) → RepliesLaw head es q fs
 replies-law head es q fs free others =

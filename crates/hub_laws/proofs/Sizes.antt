@@ -1,5 +1,6 @@
 -- One step tells no more events than there are processes, and one.
-use Rattle.std.proofs.Common.{◌≡◌, ℕ, ◌+◌, ◌<◌, ◌≤◌, ◌==◌, Bool, true, false, cond, List, [], ◌∷◌, ◌++◌, length, refl, ap, sym, subst, Option, Some, None, arith, inl, inr}
+use Rattle.std.proofs.Common.{◌≡◌, ℕ, ◌+◌, ◌<◌, ◌≤◌, ◌==◌, Bool, true, false, cond, List, [], ◌∷◌, ◌++◌}
+use Rattle.std.proofs.Common.{length, refl, ap, sym, subst, Option, Some, None, arith, inl, inr}
 use Rattle.std.proofs.lemmas.List.{length-append, length-map}
 use Rattle.std.proofs.lemmas.Bool.{or_cases, eqb-true}
 use Rattle.hub_base.specs.declared.value.Port.{Port}
@@ -77,8 +78,12 @@ effect_size s pid step sound = omega arith
 -- beside a caller that is admitted there is room for its call
 pub room-law : (s : State) (pid : Pid) → IsSound s → Admitted s pid → length s.parked < s.head.procs
 room-law s pid sound adm =
-    let most : length (record { pid = pid; cases = [] } ∷ s.parked) ≤ s.head.procs = count-below s.head.procs (record { pid = pid; cases = [] } ∷ s.parked) (adm.free, sound.apart) (λ q e.
-    elim (or_cases (pid.0 == q) (is_among q s.parked) e) [ inl l ↦ subst (λ (n : ℕ). n < s.head.procs) (eqb-true pid.0 q l) adm.below | inr r ↦ (sound.present q r).0 ]) in
+    let most : length (record { pid = pid; cases = [] } ∷ s.parked) ≤ s.head.procs =
+    count-below s.head.procs (record { pid = pid; cases = [] } ∷ s.parked) (adm.free, sound.apart) (λ q e.
+    elim (or_cases (pid.0 == q) (is_among q s.parked) e) [
+      | inl l ↦ subst (λ (n : ℕ). n < s.head.procs) (eqb-true pid.0 q l) adm.below
+      | inr r ↦ (sound.present q r).0
+    ]) in
     omega arith
 
 admits_size : (s : State) (e : Entry) (o : Option Fault) → o ≡ refusal s e.pid → IsSound s → length (admits s e o).events ≤ s.head.procs + 1
@@ -87,4 +92,5 @@ admits_size s e None is sound =
 admits_size s e (Some f) is sound = omega arith
 
 pub events-law : (head : Head) (es : List Entry) (e : Entry) → length (moves (state head es) e).events ≤ head.procs + 1
-events-law head es e = omega (arith, admits_size (state head es) e (refusal (state head es) e.pid) refl (state-sound head es), procs-of (head-after (opening head) es))
+events-law head es e =
+    omega (arith, admits_size (state head es) e (refusal (state head es) e.pid) refl (state-sound head es), procs-of (head-after (opening head) es))

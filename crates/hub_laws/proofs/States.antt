@@ -22,14 +22,16 @@ drop_all [] (suc n) e = refl
 drop_all (x ∷ xs) zero e = absurd (omega arith)
 drop_all (x ∷ xs) (suc n) e = drop_all xs n (omega arith)
 
-on_none : (p : Port) (calls : List OpenCall) → some_call (is_recv_on p) calls ≡ false → some_call (is_send_on p) calls ≡ false → some_call (is_on p) calls ≡ false
+on_none : (p : Port) (calls : List OpenCall) → some_call (is_recv_on p) calls ≡ false → some_call (is_send_on p) calls ≡ false
+    → some_call (is_on p) calls ≡ false
 on_none p [] r w = refl
 on_none p (call ∷ calls) r w =
     let r' = or_parts (list_any (is_recv_on p) call.cases) (some_call (is_recv_on p) calls) r in
     let w' = or_parts (list_any (is_send_on p) call.cases) (some_call (is_send_on p) calls) w in
     or_from (list_any (is_on p) call.cases) (some_call (is_on p) calls) (cases_none p call.cases r'.0 w'.0) (on_none p calls r'.1 w'.1)
   where
-    cases_none : (p : Port) (cases : List Case) → list_any (is_recv_on p) cases ≡ false → list_any (is_send_on p) cases ≡ false → list_any (is_on p) cases ≡ false
+    cases_none : (p : Port) (cases : List Case) → list_any (is_recv_on p) cases ≡ false → list_any (is_send_on p) cases ≡ false
+        → list_any (is_on p) cases ≡ false
     cases_none p [] r w = refl
     cases_none p (c ∷ cs) r w =
         let r' = or_parts (is_recv_on p c) (list_any (is_recv_on p) cs) r in
@@ -52,4 +54,11 @@ count-law s sound = count-below s.head.procs s.parked sound.apart (λ q e. (soun
 pub state-laws : (head : Head) (es : List Entry) → StateLaws (state head es)
 state-laws head es =
     let sound = state-sound head es in
-    record { apart = sound.apart; present = sound.present; calls = sound.calls; ports = λ p c e. port-laws p c (state head es).parked (sound.ports p c e); few = ports-law head es; count = count-law (state head es) sound }
+    record {
+      apart = sound.apart;
+      present = sound.present;
+      calls = sound.calls;
+      ports = λ p c e. port-laws p c (state head es).parked (sound.ports p c e);
+      few = ports-law head es;
+      count = count-law (state head es) sound;
+    }

@@ -26,7 +26,8 @@ use Rattle.hub_laws.proofs.Deeds.{Knows, deed_of, told, Does, idle}
 use Rattle.hub_laws.proofs.Leaving.{Ended, events_of}
 use Rattle.hub_laws.proofs.Ready.{Admitted, admitted}
 
-pub last_call-snoc : (pid : Pid) (before : List Case) (ts : List Turned) (t : Turned) → last_call pid before (ts ++ t ∷ []) ≡ latest pid (last_call pid before ts) t
+pub last_call-snoc : (pid : Pid) (before : List Case) (ts : List Turned) (t : Turned)
+    → last_call pid before (ts ++ t ∷ []) ≡ latest pid (last_call pid before ts) t
 last_call-snoc pid before [] t = refl
 last_call-snoc pid before (x ∷ ts) t = last_call-snoc pid (latest pid before x) ts t
 
@@ -48,7 +49,8 @@ knows_more : (L M : Pid → List Case) (calls : List OpenCall) → ((pid : Pid) 
 knows_more L M [] same k = tt
 knows_more L M (call ∷ calls) same k = (same call.pid ∙ k.0, knows_more L M calls same k.1)
 
-knows_others : (L M : Pid → List Case) (q : ℕ) (calls : List OpenCall) → is_among q calls ≡ false → ((pid : Pid) → (q == pid.0) ≡ false → M pid ≡ L pid) → Knows L calls → Knows M calls
+knows_others : (L M : Pid → List Case) (q : ℕ) (calls : List OpenCall) → is_among q calls ≡ false
+    → ((pid : Pid) → (q == pid.0) ≡ false → M pid ≡ L pid) → Knows L calls → Knows M calls
 knows_others L M q [] free same k = tt
 knows_others L M q (call ∷ calls) free same k =
     let f = or_parts (call.pid.0 == q) (is_among q calls) free in

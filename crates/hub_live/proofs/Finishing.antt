@@ -12,10 +12,11 @@ empty [] e = refl
 empty (x ∷ xs) e = absurd (omega arith)
 
 -- one seat more stands in the journal
-pub stand_more : (before after : LockedView) (done : List SeatView) (s inner : SeatView) → after ≡ before → All (λ t. StandsIn t before.hub.journal) done → inner ≡ s → StandsIn inner after.hub.journal
-    → All (λ t. StandsIn t after.hub.journal) (done ++ s ∷ [])
+pub stand_more : (before after : LockedView) (done : List SeatView) (s inner : SeatView) → after ≡ before → All (λ t. StandsIn t before.hub.journal) done
+    → inner ≡ s → StandsIn inner after.hub.journal → All (λ t. StandsIn t after.hub.journal) (done ++ s ∷ [])
 stand_more before after done s inner same all is here =
-    All-push (λ (t : SeatView). StandsIn t after.hub.journal) done s (subst (λ (d : LockedView). All (λ (t : SeatView). StandsIn t d.hub.journal) done) (sym same) all)
+    All-push (λ (t : SeatView). StandsIn t after.hub.journal) done s
+    (subst (λ (d : LockedView). All (λ (t : SeatView). StandsIn t d.hub.journal) done) (sym same) all)
     (subst (λ (t : SeatView). StandsIn t after.hub.journal) is here)
 
 pub all_done : (done rest all : List SeatView) → length rest ≡ 0 → done ++ rest ≡ all → done ≡ all

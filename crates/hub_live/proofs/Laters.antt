@@ -1,5 +1,6 @@
 -- What a look, a meeting and a call leave in a seat.
-use Rattle.std.proofs.Common.{◌≡◌, ℕ, ◌+◌, ◌==◌, ◌&&◌, Bool, true, false, not, cond, List, [], ◌∷◌, ◌++◌, filter, refl, sym, ap, ◌∙◌, subst, Option, Some, None, add-one, length, arith}
+use Rattle.std.proofs.Common.{◌≡◌, ℕ, ◌+◌, ◌==◌, ◌&&◌, Bool, true, false, not, cond, List, [], ◌∷◌, ◌++◌}
+use Rattle.std.proofs.Common.{filter, refl, sym, ap, ◌∙◌, subst, Option, Some, None, add-one, length, arith}
 use Rattle.std.specs.Prelude.{All}
 use Rattle.std.proofs.lemmas.List.Elements.{All-cons}
 use Rattle.std.proofs.lemmas.Bool.{and_parts}
@@ -33,8 +34,8 @@ pub record Looking (pid : Pid) (mine back : Seat (Unit {0}) View) : Type 0 where
   pub later : Later (seat_of pid (Some mine)) (seat_of pid (Some back))
   pub same : AsksNothing mine.me.0.terms pid mine.me.0.seen back.me.0.seen
 
-pub looking : (pid : Pid) (mine back : Seat (Unit {0}) View) → IsIdle (seat_of pid (Some mine)) → back.table_id ≡ mine.table_id → back.me.0.terms ≡ mine.me.0.terms
-    → IsHistory mine.me.0.terms back.me.0.seen → Knew back.me.0.seen mine.me.0.seen (pid.0 + 1) → Looking pid mine back
+pub looking : (pid : Pid) (mine back : Seat (Unit {0}) View) → IsIdle (seat_of pid (Some mine)) → back.table_id ≡ mine.table_id
+    → back.me.0.terms ≡ mine.me.0.terms → IsHistory mine.me.0.terms back.me.0.seen → Knew back.me.0.seen mine.me.0.seen (pid.0 + 1) → Looking pid mine back
 looking pid mine back idle table terms history k =
     let own : own pid.0 back.me.0.seen ≡ own pid.0 mine.me.0.seen = subst (Knows back.me.0.seen mine.me.0.seen) (add-one pid.0) k.knows in
     let same = asks_nothing mine.me.0.terms pid mine.me.0.seen back.me.0.seen k.begins own idle.free in
@@ -54,11 +55,13 @@ looking pid mine back idle table terms history k =
 -- ---- a call
 
 last_tests_by : {A : Type 0} (test : A → Bool) (o : Option A) (y : A) (ys : List A) (x : A) (b : Bool) → b ≡ test y → ((z : A) → o ≡ Some z → test z ≡ true)
-    → ((o' : Option A) → ((z : A) → o' ≡ Some z → test z ≡ true) → last_from o' (filter test ys) ≡ Some x → test x ≡ true) → last_from o (cond b (y ∷ filter test ys) (filter test ys)) ≡ Some x → test x ≡ true
+    → ((o' : Option A) → ((z : A) → o' ≡ Some z → test z ≡ true) → last_from o' (filter test ys) ≡ Some x → test x ≡ true)
+    → last_from o (cond b (y ∷ filter test ys) (filter test ys)) ≡ Some x → test x ≡ true
 last_tests_by test o y ys x true is before rest h = rest (Some y) (λ z e. let same : y ≡ z = cc in ap test (sym same) ∙ sym is) h
 last_tests_by test o y ys x false is before rest h = rest o before h
 
-last_tests : {A : Type 0} (test : A → Bool) (o : Option A) (xs : List A) (x : A) → ((y : A) → o ≡ Some y → test y ≡ true) → last_from o (filter test xs) ≡ Some x → test x ≡ true
+last_tests : {A : Type 0} (test : A → Bool) (o : Option A) (xs : List A) (x : A) → ((y : A) → o ≡ Some y → test y ≡ true)
+    → last_from o (filter test xs) ≡ Some x → test x ≡ true
 last_tests test o [] x before h = before x h
 last_tests test o (y ∷ ys) x before h = last_tests_by test o y ys x (test y) refl before (λ o' before'. last_tests test o' ys x before') h
 
@@ -73,7 +76,8 @@ reply_ended q head es x is =
     not_true (is_parked x.what) (and_parts (x.pid.0 == q) (not (is_parked x.what)) told).1
 
 -- s made the entry and became a, and then b, which was told so
-pub made_later : (t : Terms) (s a b : SeatView) (e : Entry) (x : Event) → s.hub.terms ≡ t → a.hub ≡ s.hub → own_of a ≡ own_of s ++ e ∷ [] → b.hub ≡ a.hub → b.pid ≡ a.pid → own_of b ≡ own_of a → IsReplyTo t.head a.pid.0 b.seen x → MadeEntry s b e x
+pub made_later : (t : Terms) (s a b : SeatView) (e : Entry) (x : Event) → s.hub.terms ≡ t → a.hub ≡ s.hub → own_of a ≡ own_of s ++ e ∷ []
+    → b.hub ≡ a.hub → b.pid ≡ a.pid → own_of b ≡ own_of a → IsReplyTo t.head a.pid.0 b.seen x → MadeEntry s b e x
 made_later t s a b e x terms ah ao bh bp bo told =
     let same_terms : b.hub.terms ≡ t = ap (λ (n : Name). n.terms) (bh ∙ ah) ∙ terms in
     record {
@@ -84,9 +88,11 @@ made_later t s a b e x terms ah ao bh bp bo told =
 
 -- ---- the seats of a new hub
 
-pub push_seat : (name : Name) (first : ℕ) (ss : List SeatView) (s : SeatView) → AreSeats name first ss → s ≡ record { hub = name; pid = record { 0 = first + length ss }; seen = [] } → AreSeats name first (ss ++ s ∷ [])
+pub push_seat : (name : Name) (first : ℕ) (ss : List SeatView) (s : SeatView) → AreSeats name first ss
+    → s ≡ record { hub = name; pid = record { 0 = first + length ss }; seen = [] } → AreSeats name first (ss ++ s ∷ [])
 push_seat name first [] s h is = (is ∙ ap (λ (n : ℕ). record { hub = name; pid = record { 0 = n }; seen = [] }) (omega arith), tt)
-push_seat name first (x ∷ ss) s h is = (h.0, push_seat name (first + 1) ss s h.1 (is ∙ ap (λ (n : ℕ). record { hub = name; pid = record { 0 = n }; seen = [] }) (omega arith)))
+push_seat name first (x ∷ ss) s h is =
+    (h.0, push_seat name (first + 1) ss s h.1 (is ∙ ap (λ (n : ℕ). record { hub = name; pid = record { 0 = n }; seen = [] }) (omega arith)))
 
 pub all_of_hub : (name : Name) (first : ℕ) (ss : List SeatView) → AreSeats name first ss → All (λ s. s.hub ≡ name) ss
 all_of_hub name first [] h = λ k d lt. absurd (omega arith)

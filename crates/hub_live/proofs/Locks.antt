@@ -1,5 +1,6 @@
 -- What waits for a process stays its reply.
-use Rattle.std.proofs.Common.{◌≡◌, ◌<◌, ◌==◌, ◌||◌, ◌+◌, ℕ, zero, suc, inl, inr, replicate, Bool, true, false, cond, List, [], ◌∷◌, ◌++◌, length, take, filter, get_or, refl, ap, ◌∙◌, sym, subst, Option, Some, None, arith}
+use Rattle.std.proofs.Common.{◌≡◌, ◌<◌, ◌==◌, ◌||◌, ◌+◌, ℕ, zero, suc, inl, inr, replicate, Bool, true, false, cond, List, []}
+use Rattle.std.proofs.Common.{◌∷◌, ◌++◌, length, take, filter, get_or, refl, ap, ◌∙◌, sym, subst, Option, Some, None, arith}
 use Rattle.std.specs.Prelude.{IfSome, slice_set}
 use Rattle.std.specs.List.{AllByRecursion}
 use Rattle.std.proofs.lemmas.Bool.{eqb-true, eqb-false, cases_lt}
@@ -38,7 +39,8 @@ answer_for-set ws i q o lt = by (i == q) refl
 last_told-cons : (q : ℕ) (o : Option Event) (y : Event) (ys : List Event) → last_told q o (y ∷ ys) ≡ last_told q (cond (y.pid.0 == q) (Some y) o) ys
 last_told-cons q o y ys = by (y.pid.0 == q)
   where
-    by : (b : Bool) → last_from o (cond b (y ∷ filter (λ x. x.pid.0 == q) ys) (filter (λ x. x.pid.0 == q) ys)) ≡ last_from (cond b (Some y) o) (filter (λ x. x.pid.0 == q) ys)
+    by : (b : Bool) → last_from o (cond b (y ∷ filter (λ x. x.pid.0 == q) ys) (filter (λ x. x.pid.0 == q) ys))
+        ≡ last_from (cond b (Some y) o) (filter (λ x. x.pid.0 == q) ys)
     by true = refl
     by false = refl
 
@@ -85,10 +87,12 @@ is_reply_to hub q x is r = record {
 last_replies : (hub : HubView) (q : ℕ) (o : Option Event) (xs : List Event) → AllByRecursion (IsReply hub.terms.head hub.journal) xs →
     (is_told q xs ≡ false → IfSome o (IsReplyIn hub q)) → IfSome (last_told q o xs) (IsReplyIn hub q)
 last_replies hub q o [] all h = h refl
-last_replies hub q o (x ∷ xs) all h = subst (λ (r : Option Event). IfSome r (IsReplyIn hub q)) (sym (last_told-cons q o x xs)) (by (x.pid.0 == q) refl h (λ o h. last_replies hub q o xs all.1 h))
+last_replies hub q o (x ∷ xs) all h = subst (λ (r : Option Event). IfSome r (IsReplyIn hub q)) (sym (last_told-cons q o x xs))
+    (by (x.pid.0 == q) refl h (λ o h. last_replies hub q o xs all.1 h))
   where
-    by : (b : Bool) → (x.pid.0 == q) ≡ b → ((b || is_told q xs) ≡ false → IfSome o (IsReplyIn hub q)) →
-        ((o : Option Event) → (is_told q xs ≡ false → IfSome o (IsReplyIn hub q)) → IfSome (last_told q o xs) (IsReplyIn hub q)) → IfSome (last_told q (cond b (Some x) o) xs) (IsReplyIn hub q)
+    by : (b : Bool) → (x.pid.0 == q) ≡ b → ((b || is_told q xs) ≡ false → IfSome o (IsReplyIn hub q))
+        → ((o : Option Event) → (is_told q xs ≡ false → IfSome o (IsReplyIn hub q)) → IfSome (last_told q o xs) (IsReplyIn hub q))
+        → IfSome (last_told q (cond b (Some x) o) xs) (IsReplyIn hub q)
     by true is h rest = rest (Some x) (λ untold. is_reply_to hub q x (eqb-true x.pid.0 q is) all.0)
     by false is h rest = rest o h
 
@@ -99,39 +103,46 @@ pub told_some : (old new : HubView) (e : Entry) (told : List Event) → Steps ol
 told_some old new e [] s none = subst (IsAnswered e.pid e.step) (sym s.events) (moves-answered (state_of old) e s.admitted)
 told_some old new e (x ∷ told) s none = omega arith
 
-replied : (old new : HubView) (e : Entry) (answer : Event) (ended : List Event) → Steps old e new (answer ∷ ended) → Replied old.terms.head old.journal e answer ended
+replied : (old new : HubView) (e : Entry) (answer : Event) (ended : List Event) → Steps old e new (answer ∷ ended)
+    → Replied old.terms.head old.journal e answer ended
 replied old new e answer ended s = subst (AreReplied old.terms.head old.journal e) (sym s.events) (replied-law old.terms.head old.journal e s.admitted)
 
 -- the answer is the caller's reply, unless its call waits
-pub answer_replies : (old new : HubView) (e : Entry) (answer : Event) (ended : List Event) → Steps old e new (answer ∷ ended) → is_parked answer.what ≡ false → IsReplyIn new e.pid.0 answer
+pub answer_replies : (old new : HubView) (e : Entry) (answer : Event) (ended : List Event) → Steps old e new (answer ∷ ended)
+    → is_parked answer.what ≡ false → IsReplyIn new e.pid.0 answer
 answer_replies old new e answer ended s clear =
     let r = replied old new e answer ended s in
-    is_reply_to new e.pid.0 answer (ap (λ (p : Pid). p.0) r.caller) (subst (λ (h : HubView). IsReply h.terms.head h.journal answer) (sym s.journal) (r.answered clear))
+    is_reply_to new e.pid.0 answer (ap (λ (p : Pid). p.0) r.caller)
+    (subst (λ (h : HubView). IsReply h.terms.head h.journal answer) (sym s.journal) (r.answered clear))
 
 -- the hub with one entry more
 abbrev grown : HubView → Entry → HubView
 grown hub e = record { terms = hub.terms; journal = hub.journal ++ e ∷ []; places = places_after e.step hub.places }
 
 -- a process that is left as it was keeps its reply
-left_replies : (hub : HubView) (e : Entry) (q : ℕ) (o : Option Event) → IsLeft hub.terms.head hub.journal e q → IfSome o (IsReplyIn hub q) → IfSome o (IsReplyIn (grown hub e) q)
+left_replies : (hub : HubView) (e : Entry) (q : ℕ) (o : Option Event) → IsLeft hub.terms.head hub.journal e q → IfSome o (IsReplyIn hub q)
+    → IfSome o (IsReplyIn (grown hub e) q)
 left_replies hub e q None left h = tt
 left_replies hub e q (Some x) left h = record { reply = left.reply ∙ h.reply; free = left.waits ∙ h.free }
 
 -- what waits for process q after a step is its reply
-waits_after : (hub : HubView) (e : Entry) (answer : Event) (ended : List Event) (q : ℕ) (o : Option Event) → Replied hub.terms.head hub.journal e answer ended → IfSome o (IsReplyIn hub q) →
-    IfSome (last_told q (cond (e.pid.0 == q) None o) ended) (IsReplyIn (grown hub e) q)
+waits_after : (hub : HubView) (e : Entry) (answer : Event) (ended : List Event) (q : ℕ) (o : Option Event) → Replied hub.terms.head hub.journal e answer ended
+    → IfSome o (IsReplyIn hub q) → IfSome (last_told q (cond (e.pid.0 == q) None o) ended) (IsReplyIn (grown hub e) q)
 waits_after hub e answer ended q o r h = last_replies (grown hub e) q (cond (e.pid.0 == q) None o) ended r.ends (by (e.pid.0 == q) refl)
   where
     by : (b : Bool) → (e.pid.0 == q) ≡ b → is_told q ended ≡ false → IfSome (cond b None o) (IsReplyIn (grown hub e) q)
     by true is untold = tt
-    by false is untold = left_replies hub e q o (r.others q (ap (λ (p : Pid). (p.0 == q) || is_told q ended) r.caller ∙ ap (λ (b : Bool). b || is_told q ended) is ∙ untold)) h
+    by false is untold =
+        left_replies hub e q o (r.others q (ap (λ (p : Pid). (p.0 == q) || is_told q ended) r.caller ∙ ap (λ (b : Bool). b || is_told q ended) is ∙ untold)) h
 
 -- ---- a step of the locked hub
 
 -- the events were put into the places
-pub serves : (old : LockedView) (e : Entry) (hub : HubView) (told : List Event) (answer : Event) (ended : List Event) (cleared answers : List (Option Event)) (of_them : List Pid) →
-    length old.answers ≡ MOST_PROCS → Steps old.hub e hub told → told ≡ answer ∷ ended → cleared ≡ slice_set old.answers e.pid.0 None → length answers ≡ length cleared →
-    ((q : ℕ) → q < length cleared → answer_for answers q ≡ last_told q (answer_for cleared q) ended) → of_them ≡ pids_of ended → Serves old e (record { hub = hub; answers = answers; ended = of_them }) answer
+pub serves : (old : LockedView) (e : Entry) (hub : HubView) (told : List Event) (answer : Event) (ended : List Event)
+    (cleared answers : List (Option Event)) (of_them : List Pid) → length old.answers ≡ MOST_PROCS → Steps old.hub e hub told
+    → told ≡ answer ∷ ended → cleared ≡ slice_set old.answers e.pid.0 None → length answers ≡ length cleared
+    → ((q : ℕ) → q < length cleared → answer_for answers q ≡ last_told q (answer_for cleared q) ended) → of_them ≡ pids_of ended
+    → Serves old e (record { hub = hub; answers = answers; ended = of_them }) answer
 serves old e hub told answer ended cleared answers of_them places s first clear same each pids =
     let room : length cleared ≡ MOST_PROCS = ap length clear ∙ length-set old.answers e.pid.0 None ∙ places in
     record {
@@ -140,7 +151,8 @@ serves old e hub told answer ended cleared answers of_them places s first clear 
       places = same ∙ room;
       answers = λ q lt.
           each q (omega (arith, room))
-          ∙ ap (λ (o : Option Event). last_told q o ended) (ap (λ (ws : List (Option Event)). answer_for ws q) clear ∙ answer_for-set old.answers e.pid.0 q None (omega (arith, places)));
+          ∙ ap (λ (o : Option Event). last_told q o ended)
+          (ap (λ (ws : List (Option Event)). answer_for ws q) clear ∙ answer_for-set old.answers e.pid.0 q None (omega (arith, places)));
       pids = pids;
     }
 
@@ -184,7 +196,8 @@ parked_only (what.Fault f) is = absurd (let g : ⊥ = cc in g)
 -- the answer to a step that was made
 pub served_answers : (old new : LockedView) (e : Entry) (answer : Event) → Serves old e new answer → Answers e.pid e.step answer
 served_answers old new e answer s =
-    let told : Answered e.pid e.step answer s.ended = subst (IsAnswered e.pid e.step) (sym s.step.events) (moves-answered (state_of old.hub) e s.step.admitted) in
+    let told : Answered e.pid e.step answer s.ended =
+    subst (IsAnswered e.pid e.step) (sym s.step.events) (moves-answered (state_of old.hub) e s.step.admitted) in
     (told.own, told.fits)
 
 pub answers_no_call : (pid : Pid) (step : Step) (x : Event) → Answers pid step x → AnswersNoCall pid step x

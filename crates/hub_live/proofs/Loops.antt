@@ -4,7 +4,8 @@ use Rattle.std.specs.Prelude.{All}
 use Rattle.std.proofs.lemmas.List.Elements.{All-push}
 use Rattle.std.proofs.lemmas.List.{map-append}
 
-pub map_snoc : {A B C : Type 0} (xs xs' : List A) (ys : List B) (x : A) (y : B) (f : A → C) (g : B → C) → xs' ≡ xs ++ x ∷ [] → map f xs ≡ map g ys → f x ≡ g y → map f xs' ≡ map g (ys ++ y ∷ [])
+pub map_snoc : {A B C : Type 0} (xs xs' : List A) (ys : List B) (x : A) (y : B) (f : A → C) (g : B → C) → xs' ≡ xs ++ x ∷ []
+    → map f xs ≡ map g ys → f x ≡ g y → map f xs' ≡ map g (ys ++ y ∷ [])
 map_snoc xs xs' ys x y f g grown same here = ap (map f) grown ∙ map-append f xs (x ∷ []) ∙ (λ i. same i ++ here i ∷ []) ∙ sym (map-append g ys (y ∷ []))
 
 pub all_snoc : {A : Type 0} (xs xs' : List A) (x : A) (P : A → Type 0) → xs' ≡ xs ++ x ∷ [] → All P xs → P x → All P xs'

@@ -1,5 +1,6 @@
 -- Why an entry of a seat is refused, and that its process has no open call.
-use Rattle.std.proofs.Common.{◌≡◌, ℕ, ◌<◌, ◌≤◌, ◌==◌, Bool, true, false, cond, not, ◌||◌, ◌&&◌, nat_lt, List, [], ◌∷◌, ◌++◌, length, refl, sym, ap, ◌∙◌, subst, arith, Option, Some, None}
+use Rattle.std.proofs.Common.{◌≡◌, ℕ, ◌<◌, ◌≤◌, ◌==◌, Bool, true, false, cond, not, ◌||◌, ◌&&◌, nat_lt, List, []}
+use Rattle.std.proofs.Common.{◌∷◌, ◌++◌, length, refl, sym, ap, ◌∙◌, subst, arith, Option, Some, None}
 use Rattle.std.specs.List.{list_any}
 use Rattle.std.proofs.lemmas.List.{length-append}
 use Rattle.std.proofs.lemmas.List.Elements.{filter-append}
@@ -39,7 +40,8 @@ own_nothing q es fs same =
     let split : own q (es ++ fs) ≡ own q es ++ own q fs = filter-append (λ (e : Entry). e.pid.0 == q) es fs in
     empty (own q fs) (omega (arith, ap length same, ap length split, length-append (own q es) (own q fs)))
 
-none_more : (q : ℕ) (f : Entry) (fs : List Entry) (b : Bool) → (own q fs ≡ [] → list_any (λ e. e.pid.0 == q) fs ≡ false) → cond b (f ∷ own q fs) (own q fs) ≡ [] → (b || list_any (λ e. e.pid.0 == q) fs) ≡ false
+none_more : (q : ℕ) (f : Entry) (fs : List Entry) (b : Bool) → (own q fs ≡ [] → list_any (λ e. e.pid.0 == q) fs ≡ false)
+    → cond b (f ∷ own q fs) (own q fs) ≡ [] → (b || list_any (λ e. e.pid.0 == q) fs) ≡ false
 none_more q f fs true rest h = absurd (let g : ⊥ = cc in g)
 none_more q f fs false rest h = rest h
 
@@ -48,7 +50,8 @@ none_own q [] none = refl
 none_own q (f ∷ fs) none = none_more q f fs (f.pid.0 == q) (none_own q fs) none
 
 -- a process without an open call asked nothing where the journal went on with no entry of it
-pub asks_nothing : (t : Terms) (pid : Pid) (before after : List Entry) → IsPrefix before after → own pid.0 after ≡ own pid.0 before → is_waiting (state t.head before) pid.0 ≡ false → AsksNothing t pid before after
+pub asks_nothing : (t : Terms) (pid : Pid) (before after : List Entry) → IsPrefix before after → own pid.0 after ≡ own pid.0 before
+    → is_waiting (state t.head before) pid.0 ≡ false → AsksNothing t pid before after
 asks_nothing t pid before after p same free =
     let same' : own pid.0 (before ++ p.0) ≡ own pid.0 before = ap (own pid.0) p.1 ∙ same in
     let still = replies-law t.head before pid.0 p.0 free (none_own pid.0 p.0 (own_nothing pid.0 before p.0 same')) in
@@ -66,12 +69,14 @@ stands_in s journal begins own free = record { begins = begins; same = asks_noth
 abbrev exited : ℕ → List Entry → Bool
 exited q es = list_any (λ x. is_exit x.step) (own q es)
 
-exited_by : (here exit : Bool) (e : Entry) (own_rest : List Entry) → exit ≡ is_exit e.step → (exit && here) ≡ true → list_any (λ x. is_exit x.step) (cond here (e ∷ own_rest) own_rest) ≡ true
+exited_by : (here exit : Bool) (e : Entry) (own_rest : List Entry) → exit ≡ is_exit e.step → (exit && here) ≡ true
+    → list_any (λ x. is_exit x.step) (cond here (e ∷ own_rest) own_rest) ≡ true
 exited_by true true e rest is h = rw (sym is) refl
 exited_by here false e rest is h = absurd (let g : ⊥ = cc in g)
 exited_by false true e rest is h = absurd (let g : ⊥ = cc in g)
 
-exited_more : (here : Bool) (e : Entry) (rest : List Entry) → list_any (λ x. is_exit x.step) rest ≡ true → list_any (λ x. is_exit x.step) (cond here (e ∷ rest) rest) ≡ true
+exited_more : (here : Bool) (e : Entry) (rest : List Entry) → list_any (λ x. is_exit x.step) rest ≡ true
+    → list_any (λ x. is_exit x.step) (cond here (e ∷ rest) rest) ≡ true
 exited_more true e rest h = by (is_exit e.step)
   where
     by : (b : Bool) → (b || list_any (λ x. is_exit x.step) rest) ≡ true
@@ -80,7 +85,8 @@ exited_more true e rest h = by (is_exit e.step)
 exited_more false e rest h = h
 
 -- one entry, where those that follow are known
-gone_entry : (q : ℕ) (s : State) (e : Entry) (es : List Entry) (o : Option Fault) → (has_gone (admits s e o).state q ≡ true → has_gone s q ≡ false → exited q (keeps o e es) ≡ true)
+gone_entry : (q : ℕ) (s : State) (e : Entry) (es : List Entry) (o : Option Fault)
+    → (has_gone (admits s e o).state q ≡ true → has_gone s q ≡ false → exited q (keeps o e es) ≡ true)
     → (has_gone (admits s e o).state q ≡ false → exited q es ≡ true) → has_gone s q ≡ false → exited q (keeps o e es) ≡ true
 gone_entry q s e es None here later was = by (has_gone (admits s e None).state q) refl
   where
@@ -89,7 +95,8 @@ gone_entry q s e es None here later was = by (has_gone (admits s e None).state q
     by false is = exited_more (e.pid.0 == q) e (own q es) (later (sym is))
 gone_entry q s e es (Some f) here later was = later was
 
-gone_here : (q : ℕ) (s : State) (e : Entry) (es : List Entry) (o : Option Fault) → has_gone (admits s e o).state q ≡ true → has_gone s q ≡ false → exited q (keeps o e es) ≡ true
+gone_here : (q : ℕ) (s : State) (e : Entry) (es : List Entry) (o : Option Fault) → has_gone (admits s e o).state q ≡ true → has_gone s q ≡ false
+    → exited q (keeps o e es) ≡ true
 gone_here q s e es None is was =
     let left : (is_exit e.step && (e.pid.0 == q)) ≡ true = rw was at (sym (turn-leaves q s e) ∙ is) in
     exited_by (e.pid.0 == q) (is_exit e.step) e (own q es) refl left
@@ -98,7 +105,8 @@ gone_here q s e es (Some f) is was = absurd (let g : ⊥ = cc in g)
 gone_after : (q : ℕ) (s : State) (es : List Entry) → has_gone s q ≡ false → has_gone (state_after s es) q ≡ true → exited q (kept_after s es) ≡ true
 gone_after q s [] was is = absurd (let g : ⊥ = cc in g)
 gone_after q s (e ∷ es) was is =
-    gone_entry q s e (kept_after (moves s e).state es) (refusal s e.pid) (gone_here q s e (kept_after (moves s e).state es) (refusal s e.pid)) (λ h. gone_after q (moves s e).state es h is) was
+    gone_entry q s e (kept_after (moves s e).state es) (refusal s e.pid) (gone_here q s e (kept_after (moves s e).state es) (refusal s e.pid))
+    (λ h. gone_after q (moves s e).state es h is) was
 
 -- a process that has exited has an exit in the journal
 pub gone_exited : (head : Head) (q : ℕ) (es : List Entry) → IsLegal head es → has_gone (state head es) q ≡ true → exited q es ≡ true
@@ -137,19 +145,31 @@ below_not : (p n : ℕ) → p < n → not (nat_lt p n) ≡ true → ⊥
 below_not p n lt h = grind (arith, nat_tests)
 
 -- what a refusal shows, where the process is one of the hub's and has no open call
-pub shows : (t : Terms) (h : HubView) (e : Entry) (f : Fault) → IsHub t h → e.pid.0 < t.head.procs → is_waiting (state_of h) e.pid.0 ≡ false → Refuses h e f → Shows t e h.journal f
-shows t h e fault.JournalFull is below free r = (r.0, let le : h.terms.limit ≤ steps_of h.journal = r.1 in omega (arith, is.within, ap (λ (t : Terms). t.limit) is.terms))
-shows t h e fault.NoProcess is below free r = absurd (below_not e.pid.0 (state_of h).head.procs (omega (arith, below, ap (λ (t : Terms). t.head.procs) is.terms, procs-of (head-after (opening h.terms.head) h.journal))) (refused_none (not (nat_lt e.pid.0 (state_of h).head.procs)) (has_gone (state_of h) e.pid.0) (is_waiting (state_of h) e.pid.0) r.1))
+pub shows : (t : Terms) (h : HubView) (e : Entry) (f : Fault) → IsHub t h → e.pid.0 < t.head.procs → is_waiting (state_of h) e.pid.0 ≡ false
+    → Refuses h e f → Shows t e h.journal f
+shows t h e fault.JournalFull is below free r =
+    (r.0, let le : h.terms.limit ≤ steps_of h.journal = r.1 in omega (arith, is.within, ap (λ (t : Terms). t.limit) is.terms))
+shows t h e fault.NoProcess is below free r = absurd (below_not e.pid.0 (state_of h).head.procs (omega (
+  arith,
+  below,
+  ap (λ (t : Terms). t.head.procs) is.terms,
+  procs-of (head-after (opening h.terms.head) h.journal),
+)) (refused_none (not (nat_lt e.pid.0 (state_of h).head.procs)) (has_gone (state_of h) e.pid.0) (is_waiting (state_of h) e.pid.0) r.1))
 shows t h e fault.Gone is below free r =
     let room : LeavesRoom t e h.journal = λ exit. subst (λ (t : Terms). steps_of h.journal < t.limit) is.terms (r.0 exit) in
-    let gone : has_gone (state_of h) e.pid.0 ≡ true = refused_gone (not (nat_lt e.pid.0 (state_of h).head.procs)) (has_gone (state_of h) e.pid.0) (is_waiting (state_of h) e.pid.0) r.1 in
+    let gone : has_gone (state_of h) e.pid.0 ≡ true =
+    refused_gone (not (nat_lt e.pid.0 (state_of h).head.procs)) (has_gone (state_of h) e.pid.0) (is_waiting (state_of h) e.pid.0) r.1 in
     (room, gone_exited h.terms.head e.pid.0 h.journal (subst (λ (t : Terms). IsLegal t.head h.journal) (sym is.terms) is.history.legal) gone)
 shows t h e fault.Busy is below free r =
-    let busy : is_waiting (state_of h) e.pid.0 ≡ true = refused_busy (not (nat_lt e.pid.0 (state_of h).head.procs)) (has_gone (state_of h) e.pid.0) (is_waiting (state_of h) e.pid.0) r.1 in
+    let busy : is_waiting (state_of h) e.pid.0 ≡ true =
+    refused_busy (not (nat_lt e.pid.0 (state_of h).head.procs)) (has_gone (state_of h) e.pid.0) (is_waiting (state_of h) e.pid.0) r.1 in
     absurd (let g : ⊥ = cc in g)
 shows t h e fault.NoMemory is below free r =
-    let step : is_exit e.step ≡ false = growing e.step h.places r.2 in
-    (step, subst (λ (t : Terms). steps_of h.journal < t.limit) is.terms (r.0 step), subst (λ (t : Terms). refusal (state t.head h.journal) e.pid ≡ None) is.terms r.1)
+    let step : is_exit e.step ≡ false = growing e.step h.places r.2 in (
+      step,
+      subst (λ (t : Terms). steps_of h.journal < t.limit) is.terms (r.0 step),
+      subst (λ (t : Terms). refusal (state t.head h.journal) e.pid ≡ None) is.terms r.1,
+    )
 shows t h e fault.TooManyCases is below free r = absurd r
 shows t h e fault.NoPort is below free r = absurd r
 shows t h e fault.BadCap is below free r = absurd r

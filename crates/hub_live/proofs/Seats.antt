@@ -1,5 +1,6 @@
 -- Seats that enter, draw their numbers, take in others and give them back keep the rule.
-use Rattle.std.proofs.Common.{◌≡◌, ◌≢◌, ◌⊎◌, ℕ, zero, suc, ◌+◌, ◌-◌, ◌<◌, ◌≤◌, ◌==◌, eqb, List, [], ◌∷◌, ◌++◌, length, set, Bool, true, false, cond, refl, sym, ap, ◌∙◌, subst, ⊎_elim, arith, inl, inr, Some, None, eq-eqb, ne_eqb}
+use Rattle.std.proofs.Common.{◌≡◌, ◌≢◌, ◌⊎◌, ℕ, zero, suc, ◌+◌, ◌-◌, ◌<◌, ◌≤◌, ◌==◌, eqb, List, [], ◌∷◌, ◌++◌, length, set, Bool}
+use Rattle.std.proofs.Common.{true, false, cond, refl, sym, ap, ◌∙◌, subst, ⊎_elim, arith, inl, inr, Some, None, eq-eqb, ne_eqb}
 use Rattle.std.specs.Prelude.{slice_index, slice_get, MatchBool, IsSome, replicate}
 use Rattle.std.specs.Option.{option_map, option_map_or}
 use Rattle.std.proofs.lemmas.List.{length-set, set-get_or, get_or-set_same, get_or-set_other, get_or-replicate}
@@ -50,16 +51,20 @@ moved_else : (at : ℕ → ℕ) (m id n : ℕ) → n ≢ m → moved at m id n �
 moved_else at m id n e = ap (λ (b : Bool). cond b id (at n)) (ne_eqb n m e)
 
 -- what is held stays, where another number moves
-held : (t : Terms) (journal : List Entry) (at : ℕ → ℕ) (next next' id m to : ℕ) (v w : View) (seen : List Entry) (n : ℕ) → w.terms ≡ v.terms → next ≤ next' → n ≢ m → Holds t journal at next id v seen n → Holds t journal (moved at m to) next' id w seen n
+held : (t : Terms) (journal : List Entry) (at : ℕ → ℕ) (next next' id m to : ℕ) (v w : View) (seen : List Entry) (n : ℕ) → w.terms ≡ v.terms
+    → next ≤ next' → n ≢ m → Holds t journal at next id v seen n → Holds t journal (moved at m to) next' id w seen n
 held t journal at next next' id m to v w seen n same more not k =
     let lt : n < next = k.drawn in
     record { terms = same ∙ k.terms; here = moved_else at m to n not ∙ k.here; drawn = omega arith; begins = k.begins; knows = k.knows }
 
 -- a view without the number that moves still fits
-stays : (t : Terms) (journal : List Entry) (at : ℕ → ℕ) (next next' id m to : ℕ) (v : View) → next ≤ next' → ((seen : List Entry) → Holds t journal at next id v seen m → ⊥) → Fits t journal at next id v → Fits t journal (moved at m to) next' id v
+stays : (t : Terms) (journal : List Entry) (at : ℕ → ℕ) (next next' id m to : ℕ) (v : View) → next ≤ next'
+    → ((seen : List Entry) → Holds t journal at next id v seen m → ⊥) → Fits t journal at next id v → Fits t journal (moved at m to) next' id v
 stays t journal at next next' id m to v more without f = record {
-  own = λ n h. held t journal at next next' id m to v v v.seen n refl more (λ (e : n ≡ m). without v.seen (subst (λ (x : ℕ). Holds t journal at next id v v.seen x) e (f.own n h))) (f.own n h);
-  joined = λ n h. held t journal at next next' id m to v v v.joined_seen n refl more (λ (e : n ≡ m). without v.joined_seen (subst (λ (x : ℕ). Holds t journal at next id v v.joined_seen x) e (f.joined n h))) (f.joined n h);
+  own = λ n h. held t journal at next next' id m to v v v.seen n refl more
+      (λ (e : n ≡ m). without v.seen (subst (λ (x : ℕ). Holds t journal at next id v v.seen x) e (f.own n h))) (f.own n h);
+  joined = λ n h. held t journal at next next' id m to v v v.joined_seen n refl more
+      (λ (e : n ≡ m). without v.joined_seen (subst (λ (x : ℕ). Holds t journal at next id v v.joined_seen x) e (f.joined n h))) (f.joined n h);
   apart = f.apart;
 }
 
@@ -79,7 +84,8 @@ begins t = record {
 }
   where
     one : (id : ℕ) (v : View) → get_elem? (blank t ∷ []) id ≡ some v → Fits t [] (λ _. 0) (slice_index (replicate word_count 0) next_word) id v
-    one zero v e = subst (Fits t [] (λ _. 0) (slice_index (replicate word_count 0) next_word) 0) (some-injective _ _ e) (idle_fits t [] (λ _. 0) (slice_index (replicate word_count 0) next_word) 0 (blank t) refl refl)
+    one zero v e = subst (Fits t [] (λ _. 0) (slice_index (replicate word_count 0) next_word) 0) (some-injective _ _ e)
+        (idle_fits t [] (λ _. 0) (slice_index (replicate word_count 0) next_word) 0 (blank t) refl refl)
     one (suc id) v e = absurd (some-ne-none v (sym e))
 
 pub enters : (t : Terms) (slots i : ℕ) → Enters (Kept t) slots i (λ n w. Entered (step slots i 0 0 none) (blank t, []) n (w, []))
@@ -94,7 +100,8 @@ enters t slots i s kept homes bound = (
     drawn = kept.drawn;
     fits = λ j u e. ⊎_elim
         (λ (was : get_elem? s.views j ≡ some u). kept.fits j u was)
-        (λ (x : (j ≡ length s.views) × (blank t ≡ u)). subst (Fits t kept.journal kept.at (slice_index s.words next_word) j) x.1 (idle_fits t kept.journal kept.at (slice_index s.words next_word) j (blank t) refl refl))
+        (λ (x : (j ≡ length s.views) × (blank t ≡ u)). subst (Fits t kept.journal kept.at (slice_index s.words next_word) j) x.1
+        (idle_fits t kept.journal kept.at (slice_index s.words next_word) j (blank t) refl refl))
         (at_end s.views (blank t) u j e);
   },
   refl,
@@ -105,7 +112,8 @@ knows_new : (journal : List Entry) (next k : ℕ) → next ≡ k → ((p : ℕ) 
 knows_new journal next zero e drawn = sym (own_none journal (λ p. drawn p (omega arith)))
 knows_new journal next (suc p) e drawn = drawn p (omega arith)
 
-numbered_fits : (t : Terms) (journal : List Entry) (at : ℕ → ℕ) (k id : ℕ) (v : View) → v.terms ≡ t → v.joined ≡ None → v.seen ≡ [] → Knows journal [] k → Fits t journal (moved at k id) (k + 1) id (numbered v k)
+numbered_fits : (t : Terms) (journal : List Entry) (at : ℕ → ℕ) (k id : ℕ) (v : View) → v.terms ≡ t → v.joined ≡ None → v.seen ≡ []
+    → Knows journal [] k → Fits t journal (moved at k id) (k + 1) id (numbered v k)
 numbered_fits t journal at k id v same second empty knows = record {
   own = λ n h.
       let is : k ≡ n = cc in
@@ -122,9 +130,11 @@ numbered_fits t journal at k id v same second empty knows = record {
 
 -- what a draw leaves, where the word has become y
 abbrev pub Drawn : (t : Terms) (id k : ℕ) (v : View) (s : State (Unit {0}) View) → ℕ → Type 0
-Drawn t id k v s y = (w : View) × Kept t record { words = set s.words next_word y; homes = s.homes; views = set s.views id w } × MatchBool (slice_index s.words next_word == k) (w ≡ numbered v k) (w ≡ v)
+Drawn t id k v s y = (w : View) × Kept t record { words = set s.words next_word y; homes = s.homes; views = set s.views id w }
+    × MatchBool (slice_index s.words next_word == k) (w ≡ numbered v k) (w ≡ v)
 
-draws_hit : (t : Terms) (id k : ℕ) (v : View) (s : State (Unit {0}) View) → Kept t s → get_elem? s.views id ≡ some v → v.terms ≡ t → v.number ≡ None → v.joined ≡ None → v.seen ≡ [] → slice_index s.words next_word ≡ k → Drawn t id k v s (k + 1)
+draws_hit : (t : Terms) (id k : ℕ) (v : View) (s : State (Unit {0}) View) → Kept t s → get_elem? s.views id ≡ some v → v.terms ≡ t
+    → v.number ≡ None → v.joined ≡ None → v.seen ≡ [] → slice_index s.words next_word ≡ k → Drawn t id k v s (k + 1)
 draws_hit t id k v s kept at same first second empty is =
     let w = numbered v k in
     let next = slice_index s.words next_word in
@@ -148,10 +158,12 @@ draws_hit t id k v s kept at same first second empty is =
       subst (λ (b : Bool). MatchBool b (w ≡ numbered v k) (w ≡ v)) (sym (eq-eqb next k is)) refl,
     )
 
-draws_miss : (t : Terms) (id k : ℕ) (v : View) (s : State (Unit {0}) View) → Kept t s → get_elem? s.views id ≡ some v → slice_index s.words next_word ≢ k → Drawn t id k v s (slice_index s.words next_word)
+draws_miss : (t : Terms) (id k : ℕ) (v : View) (s : State (Unit {0}) View) → Kept t s → get_elem? s.views id ≡ some v
+    → slice_index s.words next_word ≢ k → Drawn t id k v s (slice_index s.words next_word)
 draws_miss t id k v s kept at not = (
   v,
-  subst (λ (x : List ℕ × List View). Kept t record { words = x.0; homes = s.homes; views = x.1 }) (λ i. (sym (set-get_or s.words next_word 0) i, sym (set_again s.views id v at) i)) kept,
+  subst (λ (x : List ℕ × List View). Kept t record { words = x.0; homes = s.homes; views = x.1 })
+      (λ i. (sym (set-get_or s.words next_word 0) i, sym (set_again s.views id v at) i)) kept,
   subst (λ (b : Bool). MatchBool b (v ≡ numbered v k) (v ≡ v)) (sym (ne_eqb (slice_index s.words next_word) k not)) refl,
 )
 
@@ -177,13 +189,15 @@ joined_fits t journal at next id other m v w terms_same first apart f g =
       apart = λ n h h'. here n h cc;
     }
 
-pub joins : (t : Terms) (id other m : ℕ) (v w : View) → v.terms ≡ w.terms → w.number ≡ Some m → w.joined ≡ None → Joins (Kept t) id v other w (with_joined v w) spent
+pub joins : (t : Terms) (id other m : ℕ) (v w : View) → v.terms ≡ w.terms → w.number ≡ Some m → w.joined ≡ None
+    → Joins (Kept t) id v other w (with_joined v w) spent
 joins t id other m v w terms_same first alone s kept at apart there =
     let next = slice_index s.words next_word in
     let both = with_joined v w in
     let at' = moved kept.at m id in
     let f = kept.fits id v at in
-    let g : Fits t kept.journal kept.at next other w = ⊎_elim (λ (x : (other ≡ id) × (both ≡ w)). absurd (apart x.0)) (λ (x : (other ≢ id) × (get_elem? s.views other ≡ some w)). kept.fits other w x.1) (at_set s.views id other both w there) in
+    let g : Fits t kept.journal kept.at next other w = ⊎_elim (λ (x : (other ≡ id) × (both ≡ w)). absurd (apart x.0))
+    (λ (x : (other ≢ id) × (get_elem? s.views other ≡ some w)). kept.fits other w x.1) (at_set s.views id other both w there) in
     let theirs = g.own m first in
     record {
       journal = kept.journal;
@@ -194,7 +208,8 @@ joins t id other m v w terms_same first alone s kept at apart there =
       drawn = kept.drawn;
       fits = fits_set t kept.journal at' next (set s.views id both) other spent
           (λ j u far e. ⊎_elim
-          (λ (x : (j ≡ id) × (both ≡ u)). subst (λ (y : ℕ × View). Fits t kept.journal at' next y.0 y.1) (λ i. (sym x.0 i, x.1 i)) (joined_fits t kept.journal kept.at next id other m v w terms_same first apart f g))
+          (λ (x : (j ≡ id) × (both ≡ u)). subst (λ (y : ℕ × View). Fits t kept.journal at' next y.0 y.1) (λ i. (sym x.0 i, x.1 i))
+          (joined_fits t kept.journal kept.at next id other m v w terms_same first apart f g))
           (λ (x : (j ≢ id) × (get_elem? s.views j ≡ some u)).
           stays t kept.journal kept.at next next j m id u (omega arith) (λ seen has. far (sym has.here ∙ theirs.here)) (kept.fits j u x.1))
           (at_set s.views id j both u e))
@@ -211,7 +226,8 @@ parts t id m v second s kept at =
     let f = kept.fits id v at in
     let mine = f.joined m second in
     let left_fits : Fits t kept.journal at' next id left = record {
-      own = λ n h. held t kept.journal kept.at next next id m new v left v.seen n refl (omega arith) (λ (e : n ≡ m). f.apart n h (second ∙ ap Some (sym e))) (f.own n h);
+      own = λ n h. held t kept.journal kept.at next next id m new v left v.seen n refl (omega arith)
+          (λ (e : n ≡ m). f.apart n h (second ∙ ap Some (sym e))) (f.own n h);
       joined = λ n h. absurd (none_some n h);
       apart = λ n _ h. none_some n h;
     } in
@@ -241,10 +257,12 @@ parts t id m v second s kept at =
 pub draws_as : (t : Terms) (slots id k : ℕ) (me : Me (Unit {0}) View) → me ≡ (blank t, [])
     → Allows (Kept t) slots id me next_word (λ n. either (n == k) (k + 1) n) (Drew (step slots next_word k (k + 1) none) me)
 draws_as t slots id k me is =
-    subst (λ (m : Me (Unit {0}) View). Allows (Kept t) slots id m next_word (λ n. either (n == k) (k + 1) n) (Drew (step slots next_word k (k + 1) none) m)) (sym is)
+    subst (λ (m : Me (Unit {0}) View). Allows (Kept t) slots id m next_word (λ n. either (n == k) (k + 1) n) (Drew (step slots next_word k (k + 1) none) m))
+    (sym is)
     (draws t slots id k (blank t) refl refl refl refl)
 
-pub joins_some : (t : Terms) (id other : ℕ) (v w : View) → v.terms ≡ w.terms → IsSome w.number → w.joined ≡ None → Joins (Kept t) id v other w (with_joined v w) spent
+pub joins_some : (t : Terms) (id other : ℕ) (v w : View) → v.terms ≡ w.terms → IsSome w.number → w.joined ≡ None
+    → Joins (Kept t) id v other w (with_joined v w) spent
 joins_some t id other v w same has alone = let m = some_of w.number has in joins t id other m.0 v w same m.1 alone
 
 pub parts_some : (t : Terms) (id : ℕ) (v : View) → IsSome v.joined → Splits (Kept t) id v (parted v) (given_back v)

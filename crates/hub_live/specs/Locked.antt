@@ -1,6 +1,7 @@
 -- What contracts see of a locked hub: a hub, and for each process an answer that may wait to be picked
 -- up. Where a step ends the call of another process, the answer waits until that process takes it.
-use Rattle.std.specs.Prelude.{◌≡◌, ◌<◌, ◌==◌, ℕ, false, List, [], ◌∷◌, length, map, replicate, filter, Option, None, Some, IfSome, slice_index_or, slice_set, if◌then◌else◌}
+use Rattle.std.specs.Prelude.{◌≡◌, ◌<◌, ◌==◌, ℕ, false, List, [], ◌∷◌, length, map, replicate, filter}
+use Rattle.std.specs.Prelude.{Option, None, Some, IfSome, slice_index_or, slice_set, if◌then◌else◌}
 use Rattle.hub_base.specs.declared.head.Head.{Head}
 use Rattle.hub_base.specs.declared.value.Pid.{Pid}
 use Rattle.hub_base.specs.declared.entry.Entry.{Entry}

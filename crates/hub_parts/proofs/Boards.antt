@@ -1,5 +1,6 @@
 -- What every board keeps, through each call.
-use Rattle.std.proofs.Common.{◌≡◌, ◌≢◌, ℕ, ◌+◌, ◌-◌, ◌*◌, ◌<◌, ◌≤◌, ◌==◌, false, not, List, [], ◌∷◌, ◌++◌, length, set, refl, ap, ◌∙◌, sym, arith, Option, Some, None, subst, inl, inr, length-append}
+use Rattle.std.proofs.Common.{◌≡◌, ◌≢◌, ℕ, ◌+◌, ◌-◌, ◌*◌, ◌<◌, ◌≤◌, ◌==◌, false, not, List, [], ◌∷◌, ◌++◌, length, set}
+use Rattle.std.proofs.Common.{refl, ap, ◌∙◌, sym, arith, Option, Some, None, subst, inl, inr, length-append}
 use Rattle.std.specs.List.{AllByRecursion}
 use Rattle.std.proofs.lemmas.Bool.{ne_eqb, cases_eq, cases_lt}
 use Rattle.std.proofs.lemmas.List.{length-set, get_or-set_same, get_or-set_other, get_or_append_left, get_or_push}
@@ -45,7 +46,8 @@ queues_ended pid c cs k = record {
   queues = λ s p positive within. ended_keeps (joins s p) c (queue_of s (channel_of cs p)) pid k.calls.ascending (k.queues s p positive within);
 }
 
-changed_queue : (f : Buffer Waiter → Buffer Waiter) (s t : Side) (p : Port) (c : Calls) (ch : ChannelLists) → QueueKeeps (joins t p) c (queue_of t ch) → QueueKeeps (joins s p) c (f (queue_of s ch)) → QueueKeeps (joins t p) c (queue_of t (with_queue f s ch))
+changed_queue : (f : Buffer Waiter → Buffer Waiter) (s t : Side) (p : Port) (c : Calls) (ch : ChannelLists) → QueueKeeps (joins t p) c (queue_of t ch)
+    → QueueKeeps (joins s p) c (f (queue_of s ch)) → QueueKeeps (joins t p) c (queue_of t (with_queue f s ch))
 changed_queue f side.Send side.Send p c ch stay change = change
 changed_queue f side.Send side.Recv p c ch stay change = stay
 changed_queue f side.Send side.Any p c ch stay change = stay
@@ -63,7 +65,8 @@ same_port : (p q : Port) → p.0 ≡ q.0 → p ≡ q
 same_port p q e = ap to_port e
 
 -- a board where one queue changed
-pub board_changed : (f : Buffer Waiter → Buffer Waiter) (s : Side) (q : Port) (c : Calls) (cs : List ChannelLists) → 0 < q.0 → q.0 ≤ length cs → BoardKeeps c cs → QueueKeeps (joins s q) c (f (queue_of s (channel_of cs q))) → BoardKeeps c (set cs (q.0 - 1) (with_queue f s (channel_of cs q)))
+pub board_changed : (f : Buffer Waiter → Buffer Waiter) (s : Side) (q : Port) (c : Calls) (cs : List ChannelLists) → 0 < q.0 → q.0 ≤ length cs
+    → BoardKeeps c cs → QueueKeeps (joins s q) c (f (queue_of s (channel_of cs q))) → BoardKeeps c (set cs (q.0 - 1) (with_queue f s (channel_of cs q)))
 board_changed f s q c cs positive within k change =
     let long = length-set cs (q.0 - 1) (with_queue f s (channel_of cs q)) in
     record {
@@ -74,20 +77,23 @@ board_changed f s q c cs positive within k change =
             | inl same ↦
                 (let here : p ≡ q = same_port p q same in
                 subst (λ r. QueueKeeps (joins t r) c (queue_of t (channel_of (set cs (q.0 - 1) (with_queue f s (channel_of cs q))) r))) (sym here)
-                (rw (get_or-set_same cs (q.0 - 1) (with_queue f s (channel_of cs q)) no_channel (omega arith)) (changed_queue f s t q c (channel_of cs q) (k.queues t q positive within) change)))
+                (rw (get_or-set_same cs (q.0 - 1) (with_queue f s (channel_of cs q)) no_channel (omega arith))
+                (changed_queue f s t q c (channel_of cs q) (k.queues t q positive within) change)))
             | inr ne ↦
                 (let apart : p.0 - 1 ≢ q.0 - 1 = (λ e. ne (omega arith)) in
                 rw (get_or-set_other cs (q.0 - 1) (p.0 - 1) (with_queue f s (channel_of cs q)) no_channel apart) (k.queues t p above inside))
           ];
     }
 
-same_queues : (t : Side) (q : Port) (c : Calls) (ch old : ChannelLists) → ch.senders ≡ old.senders → ch.receivers ≡ old.receivers → QueueKeeps (joins t q) c (queue_of t old) → QueueKeeps (joins t q) c (queue_of t ch)
+same_queues : (t : Side) (q : Port) (c : Calls) (ch old : ChannelLists) → ch.senders ≡ old.senders → ch.receivers ≡ old.receivers
+    → QueueKeeps (joins t q) c (queue_of t old) → QueueKeeps (joins t q) c (queue_of t ch)
 same_queues side.Send q c ch old es er k = rw es k
 same_queues side.Recv q c ch old es er k = rw er k
 same_queues side.Any q c ch old es er k = rw er k
 
 -- a board where one port changed, and no queue
-pub board_lists : (q : Port) (ch : ChannelLists) (c : Calls) (cs : List ChannelLists) → 0 < q.0 → q.0 ≤ length cs → ch.senders ≡ (channel_of cs q).senders → ch.receivers ≡ (channel_of cs q).receivers → BoardKeeps c cs → BoardKeeps c (set cs (q.0 - 1) ch)
+pub board_lists : (q : Port) (ch : ChannelLists) (c : Calls) (cs : List ChannelLists) → 0 < q.0 → q.0 ≤ length cs
+    → ch.senders ≡ (channel_of cs q).senders → ch.receivers ≡ (channel_of cs q).receivers → BoardKeeps c cs → BoardKeeps c (set cs (q.0 - 1) ch)
 board_lists q ch c cs positive within es er k =
     let long = length-set cs (q.0 - 1) ch in
     record {
@@ -113,7 +119,8 @@ no_join side.Recv p n (Recv q) le more = ne_eqb q.0 p.0 (λ e. omega arith)
 no_join side.Any p n (Send q v) le more = refl
 no_join side.Any p n (Recv q) le more = ne_eqb q.0 p.0 (λ e. omega arith)
 
-no_waiters_from : (s : Side) (p : Port) (n : ℕ) (pid : Pid) (ticket i : ℕ) (cases : List Case) → AllMade n cases → n < p.0 → waiters_from (joins s p) pid ticket i cases ≡ []
+no_waiters_from : (s : Side) (p : Port) (n : ℕ) (pid : Pid) (ticket i : ℕ) (cases : List Case) → AllMade n cases → n < p.0
+    → waiters_from (joins s p) pid ticket i cases ≡ []
 no_waiters_from s p n pid ticket i [] a more = refl
 no_waiters_from s p n pid ticket i (c ∷ cases) a more = rw (no_join s p n c a.0 more) (no_waiters_from s p n pid ticket (i + 1) cases a.1 more)
 
@@ -135,7 +142,9 @@ board_made cap c cs k fewer =
         counted = omega (arith, long);
         few = k.calls.few;
         small = k.calls.small;
-        made = all_weaker (λ w. AllMade (length cs) w.call.cases) (λ w. AllMade (length (cs ++ new_channel cap c.procs ∷ [])) w.call.cases) c.waiting (λ w made. all_weaker (λ q. (port_of q).0 ≤ length cs) (λ q. (port_of q).0 ≤ length (cs ++ new_channel cap c.procs ∷ [])) w.call.cases (λ q within. omega (arith, long)) made) k.calls.made;
+        made = all_weaker (λ w. AllMade (length cs) w.call.cases) (λ w. AllMade (length (cs ++ new_channel cap c.procs ∷ [])) w.call.cases) c.waiting
+            (λ w made. all_weaker (λ q. (port_of q).0 ≤ length cs) (λ q. (port_of q).0 ≤ length (cs ++ new_channel cap c.procs ∷ [])) w.call.cases
+            (λ q within. omega (arith, long)) made) k.calls.made;
         ascending = k.calls.ascending;
         below = k.calls.below;
       };
@@ -155,9 +164,11 @@ board_made cap c cs k fewer =
     }
 
 -- what a taking tells and leaves
-pub taken_tells : (s : Side) (p : Port) (c : Calls) (cs : List ChannelLists) (o : Option Waiter) → 0 < p.0 → p.0 ≤ length cs → BoardKeeps c cs → o ≡ first_on s c.waiting (channel_of cs p) → Tells (passes p s) c.waiting o
+pub taken_tells : (s : Side) (p : Port) (c : Calls) (cs : List ChannelLists) (o : Option Waiter) → 0 < p.0 → p.0 ≤ length cs
+    → BoardKeeps c cs → o ≡ first_on s c.waiting (channel_of cs p) → Tells (passes p s) c.waiting o
 taken_tells s p c cs o positive within k e =
-    rw (e ∙ line_finds s p c (channel_of cs p) k.calls.ascending (k.queues side.Send p positive within) (k.queues side.Recv p positive within)) (tells (passes p s) c.waiting k.calls.ascending)
+    rw (e ∙ line_finds s p c (channel_of cs p) k.calls.ascending (k.queues side.Send p positive within) (k.queues side.Recv p positive within))
+    (tells (passes p s) c.waiting k.calls.ascending)
 
 pub board_taken : (s : Side) (p : Port) (c : Calls) (cs : List ChannelLists) (entry : Waiter) → 0 < p.0 → p.0 ≤ length cs → BoardKeeps c cs
     → Some entry ≡ first_on s c.waiting (channel_of cs p)
@@ -178,31 +189,39 @@ board_untaken s p c cs positive within k e =
 
 ascending_snoc : (ws : List Ticketed) (w : Ticketed) (n : ℕ) → n ≤ w.ticket → AllByRecursion (λ v. v.ticket < n) ws → Ascending ws → Ascending (ws ++ w ∷ [])
 ascending_snoc [] w n le b a = (tt, tt)
-ascending_snoc (v ∷ ws) w n le b a = let less : v.ticket < n = b.0 in (all_snoc (λ u. v.ticket < u.ticket) ws w a.0 (omega arith), ascending_snoc ws w n le b.1 a.1)
+ascending_snoc (v ∷ ws) w n le b a =
+    let less : v.ticket < n = b.0 in
+    (all_snoc (λ u. v.ticket < u.ticket) ws w a.0 (omega arith), ascending_snoc ws w n le b.1 a.1)
 
-pub calls_opened : (pid : Pid) (ticket : ℕ) (cases : List Case) (c : Calls) (n : ℕ) → CallsKeep c n → c.next_ticket ≤ ticket → length cases ≤ MOST_CASES → AllMade n cases → length (c.waiting ++ ticketed pid ticket cases ∷ []) ≤ c.procs → CallsKeep (with_call pid ticket cases c) n
+pub calls_opened : (pid : Pid) (ticket : ℕ) (cases : List Case) (c : Calls) (n : ℕ) → CallsKeep c n → c.next_ticket ≤ ticket → length cases ≤ MOST_CASES
+    → AllMade n cases → length (c.waiting ++ ticketed pid ticket cases ∷ []) ≤ c.procs → CallsKeep (with_call pid ticket cases c) n
 calls_opened pid ticket cases c n k later small made few = record {
   counted = k.counted;
   few = few;
   small = all_snoc (λ w. length w.call.cases ≤ MOST_CASES) c.waiting (ticketed pid ticket cases) k.small small;
   made = all_snoc (λ w. AllMade n w.call.cases) c.waiting (ticketed pid ticket cases) k.made made;
   ascending = ascending_snoc c.waiting (ticketed pid ticket cases) c.next_ticket later k.below k.ascending;
-  below = all_snoc (λ w. w.ticket < ticket + 1) c.waiting (ticketed pid ticket cases) (all_weaker (λ w. w.ticket < c.next_ticket) (λ w. w.ticket < ticket + 1) c.waiting (λ w less. omega arith) k.below) (omega arith);
+  below = all_snoc (λ w. w.ticket < ticket + 1) c.waiting (ticketed pid ticket cases)
+      (all_weaker (λ w. w.ticket < c.next_ticket) (λ w. w.ticket < ticket + 1) c.waiting (λ w less. omega arith) k.below) (omega arith);
 }
 
 -- a queue after room was made for a call
-queue_ready : (s : Side) (p : Port) (c : Calls) (cs : List ChannelLists) (cases : List Case) → 0 < p.0 → p.0 ≤ length cs → BoardKeeps c cs → 0 < c.procs → length cases ≤ MOST_CASES → Ready (joins s p) c (queue_of s (channel_of (all_roomy c.waiting cs cases) p)) cases
+queue_ready : (s : Side) (p : Port) (c : Calls) (cs : List ChannelLists) (cases : List Case) → 0 < p.0 → p.0 ≤ length cs → BoardKeeps c cs
+    → 0 < c.procs → length cases ≤ MOST_CASES → Ready (joins s p) c (queue_of s (channel_of (all_roomy c.waiting cs cases) p)) cases
 queue_ready s p c cs cases positive within k free small =
     rw (queue_with_cases (λ i. roomy c.waiting) 0 cs cases s p positive within)
-    (ready_after (joins s p) c 0 (queue_of s (channel_of cs p)) cases (k.queues s p positive within) (roomy_has (joins s p) c (queue_of s (channel_of cs p)) free k.calls.few k.calls.small (k.queues s p positive within)) small)
+    (ready_after (joins s p) c 0 (queue_of s (channel_of cs p)) cases (k.queues s p positive within)
+    (roomy_has (joins s p) c (queue_of s (channel_of cs p)) free k.calls.few k.calls.small (k.queues s p positive within)) small)
 
-pub roomy_can_join : (pid : Pid) (ticket : ℕ) (c : Calls) (cs : List ChannelLists) (cases : List Case) → BoardKeeps c cs → 0 < c.procs → length cases ≤ MOST_CASES → AllMade (length cs) cases → CanJoin pid ticket 0 (all_roomy c.waiting cs cases) cases
+pub roomy_can_join : (pid : Pid) (ticket : ℕ) (c : Calls) (cs : List ChannelLists) (cases : List Case) → BoardKeeps c cs → 0 < c.procs
+    → length cases ≤ MOST_CASES → AllMade (length cs) cases → CanJoin pid ticket 0 (all_roomy c.waiting cs cases) cases
 roomy_can_join pid ticket c cs cases k free small made =
     let long = length-with_cases (λ i. roomy c.waiting) 0 cs cases in
     can_join pid ticket 0 (all_roomy c.waiting cs cases) cases (subst (λ n. AllMade n cases) (sym long) made)
     (λ s p positive within. (queue_ready s p c cs cases positive (rw long at within) k free small).room)
 
-pub board_parked : (pid : Pid) (ticket : ℕ) (c : Calls) (cs : List ChannelLists) (cases : List Case) → BoardKeeps c cs → 0 < c.procs → length cases ≤ MOST_CASES → AllMade (length cs) cases → c.next_ticket ≤ ticket → length (c.waiting ++ ticketed pid ticket cases ∷ []) ≤ c.procs
+pub board_parked : (pid : Pid) (ticket : ℕ) (c : Calls) (cs : List ChannelLists) (cases : List Case) → BoardKeeps c cs → 0 < c.procs
+    → length cases ≤ MOST_CASES → AllMade (length cs) cases → c.next_ticket ≤ ticket → length (c.waiting ++ ticketed pid ticket cases ∷ []) ≤ c.procs
     → BoardKeeps (with_call pid ticket cases c) (all_joined pid ticket 0 (all_roomy c.waiting cs cases) cases)
 board_parked pid ticket c cs cases k free small made later few =
     let roomy_long = length-with_cases (λ i. roomy c.waiting) 0 cs cases in
@@ -212,6 +231,10 @@ board_parked pid ticket c cs cases k free small made later few =
       queues = λ s p positive within0.
           let within1 : p.0 ≤ length (all_roomy c.waiting cs cases) = rw long at within0 in
           let within : p.0 ≤ length cs = rw roomy_long at within1 in
-          rw (queue_with_cases (λ i. joined (waiter_at pid ticket i)) 0 (all_roomy c.waiting cs cases) cases s p positive within1, joined_after (joins s p) pid ticket 0 (queue_of s (channel_of (all_roomy c.waiting cs cases) p)) cases)
-          (parked_keeps (joins s p) c (queue_of s (channel_of (all_roomy c.waiting cs cases) p)) pid ticket cases later (queue_ready s p c cs cases positive within k free small));
+          rw (
+            queue_with_cases (λ i. joined (waiter_at pid ticket i)) 0 (all_roomy c.waiting cs cases) cases s p positive within1,
+            joined_after (joins s p) pid ticket 0 (queue_of s (channel_of (all_roomy c.waiting cs cases) p)) cases,
+          )
+          (parked_keeps (joins s p) c (queue_of s (channel_of (all_roomy c.waiting cs cases) p)) pid ticket cases later
+          (queue_ready s p c cs cases positive within k free small));
     }

@@ -1,5 +1,6 @@
 -- The counts of the cases of open calls.
-use Rattle.std.proofs.Common.{◌≡◌, ℕ, zero, suc, ◌+◌, ◌-◌, ◌*◌, ◌<◌, ◌≤◌, ◌==◌, ◌||◌, Bool, true, false, not, cond, ltb, List, [], ◌∷◌, ◌++◌, length, filter, set, get_or, refl, ap, ◌∙◌, sym, arith, eq-eqb, inl, inr, Option, Some, None, slice_index, replicate}
+use Rattle.std.proofs.Common.{◌≡◌, ℕ, zero, suc, ◌+◌, ◌-◌, ◌*◌, ◌<◌, ◌≤◌, ◌==◌, ◌||◌, Bool, true, false, not, cond, ltb, List, [], ◌∷◌, ◌++◌, length}
+use Rattle.std.proofs.Common.{filter, set, get_or, refl, ap, ◌∙◌, sym, arith, eq-eqb, inl, inr, Option, Some, None, slice_index, replicate}
 use Rattle.std.specs.List.{AllByRecursion, list_any}
 use Rattle.std.specs.Option.{option_map}
 use Rattle.std.specs.Option.{is_some}
@@ -19,7 +20,8 @@ use Rattle.hub_parts.specs.declared.side.Side.{Side}
 use Rattle.hub_parts.specs.declared.side.Side.TheVariants as side
 use Rattle.hub_parts.specs.Records.{Ticketed}
 use Rattle.hub_parts.specs.Lists.{open_calls, passes}
-use Rattle.hub_parts.specs.CaseCounts.{changed, with_changed, all_changed, CaseAllows, AllAllow, one_more, one_less, with_raised, with_lowered, CanRaise, CanLower, CanGrow, has_case, passing, all_passing, CountsCases, IsCountOf}
+use Rattle.hub_parts.specs.CaseCounts.{changed, with_changed, all_changed, CaseAllows, AllAllow, one_more, one_less, with_raised}
+use Rattle.hub_parts.specs.CaseCounts.{with_lowered, CanRaise, CanLower, CanGrow, has_case, passing, all_passing, CountsCases, IsCountOf}
 use Rattle.hub_parts.specs.Tickets.{most_held, AreApart, pids, calls_of, cases_of}
 
 abbrev iterate : (ℕ → ℕ) → ℕ → ℕ → ℕ
@@ -35,20 +37,28 @@ iterate-less zero x = omega arith
 iterate-less (suc k) x = omega (arith, iterate-less k (x - 1))
 
 length-changed : (f : ℕ → ℕ) (q : Port) (xs : List ℕ) → length (changed f q xs) ≡ length xs
-length-changed f q xs = elim (ltb q.0 (length xs)) as (λ b. length (cond b (set xs q.0 (f (get_or xs q.0 0))) xs) ≡ length xs) [ true ↦ length-set xs _ _ | false ↦ refl ]
+length-changed f q xs = elim (ltb q.0 (length xs)) as (λ b. length (cond b (set xs q.0 (f (get_or xs q.0 0))) xs) ≡ length xs) [
+  | true ↦ length-set xs _ _
+  | false ↦ refl
+]
 
-changed_at : (f : ℕ → ℕ) (q p : Port) (xs : List ℕ) → p.0 < length xs → slice_index (changed f q xs) p.0 ≡ cond (q.0 == p.0) (f (slice_index xs p.0)) (slice_index xs p.0)
+changed_at : (f : ℕ → ℕ) (q p : Port) (xs : List ℕ) → p.0 < length xs
+    → slice_index (changed f q xs) p.0 ≡ cond (q.0 == p.0) (f (slice_index xs p.0)) (slice_index xs p.0)
 changed_at f q p xs within =
     elim (cases_eq q.0 p.0) [
       | inl same ↦ rw (same, lt-ltb p.0 (length xs) within, eq-eqb p.0 p.0 refl) (get_or-set_same xs p.0 _ 0 within)
       | inr apart ↦
           rw (ne_eqb q.0 p.0 apart)
-          (elim (ltb q.0 (length xs)) as (λ b. get_or (cond b (set xs q.0 (f (get_or xs q.0 0))) xs) p.0 0 ≡ get_or xs p.0 0) [ true ↦ get_or-set_other xs q.0 p.0 _ 0 (λ e. apart (sym e)) | false ↦ refl ])
+          (elim (ltb q.0 (length xs)) as (λ b. get_or (cond b (set xs q.0 (f (get_or xs q.0 0))) xs) p.0 0 ≡ get_or xs p.0 0) [
+            | true ↦ get_or-set_other xs q.0 p.0 _ 0 (λ e. apart (sym e))
+            | false ↦ refl
+          ])
     ]
 
 -- the sends, or the receives, with the test of which cases are counted there
 pub record IsHalf (f : ℕ → ℕ) (half : CaseCounts → List ℕ) (test : Port → Case → Bool) : Type 0 where
-  pub step : (t : CaseCounts) (c : Case) (p : Port) → p.0 < length (half t) → slice_index (half (with_changed f t c)) p.0 ≡ cond (test p c) (f (slice_index (half t) p.0)) (slice_index (half t) p.0)
+  pub step : (t : CaseCounts) (c : Case) (p : Port) → p.0 < length (half t)
+      → slice_index (half (with_changed f t c)) p.0 ≡ cond (test p c) (f (slice_index (half t) p.0)) (slice_index (half t) p.0)
   pub long : (t : CaseCounts) (c : Case) → length (half (with_changed f t c)) ≡ length (half t)
 
 abbrev sends_of : CaseCounts → List ℕ
@@ -57,11 +67,13 @@ sends_of t = t.sends
 abbrev recvs_of : CaseCounts → List ℕ
 recvs_of t = t.recvs
 
-send_step : (f : ℕ → ℕ) (t : CaseCounts) (c : Case) (p : Port) → p.0 < length t.sends → slice_index (sends_of (with_changed f t c)) p.0 ≡ cond (is_send_on p c) (f (slice_index t.sends p.0)) (slice_index t.sends p.0)
+send_step : (f : ℕ → ℕ) (t : CaseCounts) (c : Case) (p : Port) → p.0 < length t.sends
+    → slice_index (sends_of (with_changed f t c)) p.0 ≡ cond (is_send_on p c) (f (slice_index t.sends p.0)) (slice_index t.sends p.0)
 send_step f t (Send q v) p within = changed_at f q p t.sends within
 send_step f t (Recv q) p within = refl
 
-recv_step : (f : ℕ → ℕ) (t : CaseCounts) (c : Case) (p : Port) → p.0 < length t.recvs → slice_index (recvs_of (with_changed f t c)) p.0 ≡ cond (is_recv_on p c) (f (slice_index t.recvs p.0)) (slice_index t.recvs p.0)
+recv_step : (f : ℕ → ℕ) (t : CaseCounts) (c : Case) (p : Port) → p.0 < length t.recvs
+    → slice_index (recvs_of (with_changed f t c)) p.0 ≡ cond (is_recv_on p c) (f (slice_index t.recvs p.0)) (slice_index t.recvs p.0)
 recv_step f t (Send q v) p within = refl
 recv_step f t (Recv q) p within = changed_at f q p t.recvs within
 
@@ -79,17 +91,20 @@ sends_half f = record { step = send_step f; long = sends_long f }
 recvs_half : (f : ℕ → ℕ) → IsHalf f recvs_of is_recv_on
 recvs_half f = record { step = recv_step f; long = recvs_long f }
 
-length-all_changed : (f : ℕ → ℕ) (half : CaseCounts → List ℕ) (test : Port → Case → Bool) → IsHalf f half test → (t : CaseCounts) (cases : List Case) → length (half (all_changed f t cases)) ≡ length (half t)
+length-all_changed : (f : ℕ → ℕ) (half : CaseCounts → List ℕ) (test : Port → Case → Bool) → IsHalf f half test
+    → (t : CaseCounts) (cases : List Case) → length (half (all_changed f t cases)) ≡ length (half t)
 length-all_changed f half test h t [] = refl
 length-all_changed f half test h t (c ∷ cases) = length-all_changed f half test h (with_changed f t c) cases ∙ h.long t c
 
 -- a count after the cases of a call: changed once for each that passes
-all_changed_at : (f : ℕ → ℕ) (half : CaseCounts → List ℕ) (test : Port → Case → Bool) → IsHalf f half test → (t : CaseCounts) (cases : List Case) (p : Port) → p.0 < length (half t) → slice_index (half (all_changed f t cases)) p.0 ≡ iterate f (passing (test p) cases) (slice_index (half t) p.0)
+all_changed_at : (f : ℕ → ℕ) (half : CaseCounts → List ℕ) (test : Port → Case → Bool) → IsHalf f half test → (t : CaseCounts) (cases : List Case) (p : Port)
+    → p.0 < length (half t) → slice_index (half (all_changed f t cases)) p.0 ≡ iterate f (passing (test p) cases) (slice_index (half t) p.0)
 all_changed_at f half test h t [] p within = refl
 all_changed_at f half test h t (c ∷ cases) p within =
     all_changed_at f half test h (with_changed f t c) cases p (rw (h.long t c) within)
     ∙ rw (h.step t c p within)
-    (elim (test p c) as (λ b. iterate f (passing (test p) cases) (cond b (f (slice_index (half t) p.0)) (slice_index (half t) p.0)) ≡ iterate f (cond b (suc (passing (test p) cases)) (passing (test p) cases)) (slice_index (half t) p.0)) [ true ↦ refl | false ↦ refl ])
+    (elim (test p c) as (λ b. iterate f (passing (test p) cases) (cond b (f (slice_index (half t) p.0)) (slice_index (half t) p.0))
+    ≡ iterate f (cond b (suc (passing (test p) cases)) (passing (test p) cases)) (slice_index (half t) p.0)) [ true ↦ refl | false ↦ refl ])
 
 -- each count fits the number of cases that are still to come
 pub record Enough (R : ℕ → ℕ → Type 0) (t : CaseCounts) (cases : List Case) : Type 0 where
@@ -100,29 +115,37 @@ enough_less : (R : ℕ → ℕ → Type 0) (f : ℕ → ℕ) (n x : ℕ) (b : Bo
 enough_less R f n x true next r = next r
 enough_less R f n x false next r = r
 
-case_allows : (R : ℕ → ℕ → Type 0) (P : ℕ → Type 0) → ((n x : ℕ) → R (suc n) x → P x) → (t : CaseCounts) (c : Case) (cases : List Case) → Enough R t (c ∷ cases) → CaseAllows P t c
+case_allows : (R : ℕ → ℕ → Type 0) (P : ℕ → Type 0) → ((n x : ℕ) → R (suc n) x → P x) → (t : CaseCounts) (c : Case) (cases : List Case)
+    → Enough R t (c ∷ cases) → CaseAllows P t c
 case_allows R P allows t (Send q v) cases e = λ within. allows (passing (is_send_on q) cases) _ (rw (eq-eqb q.0 q.0 refl) at (e.sends q within))
 case_allows R P allows t (Recv q) cases e = λ within. allows (passing (is_recv_on q) cases) _ (rw (eq-eqb q.0 q.0 refl) at (e.recvs q within))
 
-all_allow : (f : ℕ → ℕ) (P : ℕ → Type 0) (R : ℕ → ℕ → Type 0) → ((n x : ℕ) → R (suc n) x → P x) → ((n x : ℕ) → R (suc n) x → R n (f x)) → (t : CaseCounts) (cases : List Case) → Enough R t cases → AllAllow f P t cases
+all_allow : (f : ℕ → ℕ) (P : ℕ → Type 0) (R : ℕ → ℕ → Type 0) → ((n x : ℕ) → R (suc n) x → P x) → ((n x : ℕ) → R (suc n) x → R n (f x))
+    → (t : CaseCounts) (cases : List Case) → Enough R t cases → AllAllow f P t cases
 all_allow f P R allows next t [] e = tt
 all_allow f P R allows next t (c ∷ cases) e = (
   case_allows R P allows t c cases e,
   all_allow f P R allows next (with_changed f t c) cases (record {
     sends = λ p within.
         let inside : p.0 < length t.sends = rw (sends_long f t c) at within in
-        rw (send_step f t c p inside) (enough_less R f (passing (is_send_on p) cases) (slice_index t.sends p.0) (is_send_on p c) (next _ _) (e.sends p inside));
+        rw (send_step f t c p inside)
+        (enough_less R f (passing (is_send_on p) cases) (slice_index t.sends p.0) (is_send_on p c) (next _ _) (e.sends p inside));
     recvs = λ p within.
         let inside : p.0 < length t.recvs = rw (recvs_long f t c) at within in
-        rw (recv_step f t c p inside) (enough_less R f (passing (is_recv_on p) cases) (slice_index t.recvs p.0) (is_recv_on p c) (next _ _) (e.recvs p inside));
+        rw (recv_step f t c p inside)
+        (enough_less R f (passing (is_recv_on p) cases) (slice_index t.recvs p.0) (is_recv_on p c) (next _ _) (e.recvs p inside));
   }),
 )
 
 passing-le : (test : Case → Bool) (cases : List Case) → passing test cases ≤ length cases
 passing-le test [] = omega arith
-passing-le test (c ∷ cases) = elim (test c) as (λ b. cond b (suc (passing test cases)) (passing test cases) ≤ suc (length cases)) [ true ↦ omega (arith, passing-le test cases) | false ↦ omega (arith, passing-le test cases) ]
+passing-le test (c ∷ cases) = elim (test c) as (λ b. cond b (suc (passing test cases)) (passing test cases) ≤ suc (length cases)) [
+  | true ↦ omega (arith, passing-le test cases)
+  | false ↦ omega (arith, passing-le test cases)
+]
 
-all_passing-le : (test : Case → Bool) (ws : List Ticketed) → AllByRecursion (λ w. length w.call.cases ≤ most_held) ws → all_passing test ws ≤ most_held * length ws
+all_passing-le : (test : Case → Bool) (ws : List Ticketed) → AllByRecursion (λ w. length w.call.cases ≤ most_held) ws
+    → all_passing test ws ≤ most_held * length ws
 all_passing-le test [] a = omega arith
 all_passing-le test (w ∷ ws) a =
     let here : length w.call.cases ≤ most_held = a.0 in
@@ -135,18 +158,22 @@ abbrev Covering : ℕ → ℕ → Type 0
 Covering n x = n ≤ x
 
 -- the calls of 255 processes fit
-pub can_raise : (t : CaseCounts) (ws : List Ticketed) (cases : List Case) → IsCountOf t ws → AllByRecursion (λ w. length w.call.cases ≤ most_held) ws → length ws < 256 → length cases ≤ most_held → CanRaise t cases
+pub can_raise : (t : CaseCounts) (ws : List Ticketed) (cases : List Case) → IsCountOf t ws
+    → AllByRecursion (λ w. length w.call.cases ≤ most_held) ws → length ws < 256 → length cases ≤ most_held → CanRaise t cases
 can_raise t ws cases k few most small =
     all_allow one_more CanGrow Fitting (λ n x r. omega arith) (λ n x r. omega arith) t cases (record {
-      sends = λ p within. rw (k.sends p (omega (arith, k.sends_length))) (omega (arith, all_passing-le (is_send_on p) ws few, passing-le (is_send_on p) cases));
-      recvs = λ p within. rw (k.recvs p (omega (arith, k.recvs_length))) (omega (arith, all_passing-le (is_recv_on p) ws few, passing-le (is_recv_on p) cases));
+      sends = λ p within. rw (k.sends p (omega (arith, k.sends_length)))
+          (omega (arith, all_passing-le (is_send_on p) ws few, passing-le (is_send_on p) cases));
+      recvs = λ p within. rw (k.recvs p (omega (arith, k.recvs_length)))
+          (omega (arith, all_passing-le (is_recv_on p) ws few, passing-le (is_recv_on p) cases));
     })
 
 all_passing-snoc : (test : Case → Bool) (ws : List Ticketed) (w : Ticketed) → all_passing test (ws ++ w ∷ []) ≡ all_passing test ws + passing test w.call.cases
 all_passing-snoc test [] w = omega arith
 all_passing-snoc test (v ∷ ws) w = omega (arith, all_passing-snoc test ws w)
 
-raised_counts : (half : CaseCounts → List ℕ) (test : Port → Case → Bool) (t : CaseCounts) (ws : List Ticketed) (w : Ticketed) → IsHalf one_more half test → length (half t) ≡ MOST_PORTS + 1 → CountsCases test (half t) ws → CountsCases test (half (with_raised t w.call.cases)) (ws ++ w ∷ [])
+raised_counts : (half : CaseCounts → List ℕ) (test : Port → Case → Bool) (t : CaseCounts) (ws : List Ticketed) (w : Ticketed) → IsHalf one_more half test
+    → length (half t) ≡ MOST_PORTS + 1 → CountsCases test (half t) ws → CountsCases test (half (with_raised t w.call.cases)) (ws ++ w ∷ [])
 raised_counts half test t ws w h long k = λ p within.
     let inside : p.0 < length (half t) = omega (arith, long) in
     all_changed_at one_more half test h t w.call.cases p inside
@@ -173,27 +200,37 @@ others_all pid (o ∷ os) q e a =
     rw other (ap (λ rest. o ∷ rest) (others_all pid os q e a.1))
 
 -- without the call of a process there are as many fewer as it has
-ended_step : (test : Case → Bool) (places : List (ArrayVec Case)) (pid : Pid) (o : Opened) (os : List Opened) (b : Bool) → (o.pid.0 == pid.0) ≡ b → AllByRecursion (λ y. (o.pid.0 == y) ≡ false) (pids os) → (list_any (λ o. o.pid.0 == pid.0) os ≡ true → all_passing test (calls_of places (others pid os)) + passing test (cases_of places pid) ≡ all_passing test (calls_of places os))
+ended_step : (test : Case → Bool) (places : List (ArrayVec Case)) (pid : Pid) (o : Opened) (os : List Opened) (b : Bool)
+    → (o.pid.0 == pid.0) ≡ b → AllByRecursion (λ y. (o.pid.0 == y) ≡ false) (pids os) → (list_any (λ o. o.pid.0 == pid.0) os ≡ true
+    → all_passing test (calls_of places (others pid os)) + passing test (cases_of places pid) ≡ all_passing test (calls_of places os))
     → (b || list_any (λ o. o.pid.0 == pid.0) os) ≡ true
-    → all_passing test (calls_of places (cond (not b) (o ∷ others pid os) (others pid os))) + passing test (cases_of places pid) ≡ all_passing test (calls_of places (o ∷ os))
+    → all_passing test (calls_of places (cond (not b) (o ∷ others pid os) (others pid os))) + passing test (cases_of places pid)
+    ≡ all_passing test (calls_of places (o ∷ os))
 ended_step test places pid o os true e apart ih any =
     let same : o.pid.0 ≡ pid.0 = eqb-true o.pid.0 pid.0 e in
-    let here : passing test (cases_of places o.pid) ≡ passing test (cases_of places pid) = ap (λ (n : ℕ). passing test (get_or places n (record { items = [] })).items) same in
+    let here : passing test (cases_of places o.pid) ≡ passing test (cases_of places pid) =
+    ap (λ (n : ℕ). passing test (get_or places n (record { items = [] })).items) same in
     rw (others_all pid os o.pid.0 same apart) (omega (arith, here))
 ended_step test places pid o os false e apart ih any = omega (arith, ih any)
 
-all_passing-ended : (test : Case → Bool) (places : List (ArrayVec Case)) (pid : Pid) (os : List Opened) → AreApart (pids os) → list_any (λ o. o.pid.0 == pid.0) os ≡ true → all_passing test (calls_of places (others pid os)) + passing test (cases_of places pid) ≡ all_passing test (calls_of places os)
+all_passing-ended : (test : Case → Bool) (places : List (ArrayVec Case)) (pid : Pid) (os : List Opened)
+    → AreApart (pids os) → list_any (λ o. o.pid.0 == pid.0) os ≡ true
+    → all_passing test (calls_of places (others pid os)) + passing test (cases_of places pid) ≡ all_passing test (calls_of places os)
 all_passing-ended test places pid [] apart any = cc
-all_passing-ended test places pid (o ∷ os) apart any = ended_step test places pid o os (o.pid.0 == pid.0) refl apart.0 (all_passing-ended test places pid os apart.1) any
+all_passing-ended test places pid (o ∷ os) apart any =
+    ended_step test places pid o os (o.pid.0 == pid.0) refl apart.0 (all_passing-ended test places pid os apart.1) any
 
-pub can_lower : (t : CaseCounts) (places : List (ArrayVec Case)) (pid : Pid) (os : List Opened) → IsCountOf t (calls_of places os) → AreApart (pids os) → list_any (λ o. o.pid.0 == pid.0) os ≡ true → CanLower t (cases_of places pid)
+pub can_lower : (t : CaseCounts) (places : List (ArrayVec Case)) (pid : Pid) (os : List Opened) → IsCountOf t (calls_of places os)
+    → AreApart (pids os) → list_any (λ o. o.pid.0 == pid.0) os ≡ true → CanLower t (cases_of places pid)
 can_lower t places pid os k apart any =
     all_allow one_less (λ n. 0 < n) Covering (λ n x r. omega arith) (λ n x r. omega arith) t (cases_of places pid) (record {
       sends = λ p within. rw (k.sends p (omega (arith, k.sends_length))) (omega (arith, all_passing-ended (is_send_on p) places pid os apart any));
       recvs = λ p within. rw (k.recvs p (omega (arith, k.recvs_length))) (omega (arith, all_passing-ended (is_recv_on p) places pid os apart any));
     })
 
-lowered_counts : (half : CaseCounts → List ℕ) (test : Port → Case → Bool) (t : CaseCounts) (places : List (ArrayVec Case)) (pid : Pid) (os : List Opened) → IsHalf one_less half test → length (half t) ≡ MOST_PORTS + 1 → AreApart (pids os) → list_any (λ o. o.pid.0 == pid.0) os ≡ true → CountsCases test (half t) (calls_of places os) → CountsCases test (half (with_lowered t (cases_of places pid))) (calls_of places (others pid os))
+lowered_counts : (half : CaseCounts → List ℕ) (test : Port → Case → Bool) (t : CaseCounts) (places : List (ArrayVec Case)) (pid : Pid) (os : List Opened)
+    → IsHalf one_less half test → length (half t) ≡ MOST_PORTS + 1 → AreApart (pids os) → list_any (λ o. o.pid.0 == pid.0) os ≡ true
+    → CountsCases test (half t) (calls_of places os) → CountsCases test (half (with_lowered t (cases_of places pid))) (calls_of places (others pid os))
 lowered_counts half test t places pid os h long apart any k = λ p within.
     let inside : p.0 < length (half t) = omega (arith, long) in
     all_changed_at one_less half test h t (cases_of places pid) p inside
@@ -201,7 +238,9 @@ lowered_counts half test t places pid os h long apart any k = λ p within.
     ∙ ap (λ n. n - passing (test p) (cases_of places pid)) (k p within)
     ∙ omega (arith, all_passing-ended (test p) places pid os apart any)
 
-pub counts_ended : (t : CaseCounts) (places : List (ArrayVec Case)) (pid : Pid) (os : List Opened) → AreApart (pids os) → list_any (λ o. o.pid.0 == pid.0) os ≡ true → IsCountOf t (calls_of places os) → IsCountOf (with_lowered t (cases_of places pid)) (calls_of places (others pid os))
+pub counts_ended : (t : CaseCounts) (places : List (ArrayVec Case)) (pid : Pid) (os : List Opened)
+    → AreApart (pids os) → list_any (λ o. o.pid.0 == pid.0) os ≡ true → IsCountOf t (calls_of places os)
+    → IsCountOf (with_lowered t (cases_of places pid)) (calls_of places (others pid os))
 counts_ended t places pid os apart any k = record {
   sends = lowered_counts sends_of is_send_on t places pid os (sends_half one_less) k.sends_length apart any k.sends;
   recvs = lowered_counts recvs_of is_recv_on t places pid os (recvs_half one_less) k.recvs_length apart any k.recvs;
@@ -214,7 +253,11 @@ suc_is_some n = rw (ne_eqb (suc n) 0 (λ e. omega arith)) refl
 
 some_lowest : (test : Case → Bool) (i : ℕ) (cases : List Case) → is_some (lowest_from i test cases) ≡ not (passing test cases == 0)
 some_lowest test i [] = refl
-some_lowest test i (c ∷ cases) = elim (test c) as (λ b. is_some (cond b (Some (record { index = i; case = c })) (lowest_from (i + 1) test cases)) ≡ not (cond b (suc (passing test cases)) (passing test cases) == 0)) [ true ↦ sym (suc_is_some (passing test cases)) | false ↦ some_lowest test (i + 1) cases ]
+some_lowest test i (c ∷ cases) = elim (test c) as (λ b. is_some (cond b (Some (record { index = i; case = c })) (lowest_from (i + 1) test cases))
+    ≡ not (cond b (suc (passing test cases)) (passing test cases) == 0)) [
+      | true ↦ sym (suc_is_some (passing test cases))
+      | false ↦ some_lowest test (i + 1) cases
+    ]
 
 some_of_two : (m n : ℕ) → (not (m == 0) || not (n == 0)) ≡ not ((m + n) == 0)
 some_of_two m n = grind (arith, nat_tests)
@@ -234,18 +277,29 @@ some_waits test (w ∷ ws) =
 
 passing-on : (p : Port) (cases : List Case) → passing (is_on p) cases ≡ passing (is_send_on p) cases + passing (is_recv_on p) cases
 passing-on p [] = omega arith
-passing-on p (Send q v ∷ cases) = elim (q.0 == p.0) as (λ b. cond (b || false) (suc (passing (is_on p) cases)) (passing (is_on p) cases) ≡ cond b (suc (passing (is_send_on p) cases)) (passing (is_send_on p) cases) + passing (is_recv_on p) cases) [ true ↦ omega (arith, passing-on p cases) | false ↦ passing-on p cases ]
-passing-on p (Recv q ∷ cases) = elim (q.0 == p.0) as (λ b. cond (false || b) (suc (passing (is_on p) cases)) (passing (is_on p) cases) ≡ passing (is_send_on p) cases + cond b (suc (passing (is_recv_on p) cases)) (passing (is_recv_on p) cases)) [ true ↦ omega (arith, passing-on p cases) | false ↦ passing-on p cases ]
+passing-on p (Send q v ∷ cases) = elim (q.0 == p.0) as (λ b. cond (b || false) (suc (passing (is_on p) cases)) (passing (is_on p) cases)
+    ≡ cond b (suc (passing (is_send_on p) cases)) (passing (is_send_on p) cases) + passing (is_recv_on p) cases) [
+      | true ↦ omega (arith, passing-on p cases)
+      | false ↦ passing-on p cases
+    ]
+passing-on p (Recv q ∷ cases) = elim (q.0 == p.0) as (λ b. cond (false || b) (suc (passing (is_on p) cases)) (passing (is_on p) cases)
+    ≡ passing (is_send_on p) cases + cond b (suc (passing (is_recv_on p) cases)) (passing (is_recv_on p) cases)) [
+      | true ↦ omega (arith, passing-on p cases)
+      | false ↦ passing-on p cases
+    ]
 
 all_passing-on : (p : Port) (ws : List Ticketed) → all_passing (is_on p) ws ≡ all_passing (is_send_on p) ws + all_passing (is_recv_on p) ws
 all_passing-on p [] = omega arith
 all_passing-on p (w ∷ ws) = omega (arith, passing-on p w.call.cases, all_passing-on p ws)
 
 -- on either side
-pub some_waits_on : (p : Port) (ws : List Ticketed) → (not (all_passing (is_send_on p) ws == 0) || not (all_passing (is_recv_on p) ws == 0)) ≡ is_some (first_with (is_on p) (open_calls ws))
-some_waits_on p ws = some_of_two (all_passing (is_send_on p) ws) (all_passing (is_recv_on p) ws) ∙ ap (λ n. not (n == 0)) (sym (all_passing-on p ws)) ∙ some_waits (is_on p) ws
+pub some_waits_on : (p : Port) (ws : List Ticketed)
+    → (not (all_passing (is_send_on p) ws == 0) || not (all_passing (is_recv_on p) ws == 0)) ≡ is_some (first_with (is_on p) (open_calls ws))
+some_waits_on p ws = some_of_two (all_passing (is_send_on p) ws) (all_passing (is_recv_on p) ws)
+    ∙ ap (λ n. not (n == 0)) (sym (all_passing-on p ws)) ∙ some_waits (is_on p) ws
 
-pub counts_tell : (s : Side) (p : Port) (t : CaseCounts) (ws : List Ticketed) → IsCountOf t ws → p.0 ≤ MOST_PORTS → has_case t p s ≡ is_some (first_with (passes p s) (open_calls ws))
+pub counts_tell : (s : Side) (p : Port) (t : CaseCounts) (ws : List Ticketed) → IsCountOf t ws → p.0 ≤ MOST_PORTS
+    → has_case t p s ≡ is_some (first_with (passes p s) (open_calls ws))
 counts_tell side.Send p t ws k within = rw (k.sends p within) (some_waits (is_send_on p) ws)
 counts_tell side.Recv p t ws k within = rw (k.recvs p within) (some_waits (is_recv_on p) ws)
 counts_tell side.Any p t ws k within = rw (k.sends p within, k.recvs p within) (some_waits_on p ws)

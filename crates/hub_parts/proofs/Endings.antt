@@ -1,5 +1,6 @@
 -- A call that ends leaves every queue.
-use Rattle.std.proofs.Common.{◌≡◌, ℕ, ◌+◌, ◌<◌, ◌≤◌, ◌==◌, ◌||◌, Bool, true, false, not, cond, List, [], ◌∷◌, ◌++◌, length, filter, find, refl, ap, ◌∙◌, sym, arith, Some, None, subst, eq-eqb, suc}
+use Rattle.std.proofs.Common.{◌≡◌, ℕ, ◌+◌, ◌<◌, ◌≤◌, ◌==◌, ◌||◌, Bool, true, false, not, cond, List, [], ◌∷◌, ◌++◌}
+use Rattle.std.proofs.Common.{length, filter, find, refl, ap, ◌∙◌, sym, arith, Some, None, subst, eq-eqb, suc}
 use Rattle.std.specs.List.{AllByRecursion}
 use Rattle.std.proofs.lemmas.Bool.{ne_eqb, true≢false, false_from_ne_true}
 use Rattle.std.proofs.lemmas.List.Elements.{filter-append}
@@ -13,7 +14,8 @@ use Rattle.hub_parts.specs.Lists.{still_open}
 use Rattle.hub_parts.specs.Keeps.{QueueKeeps, Ascending, without_call}
 use Rattle.hub_parts.proofs.Lists.{all_filter}
 
-within_step : {X : Type 0} (p q : X → Bool) (x : X) (xs : List X) (a b : Bool) → p x ≡ a → q x ≡ b → (p x ≡ true → q x ≡ true) → filter p (filter q xs) ≡ filter p xs → filter p (filter q (x ∷ xs)) ≡ filter p (x ∷ xs)
+within_step : {X : Type 0} (p q : X → Bool) (x : X) (xs : List X) (a b : Bool) → p x ≡ a → q x ≡ b → (p x ≡ true → q x ≡ true)
+    → filter p (filter q xs) ≡ filter p xs → filter p (filter q (x ∷ xs)) ≡ filter p (x ∷ xs)
 within_step p q x xs true true e f h ih = rw (f, e) (ap (λ ys. x ∷ ys) ih)
 within_step p q x xs true false e f h ih = absurd (true≢false (sym (h e) ∙ f))
 within_step p q x xs false true e f h ih = rw (f, e) ih
@@ -28,23 +30,28 @@ nil_cond : (b : Bool) → ◌≡◌ {A = List Waiter} [] (cond b [] [])
 nil_cond true = refl
 nil_cond false = refl
 
-entry_step : (p : ℕ → Bool) (a b : Bool) (e : Waiter) (es : List Waiter) → p e.ticket ≡ b → filter (λ e. p e.ticket) es ≡ cond (p e.ticket) es [] → filter (λ e. p e.ticket) (cond a (e ∷ es) es) ≡ cond (p e.ticket) (cond a (e ∷ es) es) []
+entry_step : (p : ℕ → Bool) (a b : Bool) (e : Waiter) (es : List Waiter) → p e.ticket ≡ b → filter (λ e. p e.ticket) es ≡ cond (p e.ticket) es []
+    → filter (λ e. p e.ticket) (cond a (e ∷ es) es) ≡ cond (p e.ticket) (cond a (e ∷ es) es) []
 entry_step p true true e es f ih = rw f (ap (λ ys. e ∷ ys) (ih ∙ rw f refl))
 entry_step p true false e es f ih = rw f (ih ∙ rw f refl)
 entry_step p false b e es f ih = ih
 
 -- all the entries of a call have its ticket
-filter-waiters_from : (p : ℕ → Bool) (test : Case → Bool) (pid : Pid) (ticket i : ℕ) (cases : List Case) → filter (λ e. p e.ticket) (waiters_from test pid ticket i cases) ≡ cond (p ticket) (waiters_from test pid ticket i cases) []
+filter-waiters_from : (p : ℕ → Bool) (test : Case → Bool) (pid : Pid) (ticket i : ℕ) (cases : List Case)
+    → filter (λ e. p e.ticket) (waiters_from test pid ticket i cases) ≡ cond (p ticket) (waiters_from test pid ticket i cases) []
 filter-waiters_from p test pid ticket i [] = nil_cond (p ticket)
 filter-waiters_from p test pid ticket i (c ∷ cases) =
-    entry_step p (test c) (p ticket) (waiter_at pid ticket i) (waiters_from test pid ticket (i + 1) cases) refl (filter-waiters_from p test pid ticket (i + 1) cases)
+    entry_step p (test c) (p ticket) (waiter_at pid ticket i) (waiters_from test pid ticket (i + 1) cases) refl
+    (filter-waiters_from p test pid ticket (i + 1) cases)
 
-pub filter-waiters : (p : ℕ → Bool) (test : Case → Bool) (ws : List Ticketed) → filter (λ e. p e.ticket) (waiters test ws) ≡ waiters test (filter (λ w. p w.ticket) ws)
+pub filter-waiters : (p : ℕ → Bool) (test : Case → Bool) (ws : List Ticketed)
+    → filter (λ e. p e.ticket) (waiters test ws) ≡ waiters test (filter (λ w. p w.ticket) ws)
 filter-waiters p test [] = refl
 filter-waiters p test (w ∷ ws) =
     filter-append (λ e. p e.ticket) (waiters_of test w) (waiters test ws)
     ∙ rw (filter-waiters_from p test w.call.pid w.ticket 0 w.call.cases, filter-waiters p test ws)
-    (elim (p w.ticket) as (λ b. cond b (waiters_of test w) [] ++ waiters test (filter (λ w. p w.ticket) ws) ≡ waiters test (cond b (w ∷ filter (λ w. p w.ticket) ws) (filter (λ w. p w.ticket) ws))) [ true ↦ refl | false ↦ refl ])
+    (elim (p w.ticket) as (λ b. cond b (waiters_of test w) [] ++ waiters test (filter (λ w. p w.ticket) ws)
+    ≡ waiters test (cond b (w ∷ filter (λ w. p w.ticket) ws) (filter (λ w. p w.ticket) ws))) [ true ↦ refl | false ↦ refl ])
 
 -- a ticket below all others is no ticket of theirs
 pub dead_below : (t : ℕ) (ws : List Ticketed) → AllByRecursion (λ v. t < v.ticket) ws → is_live ws t ≡ false
@@ -53,10 +60,14 @@ dead_below t (w ∷ ws) a = rw (ne_eqb w.ticket t (λ e. let less : t < w.ticket
 
 pub ascending_filter : (keep : Ticketed → Bool) (ws : List Ticketed) → Ascending ws → Ascending (filter keep ws)
 ascending_filter keep [] a = tt
-ascending_filter keep (w ∷ ws) a = elim (keep w) as (λ b. Ascending (cond b (w ∷ filter keep ws) (filter keep ws))) [ true ↦ (all_filter (λ v. w.ticket < v.ticket) keep ws a.0, ascending_filter keep ws a.1) | false ↦ ascending_filter keep ws a.1 ]
+ascending_filter keep (w ∷ ws) a = elim (keep w) as (λ b. Ascending (cond b (w ∷ filter keep ws) (filter keep ws))) [
+  | true ↦ (all_filter (λ v. w.ticket < v.ticket) keep ws a.0, ascending_filter keep ws a.1)
+  | false ↦ ascending_filter keep ws a.1
+]
 
 -- the same calls pass
-filter_same_above : (p q : Ticketed → Bool) (t : ℕ) (ws : List Ticketed) → AllByRecursion (λ v. t < v.ticket) ws → ((v : Ticketed) → t < v.ticket → p v ≡ q v) → filter p ws ≡ filter q ws
+filter_same_above : (p q : Ticketed → Bool) (t : ℕ) (ws : List Ticketed) → AllByRecursion (λ v. t < v.ticket) ws
+    → ((v : Ticketed) → t < v.ticket → p v ≡ q v) → filter p ws ≡ filter q ws
 filter_same_above p q t [] a h = refl
 filter_same_above p q t (w ∷ ws) a h = rw (h w a.0, filter_same_above p q t ws a.1 h) refl
 
@@ -71,7 +82,8 @@ live_step keep w ws true e a ih =
     subst (λ ks. filter (λ v. is_live ks v.ticket) (w ∷ ws) ≡ ks) (sym same)
     (rw (eq-eqb w.ticket w.ticket refl)
     (ap (λ ys. w ∷ ys)
-    (filter_same_above (λ v. is_live (w ∷ filter keep ws) v.ticket) (λ v. is_live (filter keep ws) v.ticket) w.ticket ws a (λ v less. later_is_other w.ticket v.ticket _ less)
+    (filter_same_above (λ v. is_live (w ∷ filter keep ws) v.ticket) (λ v. is_live (filter keep ws) v.ticket) w.ticket ws a
+    (λ v less. later_is_other w.ticket v.ticket _ less)
     ∙ ih)))
 live_step keep w ws false e a ih =
     let same : filter keep (w ∷ ws) ≡ filter keep ws = rw e refl in
@@ -92,7 +104,8 @@ both : (a b d : Bool) → (b ≡ true → d ≡ true) → (a || b) ≡ true → 
 both true b d h e = refl
 both false b d h e = h e
 
-still_step : (keep : Ticketed → Bool) (w : Ticketed) (ws : List Ticketed) (t : ℕ) (b : Bool) → keep w ≡ b → (is_live (filter keep ws) t ≡ true → is_live ws t ≡ true) → is_live (filter keep (w ∷ ws)) t ≡ true → is_live (w ∷ ws) t ≡ true
+still_step : (keep : Ticketed → Bool) (w : Ticketed) (ws : List Ticketed) (t : ℕ) (b : Bool) → keep w ≡ b
+    → (is_live (filter keep ws) t ≡ true → is_live ws t ≡ true) → is_live (filter keep (w ∷ ws)) t ≡ true → is_live (w ∷ ws) t ≡ true
 still_step keep w ws t true e ih h = both (w.ticket == t) (is_live (filter keep ws) t) (is_live ws t) ih (rw e at h)
 still_step keep w ws t false e ih h = or_true (w.ticket == t) (is_live ws t) (ih (rw e at h))
 
@@ -101,7 +114,8 @@ still_live keep [] t h = h
 still_live keep (w ∷ ws) t h = still_step keep w ws t (keep w) refl (still_live keep ws t) h
 
 -- the live entries are those of the calls that are left
-left_live : (keep : Ticketed → Bool) (test : Case → Bool) (ws : List Ticketed) (items : List Waiter) → Ascending ws → live_of ws items ≡ waiters test ws → live_of (filter keep ws) items ≡ waiters test (filter keep ws)
+left_live : (keep : Ticketed → Bool) (test : Case → Bool) (ws : List Ticketed) (items : List Waiter) → Ascending ws
+    → live_of ws items ≡ waiters test ws → live_of (filter keep ws) items ≡ waiters test (filter keep ws)
 left_live keep test ws items a live =
     sym (filter_within (lives (filter keep ws)) (lives ws) items (λ e h. still_live keep ws e.ticket h))
     ∙ ap (filter (lives (filter keep ws))) live
@@ -109,7 +123,8 @@ left_live keep test ws items a live =
     ∙ ap (waiters test) (live_calls keep ws a)
 
 -- a call that ends leaves a queue that is as before
-pub ended_keeps : (test : Case → Bool) (c : Calls) (q : Buffer Waiter) (pid : Pid) → Ascending c.waiting → QueueKeeps test c q → QueueKeeps test (without_call pid c) q
+pub ended_keeps : (test : Case → Bool) (c : Calls) (q : Buffer Waiter) (pid : Pid) → Ascending c.waiting → QueueKeeps test c q
+    → QueueKeeps test (without_call pid c) q
 ended_keeps test c q pid a k = record {
   live = left_live (λ w. not (w.call.pid.0 == pid.0)) test c.waiting q.items a k.live;
   below = k.below;
@@ -123,7 +138,10 @@ all_after P test (x ∷ xs) a = elim (test x) as (λ b. AllByRecursion P (cond b
 
 shorter_after : {X : Type 0} (test : X → Bool) (xs : List X) → length (after_first test xs) ≤ length xs
 shorter_after test [] = omega arith
-shorter_after test (x ∷ xs) = elim (test x) as (λ b. length (cond b xs (after_first test xs)) ≤ suc (length xs)) [ true ↦ omega arith | false ↦ omega (arith, shorter_after test xs) ]
+shorter_after test (x ∷ xs) = elim (test x) as (λ b. length (cond b xs (after_first test xs)) ≤ suc (length xs)) [
+  | true ↦ omega arith
+  | false ↦ omega (arith, shorter_after test xs)
+]
 
 some_is : {X : Type 0} (y x : X) → Some y ≡ Some x → y ≡ x
 some_is y x e = cc
@@ -137,11 +155,13 @@ past_step p q x y xs true e h f dead ih =
 past_step p q x y xs false e h f dead ih = rw (e, false_from_ne_true (p y) (λ t. true≢false (sym (h t) ∙ e))) (ih (rw e at f))
 
 -- what stands up to the first that is live now is dead without it
-pub filter-after_first : {X : Type 0} (p q : X → Bool) (x : X) (xs : List X) → ((y : X) → p y ≡ true → q y ≡ true) → find q xs ≡ Some x → p x ≡ false → filter p (after_first q xs) ≡ filter p xs
+pub filter-after_first : {X : Type 0} (p q : X → Bool) (x : X) (xs : List X) → ((y : X) → p y ≡ true → q y ≡ true) → find q xs ≡ Some x
+    → p x ≡ false → filter p (after_first q xs) ≡ filter p xs
 filter-after_first p q x [] h f dead = refl
 filter-after_first p q x (y ∷ xs) h f dead = past_step p q x y xs (q y) refl (h y) f dead (λ g. filter-after_first p q x xs h g dead)
 
-none_step : {X : Type 0} (q : X → Bool) (y : X) (xs : List X) (b : Bool) → q y ≡ b → find q (y ∷ xs) ≡ None → (find q xs ≡ None → (after_first q xs ≡ []) × (filter q xs ≡ [])) → (after_first q (y ∷ xs) ≡ []) × (filter q (y ∷ xs) ≡ [])
+none_step : {X : Type 0} (q : X → Bool) (y : X) (xs : List X) (b : Bool) → q y ≡ b → find q (y ∷ xs) ≡ None
+    → (find q xs ≡ None → (after_first q xs ≡ []) × (filter q xs ≡ [])) → (after_first q (y ∷ xs) ≡ []) × (filter q (y ∷ xs) ≡ [])
 none_step q y xs true e f ih = let impossible : Some y ≡ None = rw e at f in cc
 none_step q y xs false e f ih = rw e (ih (rw e at f))
 
@@ -150,7 +170,8 @@ none_after q [] f = (refl, refl)
 none_after q (y ∷ xs) f = none_step q y xs (q y) refl f (none_after q xs)
 
 -- a queue from which nothing live was taken
-pub none_keeps : (test : Case → Bool) (c : Calls) (q : Buffer Waiter) → find (lives c.waiting) q.items ≡ None → QueueKeeps test c q → QueueKeeps test c (taken c.waiting q)
+pub none_keeps : (test : Case → Bool) (c : Calls) (q : Buffer Waiter) → find (lives c.waiting) q.items ≡ None → QueueKeeps test c q
+    → QueueKeeps test c (taken c.waiting q)
 none_keeps test c q f k = record {
   live = ap (live_of c.waiting) (none_after (lives c.waiting) q.items f).0 ∙ sym (none_after (lives c.waiting) q.items f).1 ∙ k.live;
   below = all_after (λ entry. entry.ticket < c.next_ticket) (lives c.waiting) q.items k.below;
@@ -159,10 +180,13 @@ none_keeps test c q f k = record {
 }
 
 -- a queue from which the first live entry of a call was taken, after that call ended
-pub taken_keeps : (test : Case → Bool) (c : Calls) (q : Buffer Waiter) (pid : Pid) (entry : Waiter) → Ascending c.waiting → find (lives c.waiting) q.items ≡ Some entry → is_live (still_open pid c.waiting) entry.ticket ≡ false → QueueKeeps test c q → QueueKeeps test (without_call pid c) (taken c.waiting q)
+pub taken_keeps : (test : Case → Bool) (c : Calls) (q : Buffer Waiter) (pid : Pid) (entry : Waiter) → Ascending c.waiting
+    → find (lives c.waiting) q.items ≡ Some entry → is_live (still_open pid c.waiting) entry.ticket ≡ false → QueueKeeps test c q
+    → QueueKeeps test (without_call pid c) (taken c.waiting q)
 taken_keeps test c q pid entry a f dead k = record {
   live =
-      filter-after_first (lives (still_open pid c.waiting)) (lives c.waiting) entry q.items (λ e h. still_live (λ w. not (w.call.pid.0 == pid.0)) c.waiting e.ticket h) f dead
+      filter-after_first (lives (still_open pid c.waiting)) (lives c.waiting) entry q.items
+      (λ e h. still_live (λ w. not (w.call.pid.0 == pid.0)) c.waiting e.ticket h) f dead
       ∙ left_live (λ w. not (w.call.pid.0 == pid.0)) test c.waiting q.items a k.live;
   below = all_after (λ entry. entry.ticket < c.next_ticket) (lives c.waiting) q.items k.below;
   places = k.places;

@@ -1,5 +1,6 @@
 -- A change of the queues of a call's cases, seen at one queue.
-use Rattle.std.proofs.Common.{◌≡◌, ◌≢◌, ℕ, ◌+◌, ◌-◌, ◌<◌, ◌≤◌, ◌==◌, Bool, true, false, cond, List, [], ◌∷◌, length, map, get_or, set, refl, ap, ◌∙◌, sym, arith, eq-eqb, zero, suc, inl, inr}
+use Rattle.std.proofs.Common.{◌≡◌, ◌≢◌, ℕ, ◌+◌, ◌-◌, ◌<◌, ◌≤◌, ◌==◌, Bool, true, false, cond, List, [], ◌∷◌}
+use Rattle.std.proofs.Common.{length, map, get_or, set, refl, ap, ◌∙◌, sym, arith, eq-eqb, zero, suc, inl, inr}
 use Rattle.std.proofs.lemmas.Bool.{cases_eq, ne_eqb, eqb-true, eqb-false}
 use Rattle.std.proofs.lemmas.List.{length-set, get_or-set_same, get_or-set_other, map-set, set-get_or}
 use Rattle.circular_buffer.specs.Buffer.{Buffer}
@@ -21,7 +22,10 @@ abbrev pub lists_of : ChannelLists → PortLists
 lists_of c = c.lists
 
 pub length-with_line : (f : Change) (s : Side) (p : Port) (cs : List ChannelLists) → length (with_line f s p cs) ≡ length cs
-length-with_line f s p cs = elim (p.0 == 0) as (λ b. length (cond b cs (set cs (p.0 - 1) (with_queue f s (channel_of cs p)))) ≡ length cs) [ true ↦ refl | false ↦ length-set cs _ _ ]
+length-with_line f s p cs = elim (p.0 == 0) as (λ b. length (cond b cs (set cs (p.0 - 1) (with_queue f s (channel_of cs p)))) ≡ length cs) [
+  | true ↦ refl
+  | false ↦ length-set cs _ _
+]
 
 pub length-with_case : (f : Change) (cs : List ChannelLists) (c : Case) → length (with_case f cs c) ≡ length cs
 length-with_case f cs (Send p v) = length-with_line f side.Send p cs
@@ -61,14 +65,16 @@ lists-with_cases f i cs (c ∷ cases) = lists-with_cases f (i + 1) (with_case (f
 other : (q p : ℕ) → (q == p) ≡ false → (q ≡ 0 → ⊥) → 0 < p → p - 1 ≢ q - 1
 other q p e n positive = λ same. let ne = eqb-false q p e in ne (omega arith)
 
-pub channel_other : (f : Change) (s : Side) (q p : Port) (cs : List ChannelLists) → (q.0 == p.0) ≡ false → 0 < p.0 → channel_of (with_line f s q cs) p ≡ channel_of cs p
+pub channel_other : (f : Change) (s : Side) (q p : Port) (cs : List ChannelLists) → (q.0 == p.0) ≡ false → 0 < p.0
+    → channel_of (with_line f s q cs) p ≡ channel_of cs p
 channel_other f s q p cs e positive =
     elim (cases_eq q.0 0) [
       | inl z ↦ rw (eq-eqb q.0 0 z) refl
       | inr n ↦ rw (ne_eqb q.0 0 n) (get_or-set_other cs (q.0 - 1) (p.0 - 1) _ no_channel (other q.0 p.0 e n positive))
     ]
 
-pub channel_same : (f : Change) (s : Side) (q p : Port) (cs : List ChannelLists) → (q.0 == p.0) ≡ true → 0 < p.0 → p.0 ≤ length cs → channel_of (with_line f s q cs) p ≡ with_queue f s (channel_of cs p)
+pub channel_same : (f : Change) (s : Side) (q p : Port) (cs : List ChannelLists) → (q.0 == p.0) ≡ true → 0 < p.0 → p.0 ≤ length cs
+    → channel_of (with_line f s q cs) p ≡ with_queue f s (channel_of cs p)
 channel_same f s q p cs e positive within =
     let same : q.0 ≡ p.0 = eqb-true q.0 p.0 e in
     rw (same, ne_eqb p.0 0 (λ z. omega arith)) (get_or-set_same cs (p.0 - 1) (with_queue f s (channel_of cs p)) no_channel (omega arith))
@@ -77,24 +83,29 @@ abbrev pub with_if : Bool → Change → Buffer Waiter → Buffer Waiter
 with_if true f q = f q
 with_if false f q = q
 
-senders_line : (f : Change) (b : Bool) (q p : Port) (cs : List ChannelLists) → (q.0 == p.0) ≡ b → 0 < p.0 → p.0 ≤ length cs → (channel_of (with_line f side.Send q cs) p).senders ≡ with_if b f (channel_of cs p).senders
+senders_line : (f : Change) (b : Bool) (q p : Port) (cs : List ChannelLists) → (q.0 == p.0) ≡ b → 0 < p.0 → p.0 ≤ length cs
+    → (channel_of (with_line f side.Send q cs) p).senders ≡ with_if b f (channel_of cs p).senders
 senders_line f true q p cs e positive within = rw (channel_same f side.Send q p cs e positive within) refl
 senders_line f false q p cs e positive within = rw (channel_other f side.Send q p cs e positive) refl
 
-receivers_line : (f : Change) (b : Bool) (q p : Port) (cs : List ChannelLists) → (q.0 == p.0) ≡ b → 0 < p.0 → p.0 ≤ length cs → (channel_of (with_line f side.Recv q cs) p).receivers ≡ with_if b f (channel_of cs p).receivers
+receivers_line : (f : Change) (b : Bool) (q p : Port) (cs : List ChannelLists) → (q.0 == p.0) ≡ b → 0 < p.0 → p.0 ≤ length cs
+    → (channel_of (with_line f side.Recv q cs) p).receivers ≡ with_if b f (channel_of cs p).receivers
 receivers_line f true q p cs e positive within = rw (channel_same f side.Recv q p cs e positive within) refl
 receivers_line f false q p cs e positive within = rw (channel_other f side.Recv q p cs e positive) refl
 
-senders_stay : (f : Change) (b : Bool) (q p : Port) (cs : List ChannelLists) → (q.0 == p.0) ≡ b → 0 < p.0 → p.0 ≤ length cs → (channel_of (with_line f side.Recv q cs) p).senders ≡ (channel_of cs p).senders
+senders_stay : (f : Change) (b : Bool) (q p : Port) (cs : List ChannelLists) → (q.0 == p.0) ≡ b → 0 < p.0 → p.0 ≤ length cs
+    → (channel_of (with_line f side.Recv q cs) p).senders ≡ (channel_of cs p).senders
 senders_stay f true q p cs e positive within = rw (channel_same f side.Recv q p cs e positive within) refl
 senders_stay f false q p cs e positive within = rw (channel_other f side.Recv q p cs e positive) refl
 
-receivers_stay : (f : Change) (b : Bool) (q p : Port) (cs : List ChannelLists) → (q.0 == p.0) ≡ b → 0 < p.0 → p.0 ≤ length cs → (channel_of (with_line f side.Send q cs) p).receivers ≡ (channel_of cs p).receivers
+receivers_stay : (f : Change) (b : Bool) (q p : Port) (cs : List ChannelLists) → (q.0 == p.0) ≡ b → 0 < p.0 → p.0 ≤ length cs
+    → (channel_of (with_line f side.Send q cs) p).receivers ≡ (channel_of cs p).receivers
 receivers_stay f true q p cs e positive within = rw (channel_same f side.Send q p cs e positive within) refl
 receivers_stay f false q p cs e positive within = rw (channel_other f side.Send q p cs e positive) refl
 
 -- a change at a case, seen at the queue of one side of a port
-pub queue_with_case : (f : Change) (cs : List ChannelLists) (c : Case) (s : Side) (p : Port) → 0 < p.0 → p.0 ≤ length cs → queue_of s (channel_of (with_case f cs c) p) ≡ with_if (joins s p c) f (queue_of s (channel_of cs p))
+pub queue_with_case : (f : Change) (cs : List ChannelLists) (c : Case) (s : Side) (p : Port) → 0 < p.0 → p.0 ≤ length cs
+    → queue_of s (channel_of (with_case f cs c) p) ≡ with_if (joins s p c) f (queue_of s (channel_of cs p))
 queue_with_case f cs (Send q v) side.Send p positive within = senders_line f (q.0 == p.0) q p cs refl positive within
 queue_with_case f cs (Recv q) side.Send p positive within = senders_stay f (q.0 == p.0) q p cs refl positive within
 queue_with_case f cs (Send q v) side.Recv p positive within = receivers_stay f (q.0 == p.0) q p cs refl positive within
@@ -107,7 +118,8 @@ abbrev pub queue_after : (ℕ → Change) → (Case → Bool) → ℕ → Buffer
 queue_after f test i q [] = q
 queue_after f test i q (c ∷ cases) = queue_after f test (i + 1) (with_if (test c) (f i) q) cases
 
-pub queue_with_cases : (f : ℕ → Change) (i : ℕ) (cs : List ChannelLists) (cases : List Case) (s : Side) (p : Port) → 0 < p.0 → p.0 ≤ length cs → queue_of s (channel_of (with_cases f i cs cases) p) ≡ queue_after f (joins s p) i (queue_of s (channel_of cs p)) cases
+pub queue_with_cases : (f : ℕ → Change) (i : ℕ) (cs : List ChannelLists) (cases : List Case) (s : Side) (p : Port) → 0 < p.0 → p.0 ≤ length cs
+    → queue_of s (channel_of (with_cases f i cs cases) p) ≡ queue_after f (joins s p) i (queue_of s (channel_of cs p)) cases
 queue_with_cases f i cs [] s p positive within = refl
 queue_with_cases f i cs (c ∷ cases) s p positive within =
     queue_with_cases f (i + 1) (with_case (f i) cs c) cases s p positive (rw (length-with_case (f i) cs c) within)

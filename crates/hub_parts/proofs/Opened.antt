@@ -1,5 +1,6 @@
 -- The calls in their list and in their places, as contracts see them.
-use Rattle.std.proofs.Common.{◌≡◌, ◌≢◌, ℕ, ◌++◌, Bool, List, [], ◌∷◌, refl, Option, Some, None, arith, length, get_or, set, ◌<◌, not, ◌==◌, ◌||◌, filter, slice_get, true, false, inl, inr, eq-eqb, replicate, find, cond, ap, sym, ◌∙◌}
+use Rattle.std.proofs.Common.{◌≡◌, ◌≢◌, ℕ, ◌++◌, Bool, List, [], ◌∷◌, refl, Option, Some, None, arith, length, get_or, set, ◌<◌, not}
+use Rattle.std.proofs.Common.{◌==◌, ◌||◌, filter, slice_get, true, false, inl, inr, eq-eqb, replicate, find, cond, ap, sym, ◌∙◌}
 use Rattle.std.specs.List.{AllByRecursion, list_any}
 use Rattle.std.specs.Option.{option_map}
 use Rattle.std.proofs.lemmas.Bool.{eqb-false, ne_eqb, cases_eq}
@@ -23,7 +24,8 @@ pub live_calls : (places : Places) (os : List Opened) (ticket : ℕ) → is_live
 live_calls places [] ticket = refl
 live_calls places (o ∷ os) ticket = ap (λ b. (o.ticket == ticket) || b) (live_calls places os ticket)
 
-pub open_calls_of : (places : Places) (os : List Opened) (pid : Pid) → list_any (λ w. w.call.pid.0 == pid.0) (calls_of places os) ≡ list_any (λ o. o.pid.0 == pid.0) os
+pub open_calls_of : (places : Places) (os : List Opened) (pid : Pid)
+    → list_any (λ w. w.call.pid.0 == pid.0) (calls_of places os) ≡ list_any (λ o. o.pid.0 == pid.0) os
 open_calls_of places [] pid = refl
 open_calls_of places (o ∷ os) pid = ap (λ b. (o.pid.0 == pid.0) || b) (open_calls_of places os pid)
 
@@ -32,21 +34,28 @@ abbrev pub case_in : Places → ℕ → Option Pid → Option Case
 case_in places index None = None
 case_in places index (Some pid) = slice_get (cases_of places pid) index
 
-pub case_told : (places : Places) (os : List Opened) (ticket index : ℕ) → case_at (calls_of places os) ticket index ≡ case_in places index (option_map (λ o. o.pid) (find (λ o. o.ticket == ticket) os))
+pub case_told : (places : Places) (os : List Opened) (ticket index : ℕ)
+    → case_at (calls_of places os) ticket index ≡ case_in places index (option_map (λ o. o.pid) (find (λ o. o.ticket == ticket) os))
 case_told places [] ticket index = refl
 case_told places (o ∷ os) ticket index =
-    elim (o.ticket == ticket) as (λ b. cond b (slice_get (cases_of places o.pid) index) (case_at (calls_of places os) ticket index) ≡ case_in places index (option_map (λ o. o.pid) (cond b (Some o) (find (λ o. o.ticket == ticket) os))))
+    elim (o.ticket == ticket) as (λ b. cond b (slice_get (cases_of places o.pid) index) (case_at (calls_of places os) ticket index)
+    ≡ case_in places index (option_map (λ o. o.pid) (cond b (Some o) (find (λ o. o.ticket == ticket) os))))
     [ true ↦ refl | false ↦ case_told places os ticket index ]
 
 abbrev pub IsBelow : ℕ → Option Pid → Type 0
 IsBelow n None = Unit {0}
 IsBelow n (Some pid) = pid.0 < n
 
-pub found_below : (os : List Opened) (n : ℕ) (test : Opened → Bool) → AllByRecursion (λ q. q < n) (pids os) → IsBelow n (option_map (λ o. o.pid) (find test os))
+pub found_below : (os : List Opened) (n : ℕ) (test : Opened → Bool) → AllByRecursion (λ q. q < n) (pids os)
+    → IsBelow n (option_map (λ o. o.pid) (find test os))
 found_below [] n test a = tt
-found_below (o ∷ os) n test a = elim (test o) as (λ b. IsBelow n (option_map (λ o. o.pid) (cond b (Some o) (find test os)))) [ true ↦ a.0 | false ↦ found_below os n test a.1 ]
+found_below (o ∷ os) n test a = elim (test o) as (λ b. IsBelow n (option_map (λ o. o.pid) (cond b (Some o) (find test os)))) [
+  | true ↦ a.0
+  | false ↦ found_below os n test a.1
+]
 
-pub calls_of-filter : (places : Places) (pid : Pid) (os : List Opened) → calls_of places (filter (λ o. not (o.pid.0 == pid.0)) os) ≡ still_open pid (calls_of places os)
+pub calls_of-filter : (places : Places) (pid : Pid) (os : List Opened)
+    → calls_of places (filter (λ o. not (o.pid.0 == pid.0)) os) ≡ still_open pid (calls_of places os)
 calls_of-filter places pid [] = refl
 calls_of-filter places pid (o ∷ os) = grind (arith, common_steps, calls_of-filter places pid os)
 
@@ -57,14 +66,16 @@ cases_of-same : (places : Places) (pid : Pid) (cases : ArrayVec Case) → pid.0 
 cases_of-same places pid cases within = ap (λ (v : ArrayVec Case). v.items) (get_or-set_same places pid.0 cases (record { items = [] }) within)
 
 -- the place of a process without an open call is no call's
-calls_of-set : (places : Places) (os : List Opened) (pid : Pid) (cases : ArrayVec Case) → list_any (λ o. o.pid.0 == pid.0) os ≡ false → calls_of (set places pid.0 cases) os ≡ calls_of places os
+calls_of-set : (places : Places) (os : List Opened) (pid : Pid) (cases : ArrayVec Case) → list_any (λ o. o.pid.0 == pid.0) os ≡ false
+    → calls_of (set places pid.0 cases) os ≡ calls_of places os
 calls_of-set places [] pid cases free = refl
 calls_of-set places (o ∷ os) pid cases free =
     let apart : (o.pid.0 == pid.0) ≡ false = grind (arith, common_steps) in
     let rest : list_any (λ o. o.pid.0 == pid.0) os ≡ false = grind (arith, common_steps) in
     rw (cases_of-other places pid o.pid cases (eqb-false o.pid.0 pid.0 apart), calls_of-set places os pid cases rest) refl
 
-pub calls_opened_of : (places : Places) (os : List Opened) (pid : Pid) (ticket : ℕ) (cases : ArrayVec Case) → list_any (λ o. o.pid.0 == pid.0) os ≡ false → pid.0 < length places
+pub calls_opened_of : (places : Places) (os : List Opened) (pid : Pid) (ticket : ℕ) (cases : ArrayVec Case)
+    → list_any (λ o. o.pid.0 == pid.0) os ≡ false → pid.0 < length places
     → calls_of (set places pid.0 cases) (os ++ record { ticket = ticket; pid = pid } ∷ []) ≡ calls_of places os ++ ticketed pid ticket cases.items ∷ []
 calls_opened_of places os pid ticket cases free within =
     map-append (call_of (set places pid.0 cases)) os (record { ticket = ticket; pid = pid } ∷ [])
@@ -85,10 +96,15 @@ both_true : (b : Bool) → true ≡ cond b true true
 both_true true = refl
 both_true false = refl
 
-marked_new : (os : List Opened) (o : Opened) (q : ℕ) (b : Bool) → (o.pid.0 == q) ≡ b → list_any (λ o. o.pid.0 == q) (os ++ o ∷ []) ≡ cond b true (list_any (λ o. o.pid.0 == q) os)
+marked_new : (os : List Opened) (o : Opened) (q : ℕ) (b : Bool) → (o.pid.0 == q) ≡ b
+    → list_any (λ o. o.pid.0 == q) (os ++ o ∷ []) ≡ cond b true (list_any (λ o. o.pid.0 == q) os)
 marked_new [] o q true e = rw e refl
 marked_new [] o q false e = rw e refl
-marked_new (v ∷ os) o q b e = elim (v.pid.0 == q) as (λ a. (a || list_any (λ o. o.pid.0 == q) (os ++ o ∷ [])) ≡ cond b true (a || list_any (λ o. o.pid.0 == q) os)) [ true ↦ both_true b | false ↦ marked_new os o q b e ]
+marked_new (v ∷ os) o q b e =
+    elim (v.pid.0 == q) as (λ a. (a || list_any (λ o. o.pid.0 == q) (os ++ o ∷ [])) ≡ cond b true (a || list_any (λ o. o.pid.0 == q) os)) [
+      | true ↦ both_true b
+      | false ↦ marked_new os o q b e
+    ]
 
 pub marked_opened : (marks : List Bool) (os : List Opened) (o : Opened) → o.pid.0 < PIDS → IsMarked marks os → IsMarked (set marks o.pid.0 true) (os ++ o ∷ [])
 marked_opened marks os o small k = record {
@@ -100,17 +116,23 @@ marked_opened marks os o small k = record {
   long = length-set marks o.pid.0 true ∙ k.long;
 }
 
-ended_step : (pid : Pid) (o : Opened) (os : List Opened) (q : ℕ) (b : Bool) → (o.pid.0 == pid.0) ≡ b → (q == pid.0) ≡ false → list_any (λ o. o.pid.0 == q) (filter (λ o. not (o.pid.0 == pid.0)) os) ≡ list_any (λ o. o.pid.0 == q) os → list_any (λ o. o.pid.0 == q) (cond (not b) (o ∷ filter (λ o. not (o.pid.0 == pid.0)) os) (filter (λ o. not (o.pid.0 == pid.0)) os)) ≡ list_any (λ o. o.pid.0 == q) (o ∷ os)
+ended_step : (pid : Pid) (o : Opened) (os : List Opened) (q : ℕ) (b : Bool) → (o.pid.0 == pid.0) ≡ b → (q == pid.0) ≡ false
+    → list_any (λ o. o.pid.0 == q) (filter (λ o. not (o.pid.0 == pid.0)) os) ≡ list_any (λ o. o.pid.0 == q) os
+    → list_any (λ o. o.pid.0 == q) (cond (not b) (o ∷ filter (λ o. not (o.pid.0 == pid.0)) os) (filter (λ o. not (o.pid.0 == pid.0)) os))
+    ≡ list_any (λ o. o.pid.0 == q) (o ∷ os)
 ended_step pid o os q true e other ih =
     let not_this : (o.pid.0 == q) ≡ false = grind (arith, nat_tests) in
     rw not_this ih
 ended_step pid o os q false e other ih = ap (λ b. (o.pid.0 == q) || b) ih
 
-marked_others : (pid : Pid) (os : List Opened) (q : ℕ) → (q == pid.0) ≡ false → list_any (λ o. o.pid.0 == q) (filter (λ o. not (o.pid.0 == pid.0)) os) ≡ list_any (λ o. o.pid.0 == q) os
+marked_others : (pid : Pid) (os : List Opened) (q : ℕ) → (q == pid.0) ≡ false
+    → list_any (λ o. o.pid.0 == q) (filter (λ o. not (o.pid.0 == pid.0)) os) ≡ list_any (λ o. o.pid.0 == q) os
 marked_others pid [] q other = refl
 marked_others pid (o ∷ os) q other = ended_step pid o os q (o.pid.0 == pid.0) refl other (marked_others pid os q other)
 
-unmarked_step : (pid : Pid) (o : Opened) (os : List Opened) (b : Bool) → (o.pid.0 == pid.0) ≡ b → list_any (λ o. o.pid.0 == pid.0) (filter (λ o. not (o.pid.0 == pid.0)) os) ≡ false → list_any (λ o. o.pid.0 == pid.0) (cond (not b) (o ∷ filter (λ o. not (o.pid.0 == pid.0)) os) (filter (λ o. not (o.pid.0 == pid.0)) os)) ≡ false
+unmarked_step : (pid : Pid) (o : Opened) (os : List Opened) (b : Bool) → (o.pid.0 == pid.0) ≡ b
+    → list_any (λ o. o.pid.0 == pid.0) (filter (λ o. not (o.pid.0 == pid.0)) os) ≡ false
+    → list_any (λ o. o.pid.0 == pid.0) (cond (not b) (o ∷ filter (λ o. not (o.pid.0 == pid.0)) os) (filter (λ o. not (o.pid.0 == pid.0)) os)) ≡ false
 unmarked_step pid o os true e ih = ih
 unmarked_step pid o os false e ih = rw e ih
 
@@ -118,7 +140,8 @@ unmarked : (pid : Pid) (os : List Opened) → list_any (λ o. o.pid.0 == pid.0) 
 unmarked pid [] = refl
 unmarked pid (o ∷ os) = unmarked_step pid o os (o.pid.0 == pid.0) refl (unmarked pid os)
 
-pub marked_ended : (marks : List Bool) (os : List Opened) (pid : Pid) → IsMarked marks os → IsMarked (set marks pid.0 false) (filter (λ o. not (o.pid.0 == pid.0)) os)
+pub marked_ended : (marks : List Bool) (os : List Opened) (pid : Pid) → IsMarked marks os
+    → IsMarked (set marks pid.0 false) (filter (λ o. not (o.pid.0 == pid.0)) os)
 marked_ended marks os pid k = record {
   told = λ q within.
       elim (cases_eq q pid.0) [

@@ -20,9 +20,11 @@ unfolding IsDistinct
 to_distinct [] a = tt
 to_distinct (x ∷ xs) a = (a.0, to_distinct xs a.1)
 
-pub room_left : (os : List Opened) (n pid : ℕ) → AreApart (pids os) → AllByRecursion (λ q. q < n) (pids os) → list_any (λ o. o.pid.0 == pid) os ≡ false → pid < n → length os < n
+pub room_left : (os : List Opened) (n pid : ℕ) → AreApart (pids os) → AllByRecursion (λ q. q < n) (pids os)
+    → list_any (λ o. o.pid.0 == pid) os ≡ false → pid < n → length os < n
 room_left os n pid distinct below free small =
-    let most : length (pid ∷ pids os) ≤ n = length-le_from_distinct_below (pid ∷ pids os) n (to_distinct (pid ∷ pids os) (apart os pid free, distinct)) (λ q e. member_below (pid ∷ pids os) n q (small, below) e) in
+    let most : length (pid ∷ pids os) ≤ n = length-le_from_distinct_below (pid ∷ pids os) n
+    (to_distinct (pid ∷ pids os) (apart os pid free, distinct)) (λ q e. member_below (pid ∷ pids os) n q (small, below) e) in
     omega (arith, length-map os (λ (o : Opened). o.pid.0))
 
 pub all_pids_snoc : (P : ℕ → Type 0) (os : List Opened) (o : Opened) → AllByRecursion P (pids os) → P o.pid.0 → AllByRecursion P (pids (os ++ o ∷ []))
@@ -31,17 +33,24 @@ all_pids_snoc P (v ∷ os) o a p = (a.0, all_pids_snoc P os o a.1 p)
 
 pub apart_snoc : (os : List Opened) (o : Opened) → AreApart (pids os) → list_any (λ v. v.pid.0 == o.pid.0) os ≡ false → AreApart (pids (os ++ o ∷ []))
 apart_snoc [] o a free = (tt, tt)
-apart_snoc (v ∷ os) o a free = (all_pids_snoc (λ y. (v.pid.0 == y) ≡ false) os o a.0 (grind (arith, common_steps)), apart_snoc os o a.1 (grind (arith, common_steps)))
+apart_snoc (v ∷ os) o a free =
+    (all_pids_snoc (λ y. (v.pid.0 == y) ≡ false) os o a.0 (grind (arith, common_steps)), apart_snoc os o a.1 (grind (arith, common_steps)))
 
 pub all_kept : (P : ℕ → Type 0) (test : Opened → Bool) (os : List Opened) → AllByRecursion P (pids os) → AllByRecursion P (pids (filter test os))
 all_kept P test [] a = tt
 all_kept P test (o ∷ os) a =
-    elim (test o) as (λ b. AllByRecursion P (pids (cond b (o ∷ filter test os) (filter test os)))) [ true ↦ (a.0, all_kept P test os a.1) | false ↦ all_kept P test os a.1 ]
+    elim (test o) as (λ b. AllByRecursion P (pids (cond b (o ∷ filter test os) (filter test os)))) [
+      | true ↦ (a.0, all_kept P test os a.1)
+      | false ↦ all_kept P test os a.1
+    ]
 
 pub apart_kept : (test : Opened → Bool) (os : List Opened) → AreApart (pids os) → AreApart (pids (filter test os))
 apart_kept test [] a = tt
 apart_kept test (o ∷ os) a =
-    elim (test o) as (λ b. AreApart (pids (cond b (o ∷ filter test os) (filter test os)))) [ true ↦ (all_kept (λ y. (o.pid.0 == y) ≡ false) test os a.0, apart_kept test os a.1) | false ↦ apart_kept test os a.1 ]
+    elim (test o) as (λ b. AreApart (pids (cond b (o ∷ filter test os) (filter test os)))) [
+      | true ↦ (all_kept (λ y. (o.pid.0 == y) ≡ false) test os a.0, apart_kept test os a.1)
+      | false ↦ apart_kept test os a.1
+    ]
 
 -- a process with an open call is below n
 pub opened_below : (os : List Opened) (n pid : ℕ) → AllByRecursion (λ q. q < n) (pids os) → list_any (λ o. o.pid.0 == pid) os ≡ true → pid < n

@@ -1,5 +1,6 @@
 -- Room for a call's entries, and what the queues keep when it joins.
-use Rattle.std.proofs.Common.{◌≡◌, ℕ, ◌+◌, ◌-◌, ◌*◌, ◌<◌, ◌≤◌, ◌==◌, ◌||◌, Bool, true, false, cond, List, [], ◌∷◌, ◌++◌, length, filter, refl, ap, ◌∙◌, sym, arith, subst, suc, eq-eqb, length-append, append_assoc, ltb}
+use Rattle.std.proofs.Common.{◌≡◌, ℕ, ◌+◌, ◌-◌, ◌*◌, ◌<◌, ◌≤◌, ◌==◌, ◌||◌, Bool, true, false, cond, List, [], ◌∷◌, ◌++◌, length}
+use Rattle.std.proofs.Common.{filter, refl, ap, ◌∙◌, sym, arith, subst, suc, eq-eqb, length-append, append_assoc, ltb}
 use Rattle.std.specs.List.{AllByRecursion}
 use Rattle.std.proofs.lemmas.Bool.{ne_eqb, ltb-false, le-ltb}
 use Rattle.std.proofs.lemmas.Grind.{flat_map-append}
@@ -25,49 +26,62 @@ use Rattle.hub_parts.proofs.Lists.{all_both, all_weaker, all_filter, length-filt
 use Rattle.hub_parts.proofs.Lines.{with_if, queue_after, queue_with_case, length-with_case}
 use Rattle.hub_parts.proofs.Endings.{filter_within}
 
-length-waiters_from : (test : Case → Bool) (pid : Pid) (ticket i : ℕ) (cases : List Case) → length (waiters_from test pid ticket i cases) ≡ length (filter test cases)
+length-waiters_from : (test : Case → Bool) (pid : Pid) (ticket i : ℕ) (cases : List Case)
+    → length (waiters_from test pid ticket i cases) ≡ length (filter test cases)
 length-waiters_from test pid ticket i [] = refl
 length-waiters_from test pid ticket i (c ∷ cases) =
-    elim (test c) as (λ b. length (cond b (waiter_at pid ticket i ∷ waiters_from test pid ticket (i + 1) cases) (waiters_from test pid ticket (i + 1) cases)) ≡ length (cond b (c ∷ filter test cases) (filter test cases)))
+    elim (test c) as (λ b. length (cond b (waiter_at pid ticket i ∷ waiters_from test pid ticket (i + 1) cases) (waiters_from test pid ticket (i + 1) cases))
+    ≡ length (cond b (c ∷ filter test cases) (filter test cases)))
     [ true ↦ ap suc (length-waiters_from test pid ticket (i + 1) cases) | false ↦ length-waiters_from test pid ticket (i + 1) cases ]
 
-most_waiters : (test : Case → Bool) (ws : List Ticketed) → AllByRecursion (λ w. length w.call.cases ≤ MOST_CASES) ws → length (waiters test ws) ≤ MOST_CASES * length ws
+most_waiters : (test : Case → Bool) (ws : List Ticketed) → AllByRecursion (λ w. length w.call.cases ≤ MOST_CASES) ws
+    → length (waiters test ws) ≤ MOST_CASES * length ws
 most_waiters test [] a = omega arith
 most_waiters test (w ∷ ws) a =
     let here : length w.call.cases ≤ MOST_CASES = a.0 in
-    omega (arith, length-append (waiters_of test w) (waiters test ws), length-waiters_from test w.call.pid w.ticket 0 w.call.cases, length-filter-le test w.call.cases, most_waiters test ws a.1)
+    omega (
+      arith,
+      length-append (waiters_of test w) (waiters test ws),
+      length-waiters_from test w.call.pid w.ticket 0 w.call.cases,
+      length-filter-le test w.call.cases,
+      most_waiters test ws a.1,
+    )
 
 -- the places for a call are free
 pub HasPlaces : Buffer Waiter → Type 0
 HasPlaces q = length q.items + MOST_CASES ≤ q.capacity
 
-roomy_step : (ws : List Ticketed) (q : Buffer Waiter) (b : Bool) → ltb (q.capacity - length q.items) MOST_CASES ≡ b → length q.items ≤ q.capacity → length (live_of ws q.items) + MOST_CASES ≤ q.capacity → HasPlaces (cond b (buffer (live_of ws q.items) q.capacity) q)
+roomy_step : (ws : List Ticketed) (q : Buffer Waiter) (b : Bool) → ltb (q.capacity - length q.items) MOST_CASES ≡ b → length q.items ≤ q.capacity
+    → length (live_of ws q.items) + MOST_CASES ≤ q.capacity → HasPlaces (cond b (buffer (live_of ws q.items) q.capacity) q)
 unfolding HasPlaces
 roomy_step ws q true e fits few = few
 roomy_step ws q false e fits few = omega (arith, ltb-false (q.capacity - length q.items) MOST_CASES e)
 
-pub roomy_has : (test : Case → Bool) (c : Calls) (q : Buffer Waiter) → 0 < c.procs → length c.waiting ≤ c.procs → AllByRecursion (λ w. length w.call.cases ≤ MOST_CASES) c.waiting → QueueKeeps test c q → HasPlaces (roomy c.waiting q)
+pub roomy_has : (test : Case → Bool) (c : Calls) (q : Buffer Waiter) → 0 < c.procs → length c.waiting ≤ c.procs
+    → AllByRecursion (λ w. length w.call.cases ≤ MOST_CASES) c.waiting → QueueKeeps test c q → HasPlaces (roomy c.waiting q)
 roomy_has test c q some few small k =
     let most : length (live_of c.waiting q.items) + MOST_CASES ≤ q.capacity = omega (arith, ap length k.live, most_waiters test c.waiting small, k.places) in
     roomy_step c.waiting q (ltb (q.capacity - length q.items) MOST_CASES) refl k.fits most
 
 pub roomy_keeps : (test : Case → Bool) (c : Calls) (q : Buffer Waiter) → QueueKeeps test c q → QueueKeeps test c (roomy c.waiting q)
-roomy_keeps test c q k = elim (ltb (q.capacity - length q.items) MOST_CASES) as (λ b. QueueKeeps test c (cond b (buffer (live_of c.waiting q.items) q.capacity) q)) [
-  | true ↦ record {
-    live = filter_within (lives c.waiting) (lives c.waiting) q.items (λ e h. h) ∙ k.live;
-    below = all_filter (λ entry. entry.ticket < c.next_ticket) (lives c.waiting) q.items k.below;
-    places = k.places;
-    fits = omega (arith, k.fits, length-filter-le (lives c.waiting) q.items);
-  }
-  | false ↦ k
-]
+roomy_keeps test c q k =
+    elim (ltb (q.capacity - length q.items) MOST_CASES) as (λ b. QueueKeeps test c (cond b (buffer (live_of c.waiting q.items) q.capacity) q)) [
+      | true ↦ record {
+        live = filter_within (lives c.waiting) (lives c.waiting) q.items (λ e h. h) ∙ k.live;
+        below = all_filter (λ entry. entry.ticket < c.next_ticket) (lives c.waiting) q.items k.below;
+        places = k.places;
+        fits = omega (arith, k.fits, length-filter-le (lives c.waiting) q.items);
+      }
+      | false ↦ k
+    ]
 
 -- where the places for a call are free, nothing is dropped
 stays_roomy : (ws : List Ticketed) (q : Buffer Waiter) → HasPlaces q → roomy ws q ≡ q
 unfolding HasPlaces
 stays_roomy ws q h = rw (le-ltb (q.capacity - length q.items) MOST_CASES (omega arith)) refl
 
-stay_after : (ws : List Ticketed) (test : Case → Bool) (i : ℕ) (q : Buffer Waiter) (cases : List Case) → HasPlaces q → queue_after (λ i. roomy ws) test i q cases ≡ q
+stay_after : (ws : List Ticketed) (test : Case → Bool) (i : ℕ) (q : Buffer Waiter) (cases : List Case) → HasPlaces q
+    → queue_after (λ i. roomy ws) test i q cases ≡ q
 stay_after ws test i q [] h = refl
 stay_after ws test i q (c ∷ cases) h =
     elim (test c) as (λ b. queue_after (λ i. roomy ws) test (i + 1) (with_if b (roomy ws) q) cases ≡ q) [
@@ -79,8 +93,8 @@ pub record Ready (test : Case → Bool) (c : Calls) (q : Buffer Waiter) (cases :
   pub keeps : QueueKeeps test c q
   pub room : length q.items + length (filter test cases) ≤ q.capacity
 
-ready_step : (test : Case → Bool) (c : Calls) (i : ℕ) (q : Buffer Waiter) (case : Case) (cases : List Case) (b : Bool) → test case ≡ b → QueueKeeps test c q → HasPlaces (roomy c.waiting q) → suc (length cases) ≤ MOST_CASES
-    → Ready test c (queue_after (λ i. roomy c.waiting) test (i + 1) q cases) cases
+ready_step : (test : Case → Bool) (c : Calls) (i : ℕ) (q : Buffer Waiter) (case : Case) (cases : List Case) (b : Bool) → test case ≡ b → QueueKeeps test c q
+    → HasPlaces (roomy c.waiting q) → suc (length cases) ≤ MOST_CASES → Ready test c (queue_after (λ i. roomy c.waiting) test (i + 1) q cases) cases
     → Ready test c (queue_after (λ i. roomy c.waiting) test (i + 1) (with_if b (roomy c.waiting) q) cases) (case ∷ cases)
 unfolding HasPlaces
 ready_step test c i q case cases true e k h few ih =
@@ -91,15 +105,19 @@ ready_step test c i q case cases true e k h few ih =
 ready_step test c i q case cases false e k h few ih = record { keeps = ih.keeps; room = rw e ih.room }
 
 -- after room was made for the cases of a call
-pub ready_after : (test : Case → Bool) (c : Calls) (i : ℕ) (q : Buffer Waiter) (cases : List Case) → QueueKeeps test c q → HasPlaces (roomy c.waiting q) → length cases ≤ MOST_CASES → Ready test c (queue_after (λ i. roomy c.waiting) test i q cases) cases
+pub ready_after : (test : Case → Bool) (c : Calls) (i : ℕ) (q : Buffer Waiter) (cases : List Case) → QueueKeeps test c q
+    → HasPlaces (roomy c.waiting q) → length cases ≤ MOST_CASES → Ready test c (queue_after (λ i. roomy c.waiting) test i q cases) cases
 ready_after test c i q [] k h few = record { keeps = k; room = omega (arith, k.fits) }
-ready_after test c i q (case ∷ cases) k h few = ready_step test c i q case cases (test case) refl k h few (ready_after test c (i + 1) q cases k h (omega arith))
+ready_after test c i q (case ∷ cases) k h few =
+    ready_step test c i q case cases (test case) refl k h few (ready_after test c (i + 1) q cases k h (omega arith))
 
 -- joining, seen at one queue
-pub joined_after : (test : Case → Bool) (pid : Pid) (ticket i : ℕ) (q : Buffer Waiter) (cases : List Case) → queue_after (λ i. joined (waiter_at pid ticket i)) test i q cases ≡ buffer (q.items ++ waiters_from test pid ticket i cases) q.capacity
+pub joined_after : (test : Case → Bool) (pid : Pid) (ticket i : ℕ) (q : Buffer Waiter) (cases : List Case)
+    → queue_after (λ i. joined (waiter_at pid ticket i)) test i q cases ≡ buffer (q.items ++ waiters_from test pid ticket i cases) q.capacity
 joined_after test pid ticket i q [] = rw (append-nil q.items) refl
 joined_after test pid ticket i q (c ∷ cases) =
-    elim (test c) as (λ b. queue_after (λ i. joined (waiter_at pid ticket i)) test (i + 1) (with_if b (joined (waiter_at pid ticket i)) q) cases ≡ buffer (q.items ++ cond b (waiter_at pid ticket i ∷ waiters_from test pid ticket (i + 1) cases) (waiters_from test pid ticket (i + 1) cases)) q.capacity) [
+    elim (test c) as (λ b. queue_after (λ i. joined (waiter_at pid ticket i)) test (i + 1) (with_if b (joined (waiter_at pid ticket i)) q) cases ≡ buffer
+    (q.items ++ cond b (waiter_at pid ticket i ∷ waiters_from test pid ticket (i + 1) cases) (waiters_from test pid ticket (i + 1) cases)) q.capacity) [
       | true ↦ joined_after test pid ticket (i + 1) (joined (waiter_at pid ticket i) q) cases ∙ rw append_assoc refl
       | false ↦ joined_after test pid ticket (i + 1) q cases
     ]
@@ -113,47 +131,65 @@ live_newest [] w = rw (eq-eqb w.ticket w.ticket refl) refl
 live_newest (v ∷ ws) w = elim (v.ticket == w.ticket) as (λ b. (b || is_live (ws ++ w ∷ []) w.ticket) ≡ true) [ true ↦ refl | false ↦ live_newest ws w ]
 
 -- the entries that stood there know nothing of the new call
-old_live : (ws : List Ticketed) (w : Ticketed) (n : ℕ) (items : List Waiter) → n ≤ w.ticket → AllByRecursion (λ entry. entry.ticket < n) items → live_of (ws ++ w ∷ []) items ≡ live_of ws items
+old_live : (ws : List Ticketed) (w : Ticketed) (n : ℕ) (items : List Waiter) → n ≤ w.ticket → AllByRecursion (λ entry. entry.ticket < n) items
+    → live_of (ws ++ w ∷ []) items ≡ live_of ws items
 old_live ws w n [] later a = refl
 old_live ws w n (e ∷ items) later a =
     let less : e.ticket < n = a.0 in
     rw (live_alone ws w e.ticket (ne_eqb w.ticket e.ticket (λ same. omega arith)), old_live ws w n items later a.1) refl
 
-new_live : (ws : List Ticketed) (w : Ticketed) (test : Case → Bool) (i : ℕ) (cases : List Case) → live_of (ws ++ w ∷ []) (waiters_from test w.call.pid w.ticket i cases) ≡ waiters_from test w.call.pid w.ticket i cases
+new_live : (ws : List Ticketed) (w : Ticketed) (test : Case → Bool) (i : ℕ) (cases : List Case)
+    → live_of (ws ++ w ∷ []) (waiters_from test w.call.pid w.ticket i cases) ≡ waiters_from test w.call.pid w.ticket i cases
 new_live ws w test i [] = refl
 new_live ws w test i (c ∷ cases) =
-    elim (test c) as (λ b. live_of (ws ++ w ∷ []) (cond b (waiter_at w.call.pid w.ticket i ∷ waiters_from test w.call.pid w.ticket (i + 1) cases) (waiters_from test w.call.pid w.ticket (i + 1) cases)) ≡ cond b (waiter_at w.call.pid w.ticket i ∷ waiters_from test w.call.pid w.ticket (i + 1) cases) (waiters_from test w.call.pid w.ticket (i + 1) cases)) [
+    elim (test c) as (λ b. live_of (ws ++ w ∷ [])
+    (cond b (waiter_at w.call.pid w.ticket i ∷ waiters_from test w.call.pid w.ticket (i + 1) cases) (waiters_from test w.call.pid w.ticket (i + 1) cases))
+    ≡ cond b (waiter_at w.call.pid w.ticket i ∷ waiters_from test w.call.pid w.ticket (i + 1) cases) (waiters_from test w.call.pid w.ticket (i + 1) cases)) [
       | true ↦ rw (live_newest ws w) (ap (λ es. waiter_at w.call.pid w.ticket i ∷ es) (new_live ws w test (i + 1) cases))
       | false ↦ new_live ws w test (i + 1) cases
     ]
 
-new_below : (test : Case → Bool) (pid : Pid) (ticket i : ℕ) (cases : List Case) → AllByRecursion (λ e. e.ticket < ticket + 1) (waiters_from test pid ticket i cases)
+new_below : (test : Case → Bool) (pid : Pid) (ticket i : ℕ) (cases : List Case)
+    → AllByRecursion (λ e. e.ticket < ticket + 1) (waiters_from test pid ticket i cases)
 new_below test pid ticket i [] = tt
 new_below test pid ticket i (c ∷ cases) =
-    elim (test c) as (λ b. AllByRecursion (λ e. e.ticket < ticket + 1) (cond b (waiter_at pid ticket i ∷ waiters_from test pid ticket (i + 1) cases) (waiters_from test pid ticket (i + 1) cases)))
+    elim (test c) as (λ b. AllByRecursion (λ e. e.ticket < ticket + 1)
+    (cond b (waiter_at pid ticket i ∷ waiters_from test pid ticket (i + 1) cases) (waiters_from test pid ticket (i + 1) cases)))
     [ true ↦ (omega arith, new_below test pid ticket (i + 1) cases) | false ↦ new_below test pid ticket (i + 1) cases ]
 
-pub parked_keeps : (test : Case → Bool) (c : Calls) (q : Buffer Waiter) (pid : Pid) (ticket : ℕ) (cases : List Case) → c.next_ticket ≤ ticket → Ready test c q cases → QueueKeeps test (with_call pid ticket cases c) (buffer (q.items ++ waiters_from test pid ticket 0 cases) q.capacity)
+pub parked_keeps : (test : Case → Bool) (c : Calls) (q : Buffer Waiter) (pid : Pid) (ticket : ℕ) (cases : List Case) → c.next_ticket ≤ ticket
+    → Ready test c q cases → QueueKeeps test (with_call pid ticket cases c) (buffer (q.items ++ waiters_from test pid ticket 0 cases) q.capacity)
 parked_keeps test c q pid ticket cases later r =
     let w = ticketed pid ticket cases in
     record {
       live =
           filter-append (lives (c.waiting ++ w ∷ [])) q.items (waiters_from test pid ticket 0 cases)
-          ∙ rw (old_live c.waiting w c.next_ticket q.items later r.keeps.below, new_live c.waiting w test 0 cases, r.keeps.live, flat_map-append (waiters_of test) c.waiting (w ∷ []), append-nil (waiters_from test pid ticket 0 cases)) refl;
-      below = all_both (λ e. e.ticket < ticket + 1) q.items (waiters_from test pid ticket 0 cases) (all_weaker (λ e. e.ticket < c.next_ticket) (λ e. e.ticket < ticket + 1) q.items (λ e less. omega arith) r.keeps.below) (new_below test pid ticket 0 cases);
+          ∙ rw (
+            old_live c.waiting w c.next_ticket q.items later r.keeps.below,
+            new_live c.waiting w test 0 cases,
+            r.keeps.live,
+            flat_map-append (waiters_of test) c.waiting (w ∷ []),
+            append-nil (waiters_from test pid ticket 0 cases),
+          ) refl;
+      below = all_both (λ e. e.ticket < ticket + 1) q.items (waiters_from test pid ticket 0 cases)
+          (all_weaker (λ e. e.ticket < c.next_ticket) (λ e. e.ticket < ticket + 1) q.items (λ e less. omega arith) r.keeps.below)
+          (new_below test pid ticket 0 cases);
       places = r.keeps.places;
       fits = omega (arith, length-append q.items (waiters_from test pid ticket 0 cases), length-waiters_from test pid ticket 0 cases, r.room);
     }
 
 -- where each queue has room for its cases, the cases join one by one
 abbrev pub AllRoom : List ChannelLists → List Case → Type 0
-AllRoom cs cases = (s : Side) (p : Port) → 0 < p.0 → p.0 ≤ length cs → length (queue_of s (channel_of cs p)).items + length (filter (joins s p) cases) ≤ (queue_of s (channel_of cs p)).capacity
+AllRoom cs cases = (s : Side) (p : Port) → 0 < p.0 → p.0 ≤ length cs
+    → length (queue_of s (channel_of cs p)).items + length (filter (joins s p) cases) ≤ (queue_of s (channel_of cs p)).capacity
 
-counted : (b : Bool) (e : Waiter) (q : Buffer Waiter) (c : Case) (cases : List Case) → length q.items + length (cond b (c ∷ cases) cases) ≤ q.capacity → length (with_if b (joined e) q).items + length cases ≤ (with_if b (joined e) q).capacity
+counted : (b : Bool) (e : Waiter) (q : Buffer Waiter) (c : Case) (cases : List Case) → length q.items + length (cond b (c ∷ cases) cases) ≤ q.capacity
+    → length (with_if b (joined e) q).items + length cases ≤ (with_if b (joined e) q).capacity
 counted true e q c cases room = omega (arith, length-append q.items (e ∷ []))
 counted false e q c cases room = room
 
-place_for : (s : Side) (p : Port) (cs : List ChannelLists) (c : Case) (cases : List Case) → joins s p c ≡ true → p.0 ≤ length cs → AllRoom cs (c ∷ cases) → 0 < p.0 → length (queue_of s (channel_of cs p)).items < (queue_of s (channel_of cs p)).capacity
+place_for : (s : Side) (p : Port) (cs : List ChannelLists) (c : Case) (cases : List Case) → joins s p c ≡ true → p.0 ≤ length cs
+    → AllRoom cs (c ∷ cases) → 0 < p.0 → length (queue_of s (channel_of cs p)).items < (queue_of s (channel_of cs p)).capacity
 place_for s p cs c cases e within room positive = let r = rw e at (room s p positive within) in omega arith
 
 case_fits : (cs : List ChannelLists) (c : Case) (cases : List Case) → (port_of c).0 ≤ length cs → AllRoom cs (c ∷ cases) → CaseFits cs c
@@ -163,11 +199,15 @@ case_fits cs (Recv p) cases within room = (within, place_for side.Recv p cs (Rec
 room_left : (cs : List ChannelLists) (e : Waiter) (c : Case) (cases : List Case) → AllRoom cs (c ∷ cases) → AllRoom (with_case (joined e) cs c) cases
 room_left cs e c cases room s p positive within =
     let inside : p.0 ≤ length cs = rw (length-with_case (joined e) cs c) at within in
-    rw (queue_with_case (joined e) cs c s p positive inside) (counted (joins s p c) e (queue_of s (channel_of cs p)) c (filter (joins s p) cases) (room s p positive inside))
+    rw (queue_with_case (joined e) cs c s p positive inside)
+    (counted (joins s p c) e (queue_of s (channel_of cs p)) c (filter (joins s p) cases) (room s p positive inside))
 
-pub can_join : (pid : Pid) (ticket i : ℕ) (cs : List ChannelLists) (cases : List Case) → AllMade (length cs) cases → AllRoom cs cases → CanJoin pid ticket i cs cases
+pub can_join : (pid : Pid) (ticket i : ℕ) (cs : List ChannelLists) (cases : List Case) → AllMade (length cs) cases → AllRoom cs cases
+    → CanJoin pid ticket i cs cases
 can_join pid ticket i cs [] made room = tt
 can_join pid ticket i cs (c ∷ cases) made room = (
   case_fits cs c cases made.0 room,
-  can_join pid ticket (i + 1) (with_case (joined (waiter_at pid ticket i)) cs c) cases (subst (λ n. AllMade n cases) (sym (length-with_case (joined (waiter_at pid ticket i)) cs c)) made.1) (room_left cs (waiter_at pid ticket i) c cases room),
+  can_join pid ticket (i + 1) (with_case (joined (waiter_at pid ticket i)) cs c) cases
+      (subst (λ n. AllMade n cases) (sym (length-with_case (joined (waiter_at pid ticket i)) cs c)) made.1)
+      (room_left cs (waiter_at pid ticket i) c cases room),
 )

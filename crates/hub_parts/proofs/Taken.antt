@@ -33,16 +33,17 @@ read c cs p old made at =
     at ∙ get_or_default cs (p.0 - 1) old no_channel (omega arith)
 
 -- a port's lists changed, and no queue
-pub lists_changed : (change : PortLists → PortLists) (p : Port) (c : Calls) (cs : List ChannelLists) (old ch : ChannelLists) → IsMade (lists c cs) p → old ≡ get_or cs (p.0 - 1) old
-    → ch ≡ record { lists = change old.lists; senders = old.senders; receivers = old.receivers }
+pub lists_changed : (change : PortLists → PortLists) (p : Port) (c : Calls) (cs : List ChannelLists) (old ch : ChannelLists) → IsMade (lists c cs) p
+    → old ≡ get_or cs (p.0 - 1) old → ch ≡ record { lists = change old.lists; senders = old.senders; receivers = old.receivers }
     → lists c (set cs (p.0 - 1) ch) ≡ with_port (lists c cs) p (change (port_at (lists c cs) p))
 lists_changed change p c cs old ch made at e =
     ap (λ (ps : List PortLists). record { procs = c.procs; ports = ps; waiting = c.waiting; next_ticket = c.next_ticket })
     (map-set lists_of cs (p.0 - 1) ch
-    ∙ ap (set (map lists_of cs) (p.0 - 1)) (ap lists_of e ∙ ap change (ap lists_of (read c cs p old made at) ∙ sym (get_or-map lists_of cs (p.0 - 1) no_channel))))
+    ∙ ap (set (map lists_of cs) (p.0 - 1))
+    (ap lists_of e ∙ ap change (ap lists_of (read c cs p old made at) ∙ sym (get_or-map lists_of cs (p.0 - 1) no_channel))))
 
-pub kept_changed : (change : PortLists → PortLists) (p : Port) (c : Calls) (cs : List ChannelLists) (old ch : ChannelLists) → IsMade (lists c cs) p → old ≡ get_or cs (p.0 - 1) old
-    → ch ≡ record { lists = change old.lists; senders = old.senders; receivers = old.receivers }
+pub kept_changed : (change : PortLists → PortLists) (p : Port) (c : Calls) (cs : List ChannelLists) (old ch : ChannelLists) → IsMade (lists c cs) p
+    → old ≡ get_or cs (p.0 - 1) old → ch ≡ record { lists = change old.lists; senders = old.senders; receivers = old.receivers }
     → BoardKeeps c cs → BoardKeeps c (set cs (p.0 - 1) ch)
 kept_changed change p c cs old ch made at e k =
     board_lists p ch c cs made.0 (within c cs p made)
@@ -50,50 +51,69 @@ kept_changed change p c cs old ch made at e k =
     (ap (λ (d : ChannelLists). d.receivers) e ∙ ap (λ (d : ChannelLists). d.receivers) (read c cs p old made at))
     k
 
-pub kept_taken : (s : Side) (p : Port) (c d : Calls) (cs : List ChannelLists) (old ch : ChannelLists) (entry : Waiter) → IsMade (lists c cs) p → old ≡ get_or cs (p.0 - 1) old → Some entry ≡ first_on s c.waiting old → ch ≡ without_first s c.waiting old → d ≡ without_call entry.pid c → BoardKeeps c cs → BoardKeeps d (set cs (p.0 - 1) ch)
+pub kept_taken : (s : Side) (p : Port) (c d : Calls) (cs : List ChannelLists) (old ch : ChannelLists) (entry : Waiter)
+    → IsMade (lists c cs) p → old ≡ get_or cs (p.0 - 1) old → Some entry ≡ first_on s c.waiting old → ch ≡ without_first s c.waiting old
+    → d ≡ without_call entry.pid c → BoardKeeps c cs → BoardKeeps d (set cs (p.0 - 1) ch)
 kept_taken s p c d cs old ch entry made at found left ended k =
     let r = read c cs p old made at in
     rw (ended, left, r) (board_taken s p c cs entry made.0 (within c cs p made) k (rw r at found))
 
-pub kept_untaken : (s : Side) (p : Port) (c : Calls) (cs : List ChannelLists) (old ch : ChannelLists) → IsMade (lists c cs) p → old ≡ get_or cs (p.0 - 1) old → None ≡ first_on s c.waiting old → ch ≡ without_first s c.waiting old → BoardKeeps c cs → BoardKeeps c (set cs (p.0 - 1) ch)
+pub kept_untaken : (s : Side) (p : Port) (c : Calls) (cs : List ChannelLists) (old ch : ChannelLists) → IsMade (lists c cs) p
+    → old ≡ get_or cs (p.0 - 1) old → None ≡ first_on s c.waiting old → ch ≡ without_first s c.waiting old → BoardKeeps c cs
+    → BoardKeeps c (set cs (p.0 - 1) ch)
 kept_untaken s p c cs old ch made at found left k =
     let r = read c cs p old made at in
     rw (left, r) (board_untaken s p c cs made.0 (within c cs p made) k (rw r at found))
 
-same_lists : (f : Buffer Waiter → Buffer Waiter) (s : Side) (p : Port) (c : Calls) (cs : List ChannelLists) (old ch : ChannelLists) → IsMade (lists c cs) p → old ≡ get_or cs (p.0 - 1) old → ch ≡ with_queue f s old → map lists_of (set cs (p.0 - 1) ch) ≡ map lists_of cs
+same_lists : (f : Buffer Waiter → Buffer Waiter) (s : Side) (p : Port) (c : Calls) (cs : List ChannelLists) (old ch : ChannelLists)
+    → IsMade (lists c cs) p → old ≡ get_or cs (p.0 - 1) old → ch ≡ with_queue f s old → map lists_of (set cs (p.0 - 1) ch) ≡ map lists_of cs
 same_lists f s p c cs old ch made at left =
     map-set lists_of cs (p.0 - 1) ch
-    ∙ ap (set (map lists_of cs) (p.0 - 1)) (ap lists_of left ∙ lists-with_queue f s old ∙ ap lists_of (read c cs p old made at) ∙ sym (get_or-map lists_of cs (p.0 - 1) no_channel))
+    ∙ ap (set (map lists_of cs) (p.0 - 1))
+    (ap lists_of left ∙ lists-with_queue f s old ∙ ap lists_of (read c cs p old made at) ∙ sym (get_or-map lists_of cs (p.0 - 1) no_channel))
     ∙ set-get_or (map lists_of cs) (p.0 - 1) (lists_of no_channel)
 
-pub lists_taken : (s : Side) (p : Port) (c d : Calls) (cs : List ChannelLists) (old ch : ChannelLists) (pid : Pid) → IsMade (lists c cs) p → old ≡ get_or cs (p.0 - 1) old → ch ≡ without_first s c.waiting old → d ≡ without_call pid c → lists d (set cs (p.0 - 1) ch) ≡ ended_by pid (lists c cs)
+pub lists_taken : (s : Side) (p : Port) (c d : Calls) (cs : List ChannelLists) (old ch : ChannelLists) (pid : Pid) → IsMade (lists c cs) p
+    → old ≡ get_or cs (p.0 - 1) old → ch ≡ without_first s c.waiting old → d ≡ without_call pid c → lists d (set cs (p.0 - 1) ch) ≡ ended_by pid (lists c cs)
 lists_taken s p c d cs old ch pid made at left ended =
     rw (ended, same_lists (taken c.waiting) (line_of s c.waiting old) p c cs old ch made at left) refl
 
-pub lists_untaken : (s : Side) (p : Port) (c : Calls) (cs : List ChannelLists) (old ch : ChannelLists) → IsMade (lists c cs) p → old ≡ get_or cs (p.0 - 1) old → ch ≡ without_first s c.waiting old → lists c (set cs (p.0 - 1) ch) ≡ lists c cs
+pub lists_untaken : (s : Side) (p : Port) (c : Calls) (cs : List ChannelLists) (old ch : ChannelLists) → IsMade (lists c cs) p
+    → old ≡ get_or cs (p.0 - 1) old → ch ≡ without_first s c.waiting old → lists c (set cs (p.0 - 1) ch) ≡ lists c cs
 lists_untaken s p c cs old ch made at left =
     rw (same_lists (taken c.waiting) (line_of s c.waiting old) p c cs old ch made at left) refl
 
-pub told : (s : Side) (p : Port) (c : Calls) (cs : List ChannelLists) (old : ChannelLists) (o : Option Waiter) → IsMade (lists c cs) p → old ≡ get_or cs (p.0 - 1) old → o ≡ first_on s c.waiting old → BoardKeeps c cs → Tells (passes p s) c.waiting o
+pub told : (s : Side) (p : Port) (c : Calls) (cs : List ChannelLists) (old : ChannelLists) (o : Option Waiter) → IsMade (lists c cs) p
+    → old ≡ get_or cs (p.0 - 1) old → o ≡ first_on s c.waiting old → BoardKeeps c cs → Tells (passes p s) c.waiting o
 told s p c cs old o made at found k = taken_tells s p c cs o made.0 (within c cs p made) k (rw (read c cs p old made at) at found)
 
 some_is : {X : Type 0} (x y : X) → Some x ≡ Some y → x ≡ y
 some_is x y e = cc
 
-pub ending_told : (s : Side) (p : Port) (c : Calls) (entry : Waiter) (case : Case) → Found (passes p s) c.waiting entry → Some case ≡ case_at c.waiting entry.ticket entry.case → Some (record { pid = entry.pid; at = record { index = entry.case; case = case } }) ≡ first_with (passes p s) (open_calls c.waiting)
+pub ending_told : (s : Side) (p : Port) (c : Calls) (entry : Waiter) (case : Case)
+    → Found (passes p s) c.waiting entry → Some case ≡ case_at c.waiting entry.ticket entry.case
+    → Some (record { pid = entry.pid; at = record { index = entry.case; case = case } }) ≡ first_with (passes p s) (open_calls c.waiting)
 ending_told s p c entry case f e = let same : case ≡ f.case = some_is case f.case (e ∙ f.at) in rw same (sym f.first)
 
 -- the case that is told is one of that side on that port
-pub case_passes : (s : Side) (p : Port) (c : Calls) (entry : Waiter) (case : Case) → Found (passes p s) c.waiting entry → Some case ≡ case_at c.waiting entry.ticket entry.case → passes p s case ≡ true
+pub case_passes : (s : Side) (p : Port) (c : Calls) (entry : Waiter) (case : Case) → Found (passes p s) c.waiting entry
+    → Some case ≡ case_at c.waiting entry.ticket entry.case → passes p s case ≡ true
 case_passes s p c entry case f e = let same : case ≡ f.case = some_is case f.case (e ∙ f.at) in rw same f.passes
 
 pub case_is : (s : Side) (p : Port) (c : Calls) (entry : Waiter) → Found (passes p s) c.waiting entry → None ≡ case_at c.waiting entry.ticket entry.case → ⊥
 case_is s p c entry f e = let impossible : None ≡ Some f.case = e ∙ f.at in cc
 
-pub waits : (s : Side) (p : Port) (c : Calls) (o : Option Waiter) → Tells (passes p s) c.waiting o → is_some o ≡ is_some (first_with (passes p s) (open_calls c.waiting))
+pub waits : (s : Side) (p : Port) (c : Calls) (o : Option Waiter) → Tells (passes p s) c.waiting o
+    → is_some o ≡ is_some (first_with (passes p s) (open_calls c.waiting))
 waits s p c None t = rw t refl
 waits s p c (Some e) t = rw t.first refl
 
-pub lists_parked : (pid : Pid) (ticket : ℕ) (c d : Calls) (cs ds : List ChannelLists) (cases : List Case) → d ≡ with_call pid ticket cases c → ds ≡ all_joined pid ticket 0 (all_roomy c.waiting cs cases) cases → lists d ds ≡ parked pid ticket cases (lists c cs)
+pub lists_parked : (pid : Pid) (ticket : ℕ) (c d : Calls) (cs ds : List ChannelLists) (cases : List Case) → d ≡ with_call pid ticket cases c
+    → ds ≡ all_joined pid ticket 0 (all_roomy c.waiting cs cases) cases → lists d ds ≡ parked pid ticket cases (lists c cs)
 lists_parked pid ticket c d cs ds cases opened joins =
-    rw (opened, joins, lists-with_cases (λ i. joined (waiter_at pid ticket i)) 0 (all_roomy c.waiting cs cases) cases, lists-with_cases (λ i. roomy c.waiting) 0 cs cases) refl
+    rw (
+      opened,
+      joins,
+      lists-with_cases (λ i. joined (waiter_at pid ticket i)) 0 (all_roomy c.waiting cs cases) cases,
+      lists-with_cases (λ i. roomy c.waiting) 0 cs cases,
+    ) refl

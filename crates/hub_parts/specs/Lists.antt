@@ -1,5 +1,6 @@
 -- The words of a board's contracts: what its calls find, and what they leave.
-use Rattle.std.specs.Prelude.{ℕ, ◌==◌, ◌+◌, not, Bool, List, [], filter, map, length, slice_index_or, slice_set, false, true, ◌≤◌, ◌<◌, ◌-◌, ◌∷◌, ◌++◌, drop, Option, None, Some}
+use Rattle.std.specs.Prelude.{ℕ, ◌==◌, ◌+◌, not, Bool, List, [], filter, map, length, slice_index_or}
+use Rattle.std.specs.Prelude.{slice_set, false, true, ◌≤◌, ◌<◌, ◌-◌, ◌∷◌, ◌++◌, drop, Option, None, Some}
 use Rattle.hub_base.specs.declared.value.Port.{Port}
 use Rattle.hub_base.specs.declared.value.Pid.{Pid}
 use Rattle.hub_base.specs.declared.case.Case.{Case}

@@ -1,5 +1,6 @@
 -- Two lists of bytes, of which one comes in pieces: how far they agree.
-use Rattle.std.proofs.Common.{◌≡◌, ◌≢◌, ℕ, suc, ◌+◌, ◌<◌, ◌≤◌, ◌==◌, Bool, true, false, cond, List, [], ◌∷◌, ◌++◌, length, take, drop, refl, sym, ap, subst, ◌∙◌, arith, append_assoc, append-nil, take-append-drop}
+use Rattle.std.proofs.Common.{◌≡◌, ◌≢◌, ℕ, suc, ◌+◌, ◌<◌, ◌≤◌, ◌==◌, Bool, true, false, cond, List, [], ◌∷◌, ◌++◌, length}
+use Rattle.std.proofs.Common.{take, drop, refl, sym, ap, subst, ◌∙◌, arith, append_assoc, append-nil, take-append-drop}
 use Rattle.std.specs.Prelude.{◌&&◌, nat_eq, nat_lt}
 use Rattle.std.specs.List.{common_prefix_len, starts_with}
 use Rattle.std.proofs.lemmas.Bool.{eq-eqb, eqb-true, eqb-false, ltb-false, ltb-true}
@@ -88,7 +89,8 @@ agrees-more {text} {bytes} {agreed} {parted} piece more so_far still is =
     }
 
 -- how many bytes of the given ones agree with a piece
-pub agreed-within : (bytes : List ℕ) (agreed : ℕ) (piece : List ℕ) (more : ℕ) → agreed ≤ length bytes → more ≡ length (common_beginning piece (drop agreed bytes)) → agreed + more ≤ length bytes
+pub agreed-within : (bytes : List ℕ) (agreed : ℕ) (piece : List ℕ) (more : ℕ) → agreed ≤ length bytes
+    → more ≡ length (common_beginning piece (drop agreed bytes)) → agreed + more ≤ length bytes
 agreed-within bytes agreed piece more within is = let both = splits piece (drop agreed bytes) in let fits = both.second in
     omega (arith, fits, is, within, length-drop agreed bytes)
 
@@ -108,14 +110,16 @@ agrees-other-parted {text} {bytes} {agreed} {parted} so_far over same =
     let rests = append_cancel_left (take agreed bytes) (drop agreed bytes) so_far.rest (take-append-drop agreed bytes ∙ same ∙ so_far.common) in
     not_itself so_far.rest (subst (λ (l : List ℕ). Parts so_far.rest l) rests (so_far.apart over))
 
-pub agrees-other-longer : {text bytes : List ℕ} {agreed : ℕ} {parted : Bool} → Agrees text bytes agreed parted → parted ≡ false → agreed < length bytes → bytes ≢ text
+pub agrees-other-longer : {text bytes : List ℕ} {agreed : ℕ} {parted : Bool} → Agrees text bytes agreed parted → parted ≡ false
+    → agreed < length bytes → bytes ≢ text
 agrees-other-longer {text} {bytes} {agreed} {parted} so_far still fewer same =
     let size = ap length (same ∙ unparted-text so_far still) in
     let short = length-take-le agreed bytes (omega arith) in
     absurd (omega (arith, size, short))
 
 -- the line in which they differ
-pub agrees-line : {text bytes : List ℕ} {agreed : ℕ} {parted : Bool} (newlines : ℕ) → Agrees text bytes agreed parted → newlines ≡ newlines_in (take agreed bytes) → newlines + 1 ≡ line_of_difference text bytes
+pub agrees-line : {text bytes : List ℕ} {agreed : ℕ} {parted : Bool} (newlines : ℕ) → Agrees text bytes agreed parted
+    → newlines ≡ newlines_in (take agreed bytes) → newlines + 1 ≡ line_of_difference text bytes
 agrees-line {text} {bytes} {agreed} {parted} newlines so_far is =
     let all = ap newlines_in (common so_far) in
     omega (arith, is, all)

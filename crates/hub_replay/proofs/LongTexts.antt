@@ -1,5 +1,6 @@
 -- Of a text of too many bytes those up to the first that is one too many decide what it says.
-use Rattle.std.proofs.Common.{◌≡◌, ℕ, ◌+◌, ◌<◌, ◌≤◌, ◌==◌, Bool, true, false, List, [], ◌∷◌, ◌++◌, length, take, drop, refl, sym, ap, subst, ◌∙◌, arith, Option, Some, None, Result, Ok, Err, take-append-drop, length-take}
+use Rattle.std.proofs.Common.{◌≡◌, ℕ, ◌+◌, ◌<◌, ◌≤◌, ◌==◌, Bool, true, false, List, [], ◌∷◌, ◌++◌, length, take, drop, refl, sym}
+use Rattle.std.proofs.Common.{ap, subst, ◌∙◌, arith, Option, Some, None, Result, Ok, Err, take-append-drop, length-take}
 use Rattle.std.proofs.lemmas.Bool.{lt-ltb}
 use Rattle.std.specs.Prelude.{codes, nat_lt, if◌then◌else◌}
 use Rattle.hub_base.specs.declared.head.Head.{Head}
@@ -9,7 +10,8 @@ use Rattle.hub_base.specs.declared.text.faults.Kind.TheVariants.{TooLong, BadHea
 use Rattle.hub_base.specs.declared.limits.TheConstants.{MOST_BYTES}
 use Rattle.hub_base.specs.Lines.{pieces, read_fields, same_text}
 use Rattle.hub_base.specs.Head.{head_of}
-use Rattle.hub_base.specs.Reading.{Reading, Faulty, Row, rows, front, end_of, within, faulty_or, entry_says, entries_from, counted, over, with_entry, procs_number, procs_say, procs_from, reading, read_text}
+use Rattle.hub_base.specs.Reading.{Reading, Faulty, Row, rows, front, end_of, within, faulty_or, entry_says, entries_from}
+use Rattle.hub_base.specs.Reading.{counted, over, with_entry, procs_number, procs_say, procs_from, reading, read_text}
 
 -- the same rows up to one that ends past the limit in both
 data Alike : ℕ → List Row → List Row → Type 0 where
@@ -28,7 +30,8 @@ entry_says-same : (k steps : ℕ) (r : Result Entry Kind) (f g : Entry → Readi
 entry_says-same k steps (Err kind) f g same = refl
 entry_says-same k steps (Ok e) f g same = ap (λ said. if over steps e then Faulty k TooLong else with_entry e said) (same e)
 
-entries_from-alike : (head : Head) (k start steps : ℕ) (rs ss : List Row) → Alike start rs ss → entries_from head k start steps rs ≡ entries_from head k start steps ss
+entries_from-alike : (head : Head) (k start steps : ℕ) (rs ss : List Row) → Alike start rs ss
+    → entries_from head k start steps rs ≡ entries_from head k start steps ss
 entries_from-alike head k start steps _ _ (past _ r s rs ss p q) = too_long (end_of start r) k r _ p ∙ sym (too_long (end_of start s) k s _ q)
 entries_from-alike head k start steps _ _ (next _ r rs ss h) =
     ap (within (end_of start r) k r) (entry_says-same k steps (read_fields (pieces 32 r.bytes)) _ _

@@ -1,5 +1,6 @@
 -- An event's line has one newline, and a journal's events have so few lines that their number fits 32 bits.
-use Rattle.std.proofs.Common.{◌≡◌, ◌≢◌, ℕ, zero, suc, ◌+◌, ◌-◌, ◌*◌, ◌/◌, ◌%◌, ◌^◌, ◌<◌, ◌≤◌, ◌==◌, Bool, true, false, cond, List, [], ◌∷◌, ◌++◌, length, refl, ap, ◌∙◌, arith, length-append}
+use Rattle.std.proofs.Common.{◌≡◌, ◌≢◌, ℕ, zero, suc, ◌+◌, ◌-◌, ◌*◌, ◌/◌, ◌%◌, ◌^◌, ◌<◌, ◌≤◌, ◌==◌, Bool, true}
+use Rattle.std.proofs.Common.{false, cond, List, [], ◌∷◌, ◌++◌, length, refl, ap, ◌∙◌, arith, length-append}
 use Rattle.std.specs.Prelude.{codes, decimal, nat_lt}
 use Rattle.std.specs.List.{flat_map, join_with_byte}
 use Rattle.std.specs.Fmt.{digits, digits_onto, digit_glyph}
@@ -40,7 +41,8 @@ newlines_in-glyph d xs =
     let all = newlines_in-append (digit_glyph false d ∷ []) xs in
     omega (arith, one, all)
 
-newlines_in-digits_by : (b : Bool) (xs ys zs : List ℕ) → newlines_in xs ≡ newlines_in zs → newlines_in ys ≡ newlines_in zs → newlines_in (cond b xs ys) ≡ newlines_in zs
+newlines_in-digits_by : (b : Bool) (xs ys zs : List ℕ) → newlines_in xs ≡ newlines_in zs → newlines_in ys ≡ newlines_in zs
+    → newlines_in (cond b xs ys) ≡ newlines_in zs
 newlines_in-digits_by true xs ys zs h k = h
 newlines_in-digits_by false xs ys zs h k = k
 
@@ -138,7 +140,8 @@ lines_are_long (e ∷ es) =
     omega (arith, all, one, rest)
 
 -- no journal has so many events that their number passes 32 bits
-pub lines-few : {bytes told : List ℕ} {head : Head} {es : List Entry} → told ≡ event_lines head es → length (events head es) ≤ MOST_EVENTS * length es → IsText bytes head es → newlines_in told < 2 ^ 32 - 1
+pub lines-few : {bytes told : List ℕ} {head : Head} {es : List Entry} → told ≡ event_lines head es
+    → length (events head es) ≤ MOST_EVENTS * length es → IsText bytes head es → newlines_in told < 2 ^ 32 - 1
 lines-few {bytes} {told} {head} {es} is few spelled =
     let counted = ap newlines_in is ∙ newlines_in-events (events head es) in
     let long = lines_are_long es in

@@ -1,5 +1,6 @@
 -- How one more entry goes on from what the entries before it have led to.
-use Rattle.std.proofs.Common.{◌≡◌, ℕ, ◌*◌, ◌≤◌, Bool, false, List, [], ◌∷◌, ◌++◌, length, refl, sym, ap, subst, ◌∙◌, append_assoc, append-nil, arith, Some, length-append}
+use Rattle.std.proofs.Common.{◌≡◌, ℕ, ◌*◌, ◌≤◌, Bool, false, List, [], ◌∷◌, ◌++◌, length, refl, sym, ap}
+use Rattle.std.proofs.Common.{subst, ◌∙◌, append_assoc, append-nil, arith, Some, length-append}
 use Rattle.std.proofs.lemmas.Grind.{flat_map-append}
 use Rattle.std.specs.List.{flat_map}
 use Rattle.hub_base.specs.declared.head.Head.{Head}
@@ -29,11 +30,14 @@ events_after-more s (f ∷ es) e =
     ap (λ xs. (moves s f).events ++ xs) (events_after-more (moves s f).state es e)
     ∙ sym (append_assoc (moves s f).events (events_after (moves s f).state es) (moves (state_after (moves s f).state es) e).events)
 
-event_lines-more : (head : Head) (es : List Entry) (e : Entry) → event_lines head (es ++ e ∷ []) ≡ event_lines head es ++ flat_map event_line (moves (state head es) e).events
-event_lines-more head es e = ap (flat_map event_line) (events_after-more (opening head) es e) ∙ flat_map-append event_line (events head es) (moves (state head es) e).events
+event_lines-more : (head : Head) (es : List Entry) (e : Entry)
+    → event_lines head (es ++ e ∷ []) ≡ event_lines head es ++ flat_map event_line (moves (state head es) e).events
+event_lines-more head es e = ap (flat_map event_line) (events_after-more (opening head) es e)
+    ∙ flat_map-append event_line (events head es) (moves (state head es) e).events
 
 -- each entry has at most `MOST_EVENTS` events
-few-more : (head : Head) (es : List Entry) (e : Entry) → length (events head es) ≤ MOST_EVENTS * length es → length (moves (state head es) e).events ≤ MOST_EVENTS → length (events head (es ++ e ∷ [])) ≤ MOST_EVENTS * length (es ++ e ∷ [])
+few-more : (head : Head) (es : List Entry) (e : Entry) → length (events head es) ≤ MOST_EVENTS * length es
+    → length (moves (state head es) e).events ≤ MOST_EVENTS → length (events head (es ++ e ∷ [])) ≤ MOST_EVENTS * length (es ++ e ∷ [])
 few-more head es e few one =
     let all = ap length (events_after-more (opening head) es e) in
     let sum = length-append (events head es) (moves (state head es) e).events in
@@ -60,7 +64,8 @@ module _ {bytes text : List ℕ} {old : ReaderView} {machine : MachineLists} (so
       }
 
   -- the reader gave no more entry: this is the event text of the whole journal
-  pub all-replayed : ((head : Head) (es : List Entry) → read_text bytes ≡ Reads head es → IsText bytes head es) → old.left ≡ Reads old.head [] → ReplayedWhole bytes text
+  pub all-replayed : ((head : Head) (es : List Entry) → read_text bytes ≡ Reads head es → IsText bytes head es)
+      → old.left ≡ Reads old.head [] → ReplayedWhole bytes text
   all-replayed reads ends =
       let spelled : IsText bytes old.head so_far.entries = reads old.head so_far.entries
       (so_far.said ∙ ap (behind so_far.entries) ends ∙ ap (Reads old.head) (append-nil so_far.entries)) in
@@ -70,5 +75,6 @@ module _ {bytes text : List ℕ} {old : ReaderView} {machine : MachineLists} (so
       }
 
 -- there was no step more
-pub whole-replayed : {bytes text : List ℕ} (reader : ReaderView) (machine : MachineLists) (told : List Event) {more : Bool} → more ≡ false → GoesOn bytes text reader machine told more → ReplayedWhole bytes text
+pub whole-replayed : {bytes text : List ℕ} (reader : ReaderView) (machine : MachineLists) (told : List Event) {more : Bool} → more ≡ false
+    → GoesOn bytes text reader machine told more → ReplayedWhole bytes text
 whole-replayed {bytes} {text} reader machine told none goes = subst (λ (b : Bool). GoesOn bytes text reader machine told b) none goes

@@ -23,31 +23,35 @@ pub record Verified (journal events : List ℕ) (reader : ReaderView) (machine :
   pub agrees : Agrees text bytes agreed parted
 
 -- a step more, whose lines were compared
-pub one-more-verified : {journal events told lines : List ℕ} {reader : ReaderView} {machine : MachineLists} {bytes : List ℕ} {agreed : ℕ} {parted : Bool}
-    {reader' : ReaderView} {machine' : MachineLists} {bytes' : List ℕ} {agreed' : ℕ} {parted' : Bool}
-    (so_far : Verified journal events reader machine bytes agreed parted) → Replayed journal (so_far.text ++ told) reader' machine' → lines ≡ told → bytes' ≡ bytes →
-    Agrees (so_far.text ++ lines) bytes' agreed' parted' → Verified journal events reader' machine' bytes' agreed' parted'
-one-more-verified {journal} {events} {told} {lines} {reader} {machine} {bytes} {agreed} {parted} {reader'} {machine'} {bytes'} {agreed'} {parted'} so_far replayed is same agrees = record {
-  text = so_far.text ++ told;
-  replayed = replayed;
-  given = same ∙ so_far.given;
-  agrees = subst (λ (l : List ℕ). Agrees (so_far.text ++ l) bytes' agreed' parted') is agrees;
-}
+pub one-more-verified : {journal events told lines : List ℕ} {reader : ReaderView} {machine : MachineLists} {bytes : List ℕ}
+    {agreed : ℕ} {parted : Bool} {reader' : ReaderView} {machine' : MachineLists} {bytes' : List ℕ} {agreed' : ℕ} {parted' : Bool}
+    (so_far : Verified journal events reader machine bytes agreed parted) → Replayed journal (so_far.text ++ told) reader' machine' → lines ≡ told
+    → bytes' ≡ bytes → Agrees (so_far.text ++ lines) bytes' agreed' parted' → Verified journal events reader' machine' bytes' agreed' parted'
+one-more-verified {journal} {events} {told} {lines} {reader} {machine} {bytes} {agreed} {parted} {reader'} {machine'} {bytes'} {agreed'} {parted'}
+    so_far replayed is same agrees = record {
+      text = so_far.text ++ told;
+      replayed = replayed;
+      given = same ∙ so_far.given;
+      agrees = subst (λ (l : List ℕ). Agrees (so_far.text ++ l) bytes' agreed' parted') is agrees;
+    }
 
 -- the number of lines fits
-pub lines-fit : {journal text bytes : List ℕ} {agreed : ℕ} {parted : Bool} → ReplayedWhole journal text → Agrees text bytes agreed parted → newlines_in (take agreed bytes) < 2 ^ 32 - 1
+pub lines-fit : {journal text bytes : List ℕ} {agreed : ℕ} {parted : Bool} → ReplayedWhole journal text → Agrees text bytes agreed parted
+    → newlines_in (take agreed bytes) < 2 ^ 32 - 1
 lines-fit whole agrees = let fit = whole.lines in let fewer = agreed-newlines agrees in omega (arith, fit, fewer)
 
 -- a journal has one event text
-one-event-text : {journal xs ys : List ℕ} → ((head other : Head) (es fs : List Entry) → IsText journal head es → IsText journal other fs → (head ≡ other) × (es ≡ fs)) →
-    IsEventText journal xs → IsEventText journal ys → xs ≡ ys
+one-event-text : {journal xs ys : List ℕ}
+    → ((head other : Head) (es fs : List Entry) → IsText journal head es → IsText journal other fs → (head ≡ other) × (es ≡ fs))
+    → IsEventText journal xs → IsEventText journal ys → xs ≡ ys
 one-event-text {journal} {xs} {ys} one first second =
     let same = one first.head second.head first.entries second.entries first.spelled second.spelled in
     first.lines ∙ ap (λ head. event_lines head first.entries) same.0 ∙ ap (event_lines second.head) same.1 ∙ sym second.lines
 
 -- what is said of the whole text is said of the journal
-pub tells-all : {journal text bytes events : List ℕ} (compared : Compared) → ((head other : Head) (es fs : List Entry) → IsText journal head es → IsText journal other fs → (head ≡ other) × (es ≡ fs)) →
-    ReplayedWhole journal text → bytes ≡ events → Tells text bytes compared → Compares journal events compared
+pub tells-all : {journal text bytes events : List ℕ} (compared : Compared)
+    → ((head other : Head) (es fs : List Entry) → IsText journal head es → IsText journal other fs → (head ≡ other) × (es ≡ fs))
+    → ReplayedWhole journal text → bytes ≡ events → Tells text bytes compared → Compares journal events compared
 tells-all {journal} {text} {bytes} {events} Same one whole given tells = subst (λ (l : List ℕ). IsEventText journal l) (sym tells ∙ given) whole.is
 tells-all {journal} {text} {bytes} {events} (Differs line) one whole given tells = record {
   text = text;
@@ -57,6 +61,7 @@ tells-all {journal} {text} {bytes} {events} (Differs line) one whole given tells
 }
 
 -- the fault that is handed on is the fault that came
-pub same-fault : {A : Type 0} (bytes : List ℕ) (fault : ReplayFault) (r : Result A ReplayFault) → IsErrAnd r (λ other. other ≡ fault) → HasNone bytes fault → IfErr r (HasNone bytes)
+pub same-fault : {A : Type 0} (bytes : List ℕ) (fault : ReplayFault) (r : Result A ReplayFault) → IsErrAnd r (λ other. other ≡ fault)
+    → HasNone bytes fault → IfErr r (HasNone bytes)
 same-fault bytes fault (Ok x) is none = absurd is
 same-fault bytes fault (Err other) is none = subst (λ (f : ReplayFault). HasNone bytes f) (sym is) none

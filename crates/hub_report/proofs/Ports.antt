@@ -28,7 +28,8 @@ pub all-ports : (s : State) (k : ℕ) (ports : List PortReport) → PortsSoFar s
 all-ports s k ports far end = far.told ∙ ap (map told_of) (take_all k s.channels end)
 
 -- one more
-pub next-port : (s : State) (k : ℕ) (p : Port) (r : PortReport) (ports : List PortReport) → p.0 ≡ k + 1 → PortsSoFar s k ports → Some r ≡ option_map told_of (channel_at s p) → PortsSoFar s (k + 1) (ports ++ r ∷ [])
+pub next-port : (s : State) (k : ℕ) (p : Port) (r : PortReport) (ports : List PortReport) → p.0 ≡ k + 1 → PortsSoFar s k ports
+    → Some r ≡ option_map told_of (channel_at s p) → PortsSoFar s (k + 1) (ports ++ r ∷ [])
 next-port s k p r ports is far some = by (slice_get s.channels k) refl (some ∙ ap (option_map told_of) (channel_of_place s k p is))
   where
     by : (o : Option Channel) → o ≡ slice_get s.channels k → Some r ≡ option_map told_of o → PortsSoFar s (k + 1) (ports ++ r ∷ [])
@@ -41,7 +42,8 @@ next-port s k p r ports is far some = by (slice_get s.channels k) refl (some ∙
         }
 
 -- none more: these are all
-pub last-port : (s : State) (k : ℕ) (p : Port) (ports : List PortReport) → p.0 ≡ k + 1 → PortsSoFar s k ports → None ≡ option_map told_of (channel_at s p) → ports ≡ map told_of s.channels
+pub last-port : (s : State) (k : ℕ) (p : Port) (ports : List PortReport) → p.0 ≡ k + 1 → PortsSoFar s k ports
+    → None ≡ option_map told_of (channel_at s p) → ports ≡ map told_of s.channels
 last-port s k p ports is far none = by (slice_get s.channels k) refl (none ∙ ap (option_map told_of) (channel_of_place s k p is))
   where
     by : (o : Option Channel) → o ≡ slice_get s.channels k → None ≡ option_map told_of o → ports ≡ map told_of s.channels

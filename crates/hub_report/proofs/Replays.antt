@@ -1,5 +1,6 @@
 -- One entry more of a replay.
-use Rattle.std.proofs.Common.{◌≡◌, ◌≤◌, ◌<◌, ◌+◌, ◌-◌, ◌==◌, ℕ, Bool, true, false, cond, zero, suc, List, [], ◌∷◌, ◌++◌, length, filter, replicate, refl, ap, ◌∙◌, sym, Option, Some, None, arith, get_or, take, add-one}
+use Rattle.std.proofs.Common.{◌≡◌, ◌≤◌, ◌<◌, ◌+◌, ◌-◌, ◌==◌, ℕ, Bool, true, false, cond, zero, suc, List, [], ◌∷◌, ◌++◌, length}
+use Rattle.std.proofs.Common.{filter, replicate, refl, ap, ◌∙◌, sym, Option, Some, None, arith, get_or, take, add-one}
 use Rattle.std.specs.Prelude.{slice_set, slice_index_or}
 use Rattle.std.specs.List.{sum_by, cons_option}
 use Rattle.std.specs.Option.{option_map_or}
@@ -46,19 +47,22 @@ sum-told (e ∷ es) = sum_by-cons number_told e es ∙ ap (λ n. number_told e +
     by (Some v) = sym (sum_by-cons number_of v (got_in es))
 
 pub how_many-append : (test : What → Bool) (xs ys : List Event) → how_many test (xs ++ ys) ≡ how_many test xs + how_many test ys
-how_many-append test xs ys = ap length (filter-append (λ (e : Event). test e.what) xs ys) ∙ length-append (filter (λ (e : Event). test e.what) xs) (filter (λ (e : Event). test e.what) ys)
+how_many-append test xs ys = ap length (filter-append (λ (e : Event). test e.what) xs ys)
+    ∙ length-append (filter (λ (e : Event). test e.what) xs) (filter (λ (e : Event). test e.what) ys)
 
 pub how_many-most : (test : What → Bool) (es : List Event) → how_many test es ≤ length es
 how_many-most test es = rw (length-filter (λ (e : Event). test e.what) es) (count_by-le-length (λ (e : Event). test e.what) es)
 
 -- ---- the sums
 -- the sum of a port, after one port's sum has grown
-sum_at : (sums : List ℕ) (o : Option Port) (more : ℕ) (p : Port) → length sums ≡ MOST_PORTS → IsMade p MOST_PORTS → ((q : Port) → o ≡ Some q → IsMade q MOST_PORTS) →
-    slice_index_or (with_sum sums o more) (p.0 - 1) 0 ≡ slice_index_or sums (p.0 - 1) 0 + cond (is_port o p) more 0
+sum_at : (sums : List ℕ) (o : Option Port) (more : ℕ) (p : Port) → length sums ≡ MOST_PORTS
+    → IsMade p MOST_PORTS → ((q : Port) → o ≡ Some q → IsMade q MOST_PORTS)
+    → slice_index_or (with_sum sums o more) (p.0 - 1) 0 ≡ slice_index_or sums (p.0 - 1) 0 + cond (is_port o p) more 0
 sum_at sums None more p places made named = omega arith
 sum_at sums (Some q) more p places made named = by (q.0 == p.0) refl
   where
-    by : (b : Bool) → b ≡ (q.0 == p.0) → slice_index_or (slice_set sums (q.0 - 1) (slice_index_or sums (q.0 - 1) 0 + more)) (p.0 - 1) 0 ≡ slice_index_or sums (p.0 - 1) 0 + cond b more 0
+    by : (b : Bool) → b ≡ (q.0 == p.0) → slice_index_or (slice_set sums (q.0 - 1) (slice_index_or sums (q.0 - 1) 0 + more)) (p.0 - 1) 0
+        ≡ slice_index_or sums (p.0 - 1) 0 + cond b more 0
     by true is =
         let same : q.0 ≡ p.0 = eqb-true q.0 p.0 (sym is) in
         rw same (get_or-set_same sums (p.0 - 1) (slice_index_or sums (p.0 - 1) 0 + more) 0 (omega (arith, made.some, made.few)))
@@ -93,7 +97,8 @@ sum_cond true vs = refl
 sum_cond false vs = refl
 
 -- ---- an entry
-module _ (head : Head) (es : List Entry) (e : Entry) (old : Replayed) (machine : MachineLists) (told : List Event) (tells : Tells head es old) (answers : Answers head es e machine told) where
+module _ (head : Head) (es : List Entry) (e : Entry) (old : Replayed) (machine : MachineLists) (told : List Event)
+    (tells : Tells head es old) (answers : Answers head es e machine told) where
   abbrev now : Replayed
   now = with_told (record old { machine = machine }) e.step told
 
@@ -109,17 +114,20 @@ module _ (head : Head) (es : List Entry) (e : Entry) (old : Replayed) (machine :
         ∙ ap (λ k. sum_by number_of (received_on (state head es) p) + cond (is_port (port_touched e.step told) p) k 0) (sum-told told)
         ∙ ap (λ k. sum_by number_of (received_on (state head es) p) + k) (sym (sum_cond (is_port (port_touched e.step told) p) (got_in told)))
         ∙ ap (λ (ts : List Event). sum_by number_of (received_on (state head es) p) + sum_by number_of (got_at (port_touched e.step ts) ts p)) answers.events
-        ∙ sym (sum_by-append number_of (received_on (state head es) p) (got_at (port_touched e.step (moves (state head es) e).events) (moves (state head es) e).events p))
+        ∙ sym (sum_by-append number_of (received_on (state head es) p)
+        (got_at (port_touched e.step (moves (state head es) e).events) (moves (state head es) e).events p))
         ∙ ap (sum_by number_of) (sym grown);
     stalled = counted _ tells.stalled;
     faults = counted _ tells.faults;
   }
     where
       counted : {k : ℕ} (test : What → Bool) → k ≡ how_many test (events head es) → k + how_many test told ≡ how_many test (events head (es ++ e ∷ []))
-      counted test is = ap (λ k. k + how_many test told) is ∙ ap (λ ts. how_many test (events head es) + how_many test ts) answers.events ∙ sym (how_many-append test (events head es) (moves (state head es) e).events) ∙ ap (how_many test) (sym (events-entry head es e))
+      counted test is = ap (λ k. k + how_many test told) is ∙ ap (λ ts. how_many test (events head es) + how_many test ts) answers.events
+          ∙ sym (how_many-append test (events head es) (moves (state head es) e).events) ∙ ap (how_many test) (sym (events-entry head es e))
 
 -- a port that is named is made
-pub made_by : (head : Head) (es : List Entry) (e : Entry) (machine : MachineLists) (told : List Event) → Answers head es e machine told → (q : Port) → port_touched e.step told ≡ Some q → IsMade q MOST_PORTS
+pub made_by : (head : Head) (es : List Entry) (e : Entry) (machine : MachineLists) (told : List Event) → Answers head es e machine told
+    → (q : Port) → port_touched e.step told ≡ Some q → IsMade q MOST_PORTS
 made_by head es e machine told answers q h =
     let touched : port_touched e.step (moves (state head es) e).events ≡ Some q = ap (port_touched e.step) (sym answers.events) ∙ h in
     let made = (one_port-law head es e).made q touched in
@@ -139,8 +147,8 @@ room-within i r machine within few = record {
   faults = omega (arith, within.faults);
 }
 
-within_more : (i : ℕ) (old : Replayed) (machine : MachineLists) (step : Step) (told : List Event) → Within i old → machine.steps ≤ old.machine.steps + 1 → length told ≤ MOST_EVENTS → sum_by number_told told ≤ most_got →
-    Within (i + 1) (with_told (record old { machine = machine }) step told)
+within_more : (i : ℕ) (old : Replayed) (machine : MachineLists) (step : Step) (told : List Event) → Within i old → machine.steps ≤ old.machine.steps + 1
+    → length told ≤ MOST_EVENTS → sum_by number_told told ≤ most_got → Within (i + 1) (with_told (record old { machine = machine }) step told)
 within_more i old machine step told within steps few fits = record {
   steps = omega (arith, within.steps);
   sums = λ k. omega (arith, sum_most old.sums (port_touched step told) (sum_by number_told told) k, within.sums k);
@@ -148,16 +156,20 @@ within_more i old machine step told within steps few fits = record {
   faults = omega (arith, within.faults, how_many-most is_fault told);
 }
 
-pub next-told : (head : Head) (entries : List Entry) (i : ℕ) (e : Entry) (old : Replayed) (machine : MachineLists) (told : List Event) (new : Replayed) →
-    i < length entries → e ≡ get_or entries i e → Tells head (take i entries) old → Within i old → Answers head (take i entries) e machine told → machine.steps ≤ old.machine.steps + 1 →
-    length told ≤ MOST_EVENTS → sum_by number_told told ≤ most_got → new ≡ with_told (record old { machine = machine }) e.step told →
-    Tells head (take (i + 1) entries) new × Within (i + 1) new
+pub next-told : (head : Head) (entries : List Entry) (i : ℕ) (e : Entry) (old : Replayed) (machine : MachineLists) (told : List Event) (new : Replayed)
+    → i < length entries → e ≡ get_or entries i e → Tells head (take i entries) old → Within i old → Answers head (take i entries) e machine told
+    → machine.steps ≤ old.machine.steps + 1 → length told ≤ MOST_EVENTS → sum_by number_told told ≤ most_got
+    → new ≡ with_told (record old { machine = machine }) e.step told → Tells head (take (i + 1) entries) new × Within (i + 1) new
 next-told head entries i e old machine told new below is tells within answers steps few fits made =
     let grown : take (i + 1) entries ≡ take i entries ++ e ∷ [] = rw add-one (take-suc entries i e below) ∙ ap (λ x. take i entries ++ x ∷ []) (sym is) in
-    rw (grown, made) (one-more-told head (take i entries) e old machine told tells answers (made_by head (take i entries) e machine told answers), within_more i old machine e.step told within steps few fits)
+    rw (grown, made) (
+      one-more-told head (take i entries) e old machine told tells answers (made_by head (take i entries) e machine told answers),
+      within_more i old machine e.step told within steps few fits,
+    )
 
 -- ---- before any entry
-pub none-told : (head : Head) (machine : MachineLists) (sums : List ℕ) → sums ≡ replicate MOST_PORTS 0 → Follows head [] machine → Tells head [] (record { machine = machine; sums = sums; stalled = 0; faults = 0 })
+pub none-told : (head : Head) (machine : MachineLists) (sums : List ℕ) → sums ≡ replicate MOST_PORTS 0 → Follows head [] machine
+    → Tells head [] (record { machine = machine; sums = sums; stalled = 0; faults = 0 })
 none-told head machine sums is follows = record {
   follows = follows;
   places = rw is refl;
@@ -166,7 +178,8 @@ none-told head machine sums is follows = record {
   faults = refl;
 }
 
-pub none-within : (head : Head) (machine : MachineLists) (sums : List ℕ) → sums ≡ replicate MOST_PORTS 0 → Follows head [] machine → Within 0 (record { machine = machine; sums = sums; stalled = 0; faults = 0 })
+pub none-within : (head : Head) (machine : MachineLists) (sums : List ℕ) → sums ≡ replicate MOST_PORTS 0 → Follows head [] machine
+    → Within 0 (record { machine = machine; sums = sums; stalled = 0; faults = 0 })
 none-within head machine sums is follows = record {
   steps = omega (arith, follows.steps);
   sums = λ k. rw (is, none-summed MOST_PORTS k) (omega arith);

@@ -1,5 +1,6 @@
 -- All seats of a run, and the one journal.
-use Rattle.std.proofs.Common.{◌≡◌, ℕ, ◌+◌, ◌<◌, List, [], ◌∷◌, ◌++◌, length, get_or, map, refl, ap, ◌∙◌, sym, subst, Option, Some, Result, Ok, Err, OnOk, All, take, zero, suc, arith, ◌==◌, false, Bool, cond}
+use Rattle.std.proofs.Common.{◌≡◌, ℕ, ◌+◌, ◌<◌, List, [], ◌∷◌, ◌++◌, length, get_or, map, refl, ap, ◌∙◌, sym, subst}
+use Rattle.std.proofs.Common.{Option, Some, Result, Ok, Err, OnOk, All, take, zero, suc, arith, ◌==◌, false, Bool, cond}
 use Rattle.std.specs.Prelude.{slice_get, IsOk, slice_set, Vec, vec_len, vec_items}
 use Rattle.std.specs.declared.alloc.Global.{Global}
 use Rattle.std.proofs.lemmas.List.{take_more, get_or-map, length-map}
@@ -32,7 +33,8 @@ pub count_scripts : (sc : Scenario) → vec_len sc.scripts ≡ length (scenario_
 count_scripts sc = omega (arith, sc.scripts.ok.0, length-map sc.scripts.items vec_items)
 
 -- the script in a place
-pub script_at : (sc : Scenario) (i : ℕ) (script : Vec ScriptStep Global) → slice_get sc.scripts.items i ≡ Some script → slice_get (scenario_view sc).scripts i ≡ Some script.items
+pub script_at : (sc : Scenario) (i : ℕ) (script : Vec ScriptStep Global) → slice_get sc.scripts.items i ≡ Some script
+    → slice_get (scenario_view sc).scripts i ≡ Some script.items
 script_at sc i script at = slice_get-map vec_items sc.scripts.items i ∙ ap (option_map vec_items) at
 
 -- ---- the ports
@@ -45,38 +47,46 @@ makes_more (d ∷ cs) [] c x h = absurd h
 makes_more (d ∷ cs) (a ∷ more) c x h = (h.0, makes_more cs more c x h.1)
 
 -- the makes, and then a script's entries
-makes_then : (cs : List ℕ) (xs more : List Asked) (words : ℕ → ℕ) (script : List ScriptStep) → AreMakes cs xs → Follows script words 0 more → MakesThenFollows cs script words (xs ++ more)
+makes_then : (cs : List ℕ) (xs more : List Asked) (words : ℕ → ℕ) (script : List ScriptStep) → AreMakes cs xs → Follows script words 0 more
+    → MakesThenFollows cs script words (xs ++ more)
 makes_then [] [] more words script h f = f
 makes_then [] (a ∷ xs) more words script h f = absurd h
 makes_then (c ∷ cs) [] more words script h f = absurd h
 makes_then (c ∷ cs) (a ∷ xs) more words script h f = (h.0, makes_then cs xs more words script h.1 f)
 
-pub made_more : (s t : SeatView) (caps : List ℕ) (i cap : ℕ) (x : Event) → IsFree s → Later s t → Made s t (step.Make cap) x → i < length caps → cap ≡ get_or caps i 0 → AreMakes (take i caps) (asked_of s) → AreMakes (take (i + 1) caps) (asked_of t)
+pub made_more : (s t : SeatView) (caps : List ℕ) (i cap : ℕ) (x : Event) → IsFree s → Later s t → Made s t (step.Make cap) x
+    → i < length caps → cap ≡ get_or caps i 0 → AreMakes (take i caps) (asked_of s) → AreMakes (take (i + 1) caps) (asked_of t)
 made_more s t caps i cap x free later made low is h =
     let cut : take (i + 1) caps ≡ take i caps ++ cap ∷ [] = take_more caps i 0 low ∙ ap (λ (c : ℕ). take i caps ++ c ∷ []) (sym is) in
-    subst (λ (zs : List ℕ). AreMakes zs (asked_of t)) (sym cut) (subst (λ (zs : List Asked). AreMakes (take i caps ++ cap ∷ []) zs) (sym (made_asks s t (step.Make cap) x free later made)) (makes_more (take i caps) (asked_of s) cap (Some x) h))
+    subst (λ (zs : List ℕ). AreMakes zs (asked_of t)) (sym cut) (subst (λ (zs : List Asked). AreMakes (take i caps ++ cap ∷ []) zs)
+    (sym (made_asks s t (step.Make cap) x free later made)) (makes_more (take i caps) (asked_of s) cap (Some x) h))
 
 -- ---- one process
 
 -- a ready seat whose process then followed its script has followed it
-pub has_followed : {T E : Type 0} (r : Result T E) (sc : ScenarioData) (s t : SeatView) (script : List ScriptStep)
-    → IsReady sc s → Onward s t → slice_get sc.scripts s.pid.0 ≡ Some script → OnOk r (Followed (asked_of s) (asked_of t) (words_of_process sc.seed s.pid.0) script) → OnOk r (HasFollowed sc t)
+pub has_followed : {T E : Type 0} (r : Result T E) (sc : ScenarioData) (s t : SeatView) (script : List ScriptStep) → IsReady sc s → Onward s t
+    → slice_get sc.scripts s.pid.0 ≡ Some script → OnOk r (Followed (asked_of s) (asked_of t) (words_of_process sc.seed s.pid.0) script)
+    → OnOk r (HasFollowed sc t)
 has_followed (Err e) sc s t script ready on at f = tt
 has_followed (Ok x) sc s t script ready on at f = λ other is.
     let place : slice_get sc.scripts s.pid.0 ≡ Some other = ap (λ (p : Pid). slice_get sc.scripts p.0) (sym on.pid) ∙ is in
     let same : script ≡ other = cc in
     let here : FollowsScript sc s.pid.0 script (asked_of t) =
-    subst (λ (zs : List Asked). FollowsScript sc s.pid.0 script zs) (sym f.now_is) (makes_then (made_by s.pid.0 sc.ports) (asked_of s) f.made (words_of_process sc.seed s.pid.0) script ready.makes f.follows) in
+    subst (λ (zs : List Asked). FollowsScript sc s.pid.0 script zs) (sym f.now_is)
+    (makes_then (made_by s.pid.0 sc.ports) (asked_of s) f.made (words_of_process sc.seed s.pid.0) script ready.makes f.follows) in
     subst (λ (o : List ScriptStep). FollowsScript sc t.pid.0 o (asked_of t)) same
     (subst (λ (p : Pid). FollowsScript sc p.0 script (asked_of t)) (sym on.pid) here)
 
 -- ---- all seats
 
 -- the seat at place k is blank, and of process `first + k`
-blank_at : (name : Name) (first : ℕ) (ss : List SeatView) (k : ℕ) (d : SeatView) → AreSeats name first ss → k < length ss → get_or ss k d ≡ record { hub = name; pid = record { 0 = first + k }; seen = [] }
+blank_at : (name : Name) (first : ℕ) (ss : List SeatView) (k : ℕ) (d : SeatView) → AreSeats name first ss → k < length ss
+    → get_or ss k d ≡ record { hub = name; pid = record { 0 = first + k }; seen = [] }
 blank_at name first [] k d h low = absurd (omega arith)
-blank_at name first (s ∷ ss) zero d h low = h.0 ∙ ap (λ (n : ℕ). record { hub = name; pid = record { 0 = n }; seen = [] }) (let z : first ≡ first + 0 = omega arith in z)
-blank_at name first (s ∷ ss) (suc k) d h low = blank_at name (first + 1) ss k d h.1 (omega arith) ∙ ap (λ (n : ℕ). record { hub = name; pid = record { 0 = n }; seen = [] }) (let z : (first + 1) + k ≡ first + suc k = omega arith in z)
+blank_at name first (s ∷ ss) zero d h low =
+    h.0 ∙ ap (λ (n : ℕ). record { hub = name; pid = record { 0 = n }; seen = [] }) (let z : first ≡ first + 0 = omega arith in z)
+blank_at name first (s ∷ ss) (suc k) d h low = blank_at name (first + 1) ss k d h.1 (omega arith)
+    ∙ ap (λ (n : ℕ). record { hub = name; pid = record { 0 = n }; seen = [] }) (let z : (first + 1) + k ≡ first + suc k = omega arith in z)
 
 -- what a process asked in the journal is what it asked in what its seat has seen
 stands_asked : (s : SeatView) (journal : List Entry) → StandsIn s journal → asked s.pid.0 s.hub.terms.head journal ≡ asked_of s
@@ -100,7 +110,8 @@ all_follow name sc before done journal head many seats pids hubs followed stands
     let here : q < length done = omega arith in
     let there : q < length before = omega arith in
     let pid : (get_or done q d).pid.0 ≡ q =
-    ap (λ (p : Pid). p.0) (sym (get_or-map (λ (s : SeatView). s.pid) done q d d.pid here) ∙ ap (λ (ps : List Pid). get_or ps q d.pid) pids ∙ get_or-map (λ (s : SeatView). s.pid) before q d d.pid there)
+    ap (λ (p : Pid). p.0) (sym (get_or-map (λ (s : SeatView). s.pid) done q d d.pid here) ∙ ap (λ (ps : List Pid). get_or ps q d.pid) pids
+    ∙ get_or-map (λ (s : SeatView). s.pid) before q d d.pid there)
     ∙ ap (λ (s : SeatView). s.pid.0) (blank_at name 0 before q d seats there) ∙ (let z : 0 + q ≡ q = omega arith in z) in
     let same_head : (get_or done q d).hub.terms.head ≡ run_head sc = ap (λ (m : Name). m.terms.head) (hubs q d here) ∙ head in
     one_follows sc (get_or done q d) journal q script same_head pid (followed q d here) (stands q d here) at
@@ -120,15 +131,18 @@ asked-nil q head = refl
 pub asked_blank : (name : Name) (ss : List SeatView) (k : ℕ) (d : SeatView) → AreSeats name 0 ss → k < length ss → asked_of (get_or ss k d) ≡ []
 asked_blank name ss k d h low = ap asked_of (blank_at name 0 ss k d h low) ∙ asked-nil (0 + k) name.terms.head
 
-ready_later : (name : Name) (sc : ScenarioData) (k : ℕ) (s : SeatView) → name.terms.head ≡ run_head sc → s ≡ record { hub = name; pid = record { 0 = 1 + k }; seen = [] } → IsReady sc s
+ready_later : (name : Name) (sc : ScenarioData) (k : ℕ) (s : SeatView) → name.terms.head ≡ run_head sc
+    → s ≡ record { hub = name; pid = record { 0 = 1 + k }; seen = [] } → IsReady sc s
 ready_later name sc k s head is = subst (λ (t : SeatView). IsReady sc t) (sym is) (record {
   head = head;
   makes =
       let z : ((1 + k) == 0) ≡ false = grind (arith, common_steps) in
-      subst (λ (zs : List Asked). AreMakes (made_by (1 + k) sc.ports) zs) (sym (asked-nil (1 + k) name.terms.head)) (subst (λ (b : Bool). AreMakes (cond b sc.ports []) []) (sym z) tt);
+      subst (λ (zs : List Asked). AreMakes (made_by (1 + k) sc.ports) zs) (sym (asked-nil (1 + k) name.terms.head))
+      (subst (λ (b : Bool). AreMakes (cond b sc.ports []) []) (sym z) tt);
 })
 
-ready_at : (name : Name) (sc : ScenarioData) (s : SeatView) (ss : List SeatView) (t : SeatView) (k : ℕ) (e : SeatView) → name.terms.head ≡ run_head sc → AreSeats name 0 (s ∷ ss) → Onward s t → AreMakes sc.ports (asked_of t) → k < length (t ∷ ss) → IsReady sc (get_or (t ∷ ss) k e)
+ready_at : (name : Name) (sc : ScenarioData) (s : SeatView) (ss : List SeatView) (t : SeatView) (k : ℕ) (e : SeatView) → name.terms.head ≡ run_head sc
+    → AreSeats name 0 (s ∷ ss) → Onward s t → AreMakes sc.ports (asked_of t) → k < length (t ∷ ss) → IsReady sc (get_or (t ∷ ss) k e)
 ready_at name sc s ss t zero e head h on made low = record {
   head = ap (λ (m : Name). m.terms.head) (on.hub ∙ ap (λ (z : SeatView). z.hub) h.0) ∙ head;
   makes =
@@ -137,6 +151,7 @@ ready_at name sc s ss t zero e head h on made low = record {
 }
 ready_at name sc s ss t (suc k) e head h on made low = ready_later name sc k (get_or ss k e) head (blank_at name 1 ss k e h.1 (omega arith))
 
-pub all_ready : (name : Name) (sc : ScenarioData) (ss : List SeatView) (d t : SeatView) → name.terms.head ≡ run_head sc → AreSeats name 0 ss → 0 < length ss → Onward (get_or ss 0 d) t → AreMakes sc.ports (asked_of t) → All (IsReady sc) (slice_set ss 0 t)
+pub all_ready : (name : Name) (sc : ScenarioData) (ss : List SeatView) (d t : SeatView) → name.terms.head ≡ run_head sc → AreSeats name 0 ss
+    → 0 < length ss → Onward (get_or ss 0 d) t → AreMakes sc.ports (asked_of t) → All (IsReady sc) (slice_set ss 0 t)
 all_ready name sc [] d t head h some on made = absurd (omega arith)
 all_ready name sc (s ∷ ss) d t head h some on made = λ k e low. ready_at name sc s ss t k e head h on made low

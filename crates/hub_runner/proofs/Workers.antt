@@ -1,5 +1,6 @@
 -- One process and its script.
-use Rattle.std.proofs.Common.{◌≡◌, ℕ, ◌&&◌, ◌⊎◌, inl, inr, Bool, true, false, List, [], ◌∷◌, ◌++◌, refl, ap, ◌∙◌, sym, subst, Some, Result, Ok, Err, IfOk, append_assoc, drop, ◌+◌, ◌≤◌, ◌<◌, length, get_or, add-one, arith}
+use Rattle.std.proofs.Common.{◌≡◌, ℕ, ◌&&◌, ◌⊎◌, inl, inr, Bool, true, false, List, [], ◌∷◌, ◌++◌, refl, ap, ◌∙◌, sym, subst}
+use Rattle.std.proofs.Common.{Some, Result, Ok, Err, IfOk, append_assoc, drop, ◌+◌, ◌≤◌, ◌<◌, length, get_or, add-one, arith}
 use Rattle.std.proofs.Math.Seq.{drop-cons}
 use Rattle.std.proofs.lemmas.Bool.{and_parts}
 use Rattle.hub_base.specs.declared.value.Pid.{Pid}
@@ -25,15 +26,20 @@ use Rattle.hub_runner.proofs.Askings.{answered, asked-gains}
 
 -- ---- one entry
 
-pub made_asks : (s t : SeatView) (asking : Step) (x : Event) → IsFree s → Later s t → Made s t asking x → asked_of t ≡ asked_of s ++ answered asking (Some x) ∷ []
+pub made_asks : (s t : SeatView) (asking : Step) (x : Event) → IsFree s → Later s t → Made s t asking x
+    → asked_of t ≡ asked_of s ++ answered asking (Some x) ∷ []
 made_asks s t asking x free later made =
-    let own_is : own s.pid.0 t.seen ≡ own s.pid.0 s.seen ++ entry_of s asking ∷ [] = subst (λ (p : Pid). own p.0 t.seen ≡ own s.pid.0 s.seen ++ entry_of s asking ∷ []) later.pid made.own in
+    let own_is : own s.pid.0 t.seen ≡ own s.pid.0 s.seen ++ entry_of s asking ∷ [] =
+    subst (λ (p : Pid). own p.0 t.seen ≡ own s.pid.0 s.seen ++ entry_of s asking ∷ []) later.pid made.own in
     let told : reply s.pid.0 s.hub.terms.head t.seen ≡ Some x = (λ i. reply (sym later.pid i).0 (sym later.hub i).terms.head t.seen) ∙ made.reply in
-    (λ i. asked (later.pid i).0 (later.hub i).terms.head t.seen) ∙ asked-gains s.pid.0 s.hub.terms.head s.seen t.seen (entry_of s asking) x later.begins own_is free told
+    (λ i. asked (later.pid i).0 (later.hub i).terms.head t.seen)
+    ∙ asked-gains s.pid.0 s.hub.terms.head s.seen t.seen (entry_of s asking) x later.begins own_is free told
 
 -- the same of a call's result, by what the script's step asks
-pub made_ok : (s t : SeatView) (asking wanted : Step) (r : Result Event Fault) → asking ≡ wanted → IsFree s → Later s t → IfOk r (λ x. Made s t asking x) → IfOk r (λ x. asked_of t ≡ asked_of s ++ answered wanted (Some x) ∷ [])
-made_ok s t asking wanted (Ok x) is free later made = subst (λ (w : Step). asked_of t ≡ asked_of s ++ answered w (Some x) ∷ []) is (made_asks s t asking x free later made)
+pub made_ok : (s t : SeatView) (asking wanted : Step) (r : Result Event Fault) → asking ≡ wanted → IsFree s → Later s t
+    → IfOk r (λ x. Made s t asking x) → IfOk r (λ x. asked_of t ≡ asked_of s ++ answered wanted (Some x) ∷ [])
+made_ok s t asking wanted (Ok x) is free later made =
+    subst (λ (w : Step). asked_of t ≡ asked_of s ++ answered w (Some x) ∷ []) is (made_asks s t asking x free later made)
 made_ok s t asking wanted (Err f) is free later made = tt
 
 -- ---- the seat
@@ -43,7 +49,8 @@ still_onward s t u o l = record { hub = l.hub ∙ o.hub; pid = l.pid ∙ o.pid; 
 
 -- ---- the script
 
-pub leads_trans : (a b c : List Asked) (words : ℕ → ℕ) (s r t : List ScriptStep) (i j k : ℕ) → Leads a b words s i r j → Leads b c words r j t k → Leads a c words s i t k
+pub leads_trans : (a b c : List Asked) (words : ℕ → ℕ) (s r t : List ScriptStep) (i j k : ℕ) → Leads a b words s i r j
+    → Leads b c words r j t k → Leads a c words s i t k
 leads_trans a b c words s r t i j k p q = record {
   made = p.made ++ q.made;
   now_is = q.now_is ∙ ap (λ zs. zs ++ q.made) p.now_is ∙ append_assoc a p.made q.made;
@@ -55,7 +62,8 @@ follows_at words more r t i j e f h = subst (λ (z : List ScriptStep). Follows z
 
 -- the first step of a script, once
 pub leads_step : (a b : List Asked) (words : ℕ → ℕ) (s : ScriptStep) (rest : List ScriptStep) (j word : ℕ) (x : Event) (after : List ScriptStep) (k : ℕ)
-    → b ≡ a ++ answered (asks s word) (Some x) ∷ [] → asks s word ≡ asks s (words j) → left s rest (Some x) ≡ after → taken_after s j ≡ k → Leads a b words (s ∷ rest) j after k
+    → b ≡ a ++ answered (asks s word) (Some x) ∷ [] → asks s word ≡ asks s (words j) → left s rest (Some x) ≡ after → taken_after s j ≡ k
+    → Leads a b words (s ∷ rest) j after k
 leads_step a b words s rest j word x after k is chosen then next = record {
   made = answered (asks s word) (Some x) ∷ [];
   now_is = is;
@@ -65,10 +73,12 @@ leads_step a b words s rest j word x after k is chosen then next = record {
 pub left_stalled : (s : ScriptStep) (rest : List ScriptStep) (x : Event) → is_stalled x.what ≡ true → left s rest (Some x) ≡ []
 left_stalled s rest x h = rw h refl
 
-pub left_range : (s : ScriptStep) (rest : List ScriptStep) (x : Event) → is_stalled x.what ≡ false → is_range s ≡ true → gets x.what ≡ true → left s rest (Some x) ≡ s ∷ rest
+pub left_range : (s : ScriptStep) (rest : List ScriptStep) (x : Event) → is_stalled x.what ≡ false → is_range s ≡ true → gets x.what ≡ true
+    → left s rest (Some x) ≡ s ∷ rest
 left_range s rest x h r g = rw (h, r, g) refl
 
-pub left_done : (s : ScriptStep) (rest : List ScriptStep) (x : Event) → is_stalled x.what ≡ false → (is_range s && gets x.what) ≡ false → left s rest (Some x) ≡ rest
+pub left_done : (s : ScriptStep) (rest : List ScriptStep) (x : Event) → is_stalled x.what ≡ false → (is_range s && gets x.what) ≡ false
+    → left s rest (Some x) ≡ rest
 left_done s rest x h r = rw (h, r) refl
 
 pub word_kept : (s : ScriptStep) (j : ℕ) → is_range s ≡ true → taken_after s j ≡ j
@@ -83,21 +93,24 @@ recv_asks s p word h = elim h [ inl e ↦ ap (λ (z : ScriptStep). asks z word) 
 
 -- the last step of a script that goes on, or not
 pub leads_end : (a b c : List Asked) (words : ℕ → ℕ) (s : ScriptStep) (rest : List ScriptStep) (j word : ℕ) (x : Event) (goes_on : Bool)
-    → Leads a b words (s ∷ rest) j (s ∷ rest) j → c ≡ b ++ answered (asks s word) (Some x) ∷ [] → asks s word ≡ asks s (words j) → left s rest (Some x) ≡ goes_on_with goes_on rest
-    → Leads a c words (s ∷ rest) j (goes_on_with goes_on rest) (taken_after s j)
+    → Leads a b words (s ∷ rest) j (s ∷ rest) j → c ≡ b ++ answered (asks s word) (Some x) ∷ [] → asks s word ≡ asks s (words j)
+    → left s rest (Some x) ≡ goes_on_with goes_on rest → Leads a c words (s ∷ rest) j (goes_on_with goes_on rest) (taken_after s j)
 leads_end a b c words s rest j word x goes_on p is chosen then =
-    leads_trans a b c words (s ∷ rest) (s ∷ rest) (goes_on_with goes_on rest) j j (taken_after s j) p (leads_step b c words s rest j word x (goes_on_with goes_on rest) (taken_after s j) is chosen then refl)
+    leads_trans a b c words (s ∷ rest) (s ∷ rest) (goes_on_with goes_on rest) j j (taken_after s j) p
+    (leads_step b c words s rest j word x (goes_on_with goes_on rest) (taken_after s j) is chosen then refl)
 
 -- a range that goes on
 pub leads_again : (a b c : List Asked) (words : ℕ → ℕ) (s : ScriptStep) (rest : List ScriptStep) (j word : ℕ) (x : Event)
-    → Leads a b words (s ∷ rest) j (s ∷ rest) j → c ≡ b ++ answered (asks s word) (Some x) ∷ [] → asks s word ≡ asks s (words j) → is_stalled x.what ≡ false → (is_range s && gets x.what) ≡ true
-    → Leads a c words (s ∷ rest) j (s ∷ rest) j
+    → Leads a b words (s ∷ rest) j (s ∷ rest) j → c ≡ b ++ answered (asks s word) (Some x) ∷ [] → asks s word ≡ asks s (words j)
+    → is_stalled x.what ≡ false → (is_range s && gets x.what) ≡ true → Leads a c words (s ∷ rest) j (s ∷ rest) j
 leads_again a b c words s rest j word x p is chosen h r =
     let both = and_parts (is_range s) (gets x.what) r in
-    leads_trans a b c words (s ∷ rest) (s ∷ rest) (s ∷ rest) j j j p (leads_step b c words s rest j word x (s ∷ rest) j is chosen (left_range s rest x h both.0 both.1) (word_kept s j both.0))
+    leads_trans a b c words (s ∷ rest) (s ∷ rest) (s ∷ rest) j j j p
+    (leads_step b c words s rest j word x (s ∷ rest) j is chosen (left_range s rest x h both.0 both.1) (word_kept s j both.0))
 
 -- the whole script, and then an exit
-pub followed : (a b c : List Asked) (words : ℕ → ℕ) (script : List ScriptStep) (k : ℕ) (x : Event) → Leads a b words script 0 [] k → c ≡ b ++ answered step.Exit (Some x) ∷ [] → Followed a c words script
+pub followed : (a b c : List Asked) (words : ℕ → ℕ) (script : List ScriptStep) (k : ℕ) (x : Event) → Leads a b words script 0 [] k
+    → c ≡ b ++ answered step.Exit (Some x) ∷ [] → Followed a c words script
 followed a b c words script k x p is = record {
   made = p.made ++ answered step.Exit (Some x) ∷ [];
   now_is = is ∙ ap (λ zs. zs ++ answered step.Exit (Some x) ∷ []) p.now_is ∙ append_assoc a p.made (answered step.Exit (Some x) ∷ []);
@@ -106,9 +119,10 @@ followed a b c words script k x p is = record {
 
 -- from one step of a script to the next, which takes the choice words from where the one before left them
 pub leads_next : (a b c : List Asked) (seed given : ℕ) (script : List ScriptStep) (i used k word : ℕ) (s : ScriptStep) (taken goes_on : Bool)
-    → given ≡ seed → drop i script ≡ s ∷ drop (i + 1) script → Leads a b (choice_word seed) script 0 (drop i script) used → asks s word ≡ asks s (choice_word given used)
-    → ((words : ℕ → ℕ) (rest : List ScriptStep) (j : ℕ) → asks s word ≡ asks s (words j) → Leads b c words (s ∷ rest) j (goes_on_with taken rest) (taken_after s j))
-    → taken ≡ goes_on → k ≡ taken_after s used → Leads a c (choice_word seed) script 0 (goes_on_with goes_on (drop (i + 1) script)) k
+    → given ≡ seed → drop i script ≡ s ∷ drop (i + 1) script → Leads a b (choice_word seed) script 0 (drop i script) used
+    → asks s word ≡ asks s (choice_word given used) → ((words : ℕ → ℕ) (rest : List ScriptStep) (j : ℕ) → asks s word ≡ asks s (words j)
+    → Leads b c words (s ∷ rest) j (goes_on_with taken rest) (taken_after s j)) → taken ≡ goes_on → k ≡ taken_after s used
+    → Leads a c (choice_word seed) script 0 (goes_on_with goes_on (drop (i + 1) script)) k
 leads_next a b c seed given script i used k word s taken goes_on same cut p chosen takes is drawn =
     let rest = drop (i + 1) script in
     let next = takes (choice_word seed) rest used (chosen ∙ ap (λ (n : ℕ). asks s (choice_word n used)) same) in

@@ -1,5 +1,6 @@
 -- Each fault has its cause.
-use Rattle.std.proofs.Common.{◌≡◌, ◌≤◌, ◌<◌, ℕ, ◌∙◌, Bool, true, false, ◌&&◌, nat_le, nat_lt, List, length, Option, None, Some, Result, Ok, Err, refl, ap, sym, subst, arith, if◌then◌else◌, IsUtf8}
+use Rattle.std.proofs.Common.{◌≡◌, ◌≤◌, ◌<◌, ℕ, ◌∙◌, Bool, true, false, ◌&&◌, nat_le, nat_lt, List, length, Option}
+use Rattle.std.proofs.Common.{None, Some, Result, Ok, Err, refl, ap, sym, subst, arith, if◌then◌else◌, IsUtf8}
 use Rattle.std.specs.Result.{is_ok}
 use Rattle.std.specs.Str.{is_utf8}
 use Rattle.std.specs.Cmp.{first_so, second_so}
@@ -11,7 +12,8 @@ use Rattle.toml.specs.Parse.{parse_document}
 use Rattle.hub_base.specs.declared.limits.TheConstants.{MOST_PROCS, MOST_STEPS}
 use Rattle.hub_scenario.specs.declared.limits.TheConstants.{MOST_FILE_BYTES, GREATEST_SEED}
 use Rattle.hub_scenario.specs.declared.fault.ScenarioFault.{ScenarioFault}
-use Rattle.hub_scenario.specs.declared.fault.ScenarioFault.TheVariants.{TooLong, BadToml, BadKey, BadSeed, BadLimit, BadPorts, BadProcesses, BadScript, NoMemory}
+use Rattle.hub_scenario.specs.declared.fault.ScenarioFault.TheVariants.{TooLong, BadToml, BadKey, BadSeed, BadLimit}
+use Rattle.hub_scenario.specs.declared.fault.ScenarioFault.TheVariants.{BadPorts, BadProcesses, BadScript, NoMemory}
 use Rattle.hub_scenario.specs.declared.script.ScriptStep.{ScriptStep}
 use Rattle.hub_scenario.specs.Causes.{SeedPasses, LimitPasses, PortsPass, ProcessesPass, AreProcesses, IsCause, IsCauseIn, IsSound, IsSoundIn}
 use Rattle.hub_scenario.specs.Faults.{must, ◌>>=◌}
@@ -55,12 +57,14 @@ script-case : (ms : Members) (f : FrameData) (e : ScenarioFault) → ProcessesPa
 script-case ms f e passes h =
     let (q, k, is, first) = first-bad f.process e h in subst (IsCause ms) (sym is) (f, passes, first)
 
-scripts-case : (ms : Members) (f : FrameData) (e : ScenarioFault) (b : Bool) → PortsPass ms f → (nat_le 1 (length f.process) && nat_le (length f.process) MOST_PROCS) ≡ b
+scripts-case : (ms : Members) (f : FrameData) (e : ScenarioFault) (b : Bool) → PortsPass ms f
+    → (nat_le 1 (length f.process) && nat_le (length f.process) MOST_PROCS) ≡ b
     → (if b then scripts_from 0 f.process else Err BadProcesses) ≡ Err e → IsCause ms e
 scripts-case ms f e false passes is h = told ms BadProcesses e _ refl h (f, passes, not_counted f.process is)
 scripts-case ms f e true passes is h = script-case ms f e (passes, counted f.process is) h
 
-with_scripts-err : (seed limit : ℕ) (ports : List ℕ) (r : Result (List (List ScriptStep)) ScenarioFault) (e : ScenarioFault) → with_scripts seed limit ports r ≡ Err e → r ≡ Err e
+with_scripts-err : (seed limit : ℕ) (ports : List ℕ) (r : Result (List (List ScriptStep)) ScenarioFault) (e : ScenarioFault)
+    → with_scripts seed limit ports r ≡ Err e → r ≡ Err e
 with_scripts-err seed limit ports (Ok ss) e h = absurd (false≢true (sym (ap is_ok h)))
 with_scripts-err seed limit ports (Err a) e h = ap Err (same_err a e _ h refl)
 
@@ -104,7 +108,8 @@ told_in : {T : Type 0} (bytes : List ℕ) (a e : ScenarioFault) (r : Result T Sc
 told_in bytes a e r is h why = subst (IsCauseIn bytes) (same_err a e r h is) why
 
 -- the cause of a tree is one of its bytes
-of_tree : (bytes : List ℕ) (ms : Members) (e : ScenarioFault) → length bytes ≤ MOST_FILE_BYTES → IsUtf8 bytes → parse_document bytes ≡ Some ms → IsCause ms e → IsCauseIn bytes e
+of_tree : (bytes : List ℕ) (ms : Members) (e : ScenarioFault) → length bytes ≤ MOST_FILE_BYTES → IsUtf8 bytes → parse_document bytes ≡ Some ms
+    → IsCause ms e → IsCauseIn bytes e
 of_tree bytes ms TooLong short utf8 is why = absurd why
 of_tree bytes ms BadToml short utf8 is why = absurd why
 of_tree bytes ms BadKey short utf8 is why = (ms, short, utf8, is, why)
@@ -115,8 +120,8 @@ of_tree bytes ms BadProcesses short utf8 is why = (ms, short, utf8, is, why)
 of_tree bytes ms (BadScript p k) short utf8 is why = (ms, short, utf8, is, why)
 of_tree bytes ms NoMemory short utf8 is why = absurd why
 
-tree-case : (bytes : List ℕ) (e : ScenarioFault) (b : Bool) (o : Option Members) → length bytes ≤ MOST_FILE_BYTES → is_utf8 bytes ≡ b → parse_document bytes ≡ o
-    → ((if b then must BadToml o else Err BadToml) >>= scenario_of) ≡ Err e → IsCauseIn bytes e
+tree-case : (bytes : List ℕ) (e : ScenarioFault) (b : Bool) (o : Option Members) → length bytes ≤ MOST_FILE_BYTES → is_utf8 bytes ≡ b
+    → parse_document bytes ≡ o → ((if b then must BadToml o else Err BadToml) >>= scenario_of) ≡ Err e → IsCauseIn bytes e
 tree-case bytes e false o short utf8 is h =
     told_in bytes BadToml e _ refl h (short, λ u. absurd (false≢true (sym utf8 ∙ is_utf8-from_IsUtf8 bytes u)))
 tree-case bytes e true None short utf8 is h = told_in bytes BadToml e _ refl h (short, λ u. is)
@@ -138,11 +143,13 @@ cause_in bytes e h = long-case bytes e (nat_lt MOST_FILE_BYTES (length bytes)) r
 abbrev Sound : Members → Type 0
 Sound ms = (f : FrameData) × IsSound ms f
 
-with_scripts-ok : (seed limit : ℕ) (ports : List ℕ) (r : Result (List (List ScriptStep)) ScenarioFault) (s : ScenarioData) → with_scripts seed limit ports r ≡ Ok s → (all : List (List ScriptStep)) × (r ≡ Ok all)
+with_scripts-ok : (seed limit : ℕ) (ports : List ℕ) (r : Result (List (List ScriptStep)) ScenarioFault) (s : ScenarioData)
+    → with_scripts seed limit ports r ≡ Ok s → (all : List (List ScriptStep)) × (r ≡ Ok all)
 with_scripts-ok seed limit ports (Ok all) s h = (all, refl)
 with_scripts-ok seed limit ports (Err a) s h = absurd (fails s a h)
 
-sound_scripts-case : (ms : Members) (f : FrameData) (all : List (List ScriptStep)) (b : Bool) → PortsPass ms f → (nat_le 1 (length f.process) && nat_le (length f.process) MOST_PROCS) ≡ b
+sound_scripts-case : (ms : Members) (f : FrameData) (all : List (List ScriptStep)) (b : Bool)
+    → PortsPass ms f → (nat_le 1 (length f.process) && nat_le (length f.process) MOST_PROCS) ≡ b
     → (if b then scripts_from 0 f.process else Err BadProcesses) ≡ Ok all → Sound ms
 sound_scripts-case ms f all false passes is h = absurd (fails all BadProcesses h)
 sound_scripts-case ms f all true passes is h = (
@@ -177,8 +184,8 @@ sound_frame-case : (ms : Members) (s : ScenarioData) (r : Result FrameData Scena
 sound_frame-case ms s (Ok f) is h = sound_seed-case ms f s (within 0 GREATEST_SEED f.seed) is refl h
 sound_frame-case ms s (Err a) is h = absurd (fails s a h)
 
-sound_tree-case : (bytes : List ℕ) (s : ScenarioData) (b : Bool) (o : Option Members) → length bytes ≤ MOST_FILE_BYTES → is_utf8 bytes ≡ b → parse_document bytes ≡ o
-    → ((if b then must BadToml o else Err BadToml) >>= scenario_of) ≡ Ok s → IsSoundIn bytes
+sound_tree-case : (bytes : List ℕ) (s : ScenarioData) (b : Bool) (o : Option Members) → length bytes ≤ MOST_FILE_BYTES → is_utf8 bytes ≡ b
+    → parse_document bytes ≡ o → ((if b then must BadToml o else Err BadToml) >>= scenario_of) ≡ Ok s → IsSoundIn bytes
 sound_tree-case bytes s false o short utf8 is h = absurd (fails s BadToml h)
 sound_tree-case bytes s true None short utf8 is h = absurd (fails s BadToml h)
 sound_tree-case bytes s true (Some ms) short utf8 is h =

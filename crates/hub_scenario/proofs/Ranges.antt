@@ -45,7 +45,8 @@ capacities-by : (ds : Items) → capacities_of ds ≡ all_by capacity_of ds
 capacities-by no_items = refl
 capacities-by (item d ds) = ap (cons_some (capacity_of d)) (capacities-by ds)
 
-ports-some-case : (ds : Items) (ns : List ℕ) (b : Bool) → nat_le (count_items ds) MOST_PORTS ≡ b → (if b then capacities_of ds else None) ≡ Some ns → ArePorts ds
+ports-some-case : (ds : Items) (ns : List ℕ) (b : Bool) → nat_le (count_items ds) MOST_PORTS ≡ b
+    → (if b then capacities_of ds else None) ≡ Some ns → ArePorts ds
 ports-some-case ds ns false is h = absurd (apart ns None h refl)
 ports-some-case ds ns true is h = (
   at_most (count_items ds) MOST_PORTS is,

@@ -21,5 +21,6 @@ by-tree bytes ms few tree = short bytes few ∙ ap (λ t. t >>= scenario_of) tre
 pub no-frame : (ms : Members) (e : ScenarioFault) → frame_of ms ≡ Err e → scenario_of ms ≡ Err e
 no-frame ms e frame = ap (λ f. f >>= values_of) frame
 
-pub by-both : (bytes : List ℕ) (ms : Members) (f : FrameData) → length bytes ≤ MOST_FILE_BYTES → tree_of bytes ≡ Ok ms → frame_of ms ≡ Ok f → reading bytes ≡ values_of f
+pub by-both : (bytes : List ℕ) (ms : Members) (f : FrameData) → length bytes ≤ MOST_FILE_BYTES → tree_of bytes ≡ Ok ms → frame_of ms ≡ Ok f
+    → reading bytes ≡ values_of f
 by-both bytes ms f few tree frame = by-tree bytes ms few tree ∙ ap (λ f. f >>= values_of) frame

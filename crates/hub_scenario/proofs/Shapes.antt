@@ -1,5 +1,6 @@
 -- What the tests of keys and kinds say of a table.
-use Rattle.std.proofs.Common.{◌≡◌, ℕ, zero, suc, ◌∙◌, ℤ, pos, Bool, true, false, ◌&&◌, List, [], ◌∷◌, codes, Option, None, Some, IsSome, IfSome, Ok, Err, refl, ap, sym, if◌then◌else◌}
+use Rattle.std.proofs.Common.{◌≡◌, ℕ, zero, suc, ◌∙◌, ℤ, pos, Bool, true, false, ◌&&◌, List, [], ◌∷◌, codes}
+use Rattle.std.proofs.Common.{Option, None, Some, IsSome, IfSome, Ok, Err, refl, ap, sym, if◌then◌else◌}
 use Rattle.std.specs.Option.{IsSomeAnd, is_some, option_and_then, option_map}
 use Rattle.std.specs.Result.{is_ok}
 use Rattle.std.specs.Cmp.Lexicographic.{slice_cmp}
@@ -95,7 +96,8 @@ all-some-case test Is d ds (Some x) None all is h passes rest i = absurd (apart 
 all-some-case test Is d ds (Some x) (Some xs) all is h passes rest zero = passes x is
 all-some-case test Is d ds (Some x) (Some xs) all is h passes rest (suc i) = rest xs refl i
 
-pub all-some : {A : Type 0} (test : Data → Option A) (Is : Data → Type 0) → ((d : Data) (x : A) → test d ≡ Some x → Is d) → (ds : Items) (all : List A) → all_by test ds ≡ Some all → Each Is ds
+pub all-some : {A : Type 0} (test : Data → Option A) (Is : Data → Type 0) → ((d : Data) (x : A) → test d ≡ Some x → Is d)
+    → (ds : Items) (all : List A) → all_by test ds ≡ Some all → Each Is ds
 all-some test Is passes no_items all h i = tt
 all-some test Is passes (item d ds) all h i =
     all-some-case test Is d ds (test d) (all_by test ds) all refl h (passes d) (all-some test Is passes ds) i
@@ -106,13 +108,15 @@ all-none-case test Is d ds None r is h fails rest each = fails is (each 0)
 all-none-case test Is d ds (Some x) None is h fails rest each = rest refl (λ i. each (suc i))
 all-none-case test Is d ds (Some x) (Some xs) is h fails rest each = apart (x ∷ xs) (Some (x ∷ xs)) refl h
 
-pub all-none : {A : Type 0} (test : Data → Option A) (Is : Data → Type 0) → ((d : Data) → test d ≡ None → Is d → ⊥) → (ds : Items) → all_by test ds ≡ None → Each Is ds → ⊥
+pub all-none : {A : Type 0} (test : Data → Option A) (Is : Data → Type 0) → ((d : Data) → test d ≡ None → Is d → ⊥) → (ds : Items)
+    → all_by test ds ≡ None → Each Is ds → ⊥
 all-none test Is fails no_items h each = apart [] (Some []) refl h
 all-none test Is fails (item d ds) h each =
     all-none-case test Is d ds (test d) (all_by test ds) refl h (fails d) (all-none test Is fails ds) each
 
 -- ---- processes
-process-case : (ds : Items) (ms : Members) (b : Bool) → keys_known Process ms ≡ b → (if b then array_at (get_member (codes "steps") ms) else None) ≡ Some ds → IsProcess (table ms)
+process-case : (ds : Items) (ms : Members) (b : Bool) → keys_known Process ms ≡ b
+    → (if b then array_at (get_member (codes "steps") ms) else None) ≡ Some ds → IsProcess (table ms)
 process-case ds ms false is h = absurd (apart ds None h refl)
 process-case ds ms true is h = (ms, refl, keys-known Process ms is, is_array ds (get_member (codes "steps") ms) h)
 
@@ -120,7 +124,8 @@ steps-some : (d : Data) (ds : Items) → steps_of d ≡ Some ds → IsProcess d
 steps-some (table ms) ds h = process-case ds ms (keys_known Process ms) refl h
 steps-some other ds h = absurd (apart ds None h refl)
 
-no_process-case : (ms : Members) (b : Bool) → keys_known Process ms ≡ b → (if b then array_at (get_member (codes "steps") ms) else None) ≡ None → HasOnly Process ms → IsSomeAnd (get_member (codes "steps") ms) IsArray → ⊥
+no_process-case : (ms : Members) (b : Bool) → keys_known Process ms ≡ b → (if b then array_at (get_member (codes "steps") ms) else None) ≡ None
+    → HasOnly Process ms → IsSomeAnd (get_member (codes "steps") ms) IsArray → ⊥
 no_process-case ms false is h only steps = keys-unknown Process ms is only
 no_process-case ms true is h only steps = array-none (get_member (codes "steps") ms) h steps
 
@@ -131,7 +136,8 @@ all_steps-by : (ds : Items) → all_steps ds ≡ all_by steps_of ds
 all_steps-by no_items = refl
 all_steps-by (item d ds) = ap (cons_some (steps_of d)) (all_steps-by ds)
 
-processes-some-case : (o : Option Data) (r : Option Items) (all : List Items) → array_at o ≡ r → option_and_then all_steps r ≡ Some all → IsSomeAnd o (IsArrayOf IsProcess)
+processes-some-case : (o : Option Data) (r : Option Items) (all : List Items) → array_at o ≡ r → option_and_then all_steps r ≡ Some all
+    → IsSomeAnd o (IsArrayOf IsProcess)
 processes-some-case o None all is h = absurd (apart all None h refl)
 processes-some-case o (Some ds) all is h =
     rw (array-some ds o is) (ds, refl, all-some steps_of IsProcess steps-some ds all (sym (all_steps-by ds) ∙ h))
@@ -175,7 +181,8 @@ no_shape-case ms e false s l p q known seed limit ports process h has = keys-unk
 no_shape-case ms e true None l p q known seed limit ports process h has = whole-none (pos 0) (get_member (codes "seed") ms) seed has.seed
 no_shape-case ms e true (Some s) None p q known seed limit ports process h has = whole-none (pos DEFAULT_LIMIT) (get_member (codes "limit") ms) limit has.limit
 no_shape-case ms e true (Some s) (Some l) None q known seed limit ports process h has = array-none (get_member (codes "ports") ms) ports has.ports
-no_shape-case ms e true (Some s) (Some l) (Some p) None known seed limit ports process h has = processes-none (get_member (codes "process") ms) process has.process
+no_shape-case ms e true (Some s) (Some l) (Some p) None known seed limit ports process h has =
+    processes-none (get_member (codes "process") ms) process has.process
 no_shape-case ms e true (Some s) (Some l) (Some p) (Some q) known seed limit ports process h has = false≢true (sym (ap is_ok h))
 
 -- and one that does not pass has not

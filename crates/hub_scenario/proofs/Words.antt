@@ -17,7 +17,8 @@ unfolding choice_word
 output seed j = refl
 
 -- from output j on, the generator gives output j, and then stands at output j + 1
-pub generator_next : (seed j : ℕ) (now : List ℕ) (word : ℕ) (next : List ℕ) → now ≡ generator_at seed j → (word, next) ≡ plus_plus now → next ≡ generator_at seed (j + 1)
+pub generator_next : (seed j : ℕ) (now : List ℕ) (word : ℕ) (next : List ℕ) → now ≡ generator_at seed j → (word, next) ≡ plus_plus now
+    → next ≡ generator_at seed (j + 1)
 generator_next seed j now word next at step =
     ap (λ p. p.1) step ∙ ap (λ g. (plus_plus g).1) at ∙ sym (one_more seed j)
 

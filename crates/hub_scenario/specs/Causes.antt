@@ -9,7 +9,8 @@ use Rattle.hub_scenario.specs.declared.limits.TheConstants.{MOST_FILE_BYTES, GRE
 use Rattle.hub_scenario.specs.declared.keys.Owner.{Owner}
 use Rattle.hub_scenario.specs.declared.keys.Owner.TheVariants.{File, Process}
 use Rattle.hub_scenario.specs.declared.fault.ScenarioFault.{ScenarioFault}
-use Rattle.hub_scenario.specs.declared.fault.ScenarioFault.TheVariants.{TooLong, BadToml, BadKey, BadSeed, BadLimit, BadPorts, BadProcesses, BadScript, NoMemory}
+use Rattle.hub_scenario.specs.declared.fault.ScenarioFault.TheVariants.{TooLong, BadToml, BadKey, BadSeed, BadLimit}
+use Rattle.hub_scenario.specs.declared.fault.ScenarioFault.TheVariants.{BadPorts, BadProcesses, BadScript, NoMemory}
 use Rattle.hub_scenario.specs.Firsts.{FirstBadScript, AllSteps}
 use Rattle.hub_scenario.specs.Frames.{FrameData, frame_of}
 use Rattle.hub_scenario.specs.Keys.{is_key}

@@ -8,7 +8,8 @@ pub returns-in_err-write_whole-clause-beginning : goal.returns-in_err-write_whol
 returns-in_err-write_whole-clause-beginning g c =
     let (written, split, appended, same) = c.loop-piece.invariant in
     if_err c.from_residual.result
-    (piece-begun c.args.pieces.now c.loop-piece.piece-index _ _ c.as_bytes.ensures.value (search rules) written _ _ _ split appended c.in_err-write_whole.ensures.beginning)
+    (piece-begun c.args.pieces.now c.loop-piece.piece-index _ _ c.as_bytes.ensures.value
+    (search rules) written _ _ _ split appended c.in_err-write_whole.ensures.beginning)
 
 pub loop-piece-preserved : goal.loop-piece-preserved
 loop-piece-preserved g c =

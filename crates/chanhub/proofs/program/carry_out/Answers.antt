@@ -1,7 +1,8 @@
 use Rattle.std.proofs.Common.{◌≡◌, true, false, rules, refl}
 use Rattle.std.proofs.lemmas.Result.{IfErr-weaker, IfOk-weaker}
 use Rattle.chanhub.specs.Refusals.{of_arguments}
-use Rattle.chanhub.proofs.Carried.{begun-replay, begun-run, begun-verify, has-run, has-verified, refused-more, refused-arguments, refused-replay, refused-run, refused-verify}
+use Rattle.chanhub.proofs.Carried.{begun-replay, begun-run, begun-verify, has-run, has-verified}
+use Rattle.chanhub.proofs.Carried.{refused-more, refused-arguments, refused-replay, refused-run, refused-verify}
 use Rattle.chanhub.proofs.Refused.{handed}
 use Rattle.chanhub.proofs.program.carry_out.Goals as goal
 

@@ -15,7 +15,8 @@ one c = closes_one c.args.port c.loop-ended.board.waiting (ending_of c.in-Some.e
 
 pub loop-ended-smaller : goal.loop-ended-smaller
 loop-ended-smaller c =
-    let left : length c.take.new.self.waiting ≡ length (ended_by c.in-Some.ended.pid c.loop-ended.board).waiting = ap (λ (b : Lists). length b.waiting) c.in-Some.ensures.left in
+    let left : length c.take.new.self.waiting ≡ length (ended_by c.in-Some.ended.pid c.loop-ended.board).waiting =
+    ap (λ (b : Lists). length b.waiting) c.in-Some.ensures.left in
     omega (arith, left, (one c).fewer)
 
 pub loop-ended-preserved : goal.loop-ended-preserved
@@ -30,7 +31,8 @@ loop-ended-preserved c =
       events =
           ap (λ (es : List Event). es ++ closing_events c.args.port (ended_by c.in-Some.ended.pid c.loop-ended.board).waiting)
           (c.push.ensures.items ∙ ap (λ (e : Event). c.loop-ended.events.items ++ e ∷ []) c.closing_event.ensures)
-          ∙ append_assoc c.loop-ended.events.items (fired c.in-Some.ended.pid c.in-Some.ended.index (closing_outcome c.in-Some.ended.case) ∷ []) (closing_events c.args.port (ended_by c.in-Some.ended.pid c.loop-ended.board).waiting)
+          ∙ append_assoc c.loop-ended.events.items (fired c.in-Some.ended.pid c.in-Some.ended.index (closing_outcome c.in-Some.ended.case) ∷ [])
+          (closing_events c.args.port (ended_by c.in-Some.ended.pid c.loop-ended.board).waiting)
           ∙ ap (λ (es : List Event). c.loop-ended.events.items ++ es) (sym (one c).events)
           ∙ c.loop-ended.invariant.events;
     })

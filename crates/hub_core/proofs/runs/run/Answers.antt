@@ -13,12 +13,14 @@ loop-index-preserved c =
 
 pub returns-in-Err-answer-clause-refused : goal.returns-in-Err-answer-clause-refused
 returns-in-Err-answer-clause-refused c =
-    refuses_at (terms_of c.args.procs c.args.limit) c.args.entries.now c.loop-index.index c.index-entries-index.result _ _ c.in-Err-answer.fault c.loop-index.invariant
+    refuses_at (terms_of c.args.procs c.args.limit) c.args.entries.now c.loop-index.index c.index-entries-index.result _ _
+    c.in-Err-answer.fault c.loop-index.invariant
     (entry_at c.args.entries.now c.loop-index.index c.index-entries-index.result (omega arith) c.index-entries-index.is) c.in-Err-answer.ensures.err
 
 pub returns-clause-received_then_buffered : goal.returns-clause-received_then_buffered
 returns-clause-received_then_buffered c =
-    values_kept (terms_of c.args.procs c.args.limit) c.args.entries.now _ _ (run_whole (terms_of c.args.procs c.args.limit) c.args.entries.now c.loop-index.index _ _ c.loop-index.invariant (omega arith))
+    values_kept (terms_of c.args.procs c.args.limit) c.args.entries.now _ _
+    (run_whole (terms_of c.args.procs c.args.limit) c.args.entries.now c.loop-index.index _ _ c.loop-index.invariant (omega arith))
 
 pub returns-clause-at_most_one_case : goal.returns-clause-at_most_one_case
 returns-clause-at_most_one_case c = once-law (head_of c.args.procs) c.args.entries.now

@@ -16,7 +16,8 @@ one c = stops_one c.loop-pid.board.waiting c.in-Some.pid c.loop-pid.invariant.ap
 
 pub loop-pid-smaller : goal.loop-pid-smaller
 loop-pid-smaller c =
-    let left : length c.stop.new.self.waiting ≡ length (ended_by c.in-Some.pid c.loop-pid.board).waiting = ap (λ (b : Lists). length b.waiting) c.in-Some.ensures.left in
+    let left : length c.stop.new.self.waiting ≡ length (ended_by c.in-Some.pid c.loop-pid.board).waiting =
+    ap (λ (b : Lists). length b.waiting) c.in-Some.ensures.left in
     omega (arith, left, (one c).fewer)
 
 pub loop-pid-preserved : goal.loop-pid-preserved
@@ -42,4 +43,5 @@ returns-clause-board c =
 pub returns-clause-events : goal.returns-clause-events
 returns-clause-events c =
     let none = stops_none c.loop-pid.board.waiting c.in_default.ensures.oldest in
-    sym (append-nil c.loop-pid.events.items) ∙ ap (λ (ws : List Ticketed). c.loop-pid.events.items ++ stalled_events ws) (sym none) ∙ c.loop-pid.invariant.events
+    sym (append-nil c.loop-pid.events.items) ∙ ap (λ (ws : List Ticketed). c.loop-pid.events.items ++ stalled_events ws) (sym none)
+    ∙ c.loop-pid.invariant.events

@@ -12,5 +12,6 @@ loop-pid-preserved c =
     let name = name_of c.args.table.now.shared.table_id c.args.table.now.shared.key in
     let pid : c.loop-pid.pid ≡ 0 + length c.loop-pid.seats.items = search rules in
     let is : c.of.result ≡ record { hub = name; pid = record { 0 = 0 + length c.loop-pid.seats.items }; seen = [] } =
-    c.of.ensures ∙ (c.of-inner.ensures ∙ (λ j. record { hub = name_of (d.table j) (d.seat j).0.terms; pid = record { 0 = pid j }; seen = (d.seat j).0.seen })) in
+    c.of.ensures
+    ∙ (c.of-inner.ensures ∙ (λ j. record { hub = name_of (d.table j) (d.seat j).0.terms; pid = record { 0 = pid j }; seen = (d.seat j).0.seen })) in
     (e.len ∙ ap (λ (n : ℕ). n + 1) i.0, subst (AreSeats name 0) (sym e.items) (push_seat name 0 c.loop-pid.seats.items c.of.result i.1 is))

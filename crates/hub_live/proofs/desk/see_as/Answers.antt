@@ -10,7 +10,8 @@ given g c =
     let d = c.requires.desk in
     let p = c.part.ensures in
     let table = p.same ∙ (c.join.ensures.same.0 ∙ d.token.table) in
-    seen_back g.K.HubName.name c.args.locked.now c.args.hub.now c.args.mine c.part.new.token c.part.result c.args.pid c.join.new.token.me.0 d c.requires.alone c.requires.terms c.join.ensures.sees
+    seen_back g.K.HubName.name c.args.locked.now c.args.hub.now c.args.mine c.part.new.token c.part.result c.args.pid c.join.new.token.me.0
+    d c.requires.alone c.requires.terms c.join.ensures.sees
     table (p.table ∙ (c.join.ensures.same.0 ∙ d.token.table)) p.left p.back
 
 pub returns-clause-desk : goal.returns-clause-desk

@@ -25,6 +25,8 @@ returns-clause-counts g c =
     let number : c.from.result ≡ c.args.port.0 = c.from.ensures in
     let some : 0 < c.from.result = omega (arith, number, c.requires.port.0) in
     let terms = c.look-mark.ensures.sees.terms in
-    let is : c.look-mark.result ≡ mark w.terms.head w.seen c.args.port.0 = ◌∙◌ {b = mark c.args.mine.me.0.terms.head w.seen c.from.result} (c.look-mark.ensures.mark some) (λ i. mark (sym terms i).head w.seen (number i)) in
-    let told : read_back c.look-mark.result ≡ counts_at (state w.terms.head w.seen) c.args.port = ap read_back is ∙ mark-tells w.terms.head w.seen c.args.port history.legal history.few in
+    let is : c.look-mark.result ≡ mark w.terms.head w.seen c.args.port.0 =
+    ◌∙◌ {b = mark c.args.mine.me.0.terms.head w.seen c.from.result} (c.look-mark.ensures.mark some) (λ i. mark (sym terms i).head w.seen (number i)) in
+    let told : read_back c.look-mark.result ≡ counts_at (state w.terms.head w.seen) c.args.port =
+    ap read_back is ∙ mark-tells w.terms.head w.seen c.args.port history.legal history.few in
     c.read_back.ensures ∙ told

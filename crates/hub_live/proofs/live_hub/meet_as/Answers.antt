@@ -25,7 +25,8 @@ second g c =
     let w = c.join.new.token.me.0 in
     let terms : c.args.first.me.0.terms ≡ c.args.second.me.0.terms = c.requires.first.2 ∙ sym c.requires.second.2 in
     let seen : c.part-second.result.me.0.seen ≡ w.seen = ap (λ m. m.0.seen) p.back ∙ s.both in
-    let table : c.part-second.result.table_id ≡ c.args.second.table_id = p.table ∙ (c.join.ensures.same.0 ∙ (c.requires.first.0.table ∙ sym c.requires.second.0.table)) in
+    let table : c.part-second.result.table_id ≡ c.args.second.table_id =
+    p.table ∙ (c.join.ensures.same.0 ∙ (c.requires.first.0.table ∙ sym c.requires.second.0.table)) in
     looking c.args.other c.args.second c.part-second.result c.requires.idle.1 table (ap (λ m. m.0.terms) p.back ∙ (s.terms ∙ terms))
     (subst (λ (t : Terms). IsHistory t c.part-second.result.me.0.seen) terms (subst (IsHistory c.args.first.me.0.terms) (sym seen) s.history))
     (subst (λ (es : List Entry). Knew es c.args.second.me.0.seen (c.args.other.0 + 1)) (sym seen) (s.others _ c.requires.second.1.number))

@@ -7,5 +7,8 @@ pub returns-in_err-extend_from_slice-clause-few : goal.returns-in_err-extend_fro
 returns-in_err-extend_from_slice-clause-few g c =
     let (came, most, same) = c.loop-chunk.invariant in
     let before = c.loop-chunk.bytes.items in
-    let piece = take c.in-Ok.count c.read.new.buf in
-    (before ++ piece, Consumes-trans _ _ _ before piece came c.in-Ok.ensures.bytes.0, grind (arith, common_steps, most, length-append before piece, c.loop-chunk.bytes.ok))
+    let piece = take c.in-Ok.count c.read.new.buf in (
+      before ++ piece,
+      Consumes-trans _ _ _ before piece came c.in-Ok.ensures.bytes.0,
+      grind (arith, common_steps, most, length-append before piece, c.loop-chunk.bytes.ok),
+    )

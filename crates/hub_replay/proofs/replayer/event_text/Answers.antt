@@ -8,4 +8,5 @@ returns-in_err-advance-clause-err c =
     (c.in_err-advance.ensures.err c.args.bytes.now c.loop-text.text.items c.loop-text.invariant)
 
 pub returns-clause-ok : goal.returns-clause-ok
-returns-clause-ok c = (whole-replayed c.advance.new.self.reader c.advance.new.self.machine c.advance.new.self.events.items c.if-branch.false (c.in_ok-advance.ensures.ok c.args.bytes.now c.loop-text.text.items c.loop-text.invariant)).is
+returns-clause-ok c = (whole-replayed c.advance.new.self.reader c.advance.new.self.machine c.advance.new.self.events.items c.if-branch.false
+    (c.in_ok-advance.ensures.ok c.args.bytes.now c.loop-text.text.items c.loop-text.invariant)).is

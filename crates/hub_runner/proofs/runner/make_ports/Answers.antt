@@ -6,5 +6,6 @@ use Rattle.hub_runner.proofs.runner.make_ports.Goals as goal
 pub loop-cap-preserved : goal.loop-cap-preserved
 loop-cap-preserved g c = (
   still_onward c.args.seat.now c.loop-cap.seat c.make.new.self c.loop-cap.invariant.0 c.make.ensures.later,
-  made_more c.loop-cap.seat c.make.new.self c.args.ports.now c.loop-cap.cap-index _ c.in_ok-make.field-0 c.pid-pid.ensures.idle.free c.make.ensures.later c.in_ok-make.ensures.ok (omega arith) (search rules) c.loop-cap.invariant.1,
+  made_more c.loop-cap.seat c.make.new.self c.args.ports.now c.loop-cap.cap-index _ c.in_ok-make.field-0 c.pid-pid.ensures.idle.free
+      c.make.ensures.later c.in_ok-make.ensures.ok (omega arith) (search rules) c.loop-cap.invariant.1,
 )

@@ -8,7 +8,8 @@ use Rattle.hub_runner.proofs.Runs.{asked_blank, all_ready, count_scripts}
 use Rattle.hub_runner.proofs.runner.make_ready.Goals as goal
 
 pub make_ports-requires : goal.make_ports-requires
-make_ports-requires g c = ap asked_of c.index_mut.ensures.value ∙ asked_blank g.K.HubName.name c.args.seats.items 0 _ c.requires.seats (omega (arith, c.args.seats.ok.0, c.requires.some))
+make_ports-requires g c = ap asked_of c.index_mut.ensures.value
+    ∙ asked_blank g.K.HubName.name c.args.seats.items 0 _ c.requires.seats (omega (arith, c.args.seats.ok.0, c.requires.some))
 
 pub returns-clause-ready : goal.returns-clause-ready
 returns-clause-ready g c =

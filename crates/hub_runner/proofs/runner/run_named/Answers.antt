@@ -10,9 +10,12 @@ returns-in-None-clause-follows g c =
     let sc = scenario_view c.args.scenario.now in
     let name = g.K.HubName.name in
     let head : name.terms.head ≡ run_head sc = ap head_of (c.requires.procs ∙ count_scripts c.args.scenario.now) in
-    let many : length c.args.seats.items ≡ length sc.scripts = (let e : length c.args.seats.items ≡ vec_len c.args.scenario.now.scripts = omega (arith, c.requires.count, c.args.seats.ok.0) in e) ∙ count_scripts c.args.scenario.now in
+    let many : length c.args.seats.items ≡ length sc.scripts =
+    (let e : length c.args.seats.items ≡ vec_len c.args.scenario.now.scripts = omega (arith, c.requires.count, c.args.seats.ok.0) in e)
+    ∙ count_scripts c.args.scenario.now in
     let back = c.in_ok-seats.ensures in
-    let held : map (λ (s : SeatView). s.pid) c.in_ok-held.held.items ≡ map (λ (s : SeatView). s.pid) c.args.seats.items = ap (λ (ss : List SeatView). map (λ (s : SeatView). s.pid) ss) c.in_ok-held.ensures.same in
+    let held : map (λ (s : SeatView). s.pid) c.in_ok-held.held.items ≡ map (λ (s : SeatView). s.pid) c.args.seats.items =
+    ap (λ (ss : List SeatView). map (λ (s : SeatView). s.pid) ss) c.in_ok-held.ensures.same in
     all_follow name sc c.args.seats.items c.in_ok-seats.seats.items c.finish_held-journal.result.entries head many c.requires.seats
     (back.pids ∙ c.in_ok-members.ensures.pids ∙ c.in_ok-ready.ensures.pids ∙ held)
     back.hubs (back.followed c.in-None.is) c.finish_held-journal.ensures.seats

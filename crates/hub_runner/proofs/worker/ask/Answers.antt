@@ -11,7 +11,8 @@ use Rattle.hub_runner.proofs.worker.ask.Goals as goal
 pub returns-in-Send-clause-ok : goal.returns-in-Send-clause-ok
 returns-in-Send-clause-ok g c =
     made_ok c.args.seat.now c.send.new.self (call (case.Send c.sender.result c.in-Send.value ∷ []) false 0) (asks c.args.step.now c.args.word) c.send.result
-    (ap (λ (p : Port). call (case.Send p c.in-Send.value ∷ []) false 0) (c.sender.ensures ∙ c.of.ensures) ∙ ap (λ (s : ScriptStep). asks s c.args.word) (sym c.in-Send.is))
+    (ap (λ (p : Port). call (case.Send p c.in-Send.value ∷ []) false 0) (c.sender.ensures ∙ c.of.ensures)
+    ∙ ap (λ (s : ScriptStep). asks s c.args.word) (sym c.in-Send.is))
     c.pid-pid.ensures.idle.free c.send.ensures.later c.send.ensures.ok
 
 pub returns-in-Select-clause-ok : goal.returns-in-Select-clause-ok
@@ -29,5 +30,6 @@ returns-in-Close-clause-ok g c =
 pub returns-in-Recv-clause-ok : goal.returns-in-Recv-clause-ok
 returns-in-Recv-clause-ok g c =
     made_ok c.args.seat.now c.recv.new.self (call (case.Recv c.receiver.result ∷ []) false 0) (asks c.args.step.now c.args.word) c.recv.result
-    (ap (λ (p : Port). call (case.Recv p ∷ []) false 0) (c.receiver.ensures ∙ c.of-in-Recv.ensures) ∙ recv_asks c.args.step.now c.in-Recv.port c.args.word c.in-Recv.is)
+    (ap (λ (p : Port). call (case.Recv p ∷ []) false 0) (c.receiver.ensures ∙ c.of-in-Recv.ensures)
+    ∙ recv_asks c.args.step.now c.in-Recv.port c.args.word c.in-Recv.is)
     c.pid-pid.ensures.idle.free c.recv.ensures.later c.recv.ensures.ok

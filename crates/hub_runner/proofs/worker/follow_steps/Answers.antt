@@ -11,7 +11,8 @@ pub returns-then-not-branch-clause-ok : goal.returns-then-not-branch-clause-ok
 returns-then-not-branch-clause-ok g c =
     let s : ScriptStep = c.step-item.result in (
       taken_after s c.loop-step.words.drawn,
-      leads_next _ _ _ _ _ c.args.script.now c.loop-step.step-index _ _ _ s _ false c.loop-step.invariant.1 (at_place c.args.script.now c.loop-step.step-index s (omega arith) (search rules))
+      leads_next _ _ _ _ _ c.args.script.now c.loop-step.step-index _ _ _ s _ false c.loop-step.invariant.1
+          (at_place c.args.script.now c.loop-step.step-index s (omega arith) (search rules))
           c.loop-step.invariant.3 c.word_for-word.ensures.chosen c.in_ok-take_step.ensures.ok c.if-not-branch.true refl,
     )
 
@@ -39,5 +40,8 @@ returns-clause-onward g c = c.loop-step.invariant.2
 
 pub returns-clause-ok : goal.returns-clause-ok
 returns-clause-ok g c =
-    let none = drop_all c.loop-step.step-index c.args.script.now c.loop-step-test.false in
-    (c.loop-step.words.drawn, subst (λ (rest : List ScriptStep). Leads (asked_of c.args.seat.now) (asked_of c.loop-step.seat) (choice_word c.args.words.now.seed) c.args.script.now 0 rest c.loop-step.words.drawn) none c.loop-step.invariant.3)
+    let none = drop_all c.loop-step.step-index c.args.script.now c.loop-step-test.false in (
+      c.loop-step.words.drawn,
+      subst (λ (rest : List ScriptStep). Leads (asked_of c.args.seat.now) (asked_of c.loop-step.seat)
+          (choice_word c.args.words.now.seed) c.args.script.now 0 rest c.loop-step.words.drawn) none c.loop-step.invariant.3,
+    )

@@ -22,5 +22,6 @@ loop-preserved g c = (
   still_onward c.args.seat.now c.loop.seat c.ask.new.seat c.loop.invariant.2 c.in_ok-event.ensures.later,
   λ words rest j chosen.
       leads_again (asked_of c.args.seat.now) (asked_of c.loop.seat) (asked_of c.ask.new.seat) words c.args.step.now rest j c.args.word c.in_ok-event.event
-      (c.loop.invariant.3 words rest j chosen) c.in_ok-event.ensures.ok chosen (sym c.is_stalled.ensures ∙ c.if-is_stalled.false) (sym c.repeats.ensures ∙ c.if-not-repeats.false),
+      (c.loop.invariant.3 words rest j chosen) c.in_ok-event.ensures.ok chosen (sym c.is_stalled.ensures ∙ c.if-is_stalled.false)
+      (sym c.repeats.ensures ∙ c.if-not-repeats.false),
 )

@@ -33,7 +33,8 @@ returns-in_default-clause-fault c _ =
     let cut = subst (λ (vs : List Value). drop k vs ≡ v ∷ drop (k + 1) vs) c.deref-value-items.ensures.value
     (drop_more c.deref-value-items.result.now k v c.loop-value-test.true ∙ ap (λ x. x ∷ drop (k + 1) c.deref-value-items.result.now) (sym c.value-item.is)) in
     let said : steps_of (view v) ≡ None = sym c.steps_of.ensures ∙ ap (option_map seen) c.in_default.is in
-    ap (must BadKey) (c.loop-value.invariant ∙ steps-missing seen c.loop-value.all.items (items_view (drop k all)) (view v) (items_view (drop (k + 1) all)) (ap items_view cut) said)
+    ap (must BadKey) (c.loop-value.invariant
+    ∙ steps-missing seen c.loop-value.all.items (items_view (drop k all)) (view v) (items_view (drop (k + 1) all)) (ap items_view cut) said)
 
 pub returns-clause-ok : goal.returns-clause-ok
 returns-clause-ok c =

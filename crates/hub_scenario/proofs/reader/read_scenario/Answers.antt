@@ -17,16 +17,19 @@ pub returns-in_err-frame-clause-fault : goal.returns-in_err-frame-clause-fault
 returns-in_err-frame-clause-fault c =
     let e = c.in_err-frame.field-0.0 in
     let ms = table_view c.in_ok-table.table in
-    let said : ¬ (e ≡ NoMemory) → reading c.args.bytes.now ≡ Err e = λ own. by-tree c.args.bytes.now ms c.if-bytes-gt-MOST_FILE_BYTES.false c.in_ok-table.ensures.ok
+    let said : ¬ (e ≡ NoMemory) → reading c.args.bytes.now ≡ Err e =
+    λ own. by-tree c.args.bytes.now ms c.if-bytes-gt-MOST_FILE_BYTES.false c.in_ok-table.ensures.ok
     ∙ no-frame ms e (c.in_err-frame.ensures.fault own) in
     search (rules, said)
 
 pub returns-clause-ok : goal.returns-clause-ok
 returns-clause-ok c =
-    rw (by-both c.args.bytes.now (table_view c.in_ok-table.table) (frame_view c.in_ok-frame.frame) c.if-bytes-gt-MOST_FILE_BYTES.false c.in_ok-table.ensures.ok c.in_ok-frame.ensures.ok)
+    rw (by-both c.args.bytes.now (table_view c.in_ok-table.table)
+    (frame_view c.in_ok-frame.frame) c.if-bytes-gt-MOST_FILE_BYTES.false c.in_ok-table.ensures.ok c.in_ok-frame.ensures.ok)
     c.values_of.ensures.ok
 
 pub returns-clause-fault : goal.returns-clause-fault
 returns-clause-fault c =
-    rw (by-both c.args.bytes.now (table_view c.in_ok-table.table) (frame_view c.in_ok-frame.frame) c.if-bytes-gt-MOST_FILE_BYTES.false c.in_ok-table.ensures.ok c.in_ok-frame.ensures.ok)
+    rw (by-both c.args.bytes.now (table_view c.in_ok-table.table)
+    (frame_view c.in_ok-frame.frame) c.if-bytes-gt-MOST_FILE_BYTES.false c.in_ok-table.ensures.ok c.in_ok-frame.ensures.ok)
     c.values_of.ensures.fault

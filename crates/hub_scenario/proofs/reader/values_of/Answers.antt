@@ -16,7 +16,8 @@ pub returns-in_err-ports-clause-fault : goal.returns-in_err-ports-clause-fault
 returns-in_err-ports-clause-fault c =
     let f = frame_view c.args.frame.now in
     let e = c.in_err-ports.field-0.0 in
-    let said : ¬ (e ≡ NoMemory) → values_of f ≡ Err e = λ own. ports-bad f c.in-Some.seed c.in-Some-within.limit e (search rules) (search rules) (c.in_err-ports.ensures.fault own) in
+    let said : ¬ (e ≡ NoMemory) → values_of f ≡ Err e =
+    λ own. ports-bad f c.in-Some.seed c.in-Some-within.limit e (search rules) (search rules) (c.in_err-ports.ensures.fault own) in
     search (rules, said)
 
 pub returns-in_err-scripts-clause-fault : goal.returns-in_err-scripts-clause-fault
@@ -25,10 +26,13 @@ returns-in_err-scripts-clause-fault c =
     let e = c.in_err-scripts.field-0.0 in
     let said : ¬ (e ≡ NoMemory) → values_of f ≡ Err e = λ own.
     scripts-bad f c.in-Some.seed c.in-Some-within.limit c.in_ok-ports.ports.items e (search rules) (search rules) c.in_ok-ports.ensures.ok
-    (scripts-say c.args.frame.now.process.items c.as_slice.result.now (Err e) c.as_slice.ensures.value (search (rules, arith, length-map)) (search (rules, arith, length-map)) (c.in_err-scripts.ensures.fault own)) in
+    (scripts-say c.args.frame.now.process.items c.as_slice.result.now (Err e) c.as_slice.ensures.value (search (rules, arith, length-map))
+    (search (rules, arith, length-map)) (c.in_err-scripts.ensures.fault own)) in
     search (rules, said)
 
 pub returns-clause-ok : goal.returns-clause-ok
 returns-clause-ok c =
-    values-good (frame_view c.args.frame.now) c.in-Some.seed c.in-Some-within.limit c.in_ok-ports.ports.items (map vec_items c.in_ok-scripts.scripts.items) (search rules) (search rules) c.in_ok-ports.ensures.ok
-    (scripts-say c.args.frame.now.process.items c.as_slice.result.now _ c.as_slice.ensures.value (search (rules, arith, length-map)) (search (rules, arith, length-map)) c.in_ok-scripts.ensures.ok)
+    values-good (frame_view c.args.frame.now) c.in-Some.seed c.in-Some-within.limit c.in_ok-ports.ports.items
+    (map vec_items c.in_ok-scripts.scripts.items) (search rules) (search rules) c.in_ok-ports.ensures.ok
+    (scripts-say c.args.frame.now.process.items c.as_slice.result.now _ c.as_slice.ensures.value (search (rules, arith, length-map))
+    (search (rules, arith, length-map)) c.in_ok-scripts.ensures.ok)

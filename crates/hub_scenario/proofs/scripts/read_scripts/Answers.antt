@@ -22,11 +22,14 @@ loop-steps-preserved c =
     drop_more all i c.steps-item.result c.loop-steps-test.true ∙ ap (λ x. x ∷ drop (i + 1) all) (sym c.steps-item.is) in
     record {
       same = c.loop-steps.invariant.same
-          ∙ script-more p (map vec_items done) (map seen (drop i all)) (seen c.steps-item.result) rest script.items (ap (map seen) cut) c.in_ok-script.ensures.ok
-          ∙ ap (λ xs. onto xs (scripts_from (p + 1) rest)) (sym (map-append vec_items done (script ∷ []))) ∙ ap (λ xs. onto (map vec_items xs) (scripts_from (p + 1) rest)) (sym pushed);
+          ∙ script-more p (map vec_items done) (map seen (drop i all)) (seen c.steps-item.result) rest script.items
+          (ap (map seen) cut) c.in_ok-script.ensures.ok
+          ∙ ap (λ xs. onto xs (scripts_from (p + 1) rest)) (sym (map-append vec_items done (script ∷ [])))
+          ∙ ap (λ xs. onto (map vec_items xs) (scripts_from (p + 1) rest)) (sym pushed);
       place = ap (λ n. n + 1) c.loop-steps.invariant.place;
       count = search rules;
-      few = subst (All (λ s. vec_len s ≤ MOST_SCRIPT_STEPS)) (sym pushed) (All-push (λ s. vec_len s ≤ MOST_SCRIPT_STEPS) done script c.loop-steps.invariant.few c.in_ok-script.ensures.few);
+      few = subst (All (λ s. vec_len s ≤ MOST_SCRIPT_STEPS)) (sym pushed)
+          (All-push (λ s. vec_len s ≤ MOST_SCRIPT_STEPS) done script c.loop-steps.invariant.few c.in_ok-script.ensures.few);
     }
 
 pub returns-in_err-script-clause-fault : goal.returns-in_err-script-clause-fault
@@ -38,7 +41,8 @@ returns-in_err-script-clause-fault c =
     let cut : drop i all ≡ c.steps-item.result ∷ drop (i + 1) all =
     drop_more all i c.steps-item.result c.loop-steps-test.true ∙ ap (λ x. x ∷ drop (i + 1) all) (sym c.steps-item.is) in
     let said : ¬ (e ≡ NoMemory) → scripts_from 0 (map seen all) ≡ Err e = λ own. c.loop-steps.invariant.same
-    ∙ script-refused p (map vec_items c.loop-steps.scripts.items) (map seen (drop i all)) (seen c.steps-item.result) (map seen (drop (i + 1) all)) e (ap (map seen) cut) (c.in_err-script.ensures.fault own) in
+    ∙ script-refused p (map vec_items c.loop-steps.scripts.items) (map seen (drop i all)) (seen c.steps-item.result)
+    (map seen (drop (i + 1) all)) e (ap (map seen) cut) (c.in_err-script.ensures.fault own) in
     search (rules, said)
 
 pub returns-clause-ok : goal.returns-clause-ok

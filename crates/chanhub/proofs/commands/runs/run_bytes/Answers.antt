@@ -6,7 +6,8 @@ use Rattle.chanhub.proofs.commands.runs.run_bytes.Goals as goal
 
 pub returns-clause-ok : goal.returns-clause-ok
 returns-clause-ok g c =
-    ran _ _ (scenario_view c.in_ok-scenario.scenario) c.in_ok-report.report c.in_ok-scenario.ensures.ok c.in_ok-report.ensures.head c.in_ok-report.ensures.legal
+    ran _ _ (scenario_view c.in_ok-scenario.scenario) c.in_ok-report.report c.in_ok-scenario.ensures.ok
+    c.in_ok-report.ensures.head c.in_ok-report.ensures.legal
     c.in_ok-report.ensures.follows c.in_ok-report.ensures.report _ _ c.outcome_of.ensures (search rules)
 
 pub returns-in_err-write_whole-clause-refused : goal.returns-in_err-write_whole-clause-refused
@@ -16,7 +17,8 @@ returns-in_err-write_whole-clause-refused g c =
       search rules,
       (
         told.0,
-        ran _ _ (scenario_view c.in_ok-scenario.scenario) c.in_ok-report.report c.in_ok-scenario.ensures.ok c.in_ok-report.ensures.head c.in_ok-report.ensures.legal
+        ran _ _ (scenario_view c.in_ok-scenario.scenario) c.in_ok-report.report c.in_ok-scenario.ensures.ok
+            c.in_ok-report.ensures.head c.in_ok-report.ensures.legal
             c.in_ok-report.ensures.follows c.in_ok-report.ensures.report told.0 _ told.1 (search rules),
       ),
     )

@@ -8,7 +8,8 @@ pub returns-in_ok-write_pieces-in-Differs-clause-ok : goal.returns-in_ok-write_p
 returns-in_ok-write_pieces-in-Differs-clause-ok g c = (
   c.in-Differs.line,
   search rules,
-  subst (λ (digits : List ℕ). Appends (g.W.Sink.contents c.args.output.now) (g.W.Sink.contents c.write_pieces-in-Differs.new.sink) (codes "differs at line " ++ digits ++ codes "\n"))
+  subst (λ (digits : List ℕ). Appends (g.W.Sink.contents c.args.output.now) (g.W.Sink.contents c.write_pieces-in-Differs.new.sink)
+      (codes "differs at line " ++ digits ++ codes "\n"))
       c.format.ensures.text c.in_ok-write_pieces-in-Differs.ensures.whole,
 )
 

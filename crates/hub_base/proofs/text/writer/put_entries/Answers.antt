@@ -4,7 +4,9 @@ use Rattle.hub_base.proofs.Spelled.{grown-more}
 use Rattle.hub_base.proofs.text.writer.put_entries.Goals as goal
 
 pub returns-in-Err-clause-err : goal.returns-in-Err-clause-err
-returns-in-Err-clause-err c = grown-more c.args.out.now.items c.loop-entry.out.items c.put_entry.new.out.items c.loop-entry.invariant.grown c.in-Err.ensures.err
+returns-in-Err-clause-err c =
+    grown-more c.args.out.now.items c.loop-entry.out.items c.put_entry.new.out.items c.loop-entry.invariant.grown c.in-Err.ensures.err
 
 pub returns-in-Err-clause-succeeds : goal.returns-in-Err-clause-succeeds
-returns-in-Err-clause-succeeds c = λ fits. grind (arith, common_steps, fits, ap length c.loop-entry.invariant.same, c.loop-entry.invariant.capacity, c.in-Err.ensures.succeeds)
+returns-in-Err-clause-succeeds c =
+    λ fits. grind (arith, common_steps, fits, ap length c.loop-entry.invariant.same, c.loop-entry.invariant.capacity, c.in-Err.ensures.succeeds)

@@ -19,7 +19,8 @@ returns-in-Some-pick-clause-ok g c =
     let is = c.in-Some-pick.ensures in
     let terms : s.hub.terms ≡ t = ap (λ (v : SeatView). v.hub.terms) c.seat.view_is ∙ ap (λ (n : Name). n.terms) c.requires.hub in
     let made : MadeEntry s b c.args.entry x =
-    made_later t s m b c.args.entry x terms (ap (λ (v : SeatView). v.hub) here ∙ was.same.0) (subst (λ (v : SeatView). own_of v ≡ own_of s ++ c.args.entry ∷ []) (sym here) was.own) is.same.0 is.same.1 is.own is.told in
+    made_later t s m b c.args.entry x terms (ap (λ (v : SeatView). v.hub) here ∙ was.same.0)
+    (subst (λ (v : SeatView). own_of v ≡ own_of s ++ c.args.entry ∷ []) (sym here) was.own) is.same.0 is.same.1 is.own is.told in
     subst (λ (v : SeatView). MadeEntry v b c.args.entry x) c.seat.view_is made
 
 pub returns-then-not-is_parked-clause-answer : goal.returns-then-not-is_parked-clause-answer

@@ -14,7 +14,8 @@ loop-seat-preserved g c =
     let e = c.compare.ensures in (
       e.same ∙ i.0,
       stand_more c.loop-seat.desk c.compare.new.self c.loop-seat.yielded c.in-Some.seat c.into_inner.result e.same i.1 c.into_inner.ensures.inner e.stands,
-      one_further c.loop-seat.yielded c.loop-seat.seat-iterator.rest.items c.next.new.self.rest.items c.args.seats.items c.in-Some.seat c.in-Some.ensures.steps.0 i.2,
+      one_further c.loop-seat.yielded c.loop-seat.seat-iterator.rest.items c.next.new.self.rest.items c.args.seats.items c.in-Some.seat
+          c.in-Some.ensures.steps.0 i.2,
     )
 
 pub returns-clause-seats : goal.returns-clause-seats
@@ -23,5 +24,6 @@ returns-clause-seats g c =
     let ok = c.loop-seat.seat-iterator.rest.ok in
     let none = c.in-None.ensures.steps.0 in
     let all = all_done c.loop-seat.yielded c.loop-seat.seat-iterator.rest.items c.args.seats.items (search (rules, ok, none)) i.2 in
-    subst (λ (l : List Entry). All (λ (t : SeatView). StandsIn t l) c.args.seats.items) (ap (λ (j : JournalView). j.entries) (sym c.into_journal.ensures.journal))
+    subst (λ (l : List Entry). All (λ (t : SeatView). StandsIn t l) c.args.seats.items)
+    (ap (λ (j : JournalView). j.entries) (sym c.into_journal.ensures.journal))
     (subst (λ (l : List SeatView). All (λ (t : SeatView). StandsIn t c.loop-seat.desk.hub.journal) l) all i.1)

@@ -13,8 +13,10 @@ loop-one-preserved g c =
     let i = c.loop-one.invariant in
     let e = c.compare.ensures in (
       e.same ∙ i.0,
-      stand_more c.loop-one.desk c.compare.new.self c.loop-one.yielded c.in-Some.one c.into_inner.result e.same i.1 (c.into_inner.ensures.inner ∙ c.into_seat.ensures.seat) e.stands,
-      one_further c.loop-one.yielded c.loop-one.one-iterator.rest.items c.next.new.self.rest.items c.args.held.items c.in-Some.one c.in-Some.ensures.steps.0 i.2,
+      stand_more c.loop-one.desk c.compare.new.self c.loop-one.yielded c.in-Some.one c.into_inner.result e.same i.1
+          (c.into_inner.ensures.inner ∙ c.into_seat.ensures.seat) e.stands,
+      one_further c.loop-one.yielded c.loop-one.one-iterator.rest.items c.next.new.self.rest.items c.args.held.items c.in-Some.one
+          c.in-Some.ensures.steps.0 i.2,
     )
 
 pub returns-clause-seats : goal.returns-clause-seats
@@ -23,5 +25,6 @@ returns-clause-seats g c =
     let ok = c.loop-one.one-iterator.rest.ok in
     let none = c.in-None.ensures.steps.0 in
     let all = all_done c.loop-one.yielded c.loop-one.one-iterator.rest.items c.args.held.items (search (rules, ok, none)) i.2 in
-    subst (λ (l : List Entry). All (λ (t : SeatView). StandsIn t l) c.args.held.items) (ap (λ (j : JournalView). j.entries) (sym c.into_journal.ensures.journal))
+    subst (λ (l : List Entry). All (λ (t : SeatView). StandsIn t l) c.args.held.items)
+    (ap (λ (j : JournalView). j.entries) (sym c.into_journal.ensures.journal))
     (subst (λ (l : List SeatView). All (λ (t : SeatView). StandsIn t c.loop-one.desk.hub.journal) l) all i.1)

@@ -22,6 +22,7 @@ store-requires g c =
     let mark = subst (λ (x : Terms). MarksOne x.head me.0.seen e c.args.word c.args.mark) (sym b.key) c.requires.mark in (
       t.table ∙ sym b.same,
       omega arith,
-      subst (λ (x : Entry). Allows (Kept z.key) z.table_id.slots c.args.token.now.id me c.args.word (λ _. c.args.mark) (λ _. Published x (step z.table_id.slots c.args.word c.args.mark 0 none) me c.args.mark)) c.requires.named
+      subst (λ (x : Entry). Allows (Kept z.key) z.table_id.slots c.args.token.now.id me c.args.word (λ _. c.args.mark)
+          (λ _. Published x (step z.table_id.slots c.args.word c.args.mark 0 none) me c.args.mark)) c.requires.named
           (publishes_as _ _ _ _ _ me e t.free c.requires.hub c.requires.caller history c.requires.word mark),
     )

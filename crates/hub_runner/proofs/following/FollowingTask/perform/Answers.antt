@@ -18,11 +18,17 @@ returns-clause-ends g c =
     let script = c.index-script.result.now in
     let seat = c.args.seat.now in
     let place : c.from.result ≡ seat.pid.0 = c.from.ensures ∙ ap (λ (p : Pid). p.0) c.pid-pid.ensures.pid in
-    let low : c.from.result < length scripts = omega (arith, ap (λ (h : Head). h.procs) c.requires.head, sym (length-map scripts vec_items), c.pid-pid.ensures.below, c.from.ensures) in
-    let seed : c.of-words.result.seed ≡ sc.seed + seat.pid.0 = ap (λ (w : WordsDrawn). w.seed) c.of-words.ensures ∙ ap (λ (p : Pid). sc.seed + p.0) c.pid-pid.ensures.pid in
-    let followed : OnOk c.follow.result (Followed (asked_of seat) (asked_of c.follow.new.seat) (choice_word (sc.seed + seat.pid.0)) c.index-script.result.now.items) =
-    subst (λ (steps : List ScriptStep). OnOk c.follow.result (Followed (asked_of seat) (asked_of c.follow.new.seat) (choice_word (sc.seed + seat.pid.0)) steps)) c.deref.ensures.value
-    (subst (λ (n : ℕ). OnOk c.follow.result (Followed (asked_of seat) (asked_of c.follow.new.seat) (choice_word n) c.deref.result.now)) seed c.follow.ensures.ok) in
+    let low : c.from.result < length scripts =
+    omega (arith, ap (λ (h : Head). h.procs) c.requires.head, sym (length-map scripts vec_items), c.pid-pid.ensures.below, c.from.ensures) in
+    let seed : c.of-words.result.seed ≡ sc.seed + seat.pid.0 =
+    ap (λ (w : WordsDrawn). w.seed) c.of-words.ensures ∙ ap (λ (p : Pid). sc.seed + p.0) c.pid-pid.ensures.pid in
+    let followed : OnOk c.follow.result
+    (Followed (asked_of seat) (asked_of c.follow.new.seat) (choice_word (sc.seed + seat.pid.0)) c.index-script.result.now.items) =
+    subst (λ (steps : List ScriptStep).
+    OnOk c.follow.result (Followed (asked_of seat) (asked_of c.follow.new.seat) (choice_word (sc.seed + seat.pid.0)) steps)) c.deref.ensures.value
+    (subst (λ (n : ℕ). OnOk c.follow.result (Followed (asked_of seat) (asked_of c.follow.new.seat) (choice_word n) c.deref.result.now))
+    seed c.follow.ensures.ok) in
     has_followed c.follow.result (scenario_view sc) seat c.follow.new.seat script.items c.requires c.follow.ensures.onward
-    (script_at sc seat.pid.0 script (subst (λ (i : ℕ). slice_get scripts i ≡ Some script) place (slice_get_read scripts (length scripts) c.from.result script refl low c.index-script.ensures)))
+    (script_at sc seat.pid.0 script (subst (λ (i : ℕ). slice_get scripts i ≡ Some script) place
+    (slice_get_read scripts (length scripts) c.from.result script refl low c.index-script.ensures)))
     followed

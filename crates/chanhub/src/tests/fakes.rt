@@ -1,7 +1,7 @@
 //! What the tests share: a run of the program, and a device that fails.
 
 use crate::program::run_words;
-use hub_replay::Counted;
+use hub_replay::{Counted, Sink, Source};
 use std::io;
 use std::io::{ErrorKind, Read, Write};
 use std::rt::Files;
@@ -46,12 +46,23 @@ pub(crate) fn run_on<R: Files + AllocGlobal + Threads + Wait + Sync>(
 ) -> Finished {
     let mut source = Counted::new(input);
     let mut output = Counted::new(Vec::new(rt.alloc()));
-    let mut errors = Counted::new(Vec::new(rt.alloc()));
-    let status = run_words(rt, words, &mut source, &mut output, &mut errors);
+    let (status, errors) = run_between(rt, words, &mut source, &mut output);
     Finished {
         status,
         output: output.into_inner(),
-        errors: errors.into_inner(),
+        errors,
         left: source.into_inner().len(),
     }
+}
+
+/// Runs the program between these devices. Its status, and what it told of a refusal.
+pub(crate) fn run_between<R: Files + AllocGlobal + Threads + Wait + Sync, S: Source, W: Sink>(
+    rt: &R,
+    words: &[&str],
+    input: &mut S,
+    output: &mut W,
+) -> (u8, Vec<u8>) {
+    let mut errors = Counted::new(Vec::new(rt.alloc()));
+    let status = run_words(rt, words, input, output, &mut errors);
+    (status, errors.into_inner())
 }

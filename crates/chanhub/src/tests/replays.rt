@@ -1,7 +1,6 @@
 //! `replay`.
 
-use crate::program::run_words;
-use crate::tests::fakes::{Broken, run_on};
+use crate::tests::fakes::{run_between, run_on};
 use hub_replay::Counted;
 
 const JOURNAL: &[u8] = b"chanhub journal 1\n\
@@ -53,37 +52,14 @@ fn malformed_journals_have_status_2(rt: HostRuntime) {
 }
 
 #[test]
-fn a_failed_read_has_status_1(rt: HostRuntime) {
-    let mut output = Counted::new(Vec::new(rt.alloc()));
-    let mut errors = Counted::new(Vec::new(rt.alloc()));
-    let status = run_words(
-        &rt,
-        &REPLAY,
-        &mut Counted::new(Broken),
-        &mut output,
-        &mut errors,
-    );
-    assert_eq!(rt; status, 1);
-    assert!(rt; output.into_inner().is_empty());
-    assert_eq!(rt;
-        errors.into_inner().as_slice(),
-        b"chanhub: read failed\n".as_slice()
-    );
-}
-
-#[test]
 fn a_full_output_has_status_1(rt: HostRuntime) {
     let mut room = [0; 53];
     for len in 0..53usize {
         let mut input = Counted::new(JOURNAL);
         let mut output = Counted::new(&mut room[..len]);
-        let mut errors = Counted::new(Vec::new(rt.alloc()));
-        let status = run_words(&rt, &REPLAY, &mut input, &mut output, &mut errors);
+        let (status, errors) = run_between(&rt, &REPLAY, &mut input, &mut output);
         assert_eq!(rt; status, 1, "{len}");
-        assert_eq!(rt;
-            errors.into_inner().as_slice(),
-            b"chanhub: write failed\n".as_slice()
-        );
+        assert_eq!(rt; errors.as_slice(), b"chanhub: write failed\n".as_slice());
         assert!(rt; EVENTS.starts_with(&room[..len]), "{len}");
     }
 }

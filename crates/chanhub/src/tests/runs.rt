@@ -1,7 +1,6 @@
 //! `run`: scenarios on standard input, and what is printed of each.
 
-use crate::program::run_words;
-use crate::tests::fakes::{Broken, Finished, run_on};
+use crate::tests::fakes::{Broken, Finished, run_between, run_on};
 use hub_replay::Counted;
 
 const RUN: [&str; 2] = ["chanhub", "run"];
@@ -123,37 +122,21 @@ fn scenarios_are_run(rt: HostRuntime) {
 fn a_stalled_run_that_is_not_printed_has_status_1(rt: HostRuntime) {
     for words in [RUN.as_slice(), &JOURNAL] {
         let mut input = Counted::new(TWO_STALLS.as_bytes());
-        let mut errors = Counted::new(Vec::new(rt.alloc()));
-        let status = run_words(
-            &rt,
-            words,
-            &mut input,
-            &mut Counted::new(Broken),
-            &mut errors,
-        );
+        let mut output = Counted::new(Broken);
+        let (status, errors) = run_between(&rt, words, &mut input, &mut output);
         assert_eq!(rt; status, 1);
-        assert_eq!(rt;
-            errors.into_inner().as_slice(),
-            b"chanhub: write failed\n".as_slice()
-        );
+        assert_eq!(rt; errors.as_slice(), b"chanhub: write failed\n".as_slice());
     }
 }
 
 #[test]
-fn a_failed_read_of_a_scenario_has_status_1(rt: HostRuntime) {
-    let mut output = Counted::new(Vec::new(rt.alloc()));
-    let mut errors = Counted::new(Vec::new(rt.alloc()));
-    let status = run_words(
-        &rt,
-        &RUN,
-        &mut Counted::new(Broken),
-        &mut output,
-        &mut errors,
-    );
-    assert_eq!(rt; status, 1);
-    assert!(rt; output.into_inner().is_empty());
-    assert_eq!(rt;
-        errors.into_inner().as_slice(),
-        b"chanhub: read failed\n".as_slice()
-    );
+fn a_failed_read_has_status_1(rt: HostRuntime) {
+    for words in [["chanhub", "replay"], RUN] {
+        let mut input = Counted::new(Broken);
+        let mut output = Counted::new(Vec::new(rt.alloc()));
+        let (status, errors) = run_between(&rt, &words, &mut input, &mut output);
+        assert_eq!(rt; status, 1, "{words:?}");
+        assert!(rt; output.into_inner().is_empty(), "{words:?}");
+        assert_eq!(rt; errors.as_slice(), b"chanhub: read failed\n".as_slice());
+    }
 }

@@ -6,7 +6,7 @@ use super::opened::{Opened, Runtime, Story, tell, tell_often};
 use super::{ONE_WAITS, fired, got, told};
 use hub_base::{Cases, CasesExt, Counts, Fault, Outcome, Pid, Port, Value, What};
 use hub_core::OpenFault;
-use hub_live::{Blank, Chan, Held, HubName, LiveHub, Seat, mark_of};
+use hub_live::{Blank, Chan, HubName, LiveHub, Seat, mark_of};
 use std::process::Abort;
 use std::sync::Wait;
 use std::test::*;
@@ -87,42 +87,28 @@ pub fn look<K: HubName, R: Runtime>(opened: Opened<K, R>) -> Result<(), Fail> {
     let mut second = seats.pop().ok_or("two seats")?;
     let first = seats.first_mut().ok_or("two seats")?;
     assert_eq!(rt; (first.pid(), second.pid()), (Pid(0), Pid(1)));
-    look_and_send(rt, &hub, first)?;
-    receive_and_look(rt, &hub, &mut second)?;
+
+    assert_eq!(rt; first.look(&hub, Port(1)), None);
+    assert_eq!(rt; first.make(rt, &hub, 1)?, told(0, What::Made(Port(1))));
+    let chan = Chan::of(Port(1));
+    let sent = first.send(rt, &hub, &chan.sender(), Value::num(4))?;
+    assert_eq!(rt; sent, fired(0, Outcome::Sent));
+    assert_eq!(rt; first.look(&hub, Port(1)), Some(ONE_WAITS));
+
+    let received = second.recv(rt, &hub, &chan.receiver())?;
+    assert_eq!(rt; received, got(1, 4));
+    let mut counts = ONE_WAITS;
+    counts.len = 0;
+    counts.received = 1;
+    assert_eq!(rt; second.look(&hub, Port(1)), Some(counts));
+    for port in [0, 2, 65] {
+        assert_eq!(rt; second.look(&hub, Port(port)), None, "port {port}");
+    }
+
     seats.push(second)?;
     let journal = hub.finish_held(seats);
     assert_eq!(rt; journal.procs(), 2);
     assert_eq!(rt; journal.entries().len(), 3);
-    Ok(())
-}
-
-fn look_and_send<K: HubName, R: Wait + Abort>(
-    rt: &R,
-    hub: &LiveHub<K>,
-    seat: &mut Held<K>,
-) -> Result<(), Fail> {
-    assert_eq!(rt; seat.look(hub, Port(1)), None);
-    assert_eq!(rt; seat.make(rt, hub, 1)?, told(0, What::Made(Port(1))));
-    let sender = Chan::of(Port(1)).sender();
-    let sent = seat.send(rt, hub, &sender, Value::num(4))?;
-    assert_eq!(rt; sent, fired(0, Outcome::Sent));
-    assert_eq!(rt; seat.look(hub, Port(1)), Some(ONE_WAITS));
-    Ok(())
-}
-
-fn receive_and_look<K: HubName, R: Wait + Abort>(
-    rt: &R,
-    hub: &LiveHub<K>,
-    seat: &mut Held<K>,
-) -> Result<(), Fail> {
-    let receiver = Chan::of(Port(1)).receiver();
-    assert_eq!(rt; seat.recv(rt, hub, &receiver)?, got(1, 4));
-    let mut received = ONE_WAITS;
-    received.len = 0;
-    received.received = 1;
-    for (port, counts) in [(1, Some(received)), (0, None), (2, None), (65, None)] {
-        assert_eq!(rt; seat.look(hub, Port(port)), counts, "port {port}");
-    }
     Ok(())
 }
 
@@ -148,7 +134,7 @@ pub fn meet<K: HubName, R: Runtime>(opened: Opened<K, R>) -> Result<(), Fail> {
     Ok(())
 }
 
-// The only process waits for ever: its own step tells it so.
+// The only process waits for ever: its own step tells it so. Then the journal is full, and it exits.
 #[test]
 fn lone_process_stalls(rt: HostRuntime) -> Result<(), Fail> {
     tell(&rt, 1, 2, Story::StallingAlone)
@@ -157,26 +143,16 @@ fn lone_process_stalls(rt: HostRuntime) -> Result<(), Fail> {
 pub fn stall_alone<K: HubName, R: Runtime>(opened: Opened<K, R>) -> Result<(), Fail> {
     let Opened { rt, hub, mut seats } = opened;
     let mut held = seats.pop().ok_or("one seat")?;
-    stall_and_leave(rt, &hub, &mut held)?;
-    let mut seat = held.into_seat();
-    assert_eq!(rt; hub.exit(rt, &mut seat), Err(Fault::Gone));
-    Ok(())
-}
-
-/// Twice its call stalls; then the journal is full, and it exits.
-fn stall_and_leave<K: HubName, R: Wait + Abort>(
-    rt: &R,
-    hub: &LiveHub<K>,
-    seat: &mut Held<K>,
-) -> Result<(), Fail> {
     let nil = Chan::of(Port(0)).receiver();
     for _ in 0..2 {
-        let stalled = seat.call(rt, hub, Cases::one(nil.recv()), false, 0)?;
+        let stalled = held.call(rt, &hub, Cases::one(nil.recv()), false, 0)?;
         assert_eq!(rt; stalled, told(0, What::Stalled));
     }
-    assert_eq!(rt; seat.make(rt, hub, 0), Err(Fault::JournalFull));
-    assert_eq!(rt; seat.make_chan(rt, hub, 0), Err(Fault::JournalFull));
-    assert_eq!(rt; seat.exit(rt, hub)?, told(0, What::Done));
+    assert_eq!(rt; held.make(rt, &hub, 0), Err(Fault::JournalFull));
+    assert_eq!(rt; held.make_chan(rt, &hub, 0), Err(Fault::JournalFull));
+    assert_eq!(rt; held.exit(rt, &hub)?, told(0, What::Done));
+    let mut seat = held.into_seat();
+    assert_eq!(rt; hub.exit(rt, &mut seat), Err(Fault::Gone));
     Ok(())
 }
 
@@ -189,20 +165,8 @@ fn select_takes_its_default(rt: HostRuntime) -> Result<(), Fail> {
 pub fn select<K: HubName, R: Runtime>(opened: Opened<K, R>) -> Result<(), Fail> {
     let Opened { rt, hub, mut seats } = opened;
     let seat = seats.first_mut().ok_or("one seat")?;
-    select_twice(rt, &hub, seat)?;
-    assert_eq!(rt; seat.exit(rt, &hub)?, told(0, What::Done));
-    assert_eq!(rt; hub.finish_held(seats).entries().len(), 5);
-    Ok(())
-}
-
-/// Of two cases the second can proceed, once.
-fn select_twice<K: HubName, R: Wait + Abort>(
-    rt: &R,
-    hub: &LiveHub<K>,
-    seat: &mut Held<K>,
-) -> Result<(), Fail> {
-    let receiver = seat.make_chan(rt, hub, 0)?.receiver();
-    let sender = seat.make_chan(rt, hub, 1)?.sender();
+    let receiver = seat.make_chan(rt, &hub, 0)?.receiver();
+    let sender = seat.make_chan(rt, &hub, 1)?.sender();
     let sent = What::Fired {
         case: 1,
         outcome: Outcome::Sent,
@@ -211,7 +175,9 @@ fn select_twice<K: HubName, R: Wait + Abort>(
         let mut cases = Cases::new();
         cases.push(receiver.recv());
         cases.push(sender.send(Value::num(5)));
-        assert_eq!(rt; seat.call(rt, hub, cases, true, 0)?, told(0, what));
+        assert_eq!(rt; seat.call(rt, &hub, cases, true, 0)?, told(0, what));
     }
+    assert_eq!(rt; seat.exit(rt, &hub)?, told(0, What::Done));
+    assert_eq!(rt; hub.finish_held(seats).entries().len(), 5);
     Ok(())
 }

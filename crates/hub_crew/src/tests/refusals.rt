@@ -30,6 +30,19 @@ fn opening_is_whole_or_refused(rt: HostRuntime) -> Result<(), Fail> {
     Ok(())
 }
 
+/// Makes a call and, where memory was refused, the same once more.
+fn call_again<K: HubName, R: Wait>(
+    rt: &R,
+    hub: &LiveHub<K>,
+    seat: &mut Held<K>,
+    case: Case,
+) -> Result<Event, Fault> {
+    match seat.call(rt, hub, Cases::one(case), false, 0) {
+        Err(Fault::NoMemory) => seat.call(rt, hub, Cases::one(case), false, 0),
+        answer => answer,
+    }
+}
+
 // A step that was refused memory left no entry, and is answered where it is made again.
 #[test]
 fn refused_step_is_made_again(rt: HostRuntime) -> Result<(), Fail> {
@@ -42,19 +55,6 @@ pub fn make_again<K: HubName, R: Runtime>(opened: Opened<K, R>) -> Result<(), Fa
     pass_again(rt, &hub, seats.first_mut().ok_or("one seat")?)?;
     assert_eq!(rt; hub.finish_held(seats).entries().len(), 41);
     Ok(())
-}
-
-/// Makes a call and, where memory was refused, the same once more.
-fn call_again<K: HubName, R: Wait>(
-    rt: &R,
-    hub: &LiveHub<K>,
-    seat: &mut Held<K>,
-    case: Case,
-) -> Result<Event, Fault> {
-    match seat.call(rt, hub, Cases::one(case), false, 0) {
-        Err(Fault::NoMemory) => seat.call(rt, hub, Cases::one(case), false, 0),
-        answer => answer,
-    }
 }
 
 /// Makes a channel and passes twenty values through it; each call is made again where memory was refused.
@@ -94,23 +94,12 @@ pub fn end<K: HubName, R: Runtime>(opened: Opened<K, R>) -> Result<(), Fail> {
     begin(rt.alloc())?;
     // It shows the script that memory is refused by now.
     let _refused: Result<Vec<u8>, _> = Vec::with_capacity(rt.alloc(), 1);
-    look_and_leave(rt, &hub, first, &mut second)?;
+    assert_eq!(rt; first.look(&hub, Port(1)), Some(ONE_WAITS));
+    first.meet(&hub, &mut second);
+    assert_eq!(rt; second.look(&hub, Port(1)), Some(ONE_WAITS));
+    assert_eq!(rt; first.exit(rt, &hub)?, told(0, What::Done));
+    assert_eq!(rt; second.exit(rt, &hub)?, told(1, What::Done));
     seats.push(second)?;
     assert_eq!(rt; hub.finish_held(seats).entries().len(), 4);
-    Ok(())
-}
-
-/// Looks, a meeting and the exits.
-fn look_and_leave<K: HubName, R: Wait + Abort>(
-    rt: &R,
-    hub: &LiveHub<K>,
-    first: &mut Held<K>,
-    second: &mut Held<K>,
-) -> Result<(), Fail> {
-    assert_eq!(rt; first.look(hub, Port(1)), Some(ONE_WAITS));
-    first.meet(hub, second);
-    assert_eq!(rt; second.look(hub, Port(1)), Some(ONE_WAITS));
-    assert_eq!(rt; first.exit(rt, hub)?, told(0, What::Done));
-    assert_eq!(rt; second.exit(rt, hub)?, told(1, What::Done));
     Ok(())
 }

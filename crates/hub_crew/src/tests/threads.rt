@@ -92,27 +92,23 @@ pub fn watch<K: HubName + Send + Sync, R: Runtime>(opened: Opened<K, R>) -> Resu
     let Opened { rt, hub, seats } = opened;
     let done = run_crew(rt, rt.alloc(), &hub, seats, Watch { times: 1000 })?;
     assert_eq!(rt; done.len(), 64);
-    for member in done {
-        find_all(rt, &hub, member);
-    }
-    assert_eq!(rt; hub.finish(Vec::new(rt.alloc())).entries().len(), 1001);
-    Ok(())
-}
-
-fn find_all<K: HubName>(rt: &impl Abort, hub: &LiveHub<K>, member: Member<K, Watched>) {
     let counts = Counts {
         len: 1000,
         sent: 1000,
         received: 0,
         closed: false,
     };
-    let Member { mut seat, report } = member;
-    let wanted = match seat.pid() {
-        Pid(0) => Watched::Answer(Ok(fired(0, Outcome::Sent))),
-        _ => Watched::Looks { fell: false },
-    };
-    assert_eq!(rt; report, wanted);
-    assert_eq!(rt; seat.look(hub, Port(1)), Some(counts));
+    for member in done {
+        let Member { mut seat, report } = member;
+        let wanted = match seat.pid() {
+            Pid(0) => Watched::Answer(Ok(fired(0, Outcome::Sent))),
+            _ => Watched::Looks { fell: false },
+        };
+        assert_eq!(rt; report, wanted);
+        assert_eq!(rt; seat.look(&hub, Port(1)), Some(counts));
+    }
+    assert_eq!(rt; hub.finish(Vec::new(rt.alloc())).entries().len(), 1001);
+    Ok(())
 }
 
 // A task that holds a reference: each makes a channel of its own capacity.

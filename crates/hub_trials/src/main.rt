@@ -3,6 +3,7 @@
 #![tactic(auto)]
 
 mod answers;
+mod beginning;
 mod chances;
 mod random_calls;
 mod soak;

@@ -57,21 +57,6 @@ pub struct RandomCalls {
     seen: [Option<Counts>; PORTS as usize + 1],
 }
 
-/// Makes the ports, of capacities 0 to 3, and gives the answers in order.
-pub fn make_ports<K: HubName, R: Wait>(
-    rt: &R,
-    alloc: Global,
-    hub: &LiveHub<K>,
-    seat: &mut Held<K>,
-) -> Result<Vec<Event>, Trouble> {
-    let mut made = Vec::new(alloc);
-    for port in 0..PORTS {
-        let answer = seat.make(rt, hub, u32::from(port % 4))?;
-        made.push(answer).map_err(AllocError::from)?;
-    }
-    Ok(made)
-}
-
 impl RandomCalls {
     fn new(alloc: Global, seed: u64, until: Until) -> Result<RandomCalls, AllocError> {
         // Its calls, the ports that it may make, and its exit.

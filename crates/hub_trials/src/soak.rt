@@ -4,13 +4,14 @@ ghost use Rattle.std.specs.Prelude.{◌≡◌, All, IfOk, OnOk};
 ghost use Rattle.hub_trials.specs.Answers.{answers_to};
 
 use crate::answers::{first_wrong, saw_the_same};
+use crate::beginning::hold_with_ports;
 use crate::chances::{Chances, PORTS};
-use crate::random_calls::{RandomTask, Until, make_ports};
+use crate::random_calls::{RandomTask, Until};
 use crate::trouble::Trouble;
 use hub_base::{Counts, Event, Pid, Port};
 use hub_core::{Hub, run};
 use hub_crew::{Member, run_crew};
-use hub_live::{Blank, Held, HubName, LiveHub, Seat, hold_all};
+use hub_live::{Blank, Held, HubName, LiveHub, Seat};
 use std::alloc::{AllocError, Global};
 use std::marker::Brand;
 use std::sync::Wait;
@@ -20,6 +21,12 @@ use std::time::{Clock, Duration, Instant};
 const PROCS: u8 = 64;
 
 const LIMIT: u32 = 100_000;
+
+/// The capacities of the ports.
+const CAPACITIES: [u32; PORTS as usize] = [
+    0, 1, 2, 3, 0, 1, 2, 3, 0, 1, 2, 3, 0, 1, 2, 3, 0, 1, 2, 3, 0, 1, 2, 3, 0, 1, 2, 3, 0, 1, 2, 3,
+    0, 1, 2, 3, 0, 1, 2, 3,
+];
 
 /// How much was tried.
 #[derive(Clone, Copy, Debug, PartialEq, Eq)]
@@ -125,9 +132,7 @@ fn in_round<K: HubName + Send + Sync, R: Threads + Wait + Clock + Sync>(
     requires seats { All (λ s. s.hub ≡ K.name) seats.items }
 {
     let hub = blank.named::<K>();
-    let mut seats = hold_all::<K>(alloc, seats)?;
-    let first = seats.first_mut().ok_or(Trouble::NotStarted)?;
-    let made = make_ports(rt, alloc, &hub, first)?;
+    let (seats, made) = hold_with_ports(rt, alloc, &hub, seats, &CAPACITIES)?;
     let task = RandomTask {
         alloc,
         seed,

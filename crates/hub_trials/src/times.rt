@@ -2,11 +2,12 @@
 
 ghost use Rattle.std.specs.Prelude.{◌≡◌, ◌≤◌, All};
 
+use crate::beginning::hold_with_ports;
 use crate::trouble::Trouble;
 use crate::workload::{Role, Workload};
 use hub_base::{Cases, Event, Fault, Port, Value, What};
 use hub_crew::{Task, run_crew};
-use hub_live::{Blank, Chan, Held, HubName, LiveHub, Seat, hold_all};
+use hub_live::{Blank, Chan, Held, HubName, LiveHub, Seat};
 use std::alloc::{AllocError, Global};
 use std::marker::Brand;
 use std::sync::Wait;
@@ -154,19 +155,6 @@ impl<K: HubName, R: Wait + Clock> Task<K, R> for Turns {
     }
 }
 
-/// Makes ports of these capacities.
-fn make_ports<K: HubName, R: Wait>(
-    rt: &R,
-    hub: &LiveHub<K>,
-    seat: &mut Held<K>,
-    capacities: &[u32],
-) -> Result<(), Trouble> {
-    for capacity in capacities {
-        seat.make_chan(rt, hub, *capacity)?;
-    }
-    Ok(())
-}
-
 fn run_named<K: HubName + Send + Sync, R: Threads + Wait + Clock + Sync>(
     rt: &R,
     alloc: Global,
@@ -178,9 +166,7 @@ fn run_named<K: HubName + Send + Sync, R: Threads + Wait + Clock + Sync>(
     requires seats { All (λ s. s.hub ≡ K.name) seats.items }
 {
     let hub = blank.named::<K>();
-    let mut seats = hold_all::<K>(alloc, seats)?;
-    let first = seats.first_mut().ok_or(Trouble::NotStarted)?;
-    make_ports(rt, &hub, first, turns.workload.capacities())?;
+    let (seats, _) = hold_with_ports(rt, alloc, &hub, seats, turns.workload.capacities())?;
     let done = run_crew(rt, alloc, &hub, seats, turns).map_err(|_| Trouble::NotStarted)?;
     let mut whole: Option<Span> = None;
     for member in done {

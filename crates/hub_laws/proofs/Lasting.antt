@@ -1,4 +1,4 @@
--- A step leaves the number of processes, only an exit adds to those that have exited, and only a make to the ports.
+-- A step leaves the head, only an exit adds to those that have exited, and only a make to the ports.
 use Rattle.std.proofs.Common.{◌≡◌, ◌≤◌, ℕ, ◌==◌, Bool, true, false, cond, List, [], ◌∷◌, ◌++◌, length, ap}
 use Rattle.std.proofs.Common.{◌∙◌, sym, refl, Option, Some, None, arith, inl, inr, ◌⊎◌, ◌||◌, ◌&&◌}
 use Rattle.std.specs.List.{list_any}

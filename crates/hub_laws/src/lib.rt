@@ -1,6 +1,6 @@
 //! Laws of a hub of channels: what holds of every run, whatever its processes and entries.
 //!
-//! A run is a number of processes and a list of entries, admitted or not. Each law is the `ensures` of
+//! A run is a hub's head and a list of entries, admitted or not. Each law is the `ensures` of
 //! a function without a body. What it says stands in `specs/`, over the definitions of `hub_base`; its
 //! proof is for all numbers of processes and all lists of entries. The crates above import the lemmas.
 #![tactic(auto)]

@@ -15,7 +15,7 @@ use Rattle.hub_replay.specs.declared.fault.SourceFault.TheVariants as source
 use Rattle.hub_replay.specs.declared.fault.ReplayFault.{ReplayFault}
 use Rattle.hub_replay.specs.declared.fault.ReplayFault.TheVariants as replay
 
--- the lines of the events that follow these entries, for so many processes
+-- the lines of the events that follow these entries, in a hub with this head
 abbrev pub event_lines : Head → List Entry → List ℕ
 event_lines head entries = flat_map event_line (events head entries)
 

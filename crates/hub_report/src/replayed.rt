@@ -56,7 +56,7 @@ fn add_to_sum(sums: &mut [u128; MOST_PORTS], port: Option<Port>, more: u128)
 }
 
 impl Replayed {
-    /// Nothing has happened at this number of processes.
+    /// Nothing has happened.
     fn new(alloc: Global, head: Head) -> Result<Replayed, NoMemory>
         requires { IsHead head }
         ensures tells { IfOk result (λ r. Tells head [] r) }

@@ -211,7 +211,12 @@ impl Hub {
         if let Some(fault) = self.machine.refusal(entry.pid) {
             return Err(fault);
         }
-        let Ok(()) = make_room(&mut self.entries, &entry.step, self.places, self.terms.head.procs) else {
+        let Ok(()) = make_room(
+            &mut self.entries,
+            &entry.step,
+            self.places,
+            self.terms.head.procs,
+        ) else {
             return Err(Fault::NoMemory);
         };
         let Ok(()) = self.machine.step(&entry, events) else {
@@ -238,7 +243,10 @@ impl Hub {
         ensures capacity { self.old.capacity ≤ self.new.capacity }
     {
         if k > self.places {
-            reserve_more(&mut self.entries, k as usize + self.terms.head.procs as usize)?;
+            reserve_more(
+                &mut self.entries,
+                k as usize + self.terms.head.procs as usize,
+            )?;
             self.places = k;
         }
         Ok(())

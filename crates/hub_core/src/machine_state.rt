@@ -19,8 +19,8 @@ use crate::stalling::{all_wait, stop_all};
 use crate::tally::Tallies;
 use arrayvec::ArrayVec;
 use hub_base::{
-    Cases, Entry, Event, Events, Fault, Head, Look, MOST_CASES, MOST_PROCS, NoMemory, Pid, Port, Step,
-    Value, What,
+    Cases, Entry, Event, Events, Fault, Head, Look, MOST_CASES, MOST_PROCS, NoMemory, Pid, Port,
+    Step, Value, What,
 };
 use hub_parts::Board;
 use std::alloc::Global;

@@ -13,7 +13,7 @@ for crate in hub_base hub_laws hub_parts hub_core hub_live hub_crew; do
 done
 
 tests=src/tests/tasks.rt
-sed -i 's/seat\.close(rt, hub, &Chan::of(Port(1))\.sender())/seat.close(rt, hub, \&Chan::of(Port(1)).receiver())/' \
+sed -i 's/seat\.close(rt, hub, &chan\.sender())/seat.close(rt, hub, \&chan.receiver())/' \
     "$work/crates/hub_crew/$tests"
 if cmp -s "$work/crates/hub_crew/$tests" "$root/crates/hub_crew/$tests"; then
     echo "receivers_close_nothing: no close to change"

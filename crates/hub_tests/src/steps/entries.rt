@@ -54,6 +54,19 @@ pub(crate) fn recv(pid: u8, port: u16) -> Entry {
     call(pid, Case::Recv(Port(port)))
 }
 
+/// A value goes through port 1, which is closed and drained; then a send and a close come too late.
+pub(crate) fn used_up() -> [Entry; 7] {
+    [
+        make(0, 2),
+        send(0, 1, 7),
+        close(0, 1),
+        recv(0, 1),
+        recv(0, 1),
+        send(0, 1, 8),
+        close(0, 1),
+    ]
+}
+
 pub(crate) fn told(pid: u8, what: What) -> Event {
     Event {
         pid: Pid(pid),

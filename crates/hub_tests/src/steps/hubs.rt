@@ -1,10 +1,20 @@
 //! A hub, step by step: what it shows, full journals, and reservations.
 
-use super::entries::{close, exit, fired, got, make, recv, send, told};
+use super::entries::{close, exit, fired, got, make, recv, send, told, used_up};
 use hub_base::{Counts, Entry, Event, Fault, Look, Outcome, Port, Value, What};
 use hub_core::{Hub, ListFault, run};
+use std::alloc::Global;
 use std::process::Abort;
 use std::test::Fail;
+
+/// A hub of so many processes, where these steps were made.
+fn hub_after(alloc: Global, procs: u8, steps: &[Entry]) -> Result<Hub, Fail> {
+    let mut hub = Hub::open(alloc, procs, 100)?;
+    for entry in steps {
+        hub.step(entry.copy())?;
+    }
+    Ok(hub)
+}
 
 /// Makes the step, and compares what the processes are told.
 pub(super) fn step(
@@ -26,18 +36,7 @@ fn refuse(rt: &impl Abort, hub: &mut Hub, entry: Entry, fault: Fault) {
 /// A value is sent and received, and the closed port is drained.
 #[test]
 fn closed_port_shows_its_counts(rt: HostRuntime) -> Result<(), Fail> {
-    let mut hub = Hub::open(rt.alloc(), 1, 100)?;
-    for entry in [
-        make(0, 2),
-        send(0, 1, 7),
-        close(0, 1),
-        recv(0, 1),
-        recv(0, 1),
-        send(0, 1, 8),
-        close(0, 1),
-    ] {
-        hub.step(entry)?;
-    }
+    let hub = hub_after(rt.alloc(), 1, &used_up())?;
     let counts = Counts {
         len: 0,
         sent: 1,
@@ -53,17 +52,18 @@ fn closed_port_shows_its_counts(rt: HostRuntime) -> Result<(), Fail> {
 
 #[test]
 fn buffer_shows_its_values(rt: HostRuntime) -> Result<(), Fail> {
-    let mut hub = Hub::open(rt.alloc(), 2, 100)?;
-    for entry in [
-        make(0, 2),
-        send(0, 1, 5),
-        send(0, 1, 6),
-        recv(0, 1),
-        send(0, 1, 7),
-        send(1, 1, 8),
-    ] {
-        hub.step(entry)?;
-    }
+    let mut hub = hub_after(
+        rt.alloc(),
+        2,
+        &[
+            make(0, 2),
+            send(0, 1, 5),
+            send(0, 1, 6),
+            recv(0, 1),
+            send(0, 1, 7),
+        ],
+    )?;
+    step(&rt, &mut hub, send(1, 1, 8), &[told(1, What::Parked)])?;
     for (port, place, number) in [
         (1, 0, Some(6)),
         (1, 1, Some(7)),

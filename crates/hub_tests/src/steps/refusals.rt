@@ -1,7 +1,7 @@
 //! What stays of a hub where memory is refused. The gate has memory; `tools/hub_refusals.sh` runs these tests with
 //! their allocations refused that come after `begin`.
 
-use super::entries::{close, fired, got, make, recv, recv_either, send, told};
+use super::entries::{close, fired, got, make, recv, recv_either, send, told, used_up};
 use super::hubs::step;
 use hub_base::{Entry, Event, Fault, Look, NoMemory, Outcome, Port, Value, What};
 use hub_core::{Hub, ListFault, OpenFault, run};
@@ -169,15 +169,7 @@ fn run_again(alloc: Global, entries: &[Entry]) -> Result<(Hub, Vec<Event>), List
 
 #[test]
 fn refused_run_is_made_again(rt: HostRuntime) -> Result<(), Fail> {
-    let entries = [
-        make(0, 2),
-        send(0, 1, 7),
-        close(0, 1),
-        recv(0, 1),
-        recv(0, 1),
-        send(0, 1, 8),
-        close(0, 1),
-    ];
+    let entries = used_up();
     let wanted = [
         told(0, What::Made(Port(1))),
         fired(0, Outcome::Sent),

@@ -5,7 +5,7 @@ ghost use Rattle.chanhub.specs.declared.refusal.Refusal.TheVariants as refusal;
 ghost use Rattle.chanhub.specs.Refusals.{of_arguments, of_source, of_replay, of_scenario, of_run};
 ghost use Rattle.chanhub.specs.Statuses.{status_of};
 
-use hub_base::TextFault;
+use hub_base::{NoMemory, TextFault};
 use hub_replay::{ReplayFault, SourceFault, WriteFailed};
 use hub_runner::RunFault;
 use hub_scenario::ScenarioFault;
@@ -93,6 +93,14 @@ impl From<RunFault> for Refusal {
             RunFault::NoMemory => Refusal::NoMemory,
             RunFault::JournalFull => Refusal::JournalFull,
         }
+    }
+}
+
+impl From<NoMemory> for Refusal {
+    ghost from_gives = { λ _ given. given ≡ refusal.NoMemory };
+
+    fn from(_: NoMemory) -> Refusal {
+        Refusal::NoMemory
     }
 }
 

@@ -70,6 +70,14 @@ impl From<SourceFault> for ReplayFault {
     }
 }
 
+impl From<WriteFailed> for ReplayFault {
+    ghost from_gives = { λ _ fault. fault ≡ replay.Write };
+
+    fn from(_: WriteFailed) -> ReplayFault {
+        ReplayFault::Write
+    }
+}
+
 impl From<NoMemory> for ReplayFault {
     ghost from_gives = { λ _ fault. fault ≡ replay.NoMemory };
 

@@ -75,5 +75,6 @@ pub fn replay<S: Source, W: Sink>(
 {
     let bytes = read_up_to(alloc, source, MOST_BYTES)?;
     let text = event_text(alloc, &bytes)?;
-    write_whole(sink, &text).map_err(|_| ReplayFault::Write)
+    write_whole(sink, &text)?;
+    Ok(())
 }

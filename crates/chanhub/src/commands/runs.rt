@@ -86,9 +86,7 @@ fn run_bytes<R: Threads + Wait + Sync, W: Sink>(
 {
     let scenario = read_scenario(alloc, bytes)?;
     let report = run_scenario(rt, alloc, &scenario, &NoGate)?;
-    let Ok(text) = text_of(alloc, &report, journal) else {
-        return Err(Refusal::NoMemory);
-    };
+    let text = text_of(alloc, &report, journal)?;
     write_whole(output, &text)?;
     Ok(outcome_of(&report))
 }

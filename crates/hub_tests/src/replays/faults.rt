@@ -39,4 +39,5 @@ fn faults_of_devices_are_faults_of_replays(rt: HostRuntime) {
         ReplayFault::from(SourceFault::NoMemory),
         ReplayFault::NoMemory
     );
+    assert_eq!(rt; ReplayFault::from(WriteFailed), ReplayFault::Write);
 }

@@ -11,7 +11,7 @@ import tempfile
 import tomllib
 
 ROOT = os.path.join(os.path.dirname(os.path.abspath(__file__)), '..')
-PROGRAM = sys.argv[1] if len(sys.argv) > 1 else os.path.join(ROOT, 'crates', 'chanhub', 'out', 'chanhub')
+PROGRAM = os.path.abspath(sys.argv[1] if len(sys.argv) > 1 else os.path.join(ROOT, 'crates', 'chanhub', 'out', 'chanhub'))
 
 
 def table(name):
@@ -19,19 +19,37 @@ def table(name):
         return tomllib.load(file)
 
 
-def run(words, text):
-    """The status, what was written to standard output, and to standard error."""
-    done = subprocess.run([PROGRAM, *words], input=text, capture_output=True, timeout=60)
+def run(words, text, name='chanhub', folder=None):
+    """The status, what was written to standard output, and to standard error, of the program under this name."""
+    done = subprocess.run(
+        [name, *words], executable=PROGRAM, cwd=folder, input=text, capture_output=True, timeout=60
+    )
     return done.returncode, done.stdout, done.stderr
+
+
+def run_unasked(words, text, folder):
+    """The same of words that ask for no standard input, and None where some of it was read all the same."""
+    with tempfile.TemporaryFile() as file:
+        file.write(text)
+        file.flush()
+        os.lseek(file.fileno(), 0, os.SEEK_SET)
+        done = subprocess.run(
+            ['chanhub', *words], executable=PROGRAM, cwd=folder, stdin=file, capture_output=True, timeout=60
+        )
+        left_alone = os.lseek(file.fileno(), 0, os.SEEK_CUR) == 0
+    return (done.returncode, done.stdout, done.stderr) if left_alone else None
+
+
+def write(folder, name, text):
+    with open(os.path.join(folder, name), 'wb') as file:
+        file.write(text.encode())
 
 
 def compare(folder, journal, events):
     """What `verify` answers for these two texts."""
-    paths = [os.path.join(folder, name) for name in ('journal', 'events')]
-    for path, text in zip(paths, (journal, events)):
-        with open(path, 'wb') as file:
-            file.write(text.encode())
-    return run(['verify', *paths], b'')
+    write(folder, 'journal', journal)
+    write(folder, 'events', events)
+    return run(['verify', 'journal', 'events'], b'', folder=folder)
 
 
 def refused(fault):
@@ -106,11 +124,25 @@ def faulty_journals(folder):
             yield name + ' compared', compare(folder, journal, '') == refused(group['fault'])
 
 
+    for fault, texts in table('faulty_journals')['texts'].items():
+        for text in texts:
+            yield repr(text), run(['replay'], text.encode()) == refused(fault)
+            yield repr(text) + ' compared', compare(folder, text, '') == refused(fault)
+
+
 def comparisons(folder):
     for group in table('comparisons')['group']:
         for row in group['comparisons']:
             wanted = (3, b'differs at line %d\n' % row['line'], b'') if row['line'] else (0, b'same\n', b'')
             yield row['name'], compare(folder, group['journal'], row['events']) == wanted
+
+
+def runs(_):
+    for row in table('runs')['run']:
+        words = ['run', '--journal'] if 'journal' in row else ['run']
+        printed = row.get('journal', row.get('report', ''))
+        told = 'chanhub: %s\n' % row['fault'] if 'fault' in row else ''
+        yield row['name'], run(words, row['scenario'].encode()) == (row['status'], printed.encode(), told.encode())
 
 
 def scenarios(_):
@@ -126,10 +158,89 @@ def scenarios(_):
             yield 'step ' + value, run(['run'], text.encode()) == refused(group['fault'])
 
 
+def long_scenarios(_):
+    """Scenarios up to each limit, and one past it."""
+
+    def ports(times):
+        return 'ports = [%s]\nprocess = [{steps = []}]\n' % ('0,' * times)
+
+    def processes(times):
+        return 'ports = []\nprocess = [%s]\n' % ('{steps = []},' * times)
+
+    def steps(times):
+        return 'ports = []\nprocess = [{steps = []}, {steps = [%s]}]\n' % ("'recv 1'," * times)
+
+    def comment(size):
+        text = 'ports = []\nprocess = [{steps = []}]\n#'
+        return text + 'x' * (size - len(text))
+
+    port = 'port %d cap 0 sent 0 received 0 left 0 sum 0 open\n'
+    rows = {
+        'no_port': (ports(0), ''),
+        'all_ports': (ports(64), ''.join(port % number for number in range(1, 65))),
+        'all_processes': (processes(64), ''),
+        'no_step': (steps(0), ''),
+        # There is no port 1.
+        'all_steps': (steps(10000), 'faults 10000\n'),
+        'longest_file': (comment(1048576), ''),
+    }
+    for name, (text, report) in rows.items():
+        yield name, run(['run'], text.encode()) == (0, report.encode(), b'')
+    rows = {
+        'one_port_more': (ports(65), 'bad ports'),
+        'no_process': (processes(0), 'bad processes'),
+        'one_process_more': (processes(65), 'bad processes'),
+        'one_step_more': (steps(10001), 'bad script: process 1 step 10000'),
+        'one_byte_more': (comment(1048577), 'too long'),
+        'one_byte_more_is_no_toml': ('=' * 1048577, 'too long'),
+    }
+    for name, (text, fault) in rows.items():
+        yield name, run(['run'], text.encode()) == refused('scenario: ' + fault)
+
+
+def one_port(capacity):
+    """A scenario that makes one port, and the report and the journal of its run."""
+    return (
+        'ports = [%d]\nprocess = [{ steps = [] }]\n' % capacity,
+        'port 1 cap %d sent 0 received 0 left 0 sum 0 open\n' % capacity,
+        'chanhub journal 1\nprocs 1\n0 make %d\n0 exit\n' % capacity,
+    )
+
+
+def arguments(folder):
+    rows = table('arguments')
+    for name, capacity in rows['scenarios'].items():
+        write(folder, name, one_port(capacity)[0])
+    for name, text in rows['files'].items():
+        write(folder, name, text)
+    journal, scenario = rows['files']['steps'].encode(), one_port(7)[0].encode()
+
+    for row in rows['replays']:
+        yield row['name'] + ' replay', run(row['words'], journal, row['name'], folder) == (0, b'', b'')
+    for prints, kind in enumerate(('reports', 'journals'), 1):
+        for row in rows['runs'][kind]:
+            wanted = (0, one_port(row['capacity'])[prints].encode(), b'')
+            asks = run if row['capacity'] == 7 else run_unasked
+            yield ' '.join(row['words']), asks(row['words'], scenario, folder=folder) == wanted
+
+    answers = {
+        'same': (0, b'same\n', b''),
+        'different': (3, b'differs at line 1\n', b''),
+        'malformed': refused('line 1: bad header'),
+    }
+    for kind, answer in answers.items():
+        for words in rows['verifies'][kind]:
+            yield ' '.join(words), run_unasked(words, journal, folder) == answer
+    for words in rows['unread']['words']:
+        yield ' '.join(words), run_unasked(words, scenario, folder) == (1, b'', b'chanhub: read failed\n')
+    for words in rows['bad']['words']:
+        yield ' '.join(words), run_unasked(words, journal, folder) == refused('bad arguments')
+
+
 def main():
     passed, failed = 0, 0
     with tempfile.TemporaryDirectory() as folder:
-        for rows in (journals, long_journals, faulty_journals, comparisons, scenarios):
+        for rows in (journals, long_journals, faulty_journals, comparisons, runs, scenarios, long_scenarios, arguments):
             for name, is_well in rows(folder):
                 passed, failed = passed + is_well, failed + (not is_well)
                 if not is_well:

@@ -7,8 +7,6 @@ mod grammar;
 mod options;
 mod parser;
 mod request;
-#[cfg(test)]
-mod tests;
 
 pub use parser::read_words;
 pub use request::{ArgumentsFault, Request};

@@ -1,4 +1,4 @@
-//! What the tests share: a run of the program, and a device that fails.
+//! What the tests share: a run of the program between given devices, and a device that fails.
 
 use crate::program::run_words;
 use hub_replay::{Counted, Sink, Source};
@@ -25,33 +25,6 @@ impl Write for Broken {
 
     fn flush(&mut self) -> io::Result<()> {
         Ok(())
-    }
-}
-
-/// What a run of the program came to.
-#[derive(Drop)]
-pub struct Finished {
-    pub status: u8,
-    pub output: Vec<u8>,
-    pub errors: Vec<u8>,
-    /// How many bytes of the input were left.
-    pub left: usize,
-}
-
-/// Runs the program on this input.
-pub(crate) fn run_on<R: Files + AllocGlobal + Threads + Wait + Sync>(
-    rt: &R,
-    words: &[&str],
-    input: &[u8],
-) -> Finished {
-    let mut source = Counted::new(input);
-    let mut output = Counted::new(Vec::new(rt.alloc()));
-    let (status, errors) = run_between(rt, words, &mut source, &mut output);
-    Finished {
-        status,
-        output: output.into_inner(),
-        errors,
-        left: source.into_inner().len(),
     }
 }
 

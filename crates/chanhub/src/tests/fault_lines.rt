@@ -1,11 +1,10 @@
-//! Fault lines and their statuses.
+//! Fault lines and their statuses. Rows of `tests/` have the lines of each fault of a journal and of a scenario.
 
 use crate::fault_lines::refuse;
 use crate::refusal::Refusal;
 use crate::tests::fakes::Broken;
 use hub_base::{Kind, TextFault};
 use hub_replay::Counted;
-use hub_scenario::ScenarioFault;
 
 #[test]
 fn refusals_have_lines_and_statuses(rt: HostRuntime) {
@@ -16,11 +15,6 @@ fn refusals_have_lines_and_statuses(rt: HostRuntime) {
         (Refusal::Write, "chanhub: write failed\n", 1),
         (Refusal::NoMemory, "chanhub: out of memory\n", 1),
         (Refusal::JournalFull, "chanhub: journal full\n", 1),
-        (at(1, Kind::BadHeader), "chanhub: line 1: bad header\n", 2),
-        (at(2, Kind::BadProcs), "chanhub: line 2: bad procs\n", 2),
-        (at(3, Kind::BadStep), "chanhub: line 3: bad step\n", 2),
-        (at(40, Kind::BadNumber), "chanhub: line 40: bad number\n", 2),
-        (at(500, Kind::CutLine), "chanhub: line 500: cut line\n", 2),
         (
             at(4294967295, Kind::TooLong),
             "chanhub: line 4294967295: too long\n",
@@ -31,34 +25,6 @@ fn refusals_have_lines_and_statuses(rt: HostRuntime) {
         assert_eq!(rt; refuse(refusal, &mut errors), status, "{line}");
         assert_eq!(rt; errors.into_inner().as_slice(), line.as_bytes());
     }
-}
-
-#[test]
-fn malformed_scenarios_have_lines(rt: HostRuntime) {
-    for (fault, line) in [
-        (ScenarioFault::TooLong, "chanhub: scenario: too long\n"),
-        (ScenarioFault::BadToml, "chanhub: scenario: bad toml\n"),
-        (ScenarioFault::BadKey, "chanhub: scenario: bad key\n"),
-        (ScenarioFault::BadSeed, "chanhub: scenario: bad seed\n"),
-        (ScenarioFault::BadLimit, "chanhub: scenario: bad limit\n"),
-        (ScenarioFault::BadPorts, "chanhub: scenario: bad ports\n"),
-        (
-            ScenarioFault::BadProcesses,
-            "chanhub: scenario: bad processes\n",
-        ),
-        (
-            ScenarioFault::BadScript {
-                process: 63,
-                step: 10000,
-            },
-            "chanhub: scenario: bad script: process 63 step 10000\n",
-        ),
-    ] {
-        let mut errors = Counted::new(Vec::new(rt.alloc()));
-        assert_eq!(rt; refuse(Refusal::from(fault), &mut errors), 2, "{line}");
-        assert_eq!(rt; errors.into_inner().as_slice(), line.as_bytes());
-    }
-    assert_eq!(rt; Refusal::from(ScenarioFault::NoMemory), Refusal::NoMemory);
 }
 
 #[test]

@@ -1,26 +1,8 @@
-//! Files that are read, up to each limit and one past it.
+//! Files that are read. `tools/rows.py` reads those that reach a limit, by the program.
 
 use hub_base::Port;
-use hub_scenario::{ScenarioFault, ScriptStep, read_scenario};
-use std::alloc::{AllocError, Global};
+use hub_scenario::{ScriptStep, read_scenario};
 use std::test::Fail;
-
-/// The text this often, between these two.
-fn repeated(
-    alloc: Global,
-    before: &[u8],
-    text: &[u8],
-    times: usize,
-    after: &[u8],
-) -> Result<Vec<u8>, AllocError> {
-    let mut all = Vec::new(alloc);
-    all.extend_from_slice(before)?;
-    for _ in 0..times {
-        all.extend_from_slice(text)?;
-    }
-    all.extend_from_slice(after)?;
-    Ok(all)
-}
 
 #[test]
 fn two_processes_are_read(rt: HostRuntime) -> Result<(), Fail> {
@@ -86,64 +68,5 @@ fn greatest_and_least_numbers_are_read(rt: HostRuntime) -> Result<(), Fail> {
         assert_eq!(rt; scenario.ports.as_slice(), ports.as_slice(), "{name}");
         assert_eq!(rt; scenario.scripts.len(), 1, "{name}");
     }
-    Ok(())
-}
-
-#[test]
-fn counts_are_read_up_to_their_limits(rt: HostRuntime) -> Result<(), Fail> {
-    let ports: (&[u8], &[u8], &[u8]) = (b"ports = [", b"0,", b"]\nprocess = [{steps = []}]\n");
-    let processes: (&[u8], &[u8], &[u8]) = (b"ports = []\nprocess = [", b"{steps = []},", b"]\n");
-    let steps: (&[u8], &[u8], &[u8]) = (
-        b"ports = []\nprocess = [{steps = []}, {steps = [",
-        b"'recv 1',",
-        b"]}]\n",
-    );
-    let place = ScenarioFault::BadScript {
-        process: 1,
-        step: 10_000,
-    };
-    for (name, (before, text, after), times, fault) in [
-        ("no_port", ports, 0, None),
-        ("all_ports", ports, 64, None),
-        ("one_port_more", ports, 65, Some(ScenarioFault::BadPorts)),
-        (
-            "no_process",
-            processes,
-            0,
-            Some(ScenarioFault::BadProcesses),
-        ),
-        ("all_processes", processes, 64, None),
-        (
-            "one_process_more",
-            processes,
-            65,
-            Some(ScenarioFault::BadProcesses),
-        ),
-        ("no_step", steps, 0, None),
-        ("all_steps", steps, 10_000, None),
-        ("one_step_more", steps, 10_001, Some(place)),
-    ] {
-        let file = repeated(rt.alloc(), before, text, times, after)?;
-        assert_eq!(rt; read_scenario(rt.alloc(), &file).err(), fault, "{name}");
-    }
-    Ok(())
-}
-
-#[test]
-fn longest_file_is_read(rt: HostRuntime) -> Result<(), Fail> {
-    let file: &[u8] = b"ports = []\nprocess = [{steps = []}]\n#";
-    let longest = repeated(rt.alloc(), file, b"x", 1_048_576 - 37, b"")?;
-    assert_eq!(rt; longest.len(), 1_048_576);
-    assert_eq!(rt; read_scenario(rt.alloc(), &longest).err(), None);
-    let longer = repeated(rt.alloc(), file, b"x", 1_048_577 - 37, b"")?;
-    assert_eq!(rt;
-        read_scenario(rt.alloc(), &longer).err(),
-        Some(ScenarioFault::TooLong)
-    );
-    let no_toml = repeated(rt.alloc(), b"", b"=", 1_048_577, b"")?;
-    assert_eq!(rt;
-        read_scenario(rt.alloc(), &no_toml).err(),
-        Some(ScenarioFault::TooLong)
-    );
     Ok(())
 }

@@ -3,8 +3,8 @@
 # journals beside the events that model.py makes of them; on the longest journal and one entry more; and with each of its
 # allocations refused. Runs a hub's tests and the live hub's, which `./test` has built, with theirs refused; compares
 # model.py, CLAIMS and the quotations of README with what they speak of; looks for limits that are written as numbers, and
-# for definitions and proofs that are too wide; and tries a close by an end that receives. The last line counts:
-# 'N passed, M failed'.
+# for definitions and proofs that are too wide; counts the instructions of replays, where valgrind is there; and tries a
+# close by an end that receives. The last line counts: 'N passed, M failed'.
 set -u
 root=$(cd "$(dirname "$0")/.." && pwd)
 program=${1:-$root/crates/chanhub/out/chanhub}
@@ -36,6 +36,8 @@ refusals=$!
 live_refusals=$!
 "$root/tools/hub_refusals.sh" > "$work/hub_refusals" 2>&1 &
 hub_refusals=$!
+"$root/tools/check_instructions.py" "$program" > "$work/instructions" 2>&1 &
+instructions=$!
 
 for events in "$root"/examples/journals/*.stdout; do
     journal=${events%.stdout}
@@ -171,6 +173,12 @@ wait "$live_refusals"
 count $? "refused allocations of the live hub: $(cat "$work/live_refusals")"
 wait "$hub_refusals"
 count $? "refused allocations of a hub: $(cat "$work/hub_refusals")"
+
+wait "$instructions"
+status=$?
+cat "$work/instructions"
+# 77: nothing was counted, so it neither passed nor failed.
+[ "$status" -eq 77 ] || count "$status" "instructions of replays"
 
 echo "$passed passed, $failed failed"
 [ "$failed" -eq 0 ]

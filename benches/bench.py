@@ -1,0 +1,213 @@
+#!/usr/bin/env python3
+"""Measures the built programs beside others, and prints a table of each part.
+
+replay      `chanhub replay` beside OTHER, the command of another program that reads a journal and writes its events
+verify      `chanhub verify` beside `chanhub replay`
+live        `hub_trials` beside live_peer, which is built where there is cargo
+scenarios   `hub_trials` beside `chanhub run`
+
+Journals and scenarios are made in FOLDER, where they are not there. RUNS (10, or what the environment says) is how often
+each program runs, in turn with the other. What can't be measured is said to be skipped.
+"""
+import argparse
+import collections
+import hashlib
+import os
+import shlex
+import shutil
+import statistics
+import subprocess
+import sys
+import time
+
+HERE = os.path.dirname(os.path.abspath(__file__))
+ROOT = os.path.dirname(HERE)
+sys.path.append(os.path.join(ROOT, 'tools'))
+sys.dont_write_bytecode = True
+from check_instructions import LINES, has_valgrind, instructions, make_beginnings
+
+CHANHUB = os.path.join(ROOT, 'crates', 'chanhub', 'out', 'chanhub')
+TRIALS = os.path.join(ROOT, 'crates', 'hub_trials', 'out', 'hub_trials')
+PEER = os.path.join(HERE, 'live_peer', 'target', 'release', 'live_peer')
+RUNS = int(os.environ.get('RUNS', '10'))
+SETS = 3
+JOURNALS = ('hand_overs', 'bursts', 'selects')
+WORKLOADS = ('alone', 'ping_pong', 'one_to_one', 'four_to_four', 'select_over_four', 'looks_1', 'looks_2', 'looks_4')
+# the calls and closes of each scenario
+SCENARIOS = {'pool': 99994, 'pipeline': 69994}
+
+# the words of a program, and the path of its standard input
+Job = collections.namedtuple('Job', 'words input')
+# in milliseconds, and in megabytes; `processor` is user and system time together
+Usage = collections.namedtuple('Usage', 'user processor wall peak')
+# a value of each of the two that stand beside one another, or of the first alone
+Row = collections.namedtuple('Row', 'name values')
+
+
+def skip(what):
+    print('skipped: ' + what, flush=True)
+
+
+def shown(number):
+    return format(number, ',.0f' if number >= 1000 else '.1f')
+
+
+def cells(row):
+    ratio = '%.2f' % (row.values[0] / row.values[1]) if len(row.values) == 2 else '-'
+    return [row.name, *[shown(value) for value in row.values], '-'][:3] + [ratio]
+
+
+def print_table(title, ours, other, rows):
+    lines = [['', ours, other, 'Ratio']] + [cells(row) for row in rows]
+    widths = [max(map(len, column)) for column in zip(*lines)]
+    lines.insert(1, ['-' * widths[0]] + ['-' * (width - 1) + ':' for width in widths[1:]])
+    print('\n%s\n' % title)
+    for name, *values in lines:
+        padded = [name.ljust(widths[0])] + [value.rjust(width) for value, width in zip(values, widths[1:])]
+        print('| %s |' % ' | '.join(padded), flush=True)
+    print()
+
+
+def run(job, status=0):
+    """What one run takes. A peak below some 20 MB may be this script's own, which a new process starts from."""
+    with open(job.input, 'rb') as file:
+        start = time.perf_counter()
+        child = subprocess.Popen(job.words, stdin=file, stdout=subprocess.DEVNULL, stderr=subprocess.DEVNULL)
+        _, told, usage = os.wait4(child.pid, 0)
+        wall = time.perf_counter() - start
+    child.returncode = os.waitstatus_to_exitcode(told)
+    if child.returncode != status:
+        sys.exit('bench: %s: status %d' % (shlex.join(job.words), child.returncode))
+    processor = usage.ru_utime + usage.ru_stime
+    return Usage(usage.ru_utime * 1000, processor * 1000, wall * 1000, usage.ru_maxrss / 1024)
+
+
+def digest(job):
+    with open(job.input, 'rb') as file, subprocess.Popen(job.words, stdin=file, stdout=subprocess.PIPE) as child:
+        return hashlib.file_digest(child.stdout, 'sha256').digest()
+
+
+def in_turns(times, makers):
+    """What each of these makes, so many times."""
+    return zip(*[[make() for make in makers] for _ in range(times)])
+
+
+def costs(name, beginnings, wholes):
+    """Rows of what jobs take: instructions on the first lines of a journal, time and memory on the whole of it."""
+    usages = [Usage(*zip(*runs)) for runs in in_turns(RUNS, [lambda job=job: run(job) for job in wholes])]
+    if has_valgrind():
+        yield Row(name + ', million instructions', [instructions(*job) / 1000000 for job in beginnings])
+    yield Row(name + ', user time in ms', [min(usage.user) for usage in usages])
+    yield Row(name + ', processor time in ms', [min(usage.processor) for usage in usages])
+    yield Row(name + ', peak memory in MB', [max(usage.peak) for usage in usages])
+
+
+def journal_costs(folder, jobs_of):
+    """Rows of the jobs that are made of each journal."""
+    heads = os.path.join(folder, 'first_%d_lines' % LINES)
+    if not os.path.exists(os.path.join(folder, JOURNALS[-1])):
+        subprocess.run([os.path.join(HERE, 'make_journals.py'), folder], check=True)
+    make_beginnings(heads)
+    if not has_valgrind():
+        skip('instructions: valgrind is not there')
+    for name in JOURNALS:
+        yield from costs(name, jobs_of(os.path.join(heads, name)), jobs_of(os.path.join(folder, name)))
+
+
+def replay(folder, other):
+    programs = [[CHANHUB, 'replay']]
+    if other is None:
+        skip('another program that replays: none is named')
+    else:
+        programs.append(shlex.split(other))
+
+    def jobs_of(journal):
+        jobs = [Job(words, journal) for words in programs]
+        if len(set(map(digest, jobs))) != 1:
+            sys.exit('bench: the programs write different events of ' + journal)
+        return jobs
+
+    print_table('Replays', 'chanhub replay', 'the other', journal_costs(folder, jobs_of))
+
+
+def verify(folder, _):
+    def jobs_of(journal):
+        events = journal + '.events'
+        with open(journal, 'rb') as file, open(events, 'wb') as written:
+            subprocess.run([CHANHUB, 'replay'], stdin=file, stdout=written, check=True)
+        return [Job([CHANHUB, 'verify', journal, events], os.devnull), Job([CHANHUB, 'replay'], journal)]
+
+    print_table('Comparisons', 'chanhub verify', 'chanhub replay', journal_costs(folder, jobs_of))
+
+
+def rate_rows(names, makers):
+    """For each name the medians of sets of rates, in thousands."""
+    sets = list(in_turns(SETS, makers))
+    for name in names:
+        yield Row(name, [statistics.median(rates[name] for rates in of_one) / 1000 for of_one in sets])
+
+
+def rates_of(program):
+    """The median rate of each workload, of RUNS runs."""
+    done = subprocess.run([program, 'times', '200000', str(RUNS)], stdout=subprocess.PIPE, text=True, check=True)
+    fields = [line.split() for line in done.stdout.splitlines()]
+    return {name: int(median) for name, _, _, _, median in fields}
+
+
+def build_peer():
+    words = ['cargo', 'build', '--release', '--offline', '--quiet', '--target-dir', 'target']
+    subprocess.run(words, cwd=os.path.join(HERE, 'live_peer'), check=True)
+
+
+def live(*_):
+    makers = [lambda: rates_of(TRIALS)]
+    if shutil.which('cargo'):
+        build_peer()
+        makers.append(lambda: rates_of(PEER))
+    else:
+        skip('live_peer: cargo is not there')
+    print_table('The live hub, in thousands a second', 'hub_trials', 'live_peer', rate_rows(WORKLOADS, makers))
+
+
+def rates_of_runs(folder):
+    """The calls a second of each scenario: those of a median run, beside the time of reading it."""
+    rates = {}
+    for name, calls in SCENARIOS.items():
+        whole, bad = [Job([CHANHUB, 'run', os.path.join(folder, name + end)], os.devnull) for end in ('', '_read')]
+        reading = min(run(bad, 2).wall for _ in range(RUNS))
+        rates[name] = 1000 * calls / (statistics.median(run(whole).wall for _ in range(RUNS)) - reading)
+    return rates
+
+
+def scenarios(folder, _):
+    subprocess.run([os.path.join(HERE, 'make_scenarios.py'), folder], check=True)
+    rows = rate_rows(SCENARIOS, [lambda: rates_of(TRIALS), lambda: rates_of_runs(folder)])
+    print_table('Scenarios, in thousands a second', 'hub_trials', 'chanhub run', rows)
+
+
+# each part, and the programs that it needs
+PARTS = {
+    'replay': (replay, [CHANHUB]),
+    'verify': (verify, [CHANHUB]),
+    'live': (live, [TRIALS]),
+    'scenarios': (scenarios, [TRIALS, CHANHUB]),
+}
+
+
+def main():
+    parser = argparse.ArgumentParser(description=__doc__, formatter_class=argparse.RawDescriptionHelpFormatter)
+    parser.add_argument('folder', metavar='FOLDER')
+    parser.add_argument('other', metavar='OTHER', nargs='?')
+    parser.add_argument('--only', metavar='PART', choices=PARTS)
+    said = parser.parse_args()
+    for name in [said.only] if said.only else PARTS:
+        part, programs = PARTS[name]
+        missing = [os.path.relpath(program, ROOT) for program in programs if not os.access(program, os.X_OK)]
+        if missing:
+            skip('%s: not built: %s' % (name, ' '.join(missing)))
+        else:
+            part(said.folder, said.other)
+
+
+if __name__ == '__main__':
+    main()

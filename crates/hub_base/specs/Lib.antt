@@ -20,3 +20,4 @@ pub mod Filling
 pub mod Head
 pub mod Reader
 pub mod ReaderKeeps
+pub mod Quick

@@ -1,10 +1,11 @@
-//! Texts of journals and of events: reading goes from lines to fields to numbers, writing in one
-//! go.
+//! Texts of journals and of events. A line is read in one pass where it is spelled as writers spell it, and
+//! else from its end to its fields and their numbers. Writing goes in one pass.
 
 pub mod faults;
 pub mod fields;
 pub mod lines;
 pub mod numbers;
+pub mod quick;
 pub mod reader;
 pub mod selects;
 pub mod steps;

@@ -4,8 +4,8 @@
 //! bytes, no newline, the head lines, the shape of a step, its numbers, its spelling, too many
 //! steps.
 
-ghost use Rattle.std.specs.Prelude.{◌≡◌, ◌≤◌, ℕ, length, drop, Some, IfOk, IfErr, IsErrOf, OnSome, List, ◌++◌};
-ghost use Rattle.std.specs.Bool.{OnTrue};
+ghost use Rattle.std.specs.Prelude.{◌≡◌, ◌≤◌, ◌<◌, ℕ, length, drop, true, Some, Ok, IfOk, IfErr, IsErrOf, OnSome, List, ◌++◌};
+ghost use Rattle.std.specs.Bool.{OnTrue, OnFalse};
 ghost use Rattle.std.specs.List.{AllByRecursion, flat_map};
 ghost use mathlib.Core.List.{IsPrefix};
 ghost use Rattle.hub_base.specs.EventText.{event_line, EventFits};
@@ -25,6 +25,7 @@ use crate::limits::{MOST_BYTES, MOST_PROCS, MOST_STEPS};
 use crate::text::fields::Fields;
 use crate::text::lines::line_at;
 use crate::text::numbers::number;
+use crate::text::quick::quick_line;
 use crate::text::steps::{read_line, same_text};
 use crate::{Entry, Head, Journal, Kind, Pid, ReadFault, Step, TextFault};
 use std::alloc::Global;
@@ -160,6 +161,43 @@ impl<'a> Reader<'a> {
         if self.rest.is_empty() {
             return Ok(false);
         }
+        if self.read_quickly(entry) {
+            return Ok(true);
+        }
+        self.read_slowly(entry)
+    }
+
+    /// Reads the next line where it is one that `quick_line` knows, and within the limits. Where it answers
+    /// `false`, the entry may be any.
+    #[inline]
+    fn read_quickly(&mut self, entry: &mut Entry) -> bool
+        requires some { 0 < self.old.bytes }
+        ensures reads { OnTrue result (FillsOn self.old self.new entry.new (Ok true)) }
+        ensures some { OnTrue result (HasEntry self.old.left) }
+        ensures unchanged { OnFalse result (self.new ≡ self.old) }
+    {
+        if self.steps == MOST_STEPS || self.rest[self.rest.len() - 1] != b'\n' {
+            return false;
+        }
+        match quick_line(self.rest, entry) {
+            Some(end) if end <= MOST_BYTES - self.place => {
+                self.steps += 1;
+                self.place += end;
+                self.line += 1;
+                self.rest = &self.rest[end..];
+                true
+            }
+            _ => false,
+        }
+    }
+
+    /// Reads any next line: its end is looked for, then its fields, and then their numbers.
+    #[inline(never)]
+    fn read_slowly(&mut self, entry: &mut Entry) -> Result<bool, TextFault>
+        requires some { 0 < self.old.bytes }
+        ensures reads { FillsOn self.old self.new entry.new result }
+        ensures some { IfOk result (λ more. OnTrue more (HasEntry self.old.left)) }
+    {
         let (text, after) = match line_at(self.rest, self.place) {
             Ok(parts) => parts,
             Err(kind) => return Err(TextFault {

@@ -67,7 +67,7 @@ pub fn recv_of(port: &[u8]) -> Result<Case, Kind>
 }
 
 /// Makes the step a call of one case, without default and with word 0.
-fn set_call(step: &mut Step, case: Case)
+pub fn set_call(step: &mut Step, case: Case)
     ensures { step.new ≡ call (case ∷ []) false 0 }
 {
     // A call that stands there already is changed in place, since a new one is some 290 bytes.

@@ -2,8 +2,8 @@ use Rattle.std.proofs.Common.{◌≡◌, ◌+◌, length, arith, rules}
 use Rattle.std.proofs.lemmas.Grind.{common_steps}
 use Rattle.hub_base.specs.Reading.{rows, entries_from, with_entry}
 use Rattle.hub_base.proofs.Running.{has-entry}
-use Rattle.hub_base.proofs.text.reader.Reader.read_into.Goals as goal
-use Rattle.hub_base.proofs.text.reader.Reader.read_into.Goals.{then-not-is_exit+else-self-eq-MOST_STEPS, else-not-is_exit}
+use Rattle.hub_base.proofs.text.reader.Reader.read_slowly.Goals as goal
+use Rattle.hub_base.proofs.text.reader.Reader.read_slowly.Goals.{then-not-is_exit+else-self-eq-MOST_STEPS, else-not-is_exit}
 
 pub returns-clause-some : goal.returns-clause-some
 returns-clause-some c =

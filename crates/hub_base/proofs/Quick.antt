@@ -1,0 +1,124 @@
+-- A spelling that stands between two places of some bytes.
+use Rattle.std.proofs.Common.{refl, ◌≡◌, ◌≢◌, ℕ, suc, ◌+◌, ◌*◌, ◌-◌, ◌<◌, ◌^◌, true, List, [], ◌∷◌, ◌++◌, length, drop, get_or, ap, ◌∙◌, sym, arith, ◌&&◌}
+use Rattle.std.proofs.Common.{add-one, drop-cons, append_assoc, length-append, length-drop, append-nil, take, cond, codes, ◌≤◌}
+use Rattle.std.proofs.lemmas.Grind.{common_steps}
+use Rattle.std.proofs.lemmas.Fmt.{decimal_digit, first_decimal, decimal_nonempty}
+use Rattle.std.proofs.lemmas.Int.Digits.{digits_value_push}
+use Rattle.std.proofs.lemmas.List.{get_or_append_left}
+use Rattle.std.proofs.lemmas.List.Folds.{list_all-append}
+use Rattle.std.proofs.lemmas.Str.{digit_value_digit}
+use Rattle.std.specs.Fmt.{decimal}
+use Rattle.std.specs.Char.{is_ascii_digit}
+use Rattle.std.specs.Int.{IsInRange}
+use Rattle.std.specs.List.{list_all, flat_map}
+use Rattle.std.specs.Str.Parse.{digits_value}
+use Rattle.std.specs.Int.{from_le_bytes, w32}
+use Rattle.std.proofs.lemmas.Nat.{le_bytes_4}
+use Rattle.hub_base.specs.declared.entry.Entry.{Entry}
+use Rattle.hub_base.specs.declared.head.Head.{Head}
+use Rattle.hub_base.specs.declared.limits.TheConstants.{MOST_BYTES, MOST_STEPS}
+use Rattle.hub_base.specs.Lines.{line}
+use Rattle.hub_base.specs.Quick.{EndsLine, Stands, Begins}
+use Rattle.hub_base.specs.Reading.{Reading, Reads, Faulty, behind, with_entry, entries_from, rows}
+use Rattle.hub_base.specs.Text.{body, steps_of}
+use Rattle.hub_base.proofs.Bodies.{rows-entry}
+use Rattle.hub_base.proofs.Running.{entries-again}
+use Rattle.hub_base.proofs.Decimals.{digits-of, value-of, spelled}
+
+digit-range : (c : ℕ) → is_ascii_digit c ≡ true → IsInRange 48 57 c
+digit-range c h = grind (arith, common_steps)
+
+-- a number that is not 0, and a digit behind it
+decimal-push : (n c : ℕ) → 0 < n → is_ascii_digit c ≡ true → n * 10 + 9 < 2 ^ 64 → decimal (n * 10 + (c - 48)) ≡ decimal n ++ c ∷ []
+decimal-push n c some digit small =
+    let bs : List ℕ = decimal n ++ c ∷ [] in
+    let front : n < 2 ^ 64 = omega arith in
+    let whole : length bs ≡ length (decimal n) + 1 = length-append (decimal n) (c ∷ []) in
+    let digits : list_all is_ascii_digit bs ≡ true = list_all-append is_ascii_digit (decimal n) (c ∷ [])
+    ∙ ap (λ b. b && list_all is_ascii_digit (c ∷ [])) (digits-of (decimal n) n front refl) ∙ ap (λ b. b && true) digit in
+    let value : digits_value 10 bs ≡ n * 10 + (c - 48) =
+    (let p = digits_value_push 10 (decimal n) c in let v = value-of (decimal n) n front refl in
+    let d = digit_value_digit c (digit-range c digit) in let r = digit-range c digit in omega (arith, p, v, d, r)) in
+    let lead : get_or bs 0 0 ≢ 48 = (let first = first_decimal n some front in
+    let same = get_or_append_left (decimal n) (c ∷ []) 0 0 (decimal_nonempty n front) in λ h. omega (arith, first, same, h)) in
+    sym (spelled bs digits (omega (arith, whole)) (λ h. absurd (lead h)) (let r = digit-range c digit in omega (arith, value, r)) ∙ ap decimal value)
+
+-- behind a digit there is one byte more
+behind-digit : (bs : List ℕ) (i : ℕ) → EndsLine bs → i < length bs → is_ascii_digit (get_or bs i 0) ≡ true → i + 1 < length bs
+behind-digit bs i ends inside digit = ends i inside (λ newline. grind (arith, common_steps))
+
+-- a number is its first digit
+pub stands-digit : (bs : List ℕ) (start : ℕ) → EndsLine bs → start < length bs → is_ascii_digit (get_or bs start 0) ≡ true
+    → Stands bs start (decimal (get_or bs start 0 - 48)) (start + 1)
+stands-digit bs start ends inside digit =
+    let r = digit-range (get_or bs start 0) digit in
+    let one : decimal (get_or bs start 0 - 48) ≡ get_or bs start 0 ∷ [] =
+    decimal_digit (get_or bs start 0 - 48) (omega (arith, r)) ∙ ap (λ c. c ∷ []) (omega (arith, r)) in
+    record {
+      spelled = drop-cons bs start 0 inside ∙ rw (add-one) (ap (λ t. t ++ drop (suc start) bs) (sym one));
+      inside = behind-digit bs start ends inside digit;
+    }
+
+-- and one digit more
+pub stands-push : (bs : List ℕ) (start n at : ℕ) → EndsLine bs → Stands bs start (decimal n) at → is_ascii_digit (get_or bs at 0) ≡ true
+    → 0 < n → n * 10 + 9 < 2 ^ 64 → Stands bs start (decimal (n * 10 + (get_or bs at 0 - 48))) (at + 1)
+stands-push bs start n at ends so digit some small = record {
+  spelled = so.spelled ∙ ap (λ r. decimal n ++ r) (drop-cons bs at 0 so.inside)
+      ∙ sym (append_assoc (decimal n) (get_or bs at 0 ∷ []) (drop (suc at) bs))
+      ∙ rw (add-one) (ap (λ t. t ++ drop (suc at) bs) (sym (decimal-push n (get_or bs at 0) some digit small)));
+  inside = behind-digit bs at ends so.inside digit;
+}
+
+-- four bytes that are the same number are the same
+same-word : (xs ys : List ℕ) (n : ℕ) → length xs ≡ 4 → length ys ≡ 4 → ((i : ℕ) → get_or xs i 0 < 256) → ((i : ℕ) → get_or ys i 0 < 256)
+    → n ≡ from_le_bytes w32 xs → n ≡ from_le_bytes w32 ys → xs ≡ ys
+same-word xs ys n four also small little is same = sym (le_bytes_4 xs n four small is) ∙ le_bytes_4 ys n also little same
+
+-- the four bytes at a place
+abbrev pub four_at : List ℕ → ℕ → List ℕ
+four_at bs i = get_or bs i 0 ∷ get_or bs (i + 1) 0 ∷ get_or bs (i + 2) 0 ∷ get_or bs (i + 3) 0 ∷ []
+
+first-four : (bs : List ℕ) (i : ℕ) → i + 4 < length bs → drop i bs ≡ four_at bs i ++ drop (i + 4) bs
+first-four bs i inside = grind (arith, common_steps, drop-cons)
+
+four-small : (bs : List ℕ) (at i : ℕ) → ((k : ℕ) → get_or bs k 0 < 256) → get_or (four_at bs at) i 0 < 256
+four-small bs at i small = grind (arith, common_steps, small at, small (at + 1), small (at + 2), small (at + 3))
+
+-- four bytes stand where they are the same number
+pub stands-word : (bs : List ℕ) (start : ℕ) (word : List ℕ) (n : ℕ) → start + 4 < length bs → length word ≡ 4
+    → ((i : ℕ) → get_or bs i 0 < 256) → ((i : ℕ) → get_or word i 0 < 256)
+    → n ≡ from_le_bytes w32 (four_at bs start) → n ≡ from_le_bytes w32 word → Stands bs start word (start + 4)
+stands-word bs start word n inside four small little here there = record {
+  spelled = first-four bs start inside ∙ ap (λ w. w ++ drop (start + 4) bs)
+      (same-word (four_at bs start) word n refl four (λ i. four-small bs start i small) little here there);
+  inside = inside;
+}
+
+-- where the line ends
+end-of-line : (bs : List ℕ) (e : Entry) (end : ℕ) → Begins bs e end → end ≡ length (line e)
+end-of-line bs e end so =
+    let l : length bs ≡ length (line e) + length (drop end bs) = ap length so.spelled ∙ length-append (line e) (drop end bs) in
+    let r = length-drop end bs in let i = so.inside in omega (arith, l, r, i)
+
+-- which is behind some byte
+pub end-some : (bs : List ℕ) (e : Entry) (end : ℕ) → Begins bs e end → 0 < end
+end-some bs e end so = let here = end-of-line bs e end so in let l = length-append (body e) (codes "\n") in omega (arith, here, l)
+
+with-one : (e : Entry) (r : Reading) → behind (e ∷ []) r ≡ with_entry e r
+with-one e (Reads head es) = refl
+with-one e (Faulty k kind) = refl
+
+-- a line that is spelled, within the limits, is read as its entry
+pub line-again : (head : Head) (k start steps : ℕ) (bs : List ℕ) (e : Entry) (end : ℕ) → Begins bs e end → start + end ≤ MOST_BYTES → steps < MOST_STEPS
+    → entries_from head k start steps (rows bs)
+    ≡ with_entry e (entries_from head (k + 1) (start + end) (steps + 1) (rows (take (length bs - end) (drop end bs))))
+line-again head k start steps bs e end so lim few =
+    let here = end-of-line bs e end so in
+    let rest : take (length bs - end) (drop end bs) ≡ drop end bs = grind (arith, common_steps) in
+    let all : length (flat_map line (e ∷ [])) ≡ length (line e) = ap length (append-nil (line e)) in
+    let one : steps_of (e ∷ []) ≡ 1 = ap (λ b. cond b 0 1 + 0) so.step in
+    ap (entries_from head k start steps) (ap rows so.spelled ∙ rows-entry e (drop end bs) so.fits)
+    ∙ entries-again head (e ∷ []) (rows (drop end bs)) k start steps (k + 1) (start + end) (steps + 1) (so.fits, tt) refl
+    (omega (arith, here, all)) (omega (arith, one)) lim (omega arith)
+    ∙ with-one e (entries_from head (k + 1) (start + end) (steps + 1) (rows (drop end bs)))
+    ∙ ap (λ r. with_entry e (entries_from head (k + 1) (start + end) (steps + 1) (rows r))) (sym rest)

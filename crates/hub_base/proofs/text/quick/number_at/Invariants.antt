@@ -1,0 +1,11 @@
+use Rattle.std.specs.Fmt.{decimal}
+use Rattle.std.proofs.Common.{◌-◌, length}
+use Rattle.hub_base.specs.Quick.{Stands}
+use Rattle.hub_base.proofs.text.quick.number_at.Given as goal
+
+-- what was read so far stands before this place
+abbrev pub invariant-loop-start : goal.invariant-loop-start
+invariant-loop-start l = Stands l.bytes l.start (decimal l.value) l.end
+
+abbrev pub decreases-loop-start : goal.decreases-loop-start
+decreases-loop-start l = length l.bytes - l.end

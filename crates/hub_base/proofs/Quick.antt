@@ -1,5 +1,5 @@
 -- A spelling that stands between two places of some bytes.
-use Rattle.std.proofs.Common.{refl, ◌≡◌, ◌≢◌, ℕ, suc, ◌+◌, ◌*◌, ◌-◌, ◌<◌, ◌^◌, true, List, [], ◌∷◌, ◌++◌, length, drop, get_or, ap, ◌∙◌, sym, arith, ◌&&◌}
+use Rattle.std.proofs.Common.{refl, Bool, false, zero, Ok, subst, ◌≡◌, ◌≢◌, ℕ, suc, ◌+◌, ◌*◌, ◌-◌, ◌<◌, ◌^◌, true, List, [], ◌∷◌, ◌++◌, length, drop, get_or, ap, ◌∙◌, sym, arith, ◌&&◌}
 use Rattle.std.proofs.Common.{add-one, drop-cons, append_assoc, length-append, length-drop, append-nil, take, cond, codes, ◌≤◌}
 use Rattle.std.proofs.lemmas.Grind.{common_steps}
 use Rattle.std.proofs.lemmas.Fmt.{decimal_digit, first_decimal, decimal_nonempty}
@@ -10,20 +10,25 @@ use Rattle.std.proofs.lemmas.Str.{digit_value_digit}
 use Rattle.std.specs.Fmt.{decimal}
 use Rattle.std.specs.Char.{is_ascii_digit}
 use Rattle.std.specs.Int.{IsInRange}
-use Rattle.std.specs.List.{list_all, flat_map}
+use Rattle.std.specs.List.{AllByRecursion, list_all, flat_map}
 use Rattle.std.specs.Str.Parse.{digits_value}
 use Rattle.std.specs.Int.{from_le_bytes, w32}
 use Rattle.std.proofs.lemmas.Nat.{le_bytes_4}
 use Rattle.hub_base.specs.declared.entry.Entry.{Entry}
 use Rattle.hub_base.specs.declared.head.Head.{Head}
-use Rattle.hub_base.specs.declared.limits.TheConstants.{MOST_BYTES, MOST_STEPS}
-use Rattle.hub_base.specs.Lines.{line}
-use Rattle.hub_base.specs.Quick.{EndsLine, Stands, Begins}
-use Rattle.hub_base.specs.Reading.{Reading, Reads, Faulty, behind, with_entry, entries_from, rows}
-use Rattle.hub_base.specs.Text.{body, steps_of}
+use Rattle.hub_base.specs.declared.limits.TheConstants.{GREATEST_PID, MOST_BYTES, MOST_STEPS}
+use Rattle.hub_base.specs.declared.case.Case.{Case}
+use Rattle.hub_base.specs.declared.case.Case.TheVariants.{Send, Recv}
+use Rattle.hub_base.specs.declared.entry.Step.{Step}
+use Rattle.hub_base.specs.Writing.{spaced, spaced_cases}
+use Rattle.hub_base.specs.Lines.{line, step_fields, case_field, call_fields, select_fields, default_field, spelled}
+use Rattle.hub_base.specs.Quick.{EndsLine, Stands, CaseStands, CasesStand, SelectStands, StepStands, Begins}
+use Rattle.hub_base.specs.Reading.{Reading, Reads, Faulty, behind, is_exit, with_entry, entries_from, rows}
+use Rattle.hub_base.specs.Text.{CaseFits, StepFits, body, steps_of}
 use Rattle.hub_base.proofs.Bodies.{rows-entry}
 use Rattle.hub_base.proofs.Running.{entries-again}
-use Rattle.hub_base.proofs.Decimals.{digits-of, value-of, spelled}
+use Rattle.hub_base.proofs.Spelled.{join-spaced, spaced-select}
+use Rattle.hub_base.proofs.Decimals.{digits-of, value-of, spelled as spelled-digits}
 
 digit-range : (c : ℕ) → is_ascii_digit c ≡ true → IsInRange 48 57 c
 digit-range c h = grind (arith, common_steps)
@@ -41,7 +46,7 @@ decimal-push n c some digit small =
     let d = digit_value_digit c (digit-range c digit) in let r = digit-range c digit in omega (arith, p, v, d, r)) in
     let lead : get_or bs 0 0 ≢ 48 = (let first = first_decimal n some front in
     let same = get_or_append_left (decimal n) (c ∷ []) 0 0 (decimal_nonempty n front) in λ h. omega (arith, first, same, h)) in
-    sym (spelled bs digits (omega (arith, whole)) (λ h. absurd (lead h)) (let r = digit-range c digit in omega (arith, value, r)) ∙ ap decimal value)
+    sym (spelled-digits bs digits (omega (arith, whole)) (λ h. absurd (lead h)) (let r = digit-range c digit in omega (arith, value, r)) ∙ ap decimal value)
 
 -- behind a digit there is one byte more
 behind-digit : (bs : List ℕ) (i : ℕ) → EndsLine bs → i < length bs → is_ascii_digit (get_or bs i 0) ≡ true → i + 1 < length bs
@@ -94,6 +99,67 @@ stands-word bs start word n inside four small little here there = record {
   inside = inside;
 }
 
+all-push : (cs : List Case) (c : Case) → AllByRecursion CaseFits cs → CaseFits c → AllByRecursion CaseFits (cs ++ c ∷ [])
+all-push [] c all one = (one, tt)
+all-push (d ∷ cs) c all one = (all.0, all-push cs c all.1 one)
+
+spaced-push : (cs : List Case) (c : Case) → spaced_cases (cs ++ c ∷ []) ≡ spaced_cases cs ++ (codes " " ++ case_field c)
+spaced-push [] c = append-nil (codes " " ++ case_field c)
+spaced-push (d ∷ cs) c = ap (λ r. (codes " " ++ case_field d) ++ r) (spaced-push cs c)
+    ∙ sym (append_assoc (codes " " ++ case_field d) (spaced_cases cs) (codes " " ++ case_field c))
+
+-- one case more stands there
+pub cases-push : (bs : List ℕ) (start : ℕ) (cs : List Case) (at : ℕ) (c : Case) (end : ℕ) → CasesStand bs start cs at
+    → CaseStands bs at (codes " " ++ case_field c) c end → CasesStand bs start (cs ++ c ∷ []) end
+cases-push bs start cs at c end so one = record {
+  stands = record {
+    spelled = so.stands.spelled ∙ ap (λ r. spaced_cases cs ++ r) one.stands.spelled
+        ∙ sym (append_assoc (spaced_cases cs) (codes " " ++ case_field c) (drop end bs)) ∙ ap (λ t. t ++ drop end bs) (sym (spaced-push cs c));
+    inside = one.stands.inside;
+  };
+  fits = all-push cs c so.fits one.fits;
+}
+
+-- what has no short form is spelled as a select
+long-form : (cs : List Case) (d : Bool) (w : ℕ) (step : Step) → spelled cs d w ≡ Ok step → call_fields cs d w ≡ select_fields cs d w
+long-form [] d w step h = refl
+long-form (Send p v ∷ []) true w step h = refl
+long-form (Send p v ∷ []) false zero step h = cc
+long-form (Send p v ∷ []) false (suc w) step h = refl
+long-form (Recv p ∷ []) true w step h = refl
+long-form (Recv p ∷ []) false zero step h = cc
+long-form (Recv p ∷ []) false (suc w) step h = refl
+long-form (Send p v ∷ c ∷ cs) d w step h = refl
+long-form (Recv p ∷ c ∷ cs) d w step h = refl
+
+-- the word of a select and what stands behind it are its step
+pub select-stands : (bs : List ℕ) (start at : ℕ) (step : Step) (end : ℕ) → Stands bs start (codes " select ") at → SelectStands bs at step end
+    → StepStands bs start step end
+select-stands bs start at step end word so =
+    let text : List ℕ = decimal so.word ++ spaced_cases so.cases ++ spaced (default_field so.default) in
+    let whole : spaced (step_fields step) ≡ codes " select " ++ text =
+    ap (λ s. spaced (step_fields s)) so.is ∙ ap spaced (long-form so.cases so.default so.word step so.long)
+    ∙ ap (λ r. codes " select " ++ (decimal so.word ++ r)) (spaced-select so.cases (default_field so.default))
+    ∙ ap (λ r. codes " select " ++ r) (sym (append_assoc (decimal so.word) (spaced_cases so.cases) (spaced (default_field so.default)))) in
+    record {
+      stands = record {
+        spelled = word.spelled ∙ ap (λ r. codes " select " ++ r) so.stands.spelled ∙ ap (λ t. t ++ drop end bs) (sym whole);
+        inside = so.stands.inside;
+      };
+      fits = subst StepFits (sym so.is) so.fits;
+      no_exit = ap is_exit so.is;
+    }
+
+-- a process, its step and a newline are a line
+pub begins-line : (bs : List ℕ) (e : Entry) (at end : ℕ) → Stands bs 0 (decimal e.pid.0) at → e.pid.0 ≤ GREATEST_PID → StepStands bs at e.step end
+    → get_or bs end 0 ≡ 10 → Begins bs e (end + 1)
+begins-line bs e at end pid small step newline = record {
+  spelled = grind (arith, common_steps, pid.spelled, step.stands.spelled, join-spaced (decimal e.pid.0) (step_fields e.step), drop-cons bs end 0 step.stands.inside);
+  inside = omega (arith, step.stands.inside);
+  fits = record { pid = small; step = step.fits };
+  no_exit = step.no_exit;
+}
+
 -- where the line ends
 end-of-line : (bs : List ℕ) (e : Entry) (end : ℕ) → Begins bs e end → end ≡ length (line e)
 end-of-line bs e end so =
@@ -116,7 +182,7 @@ line-again head k start steps bs e end so lim few =
     let here = end-of-line bs e end so in
     let rest : take (length bs - end) (drop end bs) ≡ drop end bs = grind (arith, common_steps) in
     let all : length (flat_map line (e ∷ [])) ≡ length (line e) = ap length (append-nil (line e)) in
-    let one : steps_of (e ∷ []) ≡ 1 = ap (λ b. cond b 0 1 + 0) so.step in
+    let one : steps_of (e ∷ []) ≡ 1 = ap (λ b. cond b 0 1 + 0) so.no_exit in
     ap (entries_from head k start steps) (ap rows so.spelled ∙ rows-entry e (drop end bs) so.fits)
     ∙ entries-again head (e ∷ []) (rows (drop end bs)) k start steps (k + 1) (start + end) (steps + 1) (so.fits, tt) refl
     (omega (arith, here, all)) (omega (arith, one)) lim (omega arith)

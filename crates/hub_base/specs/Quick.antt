@@ -1,15 +1,17 @@
 -- What the quick reading of a line finds: a spelling between two places of the bytes.
-use Rattle.std.specs.Prelude.{◌≡◌, ◌≢◌, ◌≤◌, ◌<◌, ◌+◌, ℕ, List, ◌++◌, [], ◌∷◌, codes, decimal, length, drop, get_or, false}
-use Rattle.std.specs.List.{join_with_byte}
-use Rattle.hub_base.specs.declared.entry.Entry.{Entry}
-use Rattle.hub_base.specs.Lines.{line, call_fields}
-use Rattle.hub_base.specs.Reading.{is_exit}
+use Rattle.std.specs.Prelude.{◌≡◌, ◌≢◌, ◌≤◌, ◌<◌, ◌+◌, ℕ, List, ◌∷◌, ◌++◌, decimal, length, drop, get_or, Bool, false, Ok}
+use Rattle.std.specs.List.{AllByRecursion}
 use Rattle.hub_base.specs.declared.case.Case.{Case}
-use Rattle.hub_base.specs.declared.case.Case.TheVariants.{Send, Recv}
+use Rattle.hub_base.specs.declared.case.Case.TheVariants.{Send}
+use Rattle.hub_base.specs.declared.entry.Entry.{Entry}
+use Rattle.hub_base.specs.declared.entry.Step.{Step}
 use Rattle.hub_base.specs.declared.value.Port.{Port}
 use Rattle.hub_base.specs.declared.value.Value.{Value}
+use Rattle.hub_base.specs.Lines.{line, step_fields, call, spelled, default_field}
+use Rattle.hub_base.specs.Reading.{is_exit}
+use Rattle.hub_base.specs.Text.{Fits, StepFits, CallFits, CaseFits}
 use Rattle.hub_base.specs.Value.{value_field}
-use Rattle.hub_base.specs.Text.{Fits, CaseFits}
+use Rattle.hub_base.specs.Writing.{spaced, spaced_cases}
 
 -- the last byte is a newline, so behind every other byte there is one more
 abbrev pub EndsLine : List ℕ → Type 0
@@ -28,22 +30,35 @@ pub record SendStands (bytes : List ℕ) (start mark : ℕ) (c : Case) (end : �
   pub stands : Stands bytes start (decimal port.0 ++ mark ∷ value_field value) end
   pub fits : CaseFits c
 
--- the number of a case that receives stands there
-pub record RecvStands (bytes : List ℕ) (start : ℕ) (c : Case) (end : ℕ) : Type 0 where
-  pub port : Port
-  pub is : c ≡ Recv port
-  pub stands : Stands bytes start (decimal port.0) end
+-- this spelling of a case stands there
+pub record CaseStands (bytes : List ℕ) (start : ℕ) (spelling : List ℕ) (c : Case) (end : ℕ) : Type 0 where
+  pub stands : Stands bytes start spelling end
   pub fits : CaseFits c
 
--- the fields of a call of one case stand there, up to the end of the line
-pub record PlainStands (bytes : List ℕ) (start : ℕ) (c : Case) (end : ℕ) : Type 0 where
-  pub spelled : drop start bytes ≡ (join_with_byte 32 (call_fields (c ∷ []) false 0) ++ codes "\n") ++ drop end bytes
-  pub inside : end ≤ length bytes
-  pub fits : CaseFits c
+-- cases of a select stand there
+pub record CasesStand (bytes : List ℕ) (start : ℕ) (cs : List Case) (end : ℕ) : Type 0 where
+  pub stands : Stands bytes start (spaced_cases cs) end
+  pub fits : AllByRecursion CaseFits cs
+
+-- the fields of a step that is no exit stand there, each behind a space
+pub record StepStands (bytes : List ℕ) (start : ℕ) (step : Step) (end : ℕ) : Type 0 where
+  pub stands : Stands bytes start (spaced (step_fields step)) end
+  pub fits : StepFits step
+  pub no_exit : is_exit step ≡ false
+
+-- the fields of a select stand there, from its word on
+pub record SelectStands (bytes : List ℕ) (start : ℕ) (step : Step) (end : ℕ) : Type 0 where
+  pub cases : List Case
+  pub default : Bool
+  pub word : ℕ
+  pub is : step ≡ call cases default word
+  pub long : spelled cases default word ≡ Ok step
+  pub stands : Stands bytes start (decimal word ++ spaced_cases cases ++ spaced (default_field default)) end
+  pub fits : CallFits cases word
 
 -- the bytes begin with the line of an entry that is no exit, and go on behind it
 pub record Begins (bytes : List ℕ) (e : Entry) (end : ℕ) : Type 0 where
   pub spelled : bytes ≡ line e ++ drop end bytes
   pub inside : end ≤ length bytes
   pub fits : Fits e
-  pub step : is_exit e.step ≡ false
+  pub no_exit : is_exit e.step ≡ false

@@ -1,15 +1,16 @@
-//! Reading a send or a receive that is spelled as writers spell it, in one pass over its bytes.
+//! Reading a call that is spelled as writers spell it, in one pass over its bytes.
 //!
 //! Whatever else a line is, the answer is `None`, which says nothing of it: it is left to the slow
 //! reading. The last byte of all is a newline, so no place is tested for the end of the bytes.
 
-ghost use Rattle.std.specs.Prelude.{◌≡◌, ◌≢◌, ◌≤◌, ◌<◌, ◌∷◌, ◌++◌, [], length, decimal, IfSome};
-ghost use Rattle.hub_base.specs.Quick.{EndsLine, Stands, SendStands, RecvStands, PlainStands, Begins};
-ghost use Rattle.hub_base.specs.Value.{value_field};
+ghost use Rattle.std.specs.Prelude.{◌≡◌, ◌≢◌, ◌≤◌, ◌<◌, ◌∷◌, ◌++◌, [], length, codes, decimal, false, IfSome};
+ghost use Rattle.hub_base.specs.Lines.{call_fields, case_field};
+ghost use Rattle.hub_base.specs.Quick.{EndsLine, Stands, SendStands, CaseStands, CasesStand, SelectStands, StepStands, Begins};
+ghost use Rattle.hub_base.specs.Writing.{spaced};
 
 use crate::limits::{GREATEST_PID, GREATEST_PORT};
 use crate::text::steps::set_call;
-use crate::{Case, Entry, Pid, Port, Value};
+use crate::{Case, Cases, Entry, Pid, Port, Step, Value};
 
 /// The number at this place, and the place behind it.
 #[inline]
@@ -117,34 +118,138 @@ fn send_at(bytes: &[u8], start: usize, mark: u8) -> Option<(Case, usize)>
     Some((Case::Send(port, Value::num(value)), end))
 }
 
-/// The case that receives and whose port stands at this place, and the place behind it.
-#[inline]
-fn recv_at(bytes: &[u8], start: usize) -> Option<(Case, usize)>
-    requires line { EndsLine bytes.now }
-    requires start { start < length bytes.now }
-    ensures { IfSome result (λ x. RecvStands bytes.now start x.0 x.1) }
-{
-    let (port, end) = port_at(bytes, start)?;
-    Some((Case::Recv(port), end))
-}
-
-/// The case of a send or a receive, from the word on, and the place behind the line.
+/// The case of a plain send or receive, from the space before the word on, and the place behind it.
 #[inline]
 fn plain_at(bytes: &[u8], start: usize) -> Option<(Case, usize)>
     requires line { EndsLine bytes.now }
     requires start { start < length bytes.now }
-    ensures { IfSome result (λ x. PlainStands bytes.now start x.0 x.1) }
+    ensures { IfSome result (λ x.
+        CaseStands bytes.now start (spaced (call_fields (x.0 ∷ []) false 0)) x.0 x.1) }
 {
-    let (case, end) = if let Some(end) = behind_word(bytes, start, b"send") {
-        send_at(bytes, behind(bytes, end, b' ')?, b' ')?
+    let start = behind(bytes, start, b' ')?;
+    if let Some(end) = behind_word(bytes, start, b"send") {
+        send_at(bytes, behind(bytes, end, b' ')?, b' ')
     } else {
         let end = behind_word(bytes, start, b"recv")?;
-        recv_at(bytes, behind(bytes, end, b' ')?)?
-    };
-    if bytes[end] == b'\n' {
-        Some((case, end + 1))
+        let (port, end) = port_at(bytes, behind(bytes, end, b' ')?)?;
+        Some((Case::Recv(port), end))
+    }
+}
+
+/// Reads a plain send or receive, from the space before the word on, and gives the place behind it.
+#[inline]
+fn plain_into(bytes: &[u8], start: usize, step: &mut Step) -> Option<usize>
+    requires line { EndsLine bytes.now }
+    requires start { start < length bytes.now }
+    ensures { IfSome result (λ end. StepStands bytes.now start step.new end) }
+{
+    let (case, end) = plain_at(bytes, start)?;
+    set_call(step, case);
+    Some(end)
+}
+
+/// The place behind the word of a select and the spaces around it, where they stand at this place.
+#[inline]
+fn behind_select(bytes: &[u8], start: usize) -> Option<usize>
+    requires line { EndsLine bytes.now }
+    requires start { start < length bytes.now }
+    ensures { IfSome result (λ end. Stands bytes.now start (codes " select ") end) }
+{
+    let end = behind_word(bytes, behind(bytes, start, b' ')?, b"sele")?;
+    let end = behind(bytes, end, b'c')?;
+    let end = behind(bytes, end, b't')?;
+    behind(bytes, end, b' ')
+}
+
+/// The place behind a default and the space before it, where they stand at this place.
+#[inline]
+fn behind_default(bytes: &[u8], start: usize) -> Option<usize>
+    requires line { EndsLine bytes.now }
+    requires start { start < length bytes.now }
+    ensures { IfSome result (λ end. Stands bytes.now start (codes " default") end) }
+{
+    let end = behind_word(bytes, behind(bytes, start, b' ')?, b"defa")?;
+    let end = behind(bytes, end, b'u')?;
+    let end = behind(bytes, end, b'l')?;
+    behind(bytes, end, b't')
+}
+
+/// The case of a select, from the space before it on, and the place behind it.
+#[inline]
+fn case_at(bytes: &[u8], start: usize) -> Option<(Case, usize)>
+    requires line { EndsLine bytes.now }
+    requires start { start < length bytes.now }
+    ensures { IfSome result (λ x. CaseStands bytes.now start (codes " " ++ case_field x.0) x.0 x.1) }
+{
+    let start = behind(bytes, start, b' ')?;
+    if let Some(end) = behind(bytes, start, b's') {
+        send_at(bytes, end, b':')
     } else {
-        None
+        let (port, end) = port_at(bytes, behind(bytes, start, b'r')?)?;
+        Some((Case::Recv(port), end))
+    }
+}
+
+/// Reads the cases of a select, from the space before the first on, and gives the place behind them.
+#[inline]
+fn cases_into(bytes: &[u8], start: usize, cases: &mut Cases) -> Option<usize>
+    requires line { EndsLine bytes.now }
+    requires start { start < length bytes.now }
+    ensures { IfSome result (λ end. CasesStand bytes.now start cases.new.items end) }
+{
+    cases.clear();
+    let mut end = start;
+    while let Some((case, next)) = case_at(bytes, end) {
+        if cases.is_full() {
+            return None;
+        }
+        cases.push(case);
+        end = next;
+    }
+    Some(end)
+}
+
+/// Reads a select from its word on, and gives the place behind it.
+#[inline]
+fn select_into(bytes: &[u8], start: usize, step: &mut Step) -> Option<usize>
+    requires line { EndsLine bytes.now }
+    requires start { start < length bytes.now }
+    ensures { IfSome result (λ end. SelectStands bytes.now start step.new end) }
+{
+    // Where no call stands the slow reading makes one, for the selects behind it.
+    let Step::Call {
+        cases,
+        default,
+        word,
+    } = step
+    else {
+        return None;
+    };
+    let (number, end) = number_at(bytes, start)?;
+    let end = cases_into(bytes, end, cases)?;
+    let (has_default, end) = match behind_default(bytes, end) {
+        Some(end) => (true, end),
+        None => (false, end),
+    };
+    // This has a short form, so it is faulty.
+    if cases.len() == 1 && !has_default && number == 0 {
+        return None;
+    }
+    *default = has_default;
+    *word = number;
+    Some(end)
+}
+
+/// Reads a call, from the space behind the process on, and gives the place behind it.
+#[inline]
+fn call_into(bytes: &[u8], start: usize, step: &mut Step) -> Option<usize>
+    requires line { EndsLine bytes.now }
+    requires start { start < length bytes.now }
+    ensures { IfSome result (λ end. StepStands bytes.now start step.new end) }
+{
+    match behind_select(bytes, start) {
+        Some(word) => select_into(bytes, word, step),
+        None => plain_into(bytes, start, step),
     }
 }
 
@@ -156,8 +261,10 @@ pub fn quick_line(bytes: &[u8], entry: &mut Entry) -> Option<usize>
     ensures { IfSome result (λ end. Begins bytes.now entry.new end) }
 {
     let (pid, end) = process_at(bytes, 0)?;
-    let (case, end) = plain_at(bytes, behind(bytes, end, b' ')?)?;
+    let end = call_into(bytes, end, &mut entry.step)?;
+    if bytes[end] != b'\n' {
+        return None;
+    }
     entry.pid = pid;
-    set_call(&mut entry.step, case);
-    Some(end)
+    Some(end + 1)
 }

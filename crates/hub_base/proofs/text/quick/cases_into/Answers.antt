@@ -1,0 +1,7 @@
+use Rattle.hub_base.proofs.Quick.{cases-push}
+use Rattle.hub_base.proofs.text.quick.cases_into.Goals as goal
+
+pub loop-case-preserved : goal.loop-case-preserved
+loop-case-preserved c =
+    let e = c.push.ensures.items in
+    rw e (cases-push c.args.bytes.now c.args.start c.loop-case.cases.items c.loop-case.end c.in-Some.case c.in-Some.next c.loop-case.invariant c.in-Some.ensures)

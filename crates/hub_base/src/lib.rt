@@ -30,6 +30,7 @@ pub use limits::{
     GREATEST_WORD, MOST_BYTES, MOST_CAP, MOST_CASES, MOST_EVENTS, MOST_PORTS, MOST_PROCS,
     MOST_STEPS,
 };
+pub use text::event_text::EventText;
 pub use text::faults::{Kind, NoMemory, ReadFault, TextFault};
 pub use text::fields::Fields;
 pub use text::numbers::number;

@@ -2,7 +2,7 @@
 //! the public one takes back.
 
 ghost use Rattle.std.specs.Prelude.{◌≡◌, ◌++◌, codes, decimal, OnOk, OnErr, IsOk, ◌↔◌, take, is_ok, if◌then◌else◌, ℕ, ◌<◌, ◌≤◌, List};
-ghost use Rattle.hub_base.specs.EventText.{event_line, what_text, outcome_text};
+ghost use Rattle.hub_base.specs.EventText.{event_line};
 ghost use Rattle.hub_base.specs.Lines.{case_field, select_fields, call_fields, step_fields, line};
 ghost use Rattle.std.specs.List.{flat_map};
 ghost use Rattle.std.specs.Vec.{vec_capacity};
@@ -11,8 +11,9 @@ ghost use Rattle.hub_base.specs.Reading.{head_lines, text};
 ghost use Rattle.hub_base.specs.Writing.{spaced, spaced_cases, HasRoomFor};
 ghost use Rattle.hub_base.specs.Value.{value_field};
 
-use crate::limits::MOST_PROCS;
-use crate::{Case, Entry, Event, Head, Journal, NoMemory, Outcome, Step, Value, What};
+use crate::limits::{MOST_LINE, MOST_PROCS};
+use crate::text::event_lines::put_event;
+use crate::{Case, Entry, Event, Head, Journal, NoMemory, Step, Value};
 use itoa::Buffer;
 use std::alloc::AllocError;
 
@@ -26,6 +27,7 @@ fn put(out: &mut Vec<u8>, bytes: &[u8]) -> Result<(), AllocError>
 }
 
 /// Appends a number in decimal digits. Most have one: they number processes, ports and cases.
+#[tactic(auto, using(std::proofs::lemmas::Fmt::decimal_digit))]
 fn put_number(out: &mut Vec<u8>, n: u64) -> Result<(), AllocError>
     ensures items { out.new.items ≡ (if is_ok result then out.old.items ++ decimal n else out.old.items) }
     ensures capacity { vec_capacity out.old ≤ vec_capacity out.new }
@@ -69,64 +71,6 @@ pub fn undo_if_refused(
     }
 }
 
-/// Appends how a communication ended, behind a space.
-fn put_outcome(out: &mut Vec<u8>, outcome: Outcome) -> Result<(), AllocError>
-    ensures ok { OnOk result (out.new.items ≡ out.old.items ++ outcome_text outcome) }
-    ensures err { OnErr result ((rest : List ℕ) × (out.new.items ≡ out.old.items ++ rest)) }
-    ensures capacity { vec_capacity out.old ≤ vec_capacity out.new }
-    ensures succeeds { HasRoomFor out.old (outcome_text outcome) → IsOk result }
-{
-    match outcome {
-        Outcome::Sent => put(out, b" sent"),
-        Outcome::Got(value) => {
-            put(out, b" got ")?;
-            put_value(out, value)
-        }
-        Outcome::Drained => put(out, b" drained"),
-        Outcome::Closed => put(out, b" closed"),
-    }
-}
-
-/// Appends what a process is told, behind a space.
-fn put_what(out: &mut Vec<u8>, what: What) -> Result<(), AllocError>
-    ensures ok { OnOk result (out.new.items ≡ out.old.items ++ what_text what) }
-    ensures err { OnErr result ((rest : List ℕ) × (out.new.items ≡ out.old.items ++ rest)) }
-    ensures capacity { vec_capacity out.old ≤ vec_capacity out.new }
-    ensures succeeds { HasRoomFor out.old (what_text what) → IsOk result }
-{
-    match what {
-        What::Made(port) => {
-            put(out, b" made ")?;
-            put_number(out, port.0.into())
-        }
-        What::Fired { case, outcome } => {
-            put(out, b" case ")?;
-            put_number(out, case.into())?;
-            put_outcome(out, outcome)
-        }
-        What::Default => put(out, b" default"),
-        What::Done => put(out, b" done"),
-        What::Parked => put(out, b" parked"),
-        What::Stalled => put(out, b" stalled"),
-        What::Fault(fault) => {
-            put(out, b" fault ")?;
-            put_number(out, fault.number().into())
-        }
-    }
-}
-
-/// Appends a line.
-fn put_event(out: &mut Vec<u8>, event: &Event) -> Result<(), AllocError>
-    ensures ok { OnOk result (out.new.items ≡ out.old.items ++ event_line event.now) }
-    ensures err { OnErr result ((rest : List ℕ) × (out.new.items ≡ out.old.items ++ rest)) }
-    ensures capacity { vec_capacity out.old ≤ vec_capacity out.new }
-    ensures succeeds { HasRoomFor out.old (event_line event.now) → IsOk result }
-{
-    put_number(out, event.pid.0.into())?;
-    put_what(out, event.what)?;
-    put(out, b"\n")
-}
-
 /// Appends the event's line; `Err` where a growth was refused, with nothing appended.
 pub fn write_event(out: &mut Vec<u8>, event: &Event) -> Result<(), NoMemory>
     ensures ok { OnOk result (out.new.items ≡ out.old.items ++ event_line event.now) }
@@ -134,9 +78,10 @@ pub fn write_event(out: &mut Vec<u8>, event: &Event) -> Result<(), NoMemory>
     ensures capacity { vec_capacity out.old ≤ vec_capacity out.new }
     ensures succeeds { HasRoomFor out.old (event_line event.now) → IsOk result }
 {
-    let before = out.len();
-    let done = put_event(out, event);
-    undo_if_refused(out, before, done)
+    let mut line = [0; MOST_LINE];
+    let end = put_event(&mut line, 0, event);
+    put(out, &line[..end])?;
+    Ok(())
 }
 
 /// Appends a case of a select, behind a space.

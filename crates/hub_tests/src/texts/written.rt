@@ -1,8 +1,8 @@
 //! Texts that are written: journals, which are read again, and events.
 
 use hub_base::{
-    Event, Fault, Journal, Outcome, Pid, Port, Value, What, read_journal, write_entry, write_event,
-    write_head, write_journal,
+    Event, EventText, Fault, Journal, Outcome, Pid, Port, Value, What, read_journal, write_entry,
+    write_event, write_head, write_journal,
 };
 use std::test::Fail;
 
@@ -84,5 +84,52 @@ fn each_event_has_its_line(rt: HostRuntime) -> Result<(), Fail> {
         write_event(&mut out, &event)?;
         assert_eq!(rt; out.len(), 2 * line.len(), "appended: {line}");
     }
+    Ok(())
+}
+
+#[test]
+fn lines_of_events_join_into_one_text(rt: HostRuntime) -> Result<(), Fail> {
+    let told = |pid, what| Event {
+        pid: Pid(pid),
+        what,
+    };
+    let got = |case, number| What::Fired {
+        case,
+        outcome: Outcome::Got(Value::num(number)),
+    };
+    let mut text = EventText::new(rt.alloc());
+    assert_eq!(rt; text.text(), b"");
+    text.write(&[told(9, What::Parked), told(10, got(99, 100))])?;
+    text.write(&[])?;
+    text.write(&[told(100, got(9, 9_999_999_999_999_999_999))])?;
+    let expected = b"9 parked\n10 case 99 got 100\n100 case 9 got 9999999999999999999\n";
+    assert_eq!(rt; text.text(), expected);
+    text.clear();
+    assert_eq!(rt; text.text(), b"");
+    text.write(&[told(0, What::Stalled)])?;
+    assert_eq!(rt; text.text(), b"0 stalled\n");
+    Ok(())
+}
+
+#[test]
+fn text_of_events_grows(rt: HostRuntime) -> Result<(), Fail> {
+    let longest = Event {
+        pid: Pid(255),
+        what: What::Fired {
+            case: 255,
+            outcome: Outcome::Got(Value::num(u64::MAX)),
+        },
+    };
+    let mut text = EventText::new(rt.alloc());
+    for _ in 0..2000 {
+        text.write(&[longest, longest])?;
+    }
+    let line = b"255 case 255 got 18446744073709551615\n";
+    assert_eq!(rt; text.text().len(), 4000 * line.len());
+    assert!(rt;
+        text.text()
+            .chunks(line.len())
+            .all(|found| found == line.as_slice())
+    );
     Ok(())
 }

@@ -1,0 +1,153 @@
+//! The line of an event, put into bytes that are there already.
+//!
+//! Each function puts its piece at a place, behind the bytes before it, and tells where it ends. What lies behind
+//! that is no part of the text.
+
+ghost use Rattle.std.specs.Prelude.{◌≡◌, ◌+◌, ◌*◌, ◌≤◌, ◌<◌, ◌^◌, ◌++◌, length, take, codes, decimal};
+ghost use Rattle.std.specs.List.{flat_map};
+ghost use Rattle.hub_base.specs.EventText.{event_line, what_text, outcome_text};
+
+use crate::limits::MOST_LINE;
+use crate::{Event, Outcome, What};
+use itoa::Buffer;
+
+/// The most digits of a number of 8 bits.
+const MOST_SMALL: usize = 3;
+
+/// The most digits of a number of 64 bits.
+const MOST_DIGITS: usize = 20;
+
+/// The most bytes of how a communication ended: ` got ` and a value.
+const MOST_OUTCOME: usize = 25;
+
+/// The most bytes of what a process is told: ` case `, a number, and how a communication ended.
+const MOST_WHAT: usize = 34;
+
+/// Puts these bytes.
+#[inline(always)]
+fn put(out: &mut [u8], at: usize, bytes: &[u8]) -> usize
+    requires { at + length bytes.now ≤ length out.old }
+    ensures text { take result out.new ≡ take at out.old ++ bytes.now }
+    ensures end { result ≡ at + length bytes.now }
+{
+    let end = at + bytes.len();
+    out[at..end].copy_from_slice(bytes);
+    end
+}
+
+/// Puts a number of more than one digit.
+#[inline(never)]
+fn put_digits(out: &mut [u8], at: usize, n: u64) -> usize
+    requires { at + length (decimal n) ≤ length out.old }
+    ensures text { take result out.new ≡ take at out.old ++ decimal n }
+    ensures end { result ≡ at + length (decimal n) }
+{
+    let mut buffer = Buffer::new();
+    put(out, at, buffer.format(n).as_bytes())
+}
+
+/// Puts a number in decimal digits. Most have one.
+#[inline(always)]
+#[tactic(auto, using(std::proofs::lemmas::Fmt::decimal_digit))]
+fn put_number(out: &mut [u8], at: usize, n: u64) -> usize
+    requires { at + length (decimal n) ≤ length out.old }
+    ensures text { take result out.new ≡ take at out.old ++ decimal n }
+    ensures end { result ≡ at + length (decimal n) }
+{
+    if n < 10 {
+        put(out, at, &[b'0' + n as u8])
+    } else {
+        put_digits(out, at, n)
+    }
+}
+
+/// Puts a number of 8 bits.
+#[inline(always)]
+fn put_small(out: &mut [u8], at: usize, n: u8) -> usize
+    requires { at + MOST_SMALL ≤ length out.old }
+    ensures text { take result out.new ≡ take at out.old ++ decimal n }
+    ensures most { result ≤ at + MOST_SMALL }
+{
+    put_number(out, at, n.into())
+}
+
+/// Puts a number of up to 64 bits.
+#[inline(always)]
+fn put_large(out: &mut [u8], at: usize, n: u64) -> usize
+    requires { at + MOST_DIGITS ≤ length out.old }
+    ensures text { take result out.new ≡ take at out.old ++ decimal n }
+    ensures most { result ≤ at + MOST_DIGITS }
+{
+    put_number(out, at, n)
+}
+
+/// Puts how a communication ended, behind a space.
+#[inline(always)]
+fn put_outcome(out: &mut [u8], at: usize, outcome: Outcome) -> usize
+    requires { at + MOST_OUTCOME ≤ length out.old }
+    ensures text { take result out.new ≡ take at out.old ++ outcome_text outcome }
+    ensures most { result ≤ at + MOST_OUTCOME }
+{
+    match outcome {
+        Outcome::Sent => put(out, at, b" sent"),
+        Outcome::Got(value) => {
+            let end = put(out, at, b" got ");
+            put_large(out, end, value.number())
+        }
+        Outcome::Drained => put(out, at, b" drained"),
+        Outcome::Closed => put(out, at, b" closed"),
+    }
+}
+
+/// Puts what a process is told, behind a space.
+#[inline(always)]
+fn put_what(out: &mut [u8], at: usize, what: What) -> usize
+    requires { at + MOST_WHAT ≤ length out.old }
+    ensures text { take result out.new ≡ take at out.old ++ what_text what }
+    ensures most { result ≤ at + MOST_WHAT }
+{
+    match what {
+        What::Made(port) => {
+            let end = put(out, at, b" made ");
+            put_large(out, end, port.0.into())
+        }
+        What::Fired { case, outcome } => {
+            let word = put(out, at, b" case ");
+            let end = put_small(out, word, case);
+            put_outcome(out, end, outcome)
+        }
+        What::Default => put(out, at, b" default"),
+        What::Done => put(out, at, b" done"),
+        What::Parked => put(out, at, b" parked"),
+        What::Stalled => put(out, at, b" stalled"),
+        What::Fault(fault) => {
+            let end = put(out, at, b" fault ");
+            put_small(out, end, fault.number())
+        }
+    }
+}
+
+/// Puts a line.
+#[inline]
+pub fn put_event(out: &mut [u8], at: usize, event: &Event) -> usize
+    requires { at + MOST_LINE ≤ length out.old }
+    ensures text { take result out.new ≡ take at out.old ++ event_line event.now }
+    ensures most { result ≤ at + MOST_LINE }
+{
+    let pid = put_small(out, at, event.pid.0);
+    let what = put_what(out, pid, event.what);
+    put(out, what, b"\n")
+}
+
+/// Puts the line of each event.
+pub fn put_events(out: &mut [u8], at: usize, events: &[Event]) -> usize
+    requires { at + length events.now * MOST_LINE ≤ length out.old }
+    ensures text { take result out.new ≡ take at out.old ++ flat_map event_line events.now }
+    ensures fits { result ≤ length out.old }
+{
+    let mut end = at;
+    for event in events {
+        end = put_event(out, end, event);
+    }
+    end
+}

@@ -4,9 +4,7 @@
 //! entries are stepped as they are read, and none is kept.
 
 ghost use Rattle.std.specs.Prelude.{◌≡◌, ℕ, ◌+◌, ◌-◌, ◌^◌, ◌<◌, ◌++◌, List, length, IfOk, IfErr, OnOk, IsErrOf};
-ghost use Rattle.std.specs.List.{flat_map};
 ghost use Rattle.hub_base.specs.declared.text.faults.TextFault.{TextFault};
-ghost use Rattle.hub_base.specs.EventText.{event_line};
 ghost use Rattle.std.specs.Io.KnownBytes.{Appends};
 ghost use Rattle.hub_replay.specs.Devices.{Failed, AppendsBeginning, ConsumesAtMost};
 ghost use Rattle.hub_replay.specs.Replay.{IsEventText, HasNone, Replays, ReadsFaulty};
@@ -14,28 +12,18 @@ ghost use Rattle.hub_replay.specs.Replay.{IsEventText, HasNone, Replays, ReadsFa
 use crate::pieces::{read_up_to, write_whole};
 use crate::steps::Steps;
 use crate::{ReplayFault, Sink, Source};
-use hub_base::{Event, MOST_BYTES, NoMemory, write_event};
+use hub_base::{EventText, MOST_BYTES};
 use std::alloc::Global;
 
-/// Appends the lines of these events.
-pub fn write_events(text: &mut Vec<u8>, events: &[Event]) -> Result<(), NoMemory>
-    ensures { OnOk result (text.new.items ≡ text.old.items ++ flat_map event_line events.now) }
-{
-    for event in events {
-        write_event(text, event)?;
-    }
-    Ok(())
-}
-
 /// The event text of the journal that these bytes are the text of.
-fn event_text(alloc: Global, bytes: &[u8]) -> Result<Vec<u8>, ReplayFault>
-    ensures ok { IfOk result (λ text. IsEventText bytes.now text.items) }
+fn event_text(alloc: Global, bytes: &[u8]) -> Result<EventText, ReplayFault>
+    ensures ok { IfOk result (λ text. IsEventText bytes.now text) }
     ensures err { IfErr result (HasNone bytes.now) }
 {
     let mut steps = Steps::open(alloc, bytes)?;
-    let mut text = Vec::new(alloc);
+    let mut text = EventText::new(alloc);
     while steps.advance()? {
-        write_events(&mut text, steps.events())?;
+        text.write(steps.events())?;
     }
     Ok(text)
 }
@@ -75,6 +63,6 @@ pub fn replay<S: Source, W: Sink>(
 {
     let bytes = read_up_to(alloc, source, MOST_BYTES)?;
     let text = event_text(alloc, &bytes)?;
-    write_whole(sink, &text)?;
+    write_whole(sink, text.text())?;
     Ok(())
 }

@@ -9,9 +9,8 @@ ghost use Rattle.hub_replay.specs.Verify.{Compares};
 
 use crate::ReplayFault;
 use crate::comparison::Comparison;
-use crate::replayer::write_events;
 use crate::steps::Steps;
-use hub_base::one_reading;
+use hub_base::{EventText, one_reading};
 use std::alloc::Global;
 
 /// What a comparison says.
@@ -35,11 +34,11 @@ pub fn verify(alloc: Global, journal: &[u8], events: &[u8]) -> Result<Compared, 
     one_reading();
     let mut steps = Steps::open(alloc, journal)?;
     let mut comparison = Comparison::of(events);
-    let mut lines = Vec::new(alloc);
+    let mut lines = EventText::new(alloc);
     while steps.advance()? {
         lines.clear();
-        write_events(&mut lines, steps.events())?;
-        comparison.take(&lines);
+        lines.write(steps.events())?;
+        comparison.take(lines.text());
     }
     Ok(comparison.end())
 }

@@ -23,7 +23,7 @@ loop-lines-preserved c =
     GoesOn c.args.journal.now so_far.text c.advance.new.self.reader c.advance.new.self.machine c.advance.new.self.events.items b) c.if-branch.true
     (c.in_ok-advance.ensures.ok c.args.journal.now so_far.text so_far.replayed) in
     one-more-verified so_far goes
-    (c.deref.ensures.value ∙ c.in_ok-write_events.ensures ∙ ap (λ l. l ++ flat_map event_line c.events.result.now) c.clear.ensures.items
+    (c.text.ensures ∙ c.in_ok-write.ensures.ok ∙ ap (λ l. l ++ flat_map event_line c.events.result.now) c.clear.ensures
     ∙ ap (flat_map event_line) c.events.ensures)
     c.take.ensures.given (c.take.ensures.agrees so_far.text so_far.agrees)
 

@@ -35,7 +35,7 @@ fn put(out: &mut [u8], at: usize, bytes: &[u8]) -> usize
     end
 }
 
-/// Puts a number of more than one digit.
+/// Puts a number of more than two digits.
 #[inline(never)]
 fn put_digits(out: &mut [u8], at: usize, n: u64) -> usize
     requires { at + length (decimal n) ≤ length out.old }
@@ -46,9 +46,9 @@ fn put_digits(out: &mut [u8], at: usize, n: u64) -> usize
     put(out, at, buffer.format(n).as_bytes())
 }
 
-/// Puts a number in decimal digits. Most have one.
+/// Puts a number in decimal digits. Most have one or two.
 #[inline(always)]
-#[tactic(auto, using(std::proofs::lemmas::Fmt::decimal_digit))]
+#[tactic(auto, using(std::proofs::lemmas::Fmt::decimal_digit, itoa::proofs::Decimal::decimal_two))]
 fn put_number(out: &mut [u8], at: usize, n: u64) -> usize
     requires { at + length (decimal n) ≤ length out.old }
     ensures text { take result out.new ≡ take at out.old ++ decimal n }
@@ -56,6 +56,8 @@ fn put_number(out: &mut [u8], at: usize, n: u64) -> usize
 {
     if n < 10 {
         put(out, at, &[b'0' + n as u8])
+    } else if n < 100 {
+        put(out, at, &[b'0' + (n / 10) as u8, b'0' + (n % 10) as u8])
     } else {
         put_digits(out, at, n)
     }

@@ -3,7 +3,7 @@
 //! Each function puts its piece at a place, behind the bytes before it, and tells where it ends. What lies behind
 //! that is no part of the text.
 
-ghost use Rattle.std.specs.Prelude.{◌≡◌, ◌+◌, ◌*◌, ◌≤◌, ◌<◌, ◌^◌, ◌++◌, length, take, codes, decimal};
+ghost use Rattle.std.specs.Prelude.{◌≡◌, ◌+◌, ◌*◌, ◌≤◌, ◌++◌, length, take, decimal};
 ghost use Rattle.std.specs.List.{flat_map};
 ghost use Rattle.hub_base.specs.EventText.{event_line, what_text, outcome_text};
 
@@ -65,6 +65,7 @@ fn put_number(out: &mut [u8], at: usize, n: u64) -> usize
 
 /// Puts a number of 8 bits.
 #[inline(always)]
+#[tactic(auto, using(crate::proofs::Decimals::three_digits))]
 fn put_small(out: &mut [u8], at: usize, n: u8) -> usize
     requires { at + MOST_SMALL ≤ length out.old }
     ensures text { take result out.new ≡ take at out.old ++ decimal n }
@@ -75,6 +76,7 @@ fn put_small(out: &mut [u8], at: usize, n: u8) -> usize
 
 /// Puts a number of up to 64 bits.
 #[inline(always)]
+#[tactic(auto, using(crate::proofs::Decimals::twenty_digits))]
 fn put_large(out: &mut [u8], at: usize, n: u64) -> usize
     requires { at + MOST_DIGITS ≤ length out.old }
     ensures text { take result out.new ≡ take at out.old ++ decimal n }

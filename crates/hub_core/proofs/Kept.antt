@@ -115,14 +115,5 @@ module _ (P : Ticketed → Type 0) (n : ℕ) where
   answers_on_leaves m e None is new = stalls_on_leaves m.board (effect_on m e.pid e.step) (effect_on_leaves m e.pid e.step is new)
   answers_on_leaves m e (Some f) is new = same_calls m.board m.board refl refl refl
 
-any_opens : (n : ℕ) (pid : Pid) (step : Step) → Opens (λ w. Unit {0}) n pid step
-any_opens n pid (Make cap) = tt
-any_opens n pid (Call cases default word) = tt
-any_opens n pid (Close p) = tt
-any_opens n pid Exit = tt
-
-pub effect-procs : (m : MachineLists) (pid : Pid) (step : Step) → (effect_on m pid step).machine.board.procs ≡ m.board.procs
-effect-procs m pid step = (effect_on_leaves (λ w. Unit {0}) m.steps m pid step refl (any_opens m.steps pid step)).procs
-
-pub answers-procs : (m : MachineLists) (e : Entry) (o : Option Fault) → (answers_on m e o).machine.board.procs ≡ m.board.procs
-answers-procs m e o = (answers_on_leaves (λ w. Unit {0}) m.steps m e o refl (any_opens m.steps e.pid e.step)).procs
+pub fire_on-procs : (b : Lists) (ts : List Tally) (k : Case) → (fire_on b ts k).board.procs ≡ b.procs
+fire_on-procs b ts k = (fire_on_leaves (λ w. Unit {0}) 0 b ts k).procs

@@ -1,6 +1,6 @@
 -- How a case that can proceed fires, over buffers and counts, and what is told.
 -- Go: "Send statements", "Receive operator".
-use Rattle.std.specs.Prelude.{ℕ, List, ◌∷◌, Option, None, Some, slice_get, if◌then◌else◌}
+use Rattle.std.specs.Prelude.{◌≡◌, ℕ, List, ◌∷◌, Option, None, Some, slice_get, if◌then◌else◌}
 use Rattle.std.specs.Option.{option_to_list}
 use Rattle.hub_base.specs.declared.value.Pid.{Pid}
 use Rattle.hub_base.specs.declared.value.Port.{Port}
@@ -15,6 +15,7 @@ use Rattle.hub_base.specs.Steps.{fired}
 use Rattle.hub_parts.specs.Records.{Lists}
 use Rattle.hub_parts.specs.Lists.{port_at, with_port, pushed, popped, ended_by}
 use Rattle.hub_core.specs.declared.tally.Tally.{Tally}
+use Rattle.hub_core.specs.declared.firing.Firing.{Firing}
 use Rattle.hub_core.specs.Records.{one_sent, one_received, one_handed}
 use Rattle.hub_core.specs.ListReady.{receiver_on, sender_on}
 
@@ -115,3 +116,10 @@ fire_on b ts (Recv p) = recv_on b ts p
 -- the caller is told of the case that fired, and then the call that ended with it
 abbrev pub firing_events : Pid → ℕ → ListFiring → List Event
 firing_events pid index f = fired pid index f.outcome ∷ option_to_list f.ended
+
+-- the case that the code fired, and the board and the counts that it left, are those of the lists
+pub record Fires (f : Firing) (b : Lists) (ts : List Tally) (g : ListFiring) : Type 0 where
+  pub outcome : f.outcome ≡ g.outcome
+  pub ended : f.ended ≡ g.ended
+  pub board : b ≡ g.board
+  pub counts : ts ≡ g.counts

@@ -1,15 +1,25 @@
 //! How a case fires: the caller is told, and then the waiting call that ended with it. Go: "Send statements", "Receive operator".
 
-ghost use Rattle.std.specs.Prelude.{◌≡◌, [], true};
+ghost use Rattle.std.specs.Prelude.{◌≡◌, ◌∷◌, [], None, Some, true};
+ghost use Rattle.std.specs.Option.{option_to_list};
 ghost use Rattle.hub_parts.specs.Lists.{IsMade};
 ghost use Rattle.hub_core.specs.ListReady.{SendFits, can_on};
 ghost use Rattle.hub_core.specs.ListKeeps.{PortsKeep, IsNamed};
 ghost use Rattle.hub_base.specs.Steps.{fired};
-ghost use Rattle.hub_core.specs.ListFirings.{send_on, take_on, recv_on, fire_on, firing_events};
+ghost use Rattle.hub_core.specs.ListFirings.{Fires, send_on, take_on, recv_on, fire_on};
 
 use crate::tally::Tallies;
 use hub_base::{Case, Event, Events, Outcome, Pid, Port, Value, What};
-use hub_parts::{Board, Side};
+use hub_parts::{Board, Ended, Side};
+
+/// What the caller of a case that fired is told, and the call that ended with it.
+#[derive(Clone, Copy)]
+pub(crate) struct Firing {
+    /// How the caller's case ended.
+    outcome: Outcome,
+    /// What the waiting call is told that ended with it.
+    ended: Option<Event>,
+}
 
 fn fired(pid: Pid, case: u8, outcome: Outcome) -> Event
     ensures { result ≡ fired pid case outcome }
@@ -20,128 +30,115 @@ fn fired(pid: Pid, case: u8, outcome: Outcome) -> Event
     }
 }
 
+/// A case that fired by itself.
+#[inline]
+fn alone(outcome: Outcome) -> Firing
+    ensures { result ≡ record { outcome = outcome; ended = None } }
+{
+    Firing {
+        outcome,
+        ended: None,
+    }
+}
+
+/// A case that fired together with one of this waiting call, which is told `theirs`.
+#[inline]
+fn with(outcome: Outcome, ended: Ended, theirs: Outcome) -> Firing
+    ensures { result ≡ record { outcome = outcome; ended = Some (fired ended.pid ended.index theirs) } }
+{
+    Firing {
+        outcome,
+        ended: Some(fired(ended.pid, ended.index, theirs)),
+    }
+}
+
 /// A send that can proceed: to the oldest receiver that waits, or else into the buffer.
-fn send(
-    board: &mut Board,
-    tallies: &mut Tallies,
-    events: &mut Events,
-    pid: Pid,
-    index: u8,
-    port: Port,
-    value: Value,
-)
+#[inline]
+fn send(board: &mut Board, tallies: &mut Tallies, port: Port, value: Value) -> Firing
     requires made { IsMade board.old port }
     requires keep { PortsKeep board.old tallies.old }
     requires can { SendFits board.old port }
-    requires empty { events.old.items ≡ [] }
-    ensures board { board.new ≡ (send_on board.old tallies.old port value).board }
-    ensures counts { tallies.new ≡ (send_on board.old tallies.old port value).counts }
-    ensures events { events.new.items
-        ≡ firing_events pid index (send_on board.old tallies.old port value) }
+    ensures { Fires result board.new tallies.new (send_on board.old tallies.old port value) }
 {
     if board.closed(port) {
-        events.push(fired(pid, index, Outcome::Closed));
-        return;
+        return alone(Outcome::Closed);
     }
-    events.push(fired(pid, index, Outcome::Sent));
     // A receiver waits only where nothing is buffered, so no older value is passed over.
     match board.take(port, Side::Recv) {
         Some(receiver) => {
             tallies.count_handed(port);
-            events.push(fired(receiver.pid, receiver.index, Outcome::Got(value)));
+            with(Outcome::Sent, receiver, Outcome::Got(value))
         }
         None => {
             board.push(port, value);
             tallies.count_sent(port);
+            alone(Outcome::Sent)
         }
     }
 }
 
 /// The oldest value of the buffer, where no sender waits.
-fn take_value(
-    board: &mut Board,
-    tallies: &mut Tallies,
-    events: &mut Events,
-    pid: Pid,
-    index: u8,
-    port: Port,
-)
+#[inline]
+fn take_value(board: &mut Board, tallies: &mut Tallies, port: Port) -> Firing
     requires made { IsMade board.old port }
     requires keep { PortsKeep board.old tallies.old }
-    requires empty { events.old.items ≡ [] }
-    ensures board { board.new ≡ (take_on board.old tallies.old port).board }
-    ensures counts { tallies.new ≡ (take_on board.old tallies.old port).counts }
-    ensures events { events.new.items
-        ≡ firing_events pid index (take_on board.old tallies.old port) }
+    ensures { Fires result board.new tallies.new (take_on board.old tallies.old port) }
 {
     match board.pop(port) {
         Some(value) => {
             tallies.count_received(port);
-            events.push(fired(pid, index, Outcome::Got(value)));
+            alone(Outcome::Got(value))
         }
-        None => events.push(fired(pid, index, Outcome::Drained)),
+        None => alone(Outcome::Drained),
     }
 }
 
 /// A receive. The value of a sender that waits comes in behind those in the buffer.
-fn receive(
-    board: &mut Board,
-    tallies: &mut Tallies,
-    events: &mut Events,
-    pid: Pid,
-    index: u8,
-    port: Port,
-)
+#[inline]
+fn receive(board: &mut Board, tallies: &mut Tallies, port: Port) -> Firing
     requires made { IsMade board.old port }
     requires keep { PortsKeep board.old tallies.old }
-    requires empty { events.old.items ≡ [] }
-    ensures board { board.new ≡ (recv_on board.old tallies.old port).board }
-    ensures counts { tallies.new ≡ (recv_on board.old tallies.old port).counts }
-    ensures events { events.new.items
-        ≡ firing_events pid index (recv_on board.old tallies.old port) }
+    ensures { Fires result board.new tallies.new (recv_on board.old tallies.old port) }
 {
     let Some(sender) = board.take(port, Side::Send) else {
-        return take_value(board, tallies, events, pid, index, port);
+        return take_value(board, tallies, port);
     };
     let Case::Send(_port, sent) = sender.case else {
         unreachable!();
     };
     tallies.count_handed(port);
-    let ended = fired(sender.pid, sender.index, Outcome::Sent);
     // A sender waits only where the buffer is full, or where there is none: its value takes the place of the oldest.
     match board.pop(port) {
         Some(oldest) => {
             board.push(port, sent);
-            events.push(fired(pid, index, Outcome::Got(oldest)));
-            events.push(ended);
+            with(Outcome::Got(oldest), sender, Outcome::Sent)
         }
-        None => {
-            events.push(fired(pid, index, Outcome::Got(sent)));
-            events.push(ended);
-        }
+        None => with(Outcome::Got(sent), sender, Outcome::Sent),
     }
 }
 
 /// A case that can proceed.
-pub(crate) fn fire(
-    board: &mut Board,
-    tallies: &mut Tallies,
-    events: &mut Events,
-    pid: Pid,
-    index: u8,
-    case: Case,
-)
+#[inline]
+pub(crate) fn fire(board: &mut Board, tallies: &mut Tallies, case: Case) -> Firing
     requires named { IsNamed board.old case }
     requires keep { PortsKeep board.old tallies.old }
     requires can { can_on board.old case ≡ true }
-    requires empty { events.old.items ≡ [] }
-    ensures board { board.new ≡ (fire_on board.old tallies.old case).board }
-    ensures counts { tallies.new ≡ (fire_on board.old tallies.old case).counts }
-    ensures events { events.new.items
-        ≡ firing_events pid index (fire_on board.old tallies.old case) }
+    ensures { Fires result board.new tallies.new (fire_on board.old tallies.old case) }
 {
     match case {
-        Case::Send(port, value) => send(board, tallies, events, pid, index, port, value),
-        Case::Recv(port) => receive(board, tallies, events, pid, index, port),
+        Case::Send(port, value) => send(board, tallies, port, value),
+        Case::Recv(port) => receive(board, tallies, port),
+    }
+}
+
+/// Tells the caller of the case that fired, and then the call that ended with it.
+#[inline]
+pub(crate) fn tell(events: &mut Events, pid: Pid, index: u8, firing: Firing)
+    requires { events.old.items ≡ [] }
+    ensures { events.new.items ≡ fired pid index firing.outcome ∷ option_to_list firing.ended }
+{
+    events.push(fired(pid, index, firing.outcome));
+    if let Some(event) = firing.ended {
+        events.push(event);
     }
 }

@@ -10,7 +10,7 @@ ghost use Rattle.hub_core.specs.Records.{opened_machine};
 ghost use Rattle.hub_core.specs.Follows.{IsMake, IsReached};
 
 use crate::closing::close;
-use crate::firing::fire;
+use crate::firing::{fire, tell};
 use crate::looking::{buffered, look};
 use crate::ready_cases::find_ready;
 use crate::refusals::{fault_of, refusal};
@@ -107,7 +107,10 @@ impl MachineState {
         match nth_ready(ready.as_slice(), word) {
             None => wait(&mut self.board, events, self.steps, pid, cases, default),
             Some(index) => match case_at(cases, index) {
-                Some(case) => { fire(&mut self.board, &mut self.tallies, events, pid, index, case) }
+                Some(case) => {
+                    let firing = fire(&mut self.board, &mut self.tallies, case);
+                    tell(events, pid, index, firing);
+                }
                 None => unreachable!(),
             },
         }

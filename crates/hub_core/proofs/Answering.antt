@@ -1,10 +1,9 @@
 -- A call on the lists is the call of the meaning.
-use Rattle.std.proofs.Common.{◌≡◌, ℕ, ◌%◌, Bool, true, false, List, [], ◌∷◌, ◌++◌, length, map, refl, ap, ◌∙◌, sym, Option, Some, None, arith}
+use Rattle.std.proofs.Common.{◌≡◌, ℕ, ◌%◌, Bool, true, false, List, [], ◌∷◌, ◌++◌, length, refl, ap, ◌∙◌, sym, Option, Some, None, arith}
 use Rattle.std.specs.Prelude.{slice_get}
 use Rattle.std.specs.List.{list_any}
-use Rattle.std.specs.Option.{option_map, option_map_or}
-use Rattle.std.proofs.lemmas.List.{length-map, map-append}
-use Rattle.std.proofs.lemmas.Option.{slice_get-map}
+use Rattle.std.specs.Option.{option_map_or}
+use Rattle.std.proofs.lemmas.List.{map-append}
 use Rattle.hub_base.specs.declared.value.Pid.{Pid}
 use Rattle.hub_base.specs.declared.case.Case.{Case}
 use Rattle.hub_base.specs.declared.case.Case.TheVariants.{Send, Recv}
@@ -16,13 +15,12 @@ use Rattle.hub_laws.proofs.Ready.{chosen}
 use Rattle.hub_parts.specs.Records.{Ticketed}
 use Rattle.hub_parts.specs.Lists.{open_calls, ticketed}
 use Rattle.hub_core.specs.Records.{MachineLists}
-use Rattle.hub_core.specs.ListReady.{ready_on}
-use Rattle.hub_core.specs.ListFirings.{ListFiring}
-use Rattle.hub_core.specs.ListSteps.{tell_firing, fires_on, waits_on, chooses_on, calls_on, after_call}
+use Rattle.hub_core.specs.ListFirings.{ListFiring, fire_on}
+use Rattle.hub_core.specs.ListSteps.{tell_firing, waits_on, chooses_on, calls_on, after_call}
 use Rattle.hub_core.specs.Follows.{Matches}
 use Rattle.hub_core.specs.Agrees.{FiresAs, StepsAs}
 use Rattle.hub_core.proofs.Firings.{send-as, recv-as}
-use Rattle.hub_core.proofs.Readiness.{ready_on-as, number_in}
+use Rattle.hub_core.proofs.Readiness.{ready_on-as}
 
 told : (s : State) (m : MachineLists) (pid : Pid) (index : ℕ) (f : Firing) (g : ListFiring) → FiresAs f m g
     → StepsAs (proceeds s pid index (Some f)) (after_call m (tell_firing pid index g))
@@ -36,7 +34,7 @@ no_channel test e = cc
 
 -- a case that can proceed fires
 fires_by : (s : State) (m : MachineLists) (pid : Pid) (index : ℕ) (k : Case) (o : Option Channel) → IsSound s → Matches s m → o ≡ channel_at s (port_of k)
-    → can_proceed s k ≡ true → StepsAs (proceeds s pid index (fires s k o)) (after_call m (fires_on m.board m.counts pid index (Some k)))
+    → can_proceed s k ≡ true → StepsAs (proceeds s pid index (fires s k o)) (after_call m (tell_firing pid index (fire_on m.board m.counts k)))
 fires_by s m pid index (Send p v) None sound h is can =
     absurd (no_channel (send_can s p) (ap (λ (o : Option Channel). option_map_or (send_can s p) o false) is ∙ can))
 fires_by s m pid index (Recv p) None sound h is can =
@@ -63,21 +61,14 @@ waits_on-as s m pid cases false h = record {
 -- o: the case that the choice word names among those that can proceed
 chooses_on-as : (s : State) (m : MachineLists) (pid : Pid) (cases : List Case) (default : Bool) (k : ℕ) (o : Option (ℕ × Case))
     → IsSound s → Matches s m → o ≡ slice_get (ready s cases) k
-    → StepsAs (chooses s pid cases default o) (after_call m (chooses_on m.board m.counts m.steps pid cases default (option_map number_in o)))
+    → StepsAs (chooses s pid cases default o) (after_call m (chooses_on m.board m.counts m.steps pid cases default o))
 chooses_on-as s m pid cases default k None sound h is = waits_on-as s m pid cases default h
 chooses_on-as s m pid cases default k (Some x) sound h is =
-    let named = chosen (can_proceed s) 0 k cases x (sym is) in
-    let place : x.0 ≡ named.stands.0 = omega (arith, named.stands.1) in
-    let stands : slice_get cases x.0 ≡ Some x.1 = ap (slice_get cases) place ∙ named.stands.2 in
-    rw stands (fires_by s m pid x.0 x.1 (channel_at s (port_of x.1)) sound h refl named.ready)
+    fires_by s m pid x.0 x.1 (channel_at s (port_of x.1)) sound h refl (chosen (can_proceed s) 0 k cases x (sym is)).ready
 
 pub calls_on-as : (s : State) (m : MachineLists) (pid : Pid) (cases : List Case) (default : Bool) (word : ℕ)
     → IsSound s → Matches s m → list_any (λ k. is_unmade s (port_of k)) cases ≡ false
     → StepsAs (calls s pid cases default word) (after_call m (calls_on m.board m.counts m.steps pid cases default word))
 calls_on-as s m pid cases default word sound h named =
-    let is : ready_on m.board 0 cases ≡ map number_in (ready s cases) = ready_on-as s m 0 cases h named in
-    let choice : slice_get (ready_on m.board 0 cases) (word % length (ready_on m.board 0 cases))
-    ≡ option_map number_in (slice_get (ready s cases) (word % length (ready s cases))) =
-    ap (λ xs. slice_get xs (word % length xs)) is ∙ ap (λ n. slice_get (map number_in (ready s cases)) (word % n)) (length-map (ready s cases) number_in)
-    ∙ slice_get-map number_in (ready s cases) (word % length (ready s cases)) in
-    rw choice (chooses_on-as s m pid cases default (word % length (ready s cases)) (slice_get (ready s cases) (word % length (ready s cases))) sound h refl)
+    rw (ready_on-as s m 0 cases h named)
+    (chooses_on-as s m pid cases default (word % length (ready s cases)) (slice_get (ready s cases) (word % length (ready s cases))) sound h refl)

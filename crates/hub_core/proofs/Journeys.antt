@@ -112,9 +112,6 @@ never_full terms es i hub told r is j = λ full. r.room j (omega (arith, get_bel
 pub values_kept : (terms : Terms) (es : List Entry) (hub : HubView) (told : List Event) → RunsTo terms es hub told → KeepsValues terms.head es hub
 values_kept terms es hub told r = λ p c h. values-law terms.head es p c (subst (λ (s : State). channel_at s p ≡ Some c) (state_of-run terms es hub told r) h)
 
-pub run_opening : (terms : Terms) (es : List Entry) (hub : HubView) → hub.terms ≡ terms → hub.journal ≡ [] → RunSoFar terms es 0 hub []
-run_opening terms es hub is journal = record { run = record { terms = is; events = refl; journal = journal }; room = λ j h. absurd (omega arith) }
-
 pub refuses_at : (terms : Terms) (es : List Entry) (i : ℕ) (e : Entry) (hub : HubView) (told : List Event) (f : Fault)
     → RunSoFar terms es i hub told → slice_get es i ≡ Some e → StopsAt hub e f → RefusesAt terms es i f
 refuses_at terms es i e hub told fault.JournalFull r h stop = first_full terms es i e hub told r h stop

@@ -1,6 +1,5 @@
 -- Which open calls a step leaves, and under which tickets: those that were open, and the caller's new one.
-use Rattle.std.proofs.Common.{◌≡◌, ℕ, ◌+◌, ◌≤◌, Bool, true, false, cond, List, ◌++◌, refl, sym, subst, Option, Some, None, arith, ◌%◌, length}
-use Rattle.std.specs.Prelude.{slice_get}
+use Rattle.std.proofs.Common.{◌≡◌, ℕ, ◌+◌, ◌≤◌, Bool, true, false, cond, List, ◌++◌, refl, sym, subst, Option, Some, None, arith}
 use Rattle.std.specs.List.{AllByRecursion}
 use Rattle.hub_base.specs.declared.value.Pid.{Pid}
 use Rattle.hub_base.specs.declared.value.Port.{Port}
@@ -18,9 +17,9 @@ use Rattle.hub_parts.specs.Records.{Lists, Ticketed}
 use Rattle.hub_parts.specs.Lists.{port_at, open_calls, still_open, ticketed, ended_by}
 use Rattle.hub_core.specs.declared.tally.Tally.{Tally}
 use Rattle.hub_core.specs.Records.{MachineLists}
-use Rattle.hub_core.specs.ListReady.{ready_on}
+use Rattle.hub_core.specs.ListReady.{chosen_on}
 use Rattle.hub_core.specs.ListFirings.{send_on, send_to, oldest_on, take_value, fetch_on, let_in, recv_from, fire_on}
-use Rattle.hub_core.specs.ListSteps.{ListChange, fires_on, waits_on, chooses_on, effect_on, stalls_on}
+use Rattle.hub_core.specs.ListSteps.{ListChange, waits_on, chooses_on, effect_on, stalls_on}
 use Rattle.hub_core.specs.ListSteps.{all_wait_on, answers_on, none_open, stalled_events, with_board}
 
 module _ (P : Ticketed → Type 0) (n : ℕ) where
@@ -74,19 +73,15 @@ module _ (P : Ticketed → Type 0) (n : ℕ) where
   fire_on_leaves b ts (Send p v) = send_on_leaves b ts p v
   fire_on_leaves b ts (Recv p) = recv_from_leaves b ts p (first_with (is_send_on p) (open_calls b.waiting))
 
-  fires_on_leaves : (b : Lists) (ts : List Tally) (pid : Pid) (index : ℕ) (o : Option Case) → Leaves b (fires_on b ts pid index o).board
-  fires_on_leaves b ts pid index None = same_calls b b refl refl refl
-  fires_on_leaves b ts pid index (Some k) = fire_on_leaves b ts k
-
   waits_on_leaves : (b : Lists) (ts : List Tally) (pid : Pid) (cases : List Case) (default : Bool) → P (ticketed pid n cases)
       → Leaves b (waits_on b ts n pid cases default).board
   waits_on_leaves b ts pid cases true new = same_calls b b refl refl refl
   waits_on_leaves b ts pid cases false new = record { waiting = λ h. all_snoc P b.waiting (ticketed pid n cases) h new; next = λ h. omega arith; procs = refl }
 
-  chooses_on_leaves : (b : Lists) (ts : List Tally) (pid : Pid) (cases : List Case) (default : Bool) (o : Option ℕ) → P (ticketed pid n cases)
+  chooses_on_leaves : (b : Lists) (ts : List Tally) (pid : Pid) (cases : List Case) (default : Bool) (o : Option (ℕ × Case)) → P (ticketed pid n cases)
       → Leaves b (chooses_on b ts n pid cases default o).board
   chooses_on_leaves b ts pid cases default None new = waits_on_leaves b ts pid cases default new
-  chooses_on_leaves b ts pid cases default (Some index) new = fires_on_leaves b ts pid index (slice_get cases index)
+  chooses_on_leaves b ts pid cases default (Some x) new = fire_on_leaves b ts x.1
 
   -- a call of this step would be opened under the n-th ticket
   abbrev pub Opens : Pid → Step → Type 0
@@ -97,8 +92,7 @@ module _ (P : Ticketed → Type 0) (n : ℕ) where
 
   pub effect_on_leaves : (m : MachineLists) (pid : Pid) (step : Step) → m.steps ≡ n → Opens pid step → Leaves m.board (effect_on m pid step).machine.board
   effect_on_leaves m pid (Make cap) is new = same_calls m.board _ refl refl refl
-  effect_on_leaves m pid (Call cases default word) is new = rw is (chooses_on_leaves m.board m.counts pid cases.items default
-      (slice_get (ready_on m.board 0 cases.items) (word % length (ready_on m.board 0 cases.items))) new)
+  effect_on_leaves m pid (Call cases default word) is new = rw is (chooses_on_leaves m.board m.counts pid cases.items default (chosen_on m.board cases.items word) new)
   effect_on_leaves m pid (Close p) is new = record { waiting = λ h. all_kept P _ m.board.waiting h; next = λ h. omega arith; procs = refl }
   effect_on_leaves m pid Exit is new = same_calls m.board _ refl refl refl
 

@@ -14,9 +14,9 @@ use Rattle.hub_base.specs.Ready.{first_with, is_recv_on, is_send_on, port_of, ca
 use Rattle.hub_base.specs.Steps.{is_unmade}
 use Rattle.std.proofs.lemmas.Bool.{or_parts}
 use Rattle.hub_parts.specs.Records.{Lists}
-use Rattle.hub_parts.specs.Lists.{port_at, open_calls, IsMade}
+use Rattle.hub_parts.specs.Lists.{port_at, open_calls}
 use Rattle.hub_core.specs.Records.{MachineLists}
-use Rattle.hub_core.specs.ListReady.{can_on, ready_on}
+use Rattle.hub_core.specs.ListReady.{can_on}
 use Rattle.hub_core.specs.Follows.{lists_of, Matches}
 use Rattle.hub_core.proofs.Ports.{port-lists_of}
 
@@ -36,14 +36,6 @@ made_channel s p named made =
 
 pub count-ports : (s : State) (m : MachineLists) → Matches s m → length m.board.ports ≡ length s.channels
 count-ports s m h = ap length h.ports ∙ length-map s.channels lists_of
-
-made_number : (n ports : ℕ) → nat_lt ports n ≡ false → (n == 0) ≡ false → (0 < n) × (n ≤ ports)
-made_number n ports named made = (grind (arith, common_steps), grind (arith, common_steps))
-
-pub is_made : (s : State) (m : MachineLists) (p : Port) → Matches s m → is_unmade s p ≡ false → (p.0 == 0) ≡ false → IsMade m.board p
-is_made s m p h named made =
-    let n = made_number p.0 (length s.channels) named made in
-    (n.0, omega (arith, n.1, count-ports s m h))
 
 -- ---- one case
 pub length-buffer_of : (c : Channel) → length (buffer_of c) ≡ length c.sent - c.received
@@ -73,18 +65,9 @@ can_on-as s m (Send p v) h named = can_by s m p (p.0 == 0) _ (send_can s p) refl
 can_on-as s m (Recv p) h named = can_by s m p (p.0 == 0) _ (recv_can s p) refl named (λ c e. recv_as s m p c h e)
 
 -- ---- all cases of a call
-abbrev pub number_in : ℕ × Case → ℕ
-number_in x = x.0
-
-ready_by : (s : State) (b : Lists) (i : ℕ) (k : Case) (cases : List Case) (can : Bool) → can_on b k ≡ can → can_proceed s k ≡ can
-    → ready_on b (i + 1) cases ≡ map number_in (filter (λ x. can_proceed s x.1) (enumerate_from (i + 1) cases))
-    → ready_on b i (k ∷ cases) ≡ map number_in (filter (λ x. can_proceed s x.1) (enumerate_from i (k ∷ cases)))
-ready_by s b i k cases true mine its rest = rw (mine, its) (ap (λ xs. i ∷ xs) rest)
-ready_by s b i k cases false mine its rest = rw (mine, its) rest
-
-pub ready_on-as : (s : State) (m : MachineLists) (i : ℕ) (cases : List Case) → Matches s m → list_any (λ k. is_unmade s (port_of k)) cases ≡ false →
-    ready_on m.board i cases ≡ map number_in (filter (λ x. can_proceed s x.1) (enumerate_from i cases))
+pub ready_on-as : (s : State) (m : MachineLists) (i : ℕ) (cases : List Case) → Matches s m → list_any (λ k. is_unmade s (port_of k)) cases ≡ false
+    → filter (λ x. can_on m.board x.1) (enumerate_from i cases) ≡ filter (λ x. can_proceed s x.1) (enumerate_from i cases)
 ready_on-as s m i [] h named = refl
 ready_on-as s m i (k ∷ cases) h named =
     let parts = or_parts (is_unmade s (port_of k)) (list_any (λ k. is_unmade s (port_of k)) cases) named in
-    ready_by s m.board i k cases (can_proceed s k) (can_on-as s m k h parts.0) refl (ready_on-as s m (i + 1) cases h parts.1)
+    rw (can_on-as s m k h parts.0, ready_on-as s m (i + 1) cases h parts.1) refl

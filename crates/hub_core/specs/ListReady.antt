@@ -1,5 +1,6 @@
 -- Which cases can proceed, told from a board's lists. Go: "Send statements", "Receive operator".
-use Rattle.std.specs.Prelude.{ℕ, ◌+◌, ◌≤◌, ◌<◌, ◌≡◌, ◌==◌, nat_lt, not, ◌&&◌, ◌||◌, Bool, false, is_some, Option, None, List, [], ◌∷◌, length, if◌then◌else◌}
+use Rattle.std.specs.Prelude.{ℕ, ◌%◌, ◌≤◌, ◌<◌, ◌≡◌, ◌==◌, nat_lt, not, ◌&&◌, ◌||◌, Bool, false, is_some, Option, None, List, length, filter, slice_get}
+use Rattle.std.specs.List.{enumerate_from}
 use Rattle.hub_base.specs.declared.value.Port.{Port}
 use Rattle.hub_base.specs.declared.case.Case.{Case}
 use Rattle.hub_base.specs.declared.case.Case.TheVariants.{Send, Recv}
@@ -28,11 +29,17 @@ can_on b (Recv p) =
     not (p.0 == 0)
     && (is_some (sender_on b p) || nat_lt 0 (len_on b p) || (port_at b p).closed)
 
--- the numbers of the cases that can proceed, counted from i on
-abbrev pub ready_on : Lists → ℕ → List Case → List ℕ
-ready_on b i [] = []
-ready_on b i (c ∷ cs) =
-    if can_on b c then i ∷ ready_on b (i + 1) cs else ready_on b (i + 1) cs
+-- the cases that can proceed, in order, each with its number
+abbrev pub ready_on : Lists → List Case → List (ℕ × Case)
+ready_on b cases = filter (λ x. can_on b x.1) (enumerate_from 0 cases)
+
+-- the number that comes with a case
+abbrev pub number_of : ℕ × Case → ℕ
+number_of x = x.0
+
+-- the case that the word chooses among those that can proceed, with its number
+abbrev pub chosen_on : Lists → List Case → ℕ → Option (ℕ × Case)
+chosen_on b cases word = slice_get (ready_on b cases) (word % length (ready_on b cases))
 
 -- a send that fires finds the port closed, a receiver, or room
 abbrev pub SendFits : Lists → Port → Type 0

@@ -1,7 +1,7 @@
 -- What one step does to a machine's lists, and what it tells: the rules of a step over buffers and
 -- counts, where the meaning has whole histories. Most names are those of the meaning, with `_on`.
-use Rattle.std.specs.Prelude.{ℕ, ◌+◌, ◌%◌, ◌==◌, nat_le, nat_lt, Bool, true, false, not, ◌&&◌, ◌||◌, List, [], ◌∷◌, ◌++◌}
-use Rattle.std.specs.Prelude.{length, filter, map, Option, None, Some, slice_get, slice_index_or, slice_set, if◌then◌else◌}
+use Rattle.std.specs.Prelude.{ℕ, ◌+◌, ◌==◌, nat_le, nat_lt, Bool, true, false, not, ◌&&◌, ◌||◌, List, [], ◌∷◌, ◌++◌}
+use Rattle.std.specs.Prelude.{length, filter, map, Option, None, Some, slice_index_or, slice_set, if◌then◌else◌}
 use Rattle.std.specs.List.{list_any, list_all, filter_map, range_with_len}
 use Rattle.hub_base.specs.declared.value.Pid.{Pid}
 use Rattle.hub_base.specs.declared.value.Port.{Port}
@@ -20,11 +20,16 @@ use Rattle.hub_base.specs.Steps.{tells, closing_event}
 use Rattle.hub_parts.specs.Records.{Lists, Ticketed}
 use Rattle.hub_parts.specs.Lists.{port_at, with_new, with_port, closed_now, open_calls, parked}
 use Rattle.hub_core.specs.declared.tally.Tally.{Tally}
+use Rattle.hub_core.specs.declared.select.Chosen.{Chosen}
 use Rattle.hub_core.specs.Records.{MachineLists, no_tally}
-use Rattle.hub_core.specs.ListReady.{ready_on}
+use Rattle.hub_core.specs.ListReady.{chosen_on}
 use Rattle.hub_core.specs.ListFirings.{ListFiring, fire_on, firing_events}
 
 -- ---- a call
+-- a chosen case with its number
+abbrev pub placed : Chosen → ℕ × Case
+placed chosen = (chosen.index, chosen.case)
+
 -- what follows of board and counts, and what is told
 pub record ListCall : Type 0 where
   pub board : Lists
@@ -35,11 +40,6 @@ pub record ListCall : Type 0 where
 abbrev pub tell_firing : Pid → ℕ → ListFiring → ListCall
 tell_firing pid index f =
     record { board = f.board; counts = f.counts; events = firing_events pid index f }
-
--- a call whose case of this number fires
-abbrev pub fires_on : Lists → List Tally → Pid → ℕ → Option Case → ListCall
-fires_on b ts pid index None = record { board = b; counts = ts; events = [] }
-fires_on b ts pid index (Some c) = tell_firing pid index (fire_on b ts c)
 
 -- the board with the call, unless it takes its default
 abbrev pub wait_on : Lists → ℕ → Pid → List Case → Bool → Lists
@@ -58,14 +58,10 @@ waits_on b ts ticket pid cases default =
       events = tells pid (told_to_wait default) ∷ [];
     }
 
--- a call with the number of the case that was chosen, if one can proceed
-abbrev pub chooses_on : Lists → List Tally → ℕ → Pid → List Case → Bool → Option ℕ → ListCall
+-- a call with the case that was chosen and its number, if one can proceed
+abbrev pub chooses_on : Lists → List Tally → ℕ → Pid → List Case → Bool → Option (ℕ × Case) → ListCall
 chooses_on b ts ticket pid cases default None = waits_on b ts ticket pid cases default
-chooses_on b ts ticket pid cases default (Some index) = fires_on b ts pid index (slice_get cases index)
-
--- the number of the case that the word chooses among those that can proceed
-abbrev pub chosen_on : Lists → List Case → ℕ → Option ℕ
-chosen_on b cases word = slice_get (ready_on b 0 cases) (word % length (ready_on b 0 cases))
+chooses_on b ts ticket pid cases default (Some x) = tell_firing pid x.0 (fire_on b ts x.1)
 
 -- a call
 abbrev pub calls_on : Lists → List Tally → ℕ → Pid → List Case → Bool → ℕ → ListCall

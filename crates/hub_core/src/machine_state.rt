@@ -12,12 +12,10 @@ ghost use Rattle.hub_core.specs.Follows.{IsMake, IsReached};
 use crate::closing::close;
 use crate::firing::{fire, tell};
 use crate::looking::{buffered, look};
-use crate::ready_cases::find_ready;
 use crate::refusals::{fault_of, refusal};
-use crate::select::{case_at, nth_ready, wait};
+use crate::select::{choose, wait};
 use crate::stalling::{all_wait, stop_all};
 use crate::tally::Tallies;
-use arrayvec::ArrayVec;
 use hub_base::{
     Cases, Entry, Event, Events, Fault, Head, Look, MOST_CASES, MOST_PROCS, NoMemory, Pid, Port,
     Step, Value, What,
@@ -102,17 +100,12 @@ impl MachineState {
         ensures events { events.new.items
             ≡ (call_on self.old pid cases.now.items default word).events }
     {
-        let mut ready = ArrayVec::new();
-        find_ready(&self.board, cases.as_slice(), &mut ready);
-        match nth_ready(ready.as_slice(), word) {
+        match choose(&self.board, cases.as_slice(), word) {
             None => wait(&mut self.board, events, self.steps, pid, cases, default),
-            Some(index) => match case_at(cases, index) {
-                Some(case) => {
-                    let firing = fire(&mut self.board, &mut self.tallies, case);
-                    tell(events, pid, index, firing);
-                }
-                None => unreachable!(),
-            },
+            Some(chosen) => {
+                let firing = fire(&mut self.board, &mut self.tallies, chosen.case);
+                tell(events, pid, chosen.index, firing);
+            }
         }
     }
 

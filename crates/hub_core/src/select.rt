@@ -1,16 +1,30 @@
 //! A call: which of its cases fires, and what follows where none can proceed.
 //! Go: "Select statements".
 
-ghost use Rattle.std.specs.Prelude.{◌≡◌, ◌≤◌, ◌<◌, ◌%◌, ◌∷◌, [], false, length, slice_get};
+ghost use Rattle.std.specs.Prelude.{◌≡◌, ◌≤◌, ◌<◌, ◌%◌, ◌∷◌, [], true, false, length, slice_get, IfSome};
 ghost use Rattle.hub_base.specs.Steps.{tells};
 ghost use Rattle.hub_parts.specs.Keeps.{AllMade};
-ghost use Rattle.hub_core.specs.ListSteps.{wait_on, told_to_wait, open_on};
+ghost use Rattle.std.specs.Option.{option_map};
+ghost use Rattle.hub_core.specs.ListReady.{can_on, chosen_on};
+ghost use Rattle.hub_core.specs.ListKeeps.{IsNamed};
+ghost use Rattle.hub_core.specs.ListSteps.{wait_on, told_to_wait, open_on, placed};
 
-use hub_base::{Case, Cases, Event, Events, MOST_CASES, Pid, What};
+use crate::ready_cases::find_ready;
+use arrayvec::ArrayVec;
+use hub_base::{CASE_PLACES, Case, Cases, Event, Events, MOST_CASES, Pid, What};
 use hub_parts::Board;
 
+/// A case that was chosen.
+#[derive(Clone, Copy)]
+pub(crate) struct Chosen {
+    /// Its number in its call.
+    pub(crate) index: u8,
+    /// The case itself.
+    pub(crate) case: Case,
+}
+
 /// The number of the case that the choice word names among those that can proceed.
-pub(crate) fn nth_ready(ready: &[u8], word: u64) -> Option<u8>
+fn nth_ready(ready: &[u8], word: u64) -> Option<u8>
     ensures { result ≡ slice_get ready.now (word % length ready.now) }
 {
     if ready.is_empty() {
@@ -20,10 +34,22 @@ pub(crate) fn nth_ready(ready: &[u8], word: u64) -> Option<u8>
     }
 }
 
-pub(crate) fn case_at(cases: &Cases, index: u8) -> Option<Case>
-    ensures { result ≡ slice_get cases.now.items index }
+/// The case that the choice word names among those that can proceed.
+#[inline]
+pub(crate) fn choose(board: &Board, cases: &[Case], word: u64) -> Option<Chosen>
+    requires few { length cases.now ≤ CASE_PLACES }
+    requires named { AllMade (length board.now.ports) cases.now }
+    ensures chosen { option_map placed result ≡ chosen_on board.now cases.now word }
+    ensures named { IfSome result (λ chosen. IsNamed board.now chosen.case) }
+    ensures can { IfSome result (λ chosen. can_on board.now chosen.case ≡ true) }
 {
-    cases.as_slice().get(index as usize).copied()
+    let mut ready = ArrayVec::new();
+    find_ready(board, cases, &mut ready);
+    let index = nth_ready(ready.as_slice(), word)?;
+    Some(Chosen {
+        index,
+        case: cases[index as usize],
+    })
 }
 
 /// A call of which no case can proceed takes its default, or waits.

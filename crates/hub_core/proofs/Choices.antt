@@ -1,5 +1,5 @@
 -- The case that was chosen by its number can proceed, and stands at that number.
-use Rattle.std.proofs.Common.{◌≡◌, ℕ, ◌+◌, ◌%◌, true, List, length, map, ap, ◌∙◌, sym, Option, None, Some, arith}
+use Rattle.std.proofs.Common.{◌≡◌, ℕ, ◌%◌, true, List, length, map, ap, ◌∙◌, sym, Option, None, Some, arith}
 use Rattle.std.specs.Prelude.{slice_get}
 use Rattle.std.specs.Option.{option_map}
 use Rattle.std.proofs.lemmas.List.{length-map}

@@ -134,11 +134,6 @@ pub refuses_for : (head : Head) (es : List Entry) (e : Entry) (m : MachineLists)
     → Some f ≡ refusal_of m.board m.gone e.pid → RefusesFor head es e f
 refuses_for head es e m f h is = refuses_by head es e f (sym (refusal_of-as (state head es) m e.pid h.matches) ∙ sym is)
 
-pub refused_as : (head : Head) (es : List Entry) (e : Entry) (f : Fault) → (f ≡ fault.NoMemory → ⊥) → RefusesFor head es e f
-    → refusal (state head es) e.pid ≡ Some f
-refused_as head es e fault.NoMemory other h = absurd (other refl)
-refused_as head es e f other h = h
-
 pub admitted_as : (head : Head) (es : List Entry) (e : Entry) (m : MachineLists) → Follows head es m → refusal_of m.board m.gone e.pid ≡ None
     → refusal (state head es) e.pid ≡ None
 admitted_as head es e m h is = sym (refusal_of-as (state head es) m e.pid h.matches) ∙ is

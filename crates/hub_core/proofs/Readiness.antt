@@ -1,6 +1,6 @@
 -- The cases that can proceed on the lists are those that can in the meaning.
-use Rattle.std.proofs.Common.{◌≡◌, ℕ, zero, suc, ◌+◌, ◌-◌, ◌==◌, ◌≤◌, ◌<◌, ◌||◌, ◌&&◌, not, nat_lt, Bool, true, false}
-use Rattle.std.proofs.Common.{List, [], ◌∷◌, length, map, filter, refl, ap, ◌∙◌, sym, Some, arith, length-drop}
+use Rattle.std.proofs.Common.{◌≡◌, ℕ, zero, suc, ◌+◌, ◌-◌, ◌==◌, ◌<◌, ◌||◌, ◌&&◌, not, nat_lt, Bool, true, false}
+use Rattle.std.proofs.Common.{List, [], ◌∷◌, length, filter, refl, ap, ◌∙◌, sym, Some, arith, length-drop}
 use Rattle.std.specs.Prelude.{slice_get, is_some}
 use Rattle.std.specs.List.{list_any, enumerate_from}
 use Rattle.std.specs.Option.{option_map_or}
@@ -13,7 +13,6 @@ use Rattle.hub_base.specs.State.{State, Channel, channel_at, buffer_of}
 use Rattle.hub_base.specs.Ready.{first_with, is_recv_on, is_send_on, port_of, can_proceed, send_can, recv_can}
 use Rattle.hub_base.specs.Steps.{is_unmade}
 use Rattle.std.proofs.lemmas.Bool.{or_parts}
-use Rattle.hub_parts.specs.Records.{Lists}
 use Rattle.hub_parts.specs.Lists.{port_at, open_calls}
 use Rattle.hub_core.specs.Records.{MachineLists}
 use Rattle.hub_core.specs.ListReady.{can_on}

@@ -1,5 +1,5 @@
 -- How a machine's lists stand for a state, and what it means that a machine follows a run.
-use Rattle.std.specs.Prelude.{◌≡◌, ◌≤◌, ◌<◌, ℕ, List, [], ◌∷◌, ◌++◌, length, map, Option, None, Some, slice_get}
+use Rattle.std.specs.Prelude.{◌≡◌, ◌≤◌, ◌<◌, ◌+◌, ℕ, List, [], ◌∷◌, ◌++◌, length, map, Option, None, Some, slice_get}
 use Rattle.std.specs.List.{AllByRecursion}
 use Rattle.hub_base.specs.declared.case.Case.{Case}
 use Rattle.hub_base.specs.declared.entry.Step.{Step}
@@ -82,6 +82,18 @@ IsMake Exit = ⊥
 -- the step meets no fault, so a fault is not its answer
 abbrev pub IsFine : State → Entry → Type 0
 IsFine s e = fault_of s e.step ≡ None
+
+-- what an admitted entry leads to, in each run that the machine follows
+pub record Turns (old : MachineLists) (e : Entry) (new : MachineLists) (told : List Event) : Type 0 where
+  pub ok : (h : Head) (es : List Entry) → Follows h es old → Admits h es e new told
+  pub steps : new.steps ≡ old.steps + 1
+
+-- memory is refused to a make that meets no fault, and nothing has happened
+pub record RefusesMake (old : MachineLists) (e : Entry) (new : MachineLists) (told : List Event) : Type 0 where
+  pub make : IsMake e.step
+  pub fine : (h : Head) (es : List Entry) → Follows h es old → IsFine (state h es) e
+  pub unchanged : new ≡ old
+  pub empty : told ≡ []
 
 -- why an entry is refused: memory, which only a make asks for, or because it is not admitted
 abbrev pub RefusesFor : Head → List Entry → Entry → Fault → Type 0

@@ -219,7 +219,8 @@ impl Hub {
         ) else {
             return Err(Fault::NoMemory);
         };
-        let Ok(()) = self.machine.step(&entry, events) else {
+        events.clear();
+        let Ok(()) = self.machine.turn(&entry, events) else {
             return Err(Fault::NoMemory);
         };
         self.count = count_after(&entry.step, self.count);

@@ -4,17 +4,18 @@
 //! order and each under the place of its entry among the admitted ones; its buffers are what was
 //! sent and not yet received; its tallies are how many values were sent and received.
 
-ghost use Rattle.std.specs.Prelude.{◌≡◌, ◌≤◌, ◌<◌, ◌+◌, ◌-◌, ◌^◌, ℕ, List, [], IfOk, IfErr, OnOk, OnErr, IsErrOf};
+ghost use Rattle.std.specs.Prelude.{◌≡◌, ◌≤◌, ◌<◌, ◌+◌, ◌-◌, ◌^◌, ℕ, List, [], None, IfOk, IfErr, OnOk, OnErr, IsErrOf};
 ghost use Rattle.hub_base.specs.declared.entry.Entry.{Entry};
 ghost use Rattle.hub_base.specs.declared.head.Head.{Head};
 ghost use Rattle.hub_base.specs.Head.{IsHead};
 ghost use Rattle.hub_base.specs.Steps.{refusal};
 ghost use Rattle.hub_base.specs.Runs.{state};
+ghost use Rattle.hub_core.specs.ListSteps.{refusal_of};
 ghost use Rattle.hub_core.specs.Looks.{look_at, value_at};
-ghost use Rattle.hub_core.specs.Follows.{Follows, Admits, Answers, IsMake, IsFine, RefusesFor};
+ghost use Rattle.hub_core.specs.Follows.{Follows, Admits, Answers, IsMake, IsFine, RefusesFor, Turns, RefusesMake};
 
-use crate::machine_state::MachineState;
-use hub_base::{Entry, Event, Events, Fault, Head, Look, NoMemory, Pid, Port, Value, What};
+use crate::machine_state::{MachineState, tells};
+use hub_base::{Entry, Events, Fault, Head, Look, NoMemory, Pid, Port, Value, What};
 use std::alloc::Global;
 use std::marker::Model;
 
@@ -73,10 +74,10 @@ impl Machine {
         if let Some(fault) = self.state.refusal(entry.pid) {
             return Err(fault);
         }
-        let Ok(()) = self.state.turn(entry, events) else {
-            return Err(Fault::NoMemory);
-        };
-        Ok(())
+        match self.turn(entry, events) {
+            Ok(()) => Ok(()),
+            Err(NoMemory) => Err(Fault::NoMemory),
+        }
     }
 
     /// Makes a step, and tells what follows: a refusal by `NoProcess`, `Gone` or `Busy` is told as
@@ -95,20 +96,25 @@ impl Machine {
         ensures unchanged { OnErr result (self.new ≡ self.old) }
         ensures empty { OnErr result (events.new.items ≡ []) }
     {
-        let Err(fault) = self.step(entry, events) else {
+        events.clear();
+        if let Some(fault) = self.state.refusal(entry.pid) {
+            events.push(tells(entry.pid, What::Fault(fault)));
             return Ok(());
-        };
-        match fault {
-            Fault::NoMemory => Err(NoMemory),
-            fault => {
-                events.clear();
-                events.push(Event {
-                    pid: entry.pid,
-                    what: What::Fault(fault),
-                });
-                Ok(())
-            }
         }
+        self.turn(entry, events)
+    }
+
+    /// Makes an admitted step, where there are no events yet. After a refusal there are none either, and
+    /// the machine is as before.
+    pub(crate) fn turn(&mut self, entry: &Entry, events: &mut Events) -> Result<(), NoMemory>
+        requires steps { self.old.steps < 2 ^ 32 - 1 }
+        requires admitted { refusal_of self.old.board self.old.gone entry.now.pid ≡ None }
+        requires empty { events.old.items ≡ [] }
+        ensures ok { OnOk result (Turns self.old entry.now self.new events.new.items) }
+        ensures err { OnErr result (RefusesMake self.old entry.now self.new events.new.items) }
+    {
+        self.state.turn(entry, events)?;
+        Ok(())
     }
 
     /// Why a step of this process would be refused now: `NoProcess`, `Gone`, `Busy`, or nothing.

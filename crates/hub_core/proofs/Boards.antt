@@ -1,16 +1,11 @@
 -- A board whose port was written twice.
 use Rattle.std.proofs.Common.{◌≡◌, ℕ, zero, suc, ◌-◌, List, [], ◌∷◌, refl, ap, ◌∙◌, arith}
 use Rattle.std.specs.Prelude.{slice_set}
-use Rattle.std.proofs.lemmas.List.{get_or-set_same}
+use Rattle.std.proofs.lemmas.List.{get_or-set_same, set-set}
 use Rattle.hub_base.specs.declared.value.Port.{Port}
 use Rattle.hub_parts.specs.Records.{Lists, PortLists}
 use Rattle.hub_base.specs.declared.value.Value.{Value}
 use Rattle.hub_parts.specs.Lists.{IsMade, port_at, with_port, no_port, pushed, popped}
-
-set-set : {A : Type 0} (xs : List A) (i : ℕ) (x y : A) → slice_set (slice_set xs i x) i y ≡ slice_set xs i y
-set-set [] i x y = refl
-set-set (z ∷ zs) zero x y = refl
-set-set (z ∷ zs) (suc i) x y = ap (λ ws. z ∷ ws) (set-set zs i x y)
 
 pub with_port-twice : (b : Lists) (p : Port) (q r : PortLists) → with_port (with_port b p q) p r ≡ with_port b p r
 with_port-twice b p q r = ap (λ ps. record b { ports = ps }) (set-set b.ports (p.0 - 1) q r)

@@ -1,6 +1,7 @@
 -- A case that fires on the lists fires as in the meaning.
 use Rattle.std.proofs.Common.{◌≡◌, ◌+◌, Bool, true, false, cond, List, [], ◌∷◌, ◌++◌, length, refl, ap, ◌∙◌, sym, Option, Some, None, arith}
 use Rattle.std.specs.Prelude.{slice_get}
+use Rattle.std.proofs.lemmas.List.{length_push}
 use Rattle.hub_base.specs.declared.value.Pid.{Pid}
 use Rattle.hub_base.specs.declared.value.Port.{Port}
 use Rattle.hub_base.specs.declared.value.Value.{Value}
@@ -24,15 +25,11 @@ use Rattle.hub_core.proofs.Endings.{open_calls-still_open}
 use Rattle.hub_core.proofs.Ports.{port-lists_of, tally-tally_of, ports-set, ports-same, counts-set, counts-same, first-next_value, pushed-lists_of}
 use Rattle.hub_core.proofs.Ports.{popped-lists_of, popped-drained, through-lists_of, next-through, shifted-lists_of, next-shifted, next_none}
 
-length-snoc : (xs : List Value) (x : Value) → length xs + 1 ≡ length (xs ++ x ∷ [])
-length-snoc [] x = refl
-length-snoc (y ∷ ys) x = omega (arith, length-snoc ys x)
-
 sent-tally_of : (v : Value) (c : Channel) → sent_tally (tally_of c) ≡ tally_of (after_send v c)
-sent-tally_of v c = ap (λ n. record { sent = n; received = c.received }) (length-snoc c.sent v)
+sent-tally_of v c = ap (λ n. record { sent = n; received = c.received }) (sym (length_push c.sent v))
 
 handed-tally_of : (v : Value) (c : Channel) → handed_tally (tally_of c) ≡ tally_of (after_receive (after_send v c))
-handed-tally_of v c = ap (λ n. record { sent = n; received = c.received + 1 }) (length-snoc c.sent v)
+handed-tally_of v c = ap (λ n. record { sent = n; received = c.received + 1 }) (sym (length_push c.sent v))
 
 -- the open calls without the one that ends
 calls_left : (s : State) (m : MachineLists) (pid : Pid) → Matches s m → open_calls (still_open pid m.board.waiting) ≡ without pid s.parked

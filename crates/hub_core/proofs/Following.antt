@@ -2,6 +2,7 @@
 use Rattle.std.proofs.Common.{◌≡◌, ℕ, zero, suc, ◌+◌, ◌≤◌, ◌<◌, Bool, true, false, cond, List, [], ◌∷◌, ◌++◌}
 use Rattle.std.proofs.Common.{length, append-nil, refl, ap, ◌∙◌, sym, subst, Option, Some, None, arith}
 use Rattle.std.specs.Prelude.{slice_get, replicate}
+use Rattle.std.proofs.lemmas.List.{length_push}
 use Rattle.hub_base.specs.declared.head.Head.{Head}
 use Rattle.hub_base.specs.declared.value.Pid.{Pid}
 use Rattle.hub_base.specs.declared.entry.Step.{Step}
@@ -24,6 +25,7 @@ use Rattle.hub_core.specs.Records.{MachineLists, opened_machine}
 use Rattle.hub_core.specs.ListSteps.{turn_on, answers_on, effect_on, fault_on, refusal_of, gone_on}
 use Rattle.hub_core.specs.Follows.{Matches, IsEntryOf, TicketsAre, Follows, IsReached, Admits, Answers, IsFine, RefusesFor}
 use Rattle.hub_core.specs.Agrees.{StepsAs}
+use Rattle.hub_core.proofs.Ports.{get_seam}
 use Rattle.hub_core.proofs.Effects.{fault_on-as, effect_on-as}
 use Rattle.hub_core.proofs.Stalls.{stalls_on-as, refusal_of-as}
 use Rattle.hub_core.proofs.Kept.{Opens, answers_on_leaves}
@@ -57,10 +59,6 @@ get_longer [] x i call h = absurd h
 get_longer (y ∷ ys) x zero call h = h
 get_longer (y ∷ ys) x (suc i) call h = get_longer ys x i call h
 
-get_last : (xs : List Entry) (x : Entry) → slice_get (xs ++ x ∷ []) (length xs) ≡ Some x
-get_last [] x = refl
-get_last (y ∷ ys) x = get_last ys x
-
 tickets_longer : (journal : List Entry) (e : Entry) (ws : List Ticketed) → TicketsAre journal ws → TicketsAre (journal ++ e ∷ []) ws
 tickets_longer journal e [] h = tt
 tickets_longer journal e (w ∷ ws) h = (get_longer journal e w.ticket w.call h.0, tickets_longer journal e ws h.1)
@@ -77,17 +75,13 @@ opens_by journal n pid (Close p) h = tt
 opens_by journal n pid Exit h = tt
 
 -- ---- Follows
-length-snoc : (xs : List Entry) (x : Entry) → length xs + 1 ≡ length (xs ++ x ∷ [])
-length-snoc [] x = refl
-length-snoc (y ∷ ys) x = omega (arith, length-snoc ys x)
-
 pub follows_on : (head : Head) (es : List Entry) (e : Entry) (m : MachineLists) → Follows head es m → refusal (state head es) e.pid ≡ None
     → e.pid.0 < length m.gone → Admits head es e (turn_on m e).machine (turn_on m e).events
 follows_on head es e m h adm room =
     let same = answers_on-as (state head es) m e (state-sound head es) h.matches room in
     let moved = moves-admitted (state head es) e adm in
     let grown = kept-admitted head es e adm in
-    let last : slice_get (kept head (es ++ e ∷ [])) m.steps ≡ Some e = rw (grown, h.steps) (get_last (kept head es) e) in
+    let last : slice_get (kept head (es ++ e ∷ [])) m.steps ≡ Some e = rw (grown, h.steps) (get_seam (kept head es) e) in
     let left = answers_on_leaves (IsTicket (kept head (es ++ e ∷ []))) m.steps m e (fault_on m.board e.step) refl
     (opens_by (kept head (es ++ e ∷ [])) m.steps e.pid e.step last) in
     record {
@@ -96,7 +90,7 @@ follows_on head es e m h adm room =
       follows = record {
         matches = subst (λ (s : State). Matches s (turn_on m e).machine) (sym (state-entry head es e ∙ ap (λ (c : Change). c.state) moved))
             (record { procs = same.state.procs; calls = same.state.calls; ports = same.state.ports; counts = same.state.counts; gone = same.state.gone });
-        steps = ap (λ k. k + 1) h.steps ∙ length-snoc (kept head es) e ∙ ap length (sym grown);
+        steps = ap (λ k. k + 1) h.steps ∙ sym (length_push (kept head es) e) ∙ ap length (sym grown);
         later = left.next h.later;
         tickets =
             left.waiting (subst (λ (j : List Entry). TicketsAre j m.board.waiting) (sym grown) (tickets_longer (kept head es) e m.board.waiting h.tickets));

@@ -17,7 +17,6 @@ use Rattle.hub_core.specs.Records.{MachineLists}
 use Rattle.hub_core.specs.Follows.{Follows}
 use Rattle.hub_core.specs.HubView.{Grows, places_after}
 use Rattle.hub_core.specs.HubKeeps.{is_full, count_after}
-use Rattle.hub_core.proofs.Reached.{steps-length}
 use Rattle.hub_core.proofs.Following.{kept-admitted}
 
 -- a journal is not longer than its steps and its processes
@@ -64,9 +63,6 @@ within_by false count limit h room = omega (arith, room refl)
 
 pub count_within : (step : Step) (count limit : ℕ) → count ≤ limit → (is_exit step ≡ false → count < limit) → count_after step count ≤ limit
 count_within step count limit h room = within_by (is_exit step) count limit h room
-
-pub count-length : (es : List Entry) → steps_of es ≤ length es
-count-length es = steps-length es
 
 room_by : (b : Bool) (count limit : ℕ) → (not b && nat_le limit count) ≡ false → b ≡ false → count < limit
 room_by true count limit h is = cc

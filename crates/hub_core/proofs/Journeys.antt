@@ -3,6 +3,8 @@ use Rattle.std.proofs.Common.{◌≡◌, ℕ, zero, suc, ◌+◌, ◌<◌, Bool,
 use Rattle.std.proofs.Common.{length, take, get_or, refl, ap, ◌∙◌, sym, subst, Some, arith, nat_lt}
 use Rattle.std.specs.Prelude.{slice_get}
 use Rattle.std.proofs.lemmas.Grind.{common_steps}
+use Rattle.std.proofs.lemmas.List.{take_all, take_more}
+use Rattle.std.proofs.lemmas.Option.{slice_get_within, get_or_from_slice_get}
 use Rattle.hub_base.specs.declared.entry.Entry.{Entry}
 use Rattle.hub_base.specs.declared.event.Event.{Event}
 use Rattle.hub_base.specs.State.{State, channel_at}
@@ -25,14 +27,7 @@ pub record RunSoFar (terms : Terms) (es : List Entry) (i : ℕ) (hub : HubView) 
   pub room : (j : ℕ) → j < i → ¬ IsFullAt terms es j
 
 take_one : (es : List Entry) (i : ℕ) (e : Entry) → slice_get es i ≡ Some e → take (i + 1) es ≡ take i es ++ e ∷ []
-take_one es i e h = ap (λ k. take k es) (suc-of i) ∙ take_suc es i e h where
-  suc-of : (i : ℕ) → i + 1 ≡ suc i
-  suc-of i = omega arith
-
-  take_suc : (es : List Entry) (i : ℕ) (e : Entry) → slice_get es i ≡ Some e → take (suc i) es ≡ take i es ++ e ∷ []
-  take_suc [] i e h = cc
-  take_suc (x ∷ es) zero e h = let same : x ≡ e = cc in ap (λ y. y ∷ []) same
-  take_suc (x ∷ es) (suc i) e h = ap (λ ys. x ∷ ys) (take_suc es i e h)
+take_one es i e h = take_more es i e (slice_get_within es i e h) ∙ ap (λ x. take i es ++ x ∷ []) (get_or_from_slice_get es i e e h)
 
 limit-of : {s t : Terms} → s ≡ t → s.limit ≡ t.limit
 limit-of is = ap (λ (t : Terms). t.limit) is
@@ -88,26 +83,17 @@ pub first_full : (terms : Terms) (es : List Entry) (i : ℕ) (e : Entry) (hub : 
 first_full terms es i e hub told r h full =
     (record { entry = e; stands = h; step = full.0; full = omega (arith, full.1, ap steps_of r.run.journal, limit-of r.run.terms) }, r.room)
 
-get_below : (es : List Entry) (i : ℕ) (e : Entry) → slice_get es i ≡ Some e → i < length es
-get_below [] i e h = cc
-get_below (x ∷ es) zero e h = omega arith
-get_below (x ∷ es) (suc i) e h = omega (arith, get_below es i e h)
-
 pub room_up_to : (terms : Terms) (es : List Entry) (i : ℕ) (e : Entry) (hub : HubView) (told : List Event) → RunSoFar terms es i hub told
     → slice_get es i ≡ Some e → HasRoom hub e → IsOpenUpTo terms es i
-room_up_to terms es i e hub told r h room = (get_below es i e h, more_room terms es i r.room (not_full terms es i e hub told r.run h room))
-
-take_all : (es : List Entry) → take (length es) es ≡ es
-take_all [] = refl
-take_all (e ∷ es) = ap (λ xs. e ∷ xs) (take_all es)
+room_up_to terms es i e hub told r h room = (slice_get_within es i e h, more_room terms es i r.room (not_full terms es i e hub told r.run h room))
 
 pub run_whole : (terms : Terms) (es : List Entry) (i : ℕ) (hub : HubView) (told : List Event) → RunSoFar terms es i hub told
     → i ≡ length es → RunsTo terms es hub told
-run_whole terms es i hub told r is = subst (λ (xs : List Entry). RunsTo terms xs hub told) (ap (λ k. take k es) is ∙ take_all es) r.run
+run_whole terms es i hub told r is = subst (λ (xs : List Entry). RunsTo terms xs hub told) (take_all i es (omega arith)) r.run
 
 pub never_full : (terms : Terms) (es : List Entry) (i : ℕ) (hub : HubView) (told : List Event) → RunSoFar terms es i hub told
     → i ≡ length es → (j : ℕ) → ¬ IsFullAt terms es j
-never_full terms es i hub told r is j = λ full. r.room j (omega (arith, get_below es j full.entry full.stands)) full
+never_full terms es i hub told r is j = λ full. r.room j (omega (arith, slice_get_within es j full.entry full.stands)) full
 
 pub values_kept : (terms : Terms) (es : List Entry) (hub : HubView) (told : List Event) → RunsTo terms es hub told → KeepsValues terms.head es hub
 values_kept terms es hub told r = λ p c h. values-law terms.head es p c (subst (λ (s : State). channel_at s p ≡ Some c) (state_of-run terms es hub told r) h)
@@ -117,9 +103,3 @@ pub refuses_at : (terms : Terms) (es : List Entry) (i : ℕ) (e : Entry) (hub : 
 refuses_at terms es i e hub told fault.JournalFull r h stop = first_full terms es i e hub told r h stop
 refuses_at terms es i e hub told fault.NoMemory r h stop = room_up_to terms es i e hub told r h stop
 refuses_at terms es i e hub told other r h stop = absurd stop
-
--- the entry that was read at a place
-pub entry_at : (es : List Entry) (i : ℕ) (e : Entry) → i < length es → e ≡ get_or es i e → slice_get es i ≡ Some e
-entry_at [] i e h is = absurd (omega arith)
-entry_at (x ∷ es) zero e h is = ap (λ y. Some y) (sym is)
-entry_at (x ∷ es) (suc i) e h is = entry_at es i e (omega arith) is

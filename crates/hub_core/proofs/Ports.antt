@@ -3,8 +3,8 @@ use Rattle.std.proofs.Common.{◌≡◌, ℕ, zero, suc, ◌+◌, ◌-◌, ◌==
 use Rattle.std.proofs.Common.{length, map, drop, get_or, refl, ap, ◌∙◌, sym, Option, Some, None, arith, unwrap_or}
 use Rattle.std.specs.Prelude.{slice_get, slice_set}
 use Rattle.std.proofs.lemmas.Grind.{common_steps}
-use Rattle.std.proofs.lemmas.List.{map-set, drop-append-le}
-use Rattle.std.proofs.lemmas.Option.{unwrap_or-slice_get}
+use Rattle.std.proofs.lemmas.List.{map-set, drop-append-le, drop-drop, drop_all, length_push}
+use Rattle.std.proofs.lemmas.Option.{unwrap_or-slice_get, slice_get_within}
 use Rattle.std.proofs.Math.ListN.{get_or-map}
 use Rattle.std.proofs.Math.Seq.{map-set_same}
 use Rattle.hub_base.specs.declared.value.Port.{Port}
@@ -54,15 +54,7 @@ pub counts-same : (s : State) (m : MachineLists) (p : Port) (c d : Channel) → 
 counts-same s m p c d h e same = h.counts ∙ sym (map-set_same tally_of s.channels (p.0 - 1) d blank (same ∙ ap tally_of (sym (channel_get s p c e))))
 
 -- ---- a channel's buffer
-drop_seam : {A : Type 0} (xs : List A) (x : A) → drop (length xs + 1) (xs ++ x ∷ []) ≡ []
-drop_seam [] x = refl
-drop_seam (y ∷ ys) x = grind (arith, common_steps, drop_seam ys x)
-
-drop_all : {A : Type 0} (xs : List A) → drop (length xs) xs ≡ []
-drop_all [] = refl
-drop_all (y ∷ ys) = drop_all ys
-
-get_seam : {A : Type 0} (xs : List A) (x : A) → slice_get (xs ++ x ∷ []) (length xs) ≡ Some x
+pub get_seam : {A : Type 0} (xs : List A) (x : A) → slice_get (xs ++ x ∷ []) (length xs) ≡ Some x
 get_seam [] x = refl
 get_seam (y ∷ ys) x = get_seam ys x
 
@@ -77,17 +69,6 @@ get-drop zero (x ∷ xs) = refl
 get-drop (suc n) [] = refl
 get-drop (suc n) (x ∷ xs) = get-drop n xs
 
-drop-one : {A : Type 0} (n : ℕ) (xs : List A) → drop 1 (drop n xs) ≡ drop (suc n) xs
-drop-one zero [] = refl
-drop-one zero (x ∷ xs) = refl
-drop-one (suc n) [] = refl
-drop-one (suc n) (x ∷ xs) = drop-one n xs
-
-get_some : {A : Type 0} (xs : List A) (i : ℕ) (v : A) → slice_get xs i ≡ Some v → i < length xs
-get_some [] i v e = cc
-get_some (x ∷ xs) zero v e = omega arith
-get_some (x ∷ xs) (suc i) v e = omega (arith, get_some xs i v e)
-
 get_nothing : {A : Type 0} (xs : List A) (i : ℕ) → slice_get xs i ≡ None → length xs ≤ i
 get_nothing [] i e = omega arith
 get_nothing (x ∷ xs) zero e = cc
@@ -97,9 +78,6 @@ get_nothing (x ∷ xs) (suc i) e = omega (arith, get_nothing xs i e)
 abbrev with_buffer : Channel → List Value → PortLists
 with_buffer c xs = record { cap = c.cap; closed = c.closed; buffer = xs }
 
-suc-add : (n : ℕ) → n + 1 ≡ suc n
-suc-add n = omega arith
-
 -- the oldest value in the buffer is the next to be received
 pub first-next_value : (c : Channel) → slice_get (lists_of c).buffer 0 ≡ next_value c
 first-next_value c = get-drop c.received c.sent
@@ -108,18 +86,18 @@ pub pushed-lists_of : (v : Value) (c : Channel) → c.received ≤ length c.sent
 pushed-lists_of v c h = ap (with_buffer c) (sym (drop-append-le c.received c.sent (v ∷ []) h))
 
 pub popped-lists_of : (c : Channel) → popped (lists_of c) ≡ lists_of (after_receive c)
-popped-lists_of c = ap (with_buffer c) (drop-one c.received c.sent ∙ ap (λ n. drop n c.sent) (sym (suc-add c.received)))
+popped-lists_of c = ap (with_buffer c) (drop-drop 1 c.received c.sent)
 
 -- nothing to receive: nothing leaves the buffer
 pub popped-drained : (c : Channel) → next_value c ≡ None → c.received ≤ length c.sent → popped (lists_of c) ≡ lists_of c
 popped-drained c e fits =
     let all : c.received ≡ length c.sent = omega (arith, get_nothing c.sent c.received e) in
-    let none : buffer_of c ≡ [] = ap (λ n. drop n c.sent) all ∙ drop_all c.sent in
+    let none : buffer_of c ≡ [] = drop_all c.received c.sent (omega (arith, all)) in
     ap (with_buffer c) (ap (drop 1) none ∙ sym none)
 
 -- a value goes through an empty buffer
 pub through-lists_of : (v : Value) (c : Channel) → c.received ≡ length c.sent → lists_of (after_receive (after_send v c)) ≡ lists_of c
-through-lists_of v c h = ap (with_buffer c) (rw h (drop_seam c.sent v ∙ sym (drop_all c.sent)))
+through-lists_of v c h = ap (with_buffer c) (rw h (drop_all _ (c.sent ++ v ∷ []) (omega (arith, length_push c.sent v)) ∙ sym (drop_all _ c.sent (omega arith))))
 
 pub next-through : (v : Value) (c : Channel) → c.received ≡ length c.sent → next_value (after_send v c) ≡ Some v
 next-through v c h = rw h (get_seam c.sent v)
@@ -128,7 +106,7 @@ next-through v c h = rw h (get_seam c.sent v)
 pub shifted-lists_of : (u : Value) (c : Channel) (v : Value) → next_value c ≡ Some v
     → pushed u (popped (lists_of c)) ≡ lists_of (after_receive (after_send u c))
 shifted-lists_of u c v e =
-    let some : c.received + 1 ≤ length c.sent = omega (arith, get_some c.sent c.received v e) in
+    let some : c.received + 1 ≤ length c.sent = omega (arith, slice_get_within c.sent c.received v e) in
     ap (pushed u) (popped-lists_of c) ∙ ap (with_buffer c) (sym (drop-append-le (c.received + 1) c.sent (u ∷ []) some))
 
 pub next-shifted : (u : Value) (c : Channel) (v : Value) → next_value c ≡ Some v → next_value (after_send u c) ≡ Some v

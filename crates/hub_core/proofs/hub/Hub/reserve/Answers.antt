@@ -3,13 +3,13 @@ use Rattle.hub_base.specs.declared.entry.Entry.{Entry}
 use Rattle.hub_base.specs.Runs.{kept}
 use Rattle.hub_base.specs.Text.{steps_of}
 use Rattle.hub_core.specs.Follows.{Follows}
-use Rattle.hub_core.proofs.Hubs.{count-length}
+use Rattle.hub_core.proofs.Reached.{steps-length}
 use Rattle.hub_core.proofs.hub.Hub.reserve.Goals as goal
 
 pub invariant_of-self-then-k-self : goal.invariant_of-self-then-k-self
 invariant_of-self-then-k-self c =
     let same = c.in_ok-reserve_more.ensures.same in
-    let few = count-length c.self.inside.entries.items in
+    let few = steps-length c.self.inside.entries.items in
     record {
       head = c.self.invariant.head;
       limit = c.self.invariant.limit;

@@ -8,7 +8,8 @@ use Rattle.hub_core.specs.Follows.{Follows}
 use Rattle.hub_core.specs.HubView.{places_after}
 use Rattle.hub_core.specs.HubKeeps.{count_after}
 use Rattle.hub_core.proofs.Stalls.{refusal_of-as}
-use Rattle.hub_core.proofs.Hubs.{steps_few, room_after, count-length, entry_fits, legal_longer, count-snoc, count_within, has_room}
+use Rattle.hub_core.proofs.Reached.{steps-length}
+use Rattle.hub_core.proofs.Hubs.{steps_few, room_after, entry_fits, legal_longer, count-snoc, count_within, has_room}
 use Rattle.hub_core.proofs.hub.Hub.step_into.Goals as goal
 use Rattle.hub_core.proofs.hub.Hub.step_into.Goals.{After-places_after-self-inside}
 
@@ -36,7 +37,7 @@ room : (c : After-places_after-self-inside) → count_after c.args.entry.step c.
 room c =
     room_after c.args.entry.step c.self.inside.count (length c.self.inside.entries.items) c.self.inside.places c.self.inside.terms.head.procs
     (vec_capacity c.self.inside.entries) (vec_capacity c.make_room.new.entries)
-    (omega (arith, count-length c.self.inside.entries.items, c.self.invariant.count)) c.self.invariant.room c.make_room.ensures.capacity
+    (omega (arith, steps-length c.self.inside.entries.items, c.self.invariant.count)) c.self.invariant.room c.make_room.ensures.capacity
     (λ g. omega (arith, c.in-Ok.ensures.room g, same_length c, c.make_room.new.entries.ok))
 
 pub push_reserved-requires : goal.push_reserved-requires

@@ -3,6 +3,7 @@ use Rattle.std.proofs.Common.{◌≡◌, ℕ, ◌+◌, ◌==◌, ◌<◌, ◌||�
 use Rattle.std.proofs.Common.{◌∷◌, ◌++◌, length, filter, refl, ap, ◌∙◌, sym, subst, Option, Some, None, arith}
 use Rattle.std.specs.Prelude.{slice_set}
 use Rattle.std.specs.List.{list_any, filter_map}
+use Rattle.std.proofs.Math.Bool.{or-true, or-false}
 use Rattle.std.proofs.lemmas.Grind.{common_steps}
 use Rattle.std.proofs.lemmas.List.{map-append, get_or-set_same, get_or-set_other}
 use Rattle.hub_base.specs.declared.value.Pid.{Pid}
@@ -69,17 +70,10 @@ gone_by : (gone : List Bool) (given : List Pid) (pid : Pid) (q : ℕ) (same : Bo
     → gone_on gone q ≡ list_any (λ g. g.0 == q) given → gone_on (slice_set gone pid.0 true) q ≡ list_any (λ g. g.0 == q) given || same
 gone_by gone given pid q true room is rest =
     let here : gone_on (slice_set gone pid.0 true) pid.0 ≡ true = get_or-set_same gone pid.0 true false room in
-    subst (λ (n : ℕ). gone_on (slice_set gone pid.0 true) n ≡ true) (eqb-true pid.0 q is) here ∙ sym (always (list_any (λ g. g.0 == q) given)) where
-      always : (b : Bool) → (b || true) ≡ true
-      always true = refl
-      always false = refl
+    subst (λ (n : ℕ). gone_on (slice_set gone pid.0 true) n ≡ true) (eqb-true pid.0 q is) here ∙ sym (or-true (list_any (λ g. g.0 == q) given))
 gone_by gone given pid q false room is rest =
     let other : q ≢ pid.0 = λ e. differs pid.0 q is e in
-    get_or-set_other gone pid.0 q true false other ∙ rest ∙ sym (never (list_any (λ g. g.0 == q) given)) where
-      never : (b : Bool) → (b || false) ≡ b
-      never true = refl
-      never false = refl
-
+    get_or-set_other gone pid.0 q true false other ∙ rest ∙ sym (or-false (list_any (λ g. g.0 == q) given)) where
       differs : (a b : ℕ) → (a == b) ≡ false → b ≡ a → ⊥
       differs a b is e = grind (arith, common_steps)
 

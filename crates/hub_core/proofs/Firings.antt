@@ -1,6 +1,6 @@
 -- A case that fires on the lists fires as in the meaning.
-use Rattle.std.proofs.Common.{◌≡◌, ◌+◌, Bool, true, false, cond, List, [], ◌∷◌, ◌++◌, length, refl, ap, ◌∙◌, sym, Option, Some, None, arith}
-use Rattle.std.specs.Prelude.{slice_get}
+use Rattle.std.proofs.Common.{◌≡◌, ◌+◌, ◌-◌, map, Bool, true, false, cond, List, [], ◌∷◌, length, refl, ap, ◌∙◌, sym, Option, Some, None}
+use Rattle.std.specs.Prelude.{slice_get, slice_set}
 use Rattle.std.proofs.lemmas.List.{length_push}
 use Rattle.hub_base.specs.declared.value.Pid.{Pid}
 use Rattle.hub_base.specs.declared.value.Port.{Port}
@@ -8,7 +8,7 @@ use Rattle.hub_base.specs.declared.value.Value.{Value}
 use Rattle.hub_base.specs.declared.case.Case.{Case}
 use Rattle.hub_base.specs.declared.case.Case.TheVariants.{Send, Recv}
 use Rattle.hub_base.specs.declared.event.Outcome.TheVariants.{Sent, Closed}
-use Rattle.hub_base.specs.State.{State, Channel, channel_at}
+use Rattle.hub_base.specs.State.{State, Channel, channel_at, with_channel}
 use Rattle.hub_base.specs.Ready.{Ending, first_with, is_recv_on, is_send_on, without}
 use Rattle.hub_base.specs.Steps.{after_send, after_receive, next_value, outcome_of, send_fires}
 use Rattle.hub_base.specs.Steps.{send_meets, recv_fires, recv_meets, recv_takes, with_sent, fired}
@@ -16,10 +16,11 @@ use Rattle.hub_laws.specs.Sound.{IsSound, PortSound, some_call, CallFits}
 use Rattle.hub_laws.proofs.Fires.{some_first}
 use Rattle.hub_laws.proofs.Calls.{first-found}
 use Rattle.hub_parts.specs.Records.{PortLists}
-use Rattle.hub_parts.specs.Lists.{port_at, pushed, popped, open_calls, still_open}
-use Rattle.hub_core.specs.Records.{MachineLists, sent_tally, received_tally, handed_tally}
+use Rattle.hub_parts.specs.Lists.{port_at, pushed, popped, still_open}
+use Rattle.hub_core.specs.Records.{MachineLists, one_handed, sent_tally, received_tally, handed_tally}
 use Rattle.hub_core.specs.ListFirings.{send_on, send_to, recv_on, recv_from, oldest_on, take_value, let_in, fetch_on}
-use Rattle.hub_core.specs.Follows.{tally_of, Matches}
+use Rattle.hub_core.specs.ListSteps.{with_board}
+use Rattle.hub_core.specs.Follows.{lists_of, tally_of, Matches}
 use Rattle.hub_core.specs.Agrees.{FiresAs}
 use Rattle.hub_core.proofs.Endings.{open_calls-still_open}
 use Rattle.hub_core.proofs.Ports.{port-lists_of, tally-tally_of, ports-set, ports-same, counts-set, counts-same, first-next_value, pushed-lists_of}
@@ -31,9 +32,18 @@ sent-tally_of v c = ap (λ n. record { sent = n; received = c.received }) (sym (
 handed-tally_of : (v : Value) (c : Channel) → handed_tally (tally_of c) ≡ tally_of (after_receive (after_send v c))
 handed-tally_of v c = ap (λ n. record { sent = n; received = c.received + 1 }) (sym (length_push c.sent v))
 
--- the open calls without the one that ends
-calls_left : (s : State) (m : MachineLists) (pid : Pid) → Matches s m → open_calls (still_open pid m.board.waiting) ≡ without pid s.parked
-calls_left s m pid h = open_calls-still_open pid m.board.waiting ∙ ap (without pid) h.calls
+-- a value went from a sender to a receiver: the call that waited has ended, and these are the ports
+handed : (s : State) (m : MachineLists) (p : Port) (c : Channel) (u : Value) (pid : Pid) (ps : List PortLists) → Matches s m → channel_at s p ≡ Some c
+    → ps ≡ map lists_of (slice_set s.channels (p.0 - 1) (after_receive (after_send u c)))
+    → Matches (with_channel (record s { parked = without pid s.parked }) p (after_receive (after_send u c)))
+    (with_board m (record m.board { waiting = still_open pid m.board.waiting; ports = ps }) (one_handed p m.counts))
+handed s m p c u pid ps h e is = record {
+  procs = h.procs;
+  calls = open_calls-still_open pid m.board.waiting ∙ ap (without pid) h.calls;
+  ports = is;
+  counts = counts-set s m p (after_receive (after_send u c)) _ h (ap handed_tally (tally-tally_of s m p c h e) ∙ handed-tally_of u c);
+  gone = h.gone;
+}
 
 -- ---- sends
 send_to-as : (s : State) (m : MachineLists) (p : Port) (v : Value) (c : Channel) (o : Option Ending) → PortSound p c s.parked → Matches s m
@@ -55,13 +65,7 @@ send_to-as s m p v c (Some x) sound h e is =
     record {
       outcome = refl;
       ended = ap (λ o. fired x.pid x.at.index (outcome_of o) ∷ []) (sym (next-through v c empty));
-      state = record {
-        procs = h.procs;
-        calls = calls_left s m x.pid h;
-        ports = ports-same s m p c (after_receive (after_send v c)) h e (through-lists_of v c empty);
-        counts = counts-set s m p (after_receive (after_send v c)) _ h (ap handed_tally (tally-tally_of s m p c h e) ∙ handed-tally_of v c);
-        gone = h.gone;
-      };
+      state = handed s m p c v x.pid _ h e (ports-same s m p c (after_receive (after_send v c)) h e (through-lists_of v c empty));
     }
 
 send_by : (closed : Bool) (s : State) (m : MachineLists) (p : Port) (v : Value) (c : Channel) (o : Option Ending)
@@ -115,27 +119,15 @@ fetch_on-as s m p c x u None sound h e is =
     rw (next-through u c empty) (record {
       outcome = refl;
       ended = refl;
-      state = record {
-        procs = h.procs;
-        calls = calls_left s m x.pid h;
-        ports = ports-set s m p (after_receive (after_send u c)) _ h
-            (ap popped (port-lists_of s m p c h e) ∙ popped-drained c (sym is) sound.received ∙ sym (through-lists_of u c empty));
-        counts = counts-set s m p (after_receive (after_send u c)) _ h (ap handed_tally (tally-tally_of s m p c h e) ∙ handed-tally_of u c);
-        gone = h.gone;
-      };
+      state = handed s m p c u x.pid _ h e (ports-set s m p (after_receive (after_send u c)) _ h
+          (ap popped (port-lists_of s m p c h e) ∙ popped-drained c (sym is) sound.received ∙ sym (through-lists_of u c empty)));
     })
 fetch_on-as s m p c x u (Some v) sound h e is =
     rw (next-shifted u c v (sym is)) (record {
       outcome = refl;
       ended = refl;
-      state = record {
-        procs = h.procs;
-        calls = calls_left s m x.pid h;
-        ports = ports-set s m p (after_receive (after_send u c)) _ h
-            (ap (λ (q : PortLists). pushed u (popped q)) (port-lists_of s m p c h e) ∙ shifted-lists_of u c v (sym is));
-        counts = counts-set s m p (after_receive (after_send u c)) _ h (ap handed_tally (tally-tally_of s m p c h e) ∙ handed-tally_of u c);
-        gone = h.gone;
-      };
+      state = handed s m p c u x.pid _ h e (ports-set s m p (after_receive (after_send u c)) _ h
+          (ap (λ (q : PortLists). pushed u (popped q)) (port-lists_of s m p c h e) ∙ shifted-lists_of u c v (sym is)));
     })
 
 first_at : (s : State) (m : MachineLists) (p : Port) (c : Channel) → Matches s m → channel_at s p ≡ Some c → oldest_on m.board p ≡ next_value c

@@ -132,9 +132,6 @@ pub admitted_as : (head : Head) (es : List Entry) (e : Entry) (m : MachineLists)
     → refusal (state head es) e.pid ≡ None
 admitted_as head es e m h is = sym (refusal_of-as (state head es) m e.pid h.matches) ∙ is
 
-pub fine_as : (head : Head) (es : List Entry) (e : Entry) (m : MachineLists) → Follows head es m → fault_on m.board e.step ≡ None → IsFine (state head es) e
-fine_as head es e m h is = sym (fault_on-as (state head es) m e.step h.matches) ∙ is
-
 -- ---- the opening
 none-gone : (k q : ℕ) → gone_on (replicate k false) q ≡ false
 none-gone zero q = refl

@@ -5,20 +5,14 @@ use Rattle.hub_core.specs.Records.{MachineLists}
 use Rattle.hub_core.proofs.Reached.{before_stall_of}
 use Rattle.hub_core.proofs.machine_state.MachineState.turn.Goals as goal
 
-pub stop_all-requires-clause-apart : goal.stop_all-requires-clause-apart
-stop_all-requires-clause-apart c =
+pub stop_all-requires : goal.stop_all-requires
+stop_all-requires c =
     let here = c.self.view_is in
     let before = before_stall_of c.args.self.now c.effect.new.self c.args.entry.now.pid c.args.entry.now.step c.effect.new.events.items
     c.requires.reached c.requires.admitted (search rules)
     (omega (arith, ap (λ (m : MachineLists). m.board.procs) here, c.self.invariant.procs, c.self.invariant.few)) (search rules)
     c.in_ok-effect.ensures.machine c.in_ok-effect.ensures.events in
-    subst (λ (m : MachineLists). Apart (open_calls m.board.waiting)) (sym c.self-in_default.view_is) before.apart
-
-pub stop_all-requires-clause-room : goal.stop_all-requires-clause-room
-stop_all-requires-clause-room c =
-    let here = c.self.view_is in
-    let before = before_stall_of c.args.self.now c.effect.new.self c.args.entry.now.pid c.args.entry.now.step c.effect.new.events.items
-    c.requires.reached c.requires.admitted (search rules)
-    (omega (arith, ap (λ (m : MachineLists). m.board.procs) here, c.self.invariant.procs, c.self.invariant.few)) (search rules)
-    c.in_ok-effect.ensures.machine c.in_ok-effect.ensures.events in
-    omega (arith, before.room, ap (λ (m : MachineLists). length m.board.waiting) c.self-in_default.view_is)
+    record {
+      apart = subst (λ (m : MachineLists). Apart (open_calls m.board.waiting)) (sym c.self-in_default.view_is) before.apart;
+      room = omega (arith, before.room, ap (λ (m : MachineLists). length m.board.waiting) c.self-in_default.view_is);
+    }

@@ -23,7 +23,7 @@ use Rattle.hub_laws.proofs.Ready.{admitted}
 use Rattle.hub_parts.specs.Records.{Ticketed}
 use Rattle.hub_core.specs.Records.{MachineLists, opened_machine}
 use Rattle.hub_core.specs.ListSteps.{turn_on, answers_on, effect_on, fault_on, refusal_of, gone_on}
-use Rattle.hub_core.specs.Follows.{Matches, IsEntryOf, TicketsAre, Follows, IsReached, Admits, Answers, IsFine, RefusesFor}
+use Rattle.hub_core.specs.Follows.{Matches, IsEntryOf, TicketsAre, Follows, IsReached, Admits, Answers, RefusesFor}
 use Rattle.hub_core.specs.Agrees.{StepsAs}
 use Rattle.hub_core.proofs.Ports.{get_seam}
 use Rattle.hub_core.proofs.Effects.{fault_on-as, effect_on-as}

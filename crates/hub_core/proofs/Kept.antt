@@ -92,7 +92,8 @@ module _ (P : Ticketed → Type 0) (n : ℕ) where
 
   pub effect_on_leaves : (m : MachineLists) (pid : Pid) (step : Step) → m.steps ≡ n → Opens pid step → Leaves m.board (effect_on m pid step).machine.board
   effect_on_leaves m pid (Make cap) is new = same_calls m.board _ refl refl refl
-  effect_on_leaves m pid (Call cases default word) is new = rw is (chooses_on_leaves m.board m.counts pid cases.items default (chosen_on m.board cases.items word) new)
+  effect_on_leaves m pid (Call cases default word) is new =
+      rw is (chooses_on_leaves m.board m.counts pid cases.items default (chosen_on m.board cases.items word) new)
   effect_on_leaves m pid (Close p) is new = record { waiting = λ h. all_kept P _ m.board.waiting h; next = λ h. omega arith; procs = refl }
   effect_on_leaves m pid Exit is new = same_calls m.board _ refl refl refl
 

@@ -96,7 +96,8 @@ popped-drained c e fits =
 
 -- a value goes through an empty buffer
 pub through-lists_of : (v : Value) (c : Channel) → c.received ≡ length c.sent → lists_of (after_receive (after_send v c)) ≡ lists_of c
-through-lists_of v c h = ap (with_buffer c) (rw h (drop_all _ (c.sent ++ v ∷ []) (omega (arith, length_push c.sent v)) ∙ sym (drop_all _ c.sent (omega arith))))
+through-lists_of v c h =
+    ap (with_buffer c) (rw h (drop_all _ (c.sent ++ v ∷ []) (omega (arith, length_push c.sent v)) ∙ sym (drop_all _ c.sent (omega arith))))
 
 pub next-through : (v : Value) (c : Channel) → c.received ≡ length c.sent → next_value (after_send v c) ≡ Some v
 next-through v c h = rw h (get_seam c.sent v)

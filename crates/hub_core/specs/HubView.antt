@@ -1,6 +1,6 @@
 -- What contracts see of a hub, and what a step of it does. All else that a hub shows is a function
 -- of `state terms.head journal`.
-use Rattle.std.specs.Prelude.{◌≡◌, ◌≤◌, ◌<◌, ◌+◌, ◌-◌, ◌⊎◌, ℕ, false, List, [], ◌∷◌, ◌++◌, length, None, Some}
+use Rattle.std.specs.Prelude.{◌≡◌, ◌≤◌, ◌<◌, ◌+◌, ◌-◌, ◌⊎◌, ℕ, false, List, [], ◌∷◌, ◌++◌, length, None, Some, Result, IfErr, OnErr, IsErrOf}
 use Rattle.hub_base.specs.declared.entry.Step.{Step}
 use Rattle.hub_base.specs.declared.entry.Step.TheVariants.{Make, Call, Close, Exit}
 use Rattle.hub_base.specs.declared.entry.Entry.{Entry}
@@ -14,6 +14,7 @@ use Rattle.hub_base.specs.Runs.{state, moves}
 use Rattle.hub_base.specs.Head.{IsHead, head_of}
 use Rattle.hub_base.specs.Reading.{is_exit}
 use Rattle.hub_base.specs.Text.{steps_of}
+use Rattle.hub_core.specs.Follows.{IsMake, IsFine}
 use Rattle.hub_core.specs.declared.terms.Terms.{Terms}
 use Rattle.hub_core.specs.declared.opening.OpenFault.{OpenFault}
 use Rattle.hub_core.specs.declared.opening.OpenFault.TheVariants as opening_fault
@@ -92,6 +93,16 @@ Refuses h e fault.Busy = RefusedBy h e fault.Busy
 Refuses h e fault.NoMemory =
     HasRoom h e × (refusal (state_of h) e.pid ≡ None) × Grows e.step h.places
 Refuses h e other = ⊥
+
+-- when a step is refused, and what it leaves of the hub and of its memory; what it tells is said by `Steps`
+pub record StepRules {A : Type 0} (old : HubInMemory) (e : Entry) (new : HubInMemory) (result : Result A Fault) : Type 0 where
+  pub refused : IfErr result (λ f. Refuses old.hub e f)
+  pub memory : IsErrOf result fault.NoMemory → HasSpare old → IsMake e.step
+  pub fine : IsErrOf result fault.NoMemory → HasSpare old → IsFine (state_of old.hub) e
+  pub unchanged : OnErr result (new.hub ≡ old.hub)
+  pub spare : HasSpare old → new.capacity ≡ old.capacity
+  pub kept : ¬ Grows e.step old.hub.places → new.capacity ≡ old.capacity
+  pub capacity : old.capacity ≤ new.capacity
 
 -- a hub with these terms, at which nothing has happened
 abbrev pub opened_hub : Terms → HubView

@@ -4,14 +4,13 @@
 //! exit of each process from the opening on, and for the steps that were reserved; so neither an
 //! exit nor a reserved step asks for memory.
 
-ghost use Rattle.std.specs.Prelude.{◌≡◌, ◌≤◌, ◌<◌, ◌+◌, ◌-◌, ◌^◌, [], IfOk, IfErr, OnOk, OnErr, IsErrOf, vec_len, length, max};
+ghost use Rattle.std.specs.Prelude.{◌≡◌, ◌≤◌, ◌<◌, ◌+◌, ◌-◌, ◌^◌, [], IfOk, IfErr, OnOk, OnErr, vec_len, length, max};
 ghost use Rattle.std.specs.Vec.{vec_capacity};
 ghost use Rattle.hub_base.specs.Head.{IsHead, head_of};
 ghost use Rattle.hub_base.specs.Reading.{is_exit};
 ghost use Rattle.hub_base.specs.Runs.{kept};
-ghost use Rattle.hub_core.specs.Follows.{IsMake, IsFine};
 ghost use Rattle.hub_core.specs.Looks.{look_at, value_at};
-ghost use Rattle.hub_core.specs.HubView.{HubInMemory, Steps, Refuses, Grows, HasSpare, RefusesOpening, opened_hub, places_after, state_of, terms_of, IsLimit};
+ghost use Rattle.hub_core.specs.HubView.{HubInMemory, Steps, StepRules, Grows, RefusesOpening, opened_hub, places_after, state_of, terms_of, IsLimit};
 ghost use Rattle.hub_core.specs.HubKeeps.{is_full, count_after};
 
 use crate::{Machine, OpenFault, Terms};
@@ -178,14 +177,7 @@ impl Hub {
     /// answers, and their entries are kept.
     pub fn step(&mut self, entry: Entry) -> Result<Events, Fault>
         ensures ok { IfOk result (λ events. Steps self.old.hub entry self.new.hub events.items) }
-        ensures refused { IfErr result (λ f. Refuses self.old.hub entry f) }
-        ensures memory { IsErrOf result Fault.NoMemory → HasSpare self.old → IsMake entry.step }
-        ensures fine { IsErrOf result Fault.NoMemory → HasSpare self.old
-            → IsFine (state_of self.old.hub) entry }
-        ensures unchanged { OnErr result (self.new.hub ≡ self.old.hub) }
-        ensures spare { HasSpare self.old → self.new.capacity ≡ self.old.capacity }
-        ensures kept { ¬ Grows entry.step self.old.hub.places → self.new.capacity ≡ self.old.capacity }
-        ensures capacity { self.old.capacity ≤ self.new.capacity }
+        ensures rules { StepRules self.old entry self.new result }
     {
         let mut events = Events::new();
         self.step_into(entry, &mut events)?;
@@ -196,14 +188,7 @@ impl Hub {
     /// refusal these may be any.
     pub fn step_into(&mut self, entry: Entry, events: &mut Events) -> Result<(), Fault>
         ensures ok { OnOk result (Steps self.old.hub entry self.new.hub events.new.items) }
-        ensures refused { IfErr result (λ f. Refuses self.old.hub entry f) }
-        ensures memory { IsErrOf result Fault.NoMemory → HasSpare self.old → IsMake entry.step }
-        ensures fine { IsErrOf result Fault.NoMemory → HasSpare self.old
-            → IsFine (state_of self.old.hub) entry }
-        ensures unchanged { OnErr result (self.new.hub ≡ self.old.hub) }
-        ensures spare { HasSpare self.old → self.new.capacity ≡ self.old.capacity }
-        ensures kept { ¬ Grows entry.step self.old.hub.places → self.new.capacity ≡ self.old.capacity }
-        ensures capacity { self.old.capacity ≤ self.new.capacity }
+        ensures rules { StepRules self.old entry self.new result }
     {
         if is_full(&entry.step, self.count, self.terms.limit) {
             return Err(Fault::JournalFull);

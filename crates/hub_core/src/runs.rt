@@ -6,6 +6,7 @@ ghost use Rattle.hub_laws.specs.Once.{OnceLaw};
 ghost use Rattle.hub_core.specs.HubView.{terms_of};
 ghost use Rattle.hub_core.specs.RunsTo.{RunsTo, TellsOn, StopsAt, KeepsValues, ClosesForGood, RefusesRun, IsFullAt};
 
+use crate::machine_state::tells;
 use crate::{Hub, OpenFault};
 use hub_base::{Entry, Event, Fault, What};
 use std::alloc::{AllocError, Global};
@@ -36,16 +37,10 @@ fn answer(hub: &mut Hub, events: &mut Vec<Event>, entry: &Entry) -> Result<(), F
         Err(fault) => match fault {
             Fault::JournalFull => Err(Fault::JournalFull),
             Fault::NoMemory => Err(Fault::NoMemory),
-            fault => {
-                let told = Event {
-                    pid: entry.pid,
-                    what: What::Fault(fault),
-                };
-                match events.push(told) {
-                    Ok(()) => Ok(()),
-                    Err(_refused) => Err(Fault::NoMemory),
-                }
-            }
+            fault => match events.push(tells(entry.pid, What::Fault(fault))) {
+                Ok(()) => Ok(()),
+                Err(_refused) => Err(Fault::NoMemory),
+            },
         },
     }
 }

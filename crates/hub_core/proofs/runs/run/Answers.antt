@@ -10,13 +10,15 @@ use Rattle.hub_core.proofs.runs.run.Goals as goal
 pub loop-index-preserved : goal.loop-index-preserved
 loop-index-preserved c =
     run_on (terms_of c.args.procs c.args.limit) c.args.entries.now c.loop-index.index c.index-entries-index.result _ _ _ _ c.loop-index.invariant
-    (slice_get_read c.args.entries.now _ c.loop-index.index c.index-entries-index.result refl (omega arith) c.index-entries-index.is) c.in-Ok-answer.ensures.ok
+    (slice_get_read c.args.entries.now _ c.loop-index.index c.index-entries-index.result refl (omega arith) c.index-entries-index.is)
+    c.in-Ok-answer.ensures.ok
 
 pub returns-in-Err-answer-clause-refused : goal.returns-in-Err-answer-clause-refused
 returns-in-Err-answer-clause-refused c =
     refuses_at (terms_of c.args.procs c.args.limit) c.args.entries.now c.loop-index.index c.index-entries-index.result _ _
     c.in-Err-answer.fault c.loop-index.invariant
-    (slice_get_read c.args.entries.now _ c.loop-index.index c.index-entries-index.result refl (omega arith) c.index-entries-index.is) c.in-Err-answer.ensures.err
+    (slice_get_read c.args.entries.now _ c.loop-index.index c.index-entries-index.result refl (omega arith) c.index-entries-index.is)
+    c.in-Err-answer.ensures.err
 
 pub returns-clause-received_then_buffered : goal.returns-clause-received_then_buffered
 returns-clause-received_then_buffered c =

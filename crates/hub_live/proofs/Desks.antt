@@ -1,8 +1,11 @@
--- The hub's seat and that of a process, joined and parted again.
+-- The hub's seat: what a meeting with the seat of a process, and a step, leave in both.
 use Rattle.std.proofs.Common.{◌≡◌, ℕ, suc, ◌+◌, ◌<◌, ◌≤◌, Bool, true, false, cond, List, [], ◌∷◌, ◌++◌, refl, sym, ap, ◌∙◌, subst, arith, Some, None, add-one}
+use Rattle.std.specs.Prelude.{IsSome}
 use mathlib.Core.List.{IsPrefix}
 use Rattle.atomic_table.specs.declared.shared.Seat.{Seat}
 use Rattle.hub_base.specs.declared.value.Pid.{Pid}
+use Rattle.hub_base.specs.declared.value.Port.{Port}
+use Rattle.hub_base.specs.declared.fault.Fault.{Fault}
 use Rattle.hub_base.specs.declared.entry.Entry.{Entry}
 use Rattle.hub_base.specs.declared.event.Event.{Event}
 use Rattle.hub_base.specs.declared.limits.TheConstants.{MOST_PORTS}
@@ -12,101 +15,62 @@ use Rattle.hub_base.specs.Reading.{is_exit}
 use Rattle.hub_base.specs.Text.{one_step, steps_of}
 use Rattle.hub_laws.specs.Journals.{IsLegal}
 use Rattle.hub_laws.specs.OnePort.{changed, port_changed, port_changed_by, number_of}
-use Rattle.hub_laws.specs.Replies.{own, reply}
+use Rattle.hub_laws.specs.Replies.{own}
 use Rattle.hub_laws.proofs.Journals.{begins-law}
 use Rattle.hub_laws.proofs.Replies.{own-mine}
-use Rattle.hub_core.specs.HubView.{HubView, Steps, state_of}
+use Rattle.hub_core.specs.HubView.{HubView, Steps, Refuses, state_of}
 use Rattle.hub_core.specs.declared.terms.Terms.{Terms}
 use Rattle.hub_live.specs.declared.rule.View.{View}
 use Rattle.hub_live.specs.Locked.{LockedView, Serves, IsReplyTo}
 use Rattle.hub_live.specs.Mark.{mark, mark_at, port_numbered, MarksOne, IsOther}
 use Rattle.hub_live.specs.Name.{Name}
 use Rattle.hub_live.specs.Rule.{IsHistory}
-use Rattle.hub_live.specs.Moves.{Sees, grown, with_joined, parted, given_back}
-use Rattle.hub_live.specs.Named.{IsToken}
-use Rattle.hub_live.specs.Seated.{IsAlone, IsHub, IsDesk}
+use Rattle.hub_live.specs.Moves.{Sees, SeesBoth, IsNext, grown, with_joined, parted, given_back}
+use Rattle.hub_live.specs.Named.{IsToken, IsSingle}
+use Rattle.hub_live.specs.SeatView.{SeatView, IsFree, own_of}
+use Rattle.hub_live.specs.Seated.{IsAlone, IsHub, IsDesk, seat_of}
+use Rattle.hub_live.specs.Calls.{Shows}
 use Rattle.hub_live.proofs.Prefixes.{prefix_trans}
+use Rattle.hub_live.proofs.Refusals.{shows}
+use Rattle.hub_live.proofs.Laters.{IsSeatOf, Follows, asked_nothing}
 use Rattle.hub_live.proofs.Marks.{marks_one, mark_other, changed-few}
 
--- the hub's view, joined to that of a process, once it has seen the journal
-pub record IsJoined (t : Terms) (journal : List Entry) (pid : Pid) (before : List Entry) (w : View) : Type 0 where
-  pub whole : w.seen ≡ journal
-  pub both : w.joined_seen ≡ journal
-  pub number : w.number ≡ Some 0
-  pub joined : w.joined ≡ Some (pid.0 + 1)
-  pub terms : w.terms ≡ t
-  pub begins : IsPrefix before journal
-  pub own : own pid.0 journal ≡ own pid.0 before
+-- ---- a meeting with the hub's seat
 
-pub joined_desk : (name : Name) (l : LockedView) (hub mine : Seat (Unit {0}) View) (pid : Pid) (w : View) → IsDesk name l hub
-    → IsAlone pid mine → Sees (with_joined hub.me.0 mine.me.0) w → IsJoined name.terms l.hub.journal pid mine.me.0.seen w
-joined_desk name l hub mine pid w d m j =
-    let whole : w.seen ≡ l.hub.journal = sym (j.own 0 d.number).knows ∙ d.seen in
-    let theirs = j.others (suc pid.0) (m.number ∙ ap Some (add-one pid.0)) in
-    record {
-      whole = whole;
-      both = j.both ∙ whole;
-      number = j.number ∙ d.number;
-      joined = j.joined ∙ m.number;
-      terms = j.terms ∙ d.terms;
-      begins = subst (λ (es : List Entry). IsPrefix mine.me.0.seen es) whole theirs.begins;
-      own = subst (λ (es : List Entry). own pid.0 es ≡ own pid.0 mine.me.0.seen) whole theirs.knows;
-    }
+-- the hub's seat is joined to no other
+pub desk_single : {name : Name} {l : LockedView} {hub : Seat (Unit {0}) View} → IsDesk name l hub → IsSingle name hub
+desk_single d = record { is = d.token; number = subst IsSome (sym d.number) refl; joined = d.joined; terms = d.terms }
 
--- the hub's seat, and the one that it gives back
-pub record IsParted (name : Name) (l : LockedView) (hub back : Seat (Unit {0}) View) (pid : Pid) : Type 0 where
-  pub desk : IsDesk name l hub
-  pub token : IsToken name back
-  pub alone : IsAlone pid back
-  pub terms : back.me.0.terms ≡ name.terms
-  pub seen : back.me.0.seen ≡ l.hub.journal
+-- it stays the hub's seat where it has seen the journal
+pub desk_seen : {name : Name} {l l' : LockedView} {hub after : Seat (Unit {0}) View} → IsDesk name l hub → l'.hub ≡ l.hub → IsToken name after
+    → Sees hub.me.0 after.me.0 → IsDesk name l' after
+desk_seen {name} d same token s = record {
+  token = token;
+  number = s.number ∙ d.number;
+  joined = s.joined ∙ d.joined;
+  terms = s.terms ∙ d.terms;
+  seen = sym (s.own 0 d.number).knows ∙ d.seen ∙ ap (λ (h : HubView). h.journal) (sym same);
+  hub = subst (IsHub name.terms) (sym same) d.hub;
+}
 
-pub parted_desk : (name : Name) (l : LockedView) (hub back : Seat (Unit {0}) View) (pid : Pid) (w : View) → hub.table_id ≡ name.table
-    → back.table_id ≡ name.table → hub.me ≡ (parted w, []) → back.me ≡ (given_back w, []) → w.seen ≡ l.hub.journal → w.joined_seen ≡ l.hub.journal
-    → w.number ≡ Some 0 → w.joined ≡ Some (pid.0 + 1) → w.terms ≡ name.terms → IsHub name.terms l.hub → pid.0 < name.terms.head.procs
-    → IsParted name l hub back pid
-parted_desk name l hub back pid w ht bt hm bm whole both number joined terms is below =
-    let seen : back.me.0.seen ≡ l.hub.journal = ap (λ m. m.0.seen) bm ∙ both in
-    let back_terms : back.me.0.terms ≡ name.terms = ap (λ m. m.0.terms) bm ∙ terms in
-    record {
-      desk = record {
-        token = record { table = ht; free = ap (λ m. m.1) hm };
-        number = ap (λ m. m.0.number) hm ∙ number;
-        joined = ap (λ m. m.0.joined) hm;
-        terms = ap (λ m. m.0.terms) hm ∙ terms;
-        seen = ap (λ m. m.0.seen) hm ∙ whole;
-        hub = is;
-      };
-      token = record { table = bt; free = ap (λ m. m.1) bm };
-      alone = record {
-        free = ap (λ m. m.1) bm;
-        number = ap (λ m. m.0.number) bm ∙ joined;
-        joined = ap (λ m. m.0.joined) bm;
-        below = subst (λ (t : Terms). pid.0 < t.head.procs) (sym back_terms) below;
-        history = subst (λ (t : Terms). IsHistory t back.me.0.seen) (sym back_terms) (subst (IsHistory name.terms) (sym seen) is.history);
-      };
-      terms = back_terms;
-      seen = seen;
-    }
+-- a reply, wherever its terms, its process and the journal are written so
+pub reply_there : {t t' : Terms} {p p' : Pid} {es es' : List Entry} {x : Event} → t ≡ t' → p ≡ p' → es ≡ es' → IsReplyTo t.head p.0 es x
+    → IsReplyTo t'.head p'.0 es' x
+reply_there {x = x} t p es r =
+    subst (λ (y : Terms × Pid × List Entry). IsReplyTo y.0.head y.1.0 y.2 x) (λ i. (t i, p i, es i)) r
 
--- what a seat that was joined has seen, once it is given back
-pub record IsBack (name : Name) (l : LockedView) (hub back : Seat (Unit {0}) View) (pid : Pid) (before : List Entry) : Type 0 where
-  pub parted : IsParted name l hub back pid
-  pub begins : IsPrefix before back.me.0.seen
-  pub own : own pid.0 back.me.0.seen ≡ own pid.0 before
-
-pub seen_back : (name : Name) (l : LockedView) (desk mine hub back : Seat (Unit {0}) View) (pid : Pid) (w : View) → IsDesk name l desk
-    → IsAlone pid mine → mine.me.0.terms ≡ name.terms → Sees (with_joined desk.me.0 mine.me.0) w → hub.table_id ≡ name.table
-    → back.table_id ≡ name.table → hub.me ≡ (parted w, []) → back.me ≡ (given_back w, []) → IsBack name l hub back pid mine.me.0.seen
-seen_back name l desk mine hub back pid w d m terms sees ht bt hm bm =
-    let j = joined_desk name l desk mine pid w d m sees in
-    let below : pid.0 < name.terms.head.procs = subst (λ (t : Terms). pid.0 < t.head.procs) terms m.below in
-    let p = parted_desk name l hub back pid w ht bt hm bm j.whole j.both j.number j.joined j.terms d.hub below in
-    record {
-      parted = p;
-      begins = subst (IsPrefix mine.me.0.seen) (sym p.seen) j.begins;
-      own = ap (own pid.0) p.seen ∙ j.own;
-    }
+-- why an entry is refused, as its seat has then seen
+pub refusal_seen : {name : Name} {l : LockedView} {hub mine : Seat (Unit {0}) View} {s : SeatView} {pid : Pid} (back : Seat (Unit {0}) View) (e : Entry)
+    (f : Fault) → IsDesk name l hub → IsSeatOf name s pid mine → Follows s (seat_of pid (Some back)) → back.me.0.seen ≡ l.hub.journal → s.hub ≡ name → s.pid ≡ e.pid → IsFree s
+    → Refuses l.hub e f → Shows name.terms e back.me.0.seen f
+refusal_seen {name} {l} {hub} {mine} {s} {pid} back e f d o k seen named same free refused =
+    let is = d.hub in
+    let at : pid ≡ e.pid = ap (λ (x : SeatView). x.pid) o.shows ∙ same in
+    let below : e.pid.0 < name.terms.head.procs =
+    subst (λ (x : Pid × Terms). x.0.0 < x.1.head.procs) (λ i. (at i, o.single.terms i)) o.alone.below in
+    let idle : is_waiting (state l.hub.terms.head l.hub.journal) e.pid.0 ≡ false =
+    (λ i. is_waiting (state ((is.terms ∙ ap (λ (n : Name). n.terms) (sym named)) i).head (sym seen i)) (sym same i).0) ∙ (asked_nothing k free).free in
+    subst (λ (es : List Entry). Shows name.terms e es f) (sym seen) (shows name.terms l.hub e f is below idle refused)
 
 -- ---- the hub after a step
 
@@ -135,83 +99,108 @@ hub_steps t old new e told is s =
       within = subst (λ (es : List Entry). steps_of es ≤ t.limit) (sym journal) within;
     }
 
--- the seat that is given back after a step that was made
-pub record IsMade (name : Name) (l : LockedView) (hub back : Seat (Unit {0}) View) (e : Entry) (before : List Entry) : Type 0 where
-  pub parted : IsParted name l hub back e.pid
-  pub begins : IsPrefix before back.me.0.seen
-  pub own : own e.pid.0 back.me.0.seen ≡ own e.pid.0 before ++ e ∷ []
+-- ---- a step by the joined seat
 
-pub made_back : (name : Name) (old new : LockedView) (e : Entry) (answer : Event) (desk mine hub back : Seat (Unit {0}) View) (w v : View)
-    → IsDesk name old desk → IsAlone e.pid mine → mine.me.0.terms ≡ name.terms → Sees (with_joined desk.me.0 mine.me.0) w
-    → Serves old e new answer → v ≡ grown w e → hub.table_id ≡ name.table → back.table_id ≡ name.table → hub.me ≡ (parted v, [])
-    → back.me ≡ (given_back v, []) → IsMade name new hub back e mine.me.0.seen
-made_back name old new e answer desk mine hub back w v d m terms sees s grows ht bt hm bm =
-    let j = joined_desk name old desk mine e.pid w d m sees in
-    let below : e.pid.0 < name.terms.head.procs = subst (λ (t : Terms). e.pid.0 < t.head.procs) terms m.below in
-    let journal : new.hub.journal ≡ old.hub.journal ++ e ∷ [] = ap (λ (h : HubView). h.journal) s.step.journal in
-    let whole : w.seen ++ e ∷ [] ≡ new.hub.journal = ap (λ (es : List Entry). es ++ e ∷ []) j.whole ∙ sym journal in
-    let p = parted_desk name new hub back e.pid v ht bt hm bm (ap (λ (x : View). x.seen) grows ∙ whole) (ap (λ (x : View). x.joined_seen) grows ∙ whole)
-    (ap (λ (x : View). x.number) grows ∙ j.number) (ap (λ (x : View). x.joined) grows ∙ j.joined) (ap (λ (x : View). x.terms) grows ∙ j.terms)
-    (hub_steps name.terms old.hub new.hub e (answer ∷ s.ended) d.hub s.step) below in
+-- the hub's view, joined to that of a process, once it has seen the journal
+record IsJoined (t : Terms) (journal : List Entry) (pid : Pid) (before : List Entry) (w : View) : Type 0 where
+  pub whole : w.seen ≡ journal
+  pub both : w.joined_seen ≡ journal
+  pub number : w.number ≡ Some 0
+  pub joined : w.joined ≡ Some (pid.0 + 1)
+  pub terms : w.terms ≡ t
+  pub begins : IsPrefix before journal
+  pub own : own pid.0 journal ≡ own pid.0 before
+
+joined_desk : {name : Name} {l : LockedView} {hub mine : Seat (Unit {0}) View} {pid : Pid} {w : View} → IsDesk name l hub → IsAlone pid mine
+    → SeesBoth (with_joined hub.me.0 mine.me.0) w → IsJoined name.terms l.hub.journal pid mine.me.0.seen w
+joined_desk {l = l} {mine = mine} {pid = pid} {w = w} d m j =
+    let whole : w.seen ≡ l.hub.journal = sym (j.sees.own 0 d.number).knows ∙ d.seen in
+    let theirs = j.others (suc pid.0) (m.number ∙ ap Some (add-one pid.0)) in
     record {
-      parted = p;
-      begins = subst (IsPrefix mine.me.0.seen) (sym (p.seen ∙ journal))
-          (prefix_trans mine.me.0.seen old.hub.journal (old.hub.journal ++ e ∷ []) j.begins (e ∷ [], refl));
-      own = ap (own e.pid.0) (p.seen ∙ journal) ∙ own-mine old.hub.journal e ∙ ap (λ (es : List Entry). es ++ e ∷ []) j.own;
+      whole = whole;
+      both = j.both ∙ whole;
+      number = j.sees.number ∙ d.number;
+      joined = j.sees.joined ∙ m.number;
+      terms = j.sees.terms ∙ d.terms;
+      begins = subst (λ (es : List Entry). IsPrefix mine.me.0.seen es) whole theirs.begins;
+      own = subst (λ (es : List Entry). own pid.0 es ≡ own pid.0 mine.me.0.seen) whole theirs.knows;
     }
 
--- ---- what is published, and what the caller is told
+-- what a step leaves in the hub's seat and in the one that it gives back
+pub record Stepped (name : Name) (s : SeatView) (e : Entry) (l : LockedView) (hub : Seat (Unit {0}) View) (pid : Pid) (back : Seat (Unit {0}) View) : Type 0 where
+  pub desk : IsDesk name l hub
+  pub alone : IsAlone pid back
+  pub seen : back.me.0.seen ≡ l.hub.journal
+  pub history : IsHistory name.terms back.me.0.seen
+  pub begins : IsPrefix s.seen back.me.0.seen
+  pub own : own pid.0 back.me.0.seen ≡ own_of s ++ e ∷ []
 
--- the newest entry is the one that was made
-pub newest_made : (old new : LockedView) (e made : Entry) (answer : Event) → Serves old e new answer
-    → ((es : List Entry) (x : Entry) → new.hub.journal ≡ es ++ x ∷ [] → made ≡ x) → made ≡ e
-newest_made old new e made answer s newest = newest old.hub.journal e (ap (λ (h : HubView). h.journal) s.step.journal)
+pub stepped : {name : Name} {l l' : LockedView} {hub hub' mine back : Seat (Unit {0}) View} {s : SeatView} {pid : Pid} {u v : View} {e made : Entry} {x : Event}
+    → IsDesk name l hub → IsSeatOf name s pid mine → s.pid ≡ e.pid → SeesBoth (with_joined hub.me.0 mine.me.0) u → Serves l e l' x
+    → ((es : List Entry) (y : Entry) → l'.hub.journal ≡ es ++ y ∷ [] → made ≡ y) → v ≡ grown u made → IsToken name hub' → hub'.me.0 ≡ parted v
+    → IsToken name back → back.me.0 ≡ given_back v → Stepped name s e l' hub' pid back
+stepped {name} {l} {l'} {hub} {hub'} {mine} {back} {s} {pid} {u} {v} {e} {made} {x} d o same sees served newest view token left given right =
+    let j = joined_desk d o.alone sees in
+    let after = hub_steps name.terms l.hub l'.hub e (x ∷ served.ended) d.hub served.step in
+    let journal : l'.hub.journal ≡ l.hub.journal ++ e ∷ [] = ap (λ (h : HubView). h.journal) served.step.journal in
+    let published : v ≡ grown u e = view ∙ ap (grown u) (newest l.hub.journal e journal) in
+    let hm : hub'.me.0 ≡ parted (grown u e) = left ∙ ap parted published in
+    let bm : back.me.0 ≡ given_back (grown u e) = right ∙ ap given_back published in
+    let whole : u.seen ++ e ∷ [] ≡ l'.hub.journal = ap (λ (es : List Entry). es ++ e ∷ []) j.whole ∙ sym journal in
+    let seen : back.me.0.seen ≡ l'.hub.journal = ap (λ (w : View). w.seen) bm ∙ whole in
+    let terms : back.me.0.terms ≡ name.terms = ap (λ (w : View). w.terms) bm ∙ j.terms in
+    let history : IsHistory name.terms back.me.0.seen = subst (IsHistory name.terms) (sym seen) after.history in
+    let at : pid ≡ e.pid = ap (λ (y : SeatView). y.pid) o.shows ∙ same in
+    subst (λ (y : SeatView). Stepped name y e l' hub' pid back) o.shows (record {
+      desk = record {
+        token = token;
+        number = ap (λ (w : View). w.number) hm ∙ j.number;
+        joined = ap (λ (w : View). w.joined) hm;
+        terms = ap (λ (w : View). w.terms) hm ∙ j.terms;
+        seen = ap (λ (w : View). w.seen) hm ∙ whole;
+        hub = after;
+      };
+      alone = record {
+        free = given.free;
+        number = ap (λ (w : View). w.number) bm ∙ j.joined;
+        joined = ap (λ (w : View). w.joined) bm;
+        below = subst (λ (t : Terms). pid.0 < t.head.procs) (o.single.terms ∙ sym terms) o.alone.below;
+        history = subst (λ (t : Terms). IsHistory t back.me.0.seen) (sym terms) history;
+      };
+      seen = seen;
+      history = history;
+      begins = subst (IsPrefix mine.me.0.seen) (sym (seen ∙ journal))
+          (prefix_trans mine.me.0.seen l.hub.journal (l.hub.journal ++ e ∷ []) j.begins (e ∷ [], refl));
+      own = ap (own pid.0) (seen ∙ journal)
+          ∙ subst (λ (p : Pid). own p.0 (l.hub.journal ++ e ∷ []) ≡ own p.0 l.hub.journal ++ e ∷ []) (sym at) (own-mine l.hub.journal e)
+          ∙ ap (λ (es : List Entry). es ++ e ∷ []) j.own;
+    })
 
--- the journal that the joined seat publishes
-pub history_served : (t : Terms) (old new : LockedView) (e : Entry) (answer : Event) (seen : List Entry) → IsHub t old.hub
-    → Serves old e new answer → seen ≡ old.hub.journal → IsHistory t (seen ++ e ∷ [])
-history_served t old new e answer seen is s same =
-    let after = hub_steps t old.hub new.hub e (answer ∷ s.ended) is s.step in
-    subst (IsHistory t) (ap (λ (h : HubView). h.journal) s.step.journal ∙ ap (λ (es : List Entry). es ++ e ∷ []) (sym same)) after.history
-
-changed_served : (t : Terms) (old new : LockedView) (e : Entry) (answer : Event) (seen : List Entry) → IsHub t old.hub
-    → Serves old e new answer → seen ≡ old.hub.journal → number_of (port_changed_by e.step answer.what) ≡ number_of (changed t.head seen e)
-changed_served t old new e answer seen is s same =
-    ap (λ (xs : List Event). number_of (port_changed e.step xs)) s.step.events
-    ∙ (λ i. number_of (changed (is.terms i).head (sym same i) e))
-
-pub marks_served : (t : Terms) (old new : LockedView) (e : Entry) (answer : Event) (seen : List Entry) (word : ℕ)
-    → IsHub t old.hub → Serves old e new answer → seen ≡ old.hub.journal → word ≡ number_of (port_changed_by e.step answer.what)
-    → MarksOne t.head seen e word (mark_at (state_of new.hub) (port_numbered word))
-marks_served t old new e answer seen word is s same at =
-    let m : MarksOne t.head seen e word (mark t.head (seen ++ e ∷ []) word) =
-    marks_one t.head seen e word (at ∙ changed_served t old new e answer seen is s same) in
-    let new_mark : mark t.head (seen ++ e ∷ []) word ≡ mark_at (state_of new.hub) (port_numbered word) =
-    (λ i. mark (sym is.terms i).head (same i ++ e ∷ []) word) ∙ sym (ap (λ (h : HubView). mark_at (state_of h) (port_numbered word)) s.step.journal) in
-    subst (MarksOne t.head seen e word) new_mark m
-
-pub other_served : (t : Terms) (old new : LockedView) (e : Entry) (answer : Event) (seen : List Entry) (word : ℕ)
-    → IsHub t old.hub → Serves old e new answer → seen ≡ old.hub.journal → word ≡ number_of (port_changed_by e.step answer.what)
-    → IsOther t.head seen word (mark_at (state_of new.hub) (port_numbered word))
-other_served t old new e answer seen word is s same at =
-    let before : IsHistory t seen = subst (IsHistory t) (sym same) is.history in
-    let after = history_served t old new e answer seen is s same in
-    let m = mark_other t.head seen e word before.legal before.few after.legal after.few (at ∙ changed_served t old new e answer seen is s same) in
-    let new_mark : mark t.head (seen ++ e ∷ []) word ≡ mark_at (state_of new.hub) (port_numbered word) =
-    (λ i. mark (sym is.terms i).head (same i ++ e ∷ []) word) ∙ sym (ap (λ (h : HubView). mark_at (state_of h) (port_numbered word)) s.step.journal) in
-    subst (IsOther t.head seen word) new_mark m
-
-pub word_served : (t : Terms) (old new : LockedView) (e : Entry) (answer : Event) (word : ℕ) → IsHub t old.hub → Serves old e new answer
-    → word ≡ number_of (port_changed_by e.step answer.what) → word ≤ MOST_PORTS
-word_served t old new e answer word is s at =
-    let few = changed-few t.head old.hub.journal e in
-    subst (λ (n : ℕ). n ≤ MOST_PORTS) (sym (at ∙ changed_served t old new e answer old.hub.journal is s refl)) few
-
-pub told_served : (t : Terms) (old new : LockedView) (e : Entry) (answer : Event) (seen : List Entry) → IsHub t old.hub → Serves old e new answer
-    → seen ≡ new.hub.journal → IsReplyTo new.hub.terms.head e.pid.0 new.hub.journal answer → IsReplyTo t.head e.pid.0 seen answer
-told_served t old new e answer seen is s same r =
-    let terms : t ≡ new.hub.terms = sym (hub_steps t old.hub new.hub e (answer ∷ s.ended) is s.step).terms in
-    record {
-      reply = (λ i. reply e.pid.0 (terms i).head (same i)) ∙ r.reply;
-      free = (λ i. is_waiting (state (terms i).head (same i)) e.pid.0) ∙ r.free;
-    }
+-- what the joined seat may publish: the newest entry, which is the one that was made, and the mark of its port
+pub next_served : {name : Name} {l l' : LockedView} {hub mine : Seat (Unit {0}) View} {s : SeatView} {pid : Pid} {u : View} {e made : Entry} {x : Event}
+    {port : Port} {n new : ℕ} → IsDesk name l hub → IsSeatOf name s pid mine → s.pid ≡ e.pid → SeesBoth (with_joined hub.me.0 mine.me.0) u
+    → Serves l e l' x → ((es : List Entry) (y : Entry) → l'.hub.journal ≡ es ++ y ∷ [] → made ≡ y) → port.0 ≡ number_of (port_changed_by made.step x.what)
+    → n ≡ port.0 → new ≡ mark_at (state_of l'.hub) port → IsNext name.terms u n new made
+next_served {name} {l} {l'} {hub} {mine} {s} {pid} {u} {e} {made} {x} {port} {n} {new} d o same sees served newest changes number marks =
+    let t = name.terms in
+    let j = joined_desk d o.alone sees in
+    let after = hub_steps t l.hub l'.hub e (x ∷ served.ended) d.hub served.step in
+    let journal = ap (λ (h : HubView). h.journal) served.step.journal in
+    let grows : l'.hub.journal ≡ u.seen ++ e ∷ [] = journal ∙ ap (λ (es : List Entry). es ++ e ∷ []) (sym j.whole) in
+    let is : made ≡ e = newest l.hub.journal e journal in
+    let before : IsHistory t u.seen = subst (IsHistory t) (sym j.whole) d.hub.history in
+    let history : IsHistory t (u.seen ++ e ∷ []) = subst (IsHistory t) grows after.history in
+    let at : n ≡ number_of (changed t.head u.seen e) =
+    number ∙ changes ∙ ap (λ (y : Entry). number_of (port_changed_by y.step x.what)) is
+    ∙ ap (λ (xs : List Event). number_of (port_changed e.step xs)) served.step.events
+    ∙ (λ i. number_of (changed (d.hub.terms i).head (sym j.whole i) e)) in
+    let marked : mark t.head (u.seen ++ e ∷ []) n ≡ new =
+    (λ i. mark_at (state (sym after.terms i).head (sym grows i)) (port_numbered (number i))) ∙ sym marks in
+    subst (IsNext t u n new) (sym is) (record {
+      hub = j.number;
+      caller = j.joined ∙ ap (λ (p : Pid). Some (p.0 + 1)) (ap (λ (y : SeatView). y.pid) o.shows ∙ same);
+      history = history;
+      word = subst (λ (k : ℕ). k ≤ MOST_PORTS) (sym at) (changed-few t.head u.seen e);
+      mark = subst (MarksOne t.head u.seen e n) marked (marks_one t.head u.seen e n at);
+      other = subst (IsOther t.head u.seen n) marked (mark_other t.head u.seen e n before.legal before.few history.legal history.few at);
+    })

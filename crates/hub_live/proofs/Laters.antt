@@ -1,7 +1,8 @@
 -- What a look, a meeting and a call leave in a seat.
-use Rattle.std.proofs.Common.{◌≡◌, ℕ, ◌+◌, ◌==◌, ◌&&◌, Bool, true, false, not, cond, List, [], ◌∷◌, ◌++◌}
+use Rattle.std.proofs.Common.{◌≡◌, ℕ, ◌+◌, ◌<◌, ◌==◌, ◌&&◌, Bool, true, false, not, cond, List, [], ◌∷◌, ◌++◌}
 use Rattle.std.proofs.Common.{filter, refl, sym, ap, ◌∙◌, subst, Option, Some, None, add-one, length, arith}
-use Rattle.std.specs.Prelude.{All}
+use Rattle.std.specs.Prelude.{All, IsSome}
+use mathlib.Core.List.{IsPrefix}
 use Rattle.std.proofs.lemmas.List.Elements.{All-cons}
 use Rattle.std.proofs.lemmas.Bool.{and_parts}
 use Rattle.atomic_table.specs.declared.shared.Seat.{Seat}
@@ -17,10 +18,11 @@ use Rattle.hub_live.specs.declared.rule.View.{View}
 use Rattle.hub_live.specs.Locked.{IsReplyTo}
 use Rattle.hub_live.specs.Name.{Name, name_of}
 use Rattle.hub_live.specs.Rule.{IsHistory, Knows}
-use Rattle.hub_live.specs.Moves.{Knew}
-use Rattle.hub_live.specs.SeatView.{SeatView, IsIdle, own_of}
-use Rattle.hub_live.specs.Seated.{seat_of}
-use Rattle.hub_live.specs.Calls.{AsksNothing, Later, MadeEntry, AreSeats}
+use Rattle.hub_live.specs.Moves.{Knew, Sees, SeesBoth, Met, with_joined, parted, given_back}
+use Rattle.hub_live.specs.SeatView.{SeatView, IsIdle, IsFree, own_of}
+use Rattle.hub_live.specs.Named.{IsToken, IsSingle}
+use Rattle.hub_live.specs.Seated.{IsAlone, IsSeated, seat_of}
+use Rattle.hub_live.specs.Calls.{AskedNothing, StandsIn, Later, MadeEntry, AreSeats}
 use Rattle.hub_live.proofs.Prefixes.{prefix_self}
 use Rattle.hub_live.proofs.Refusals.{asks_nothing}
 
@@ -29,28 +31,95 @@ use Rattle.hub_live.proofs.Refusals.{asks_nothing}
 pub later_self : (s : SeatView) → IsIdle s → Later s s
 later_self s idle = record { hub = refl; pid = refl; begins = prefix_self s.seen; idle = idle }
 
--- the seat of a process, and then the same seat, which has seen a journal with all its entries
-pub record Looking (pid : Pid) (mine back : Seat (Unit {0}) View) : Type 0 where
-  pub later : Later (seat_of pid (Some mine)) (seat_of pid (Some back))
-  pub same : AsksNothing mine.me.0.terms pid mine.me.0.seen back.me.0.seen
+-- two seats that were joined and parted again
+pub met : {name : Name} {a b : Seat (Unit {0}) View} {u w w' : View} → IsSingle name a → IsSingle name b → SeesBoth (with_joined a.me.0 b.me.0) u
+    → w ≡ parted u → w' ≡ given_back u → Met a.me.0 b.me.0 w w'
+met {name} {a} {b} {u} m o s left back = subst (λ (x : View × View). Met a.me.0 b.me.0 x.0 x.1) (λ i. (sym left i, sym back i)) (record {
+  first = record { terms = s.sees.terms; number = s.sees.number; joined = sym m.joined; history = s.sees.history; own = s.sees.own };
+  second = record {
+    terms = s.sees.terms ∙ m.terms ∙ sym o.terms;
+    number = s.sees.joined;
+    joined = sym o.joined;
+    history = subst (λ (x : Terms × List Entry). IsHistory x.0 x.1) (λ i. ((m.terms ∙ sym o.terms) i, sym s.both i)) s.sees.history;
+    own = λ n has. subst (λ (es : List Entry). Knew es b.me.0.seen n) (sym s.both) (s.others n has);
+  };
+  together = sym s.both;
+})
 
-pub looking : (pid : Pid) (mine back : Seat (Unit {0}) View) → IsIdle (seat_of pid (Some mine)) → back.table_id ≡ mine.table_id
-    → back.me.0.terms ≡ mine.me.0.terms → IsHistory mine.me.0.terms back.me.0.seen → Knew back.me.0.seen mine.me.0.seen (pid.0 + 1) → Looking pid mine back
-looking pid mine back idle table terms history k =
-    let own : own pid.0 back.me.0.seen ≡ own pid.0 mine.me.0.seen = subst (Knows back.me.0.seen mine.me.0.seen) (add-one pid.0) k.knows in
-    let same = asks_nothing mine.me.0.terms pid mine.me.0.seen back.me.0.seen k.begins own idle.free in
+-- the view s of a seat of the hub shows this process and this seat of the table
+pub record IsSeatOf (name : Name) (s : SeatView) (pid : Pid) (mine : Seat (Unit {0}) View) : Type 0 where
+  pub shows : seat_of pid (Some mine) ≡ s
+  pub alone : IsAlone pid mine
+  pub single : IsSingle name mine
+
+pub seat_opened : {name : Name} {s : SeatView} {pid : Pid} {o : Option (Seat (Unit {0}) View)} {mine : Seat (Unit {0}) View} → s.hub ≡ name
+    → IsSeated pid o → seat_of pid o ≡ s → o ≡ Some mine → IsSeatOf name s pid mine
+seat_opened {name} {s} {pid} {o} {mine} hub inside view is =
+    let opened : (seat_of pid (Some mine) ≡ s) × IsAlone pid mine = subst (λ x. (seat_of pid x ≡ s) × IsSeated pid x) is (view, inside) in
+    let named : name_of mine.table_id mine.me.0.terms ≡ name = ap (λ (x : SeatView). x.hub) opened.0 ∙ hub in
     record {
-      later = record {
-        hub = λ i. name_of (table i) (terms i);
-        pid = refl;
-        begins = k.begins;
-        idle = record {
-          history = subst (λ (t : Terms). IsHistory t back.me.0.seen) (sym terms) history;
-          free = subst (λ (t : Terms). is_waiting (state t.head back.me.0.seen) pid.0 ≡ false) (sym terms) same.free;
-        };
+      shows = opened.0;
+      alone = opened.1;
+      single = record {
+        is = record { table = ap (λ (n : Name). n.table) named; free = opened.1.free };
+        number = subst IsSome (sym opened.1.number) refl;
+        joined = opened.1.joined;
+        terms = ap (λ (n : Name). n.terms) named;
       };
-      same = same;
     }
+
+-- the same seat, which has seen no less, and whose process asked nothing more in it
+pub record Follows (s t : SeatView) : Type 0 where
+  pub hub : t.hub ≡ s.hub
+  pub pid : t.pid ≡ s.pid
+  pub history : IsHistory t.hub.terms t.seen
+  pub begins : IsPrefix s.seen t.seen
+  pub own : own_of t ≡ own_of s
+
+pub record HasSeen (s : SeatView) (pid : Pid) (back : Seat (Unit {0}) View) : Type 0 where
+  pub alone : IsAlone pid back
+  pub follows : Follows s (seat_of pid (Some back))
+
+pub has_seen : {name : Name} {s : SeatView} {pid : Pid} {mine back : Seat (Unit {0}) View} → IsSeatOf name s pid mine → IsToken name back
+    → Sees mine.me.0 back.me.0 → HasSeen s pid back
+has_seen {name} {s} {pid} {mine} {back} o token sees =
+    let m = o.alone in
+    let k = sees.own (pid.0 + 1) m.number in
+    let history : IsHistory back.me.0.terms back.me.0.seen = subst (λ (t : Terms). IsHistory t back.me.0.seen) (sym sees.terms) sees.history in
+    record {
+      alone = record {
+        free = token.free;
+        number = sees.number ∙ m.number;
+        joined = sees.joined ∙ m.joined;
+        below = subst (λ (t : Terms). pid.0 < t.head.procs) (sym sees.terms) m.below;
+        history = history;
+      };
+      follows = subst (λ (x : SeatView). Follows x (seat_of pid (Some back))) o.shows (record {
+        hub = λ i. name_of ((token.table ∙ sym o.single.is.table) i) (sees.terms i);
+        pid = refl;
+        history = history;
+        begins = k.begins;
+        own = subst (Knows back.me.0.seen mine.me.0.seen) (add-one pid.0) k.knows;
+      });
+    }
+
+pub asked_nothing : {s t : SeatView} → Follows s t → IsFree s → AskedNothing s t
+asked_nothing {s} {t} f free =
+    asks_nothing s.hub.terms s.pid s.seen t.seen f.begins (subst (λ (p : Pid). own p.0 t.seen ≡ own_of s) f.pid f.own) free
+
+pub later : {s t : SeatView} → IsIdle s → Follows s t → Later s t
+later {s} {t} idle f = record {
+  hub = f.hub;
+  pid = f.pid;
+  begins = f.begins;
+  idle = record {
+    history = f.history;
+    free = (λ i. is_waiting (state (f.hub i).terms.head t.seen) (f.pid i).0) ∙ (asked_nothing f idle.free).free;
+  };
+}
+
+pub stands_in : {s t : SeatView} {journal : List Entry} → Follows s t → t.seen ≡ journal → IsFree s → StandsIn s journal
+stands_in {s} f whole free = subst (StandsIn s) whole (record { begins = f.begins; same = asked_nothing f free })
 
 -- ---- a call
 

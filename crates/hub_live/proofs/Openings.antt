@@ -1,5 +1,5 @@
 -- Refusals of an opening.
-use Rattle.std.proofs.Common.{◌≡◌, ℕ, Result, Ok, Err, IfErr, sym, subst}
+use Rattle.std.proofs.Common.{◌≡◌, Result, Ok, Err, IfErr, sym, subst}
 use Rattle.std.specs.Result.{IsErrAnd}
 use Rattle.hub_base.specs.Head.{IsHead}
 use Rattle.hub_core.specs.declared.terms.Terms.{Terms}

@@ -25,9 +25,8 @@ use Rattle.hub_laws.proofs.Lasting.{turn-leaves, head-after}
 use Rattle.hub_laws.proofs.Replies.{replies-law}
 use Rattle.hub_core.specs.HubView.{HubView, Refuses, Grows, state_of}
 use Rattle.hub_core.specs.declared.terms.Terms.{Terms}
-use Rattle.hub_live.specs.SeatView.{SeatView, IsFree, own_of}
 use Rattle.hub_live.specs.Seated.{IsHub}
-use Rattle.hub_live.specs.Calls.{LeavesRoom, Shows, AsksNothing, StandsIn}
+use Rattle.hub_live.specs.Calls.{LeavesRoom, Shows, AsksNothing}
 
 -- ---- entries of others
 
@@ -60,9 +59,6 @@ asks_nothing t pid before after p same free =
       reply = subst (λ (es : List Entry). reply pid.0 t.head es ≡ reply pid.0 t.head before) p.1 still.reply;
       free = subst (λ (es : List Entry). is_waiting (state t.head es) pid.0 ≡ false) p.1 still.free;
     }
-
-pub stands_in : (s : SeatView) (journal : List Entry) → IsPrefix s.seen journal → own s.pid.0 journal ≡ own_of s → IsFree s → StandsIn s journal
-stands_in s journal begins own free = record { begins = begins; same = asks_nothing s.hub.terms s.pid s.seen journal begins own free }
 
 -- ---- who has exited
 

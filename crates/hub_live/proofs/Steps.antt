@@ -83,12 +83,14 @@ looks t slots id i k v first s kept homes at bound =
       (
         refl,
         record {
-          terms = refl;
-          number = refl;
-          joined = refl;
+          sees = record {
+            terms = refl;
+            number = refl;
+            joined = refl;
+            history = subst (λ (x : Terms). IsHistory x kept.journal) (sym terms) kept.history;
+            own = λ n has. let k = f.own n has in record { begins = k.begins; knows = k.knows };
+          };
           both = refl;
-          history = subst (λ (x : Terms). IsHistory x kept.journal) (sym terms) kept.history;
-          own = λ n has. let k = f.own n has in record { begins = k.begins; knows = k.knows };
           others = λ n has. let k = f.joined n has in record { begins = k.begins; knows = k.knows };
         },
         λ lo hi. kept.marks i lo hi ∙ ap (λ (x : Terms). mark x.head kept.journal i) (sym terms),

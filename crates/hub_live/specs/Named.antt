@@ -1,5 +1,5 @@
 -- The table and the seats of the hub of a name.
-use Rattle.std.specs.Prelude.{◌≡◌, []}
+use Rattle.std.specs.Prelude.{◌≡◌, [], None, IsSome}
 use Rattle.atomic_table.specs.Seated.{TableId}
 use Rattle.atomic_table.specs.declared.shared.Seat.{Seat}
 use Rattle.hub_core.specs.declared.terms.Terms.{Terms}
@@ -22,3 +22,10 @@ IsNewTable table terms key = IsTableOf (name_of table terms) table key
 pub record IsToken (name : Name) (token : Seat (Unit {0}) View) : Type 0 where
   pub table : token.table_id ≡ name.table
   pub free : token.me.1 ≡ []
+
+-- a seat of its table with a number, joined to no other
+pub record IsSingle (name : Name) (token : Seat (Unit {0}) View) : Type 0 where
+  pub is : IsToken name token
+  pub number : IsSome token.me.0.number
+  pub joined : token.me.0.joined ≡ None
+  pub terms : token.me.0.terms ≡ name.terms

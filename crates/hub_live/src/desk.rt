@@ -7,20 +7,16 @@
 ghost use Rattle.std.specs.Prelude.{◌≡◌, ◌≤◌, ◌<◌, ◌+◌, ◌++◌, ◌∷◌, [], List, length, Some, None, false, IfOk, IfErr, OnOk, OnErr, IfSome, IfNone, OnSome};
 ghost use mathlib.Core.List.{IsPrefix};
 ghost use Rattle.hub_base.specs.declared.entry.Entry.{Entry};
-ghost use Rattle.hub_base.specs.Runs.{state};
-ghost use Rattle.hub_base.specs.Steps.{is_waiting};
 ghost use Rattle.hub_base.specs.Text.{steps_of};
 ghost use Rattle.hub_laws.specs.Journals.{IsLegal};
 ghost use Rattle.hub_laws.specs.OnePort.{number_of, port_changed_by};
-ghost use Rattle.hub_laws.specs.Replies.{own};
 ghost use Rattle.hub_core.specs.HubView.{Refuses, state_of};
 ghost use Rattle.hub_live.specs.Mark.{mark_at};
 ghost use Rattle.hub_live.specs.Locked.{Serves, answer_for, without_answer, IsReplyTo};
 ghost use Rattle.hub_live.specs.Rule.{IsHistory};
-ghost use Rattle.hub_live.specs.Named.{IsToken};
 ghost use Rattle.hub_live.specs.SeatView.{IsFree, own_of};
-ghost use Rattle.hub_live.specs.Seated.{IsAlone, IsDesk};
-ghost use Rattle.hub_live.specs.Calls.{Tells, Gains, Shows, AsksNothing, AskedNothing, StandsIn};
+ghost use Rattle.hub_live.specs.Seated.{IsDesk};
+ghost use Rattle.hub_live.specs.Calls.{Tells, Shows, AskedNothing, StandsIn};
 
 use crate::locked::{Locked, Pids};
 use crate::mark::mark_of;
@@ -84,80 +80,6 @@ fn newest(locked: &Locked) -> &Entry
     &entries[entries.len() - 1]
 }
 
-/// One step and, where it was made, one store by the joined seat.
-fn step_as<K: HubName>(
-    words: &Words<K>,
-    locked: &mut Locked,
-    hub: &mut Token,
-    mine: Token,
-    entry: Entry,
-) -> (Result<Event, Fault>, Token)
-    requires desk { IsDesk K.name locked.old hub.old }
-    requires token { IsToken K.name mine }
-    requires alone { IsAlone entry.pid mine }
-    requires terms { mine.me.0.terms ≡ K.name.terms }
-    requires free { is_waiting (state K.name.terms.head mine.me.0.seen) entry.pid.0 ≡ false }
-
-    ensures desk { IsDesk K.name locked.new hub.new }
-    ensures token { IsToken K.name result.1 }
-    ensures alone { IsAlone entry.pid result.1 }
-    ensures terms { result.1.me.0.terms ≡ K.name.terms }
-
-    ensures seen { result.1.me.0.seen ≡ locked.new.hub.journal }
-    ensures history { IsHistory K.name.terms result.1.me.0.seen }
-    ensures begins { IsPrefix mine.me.0.seen result.1.me.0.seen }
-    ensures ok { IfOk result.0 (λ answer. Serves locked.old entry locked.new answer) }
-    ensures own { OnOk result.0 (Gains entry mine.me.0.seen result.1.me.0.seen) }
-    ensures told { IfOk result.0 (λ x. Tells K.name.terms entry.pid result.1.me.0.seen x) }
-    ensures refused { IfErr result.0 (λ f. Refuses locked.old.hub entry f) }
-    ensures shows { IfErr result.0 (λ f. Shows K.name.terms entry result.1.me.0.seen f) }
-    ensures left { OnErr result.0 (AsksNothing K.name.terms entry.pid mine.me.0.seen result.1.me.0.seen) }
-    ensures unchanged { OnErr result.0 (locked.new ≡ locked.old) }
-{
-    words.join(hub, mine);
-    match locked.step(entry) {
-        Ok(answer) => {
-            let made = newest(locked);
-            let port = changed(&made.step, answer.what);
-            let mark = mark_at(locked, port);
-            words.publish(hub, usize::from(port.0), mark, made);
-            let back = words.part(hub);
-            (Ok(answer), back)
-        }
-        Err(fault) => {
-            let back = words.part(hub);
-            (Err(fault), back)
-        }
-    }
-}
-
-/// The seat sees the journal.
-fn see_as<K: HubName>(
-    words: &Words<K>,
-    locked: &Locked,
-    hub: &mut Token,
-    mine: Token,
-    pid: Pid,
-) -> Token
-    requires desk { IsDesk K.name locked.now hub.old }
-    requires token { IsToken K.name mine }
-    requires alone { IsAlone pid mine }
-    requires terms { mine.me.0.terms ≡ K.name.terms }
-
-    ensures desk { IsDesk K.name locked.now hub.new }
-    ensures token { IsToken K.name result }
-    ensures alone { IsAlone pid result }
-    ensures terms { result.me.0.terms ≡ K.name.terms }
-
-    ensures seen { result.me.0.seen ≡ locked.now.hub.journal }
-    ensures history { IsHistory K.name.terms result.me.0.seen }
-    ensures begins { IsPrefix mine.me.0.seen result.me.0.seen }
-    ensures own { own pid.0 result.me.0.seen ≡ own pid.0 mine.me.0.seen }
-{
-    words.join(hub, mine);
-    words.part(hub)
-}
-
 impl<K: HubName> Desk<K> {
     pub(crate) fn of(locked: Locked, token: Token) -> Desk<K>
         requires { IsDesk K.name locked token }
@@ -201,9 +123,21 @@ impl<K: HubName> Desk<K> {
         let Some(mine) = seat.token.take() else {
             unreachable!()
         };
-        let (done, back) = step_as(words, &mut self.locked, &mut self.token, mine, entry);
-        seat.token = Some(back);
-        done
+        words.join(&mut self.token, mine);
+        match self.locked.step(entry) {
+            Ok(answer) => {
+                let made = newest(&self.locked);
+                let port = changed(&made.step, answer.what);
+                let mark = mark_at(&self.locked, port);
+                words.publish(&mut self.token, usize::from(port.0), mark, made);
+                seat.token = Some(words.part(&mut self.token));
+                Ok(answer)
+            }
+            Err(fault) => {
+                seat.token = Some(words.part(&mut self.token));
+                Err(fault)
+            }
+        }
     }
 
     /// Takes out the answer that waits for the seat's process, if one does; the seat has then seen
@@ -223,21 +157,12 @@ impl<K: HubName> Desk<K> {
         ensures begins { OnSome result (IsPrefix seat.old.seen seat.new.seen) }
         ensures own { OnSome result (own_of seat.new ≡ own_of seat.old) }
     {
-        let pid = seat.pid;
+        let answer = self.locked.take(seat.pid)?;
         let Some(mine) = seat.token.take() else {
             unreachable!()
         };
-        match self.locked.take(pid) {
-            Some(answer) => {
-                let back = see_as(words, &self.locked, &mut self.token, mine, pid);
-                seat.token = Some(back);
-                Some(answer)
-            }
-            None => {
-                seat.token = Some(mine);
-                None
-            }
-        }
+        seat.token = Some(words.meet(&mut self.token, mine));
+        Some(answer)
     }
 
     /// Whose calls the last step ended, where it was made.
@@ -249,16 +174,15 @@ impl<K: HubName> Desk<K> {
 
     /// Shows that the journal begins with what the seat has seen, and that its process asked nothing
     /// more in it.
-    #[tactic(auto, using(crate::proofs::Refusals::stands_in))]
     pub(crate) fn compare(&mut self, words: &Words<K>, seat: InnerSeat)
         requires hub { seat.hub ≡ K.name }
         requires free { IsFree seat }
         ensures same { self.new ≡ self.old }
         ensures stands { StandsIn seat self.new.hub.journal }
     {
-        let InnerSeat { pid, token } = seat;
+        let InnerSeat { pid: _, token } = seat;
         let Some(mine) = token else { unreachable!() };
-        see_as(words, &self.locked, &mut self.token, mine, pid);
+        words.meet(&mut self.token, mine);
     }
 
     /// The journal. Answers that wait are dropped.

@@ -1,6 +1,6 @@
 //! A hub that threads share. Steps take its lock; looks and meetings take none.
 
-ghost use Rattle.std.specs.Prelude.{◌≡◌, ◌<◌, ◌≤◌, ◌∷◌, ◌⊎◌, [], Some, false, IfOk, IfErr, All, vec_len};
+ghost use Rattle.std.specs.Prelude.{◌≡◌, ◌≤◌, ◌∷◌, ◌⊎◌, [], false, IfOk, IfErr, All, vec_len};
 ghost use Rattle.hub_base.specs.declared.case.Case.TheVariants.{Send, Recv};
 ghost use Rattle.hub_base.specs.declared.entry.Step.TheVariants.{Make, Call, Close, Exit};
 ghost use Rattle.hub_base.specs.declared.event.What.TheVariants as what;
@@ -10,9 +10,7 @@ ghost use Rattle.hub_base.specs.Text.{steps_of};
 ghost use Rattle.hub_laws.specs.Journals.{IsLegal};
 ghost use Rattle.hub_laws.specs.Replies.{is_parked};
 ghost use Rattle.hub_live.specs.Mark.{counts_at};
-ghost use Rattle.hub_live.specs.Named.{IsToken};
-ghost use Rattle.hub_live.specs.SeatView.{IsIdle, state_seen};
-ghost use Rattle.hub_live.specs.Seated.{IsAlone, seat_of};
+ghost use Rattle.hub_live.specs.SeatView.{state_seen};
 ghost use Rattle.hub_live.specs.Calls.{Later, Made, Refused, MadeEntry, RefusedEntry, Answers, AnswersNoCall, AskedNothing, StandsIn};
 
 use crate::desk::Desk;
@@ -20,7 +18,6 @@ use crate::ends::{Chan, RecvPort, SendPort};
 use crate::locked::Pids;
 use crate::mark::read_back;
 use crate::name::HubName;
-use crate::rule::Token;
 use crate::seat::Seat;
 use crate::words::Words;
 use hub_base::{
@@ -45,51 +42,6 @@ fn is_parked(what: What) -> bool
     ensures { result ≡ is_parked what }
 {
     matches!(what, What::Parked)
-}
-
-/// One load: the counts of a port in the journal, which the seat has then seen.
-fn look_as<K: HubName>(
-    words: &Words<K>,
-    mut mine: Token,
-    pid: Pid,
-    port: Port,
-) -> (Option<Counts>, Token)
-    requires token { IsToken K.name mine }
-    requires alone { IsAlone pid mine }
-    requires terms { mine.me.0.terms ≡ K.name.terms }
-    requires idle { IsIdle (seat_of pid (Some mine)) }
-    requires port { (0 < port.0) × (port.0 ≤ MOST_PORTS) }
-    ensures alone { IsAlone pid result.1 }
-    ensures later { Later (seat_of pid (Some mine)) (seat_of pid (Some result.1)) }
-    ensures same { AskedNothing (seat_of pid (Some mine)) (seat_of pid (Some result.1)) }
-    ensures counts { result.0 ≡ counts_at (state_seen (seat_of pid (Some result.1))) port }
-{
-    let mark = words.look(&mut mine, usize::from(port.0));
-    (read_back(mark), mine)
-}
-
-/// Three loads: both seats have then seen one journal.
-fn meet_as<K: HubName>(
-    words: &Words<K>,
-    mut first: Token,
-    pid: Pid,
-    second: Token,
-    other: Pid,
-) -> (Token, Token)
-    requires first { IsToken K.name first × IsAlone pid first × (first.me.0.terms ≡ K.name.terms) }
-    requires second { IsToken K.name second × IsAlone other second
-        × (second.me.0.terms ≡ K.name.terms) }
-    requires idle { IsIdle (seat_of pid (Some first)) × IsIdle (seat_of other (Some second)) }
-    ensures alone { IsAlone pid result.0 × IsAlone other result.1 }
-    ensures together { result.0.me.0.seen ≡ result.1.me.0.seen }
-    ensures first { Later (seat_of pid (Some first)) (seat_of pid (Some result.0)) }
-    ensures first_same { AskedNothing (seat_of pid (Some first)) (seat_of pid (Some result.0)) }
-    ensures second { Later (seat_of other (Some second)) (seat_of other (Some result.1)) }
-    ensures second_same { AskedNothing (seat_of other (Some second)) (seat_of other (Some result.1)) }
-{
-    words.join(&mut first, second);
-    let second = words.part(&mut first);
-    (first, second)
 }
 
 impl<K: HubName> LiveHub<K> {
@@ -304,24 +256,10 @@ impl<K: HubName> LiveHub<K> {
         if port.0 == 0 || port.0 as usize > MOST_PORTS {
             return None;
         }
-        self.load(seat, port)
-    }
-
-    /// The counts of a port that has a word.
-    fn load(&self, seat: &mut Seat, port: Port) -> Option<Counts>
-        requires hub { seat.old.hub ≡ K.name }
-        requires port { (0 < port.0) × (port.0 ≤ MOST_PORTS) }
-        ensures later { Later seat.old seat.new }
-        ensures same { AskedNothing seat.old seat.new }
-        ensures counts { result ≡ counts_at (state_seen seat.new) port }
-    {
-        let pid = seat.inner.pid;
-        let Some(mine) = seat.inner.token.take() else {
+        let Some(mine) = &mut seat.inner.token else {
             unreachable!()
         };
-        let (counts, mine) = look_as(&self.words, mine, pid, port);
-        seat.inner.token = Some(mine);
-        counts
+        read_back(self.words.look(mine, usize::from(port.0)))
     }
 
     /// Both seats have then seen one journal: by three loads, with no lock and no memory.
@@ -334,17 +272,13 @@ impl<K: HubName> LiveHub<K> {
         ensures second { Later second.old second.new }
         ensures second_same { AskedNothing second.old second.new }
     {
-        let pid = first.inner.pid;
-        let Some(mine) = first.inner.token.take() else {
+        let Some(mine) = &mut first.inner.token else {
             unreachable!()
         };
-        let other = second.inner.pid;
         let Some(theirs) = second.inner.token.take() else {
             unreachable!()
         };
-        let (mine, theirs) = meet_as(&self.words, mine, pid, theirs, other);
-        first.inner.token = Some(mine);
-        second.inner.token = Some(theirs);
+        second.inner.token = Some(self.words.meet(mine, theirs));
     }
 
     /// The words and what lay under the lock, once nobody shares them.

@@ -1,10 +1,10 @@
 //! The words that threads share, and the steps that seats make on them.
 
 ghost use Rattle.std.specs.Prelude.{◌≡◌, ◌<◌, ◌≤◌, ◌+◌, [], ◌∷◌, ◌++◌, Some, None, IsSome, IfOk};
-ghost use Rattle.hub_live.specs.Mark.{mark, MarksOne, IsOther};
-ghost use Rattle.hub_live.specs.Rule.{IsHistory, blank, next_word, word_count};
-ghost use Rattle.hub_live.specs.Moves.{Sees, grown, numbered, with_joined, parted, given_back};
-ghost use Rattle.hub_live.specs.Named.{IsTableOf, IsNewTable, IsToken};
+ghost use Rattle.hub_live.specs.Mark.{mark};
+ghost use Rattle.hub_live.specs.Rule.{blank, next_word, word_count};
+ghost use Rattle.hub_live.specs.Moves.{SeesBoth, Met, IsNext, grown, numbered, with_joined, parted, given_back};
+ghost use Rattle.hub_live.specs.Named.{IsTableOf, IsNewTable, IsToken, IsSingle};
 
 use crate::name::HubName;
 use crate::rule::{
@@ -44,12 +44,8 @@ impl<K: HubName> Words<K> {
     fn publish_as<E: NamesEntry>(&self, token: &mut Token, word: usize, mark: u64, entry: &Entry)
         requires named { entry.now ≡ E.entry }
         requires token { IsToken K.name token.old }
-        requires hub { token.old.me.0.number ≡ Some 0 }
-        requires caller { token.old.me.0.joined ≡ Some (entry.now.pid.0 + 1) }
-        requires history { IsHistory K.name.terms (token.old.me.0.seen ++ entry.now ∷ []) }
-        requires word { word ≤ MOST_PORTS }
-        requires mark { MarksOne K.name.terms.head token.old.me.0.seen entry.now word mark }
-        ensures same { (token.new.table_id ≡ token.old.table_id) × (token.new.me.1 ≡ []) }
+        requires next { IsNext K.name.terms token.old.me.0 word mark entry.now }
+        ensures token { IsToken K.name token.new }
         ensures view { token.new.me.0 ≡ grown token.old.me.0 entry.now }
     {
         self.table.shared.store::<PublishStep<E>>(token, word, mark);
@@ -59,13 +55,8 @@ impl<K: HubName> Words<K> {
     /// changes none. The seat is the hub's, joined to that of the entry's process.
     pub(crate) fn publish(&self, token: &mut Token, word: usize, mark: u64, entry: &Entry)
         requires token { IsToken K.name token.old }
-        requires hub { token.old.me.0.number ≡ Some 0 }
-        requires caller { token.old.me.0.joined ≡ Some (entry.now.pid.0 + 1) }
-        requires history { IsHistory K.name.terms (token.old.me.0.seen ++ entry.now ∷ []) }
-        requires word { word ≤ MOST_PORTS }
-        requires mark { MarksOne K.name.terms.head token.old.me.0.seen entry.now word mark }
-        requires other { IsOther K.name.terms.head token.old.me.0.seen word mark }
-        ensures same { (token.new.table_id ≡ token.old.table_id) × (token.new.me.1 ≡ []) }
+        requires next { IsNext K.name.terms token.old.me.0 word mark entry.now }
+        ensures token { IsToken K.name token.new }
         ensures view { token.new.me.0 ≡ grown token.old.me.0 entry.now }
     {
         self.publish_as::<Brand>(token, word, mark, entry);
@@ -77,8 +68,8 @@ impl<K: HubName> Words<K> {
         requires token { IsToken K.name token.old }
         requires number { IsSome token.old.me.0.number }
         requires word { word ≤ MOST_PORTS }
-        ensures same { (token.new.table_id ≡ token.old.table_id) × (token.new.me.1 ≡ []) }
-        ensures sees { Sees token.old.me.0 token.new.me.0 }
+        ensures token { IsToken K.name token.new }
+        ensures sees { SeesBoth token.old.me.0 token.new.me.0 }
         ensures mark { 0 < word → result ≡ mark token.old.me.0.terms.head token.new.me.0.seen word }
     {
         self.table.shared.load::<LookStep>(token, word)
@@ -86,12 +77,10 @@ impl<K: HubName> Words<K> {
 
     /// Two loads: the seat takes in the other, and both have then seen the journal.
     pub(crate) fn join(&self, token: &mut Token, other: Token)
-        requires token { IsToken K.name token.old × IsSome token.old.me.0.number }
-        requires other { IsToken K.name other × IsSome other.me.0.number }
-        requires alone { other.me.0.joined ≡ None }
-        requires terms { token.old.me.0.terms ≡ other.me.0.terms }
-        ensures same { (token.new.table_id ≡ token.old.table_id) × (token.new.me.1 ≡ []) }
-        ensures sees { Sees (with_joined token.old.me.0 other.me.0) token.new.me.0 }
+        requires token { IsSingle K.name token.old }
+        requires other { IsSingle K.name other }
+        ensures token { IsToken K.name token.new }
+        ensures sees { SeesBoth (with_joined token.old.me.0 other.me.0) token.new.me.0 }
     {
         self.table.shared.join_seat::<TakesIn>(token, other);
         // A join tells nothing of the words; the look does.
@@ -100,13 +89,26 @@ impl<K: HubName> Words<K> {
 
     /// One load: the seat that was taken in is given back.
     pub(crate) fn part(&self, token: &mut Token) -> Token
-        requires token { IsToken K.name token.old × IsSome token.old.me.0.joined }
-        ensures same { token.new.table_id ≡ token.old.table_id }
-        ensures left { token.new.me ≡ (parted token.old.me.0, []) }
-        ensures table { result.table_id ≡ token.old.table_id }
-        ensures back { result.me ≡ (given_back token.old.me.0, []) }
+        requires token { IsToken K.name token.old }
+        requires joined { IsSome token.old.me.0.joined }
+        ensures token { IsToken K.name token.new }
+        ensures left { token.new.me.0 ≡ parted token.old.me.0 }
+        ensures given { IsToken K.name result }
+        ensures back { result.me.0 ≡ given_back token.old.me.0 }
     {
         self.table.shared.split_seat::<TakesIn>(token)
+    }
+
+    /// Three loads: both seats have then seen one journal, and neither has taken in the other.
+    pub(crate) fn meet(&self, token: &mut Token, other: Token) -> Token
+        requires token { IsSingle K.name token.old }
+        requires other { IsSingle K.name other }
+        ensures token { IsToken K.name token.new }
+        ensures given { IsToken K.name result }
+        ensures met { Met token.old.me.0 other.me.0 token.new.me.0 result.me.0 }
+    {
+        self.join(token, other);
+        self.part(token)
     }
 }
 

@@ -1,9 +1,14 @@
-use Rattle.std.proofs.Common.{◌<◌, ◌≤◌, sym, arith}
+use Rattle.std.proofs.Common.{◌≡◌, ◌<◌, ◌≤◌, ◌∙◌, Some, sym, ap, subst, arith}
 use Rattle.hub_base.specs.declared.limits.TheConstants.{MOST_PORTS}
-use Rattle.hub_live.proofs.Marks.{no_port}
-use Rattle.hub_live.proofs.Laters.{later_self}
+use Rattle.hub_live.specs.Mark.{mark, read_back}
+use Rattle.hub_live.specs.SeatView.{IsIdle}
+use Rattle.hub_live.specs.Seated.{seat_of}
+use Rattle.hub_live.specs.Calls.{Later}
+use Rattle.hub_live.proofs.Marks.{no_port, mark-tells}
+use Rattle.hub_live.proofs.Laters.{later_self, seat_opened, has_seen, Follows, asked_nothing, later}
+use Rattle.hub_live.proofs.live_hub.LiveHub.look.Given.{Over}
 use Rattle.hub_live.proofs.live_hub.LiveHub.look.Goals as goal
-use Rattle.hub_live.proofs.live_hub.LiveHub.look.Goals.{then-port-eq0-via-then-port-eq0, then-port-eq0-via-else-port-eq0+then-port-gt-MOST_PORTS}
+use Rattle.hub_live.proofs.live_hub.LiveHub.look.Goals.{After-look, then-port-eq0-via-then-port-eq0, then-port-eq0-via-else-port-eq0+then-port-gt-MOST_PORTS}
 
 pub returns-then-port-eq0-clause-later : goal.returns-then-port-eq0-clause-later
 returns-then-port-eq0-clause-later g c = later_self c.args.seat.now c.pid-pid.ensures.idle
@@ -15,3 +20,31 @@ returns-then-port-eq0-clause-counts g c =
       | then-port-eq0-via-else-port-eq0+then-port-gt-MOST_PORTS w ↦ omega (arith, w.if-port-gt-MOST_PORTS)
     ] in
     sym (no_port c.args.seat.now.hub.terms.head c.args.seat.now.seen c.args.port out)
+
+given : (g : Over) (c : After-look g) → Follows c.args.seat.now (seat_of c.seat-inside.inside.0.0.pid (Some c.look.new.token))
+given g c =
+    let mine = seat_opened c.requires c.seat-inside.invariant (ap (λ s. s.inner) c.seat-inside.view_is ∙ c.seat.view_is) c.in-Some.is in
+    (has_seen mine c.look.ensures.token c.look.ensures.sees.sees).follows
+
+seen : (g : Over) (c : After-look g) → Later c.args.seat.now (seat_of c.seat-inside.inside.0.0.pid (Some c.look.new.token))
+seen g c = later (subst IsIdle c.seat.view_is c.seat.invariant) (given g c)
+
+pub invariant_of-seat-2 : goal.invariant_of-seat-2
+invariant_of-seat-2 g c = (seen g c).idle
+
+pub returns-clause-later : goal.returns-clause-later
+returns-clause-later g c = seen g (goal.at.returns-clause-later g c).After-look
+
+pub returns-clause-same : goal.returns-clause-same
+returns-clause-same g c = asked_nothing (given g (goal.at.returns-clause-same g c).After-look) c.pid-pid.ensures.idle.free
+
+pub returns-clause-counts : goal.returns-clause-counts
+returns-clause-counts g c =
+    let w = c.look.new.token.me.0 in
+    let history = (given g (goal.at.returns-clause-counts g c).After-look).history in
+    let number : c.from.result ≡ c.args.port.0 = c.from.ensures in
+    let terms = c.look.ensures.sees.sees.terms in
+    let some : 0 < c.from.result = omega arith in
+    let is : c.look.result ≡ mark w.terms.head w.seen c.args.port.0 =
+    ◌∙◌ {b = mark c.in-Some.mine.me.0.terms.head w.seen c.from.result} (c.look.ensures.mark some) (λ i. mark (sym terms i).head w.seen (number i)) in
+    c.read_back.ensures ∙ ap read_back is ∙ mark-tells w.terms.head w.seen c.args.port history.legal history.few

@@ -5,7 +5,7 @@ use Rattle.hub_live.proofs.words.Words.join.Goals as goal
 pub join_seat-requires : goal.join_seat-requires
 join_seat-requires g c =
     let b = c.args.self.now.is in
-    let t = c.requires.token.0 in
+    let t = c.requires.token in
     let o = c.requires.other in
     let words = b.words in
-    (t.table ∙ sym b.same, o.0.table ∙ sym b.same, o.0.free, omega arith, joins_some _ _ _ _ _ c.requires.terms o.1 c.requires.alone)
+    (t.is.table ∙ sym b.same, o.is.table ∙ sym b.same, o.is.free, omega arith, joins_some _ _ _ _ _ (t.terms ∙ sym o.terms) o.number o.joined)

@@ -5,6 +5,6 @@ use Rattle.hub_live.proofs.words.Words.part.Goals as goal
 pub split_seat-requires : goal.split_seat-requires
 split_seat-requires g c =
     let b = c.args.self.now.is in
-    let t = c.requires.token.0 in
+    let t = c.requires.token in
     let words = b.words in
-    (t.table ∙ sym b.same, omega arith, parts_some _ _ _ c.requires.token.1)
+    (t.table ∙ sym b.same, omega arith, parts_some _ _ _ c.requires.joined)

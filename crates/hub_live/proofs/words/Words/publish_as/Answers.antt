@@ -17,12 +17,13 @@ store-requires g c =
     let z = c.args.self.now.table.shared in
     let t = c.requires.token in
     let words = b.words in
-    let small = c.requires.word in
-    let history = subst (λ (x : Terms). IsHistory x (me.0.seen ++ e ∷ [])) (sym b.key) c.requires.history in
-    let mark = subst (λ (x : Terms). MarksOne x.head me.0.seen e c.args.word c.args.mark) (sym b.key) c.requires.mark in (
+    let n = c.requires.next in
+    let small = n.word in
+    let history = subst (λ (x : Terms). IsHistory x (me.0.seen ++ e ∷ [])) (sym b.key) n.history in
+    let mark = subst (λ (x : Terms). MarksOne x.head me.0.seen e c.args.word c.args.mark) (sym b.key) n.mark in (
       t.table ∙ sym b.same,
       omega arith,
       subst (λ (x : Entry). Allows (Kept z.key) z.table_id.slots c.args.token.now.id me c.args.word (λ _. c.args.mark)
           (λ _. Published x (step z.table_id.slots c.args.word c.args.mark 0 none) me c.args.mark)) c.requires.named
-          (publishes_as _ _ _ _ _ me e t.free c.requires.hub c.requires.caller history c.requires.word mark),
+          (publishes_as _ _ _ _ _ me e t.free n.hub n.caller history n.word mark),
     )

@@ -1,0 +1,86 @@
+use Rattle.std.proofs.Common.{◌∙◌, sym, ap, refl, subst}
+use Rattle.hub_laws.specs.Journals.{IsLegal}
+use Rattle.hub_core.specs.declared.terms.Terms.{Terms}
+use Rattle.hub_live.specs.Locked.{LockedView}
+use Rattle.hub_live.specs.Moves.{Met}
+use Rattle.hub_live.specs.Seated.{IsHub}
+use Rattle.hub_live.proofs.Desks.{hub_steps, next_served, Stepped, stepped, desk_single, desk_seen, reply_there, refusal_seen}
+use Rattle.hub_live.proofs.Laters.{met, IsSeatOf, seat_opened, HasSeen, has_seen, asked_nothing}
+use Rattle.hub_live.proofs.desk.Desk.step.Given.{Over}
+use Rattle.hub_live.proofs.desk.Desk.step.Goals as goal
+use Rattle.hub_live.proofs.desk.Desk.step.Goals.{After-changed-port, Joined-seat, Joined-seat-2}
+
+hub_after : (g : Over) (c : After-changed-port g) → IsHub g.K.HubName.name.terms c.step.new.self.hub
+hub_after g c = hub_steps _ _ _ _ _ c.self.invariant.hub c.in-Ok.ensures.ok.step
+
+pub mark_at-mark-requires-clause-legal : goal.mark_at-mark-requires-clause-legal
+mark_at-mark-requires-clause-legal g c =
+    let is = hub_after g c in
+    subst (λ (t : Terms). IsLegal t.head c.step.new.self.hub.journal) (sym is.terms) is.history.legal
+
+pub mark_at-mark-requires-clause-few : goal.mark_at-mark-requires-clause-few
+mark_at-mark-requires-clause-few g c = (hub_after g c).history.few
+
+pub publish-requires-clause-next : goal.publish-requires-clause-next
+publish-requires-clause-next g c =
+    let mine = seat_opened c.requires.hub c.seat.invariant c.seat.view_is (sym c.take.ensures.value ∙ c.in-Some.is) in
+    next_served c.self.invariant mine c.requires.pid c.join.ensures.sees c.in-Ok.ensures.ok c.newest-made.ensures c.changed-port.ensures c.from.ensures
+    c.mark_at-mark.ensures
+
+made : (g : Over) (c : Joined-seat g) → Stepped g.K.HubName.name c.args.seat.now c.args.entry c.step.new.self c.part.new.token c.seat.inside.pid c.part.result
+made g c =
+    let mine = seat_opened c.requires.hub c.seat.invariant c.seat.view_is (sym c.take.ensures.value ∙ c.in-Some.is) in
+    let p = c.part.ensures in
+    stepped c.self.invariant mine c.requires.pid c.join.ensures.sees c.in-Ok.ensures.ok c.newest-made.ensures c.publish.ensures.view p.token p.left p.given p.back
+
+pub invariant_of-self : goal.invariant_of-self
+invariant_of-self g c = (made g c).desk
+
+pub invariant_of-seat : goal.invariant_of-seat
+invariant_of-seat g c = (made g c).alone
+
+pub returns-in-Ok-clause-seen : goal.returns-in-Ok-clause-seen
+returns-in-Ok-clause-seen g c = (made g c).seen
+
+pub returns-in-Ok-clause-history : goal.returns-in-Ok-clause-history
+returns-in-Ok-clause-history g c = (made g c).history
+
+pub returns-in-Ok-clause-begins : goal.returns-in-Ok-clause-begins
+returns-in-Ok-clause-begins g c = (made g c).begins
+
+pub returns-in-Ok-clause-own : goal.returns-in-Ok-clause-own
+returns-in-Ok-clause-own g c = (made g c).own
+
+pub returns-in-Ok-clause-told : goal.returns-in-Ok-clause-told
+returns-in-Ok-clause-told g c clear =
+    let m = made g c in
+    reply_there m.desk.hub.terms refl (sym m.seen) (c.in-Ok.ensures.reply clear)
+
+seat : (g : Over) (c : Joined-seat-2 g) → IsSeatOf g.K.HubName.name c.args.seat.now c.seat.inside.pid c.in-Some.mine
+seat g c = seat_opened c.requires.hub c.seat.invariant c.seat.view_is (sym c.take.ensures.value ∙ c.in-Some.is)
+
+meeting : (g : Over) (c : Joined-seat-2 g) → Met c.self.inside.token.me.0 c.in-Some.mine.me.0 c.part-in-Err.new.token.me.0 c.part-in-Err.result.me.0
+meeting g c =
+    let p = c.part-in-Err.ensures in
+    met (desk_single c.self.invariant) (seat g c).single c.join.ensures.sees p.left p.back
+
+left : (g : Over) (c : Joined-seat-2 g) → HasSeen c.args.seat.now c.seat.inside.pid c.part-in-Err.result
+left g c = has_seen (seat g c) c.part-in-Err.ensures.given (meeting g c).second
+
+pub invariant_of-self-in-Err : goal.invariant_of-self-in-Err
+invariant_of-self-in-Err g c =
+    desk_seen c.self.invariant (ap (λ (l : LockedView). l.hub) c.in-Err.ensures.unchanged) c.part-in-Err.ensures.token (meeting g c).first
+
+pub returns-in-Err-clause-seen : goal.returns-in-Err-clause-seen
+returns-in-Err-clause-seen g c = sym (meeting g c).together ∙ (invariant_of-self-in-Err g c).seen
+
+pub returns-in-Err-clause-begins : goal.returns-in-Err-clause-begins
+returns-in-Err-clause-begins g c = (left g c).follows.begins
+
+pub returns-in-Err-clause-shows : goal.returns-in-Err-clause-shows
+returns-in-Err-clause-shows g c =
+    let seen = returns-in-Err-clause-seen g c ∙ ap (λ (l : LockedView). l.hub.journal) c.in-Err.ensures.unchanged in
+    refusal_seen c.part-in-Err.result c.args.entry c.in-Err.fault c.self.invariant (seat g c) (left g c).follows seen c.requires.hub c.requires.pid c.requires.free c.in-Err.ensures.refused
+
+pub returns-in-Err-clause-left : goal.returns-in-Err-clause-left
+returns-in-Err-clause-left g c = asked_nothing (left g c).follows c.requires.free

@@ -1,23 +1,31 @@
 -- A loop over the seats that are compared with the journal at the end.
 use Rattle.std.proofs.Common.{◌≡◌, List, [], ◌∷◌, ◌++◌, length, refl, sym, ap, ◌∙◌, subst, arith}
 use Rattle.std.specs.Prelude.{All}
-use Rattle.std.proofs.lemmas.List.Elements.{All-push}
 use Rattle.std.proofs.lemmas.List.{append-nil}
+use Rattle.hub_base.specs.declared.entry.Entry.{Entry}
 use Rattle.hub_live.specs.Locked.{LockedView}
 use Rattle.hub_live.specs.SeatView.{SeatView}
 use Rattle.hub_live.specs.Calls.{StandsIn}
+use Rattle.hub_live.proofs.Loops.{all_snoc, one_further}
 
-pub empty : (l : List SeatView) → length l ≡ 0 → l ≡ []
-empty [] e = refl
-empty (x ∷ xs) e = absurd (omega arith)
+-- the hub is as at the start, and the seats that were compared, which with those that are left are all, stand in its journal
+pub record Compared (start now : LockedView) (done rest all : List SeatView) : Type 0 where
+  pub same : now ≡ start
+  pub stand : All (λ s. StandsIn s now.hub.journal) done
+  pub split : done ++ rest ≡ all
 
--- one seat more stands in the journal
-pub stand_more : (before after : LockedView) (done : List SeatView) (s inner : SeatView) → after ≡ before → All (λ t. StandsIn t before.hub.journal) done
-    → inner ≡ s → StandsIn inner after.hub.journal → All (λ t. StandsIn t after.hub.journal) (done ++ s ∷ [])
-stand_more before after done s inner same all is here =
-    All-push (λ (t : SeatView). StandsIn t after.hub.journal) done s
-    (subst (λ (d : LockedView). All (λ (t : SeatView). StandsIn t d.hub.journal) done) (sym same) all)
-    (subst (λ (t : SeatView). StandsIn t after.hub.journal) is here)
+pub compared_next : {start before after : LockedView} {done rest next all : List SeatView} {s inner : SeatView} → Compared start before done rest all
+    → after ≡ before → inner ≡ s → StandsIn inner after.hub.journal → rest ≡ s ∷ next → Compared start after (done ++ s ∷ []) next all
+compared_next {after = after} {done} {rest} {next} {all} {s} c same is here left = record {
+  same = same ∙ c.same;
+  stand = all_snoc done (done ++ s ∷ []) s (λ t. StandsIn t after.hub.journal) refl
+      (subst (λ (l : LockedView). All (λ t. StandsIn t l.hub.journal) done) (sym same) c.stand)
+      (subst (λ (t : SeatView). StandsIn t after.hub.journal) is here);
+  split = one_further done rest next all s left c.split;
+}
 
-pub all_done : (done rest all : List SeatView) → length rest ≡ 0 → done ++ rest ≡ all → done ≡ all
-all_done done rest all none h = sym (append-nil done) ∙ (ap (λ (l : List SeatView). done ++ l) (sym (empty rest none)) ∙ h)
+pub compared_all : {start now : LockedView} {done rest all : List SeatView} {journal : List Entry} → Compared start now done rest all → length rest ≡ 0
+    → journal ≡ now.hub.journal → All (λ s. StandsIn s journal) all
+compared_all {done = done} {rest = []} c none is =
+    subst (λ (x : List Entry × List SeatView). All (λ s. StandsIn s x.0) x.1) (λ i. (sym is i, (sym (append-nil done) ∙ c.split) i)) c.stand
+compared_all {rest = s ∷ rest} c none is = absurd (omega arith)

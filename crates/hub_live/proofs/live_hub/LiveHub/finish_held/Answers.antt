@@ -1,30 +1,13 @@
-use Rattle.std.proofs.Common.{List, sym, ap, ◌∙◌, subst, rules}
-use Rattle.std.specs.Prelude.{All}
-use Rattle.hub_base.specs.declared.entry.Entry.{Entry}
+use Rattle.std.proofs.Common.{ap, ◌∙◌, rules}
 use Rattle.hub_base.specs.Journal.{JournalView}
-use Rattle.hub_live.specs.SeatView.{SeatView}
-use Rattle.hub_live.specs.Calls.{StandsIn}
-use Rattle.hub_live.proofs.Loops.{one_further}
-use Rattle.hub_live.proofs.Finishing.{stand_more, all_done}
+use Rattle.hub_live.proofs.Finishing.{compared_next, compared_all}
 use Rattle.hub_live.proofs.live_hub.LiveHub.finish_held.Goals as goal
 
 pub loop-one-preserved : goal.loop-one-preserved
-loop-one-preserved g c =
-    let i = c.loop-one.invariant in
-    let e = c.compare.ensures in (
-      e.same ∙ i.0,
-      stand_more c.loop-one.desk c.compare.new.self c.loop-one.yielded c.in-Some.one c.into_inner.result e.same i.1
-          (c.into_inner.ensures.inner ∙ c.into_seat.ensures.seat) e.stands,
-      one_further c.loop-one.yielded c.loop-one.one-iterator.rest.items c.next.new.self.rest.items c.args.held.items c.in-Some.one
-          c.in-Some.ensures.steps.0 i.2,
-    )
+loop-one-preserved g c = compared_next c.loop-one.invariant c.compare.ensures.same (c.into_inner.ensures.inner ∙ c.into_seat.ensures.seat) c.compare.ensures.stands c.in-Some.ensures.steps.0
 
 pub returns-clause-seats : goal.returns-clause-seats
 returns-clause-seats g c =
-    let i = c.loop-one.invariant in
     let ok = c.loop-one.one-iterator.rest.ok in
     let none = c.in-None.ensures.steps.0 in
-    let all = all_done c.loop-one.yielded c.loop-one.one-iterator.rest.items c.args.held.items (search (rules, ok, none)) i.2 in
-    subst (λ (l : List Entry). All (λ (t : SeatView). StandsIn t l) c.args.held.items)
-    (ap (λ (j : JournalView). j.entries) (sym c.into_journal.ensures.journal))
-    (subst (λ (l : List SeatView). All (λ (t : SeatView). StandsIn t c.loop-one.desk.hub.journal) l) all i.1)
+    compared_all c.loop-one.invariant (search (rules, ok, none)) (ap (λ (j : JournalView). j.entries) c.into_journal.ensures.journal)

@@ -1,35 +1,16 @@
 -- The hub's seat: what a meeting with the seat of a process, and a step, leave in both.
 use Rattle.std.proofs.Common.{◌≡◌, ℕ, suc, ◌+◌, ◌<◌, ◌≤◌, Bool, true, false, cond, List, [], ◌∷◌, ◌++◌, refl, sym, ap, ◌∙◌, subst, arith, Some, None, add-one}
 use Rattle.std.specs.Prelude.{IsSome}
-use mathlib.Core.List.{IsPrefix}
-use Rattle.atomic_table.specs.declared.shared.Seat.{Seat}
-use Rattle.hub_base.specs.declared.value.Pid.{Pid}
-use Rattle.hub_base.specs.declared.value.Port.{Port}
-use Rattle.hub_base.specs.declared.fault.Fault.{Fault}
-use Rattle.hub_base.specs.declared.entry.Entry.{Entry}
-use Rattle.hub_base.specs.declared.event.Event.{Event}
-use Rattle.hub_base.specs.declared.limits.TheConstants.{MOST_PORTS}
-use Rattle.hub_base.specs.Steps.{refusal, is_waiting}
-use Rattle.hub_base.specs.Runs.{state}
-use Rattle.hub_base.specs.Reading.{is_exit}
-use Rattle.hub_base.specs.Text.{one_step, steps_of}
-use Rattle.hub_laws.specs.Journals.{IsLegal}
-use Rattle.hub_laws.specs.OnePort.{changed, port_changed, port_changed_by, number_of}
-use Rattle.hub_laws.specs.Replies.{own}
+use Rattle.hub_base.specs.Text.{one_step}
+use Rattle.hub_laws.specs.OnePort.{port_changed_by}
 use Rattle.hub_laws.proofs.Journals.{begins-law}
 use Rattle.hub_laws.proofs.Replies.{own-mine}
-use Rattle.hub_core.specs.HubView.{HubView, Steps, Refuses, state_of}
-use Rattle.hub_core.specs.declared.terms.Terms.{Terms}
-use Rattle.hub_live.specs.declared.rule.View.{View}
-use Rattle.hub_live.specs.Locked.{LockedView, Serves, IsReplyTo}
-use Rattle.hub_live.specs.Mark.{mark, mark_at, port_numbered, MarksOne, IsOther}
-use Rattle.hub_live.specs.Name.{Name}
-use Rattle.hub_live.specs.Rule.{IsHistory}
-use Rattle.hub_live.specs.Moves.{Sees, SeesBoth, IsNext, grown, with_joined, parted, given_back}
-use Rattle.hub_live.specs.Named.{IsToken, IsSingle}
-use Rattle.hub_live.specs.SeatView.{SeatView, IsFree, own_of}
-use Rattle.hub_live.specs.Seated.{IsAlone, IsHub, IsDesk, seat_of}
-use Rattle.hub_live.specs.Calls.{Shows}
+use Rattle.hub_live.specs.Moves.{IsNext}
+use Rattle.hub_live.specs.Seated.{IsDesk}
+use Rattle.hub_live.specs.Cited.{IsPrefix, Seat, Pid, Port, Fault, Entry, Event, MOST_PORTS, refusal, is_waiting, state, is_exit, steps_of, IsLegal, changed}
+use Rattle.hub_live.specs.Cited.{port_changed, number_of, own, HubView, Steps, Refuses, state_of, Terms, View, LockedView, Serves, IsReplyTo, mark, mark_at}
+use Rattle.hub_live.specs.Cited.{port_numbered, MarksOne, IsOther, Name, IsHistory, Sees, SeesBoth, grown, with_joined, parted, given_back, IsToken}
+use Rattle.hub_live.specs.Cited.{IsSingle, SeatView, IsFree, own_of, IsAlone, IsHub, seat_of, Shows}
 use Rattle.hub_live.proofs.Prefixes.{prefix_trans}
 use Rattle.hub_live.proofs.Refusals.{shows}
 use Rattle.hub_live.proofs.Laters.{IsSeatOf, Follows, asked_nothing}

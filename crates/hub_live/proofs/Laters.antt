@@ -2,27 +2,15 @@
 use Rattle.std.proofs.Common.{◌≡◌, ℕ, ◌+◌, ◌<◌, ◌==◌, ◌&&◌, Bool, true, false, not, cond, List, [], ◌∷◌, ◌++◌}
 use Rattle.std.proofs.Common.{filter, refl, sym, ap, ◌∙◌, subst, Option, Some, None, add-one, length, arith}
 use Rattle.std.specs.Prelude.{All, IsSome}
-use mathlib.Core.List.{IsPrefix}
 use Rattle.std.proofs.lemmas.List.Elements.{All-cons}
 use Rattle.std.proofs.lemmas.Bool.{and_parts}
-use Rattle.atomic_table.specs.declared.shared.Seat.{Seat}
-use Rattle.hub_base.specs.declared.head.Head.{Head}
-use Rattle.hub_base.specs.declared.value.Pid.{Pid}
-use Rattle.hub_base.specs.declared.entry.Entry.{Entry}
-use Rattle.hub_base.specs.declared.event.Event.{Event}
-use Rattle.hub_base.specs.Steps.{is_waiting}
-use Rattle.hub_base.specs.Runs.{state, events}
-use Rattle.hub_laws.specs.Replies.{own, reply, last_from, is_parked}
-use Rattle.hub_core.specs.declared.terms.Terms.{Terms}
-use Rattle.hub_live.specs.declared.rule.View.{View}
-use Rattle.hub_live.specs.Locked.{IsReplyTo}
-use Rattle.hub_live.specs.Name.{Name, name_of}
-use Rattle.hub_live.specs.Rule.{IsHistory, Knows}
-use Rattle.hub_live.specs.Moves.{Knew, Sees, SeesBoth, Met, with_joined, parted, given_back}
-use Rattle.hub_live.specs.SeatView.{SeatView, IsIdle, IsFree, own_of}
-use Rattle.hub_live.specs.Named.{IsToken, IsSingle}
-use Rattle.hub_live.specs.Seated.{IsAlone, IsSeated, seat_of}
-use Rattle.hub_live.specs.Calls.{AskedNothing, StandsIn, Later, MadeEntry, AreSeats}
+use Rattle.hub_base.specs.Runs.{events}
+use Rattle.hub_live.specs.Moves.{Knew}
+use Rattle.hub_live.specs.Seated.{IsSeated}
+use Rattle.hub_live.specs.Calls.{AskedNothing}
+use Rattle.hub_live.specs.Cited.{IsPrefix, Seat, Head, Pid, Entry, Event, is_waiting, state, own, reply, last_from, is_parked, Terms, View, IsReplyTo, Name}
+use Rattle.hub_live.specs.Cited.{name_of, IsHistory, Knows, Sees, SeesBoth, Met, with_joined, parted, given_back, SeatView, IsIdle, IsFree, own_of, IsToken}
+use Rattle.hub_live.specs.Cited.{IsSingle, IsAlone, seat_of, StandsIn, Later, MadeEntry, AreSeats}
 use Rattle.hub_live.proofs.Prefixes.{prefix_self}
 use Rattle.hub_live.proofs.Refusals.{asks_nothing}
 

@@ -5,24 +5,19 @@ use Rattle.std.specs.Prelude.{IfSome, slice_set}
 use Rattle.std.specs.List.{AllByRecursion}
 use Rattle.std.proofs.lemmas.Bool.{eqb-true, eqb-false, cases_lt}
 use Rattle.std.proofs.lemmas.List.{get_or-set_same, get_or-set_other, get_or_past, length-set, take_more, length-replicate}
-use Rattle.hub_base.specs.declared.entry.Entry.{Entry}
-use Rattle.hub_base.specs.declared.event.Event.{Event}
-use Rattle.hub_base.specs.declared.value.Pid.{Pid}
-use Rattle.hub_base.specs.Steps.{is_waiting}
-use Rattle.hub_base.specs.declared.entry.Step.{Step}
-use Rattle.hub_base.specs.declared.entry.Step.TheVariants.{Make, Call, Close, Exit}
 use Rattle.hub_base.specs.declared.event.What.{What}
 use Rattle.hub_base.specs.declared.event.What.TheVariants as what
 use Rattle.hub_base.specs.declared.limits.TheConstants.{MOST_PROCS}
 use Rattle.hub_laws.specs.Answers.{is_answer_to, Answered, IsAnswered}
-use Rattle.hub_laws.specs.Journals.{IsLegal}
-use Rattle.hub_laws.specs.Replies.{reply, last_from, is_told, is_parked, IsReply, IsLeft, Replied, AreReplied}
+use Rattle.hub_laws.specs.Replies.{is_told, IsReply, IsLeft, Replied, AreReplied}
 use Rattle.hub_laws.proofs.Answered.{moves-answered}
 use Rattle.hub_laws.proofs.Replied.{replied-law}
-use Rattle.hub_core.specs.HubView.{HubView, Steps, places_after, state_of}
+use Rattle.hub_core.specs.HubView.{places_after}
 use Rattle.hub_laws.proofs.Journals.{begins-law}
-use Rattle.hub_live.specs.Locked.{LockedView, answer_for, IsReplyTo, IsLawful, last_told, pids_of, Serves}
+use Rattle.hub_live.specs.Locked.{answer_for, IsLawful, last_told}
 use Rattle.hub_live.specs.Calls.{Answers, AnswersNoCall}
+use Rattle.hub_live.specs.Cited.{Entry, Event, Pid, is_waiting, Step, Make, Call, Close, Exit, IsLegal, reply, last_from, is_parked, HubView, Steps}
+use Rattle.hub_live.specs.Cited.{state_of, LockedView, IsReplyTo, pids_of, Serves}
 
 -- ---- places
 

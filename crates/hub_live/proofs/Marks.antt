@@ -6,24 +6,18 @@ use Rattle.std.specs.Option.{option_map, option_map_or}
 use Rattle.std.proofs.lemmas.Bool.Decides.{nat_tests}
 use Rattle.std.proofs.lemmas.Bool.{eqb-true}
 use Rattle.std.proofs.lemmas.Option.{slice_get_past}
-use Rattle.hub_base.specs.declared.head.Head.{Head}
-use Rattle.hub_base.specs.declared.value.Port.{Port}
 use Rattle.hub_base.specs.declared.counts.Counts.{Counts}
 use Rattle.hub_base.specs.declared.counts.Look.{Look}
-use Rattle.hub_base.specs.declared.entry.Entry.{Entry}
-use Rattle.hub_base.specs.declared.limits.TheConstants.{MOST_PORTS, MOST_STEPS}
-use Rattle.hub_base.specs.declared.entry.Step.{Step}
-use Rattle.hub_base.specs.declared.event.Event.{Event}
-use Rattle.hub_base.specs.State.{Channel, channel_at}
-use Rattle.hub_base.specs.Runs.{moves, state}
-use Rattle.hub_base.specs.Text.{steps_of}
-use Rattle.hub_laws.specs.Journals.{IsLegal}
-use Rattle.hub_laws.specs.OnePort.{changed, found_closed, Shown, shown, number_of, port_changed, port_touched, port_touched_by, IsPort}
+use Rattle.hub_base.specs.declared.limits.TheConstants.{MOST_STEPS}
+use Rattle.hub_base.specs.State.{channel_at}
+use Rattle.hub_laws.specs.OnePort.{found_closed, Shown, shown, port_touched, port_touched_by, IsPort}
 use Rattle.hub_laws.proofs.OnePort.{one_port-law}
 use Rattle.hub_laws.proofs.Counts.{counts-law}
 use Rattle.hub_laws.proofs.States.{state-laws}
-use Rattle.hub_core.specs.Looks.{counts_of, look_at}
-use Rattle.hub_live.specs.Mark.{of_a_send, of_a_port, of_a_close, mark_of, counts_in, read_back, counts_at, mark_at, port_numbered, mark, MarksOne, IsOther}
+use Rattle.hub_core.specs.Looks.{look_at}
+use Rattle.hub_live.specs.Mark.{of_a_send, of_a_port, of_a_close, counts_in, counts_at}
+use Rattle.hub_live.specs.Cited.{Head, Port, Entry, MOST_PORTS, Step, Event, Channel, moves, state, steps_of, IsLegal, changed, number_of, port_changed}
+use Rattle.hub_live.specs.Cited.{counts_of, mark_of, read_back, mark_at, port_numbered, mark, MarksOne, IsOther}
 
 -- counts as a hub has them
 pub record IsCounted (c : Counts) : Type 0 where

@@ -5,28 +5,17 @@ use Rattle.std.specs.List.{list_any}
 use Rattle.std.proofs.lemmas.List.{length-append}
 use Rattle.std.proofs.lemmas.List.Elements.{filter-append}
 use Rattle.std.proofs.lemmas.Bool.Decides.{nat_tests}
-use mathlib.Core.List.{IsPrefix}
-use Rattle.hub_base.specs.declared.head.Head.{Head}
-use Rattle.hub_base.specs.declared.value.Pid.{Pid}
-use Rattle.hub_base.specs.declared.entry.Step.{Step}
-use Rattle.hub_base.specs.declared.entry.Step.TheVariants.{Make, Call, Close, Exit}
-use Rattle.hub_base.specs.declared.entry.Entry.{Entry}
-use Rattle.hub_base.specs.declared.fault.Fault.{Fault}
 use Rattle.hub_base.specs.declared.fault.Fault.TheVariants as fault
 use Rattle.hub_base.specs.State.{State, opening}
-use Rattle.hub_base.specs.Steps.{refusal, has_gone, is_waiting}
-use Rattle.hub_base.specs.Runs.{moves, admits, keeps, state_after, kept_after, state}
-use Rattle.hub_base.specs.Reading.{is_exit}
-use Rattle.hub_base.specs.Text.{steps_of}
-use Rattle.hub_laws.specs.Journals.{IsLegal}
-use Rattle.hub_laws.specs.Replies.{own, reply}
+use Rattle.hub_base.specs.Steps.{has_gone}
+use Rattle.hub_base.specs.Runs.{admits, keeps, state_after, kept_after}
 use Rattle.hub_laws.proofs.Account.{procs-of}
 use Rattle.hub_laws.proofs.Lasting.{turn-leaves, head-after}
 use Rattle.hub_laws.proofs.Replies.{replies-law}
-use Rattle.hub_core.specs.HubView.{HubView, Refuses, Grows, state_of}
-use Rattle.hub_core.specs.declared.terms.Terms.{Terms}
-use Rattle.hub_live.specs.Seated.{IsHub}
-use Rattle.hub_live.specs.Calls.{LeavesRoom, Shows, AsksNothing}
+use Rattle.hub_core.specs.HubView.{Grows}
+use Rattle.hub_live.specs.Calls.{LeavesRoom, AsksNothing}
+use Rattle.hub_live.specs.Cited.{IsPrefix, Head, Pid, Step, Make, Call, Close, Exit, Entry, Fault, refusal, is_waiting, moves, state, is_exit, steps_of}
+use Rattle.hub_live.specs.Cited.{IsLegal, own, reply, HubView, Refuses, state_of, Terms, IsHub, Shows}
 
 -- ---- entries of others
 

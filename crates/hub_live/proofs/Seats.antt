@@ -4,21 +4,14 @@ use Rattle.std.proofs.Common.{true, false, cond, refl, sym, ap, ◌∙◌, subst
 use Rattle.std.specs.Prelude.{slice_index, slice_get, MatchBool, IsSome, replicate}
 use Rattle.std.specs.Option.{option_map, option_map_or}
 use Rattle.std.proofs.lemmas.List.{length-set, set-get_or, get_or-set_same, get_or-set_other, get_or-replicate}
-use mathlib.Core.Option.{some, none, some-injective, some-ne-none}
-use mathlib.Core.List.{IsPrefix}
-use lib.ListN.{get_elem?}
+use mathlib.Core.Option.{some-injective, some-ne-none}
 use prog.Atomic.{either}
-use Rattle.atomic_table.specs.Table.{State, Me, keeps, step, opening, Allows, Enters, Joins, Splits}
+use Rattle.atomic_table.specs.Table.{State, keeps, opening, Enters, Joins, Splits}
 use Rattle.atomic_table.proofs.Lists.{at_set, set_again, exchanged}
-use Rattle.hub_base.specs.declared.entry.Entry.{Entry}
-use Rattle.hub_base.specs.State.{Channel}
-use Rattle.hub_laws.specs.Replies.{own}
-use Rattle.hub_core.specs.Looks.{counts_of}
-use Rattle.hub_core.specs.declared.terms.Terms.{Terms}
-use Rattle.hub_live.specs.declared.rule.View.{View}
-use Rattle.hub_live.specs.Mark.{mark_of}
-use Rattle.hub_live.specs.Rule.{next_word, word_count, blank, spent, Knows, Holds, Fits, Kept}
-use Rattle.hub_live.specs.Moves.{Entered, Drew, with_joined, parted, given_back, numbered}
+use Rattle.hub_live.specs.Rule.{word_count, spent}
+use Rattle.hub_live.specs.Moves.{Entered, Drew, numbered}
+use Rattle.hub_live.specs.Cited.{some, none, IsPrefix, get_elem?, Me, step, Allows, Entry, Channel, own, counts_of, Terms, View, mark_of, next_word, blank}
+use Rattle.hub_live.specs.Cited.{Knows, Holds, Fits, Kept, with_joined, parted, given_back}
 use Rattle.hub_live.proofs.Histories.{own_none}
 use Rattle.hub_live.proofs.Steps.{fits_set, some_of}
 

@@ -4,19 +4,11 @@ use Rattle.std.proofs.Common.{true, false, refl, sym, ap, ◌∙◌, subst, ⊎_
 use Rattle.std.specs.Prelude.{slice_index, MatchBool, Option, IsSome}
 use Rattle.std.proofs.lemmas.List.{length-set, set-get_or, get_or-set_same, get_or-set_other}
 use Rattle.std.proofs.lemmas.Bool.Decides.{nat_tests}
-use mathlib.Core.Option.{some, none}
-use mathlib.Core.List.{IsPrefix}
-use lib.ListN.{get_elem?}
-use Rattle.atomic_table.specs.Table.{Me, keeps, step, Allows}
+use Rattle.atomic_table.specs.Table.{keeps}
 use Rattle.atomic_table.proofs.Lists.{at_set}
-use Rattle.hub_base.specs.declared.head.Head.{Head}
-use Rattle.hub_base.specs.declared.entry.Entry.{Entry}
-use Rattle.hub_base.specs.declared.limits.TheConstants.{MOST_PORTS}
-use Rattle.hub_core.specs.declared.terms.Terms.{Terms}
-use Rattle.hub_live.specs.declared.rule.View.{View}
-use Rattle.hub_live.specs.Mark.{mark, MarksOne}
-use Rattle.hub_live.specs.Rule.{next_word, IsHistory, Knows, Holds, Fits, Kept}
-use Rattle.hub_live.specs.Moves.{Looked, Published, grown}
+use Rattle.hub_live.specs.Moves.{Looked}
+use Rattle.hub_live.specs.Cited.{some, none, IsPrefix, get_elem?, Me, step, Allows, Head, Entry, MOST_PORTS, Terms, View, mark, MarksOne, next_word}
+use Rattle.hub_live.specs.Cited.{IsHistory, Knows, Holds, Fits, Kept, Published, grown}
 use Rattle.hub_live.proofs.Prefixes.{prefix_self, prefix_trans}
 use Rattle.hub_live.proofs.Histories.{own_other}
 

@@ -36,13 +36,11 @@ pub struct Blank {
 }
 
 impl Model for Blank {
+    ghost use Rattle.std.specs.Prelude.{vec_len};
     ghost use Rattle.hub_live.specs.Name.{name_of};
-    ghost use Rattle.hub_live.specs.Seated.{BlankView};
+    ghost use Rattle.hub_live.specs.Seated.{BlankView, IsBlank};
 
     ghost Value = { BlankView };
-
-    ghost use Rattle.std.specs.Prelude.{vec_len};
-    ghost use Rattle.hub_live.specs.Seated.{IsBlank};
 
     ghost view = { λ b.
         record { name = name_of b.table.shared.table_id b.table.shared.key; locked = b.locked } };

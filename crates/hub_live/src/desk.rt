@@ -5,18 +5,9 @@
 //! since a store is judged by what the seat that stores knows.
 
 ghost use Rattle.std.specs.Prelude.{◌≡◌, ◌≤◌, ◌<◌, ◌+◌, ◌++◌, ◌∷◌, [], List, length, Some, None, false, IfOk, IfErr, OnOk, OnErr, IfSome, IfNone, OnSome};
-ghost use mathlib.Core.List.{IsPrefix};
-ghost use Rattle.hub_base.specs.declared.entry.Entry.{Entry};
-ghost use Rattle.hub_base.specs.Text.{steps_of};
-ghost use Rattle.hub_laws.specs.Journals.{IsLegal};
-ghost use Rattle.hub_laws.specs.OnePort.{number_of, port_changed_by};
-ghost use Rattle.hub_core.specs.HubView.{Refuses, state_of};
-ghost use Rattle.hub_live.specs.Mark.{mark_at};
-ghost use Rattle.hub_live.specs.Locked.{Serves, answer_for, without_answer, IsReplyTo};
-ghost use Rattle.hub_live.specs.Rule.{IsHistory};
-ghost use Rattle.hub_live.specs.SeatView.{IsFree, own_of};
-ghost use Rattle.hub_live.specs.Seated.{IsDesk};
-ghost use Rattle.hub_live.specs.Calls.{Tells, Shows, AskedNothing, StandsIn};
+ghost use Rattle.hub_live.specs.Cited.{IsPrefix, Entry, steps_of, IsLegal, number_of, port_changed_by, Refuses, state_of, mark_at, Serves};
+ghost use Rattle.hub_live.specs.Cited.{answer_for, without_answer, IsReplyTo, IsHistory, IsFree, own_of, IsDesk, Tells, Shows, AskedNothing};
+ghost use Rattle.hub_live.specs.Cited.{StandsIn};
 
 use crate::locked::{Locked, Pids};
 use crate::mark::mark_of;

@@ -2,16 +2,9 @@
 //! thread and comes back with no clause.
 
 ghost use Rattle.std.specs.Prelude.{◌≡◌, ◌<◌, ◌≤◌, ◌∷◌, ◌⊎◌, [], false, IfOk, IfErr, All};
-ghost use Rattle.hub_base.specs.declared.case.Case.TheVariants.{Send, Recv};
-ghost use Rattle.hub_base.specs.declared.entry.Step.TheVariants.{Make, Call, Close, Exit};
 ghost use Rattle.hub_base.specs.declared.event.What.TheVariants as what;
-ghost use Rattle.hub_base.specs.Lines.{call};
-ghost use Rattle.hub_base.specs.Steps.{tells};
-ghost use Rattle.hub_base.specs.Text.{steps_of};
-ghost use Rattle.hub_laws.specs.Journals.{IsLegal};
-ghost use Rattle.hub_live.specs.Mark.{counts_at};
-ghost use Rattle.hub_live.specs.SeatView.{IsIdle, state_seen};
-ghost use Rattle.hub_live.specs.Calls.{Later, Made, Refused, Answers, AskedNothing, StandsIn};
+ghost use Rattle.hub_live.specs.Cited.{Send, Recv, Make, Call, Close, Exit, call, tells, steps_of, IsLegal, counts_at, IsIdle, state_seen, Later};
+ghost use Rattle.hub_live.specs.Cited.{Made, Refused, Answers, AskedNothing, StandsIn};
 
 use crate::ends::{Chan, RecvPort, SendPort};
 use crate::live_hub::LiveHub;

@@ -1,17 +1,9 @@
 //! A hub that threads share. Steps take its lock; looks and meetings take none.
 
 ghost use Rattle.std.specs.Prelude.{◌≡◌, ◌≤◌, ◌∷◌, ◌⊎◌, [], false, IfOk, IfErr, All, vec_len};
-ghost use Rattle.hub_base.specs.declared.case.Case.TheVariants.{Send, Recv};
-ghost use Rattle.hub_base.specs.declared.entry.Step.TheVariants.{Make, Call, Close, Exit};
 ghost use Rattle.hub_base.specs.declared.event.What.TheVariants as what;
-ghost use Rattle.hub_base.specs.Lines.{call};
-ghost use Rattle.hub_base.specs.Steps.{tells};
-ghost use Rattle.hub_base.specs.Text.{steps_of};
-ghost use Rattle.hub_laws.specs.Journals.{IsLegal};
-ghost use Rattle.hub_laws.specs.Replies.{is_parked};
-ghost use Rattle.hub_live.specs.Mark.{counts_at};
-ghost use Rattle.hub_live.specs.SeatView.{state_seen};
-ghost use Rattle.hub_live.specs.Calls.{Later, Made, Refused, MadeEntry, RefusedEntry, Answers, AnswersNoCall, AskedNothing, StandsIn};
+ghost use Rattle.hub_live.specs.Cited.{Send, Recv, Make, Call, Close, Exit, call, tells, steps_of, IsLegal, is_parked, counts_at, state_seen, Later};
+ghost use Rattle.hub_live.specs.Cited.{Made, Refused, MadeEntry, RefusedEntry, Answers, AnswersNoCall, AskedNothing, StandsIn};
 
 use crate::desk::Desk;
 use crate::ends::{Chan, RecvPort, SendPort};

@@ -6,11 +6,9 @@
 //! leads to is kept by the hub's own type.
 
 ghost use Rattle.std.specs.Prelude.{◌≡◌, ◌≤◌, ◌<◌, ℕ, Some, false, length, slice_set, IfOk, IfErr, OnErr, IfSome, IfNone};
-ghost use Rattle.hub_laws.specs.Journals.{IsLegal};
-ghost use Rattle.hub_laws.specs.Replies.{is_parked};
 ghost use Rattle.hub_core.specs.Looks.{look_at};
-ghost use Rattle.hub_core.specs.HubView.{Refuses, state_of};
-ghost use Rattle.hub_live.specs.Locked.{answer_for, none_waits, IsReplyTo, last_told, pids_of, Serves, without_answer};
+ghost use Rattle.hub_live.specs.Locked.{none_waits, last_told};
+ghost use Rattle.hub_live.specs.Cited.{IsLegal, is_parked, Refuses, state_of, answer_for, IsReplyTo, pids_of, Serves, without_answer};
 
 use arrayvec::ArrayVec;
 use hub_base::{Entry, Event, Events, Fault, Journal, Look, MOST_PROCS, Pid, Port};

@@ -1,7 +1,5 @@
 use Rattle.std.proofs.Common.{◌≡◌, ◌∙◌, ◌++◌, ◌∷◌, [], sym, ap, subst, rules}
-use Rattle.hub_live.specs.Name.{Name}
-use Rattle.hub_live.specs.SeatView.{SeatView, own_of}
-use Rattle.hub_live.specs.Calls.{MadeEntry}
+use Rattle.hub_live.specs.Cited.{Name, SeatView, own_of, MadeEntry}
 use Rattle.hub_live.proofs.Laters.{made_later}
 use Rattle.hub_live.proofs.Locks.{served_answers, answers_no_call, parked_call}
 use Rattle.hub_live.proofs.live_hub.LiveHub.ask.Goals as goal

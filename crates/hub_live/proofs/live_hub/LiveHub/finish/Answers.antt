@@ -1,4 +1,4 @@
-use Rattle.std.proofs.Common.{ap, ◌∙◌, rules}
+use Rattle.std.proofs.Common.{ap, rules}
 use Rattle.hub_base.specs.Journal.{JournalView}
 use Rattle.hub_live.proofs.Finishing.{compared_next, compared_all}
 use Rattle.hub_live.proofs.live_hub.LiveHub.finish.Goals as goal

@@ -1,9 +1,5 @@
 use Rattle.std.proofs.Common.{◌≡◌, ◌<◌, ◌≤◌, ◌∙◌, Some, sym, ap, subst, arith}
-use Rattle.hub_base.specs.declared.limits.TheConstants.{MOST_PORTS}
-use Rattle.hub_live.specs.Mark.{mark, read_back}
-use Rattle.hub_live.specs.SeatView.{IsIdle}
-use Rattle.hub_live.specs.Seated.{seat_of}
-use Rattle.hub_live.specs.Calls.{Later}
+use Rattle.hub_live.specs.Cited.{MOST_PORTS, mark, read_back, IsIdle, seat_of, Later}
 use Rattle.hub_live.proofs.Marks.{no_port, mark-tells}
 use Rattle.hub_live.proofs.Laters.{later_self, seat_opened, has_seen, Follows, asked_nothing, later}
 use Rattle.hub_live.proofs.live_hub.LiveHub.look.Given.{Over}

@@ -1,7 +1,5 @@
 use Rattle.std.proofs.Common.{◌∙◌, Some, sym, ap, subst}
-use Rattle.hub_live.specs.SeatView.{IsIdle}
-use Rattle.hub_live.specs.Seated.{seat_of}
-use Rattle.hub_live.specs.Calls.{Later}
+use Rattle.hub_live.specs.Cited.{IsIdle, seat_of, Later}
 use Rattle.hub_live.proofs.Laters.{seat_opened, has_seen, Follows, asked_nothing, later}
 use Rattle.hub_live.proofs.live_hub.LiveHub.meet.Given.{Over}
 use Rattle.hub_live.proofs.live_hub.LiveHub.meet.Goals as goal

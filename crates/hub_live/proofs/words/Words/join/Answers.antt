@@ -7,5 +7,4 @@ join_seat-requires g c =
     let b = c.args.self.now.is in
     let t = c.requires.token in
     let o = c.requires.other in
-    let words = b.words in
-    (t.is.table ∙ sym b.same, o.is.table ∙ sym b.same, o.is.free, omega arith, joins_some _ _ _ _ _ (t.terms ∙ sym o.terms) o.number o.joined)
+    (t.is.table ∙ sym b.same, o.is.table ∙ sym b.same, o.is.free, omega (arith, b.words), joins_some _ _ _ _ _ (t.terms ∙ sym o.terms) o.number o.joined)

@@ -7,5 +7,4 @@ load-requires g c =
     let b = c.args.self.now.is in
     let t = c.requires.token in
     let small = c.requires.word in
-    let words = b.words in
-    (t.table ∙ sym b.same, omega arith, looks_as _ _ _ _ c.args.token.now.me t.free c.requires.number)
+    (t.table ∙ sym b.same, omega (arith, b.words), looks_as _ _ _ _ c.args.token.now.me t.free c.requires.number)

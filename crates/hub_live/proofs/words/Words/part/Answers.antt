@@ -6,5 +6,4 @@ pub split_seat-requires : goal.split_seat-requires
 split_seat-requires g c =
     let b = c.args.self.now.is in
     let t = c.requires.token in
-    let words = b.words in
-    (t.table ∙ sym b.same, omega arith, parts_some _ _ _ c.requires.joined)
+    (t.table ∙ sym b.same, omega (arith, b.words), parts_some _ _ _ c.requires.joined)

@@ -1,11 +1,5 @@
 use Rattle.std.proofs.Common.{arith, sym, ◌∙◌, subst, ◌∷◌, [], ◌++◌}
-use Rattle.atomic_table.specs.Table.{Allows, step}
-use mathlib.Core.Option.{none}
-use Rattle.hub_base.specs.declared.entry.Entry.{Entry}
-use Rattle.hub_core.specs.declared.terms.Terms.{Terms}
-use Rattle.hub_live.specs.Mark.{MarksOne}
-use Rattle.hub_live.specs.Rule.{IsHistory, Kept}
-use Rattle.hub_live.specs.Moves.{Published}
+use Rattle.hub_live.specs.Cited.{Allows, step, none, Entry, Terms, MarksOne, IsHistory, Kept, Published}
 use Rattle.hub_live.proofs.Steps.{publishes_as}
 use Rattle.hub_live.proofs.words.Words.publish_as.Goals as goal
 

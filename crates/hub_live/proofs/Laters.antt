@@ -95,16 +95,17 @@ pub asked_nothing : {s t : SeatView} → Follows s t → IsFree s → AskedNothi
 asked_nothing {s} {t} f free =
     asks_nothing s.hub.terms s.pid s.seen t.seen f.begins (subst (λ (p : Pid). own p.0 t.seen ≡ own_of s) f.pid f.own) free
 
-pub later : {s t : SeatView} → IsIdle s → Follows s t → Later s t
-later {s} {t} idle f = record {
-  hub = f.hub;
-  pid = f.pid;
-  begins = f.begins;
-  idle = record {
-    history = f.history;
-    free = (λ i. is_waiting (state (f.hub i).terms.head t.seen) (f.pid i).0) ∙ (asked_nothing f idle.free).free;
-  };
-}
+-- where it was idle, it is so again
+pub record Looking (s t : SeatView) : Type 0 where
+  pub later : Later s t
+  pub same : AskedNothing s t
+
+pub looking : {s : SeatView} {pid : Pid} {back : Seat (Unit {0}) View} → IsIdle s → HasSeen s pid back → Looking s (seat_of pid (Some back))
+looking {back = back} idle h =
+    let f = h.follows in
+    let same = asked_nothing f idle.free in
+    let free = (λ i. is_waiting (state (f.hub i).terms.head back.me.0.seen) (f.pid i).0) ∙ same.free in
+    record { later = record { hub = f.hub; pid = f.pid; begins = f.begins; idle = record { history = f.history; free = free } }; same = same }
 
 pub stands_in : {s t : SeatView} {journal : List Entry} → Follows s t → t.seen ≡ journal → IsFree s → StandsIn s journal
 stands_in {s} f whole free = subst (StandsIn s) whole (record { begins = f.begins; same = asked_nothing f free })

@@ -102,23 +102,18 @@ gone_exited head q es legal is = subst (λ (xs : List Entry). exited q xs ≡ tr
 abbrev refused : Bool → Bool → Bool → Option Fault
 refused a b c = cond a (Some fault.NoProcess) (cond b (Some fault.Gone) (cond c (Some fault.Busy) None))
 
-refused_none : (a b c : Bool) → refused a b c ≡ Some fault.NoProcess → a ≡ true
-refused_none true b c h = refl
-refused_none false true c h = absurd (let g : ⊥ = cc in g)
-refused_none false false true h = absurd (let g : ⊥ = cc in g)
-refused_none false false false h = absurd (let g : ⊥ = cc in g)
+-- the test that refused
+abbrev tested : Bool → Bool → Bool → Fault → Type 0
+tested a b c fault.NoProcess = a ≡ true
+tested a b c fault.Gone = b ≡ true
+tested a b c fault.Busy = c ≡ true
+tested a b c other = Unit {0}
 
-refused_gone : (a b c : Bool) → refused a b c ≡ Some fault.Gone → b ≡ true
-refused_gone true b c h = absurd (let g : ⊥ = cc in g)
-refused_gone false true c h = refl
-refused_gone false false true h = absurd (let g : ⊥ = cc in g)
-refused_gone false false false h = absurd (let g : ⊥ = cc in g)
-
-refused_busy : (a b c : Bool) → refused a b c ≡ Some fault.Busy → c ≡ true
-refused_busy true b c h = absurd (let g : ⊥ = cc in g)
-refused_busy false true c h = absurd (let g : ⊥ = cc in g)
-refused_busy false false true h = refl
-refused_busy false false false h = absurd (let g : ⊥ = cc in g)
+refused_so : (a b c : Bool) (f : Fault) → refused a b c ≡ Some f → tested a b c f
+refused_so true b c f h = let e : fault.NoProcess ≡ f = cc in subst (tested true b c) e refl
+refused_so false true c f h = let e : fault.Gone ≡ f = cc in subst (tested false true c) e refl
+refused_so false false true f h = let e : fault.Busy ≡ f = cc in subst (tested false false true) e refl
+refused_so false false false f h = absurd (cc)
 
 growing : (step : Step) (places : ℕ) → Grows step places → is_exit step ≡ false
 growing (Make cap) places g = refl
@@ -139,15 +134,15 @@ shows t h e fault.NoProcess is below free r = absurd (below_not e.pid.0 (state_o
   below,
   ap (λ (t : Terms). t.head.procs) is.terms,
   procs-of (head-after (opening h.terms.head) h.journal),
-)) (refused_none (not (nat_lt e.pid.0 (state_of h).head.procs)) (has_gone (state_of h) e.pid.0) (is_waiting (state_of h) e.pid.0) r.1))
+)) (refused_so _ _ _ fault.NoProcess r.1))
 shows t h e fault.Gone is below free r =
     let room : LeavesRoom t e h.journal = λ exit. subst (λ (t : Terms). steps_of h.journal < t.limit) is.terms (r.0 exit) in
     let gone : has_gone (state_of h) e.pid.0 ≡ true =
-    refused_gone (not (nat_lt e.pid.0 (state_of h).head.procs)) (has_gone (state_of h) e.pid.0) (is_waiting (state_of h) e.pid.0) r.1 in
+    refused_so _ _ _ fault.Gone r.1 in
     (room, gone_exited h.terms.head e.pid.0 h.journal (subst (λ (t : Terms). IsLegal t.head h.journal) (sym is.terms) is.history.legal) gone)
 shows t h e fault.Busy is below free r =
     let busy : is_waiting (state_of h) e.pid.0 ≡ true =
-    refused_busy (not (nat_lt e.pid.0 (state_of h).head.procs)) (has_gone (state_of h) e.pid.0) (is_waiting (state_of h) e.pid.0) r.1 in
+    refused_so _ _ _ fault.Busy r.1 in
     absurd (let g : ⊥ = cc in g)
 shows t h e fault.NoMemory is below free r =
     let step : is_exit e.step ≡ false = growing e.step h.places r.2 in (

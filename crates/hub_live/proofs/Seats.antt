@@ -81,22 +81,21 @@ begins t = record {
         (idle_fits t [] (λ _. 0) (slice_index (replicate word_count 0) next_word) 0 (blank t) refl refl)
     one (suc id) v e = absurd (some-ne-none v (sym e))
 
+-- the same words, where each of these views fits
+reseated : {t : Terms} {s : State (Unit {0}) View} (kept : Kept t s) (at : ℕ → ℕ) (views : List View)
+    → ((id : ℕ) (v : View) → get_elem? views id ≡ some v → Fits t kept.journal at (slice_index s.words next_word) id v)
+    → Kept t record { words = s.words; homes = s.homes; views = views }
+reseated kept at views fits =
+    record { journal = kept.journal; at = at; count = kept.count; history = kept.history; marks = kept.marks; drawn = kept.drawn; fits = fits }
+
 pub enters : (t : Terms) (slots i : ℕ) → Enters (Kept t) slots i (λ n w. Entered (step slots i 0 0 none) (blank t, []) n (w, []))
 enters t slots i s kept homes bound = (
   blank t,
-  record {
-    journal = kept.journal;
-    at = kept.at;
-    count = kept.count;
-    history = kept.history;
-    marks = kept.marks;
-    drawn = kept.drawn;
-    fits = λ j u e. ⊎_elim
-        (λ (was : get_elem? s.views j ≡ some u). kept.fits j u was)
-        (λ (x : (j ≡ length s.views) × (blank t ≡ u)). subst (Fits t kept.journal kept.at (slice_index s.words next_word) j) x.1
-        (idle_fits t kept.journal kept.at (slice_index s.words next_word) j (blank t) refl refl))
-        (at_end s.views (blank t) u j e);
-  },
+  reseated kept kept.at (s.views ++ blank t ∷ []) (λ j u e. ⊎_elim
+      (λ (was : get_elem? s.views j ≡ some u). kept.fits j u was)
+      (λ (x : (j ≡ length s.views) × (blank t ≡ u)). subst (Fits t kept.journal kept.at (slice_index s.words next_word) j) x.1
+      (idle_fits t kept.journal kept.at (slice_index s.words next_word) j (blank t) refl refl))
+      (at_end s.views (blank t) u j e)),
   refl,
 )
 
@@ -192,22 +191,14 @@ joins t id other m v w terms_same first alone s kept at apart there =
     let g : Fits t kept.journal kept.at next other w = ⊎_elim (λ (x : (other ≡ id) × (both ≡ w)). absurd (apart x.0))
     (λ (x : (other ≢ id) × (get_elem? s.views other ≡ some w)). kept.fits other w x.1) (at_set s.views id other both w there) in
     let theirs = g.own m first in
-    record {
-      journal = kept.journal;
-      at = at';
-      count = kept.count;
-      history = kept.history;
-      marks = kept.marks;
-      drawn = kept.drawn;
-      fits = fits_set t kept.journal at' next (set s.views id both) other spent
-          (λ j u far e. ⊎_elim
-          (λ (x : (j ≡ id) × (both ≡ u)). subst (λ (y : ℕ × View). Fits t kept.journal at' next y.0 y.1) (λ i. (sym x.0 i, x.1 i))
-          (joined_fits t kept.journal kept.at next id other m v w terms_same first apart f g))
-          (λ (x : (j ≢ id) × (get_elem? s.views j ≡ some u)).
-          stays t kept.journal kept.at next next j m id u (omega arith) (λ seen has. far (sym has.here ∙ theirs.here)) (kept.fits j u x.1))
-          (at_set s.views id j both u e))
-          (idle_fits t kept.journal at' next other spent refl refl);
-    }
+    reseated kept at' (set (set s.views id both) other spent) (fits_set t kept.journal at' next (set s.views id both) other spent
+    (λ j u far e. ⊎_elim
+    (λ (x : (j ≡ id) × (both ≡ u)). subst (λ (y : ℕ × View). Fits t kept.journal at' next y.0 y.1) (λ i. (sym x.0 i, x.1 i))
+    (joined_fits t kept.journal kept.at next id other m v w terms_same first apart f g))
+    (λ (x : (j ≢ id) × (get_elem? s.views j ≡ some u)).
+    stays t kept.journal kept.at next next j m id u (omega arith) (λ seen has. far (sym has.here ∙ theirs.here)) (kept.fits j u x.1))
+    (at_set s.views id j both u e))
+    (idle_fits t kept.journal at' next other spent refl refl))
 
 pub parts : (t : Terms) (id m : ℕ) (v : View) → v.joined ≡ Some m → Splits (Kept t) id v (parted v) (given_back v)
 parts t id m v second s kept at =
@@ -232,20 +223,12 @@ parts t id m v second s kept at =
       joined = λ n h. absurd (none_some n h);
       apart = λ n _ h. none_some n h;
     } in
-    record {
-      journal = kept.journal;
-      at = at';
-      count = kept.count;
-      history = kept.history;
-      marks = kept.marks;
-      drawn = kept.drawn;
-      fits = λ j u e. ⊎_elim
-          (λ (was : get_elem? (set s.views id left) j ≡ some u). fits_set t kept.journal at' next s.views id left
-          (λ i y not there. stays t kept.journal kept.at next next i m new y (omega arith) (λ seen has. not (sym has.here ∙ mine.here)) (kept.fits i y there))
-          left_fits j u was)
-          (λ (x : (j ≡ new) × (right ≡ u)). subst (λ (y : ℕ × View). Fits t kept.journal at' next y.0 y.1) (λ i. (sym x.0 i, x.1 i)) right_fits)
-          (at_end (set s.views id left) right u j e);
-    }
+    reseated kept at' (set s.views id left ++ right ∷ []) (λ j u e. ⊎_elim
+    (λ (was : get_elem? (set s.views id left) j ≡ some u). fits_set t kept.journal at' next s.views id left
+    (λ i y not there. stays t kept.journal kept.at next next i m new y (omega arith) (λ seen has. not (sym has.here ∙ mine.here)) (kept.fits i y there))
+    left_fits j u was)
+    (λ (x : (j ≡ new) × (right ≡ u)). subst (λ (y : ℕ × View). Fits t kept.journal at' next y.0 y.1) (λ i. (sym x.0 i, x.1 i)) right_fits)
+    (at_end (set s.views id left) right u j e))
 
 pub draws_as : (t : Terms) (slots id k : ℕ) (me : Me (Unit {0}) View) → me ≡ (blank t, [])
     → Allows (Kept t) slots id me next_word (λ n. either (n == k) (k + 1) n) (Drew (step slots next_word k (k + 1) none) me)

@@ -36,19 +36,16 @@ knows_all journal (suc p) = refl
 abbrev pub seeing : View → List Entry → View
 seeing v journal = record v { seen = journal; joined_seen = journal }
 
+-- the seat holds its number still, where it has seen this journal so far
+holds_on : {t : Terms} {journal after : List Entry} {at : ℕ → ℕ} {next id n : ℕ} {v w : View} {seen now : List Entry} → w.terms ≡ v.terms
+    → IsPrefix now after → Knows after now n → Holds t journal at next id v seen n → Holds t after at next id w now n
+holds_on same begins knows k = record { terms = same ∙ k.terms; here = k.here; drawn = k.drawn; begins = begins; knows = knows }
+
 seeing_fits : (t : Terms) (journal : List Entry) (at : ℕ → ℕ) (next id : ℕ) (v : View) → Fits t journal at next id v
     → Fits t journal at next id (seeing v journal)
 seeing_fits t journal at next id v f = record {
-  own = λ n has. let k = f.own n has in record { terms = k.terms; here = k.here; drawn = k.drawn; begins = prefix_self journal; knows = knows_all journal n };
-  joined = λ n has.
-      let k = f.joined n has in
-      record {
-        terms = k.terms;
-        here = k.here;
-        drawn = k.drawn;
-        begins = prefix_self journal;
-        knows = knows_all journal n;
-      };
+  own = λ n has. holds_on refl (prefix_self journal) (knows_all journal n) (f.own n has);
+  joined = λ n has. holds_on refl (prefix_self journal) (knows_all journal n) (f.joined n has);
   apart = f.apart;
 }
 
@@ -98,8 +95,8 @@ grown_fits t journal at next id v e same f =
     let begins : IsPrefix (v.seen ++ e ∷ []) after = subst (λ (l : List Entry). IsPrefix (l ++ e ∷ []) after) (sym same) (prefix_self after) in
     let knows : (n : ℕ) → Knows after (v.seen ++ e ∷ []) n = λ n. subst (λ (l : List Entry). Knows after (l ++ e ∷ []) n) (sym same) (knows_all after n) in
     record {
-      own = λ n has. let k = f.own n has in record { terms = k.terms; here = k.here; drawn = k.drawn; begins = begins; knows = knows n };
-      joined = λ n has. let k = f.joined n has in record { terms = k.terms; here = k.here; drawn = k.drawn; begins = begins; knows = knows n };
+      own = λ n has. holds_on refl begins (knows n) (f.own n has);
+      joined = λ n has. holds_on refl begins (knows n) (f.joined n has);
       apart = f.apart;
     }
 
@@ -117,13 +114,7 @@ other_fits t journal at next id j u e apart hub mine f = record {
     knows (suc p) seen here k = own_other p journal e (λ (is : e.pid.0 ≡ p). apart (sym here ∙ (ap (λ (q : ℕ). at (suc q)) (sym is) ∙ mine))) ∙ k
 
     grow : (n : ℕ) (seen : List Entry) → Holds t journal at next j u seen n → Holds t (journal ++ e ∷ []) at next j u seen n
-    grow n seen k = record {
-      terms = k.terms;
-      here = k.here;
-      drawn = k.drawn;
-      begins = prefix_trans seen journal (journal ++ e ∷ []) k.begins (e ∷ [], refl);
-      knows = knows n seen k.here k.knows;
-    }
+    grow n seen k = holds_on refl (prefix_trans seen journal (journal ++ e ∷ []) k.begins (e ∷ [], refl)) (knows n seen k.here k.knows) k
 
 mark_after : (head : Head) (journal : List Entry) (e : Entry) (ws : List ℕ) (i new n : ℕ) (b : Bool) → (n == i) ≡ b → i < length ws
     → slice_index ws n ≡ mark head journal n → MatchBool b (mark head (journal ++ e ∷ []) n ≡ new) (mark head (journal ++ e ∷ []) n ≡ mark head journal n)

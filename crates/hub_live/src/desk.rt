@@ -51,8 +51,7 @@ fn changed(step: &Step, answer: What) -> Port
 
 /// The mark of a port, 0 where it is not made.
 fn mark_at(locked: &Locked, port: Port) -> u64
-    requires legal { IsLegal locked.now.hub.terms.head locked.now.hub.journal }
-    requires few { steps_of locked.now.hub.journal ≤ MOST_STEPS }
+    requires { IsHistory locked.now.hub.terms locked.now.hub.journal }
     ensures { result ≡ mark_at (state_of locked.now.hub) port }
 {
     match locked.look(port) {

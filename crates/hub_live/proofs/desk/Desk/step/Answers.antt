@@ -1,21 +1,15 @@
 use Rattle.std.proofs.Common.{◌∙◌, sym, ap, refl, subst}
-use Rattle.hub_live.specs.Cited.{IsLegal, Terms, LockedView, Met, IsHub}
+use Rattle.hub_live.specs.Cited.{IsHistory, Terms, LockedView, Met}
 use Rattle.hub_live.proofs.Desks.{hub_steps, next_served, Stepped, stepped, desk_single, desk_seen, reply_there, refusal_seen}
 use Rattle.hub_live.proofs.Laters.{met, IsSeatOf, seat_opened, HasSeen, has_seen, asked_nothing}
 use Rattle.hub_live.proofs.desk.Desk.step.Given.{Over}
 use Rattle.hub_live.proofs.desk.Desk.step.Goals as goal
-use Rattle.hub_live.proofs.desk.Desk.step.Goals.{After-changed-port, Joined-seat, Joined-seat-2}
+use Rattle.hub_live.proofs.desk.Desk.step.Goals.{Joined-seat, Joined-seat-2}
 
-hub_after : (g : Over) (c : After-changed-port g) → IsHub g.K.HubName.name.terms c.step.new.self.hub
-hub_after g c = hub_steps _ _ _ _ _ c.self.invariant.hub c.in-Ok.ensures.ok.step
-
-pub mark_at-mark-requires-clause-legal : goal.mark_at-mark-requires-clause-legal
-mark_at-mark-requires-clause-legal g c =
-    let is = hub_after g c in
-    subst (λ (t : Terms). IsLegal t.head c.step.new.self.hub.journal) (sym is.terms) is.history.legal
-
-pub mark_at-mark-requires-clause-few : goal.mark_at-mark-requires-clause-few
-mark_at-mark-requires-clause-few g c = (hub_after g c).history.few
+pub mark_at-mark-requires : goal.mark_at-mark-requires
+mark_at-mark-requires g c =
+    let is = hub_steps _ _ _ _ _ c.self.invariant.hub c.in-Ok.ensures.ok.step in
+    subst (λ (t : Terms). IsHistory t c.step.new.self.hub.journal) (sym is.terms) is.history
 
 pub publish-requires-clause-next : goal.publish-requires-clause-next
 publish-requires-clause-next g c =

@@ -4,7 +4,9 @@ use Rattle.hub_live.proofs.Finishing.{compared_next, compared_all}
 use Rattle.hub_live.proofs.live_hub.LiveHub.finish_held.Goals as goal
 
 pub loop-one-preserved : goal.loop-one-preserved
-loop-one-preserved g c = compared_next c.loop-one.invariant c.compare.ensures.same (c.into_inner.ensures.inner ∙ c.into_seat.ensures.seat) c.compare.ensures.stands c.in-Some.ensures.steps.0
+loop-one-preserved g c =
+    let same = c.into_inner.ensures.inner ∙ c.into_seat.ensures.seat in
+    compared_next c.loop-one.invariant c.compare.ensures.same same c.compare.ensures.stands c.in-Some.ensures.steps.0
 
 pub returns-clause-seats : goal.returns-clause-seats
 returns-clause-seats g c =

@@ -1,6 +1,7 @@
 -- A spelling that stands between two places of some bytes.
-use Rattle.std.proofs.Common.{refl, Bool, false, zero, Ok, subst, ◌≡◌, ◌≢◌, ℕ, suc, ◌+◌, ◌*◌, ◌-◌, ◌<◌, ◌^◌, true, List, [], ◌∷◌, ◌++◌, length, drop, get_or, ap, ◌∙◌, sym, arith, ◌&&◌}
-use Rattle.std.proofs.Common.{add-one, drop-cons, append_assoc, length-append, length-drop, append-nil, take, cond, codes, ◌≤◌}
+use Rattle.std.proofs.Common.{◌≡◌, ◌≢◌, ℕ, zero, suc, ◌+◌, ◌*◌, ◌-◌, ◌<◌, ◌≤◌, ◌^◌, Bool, true, false, ◌&&◌, cond, Ok, List, [], ◌∷◌, ◌++◌, codes}
+use Rattle.std.proofs.Common.{length, take, drop, get_or, refl, ap, ◌∙◌, sym, subst, arith, add-one, drop-cons, length-drop}
+use Rattle.std.proofs.Common.{append_assoc, append-nil, length-append}
 use Rattle.std.proofs.lemmas.Grind.{common_steps}
 use Rattle.std.proofs.lemmas.Fmt.{decimal_digit, first_decimal, decimal_nonempty}
 use Rattle.std.proofs.lemmas.Int.Digits.{digits_value_push}
@@ -154,7 +155,14 @@ select-stands bs start at step end word so =
 pub begins-line : (bs : List ℕ) (e : Entry) (at end : ℕ) → Stands bs 0 (decimal e.pid.0) at → e.pid.0 ≤ GREATEST_PID → StepStands bs at e.step end
     → get_or bs end 0 ≡ 10 → Begins bs e (end + 1)
 begins-line bs e at end pid small step newline = record {
-  spelled = grind (arith, common_steps, pid.spelled, step.stands.spelled, join-spaced (decimal e.pid.0) (step_fields e.step), drop-cons bs end 0 step.stands.inside);
+  spelled = grind (
+    arith,
+    common_steps,
+    pid.spelled,
+    step.stands.spelled,
+    join-spaced (decimal e.pid.0) (step_fields e.step),
+    drop-cons bs end 0 step.stands.inside,
+  );
   inside = omega (arith, step.stands.inside);
   fits = record { pid = small; step = step.fits };
   no_exit = step.no_exit;

@@ -24,9 +24,13 @@ fn number_at(bytes: &[u8], start: usize) -> Option<(u64, usize)>
     }
     let mut value = u64::from(bytes[start] - b'0');
     let mut end = start + 1;
+    // A zero leads no number.
+    if value == 0 && bytes[end].is_ascii_digit() {
+        return None;
+    }
     while bytes[end].is_ascii_digit() {
-        // A zero leads no number, and the greatest of all are left to the slow reading.
-        if value == 0 || value >= u64::MAX / 10 {
+        // What may pass the greatest of all is left to the slow reading.
+        if value >= u64::MAX / 10 {
             return None;
         }
         value = value * 10 + u64::from(bytes[end] - b'0');
@@ -209,8 +213,9 @@ fn cases_into(bytes: &[u8], start: usize, cases: &mut Cases) -> Option<usize>
     Some(end)
 }
 
-/// Reads a select from its word on, and gives the place behind it.
-#[inline]
+/// Reads a select from its word on, and gives the place behind it. It stands apart, so that the short forms
+/// have the registers to themselves.
+#[inline(never)]
 fn select_into(bytes: &[u8], start: usize, step: &mut Step) -> Option<usize>
     requires line { EndsLine bytes.now }
     requires start { start < length bytes.now }

@@ -67,6 +67,7 @@ pub fn recv_of(port: &[u8]) -> Result<Case, Kind>
 }
 
 /// Makes the step a call of one case, without default and with word 0.
+#[inline]
 pub fn set_call(step: &mut Step, case: Case)
     ensures { step.new ≡ call (case ∷ []) false 0 }
 {
@@ -77,18 +78,36 @@ pub fn set_call(step: &mut Step, case: Case)
             default,
             word,
         } => {
-            cases.clear();
-            cases.push(case);
+            set_case(cases, case);
             *default = false;
             *word = 0;
         }
-        _ => {
-            *step = Step::Call {
-                cases: Cases::one(case),
-                default: false,
-                word: 0,
-            };
-        }
+        _ => *step = call_of(case),
+    }
+}
+
+/// Makes this the only case.
+#[inline]
+fn set_case(cases: &mut Cases, case: Case)
+    ensures { cases.new.items ≡ case ∷ [] }
+{
+    if cases.len() == 1 {
+        cases[0] = case;
+    } else {
+        cases.clear();
+        cases.push(case);
+    }
+}
+
+/// A call of one case, without default and with word 0.
+#[inline(never)]
+fn call_of(case: Case) -> Step
+    ensures { result ≡ call (case ∷ []) false 0 }
+{
+    Step::Call {
+        cases: Cases::one(case),
+        default: false,
+        word: 0,
     }
 }
 

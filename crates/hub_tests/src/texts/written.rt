@@ -98,16 +98,16 @@ fn lines_of_events_join_into_one_text(rt: HostRuntime) -> Result<(), Fail> {
         outcome: Outcome::Got(Value::num(number)),
     };
     let mut text = EventText::new(rt.alloc());
-    assert_eq!(rt; text.text(), b"");
+    assert_eq!(rt; text.text(), "".as_bytes());
     text.write(&[told(9, What::Parked), told(10, got(99, 100))])?;
     text.write(&[])?;
     text.write(&[told(100, got(9, 9_999_999_999_999_999_999))])?;
-    let expected = b"9 parked\n10 case 99 got 100\n100 case 9 got 9999999999999999999\n";
-    assert_eq!(rt; text.text(), expected);
+    let expected = "9 parked\n10 case 99 got 100\n100 case 9 got 9999999999999999999\n";
+    assert_eq!(rt; text.text(), expected.as_bytes());
     text.clear();
-    assert_eq!(rt; text.text(), b"");
+    assert_eq!(rt; text.text(), "".as_bytes());
     text.write(&[told(0, What::Stalled)])?;
-    assert_eq!(rt; text.text(), b"0 stalled\n");
+    assert_eq!(rt; text.text(), "0 stalled\n".as_bytes());
     Ok(())
 }
 

@@ -83,7 +83,7 @@ impl Blank {
     /// exits, and a seat for each process, in order. Refused as `Hub::open` is, and nothing is kept; by
     /// `NoMemory` also where the words, the condition variables or the seats were refused memory, or a
     /// seat can't draw its number.
-    #[tactic(auto, using(crate::proofs::Laters::all_of_hub))]
+    #[tactic(auto, using(crate::proofs::Laters::all_of_hub, crate::proofs::Openings::refused_so, crate::proofs::Openings::memory_refused))]
     pub fn open(alloc: Global, procs: u8, limit: u32) -> Result<(Blank, Vec<Seat>), OpenFault>
         ensures hub { IfOk result (λ r. r.0.locked ≡ none_waits (opened_hub (terms_of procs limit))) }
         ensures terms { IfOk result (λ r. r.0.name.terms ≡ terms_of procs limit) }

@@ -64,26 +64,31 @@ to_port n = record { 0 = n }
 same_port : (p q : Port) → p.0 ≡ q.0 → p ≡ q
 same_port p q e = ap to_port e
 
--- a board where one queue changed
-pub board_changed : (f : Buffer Waiter → Buffer Waiter) (s : Side) (q : Port) (c : Calls) (cs : List ChannelLists) → 0 < q.0 → q.0 ≤ length cs
-    → BoardKeeps c cs → QueueKeeps (joins s q) c (f (queue_of s (channel_of cs q))) → BoardKeeps c (set cs (q.0 - 1) (with_queue f s (channel_of cs q)))
-board_changed f s q c cs positive within k change =
-    let long = length-set cs (q.0 - 1) (with_queue f s (channel_of cs q)) in
+-- a board where one port changed, and each of its queues keeps what it kept
+board_set : (q : Port) (ch : ChannelLists) (c : Calls) (cs : List ChannelLists) → 0 < q.0 → q.0 ≤ length cs
+    → ((t : Side) → QueueKeeps (joins t q) c (queue_of t (channel_of cs q)) → QueueKeeps (joins t q) c (queue_of t ch))
+    → BoardKeeps c cs → BoardKeeps c (set cs (q.0 - 1) ch)
+board_set q ch c cs positive within keeps k =
+    let long = length-set cs (q.0 - 1) ch in
     record {
       calls = rw long k.calls;
       queues = λ t p above inside0.
           let inside : p.0 ≤ length cs = rw long at inside0 in
           elim (cases_eq p.0 q.0) [
             | inl same ↦
-                (let here : p ≡ q = same_port p q same in
-                subst (λ r. QueueKeeps (joins t r) c (queue_of t (channel_of (set cs (q.0 - 1) (with_queue f s (channel_of cs q))) r))) (sym here)
-                (rw (get_or-set_same cs (q.0 - 1) (with_queue f s (channel_of cs q)) no_channel (omega arith))
-                (changed_queue f s t q c (channel_of cs q) (k.queues t q positive within) change)))
+                subst (λ r. QueueKeeps (joins t r) c (queue_of t (channel_of (set cs (q.0 - 1) ch) r))) (sym (same_port p q same))
+                (rw (get_or-set_same cs (q.0 - 1) ch no_channel (omega arith)) (keeps t (k.queues t q positive within)))
             | inr ne ↦
                 (let apart : p.0 - 1 ≢ q.0 - 1 = (λ e. ne (omega arith)) in
-                rw (get_or-set_other cs (q.0 - 1) (p.0 - 1) (with_queue f s (channel_of cs q)) no_channel apart) (k.queues t p above inside))
+                rw (get_or-set_other cs (q.0 - 1) (p.0 - 1) ch no_channel apart) (k.queues t p above inside))
           ];
     }
+
+-- a board where one queue changed
+pub board_changed : (f : Buffer Waiter → Buffer Waiter) (s : Side) (q : Port) (c : Calls) (cs : List ChannelLists) → 0 < q.0 → q.0 ≤ length cs
+    → BoardKeeps c cs → QueueKeeps (joins s q) c (f (queue_of s (channel_of cs q))) → BoardKeeps c (set cs (q.0 - 1) (with_queue f s (channel_of cs q)))
+board_changed f s q c cs positive within k change =
+    board_set q (with_queue f s (channel_of cs q)) c cs positive within (λ t kept. changed_queue f s t q c (channel_of cs q) kept change) k
 
 same_queues : (t : Side) (q : Port) (c : Calls) (ch old : ChannelLists) → ch.senders ≡ old.senders → ch.receivers ≡ old.receivers
     → QueueKeeps (joins t q) c (queue_of t old) → QueueKeeps (joins t q) c (queue_of t ch)
@@ -95,20 +100,7 @@ same_queues side.Any q c ch old es er k = rw er k
 pub board_lists : (q : Port) (ch : ChannelLists) (c : Calls) (cs : List ChannelLists) → 0 < q.0 → q.0 ≤ length cs
     → ch.senders ≡ (channel_of cs q).senders → ch.receivers ≡ (channel_of cs q).receivers → BoardKeeps c cs → BoardKeeps c (set cs (q.0 - 1) ch)
 board_lists q ch c cs positive within es er k =
-    let long = length-set cs (q.0 - 1) ch in
-    record {
-      calls = rw long k.calls;
-      queues = λ t p above inside0.
-          let inside : p.0 ≤ length cs = rw long at inside0 in
-          elim (cases_eq p.0 q.0) [
-            | inl same ↦
-                subst (λ r. QueueKeeps (joins t r) c (queue_of t (channel_of (set cs (q.0 - 1) ch) r))) (sym (same_port p q same))
-                (rw (get_or-set_same cs (q.0 - 1) ch no_channel (omega arith)) (same_queues t q c ch (channel_of cs q) es er (k.queues t q positive within)))
-            | inr ne ↦
-                (let apart : p.0 - 1 ≢ q.0 - 1 = (λ e. ne (omega arith)) in
-                rw (get_or-set_other cs (q.0 - 1) (p.0 - 1) ch no_channel apart) (k.queues t p above inside))
-          ];
-    }
+    board_set q ch c cs positive within (λ t kept. same_queues t q c ch (channel_of cs q) es er kept) k
 
 -- no call has a case on a port that was not made
 no_join : (s : Side) (p : Port) (n : ℕ) (c : Case) → (port_of c).0 ≤ n → n < p.0 → joins s p c ≡ false

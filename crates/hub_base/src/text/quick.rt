@@ -25,8 +25,8 @@ fn number_at(bytes: &[u8], start: usize) -> Option<(u64, usize)>
     let mut value = u64::from(bytes[start] - b'0');
     let mut end = start + 1;
     // A zero leads no number.
-    if value == 0 && bytes[end].is_ascii_digit() {
-        return None;
+    if value == 0 {
+        return Some((value, end));
     }
     while bytes[end].is_ascii_digit() {
         // What may pass the greatest of all is left to the slow reading.

@@ -1,14 +1,13 @@
 use Rattle.std.specs.Fmt.{decimal}
-use Rattle.std.proofs.Common.{◌≡◌, ◌-◌, ◌<◌, length, get_or, true}
-use Rattle.std.specs.Char.{is_ascii_digit}
+use Rattle.std.proofs.Common.{◌-◌, ◌<◌, length}
 use Rattle.hub_base.specs.Quick.{Stands}
 use Rattle.hub_base.proofs.text.quick.number_at.Given as goal
 
--- what was read so far stands before this place, and no digit stands behind a zero
+-- what was read so far stands before this place, and is not 0
 abbrev pub invariant-loop-start : goal.invariant-loop-start
 invariant-loop-start l = record {
   stands : Stands l.bytes l.start (decimal l.value) l.end;
-  lead : is_ascii_digit (get_or l.bytes l.end 0) ≡ true → 0 < l.value;
+  some : 0 < l.value;
 }
 
 abbrev pub decreases-loop-start : goal.decreases-loop-start

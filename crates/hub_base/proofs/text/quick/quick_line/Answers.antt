@@ -1,7 +1,8 @@
+use Rattle.std.proofs.Common.{arith}
 use Rattle.hub_base.proofs.Quick.{begins-line}
 use Rattle.hub_base.proofs.text.quick.quick_line.Goals as goal
 
 pub returns : goal.returns
 returns c =
     begins-line c.args.bytes.now (record { pid = c.in_ok-pid.pid; step = c.call_into.new.step }) c.in_ok-pid.end c.in_ok-end.end
-    c.in_ok-pid.ensures.spelled c.in_ok-pid.ensures.fits c.in_ok-end.ensures c.if-bytes-end-ne10.false
+    c.in_ok-pid.ensures.spelled c.in_ok-pid.ensures.fits c.in_ok-end.ensures (omega arith)

@@ -39,34 +39,19 @@ fn number_at(bytes: &[u8], start: usize) -> Option<(u64, usize)>
     Some((value, end))
 }
 
-/// The number of a process at this place, and the place behind it.
+/// The same of a number up to this.
 #[inline]
-fn process_at(bytes: &[u8], start: usize) -> Option<(Pid, usize)>
+fn number_up_to(most: u64, bytes: &[u8], start: usize) -> Option<(u64, usize)>
     requires line { EndsLine bytes.now }
     requires start { start < length bytes.now }
-    ensures spelled { IfSome result (λ x. Stands bytes.now start (decimal x.0.0) x.1) }
-    ensures fits { IfSome result (λ x. x.0.0 ≤ GREATEST_PID) }
+    ensures spelled { IfSome result (λ x. Stands bytes.now start (decimal x.0) x.1) }
+    ensures fits { IfSome result (λ x. x.0 ≤ most) }
 {
-    let (pid, end) = number_at(bytes, start)?;
-    if pid > GREATEST_PID.into() {
+    let (number, end) = number_at(bytes, start)?;
+    if number > most {
         return None;
     }
-    Some((Pid(pid as u8), end))
-}
-
-/// The port at this place, and the place behind it.
-#[inline]
-fn port_at(bytes: &[u8], start: usize) -> Option<(Port, usize)>
-    requires line { EndsLine bytes.now }
-    requires start { start < length bytes.now }
-    ensures spelled { IfSome result (λ x. Stands bytes.now start (decimal x.0.0) x.1) }
-    ensures fits { IfSome result (λ x. x.0.0 ≤ GREATEST_PORT) }
-{
-    let (port, end) = number_at(bytes, start)?;
-    if port > GREATEST_PORT.into() {
-        return None;
-    }
-    Some((Port(port as u16), end))
+    Some((number, end))
 }
 
 /// The place behind this mark, where it stands at this place.
@@ -116,10 +101,10 @@ fn send_at(bytes: &[u8], start: usize, mark: u8) -> Option<(Case, usize)>
     requires mark { mark ≢ 10 }
     ensures { IfSome result (λ x. SendStands bytes.now start mark x.0 x.1) }
 {
-    let (port, end) = port_at(bytes, start)?;
+    let (port, end) = number_up_to(GREATEST_PORT.into(), bytes, start)?;
     let end = behind(bytes, end, mark)?;
     let (value, end) = number_at(bytes, end)?;
-    Some((Case::Send(port, Value::num(value)), end))
+    Some((Case::Send(Port(port as u16), Value::num(value)), end))
 }
 
 /// The case of a plain send or receive, from the space before the word on, and the place behind it.
@@ -135,8 +120,8 @@ fn plain_at(bytes: &[u8], start: usize) -> Option<(Case, usize)>
         send_at(bytes, behind(bytes, end, b' ')?, b' ')
     } else {
         let end = behind_word(bytes, start, b"recv")?;
-        let (port, end) = port_at(bytes, behind(bytes, end, b' ')?)?;
-        Some((Case::Recv(port), end))
+        let (port, end) = number_up_to(GREATEST_PORT.into(), bytes, behind(bytes, end, b' ')?)?;
+        Some((Case::Recv(Port(port as u16)), end))
     }
 }
 
@@ -189,8 +174,8 @@ fn case_at(bytes: &[u8], start: usize) -> Option<(Case, usize)>
     if let Some(end) = behind(bytes, start, b's') {
         send_at(bytes, end, b':')
     } else {
-        let (port, end) = port_at(bytes, behind(bytes, start, b'r')?)?;
-        Some((Case::Recv(port), end))
+        let (port, end) = number_up_to(GREATEST_PORT.into(), bytes, behind(bytes, start, b'r')?)?;
+        Some((Case::Recv(Port(port as u16)), end))
     }
 }
 
@@ -265,11 +250,11 @@ pub fn quick_line(bytes: &[u8], entry: &mut Entry) -> Option<usize>
     requires some { 0 < length bytes.now }
     ensures { IfSome result (λ end. Begins bytes.now entry.new end) }
 {
-    let (pid, end) = process_at(bytes, 0)?;
+    let (pid, end) = number_up_to(GREATEST_PID.into(), bytes, 0)?;
     let end = call_into(bytes, end, &mut entry.step)?;
     if bytes[end] != b'\n' {
         return None;
     }
-    entry.pid = pid;
+    entry.pid = Pid(pid as u8);
     Some(end + 1)
 }

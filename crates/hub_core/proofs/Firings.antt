@@ -17,6 +17,7 @@ use Rattle.hub_laws.proofs.Fires.{some_first}
 use Rattle.hub_laws.proofs.Calls.{first-found}
 use Rattle.hub_parts.specs.Records.{PortLists}
 use Rattle.hub_parts.specs.Lists.{port_at, pushed, popped, still_open}
+use Rattle.hub_core.specs.declared.tally.Tally.{Tally}
 use Rattle.hub_core.specs.Records.{MachineLists, one_handed, sent_tally, received_tally, handed_tally}
 use Rattle.hub_core.specs.ListFirings.{send_on, send_to, recv_on, recv_from, oldest_on, take_value, let_in, fetch_on}
 use Rattle.hub_core.specs.ListSteps.{with_board}
@@ -31,6 +32,12 @@ sent-tally_of v c = ap (λ n. record { sent = n; received = c.received }) (sym (
 
 handed-tally_of : (v : Value) (c : Channel) → handed_tally (tally_of c) ≡ tally_of (after_receive (after_send v c))
 handed-tally_of v c = ap (λ n. record { sent = n; received = c.received + 1 }) (sym (length_push c.sent v))
+
+-- the port's channel is now d, and these are the ports and the counts
+moved : (s : State) (m : MachineLists) (p : Port) (d : Channel) (ps : List PortLists) (ts : List Tally) → Matches s m
+    → ps ≡ map lists_of (slice_set s.channels (p.0 - 1) d) → ts ≡ map tally_of (slice_set s.channels (p.0 - 1) d)
+    → Matches (with_channel s p d) (with_board m (record m.board { ports = ps }) ts)
+moved s m p d ps ts h ports counts = record { procs = h.procs; calls = h.calls; ports = ports; counts = counts; gone = h.gone }
 
 -- a value went from a sender to a receiver: the call that waited has ended, and these are the ports
 handed : (s : State) (m : MachineLists) (p : Port) (c : Channel) (u : Value) (pid : Pid) (ps : List PortLists) → Matches s m → channel_at s p ≡ Some c
@@ -51,13 +58,9 @@ send_to-as : (s : State) (m : MachineLists) (p : Port) (v : Value) (c : Channel)
 send_to-as s m p v c None sound h e is = record {
   outcome = refl;
   ended = refl;
-  state = record {
-    procs = h.procs;
-    calls = h.calls;
-    ports = ports-set s m p (after_send v c) _ h (ap (pushed v) (port-lists_of s m p c h e) ∙ pushed-lists_of v c sound.received);
-    counts = counts-set s m p (after_send v c) _ h (ap sent_tally (tally-tally_of s m p c h e) ∙ sent-tally_of v c);
-    gone = h.gone;
-  };
+  state = moved s m p (after_send v c) _ _ h
+      (ports-set s m p (after_send v c) _ h (ap (pushed v) (port-lists_of s m p c h e) ∙ pushed-lists_of v c sound.received))
+      (counts-set s m p (after_send v c) _ h (ap sent_tally (tally-tally_of s m p c h e) ∙ sent-tally_of v c));
 }
 send_to-as s m p v c (Some x) sound h e is =
     let met : some_call (is_recv_on p) s.parked ≡ true = sym (some_first (is_recv_on p) s.parked (Some x) is) in
@@ -91,24 +94,15 @@ take_value-as : (s : State) (m : MachineLists) (p : Port) (c : Channel) (o : Opt
 take_value-as s m p c None sound h e is = record {
   outcome = refl;
   ended = refl;
-  state = record {
-    procs = h.procs;
-    calls = h.calls;
-    ports = ports-set s m p c _ h (ap popped (port-lists_of s m p c h e) ∙ popped-drained c (sym is) sound.received);
-    counts = counts-same s m p c c h e refl;
-    gone = h.gone;
-  };
+  state = moved s m p c _ _ h
+      (ports-set s m p c _ h (ap popped (port-lists_of s m p c h e) ∙ popped-drained c (sym is) sound.received)) (counts-same s m p c c h e refl);
 }
 take_value-as s m p c (Some v) sound h e is = record {
   outcome = refl;
   ended = refl;
-  state = record {
-    procs = h.procs;
-    calls = h.calls;
-    ports = ports-set s m p (after_receive c) _ h (ap popped (port-lists_of s m p c h e) ∙ popped-lists_of c);
-    counts = counts-set s m p (after_receive c) _ h (ap received_tally (tally-tally_of s m p c h e));
-    gone = h.gone;
-  };
+  state = moved s m p (after_receive c) _ _ h
+      (ports-set s m p (after_receive c) _ h (ap popped (port-lists_of s m p c h e) ∙ popped-lists_of c))
+      (counts-set s m p (after_receive c) _ h (ap received_tally (tally-tally_of s m p c h e)));
 }
 
 fetch_on-as : (s : State) (m : MachineLists) (p : Port) (c : Channel) (x : Ending) (u : Value) (o : Option Value) → PortSound p c s.parked

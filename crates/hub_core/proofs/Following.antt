@@ -20,6 +20,7 @@ use Rattle.hub_laws.specs.Sound.{IsSound}
 use Rattle.hub_laws.proofs.Rules.{state-sound}
 use Rattle.hub_laws.proofs.Longer.{state-entry, kept-entry}
 use Rattle.hub_laws.proofs.Ready.{admitted}
+use Rattle.hub_laws.proofs.Calls.{all_more}
 use Rattle.hub_parts.specs.Records.{Ticketed}
 use Rattle.hub_core.specs.Records.{MachineLists, opened_machine}
 use Rattle.hub_core.specs.ListSteps.{turn_on, answers_on, effect_on, fault_on, refusal_of, gone_on}
@@ -59,10 +60,6 @@ get_longer [] x i call h = absurd h
 get_longer (y ∷ ys) x zero call h = h
 get_longer (y ∷ ys) x (suc i) call h = get_longer ys x i call h
 
-tickets_longer : (journal : List Entry) (e : Entry) (ws : List Ticketed) → TicketsAre journal ws → TicketsAre (journal ++ e ∷ []) ws
-tickets_longer journal e [] h = tt
-tickets_longer journal e (w ∷ ws) h = (get_longer journal e w.ticket w.call h.0, tickets_longer journal e ws h.1)
-
 -- the call that this entry would open has its place as ticket
 abbrev IsTicket : List Entry → Ticketed → Type 0
 IsTicket journal w = IsEntryOf (slice_get journal w.ticket) w.call
@@ -93,7 +90,8 @@ follows_on head es e m h adm room =
         steps = ap (λ k. k + 1) h.steps ∙ sym (length_push (kept head es) e) ∙ ap length (sym grown);
         later = left.next h.later;
         tickets =
-            left.waiting (subst (λ (j : List Entry). TicketsAre j m.board.waiting) (sym grown) (tickets_longer (kept head es) e m.board.waiting h.tickets));
+            left.waiting (subst (λ (j : List Entry). TicketsAre j m.board.waiting) (sym grown)
+            (all_more _ _ m.board.waiting (λ w. get_longer (kept head es) e w.ticket w.call) h.tickets));
       };
     }
 

@@ -1,10 +1,10 @@
 -- A run, entry by entry.
-use Rattle.std.proofs.Common.{◌≡◌, ℕ, ◌+◌, ◌<◌, Bool, true, false, List, [], ◌∷◌, ◌++◌}
+use Rattle.std.proofs.Common.{◌≡◌, ℕ, ◌+◌, ◌<◌, Bool, true, false, List, [], ◌++◌}
 use Rattle.std.proofs.Common.{length, take, refl, ap, ◌∙◌, sym, subst, Some, arith, nat_lt}
 use Rattle.std.specs.Prelude.{slice_get}
 use Rattle.std.proofs.lemmas.Grind.{common_steps}
-use Rattle.std.proofs.lemmas.List.{take_all, take_more}
-use Rattle.std.proofs.lemmas.Option.{slice_get_within, get_or_from_slice_get}
+use Rattle.std.proofs.lemmas.List.{take_all}
+use Rattle.std.proofs.lemmas.Option.{slice_get_within}
 use Rattle.hub_base.specs.declared.entry.Entry.{Entry}
 use Rattle.hub_base.specs.declared.event.Event.{Event}
 use Rattle.hub_base.specs.State.{State, channel_at}
@@ -14,6 +14,7 @@ use Rattle.hub_base.specs.Reading.{is_exit}
 use Rattle.hub_base.specs.Text.{steps_of}
 use Rattle.hub_laws.proofs.Journals.{state-kept}
 use Rattle.hub_laws.proofs.Longer.{events-entry, kept-entry}
+use Rattle.hub_laws.proofs.Totals.{take_next}
 use Rattle.hub_laws.proofs.Values.{values-law}
 use Rattle.hub_core.specs.declared.terms.Terms.{Terms}
 use Rattle.hub_core.specs.HubView.{HubView, state_of, HasRoom, IsFullFor}
@@ -25,9 +26,6 @@ use Rattle.hub_core.specs.RunsTo.{RunsTo, TellsOn, StopsAt, IsFullAt, IsFirstFul
 pub record RunSoFar (terms : Terms) (es : List Entry) (i : ℕ) (hub : HubView) (told : List Event) : Type 0 where
   pub run : RunsTo terms (take i es) hub told
   pub room : (j : ℕ) → j < i → ¬ IsFullAt terms es j
-
-take_one : (es : List Entry) (i : ℕ) (e : Entry) → slice_get es i ≡ Some e → take (i + 1) es ≡ take i es ++ e ∷ []
-take_one es i e h = take_more es i e (slice_get_within es i e h) ∙ ap (λ x. take i es ++ x ∷ []) (get_or_from_slice_get es i e e h)
 
 limit-of : {s t : Terms} → s ≡ t → s.limit ≡ t.limit
 limit-of is = ap (λ (t : Terms). t.limit) is
@@ -57,7 +55,7 @@ more_room terms es i before here j h = by_order (nat_lt j i) refl where
 pub run_on : (terms : Terms) (es : List Entry) (i : ℕ) (e : Entry) (old new : HubView) (before after : List Event)
     → RunSoFar terms es i old before → slice_get es i ≡ Some e → TellsOn old e new before after → RunSoFar terms es (i + 1) new after
 run_on terms es i e old new before after r h t =
-    let grown = take_one es i e h in
+    let grown = take_next es i e h in
     let same = state_of-run terms (take i es) old before r.run in
     record {
       run = record {

@@ -2,9 +2,9 @@
 //! Go: "Select statements".
 
 ghost use Rattle.std.specs.Prelude.{◌≡◌, ◌≤◌, ◌<◌, ◌%◌, ◌∷◌, [], true, false, length, slice_get, IfSome};
+ghost use Rattle.std.specs.Option.{option_map};
 ghost use Rattle.hub_base.specs.Steps.{tells};
 ghost use Rattle.hub_parts.specs.Keeps.{AllMade};
-ghost use Rattle.std.specs.Option.{option_map};
 ghost use Rattle.hub_core.specs.ListReady.{can_on, chosen_on};
 ghost use Rattle.hub_core.specs.ListKeeps.{IsNamed};
 ghost use Rattle.hub_core.specs.ListSteps.{wait_on, told_to_wait, open_on, placed};

@@ -42,8 +42,8 @@ reply_there {x = x} t p es r =
 
 -- why an entry is refused, as its seat has then seen
 pub refusal_seen : {name : Name} {l : LockedView} {hub mine : Seat (Unit {0}) View} {s : SeatView} {pid : Pid} (back : Seat (Unit {0}) View) (e : Entry)
-    (f : Fault) → IsDesk name l hub → IsSeatOf name s pid mine → Follows s (seat_of pid (Some back)) → back.me.0.seen ≡ l.hub.journal → s.hub ≡ name → s.pid ≡ e.pid → IsFree s
-    → Refuses l.hub e f → Shows name.terms e back.me.0.seen f
+    (f : Fault) → IsDesk name l hub → IsSeatOf name s pid mine → Follows s (seat_of pid (Some back)) → back.me.0.seen ≡ l.hub.journal → s.hub ≡ name
+    → s.pid ≡ e.pid → IsFree s → Refuses l.hub e f → Shows name.terms e back.me.0.seen f
 refusal_seen {name} {l} {hub} {mine} {s} {pid} back e f d o k seen named same free refused =
     let is = d.hub in
     let at : pid ≡ e.pid = ap (λ (x : SeatView). x.pid) o.shows ∙ same in
@@ -108,7 +108,9 @@ joined_desk {l = l} {mine = mine} {pid = pid} {w = w} d m j =
     }
 
 -- what a step leaves in the hub's seat and in the one that it gives back
-pub record Stepped (name : Name) (s : SeatView) (e : Entry) (l : LockedView) (hub : Seat (Unit {0}) View) (pid : Pid) (back : Seat (Unit {0}) View) : Type 0 where
+pub record Stepped
+    (name : Name) (s : SeatView) (e : Entry) (l : LockedView) (hub : Seat (Unit {0}) View) (pid : Pid)
+    (back : Seat (Unit {0}) View) : Type 0 where
   pub desk : IsDesk name l hub
   pub alone : IsAlone pid back
   pub seen : back.me.0.seen ≡ l.hub.journal
@@ -116,8 +118,8 @@ pub record Stepped (name : Name) (s : SeatView) (e : Entry) (l : LockedView) (hu
   pub begins : IsPrefix s.seen back.me.0.seen
   pub own : own pid.0 back.me.0.seen ≡ own_of s ++ e ∷ []
 
-pub stepped : {name : Name} {l l' : LockedView} {hub hub' mine back : Seat (Unit {0}) View} {s : SeatView} {pid : Pid} {u v : View} {e made : Entry} {x : Event}
-    → IsDesk name l hub → IsSeatOf name s pid mine → s.pid ≡ e.pid → SeesBoth (with_joined hub.me.0 mine.me.0) u → Serves l e l' x
+pub stepped : {name : Name} {l l' : LockedView} {hub hub' mine back : Seat (Unit {0}) View} {s : SeatView} {pid : Pid} {u v : View} {e made : Entry}
+    {x : Event} → IsDesk name l hub → IsSeatOf name s pid mine → s.pid ≡ e.pid → SeesBoth (with_joined hub.me.0 mine.me.0) u → Serves l e l' x
     → ((es : List Entry) (y : Entry) → l'.hub.journal ≡ es ++ y ∷ [] → made ≡ y) → v ≡ grown u made → IsToken name hub' → hub'.me.0 ≡ parted v
     → IsToken name back → back.me.0 ≡ given_back v → Stepped name s e l' hub' pid back
 stepped {name} {l} {l'} {hub} {hub'} {mine} {back} {s} {pid} {u} {v} {e} {made} {x} d o same sees served newest view token left given right =

@@ -57,6 +57,7 @@ impl<K: HubName> LiveHub<K> {
     }
 
     /// Makes a step, and waits where it parks.
+    #[tactic(auto, using(crate::proofs::Locks::served_answers, crate::proofs::Locks::answers_no_call, crate::proofs::Locks::parked_call, crate::proofs::Laters::made_later))]
     fn ask<R: Wait>(&self, rt: &R, seat: &mut Seat, entry: Entry) -> Result<Event, Fault>
         requires hub { seat.old.hub ≡ K.name }
         requires pid { seat.old.pid ≡ entry.pid }

@@ -53,6 +53,7 @@ fn put(answers: &mut [Option<Event>], pid: Pid, answer: Option<Event>)
 }
 
 /// Puts each event into the place of its process, in order.
+#[tactic(auto, using(crate::proofs::Locks::put_next))]
 fn put_all(answers: &mut [Option<Event>], events: &[Event])
     ensures { (q : ℕ) → q < length answers.old →
         answer_for answers.new q ≡ last_told q (answer_for answers.old q) events.now }
@@ -76,6 +77,7 @@ fn pids_of(events: &[Event]) -> Pids
 
 impl Locked {
     /// A hub with no answer waiting. It takes no memory.
+    #[tactic(auto, using(crate::proofs::Locks::lawful_none))]
     pub fn of(hub: Hub) -> Locked
         ensures { result ≡ none_waits hub.hub }
     {

@@ -21,7 +21,8 @@ made : (g : Over) (c : Joined-seat g) → Stepped g.K.HubName.name c.args.seat.n
 made g c =
     let mine = seat_opened c.requires.hub c.seat.invariant c.seat.view_is (sym c.take.ensures.value ∙ c.in-Some.is) in
     let p = c.part.ensures in
-    stepped c.self.invariant mine c.requires.pid c.join.ensures.sees c.in-Ok.ensures.ok c.newest-made.ensures c.publish.ensures.view p.token p.left p.given p.back
+    let newest = c.newest-made.ensures in
+    stepped c.self.invariant mine c.requires.pid c.join.ensures.sees c.in-Ok.ensures.ok newest c.publish.ensures.view p.token p.left p.given p.back
 
 pub invariant_of-self : goal.invariant_of-self
 invariant_of-self g c = (made g c).desk
@@ -70,7 +71,9 @@ returns-in-Err-clause-begins g c = (left g c).follows.begins
 pub returns-in-Err-clause-shows : goal.returns-in-Err-clause-shows
 returns-in-Err-clause-shows g c =
     let seen = returns-in-Err-clause-seen g c ∙ ap (λ (l : LockedView). l.hub.journal) c.in-Err.ensures.unchanged in
-    refusal_seen c.part-in-Err.result c.args.entry c.in-Err.fault c.self.invariant (seat g c) (left g c).follows seen c.requires.hub c.requires.pid c.requires.free c.in-Err.ensures.refused
+    let r = c.requires in
+    let refused = c.in-Err.ensures.refused in
+    refusal_seen c.part-in-Err.result c.args.entry c.in-Err.fault c.self.invariant (seat g c) (left g c).follows seen r.hub r.pid r.free refused
 
 pub returns-in-Err-clause-left : goal.returns-in-Err-clause-left
 returns-in-Err-clause-left g c = asked_nothing (left g c).follows c.requires.free

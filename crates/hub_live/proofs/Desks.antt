@@ -7,10 +7,10 @@ use Rattle.hub_laws.proofs.Journals.{begins-law}
 use Rattle.hub_laws.proofs.Replies.{own-mine}
 use Rattle.hub_live.specs.Moves.{IsNext}
 use Rattle.hub_live.specs.Seated.{IsDesk}
-use Rattle.hub_live.specs.Cited.{IsPrefix, Seat, Pid, Port, Fault, Entry, Event, MOST_PORTS, refusal, is_waiting, state, is_exit, steps_of, IsLegal, changed}
-use Rattle.hub_live.specs.Cited.{port_changed, number_of, own, HubView, Steps, Refuses, state_of, Terms, View, LockedView, Serves, IsReplyTo, mark, mark_at}
-use Rattle.hub_live.specs.Cited.{port_numbered, MarksOne, IsOther, Name, IsHistory, Sees, SeesBoth, grown, with_joined, parted, given_back, IsToken}
-use Rattle.hub_live.specs.Cited.{IsSingle, SeatView, IsFree, own_of, IsAlone, IsHub, seat_of, Shows}
+use Rattle.hub_live.specs.Prelude.{IsPrefix, Seat, Pid, Port, Fault, Entry, Event, MOST_PORTS, refusal, is_waiting, state, is_exit, steps_of, IsLegal, changed}
+use Rattle.hub_live.specs.Prelude.{port_changed, number_of, own, HubView, Steps, Refuses, state_of, Terms, View, LockedView, Serves, IsReplyTo, mark, mark_at}
+use Rattle.hub_live.specs.Prelude.{port_numbered, MarksOne, IsOther, Name, IsHistory, Sees, SeesBoth, grown, with_joined, parted, given_back, IsToken}
+use Rattle.hub_live.specs.Prelude.{IsSingle, SeatView, IsFree, own_of, IsAlone, IsHub, seat_of, Shows}
 use Rattle.hub_live.proofs.Prefixes.{prefix_trans}
 use Rattle.hub_live.proofs.Refusals.{shows}
 use Rattle.hub_live.proofs.Laters.{IsSeatOf, Follows, asked_nothing}

@@ -2,7 +2,7 @@
 use Rattle.std.proofs.Common.{◌≡◌, List, [], ◌∷◌, ◌++◌, length, refl, sym, ◌∙◌, subst, arith}
 use Rattle.std.specs.Prelude.{All}
 use Rattle.std.proofs.lemmas.List.{append-nil}
-use Rattle.hub_live.specs.Cited.{Entry, LockedView, SeatView, StandsIn}
+use Rattle.hub_live.specs.Prelude.{Entry, LockedView, SeatView, StandsIn}
 use Rattle.hub_live.proofs.Loops.{all_snoc, one_further}
 
 -- the hub is as at the start, and the seats that were compared, which with those that are left are all, stand in its journal

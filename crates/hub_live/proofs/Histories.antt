@@ -2,7 +2,7 @@
 use Rattle.std.proofs.Common.{◌≡◌, ◌≢◌, ◌==◌, ℕ, Bool, false, cond, List, [], ◌∷◌, ◌++◌, refl, subst, ne_eqb, eq-eqb}
 use Rattle.std.specs.List.{list_any}
 use Rattle.hub_laws.proofs.Replies.{own-others}
-use Rattle.hub_live.specs.Cited.{Entry, own}
+use Rattle.hub_live.specs.Prelude.{Entry, own}
 
 none_of : (p : ℕ) (e : Entry) → (e.pid.0 == p) ≡ false → list_any (λ x. x.pid.0 == p) (e ∷ []) ≡ false
 none_of p e other = rw other refl

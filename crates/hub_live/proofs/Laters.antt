@@ -8,9 +8,9 @@ use Rattle.hub_base.specs.Runs.{events}
 use Rattle.hub_live.specs.Moves.{Knew}
 use Rattle.hub_live.specs.Seated.{IsSeated}
 use Rattle.hub_live.specs.Calls.{AskedNothing}
-use Rattle.hub_live.specs.Cited.{IsPrefix, Seat, Head, Pid, Entry, Event, is_waiting, state, own, reply, last_from, is_parked, Terms, View, IsReplyTo, Name}
-use Rattle.hub_live.specs.Cited.{name_of, IsHistory, Knows, Sees, SeesBoth, Met, with_joined, parted, given_back, SeatView, IsIdle, IsFree, own_of, IsToken}
-use Rattle.hub_live.specs.Cited.{IsSingle, IsAlone, seat_of, StandsIn, Later, MadeEntry, AreSeats}
+use Rattle.hub_live.specs.Prelude.{IsPrefix, Seat, Head, Pid, Entry, Event, is_waiting, state, own, reply, last_from, is_parked, Terms, View, IsReplyTo, Name}
+use Rattle.hub_live.specs.Prelude.{name_of, IsHistory, Knows, Sees, SeesBoth, Met, with_joined, parted, given_back, SeatView, IsIdle, IsFree, own_of, IsToken}
+use Rattle.hub_live.specs.Prelude.{IsSingle, IsAlone, seat_of, StandsIn, Later, MadeEntry, AreSeats}
 use Rattle.hub_live.proofs.Prefixes.{prefix_self}
 use Rattle.hub_live.proofs.Refusals.{asks_nothing}
 

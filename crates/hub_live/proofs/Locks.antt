@@ -16,8 +16,8 @@ use Rattle.hub_core.specs.HubView.{places_after}
 use Rattle.hub_laws.proofs.Journals.{begins-law}
 use Rattle.hub_live.specs.Locked.{answer_for, IsLawful, last_told}
 use Rattle.hub_live.specs.Calls.{Answers, AnswersNoCall}
-use Rattle.hub_live.specs.Cited.{Entry, Event, Pid, is_waiting, Step, Make, Call, Close, Exit, IsLegal, reply, last_from, is_parked, HubView, Steps}
-use Rattle.hub_live.specs.Cited.{state_of, LockedView, IsReplyTo, pids_of, Serves}
+use Rattle.hub_live.specs.Prelude.{Entry, Event, Pid, is_waiting, Step, Make, Call, Close, Exit, IsLegal, reply, last_from, is_parked, HubView, Steps}
+use Rattle.hub_live.specs.Prelude.{state_of, LockedView, IsReplyTo, pids_of, Serves}
 
 -- ---- places
 

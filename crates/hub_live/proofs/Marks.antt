@@ -16,8 +16,8 @@ use Rattle.hub_laws.proofs.Counts.{counts-law}
 use Rattle.hub_laws.proofs.States.{state-laws}
 use Rattle.hub_core.specs.Looks.{look_at}
 use Rattle.hub_live.specs.Mark.{of_a_send, of_a_port, of_a_close, counts_in, counts_at}
-use Rattle.hub_live.specs.Cited.{Head, Port, Entry, MOST_PORTS, Step, Event, Channel, moves, state, steps_of, IsLegal, changed, number_of, port_changed}
-use Rattle.hub_live.specs.Cited.{counts_of, mark_of, read_back, mark_at, port_numbered, mark, MarksOne, IsOther}
+use Rattle.hub_live.specs.Prelude.{Head, Port, Entry, MOST_PORTS, Step, Event, Channel, moves, state, steps_of, IsLegal, changed, number_of, port_changed}
+use Rattle.hub_live.specs.Prelude.{counts_of, mark_of, read_back, mark_at, port_numbered, mark, MarksOne, IsOther}
 
 -- counts as a hub has them
 pub record IsCounted (c : Counts) : Type 0 where

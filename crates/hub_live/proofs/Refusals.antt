@@ -14,8 +14,8 @@ use Rattle.hub_laws.proofs.Lasting.{turn-leaves, head-after}
 use Rattle.hub_laws.proofs.Replies.{replies-law}
 use Rattle.hub_core.specs.HubView.{Grows}
 use Rattle.hub_live.specs.Calls.{LeavesRoom, AsksNothing}
-use Rattle.hub_live.specs.Cited.{IsPrefix, Head, Pid, Step, Make, Call, Close, Exit, Entry, Fault, refusal, is_waiting, moves, state, is_exit, steps_of}
-use Rattle.hub_live.specs.Cited.{IsLegal, own, reply, HubView, Refuses, state_of, Terms, IsHub, Shows}
+use Rattle.hub_live.specs.Prelude.{IsPrefix, Head, Pid, Step, Make, Call, Close, Exit, Entry, Fault, refusal, is_waiting, moves, state, is_exit, steps_of}
+use Rattle.hub_live.specs.Prelude.{IsLegal, own, reply, HubView, Refuses, state_of, Terms, IsHub, Shows}
 
 -- ---- entries of others
 

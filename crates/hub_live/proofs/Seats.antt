@@ -10,8 +10,8 @@ use Rattle.atomic_table.specs.Table.{State, keeps, opening, Enters, Joins, Split
 use Rattle.atomic_table.proofs.Lists.{at_set, set_again, exchanged}
 use Rattle.hub_live.specs.Rule.{word_count, spent}
 use Rattle.hub_live.specs.Moves.{Entered, Drew, numbered}
-use Rattle.hub_live.specs.Cited.{some, none, IsPrefix, get_elem?, Me, step, Allows, Entry, Channel, own, counts_of, Terms, View, mark_of, next_word, blank}
-use Rattle.hub_live.specs.Cited.{Knows, Holds, Fits, Kept, with_joined, parted, given_back}
+use Rattle.hub_live.specs.Prelude.{some, none, IsPrefix, get_elem?, Me, step, Allows, Entry, Channel, own, counts_of, Terms, View, mark_of, next_word, blank}
+use Rattle.hub_live.specs.Prelude.{Knows, Holds, Fits, Kept, with_joined, parted, given_back}
 use Rattle.hub_live.proofs.Histories.{own_none}
 use Rattle.hub_live.proofs.Steps.{fits_set, some_of}
 

@@ -7,8 +7,8 @@ use Rattle.std.proofs.lemmas.Bool.Decides.{nat_tests}
 use Rattle.atomic_table.specs.Table.{keeps}
 use Rattle.atomic_table.proofs.Lists.{at_set}
 use Rattle.hub_live.specs.Moves.{Looked}
-use Rattle.hub_live.specs.Cited.{some, none, IsPrefix, get_elem?, Me, step, Allows, Head, Entry, MOST_PORTS, Terms, View, mark, MarksOne, next_word}
-use Rattle.hub_live.specs.Cited.{IsHistory, Knows, Holds, Fits, Kept, Published, grown}
+use Rattle.hub_live.specs.Prelude.{some, none, IsPrefix, get_elem?, Me, step, Allows, Head, Entry, MOST_PORTS, Terms, View, mark, MarksOne, next_word}
+use Rattle.hub_live.specs.Prelude.{IsHistory, Knows, Holds, Fits, Kept, Published, grown}
 use Rattle.hub_live.proofs.Prefixes.{prefix_self, prefix_trans}
 use Rattle.hub_live.proofs.Histories.{own_other}
 

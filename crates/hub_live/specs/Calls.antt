@@ -24,10 +24,6 @@ use Rattle.hub_live.specs.SeatView.{SeatView, IsIdle, own_of, reply_to}
 abbrev pub Tells : Terms → Pid → List Entry → Event → Type 0
 Tells t pid seen x = is_parked x.what ≡ false → IsReplyTo t.head pid.0 seen x
 
--- the process asked this entry more
-abbrev pub Gains : Entry → List Entry → List Entry → Type 0
-Gains e before seen = own e.pid.0 seen ≡ own e.pid.0 before ++ e ∷ []
-
 -- what was seen leaves room: the entry is an exit, or fewer than `limit` entries are no exits
 abbrev pub LeavesRoom : Terms → Entry → List Entry → Type 0
 LeavesRoom t e seen = is_exit e.step ≡ false → steps_of seen < t.limit

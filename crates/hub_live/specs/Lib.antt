@@ -7,4 +7,4 @@ pub mod Named
 pub mod SeatView
 pub mod Seated
 pub mod Calls
-pub mod Cited
+pub mod Prelude

@@ -5,9 +5,9 @@
 //! since a store is judged by what the seat that stores knows.
 
 ghost use Rattle.std.specs.Prelude.{◌≡◌, ◌≤◌, ◌<◌, ◌+◌, ◌++◌, ◌∷◌, [], List, length, Some, None, false, IfOk, IfErr, OnOk, OnErr, IfSome, IfNone, OnSome};
-ghost use Rattle.hub_live.specs.Cited.{IsPrefix, Entry, steps_of, IsLegal, number_of, port_changed_by, Refuses, state_of, mark_at, Serves};
-ghost use Rattle.hub_live.specs.Cited.{answer_for, without_answer, IsReplyTo, IsHistory, IsFree, own_of, IsDesk, Tells, Shows, AskedNothing};
-ghost use Rattle.hub_live.specs.Cited.{StandsIn};
+ghost use Rattle.hub_live.specs.Prelude.{IsPrefix, Entry, steps_of, IsLegal, number_of, port_changed_by, Refuses, state_of, mark_at, Serves};
+ghost use Rattle.hub_live.specs.Prelude.{answer_for, without_answer, IsReplyTo, IsHistory, IsFree, own_of, IsDesk, Tells, Shows, AskedNothing};
+ghost use Rattle.hub_live.specs.Prelude.{StandsIn};
 
 use crate::locked::{Locked, Pids};
 use crate::mark::mark_of;

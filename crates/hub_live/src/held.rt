@@ -3,8 +3,8 @@
 
 ghost use Rattle.std.specs.Prelude.{◌≡◌, ◌<◌, ◌≤◌, ◌∷◌, ◌⊎◌, [], false, IfOk, IfErr, All};
 ghost use Rattle.hub_base.specs.declared.event.What.TheVariants as what;
-ghost use Rattle.hub_live.specs.Cited.{Send, Recv, Make, Call, Close, Exit, call, tells, steps_of, IsLegal, counts_at, IsIdle, state_seen, Later};
-ghost use Rattle.hub_live.specs.Cited.{Made, Refused, Answers, AskedNothing, StandsIn};
+ghost use Rattle.hub_live.specs.Prelude.{Send, Recv, Make, Call, Close, Exit, call, tells, steps_of, IsLegal, counts_at, IsIdle, state_seen, Later};
+ghost use Rattle.hub_live.specs.Prelude.{Made, Refused, Answers, AskedNothing, StandsIn};
 
 use crate::ends::{Chan, RecvPort, SendPort};
 use crate::live_hub::LiveHub;

@@ -2,8 +2,8 @@
 
 ghost use Rattle.std.specs.Prelude.{◌≡◌, ◌≤◌, ◌∷◌, ◌⊎◌, [], false, IfOk, IfErr, All, vec_len};
 ghost use Rattle.hub_base.specs.declared.event.What.TheVariants as what;
-ghost use Rattle.hub_live.specs.Cited.{Send, Recv, Make, Call, Close, Exit, call, tells, steps_of, IsLegal, is_parked, counts_at, state_seen, Later};
-ghost use Rattle.hub_live.specs.Cited.{Made, Refused, MadeEntry, RefusedEntry, Answers, AnswersNoCall, AskedNothing, StandsIn};
+ghost use Rattle.hub_live.specs.Prelude.{Send, Recv, Make, Call, Close, Exit, call, tells, steps_of, IsLegal, is_parked, counts_at, state_seen, Later};
+ghost use Rattle.hub_live.specs.Prelude.{Made, Refused, MadeEntry, RefusedEntry, Answers, AnswersNoCall, AskedNothing, StandsIn};
 
 use crate::desk::Desk;
 use crate::ends::{Chan, RecvPort, SendPort};

@@ -8,7 +8,7 @@
 ghost use Rattle.std.specs.Prelude.{◌≡◌, ◌≤◌, ◌<◌, ℕ, Some, false, length, slice_set, IfOk, IfErr, OnErr, IfSome, IfNone};
 ghost use Rattle.hub_core.specs.Looks.{look_at};
 ghost use Rattle.hub_live.specs.Locked.{none_waits, last_told};
-ghost use Rattle.hub_live.specs.Cited.{IsLegal, is_parked, Refuses, state_of, answer_for, IsReplyTo, pids_of, Serves, without_answer};
+ghost use Rattle.hub_live.specs.Prelude.{IsLegal, is_parked, Refuses, state_of, answer_for, IsReplyTo, pids_of, Serves, without_answer};
 
 use arrayvec::ArrayVec;
 use hub_base::{Entry, Event, Events, Fault, Journal, Look, MOST_PROCS, Pid, Port};

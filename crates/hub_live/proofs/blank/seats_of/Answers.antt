@@ -1,5 +1,5 @@
 use Rattle.std.proofs.Common.{◌≡◌, ℕ, ◌+◌, length, [], sym, ap, ◌∙◌, subst, rules}
-use Rattle.hub_live.specs.Cited.{name_of, AreSeats}
+use Rattle.hub_live.specs.Prelude.{name_of, AreSeats}
 use Rattle.hub_live.proofs.Laters.{push_seat}
 use Rattle.hub_live.proofs.blank.seats_of.Goals as goal
 

@@ -1,5 +1,5 @@
 use Rattle.std.proofs.Common.{◌≡◌, vec_len}
-use Rattle.hub_live.specs.Cited.{AreSeats, name_of}
+use Rattle.hub_live.specs.Prelude.{AreSeats, name_of}
 use Rattle.hub_live.proofs.blank.seats_of.Given as goal
 
 abbrev pub invariant-loop-pid : goal.invariant-loop-pid

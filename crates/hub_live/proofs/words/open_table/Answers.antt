@@ -1,5 +1,5 @@
 use Rattle.std.proofs.Common.{arith, sym, subst, ◌≡◌, []}
-use Rattle.hub_live.specs.Cited.{Terms, blank}
+use Rattle.hub_live.specs.Prelude.{Terms, blank}
 use Rattle.hub_live.proofs.Seats.{begins, draws_as}
 use Rattle.hub_live.proofs.words.open_table.Goals as goal
 

@@ -1,5 +1,5 @@
 use Rattle.std.proofs.Common.{◌∙◌, sym, ap, refl, subst}
-use Rattle.hub_live.specs.Cited.{IsHistory, Terms, LockedView, Met}
+use Rattle.hub_live.specs.Prelude.{IsHistory, Terms, LockedView, Met}
 use Rattle.hub_live.proofs.Desks.{hub_steps, next_served, Stepped, stepped, desk_single, desk_seen, reply_there, refusal_seen}
 use Rattle.hub_live.proofs.Laters.{met, IsSeatOf, seat_opened, HasSeen, has_seen, asked_nothing}
 use Rattle.hub_live.proofs.desk.Desk.step.Given.{Over}

@@ -1,5 +1,5 @@
 use Rattle.std.proofs.Common.{◌≡◌, ◌<◌, ◌≤◌, ◌∙◌, Some, sym, ap, subst, arith}
-use Rattle.hub_live.specs.Cited.{MOST_PORTS, mark, read_back, IsIdle, seat_of}
+use Rattle.hub_live.specs.Prelude.{MOST_PORTS, mark, read_back, IsIdle, seat_of}
 use Rattle.hub_live.proofs.Marks.{no_port, mark-tells}
 use Rattle.hub_live.proofs.Laters.{later_self, seat_opened, has_seen, Looking, looking}
 use Rattle.hub_live.proofs.live_hub.LiveHub.look.Given.{Over}

@@ -1,5 +1,5 @@
 use Rattle.std.proofs.Common.{◌∙◌, Some, sym, ap, subst}
-use Rattle.hub_live.specs.Cited.{IsIdle, seat_of}
+use Rattle.hub_live.specs.Prelude.{IsIdle, seat_of}
 use Rattle.hub_live.proofs.Laters.{seat_opened, has_seen, Looking, looking}
 use Rattle.hub_live.proofs.live_hub.LiveHub.meet.Given.{Over}
 use Rattle.hub_live.proofs.live_hub.LiveHub.meet.Goals as goal

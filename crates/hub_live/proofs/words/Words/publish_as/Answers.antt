@@ -1,5 +1,5 @@
 use Rattle.std.proofs.Common.{arith, sym, ◌∙◌, subst, ◌∷◌, [], ◌++◌}
-use Rattle.hub_live.specs.Cited.{Allows, step, none, Entry, Terms, MarksOne, IsHistory, Kept, Published}
+use Rattle.hub_live.specs.Prelude.{Allows, step, none, Entry, Terms, MarksOne, IsHistory, Kept, Published}
 use Rattle.hub_live.proofs.Steps.{publishes_as}
 use Rattle.hub_live.proofs.words.Words.publish_as.Goals as goal
 

@@ -11,7 +11,8 @@ use hub_base::{CASE_PLACES, Case};
 use hub_parts::{Board, Side};
 
 /// Whether a case can proceed. Each question is asked, which costs less than a branch on the one before.
-fn can_proceed(board: &Board, case: Case) -> bool
+#[inline]
+pub(crate) fn can_proceed(board: &Board, case: Case) -> bool
     requires { IsNamed board.now case }
     ensures { result ≡ can_on board.now case }
 {

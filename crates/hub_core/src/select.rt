@@ -1,7 +1,7 @@
 //! A call: which of its cases fires, and what follows where none can proceed.
 //! Go: "Select statements".
 
-ghost use Rattle.std.specs.Prelude.{◌≡◌, ◌≤◌, ◌<◌, ◌%◌, ◌∷◌, [], true, false, length, slice_get, IfSome};
+ghost use Rattle.std.specs.Prelude.{◌≡◌, ◌≤◌, ◌<◌, ◌%◌, ◌∷◌, [], ℕ, true, false, length, slice_get, IfSome};
 ghost use Rattle.std.specs.Option.{option_map};
 ghost use Rattle.hub_base.specs.Steps.{tells};
 ghost use Rattle.hub_parts.specs.Keeps.{AllMade};
@@ -9,7 +9,7 @@ ghost use Rattle.hub_core.specs.ListReady.{can_on, chosen_on};
 ghost use Rattle.hub_core.specs.ListKeeps.{IsNamed};
 ghost use Rattle.hub_core.specs.ListSteps.{wait_on, told_to_wait, open_on, placed};
 
-use crate::ready_cases::find_ready;
+use crate::ready_cases::{can_proceed, find_ready};
 use arrayvec::ArrayVec;
 use hub_base::{CASE_PLACES, Case, Cases, Event, Events, MOST_CASES, Pid, What};
 use hub_parts::Board;
@@ -34,6 +34,21 @@ fn nth_ready(ready: &[u8], word: u64) -> Option<u8>
     }
 }
 
+/// The case of a call that has no other, where it can proceed: whatever the choice word is, it is chosen.
+#[inline]
+fn choose_only(board: &Board, case: Case) -> Option<Chosen>
+    requires { IsNamed board.now case }
+    ensures chosen { (word : ℕ) → option_map placed result ≡ chosen_on board.now (case ∷ []) word }
+    ensures case { IfSome result (λ chosen. chosen.case ≡ case) }
+    ensures can { IfSome result (λ chosen. can_on board.now chosen.case ≡ true) }
+{
+    if can_proceed(board, case) {
+        Some(Chosen { index: 0, case })
+    } else {
+        None
+    }
+}
+
 /// The case that the choice word names among those that can proceed.
 #[inline]
 pub(crate) fn choose(board: &Board, cases: &[Case], word: u64) -> Option<Chosen>
@@ -43,6 +58,9 @@ pub(crate) fn choose(board: &Board, cases: &[Case], word: u64) -> Option<Chosen>
     ensures named { IfSome result (λ chosen. IsNamed board.now chosen.case) }
     ensures can { IfSome result (λ chosen. can_on board.now chosen.case ≡ true) }
 {
+    if cases.len() == 1 {
+        return choose_only(board, cases[0]);
+    }
     let mut ready = ArrayVec::new();
     find_ready(board, cases, &mut ready);
     let index = nth_ready(ready.as_slice(), word)?;

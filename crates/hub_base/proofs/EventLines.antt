@@ -19,7 +19,7 @@ use Rattle.hub_base.specs.Lines.{number, pieces, same_text}
 use Rattle.hub_base.specs.Reading.{Row, rows}
 use Rattle.hub_base.specs.Value.{value_of, value_field}
 use Rattle.hub_base.proofs.Bodies.{lacks-high, rows-line}
-use Rattle.hub_base.proofs.Heads.{row_bytes, unrows}
+use Rattle.hub_base.proofs.Heads.{rows-one}
 use Rattle.hub_base.proofs.Numerals.{all_lack, lacks, decimal-lacks, lacks-joined, number-again, pieces-joined}
 
 -- ---- the fields of a line
@@ -212,9 +212,6 @@ rows-event e rest fits =
     ∙ ap rows (append_assoc (event_body e) (codes "\n") rest)
     ∙ rows-line (event_body e) rest (lacks-joined 10 (decimal e.pid.0) (what_fields e.what) refl (fields-lack 10 e (omega arith) fits))
 
-rows-one : (r s : Row) (rs ss : List Row) → r ∷ rs ≡ s ∷ ss → (r ≡ s) × (rs ≡ ss)
-rows-one r s rs ss h = (cc, cc)
-
 abbrev told : Event → Option Event
 told e = Some e
 
@@ -224,10 +221,8 @@ some-one e f h = cc
 -- no event's line begins another's
 pub one-line : (e f : Event) (x y : List ℕ) → EventFits e → EventFits f → event_line e ++ x ≡ event_line f ++ y → (e ≡ f) × (x ≡ y)
 one-line e f x y fe ff h =
-    let both = rows-one (event_row e) (event_row f) (rows x) (rows y) (sym (rows-event e x fe) ∙ ap rows h ∙ rows-event f y ff) in (
-      some-one e f (sym (body-again e fe) ∙ ap (λ (r : Row). read_event (pieces 32 r.bytes)) both.0 ∙ body-again f ff),
-      sym (unrows x) ∙ ap (flat_map row_bytes) both.1 ∙ unrows y,
-    )
+    let one = rows-one (λ bs. read_event (pieces 32 bs)) (event_row e) (event_row f) x y (sym (rows-event e x fe) ∙ ap rows h ∙ rows-event f y ff) in
+    (some-one e f (sym (body-again e fe) ∙ one.0 ∙ body-again f ff), one.1)
 
 -- a line has a byte at least
 some-line : (e : Event) (rest : List ℕ) → [] ≡ event_line e ++ rest → ⊥

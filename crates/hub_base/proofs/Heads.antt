@@ -134,6 +134,13 @@ pub unrows : (bs : List ℕ) → flat_map row_bytes (rows bs) ≡ bs
 unrows [] = refl
 unrows (c ∷ cs) = unrow-step c cs (c == 10) refl (unrows cs)
 
+-- where first rows and the others are the same, so are what is read of the first and the bytes of the others
+pub rows-one : {A : Type 0} (read : List ℕ → A) (r s : Row) (x y : List ℕ) → r ∷ rows x ≡ s ∷ rows y → (read r.bytes ≡ read s.bytes) × (x ≡ y)
+rows-one read r s x y h =
+    let first : r ≡ s = cc in
+    let others : rows x ≡ rows y = cc in
+    (ap (λ (r : Row). read r.bytes) first, sym (unrows x) ∙ ap (flat_map row_bytes) others ∙ unrows y)
+
 unrows-entries : (es : List Entry) → flat_map row_bytes (map row_of es) ≡ flat_map line es
 unrows-entries [] = refl
 unrows-entries (e ∷ es) = ap (λ r. line e ++ r) (unrows-entries es)

@@ -1,19 +1,18 @@
 -- What the calls that read a journal promise, and the laws of texts.
-use Rattle.std.proofs.Common.{◌≡◌, ℕ, List, ◌∷◌, ◌++◌, inl, inr, refl, ap, ◌∙◌, sym, subst, Result, Ok, Err}
+use Rattle.std.proofs.Common.{◌≡◌, ℕ, List, ◌++◌, inl, inr, refl, ap, ◌∙◌, sym, subst, Result, Ok, Err}
 use Rattle.std.specs.Prelude.{IfOk, IfErr}
-use Rattle.std.specs.List.{flat_map}
 use Rattle.hub_base.specs.declared.entry.Entry.{Entry}
 use Rattle.hub_base.specs.declared.head.Head.{Head}
 use Rattle.hub_base.specs.declared.text.faults.Kind.{Kind}
 use Rattle.hub_base.specs.Lines.{pieces, line, read_fields}
-use Rattle.hub_base.specs.Reading.{Row, rows, Reading, Reads, Faulty, read_text}
+use Rattle.hub_base.specs.Reading.{rows, Reading, Reads, Faulty, read_text}
 use Rattle.hub_base.specs.declared.text.faults.ReadFault.{ReadFault}
 use Rattle.hub_base.specs.declared.text.faults.ReadFault.TheVariants as fault
 use Rattle.hub_base.specs.Journal.{JournalView}
 use Rattle.hub_base.specs.ReadJournal.{Gives, IsFaultOf}
 use Rattle.hub_base.specs.Text.{Fits, IsText, row_of, IsFaulty, IsEither}
 use Rattle.hub_base.proofs.Bodies.{rows-entry, body-again}
-use Rattle.hub_base.proofs.Heads.{row_bytes, text-again, text-take, unrows}
+use Rattle.hub_base.proofs.Heads.{rows-one, text-again, text-take}
 use Rattle.hub_base.proofs.FaultyTexts.{fault-again, fault-take}
 
 either : (bytes : List ℕ) (r : Reading) → read_text bytes ≡ r → IsEither bytes
@@ -51,16 +50,11 @@ told e = Ok e
 ok-one : (e f : Entry) → told e ≡ told f → e ≡ f
 ok-one e f h = cc
 
-rows-one : (r s : Row) (rs ss : List Row) → r ∷ rs ≡ s ∷ ss → (r ≡ s) × (rs ≡ ss)
-rows-one r s rs ss h = (cc, cc)
-
 -- no spelling begins another
 pub one-spelling : (e f : Entry) (x y : List ℕ) → Fits e → Fits f → line e ++ x ≡ line f ++ y → (e ≡ f) × (x ≡ y)
 one-spelling e f x y fe ff h =
-    let both = rows-one (row_of e) (row_of f) (rows x) (rows y) (sym (rows-entry e x fe) ∙ ap rows h ∙ rows-entry f y ff) in (
-      ok-one e f (sym (body-again e fe) ∙ ap (λ (r : Row). read_fields (pieces 32 r.bytes)) both.0 ∙ body-again f ff),
-      sym (unrows x) ∙ ap (flat_map row_bytes) both.1 ∙ unrows y,
-    )
+    let one = rows-one (λ bs. read_fields (pieces 32 bs)) (row_of e) (row_of f) x y (sym (rows-entry e x fe) ∙ ap rows h ∙ rows-entry f y ff) in
+    (ok-one e f (sym (body-again e fe) ∙ one.0 ∙ body-again f ff), one.1)
 
 -- what answers the reading answers the text
 pub gives-text : (bytes : List ℕ) (r : Result JournalView ReadFault) → Gives r (read_text bytes) → (head : Head) (es : List Entry)

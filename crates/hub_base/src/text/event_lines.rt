@@ -6,6 +6,7 @@
 ghost use Rattle.std.specs.Prelude.{◌≡◌, ◌+◌, ◌*◌, ◌≤◌, ◌++◌, length, take, decimal};
 ghost use Rattle.std.specs.List.{flat_map};
 ghost use Rattle.hub_base.specs.EventText.{event_line, what_text, outcome_text};
+ghost use Rattle.hub_base.specs.Writing.{Puts};
 
 use crate::limits::MOST_LINE;
 use crate::{Event, Outcome, What};
@@ -27,8 +28,7 @@ const MOST_WHAT: usize = 34;
 #[inline(always)]
 fn put(out: &mut [u8], at: usize, bytes: &[u8]) -> usize
     requires { at + length bytes.now ≤ length out.old }
-    ensures text { take result out.new ≡ take at out.old ++ bytes.now }
-    ensures end { result ≡ at + length bytes.now }
+    ensures { Puts out.old out.new at bytes.now (length bytes.now) result }
 {
     let end = at + bytes.len();
     out[at..end].copy_from_slice(bytes);
@@ -39,8 +39,7 @@ fn put(out: &mut [u8], at: usize, bytes: &[u8]) -> usize
 #[inline(never)]
 fn put_digits(out: &mut [u8], at: usize, n: u64) -> usize
     requires { at + length (decimal n) ≤ length out.old }
-    ensures text { take result out.new ≡ take at out.old ++ decimal n }
-    ensures end { result ≡ at + length (decimal n) }
+    ensures { Puts out.old out.new at (decimal n) (length (decimal n)) result }
 {
     let mut buffer = Buffer::new();
     put(out, at, buffer.format(n).as_bytes())
@@ -51,8 +50,7 @@ fn put_digits(out: &mut [u8], at: usize, n: u64) -> usize
 #[tactic(auto, using(std::proofs::lemmas::Fmt::decimal_digit, itoa::proofs::Decimal::decimal_two))]
 fn put_number(out: &mut [u8], at: usize, n: u64) -> usize
     requires { at + length (decimal n) ≤ length out.old }
-    ensures text { take result out.new ≡ take at out.old ++ decimal n }
-    ensures end { result ≡ at + length (decimal n) }
+    ensures { Puts out.old out.new at (decimal n) (length (decimal n)) result }
 {
     if n < 10 {
         put(out, at, &[b'0' + n as u8])
@@ -68,8 +66,7 @@ fn put_number(out: &mut [u8], at: usize, n: u64) -> usize
 #[tactic(auto, using(crate::proofs::Decimals::three_digits))]
 fn put_small(out: &mut [u8], at: usize, n: u8) -> usize
     requires { at + MOST_SMALL ≤ length out.old }
-    ensures text { take result out.new ≡ take at out.old ++ decimal n }
-    ensures most { result ≤ at + MOST_SMALL }
+    ensures { Puts out.old out.new at (decimal n) MOST_SMALL result }
 {
     put_number(out, at, n.into())
 }
@@ -79,8 +76,7 @@ fn put_small(out: &mut [u8], at: usize, n: u8) -> usize
 #[tactic(auto, using(crate::proofs::Decimals::twenty_digits))]
 fn put_large(out: &mut [u8], at: usize, n: u64) -> usize
     requires { at + MOST_DIGITS ≤ length out.old }
-    ensures text { take result out.new ≡ take at out.old ++ decimal n }
-    ensures most { result ≤ at + MOST_DIGITS }
+    ensures { Puts out.old out.new at (decimal n) MOST_DIGITS result }
 {
     put_number(out, at, n)
 }
@@ -89,8 +85,7 @@ fn put_large(out: &mut [u8], at: usize, n: u64) -> usize
 #[inline(always)]
 fn put_outcome(out: &mut [u8], at: usize, outcome: Outcome) -> usize
     requires { at + MOST_OUTCOME ≤ length out.old }
-    ensures text { take result out.new ≡ take at out.old ++ outcome_text outcome }
-    ensures most { result ≤ at + MOST_OUTCOME }
+    ensures { Puts out.old out.new at (outcome_text outcome) MOST_OUTCOME result }
 {
     match outcome {
         Outcome::Sent => put(out, at, b" sent"),
@@ -107,8 +102,7 @@ fn put_outcome(out: &mut [u8], at: usize, outcome: Outcome) -> usize
 #[inline(always)]
 fn put_what(out: &mut [u8], at: usize, what: What) -> usize
     requires { at + MOST_WHAT ≤ length out.old }
-    ensures text { take result out.new ≡ take at out.old ++ what_text what }
-    ensures most { result ≤ at + MOST_WHAT }
+    ensures { Puts out.old out.new at (what_text what) MOST_WHAT result }
 {
     match what {
         What::Made(port) => {
@@ -135,8 +129,7 @@ fn put_what(out: &mut [u8], at: usize, what: What) -> usize
 #[inline]
 pub fn put_event(out: &mut [u8], at: usize, event: &Event) -> usize
     requires { at + MOST_LINE ≤ length out.old }
-    ensures text { take result out.new ≡ take at out.old ++ event_line event.now }
-    ensures most { result ≤ at + MOST_LINE }
+    ensures { Puts out.old out.new at (event_line event.now) MOST_LINE result }
 {
     let pid = put_small(out, at, event.pid.0);
     let what = put_what(out, pid, event.what);

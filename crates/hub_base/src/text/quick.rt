@@ -92,6 +92,15 @@ fn behind_word(bytes: &[u8], start: usize, word: &[u8; 4]) -> Option<usize>
     }
 }
 
+/// The place behind these eight bytes, where they stand at this place.
+#[inline]
+fn behind_words(bytes: &[u8], start: usize, first: &[u8; 4], second: &[u8; 4]) -> Option<usize>
+    requires { start < length bytes.now }
+    ensures { IfSome result (λ end. Stands bytes.now start (first.now ++ second.now) end) }
+{
+    behind_word(bytes, behind_word(bytes, start, first)?, second)
+}
+
 /// The case that sends and whose port and value stand at this place with this mark between them, and the place
 /// behind it.
 #[inline]
@@ -135,32 +144,6 @@ fn plain_into(bytes: &[u8], start: usize, step: &mut Step) -> Option<usize>
     let (case, end) = plain_at(bytes, start)?;
     set_call(step, case);
     Some(end)
-}
-
-/// The place behind the word of a select and the spaces around it, where they stand at this place.
-#[inline]
-fn behind_select(bytes: &[u8], start: usize) -> Option<usize>
-    requires line { EndsLine bytes.now }
-    requires start { start < length bytes.now }
-    ensures { IfSome result (λ end. Stands bytes.now start (codes " select ") end) }
-{
-    let end = behind_word(bytes, behind(bytes, start, b' ')?, b"sele")?;
-    let end = behind(bytes, end, b'c')?;
-    let end = behind(bytes, end, b't')?;
-    behind(bytes, end, b' ')
-}
-
-/// The place behind a default and the space before it, where they stand at this place.
-#[inline]
-fn behind_default(bytes: &[u8], start: usize) -> Option<usize>
-    requires line { EndsLine bytes.now }
-    requires start { start < length bytes.now }
-    ensures { IfSome result (λ end. Stands bytes.now start (codes " default") end) }
-{
-    let end = behind_word(bytes, behind(bytes, start, b' ')?, b"defa")?;
-    let end = behind(bytes, end, b'u')?;
-    let end = behind(bytes, end, b'l')?;
-    behind(bytes, end, b't')
 }
 
 /// The case of a select, from the space before it on, and the place behind it.
@@ -217,7 +200,7 @@ fn select_into(bytes: &[u8], start: usize, step: &mut Step) -> Option<usize>
     };
     let (number, end) = number_at(bytes, start)?;
     let end = cases_into(bytes, end, cases)?;
-    let (has_default, end) = match behind_default(bytes, end) {
+    let (has_default, end) = match behind_words(bytes, end, b" def", b"ault") {
         Some(end) => (true, end),
         None => (false, end),
     };
@@ -237,7 +220,7 @@ fn call_into(bytes: &[u8], start: usize, step: &mut Step) -> Option<usize>
     requires start { start < length bytes.now }
     ensures { IfSome result (λ end. StepStands bytes.now start step.new end) }
 {
-    match behind_select(bytes, start) {
+    match behind_words(bytes, start, b" sel", b"ect ") {
         Some(word) => select_into(bytes, word, step),
         None => plain_into(bytes, start, step),
     }

@@ -1,14 +1,14 @@
 //! Writing journals and events. A private function that is refused may leave a part behind, which
 //! the public one takes back.
 
-ghost use Rattle.std.specs.Prelude.{◌≡◌, ◌++◌, codes, decimal, OnOk, OnErr, IsOk, ◌↔◌, take, is_ok, if◌then◌else◌, ℕ, ◌<◌, ◌≤◌, List};
+ghost use Rattle.std.specs.Prelude.{◌≡◌, ◌++◌, codes, decimal, OnOk, OnErr, IsOk, ◌↔◌, take, is_ok, if◌then◌else◌, ◌≤◌};
 ghost use Rattle.hub_base.specs.EventText.{event_line};
 ghost use Rattle.hub_base.specs.Lines.{case_field, select_fields, call_fields, step_fields, line};
 ghost use Rattle.std.specs.List.{flat_map};
 ghost use Rattle.std.specs.Vec.{vec_capacity};
 ghost use Rattle.hub_base.specs.Head.{IsHead, head_of};
 ghost use Rattle.hub_base.specs.Reading.{head_lines, text};
-ghost use Rattle.hub_base.specs.Writing.{spaced, spaced_cases, HasRoomFor};
+ghost use Rattle.hub_base.specs.Writing.{Appends, spaced, spaced_cases, HasRoomFor};
 ghost use Rattle.hub_base.specs.Value.{value_field};
 
 use crate::limits::{MOST_LINE, MOST_PROCS};
@@ -42,10 +42,7 @@ fn put_number(out: &mut Vec<u8>, n: u64) -> Result<(), AllocError>
 
 /// Appends a value.
 fn put_value(out: &mut Vec<u8>, value: Value) -> Result<(), AllocError>
-    ensures items { out.new.items
-        ≡ (if is_ok result then out.old.items ++ value_field value else out.old.items) }
-    ensures capacity { vec_capacity out.old ≤ vec_capacity out.new }
-    ensures succeeds { HasRoomFor out.old (value_field value) → IsOk result }
+    ensures { Appends out.old out.new (value_field value) result }
 {
     put_number(out, value.number())
 }
@@ -86,10 +83,7 @@ pub fn write_event(out: &mut Vec<u8>, event: &Event) -> Result<(), NoMemory>
 
 /// Appends a case of a select, behind a space.
 fn put_case(out: &mut Vec<u8>, case: Case) -> Result<(), AllocError>
-    ensures ok { OnOk result (out.new.items ≡ out.old.items ++ codes " " ++ case_field case) }
-    ensures err { OnErr result ((rest : List ℕ) × (out.new.items ≡ out.old.items ++ rest)) }
-    ensures capacity { vec_capacity out.old ≤ vec_capacity out.new }
-    ensures succeeds { HasRoomFor out.old (codes " " ++ case_field case) → IsOk result }
+    ensures { Appends out.old out.new (codes " " ++ case_field case) result }
 {
     match case {
         Case::Send(port, value) => {
@@ -107,10 +101,7 @@ fn put_case(out: &mut Vec<u8>, case: Case) -> Result<(), AllocError>
 
 /// Appends the cases of a select, each behind a space.
 fn put_cases(out: &mut Vec<u8>, cases: &[Case]) -> Result<(), AllocError>
-    ensures ok { OnOk result (out.new.items ≡ out.old.items ++ spaced_cases cases.now) }
-    ensures err { OnErr result ((rest : List ℕ) × (out.new.items ≡ out.old.items ++ rest)) }
-    ensures capacity { vec_capacity out.old ≤ vec_capacity out.new }
-    ensures succeeds { HasRoomFor out.old (spaced_cases cases.now) → IsOk result }
+    ensures { Appends out.old out.new (spaced_cases cases.now) result }
 {
     for case in cases {
         match put_case(out, *case) {
@@ -123,11 +114,7 @@ fn put_cases(out: &mut Vec<u8>, cases: &[Case]) -> Result<(), AllocError>
 
 /// Appends a call that has no short form.
 fn put_select(out: &mut Vec<u8>, cases: &[Case], default: bool, word: u64) -> Result<(), AllocError>
-    ensures ok { OnOk result (
-        out.new.items ≡ out.old.items ++ spaced (select_fields cases.now default word)) }
-    ensures err { OnErr result ((rest : List ℕ) × (out.new.items ≡ out.old.items ++ rest)) }
-    ensures capacity { vec_capacity out.old ≤ vec_capacity out.new }
-    ensures succeeds { HasRoomFor out.old (spaced (select_fields cases.now default word)) → IsOk result }
+    ensures { Appends out.old out.new (spaced (select_fields cases.now default word)) result }
 {
     put(out, b" select ")?;
     put_number(out, word)?;
@@ -140,11 +127,7 @@ fn put_select(out: &mut Vec<u8>, cases: &[Case], default: bool, word: u64) -> Re
 
 /// Appends a call: one of one case without default and with word 0 has a short form.
 fn put_call(out: &mut Vec<u8>, cases: &[Case], default: bool, word: u64) -> Result<(), AllocError>
-    ensures ok { OnOk result (
-        out.new.items ≡ out.old.items ++ spaced (call_fields cases.now default word)) }
-    ensures err { OnErr result ((rest : List ℕ) × (out.new.items ≡ out.old.items ++ rest)) }
-    ensures capacity { vec_capacity out.old ≤ vec_capacity out.new }
-    ensures succeeds { HasRoomFor out.old (spaced (call_fields cases.now default word)) → IsOk result }
+    ensures { Appends out.old out.new (spaced (call_fields cases.now default word)) result }
 {
     if cases.len() != 1 || default || word != 0 {
         return put_select(out, cases, default, word);
@@ -165,10 +148,7 @@ fn put_call(out: &mut Vec<u8>, cases: &[Case], default: bool, word: u64) -> Resu
 
 /// Appends a step, behind a space.
 fn put_step(out: &mut Vec<u8>, step: &Step) -> Result<(), AllocError>
-    ensures ok { OnOk result (out.new.items ≡ out.old.items ++ spaced (step_fields step.now)) }
-    ensures err { OnErr result ((rest : List ℕ) × (out.new.items ≡ out.old.items ++ rest)) }
-    ensures capacity { vec_capacity out.old ≤ vec_capacity out.new }
-    ensures succeeds { HasRoomFor out.old (spaced (step_fields step.now)) → IsOk result }
+    ensures { Appends out.old out.new (spaced (step_fields step.now)) result }
 {
     match step {
         Step::Make(cap) => {
@@ -190,10 +170,7 @@ fn put_step(out: &mut Vec<u8>, step: &Step) -> Result<(), AllocError>
 
 /// Appends a line.
 fn put_entry(out: &mut Vec<u8>, entry: &Entry) -> Result<(), AllocError>
-    ensures ok { OnOk result (out.new.items ≡ out.old.items ++ line entry.now) }
-    ensures err { OnErr result ((rest : List ℕ) × (out.new.items ≡ out.old.items ++ rest)) }
-    ensures capacity { vec_capacity out.old ≤ vec_capacity out.new }
-    ensures succeeds { HasRoomFor out.old (line entry.now) → IsOk result }
+    ensures { Appends out.old out.new (line entry.now) result }
 {
     put_number(out, entry.pid.0.into())?;
     put_step(out, &entry.step)?;
@@ -215,10 +192,7 @@ pub fn write_entry(out: &mut Vec<u8>, entry: &Entry) -> Result<(), NoMemory>
 
 /// Appends the two head lines.
 fn put_head(out: &mut Vec<u8>, head: Head) -> Result<(), AllocError>
-    ensures ok { OnOk result (out.new.items ≡ out.old.items ++ head_lines head) }
-    ensures err { OnErr result ((rest : List ℕ) × (out.new.items ≡ out.old.items ++ rest)) }
-    ensures capacity { vec_capacity out.old ≤ vec_capacity out.new }
-    ensures succeeds { HasRoomFor out.old (head_lines head) → IsOk result }
+    ensures { Appends out.old out.new (head_lines head) result }
 {
     put(out, b"chanhub journal 1\n")?;
     put(out, b"procs ")?;
@@ -242,10 +216,7 @@ pub fn write_head(out: &mut Vec<u8>, procs: u8) -> Result<(), NoMemory>
 
 /// Appends the line of each entry.
 fn put_entries(out: &mut Vec<u8>, entries: &[Entry]) -> Result<(), AllocError>
-    ensures ok { OnOk result (out.new.items ≡ out.old.items ++ flat_map line entries.now) }
-    ensures err { OnErr result ((rest : List ℕ) × (out.new.items ≡ out.old.items ++ rest)) }
-    ensures capacity { vec_capacity out.old ≤ vec_capacity out.new }
-    ensures succeeds { HasRoomFor out.old (flat_map line entries.now) → IsOk result }
+    ensures { Appends out.old out.new (flat_map line entries.now) result }
 {
     for entry in entries {
         match put_entry(out, entry) {
@@ -258,11 +229,7 @@ fn put_entries(out: &mut Vec<u8>, entries: &[Entry]) -> Result<(), AllocError>
 
 /// Appends the head lines and the line of each entry.
 fn put_journal(out: &mut Vec<u8>, journal: &Journal) -> Result<(), AllocError>
-    ensures ok { OnOk result (
-        out.new.items ≡ out.old.items ++ text journal.now.head journal.now.entries) }
-    ensures err { OnErr result ((rest : List ℕ) × (out.new.items ≡ out.old.items ++ rest)) }
-    ensures capacity { vec_capacity out.old ≤ vec_capacity out.new }
-    ensures succeeds { HasRoomFor out.old (text journal.now.head journal.now.entries) → IsOk result }
+    ensures { Appends out.old out.new (text journal.now.head journal.now.entries) result }
 {
     put_head(out, journal.head())?;
     put_entries(out, journal.entries())

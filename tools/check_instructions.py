@@ -17,7 +17,7 @@ LINES = 100000
 SKIPPED = 77
 
 # Date: 2026-11-23. Toolchain (`rt version`): `rattle-kit-13b logic dac8208d650f15bf`. Counted by valgrind 3.19.0.
-WRITTEN = {'hand_overs': 102_743_347, 'bursts': 79_232_924, 'selects': 272_759_728}
+WRITTEN = {'hand_overs': 67_337_615, 'bursts': 48_610_950, 'selects': 135_347_327}
 PERCENT = 5
 
 

@@ -1,22 +1,9 @@
 -- The account of an entry, whatever its step: what its process is answered, which open calls end and what tells
 -- it, who waits then, what is written on which port, and who has gone. The laws follow from it.
-use Rattle.std.proofs.Common.{◌≡◌, Bool, true, false, List, [], ◌∷◌, ◌++◌, refl, ap, ◌∙◌, sym, subst, Option, Some, None, if◌then◌else◌}
-use Rattle.std.specs.List.{list_any, AllByRecursion, filter_map, cons_option}
-use Rattle.std.specs.Option.{option_map}
-use Rattle.hub_base.specs.declared.head.Head.{Head}
-use Rattle.hub_base.specs.declared.value.Port.{Port}
-use Rattle.hub_base.specs.declared.value.Pid.{Pid}
-use Rattle.hub_base.specs.declared.entry.Step.{Step}
-use Rattle.hub_base.specs.declared.event.What.{What}
-use Rattle.hub_base.specs.State.{State, Channel, OpenCall}
-use Rattle.hub_base.specs.Ready.{can_proceed}
-use Rattle.hub_base.specs.Steps.{calls, Change, tells}
-use Rattle.hub_base.specs.Reading.{is_exit}
-use Rattle.hub_base.specs.Values.{cases_or, of_what}
-use Rattle.hub_laws.specs.Sound.{Apart, IsSound, PortSound}
-use Rattle.hub_laws.specs.Answers.{is_answer_to}
-use Rattle.hub_laws.specs.OnePort.{port_touched_by, found_closed, shown}
-use Rattle.hub_laws.specs.Replies.{is_parked}
+use Rattle.hub_laws.proofs.Prelude.{◌≡◌, Bool, true, false, List, [], ◌∷◌, ◌++◌, refl, ap, ◌∙◌, sym, subst, Option, Some, None, if◌then◌else◌, list_any}
+use Rattle.hub_laws.proofs.Prelude.{AllByRecursion, filter_map, cons_option, option_map, Step, What, Head, Pid, Port, is_exit, can_proceed, State, Channel}
+use Rattle.hub_laws.proofs.Prelude.{OpenCall, calls, Change, tells, cases_or, of_what, is_answer_to, port_touched_by, found_closed, shown, is_parked, Apart}
+use Rattle.hub_laws.proofs.Prelude.{IsSound, PortSound}
 use Rattle.hub_laws.proofs.Calls.{Fewer, fewer-same, all_snoc}
 use Rattle.hub_laws.proofs.Deeds.{Deed, deed_of, at, Wrote, Does, idle}
 use Rattle.hub_laws.proofs.Leaving.{Ended, events_of, EndsWell, InPlace, Leave, nobody, leave-all}

@@ -1,30 +1,13 @@
 -- After a close no case on the port is sent, and receives drain the buffer.
-use Rattle.std.proofs.Common.{◌≡◌, ℕ, ◌==◌, Bool, true, false, zero, suc, List, [], ◌∷◌, ◌++◌, drop, refl, ap}
-use Rattle.std.proofs.Common.{◌∙◌, sym, subst, Option, Some, None, append-nil, append_assoc, add-one}
-use Rattle.std.specs.Prelude.{slice_get}
-use Rattle.std.proofs.lemmas.Bool.{eqb-true}
-use Rattle.hub_base.specs.declared.value.Port.{Port}
-use Rattle.hub_base.specs.declared.value.Pid.{Pid}
-use Rattle.hub_base.specs.declared.case.Case.{Case}
-use Rattle.hub_base.specs.declared.case.Case.TheVariants.{Send, Recv}
-use Rattle.hub_base.specs.declared.entry.Step.TheVariants.{Close}
-use Rattle.hub_base.specs.declared.entry.Entry.{Entry}
-use Rattle.hub_base.specs.declared.head.Head.{Head}
-use Rattle.hub_base.specs.declared.fault.Fault.{Fault}
+use Rattle.hub_laws.proofs.Prelude.{◌≡◌, Bool, true, false, List, [], ◌∷◌, ◌++◌, refl, ap, ◌∙◌, sym, subst, Option, Some, None, ℕ, ◌==◌, zero, suc, drop}
+use Rattle.hub_laws.proofs.Prelude.{append-nil, append_assoc, add-one, eqb-true, slice_get, Case, Send, Recv, Entry, Close, Outcome, Sent, Fault, Head, Pid}
+use Rattle.hub_laws.proofs.Prelude.{Port, port_of, admits, moves, state_after, state, State, Channel, channel_at, opening, buffer_of, Change, after_receive}
+use Rattle.hub_laws.proofs.Prelude.{shut, stalls, closes, close_fault, is_unmade, fault_of, answers, refusal, Turned, turns_after, values_from, sent_at}
+use Rattle.hub_laws.proofs.Prelude.{heard, Drains, answers_done, StaysClosed, port_touched, IsSound}
 use Rattle.hub_base.specs.declared.fault.Fault.TheVariants as fault
-use Rattle.hub_base.specs.declared.event.Outcome.{Outcome}
-use Rattle.hub_base.specs.declared.event.Outcome.TheVariants.{Sent}
-use Rattle.hub_base.specs.State.{State, Channel, channel_at, opening, buffer_of}
-use Rattle.hub_base.specs.Ready.{port_of}
-use Rattle.hub_base.specs.Steps.{after_receive, shut, Change, stalls, closes, close_fault, is_unmade, fault_of, answers, refusal}
-use Rattle.hub_base.specs.Runs.{admits, moves, state_after, state}
-use Rattle.hub_base.specs.Values.{Turned, turns_after, values_from}
-use Rattle.hub_laws.specs.Sound.{IsSound}
-use Rattle.hub_laws.specs.OnePort.{port_touched}
 use Rattle.hub_laws.proofs.Branches.{by-stall}
 use Rattle.hub_laws.proofs.Deeds.{Knows, Deed, deed_of, told, picks, at, Moved, Wrote, Does, buffers}
 use Rattle.hub_laws.proofs.Deeds.{hands, fetches, gives, drains, refuses, shuts, idle, adds, wrote}
-use Rattle.hub_laws.specs.AfterClose.{sent_at, heard, Drains, answers_done, StaysClosed}
 use Rattle.hub_laws.proofs.Calls.{same_number}
 use Rattle.hub_laws.proofs.Ports.{same_port}
 use Rattle.hub_laws.proofs.Ready.{none_false}

@@ -1,12 +1,6 @@
 -- An admitted entry is answered first, and any other changes nothing.
-use Rattle.std.proofs.Common.{◌≡◌, ℕ, List, ap, Option, Some, None}
-use Rattle.hub_base.specs.declared.entry.Entry.{Entry}
-use Rattle.hub_base.specs.declared.head.Head.{Head}
-use Rattle.hub_base.specs.declared.fault.Fault.{Fault}
-use Rattle.hub_base.specs.State.{State}
-use Rattle.hub_base.specs.Steps.{refusal}
-use Rattle.hub_base.specs.Runs.{admits, moves, state}
-use Rattle.hub_laws.specs.Answers.{IsAnswered, AnswersLaw, PassedOverLaw}
+use Rattle.hub_laws.proofs.Prelude.{◌≡◌, List, ap, Option, Some, None, Entry, Fault, Head, admits, moves, state, State, refusal, IsAnswered, AnswersLaw}
+use Rattle.hub_laws.proofs.Prelude.{PassedOverLaw}
 use Rattle.hub_laws.proofs.Faults.{refusal-refuses}
 use Rattle.hub_laws.proofs.Entries.{turn-answered}
 

@@ -1,17 +1,7 @@
 -- Each process is told one event for its entry, unless it waits, and one for each call of its that ends.
-use Rattle.std.proofs.Common.{◌≡◌, ℕ, ◌+◌, ◌≤◌, ◌==◌, Bool, true, false, cond, not, List, [], ◌∷◌, ◌++◌, length, refl, ◌∙◌, subst, arith, ◌&&◌}
-use Rattle.std.specs.List.{AllByRecursion}
-use Rattle.std.proofs.lemmas.Bool.{or_parts, eqb-true}
-use Rattle.hub_base.specs.declared.value.Pid.{Pid}
-use Rattle.hub_base.specs.declared.entry.Step.{Step}
-use Rattle.hub_base.specs.declared.entry.Entry.{Entry}
-use Rattle.hub_base.specs.declared.event.Event.{Event}
-use Rattle.hub_base.specs.declared.event.What.{What}
-use Rattle.hub_base.specs.State.{State, OpenCall}
-use Rattle.hub_base.specs.Steps.{Change, tells, turn}
-use Rattle.hub_laws.specs.Sound.{IsSound, is_among, Apart}
-use Rattle.hub_laws.specs.Once.{counts, endings}
-use Rattle.hub_laws.specs.Replies.{is_parked}
+use Rattle.hub_laws.proofs.Prelude.{◌≡◌, Bool, true, false, List, [], ◌∷◌, ◌++◌, refl, ◌∙◌, subst, ℕ, ◌==◌, ◌+◌, ◌≤◌, cond, not, length, arith, ◌&&◌}
+use Rattle.hub_laws.proofs.Prelude.{eqb-true, or_parts, AllByRecursion, Entry, Step, Event, What, Pid, State, OpenCall, Change, tells, turn, counts, endings}
+use Rattle.hub_laws.proofs.Prelude.{is_parked, Apart, IsSound, is_among}
 use Rattle.hub_laws.proofs.Account.{Account, with_caller, call_of}
 use Rattle.hub_laws.proofs.Entries.{turn-account}
 use Rattle.hub_laws.proofs.Events.{answer_counts, waiting-ends}

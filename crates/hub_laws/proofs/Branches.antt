@@ -1,14 +1,7 @@
 -- The two branches of a send and of a stall, for any fact of what follows.
-use Rattle.std.proofs.Common.{◌≡◌, Bool, true, false, cond, List, [], ◌++◌, refl, sym, Some}
-use Rattle.std.specs.List.{filter_map}
-use Rattle.hub_base.specs.declared.value.Port.{Port}
-use Rattle.hub_base.specs.declared.value.Value.{Value}
-use Rattle.hub_base.specs.declared.event.Event.{Event}
-use Rattle.hub_base.specs.declared.event.Outcome.TheVariants.{Closed}
+use Rattle.hub_laws.proofs.Prelude.{◌≡◌, Bool, true, false, List, [], ◌++◌, refl, sym, Some, cond, filter_map, Event, Closed, Port, Value, is_recv_on}
+use Rattle.hub_laws.proofs.Prelude.{first_with, State, Channel, OpenCall, Change, tells, stalls, Firing, after_send, send_meets, send_fires, all_wait}
 use Rattle.hub_base.specs.declared.event.What.TheVariants as what
-use Rattle.hub_base.specs.State.{State, Channel, OpenCall}
-use Rattle.hub_base.specs.Ready.{is_recv_on, first_with}
-use Rattle.hub_base.specs.Steps.{Change, Firing, tells, after_send, send_meets, send_fires, all_wait, stalls}
 
 -- a send on a closed port
 abbrev pub refused_send : State → Firing

@@ -1,17 +1,8 @@
 -- Lists of open calls: what stays when some of them end, and when one more parks.
-use Rattle.std.proofs.Common.{◌≡◌, ℕ, ◌+◌, ◌==◌, Bool, true, false, cond, suc, List, [], ◌∷◌, ◌++◌}
-use Rattle.std.proofs.Common.{filter, refl, ◌∙◌, sym, subst, Option, Some, None, arith, ◌||◌, inl, inr}
-use Rattle.std.specs.Prelude.{slice_get, is_some}
-use Rattle.std.specs.List.{list_any, AllByRecursion}
-use Rattle.std.specs.Option.{option_map}
-use Rattle.std.proofs.lemmas.Grind.{common_steps}
-use Rattle.std.proofs.lemmas.Bool.{or_left, or_right, or_parts, or_from, or_cases, false_from_ne_true}
-use Rattle.hub_base.specs.declared.value.Port.{Port}
-use Rattle.hub_base.specs.declared.value.Pid.{Pid}
-use Rattle.hub_base.specs.declared.case.Case.{Case}
-use Rattle.hub_base.specs.State.{OpenCall}
-use Rattle.hub_base.specs.Ready.{is_send_on, is_recv_on, Placed, Ending, or_else, lowest, lowest_from, first_with}
-use Rattle.hub_laws.specs.Sound.{some_call, is_among, Apart, Alone, CallFits}
+use Rattle.hub_laws.proofs.Prelude.{◌≡◌, Bool, true, false, List, [], ◌∷◌, ◌++◌, refl, ◌∙◌, sym, subst, Option, Some, None, ℕ, ◌==◌, suc, ◌+◌, cond, arith}
+use Rattle.hub_laws.proofs.Prelude.{filter, ◌||◌, inl, inr, or_parts, or_left, or_right, or_from, or_cases, false_from_ne_true, common_steps, list_any}
+use Rattle.hub_laws.proofs.Prelude.{AllByRecursion, option_map, slice_get, is_some, Case, Pid, Port, is_recv_on, first_with, is_send_on, Placed, Ending}
+use Rattle.hub_laws.proofs.Prelude.{or_else, lowest, lowest_from, OpenCall, Apart, is_among, some_call, Alone, CallFits}
 
 -- Numbers of processes
 

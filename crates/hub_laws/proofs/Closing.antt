@@ -1,15 +1,7 @@
 -- A close, one open call at a time: what a loop that ends the oldest call on the port has done.
-use Rattle.std.proofs.Common.{◌≡◌, ℕ, ◌==◌, Bool, true, false, not, List, [], ◌∷◌, filter, refl, ap, ◌∙◌, sym, subst, Option, Some, None}
-use Rattle.std.specs.Prelude.{is_some}
-use Rattle.std.specs.List.{list_any, filter_map}
-use Rattle.std.specs.Option.{option_map}
-use Rattle.std.proofs.lemmas.Bool.{or_left, or_right, false_from_ne_true, eqb-true}
-use Rattle.hub_base.specs.declared.value.Port.{Port}
-use Rattle.hub_base.specs.declared.value.Pid.{Pid}
-use Rattle.hub_base.specs.State.{OpenCall}
-use Rattle.hub_base.specs.Ready.{is_on, Ending, Placed, or_else, lowest, first_with, without}
-use Rattle.hub_base.specs.Steps.{fired, closing_event, closing_outcome}
-use Rattle.hub_laws.specs.Sound.{is_among, Apart}
+use Rattle.hub_laws.proofs.Prelude.{◌≡◌, Bool, true, false, List, [], ◌∷◌, refl, ap, ◌∙◌, sym, subst, Option, Some, None, ℕ, ◌==◌, not, filter, eqb-true}
+use Rattle.hub_laws.proofs.Prelude.{or_left, or_right, false_from_ne_true, list_any, filter_map, option_map, is_some, Pid, Port, first_with, Placed, Ending}
+use Rattle.hub_laws.proofs.Prelude.{or_else, lowest, is_on, without, OpenCall, fired, closing_event, closing_outcome, Apart, is_among}
 use Rattle.hub_laws.proofs.Calls.{lowest-some, same_number}
 use Rattle.hub_laws.proofs.Leaving.{without_head}
 

@@ -1,25 +1,8 @@
 -- No more values are sent on a port than there are admitted entries that are no exits.
-use Rattle.std.proofs.Common.{◌≡◌, ℕ, ◌+◌, ◌-◌, ◌≤◌, ◌==◌, Bool, true, false, cond, List, [], ◌∷◌}
-use Rattle.std.proofs.Common.{◌++◌, length, refl, ◌∙◌, sym, subst, Option, Some, None, arith}
-use Rattle.std.specs.Prelude.{slice_get}
-use Rattle.std.specs.Option.{option_map_or}
-use Rattle.std.proofs.lemmas.Bool.{eqb-true}
-use Rattle.hub_base.specs.declared.value.Port.{Port}
-use Rattle.hub_base.specs.declared.entry.Step.{Step}
-use Rattle.hub_base.specs.declared.entry.Step.TheVariants.{Exit}
-use Rattle.hub_base.specs.declared.entry.Entry.{Entry}
-use Rattle.hub_base.specs.declared.head.Head.{Head}
-use Rattle.hub_base.specs.declared.event.Event.{Event}
-use Rattle.hub_base.specs.declared.fault.Fault.{Fault}
-use Rattle.hub_base.specs.Reading.{is_exit}
-use Rattle.hub_base.specs.State.{State, Channel, channel_at, opening}
-use Rattle.hub_base.specs.Steps.{turn, refusal}
-use Rattle.hub_base.specs.Runs.{admits, moves, state_after, kept_after, keeps, state}
-use Rattle.hub_base.specs.Values.{Turned}
-use Rattle.hub_base.specs.Text.{one_step, steps_of}
-use Rattle.hub_laws.specs.Counts.{CountsLaw}
-use Rattle.hub_laws.specs.OnePort.{port_touched}
-use Rattle.hub_laws.specs.Sound.{IsSound}
+use Rattle.hub_laws.proofs.Prelude.{◌≡◌, Bool, true, false, List, [], ◌∷◌, ◌++◌, refl, ◌∙◌, sym, subst, Option, Some, None, ℕ, ◌==◌, ◌+◌, ◌≤◌, cond, length}
+use Rattle.hub_laws.proofs.Prelude.{arith, ◌-◌, eqb-true, option_map_or, slice_get, Entry, Step, Exit, Event, Fault, Head, Port, is_exit, admits, moves}
+use Rattle.hub_laws.proofs.Prelude.{state_after, state, kept_after, keeps, State, Channel, channel_at, opening, refusal, turn, one_step, steps_of, Turned}
+use Rattle.hub_laws.proofs.Prelude.{CountsLaw, port_touched, IsSound}
 use Rattle.hub_laws.proofs.Deeds.{Knows, Deed, deed_of, told, at, Moved, Wrote, Does, buffers, hands}
 use Rattle.hub_laws.proofs.Deeds.{fetches, gives, drains, refuses, shuts, idle, adds, wrote}
 use Rattle.hub_laws.proofs.Does.{Quiet, quiet-idle, quiet-adds, does-others}

@@ -1,19 +1,7 @@
 -- What one step does to a channel, and the communications that it completes.
-use Rattle.std.specs.Prelude.{◌≡◌, ◌≤◌, ◌<◌, ◌==◌, ◌-◌, ◌+◌, ◌++◌, ℕ, true, false, List, [], ◌∷◌, length, Option, Some, None, slice_get, if◌then◌else◌}
-use Rattle.std.specs.List.{filter_map, AllByRecursion}
-use Rattle.hub_base.specs.declared.value.Port.{Port}
-use Rattle.hub_base.specs.declared.value.Pid.{Pid}
-use Rattle.hub_base.specs.declared.value.Value.{Value}
-use Rattle.hub_base.specs.declared.case.Case.{Case}
-use Rattle.hub_base.specs.declared.case.Case.TheVariants.{Send, Recv}
-use Rattle.hub_base.specs.declared.event.Outcome.{Outcome}
-use Rattle.hub_base.specs.declared.event.Outcome.TheVariants.{Sent, Got, Drained, Closed}
-use Rattle.hub_base.specs.declared.event.Event.{Event}
-use Rattle.hub_base.specs.declared.limits.TheConstants.{MOST_PORTS}
-use Rattle.hub_base.specs.State.{Channel, OpenCall}
-use Rattle.hub_base.specs.Ready.{port_of}
-use Rattle.hub_base.specs.Steps.{after_send, after_receive, shut, next_value, closing_outcome}
-use Rattle.hub_base.specs.Values.{of_what}
+use Rattle.hub_laws.proofs.Prelude.{◌≡◌, true, false, List, [], ◌∷◌, ◌++◌, Option, Some, None, if◌then◌else◌, ℕ, ◌==◌, ◌+◌, length, ◌-◌, ◌<◌}
+use Rattle.hub_laws.proofs.Prelude.{AllByRecursion, filter_map, slice_get, Case, Send, Recv, Event, Outcome, Sent, Closed, Got, Drained, MOST_PORTS, Pid}
+use Rattle.hub_laws.proofs.Prelude.{Port, Value, port_of, Channel, OpenCall, after_receive, shut, after_send, closing_outcome, next_value, of_what}
 
 -- a case that fired, with its outcome
 pub record Deed : Type 0 where

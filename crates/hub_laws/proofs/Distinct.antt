@@ -1,13 +1,8 @@
 -- Processes that are apart from one another are no more than there are numbers for them.
-use Rattle.std.proofs.Common.{◌≡◌, ◌<◌, ◌≤◌, ◌==◌, ℕ, true, false, List, [], ◌∷◌, ◌++◌, length, map, refl, ◌∙◌, sym, arith, eqb}
-use Rattle.std.specs.List.{list_any, AllByRecursion, IsDistinct}
-use Rattle.std.proofs.lemmas.Grind.{common_steps}
-use Rattle.std.proofs.lemmas.List.{length-map}
-use Rattle.std.proofs.lemmas.Map.Steps.{length-le_from_distinct_below}
-use Rattle.std.proofs.lemmas.Bool.{or_parts, or_from}
-use Rattle.hub_base.specs.declared.value.Pid.{Pid}
-use Rattle.hub_base.specs.State.{OpenCall}
-use Rattle.hub_laws.specs.Sound.{is_among, Apart}
+use Rattle.hub_laws.proofs.Prelude.{◌≡◌, true, false, List, [], ◌∷◌, ◌++◌, refl, ◌∙◌, sym, ℕ, ◌==◌, ◌≤◌, length, arith, ◌<◌, map, eqb, or_parts, or_from}
+use Rattle.hub_laws.proofs.Prelude.{common_steps, length-map, length-le_from_distinct_below, list_any, AllByRecursion, Pid, OpenCall, Apart}
+use Rattle.hub_laws.proofs.Prelude.{is_among}
+use Rattle.std.specs.List.{IsDistinct}
 use Rattle.hub_laws.proofs.Calls.{any_snoc, differ-sym}
 
 -- no process stands twice

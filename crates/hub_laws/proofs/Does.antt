@@ -1,20 +1,8 @@
 -- What a write does to the channels, and what follows of each port from what a step can do to them.
-use Rattle.std.proofs.Common.{◌≡◌, ◌≤◌, ℕ, ◌+◌, ◌-◌, ◌<◌, ◌==◌, Bool, true, false, cond, zero, suc, List, [], ◌∷◌}
-use Rattle.std.proofs.Common.{◌++◌, length, refl, ap, ◌∙◌, sym, subst, Option, Some, None, arith, inl, inr}
-use Rattle.std.specs.Prelude.{slice_get, slice_set, get_or}
-use Rattle.std.specs.Option.{option_map}
-use Rattle.std.proofs.Math.ListN.{length-set}
-use Rattle.std.proofs.lemmas.Bool.Decides.{nat_tests}
-use Rattle.std.proofs.lemmas.Bool.{eqb-false, eqb-true}
-use Rattle.std.proofs.lemmas.List.{length-append}
-use Rattle.std.proofs.lemmas.Option.{slice_get_within, slice_get-get_or}
-use Rattle.hub_base.specs.declared.value.Port.{Port}
-use Rattle.hub_base.specs.declared.value.Value.{Value}
-use Rattle.hub_base.specs.declared.limits.TheConstants.{MOST_PORTS}
-use Rattle.hub_base.specs.State.{State, Channel, channel_at}
-use Rattle.hub_base.specs.Steps.{after_send, next_value}
-use Rattle.hub_laws.specs.OnePort.{is_port, IsMade, shown}
-use Rattle.hub_laws.specs.Sound.{IsSound}
+use Rattle.hub_laws.proofs.Prelude.{◌≡◌, Bool, true, false, List, [], ◌∷◌, ◌++◌, refl, ap, ◌∙◌, sym, subst, Option, Some, None, ℕ, ◌==◌, zero, suc, ◌+◌, ◌≤◌}
+use Rattle.hub_laws.proofs.Prelude.{cond, length, arith, inl, inr, ◌-◌, ◌<◌, length-set, eqb-true, eqb-false, nat_tests, length-append, slice_get_within}
+use Rattle.hub_laws.proofs.Prelude.{slice_get-get_or, option_map, slice_get, slice_set, get_or, MOST_PORTS, Port, Value, State, Channel, channel_at}
+use Rattle.hub_laws.proofs.Prelude.{after_send, next_value, shown, is_port, IsMade, IsSound}
 use Rattle.hub_laws.proofs.Deeds.{Deed, at, fresh, Wrote, Does, idle, adds, wrote}
 use Rattle.hub_laws.proofs.Fires.{longer}
 use Rattle.hub_laws.proofs.Ports.{above_zero, made, at_made, written, get_set_other, new_port, same_port}

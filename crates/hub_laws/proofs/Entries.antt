@@ -1,29 +1,11 @@
 -- The account of each admitted entry: every step, the stall that can follow it, and a fault.
-use Rattle.std.proofs.Common.{Bool, false, ◌≡◌, ◌≤◌, ◌<◌, ℕ, ◌+◌, ◌-◌, nat_le, nat_lt, not, filter, inl, inr, true, List, []}
-use Rattle.std.proofs.Common.{◌∷◌, ◌++◌, length, refl, ap, ◌∙◌, sym, subst, Option, Some, None, append-nil, if◌then◌else◌}
-use Rattle.std.specs.Prelude.{slice_set}
-use Rattle.std.specs.List.{list_any, AllByRecursion}
-use Rattle.std.proofs.lemmas.Bool.{leb-false}
-use Rattle.std.proofs.lemmas.List.{map-append}
-use Rattle.std.proofs.lemmas.List.Elements.{filter_map-append}
-use Rattle.hub_base.specs.declared.value.Port.{Port}
-use Rattle.hub_base.specs.declared.value.Pid.{Pid}
-use Rattle.hub_base.specs.declared.entry.Step.{Step}
-use Rattle.hub_base.specs.declared.entry.Step.TheVariants.{Make, Call, Close, Exit}
-use Rattle.hub_base.specs.declared.entry.Entry.{Entry}
-use Rattle.hub_base.specs.declared.event.Event.{Event}
-use Rattle.hub_base.specs.declared.fault.Fault.{Fault}
+use Rattle.hub_laws.proofs.Prelude.{◌≡◌, Bool, true, false, List, [], ◌∷◌, ◌++◌, refl, ap, ◌∙◌, sym, subst, Option, Some, None, if◌then◌else◌, ℕ, append-nil}
+use Rattle.hub_laws.proofs.Prelude.{◌+◌, not, length, filter, inl, inr, ◌-◌, ◌<◌, nat_le, nat_lt, leb-false, map-append, filter_map-append, list_any}
+use Rattle.hub_laws.proofs.Prelude.{AllByRecursion, slice_set, Entry, Step, Close, Exit, Make, Call, Event, What, Fault, MOST_PORTS, MOST_CAP, Pid, Port}
+use Rattle.hub_laws.proofs.Prelude.{is_on, State, Channel, OpenCall, channel_at, Change, tells, shut, closes, close_fault, is_unmade, fault_of, answers, turn}
+use Rattle.hub_laws.proofs.Prelude.{effect, of_what, IsAnswered, ends_waiting, port_touched_by, Shown, PortSound}
 use Rattle.hub_base.specs.declared.fault.Fault.TheVariants as fault
-use Rattle.hub_base.specs.declared.event.What.{What}
 use Rattle.hub_base.specs.declared.event.What.TheVariants as what
-use Rattle.hub_base.specs.declared.limits.TheConstants.{MOST_CAP, MOST_PORTS}
-use Rattle.hub_base.specs.State.{State, Channel, OpenCall, channel_at}
-use Rattle.hub_base.specs.Ready.{is_on}
-use Rattle.hub_base.specs.Steps.{closes, effect, Change, tells, fault_of, close_fault, is_unmade, answers, turn, shut}
-use Rattle.hub_base.specs.Values.{of_what}
-use Rattle.hub_laws.specs.Sound.{PortSound}
-use Rattle.hub_laws.specs.Answers.{ends_waiting, IsAnswered}
-use Rattle.hub_laws.specs.OnePort.{port_touched_by, Shown}
 use Rattle.hub_laws.proofs.Branches.{by-stall, stalled}
 use Rattle.hub_laws.proofs.Calls.{fewer-none, fewer-filter, all_append, all_more}
 use Rattle.hub_laws.proofs.Deeds.{deed_of, fresh, IsClosing, shuts, adds, wrote}

@@ -1,18 +1,9 @@
 -- Which events answer, end a call, and count.
-use Rattle.std.proofs.Common.{◌≡◌, true, false, not, List, [], ◌∷◌, refl, ap}
-use Rattle.std.specs.List.{AllByRecursion}
-use Rattle.hub_base.specs.declared.entry.Step.{Step}
-use Rattle.hub_base.specs.declared.entry.Step.TheVariants.{Make, Call}
-use Rattle.hub_base.specs.declared.entry.Entry.{Entry}
-use Rattle.hub_base.specs.declared.event.Event.{Event}
-use Rattle.hub_base.specs.declared.fault.Fault.{Fault}
+use Rattle.hub_laws.proofs.Prelude.{◌≡◌, true, false, List, [], ◌∷◌, refl, ap, not, AllByRecursion, Entry, Step, Make, Call, Event, What, Fault, is_answer_to}
+use Rattle.hub_laws.proofs.Prelude.{IsAnswered, ends_waiting, is_busy, is_fault_of, refuses_entry, counts, is_call, is_refusal, was_admitted, ends_call}
+use Rattle.hub_laws.proofs.Prelude.{is_parked}
 use Rattle.hub_base.specs.declared.fault.Fault.TheVariants as fault
-use Rattle.hub_base.specs.declared.event.What.{What}
 use Rattle.hub_base.specs.declared.event.What.TheVariants as what
-use Rattle.hub_laws.specs.Faults.{is_busy, is_fault_of, refuses_entry}
-use Rattle.hub_laws.specs.Once.{counts, is_call, is_refusal, was_admitted, ends_call}
-use Rattle.hub_laws.specs.Answers.{is_answer_to, ends_waiting, IsAnswered}
-use Rattle.hub_laws.specs.Replies.{is_parked}
 
 -- Events of an admitted entry count but for `Parked`
 

@@ -1,18 +1,8 @@
 -- Which faults answer an entry.
-use Rattle.std.proofs.Common.{◌≡◌, ℕ, ◌<◌, nat_le, nat_lt, Bool, true, false, cond, not, length, refl, subst, Option, Some, None, arith}
-use Rattle.std.specs.List.{list_any}
-use Rattle.std.proofs.lemmas.Grind.{common_steps}
-use Rattle.hub_base.specs.declared.value.Port.{Port}
-use Rattle.hub_base.specs.declared.value.Pid.{Pid}
-use Rattle.hub_base.specs.declared.entry.Step.{Step}
-use Rattle.hub_base.specs.declared.entry.Step.TheVariants.{Make, Call, Close}
-use Rattle.hub_base.specs.declared.fault.Fault.{Fault}
+use Rattle.hub_laws.proofs.Prelude.{◌≡◌, Bool, true, false, refl, subst, Option, Some, None, ℕ, cond, not, length, arith, ◌<◌, nat_le, nat_lt, common_steps}
+use Rattle.hub_laws.proofs.Prelude.{list_any, Step, Close, Make, Call, Fault, MOST_PORTS, MOST_CAP, MOST_CASES, Pid, Port, port_of, State, Channel}
+use Rattle.hub_laws.proofs.Prelude.{channel_at, close_fault, is_unmade, fault_of, refusal, has_gone, is_waiting, is_busy, is_fault_of, refuses_entry}
 use Rattle.hub_base.specs.declared.fault.Fault.TheVariants as fault
-use Rattle.hub_base.specs.declared.limits.TheConstants.{MOST_CAP, MOST_CASES, MOST_PORTS}
-use Rattle.hub_base.specs.State.{State, Channel, channel_at}
-use Rattle.hub_base.specs.Ready.{port_of}
-use Rattle.hub_base.specs.Steps.{fault_of, close_fault, is_unmade, refusal, has_gone, is_waiting}
-use Rattle.hub_laws.specs.Faults.{refuses_entry, is_busy, is_fault_of}
 
 -- A fault that is journaled
 

@@ -1,15 +1,7 @@
 -- What is known of a case that fires, and of the call that it meets.
-use Rattle.std.proofs.Common.{inl, inr, ◌==◌, false, ◌≡◌, ◌+◌, Bool, true, List, [], ◌∷◌, ◌++◌, length, ap, ◌∙◌, Option}
-use Rattle.std.specs.Prelude.{is_some}
-use Rattle.std.proofs.lemmas.List.{length-append}
-use Rattle.std.proofs.lemmas.Bool.{or_cases, eqb-true}
-use Rattle.hub_base.specs.declared.value.Port.{Port}
-use Rattle.hub_base.specs.declared.value.Value.{Value}
-use Rattle.hub_base.specs.declared.case.Case.{Case}
-use Rattle.hub_base.specs.declared.case.Case.TheVariants.{Send, Recv}
-use Rattle.hub_base.specs.State.{Channel, OpenCall}
-use Rattle.hub_base.specs.Ready.{is_send_on, is_recv_on, is_on, port_of, first_with, Ending}
-use Rattle.hub_laws.specs.Sound.{some_call}
+use Rattle.hub_laws.proofs.Prelude.{◌≡◌, Bool, true, false, List, [], ◌∷◌, ◌++◌, ap, ◌∙◌, Option, ◌==◌, ◌+◌, length, inl, inr, eqb-true, or_cases}
+use Rattle.hub_laws.proofs.Prelude.{length-append, is_some, Case, Send, Recv, Port, Value, port_of, is_recv_on, first_with, is_send_on, Ending, is_on}
+use Rattle.hub_laws.proofs.Prelude.{Channel, OpenCall, some_call}
 use Rattle.hub_laws.proofs.Calls.{first-some}
 use Rattle.hub_laws.proofs.Ports.{same_port}
 

@@ -1,27 +1,11 @@
 -- The account of a call: a case that fires, alone or with an open call, or none.
-use Rattle.std.proofs.Common.{◌≡◌, ℕ, ◌-◌, ◌%◌, ◌==◌, not, Bool, true, false, List, [], ◌∷◌, ◌++◌, length, refl, ap, sym, Option, Some, None, arith}
-use Rattle.std.specs.Prelude.{slice_get, slice_set, is_some}
-use Rattle.std.specs.List.{list_any}
-use Rattle.std.specs.Option.{option_map_or}
-use Rattle.std.proofs.lemmas.Bool.{false_from_ne_true}
-use Rattle.std.proofs.lemmas.List.{length-append}
-use Rattle.std.proofs.lemmas.Option.{slice_get_within}
-use Rattle.hub_base.specs.declared.value.Port.{Port}
-use Rattle.hub_base.specs.declared.value.Pid.{Pid}
-use Rattle.hub_base.specs.declared.value.Value.{Value}
-use Rattle.hub_base.specs.declared.case.Case.{Case}
-use Rattle.hub_base.specs.declared.case.Case.TheVariants.{Send, Recv}
-use Rattle.hub_base.specs.declared.entry.Step.{Step}
-use Rattle.hub_base.specs.declared.entry.Step.TheVariants.{Call}
-use Rattle.hub_base.specs.declared.event.Outcome.{Outcome}
-use Rattle.hub_base.specs.declared.event.Outcome.TheVariants.{Sent, Got, Drained, Closed}
+use Rattle.hub_laws.proofs.Prelude.{◌≡◌, Bool, true, false, List, [], ◌∷◌, ◌++◌, refl, ap, sym, Option, Some, None, ℕ, ◌==◌, not, length, arith, ◌-◌, ◌%◌}
+use Rattle.hub_laws.proofs.Prelude.{false_from_ne_true, length-append, slice_get_within, list_any, option_map_or, slice_get, is_some, slice_set, Case, Send}
+use Rattle.hub_laws.proofs.Prelude.{Recv, Step, Call, Outcome, Sent, Closed, Got, Drained, Pid, Port, Value, can_proceed, port_of, is_recv_on, first_with}
+use Rattle.hub_laws.proofs.Prelude.{is_send_on, Ending, without, ready, send_can, recv_can, State, Channel, OpenCall, channel_at, calls, after_receive}
+use Rattle.hub_laws.proofs.Prelude.{Firing, after_send, send_meets, send_fires, fired, next_value, fires, proceeds, chooses, outcome_of, with_sent}
+use Rattle.hub_laws.proofs.Prelude.{recv_takes, recv_meets, found_closed, shown, Shown, IsSound, PortSound, some_call}
 use Rattle.hub_base.specs.declared.event.What.TheVariants as what
-use Rattle.hub_base.specs.State.{State, Channel, OpenCall, channel_at}
-use Rattle.hub_base.specs.Ready.{is_send_on, is_recv_on, can_proceed, ready, port_of, first_with, Ending, without, send_can, recv_can}
-use Rattle.hub_base.specs.Steps.{Firing, fires, send_fires, proceeds, chooses, calls, after_send, after_receive}
-use Rattle.hub_base.specs.Steps.{next_value, outcome_of, with_sent, send_meets, recv_takes, recv_meets, fired}
-use Rattle.hub_laws.specs.OnePort.{found_closed, Shown, shown}
-use Rattle.hub_laws.specs.Sound.{IsSound, PortSound, some_call}
 use Rattle.hub_laws.proofs.Branches.{by-closed}
 use Rattle.hub_laws.proofs.Calls.{Fewer, fewer-filter}
 use Rattle.hub_laws.proofs.Deeds.{Deed, Moved, Wrote, buffers, hands, fetches, gives, drains, refuses, wrote}

@@ -1,17 +1,7 @@
 -- The admitted entries of a run alone: their state, their events, and what joins them.
-use Rattle.std.proofs.Common.{◌≡◌, ◌≤◌, ℕ, Bool, true, not, List, [], ◌∷◌, ◌++◌, length, filter, refl, ap, ◌∙◌, sym, Option, Some, None, arith, append-nil}
-use Rattle.std.specs.List.{AllByRecursion}
-use Rattle.std.proofs.lemmas.List.Elements.{filter-append}
-use Rattle.hub_base.specs.declared.entry.Entry.{Entry}
-use Rattle.hub_base.specs.declared.head.Head.{Head}
-use Rattle.hub_base.specs.declared.event.Event.{Event}
-use Rattle.hub_base.specs.declared.fault.Fault.{Fault}
-use Rattle.hub_base.specs.State.{State, opening}
-use Rattle.hub_base.specs.Steps.{refusal, turn}
-use Rattle.hub_base.specs.Runs.{admits, moves, keeps, kept_after, kept, state_after, state, events_after}
-use Rattle.hub_laws.specs.Once.{is_refusal}
-use Rattle.hub_laws.specs.Answers.{ends_waiting, IsAnswered}
-use Rattle.hub_laws.specs.Journals.{JournalLaw, Grows, Begins}
+use Rattle.hub_laws.proofs.Prelude.{◌≡◌, Bool, true, List, [], ◌∷◌, ◌++◌, refl, ap, ◌∙◌, sym, Option, Some, None, append-nil, ◌≤◌, not, length, arith}
+use Rattle.hub_laws.proofs.Prelude.{filter, filter-append, AllByRecursion, Entry, Event, Fault, Head, admits, moves, state_after, state, kept_after, keeps}
+use Rattle.hub_laws.proofs.Prelude.{kept, events_after, State, opening, refusal, turn, IsAnswered, ends_waiting, JournalLaw, Grows, Begins, is_refusal}
 use Rattle.hub_laws.proofs.Events.{answer_admits, waiting-ends}
 use Rattle.hub_laws.proofs.Faults.{refusal-refuses}
 use Rattle.hub_laws.proofs.Entries.{turn-answered}

@@ -1,20 +1,9 @@
 -- Soundness of one port: where calls end or wait, and after each thing that a step does to its channel.
-use Rattle.std.proofs.Common.{◌≡◌, ℕ, ◌+◌, ◌-◌, ◌<◌, ◌==◌, nat_lt, Bool, true, false, cond, not, List, [], ◌∷◌}
-use Rattle.std.proofs.Common.{◌++◌, length, filter, refl, ◌∙◌, sym, Some, None, inl, inr, arith, ◌||◌}
-use Rattle.std.specs.Prelude.{slice_get, is_some}
-use Rattle.std.specs.List.{list_any, AllByRecursion}
-use Rattle.std.proofs.lemmas.Grind.{common_steps}
-use Rattle.std.proofs.lemmas.Bool.{or_left, or_right, or_parts, or_from, or_cases, false_from_ne_true, eqb-true, ltb-false, lt-ltb}
-use Rattle.hub_base.specs.declared.head.Head.{Head}
-use Rattle.hub_base.specs.declared.value.Port.{Port}
-use Rattle.hub_base.specs.declared.value.Pid.{Pid}
-use Rattle.hub_base.specs.declared.value.Value.{Value}
-use Rattle.hub_base.specs.declared.case.Case.{Case}
-use Rattle.hub_base.specs.declared.case.Case.TheVariants.{Send, Recv}
-use Rattle.hub_base.specs.State.{State, Channel, OpenCall, channel_at, opening}
-use Rattle.hub_base.specs.Ready.{is_send_on, is_recv_on, is_on, can_proceed, port_of, first_with}
-use Rattle.hub_base.specs.Steps.{after_send, after_receive, shut}
-use Rattle.hub_laws.specs.Sound.{some_call, Alone, CallFits, PortSound, IsSound}
+use Rattle.hub_laws.proofs.Prelude.{◌≡◌, Bool, true, false, List, [], ◌∷◌, ◌++◌, refl, ◌∙◌, sym, Some, None, ℕ, ◌==◌, ◌+◌, cond, not, length, arith, filter}
+use Rattle.hub_laws.proofs.Prelude.{◌||◌, inl, inr, ◌-◌, ◌<◌, nat_lt, eqb-true, or_parts, or_left, or_right, or_from, or_cases, false_from_ne_true, ltb-false}
+use Rattle.hub_laws.proofs.Prelude.{lt-ltb, common_steps, list_any, AllByRecursion, slice_get, is_some, Case, Send, Recv, Head, Pid, Port, Value, can_proceed}
+use Rattle.hub_laws.proofs.Prelude.{port_of, is_recv_on, first_with, is_send_on, is_on, State, Channel, OpenCall, channel_at, opening, after_receive, shut}
+use Rattle.hub_laws.proofs.Prelude.{after_send, IsSound, PortSound, some_call, Alone, CallFits}
 use Rattle.hub_laws.proofs.Calls.{Fewer, fewer-filter, first-some, any_snoc, alone_snoc}
 use Rattle.hub_laws.proofs.Deeds.{fresh}
 use Rattle.hub_laws.proofs.Fires.{longer}

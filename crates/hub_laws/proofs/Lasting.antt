@@ -1,19 +1,7 @@
 -- A step leaves the head, only an exit adds to those that have exited, and only a make to the ports.
-use Rattle.std.proofs.Common.{◌≡◌, ◌≤◌, ℕ, ◌==◌, Bool, true, false, cond, List, [], ◌∷◌, ◌++◌, length, ap}
-use Rattle.std.proofs.Common.{◌∙◌, sym, refl, Option, Some, None, arith, inl, inr, ◌⊎◌, ◌||◌, ◌&&◌}
-use Rattle.std.specs.List.{list_any}
-use Rattle.std.proofs.Math.Bool.{and-false, or-false}
-use Rattle.hub_base.specs.declared.value.Pid.{Pid}
-use Rattle.hub_base.specs.declared.entry.Entry.{Entry}
-use Rattle.hub_base.specs.declared.head.Head.{Head}
-use Rattle.hub_base.specs.declared.fault.Fault.{Fault}
-use Rattle.hub_base.specs.declared.limits.TheConstants.{MOST_PORTS}
-use Rattle.hub_base.specs.State.{State, opening}
-use Rattle.hub_base.specs.Steps.{turn, refusal, has_gone}
-use Rattle.hub_base.specs.Runs.{admits, moves, state_after, state}
-use Rattle.hub_base.specs.Reading.{is_exit}
-use Rattle.hub_laws.specs.OnePort.{port_touched_by}
-use Rattle.hub_laws.specs.Sound.{IsSound}
+use Rattle.hub_laws.proofs.Prelude.{◌≡◌, Bool, true, false, List, [], ◌∷◌, ◌++◌, refl, ap, ◌∙◌, sym, Option, Some, None, ℕ, ◌==◌, ◌≤◌, cond, length, arith}
+use Rattle.hub_laws.proofs.Prelude.{◌&&◌, ◌||◌, inl, inr, ◌⊎◌, and-false, or-false, list_any, Entry, Fault, Head, MOST_PORTS, Pid, is_exit, admits, moves}
+use Rattle.hub_laws.proofs.Prelude.{state_after, state, State, opening, refusal, turn, has_gone, port_touched_by, IsSound}
 use Rattle.hub_laws.proofs.Account.{deeds_of}
 use Rattle.hub_laws.proofs.Entries.{turn-account}
 use Rattle.hub_laws.proofs.Calls.{any_snoc}

@@ -1,21 +1,9 @@
 -- The open calls that end in one step, each with what its process is told, and those that stay.
-use Rattle.std.proofs.Common.{◌≡◌, ℕ, ◌+◌, ◌==◌, Bool, true, false, cond, not, List, [], ◌∷◌, ◌++◌}
-use Rattle.std.proofs.Common.{filter, map, refl, ap, sym, subst, Option, Some, None, arith}
-use Rattle.std.specs.Prelude.{slice_get, is_some}
-use Rattle.std.specs.List.{list_any, AllByRecursion, filter_map, cons_option}
-use Rattle.std.specs.Option.{option_map}
-use Rattle.std.proofs.lemmas.Bool.{or_parts}
-use Rattle.hub_base.specs.declared.value.Port.{Port}
-use Rattle.hub_base.specs.declared.value.Pid.{Pid}
-use Rattle.hub_base.specs.declared.case.Case.{Case}
-use Rattle.hub_base.specs.declared.event.Event.{Event}
-use Rattle.hub_base.specs.declared.event.What.{What}
+use Rattle.hub_laws.proofs.Prelude.{◌≡◌, Bool, true, false, List, [], ◌∷◌, ◌++◌, refl, ap, sym, subst, Option, Some, None, ℕ, ◌==◌, ◌+◌, cond, not, arith}
+use Rattle.hub_laws.proofs.Prelude.{filter, map, or_parts, list_any, AllByRecursion, filter_map, cons_option, option_map, slice_get, is_some, Case, Event}
+use Rattle.hub_laws.proofs.Prelude.{What, Pid, Port, first_with, Placed, Ending, lowest, is_on, without, OpenCall, tells, fired, closing_event}
+use Rattle.hub_laws.proofs.Prelude.{closing_outcome, ends_waiting, Apart, is_among}
 use Rattle.hub_base.specs.declared.event.What.TheVariants as what
-use Rattle.hub_base.specs.State.{OpenCall}
-use Rattle.hub_base.specs.Ready.{is_on, Ending, Placed, lowest, first_with, without}
-use Rattle.hub_base.specs.Steps.{fired, tells, closing_event, closing_outcome}
-use Rattle.hub_laws.specs.Sound.{is_among, Apart}
-use Rattle.hub_laws.specs.Answers.{ends_waiting}
 use Rattle.hub_laws.proofs.Branches.{stall_events}
 use Rattle.hub_laws.proofs.Calls.{same_number, differ-sym, Found, first-found, lowest-at, lowest-some}
 

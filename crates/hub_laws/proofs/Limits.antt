@@ -1,19 +1,8 @@
 -- A journal holds at most one exit of each process.
-use Rattle.std.proofs.Common.{◌≡◌, ℕ, ◌+◌, ◌≤◌, ◌<◌, ◌==◌, Bool, true, false, cond, List, [], ◌∷◌, ◌++◌, length}
-use Rattle.std.proofs.Common.{refl, ap, ◌∙◌, sym, subst, Option, Some, None, arith, inl, inr, ◌||◌, ◌&&◌}
-use Rattle.std.specs.List.{AllByRecursion}
-use Rattle.std.proofs.lemmas.List.{length-append}
-use Rattle.std.proofs.lemmas.Bool.{or_cases, and_parts, eqb-true}
-use Rattle.hub_base.specs.declared.value.Pid.{Pid}
-use Rattle.hub_base.specs.declared.entry.Entry.{Entry}
-use Rattle.hub_base.specs.declared.head.Head.{Head}
-use Rattle.hub_base.specs.declared.fault.Fault.{Fault}
-use Rattle.hub_base.specs.State.{State, opening}
-use Rattle.hub_base.specs.Steps.{has_gone, refusal, turn}
-use Rattle.hub_base.specs.Runs.{admits, moves, keeps, kept_after, state_after, state}
-use Rattle.hub_base.specs.Reading.{is_exit}
-use Rattle.hub_base.specs.Text.{one_step, steps_of}
-use Rattle.hub_laws.specs.Limits.{exits_of, LimitsLaw}
+use Rattle.hub_laws.proofs.Prelude.{◌≡◌, Bool, true, false, List, [], ◌∷◌, ◌++◌, refl, ap, ◌∙◌, sym, subst, Option, Some, None, ℕ, ◌==◌, ◌+◌, ◌≤◌, cond}
+use Rattle.hub_laws.proofs.Prelude.{length, arith, ◌&&◌, ◌||◌, inl, inr, ◌<◌, eqb-true, or_cases, and_parts, length-append, AllByRecursion, Entry, Fault}
+use Rattle.hub_laws.proofs.Prelude.{Head, Pid, is_exit, admits, moves, state_after, state, kept_after, keeps, State, opening, refusal, turn, has_gone}
+use Rattle.hub_laws.proofs.Prelude.{one_step, steps_of, exits_of, LimitsLaw}
 use Rattle.hub_laws.proofs.Ready.{Admitted, admitted}
 use Rattle.hub_laws.proofs.Leaving.{one}
 use Rattle.hub_laws.proofs.Distinct.{Different, different_snoc, count-different}

@@ -1,11 +1,6 @@
 -- A run that goes on: by more entries, and by one.
-use Rattle.std.proofs.Common.{◌≡◌, ℕ, List, [], ◌∷◌, ◌++◌, refl, ap, ◌∙◌, sym, Option, Some, None, append-nil, append_assoc}
-use Rattle.hub_base.specs.declared.entry.Entry.{Entry}
-use Rattle.hub_base.specs.declared.head.Head.{Head}
-use Rattle.hub_base.specs.declared.fault.Fault.{Fault}
-use Rattle.hub_base.specs.State.{State, opening}
-use Rattle.hub_base.specs.Steps.{refusal}
-use Rattle.hub_base.specs.Runs.{moves, keeps, state_after, events_after, kept_after, state, events, kept}
+use Rattle.hub_laws.proofs.Prelude.{◌≡◌, List, [], ◌∷◌, ◌++◌, refl, ap, ◌∙◌, sym, Option, Some, None, append-nil, append_assoc, Entry, Fault, Head, moves}
+use Rattle.hub_laws.proofs.Prelude.{state_after, state, kept_after, keeps, kept, events_after, events, State, opening, refusal}
 
 -- By more entries
 

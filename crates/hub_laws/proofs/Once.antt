@@ -1,31 +1,14 @@
 -- Each admitted call has at most one event besides `Parked`.
-use Rattle.std.proofs.Common.{◌≡◌, ℕ, ◌+◌, ◌<◌, ◌≤◌, ◌==◌, Bool, true, false, cond, not, List, [], ◌∷◌, ◌++◌}
-use Rattle.std.proofs.Common.{length, refl, ap, ◌∙◌, sym, subst, Option, Some, None, arith, inl, inr, ◌&&◌}
-use Rattle.std.proofs.lemmas.List.{length-append}
-use Rattle.hub_base.specs.declared.value.Pid.{Pid}
-use Rattle.hub_base.specs.declared.entry.Step.{Step}
-use Rattle.hub_base.specs.declared.entry.Step.TheVariants.{Exit}
-use Rattle.hub_base.specs.declared.entry.Entry.{Entry}
-use Rattle.hub_base.specs.declared.head.Head.{Head}
-use Rattle.hub_base.specs.declared.event.Event.{Event}
-use Rattle.hub_base.specs.declared.fault.Fault.{Fault}
+use Rattle.hub_laws.proofs.Prelude.{◌≡◌, Bool, true, false, List, [], ◌∷◌, ◌++◌, refl, ap, ◌∙◌, sym, subst, Option, Some, None, ℕ, ◌==◌, ◌+◌, ◌≤◌, cond, not}
+use Rattle.hub_laws.proofs.Prelude.{length, arith, ◌&&◌, inl, inr, ◌<◌, and-false, eqb-true, and_parts, length-append, AllByRecursion, Entry, Step, Exit}
+use Rattle.hub_laws.proofs.Prelude.{Event, Fault, Head, Pid, is_exit, admits, moves, State, opening, tells, refusal, turn, has_gone, turns_after, IsAnswered}
+use Rattle.hub_laws.proofs.Prelude.{ends_waiting, is_busy, refuses_entry, counts, endings, is_call, was_admitted, ends_call, endings_until, EndsOnce}
+use Rattle.hub_laws.proofs.Prelude.{AtMostOnce, IsSound}
 use Rattle.hub_base.specs.declared.event.What.TheVariants as what
-use Rattle.hub_base.specs.State.{State, opening}
-use Rattle.hub_base.specs.Steps.{tells, turn, refusal, has_gone}
-use Rattle.hub_base.specs.Runs.{admits, moves}
-use Rattle.hub_base.specs.Values.{turns_after}
-use Rattle.hub_laws.specs.Sound.{IsSound}
-use Rattle.hub_laws.specs.Once.{is_call, was_admitted, counts, endings, endings_until, ends_call, EndsOnce, AtMostOnce}
-use Rattle.hub_laws.specs.Answers.{ends_waiting, IsAnswered}
-use Rattle.std.specs.List.{AllByRecursion}
-use Rattle.std.proofs.Math.Bool.{and-false}
-use Rattle.std.proofs.lemmas.Bool.{and_parts, eqb-true}
 use Rattle.hub_laws.proofs.Account.{procs-of}
 use Rattle.hub_laws.proofs.Calls.{all_append}
 use Rattle.hub_laws.proofs.Events.{answered_admits, answer_ends, waiting-ends}
 use Rattle.hub_laws.proofs.Entries.{turn-account, turn-answered}
-use Rattle.hub_base.specs.Reading.{is_exit}
-use Rattle.hub_laws.specs.Faults.{refuses_entry, is_busy}
 use Rattle.hub_laws.proofs.Faults.{refusal-refuses, refusal-busy}
 use Rattle.hub_laws.proofs.Balance.{open_calls, ends, open_none, turn-balance}
 use Rattle.hub_laws.proofs.Lasting.{turn-gone}

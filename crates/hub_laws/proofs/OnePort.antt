@@ -1,15 +1,7 @@
 -- One entry writes at most the port that its answer names.
-use Rattle.std.proofs.Common.{◌≡◌, ◌==◌, ℕ, Bool, true, false, cond, List, [], ◌∷◌, ◌++◌, length, refl, ap, ◌∙◌, sym, subst, Option, Some, None}
-use Rattle.std.specs.Option.{option_map, option_map_or}
-use Rattle.hub_base.specs.declared.value.Port.{Port}
-use Rattle.hub_base.specs.declared.entry.Entry.{Entry}
-use Rattle.hub_base.specs.declared.head.Head.{Head}
-use Rattle.hub_base.specs.declared.fault.Fault.{Fault}
-use Rattle.hub_base.specs.State.{State, opening, channel_at}
-use Rattle.hub_base.specs.Steps.{turn, refusal}
-use Rattle.hub_base.specs.Runs.{admits, moves, state}
-use Rattle.hub_laws.specs.OnePort.{port_touched_by, port_touched, port_changed, found_closed, shown, is_port, IsMade, OnePortLaw}
-use Rattle.hub_laws.specs.Sound.{IsSound}
+use Rattle.hub_laws.proofs.Prelude.{◌≡◌, Bool, true, false, List, [], ◌∷◌, ◌++◌, refl, ap, ◌∙◌, sym, subst, Option, Some, None, ◌==◌, cond, length}
+use Rattle.hub_laws.proofs.Prelude.{option_map, option_map_or, Entry, Fault, Head, Port, admits, moves, state, State, channel_at, opening, refusal, turn}
+use Rattle.hub_laws.proofs.Prelude.{port_touched_by, found_closed, shown, port_touched, is_port, IsMade, port_changed, OnePortLaw, IsSound}
 use Rattle.hub_laws.proofs.Account.{deeds_of}
 use Rattle.hub_laws.proofs.Entries.{fault_names_none, turn-account}
 use Rattle.hub_laws.proofs.Deeds.{Deed, Does, at, idle}

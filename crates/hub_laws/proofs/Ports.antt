@@ -1,10 +1,6 @@
 -- The channel of a port, after one channel or one more was written.
-use Rattle.std.proofs.Common.{◌≡◌, ℕ, ◌+◌, ◌-◌, ◌<◌, ◌==◌, Bool, true, false, cond, zero, suc, List, []}
-use Rattle.std.proofs.Common.{◌∷◌, ◌++◌, length, refl, ap, sym, Some, None, arith, inl, inr, ◌⊎◌}
-use Rattle.std.specs.Prelude.{slice_get, slice_set}
-use Rattle.std.proofs.lemmas.Grind.{common_steps}
-use Rattle.hub_base.specs.declared.value.Port.{Port}
-use Rattle.hub_base.specs.State.{State, Channel, channel_at}
+use Rattle.hub_laws.proofs.Prelude.{◌≡◌, Bool, true, false, List, [], ◌∷◌, ◌++◌, refl, ap, sym, Some, None, ℕ, ◌==◌, zero, suc, ◌+◌, cond, length, arith, inl}
+use Rattle.hub_laws.proofs.Prelude.{inr, ◌-◌, ◌<◌, ◌⊎◌, common_steps, slice_get, slice_set, Port, State, Channel, channel_at}
 
 pub above_zero : (n : ℕ) → (n == 0) ≡ false → 0 < n
 above_zero n e = grind (arith, common_steps)

@@ -1,20 +1,9 @@
 -- The cases of a call that can proceed, and why an entry is admitted.
-use Rattle.std.proofs.Common.{◌≡◌, ℕ, ◌+◌, ◌%◌, ◌<◌, ◌==◌, nat_lt, Bool, true, false, cond, not, zero, suc, List, []}
-use Rattle.std.proofs.Common.{◌∷◌, length, filter, refl, sym, subst, Option, Some, None, arith, inl, inr, ◌||◌}
-use Rattle.std.specs.Prelude.{slice_get}
-use Rattle.std.specs.List.{list_any, enumerate_from}
-use Rattle.std.specs.Option.{option_map_or}
-use Rattle.std.proofs.lemmas.Grind.{common_steps}
-use Rattle.std.proofs.lemmas.Option.{slice_get-get_or}
-use Rattle.std.proofs.lemmas.Bool.{or_parts, or_cases, eqb-true}
-use Rattle.hub_base.specs.declared.value.Port.{Port}
-use Rattle.hub_base.specs.declared.value.Pid.{Pid}
-use Rattle.hub_base.specs.declared.case.Case.{Case}
-use Rattle.hub_base.specs.declared.case.Case.TheVariants.{Send, Recv}
+use Rattle.hub_laws.proofs.Prelude.{◌≡◌, Bool, true, false, List, [], ◌∷◌, refl, sym, subst, Option, Some, None, ℕ, ◌==◌, zero, suc, ◌+◌, cond, not, length}
+use Rattle.hub_laws.proofs.Prelude.{arith, filter, ◌||◌, inl, inr, ◌<◌, nat_lt, ◌%◌, eqb-true, or_parts, or_cases, common_steps, slice_get-get_or, list_any}
+use Rattle.hub_laws.proofs.Prelude.{enumerate_from, option_map_or, slice_get, Case, Send, Recv, Pid, Port, can_proceed, is_recv_on, is_send_on, send_can}
+use Rattle.hub_laws.proofs.Prelude.{recv_can, State, Channel, channel_at, refusal, has_gone, is_waiting}
 use Rattle.hub_base.specs.declared.fault.Fault.TheVariants as fault
-use Rattle.hub_base.specs.State.{State, Channel, channel_at}
-use Rattle.hub_base.specs.Ready.{is_send_on, is_recv_on, can_proceed, send_can, recv_can}
-use Rattle.hub_base.specs.Steps.{refusal, has_gone, is_waiting}
 use Rattle.hub_laws.proofs.Calls.{StandsAt}
 use Rattle.hub_laws.proofs.Ports.{same_port}
 

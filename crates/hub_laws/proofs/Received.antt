@@ -1,24 +1,10 @@
 -- What one entry adds to the values received on each port.
-use Rattle.std.proofs.Common.{◌≡◌, ℕ, ◌+◌, ◌==◌, Bool, true, false, cond, List, [], ◌∷◌, ◌++◌}
-use Rattle.std.proofs.Common.{length, refl, ap, ◌∙◌, sym, subst, Option, Some, None, append-nil}
-use Rattle.std.specs.List.{AllByRecursion, filter_map, cons_option}
-use Rattle.std.proofs.lemmas.Bool.{eqb-true}
-use Rattle.hub_base.specs.declared.value.Port.{Port}
-use Rattle.hub_base.specs.declared.value.Value.{Value}
-use Rattle.hub_base.specs.declared.case.Case.{Case}
-use Rattle.hub_base.specs.declared.case.Case.TheVariants.{Send, Recv}
-use Rattle.hub_base.specs.declared.entry.Entry.{Entry}
-use Rattle.hub_base.specs.declared.head.Head.{Head}
-use Rattle.hub_base.specs.declared.fault.Fault.{Fault}
-use Rattle.hub_base.specs.declared.event.What.{What}
+use Rattle.hub_laws.proofs.Prelude.{◌≡◌, Bool, true, false, List, [], ◌∷◌, ◌++◌, refl, ap, ◌∙◌, sym, subst, Option, Some, None, ◌==◌, append-nil, ◌+◌}
+use Rattle.hub_laws.proofs.Prelude.{cond, length, eqb-true, AllByRecursion, filter_map, cons_option, Case, Send, Recv, Entry, What, Fault, Head, Port, Value}
+use Rattle.hub_laws.proofs.Prelude.{admits, state, State, Channel, opening, refusal, turn, closing_outcome, cases_or, of_what, got_on, received_values}
+use Rattle.hub_laws.proofs.Prelude.{port_touched_by, port_touched, is_port, value_of_outcome, value_got, got_in, got_at, received_from, received_on}
+use Rattle.hub_laws.proofs.Prelude.{ReceivedLaw, IsSound}
 use Rattle.hub_base.specs.declared.event.What.TheVariants as what
-use Rattle.hub_base.specs.State.{State, Channel, opening}
-use Rattle.hub_base.specs.Steps.{closing_outcome, turn, refusal}
-use Rattle.hub_base.specs.Runs.{admits, state}
-use Rattle.hub_base.specs.Values.{cases_or, got_on, of_what, received_values}
-use Rattle.hub_laws.specs.Sound.{IsSound}
-use Rattle.hub_laws.specs.OnePort.{port_touched_by, port_touched, is_port}
-use Rattle.hub_laws.specs.Received.{value_of_outcome, value_got, got_in, got_at, received_from, received_on, ReceivedLaw}
 use Rattle.hub_laws.proofs.Account.{deeds_of, ended_deeds}
 use Rattle.hub_laws.proofs.Entries.{fault_names_none, turn-account}
 use Rattle.hub_laws.proofs.Calls.{same_number}

@@ -1,22 +1,9 @@
 -- The events of an admitted entry are replies.
-use Rattle.std.proofs.Common.{◌≡◌, ℕ, ◌+◌, ◌≤◌, ◌==◌, nat_lt, Bool, true, false, cond, not, zero, suc, List, [], ◌∷◌, ◌++◌}
-use Rattle.std.proofs.Common.{length, filter, refl, ap, ◌∙◌, sym, subst, Some, None, arith, ◌&&◌, ◌||◌, append-nil}
-use Rattle.std.specs.Prelude.{slice_get}
-use Rattle.std.specs.List.{AllByRecursion}
-use Rattle.std.proofs.Math.Bool.{and-false, and-true}
-use Rattle.std.proofs.lemmas.Grind.{common_steps}
-use Rattle.std.proofs.lemmas.Bool.{or_parts, eqb-true}
-use Rattle.hub_base.specs.declared.value.Pid.{Pid}
-use Rattle.hub_base.specs.declared.entry.Entry.{Entry}
-use Rattle.hub_base.specs.declared.head.Head.{Head}
-use Rattle.hub_base.specs.declared.event.Event.{Event}
-use Rattle.hub_base.specs.State.{State, OpenCall}
-use Rattle.hub_base.specs.Steps.{refusal, is_waiting}
-use Rattle.hub_base.specs.Runs.{admits, moves, state}
-use Rattle.hub_laws.specs.Sound.{IsSound, is_among}
-use Rattle.hub_laws.specs.Once.{endings}
-use Rattle.hub_laws.specs.Answers.{ends_waiting, IsAnswered}
-use Rattle.hub_laws.specs.Replies.{is_parked, last_from, reply, told_to, is_told, IsReply, IsLeft, AreReplied, RepliedLaw}
+use Rattle.hub_laws.proofs.Prelude.{◌≡◌, Bool, true, false, List, [], ◌∷◌, ◌++◌, refl, ap, ◌∙◌, sym, subst, Some, None, ℕ, ◌==◌, zero, suc, append-nil, ◌+◌}
+use Rattle.hub_laws.proofs.Prelude.{◌≤◌, cond, not, length, arith, ◌&&◌, filter, ◌||◌, nat_lt, and-false, and-true, eqb-true, or_parts, common_steps}
+use Rattle.hub_laws.proofs.Prelude.{AllByRecursion, slice_get, Entry, Event, Head, Pid, admits, moves, state, State, OpenCall, refusal, is_waiting}
+use Rattle.hub_laws.proofs.Prelude.{IsAnswered, ends_waiting, endings, is_parked, last_from, reply, told_to, is_told, IsReply, IsLeft, AreReplied, RepliedLaw}
+use Rattle.hub_laws.proofs.Prelude.{IsSound, is_among}
 use Rattle.hub_laws.proofs.Calls.{same_number}
 use Rattle.hub_laws.proofs.Ready.{admitted}
 use Rattle.hub_laws.proofs.Rules.{state-sound}

@@ -1,17 +1,8 @@
 -- Entries of others leave a process alone that has no open call.
-use Rattle.std.proofs.Common.{◌≡◌, ℕ, ◌==◌, false, not, List, [], ◌∷◌, ◌++◌, refl, ap, ◌∙◌, sym, subst, Option, Some, None, ◌&&◌, append-nil}
-use Rattle.std.specs.List.{list_any, AllByRecursion}
-use Rattle.std.proofs.lemmas.List.Elements.{filter-append}
-use Rattle.std.proofs.lemmas.Bool.{or_parts, or_from}
-use Rattle.hub_base.specs.declared.entry.Entry.{Entry}
-use Rattle.hub_base.specs.declared.head.Head.{Head}
-use Rattle.hub_base.specs.declared.event.Event.{Event}
-use Rattle.hub_base.specs.declared.fault.Fault.{Fault}
-use Rattle.hub_base.specs.State.{State, OpenCall, opening}
-use Rattle.hub_base.specs.Steps.{Change, turn, refusal, is_waiting}
-use Rattle.hub_base.specs.Runs.{admits, moves, state_after, events_after, state, events}
-use Rattle.hub_laws.specs.Sound.{IsSound, is_among}
-use Rattle.hub_laws.specs.Replies.{own, reply, last_from, is_parked, told_to, is_told, RepliesLaw}
+use Rattle.hub_laws.proofs.Prelude.{◌≡◌, false, List, [], ◌∷◌, ◌++◌, refl, ap, ◌∙◌, sym, subst, Option, Some, None, ℕ, ◌==◌, append-nil, not, ◌&&◌, or_parts}
+use Rattle.hub_laws.proofs.Prelude.{or_from, filter-append, list_any, AllByRecursion, Entry, Event, Fault, Head, admits, moves, state_after, state}
+use Rattle.hub_laws.proofs.Prelude.{events_after, events, State, OpenCall, opening, Change, refusal, turn, is_waiting, is_parked, last_from, reply, told_to}
+use Rattle.hub_laws.proofs.Prelude.{is_told, own, RepliesLaw, IsSound, is_among}
 use Rattle.hub_laws.proofs.Account.{account-all}
 use Rattle.hub_laws.proofs.Entries.{turn-account}
 use Rattle.hub_laws.proofs.Calls.{all_append, same_number}

@@ -1,30 +1,11 @@
 -- Each admitted entry keeps soundness.
-use Rattle.std.proofs.Common.{◌≡◌, ℕ, ◌≤◌, ◌<◌, ◌==◌, nat_lt, Bool, true, false, cond, List, [], ◌∷◌, ◌++◌}
-use Rattle.std.proofs.Common.{length, refl, ap, ◌∙◌, sym, subst, Option, Some, None, arith, inl, inr}
-use Rattle.std.specs.List.{list_any}
-use Rattle.std.proofs.lemmas.Bool.{or_from, or_cases, false_from_ne_true, eqb-true, ltb-true, ltb-false, lt-ltb}
-use Rattle.hub_base.specs.declared.value.Port.{Port}
-use Rattle.hub_base.specs.declared.value.Pid.{Pid}
-use Rattle.hub_base.specs.declared.case.Case.{Case}
-use Rattle.hub_base.specs.declared.entry.Step.{Step}
-use Rattle.hub_base.specs.declared.entry.Step.TheVariants.{Call, Exit}
-use Rattle.hub_base.specs.declared.entry.Entry.{Entry}
-use Rattle.hub_base.specs.declared.head.Head.{Head}
-use Rattle.hub_base.specs.declared.event.What.{What}
+use Rattle.hub_laws.proofs.Prelude.{◌≡◌, Bool, true, false, List, [], ◌∷◌, ◌++◌, refl, ap, ◌∙◌, sym, subst, Option, Some, None, ℕ, ◌==◌, ◌≤◌, cond, length}
+use Rattle.hub_laws.proofs.Prelude.{arith, inl, inr, ◌<◌, nat_lt, eqb-true, or_from, or_cases, false_from_ne_true, ltb-false, lt-ltb, ltb-true, list_any}
+use Rattle.hub_laws.proofs.Prelude.{Case, Entry, Step, Exit, Call, What, Fault, Head, MOST_CASES, Pid, Port, is_exit, can_proceed, port_of, admits, moves}
+use Rattle.hub_laws.proofs.Prelude.{state_after, state, State, Channel, OpenCall, channel_at, opening, Change, is_unmade, fault_of, answers, refusal, effect}
+use Rattle.hub_laws.proofs.Prelude.{has_gone, is_waiting, cases_or, is_answer_to, port_touched_by, is_port, is_parked, IsSound, PortSound, is_among, CallFits}
 use Rattle.hub_base.specs.declared.event.What.TheVariants as what
-use Rattle.hub_base.specs.declared.fault.Fault.{Fault}
 use Rattle.hub_base.specs.declared.fault.Fault.TheVariants as fault
-use Rattle.hub_base.specs.declared.limits.TheConstants.{MOST_CASES}
-use Rattle.hub_base.specs.Reading.{is_exit}
-use Rattle.hub_base.specs.State.{State, Channel, OpenCall, channel_at, opening}
-use Rattle.hub_base.specs.Ready.{can_proceed, port_of}
-use Rattle.hub_base.specs.Steps.{refusal, has_gone, is_waiting, is_unmade, effect, Change, fault_of, answers}
-use Rattle.hub_base.specs.Runs.{admits, moves, state_after, state}
-use Rattle.hub_base.specs.Values.{cases_or}
-use Rattle.hub_laws.specs.Answers.{is_answer_to}
-use Rattle.hub_laws.specs.OnePort.{port_touched_by, is_port}
-use Rattle.hub_laws.specs.Replies.{is_parked}
-use Rattle.hub_laws.specs.Sound.{is_among, CallFits, PortSound, IsSound}
 use Rattle.hub_laws.proofs.Account.{Account, NamedSound, call_of, deeds_of, with_caller, with_leaver, procs-of}
 use Rattle.hub_laws.proofs.Entries.{answers-account, effect-account}
 use Rattle.hub_laws.proofs.Calls.{Fewer, all_more, all_snoc, any_snoc, apart_snoc}

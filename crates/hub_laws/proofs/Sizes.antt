@@ -1,21 +1,8 @@
 -- One step tells no more events than there are processes, and one.
-use Rattle.std.proofs.Common.{◌≡◌, ℕ, ◌+◌, ◌<◌, ◌≤◌, ◌==◌, Bool, true, false, cond, List, [], ◌∷◌, ◌++◌}
-use Rattle.std.proofs.Common.{length, refl, ap, sym, subst, Option, Some, None, arith, inl, inr}
-use Rattle.std.proofs.lemmas.List.{length-append, length-map}
-use Rattle.std.proofs.lemmas.Bool.{or_cases, eqb-true}
-use Rattle.hub_base.specs.declared.value.Port.{Port}
-use Rattle.hub_base.specs.declared.value.Pid.{Pid}
-use Rattle.hub_base.specs.declared.entry.Step.{Step}
-use Rattle.hub_base.specs.declared.entry.Step.TheVariants.{Call, Close}
-use Rattle.hub_base.specs.declared.entry.Entry.{Entry}
-use Rattle.hub_base.specs.declared.head.Head.{Head}
-use Rattle.hub_base.specs.declared.event.What.{What}
-use Rattle.hub_base.specs.declared.fault.Fault.{Fault}
-use Rattle.hub_base.specs.State.{State, Channel, OpenCall, channel_at, opening}
-use Rattle.hub_base.specs.Steps.{Change, calls, closes, effect, turn, refusal}
-use Rattle.hub_base.specs.Runs.{admits, moves, state}
-use Rattle.hub_laws.specs.Sound.{IsSound, is_among, Apart}
-use Rattle.hub_laws.specs.Replies.{is_parked}
+use Rattle.hub_laws.proofs.Prelude.{◌≡◌, Bool, true, false, List, [], ◌∷◌, ◌++◌, refl, ap, sym, subst, Option, Some, None, ℕ, ◌==◌, ◌+◌, ◌≤◌, cond, length}
+use Rattle.hub_laws.proofs.Prelude.{arith, inl, inr, ◌<◌, eqb-true, or_cases, length-map, length-append, Entry, Step, Close, Call, What, Fault, Head, Pid}
+use Rattle.hub_laws.proofs.Prelude.{Port, admits, moves, state, State, Channel, OpenCall, channel_at, opening, calls, Change, closes, refusal, turn, effect}
+use Rattle.hub_laws.proofs.Prelude.{is_parked, Apart, IsSound, is_among}
 use Rattle.hub_laws.proofs.Account.{Account, with_caller, call_of, procs-of}
 use Rattle.hub_laws.proofs.Entries.{turn-account}
 use Rattle.hub_laws.proofs.Firing.{calls-account}

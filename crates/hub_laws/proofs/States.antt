@@ -1,17 +1,7 @@
 -- The words of soundness over buffers.
-use Rattle.std.proofs.Common.{◌≡◌, ℕ, ◌≤◌, false, List, [], ◌∷◌, length, drop, refl, arith, zero, suc}
-use Rattle.std.specs.List.{list_any}
-use Rattle.std.proofs.lemmas.List.{length-drop}
-use Rattle.std.proofs.lemmas.Bool.{or_parts, or_from}
-use Rattle.hub_base.specs.declared.value.Port.{Port}
-use Rattle.hub_base.specs.declared.case.Case.{Case}
-use Rattle.hub_base.specs.declared.entry.Entry.{Entry}
-use Rattle.hub_base.specs.declared.head.Head.{Head}
-use Rattle.hub_base.specs.State.{State, Channel, OpenCall}
-use Rattle.hub_base.specs.Ready.{is_send_on, is_recv_on, is_on}
-use Rattle.hub_base.specs.Runs.{state}
-use Rattle.hub_laws.specs.Sound.{some_call, PortSound, IsSound}
-use Rattle.hub_laws.specs.States.{PortLaws, StateLaws}
+use Rattle.hub_laws.proofs.Prelude.{◌≡◌, false, List, [], ◌∷◌, refl, ℕ, zero, suc, drop, ◌≤◌, length, arith, or_parts, or_from, length-drop, list_any, Case}
+use Rattle.hub_laws.proofs.Prelude.{Entry, Head, Port, is_recv_on, is_send_on, is_on, state, State, Channel, OpenCall, IsSound, PortSound, some_call}
+use Rattle.hub_laws.proofs.Prelude.{PortLaws, StateLaws}
 use Rattle.hub_laws.proofs.Distinct.{count-below}
 use Rattle.hub_laws.proofs.Lasting.{ports-law}
 use Rattle.hub_laws.proofs.Rules.{state-sound}

@@ -1,27 +1,10 @@
 -- What the deeds of a step add to what was sent and to what was received.
-use Rattle.std.proofs.Common.{◌≡◌, ℕ, ◌+◌, ◌≤◌, ◌==◌, Bool, true, false, zero, suc, List, [], ◌∷◌, ◌++◌, length}
-use Rattle.std.proofs.Common.{take, refl, ap, ◌∙◌, sym, subst, Option, Some, None, append-nil, add-one}
-use Rattle.std.specs.Prelude.{slice_get}
-use Rattle.std.specs.List.{AllByRecursion, cons_option}
-use Rattle.std.specs.Option.{option_map_or}
-use Rattle.std.proofs.lemmas.List.{take-append-le}
-use Rattle.std.proofs.lemmas.Bool.{eqb-true}
+use Rattle.hub_laws.proofs.Prelude.{◌≡◌, Bool, true, false, List, [], ◌∷◌, ◌++◌, refl, ap, ◌∙◌, sym, subst, Option, Some, None, ℕ, ◌==◌, zero, suc}
+use Rattle.hub_laws.proofs.Prelude.{append-nil, add-one, ◌+◌, ◌≤◌, length, take, eqb-true, take-append-le, AllByRecursion, cons_option, option_map_or}
+use Rattle.hub_laws.proofs.Prelude.{slice_get, Case, Send, Recv, Event, Outcome, Sent, Got, What, Pid, Port, Value, port_of, Channel, after_receive}
+use Rattle.hub_laws.proofs.Prelude.{after_send, closing_outcome, next_value, of_what, got_on, sent_on, received_from}
 use Rattle.hub_laws.proofs.Calls.{all_more}
-use Rattle.hub_base.specs.declared.value.Port.{Port}
-use Rattle.hub_base.specs.declared.value.Pid.{Pid}
-use Rattle.hub_base.specs.declared.value.Value.{Value}
-use Rattle.hub_base.specs.declared.case.Case.{Case}
-use Rattle.hub_base.specs.declared.case.Case.TheVariants.{Send, Recv}
-use Rattle.hub_base.specs.declared.event.Event.{Event}
-use Rattle.hub_base.specs.declared.event.Outcome.{Outcome}
-use Rattle.hub_base.specs.declared.event.Outcome.TheVariants.{Sent, Got}
-use Rattle.hub_base.specs.declared.event.What.{What}
 use Rattle.hub_base.specs.declared.event.What.TheVariants as what
-use Rattle.hub_base.specs.State.{Channel}
-use Rattle.hub_base.specs.Ready.{port_of}
-use Rattle.hub_base.specs.Steps.{after_send, after_receive, next_value, closing_outcome}
-use Rattle.hub_base.specs.Values.{sent_on, got_on, of_what}
-use Rattle.hub_laws.specs.Received.{received_from}
 use Rattle.hub_laws.proofs.Deeds.{Deed, deed_of, told, picks, at, IsClosing, Moved, Wrote, Does, buffers}
 use Rattle.hub_laws.proofs.Deeds.{hands, fetches, gives, drains, refuses, shuts, idle, adds, wrote}
 use Rattle.hub_laws.proofs.Does.{Quiet, quiet-idle, quiet-adds}

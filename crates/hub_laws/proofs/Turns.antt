@@ -1,24 +1,9 @@
 -- One entry of a run: what it does to the channels, and which cases are then in force.
-use Rattle.std.proofs.Common.{◌≡◌, ℕ, ◌==◌, true, false, cond, List, [], ◌∷◌, ◌++◌, refl, ap, ◌∙◌, sym, Option, Some, None}
-use Rattle.std.specs.Prelude.{slice_get}
-use Rattle.std.specs.List.{AllByRecursion, cons_option}
-use Rattle.std.proofs.lemmas.Bool.{or_parts}
-use Rattle.hub_base.specs.declared.value.Pid.{Pid}
-use Rattle.hub_base.specs.declared.case.Case.{Case}
-use Rattle.hub_base.specs.declared.entry.Step.{Step}
-use Rattle.hub_base.specs.declared.entry.Step.TheVariants.{Call}
-use Rattle.hub_base.specs.declared.entry.Entry.{Entry}
-use Rattle.hub_base.specs.declared.fault.Fault.{Fault}
-use Rattle.hub_base.specs.declared.event.What.{What}
+use Rattle.hub_laws.proofs.Prelude.{◌≡◌, true, false, List, [], ◌∷◌, ◌++◌, refl, ap, ◌∙◌, sym, Option, Some, None, ℕ, ◌==◌, cond, or_parts, AllByRecursion}
+use Rattle.hub_laws.proofs.Prelude.{cons_option, slice_get, Case, Entry, Step, Call, What, Fault, Pid, admits, moves, State, OpenCall, Change, tells, refusal}
+use Rattle.hub_laws.proofs.Prelude.{turn, cases_or, of_what, Turned, is_fault, refused, latest, last_call, is_answer_to, port_touched_by, port_touched}
+use Rattle.hub_laws.proofs.Prelude.{is_parked, IsSound, is_among}
 use Rattle.hub_base.specs.declared.event.What.TheVariants as what
-use Rattle.hub_base.specs.State.{State, OpenCall}
-use Rattle.hub_base.specs.Steps.{Change, tells, turn, refusal}
-use Rattle.hub_base.specs.Runs.{admits, moves}
-use Rattle.hub_base.specs.Values.{Turned, is_fault, refused, cases_or, latest, last_call, of_what}
-use Rattle.hub_laws.specs.Sound.{IsSound, is_among}
-use Rattle.hub_laws.specs.Answers.{is_answer_to}
-use Rattle.hub_laws.specs.OnePort.{port_touched_by, port_touched}
-use Rattle.hub_laws.specs.Replies.{is_parked}
 use Rattle.hub_laws.proofs.Account.{account-all, deeds_of, ended_deeds}
 use Rattle.hub_laws.proofs.Entries.{fault_names_none, turn-account}
 use Rattle.hub_laws.proofs.Calls.{differ-sym, same_number}

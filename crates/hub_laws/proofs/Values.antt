@@ -1,18 +1,8 @@
 -- The values received, and then those in the buffer, are the values sent.
-use Rattle.std.proofs.Common.{◌≡◌, ℕ, ◌==◌, ◌-◌, Bool, true, false, cond, List, [], ◌∷◌, ◌++◌, take, refl, ap}
-use Rattle.std.proofs.Common.{◌∙◌, sym, Option, Some, None, append-nil, append_assoc, take-append-drop}
-use Rattle.std.specs.Prelude.{slice_get}
-use Rattle.std.specs.Option.{option_map_or}
-use Rattle.hub_base.specs.declared.value.Port.{Port}
-use Rattle.hub_base.specs.declared.case.Case.{Case}
-use Rattle.hub_base.specs.declared.event.Outcome.{Outcome}
-use Rattle.hub_base.specs.declared.entry.Entry.{Entry}
-use Rattle.hub_base.specs.declared.head.Head.{Head}
-use Rattle.hub_base.specs.State.{State, Channel, channel_at, opening, buffer_of}
-use Rattle.hub_base.specs.Runs.{moves, state_after, state}
-use Rattle.hub_base.specs.Values.{Turned, turns_after, values_from, sent_on, got_on, sent_values, received_values}
-use Rattle.hub_laws.specs.Sound.{IsSound}
-use Rattle.hub_laws.specs.OnePort.{port_touched}
+use Rattle.hub_laws.proofs.Prelude.{◌≡◌, Bool, true, false, List, [], ◌∷◌, ◌++◌, refl, ap, ◌∙◌, sym, Option, Some, None, ◌==◌, append-nil, append_assoc}
+use Rattle.hub_laws.proofs.Prelude.{cond, ◌-◌, take, take-append-drop, option_map_or, slice_get, Case, Entry, Outcome, Head, Port, moves, state_after, state}
+use Rattle.hub_laws.proofs.Prelude.{State, Channel, channel_at, opening, buffer_of, Turned, turns_after, values_from, got_on, received_values, sent_on}
+use Rattle.hub_laws.proofs.Prelude.{sent_values, port_touched, IsSound}
 use Rattle.hub_laws.proofs.Deeds.{Knows, deed_of, told, at}
 use Rattle.hub_laws.proofs.Kept.{sound-opening}
 use Rattle.hub_laws.proofs.Rules.{moves-sound}

@@ -1,7 +1,7 @@
 -- What one entry adds to the values received on each port, from its answer and its events alone: on
 -- the port that the answer names, the values that its events tell as got; on any other port, none.
 -- All that fires in one step communicates on one port.
-use Rattle.std.specs.Prelude.{◌≡◌, ◌++◌, ℕ, List, [], ◌∷◌, Option, None, Some, take, if◌then◌else◌}
+use Rattle.std.specs.Prelude.{◌≡◌, ◌++◌, List, [], ◌∷◌, Option, None, Some, take, if◌then◌else◌}
 use Rattle.std.specs.List.{filter_map}
 use Rattle.std.specs.Option.{option_map_or}
 use Rattle.hub_base.specs.declared.value.Port.{Port}

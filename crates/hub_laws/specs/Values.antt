@@ -1,7 +1,7 @@
 -- The values received on a port, and then those in its buffer, are the values sent, in order of
 -- completion and each once. Both are read from entries and events alone. A process has one open call
 -- at a time, so each sender's values come in its own order.
-use Rattle.std.specs.Prelude.{◌≡◌, ◌++◌, ℕ, List, Some}
+use Rattle.std.specs.Prelude.{◌≡◌, ◌++◌, List, Some}
 use Rattle.hub_base.specs.declared.value.Port.{Port}
 use Rattle.hub_base.specs.declared.entry.Entry.{Entry}
 use Rattle.hub_base.specs.declared.head.Head.{Head}

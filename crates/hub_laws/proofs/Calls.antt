@@ -1,8 +1,8 @@
 -- Lists of open calls: what stays when some of them end, and when one more parks.
 use Rattle.hub_laws.proofs.Prelude.{◌≡◌, Bool, true, false, List, [], ◌∷◌, ◌++◌, refl, ◌∙◌, sym, subst, Option, Some, None, ℕ, ◌==◌, suc, ◌+◌, cond, arith}
-use Rattle.hub_laws.proofs.Prelude.{filter, ◌||◌, inl, inr, or_parts, or_left, or_right, or_from, or_cases, false_from_ne_true, common_steps, list_any}
-use Rattle.hub_laws.proofs.Prelude.{AllByRecursion, option_map, slice_get, is_some, Case, Pid, Port, is_recv_on, first_with, is_send_on, Placed, Ending}
-use Rattle.hub_laws.proofs.Prelude.{or_else, lowest, lowest_from, OpenCall, Apart, is_among, some_call, Alone, CallFits}
+use Rattle.hub_laws.proofs.Prelude.{filter, ◌||◌, or-false, or_parts, or_left, or_right, or_from, false_from_ne_true, common_steps}
+use Rattle.hub_laws.proofs.Prelude.{list_any-append, list_any, AllByRecursion, option_map, slice_get, is_some, Case, Pid, Port, is_recv_on, first_with}
+use Rattle.hub_laws.proofs.Prelude.{is_send_on, Placed, Ending, or_else, lowest, lowest_from, OpenCall, Apart, is_among, some_call, Alone, CallFits}
 
 -- Numbers of processes
 
@@ -29,16 +29,7 @@ fewer-same calls = record { some = λ test e. e; among = λ q e. e; apart = λ a
 
 any_kept : {A : Type 0} (test keep : A → Bool) (xs : List A) → list_any test (filter keep xs) ≡ true → list_any test xs ≡ true
 any_kept test keep [] e = e
-any_kept test keep (x ∷ xs) e =
-    let P : Bool → Type 0 = λ b. list_any test (cond b (x ∷ filter keep xs) (filter keep xs)) ≡ true → (test x || list_any test xs) ≡ true in
-    let at : (b : Bool) → P b = λ b. elim b as P [
-      | true ↦ λ h. elim (or_cases (test x) (list_any test (filter keep xs)) h) [
-        | inl l ↦ or_left (test x) (list_any test xs) l
-        | inr r ↦ or_right (test x) (list_any test xs) (any_kept test keep xs r)
-      ]
-      | false ↦ λ h. or_right (test x) (list_any test xs) (any_kept test keep xs h)
-    ] in
-    at (keep x) e
+any_kept test keep (x ∷ xs) e = grind (arith, common_steps, any_kept test keep xs)
 
 pub none_kept : {A : Type 0} (test keep : A → Bool) (xs : List A) → list_any test xs ≡ false → list_any test (filter keep xs) ≡ false
 none_kept test keep xs e = false_from_ne_true (list_any test (filter keep xs)) (λ h. let t = any_kept test keep xs h in cc)
@@ -81,19 +72,14 @@ fewer-filter keep calls = record {
 -- One more call
 
 pub any_snoc : {A : Type 0} (test : A → Bool) (xs : List A) (x : A) → list_any test (xs ++ x ∷ []) ≡ (list_any test xs || test x)
-any_snoc test [] x = elim (test x) as (λ b. (b || false) ≡ b) [ true ↦ refl | false ↦ refl ]
-any_snoc test (y ∷ ys) x = elim (test y) as (λ b. (b || list_any test (ys ++ x ∷ [])) ≡ ((b || list_any test ys) || test x)) [
-  | true ↦ refl
-  | false ↦ any_snoc test ys x
-]
-
-pub all_snoc : {A : Type 0} (P : A → Type 0) (xs : List A) (x : A) → AllByRecursion P xs → P x → AllByRecursion P (xs ++ x ∷ [])
-all_snoc P [] x a p = (p, tt)
-all_snoc P (y ∷ ys) x a p = (a.0, all_snoc P ys x a.1 p)
+any_snoc test xs x = simp (list_any-append, or-false)
 
 pub all_append : {A : Type 0} (P : A → Type 0) (xs ys : List A) → AllByRecursion P xs → AllByRecursion P ys → AllByRecursion P (xs ++ ys)
 all_append P [] ys a b = b
 all_append P (x ∷ xs) ys a b = (a.0, all_append P xs ys a.1 b)
+
+pub all_snoc : {A : Type 0} (P : A → Type 0) (xs : List A) (x : A) → AllByRecursion P xs → P x → AllByRecursion P (xs ++ x ∷ [])
+all_snoc P xs x a p = all_append P xs (x ∷ []) a (p, tt)
 
 pub all_more : {A : Type 0} (P Q : A → Type 0) (xs : List A) → ((x : A) → P x → Q x) → AllByRecursion P xs → AllByRecursion Q xs
 all_more P Q [] imp a = tt

@@ -1,14 +1,13 @@
 -- No more values are sent on a port than there are admitted entries that are no exits.
-use Rattle.hub_laws.proofs.Prelude.{◌≡◌, Bool, true, false, List, [], ◌∷◌, ◌++◌, refl, ◌∙◌, sym, subst, Option, Some, None, ℕ, ◌==◌, ◌+◌, ◌≤◌, cond, length}
-use Rattle.hub_laws.proofs.Prelude.{arith, ◌-◌, eqb-true, option_map_or, slice_get, Entry, Step, Exit, Event, Fault, Head, Port, is_exit, admits, moves}
+use Rattle.hub_laws.proofs.Prelude.{◌≡◌, Bool, true, false, List, [], ◌∷◌, ◌++◌, refl, sym, Option, Some, None, ℕ, ◌==◌, ◌+◌, ◌≤◌, cond, length}
+use Rattle.hub_laws.proofs.Prelude.{arith, ◌-◌, option_map_or, slice_get, Entry, Step, Exit, Event, Fault, Head, Port, is_exit, admits, moves}
 use Rattle.hub_laws.proofs.Prelude.{state_after, state, kept_after, keeps, State, Channel, channel_at, opening, refusal, turn, one_step, steps_of, Turned}
 use Rattle.hub_laws.proofs.Prelude.{CountsLaw, port_touched, IsSound}
-use Rattle.hub_laws.proofs.Deeds.{Knows, Deed, deed_of, told, at, Moved, Wrote, Does, buffers, hands}
-use Rattle.hub_laws.proofs.Deeds.{fetches, gives, drains, refuses, shuts, idle, adds, wrote}
-use Rattle.hub_laws.proofs.Does.{Quiet, quiet-idle, quiet-adds, does-others}
+use Rattle.hub_laws.proofs.Deeds.{Knows, Deed, deed_of, told, at, Moved, Does, buffers, hands, fetches, gives, drains, refuses, shuts, DoesAt}
+use Rattle.hub_laws.proofs.Deeds.{stays_at, makes_at, moves_at}
+use Rattle.hub_laws.proofs.Does.{does-others, does-at}
 use Rattle.hub_laws.proofs.Fires.{longer}
 use Rattle.hub_laws.proofs.Kept.{sound-opening}
-use Rattle.hub_laws.proofs.Ports.{same_port}
 use Rattle.hub_laws.proofs.Rules.{moves-sound, state-sound}
 use Rattle.hub_laws.proofs.Turns.{in_force, moves-turn}
 
@@ -27,27 +26,10 @@ moved_sends q c d deeds (drains next is e) = rw is (omega arith)
 moved_sends q c d deeds (refuses v over is e) = rw is (omega arith)
 moved_sends q c d deeds (shuts live is all) = rw is (omega arith)
 
-quiet_sends : (cs ts : List Channel) (p : Port) (o x : Option Channel) → o ≡ at cs p → x ≡ at ts p → Quiet cs ts → sends_of x ≤ sends_of o
-quiet_sends cs ts p (Some c) x is to q = rw (to ∙ q.same p c (sym is)) (omega arith)
-quiet_sends cs ts p None None is to q = omega arith
-quiet_sends cs ts p None (Some d) is to q = rw (q.fresh p d (sym is) (sym to)).0 (omega arith)
-
-wrote_sends : (cs ts : List Channel) (p q : Port) (c d : Channel) (deeds : List Deed) (b : Bool) → b ≡ (q.0 == p.0) → Wrote cs ts q c d
-    → Moved q c d deeds → sends_of (at ts p) ≤ sends_of (at cs p) + 1
-wrote_sends cs ts p q c d deeds true is w m =
-    let same : q ≡ p = same_port q p (eqb-true q.0 p.0 (sym is)) in
-    let new : at ts p ≡ Some d = subst (λ (r : Port). at ts r ≡ Some d) same w.new in
-    let old : at cs p ≡ Some c = subst (λ (r : Port). at cs r ≡ Some c) same w.old in
-    rw (new, old) (moved_sends q c d deeds m)
-wrote_sends cs ts p q c d deeds false is w m = rw (w.others p (sym is)) (omega arith)
-
-does_sends : (cs ts : List Channel) (named : Option Port) (deeds : List Deed) (p : Port) → Does cs ts named deeds →
-    sends_of (at ts p) ≤ sends_of (at cs p) + 1
-does_sends cs ts named deeds p (idle none is e) =
-    omega (arith, quiet_sends cs ts p (at cs p) (at ts p) refl refl (quiet-idle cs ts is))
-does_sends cs ts named deeds p (adds cap room names is e) =
-    omega (arith, quiet_sends cs ts p (at cs p) (at ts p) refl refl (quiet-adds cs ts cap is))
-does_sends cs ts named deeds p (wrote q c d names w m) = wrote_sends cs ts p q c d deeds (q.0 == p.0) refl w m
+does_sends : (cs ts : List Channel) (deeds : List Deed) (p : Port) → DoesAt cs ts deeds p → sends_of (at ts p) ≤ sends_of (at cs p) + 1
+does_sends cs ts deeds p (stays_at same off) = rw same (omega arith)
+does_sends cs ts deeds p (makes_at cap before after e) = rw (before, after) (omega arith)
+does_sends cs ts deeds p (moves_at c d old new m) = rw (old, new) (moved_sends p c d deeds m)
 
 -- and where it names no port, none
 idle_sends : (cs ts : List Channel) (named : Option Port) (deeds : List Deed) (p : Port) → named ≡ None →
@@ -67,7 +49,7 @@ step_sends s t e events deeds p does = by (is_exit e.step) refl
     by : (b : Bool) → b ≡ is_exit e.step → sends_of (channel_at t p) ≤ sends_of (channel_at s p) + cond b 0 1
     by true is =
         omega (arith, idle_sends s.channels t.channels (port_touched e.step events) deeds p (exit_names_none e.step events (sym is)) does)
-    by false is = does_sends s.channels t.channels (port_touched e.step events) deeds p does
+    by false is = does_sends s.channels t.channels deeds p (does-at s.channels t.channels (port_touched e.step events) deeds does p)
 
 -- Runs
 

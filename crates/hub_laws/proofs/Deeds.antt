@@ -62,6 +62,12 @@ pub data Does (cs ts : List Channel) (named : Option Port) (deeds : List Deed) :
   adds : (cap : ℕ) → length cs < MOST_PORTS → named ≡ Some (record { 0 = length cs + 1 }) → ts ≡ cs ++ fresh cap ∷ [] → deeds ≡ [] → Does cs ts named deeds
   wrote : (q : Port) (c d : Channel) → named ≡ Some q → Wrote cs ts q c d → Moved q c d deeds → Does cs ts named deeds
 
+-- what it can do at port p: nothing, and then no communication is on it; make its channel; or move it
+pub data DoesAt (cs ts : List Channel) (deeds : List Deed) (p : Port) : Type 0 where
+  stays_at : at ts p ≡ at cs p → AllByRecursion (λ x. ((port_of x.case).0 == p.0) ≡ false) deeds → DoesAt cs ts deeds p
+  makes_at : (cap : ℕ) → at cs p ≡ None → at ts p ≡ Some (fresh cap) → deeds ≡ [] → DoesAt cs ts deeds p
+  moves_at : (c d : Channel) → at cs p ≡ Some c → at ts p ≡ Some d → Moved p c d deeds → DoesAt cs ts deeds p
+
 -- every open call's cases are those in force of its process
 abbrev pub Knows : (Pid → List Case) → List OpenCall → Type 0
 Knows cases calls = AllByRecursion (λ call. cases call.pid ≡ call.cases) calls

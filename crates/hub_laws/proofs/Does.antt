@@ -1,11 +1,13 @@
 -- What a write does to the channels, and what follows of each port from what a step can do to them.
 use Rattle.hub_laws.proofs.Prelude.{◌≡◌, Bool, true, false, List, [], ◌∷◌, ◌++◌, refl, ap, ◌∙◌, sym, subst, Option, Some, None, ℕ, ◌==◌, zero, suc, ◌+◌, ◌≤◌}
-use Rattle.hub_laws.proofs.Prelude.{cond, length, arith, inl, inr, ◌-◌, ◌<◌, length-set, eqb-true, eqb-false, nat_tests, length-append, slice_get_within}
-use Rattle.hub_laws.proofs.Prelude.{slice_get-get_or, option_map, slice_get, slice_set, get_or, MOST_PORTS, Port, Value, State, Channel, channel_at}
-use Rattle.hub_laws.proofs.Prelude.{after_send, next_value, shown, is_port, IsMade, IsSound}
-use Rattle.hub_laws.proofs.Deeds.{Deed, at, fresh, Wrote, Does, idle, adds, wrote}
+use Rattle.hub_laws.proofs.Prelude.{cond, length, arith, ◌-◌, ◌<◌, length-set, eqb-true, eqb-false, nat_tests, length-append, slice_get_past}
+use Rattle.hub_laws.proofs.Prelude.{slice_get_within, slice_get-get_or, AllByRecursion, option_map, slice_get, slice_set, get_or, MOST_PORTS, Port, Value}
+use Rattle.hub_laws.proofs.Prelude.{port_of, State, Channel, channel_at, after_send, next_value, shown, is_port, IsMade, IsSound}
+use Rattle.hub_laws.proofs.Deeds.{Deed, at, fresh, Wrote, Does, idle, adds, wrote, DoesAt, stays_at, makes_at, moves_at, buffers, hands, fetches, gives}
+use Rattle.hub_laws.proofs.Deeds.{drains, refuses, shuts, Moved, IsClosing}
 use Rattle.hub_laws.proofs.Fires.{longer}
-use Rattle.hub_laws.proofs.Ports.{above_zero, made, at_made, written, get_set_other, new_port, same_port}
+use Rattle.hub_laws.proofs.Ports.{above_zero, made, written, get_set_other, same_port}
+use Rattle.hub_laws.proofs.Calls.{all_more}
 
 -- the channels after a write
 
@@ -54,28 +56,18 @@ last_one : (xs : List Channel) (d : Channel) → slice_get (xs ++ d ∷ []) (len
 last_one [] d = refl
 last_one (x ∷ xs) d = last_one xs d
 
-past_last : (xs : List Channel) → slice_get xs (length xs) ≡ None
-past_last [] = refl
-past_last (x ∷ xs) = past_last xs
-
-at_next : (cs : List Channel) (n : ℕ) (b : Bool) → n ≡ length cs → b ≡ false → cond b None (slice_get cs n) ≡ None
-at_next cs n true is h = refl
-at_next cs n false is h = ap (slice_get cs) is ∙ past_last cs
-
-at_made_last : (cs : List Channel) (d : Channel) (n : ℕ) (b : Bool) → n ≡ length cs → b ≡ false → cond b None (slice_get (cs ++ d ∷ []) n) ≡ Some d
-at_made_last cs d n true is h = cc
-at_made_last cs d n false is h = ap (slice_get (cs ++ d ∷ [])) is ∙ last_one cs d
+pub next_port : (cs : List Channel) (d : Channel) (p : Port) → p.0 ≡ length cs + 1 → (at cs p ≡ None) × (at (cs ++ d ∷ []) p ≡ Some d)
+next_port cs d p is =
+    let some : (p.0 == 0) ≡ false = grind (arith, nat_tests) in
+    let place : p.0 - 1 ≡ length cs = omega arith in
+    rw (some, place) (slice_get_past cs (length cs) (omega arith), last_one cs d)
 
 pub made-moves : (cs : List Channel) (cap : ℕ) (p : Port) → Some (record { 0 = length cs + 1 }) ≡ Some p →
     option_map shown (at cs p) ≡ option_map shown (at (cs ++ fresh cap ∷ []) p) → ⊥
 made-moves cs cap p named h =
     let same : record { 0 = length cs + 1 } ≡ p = cc in
-    let number : p.0 ≡ length cs + 1 = sym (ap (λ (r : Port). r.0) same) in
-    let place : p.0 - 1 ≡ length cs = omega (arith, number) in
-    let some : (p.0 == 0) ≡ false = grind (arith, nat_tests) in
-    let before = at_next cs (p.0 - 1) (p.0 == 0) place some in
-    let after = at_made_last cs (fresh cap) (p.0 - 1) (p.0 == 0) place some in
-    let told : None ≡ Some (shown (fresh cap)) = sym (ap (option_map shown) before) ∙ h ∙ ap (option_map shown) after in
+    let n = next_port cs (fresh cap) p (sym (ap (λ (r : Port). r.0) same)) in
+    let told : None ≡ Some (shown (fresh cap)) = sym (ap (option_map shown) n.0) ∙ h ∙ ap (option_map shown) n.1 in
     absurd (let g : ⊥ = cc in g)
 
 -- where a value is sent there is one to receive
@@ -94,36 +86,12 @@ get_snoc [] (suc i) d h = refl
 get_snoc (x ∷ xs) zero d h = refl
 get_snoc (x ∷ xs) (suc i) d h = get_snoc xs i d (λ e. h (ap suc e))
 
-added_other : (b : Bool) (xs : List Channel) (q : Port) (d : Channel) → b ≡ (q.0 == 0) →
-    (length xs + 1 == q.0) ≡ false →
-    cond b None (slice_get (xs ++ d ∷ []) (q.0 - 1)) ≡ cond b None (slice_get xs (q.0 - 1))
-added_other true xs q d is h = refl
-added_other false xs q d is h = get_snoc xs (q.0 - 1) d (λ e.
-    let n : 0 < q.0 = above_zero q.0 (sym is) in
-    absurd (eqb-false (length xs + 1) q.0 h (omega arith)))
-
--- a step that writes none: each port stays, and a new one is empty
-pub record Quiet (cs ts : List Channel) : Type 0 where
-  pub same : (p : Port) (c : Channel) → at cs p ≡ Some c → at ts p ≡ Some c
-  pub fresh : (p : Port) (c : Channel) → at cs p ≡ None → at ts p ≡ Some c → (c.sent ≡ []) × (c.received ≡ 0)
-
-pub quiet-idle : (cs ts : List Channel) → ts ≡ cs → Quiet cs ts
-quiet-idle cs ts is = record {
-  same = λ p c e. rw is e;
-  fresh = λ p c e f. absurd (let g : at cs p ≡ Some c = rw is at f in let g : ⊥ = cc in g);
-}
-
-pub quiet-adds : (cs ts : List Channel) (cap : ℕ) → ts ≡ cs ++ fresh cap ∷ [] → Quiet cs ts
-quiet-adds cs ts cap is =
-    let s : State = record { head = record { procs = 0 }; gone = []; parked = []; channels = cs } in
-    let t : State = record { head = record { procs = 0 }; gone = []; parked = []; channels = ts } in
-    record {
-      same = λ p c e.
-          let m = made s p c e in
-          let within : p.0 - 1 < length cs = slice_get_within cs (p.0 - 1) c m.channel in
-          at_made t p c (record { number = m.number; channel = rw (is, get_snoc cs (p.0 - 1) (fresh cap) (λ h. absurd (omega arith))) m.channel });
-      fresh = λ p c e h. elim (new_port s t p (fresh cap) c is h) [ inl l ↦ rw l.1 (refl, refl) | inr r ↦ absurd (let g : ⊥ = cc in g) ];
-    }
+other_port : (cs : List Channel) (d : Channel) (p : Port) → (length cs + 1 == p.0) ≡ false → at (cs ++ d ∷ []) p ≡ at cs p
+other_port cs d p h = by (p.0 == 0) refl
+  where
+    by : (b : Bool) → b ≡ (p.0 == 0) → cond b None (slice_get (cs ++ d ∷ []) (p.0 - 1)) ≡ cond b None (slice_get cs (p.0 - 1))
+    by true is = refl
+    by false is = get_snoc cs (p.0 - 1) d (λ e. let n = above_zero p.0 (sym is) in absurd (eqb-false (length cs + 1) p.0 h (omega arith)))
 
 -- What follows from what a step can do
 
@@ -145,7 +113,7 @@ pub does-others : (cs ts : List Channel) (named : Option Port) (deeds : List Dee
     (p : Port) → is_port named p ≡ false → at ts p ≡ at cs p
 does-others cs ts named deeds (idle none same e) p h = ap (λ xs. at xs p) same
 does-others cs ts named deeds (adds cap room names same e) p h =
-    rw same (added_other (p.0 == 0) cs p (fresh cap) refl (rw names at h))
+    rw same (other_port cs (fresh cap) p (rw names at h))
 does-others cs ts named deeds (wrote q c d names w m) p h = w.others p (rw names at h)
 
 -- no more ports than there may be
@@ -163,3 +131,29 @@ does-grows cs ts named deeds (idle none same e) = omega (arith, ap length same)
 does-grows cs ts named deeds (adds cap room names same e) =
     omega (arith, ap length same, length-append cs (fresh cap ∷ []))
 does-grows cs ts named deeds (wrote q c d names w m) = omega (arith, w.ports)
+
+-- where it moves one port, all communications are on that, and none on another
+pub elsewhere : (p q : Port) (c d : Channel) (deeds : List Deed) → (q.0 == p.0) ≡ false → Moved q c d deeds →
+    AllByRecursion (λ x. ((port_of x.case).0 == p.0) ≡ false) deeds
+elsewhere p q c d deeds h (buffers v live is e) = rw e (h, tt)
+elsewhere p q c d deeds h (hands v w live next is e) = rw e (h, (h, tt))
+elsewhere p q c d deeds h (fetches v w live next is e) = rw e (h, (h, tt))
+elsewhere p q c d deeds h (gives w next is e) = rw e (h, tt)
+elsewhere p q c d deeds h (drains next is e) = rw e (h, tt)
+elsewhere p q c d deeds h (refuses v over is e) = rw e (h, tt)
+elsewhere p q c d deeds h (shuts live is all) =
+    all_more (IsClosing q) (λ x. ((port_of x.case).0 == p.0) ≡ false) deeds (λ x k. ap (λ (r : Port). r.0 == p.0) k.port ∙ h) all
+
+-- at each port
+pub does-at : (cs ts : List Channel) (named : Option Port) (deeds : List Deed) → Does cs ts named deeds → (p : Port) → DoesAt cs ts deeds p
+does-at cs ts named deeds (idle none same e) p = stays_at (ap (λ xs. at xs p) same) (rw e tt)
+does-at cs ts named deeds (adds cap room names same e) p = by (length cs + 1 == p.0) refl
+  where
+    by : (b : Bool) → b ≡ (length cs + 1 == p.0) → DoesAt cs ts deeds p
+    by true is = let n = next_port cs (fresh cap) p (sym (eqb-true (length cs + 1) p.0 (sym is))) in makes_at cap n.0 (rw same n.1) e
+    by false is = stays_at (rw same (other_port cs (fresh cap) p (sym is))) (rw e tt)
+does-at cs ts named deeds (wrote q c d names w m) p = by (q.0 == p.0) refl
+  where
+    by : (b : Bool) → b ≡ (q.0 == p.0) → DoesAt cs ts deeds p
+    by true is = subst (DoesAt cs ts deeds) (same_port q p (eqb-true q.0 p.0 (sym is))) (moves_at c d w.old w.new m)
+    by false is = stays_at (w.others p (sym is)) (elsewhere p q c d deeds (sym is) m)

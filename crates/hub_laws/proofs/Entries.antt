@@ -1,6 +1,6 @@
 -- The account of each admitted entry: every step, the stall that can follow it, and a fault.
 use Rattle.hub_laws.proofs.Prelude.{◌≡◌, Bool, true, false, List, [], ◌∷◌, ◌++◌, refl, ap, ◌∙◌, sym, subst, Option, Some, None, if◌then◌else◌, ℕ, append-nil}
-use Rattle.hub_laws.proofs.Prelude.{◌+◌, not, length, filter, inl, inr, ◌-◌, ◌<◌, nat_le, nat_lt, leb-false, map-append, filter_map-append, list_any}
+use Rattle.hub_laws.proofs.Prelude.{◌+◌, not, length, filter, ◌-◌, ◌<◌, nat_le, nat_lt, leb-false, map-append, filter_map-append, list_any}
 use Rattle.hub_laws.proofs.Prelude.{AllByRecursion, slice_set, Entry, Step, Close, Exit, Make, Call, Event, What, Fault, MOST_PORTS, MOST_CAP, Pid, Port}
 use Rattle.hub_laws.proofs.Prelude.{is_on, State, Channel, OpenCall, channel_at, Change, tells, shut, closes, close_fault, is_unmade, fault_of, answers, turn}
 use Rattle.hub_laws.proofs.Prelude.{effect, of_what, IsAnswered, ends_waiting, port_touched_by, Shown, PortSound}
@@ -8,14 +8,13 @@ use Rattle.hub_base.specs.declared.fault.Fault.TheVariants as fault
 use Rattle.hub_base.specs.declared.event.What.TheVariants as what
 use Rattle.hub_laws.proofs.Branches.{by-stall, stalled}
 use Rattle.hub_laws.proofs.Calls.{fewer-none, fewer-filter, all_append, all_more}
-use Rattle.hub_laws.proofs.Deeds.{deed_of, fresh, IsClosing, shuts, adds, wrote}
-use Rattle.hub_laws.proofs.Does.{wrote-set, wrote-moves, made-moves}
+use Rattle.hub_laws.proofs.Deeds.{deed_of, fresh, IsClosing, shuts, adds, wrote, at}
+use Rattle.hub_laws.proofs.Does.{wrote-set, wrote-moves, made-moves, next_port}
 use Rattle.hub_laws.proofs.Faults.{journaled}
 use Rattle.hub_laws.proofs.Fires.{is_on_port}
 use Rattle.hub_laws.proofs.Kept.{port-fewer, port-shut, port-fresh}
 use Rattle.hub_laws.proofs.Leaving.{Ended, event_of, events_of, EndsWell, leave-join, ClosedAt, closed, all_stalled}
 use Rattle.hub_laws.proofs.Ready.{none_false}
-use Rattle.hub_laws.proofs.Ports.{new_port}
 use Rattle.hub_laws.proofs.Account.{Account, alone, silent, named_sound, with_caller, with_leaver, ended_deeds}
 use Rattle.hub_laws.proofs.Firing.{calls-account}
 
@@ -76,10 +75,12 @@ effect-account s pid (Make cap) h =
     let new : What = what.Made (record { 0 = length s.channels + 1 }) in
     alone s ts pid (Make cap) new refl tt (λ h. cc) (λ sound. adds cap (room_for_port s cap h) refl refl refl) (λ h. cc)
     (λ h sound p named. made-moves s.channels cap p named)
-    (λ sound p c names e. elim (new_port s (record s { channels = ts }) p (fresh cap) c refl e) [
-      | inl l ↦ rw l.1 (port-fresh s p cap sound l.0)
-      | inr r ↦ sound.ports p c r
-    ])
+    (λ sound p c names e.
+    let same : record { 0 = length s.channels + 1 } ≡ p = cc in
+    let number : p.0 ≡ length s.channels + 1 = sym (ap (λ (r : Port). r.0) same) in
+    let new : at ts p ≡ Some (fresh cap) = (next_port s.channels (fresh cap) p number).1 in
+    let one : fresh cap ≡ c = cc in
+    subst (λ x. PortSound p x s.parked) one (port-fresh s p cap sound number))
 effect-account s pid (Call cases default word) h = calls-account s pid cases.items default word
 effect-account s pid (Close p) h =
     let fine = none_false (is_unmade s p) fault.NoPort (close_fault (channel_at s p)) h in

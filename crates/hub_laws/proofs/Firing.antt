@@ -1,16 +1,16 @@
 -- The account of a call: a case that fires, alone or with an open call, or none.
-use Rattle.hub_laws.proofs.Prelude.{◌≡◌, Bool, true, false, List, [], ◌∷◌, ◌++◌, refl, ap, sym, Option, Some, None, ℕ, ◌==◌, not, length, arith, ◌-◌, ◌%◌}
-use Rattle.hub_laws.proofs.Prelude.{false_from_ne_true, length-append, slice_get_within, list_any, option_map_or, slice_get, is_some, slice_set, Case, Send}
-use Rattle.hub_laws.proofs.Prelude.{Recv, Step, Call, Outcome, Sent, Closed, Got, Drained, Pid, Port, Value, can_proceed, port_of, is_recv_on, first_with}
-use Rattle.hub_laws.proofs.Prelude.{is_send_on, Ending, without, ready, send_can, recv_can, State, Channel, OpenCall, channel_at, calls, after_receive}
-use Rattle.hub_laws.proofs.Prelude.{Firing, after_send, send_meets, send_fires, fired, next_value, fires, proceeds, chooses, outcome_of, with_sent}
-use Rattle.hub_laws.proofs.Prelude.{recv_takes, recv_meets, found_closed, shown, Shown, IsSound, PortSound, some_call}
+use Rattle.hub_laws.proofs.Prelude.{◌≡◌, Bool, true, false, List, [], ◌∷◌, refl, ap, sym, Option, Some, None, ℕ, ◌==◌, ◌+◌, not, length, arith, ◌-◌}
+use Rattle.hub_laws.proofs.Prelude.{◌<◌, ◌%◌, false_from_ne_true, slice_get_within, list_any, option_map_or, slice_get, is_some, slice_set}
+use Rattle.hub_laws.proofs.Prelude.{Case, Send, Recv, Step, Call, Outcome, Sent, Closed, Got, Drained, Pid, Port, Value, can_proceed, port_of, is_recv_on}
+use Rattle.hub_laws.proofs.Prelude.{first_with, is_send_on, Ending, without, ready, send_can, recv_can, State, Channel, OpenCall, channel_at, calls}
+use Rattle.hub_laws.proofs.Prelude.{after_receive, Firing, after_send, send_meets, send_fires, fired, next_value, fires, proceeds, chooses, outcome_of}
+use Rattle.hub_laws.proofs.Prelude.{with_sent, recv_takes, recv_meets, found_closed, shown, Shown, IsSound, PortSound, some_call}
 use Rattle.hub_base.specs.declared.event.What.TheVariants as what
 use Rattle.hub_laws.proofs.Branches.{by-closed}
 use Rattle.hub_laws.proofs.Calls.{Fewer, fewer-filter}
 use Rattle.hub_laws.proofs.Deeds.{Deed, Moved, Wrote, buffers, hands, fetches, gives, drains, refuses, wrote}
 use Rattle.hub_laws.proofs.Does.{wrote-set, wrote-same, wrote-still, wrote-moves, next_sent}
-use Rattle.hub_laws.proofs.Fires.{is_recv, is_send, some_first}
+use Rattle.hub_laws.proofs.Fires.{is_recv, is_send, some_first, longer}
 use Rattle.hub_laws.proofs.Kept.{port-fewer, port-through, port-sent, port-received, room_by}
 use Rattle.hub_laws.proofs.Leaving.{Ended, nobody, next, first-goes}
 use Rattle.hub_laws.proofs.Ready.{chosen, none_can, ready_none}
@@ -23,18 +23,8 @@ deed k o = record { case = k; outcome = o }
 
 -- what is sent or received is shown
 
-sent_more : (c : Channel) (v : Value) → shown c ≡ shown (after_send v c) → ⊥
-sent_more c v h =
-    let more : length c.sent ≡ length (c.sent ++ v ∷ []) = ap (λ (x : Shown). x.sent) h in
-    absurd (omega (arith, more, length-append c.sent (v ∷ [])))
-
-received_more : (c : Channel) → shown c ≡ shown (after_receive c) → ⊥
-received_more c h = absurd (omega (arith, ap (λ (x : Shown). x.received) h))
-
-through_more : (c : Channel) (v : Value) → shown c ≡ shown (after_receive (after_send v c)) → ⊥
-through_more c v h =
-    let more : length c.sent ≡ length (c.sent ++ v ∷ []) = ap (λ (x : Shown). x.sent) h in
-    absurd (omega (arith, more, length-append c.sent (v ∷ [])))
+more : (c d : Channel) → length c.sent + c.received < length d.sent + d.received → shown c ≡ shown d → ⊥
+more c d h e = absurd (omega (arith, h, ap (λ (x : Shown). x.sent) e, ap (λ (x : Shown). x.received) e))
 
 module _ (s : State) (pid : Pid) (cases : List Case) (default : Bool) (word i : ℕ) where
   abbrev this : Step
@@ -104,12 +94,12 @@ module _ (s : State) (pid : Pid) (cases : List Case) (default : Bool) (word i : 
       let first : is_some (first_with (is_recv_on p) s.parked) ≡ false = ap (λ x. is_some x) (sym is) in
       let room = room_by c.closed (is_some (first_with (is_recv_on p) s.parked)) c live first can in
       alone_fires (slice_set s.channels (p.0 - 1) d) (Send p v) Sent c d mine (wrote-set s p c d e)
-      (buffers v live refl refl) (λ h. cc) (λ h. sent_more c v) (λ sound. port-sent p v c s.parked (sound.ports p c e) live none room)
+      (buffers v live refl refl) (λ h. cc) (λ h. more c d (omega (arith, longer v c))) (λ sound. port-sent p v c s.parked (sound.ports p c e) live none room)
   send_account p v c (Some x) mine e can live is =
       let d : Channel = after_receive (after_send v c) in
       let its : Outcome = outcome_of (next_value (after_send v c)) in
       meets (slice_set s.channels (p.0 - 1) d) (Send p v) Sent its (is_recv_on p) x c d mine (sym is) e
-      (wrote-set s p c d e) (λ h sound passes. cc) (λ h sound passes. through_more c v) (λ sound passes.
+      (wrote-set s p c d e) (λ h sound passes. cc) (λ h sound passes. more c d (omega (arith, longer v c))) (λ sound passes.
       let w = next_sent s p v c sound e in
       let moved = hands v w.0 live w.1 refl (rw (is_recv p x.at.case passes, w.1) refl) in
       (moved, λ calls fine. port-through p v c calls fine live))
@@ -123,7 +113,7 @@ module _ (s : State) (pid : Pid) (cases : List Case) (default : Bool) (word i : 
   takes_account p c (Some w) mine e none is =
       let d : Channel = after_receive c in
       alone_fires (slice_set s.channels (p.0 - 1) d) (Recv p) (Got w) c d mine (wrote-set s p c d e)
-      (gives w (sym is) refl refl) (λ h. cc) (λ h. received_more c)
+      (gives w (sym is) refl refl) (λ h. cc) (λ h. more c d (omega arith))
       (λ sound. port-received p c s.parked (sound.ports p c e) none (slice_get_within c.sent c.received w (sym is)))
 
   fetches_account : (p : Port) (c : Channel) (x : Ending) (o : Option Value) → slice_get cases i ≡ Some (Recv p) →
@@ -144,7 +134,7 @@ module _ (s : State) (pid : Pid) (cases : List Case) (default : Bool) (word i : 
       meets (slice_set s.channels (p.0 - 1) d) (Recv p) (Got w) Sent (is_send_on p) x c d mine is e
       (wrote-set s p c d e) (λ h sound passes. cc) (λ h sound passes same.
       let u = is_send p x.at.case passes in
-      through_more c u.0 (rw u.1 at same)) (λ sound passes.
+      more c (after_receive (after_send u.0 c)) (omega (arith, longer u.0 c)) (rw u.1 at same)) (λ sound passes.
       let u = is_send p x.at.case passes in
       let some : Some w ≡ next_value (after_send u.0 c) = rw u.1 at after in
       let waits : some_call (is_send_on p) s.parked ≡ true =
@@ -171,20 +161,11 @@ module _ (s : State) (pid : Pid) (cases : List Case) (default : Bool) (word i : 
   -- a case that can proceed has a channel
   fires_account : (k : Case) (o : Option Channel) → slice_get cases i ≡ Some k → o ≡ channel_at s (port_of k) →
       can_proceed s k ≡ true → Account s pid this (proceeds s pid i (fires s k o))
-  fires_account (Send p v) o mine is can =
-      by o is (let h : option_map_or (send_can s p) (channel_at s p) false ≡ true = can in rw (sym is) at h)
-    where
-      by : (o : Option Channel) → o ≡ channel_at s p → option_map_or (send_can s p) o false ≡ true →
-          Account s pid this (proceeds s pid i (fires s (Send p v) o))
-      by None is can = cc
-      by (Some c) is can = sends_account p v c mine (sym is) can
-  fires_account (Recv p) o mine is can =
-      by o is (let h : option_map_or (recv_can s p) (channel_at s p) false ≡ true = can in rw (sym is) at h)
-    where
-      by : (o : Option Channel) → o ≡ channel_at s p → option_map_or (recv_can s p) o false ≡ true →
-          Account s pid this (proceeds s pid i (fires s (Recv p) o))
-      by None is can = cc
-      by (Some c) is can = recv_account p c (first_with (is_send_on p) s.parked) mine (sym is) refl
+  fires_account (Send p v) None mine is can = let h : option_map_or (send_can s p) (channel_at s p) false ≡ true = can in let g = rw (sym is) at h in cc
+  fires_account (Send p v) (Some c) mine is can =
+      let h : option_map_or (send_can s p) (channel_at s p) false ≡ true = can in sends_account p v c mine (sym is) (rw (sym is) at h)
+  fires_account (Recv p) None mine is can = let h : option_map_or (recv_can s p) (channel_at s p) false ≡ true = can in let g = rw (sym is) at h in cc
+  fires_account (Recv p) (Some c) mine is can = recv_account p c (first_with (is_send_on p) s.parked) mine (sym is) refl
 
 -- A call
 

@@ -1,37 +1,28 @@
 -- The admitted entries of a run alone: their state, their events, and what joins them.
-use Rattle.hub_laws.proofs.Prelude.{◌≡◌, Bool, true, List, [], ◌∷◌, ◌++◌, refl, ap, ◌∙◌, sym, Option, Some, None, append-nil, ◌≤◌, not, length, arith}
-use Rattle.hub_laws.proofs.Prelude.{filter, filter-append, AllByRecursion, Entry, Event, Fault, Head, admits, moves, state_after, state, kept_after, keeps}
-use Rattle.hub_laws.proofs.Prelude.{kept, events_after, State, opening, refusal, turn, IsAnswered, ends_waiting, JournalLaw, Grows, Begins, is_refusal}
+use Rattle.hub_laws.proofs.Prelude.{◌≡◌, Bool, true, List, [], ◌∷◌, ◌++◌, refl, ap, ◌∙◌, Option, Some, None, append-nil, ◌≤◌, not, length, arith, filter}
+use Rattle.hub_laws.proofs.Prelude.{filter-append, AllByRecursion, Entry, Event, Fault, Head, admits, moves, state_after, state, kept_after, keeps, kept}
+use Rattle.hub_laws.proofs.Prelude.{events_after, State, opening, Change, refusal, turn, IsAnswered, ends_waiting, JournalLaw, Grows, Begins, is_refusal}
 use Rattle.hub_laws.proofs.Events.{answer_admits, waiting-ends}
 use Rattle.hub_laws.proofs.Faults.{refusal-refuses}
 use Rattle.hub_laws.proofs.Entries.{turn-answered}
 use Rattle.hub_laws.proofs.Longer.{kept-entry}
+use Rattle.hub_laws.proofs.Ready.{by-refusal}
 
 -- The state, and which entries are admitted
 
--- an entry that is not admitted changes nothing
-passed_over : (s : State) (e : Entry) (f : Fault) → Some f ≡ refusal s e.pid → (moves s e).state ≡ s
-passed_over s e f is = ap (λ o. (admits s e o).state) (sym is)
-
-state_by : (s : State) (e : Entry) (es : List Entry) (o : Option Fault) → o ≡ refusal s e.pid
-    → ((t : State) → state_after t (kept_after t es) ≡ state_after t es)
-    → state_after s (keeps o e (kept_after (moves s e).state es)) ≡ state_after (moves s e).state es
-state_by s e es None is rest = rest (moves s e).state
-state_by s e es (Some f) is rest = rw (passed_over s e f is) (rest s)
-
 state_after-kept : (s : State) (es : List Entry) → state_after s (kept_after s es) ≡ state_after s es
 state_after-kept s [] = refl
-state_after-kept s (e ∷ es) = state_by s e es (refusal s e.pid) refl (λ t. state_after-kept t es)
-
-kept_by : (s : State) (e : Entry) (es : List Entry) (o : Option Fault) → o ≡ refusal s e.pid → ((t : State) → kept_after t (kept_after t es) ≡ kept_after t es)
-    → kept_after s (keeps o e (kept_after (moves s e).state es)) ≡ keeps o e (kept_after (moves s e).state es)
-kept_by s e es None is rest = ap (λ o. keeps o e (kept_after (moves s e).state (kept_after (moves s e).state es))) (sym is)
-    ∙ ap (λ xs. e ∷ xs) (rest (moves s e).state)
-kept_by s e es (Some f) is rest = rw (passed_over s e f is) (rest s)
+state_after-kept s (e ∷ es) =
+    by-refusal (λ o. state_after s (keeps o e (kept_after (admits s e o).state es)) ≡ state_after (admits s e o).state es) s e.pid
+    (λ is. ap (λ o. state_after (admits s e o).state (kept_after (turn s e).state es)) is ∙ state_after-kept (turn s e).state es)
+    (λ f is. state_after-kept s es)
 
 kept_after-kept : (s : State) (es : List Entry) → kept_after s (kept_after s es) ≡ kept_after s es
 kept_after-kept s [] = refl
-kept_after-kept s (e ∷ es) = kept_by s e es (refusal s e.pid) refl (λ t. kept_after-kept t es)
+kept_after-kept s (e ∷ es) =
+    by-refusal (λ o. kept_after s (keeps o e (kept_after (admits s e o).state es)) ≡ keeps o e (kept_after (admits s e o).state es)) s e.pid
+    (λ is. ap (λ o. keeps o e (kept_after (admits s e o).state (kept_after (turn s e).state es))) is
+    ∙ ap (λ xs. e ∷ xs) (kept_after-kept (turn s e).state es)) (λ f is. kept_after-kept s es)
 
 -- the journal of a run has the run's state
 pub state-kept : (head : Head) (es : List Entry) → state head (kept head es) ≡ state head es
@@ -54,20 +45,14 @@ answered_pass : (e : Entry) (events : List Event) → IsAnswered e.pid e.step ev
 answered_pass e [] a = refl
 answered_pass e (x ∷ xs) a = rw (answer_admits e.step x.what a.fits, ended_pass xs a.ends) refl
 
-events_by : (s : State) (e : Entry) (es : List Entry) (o : Option Fault) → o ≡ refusal s e.pid
-    → ((t : State) → events_after t (kept_after t es) ≡ filter no_refusal (events_after t es))
-    → events_after s (keeps o e (kept_after (moves s e).state es)) ≡ filter no_refusal ((admits s e o).events ++ events_after (moves s e).state es)
-events_by s e es None is rest =
-    let same : moves s e ≡ turn s e = ap (admits s e) (sym is) in
-    ap (λ c. c.events ++ events_after (moves s e).state (kept_after (moves s e).state es)) same
-    ∙ ap (λ xs. (turn s e).events ++ xs) (rest (moves s e).state)
-    ∙ ap (λ xs. xs ++ filter no_refusal (events_after (moves s e).state es)) (sym (answered_pass e (turn s e).events (turn-answered s e)))
-    ∙ sym (filter-append no_refusal (turn s e).events (events_after (moves s e).state es))
-events_by s e es (Some f) is rest = rw (refusal-refuses s e.pid f (sym is), passed_over s e f is) (rest s)
-
 events_after-kept : (s : State) (es : List Entry) → events_after s (kept_after s es) ≡ filter no_refusal (events_after s es)
 events_after-kept s [] = refl
-events_after-kept s (e ∷ es) = events_by s e es (refusal s e.pid) refl (λ t. events_after-kept t es)
+events_after-kept s (e ∷ es) =
+    by-refusal (λ o. let c : Change = admits s e o in
+    events_after s (keeps o e (kept_after c.state es)) ≡ filter no_refusal (c.events ++ events_after c.state es)) s e.pid (λ is.
+    ap (λ o. (admits s e o).events ++ events_after (admits s e o).state (kept_after (turn s e).state es)) is
+    ∙ rw (events_after-kept (turn s e).state es, filter-append no_refusal (turn s e).events, answered_pass e (turn s e).events (turn-answered s e)) refl)
+    (λ f is. rw (refusal-refuses s e.pid f is) (events_after-kept s es))
 
 pub journal-law : (head : Head) (es : List Entry) → JournalLaw head es
 journal-law head es = record { legal = kept-kept head es; state = state-kept head es; events = events_after-kept (opening head) es }

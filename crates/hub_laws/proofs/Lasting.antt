@@ -8,6 +8,8 @@ use Rattle.hub_laws.proofs.Calls.{any_snoc}
 use Rattle.hub_laws.proofs.Does.{does-few}
 use Rattle.hub_laws.proofs.Kept.{sound-opening}
 use Rattle.hub_laws.proofs.Rules.{moves-sound}
+use Rattle.hub_laws.proofs.Ready.{by-refusal}
+use Rattle.hub_laws.proofs.Deeds.{Deed}
 
 -- who has exited after it
 pub turn-leaves : (q : ℕ) (s : State) (e : Entry) → has_gone (turn s e).state q ≡ (has_gone s q || (is_exit e.step && (e.pid.0 == q)))
@@ -31,18 +33,14 @@ pub head-after : (s : State) (es : List Entry) → (state_after s es).head ≡ s
 head-after s [] = refl
 head-after s (e ∷ es) = head-after (moves s e).state es ∙ head-entry s e (refusal s e.pid)
 
-ports_entry : (s : State) (e : Entry) (o : Option Fault) → IsSound s → length s.channels ≤ MOST_PORTS →
-    length (admits s e o).state.channels ≤ MOST_PORTS
-ports_entry s e None sound few =
-    let a = turn-account s e in
-    does-few s.channels (turn s e).state.channels (port_touched_by e.step a.answer) (deeds_of e.step a.answer a.ended) (a.does sound) few
-ports_entry s e (Some f) sound few = few
-
 ports_after : (s : State) (es : List Entry) → IsSound s → length s.channels ≤ MOST_PORTS →
     length (state_after s es).channels ≤ MOST_PORTS
 ports_after s [] sound few = few
 ports_after s (e ∷ es) sound few =
-    ports_after (moves s e).state es (moves-sound s e sound) (ports_entry s e (refusal s e.pid) sound few)
+    ports_after (moves s e).state es (moves-sound s e sound) (by-refusal (λ o. length (admits s e o).state.channels ≤ MOST_PORTS) s e.pid (λ is.
+    let a = turn-account s e in
+    let deeds : List Deed = deeds_of e.step a.answer a.ended in
+    does-few s.channels (turn s e).state.channels (port_touched_by e.step a.answer) deeds (a.does sound) few) (λ f is. few))
 
 -- no more ports are made than there may be
 pub ports-law : (head : Head) (es : List Entry) → length (state head es).channels ≤ MOST_PORTS

@@ -1,14 +1,15 @@
 -- A journal holds at most one exit of each process.
-use Rattle.hub_laws.proofs.Prelude.{◌≡◌, Bool, true, false, List, [], ◌∷◌, ◌++◌, refl, ap, ◌∙◌, sym, subst, Option, Some, None, ℕ, ◌==◌, ◌+◌, ◌≤◌, cond}
-use Rattle.hub_laws.proofs.Prelude.{length, arith, ◌&&◌, ◌||◌, inl, inr, ◌<◌, eqb-true, or_cases, and_parts, length-append, AllByRecursion, Entry, Fault}
-use Rattle.hub_laws.proofs.Prelude.{Head, Pid, is_exit, admits, moves, state_after, state, kept_after, keeps, State, opening, refusal, turn, has_gone}
-use Rattle.hub_laws.proofs.Prelude.{one_step, steps_of, exits_of, LimitsLaw}
-use Rattle.hub_laws.proofs.Ready.{Admitted, admitted}
+use Rattle.hub_laws.proofs.Prelude.{◌≡◌, Bool, true, false, List, [], ◌∷◌, ◌++◌, refl, ap, ◌∙◌, sym, subst, ℕ, ◌==◌, ◌+◌, ◌≤◌, cond}
+use Rattle.hub_laws.proofs.Prelude.{length, arith, ◌&&◌, ◌||◌, inl, inr, ◌<◌, eqb-true, or_cases, and_parts, length-map, length-append, map-append}
+use Rattle.hub_laws.proofs.Prelude.{AllByRecursion, Entry, Head, Pid, is_exit, admits, moves, state_after, state, kept_after, keeps, State, OpenCall}
+use Rattle.hub_laws.proofs.Prelude.{opening, turn, has_gone, one_step, steps_of, exits_of, LimitsLaw, Apart}
+use Rattle.hub_laws.proofs.Ready.{Admitted, admitted, by-refusal}
 use Rattle.hub_laws.proofs.Leaving.{one}
-use Rattle.hub_laws.proofs.Distinct.{Different, different_snoc, count-different}
+use Rattle.hub_laws.proofs.Distinct.{calls_by, among-calls_by, count-below}
 use Rattle.hub_laws.proofs.Account.{with_leaver, procs-of}
 use Rattle.hub_laws.proofs.Entries.{turn-account}
-use Rattle.hub_laws.proofs.Lasting.{turn-leaves, head-entry, head-after}
+use Rattle.hub_laws.proofs.Lasting.{turn-leaves, head-after}
+use Rattle.hub_laws.proofs.Calls.{apart_snoc}
 
 -- Once
 
@@ -18,15 +19,6 @@ once_by true false e es free most = omega arith
 once_by false true e es free most = most
 once_by false false e es free most = most
 
-once_entry : (q : ℕ) (s : State) (e : Entry) (es : List Entry) (o : Option Fault) → o ≡ refusal s e.pid
-    → length (exits_of q es) + one (has_gone (admits s e o).state q) ≤ 1 → length (exits_of q (keeps o e es)) + one (has_gone s q) ≤ 1
-once_entry q s e es None is most =
-    let after = turn-leaves q s e in
-    let rest : length (exits_of q es) + one (has_gone s q || (is_exit e.step && (e.pid.0 == q))) ≤ 1 = rw after at most in
-    once_by (is_exit e.step && (e.pid.0 == q)) (has_gone s q) e (exits_of q es)
-    (λ b. subst (λ (n : ℕ). has_gone s n ≡ false) (eqb-true e.pid.0 q (and_parts (is_exit e.step) (e.pid.0 == q) b).1) (admitted s e.pid (sym is)).here) rest
-once_entry q s e es (Some f) is most = most
-
 -- who has exited does not exit again, and nobody exits twice
 once_after : (q : ℕ) (s : State) (es : List Entry) → length (exits_of q (kept_after s es)) + one (has_gone s q) ≤ 1
 once_after q s [] = at (has_gone s q)
@@ -34,30 +26,33 @@ once_after q s [] = at (has_gone s q)
     at : (b : Bool) → 0 + one b ≤ 1
     at true = omega arith
     at false = omega arith
-once_after q s (e ∷ es) = once_entry q s e (kept_after (moves s e).state es) (refusal s e.pid) refl (once_after q (moves s e).state es)
+once_after q s (e ∷ es) =
+    by-refusal (λ o. length (exits_of q (keeps o e (kept_after (admits s e o).state es))) + one (has_gone s q) ≤ 1) s e.pid (λ is.
+    let rest : length (exits_of q (kept_after (turn s e).state es)) + one (has_gone s q || (is_exit e.step && (e.pid.0 == q))) ≤ 1 =
+    rw (turn-leaves q s e) at (once_after q (turn s e).state es) in
+    once_by (is_exit e.step && (e.pid.0 == q)) (has_gone s q) e (exits_of q (kept_after (turn s e).state es))
+    (λ b. subst (λ (n : ℕ). has_gone s n ≡ false) (eqb-true e.pid.0 q (and_parts (is_exit e.step) (e.pid.0 == q) b).1) (admitted s e.pid is).here) rest)
+    (λ f is. once_after q s es)
 
 -- Below
 
-below_entry : (n : ℕ) (s : State) (e : Entry) (es : List Entry) (o : Option Fault) → s.head.procs ≡ n → o ≡ refusal s e.pid
-    → AllByRecursion (λ e. e.pid.0 < n) es → AllByRecursion (λ e. e.pid.0 < n) (keeps o e es)
-below_entry n s e es None procs is all = (omega (arith, (admitted s e.pid (sym is)).below), all)
-below_entry n s e es (Some f) procs is all = all
-
 below_after : (n : ℕ) (s : State) (es : List Entry) → s.head.procs ≡ n → AllByRecursion (λ e. e.pid.0 < n) (kept_after s es)
 below_after n s [] procs = tt
-below_after n s (e ∷ es) procs = below_entry n s e (kept_after (moves s e).state es) (refusal s e.pid) procs refl
-    (below_after n (moves s e).state es (procs-of (head-entry s e (refusal s e.pid)) ∙ procs))
+below_after n s (e ∷ es) procs =
+    by-refusal (λ o. AllByRecursion (λ e. e.pid.0 < n) (keeps o e (kept_after (admits s e o).state es))) s e.pid (λ is.
+    (omega (arith, (admitted s e.pid is).below), below_after n (turn s e).state es (procs-of (turn-account s e).head ∙ procs)))
+    (λ f is. below_after n s es procs)
 
 -- Length
 
 -- no process has exited twice, and none that there is not
 pub record GoneSound (s : State) : Type 0 where
-  pub apart : Different s.gone
+  pub apart : Apart (calls_by s.gone)
   pub below : (q : ℕ) → has_gone s q ≡ true → q < s.head.procs
 
 gone_turn : (s : State) (e : Entry) → GoneSound s → Admitted s e.pid → GoneSound (turn s e).state
 gone_turn s e sound adm = record {
-  apart = subst Different (sym (turn-account s e).gone) (by (is_exit e.step));
+  apart = subst (λ g. Apart (calls_by g)) (sym (turn-account s e).gone) (by (is_exit e.step));
   below = λ q h.
       let b : q < s.head.procs = elim (or_cases (has_gone s q) (is_exit e.step && (e.pid.0 == q)) (sym (turn-leaves q s e) ∙ h)) [
         | inl l ↦ sound.below q l
@@ -66,17 +61,14 @@ gone_turn s e sound adm = record {
       omega (arith, b, procs-of (turn-account s e).head);
 }
   where
-    by : (b : Bool) → Different (cond b (s.gone ++ e.pid ∷ []) s.gone)
-    by true = different_snoc s.gone e.pid sound.apart adm.here
+    by : (b : Bool) → Apart (calls_by (cond b (s.gone ++ e.pid ∷ []) s.gone))
+    by true = rw map-append (apart_snoc (calls_by s.gone) (record { pid = e.pid; cases = [] }) sound.apart (among-calls_by e.pid.0 s.gone ∙ adm.here))
     by false = sound.apart
-
-gone_entry : (s : State) (e : Entry) (o : Option Fault) → o ≡ refusal s e.pid → GoneSound s → GoneSound (admits s e o).state
-gone_entry s e None is sound = gone_turn s e sound (admitted s e.pid (sym is))
-gone_entry s e (Some f) is sound = sound
 
 gone_after : (s : State) (es : List Entry) → GoneSound s → GoneSound (state_after s es)
 gone_after s [] sound = sound
-gone_after s (e ∷ es) sound = gone_after (moves s e).state es (gone_entry s e (refusal s e.pid) refl sound)
+gone_after s (e ∷ es) sound = gone_after (moves s e).state es
+    (by-refusal (λ o. GoneSound (admits s e o).state) s e.pid (λ is. gone_turn s e sound (admitted s e.pid is)) (λ f is. sound))
 
 one_entry : (gone : List Pid) (e : Entry) → length (with_leaver gone e.pid e.step) + one_step e ≡ length gone + 1
 one_entry gone e = by (is_exit e.step)
@@ -85,21 +77,21 @@ one_entry gone e = by (is_exit e.step)
     by true = omega (arith, length-append gone (e.pid ∷ []))
     by false = omega arith
 
-length_entry : (s : State) (e : Entry) (es : List Entry) (total : ℕ) (o : Option Fault)
-    → length es + length (admits s e o).state.gone ≡ steps_of es + total → length (keeps o e es) + length s.gone ≡ steps_of (keeps o e es) + total
-length_entry s e es total None rest = omega (arith, rest, one_entry s.gone e, ap length (turn-account s e).gone)
-length_entry s e es total (Some f) rest = rest
-
 length_after : (s : State) (es : List Entry) → length (kept_after s es) + length s.gone ≡ steps_of (kept_after s es) + length (state_after s es).gone
 length_after s [] = omega arith
-length_after s (e ∷ es) = length_entry s e (kept_after (moves s e).state es) (length (state_after (moves s e).state es).gone)
-    (refusal s e.pid) (length_after (moves s e).state es)
+length_after s (e ∷ es) =
+    by-refusal (λ o. let kept : List Entry = keeps o e (kept_after (admits s e o).state es) in
+    length kept + length s.gone ≡ steps_of kept + length (state_after (admits s e o).state es).gone) s e.pid (λ is.
+    omega (arith, length_after (turn s e).state es, one_entry s.gone e, ap length (turn-account s e).gone)) (λ f is. length_after s es)
 
 -- no more processes have exited than there are
 pub gone-law : (head : Head) (es : List Entry) → length (state head es).gone ≤ head.procs
 gone-law head es =
     let sound = gone_after (opening head) es (record { apart = tt; below = λ q e. absurd (let g : ⊥ = cc in g) }) in
-    count-different head.procs (state head es).gone sound.apart (λ q e. omega (arith, sound.below q e, procs-of (head-after (opening head) es)))
+    let gone : List Pid = (state head es).gone in
+    let most = count-below head.procs (calls_by gone) sound.apart (λ q e.
+    omega (arith, sound.below q (sym (among-calls_by q gone) ∙ e), procs-of (head-after (opening head) es))) in
+    omega (arith, most, length-map {B = OpenCall} gone (λ pid. record { pid = pid; cases = [] }))
 
 pub limits-law : (head : Head) (es : List Entry) → LimitsLaw head es
 limits-law head es = record {

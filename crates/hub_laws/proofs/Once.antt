@@ -1,21 +1,20 @@
 -- Each admitted call has at most one event besides `Parked`.
-use Rattle.hub_laws.proofs.Prelude.{◌≡◌, Bool, true, false, List, [], ◌∷◌, ◌++◌, refl, ap, ◌∙◌, sym, subst, Option, Some, None, ℕ, ◌==◌, ◌+◌, ◌≤◌, cond, not}
+use Rattle.hub_laws.proofs.Prelude.{◌≡◌, Bool, true, false, List, [], ◌∷◌, ◌++◌, refl, ap, ◌∙◌, sym, subst, Some, ℕ, ◌==◌, ◌+◌, ◌≤◌, cond, not}
 use Rattle.hub_laws.proofs.Prelude.{length, arith, ◌&&◌, inl, inr, ◌<◌, and-false, eqb-true, and_parts, length-append, AllByRecursion, Entry, Step, Exit}
-use Rattle.hub_laws.proofs.Prelude.{Event, Fault, Head, Pid, is_exit, admits, moves, State, opening, tells, refusal, turn, has_gone, turns_after, IsAnswered}
-use Rattle.hub_laws.proofs.Prelude.{ends_waiting, is_busy, refuses_entry, counts, endings, is_call, was_admitted, ends_call, endings_until, EndsOnce}
-use Rattle.hub_laws.proofs.Prelude.{AtMostOnce, IsSound}
+use Rattle.hub_laws.proofs.Prelude.{Event, Fault, Head, Pid, is_exit, admits, moves, State, opening, Change, tells, refusal, turn, has_gone, turns_after}
+use Rattle.hub_laws.proofs.Prelude.{IsAnswered, ends_waiting, is_busy, refuses_entry, counts, endings, is_call, was_admitted, ends_call, endings_until}
+use Rattle.hub_laws.proofs.Prelude.{EndsOnce, AtMostOnce, IsSound}
 use Rattle.hub_base.specs.declared.event.What.TheVariants as what
 use Rattle.hub_laws.proofs.Account.{procs-of}
-use Rattle.hub_laws.proofs.Calls.{all_append}
+use Rattle.hub_laws.proofs.Calls.{all_append, same_number}
 use Rattle.hub_laws.proofs.Events.{answered_admits, answer_ends, waiting-ends}
 use Rattle.hub_laws.proofs.Entries.{turn-account, turn-answered}
 use Rattle.hub_laws.proofs.Faults.{refusal-refuses, refusal-busy}
 use Rattle.hub_laws.proofs.Balance.{open_calls, ends, open_none, turn-balance}
 use Rattle.hub_laws.proofs.Lasting.{turn-gone}
-use Rattle.hub_laws.proofs.Calls.{same_number}
-use Rattle.hub_laws.proofs.Ready.{admitted}
+use Rattle.hub_laws.proofs.Ready.{admitted, by-refusal}
 use Rattle.hub_laws.proofs.Kept.{sound-opening}
-use Rattle.hub_laws.proofs.Rules.{moves-sound}
+use Rattle.hub_laws.proofs.Rules.{moves-sound, turn-sound}
 
 -- At most so many events, each of which ends a call
 
@@ -87,22 +86,18 @@ until_refused q s e f rest is below here after =
     refusal-busy s e.pid f (omega (arith, same)) (subst (λ (n : ℕ). has_gone s n ≡ false) (sym same) here) is) in
     rw (refusal-refuses s e.pid f is, none) after
 
-until_by : (q : ℕ) (s : State) (e : Entry) (es : List Entry) (o : Option Fault) → o ≡ refusal s e.pid → IsSound s → q < s.head.procs → has_gone s q ≡ false
-    → ((t : State) → IsSound t → q < t.head.procs → has_gone t q ≡ false → AtMost (open_calls q t.parked) (endings_until q (turns_after t es)))
-    → IsSound (admits s e o).state → AtMost (open_calls q s.parked)
-    (cond (was_admitted (admits s e o).events && (e.pid.0 == q)) [] (endings q (admits s e o).events ++ endings_until q (turns_after (admits s e o).state es)))
-until_by q s e es None is sound below here rest after =
-    until_admitted q s e (endings_until q (turns_after (turn s e).state es)) (was_admitted (turn s e).events) (e.pid.0 == q)
-    (turn-admitted s e) refl sound (λ m.
-    rest (turn s e).state after (omega (arith, procs-of (turn-account s e).head)) (turn-gone q s e (inr m) ∙ here))
-until_by q s e es (Some f) is sound below here rest after =
-    until_refused q s e f (endings_until q (turns_after s es)) (sym is) below here (rest s sound below here)
-
 -- a process that is there is told no more than its open call's end, before its next admitted entry
 until_most : (q : ℕ) (s : State) (es : List Entry) → IsSound s → q < s.head.procs → has_gone s q ≡ false
     → AtMost (open_calls q s.parked) (endings_until q (turns_after s es))
 until_most q s [] sound below here = record { most = omega arith; each = tt }
-until_most q s (e ∷ es) sound below here = until_by q s e es (refusal s e.pid) refl sound below here (λ t. until_most q t es) (moves-sound s e sound)
+until_most q s (e ∷ es) sound below here =
+    by-refusal (λ o. let c : Change = admits s e o in AtMost (open_calls q s.parked)
+    (cond (was_admitted c.events && (e.pid.0 == q)) [] (endings q c.events ++ endings_until q (turns_after c.state es)))) s e.pid
+    (λ is. until_admitted q s e (endings_until q (turns_after (turn s e).state es)) (was_admitted (turn s e).events) (e.pid.0 == q)
+    (turn-admitted s e) refl sound (λ m.
+    let procs = procs-of (turn-account s e).head in
+    until_most q (turn s e).state es (turn-sound s e sound is) (omega (arith, procs)) (turn-gone q s e (inr m) ∙ here)))
+    (λ f is. until_refused q s e f (endings_until q (turns_after s es)) is below here (until_most q s es sound below here))
 
 -- Runs
 
@@ -110,24 +105,24 @@ call_stays : (step : Step) → is_call step ≡ true → is_exit step ≡ false
 call_stays Exit e = absurd (let g : ⊥ = cc in g)
 call_stays step e = refl
 
-once_by : (s : State) (e : Entry) (es : List Entry) (o : Option Fault) → o ≡ refusal s e.pid → IsSound s
-    → IsSound (admits s e o).state → is_call e.step ≡ true → was_admitted (admits s e o).events ≡ true
-    → EndsOnce (endings e.pid.0 (admits s e o).events ++ endings_until e.pid.0 (turns_after (admits s e o).state es))
-once_by s e es None is sound after call adm =
-    let a = admitted s e.pid (sym is) in
+once_by : (s : State) (e : Entry) (es : List Entry) → IsSound s → is_call e.step ≡ true → was_admitted (moves s e).events ≡ true →
+    EndsOnce (endings e.pid.0 (moves s e).events ++ endings_until e.pid.0 (turns_after (moves s e).state es))
+once_by s e es sound call = by-refusal (λ o. let c : Change = admits s e o in was_admitted c.events ≡ true →
+    EndsOnce (endings e.pid.0 c.events ++ endings_until e.pid.0 (turns_after c.state es))) s e.pid (λ is adm.
+    let a = admitted s e.pid is in
     let gone = turn-gone e.pid.0 s e (inl (call_stays e.step call)) in
-    let rest = until_most e.pid.0 (turn s e).state es after (omega (arith, procs-of (turn-account s e).head, a.below)) (gone ∙ a.here) in
+    let rest = until_most e.pid.0 (turn s e).state es (turn-sound s e sound is) (omega (arith, procs-of (turn-account s e).head, a.below)) (gone ∙ a.here) in
     let bal : ends e.pid.0 (turn s e).events + open_calls e.pid.0 (turn s e).state.parked ≡ open_calls e.pid.0 s.parked + 1 =
     rw (same_number e.pid.0) at (turn-balance e.pid.0 s e sound) in
     let one : ends e.pid.0 (turn s e).events + open_calls e.pid.0 (turn s e).state.parked ≤ 1 = omega (arith, bal, open_none e.pid.0 s.parked a.free) in
     let all = joined 1 (open_calls e.pid.0 (turn s e).state.parked) (endings e.pid.0 (turn s e).events)
     (endings_until e.pid.0 (turns_after (turn s e).state es)) (own_each e (turn s e).events call (turn-answered s e)) rest one in
-    record { most = all.most; each = all.each }
-once_by s e es (Some f) is sound after call adm = let h : not (refuses_entry f) ≡ false = ap (λ b. not b) (refusal-refuses s e.pid f (sym is)) in cc
+    record { most = all.most; each = all.each })
+    (λ f is adm. let h : not (refuses_entry f) ≡ false = ap (λ b. not b) (refusal-refuses s e.pid f is) in cc)
 
 pub once-after : (s : State) (es : List Entry) → IsSound s → AtMostOnce (turns_after s es)
 once-after s [] sound = tt
-once-after s (e ∷ es) sound = (once_by s e es (refusal s e.pid) refl sound (moves-sound s e sound), once-after (moves s e).state es (moves-sound s e sound))
+once-after s (e ∷ es) sound = (once_by s e es sound, once-after (moves s e).state es (moves-sound s e sound))
 
 -- each admitted call of a run has at most one event besides `Parked`
 pub once-law : (head : Head) (es : List Entry) → AtMostOnce (turns_after (opening head) es)

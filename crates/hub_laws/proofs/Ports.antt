@@ -1,6 +1,6 @@
 -- The channel of a port, after one channel or one more was written.
-use Rattle.hub_laws.proofs.Prelude.{◌≡◌, Bool, true, false, List, [], ◌∷◌, ◌++◌, refl, ap, sym, Some, None, ℕ, ◌==◌, zero, suc, ◌+◌, cond, length, arith, inl}
-use Rattle.hub_laws.proofs.Prelude.{inr, ◌-◌, ◌<◌, ◌⊎◌, common_steps, slice_get, slice_set, Port, State, Channel, channel_at}
+use Rattle.hub_laws.proofs.Prelude.{◌≡◌, Bool, true, false, List, [], ◌∷◌, refl, ap, sym, Some, None, ℕ, ◌==◌, zero, suc, cond, arith}
+use Rattle.hub_laws.proofs.Prelude.{◌-◌, ◌<◌, common_steps, slice_get, slice_set, Port, State, Channel, channel_at}
 
 pub above_zero : (n : ℕ) → (n == 0) ≡ false → 0 < n
 above_zero n e = grind (arith, common_steps)
@@ -21,22 +21,6 @@ at_made s p c m = let b : (p.0 == 0) ≡ false = grind (arith, common_steps, m.n
 
 pub same_port : (p q : Port) → p.0 ≡ q.0 → p ≡ q
 same_port p q h = let f : ℕ → Port = λ n. record { 0 = n } in ap f h
-
--- after one channel more was made
-snoc_at : (xs : List Channel) (i : ℕ) (d x : Channel) → slice_get (xs ++ d ∷ []) i ≡ Some x → ((i ≡ length xs) × (x ≡ d)) ⊎ (slice_get xs i ≡ Some x)
-snoc_at [] zero d x e = inl (refl, cc)
-snoc_at [] (suc i) d x e = cc
-snoc_at (y ∷ ys) zero d x e = inr e
-snoc_at (y ∷ ys) (suc i) d x e = elim (snoc_at ys i d x e) [ inl l ↦ inl (ap suc l.0, l.1) | inr r ↦ inr r ]
-
-pub new_port : (s t : State) (q : Port) (d x : Channel) → t.channels ≡ s.channels ++ d ∷ [] → channel_at t q ≡ Some x
-    → ((q.0 ≡ length s.channels + 1) × (x ≡ d)) ⊎ (channel_at s q ≡ Some x)
-new_port s t q d x is h =
-    let n = made t q x h in
-    elim (snoc_at s.channels (q.0 - 1) d x (rw (sym is) n.channel)) [
-      | inl l ↦ inl (omega (arith, n.number, l.0), l.1)
-      | inr r ↦ inr (at_made s q x (record { number = n.number; channel = r }))
-    ]
 
 -- the channel that was written stands there
 get_set : (xs : List Channel) (i : ℕ) (c d : Channel) → slice_get xs i ≡ Some c → slice_get (slice_set xs i d) i ≡ Some d

@@ -8,10 +8,12 @@ pub use Rattle.std.proofs.lemmas.Bool.{eqb-true, or_parts, or_left, or_right, or
 pub use Rattle.std.proofs.lemmas.Bool.{and_parts, ltb-true}
 pub use Rattle.std.proofs.lemmas.Bool.Decides.{nat_tests}
 pub use Rattle.std.proofs.lemmas.Grind.{common_steps}
-pub use Rattle.std.proofs.lemmas.List.{length-map, length-append, map-append, length-drop, take-append-le}
+pub use Rattle.std.proofs.Math.Seq.{drop-cons, take-suc}
+pub use Rattle.std.proofs.lemmas.List.Folds.{list_any-append}
+pub use Rattle.std.proofs.lemmas.List.{drop_all, nil_from_length, length-map, length-append, map-append, length-drop, take-append-le}
 pub use Rattle.std.proofs.lemmas.List.Elements.{filter_map-append, filter-append}
 pub use Rattle.std.proofs.lemmas.Map.Steps.{length-le_from_distinct_below}
-pub use Rattle.std.proofs.lemmas.Option.{slice_get_within, slice_get-get_or}
+pub use Rattle.std.proofs.lemmas.Option.{slice_get_past, slice_get_cases, get_or_from_slice_get, slice_get_within, slice_get-get_or}
 pub use Rattle.std.specs.List.{list_any, AllByRecursion, filter_map, cons_option, enumerate_from}
 pub use Rattle.std.specs.Option.{option_map, option_map_or}
 pub use Rattle.std.specs.Prelude.{slice_get, is_some, slice_set, get_or}
@@ -41,7 +43,7 @@ pub use Rattle.hub_base.specs.Steps.{has_gone, is_waiting, fires, proceeds, choo
 pub use Rattle.hub_base.specs.Text.{one_step, steps_of}
 pub use Rattle.hub_base.specs.Values.{cases_or, of_what, Turned, turns_after, values_from, got_on, received_values, sent_on, is_fault, refused, latest}
 pub use Rattle.hub_base.specs.Values.{last_call, sent_values}
-pub use Rattle.hub_laws.specs.AfterClose.{sent_at, heard, Drains, answers_done, StaysClosed}
+pub use Rattle.hub_laws.specs.AfterClose.{close_by, sent_at, heard, Drains, answers_done, StaysClosed}
 pub use Rattle.hub_laws.specs.Answers.{is_answer_to, IsAnswered, AnswersLaw, PassedOverLaw, ends_waiting}
 pub use Rattle.hub_laws.specs.Counts.{CountsLaw}
 pub use Rattle.hub_laws.specs.Faults.{is_busy, is_fault_of, refuses_entry}

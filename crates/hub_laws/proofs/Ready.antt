@@ -1,11 +1,11 @@
 -- The cases of a call that can proceed, and why an entry is admitted.
-use Rattle.hub_laws.proofs.Prelude.{◌≡◌, Bool, true, false, List, [], ◌∷◌, refl, sym, subst, Option, Some, None, ℕ, ◌==◌, zero, suc, ◌+◌, cond, not, length}
-use Rattle.hub_laws.proofs.Prelude.{arith, filter, ◌||◌, inl, inr, ◌<◌, nat_lt, ◌%◌, eqb-true, or_parts, or_cases, common_steps, slice_get-get_or, list_any}
-use Rattle.hub_laws.proofs.Prelude.{enumerate_from, option_map_or, slice_get, Case, Send, Recv, Pid, Port, can_proceed, is_recv_on, is_send_on, send_can}
-use Rattle.hub_laws.proofs.Prelude.{recv_can, State, Channel, channel_at, refusal, has_gone, is_waiting}
+use Rattle.hub_laws.proofs.Prelude.{◌≡◌, Bool, true, false, List, [], ◌∷◌, refl, sym, subst, Option, Some, None, ℕ, zero, suc, ◌+◌, cond, not, length}
+use Rattle.hub_laws.proofs.Prelude.{arith, filter, ◌||◌, inl, inr, ◌<◌, nat_lt, ◌%◌, or_parts, or_cases, common_steps, slice_get-get_or, list_any}
+use Rattle.hub_laws.proofs.Prelude.{enumerate_from, option_map_or, slice_get, Case, Fault, Pid, Port, can_proceed, is_recv_on, is_send_on}
+use Rattle.hub_laws.proofs.Prelude.{send_can, recv_can, State, Channel, channel_at, refusal, has_gone, is_waiting}
 use Rattle.hub_base.specs.declared.fault.Fault.TheVariants as fault
 use Rattle.hub_laws.proofs.Calls.{StandsAt}
-use Rattle.hub_laws.proofs.Ports.{same_port}
+use Rattle.hub_laws.proofs.Fires.{is_recv, is_send}
 
 pub ready_none : (xs : List (ℕ × Case)) (word : ℕ) → slice_get xs (word % length xs) ≡ None → xs ≡ []
 ready_none [] word e = refl
@@ -44,32 +44,27 @@ pub chosen : (can : Case → Bool) (i k : ℕ) (cases : List Case) (x : ℕ × C
 chosen can i k [] x e = cc
 chosen can i k (c ∷ cs) x e = chosen_by (can c) can i k c cs x refl e (λ j. chosen can (i + 1) j cs x)
 
+-- where none passes one test and some pass another, one passes this alone
+passes_one : {A : Type 0} (t u : A → Bool) (xs : List A) → list_any t xs ≡ false → list_any u xs ≡ true → (x : A) × (u x ≡ true) × (t x ≡ false)
+passes_one t u [] none some = cc
+passes_one t u (x ∷ xs) none some =
+    let f = or_parts (t x) (list_any t xs) none in
+    elim (or_cases (u x) (list_any u xs) some) [ inl l ↦ (x, l, f.0) | inr r ↦ passes_one t u xs f.1 r ]
+
 -- where no case of a call can proceed, neither can such a case
 pub no_recv : (s : State) (p : Port) (c : Channel) (cases : List Case) → channel_at s p ≡ Some c → list_any (can_proceed s) cases ≡ false
     → list_any (is_recv_on p) cases ≡ true → recv_can s p c ≡ false
-no_recv s p c [] e none some = cc
-no_recv s p c (Send q v ∷ cs) e none some = no_recv s p c cs e (or_parts (can_proceed s (Send q v)) (list_any (can_proceed s) cs) none).1 some
-no_recv s p c (Recv q ∷ cs) e none some =
-    let f = or_parts (can_proceed s (Recv q)) (list_any (can_proceed s) cs) none in
-    elim (or_cases (q.0 == p.0) (list_any (is_recv_on p) cs) some) [
-      | inl l ↦ let P : Port → Type 0 = λ r. option_map_or (recv_can s r) (channel_at s r) false ≡ false in
-          let g : option_map_or (recv_can s p) (channel_at s p) false ≡ false = subst P (same_port q p (eqb-true q.0 p.0 l)) f.0 in
-          rw e at g
-      | inr r ↦ no_recv s p c cs e f.1 r
-    ]
+no_recv s p c cases e none some =
+    let k = passes_one (can_proceed s) (is_recv_on p) cases none some in
+    let g : option_map_or (recv_can s p) (channel_at s p) false ≡ false = subst (λ x. can_proceed s x ≡ false) (is_recv p k.0 k.1) k.2 in
+    rw e at g
 
 pub no_send : (s : State) (p : Port) (c : Channel) (cases : List Case) → channel_at s p ≡ Some c → list_any (can_proceed s) cases ≡ false
     → list_any (is_send_on p) cases ≡ true → send_can s p c ≡ false
-no_send s p c [] e none some = cc
-no_send s p c (Recv q ∷ cs) e none some = no_send s p c cs e (or_parts (can_proceed s (Recv q)) (list_any (can_proceed s) cs) none).1 some
-no_send s p c (Send q v ∷ cs) e none some =
-    let f = or_parts (can_proceed s (Send q v)) (list_any (can_proceed s) cs) none in
-    elim (or_cases (q.0 == p.0) (list_any (is_send_on p) cs) some) [
-      | inl l ↦ let P : Port → Type 0 = λ r. option_map_or (send_can s r) (channel_at s r) false ≡ false in
-          let g : option_map_or (send_can s p) (channel_at s p) false ≡ false = subst P (same_port q p (eqb-true q.0 p.0 l)) f.0 in
-          rw e at g
-      | inr r ↦ no_send s p c cs e f.1 r
-    ]
+no_send s p c cases e none some =
+    let k = passes_one (can_proceed s) (is_send_on p) cases none some in
+    let g : option_map_or (send_can s p) (channel_at s p) false ≡ false = subst (λ x. can_proceed s x ≡ false) (is_send p k.0 k.1).1 k.2 in
+    rw e at g
 
 -- an entry that is admitted
 pub record Admitted (s : State) (pid : Pid) : Type 0 where
@@ -91,3 +86,12 @@ admitted s pid h =
     let b = none_false (has_gone s pid.0) fault.Gone (cond (is_waiting s pid.0) (Some fault.Busy) None) a.1 in
     let d = none_false (is_waiting s pid.0) fault.Busy None b.1 in
     record { below = below pid.0 s.head.procs a.0; here = b.0; free = d.0 }
+
+-- a fact of what follows an entry, where it is admitted and where it is not
+pub by-refusal : (P : Option Fault → Type 0) (s : State) (pid : Pid) → (refusal s pid ≡ None → P None) →
+    ((f : Fault) → refusal s pid ≡ Some f → P (Some f)) → P (refusal s pid)
+by-refusal P s pid adm ref = by (refusal s pid) refl
+  where
+    by : (o : Option Fault) → refusal s pid ≡ o → P o
+    by None is = adm is
+    by (Some f) is = ref f is

@@ -1,6 +1,6 @@
 -- What one entry adds to the values received on each port.
-use Rattle.hub_laws.proofs.Prelude.{◌≡◌, Bool, true, false, List, [], ◌∷◌, ◌++◌, refl, ap, ◌∙◌, sym, subst, Option, Some, None, ◌==◌, append-nil, ◌+◌}
-use Rattle.hub_laws.proofs.Prelude.{cond, length, eqb-true, AllByRecursion, filter_map, cons_option, Case, Send, Recv, Entry, What, Fault, Head, Port, Value}
+use Rattle.hub_laws.proofs.Prelude.{◌≡◌, Bool, true, false, List, [], ◌∷◌, ◌++◌, refl, ap, ◌∙◌, sym, subst, Option, Some, None, ◌==◌, append-nil, ◌+◌, cond}
+use Rattle.hub_laws.proofs.Prelude.{length, eqb-true, AllByRecursion, filter_map, cons_option, Case, Send, Recv, Entry, What, Fault, Head, Port, Value}
 use Rattle.hub_laws.proofs.Prelude.{admits, state, State, Channel, opening, refusal, turn, closing_outcome, cases_or, of_what, got_on, received_values}
 use Rattle.hub_laws.proofs.Prelude.{port_touched_by, port_touched, is_port, value_of_outcome, value_got, got_in, got_at, received_from, received_on}
 use Rattle.hub_laws.proofs.Prelude.{ReceivedLaw, IsSound}
@@ -8,14 +8,15 @@ use Rattle.hub_base.specs.declared.event.What.TheVariants as what
 use Rattle.hub_laws.proofs.Account.{deeds_of, ended_deeds}
 use Rattle.hub_laws.proofs.Entries.{fault_names_none, turn-account}
 use Rattle.hub_laws.proofs.Calls.{same_number}
-use Rattle.hub_laws.proofs.Deeds.{Deed, deed_of, picks, IsClosing, Moved, Does, buffers, hands, fetches, gives, drains, refuses, shuts, idle, adds, wrote}
+use Rattle.hub_laws.proofs.Deeds.{Deed, deed_of, picks, Moved, Does, buffers, hands, fetches, gives, drains, refuses, shuts, idle, adds, wrote}
 use Rattle.hub_laws.proofs.Kept.{sound-opening}
 use Rattle.hub_laws.proofs.Leaving.{Ended, EndsWell, InPlace, events_of}
 use Rattle.hub_laws.proofs.Longer.{state-entry}
 use Rattle.hub_laws.proofs.Ports.{same_port}
 use Rattle.hub_laws.proofs.Rules.{state-sound}
-use Rattle.hub_laws.proofs.Totals.{got-does, got_closing, got_none, others-none}
+use Rattle.hub_laws.proofs.Totals.{got-does, got_closing, got_none, others-none, closing-none}
 use Rattle.hub_laws.proofs.Values.{got-after, no_total}
+use Rattle.hub_laws.proofs.Does.{elsewhere}
 
 -- the values that communications gave, on whatever port
 abbrev values : List Deed → List Value
@@ -43,15 +44,12 @@ got_values p c d deeds (fetches v w live next is e) = rw (e, same_number p.0) re
 got_values p c d deeds (gives w next is e) = rw (e, same_number p.0) refl
 got_values p c d deeds (drains next is e) = rw e refl
 got_values p c d deeds (refuses v over is e) = rw e refl
-got_values p c d deeds (shuts live is all) = closing deeds all
+got_values p c d deeds (shuts live is all) =
+    closing-none (got_on p) p deeds (got_closing p) all ∙ sym (closing-none (λ k o. value_of_outcome o) p deeds by all)
   where
     by : (k : Case) → value_of_outcome (closing_outcome k) ≡ None
     by (Send q v) = refl
     by (Recv q) = refl
-
-    closing : (ds : List Deed) → AllByRecursion (IsClosing p) ds → picks (got_on p) ds ≡ values ds
-    closing [] all = refl
-    closing (x ∷ xs) all = rw (all.0.outcome, got_closing p x.case, by x.case) (closing xs all.1)
 
 got_named : (cs ts : List Channel) (named : Option Port) (deeds : List Deed) (p : Port) → Does cs ts named deeds →
     picks (got_on p) deeds ≡ cond (is_port named p) (values deeds) []
@@ -67,7 +65,7 @@ got_named cs ts named deeds p (wrote q c d names w m) = rw names (by (q.0 == p.0
     by true is =
         let same : q ≡ p = same_port q p (eqb-true q.0 p.0 (sym is)) in
         got_values p c d deeds (subst (λ (r : Port). Moved r c d deeds) same m)
-    by false is = others-none (got_on p) p q c d deeds (got_none p) (sym is) m
+    by false is = others-none (got_on p) p deeds (got_none p) (elsewhere p q c d deeds (sym is) m)
 
 -- in any sound state
 pub moves-received : (s : State) (e : Entry) (o : Option Fault) (p : Port) → IsSound s →

@@ -1,9 +1,9 @@
 -- The events of an admitted entry are replies.
 use Rattle.hub_laws.proofs.Prelude.{◌≡◌, Bool, true, false, List, [], ◌∷◌, ◌++◌, refl, ap, ◌∙◌, sym, subst, Some, None, ℕ, ◌==◌, zero, suc, append-nil, ◌+◌}
 use Rattle.hub_laws.proofs.Prelude.{◌≤◌, cond, not, length, arith, ◌&&◌, filter, ◌||◌, nat_lt, and-false, and-true, eqb-true, or_parts, common_steps}
-use Rattle.hub_laws.proofs.Prelude.{AllByRecursion, slice_get, Entry, Event, Head, Pid, admits, moves, state, State, OpenCall, refusal, is_waiting}
-use Rattle.hub_laws.proofs.Prelude.{IsAnswered, ends_waiting, endings, is_parked, last_from, reply, told_to, is_told, IsReply, IsLeft, AreReplied, RepliedLaw}
-use Rattle.hub_laws.proofs.Prelude.{IsSound, is_among}
+use Rattle.hub_laws.proofs.Prelude.{nil_from_length, AllByRecursion, slice_get, Entry, Event, Head, Pid, admits, moves, state, State, OpenCall, refusal}
+use Rattle.hub_laws.proofs.Prelude.{is_waiting, IsAnswered, ends_waiting, endings, is_parked, last_from, reply, told_to, is_told, IsReply, IsLeft, AreReplied}
+use Rattle.hub_laws.proofs.Prelude.{RepliedLaw, IsSound, is_among}
 use Rattle.hub_laws.proofs.Calls.{same_number}
 use Rattle.hub_laws.proofs.Ready.{admitted}
 use Rattle.hub_laws.proofs.Rules.{state-sound}
@@ -11,9 +11,8 @@ use Rattle.hub_laws.proofs.Events.{Counted, answered_counts, waiting-ends}
 use Rattle.hub_laws.proofs.Balance.{open_calls, ends, open_none, open_most, Balance, turn-balance}
 use Rattle.hub_laws.proofs.Leaving.{one}
 use Rattle.hub_laws.proofs.Answered.{moves-answered}
-use Rattle.hub_laws.proofs.Replies.{told_none, reply-untold, own-others}
+use Rattle.hub_laws.proofs.Replies.{told_none, reply-untold, own-others, reply-entry}
 use Rattle.hub_laws.proofs.Longer.{state-entry}
-use Rattle.hub_laws.proofs.Replies.{reply-entry}
 
 -- Counting
 
@@ -56,17 +55,13 @@ told_endings q (x ∷ xs) a = rw (told_endings q xs a.1, a.0, and_swap (x.pid.0 
 
 -- One event alone
 
-nothing_left : {A : Type 0} (xs : List A) → length xs ≤ 0 → xs ≡ []
-nothing_left [] h = refl
-nothing_left (x ∷ xs) h = absurd (omega arith)
-
 pub one_left : {A : Type 0} (test : A → Bool) (xs : List A) (i : ℕ) (x : A) → slice_get xs i ≡ Some x → test x ≡ true
     → length (filter test xs) ≤ 1 → filter test xs ≡ x ∷ []
 one_left test [] i x at passes most = cc
 one_left test (y ∷ ys) zero x at passes most =
     let same : y ≡ x = cc in
     let here : test y ≡ true = rw same passes in
-    let none : filter test ys ≡ [] = nothing_left (filter test ys) (let k : length (y ∷ filter test ys) ≤ 1 = rw here at most in omega arith) in
+    let none : filter test ys ≡ [] = nil_from_length (filter test ys) (let k : length (y ∷ filter test ys) ≤ 1 = rw here at most in omega arith) in
     rw (here, none) (ap (λ z. z ∷ []) same)
 one_left test (y ∷ ys) (suc i) x at passes most = by (test y) (one_left test ys i x at passes) most
   where

@@ -1,14 +1,15 @@
 -- Entries of others leave a process alone that has no open call.
-use Rattle.hub_laws.proofs.Prelude.{◌≡◌, false, List, [], ◌∷◌, ◌++◌, refl, ap, ◌∙◌, sym, subst, Option, Some, None, ℕ, ◌==◌, append-nil, not, ◌&&◌, or_parts}
-use Rattle.hub_laws.proofs.Prelude.{or_from, filter-append, list_any, AllByRecursion, Entry, Event, Fault, Head, admits, moves, state_after, state}
-use Rattle.hub_laws.proofs.Prelude.{events_after, events, State, OpenCall, opening, Change, refusal, turn, is_waiting, is_parked, last_from, reply, told_to}
-use Rattle.hub_laws.proofs.Prelude.{is_told, own, RepliesLaw, IsSound, is_among}
+use Rattle.hub_laws.proofs.Prelude.{◌≡◌, Bool, false, List, [], ◌∷◌, ◌++◌, refl, ap, ◌∙◌, sym, subst, Option, Some, None, ℕ, ◌==◌, append-nil, not, ◌&&◌}
+use Rattle.hub_laws.proofs.Prelude.{filter, or_parts, or_from, filter-append, list_any, AllByRecursion, Entry, Event, Head, admits, moves, state_after}
+use Rattle.hub_laws.proofs.Prelude.{state, events_after, events, State, OpenCall, opening, Change, turn, is_waiting, is_parked, last_from, reply}
+use Rattle.hub_laws.proofs.Prelude.{told_to, is_told, own, RepliesLaw, IsSound}
 use Rattle.hub_laws.proofs.Account.{account-all}
 use Rattle.hub_laws.proofs.Entries.{turn-account}
 use Rattle.hub_laws.proofs.Calls.{all_append, same_number}
 use Rattle.hub_laws.proofs.Leaving.{Ended, events_of}
 use Rattle.hub_laws.proofs.Longer.{events-entry, events_after-append, state_after-append}
 use Rattle.hub_laws.proofs.Rules.{moves-sound, state-sound}
+use Rattle.hub_laws.proofs.Ready.{by-refusal}
 
 -- what holds of the process that steps and of those that wait holds of all that are told
 module _ (C : ℕ → Type 0) where
@@ -32,16 +33,12 @@ module _ (C : ℕ → Type 0) where
       let left = account-all (λ call. C call.pid.0) s e.pid e.step (turn s e) sound.apart a all (λ parks. me) in
       record { told = subst Told (sym a.told) (me, ended_told a.ended left.0); waiting = left.1 }
 
-  admits_told : (s : State) (e : Entry) (o : Option Fault) → IsSound s → Waiting s.parked → C e.pid.0 →
-      Quietly (admits s e o)
-  admits_told s e None sound all me = turn_told s e sound all me
-  admits_told s e (Some f) sound all me = record { told = (me, tt); waiting = all }
-
   events_told : (s : State) (fs : List Entry) → IsSound s → Waiting s.parked → AllByRecursion (λ e. C e.pid.0) fs →
       (Told (events_after s fs)) × (Waiting (state_after s fs).parked)
   events_told s [] sound all by = (tt, all)
   events_told s (e ∷ fs) sound all by =
-      let q = admits_told s e (refusal s e.pid) sound all by.0 in
+      let q : Quietly (moves s e) = by-refusal (λ o. Quietly (admits s e o)) s e.pid (λ is. turn_told s e sound all by.0)
+      (λ f is. record { told = (by.0, tt); waiting = all }) in
       let rest = events_told (moves s e).state fs (moves-sound s e sound) q.waiting by.1 in
       (all_append (λ e. C e.pid.0) (moves s e).events (events_after (moves s e).state fs) q.told rest.0, rest.1)
 
@@ -50,29 +47,21 @@ module _ (C : ℕ → Type 0) where
 abbrev Not : ℕ → ℕ → Type 0
 Not q n = (n == q) ≡ false
 
-none_waiting : (q : ℕ) (calls : List OpenCall) → is_among q calls ≡ false → AllByRecursion (λ call. Not q call.pid.0) calls
-none_waiting q [] e = tt
-none_waiting q (call ∷ calls) e = let f = or_parts (call.pid.0 == q) (is_among q calls) e in (f.0, none_waiting q calls f.1)
+any_none : {A : Type 0} (xs : List A) (test : A → Bool) → list_any test xs ≡ false → AllByRecursion (λ x. test x ≡ false) xs
+any_none [] test e = tt
+any_none (x ∷ xs) test e = let f = or_parts (test x) (list_any test xs) e in (f.0, any_none xs test f.1)
 
-waiting_none : (q : ℕ) (calls : List OpenCall) → AllByRecursion (λ call. Not q call.pid.0) calls → is_among q calls ≡ false
-waiting_none q [] a = refl
-waiting_none q (call ∷ calls) a = or_from (call.pid.0 == q) (is_among q calls) a.0 (waiting_none q calls a.1)
+none_any : {A : Type 0} (xs : List A) (test : A → Bool) → AllByRecursion (λ x. test x ≡ false) xs → list_any test xs ≡ false
+none_any [] test a = refl
+none_any (x ∷ xs) test a = or_from (test x) (list_any test xs) a.0 (none_any xs test a.1)
 
-none_by : (q : ℕ) (fs : List Entry) → list_any (λ e. e.pid.0 == q) fs ≡ false → AllByRecursion (λ e. Not q e.pid.0) fs
-none_by q [] e = tt
-none_by q (f ∷ fs) e = let g = or_parts (f.pid.0 == q) (list_any (λ e. e.pid.0 == q) fs) e in (g.0, none_by q fs g.1)
-
-own_none : (q : ℕ) (fs : List Entry) → AllByRecursion (λ e. Not q e.pid.0) fs → own q fs ≡ []
-own_none q [] a = refl
-own_none q (f ∷ fs) a = rw a.0 (own_none q fs a.1)
+filter_none : {A : Type 0} (xs : List A) (test : A → Bool) → list_any test xs ≡ false → filter test xs ≡ []
+filter_none [] test e = refl
+filter_none (x ∷ xs) test e = let f = or_parts (test x) (list_any test xs) e in rw f.0 (filter_none xs test f.1)
 
 pub told_none : (q : ℕ) (es : List Event) → is_told q es ≡ false → told_to q es ≡ []
 told_none q [] e = refl
 told_none q (x ∷ xs) e = let f = or_parts (x.pid.0 == q) (is_told q xs) e in rw f.0 (told_none q xs f.1)
-
-untold : (q : ℕ) (es : List Event) → AllByRecursion (λ e. Not q e.pid.0) es → is_told q es ≡ false
-untold q [] a = refl
-untold q (e ∷ es) a = or_from (e.pid.0 == q) (is_told q es) a.0 (untold q es a.1)
 
 -- what a process was told by a run that goes on
 pub told_to-append : (q : ℕ) (head : Head) (es fs : List Entry)
@@ -98,7 +87,7 @@ reply-entry q head es e =
     ∙ last_append None (told_to q (events head es)) (told_to q (moves (state head es) e).events)
 
 pub own-others : (q : ℕ) (es fs : List Entry) → list_any (λ e. e.pid.0 == q) fs ≡ false → own q (es ++ fs) ≡ own q es
-own-others q es fs e = filter-append (λ (e : Entry). e.pid.0 == q) es fs ∙ ap (λ xs. own q es ++ xs) (own_none q fs (none_by q fs e)) ∙ append-nil (own q es)
+own-others q es fs e = rw (filter-append (λ (e : Entry). e.pid.0 == q) es fs, filter_none fs (λ e. e.pid.0 == q) e) (append-nil (own q es))
 
 pub own-mine : (es : List Entry) (e : Entry) → own e.pid.0 (es ++ e ∷ []) ≡ own e.pid.0 es ++ e ∷ []
 own-mine es e = filter-append (λ (x : Entry). x.pid.0 == e.pid.0) es (e ∷ [])
@@ -106,11 +95,13 @@ own-mine es e = filter-append (λ (x : Entry). x.pid.0 == e.pid.0) es (e ∷ [])
 
 pub replies-law : (head : Head) (es : List Entry) (q : ℕ) (fs : List Entry) → RepliesLaw head es q fs
 replies-law head es q fs free others =
-    let after = events_told (Not q) (state head es) fs (state-sound head es) (none_waiting q (state head es).parked free) (none_by q fs others) in
-    let quiet : is_told q (events_after (state head es) fs) ≡ false = untold q (events_after (state head es) fs) after.0 in
+    let after = events_told (Not q) (state head es) fs (state-sound head es) (any_none (state head es).parked (λ call. call.pid.0 == q) free)
+    (any_none fs (λ e. e.pid.0 == q) others) in
+    let quiet : is_told q (events_after (state head es) fs) ≡ false = none_any (events_after (state head es) fs) (λ e. e.pid.0 == q) after.0 in
     record {
       own = own-others q es fs others;
       untold = quiet;
       reply = reply-untold q head es fs quiet;
-      free = ap (λ (s : State). is_waiting s q) (state_after-append (opening head) es fs) ∙ waiting_none q (state_after (state head es) fs).parked after.1;
+      free = ap (λ (s : State). is_waiting s q) (state_after-append (opening head) es fs)
+          ∙ none_any (state_after (state head es) fs).parked (λ call. call.pid.0 == q) after.1;
     }

@@ -2,8 +2,9 @@
 use Rattle.hub_laws.proofs.Prelude.{◌≡◌, Bool, true, false, List, [], ◌∷◌, ◌++◌, refl, ap, ◌∙◌, sym, subst, Option, Some, None, ℕ, ◌==◌, ◌≤◌, cond, length}
 use Rattle.hub_laws.proofs.Prelude.{arith, inl, inr, ◌<◌, nat_lt, eqb-true, or_from, or_cases, false_from_ne_true, ltb-false, lt-ltb, ltb-true, list_any}
 use Rattle.hub_laws.proofs.Prelude.{Case, Entry, Step, Exit, Call, What, Fault, Head, MOST_CASES, Pid, Port, is_exit, can_proceed, port_of, admits, moves}
-use Rattle.hub_laws.proofs.Prelude.{state_after, state, State, Channel, OpenCall, channel_at, opening, Change, is_unmade, fault_of, answers, refusal, effect}
-use Rattle.hub_laws.proofs.Prelude.{has_gone, is_waiting, cases_or, is_answer_to, port_touched_by, is_port, is_parked, IsSound, PortSound, is_among, CallFits}
+use Rattle.hub_laws.proofs.Prelude.{state_after, state, State, Channel, OpenCall, channel_at, opening, Change, is_unmade, fault_of, answers, refusal, turn}
+use Rattle.hub_laws.proofs.Prelude.{effect, has_gone, is_waiting, cases_or, is_answer_to, port_touched_by, is_port, is_parked, IsSound, PortSound, is_among}
+use Rattle.hub_laws.proofs.Prelude.{CallFits}
 use Rattle.hub_base.specs.declared.event.What.TheVariants as what
 use Rattle.hub_base.specs.declared.fault.Fault.TheVariants as fault
 use Rattle.hub_laws.proofs.Account.{Account, NamedSound, call_of, deeds_of, with_caller, with_leaver, procs-of}
@@ -13,7 +14,7 @@ use Rattle.hub_laws.proofs.Deeds.{Deed, at}
 use Rattle.hub_laws.proofs.Does.{does-grows, does-others}
 use Rattle.hub_laws.proofs.Kept.{any_more, port-fewer, port-parks, sound-opening}
 use Rattle.hub_laws.proofs.Ports.{same_port}
-use Rattle.hub_laws.proofs.Ready.{Admitted, admitted, none_false}
+use Rattle.hub_laws.proofs.Ready.{Admitted, admitted, none_false, by-refusal}
 
 -- The caller's call, where it waits
 
@@ -122,17 +123,15 @@ pub effect-sound : (s : State) (pid : Pid) (step : Step) → IsSound s → Admit
 effect-sound s pid step sound adm h =
     account_sound s pid step (effect s pid step) sound adm h (effect-account s pid step h)
 
-answers_sound : (s : State) (e : Entry) (o : Option Fault) → IsSound s → Admitted s e.pid → o ≡ fault_of s e.step → IsSound (answers s e o).state
-answers_sound s e None sound adm is =
-    account_sound s e.pid e.step (answers s e None) sound adm (sym is) (answers-account s e None is)
-answers_sound s e (Some f) sound adm is = sound
-
-admits_sound : (s : State) (e : Entry) (o : Option Fault) → IsSound s → o ≡ refusal s e.pid → IsSound (admits s e o).state
-admits_sound s e None sound is = answers_sound s e (fault_of s e.step) sound (admitted s e.pid (sym is)) refl
-admits_sound s e (Some f) sound is = sound
+pub turn-sound : (s : State) (e : Entry) → IsSound s → refusal s e.pid ≡ None → IsSound (turn s e).state
+turn-sound s e sound is = by (fault_of s e.step) refl
+  where
+    by : (o : Option Fault) → o ≡ fault_of s e.step → IsSound (answers s e o).state
+    by None m = account_sound s e.pid e.step (answers s e None) sound (admitted s e.pid is) (sym m) (answers-account s e None m)
+    by (Some f) m = sound
 
 pub moves-sound : (s : State) (e : Entry) → IsSound s → IsSound (moves s e).state
-moves-sound s e sound = admits_sound s e (refusal s e.pid) sound refl
+moves-sound s e sound = by-refusal (λ o. IsSound (admits s e o).state) s e.pid (turn-sound s e sound) (λ f is. sound)
 
 pub state_after-sound : (s : State) (es : List Entry) → IsSound s → IsSound (state_after s es)
 state_after-sound s [] sound = sound

@@ -1,7 +1,7 @@
 -- One step tells no more events than there are processes, and one.
-use Rattle.hub_laws.proofs.Prelude.{◌≡◌, Bool, true, false, List, [], ◌∷◌, ◌++◌, refl, ap, sym, subst, Option, Some, None, ℕ, ◌==◌, ◌+◌, ◌≤◌, cond, length}
-use Rattle.hub_laws.proofs.Prelude.{arith, inl, inr, ◌<◌, eqb-true, or_cases, length-map, length-append, Entry, Step, Close, Call, What, Fault, Head, Pid}
-use Rattle.hub_laws.proofs.Prelude.{Port, admits, moves, state, State, Channel, OpenCall, channel_at, opening, calls, Change, closes, refusal, turn, effect}
+use Rattle.hub_laws.proofs.Prelude.{◌≡◌, Bool, true, false, List, [], ◌∷◌, ◌++◌, refl, ap, subst, Option, Some, None, ℕ, ◌==◌, ◌+◌, ◌≤◌, cond, length}
+use Rattle.hub_laws.proofs.Prelude.{arith, inl, inr, ◌<◌, eqb-true, or_cases, length-map, length-append, Entry, Step, Close, Call, What, Head, Pid}
+use Rattle.hub_laws.proofs.Prelude.{Port, admits, moves, state, State, Channel, OpenCall, channel_at, opening, calls, Change, closes, turn, effect}
 use Rattle.hub_laws.proofs.Prelude.{is_parked, Apart, IsSound, is_among}
 use Rattle.hub_laws.proofs.Account.{Account, with_caller, call_of, procs-of}
 use Rattle.hub_laws.proofs.Entries.{turn-account}
@@ -9,7 +9,7 @@ use Rattle.hub_laws.proofs.Firing.{calls-account}
 use Rattle.hub_laws.proofs.Distinct.{count-below}
 use Rattle.hub_laws.proofs.Lasting.{head-after}
 use Rattle.hub_laws.proofs.Leaving.{Ended, event_of, events_of, Leave, count, count_ended, leave-count, closed}
-use Rattle.hub_laws.proofs.Ready.{Admitted, admitted}
+use Rattle.hub_laws.proofs.Ready.{Admitted, admitted, by-refusal}
 use Rattle.hub_laws.proofs.Rules.{state-sound}
 
 -- how many calls a step leaves and how many events it tells
@@ -73,11 +73,10 @@ room-law s pid sound adm =
     ]) in
     omega arith
 
-admits_size : (s : State) (e : Entry) (o : Option Fault) → o ≡ refusal s e.pid → IsSound s → length (admits s e o).events ≤ s.head.procs + 1
-admits_size s e None is sound =
-    omega (arith, size s e.pid e.step (turn s e) sound.apart (turn-account s e), room-law s e.pid sound (admitted s e.pid (sym is)))
-admits_size s e (Some f) is sound = omega arith
-
 pub events-law : (head : Head) (es : List Entry) (e : Entry) → length (moves (state head es) e).events ≤ head.procs + 1
 events-law head es e =
-    omega (arith, admits_size (state head es) e (refusal (state head es) e.pid) refl (state-sound head es), procs-of (head-after (opening head) es))
+    let s : State = state head es in
+    let sound = state-sound head es in
+    let most : length (moves s e).events ≤ s.head.procs + 1 = by-refusal (λ o. length (admits s e o).events ≤ s.head.procs + 1) s e.pid (λ is.
+    omega (arith, size s e.pid e.step (turn s e) sound.apart (turn-account s e), room-law s e.pid sound (admitted s e.pid is))) (λ f is. omega arith) in
+    omega (arith, most, procs-of (head-after (opening head) es))

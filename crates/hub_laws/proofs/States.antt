@@ -1,16 +1,10 @@
 -- The words of soundness over buffers.
-use Rattle.hub_laws.proofs.Prelude.{◌≡◌, false, List, [], ◌∷◌, refl, ℕ, zero, suc, drop, ◌≤◌, length, arith, or_parts, or_from, length-drop, list_any, Case}
-use Rattle.hub_laws.proofs.Prelude.{Entry, Head, Port, is_recv_on, is_send_on, is_on, state, State, Channel, OpenCall, IsSound, PortSound, some_call}
-use Rattle.hub_laws.proofs.Prelude.{PortLaws, StateLaws}
+use Rattle.hub_laws.proofs.Prelude.{◌≡◌, false, List, [], ◌∷◌, refl, ◌≤◌, length, arith, or_parts, or_from, drop_all, length-drop}
+use Rattle.hub_laws.proofs.Prelude.{list_any, Case, Entry, Head, Port, is_recv_on, is_send_on, is_on, state, State, Channel, OpenCall, IsSound, PortSound}
+use Rattle.hub_laws.proofs.Prelude.{some_call, PortLaws, StateLaws}
 use Rattle.hub_laws.proofs.Distinct.{count-below}
 use Rattle.hub_laws.proofs.Lasting.{ports-law}
 use Rattle.hub_laws.proofs.Rules.{state-sound}
-
-drop_all : {A : Type 0} (xs : List A) (n : ℕ) → n ≡ length xs → drop n xs ≡ []
-drop_all [] zero e = refl
-drop_all [] (suc n) e = refl
-drop_all (x ∷ xs) zero e = absurd (omega arith)
-drop_all (x ∷ xs) (suc n) e = drop_all xs n (omega arith)
 
 on_none : (p : Port) (calls : List OpenCall) → some_call (is_recv_on p) calls ≡ false → some_call (is_send_on p) calls ≡ false
     → some_call (is_on p) calls ≡ false
@@ -31,7 +25,7 @@ on_none p (call ∷ calls) r w =
 port-laws : (p : Port) (c : Channel) (calls : List OpenCall) → PortSound p c calls → PortLaws p c calls
 port-laws p c calls f = record {
   fits = omega (arith, f.fits, length-drop c.received c.sent);
-  receivers = λ r. drop_all c.sent c.received (f.receivers r);
+  receivers = λ r. drop_all c.received c.sent (omega (arith, f.receivers r));
   senders = λ w. omega (arith, f.senders w, length-drop c.received c.sent);
   closed = λ h. on_none p calls (f.ended h).0 (f.ended h).1;
   both = λ r w. omega (arith, f.receivers r, f.senders w);

@@ -1,6 +1,6 @@
 -- One entry of a run: what it does to the channels, and which cases are then in force.
-use Rattle.hub_laws.proofs.Prelude.{◌≡◌, true, false, List, [], ◌∷◌, ◌++◌, refl, ap, ◌∙◌, sym, Option, Some, None, ℕ, ◌==◌, cond, or_parts, AllByRecursion}
-use Rattle.hub_laws.proofs.Prelude.{cons_option, slice_get, Case, Entry, Step, Call, What, Fault, Pid, admits, moves, State, OpenCall, Change, tells, refusal}
+use Rattle.hub_laws.proofs.Prelude.{◌≡◌, true, false, List, [], ◌∷◌, ◌++◌, refl, ap, ◌∙◌, ℕ, ◌==◌, cond, or_parts, AllByRecursion}
+use Rattle.hub_laws.proofs.Prelude.{cons_option, slice_get, Case, Entry, Step, Call, What, Pid, admits, moves, State, OpenCall, Change, tells}
 use Rattle.hub_laws.proofs.Prelude.{turn, cases_or, of_what, Turned, is_fault, refused, latest, last_call, is_answer_to, port_touched_by, port_touched}
 use Rattle.hub_laws.proofs.Prelude.{is_parked, IsSound, is_among}
 use Rattle.hub_base.specs.declared.event.What.TheVariants as what
@@ -9,7 +9,7 @@ use Rattle.hub_laws.proofs.Entries.{fault_names_none, turn-account}
 use Rattle.hub_laws.proofs.Calls.{differ-sym, same_number}
 use Rattle.hub_laws.proofs.Deeds.{Knows, deed_of, told, Does, idle}
 use Rattle.hub_laws.proofs.Leaving.{Ended, events_of}
-use Rattle.hub_laws.proofs.Ready.{Admitted, admitted}
+use Rattle.hub_laws.proofs.Ready.{Admitted, admitted, by-refusal}
 
 pub last_call-snoc : (pid : Pid) (before : List Case) (ts : List Turned) (t : Turned)
     → last_call pid before (ts ++ t ∷ []) ≡ latest pid (last_call pid before ts) t
@@ -96,24 +96,11 @@ turn_turn s e ts sound adm knows =
     record { does = rw (named, deeds) (a.does sound); knows = all.1 }
 
 -- an entry that is not admitted changes nothing
-passed_turn : (s : State) (e : Entry) (f : Fault) (ts : List Turned) → Knows (in_force ts) s.parked →
-    TurnLaws s e.step (record { state = s; events = tells e.pid (what.Fault f) ∷ [] })
-    (in_force (ts ++ record { entry = e; events = tells e.pid (what.Fault f) ∷ [] } ∷ []))
-passed_turn s e f ts knows =
-    let t : Turned = record { entry = e; events = tells e.pid (what.Fault f) ∷ [] } in
-    record {
-      does = idle (fault_names_none e.step f) refl refl;
-      knows =
-          knows_more (in_force ts) (in_force (ts ++ t ∷ [])) s.parked
-          (λ pid. last_call-snoc pid [] ts t ∙ latest_refused pid (last_call pid [] ts) t refl) knows;
-    }
-
-admits_turn : (s : State) (e : Entry) (o : Option Fault) (ts : List Turned) → IsSound s → o ≡ refusal s e.pid →
-    Knows (in_force ts) s.parked →
-    TurnLaws s e.step (admits s e o) (in_force (ts ++ record { entry = e; events = (admits s e o).events } ∷ []))
-admits_turn s e None ts sound is knows = turn_turn s e ts sound (admitted s e.pid (sym is)) knows
-admits_turn s e (Some f) ts sound is knows = passed_turn s e f ts knows
-
 pub moves-turn : (s : State) (e : Entry) (ts : List Turned) → IsSound s → Knows (in_force ts) s.parked →
     TurnLaws s e.step (moves s e) (in_force (ts ++ record { entry = e; events = (moves s e).events } ∷ []))
-moves-turn s e ts sound knows = admits_turn s e (refusal s e.pid) ts sound refl knows
+moves-turn s e ts sound knows =
+    by-refusal (λ o. TurnLaws s e.step (admits s e o) (in_force (ts ++ record { entry = e; events = (admits s e o).events } ∷ []))) s e.pid
+    (λ is. turn_turn s e ts sound (admitted s e.pid is) knows) (λ f is.
+    let t : Turned = record { entry = e; events = tells e.pid (what.Fault f) ∷ [] } in
+    let same = λ (pid : Pid). last_call-snoc pid [] ts t ∙ latest_refused pid (last_call pid [] ts) t refl in
+    record { does = idle (fault_names_none e.step f) refl refl; knows = knows_more (in_force ts) (in_force (ts ++ t ∷ [])) s.parked same knows })

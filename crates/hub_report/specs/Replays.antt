@@ -55,6 +55,10 @@ pub record Tells (h : Head) (es : List Entry) (r : Replayed) : Type 0 where
   pub stalled : r.stalled ≡ stalled_told h es
   pub faults : r.faults ≡ faults_told h es
 
+-- this holds of whatever head and entries lead to it
+abbrev pub OfTold : Replayed → (Head → List Entry → Type 0) → Type 0
+OfTold r P = (h : Head) (es : List Entry) → Tells h es r → P h es
+
 -- how much so many entries can have added
 pub record Within (i : ℕ) (r : Replayed) : Type 0 where
   pub steps : r.machine.steps ≤ i

@@ -1,12 +1,10 @@
 //! One replay of a journal. A machine makes the steps, and what it does not keep is told by the
 //! events of each: all that is received in one step is received on the port that its answer names.
 
-ghost use Rattle.std.specs.Prelude.{◌≡◌, ◌≤◌, ◌<◌, ◌+◌, ◌^◌, ℕ, List, [], length, replicate, Some, IfOk, slice_index_or};
+ghost use Rattle.std.specs.Prelude.{◌≡◌, ◌≤◌, ◌<◌, ◌+◌, ◌^◌, ℕ, [], length, replicate, Some, IfOk, slice_index_or};
 ghost use Rattle.std.specs.List.{sum_by};
 ghost use Rattle.std.specs.Option.{option_map};
 ghost use Rattle.hub_base.specs.declared.value.Port.{Port};
-ghost use Rattle.hub_base.specs.declared.entry.Entry.{Entry};
-ghost use Rattle.hub_base.specs.declared.head.Head.{Head};
 ghost use Rattle.hub_base.specs.Head.{IsHead};
 ghost use Rattle.hub_base.specs.Runs.{state};
 ghost use Rattle.hub_base.specs.State.{channel_at};
@@ -14,7 +12,7 @@ ghost use Rattle.hub_base.specs.Text.{steps_of};
 ghost use Rattle.hub_laws.specs.Journals.{IsLegal};
 ghost use Rattle.hub_laws.specs.OnePort.{IsMade, port_touched};
 ghost use Rattle.hub_report.specs.Reports.{ports_told, told_of};
-ghost use Rattle.hub_report.specs.Replays.{HasRoom, Tells, Within, most_got, number_told, with_sum, with_told};
+ghost use Rattle.hub_report.specs.Replays.{HasRoom, OfTold, Tells, Within, most_got, number_told, with_sum, with_told};
 
 use crate::PortReport;
 use crate::counting::{port_named, tell};
@@ -87,8 +85,8 @@ impl Replayed {
     /// What one port carried, or `None` where it is not made.
     fn port(&self, port: Port) -> Option<PortReport>
         requires { IsMade port MOST_PORTS }
-        ensures { (h : Head) (es : List Entry) → Tells h es self.now
-            → result ≡ option_map told_of (channel_at (state h es) port) }
+        ensures { OfTold self.now (λ h es.
+            result ≡ option_map told_of (channel_at (state h es) port)) }
     {
         let look = self.machine.look(port)?;
         Some(PortReport {
@@ -103,8 +101,8 @@ impl Replayed {
 
     /// What each port carried, in order of number.
     pub(crate) fn ports(&self, alloc: Global) -> Result<Vec<PortReport>, AllocError>
-        ensures { IfOk result (λ ports. (h : Head) (es : List Entry) → Tells h es self.now
-            → ports.items ≡ ports_told h es) }
+        ensures { IfOk result (λ ports.
+            OfTold self.now (λ h es. ports.items ≡ ports_told h es)) }
     {
         let mut ports = Vec::new(alloc);
         for place in 0..64u16 {

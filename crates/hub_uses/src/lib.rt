@@ -12,4 +12,4 @@ mod tests;
 pub use handing_over::hand_over;
 pub use meeting::share;
 pub use polling::{poll, waiting};
-pub use pool::{Stopped, Work, work_off};
+pub use pool::{Pool, Stopped, Work};

@@ -5,10 +5,17 @@ ghost use Rattle.hub_uses.specs.Told.{last_answer, ended_by};
 
 use hub_base::{Fault, Outcome, Pid, Value, What};
 use hub_crew::{Member, Task, run_crew};
-use hub_live::{Chan, Held, HubName, LiveHub, RecvPort, SendPort};
+use hub_live::{Chan, Held, HubName, LiveHub, RecvPort};
 use std::alloc::{AllocError, Global};
 use std::sync::Wait;
 use std::thread::Threads;
+
+/// So many jobs, and the channel on which process 0 hands them out.
+#[derive(Clone, Copy)]
+pub struct Pool {
+    pub chan: Chan,
+    pub jobs: u32,
+}
 
 /// What a process of a pool did.
 #[derive(Clone, Copy, Debug, PartialEq, Eq)]
@@ -31,35 +38,6 @@ pub enum Stopped {
 impl From<Fault> for Stopped {
     fn from(fault: Fault) -> Stopped {
         Stopped::Refused(fault)
-    }
-}
-
-/// Sends the numbers from 1 to this one, and closes the channel.
-fn hand_out<K: HubName, R: Wait>(
-    rt: &R,
-    hub: &LiveHub<K>,
-    seat: &mut Held<K>,
-    sender: &SendPort,
-    jobs: u32,
-) -> Result<Work, Stopped>
-    ensures same { seat.new.pid ≡ seat.old.pid }
-    ensures closed { IfOk result (λ w. last_answer seat.new ≡ Some (ended_by w)) }
-{
-    for job in 0..jobs {
-        match seat
-            .send(rt, hub, sender, Value::num(u64::from(job) + 1))?
-            .what
-        {
-            What::Fired {
-                outcome: Outcome::Sent,
-                ..
-            } => {}
-            other => return Err(Stopped::Told(other)),
-        }
-    }
-    match seat.close(rt, hub, sender)?.what {
-        What::Done => Ok(Work::HandedOut),
-        other => Err(Stopped::Told(other)),
     }
 }
 
@@ -94,10 +72,48 @@ fn do_jobs<K: HubName, R: Wait>(
     unreachable!()
 }
 
-#[derive(Clone, Copy)]
-struct Pool {
-    chan: Chan,
-    jobs: u32,
+impl Pool {
+    /// Sends the numbers from 1 to that of the last job, and closes the channel.
+    fn hand_out<K: HubName, R: Wait>(
+        self,
+        rt: &R,
+        hub: &LiveHub<K>,
+        seat: &mut Held<K>,
+    ) -> Result<Work, Stopped>
+        ensures same { seat.new.pid ≡ seat.old.pid }
+        ensures closed { IfOk result (λ w. last_answer seat.new ≡ Some (ended_by w)) }
+    {
+        let sender = self.chan.sender();
+        for job in 0..self.jobs {
+            let number = Value::num(u64::from(job) + 1);
+            match seat.send(rt, hub, &sender, number)?.what {
+                What::Fired {
+                    outcome: Outcome::Sent,
+                    ..
+                } => {}
+                other => return Err(Stopped::Told(other)),
+            }
+        }
+        match seat.close(rt, hub, &sender)?.what {
+            What::Done => Ok(Work::HandedOut),
+            other => Err(Stopped::Told(other)),
+        }
+    }
+
+    /// Process 0 sends the jobs on the channel and closes it; the others do them. Each who did its part
+    /// was told so last: that the close is done, or that the channel is drained. Who did not has made its exit.
+    pub fn work_off<K: HubName + Send + Sync, R: Threads + Wait + Sync>(
+        self,
+        rt: &R,
+        alloc: Global,
+        hub: &LiveHub<K>,
+        seats: Vec<Held<K>>,
+    ) -> Result<Vec<Member<K, Result<Work, Stopped>>>, AllocError>
+        ensures told { IfOk result (λ done.
+            All (λ m. IfOk m.report (λ w. last_answer m.seat ≡ Some (ended_by w))) done.items) }
+    {
+        run_crew(rt, alloc, hub, seats, self)
+    }
 }
 
 impl<K: HubName, R: Wait> Task<K, R> for Pool {
@@ -107,7 +123,7 @@ impl<K: HubName, R: Wait> Task<K, R> for Pool {
 
     fn perform(self, rt: &R, hub: &LiveHub<K>, seat: &mut Held<K>) -> Result<Work, Stopped> {
         let work = match seat.pid() {
-            Pid(0) => hand_out(rt, hub, seat, &self.chan.sender(), self.jobs),
+            Pid(0) => self.hand_out(rt, hub, seat),
             _ => do_jobs(rt, hub, seat, &self.chan.receiver()),
         };
         if work.is_err() {
@@ -116,20 +132,4 @@ impl<K: HubName, R: Wait> Task<K, R> for Pool {
         }
         work
     }
-}
-
-/// Process 0 sends this many jobs on the channel and closes it; the others do them. Each who did its
-/// part was told so last: that the close is done, or that the channel is drained. Who did not has made its exit.
-pub fn work_off<K: HubName + Send + Sync, R: Threads + Wait + Sync>(
-    rt: &R,
-    alloc: Global,
-    hub: &LiveHub<K>,
-    seats: Vec<Held<K>>,
-    chan: Chan,
-    jobs: u32,
-) -> Result<Vec<Member<K, Result<Work, Stopped>>>, AllocError>
-    ensures told { IfOk result (λ done.
-        All (λ m. IfOk m.report (λ w. last_answer m.seat ≡ Some (ended_by w))) done.items) }
-{
-    run_crew(rt, alloc, hub, seats, Pool { chan, jobs })
 }

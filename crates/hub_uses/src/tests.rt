@@ -2,7 +2,7 @@
 
 ghost use Rattle.std.specs.Prelude.{◌≡◌, All};
 
-use crate::{Work, hand_over, poll, share, waiting, work_off};
+use crate::{Pool, Work, hand_over, poll, share, waiting};
 use hub_base::{Counts, Event, Outcome, Pid, Port, Value, What};
 use hub_live::{Blank, Chan, Held, HubName, LiveHub, Seat, hold_all};
 use std::marker::Brand;
@@ -116,7 +116,11 @@ impl<'r, K: HubName + Send + Sync, R: AllocGlobal + Threads + Wait + Abort + Syn
     fn work_off(self) -> Result<(), Fail> {
         let (rt, hub, seats) = (self.rt, self.hub, self.seats);
         let (mut all, mut total) = (0u32, 0u64);
-        for member in work_off(rt, rt.alloc(), &hub, seats, self.chan, 20)? {
+        let pool = Pool {
+            chan: self.chan,
+            jobs: 20,
+        };
+        for member in pool.work_off(rt, rt.alloc(), &hub, seats)? {
             match member.report {
                 Ok(Work::HandedOut) => assert_eq!(rt; member.seat.pid(), Pid(0)),
                 Ok(Work::Did { jobs, sum }) => {

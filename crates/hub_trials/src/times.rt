@@ -61,30 +61,6 @@ fn answered(answer: Result<Event, Fault>) -> Result<(), Unanswered> {
     }
 }
 
-fn send<K: HubName, R: Wait>(
-    rt: &R,
-    hub: &LiveHub<K>,
-    seat: &mut Held<K>,
-    port: Port,
-    turn: u32,
-) -> Result<(), Unanswered>
-    ensures { seat.new.pid ≡ seat.old.pid }
-{
-    let value = Value::num(u64::from(turn));
-    answered(seat.send(rt, hub, &Chan::of(port).sender(), value))
-}
-
-fn receive<K: HubName, R: Wait>(
-    rt: &R,
-    hub: &LiveHub<K>,
-    seat: &mut Held<K>,
-    port: Port,
-) -> Result<(), Unanswered>
-    ensures { seat.new.pid ≡ seat.old.pid }
-{
-    answered(seat.recv(rt, hub, &Chan::of(port).receiver()))
-}
-
 fn four_receives() -> Cases {
     let mut cases = Cases::new();
     cases.push(Chan::of(Port(1)).receiver().recv());
@@ -94,46 +70,61 @@ fn four_receives() -> Cases {
     cases
 }
 
-fn take_turn<K: HubName, R: Wait>(
-    rt: &R,
-    hub: &LiveHub<K>,
-    seat: &mut Held<K>,
-    role: Role,
-    turn: u32,
-) -> Result<(), Unanswered>
-    ensures { seat.new.pid ≡ seat.old.pid }
-{
-    match role {
-        Role::Send(port) => send(rt, hub, seat, port, turn),
-        Role::Receive(port) => receive(rt, hub, seat, port),
-        Role::SendThenReceive(to, from) => {
-            send(rt, hub, seat, to, turn)?;
-            receive(rt, hub, seat, from)
-        }
-        Role::ReceiveThenSend(from, to) => {
-            receive(rt, hub, seat, from)?;
-            send(rt, hub, seat, to, turn)
-        }
-        Role::SelectOverFour => {
-            answered(seat.call(rt, hub, four_receives(), false, u64::from(turn)))
-        }
-        Role::Look(port) => seat.look(hub, port).map(|_| ()).ok_or(Unanswered),
-    }
+/// What the turns are taken with: the hub, and the runtime by which they wait.
+#[derive(Drop)]
+struct Caller<'a, K: HubName, R> {
+    rt: &'a R,
+    hub: &'a LiveHub<K>,
 }
 
-fn take_turns<K: HubName, R: Wait>(
-    rt: &R,
-    hub: &LiveHub<K>,
-    seat: &mut Held<K>,
-    role: Role,
-    turns: u32,
-) -> Result<(), Unanswered>
-    ensures { seat.new.pid ≡ seat.old.pid }
-{
-    for turn in 0..turns {
-        take_turn(rt, hub, seat, role, turn)?;
+impl<'a, K: HubName, R: Wait> Caller<'a, K, R> {
+    fn send(&self, seat: &mut Held<K>, port: Port, turn: u32) -> Result<(), Unanswered>
+        ensures { seat.new.pid ≡ seat.old.pid }
+    {
+        let value = Value::num(u64::from(turn));
+        answered(seat.send(self.rt, self.hub, &Chan::of(port).sender(), value))
     }
-    Ok(())
+
+    fn receive(&self, seat: &mut Held<K>, port: Port) -> Result<(), Unanswered>
+        ensures { seat.new.pid ≡ seat.old.pid }
+    {
+        answered(seat.recv(self.rt, self.hub, &Chan::of(port).receiver()))
+    }
+
+    fn select(&self, seat: &mut Held<K>, turn: u32) -> Result<(), Unanswered>
+        ensures { seat.new.pid ≡ seat.old.pid }
+    {
+        let word = u64::from(turn);
+        answered(seat.call(self.rt, self.hub, four_receives(), false, word))
+    }
+
+    fn take_turn(&self, seat: &mut Held<K>, role: Role, turn: u32) -> Result<(), Unanswered>
+        ensures { seat.new.pid ≡ seat.old.pid }
+    {
+        match role {
+            Role::Send(port) => self.send(seat, port, turn),
+            Role::Receive(port) => self.receive(seat, port),
+            Role::SendThenReceive(to, from) => {
+                self.send(seat, to, turn)?;
+                self.receive(seat, from)
+            }
+            Role::ReceiveThenSend(from, to) => {
+                self.receive(seat, from)?;
+                self.send(seat, to, turn)
+            }
+            Role::SelectOverFour => self.select(seat, turn),
+            Role::Look(port) => seat.look(self.hub, port).map(|_| ()).ok_or(Unanswered),
+        }
+    }
+
+    fn take_turns(&self, seat: &mut Held<K>, role: Role, turns: u32) -> Result<(), Unanswered>
+        ensures { seat.new.pid ≡ seat.old.pid }
+    {
+        for turn in 0..turns {
+            self.take_turn(seat, role, turn)?;
+        }
+        Ok(())
+    }
 }
 
 /// Gives when it made its turns.
@@ -143,7 +134,8 @@ impl<K: HubName, R: Wait + Clock> Task<K, R> for Turns {
     fn perform(self, rt: &R, hub: &LiveHub<K>, seat: &mut Held<K>) -> Result<Span, Trouble> {
         let role = self.workload.role(seat.pid());
         let began = Instant::now(rt);
-        let all = take_turns(rt, hub, seat, role, self.workload.turns(role, self.calls));
+        let turns = self.workload.turns(role, self.calls);
+        let all = Caller { rt, hub }.take_turns(seat, role, turns);
         let ended = Instant::now(rt);
         // So that nobody waits for one who stopped early. It is no part of any count.
         let _ = seat.exit(rt, hub);
@@ -186,12 +178,10 @@ fn limit_of(workload: Workload, calls: u32) -> u32 {
 fn rate_of<R: Threads + Wait + Clock + Sync>(
     rt: &R,
     alloc: Global,
-    workload: Workload,
-    calls: u32,
+    turns: Turns,
 ) -> Result<u64, Trouble> {
-    let limit = limit_of(workload, calls);
-    let (blank, seats) = Blank::open(alloc, workload.procs(), limit)?;
-    let turns = Turns { workload, calls };
+    let Turns { workload, calls } = turns;
+    let (blank, seats) = Blank::open(alloc, workload.procs(), limit_of(workload, calls))?;
     let took = run_named::<Brand, R>(rt, alloc, blank, seats, turns)?;
     Ok(per_second(workload.operations(calls), took))
 }
@@ -209,9 +199,10 @@ pub fn rates_of<R: Threads + Wait + Clock + Sync>(
     calls: u32,
     runs: u32,
 ) -> Result<Rates, Trouble> {
+    let turns = Turns { workload, calls };
     let mut rates = Vec::new(alloc);
     for _ in 0..runs {
-        let rate = rate_of(rt, alloc, workload, calls)?;
+        let rate = rate_of(rt, alloc, turns)?;
         rates.push(rate).map_err(AllocError::from)?;
     }
     rates.sort_unstable();

@@ -20,20 +20,17 @@ fault_number AlreadyClosed = 9
 fault_number JournalFull = 10
 fault_number NoMemory = 11
 
--- the number of a kind
-abbrev pub kind_number : Kind → ℕ
-kind_number kind.BadHeader = 1
-kind_number kind.BadProcs = 2
-kind_number kind.BadStep = 3
-kind_number kind.BadNumber = 4
-kind_number kind.CutLine = 5
-kind_number kind.TooLong = 6
+-- the number of a kind, and what is wrong with a journal's line, in two words
+abbrev pub kind_row : Kind → ℕ × List ℕ
+kind_row kind.BadHeader = (1, codes "bad header")
+kind_row kind.BadProcs = (2, codes "bad procs")
+kind_row kind.BadStep = (3, codes "bad step")
+kind_row kind.BadNumber = (4, codes "bad number")
+kind_row kind.CutLine = (5, codes "cut line")
+kind_row kind.TooLong = (6, codes "too long")
 
--- what is wrong with a journal's line, in two words
+abbrev pub kind_number : Kind → ℕ
+kind_number k = (kind_row k).0
+
 abbrev pub kind_text : Kind → List ℕ
-kind_text kind.BadHeader = codes "bad header"
-kind_text kind.BadProcs = codes "bad procs"
-kind_text kind.BadStep = codes "bad step"
-kind_text kind.BadNumber = codes "bad number"
-kind_text kind.CutLine = codes "cut line"
-kind_text kind.TooLong = codes "too long"
+kind_text k = (kind_row k).1

@@ -2,6 +2,7 @@
 -- which line. Each is computed from `read_text`.
 use Rattle.std.specs.Prelude.{◌≡◌, List, ℕ, [], ◌∷◌, ◌++◌, codes, map, refl, true, false}
 use Rattle.std.specs.List.{flat_map, range_with_len}
+use Rattle.hub_base.specs.declared.text.faults.Kind.{Kind}
 use Rattle.hub_base.specs.declared.text.faults.Kind.TheVariants.{BadHeader, BadProcs, BadStep, BadNumber, CutLine}
 use Rattle.hub_base.specs.Notation.{procs, s, r, make, send, recv, select, close, exit}
 use Rattle.hub_base.specs.Reading.{read_text, Reads, Faulty}
@@ -55,63 +56,48 @@ few_cases = refl
 pub head_alone : read_text (codes "chanhub journal 1\nprocs 64\n") ≡ Reads (procs 64) []
 head_alone = refl
 
--- ---- the two head lines
-pub empty : read_text [] ≡ Faulty 1 BadHeader
-empty = refl
+-- ---- malformed texts
+-- each of these texts is malformed first at this line, in this way
+abbrev AllFaulty : ℕ → Kind → List (List ℕ) → Type 0
+AllFaulty line kind texts = map read_text texts ≡ map (λ text. Faulty line kind) texts
 
-pub header_alone : read_text (codes "chanhub journal 1\n") ≡ Faulty 2 BadProcs
-header_alone = refl
+pub cut_lines :
+    AllFaulty 1 CutLine (codes "chanhub journal 1" ∷ [])
+    × AllFaulty 2 CutLine (codes "chanhub journal 1\nprocs 1" ∷ [])
+    × AllFaulty 3 CutLine (codes "chanhub journal 1\nprocs 1\n0 make 1" ∷ [])
+cut_lines = (refl, refl, refl)
 
-pub cut_header : read_text (codes "chanhub journal 1") ≡ Faulty 1 CutLine
-cut_header = refl
+-- no text at all, and another version
+pub bad_headers : AllFaulty 1 BadHeader ([] ∷ codes "chanhub journal 3\nprocs 1\n" ∷ [])
+bad_headers = refl
 
-pub other_version : read_text (codes "chanhub journal 3\nprocs 1\n") ≡ Faulty 1 BadHeader
-other_version = refl
+-- no second line, too many processes and none, a leading zero, and a carriage return
+pub bad_procs : AllFaulty 2 BadProcs (
+    codes "chanhub journal 1\n"
+    ∷ codes "chanhub journal 1\nprocs 65\n"
+    ∷ codes "chanhub journal 1\nprocs 0\n"
+    ∷ codes "chanhub journal 1\nprocs 01\n"
+    ∷ codes "chanhub journal 1\nprocs 1\r\n" ∷ [])
+bad_procs = refl
 
-pub cut_second_line : read_text (codes "chanhub journal 1\nprocs 1") ≡ Faulty 2 CutLine
-cut_second_line = refl
+-- the first faulty line decides
+pub first_faulty_line :
+    AllFaulty 4 BadStep (codes "chanhub journal 1\nprocs 1\n0 exit\n0 send 1\n256 exit\n0 exit" ∷ [])
+first_faulty_line = refl
 
-pub too_many_processes : read_text (codes "chanhub journal 1\nprocs 65\n") ≡ Faulty 2 BadProcs
-too_many_processes = refl
-
-pub no_processes : read_text (codes "chanhub journal 1\nprocs 0\n") ≡ Faulty 2 BadProcs
-no_processes = refl
-
-pub processes_with_a_leading_zero :
-    read_text (codes "chanhub journal 1\nprocs 01\n") ≡ Faulty 2 BadProcs
-processes_with_a_leading_zero = refl
-
-pub carriage_return : read_text (codes "chanhub journal 1\nprocs 1\r\n") ≡ Faulty 2 BadProcs
-carriage_return = refl
-
--- ---- the lines of entries
 -- a text of one process with this third line
 abbrev with_line : List ℕ → List ℕ
 with_line line = text_of (codes "chanhub journal 1" ∷ codes "procs 1" ∷ line ∷ [])
 
-pub cut_last_line : read_text (codes "chanhub journal 1\nprocs 1\n0 make 1") ≡ Faulty 3 CutLine
-cut_last_line = refl
-
--- the first faulty line decides
-pub first_faulty_line :
-    read_text (codes "chanhub journal 1\nprocs 1\n0 exit\n0 send 1\n256 exit\n0 exit") ≡ Faulty 4 BadStep
-first_faulty_line = refl
-
--- by shape
-pub two_spaces : read_text (with_line (codes "0  send 1 1")) ≡ Faulty 3 BadStep
-two_spaces = refl
-
-pub send_without_a_value : read_text (with_line (codes "0 send 1")) ≡ Faulty 3 BadStep
-send_without_a_value = refl
-
-pub two_colons : read_text (with_line (codes "0 select 0 s1:2:3")) ≡ Faulty 3 BadStep
-two_colons = refl
-
-pub value_of_a_receive : read_text (with_line (codes "0 select 0 r1:2 r1")) ≡ Faulty 3 BadStep
-value_of_a_receive = refl
-
-pub case_behind_the_default : read_text (with_line (codes "0 select 0 default r1")) ≡ Faulty 3 BadStep
-case_behind_the_default = refl
+-- by shape: two spaces, a send without a value, two colons, a receive with a value, a case behind the
+-- default
+pub bad_steps : AllFaulty 3 BadStep (map with_line (
+    codes "0  send 1 1"
+    ∷ codes "0 send 1"
+    ∷ codes "0 select 0 s1:2:3"
+    ∷ codes "0 select 0 r1:2 r1"
+    ∷ codes "0 select 0 default r1" ∷ []))
+bad_steps = refl
 
 -- a select has at most sixteen cases
 abbrev sixteen_cases : List ℕ
@@ -122,45 +108,27 @@ pub most_cases_of_a_select :
     ≡ Reads (procs 1) (select 0 0 (map r (range_with_len 0 16)) false ∷ [])
 most_cases_of_a_select = refl
 
-pub seventeen_cases : read_text (with_line (sixteen_cases ++ codes " r16")) ≡ Faulty 3 BadStep
+pub seventeen_cases : AllFaulty 3 BadStep (with_line (sixteen_cases ++ codes " r16") ∷ [])
 seventeen_cases = refl
 
--- by numbers, which are looked at only where the shape is right
-pub leading_zero : read_text (text_of (
-    codes "chanhub journal 1"
-    ∷ codes "procs 1"
-    ∷ codes "0 make 1"
-    ∷ codes "0 send 1 042" ∷ [])) ≡ Faulty 4 BadNumber
-leading_zero = refl
+-- by numbers, which are looked at only where the shape is right: each is one above its greatest, or has
+-- a leading zero; the third field of a select is always the word; a port is a number
+pub bad_numbers : AllFaulty 3 BadNumber (map with_line (
+    codes "256 exit"
+    ∷ codes "0 make 4294967296"
+    ∷ codes "0 recv 65536"
+    ∷ codes "0 send 1 18446744073709551616"
+    ∷ codes "0 send 1 042"
+    ∷ codes "0 select 18446744073709551616 r1 r2"
+    ∷ codes "0 select default"
+    ∷ codes "0 select 0 sx:1 r1" ∷ []))
+bad_numbers = refl
 
-pub process_too_great : read_text (with_line (codes "256 exit")) ≡ Faulty 3 BadNumber
-process_too_great = refl
-
-pub capacity_too_great : read_text (with_line (codes "0 make 4294967296")) ≡ Faulty 3 BadNumber
-capacity_too_great = refl
-
-pub port_too_great : read_text (with_line (codes "0 recv 65536")) ≡ Faulty 3 BadNumber
-port_too_great = refl
-
-pub word_too_great :
-    read_text (with_line (codes "0 select 18446744073709551616 r1 r2")) ≡ Faulty 3 BadNumber
-word_too_great = refl
-
-pub value_too_great : read_text (with_line (codes "0 send 1 18446744073709551616")) ≡ Faulty 3 BadNumber
-value_too_great = refl
-
--- the third field is always the word
-pub default_in_place_of_the_word : read_text (with_line (codes "0 select default")) ≡ Faulty 3 BadNumber
-default_in_place_of_the_word = refl
-
-pub letter_in_place_of_a_port : read_text (with_line (codes "0 select 0 sx:1 r1")) ≡ Faulty 3 BadNumber
-letter_in_place_of_a_port = refl
-
--- by spelling: `0 select 0 r1` is `0 recv 1`
-pub second_spelling : read_text (text_of (
+-- by spelling: `0 select 0 r1` is `0 recv 1`; a select of one send with another word is no send
+pub second_spelling : AllFaulty 5 BadStep (text_of (
     codes "chanhub journal 1"
     ∷ codes "procs 1"
     ∷ codes "0 make 1"
     ∷ codes "0 select 5 s1:3"
-    ∷ codes "0 select 0 r1" ∷ [])) ≡ Faulty 5 BadStep
+    ∷ codes "0 select 0 r1" ∷ []) ∷ [])
 second_spelling = refl

@@ -3,9 +3,9 @@
 //! It is read into a given entry, which may be any after a fault.
 
 ghost use Rattle.std.specs.Prelude.{◌≡◌, ◌≤◌, ◌<◌, ◌∷◌, [], false, IfOk};
-ghost use Rattle.hub_base.specs.Lines.{numeral, read_close, read_make, read_exit, read_send, read_recv, read_step, read_fields, pieces, case_of, by, call, same_text};
+ghost use Rattle.hub_base.specs.Lines.{numeral, read_exit, read_send, read_step, read_fields, pieces, case_of, by, call, same_text};
 ghost use Rattle.hub_base.specs.Lines.Draft.{Sends, Receives};
-ghost use Rattle.hub_base.specs.Filling.{Fills};
+ghost use Rattle.hub_base.specs.Filling.{Fills, read_one_number};
 
 use crate::limits::{GREATEST_CAP, GREATEST_PID, GREATEST_PORT, GREATEST_VALUE};
 use crate::text::fields::Fields;
@@ -111,20 +111,35 @@ fn call_of(case: Case) -> Step
     }
 }
 
-/// What `P make C` says, from the field behind the word on.
-fn read_make(pid: &[u8], fields: &mut Fields, entry: &mut Entry) -> Result<(), Kind>
-    ensures { Fills result entry.new (read_make pid.now fields.old) }
+/// A word with one number behind it.
+#[derive(Clone, Copy)]
+enum OneNumber {
+    Make,
+    Recv,
+    Close,
+}
+
+/// What `P make C`, `P recv PORT` or `P close PORT` says, from the field behind the word on.
+fn read_one_number(
+    pid: &[u8],
+    word: OneNumber,
+    fields: &mut Fields,
+    entry: &mut Entry,
+) -> Result<(), Kind>
+    ensures { Fills result entry.new (read_one_number word pid.now fields.old) }
 {
-    let Some(cap) = fields.next_field() else {
+    let Some(number) = fields.next_field() else {
         return Err(Kind::BadStep);
     };
     if fields.next_field().is_some() {
         return Err(Kind::BadStep);
     }
-    let pid = process(pid)?;
-    let cap = capacity(cap)?;
-    entry.pid = Pid(pid);
-    entry.step = Step::Make(cap);
+    entry.pid = Pid(process(pid)?);
+    match word {
+        OneNumber::Make => entry.step = Step::Make(capacity(number)?),
+        OneNumber::Recv => set_call(&mut entry.step, recv_of(number)?),
+        OneNumber::Close => entry.step = Step::Close(Port(port_number(number)?)),
+    }
     Ok(())
 }
 
@@ -148,40 +163,6 @@ fn read_send(pid: &[u8], fields: &mut Fields, entry: &mut Entry) -> Result<(), K
     Ok(())
 }
 
-/// What `P recv PORT` says, from the field behind the word on.
-fn read_recv(pid: &[u8], fields: &mut Fields, entry: &mut Entry) -> Result<(), Kind>
-    ensures { Fills result entry.new (read_recv pid.now fields.old) }
-{
-    let Some(port) = fields.next_field() else {
-        return Err(Kind::BadStep);
-    };
-    if fields.next_field().is_some() {
-        return Err(Kind::BadStep);
-    }
-    let pid = process(pid)?;
-    let case = recv_of(port)?;
-    entry.pid = Pid(pid);
-    set_call(&mut entry.step, case);
-    Ok(())
-}
-
-/// What `P close PORT` says, from the field behind the word on.
-fn read_close(pid: &[u8], fields: &mut Fields, entry: &mut Entry) -> Result<(), Kind>
-    ensures { Fills result entry.new (read_close pid.now fields.old) }
-{
-    let Some(port) = fields.next_field() else {
-        return Err(Kind::BadStep);
-    };
-    if fields.next_field().is_some() {
-        return Err(Kind::BadStep);
-    }
-    let pid = process(pid)?;
-    let port = port_number(port)?;
-    entry.pid = Pid(pid);
-    entry.step = Step::Close(Port(port));
-    Ok(())
-}
-
 /// What `P exit` says, from the field behind the word on.
 fn read_exit(pid: &[u8], fields: &mut Fields, entry: &mut Entry) -> Result<(), Kind>
     ensures { Fills result entry.new (read_exit pid.now fields.old) }
@@ -200,15 +181,15 @@ fn read_step(pid: &[u8], word: &[u8], fields: &mut Fields, entry: &mut Entry) ->
     ensures { Fills result entry.new (read_step pid.now word.now fields.old) }
 {
     if same_text(word, b"make") {
-        read_make(pid, fields, entry)
+        read_one_number(pid, OneNumber::Make, fields, entry)
     } else if same_text(word, b"send") {
         read_send(pid, fields, entry)
     } else if same_text(word, b"recv") {
-        read_recv(pid, fields, entry)
+        read_one_number(pid, OneNumber::Recv, fields, entry)
     } else if same_text(word, b"select") {
         read_select(pid, fields, entry)
     } else if same_text(word, b"close") {
-        read_close(pid, fields, entry)
+        read_one_number(pid, OneNumber::Close, fields, entry)
     } else if same_text(word, b"exit") {
         read_exit(pid, fields, entry)
     } else {

@@ -40,6 +40,14 @@ fn put_number(out: &mut Vec<u8>, n: u64) -> Result<(), AllocError>
     put(out, buffer.format(n).as_bytes())
 }
 
+/// Appends a word, or what else stands before a number, and the number.
+fn put_before_number(out: &mut Vec<u8>, before: &[u8], n: u64) -> Result<(), AllocError>
+    ensures { Appends out.old out.new (before.now ++ decimal n) result }
+{
+    put(out, before)?;
+    put_number(out, n)
+}
+
 /// Appends a value.
 fn put_value(out: &mut Vec<u8>, value: Value) -> Result<(), AllocError>
     ensures { Appends out.old out.new (value_field value) result }
@@ -87,15 +95,11 @@ fn put_case(out: &mut Vec<u8>, case: Case) -> Result<(), AllocError>
 {
     match case {
         Case::Send(port, value) => {
-            put(out, b" s")?;
-            put_number(out, port.0.into())?;
+            put_before_number(out, b" s", port.0.into())?;
             put(out, b":")?;
             put_value(out, value)
         }
-        Case::Recv(port) => {
-            put(out, b" r")?;
-            put_number(out, port.0.into())
-        }
+        Case::Recv(port) => put_before_number(out, b" r", port.0.into()),
     }
 }
 
@@ -116,8 +120,7 @@ fn put_cases(out: &mut Vec<u8>, cases: &[Case]) -> Result<(), AllocError>
 fn put_select(out: &mut Vec<u8>, cases: &[Case], default: bool, word: u64) -> Result<(), AllocError>
     ensures { Appends out.old out.new (spaced (select_fields cases.now default word)) result }
 {
-    put(out, b" select ")?;
-    put_number(out, word)?;
+    put_before_number(out, b" select ", word)?;
     put_cases(out, cases)?;
     if default {
         put(out, b" default")?;
@@ -134,15 +137,11 @@ fn put_call(out: &mut Vec<u8>, cases: &[Case], default: bool, word: u64) -> Resu
     }
     match cases[0] {
         Case::Send(port, value) => {
-            put(out, b" send ")?;
-            put_number(out, port.0.into())?;
+            put_before_number(out, b" send ", port.0.into())?;
             put(out, b" ")?;
             put_value(out, value)
         }
-        Case::Recv(port) => {
-            put(out, b" recv ")?;
-            put_number(out, port.0.into())
-        }
+        Case::Recv(port) => put_before_number(out, b" recv ", port.0.into()),
     }
 }
 
@@ -151,19 +150,13 @@ fn put_step(out: &mut Vec<u8>, step: &Step) -> Result<(), AllocError>
     ensures { Appends out.old out.new (spaced (step_fields step.now)) result }
 {
     match step {
-        Step::Make(cap) => {
-            put(out, b" make ")?;
-            put_number(out, (*cap).into())
-        }
+        Step::Make(cap) => put_before_number(out, b" make ", (*cap).into()),
         Step::Call {
             cases,
             default,
             word,
         } => put_call(out, cases.as_slice(), *default, *word),
-        Step::Close(port) => {
-            put(out, b" close ")?;
-            put_number(out, port.0.into())
-        }
+        Step::Close(port) => put_before_number(out, b" close ", port.0.into()),
         Step::Exit => put(out, b" exit"),
     }
 }
@@ -195,8 +188,7 @@ fn put_head(out: &mut Vec<u8>, head: Head) -> Result<(), AllocError>
     ensures { Appends out.old out.new (head_lines head) result }
 {
     put(out, b"chanhub journal 1\n")?;
-    put(out, b"procs ")?;
-    put_number(out, head.procs.into())?;
+    put_before_number(out, b"procs ", head.procs.into())?;
     put(out, b"\n")
 }
 

@@ -4,8 +4,8 @@ use Rattle.hub_base.proofs.Spelled.{spaced-select}
 use Rattle.hub_base.specs.Lines.{default_field}
 use Rattle.hub_base.proofs.text.writer.put_select.Goals as goal
 
-pub returns-in_ok-put-2 : goal.returns-in_ok-put-2
-returns-in_ok-put-2 c = grind (arith, common_steps, spaced-select c.args.cases.now (default_field c.args.default))
+pub returns-in_ok-put : goal.returns-in_ok-put
+returns-in_ok-put c = grind (arith, common_steps, spaced-select c.args.cases.now (default_field c.args.default))
 
 pub returns-else-default : goal.returns-else-default
 returns-else-default c = grind (arith, common_steps, spaced-select c.args.cases.now (default_field c.args.default))
@@ -13,5 +13,5 @@ returns-else-default c = grind (arith, common_steps, spaced-select c.args.cases.
 pub returns-in_err-put_cases : goal.returns-in_err-put_cases
 returns-in_err-put_cases c = grind (arith, common_steps, spaced-select c.args.cases.now (default_field c.args.default))
 
-pub returns-in_err-put-2 : goal.returns-in_err-put-2
-returns-in_err-put-2 c = grind (arith, common_steps, spaced-select c.args.cases.now (default_field c.args.default))
+pub returns-in_err-put : goal.returns-in_err-put
+returns-in_err-put c = grind (arith, common_steps, spaced-select c.args.cases.now (default_field c.args.default))

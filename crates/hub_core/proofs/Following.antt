@@ -16,11 +16,11 @@ use Rattle.hub_base.specs.declared.limits.TheConstants.{MOST_PROCS}
 use Rattle.hub_base.specs.State.{State, OpenCall}
 use Rattle.hub_base.specs.Steps.{Change, tells, refusal, turn, fault_of, answers, effect}
 use Rattle.hub_base.specs.Runs.{admits, moves, keeps, kept, state}
+use Rattle.hub_base.proofs.Lists.{all_more}
 use Rattle.hub_laws.specs.Sound.{IsSound}
 use Rattle.hub_laws.proofs.Rules.{state-sound}
 use Rattle.hub_laws.proofs.Longer.{state-entry, kept-entry}
 use Rattle.hub_laws.proofs.Ready.{admitted}
-use Rattle.hub_laws.proofs.Calls.{all_more}
 use Rattle.hub_parts.specs.Records.{Ticketed}
 use Rattle.hub_core.specs.Records.{MachineLists, opened_machine}
 use Rattle.hub_core.specs.ListSteps.{turn_on, answers_on, effect_on, fault_on, refusal_of, gone_on}

@@ -12,7 +12,8 @@ use Rattle.hub_base.specs.declared.entry.Entry.{Entry}
 use Rattle.hub_base.specs.declared.fault.Fault.{Fault}
 use Rattle.hub_base.specs.declared.event.Outcome.TheVariants.{Closed}
 use Rattle.hub_base.specs.Ready.{Ending, first_with, is_recv_on, is_send_on}
-use Rattle.hub_laws.proofs.Calls.{all_kept, all_snoc}
+use Rattle.hub_base.proofs.Lists.{all_snoc}
+use Rattle.hub_laws.proofs.Calls.{all_kept}
 use Rattle.hub_parts.specs.Records.{Lists, Ticketed}
 use Rattle.hub_parts.specs.Lists.{port_at, open_calls, still_open, ticketed, ended_by}
 use Rattle.hub_core.specs.declared.tally.Tally.{Tally}

@@ -4,7 +4,8 @@ use Rattle.hub_laws.proofs.Prelude.{◌≡◌, Bool, true, false, List, [], ◌�
 use Rattle.hub_laws.proofs.Prelude.{AllByRecursion, filter_map, cons_option, option_map, Step, What, Head, Pid, Port, is_exit, can_proceed, State, Channel}
 use Rattle.hub_laws.proofs.Prelude.{OpenCall, calls, Change, tells, cases_or, of_what, is_answer_to, port_touched_by, found_closed, shown, is_parked, Apart}
 use Rattle.hub_laws.proofs.Prelude.{IsSound, PortSound}
-use Rattle.hub_laws.proofs.Calls.{Fewer, fewer-same, all_snoc}
+use Rattle.hub_laws.proofs.Prelude.{all_snoc}
+use Rattle.hub_laws.proofs.Calls.{Fewer, fewer-same}
 use Rattle.hub_laws.proofs.Deeds.{Deed, deed_of, at, Wrote, Does, idle}
 use Rattle.hub_laws.proofs.Leaving.{Ended, events_of, EndsWell, InPlace, Leave, nobody, leave-all}
 

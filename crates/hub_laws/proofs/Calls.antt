@@ -74,17 +74,6 @@ fewer-filter keep calls = record {
 pub any_snoc : {A : Type 0} (test : A → Bool) (xs : List A) (x : A) → list_any test (xs ++ x ∷ []) ≡ (list_any test xs || test x)
 any_snoc test xs x = simp (list_any-append, or-false)
 
-pub all_append : {A : Type 0} (P : A → Type 0) (xs ys : List A) → AllByRecursion P xs → AllByRecursion P ys → AllByRecursion P (xs ++ ys)
-all_append P [] ys a b = b
-all_append P (x ∷ xs) ys a b = (a.0, all_append P xs ys a.1 b)
-
-pub all_snoc : {A : Type 0} (P : A → Type 0) (xs : List A) (x : A) → AllByRecursion P xs → P x → AllByRecursion P (xs ++ x ∷ [])
-all_snoc P xs x a p = all_append P xs (x ∷ []) a (p, tt)
-
-pub all_more : {A : Type 0} (P Q : A → Type 0) (xs : List A) → ((x : A) → P x → Q x) → AllByRecursion P xs → AllByRecursion Q xs
-all_more P Q [] imp a = tt
-all_more P Q (x ∷ xs) imp a = (imp x a.0, all_more P Q xs imp a.1)
-
 pub apart_snoc : (calls : List OpenCall) (call : OpenCall) → Apart calls → is_among call.pid.0 calls ≡ false → Apart (calls ++ call ∷ [])
 apart_snoc [] call a free = (refl, tt)
 apart_snoc (c ∷ cs) call a free =

@@ -7,7 +7,7 @@ use Rattle.hub_laws.proofs.Deeds.{Deed, at, fresh, Wrote, Does, idle, adds, wrot
 use Rattle.hub_laws.proofs.Deeds.{drains, refuses, shuts, Moved, IsClosing}
 use Rattle.hub_laws.proofs.Fires.{longer}
 use Rattle.hub_laws.proofs.Ports.{above_zero, made, written, get_set_other, same_port}
-use Rattle.hub_laws.proofs.Calls.{all_more}
+use Rattle.hub_laws.proofs.Prelude.{all_more}
 
 -- the channels after a write
 

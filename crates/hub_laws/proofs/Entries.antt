@@ -7,7 +7,8 @@ use Rattle.hub_laws.proofs.Prelude.{effect, of_what, IsAnswered, ends_waiting, p
 use Rattle.hub_base.specs.declared.fault.Fault.TheVariants as fault
 use Rattle.hub_base.specs.declared.event.What.TheVariants as what
 use Rattle.hub_laws.proofs.Branches.{by-stall, stalled}
-use Rattle.hub_laws.proofs.Calls.{fewer-none, fewer-filter, all_append, all_more}
+use Rattle.hub_laws.proofs.Prelude.{all_append, all_more}
+use Rattle.hub_laws.proofs.Calls.{fewer-none, fewer-filter}
 use Rattle.hub_laws.proofs.Deeds.{deed_of, fresh, IsClosing, shuts, adds, wrote, at}
 use Rattle.hub_laws.proofs.Does.{wrote-set, wrote-moves, made-moves, next_port}
 use Rattle.hub_laws.proofs.Faults.{journaled}

@@ -6,7 +6,8 @@ use Rattle.hub_laws.proofs.Prelude.{IsAnswered, ends_waiting, is_busy, refuses_e
 use Rattle.hub_laws.proofs.Prelude.{EndsOnce, AtMostOnce, IsSound}
 use Rattle.hub_base.specs.declared.event.What.TheVariants as what
 use Rattle.hub_laws.proofs.Account.{procs-of}
-use Rattle.hub_laws.proofs.Calls.{all_append, same_number}
+use Rattle.hub_laws.proofs.Prelude.{all_append}
+use Rattle.hub_laws.proofs.Calls.{same_number}
 use Rattle.hub_laws.proofs.Events.{answered_admits, answer_ends, waiting-ends}
 use Rattle.hub_laws.proofs.Entries.{turn-account, turn-answered}
 use Rattle.hub_laws.proofs.Faults.{refusal-refuses, refusal-busy}

@@ -17,6 +17,7 @@ pub use Rattle.std.proofs.lemmas.Option.{slice_get_past, slice_get_cases, get_or
 pub use Rattle.std.specs.List.{list_any, AllByRecursion, filter_map, cons_option, enumerate_from}
 pub use Rattle.std.specs.Option.{option_map, option_map_or}
 pub use Rattle.std.specs.Prelude.{slice_get, is_some, slice_set, get_or}
+pub use Rattle.hub_base.proofs.Lists.{all_snoc, all_append, all_more}
 pub use Rattle.hub_base.specs.declared.case.Case.{Case}
 pub use Rattle.hub_base.specs.declared.case.Case.TheVariants.{Send, Recv}
 pub use Rattle.hub_base.specs.declared.entry.Entry.{Entry}

@@ -5,7 +5,8 @@ use Rattle.hub_laws.proofs.Prelude.{state, events_after, events, State, OpenCall
 use Rattle.hub_laws.proofs.Prelude.{told_to, is_told, own, RepliesLaw, IsSound}
 use Rattle.hub_laws.proofs.Account.{account-all}
 use Rattle.hub_laws.proofs.Entries.{turn-account}
-use Rattle.hub_laws.proofs.Calls.{all_append, same_number}
+use Rattle.hub_laws.proofs.Prelude.{all_append}
+use Rattle.hub_laws.proofs.Calls.{same_number}
 use Rattle.hub_laws.proofs.Leaving.{Ended, events_of}
 use Rattle.hub_laws.proofs.Longer.{events-entry, events_after-append, state_after-append}
 use Rattle.hub_laws.proofs.Rules.{moves-sound, state-sound}

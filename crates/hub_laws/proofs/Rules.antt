@@ -9,7 +9,8 @@ use Rattle.hub_base.specs.declared.event.What.TheVariants as what
 use Rattle.hub_base.specs.declared.fault.Fault.TheVariants as fault
 use Rattle.hub_laws.proofs.Account.{Account, NamedSound, call_of, deeds_of, with_caller, with_leaver, procs-of}
 use Rattle.hub_laws.proofs.Entries.{answers-account, effect-account}
-use Rattle.hub_laws.proofs.Calls.{Fewer, all_more, all_snoc, any_snoc, apart_snoc}
+use Rattle.hub_laws.proofs.Prelude.{all_more, all_snoc}
+use Rattle.hub_laws.proofs.Calls.{Fewer, any_snoc, apart_snoc}
 use Rattle.hub_laws.proofs.Deeds.{Deed, at}
 use Rattle.hub_laws.proofs.Does.{does-grows, does-others}
 use Rattle.hub_laws.proofs.Kept.{any_more, port-fewer, port-parks, sound-opening}

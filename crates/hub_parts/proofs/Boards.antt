@@ -11,6 +11,7 @@ use Rattle.hub_base.specs.declared.case.Case.{Case}
 use Rattle.hub_base.specs.declared.case.Case.TheVariants.{Send, Recv}
 use Rattle.hub_base.specs.Ready.{port_of}
 use Rattle.hub_base.specs.declared.limits.TheConstants.{MOST_CASES, MOST_PORTS}
+use Rattle.hub_base.proofs.Lists.{all_snoc, all_more}
 use Rattle.hub_parts.specs.declared.wait_queue.TheConstants.{PLACES}
 use Rattle.hub_parts.specs.declared.side.Side.{Side}
 use Rattle.hub_parts.specs.declared.side.Side.TheVariants as side
@@ -21,7 +22,7 @@ use Rattle.hub_parts.specs.Lists.{with_call, ticketed, passes}
 use Rattle.hub_parts.specs.Channels.{queue_of, channel_of, line_of, first_on, without_first, new_channel, with_queue, no_channel}
 use Rattle.hub_parts.specs.Parking.{all_roomy, all_joined, CanJoin}
 use Rattle.hub_parts.specs.Keeps.{QueueKeeps, CallsKeep, BoardKeeps, joins, AllMade, Ascending, without_call}
-use Rattle.hub_parts.proofs.Lists.{all_snoc, all_weaker, all_filter, length-filter-le}
+use Rattle.hub_parts.proofs.Lists.{all_filter, length-filter-le}
 use Rattle.hub_parts.proofs.Lines.{queue_with_cases, length-with_cases}
 use Rattle.hub_parts.proofs.Endings.{ended_keeps, taken_keeps, none_keeps, ascending_filter}
 use Rattle.hub_parts.proofs.Rooms.{Ready, ready_after, roomy_has, joined_after, parked_keeps, can_join}
@@ -134,8 +135,8 @@ board_made cap c cs k fewer =
         counted = omega (arith, long);
         few = k.calls.few;
         small = k.calls.small;
-        made = all_weaker (λ w. AllMade (length cs) w.call.cases) (λ w. AllMade (length (cs ++ new_channel cap c.procs ∷ [])) w.call.cases) c.waiting
-            (λ w made. all_weaker (λ q. (port_of q).0 ≤ length cs) (λ q. (port_of q).0 ≤ length (cs ++ new_channel cap c.procs ∷ [])) w.call.cases
+        made = all_more (λ w. AllMade (length cs) w.call.cases) (λ w. AllMade (length (cs ++ new_channel cap c.procs ∷ [])) w.call.cases) c.waiting
+            (λ w made. all_more (λ q. (port_of q).0 ≤ length cs) (λ q. (port_of q).0 ≤ length (cs ++ new_channel cap c.procs ∷ [])) w.call.cases
             (λ q within. omega (arith, long)) made) k.calls.made;
         ascending = k.calls.ascending;
         below = k.calls.below;
@@ -194,7 +195,7 @@ calls_opened pid ticket cases c n k later small made few = record {
   made = all_snoc (λ w. AllMade n w.call.cases) c.waiting (ticketed pid ticket cases) k.made made;
   ascending = ascending_snoc c.waiting (ticketed pid ticket cases) c.next_ticket later k.below k.ascending;
   below = all_snoc (λ w. w.ticket < ticket + 1) c.waiting (ticketed pid ticket cases)
-      (all_weaker (λ w. w.ticket < c.next_ticket) (λ w. w.ticket < ticket + 1) c.waiting (λ w less. omega arith) k.below) (omega arith);
+      (all_more (λ w. w.ticket < c.next_ticket) (λ w. w.ticket < ticket + 1) c.waiting (λ w less. omega arith) k.below) (omega arith);
 }
 
 -- a queue after room was made for a call

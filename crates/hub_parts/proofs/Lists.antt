@@ -1,18 +1,6 @@
--- Facts that hold of each element of a list, and filters.
+-- What a filter leaves of a list.
 use Rattle.std.proofs.Common.{◌≤◌, suc, Bool, true, false, cond, List, [], ◌∷◌, ◌++◌, length, filter, arith}
 use Rattle.std.specs.List.{AllByRecursion}
-
-pub all_snoc : {X : Type 0} (P : X → Type 0) (xs : List X) (x : X) → AllByRecursion P xs → P x → AllByRecursion P (xs ++ x ∷ [])
-all_snoc P [] x a p = (p, tt)
-all_snoc P (y ∷ xs) x a p = (a.0, all_snoc P xs x a.1 p)
-
-pub all_both : {X : Type 0} (P : X → Type 0) (xs ys : List X) → AllByRecursion P xs → AllByRecursion P ys → AllByRecursion P (xs ++ ys)
-all_both P [] ys a b = b
-all_both P (x ∷ xs) ys a b = (a.0, all_both P xs ys a.1 b)
-
-pub all_weaker : {X : Type 0} (P Q : X → Type 0) (xs : List X) → ((x : X) → P x → Q x) → AllByRecursion P xs → AllByRecursion Q xs
-all_weaker P Q [] weaker a = tt
-all_weaker P Q (x ∷ xs) weaker a = (weaker x a.0, all_weaker P Q xs weaker a.1)
 
 pub all_filter : {X : Type 0} (P : X → Type 0) (keep : X → Bool) (xs : List X) → AllByRecursion P xs → AllByRecursion P (filter keep xs)
 all_filter P keep [] a = tt

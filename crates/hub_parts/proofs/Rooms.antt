@@ -13,6 +13,7 @@ use Rattle.hub_base.specs.declared.case.Case.{Case}
 use Rattle.hub_base.specs.declared.case.Case.TheVariants.{Send, Recv}
 use Rattle.hub_base.specs.Ready.{port_of}
 use Rattle.hub_base.specs.declared.limits.TheConstants.{MOST_CASES}
+use Rattle.hub_base.proofs.Lists.{all_append, all_more}
 use Rattle.hub_parts.specs.declared.side.Side.{Side}
 use Rattle.hub_parts.specs.declared.side.Side.TheVariants as side
 use Rattle.hub_parts.specs.declared.wait_queue.Waiter.{Waiter}
@@ -22,7 +23,7 @@ use Rattle.hub_parts.specs.Lists.{with_call, ticketed}
 use Rattle.hub_parts.specs.Channels.{queue_of, channel_of}
 use Rattle.hub_parts.specs.Parking.{with_case, CanJoin, CaseFits}
 use Rattle.hub_parts.specs.Keeps.{QueueKeeps, joins, AllMade}
-use Rattle.hub_parts.proofs.Lists.{all_both, all_weaker, all_filter, length-filter-le}
+use Rattle.hub_parts.proofs.Lists.{all_filter, length-filter-le}
 use Rattle.hub_parts.proofs.Lines.{with_if, queue_after, queue_with_case, length-with_case}
 use Rattle.hub_parts.proofs.Endings.{filter_within}
 
@@ -171,8 +172,8 @@ parked_keeps test c q pid ticket cases later r =
             flat_map-append (waiters_of test) c.waiting (w ∷ []),
             append-nil (waiters_from test pid ticket 0 cases),
           ) refl;
-      below = all_both (λ e. e.ticket < ticket + 1) q.items (waiters_from test pid ticket 0 cases)
-          (all_weaker (λ e. e.ticket < c.next_ticket) (λ e. e.ticket < ticket + 1) q.items (λ e less. omega arith) r.keeps.below)
+      below = all_append (λ e. e.ticket < ticket + 1) q.items (waiters_from test pid ticket 0 cases)
+          (all_more (λ e. e.ticket < c.next_ticket) (λ e. e.ticket < ticket + 1) q.items (λ e less. omega arith) r.keeps.below)
           (new_below test pid ticket 0 cases);
       places = r.keeps.places;
       fits = omega (arith, length-append q.items (waiters_from test pid ticket 0 cases), length-waiters_from test pid ticket 0 cases, r.room);

@@ -20,7 +20,7 @@ if cmp -s "$work/crates/hub_crew/$tests" "$root/crates/hub_crew/$tests"; then
     exit 1
 fi
 cd "$work/crates/hub_crew" && rt try --test > "$work/told" 2>&1
-if grep -q 'error\[mismatched-types\]: expected `&SendPort`, found `&RecvPort`' "$work/told"; then
+if grep -q 'error\[mismatched-types\]: expected `&End<Sends>`, found `&End<Receives>`' "$work/told"; then
     exit 0
 fi
 echo "receivers_close_nothing: not refused"

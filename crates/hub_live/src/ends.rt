@@ -4,58 +4,55 @@ ghost use Rattle.std.specs.Prelude.{◌≡◌};
 ghost use Rattle.hub_base.specs.declared.case.Case.TheVariants.{Send, Recv};
 
 use hub_base::{Case, Port, Value};
-use std::marker::Model;
+use std::marker::{Model, PhantomData};
+
+/// The number of a port. Its type says what it offers.
+#[derive_where(Clone, Copy, Debug, PartialEq, Eq)]
+pub struct End<Offer> {
+    /// Its number.
+    port: Port,
+    /// What it offers.
+    offer: PhantomData<Offer>,
+}
+
+impl<Offer> Model for End<Offer> {
+    ghost use Rattle.hub_base.specs.declared.value.Port.{Port};
+
+    ghost Value = { Port };
+
+    ghost view = { λ c. c.port };
+
+    ghost inverse = { λ p. record { port = p; offer = record {} } };
+}
+
+/// It gives out both ends.
+pub struct Both;
+
+/// It sends and closes.
+pub struct Sends;
+
+/// It receives.
+pub struct Receives;
 
 /// A channel, which gives out its ends.
-#[derive(Clone, Copy, Debug, PartialEq, Eq)]
-pub struct Chan {
-    /// Its number.
-    port: Port,
-}
-
-impl Model for Chan {
-    ghost use Rattle.hub_base.specs.declared.value.Port.{Port};
-
-    ghost Value = { Port };
-
-    ghost view = { λ c. c.port };
-
-    ghost inverse = { λ p. record { port = p } };
-}
+pub type Chan = End<Both>;
 
 /// The end of a channel that sends and closes. It offers no call that makes the other end.
-#[derive(Clone, Copy, Debug, PartialEq, Eq)]
-pub struct SendPort {
-    /// Its number.
-    port: Port,
-}
-
-impl Model for SendPort {
-    ghost use Rattle.hub_base.specs.declared.value.Port.{Port};
-
-    ghost Value = { Port };
-
-    ghost view = { λ c. c.port };
-
-    ghost inverse = { λ p. record { port = p } };
-}
+pub type SendPort = End<Sends>;
 
 /// The end of a channel that receives. It offers no call that makes the other end, nor one that
 /// closes.
-#[derive(Clone, Copy, Debug, PartialEq, Eq)]
-pub struct RecvPort {
-    /// Its number.
-    port: Port,
-}
+pub type RecvPort = End<Receives>;
 
-impl Model for RecvPort {
-    ghost use Rattle.hub_base.specs.declared.value.Port.{Port};
-
-    ghost Value = { Port };
-
-    ghost view = { λ c. c.port };
-
-    ghost inverse = { λ p. record { port = p } };
+impl<Offer> End<Offer> {
+    fn at(port: Port) -> End<Offer>
+        ensures { result ≡ port }
+    {
+        End {
+            port,
+            offer: PhantomData,
+        }
+    }
 }
 
 impl Chan {
@@ -63,7 +60,7 @@ impl Chan {
     pub fn of(port: Port) -> Chan
         ensures { result ≡ port }
     {
-        Chan { port }
+        Chan::at(port)
     }
 
     /// Its port, to look at.
@@ -77,14 +74,14 @@ impl Chan {
     pub fn sender(&self) -> SendPort
         ensures { result ≡ self.now }
     {
-        SendPort { port: self.port }
+        SendPort::at(self.port)
     }
 
     /// The end that receives.
     pub fn receiver(&self) -> RecvPort
         ensures { result ≡ self.now }
     {
-        RecvPort { port: self.port }
+        RecvPort::at(self.port)
     }
 }
 

@@ -1,5 +1,5 @@
 -- The bytes of fields and of cases as the writers append them, when they fit, and what a writer leaves.
-use Rattle.std.specs.Prelude.{◌≡◌, ◌≤◌, ◌+◌, ℕ, List, [], ◌∷◌, ◌++◌, codes, length, take, vec_len, Result, OnOk, OnErr, IsOk}
+use Rattle.std.specs.Prelude.{◌≡◌, ◌≤◌, ◌+◌, ◌/◌, ◌%◌, ℕ, List, [], ◌∷◌, ◌++◌, codes, length, take, vec_len, Result, OnOk, OnErr, IsOk}
 use Rattle.std.specs.Global.{Vec}
 use Rattle.std.specs.Vec.{vec_capacity}
 use Rattle.hub_base.specs.declared.case.Case.{Case}
@@ -25,6 +25,10 @@ pub record Appends {E : Type 0} (old new : Vec ℕ) (text : List ℕ) (result : 
   pub err : OnErr result ((rest : List ℕ) × (new.items ≡ old.items ++ rest))
   pub capacity : vec_capacity old ≤ vec_capacity new
   pub succeeds : HasRoomFor old text → IsOk result
+
+-- the two digits of a number below 100
+abbrev pub pair : ℕ → List ℕ
+pair n = (48 + n / 10) ∷ (48 + n % 10) ∷ []
 
 -- the text is put at this place, behind the bytes before it, and ends so many bytes on, or fewer
 pub record Puts (old new : List ℕ) (at : ℕ) (text : List ℕ) (most end : ℕ) : Type 0 where

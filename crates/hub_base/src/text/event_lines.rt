@@ -3,10 +3,10 @@
 //! Each function puts its piece at a place, behind the bytes before it, and tells where it ends. What lies behind
 //! that is no part of the text.
 
-ghost use Rattle.std.specs.Prelude.{◌≡◌, ◌+◌, ◌*◌, ◌≤◌, ◌++◌, length, take, decimal};
+ghost use Rattle.std.specs.Prelude.{◌≡◌, ◌+◌, ◌*◌, ◌≤◌, ◌<◌, ◌++◌, length, take, decimal};
 ghost use Rattle.std.specs.List.{flat_map};
 ghost use Rattle.hub_base.specs.EventText.{event_line, what_text, outcome_text};
-ghost use Rattle.hub_base.specs.Writing.{Puts};
+ghost use Rattle.hub_base.specs.Writing.{Puts, pair};
 
 use crate::limits::MOST_LINE;
 use crate::{Event, Outcome, What};
@@ -24,20 +24,81 @@ const MOST_OUTCOME: usize = 25;
 /// The most bytes of what a process is told: ` case `, a number, and how a communication ended.
 const MOST_WHAT: usize = 34;
 
-/// Puts these bytes.
+/// The digits of the numbers below 100, two each.
+static PAIRS: [u8; 200] =
+    *b"0001020304050607080910111213141516171819202122232425262728293031323334353637383940414243444546474849\
+      5051525354555657585960616263646566676869707172737475767778798081828384858687888990919293949596979899";
+
+/// Puts these bytes. Few bytes of a known number become a store or two, which a copy would not.
 #[inline(always)]
 fn put(out: &mut [u8], at: usize, bytes: &[u8]) -> usize
     requires { at + length bytes.now ≤ length out.old }
     ensures { Puts out.old out.new at bytes.now (length bytes.now) result }
 {
-    let end = at + bytes.len();
-    out[at..end].copy_from_slice(bytes);
-    end
+    for i in 0..bytes.len() {
+        out[at + i] = bytes[i];
+    }
+    at + bytes.len()
 }
 
-/// Puts a number of more than two digits.
+/// Puts two digits.
+#[inline(always)]
+fn put_pair(out: &mut [u8], at: usize, n: u64) -> usize
+    requires below { n < 100 }
+    requires room { at + 2 ≤ length out.old }
+    ensures { Puts out.old out.new at (pair n) 2 result }
+{
+    let place = n as usize * 2;
+    put(out, at, &[PAIRS[place], PAIRS[place + 1]])
+}
+
+/// Puts a number of one or two digits.
+#[inline(always)]
+#[tactic(auto, using(std::proofs::lemmas::Fmt::decimal_digit, itoa::proofs::Decimal::decimal_two))]
+fn put_first(out: &mut [u8], at: usize, n: u64) -> usize
+    requires below { n < 100 }
+    requires room { at + length (decimal n) ≤ length out.old }
+    ensures { Puts out.old out.new at (decimal n) (length (decimal n)) result }
+{
+    if n < 10 {
+        put(out, at, &[b'0' + n as u8])
+    } else {
+        put_pair(out, at, n)
+    }
+}
+
+/// Puts a number of up to four digits.
+#[inline(always)]
+fn put_short(out: &mut [u8], at: usize, n: u64) -> usize
+    requires below { n < 10000 }
+    requires room { at + length (decimal n) ≤ length out.old }
+    ensures { Puts out.old out.new at (decimal n) (length (decimal n)) result }
+{
+    if n < 100 {
+        put_first(out, at, n)
+    } else {
+        let end = put_first(out, at, n / 100);
+        put_pair(out, end, n % 100)
+    }
+}
+
+/// Puts a number of five to eight digits.
+#[inline(always)]
+fn put_middle(out: &mut [u8], at: usize, n: u64) -> usize
+    requires above { 10000 ≤ n }
+    requires below { n < 100000000 }
+    requires room { at + length (decimal n) ≤ length out.old }
+    ensures { Puts out.old out.new at (decimal n) (length (decimal n)) result }
+{
+    let four = n % 10_000;
+    let high = put_short(out, at, n / 10_000);
+    let end = put_pair(out, high, four / 100);
+    put_pair(out, end, four % 100)
+}
+
+/// Puts a number of more digits.
 #[inline(never)]
-fn put_digits(out: &mut [u8], at: usize, n: u64) -> usize
+fn put_long(out: &mut [u8], at: usize, n: u64) -> usize
     requires { at + length (decimal n) ≤ length out.old }
     ensures { Puts out.old out.new at (decimal n) (length (decimal n)) result }
 {
@@ -45,19 +106,18 @@ fn put_digits(out: &mut [u8], at: usize, n: u64) -> usize
     put(out, at, buffer.format(n).as_bytes())
 }
 
-/// Puts a number in decimal digits. Most have one or two.
+/// Puts a number in decimal digits.
 #[inline(always)]
-#[tactic(auto, using(std::proofs::lemmas::Fmt::decimal_digit, itoa::proofs::Decimal::decimal_two))]
 fn put_number(out: &mut [u8], at: usize, n: u64) -> usize
     requires { at + length (decimal n) ≤ length out.old }
     ensures { Puts out.old out.new at (decimal n) (length (decimal n)) result }
 {
-    if n < 10 {
-        put(out, at, &[b'0' + n as u8])
-    } else if n < 100 {
-        put(out, at, &[b'0' + (n / 10) as u8, b'0' + (n % 10) as u8])
+    if n < 10_000 {
+        put_short(out, at, n)
+    } else if n < 100_000_000 {
+        put_middle(out, at, n)
     } else {
-        put_digits(out, at, n)
+        put_long(out, at, n)
     }
 }
 

@@ -197,6 +197,7 @@ pub fn put_event(out: &mut [u8], at: usize, event: &Event) -> usize
 }
 
 /// Puts the line of each event.
+#[inline]
 pub fn put_events(out: &mut [u8], at: usize, events: &[Event]) -> usize
     requires { at + length events.now * MOST_LINE ≤ length out.old }
     ensures text { take result out.new ≡ take at out.old ++ flat_map event_line events.now }

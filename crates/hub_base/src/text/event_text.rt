@@ -88,6 +88,7 @@ impl EventText {
     }
 
     /// Appends the line of each event; `Err` where a growth was refused, with nothing appended.
+    #[inline(always)]
     pub fn write(&mut self, events: &[Event]) -> Result<(), NoMemory>
         ensures ok { OnOk result (self.new ≡ self.old ++ flat_map event_line events.now) }
         ensures err { OnErr result (self.new ≡ self.old) }

@@ -213,17 +213,18 @@ fn select_into(bytes: &[u8], start: usize, step: &mut Step) -> Option<usize>
     Some(end)
 }
 
-/// Reads a call, from the space behind the process on, and gives the place behind it.
+/// Reads a call, from the space behind the process on, and gives the place behind it. Most are no selects.
 #[inline]
 fn call_into(bytes: &[u8], start: usize, step: &mut Step) -> Option<usize>
     requires line { EndsLine bytes.now }
     requires start { start < length bytes.now }
     ensures { IfSome result (λ end. StepStands bytes.now start step.new end) }
 {
-    match behind_words(bytes, start, b" sel", b"ect ") {
-        Some(word) => select_into(bytes, word, step),
-        None => plain_into(bytes, start, step),
+    if let Some(end) = plain_into(bytes, start, step) {
+        return Some(end);
     }
+    let word = behind_words(bytes, start, b" sel", b"ect ")?;
+    select_into(bytes, word, step)
 }
 
 /// Reads the first line into this entry, and gives the place behind it.

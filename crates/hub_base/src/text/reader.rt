@@ -154,6 +154,7 @@ impl<'a> Reader<'a> {
     /// entry may be any.
     ///
     /// An entry takes some 290 bytes, so a loop over a long text reads them all into one.
+    #[inline(always)]
     pub fn read_into(&mut self, entry: &mut Entry) -> Result<bool, TextFault>
         ensures reads { FillsOn self.old self.new entry.new result }
         ensures some { IfOk result (λ more. OnTrue more (HasEntry self.old.left)) }

@@ -11,7 +11,7 @@ use crate::limits::{GREATEST_CAP, GREATEST_PID, GREATEST_PORT, GREATEST_VALUE};
 use crate::text::fields::Fields;
 use crate::text::numbers::number;
 use crate::text::selects::read_select;
-use crate::{Case, Cases, CasesExt, Entry, Kind, Pid, Port, Step, Value};
+use crate::{Case, Cases, Entry, Kind, Pid, Port, Step, Value};
 
 /// The number that a field spells.
 pub fn numeral(bytes: &[u8], most: u64) -> Result<u64, Kind>
@@ -72,17 +72,18 @@ pub fn set_call(step: &mut Step, case: Case)
     ensures { step.new ≡ call (case ∷ []) false 0 }
 {
     // A call that stands there already is changed in place, since a new one is some 290 bytes.
-    match step {
-        Step::Call {
-            cases,
-            default,
-            word,
-        } => {
-            set_case(cases, case);
-            *default = false;
-            *word = 0;
-        }
-        _ => *step = call_of(case),
+    if !matches!(step, Step::Call { .. }) {
+        *step = some_call();
+    }
+    if let Step::Call {
+        cases,
+        default,
+        word,
+    } = step
+    {
+        set_case(cases, case);
+        *default = false;
+        *word = 0;
     }
 }
 
@@ -99,13 +100,13 @@ fn set_case(cases: &mut Cases, case: Case)
     }
 }
 
-/// A call of one case, without default and with word 0.
+/// A call without cases. It is given none, so that a case which is set is nowhere else in memory.
 #[inline(never)]
-fn call_of(case: Case) -> Step
-    ensures { result ≡ call (case ∷ []) false 0 }
+fn some_call() -> Step
+    ensures { result ≡ call [] false 0 }
 {
     Step::Call {
-        cases: Cases::one(case),
+        cases: Cases::new(),
         default: false,
         word: 0,
     }

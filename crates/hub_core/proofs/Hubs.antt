@@ -1,9 +1,16 @@
--- The journal of a hub has room for its places and for the exit of each process.
+-- The journal of a hub has room for its places and for the exit of each process, and what a step leaves of a hub.
 use Rattle.std.proofs.Common.{◌≡◌, ℕ, zero, suc, ◌+◌, ◌-◌, ◌≤◌, ◌<◌, ◌^◌, Bool, true, false, cond, List, [], ◌∷◌}
-use Rattle.std.proofs.Common.{◌++◌, length, refl, ap, ◌∙◌, sym, subst, None, arith, not, ◌&&◌, length-append}
-use Rattle.std.specs.Prelude.{nat_le}
-use Rattle.std.proofs.lemmas.Grind.{common_steps}
+use Rattle.std.proofs.Common.{◌++◌, length, refl, ap, ◌∙◌, sym, subst, None, arith, length-append}
+use Rattle.std.specs.Prelude.{◌==◌, ◌↔◌, IsTrue, slice_set, slice_index_or, Result, Ok, Err, IsErr, IsErrAnd}
+use Rattle.std.proofs.Math.Seq.{get_or-append_seam, set-append_seam}
+use Rattle.std.specs.Global.{Vec}
+use Rattle.std.specs.Vec.{vec_capacity}
+use Rattle.std.proofs.lemmas.Bool.{eqb-true}
 use Rattle.hub_base.specs.declared.head.Head.{Head}
+use Rattle.hub_base.specs.declared.value.Pid.{Pid}
+use Rattle.hub_base.specs.declared.case.Case.{Case}
+use Rattle.hub_base.specs.declared.event.Event.{Event}
+use Rattle.hub_base.specs.declared.fault.Fault.{Fault}
 use Rattle.hub_base.specs.declared.entry.Step.{Step}
 use Rattle.hub_base.specs.declared.entry.Step.TheVariants.{Make, Call, Close, Exit}
 use Rattle.hub_base.specs.declared.entry.Entry.{Entry}
@@ -14,10 +21,14 @@ use Rattle.hub_base.specs.Reading.{is_exit}
 use Rattle.hub_base.specs.Text.{steps_of, one_step}
 use Rattle.hub_laws.proofs.Limits.{limits-law}
 use Rattle.hub_core.specs.Records.{MachineLists}
-use Rattle.hub_core.specs.Follows.{Follows}
-use Rattle.hub_core.specs.HubView.{Grows, places_after}
-use Rattle.hub_core.specs.HubKeeps.{is_full, count_after}
+use Rattle.hub_core.specs.declared.hub.Hub.TheInside.{Inside}
+use Rattle.hub_core.specs.Follows.{Follows, Turns}
+use Rattle.hub_core.specs.ListSteps.{refusal_of}
+use Rattle.hub_core.specs.HubView.{HubInMemory, HubView, Grows, Steps, StepRules, call_of, places_after, with_entry}
+use Rattle.hub_core.specs.HubKeeps.{HubKeeps, IsSuch, Takes, count_after}
 use Rattle.hub_core.proofs.Following.{kept-admitted}
+use Rattle.hub_core.proofs.Reached.{steps-length}
+use Rattle.hub_core.proofs.Stalls.{refusal_of-as}
 
 -- a journal is not longer than its steps and its processes
 pub journal_short : (head : Head) (journal : List Entry) → kept head journal ≡ journal → length journal ≤ steps_of journal + head.procs
@@ -47,15 +58,15 @@ pub legal_longer : (head : Head) (journal : List Entry) (e : Entry) → kept hea
     → kept head (journal ++ e ∷ []) ≡ journal ++ e ∷ []
 legal_longer head journal e legal adm = kept-admitted head journal e adm ∙ ap (λ (es : List Entry). es ++ e ∷ []) legal
 
--- the capacity is enough after room was made, for a journal with so many steps and entries
-pub room_after : (step : Step) (count length places procs old new : ℕ) → count ≤ length → count + places + procs ≤ old → old ≤ new
-    → (Grows step places → length + places + procs + 1 ≤ new) → count_after step count + places_after step places + procs ≤ new
-room_after (Make cap) count length places procs old new few room more grown = omega (arith, grown tt)
-room_after (Call cases default word) count length zero procs old new few room more grown = omega (arith, grown refl)
-room_after (Call cases default word) count length (suc places) procs old new few room more grown = omega arith
-room_after (Close p) count length zero procs old new few room more grown = omega (arith, grown refl)
-room_after (Close p) count length (suc places) procs old new few room more grown = omega arith
-room_after Exit count length places procs old new few room more grown = omega arith
+-- the capacity is enough after a step, for a journal with so many steps and entries
+pub room_after : (step : Step) (count length places procs capacity : ℕ) → count ≤ length → count + places + procs ≤ capacity
+    → (Grows step places → length + places + procs + 1 ≤ capacity) → count_after step count + places_after step places + procs ≤ capacity
+room_after (Make cap) count length places procs capacity few room spare = omega (arith, spare tt)
+room_after (Call cases default word) count length zero procs capacity few room spare = omega (arith, spare refl)
+room_after (Call cases default word) count length (suc places) procs capacity few room spare = omega arith
+room_after (Close p) count length zero procs capacity few room spare = omega (arith, spare refl)
+room_after (Close p) count length (suc places) procs capacity few room spare = omega arith
+room_after Exit count length places procs capacity few room spare = omega arith
 
 within_by : (b : Bool) (count limit : ℕ) → count ≤ limit → (b ≡ false → count < limit) → cond b count (count + 1) ≤ limit
 within_by true count limit h room = h
@@ -64,13 +75,6 @@ within_by false count limit h room = omega (arith, room refl)
 pub count_within : (step : Step) (count limit : ℕ) → count ≤ limit → (is_exit step ≡ false → count < limit) → count_after step count ≤ limit
 count_within step count limit h room = within_by (is_exit step) count limit h room
 
-room_by : (b : Bool) (count limit : ℕ) → (not b && nat_le limit count) ≡ false → b ≡ false → count < limit
-room_by true count limit h is = cc
-room_by false count limit h is = grind (arith, common_steps)
-
-pub has_room : (step : Step) (count limit : ℕ) → is_full step count limit ≡ false → is_exit step ≡ false → count < limit
-has_room step count limit h is = room_by (is_exit step) count limit h is
-
 -- one admitted entry more finds a place
 pub entry_fits : (head : Head) (journal : List Entry) (e : Entry) (count places capacity : ℕ) → kept head journal ≡ journal
     → refusal (state head journal) e.pid ≡ None → count ≡ steps_of journal → count_after e.step count + places + head.procs ≤ capacity
@@ -78,3 +82,99 @@ pub entry_fits : (head : Head) (journal : List Entry) (e : Entry) (count places 
 entry_fits head journal e count places capacity legal adm is room =
     let short = journal_short head (journal ++ e ∷ []) (legal_longer head journal e legal adm) in
     omega (arith, short, count-snoc journal e count is, length-append journal (e ∷ []))
+
+-- ---- a step of a hub
+
+-- what contracts see of a hub
+abbrev pub shown : Inside → HubInMemory
+shown h = record { hub = record { terms = h.terms; journal = h.entries.items; places = h.places }; capacity = vec_capacity h.entries }
+
+pub turn_steps : (h : Inside) → HubKeeps h → h.machine.steps < 2 ^ 32 - 1
+turn_steps h k =
+    steps_few h.terms.head h.terms.limit h.entries.items h.machine k.follows k.legal (omega (arith, k.count, k.within)) k.limit.1 k.head.1
+
+-- a process that the hub does not refuse is not refused by its machine
+pub turn_admitted : (h : Inside) (pid : Pid) → HubKeeps h → refusal (state h.terms.head h.entries.items) pid ≡ None
+    → refusal_of h.machine.board h.machine.gone pid ≡ None
+turn_admitted h pid k admitted = refusal_of-as (state h.terms.head h.entries.items) h.machine pid k.follows.matches ∙ admitted
+
+made_room : (h : Inside) (e : Entry) → HubKeeps h → Takes (shown h) e
+    → count_after e.step h.count + places_after e.step h.places + h.terms.head.procs ≤ vec_capacity h.entries
+made_room h e k takes =
+    room_after e.step h.count (length h.entries.items) h.places h.terms.head.procs (vec_capacity h.entries)
+    (omega (arith, steps-length h.entries.items, k.count)) k.room takes.spare
+
+-- an entry that the hub takes finds a place
+pub has_place : (h : Inside) (e : Entry) → HubKeeps h → Takes (shown h) e → length h.entries.items + 1 ≤ vec_capacity h.entries
+has_place h e k takes =
+    entry_fits h.terms.head h.entries.items e h.count (places_after e.step h.places) (vec_capacity h.entries) k.legal takes.admitted k.count
+    (made_room h e k takes)
+
+pub keeps_made : (h : Inside) (e : Entry) (entries : Vec Entry) (machine : MachineLists) (told : List Event) (count places : ℕ) → HubKeeps h
+    → Takes (shown h) e → Turns h.machine e machine told → entries.items ≡ h.entries.items ++ e ∷ [] → vec_capacity entries ≡ vec_capacity h.entries
+    → count ≡ count_after e.step h.count → places ≡ places_after e.step h.places
+    → HubKeeps (record { terms = h.terms; places = places; count = count; machine = machine; entries = entries })
+keeps_made h e entries machine told count places k takes turns grown same counted placed = record {
+  head = k.head;
+  limit = k.limit;
+  legal = ap (kept h.terms.head) grown ∙ legal_longer h.terms.head h.entries.items e k.legal takes.admitted ∙ sym grown;
+  follows = subst (λ (es : List Entry). Follows h.terms.head es machine) (sym grown) (turns.ok h.terms.head h.entries.items k.follows).follows;
+  count = counted ∙ count-snoc h.entries.items e h.count k.count ∙ ap steps_of (sym grown);
+  within = omega (arith, counted, count_within e.step h.count h.terms.limit k.within (λ exit. omega (arith, takes.room exit, k.count)));
+  room = omega (arith, made_room h e k takes, counted, placed, same);
+}
+
+-- what a hub takes, by what it shows
+pub taken : (h h' : Inside) {old new : HubInMemory} (e : Entry) {exit grows : Bool} → shown h ≡ old → shown h' ≡ new → is_exit e.step ≡ exit
+    → (IsTrue grows ↔ Grows e.step h.places) → ((x : Entry) → IsSuch old.hub e.pid exit grows x → Takes new x) → Takes (shown h') e
+taken h h' e {exit} {grows} was is ends more takes =
+    let such = subst (λ (m : HubInMemory). IsSuch m.hub e.pid exit grows e) was (record { own = refl; ends = ends; more = more }) in
+    subst (λ (m : HubInMemory). Takes m e) (sym is) (takes e such)
+
+-- ---- a call, which is written in its place
+
+none_left : (places : ℕ) → IsTrue (places == 0) ↔ (places ≡ 0)
+none_left places = (eqb-true places 0, λ (none : places ≡ 0). rw none refl)
+
+pub such_call : (h : Inside) {now : HubInMemory} (pid : Pid) (cases : List Case) (default : Bool) (word : ℕ) → shown h ≡ now
+    → IsSuch now.hub pid false (h.places == 0) (call_of pid cases default word)
+such_call h pid cases default word is =
+    subst (λ (m : HubInMemory). IsSuch m.hub pid false (h.places == 0) (call_of pid cases default word)) is
+    (record { own = refl; ends = refl; more = none_left h.places })
+
+pub taken_call : (h h' : Inside) {old new : HubInMemory} (pid : Pid) (cases : List Case) (default : Bool) (word : ℕ) → shown h ≡ old → shown h' ≡ new
+    → ((x : Entry) → IsSuch old.hub pid false (h.places == 0) x → Takes new x) → Takes (shown h') (call_of pid cases default word)
+taken_call h h' pid cases default word was is takes =
+    taken h h' (call_of pid cases default word) {exit = false} {grows = h.places == 0} was is refl (none_left h.places) takes
+
+pub put_last : (xs ys : List Entry) (blank e : Entry) (place : ℕ) → ys ≡ xs ++ blank ∷ [] → place ≡ length xs → slice_set ys place e ≡ xs ++ e ∷ []
+put_last xs ys blank e place is at = (λ i. slice_set (is i) (at i) e) ∙ set-append_seam xs blank [] e
+
+pub last_at : (xs ys : List Entry) (e d : Entry) (place : ℕ) → ys ≡ xs ++ e ∷ [] → place ≡ length xs → slice_index_or ys place d ≡ e
+last_at xs ys e d place is at = (λ i. slice_index_or (is i) (at i) d) ∙ get_or-append_seam xs e [] d
+
+pub steps_made : {h : Inside} {old new : HubView} (e : Entry) {machine : MachineLists} {told : List Event} → HubKeeps h → Takes (shown h) e
+    → Turns h.machine e machine told → (shown h).hub ≡ old → new ≡ with_entry e (shown h).hub → Steps old e new told
+steps_made {h} e {told = told} k takes turns was is = subst (λ (x : HubView × HubView). Steps x.0 e x.1 told) (λ i. (was i, sym is i)) (record {
+  room = takes.room;
+  admitted = takes.admitted;
+  events = (turns.ok h.terms.head h.entries.items k.follows).events;
+  journal = refl;
+})
+
+pub refused_so : {old new : HubInMemory} {e : Entry} (r : Result (Unit {0}) Fault) (f : Fault) → IsErr r × IsErrAnd r (λ given. given ≡ f)
+    → StepRules {A = Unit {0}} old e new (Err f) → StepRules old e new r
+refused_so (Ok x) f given rules = absurd (let none = given.0 in let g : ⊥ = cc in g)
+refused_so {old} {new} {e} (Err g) f given rules = subst (λ (x : Fault). StepRules {A = Unit {0}} old e new (Err x)) (sym given.1) rules
+
+pub rules_made : {old mid new : HubInMemory} {e : Entry} → StepRules {A = Unit {0}} old e mid (Ok tt) → new.capacity ≡ mid.capacity
+    → StepRules {A = Unit {0}} old e new (Ok tt)
+rules_made {old} r same = record {
+  refused = tt;
+  memory = r.memory;
+  fine = r.fine;
+  unchanged = tt;
+  spare = λ has. same ∙ r.spare has;
+  kept = λ none. same ∙ r.kept none;
+  capacity = subst (λ (n : ℕ). old.capacity ≤ n) (sym same) r.capacity;
+}

@@ -1,19 +1,18 @@
 -- What every hub keeps: its journal is legal, its machine follows the journal, and there is room in
 -- the journal for its places and for the exit of each process.
-use Rattle.std.specs.Prelude.{◌≡◌, ◌≤◌, ◌+◌, ◌&&◌, ℕ, Bool, not, nat_le, if◌then◌else◌}
+use Rattle.std.specs.Prelude.{◌≡◌, ◌≤◌, ◌+◌, ◌↔◌, ℕ, Bool, IsTrue, None, if◌then◌else◌}
 use Rattle.std.specs.Vec.{vec_capacity}
+use Rattle.hub_base.specs.declared.value.Pid.{Pid}
 use Rattle.hub_base.specs.declared.entry.Step.{Step}
+use Rattle.hub_base.specs.declared.entry.Entry.{Entry}
+use Rattle.hub_base.specs.Steps.{refusal}
 use Rattle.hub_base.specs.Head.{IsHead}
 use Rattle.hub_base.specs.Reading.{is_exit}
 use Rattle.hub_base.specs.Runs.{kept}
 use Rattle.hub_base.specs.Text.{steps_of}
 use Rattle.hub_core.specs.declared.hub.Hub.TheInside.{Inside}
 use Rattle.hub_core.specs.Follows.{Follows}
-use Rattle.hub_core.specs.HubView.{IsLimit}
-
--- a journal with so many entries that are no exits can't take the step
-abbrev pub is_full : Step → ℕ → ℕ → Bool
-is_full step count limit = not (is_exit step) && nat_le limit count
+use Rattle.hub_core.specs.HubView.{HubInMemory, HubView, Grows, HasRoom, HasSpare, IsLimit, state_of}
 
 -- an exit is not counted
 abbrev pub count_after : Step → ℕ → ℕ
@@ -30,3 +29,17 @@ pub record HubKeeps (h : Inside) : Type 0 where
   pub within : h.count ≤ h.terms.limit
   -- the entries that are no exits, the places, and an exit of each process
   pub room : h.count + h.places + h.terms.head.procs ≤ vec_capacity h.entries
+
+-- ---- a step is admitted
+
+-- an entry of this process, an exit or not, for which the journal may have to grow or not
+pub record IsSuch (h : HubView) (pid : Pid) (exit grows : Bool) (e : Entry) : Type 0 where
+  pub own : e.pid ≡ pid
+  pub ends : is_exit e.step ≡ exit
+  pub more : IsTrue grows ↔ Grows e.step h.places
+
+-- the entry is not refused, and where the journal may have to grow there is room for it
+pub record Takes (m : HubInMemory) (e : Entry) : Type 0 where
+  pub room : HasRoom m.hub e
+  pub admitted : refusal (state_of m.hub) e.pid ≡ None
+  pub spare : Grows e.step m.hub.places → HasSpare m

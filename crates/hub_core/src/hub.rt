@@ -4,18 +4,21 @@
 //! exit of each process from the opening on, and for the steps that were reserved; so neither an
 //! exit nor a reserved step asks for memory.
 
-ghost use Rattle.std.specs.Prelude.{◌≡◌, ◌≤◌, ◌<◌, ◌+◌, ◌-◌, ◌^◌, [], IfOk, IfErr, OnOk, OnErr, vec_len, length, max};
+ghost use Rattle.std.specs.Prelude.{◌≡◌, ◌≤◌, ◌<◌, ◌+◌, ◌-◌, ◌^◌, ◌↔◌, ◌++◌, ◌∷◌, ℕ, Bool, [], IsTrue, IfOk, IfErr, OnOk, OnErr, vec_len, length, max};
 ghost use Rattle.std.specs.Vec.{vec_capacity};
+ghost use Rattle.hub_base.specs.declared.entry.Entry.{Entry};
+ghost use Rattle.hub_base.specs.declared.value.Pid.{Pid};
 ghost use Rattle.hub_base.specs.Head.{IsHead, head_of};
 ghost use Rattle.hub_base.specs.Reading.{is_exit};
 ghost use Rattle.hub_base.specs.Runs.{kept};
 ghost use Rattle.hub_core.specs.Looks.{look_at, value_at};
-ghost use Rattle.hub_core.specs.HubView.{HubInMemory, Steps, StepRules, Grows, RefusesOpening, opened_hub, places_after, state_of, terms_of, IsLimit};
-ghost use Rattle.hub_core.specs.HubKeeps.{is_full, count_after};
+ghost use Rattle.hub_core.specs.HubView.{HubInMemory, Steps, StepRules, Grows, RefusesOpening, call_of, opened_hub, places_after, state_of, terms_of, IsLimit};
+ghost use Rattle.hub_core.specs.HubKeeps.{count_after, IsSuch, Takes};
 
 use crate::{Machine, OpenFault, Terms};
 use hub_base::{
-    Entry, Events, Fault, Head, Journal, Look, MOST_PROCS, MOST_STEPS, NoMemory, Port, Step, Value,
+    Cases, Entry, Events, Fault, Head, Journal, Look, MOST_PROCS, MOST_STEPS, NoMemory, Pid, Port,
+    Step, Value,
 };
 use std::alloc::{AllocError, Global};
 use std::marker::Model;
@@ -62,13 +65,6 @@ fn is_exit(step: &Step) -> bool
     matches!(step, Step::Exit)
 }
 
-/// Whether a journal with so many entries that are no exits can't take the step.
-fn is_full(step: &Step, count: u32, limit: u32) -> bool
-    ensures { result ≡ is_full step.now count limit }
-{
-    !is_exit(step) && count >= limit
-}
-
 /// How many entries are no exits, after this one.
 fn count_after(step: &Step, count: u32) -> u32
     requires { count < 2 ^ 32 - 1 }
@@ -84,6 +80,17 @@ fn places_after(step: &Step, places: u32) -> u32
     match step {
         Step::Make(_) | Step::Exit => places,
         Step::Call { .. } | Step::Close(_) => places.saturating_sub(1),
+    }
+}
+
+/// Whether the journal may have to grow for the step.
+fn grows(step: &Step, places: u32) -> bool
+    ensures { IsTrue result ↔ Grows step.now places }
+{
+    match step {
+        Step::Make(_) => true,
+        Step::Call { .. } | Step::Close(_) => places == 0,
+        Step::Exit => false,
     }
 }
 
@@ -104,36 +111,33 @@ fn reserve_more(entries: &mut Vec<Entry>, more: usize) -> Result<(), AllocError>
     }
 }
 
-/// Makes room for one entry more beside the places and the exits, where the step may take memory.
-fn make_room(
-    entries: &mut Vec<Entry>,
-    step: &Step,
-    places: u32,
-    procs: u8,
-) -> Result<(), AllocError>
-    ensures same { entries.new.items ≡ entries.old.items }
-    ensures capacity { vec_capacity entries.old ≤ vec_capacity entries.new }
-    ensures room { OnOk result (Grows step.now places
-        → vec_len entries.new + places + procs + 1 ≤ vec_capacity entries.new) }
-    ensures err { OnErr result (Grows step.now places) }
-    ensures full { OnErr result (
-        vec_capacity entries.old < vec_len entries.old + places + procs + 1) }
-    ensures spare { vec_len entries.old + places + procs + 1 ≤ vec_capacity entries.old
-        → vec_capacity entries.new ≡ vec_capacity entries.old }
-    ensures kept { ¬ Grows step.now places → vec_capacity entries.new ≡ vec_capacity entries.old }
+/// Writes the cases of a call into its entry, which has none yet.
+fn write_cases(entry: &mut Entry, cases: &Cases)
+    ensures { (pid : Pid) (default : Bool) (word : ℕ) → entry.old ≡ call_of pid [] default word
+        → entry.new ≡ call_of pid cases.now.items default word }
 {
-    let more = places as usize + procs as usize + 1;
-    match step {
-        Step::Make(_) => reserve_more(entries, more),
-        Step::Call { .. } | Step::Close(_) => {
-            if places == 0 {
-                reserve_more(entries, more)
-            } else {
-                Ok(())
-            }
-        }
-        Step::Exit => Ok(()),
+    if let Step::Call { cases: place, .. } = &mut entry.step {
+        let _full = place.try_extend_from_slice(cases.as_slice());
     }
+}
+
+/// Appends the entry of a call, which is written in its place.
+fn push_call(entries: &mut Vec<Entry>, pid: Pid, cases: &Cases, default: bool, word: u64)
+    requires { vec_len entries.old < vec_capacity entries.old }
+    ensures items { entries.new.items
+        ≡ entries.old.items ++ call_of pid cases.now.items default word ∷ [] }
+    ensures capacity { vec_capacity entries.new ≡ vec_capacity entries.old }
+{
+    let place = entries.len();
+    entries.push_reserved(Entry {
+        pid,
+        step: Step::Call {
+            cases: Cases::new(),
+            default,
+            word,
+        },
+    });
+    write_cases(&mut entries[place], cases);
 }
 
 impl Hub {
@@ -190,20 +194,8 @@ impl Hub {
         ensures ok { OnOk result (Steps self.old.hub entry self.new.hub events.new.items) }
         ensures rules { StepRules self.old entry self.new result }
     {
-        if is_full(&entry.step, self.count, self.terms.limit) {
-            return Err(Fault::JournalFull);
-        }
-        if let Some(fault) = self.machine.refusal(entry.pid) {
-            return Err(fault);
-        }
-        let Ok(()) = make_room(
-            &mut self.entries,
-            &entry.step,
-            self.places,
-            self.terms.head.procs,
-        ) else {
-            return Err(Fault::NoMemory);
-        };
+        let (exit, grows) = (is_exit(&entry.step), grows(&entry.step, self.places));
+        self.admit(entry.pid, exit, grows)?;
         events.clear();
         let Ok(()) = self.machine.turn(&entry, events) else {
             return Err(Fault::NoMemory);
@@ -211,6 +203,53 @@ impl Hub {
         self.count = count_after(&entry.step, self.count);
         self.places = places_after(&entry.step, self.places);
         self.entries.push_reserved(entry);
+        Ok(())
+    }
+
+    /// Makes a call as `step_into` makes its entry, which is written once: in its place in the journal.
+    pub fn call_into(
+        &mut self,
+        pid: Pid,
+        cases: &Cases,
+        default: bool,
+        word: u64,
+        events: &mut Events,
+    ) -> Result<(), Fault>
+        ensures ok { OnOk result (
+            Steps self.old.hub (call_of pid cases.now.items default word) self.new.hub events.new.items) }
+        ensures rules { StepRules self.old (call_of pid cases.now.items default word) self.new result }
+    {
+        self.admit(pid, false, self.places == 0)?;
+        let place = self.entries.len();
+        push_call(&mut self.entries, pid, cases, default, word);
+        events.clear();
+        let Ok(()) = self.machine.turn(&self.entries[place], events) else {
+            unreachable!()
+        };
+        self.count += 1;
+        self.places = self.places.saturating_sub(1);
+        Ok(())
+    }
+
+    /// Looks whether the journal takes an entry of this process, an exit or not, and makes room for it where the
+    /// journal may have to grow. The tests stand in the order of the refusals.
+    fn admit(&mut self, pid: Pid, exit: bool, grows: bool) -> Result<(), Fault>
+        ensures same { self.new.hub ≡ self.old.hub }
+        ensures ok { OnOk result ((e : Entry) → IsSuch self.old.hub pid exit grows e → Takes self.new e) }
+        ensures rules { (e : Entry) → IsSuch self.old.hub pid exit grows e → StepRules self.old e self.new result }
+    {
+        if !exit && self.count >= self.terms.limit {
+            return Err(Fault::JournalFull);
+        }
+        if let Some(fault) = self.machine.refusal(pid) {
+            return Err(fault);
+        }
+        if grows {
+            let more = self.places as usize + self.terms.head.procs as usize + 1;
+            let Ok(()) = reserve_more(&mut self.entries, more) else {
+                return Err(Fault::NoMemory);
+            };
+        }
         Ok(())
     }
 

@@ -7,6 +7,8 @@ use Rattle.hub_laws.proofs.Journals.{begins-law}
 use Rattle.hub_laws.proofs.Replies.{own-mine}
 use Rattle.hub_live.specs.Moves.{IsNext}
 use Rattle.hub_live.specs.Seated.{IsDesk}
+use Rattle.hub_live.specs.Request.{entry_by}
+use Rattle.hub_live.specs.declared.request.Request.{Request}
 use Rattle.hub_live.specs.Prelude.{IsPrefix, Seat, Pid, Port, Fault, Entry, Event, MOST_PORTS, refusal, is_waiting, state, is_exit, steps_of, IsLegal, changed}
 use Rattle.hub_live.specs.Prelude.{port_changed, number_of, own, HubView, Steps, Refuses, state_of, Terms, View, LockedView, Serves, IsReplyTo, mark, mark_at}
 use Rattle.hub_live.specs.Prelude.{port_numbered, MarksOne, IsOther, Name, IsHistory, Sees, SeesBoth, grown, with_joined, parted, given_back, IsToken}
@@ -52,6 +54,20 @@ refusal_seen {name} {l} {hub} {mine} {s} {pid} back e f d o k seen named same fr
     let idle : is_waiting (state l.hub.terms.head l.hub.journal) e.pid.0 ≡ false =
     (λ i. is_waiting (state ((is.terms ∙ ap (λ (n : Name). n.terms) (sym named)) i).head (sym seen i)) (sym same i).0) ∙ (asked_nothing k free).free in
     subst (λ (es : List Entry). Shows name.terms e es f) (sym seen) (shows name.terms l.hub e f is below idle refused)
+
+-- ---- what a process asks for by its seat
+
+asked_by : {name : Name} {s : SeatView} {pid : Pid} {mine : Seat (Unit {0}) View} (request : Request) (P : Entry → Type 0) → IsSeatOf name s pid mine
+    → P (entry_by pid request) → P (entry_by s.pid request)
+asked_by request P o = subst (λ (p : Pid). P (entry_by p request)) (ap (λ (y : SeatView). y.pid) o.shows)
+
+pub served_by : {name : Name} {s : SeatView} {pid : Pid} {mine : Seat (Unit {0}) View} {l l' : LockedView} {x : Event} (request : Request)
+    → IsSeatOf name s pid mine → Serves l (entry_by pid request) l' x → Serves l (entry_by s.pid request) l' x
+served_by {l = l} {l' = l'} {x = x} request = asked_by request (λ (e : Entry). Serves l e l' x)
+
+pub refused_by : {name : Name} {s : SeatView} {pid : Pid} {mine : Seat (Unit {0}) View} (request : Request) (h : HubView) (f : Fault)
+    → IsSeatOf name s pid mine → Refuses h (entry_by pid request) f → Refuses h (entry_by s.pid request) f
+refused_by request h f = asked_by request (λ (e : Entry). Refuses h e f)
 
 -- ---- the hub after a step
 

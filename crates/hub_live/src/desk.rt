@@ -7,11 +7,12 @@
 ghost use Rattle.std.specs.Prelude.{◌≡◌, ◌≤◌, ◌<◌, ◌+◌, ◌++◌, ◌∷◌, [], List, length, Some, None, false, IfOk, IfErr, OnOk, OnErr, IfSome, IfNone, OnSome};
 ghost use Rattle.hub_live.specs.Prelude.{IsPrefix, Entry, steps_of, IsLegal, number_of, port_changed_by, Refuses, state_of, mark_at, Serves};
 ghost use Rattle.hub_live.specs.Prelude.{answer_for, without_answer, IsReplyTo, IsHistory, IsFree, own_of, IsDesk, Tells, Shows, AskedNothing};
-ghost use Rattle.hub_live.specs.Prelude.{StandsIn};
+ghost use Rattle.hub_live.specs.Prelude.{StandsIn, entry_by};
 
 use crate::locked::{Locked, Pids};
 use crate::mark::mark_of;
 use crate::name::HubName;
+use crate::request::Request;
 use crate::rule::Token;
 use crate::seat::InnerSeat;
 use crate::words::Words;
@@ -90,10 +91,9 @@ impl<K: HubName> Desk<K> {
         &mut self,
         words: &Words<K>,
         seat: &mut InnerSeat,
-        entry: Entry,
+        request: &Request<'_>,
     ) -> Result<Event, Fault>
         requires hub { seat.old.hub ≡ K.name }
-        requires pid { seat.old.pid ≡ entry.pid }
         requires free { IsFree seat.old }
 
         ensures same { (seat.new.hub ≡ seat.old.hub) × (seat.new.pid ≡ seat.old.pid) }
@@ -101,12 +101,15 @@ impl<K: HubName> Desk<K> {
         ensures history { IsHistory K.name.terms seat.new.seen }
         ensures begins { IsPrefix seat.old.seen seat.new.seen }
 
-        ensures ok { IfOk result (λ answer. Serves self.old entry self.new answer) }
-        ensures own { OnOk result (own_of seat.new ≡ own_of seat.old ++ entry ∷ []) }
-        ensures told { IfOk result (λ x. Tells K.name.terms entry.pid seat.new.seen x) }
+        ensures ok { IfOk result (λ answer.
+            Serves self.old (entry_by seat.old.pid request.now) self.new answer) }
+        ensures own { OnOk result (
+            own_of seat.new ≡ own_of seat.old ++ entry_by seat.old.pid request.now ∷ []) }
+        ensures told { IfOk result (λ x. Tells K.name.terms seat.old.pid seat.new.seen x) }
 
-        ensures refused { IfErr result (λ f. Refuses self.old.hub entry f) }
-        ensures shows { IfErr result (λ f. Shows K.name.terms entry seat.new.seen f) }
+        ensures refused { IfErr result (λ f. Refuses self.old.hub (entry_by seat.old.pid request.now) f) }
+        ensures shows { IfErr result (λ f.
+            Shows K.name.terms (entry_by seat.old.pid request.now) seat.new.seen f) }
         ensures left { OnErr result (AskedNothing seat.old seat.new) }
         ensures unchanged { OnErr result (self.new ≡ self.old) }
     {
@@ -114,7 +117,7 @@ impl<K: HubName> Desk<K> {
             unreachable!()
         };
         words.join(&mut self.token, mine);
-        match self.locked.step(entry) {
+        match self.locked.step(seat.pid, request) {
             Ok(answer) => {
                 let made = newest(&self.locked);
                 let port = changed(&made.step, answer.what);

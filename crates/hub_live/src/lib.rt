@@ -9,6 +9,7 @@ mod live_hub;
 mod locked;
 mod mark;
 mod name;
+mod request;
 mod rule;
 mod seat;
 pub mod under_lock;

@@ -3,17 +3,19 @@
 ghost use Rattle.std.specs.Prelude.{◌≡◌, ◌≤◌, ◌∷◌, ◌⊎◌, [], false, IfOk, IfErr, All, vec_len};
 ghost use Rattle.hub_base.specs.declared.event.What.TheVariants as what;
 ghost use Rattle.hub_live.specs.Prelude.{Send, Recv, Make, Call, Close, Exit, call, tells, steps_of, IsLegal, is_parked, counts_at, state_seen, Later};
-ghost use Rattle.hub_live.specs.Prelude.{Made, Refused, MadeEntry, RefusedEntry, Answers, AnswersNoCall, AskedNothing, StandsIn};
+ghost use Rattle.hub_live.specs.Request.{step_of};
+ghost use Rattle.hub_live.specs.Prelude.{entry_by, Made, Refused, MadeEntry, RefusedEntry, Answers, AnswersNoCall, AskedNothing, StandsIn};
 
 use crate::desk::Desk;
 use crate::ends::{Chan, RecvPort, SendPort};
 use crate::locked::Pids;
 use crate::mark::read_back;
 use crate::name::HubName;
+use crate::request::Request;
 use crate::seat::Seat;
 use crate::words::Words;
 use hub_base::{
-    Cases, CasesExt, Counts, Entry, Event, Fault, Journal, MOST_PORTS, Pid, Port, Step, Value, What,
+    Case, Cases, CasesExt, Counts, Event, Fault, Journal, MOST_PORTS, Pid, Port, Value, What,
 };
 use std::sync::{Condvar, Mutex, Wait};
 
@@ -58,17 +60,18 @@ impl<K: HubName> LiveHub<K> {
 
     /// Makes a step, and waits where it parks.
     #[tactic(auto, using(crate::proofs::Locks::served_answers, crate::proofs::Locks::answers_no_call, crate::proofs::Locks::parked_call, crate::proofs::Laters::made_later))]
-    fn ask<R: Wait>(&self, rt: &R, seat: &mut Seat, entry: Entry) -> Result<Event, Fault>
-        requires hub { seat.old.hub ≡ K.name }
-        requires pid { seat.old.pid ≡ entry.pid }
+    fn ask<R: Wait>(&self, rt: &R, seat: &mut Seat, request: &Request<'_>) -> Result<Event, Fault>
+        requires { seat.old.hub ≡ K.name }
         ensures later { Later seat.old seat.new }
-        ensures ok { IfOk result (λ x. MadeEntry seat.old seat.new entry x) }
-        ensures answer { IfOk result (λ x. AnswersNoCall entry.pid entry.step x) }
-        ensures err { IfErr result (λ f. RefusedEntry seat.old seat.new entry f) }
+        ensures ok { IfOk result (λ x.
+            MadeEntry seat.old seat.new (entry_by seat.old.pid request.now) x) }
+        ensures answer { IfOk result (λ x. AnswersNoCall seat.old.pid (step_of request.now) x) }
+        ensures err { IfErr result (λ f.
+            RefusedEntry seat.old seat.new (entry_by seat.old.pid request.now) f) }
     {
         let waker = &self.wakers[usize::from(seat.pid().0)];
         let mut desk = self.desk.lock(rt);
-        let answer = desk.step(&self.words, &mut seat.inner, entry)?;
+        let answer = desk.step(&self.words, &mut seat.inner, request)?;
         let ended = desk.ended();
         if !is_parked(answer.what) {
             // Those who wake find the lock free.
@@ -110,13 +113,27 @@ impl<K: HubName> LiveHub<K> {
         ensures ok { IfOk result (λ x. Made seat.old seat.new (Call cases default word) x) }
         ensures err { IfErr result (λ f. Refused seat.old seat.new (Call cases default word) f) }
     {
-        let pid = seat.pid();
-        let step = Step::Call {
-            cases,
+        let request = Request::Call {
+            cases: &cases,
             default,
             word,
         };
-        self.ask(rt, seat, Entry { pid, step })
+        self.ask(rt, seat, &request)
+    }
+
+    /// Makes a call of this one case, without default and with word 0.
+    fn call_one<R: Wait>(&self, rt: &R, seat: &mut Seat, case: Case) -> Result<Event, Fault>
+        requires { seat.old.hub ≡ K.name }
+        ensures later { Later seat.old seat.new }
+        ensures ok { IfOk result (λ x. Made seat.old seat.new (call (case ∷ []) false 0) x) }
+        ensures err { IfErr result (λ f. Refused seat.old seat.new (call (case ∷ []) false 0) f) }
+    {
+        let request = Request::Call {
+            cases: &Cases::one(case),
+            default: false,
+            word: 0,
+        };
+        self.ask(rt, seat, &request)
     }
 
     /// Sends the value, as a call of this one case without default, and waits until it is sent. Answered
@@ -138,7 +155,7 @@ impl<K: HubName> LiveHub<K> {
         ensures err { IfErr result (λ f.
             Refused seat.old seat.new (call (Send sender.now value ∷ []) false 0) f) }
     {
-        self.call(rt, seat, Cases::one(sender.send(value)), false, 0)
+        self.call_one(rt, seat, sender.send(value))
     }
 
     /// Receives a value, as a call of this one case without default, and waits until one comes. Answered
@@ -159,7 +176,7 @@ impl<K: HubName> LiveHub<K> {
         ensures err { IfErr result (λ f.
             Refused seat.old seat.new (call (Recv receiver.now ∷ []) false 0) f) }
     {
-        self.call(rt, seat, Cases::one(receiver.recv()), false, 0)
+        self.call_one(rt, seat, receiver.recv())
     }
 
     /// Makes a channel with a buffer of `cap` values, 0 to `MOST_CAP`; with 0 it is unbuffered. Answered
@@ -175,9 +192,7 @@ impl<K: HubName> LiveHub<K> {
         ensures answer { IfOk result (λ x. Answers seat.old.pid (Make cap) x) }
         ensures err { IfErr result (λ f. Refused seat.old seat.new (Make cap) f) }
     {
-        let pid = seat.pid();
-        let step = Step::Make(cap);
-        self.ask(rt, seat, Entry { pid, step })
+        self.ask(rt, seat, &Request::Make(cap))
     }
 
     /// Makes a channel as `make` does, and gives it. Err: with no entry made by what refuses a make, and
@@ -212,9 +227,7 @@ impl<K: HubName> LiveHub<K> {
         ensures answer { IfOk result (λ x. Answers seat.old.pid (Close sender.now) x) }
         ensures err { IfErr result (λ f. Refused seat.old seat.new (Close sender.now) f) }
     {
-        let pid = seat.pid();
-        let step = Step::Close(sender.port());
-        self.ask(rt, seat, Entry { pid, step })
+        self.ask(rt, seat, &Request::Close(sender.port()))
     }
 
     /// Ends the process. Answered `Done`; its later steps are refused by `Gone`. It takes the lock and
@@ -230,9 +243,7 @@ impl<K: HubName> LiveHub<K> {
         ensures answer { IfOk result (λ x. Answers seat.old.pid Exit x) }
         ensures err { IfErr result (λ f. Refused seat.old seat.new Exit f) }
     {
-        let pid = seat.pid();
-        let step = Step::Exit;
-        self.ask(rt, seat, Entry { pid, step })
+        self.ask(rt, seat, &Request::Exit)
     }
 
     /// The counts of a port in the journal that the seat has then seen: by at most one load, with no

@@ -5,11 +5,12 @@
 //! no answer waiting, and an answer that waits is its process's reply. That the hub is what its journal
 //! leads to is kept by the hub's own type.
 
-ghost use Rattle.std.specs.Prelude.{◌≡◌, ◌≤◌, ◌<◌, ℕ, Some, false, length, slice_set, IfOk, IfErr, OnErr, IfSome, IfNone};
+ghost use Rattle.std.specs.Prelude.{◌≡◌, ◌≤◌, ◌<◌, ℕ, Some, false, length, slice_set, IfOk, IfErr, OnOk, OnErr, IfSome, IfNone};
 ghost use Rattle.hub_core.specs.Looks.{look_at};
 ghost use Rattle.hub_live.specs.Locked.{none_waits, last_told};
-ghost use Rattle.hub_live.specs.Prelude.{IsLegal, is_parked, Refuses, state_of, answer_for, IsReplyTo, pids_of, Serves, without_answer};
+ghost use Rattle.hub_live.specs.Prelude.{IsLegal, is_parked, Refuses, Steps, state_of, answer_for, entry_by, IsReplyTo, pids_of, Serves, without_answer};
 
+use crate::request::Request;
 use arrayvec::ArrayVec;
 use hub_base::{Entry, Event, Events, Fault, Journal, Look, MOST_PROCS, Pid, Port};
 use hub_core::Hub;
@@ -40,6 +41,46 @@ impl Model for Locked {
         record { hub = l.hub.hub; answers = l.answers; ended = l.ended.items } };
 
     ghost invariant = { λ l. IsLawful l.hub.hub l.answers };
+}
+
+/// Makes the step that the process asks for.
+fn make_step(
+    hub: &mut Hub,
+    pid: Pid,
+    request: &Request<'_>,
+    events: &mut Events,
+) -> Result<(), Fault>
+    ensures ok { OnOk result (
+        Steps hub.old.hub (entry_by pid request.now) hub.new.hub events.new.items) }
+    ensures refused { IfErr result (λ f. Refuses hub.old.hub (entry_by pid request.now) f) }
+    ensures unchanged { OnErr result (hub.new.hub ≡ hub.old.hub) }
+{
+    match *request {
+        Request::Call {
+            cases,
+            default,
+            word,
+        } => hub.call_into(pid, cases, default, word, events),
+        _ => make_rare_step(hub, pid, request, events),
+    }
+}
+
+/// Makes the step by an entry that is moved into the journal. It stands alone, so that a call keeps no place for
+/// such an entry on its stack.
+#[inline(never)]
+fn make_rare_step(
+    hub: &mut Hub,
+    pid: Pid,
+    request: &Request<'_>,
+    events: &mut Events,
+) -> Result<(), Fault>
+    ensures ok { OnOk result (
+        Steps hub.old.hub (entry_by pid request.now) hub.new.hub events.new.items) }
+    ensures refused { IfErr result (λ f. Refuses hub.old.hub (entry_by pid request.now) f) }
+    ensures unchanged { OnErr result (hub.new.hub ≡ hub.old.hub) }
+{
+    let step = request.step();
+    hub.step_into(Entry { pid, step }, events)
 }
 
 /// Puts an answer, or none, into the place of a process, where it has one.
@@ -97,20 +138,19 @@ impl Locked {
     ///
     /// Refused as the hub refuses it, and then nothing changes: an exit never by `JournalFull` or
     /// `NoMemory`.
-    pub fn step(&mut self, entry: Entry) -> Result<Event, Fault>
-        ensures ok { IfOk result (λ answer. Serves self.old entry self.new answer) }
+    pub fn step(&mut self, pid: Pid, request: &Request<'_>) -> Result<Event, Fault>
+        ensures ok { IfOk result (λ answer. Serves self.old (entry_by pid request.now) self.new answer) }
         ensures reply { IfOk result (λ answer. is_parked answer.what ≡ false →
-            IsReplyTo self.new.hub.terms.head entry.pid.0 self.new.hub.journal answer) }
-        ensures refused { IfErr result (λ f. Refuses self.old.hub entry f) }
+            IsReplyTo self.new.hub.terms.head pid.0 self.new.hub.journal answer) }
+        ensures refused { IfErr result (λ f. Refuses self.old.hub (entry_by pid request.now) f) }
         ensures unchanged { OnErr result (self.new ≡ self.old) }
     {
-        let caller = entry.pid;
-        self.hub.step_into(entry, &mut self.events)?;
+        make_step(&mut self.hub, pid, request, &mut self.events)?;
         let Some((first, ended)) = self.events.as_slice().split_first() else {
             unreachable!()
         };
         let answer = *first;
-        put(&mut self.answers, caller, None);
+        put(&mut self.answers, pid, None);
         put_all(&mut self.answers, ended);
         self.ended = pids_of(ended);
         Ok(answer)

@@ -3,5 +3,6 @@
 
 pub use crate::desk::Desk;
 pub use crate::locked::{Locked, Pids};
+pub use crate::request::Request;
 pub use crate::seat::InnerSeat;
 pub use crate::words::Words;

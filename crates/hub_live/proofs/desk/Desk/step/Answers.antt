@@ -1,6 +1,6 @@
 use Rattle.std.proofs.Common.{◌∙◌, sym, ap, refl, subst}
-use Rattle.hub_live.specs.Prelude.{IsHistory, Terms, LockedView, Met}
-use Rattle.hub_live.proofs.Desks.{hub_steps, next_served, Stepped, stepped, desk_single, desk_seen, reply_there, refusal_seen}
+use Rattle.hub_live.specs.Prelude.{entry_by, IsHistory, Terms, LockedView, Met, Refuses, SeatView, Serves}
+use Rattle.hub_live.proofs.Desks.{served_by, refused_by, hub_steps, next_served, Stepped, stepped, desk_single, desk_seen, reply_there, refusal_seen}
 use Rattle.hub_live.proofs.Laters.{met, IsSeatOf, seat_opened, HasSeen, has_seen, asked_nothing}
 use Rattle.hub_live.proofs.desk.Desk.step.Given.{Over}
 use Rattle.hub_live.proofs.desk.Desk.step.Goals as goal
@@ -14,15 +14,28 @@ mark_at-mark-requires g c =
 pub publish-requires-clause-next : goal.publish-requires-clause-next
 publish-requires-clause-next g c =
     let mine = seat_opened c.requires.hub c.seat.invariant c.seat.view_is (sym c.take.ensures.value ∙ c.in-Some.is) in
-    next_served c.self.invariant mine c.requires.pid c.join.ensures.sees c.in-Ok.ensures.ok c.newest-made.ensures c.changed-port.ensures c.from.ensures
+    let served = served_by c.args.request.now mine c.in-Ok.ensures.ok in
+    next_served c.self.invariant mine refl c.join.ensures.sees served c.newest-made.ensures c.changed-port.ensures c.from.ensures
     c.mark_at-mark.ensures
 
-made : (g : Over) (c : Joined-seat g) → Stepped g.K.HubName.name c.args.seat.now c.args.entry c.step.new.self c.part.new.token c.seat.inside.pid c.part.result
+stepper : (g : Over) (c : Joined-seat g) → IsSeatOf g.K.HubName.name c.args.seat.now c.seat.inside.pid c.in-Some.mine
+stepper g c = seat_opened c.requires.hub c.seat.invariant c.seat.view_is (sym c.take.ensures.value ∙ c.in-Some.is)
+
+served : (g : Over) (c : Joined-seat g)
+    → Serves c.self.inside.locked (entry_by c.args.seat.now.pid c.args.request.now) c.step.new.self c.in-Ok.answer
+served g c = served_by c.args.request.now (stepper g c) c.in-Ok.ensures.ok
+
+pub returns-in-Ok-clause-ok : goal.returns-in-Ok-clause-ok
+returns-in-Ok-clause-ok g c =
+    subst (λ (l : LockedView). Serves l (entry_by c.args.seat.now.pid c.args.request.now) c.step.new.self c.in-Ok.answer) c.self.view_is (served g c)
+
+made : (g : Over) (c : Joined-seat g)
+    → Stepped g.K.HubName.name c.args.seat.now (entry_by c.args.seat.now.pid c.args.request.now) c.step.new.self c.part.new.token c.seat.inside.pid
+    c.part.result
 made g c =
-    let mine = seat_opened c.requires.hub c.seat.invariant c.seat.view_is (sym c.take.ensures.value ∙ c.in-Some.is) in
     let p = c.part.ensures in
     let newest = c.newest-made.ensures in
-    stepped c.self.invariant mine c.requires.pid c.join.ensures.sees c.in-Ok.ensures.ok newest c.publish.ensures.view p.token p.left p.given p.back
+    stepped c.self.invariant (stepper g c) refl c.join.ensures.sees (served g c) newest c.publish.ensures.view p.token p.left p.given p.back
 
 pub invariant_of-self : goal.invariant_of-self
 invariant_of-self g c = (made g c).desk
@@ -45,7 +58,7 @@ returns-in-Ok-clause-own g c = (made g c).own
 pub returns-in-Ok-clause-told : goal.returns-in-Ok-clause-told
 returns-in-Ok-clause-told g c clear =
     let m = made g c in
-    reply_there m.desk.hub.terms refl (sym m.seen) (c.in-Ok.ensures.reply clear)
+    reply_there m.desk.hub.terms (ap (λ (y : SeatView). y.pid) (stepper g c).shows) (sym m.seen) (c.in-Ok.ensures.reply clear)
 
 seat : (g : Over) (c : Joined-seat-2 g) → IsSeatOf g.K.HubName.name c.args.seat.now c.seat.inside.pid c.in-Some.mine
 seat g c = seat_opened c.requires.hub c.seat.invariant c.seat.view_is (sym c.take.ensures.value ∙ c.in-Some.is)
@@ -68,12 +81,19 @@ returns-in-Err-clause-seen g c = sym (meeting g c).together ∙ (invariant_of-se
 pub returns-in-Err-clause-begins : goal.returns-in-Err-clause-begins
 returns-in-Err-clause-begins g c = (left g c).follows.begins
 
+refused : (g : Over) (c : Joined-seat-2 g) → Refuses c.self.inside.locked.hub (entry_by c.args.seat.now.pid c.args.request.now) c.in-Err.fault
+refused g c = refused_by c.args.request.now c.self.inside.locked.hub c.in-Err.fault (seat g c) c.in-Err.ensures.refused
+
+pub returns-in-Err-clause-refused : goal.returns-in-Err-clause-refused
+returns-in-Err-clause-refused g c =
+    subst (λ (l : LockedView). Refuses l.hub (entry_by c.args.seat.now.pid c.args.request.now) c.in-Err.fault) c.self.view_is (refused g c)
+
 pub returns-in-Err-clause-shows : goal.returns-in-Err-clause-shows
 returns-in-Err-clause-shows g c =
     let seen = returns-in-Err-clause-seen g c ∙ ap (λ (l : LockedView). l.hub.journal) c.in-Err.ensures.unchanged in
     let r = c.requires in
-    let refused = c.in-Err.ensures.refused in
-    refusal_seen c.part-in-Err.result c.args.entry c.in-Err.fault c.self.invariant (seat g c) (left g c).follows seen r.hub r.pid r.free refused
+    let asked = entry_by c.args.seat.now.pid c.args.request.now in
+    refusal_seen c.part-in-Err.result asked c.in-Err.fault c.self.invariant (seat g c) (left g c).follows seen r.hub refl r.free (refused g c)
 
 pub returns-in-Err-clause-left : goal.returns-in-Err-clause-left
 returns-in-Err-clause-left g c = asked_nothing (left g c).follows c.requires.free

@@ -54,7 +54,7 @@ pub record BlankView : Type 0 where
   pub name : Name
   pub locked : LockedView
 
--- what a hub that has no name yet is made of; it has one condition variable for each process
+-- what a hub that has no name yet is made of; it has a parker for each process
 pub record IsBlank
     (table : TableId) (terms : Terms) (l : LockedView) (t : Seat (Unit {0}) View) (count : ℕ) :
     Type 0 where

@@ -12,6 +12,7 @@ use crate::desk::Desk;
 use crate::live_hub::LiveHub;
 use crate::locked::Locked;
 use crate::name::HubName;
+use crate::parker::Parker;
 use crate::rule::{HubTable, Token};
 use crate::seat::{InnerSeat, Seat};
 use crate::words::{Words, draw, open_table};
@@ -19,7 +20,6 @@ use hub_base::{Head, Pid};
 use hub_core::{Hub, OpenFault, Terms};
 use std::alloc::{AllocError, Global};
 use std::marker::Model;
-use std::sync::Condvar;
 
 /// A hub that has no name yet. To a contract it is the name that it can have, and what is to lie
 /// under its lock.
@@ -32,7 +32,7 @@ pub struct Blank {
     /// The hub, at which nothing has happened.
     locked: Locked,
     /// What the thread of each process waits on.
-    wakers: Vec<Condvar>,
+    wakers: Vec<Parker>,
 }
 
 impl Model for Blank {
@@ -49,13 +49,13 @@ impl Model for Blank {
         IsBlank b.table.shared.table_id b.table.shared.key b.locked b.token (vec_len b.wakers) };
 }
 
-/// A condition variable for each process.
-fn wakers_of(alloc: Global, procs: u8) -> Result<Vec<Condvar>, AllocError>
+/// A parker for each process.
+fn wakers_of(alloc: Global, procs: u8) -> Result<Vec<Parker>, AllocError>
     ensures { IfOk result (λ wakers. vec_len wakers ≡ procs) }
 {
     let mut wakers = Vec::new(alloc);
     for _pid in 0..procs {
-        wakers.push(Condvar::new())?;
+        wakers.push(Parker::new())?;
     }
     Ok(wakers)
 }
@@ -81,7 +81,7 @@ fn seats_of(alloc: Global, table: &HubTable, procs: u8) -> Result<Vec<Seat>, All
 impl Blank {
     /// A hub of 1 to `MOST_PROCS` processes whose journal may hold 1 to `MOST_STEPS` entries that are no
     /// exits, and a seat for each process, in order. Refused as `Hub::open` is, and nothing is kept; by
-    /// `NoMemory` also where the words, the condition variables or the seats were refused memory, or a
+    /// `NoMemory` also where the words, the parkers or the seats were refused memory, or a
     /// seat can't draw its number.
     #[tactic(auto, using(crate::proofs::Laters::all_of_hub, crate::proofs::Openings::refused_so, crate::proofs::Openings::memory_refused))]
     pub fn open(alloc: Global, procs: u8, limit: u32) -> Result<(Blank, Vec<Seat>), OpenFault>

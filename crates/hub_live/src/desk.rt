@@ -5,6 +5,9 @@
 //! since a store is judged by what the seat that stores knows.
 
 ghost use Rattle.std.specs.Prelude.{◌≡◌, ◌≤◌, ◌<◌, ◌+◌, ◌++◌, ◌∷◌, [], List, length, Some, None, false, IfOk, IfErr, OnOk, OnErr, IfSome, IfNone, OnSome};
+ghost use Rattle.std.specs.List.{list_any};
+ghost use Rattle.hub_base.specs.Ready.{port_of};
+ghost use Rattle.hub_live.specs.Locked.{has_buffer};
 ghost use Rattle.hub_live.specs.Prelude.{IsPrefix, Entry, steps_of, IsLegal, number_of, port_changed_by, Refuses, state_of, mark_at, Serves};
 ghost use Rattle.hub_live.specs.Prelude.{answer_for, without_answer, IsReplyTo, IsHistory, IsFree, own_of, IsDesk, Tells, Shows, AskedNothing};
 ghost use Rattle.hub_live.specs.Prelude.{StandsIn, entry_by};
@@ -16,7 +19,7 @@ use crate::request::Request;
 use crate::rule::Token;
 use crate::seat::InnerSeat;
 use crate::words::Words;
-use hub_base::{Entry, Event, Fault, Journal, MOST_STEPS, Pid, Port, Step, What};
+use hub_base::{Case, Entry, Event, Fault, Journal, MOST_STEPS, Pid, Port, Step, What};
 use hub_core::port_changed;
 use std::marker::{Model, PhantomData};
 
@@ -59,6 +62,19 @@ fn mark_at(locked: &Locked, port: Port) -> u64
         Some(look) => mark_of(&look.counts),
         None => 0,
     }
+}
+
+fn has_buffer(locked: &Locked, port: Port) -> bool
+    ensures { result ≡ has_buffer (state_of locked.now.hub) port }
+{
+    locked.look(port).is_some_and(|look| look.cap > 0)
+}
+
+/// Whether a port of these cases has a buffer.
+fn names_buffered(locked: &Locked, cases: &[Case]) -> bool
+    ensures { result ≡ list_any (λ c. has_buffer (state_of locked.now.hub) (port_of c)) cases.now }
+{
+    cases.iter().any(|case| has_buffer(locked, case.port()))
 }
 
 /// The newest entry of the journal.
@@ -156,6 +172,19 @@ impl<K: HubName> Desk<K> {
         };
         seat.token = Some(words.meet(&mut self.token, mine));
         Some(answer)
+    }
+
+    /// Whether the newest entry is a call, of whose ports none has a buffer.
+    pub(crate) fn is_unbuffered(&self) -> bool {
+        match self.locked.entries().last() {
+            Some(
+                Entry {
+                    step: Step::Call { cases, .. },
+                    ..
+                },
+            ) => !names_buffered(&self.locked, cases.as_slice()),
+            _ => false,
+        }
     }
 
     /// Whose calls the last step ended, where it was made.

@@ -9,6 +9,7 @@ mod live_hub;
 mod locked;
 mod mark;
 mod name;
+mod parker;
 mod request;
 mod rule;
 mod seat;

@@ -5,19 +5,24 @@ ghost use Rattle.hub_base.specs.declared.event.What.TheVariants as what;
 ghost use Rattle.hub_live.specs.Prelude.{Send, Recv, Make, Call, Close, Exit, call, tells, steps_of, IsLegal, is_parked, counts_at, state_seen, Later};
 ghost use Rattle.hub_live.specs.Request.{step_of};
 ghost use Rattle.hub_live.specs.Prelude.{entry_by, Made, Refused, MadeEntry, RefusedEntry, Answers, AnswersNoCall, AskedNothing, StandsIn};
+ghost use Rattle.hub_live.specs.Prelude.{IsHistory, IsPrefix, IsReplyTo, own_of};
 
 use crate::desk::Desk;
 use crate::ends::{Chan, RecvPort, SendPort};
 use crate::locked::Pids;
 use crate::mark::read_back;
 use crate::name::HubName;
+use crate::parker::Parker;
 use crate::request::Request;
-use crate::seat::Seat;
+use crate::seat::{InnerSeat, Seat};
 use crate::words::Words;
 use hub_base::{
     Case, Cases, CasesExt, Counts, Event, Fault, Journal, MOST_PORTS, Pid, Port, Value, What,
 };
-use std::sync::{Condvar, Mutex, Wait};
+use std::sync::{Mutex, MutexGuard, Wait};
+
+/// How often a thread tries to take the lock before it may sleep, some 4 microseconds.
+const TRIES: u32 = 40;
 
 /// A hub that threads share. Each seat that is passed to it must come from its own `Blank::open`.
 #[derive(Drop)]
@@ -26,9 +31,9 @@ pub struct LiveHub<K: HubName> {
     words: Words<K>,
     /// What a step takes the lock for.
     desk: Mutex<Desk<K>>,
-    /// By process number: told when an answer waits for that process. A wake is only a hint: a call
+    /// By process number: told when an answer waits for that process. That is only a hint: a call
     /// ends where it finds its own answer.
-    wakers: Vec<Condvar>,
+    wakers: Vec<Parker>,
     ghost is: { vec_len wakers ≡ K.name.terms.head.procs },
 }
 
@@ -39,7 +44,7 @@ fn is_parked(what: What) -> bool
 }
 
 impl<K: HubName> LiveHub<K> {
-    pub(crate) fn of(words: Words<K>, desk: Desk<K>, wakers: Vec<Condvar>) -> LiveHub<K>
+    pub(crate) fn of(words: Words<K>, desk: Desk<K>, wakers: Vec<Parker>) -> LiveHub<K>
         requires { vec_len wakers ≡ K.name.terms.head.procs }
     {
         LiveHub {
@@ -53,7 +58,7 @@ impl<K: HubName> LiveHub<K> {
     fn wake(&self, ended: &Pids) {
         for pid in ended.as_slice() {
             if let Some(waker) = self.wakers.get(usize::from(pid.0)) {
-                waker.notify_one();
+                waker.tell();
             }
         }
     }
@@ -70,7 +75,7 @@ impl<K: HubName> LiveHub<K> {
             RefusedEntry seat.old seat.new (entry_by seat.old.pid request.now) f) }
     {
         let waker = &self.wakers[usize::from(seat.pid().0)];
-        let mut desk = self.desk.lock(rt);
+        let mut desk = self.lock(rt, waker);
         let answer = desk.step(&self.words, &mut seat.inner, request)?;
         let ended = desk.ended();
         if !is_parked(answer.what) {
@@ -80,12 +85,49 @@ impl<K: HubName> LiveHub<K> {
             return Ok(answer);
         }
         self.wake(&ended);
+        Ok(self.wait_for_answer(rt, desk, &mut seat.inner))
+    }
+
+    /// Takes the lock. Whoever holds it mostly lets it go before a thread could sleep, so it tries for a while first.
+    fn lock<'a, R: Wait>(&'a self, rt: &R, waker: &Parker) -> MutexGuard<'a, Desk<K>> {
+        for _ in 0..TRIES {
+            if let Some(desk) = self.desk.try_lock() {
+                return desk;
+            }
+            waker.pause();
+        }
+        self.desk.lock(rt)
+    }
+
+    /// Waits until an answer waits for the seat's process, and takes it; others may take the lock meanwhile.
+    fn wait_for_answer<'a, R: Wait>(
+        &'a self,
+        rt: &R,
+        desk: MutexGuard<'a, Desk<K>>,
+        seat: &mut InnerSeat,
+    ) -> Event
+        requires hub { seat.old.hub ≡ K.name }
+
+        ensures same { (seat.new.hub ≡ seat.old.hub) × (seat.new.pid ≡ seat.old.pid) }
+        ensures told { IsReplyTo K.name.terms.head seat.old.pid.0 seat.new.seen result }
+        ensures history { IsHistory K.name.terms seat.new.seen }
+        ensures begins { IsPrefix seat.old.seen seat.new.seen }
+        ensures own { own_of seat.new ≡ own_of seat.old }
+    {
+        let waker = &self.wakers[usize::from(seat.pid().0)];
+        // Where a port has a buffer, who sleeps lets the other side fill or empty it in one go.
+        let patient = desk.is_unbuffered();
+        let mut desk = desk;
         for _ in rt.forever() {
             // A `Stalled` of its own may lie there already.
-            if let Some(answer) = desk.pick(&self.words, &mut seat.inner) {
-                return Ok(answer);
+            if let Some(answer) = desk.pick(&self.words, seat) {
+                return answer;
             }
-            desk = waker.wait(rt, desk);
+            // Under the lock, so that whoever brings the answer tells it later.
+            waker.clear();
+            drop(desk);
+            waker.wait(rt, patient);
+            desk = self.lock(rt, waker);
         }
         unreachable!()
     }

@@ -1,0 +1,73 @@
+//! Where the thread of one process waits until another tells it that its answer is there.
+//!
+//! All of it is a hint, of which no clause speaks: whoever waited looks under the lock, and where it finds no answer
+//! it waits again. So that no wake is lost, who waits clears `told` under the lock, after it has found no answer there:
+//! whoever brings the answer has the lock later, and tells after that. The token of `sleeper` stays until it is taken.
+
+use std::sync::Wait;
+use std::sync::atomic::{AtomicBool, Ordering};
+use std::thread;
+
+/// How often a thread looks before it sleeps, some 10 microseconds: about what it takes to put a thread to sleep and
+/// to wake it. They are counted in loads, since std's `spin_loop` emits no instruction.
+const LOOKS: u32 = 20_000;
+
+/// How many loads take as long as a step under the lock.
+const LOADS_OF_A_PAUSE: u32 = 200;
+
+/// Where one thread waits.
+#[derive(Drop)]
+pub(crate) struct Parker {
+    /// Whether it was told since it was cleared. What looks before it sleeps reads this: std's parker shows no token.
+    told: AtomicBool,
+    /// Where it sleeps. Who wakes it makes a system call only where it does.
+    sleeper: thread::Parker,
+    /// Keeps the words of two processes off one line of the cache.
+    _apart: [u64; 6],
+}
+
+impl Parker {
+    pub(crate) fn new() -> Parker {
+        Parker {
+            told: AtomicBool::new(false),
+            sleeper: thread::Parker::new(),
+            _apart: [0; 6],
+        }
+    }
+
+    /// Before a wait, while the lock is still held.
+    pub(crate) fn clear(&self) {
+        self.told.store(false, Ordering::SeqCst);
+    }
+
+    /// Ends the wait of the thread that waits, or else the next.
+    pub(crate) fn tell(&self) {
+        self.told.store(true, Ordering::SeqCst);
+        self.sleeper.unpark();
+    }
+
+    /// Waits until it is told, where `patient` by looks at first. It may return for nothing.
+    pub(crate) fn wait<R: Wait>(&self, rt: &R, patient: bool) {
+        if patient && self.was_told() {
+            return;
+        }
+        self.sleeper.park(rt);
+    }
+
+    /// Looks for a while whether it was told.
+    fn was_told(&self) -> bool {
+        for _ in 0..LOOKS {
+            if self.told.load(Ordering::SeqCst) {
+                return true;
+            }
+        }
+        false
+    }
+
+    /// Lets some hundred nanoseconds pass.
+    pub(crate) fn pause(&self) {
+        for _ in 0..LOADS_OF_A_PAUSE {
+            let _told = self.told.load(Ordering::SeqCst);
+        }
+    }
+}

@@ -1,7 +1,7 @@
 -- Each process is told one event for its entry, unless it waits, and one for each call of its that ends.
 use Rattle.hub_laws.proofs.Prelude.{◌≡◌, Bool, true, false, List, [], ◌∷◌, ◌++◌, refl, ◌∙◌, subst, ℕ, ◌==◌, ◌+◌, ◌≤◌, cond, not, length, arith, ◌&&◌}
-use Rattle.hub_laws.proofs.Prelude.{eqb-true, or_parts, AllByRecursion, Entry, Step, Event, What, Pid, State, OpenCall, Change, tells, turn, counts, endings}
-use Rattle.hub_laws.proofs.Prelude.{is_parked, Apart, IsSound, is_among}
+use Rattle.hub_laws.proofs.Prelude.{or_parts, common_steps, AllByRecursion, Entry, Step, Event, What, Pid, State, OpenCall, Change, tells, turn}
+use Rattle.hub_laws.proofs.Prelude.{counts, endings, is_parked, Apart, IsSound, is_among}
 use Rattle.hub_laws.proofs.Account.{Account, with_caller, call_of}
 use Rattle.hub_laws.proofs.Entries.{turn-account}
 use Rattle.hub_laws.proofs.Events.{answer_counts, waiting-ends}
@@ -17,24 +17,22 @@ abbrev pub ends : ℕ → List Event → ℕ
 ends q events = length (endings q events)
 
 ends_cons : (q : ℕ) (e : Event) (es : List Event) → ends q (e ∷ es) ≡ one (counts e.what && (e.pid.0 == q)) + ends q es
-ends_cons q e es = elim (counts e.what && (e.pid.0 == q)) as (λ b. length (cond b (e ∷ endings q es) (endings q es)) ≡ one b + ends q es) [
-  | true ↦ omega arith
-  | false ↦ omega arith
-]
+ends_cons q e es = grind (arith, common_steps)
 
 pub open_none : (q : ℕ) (calls : List OpenCall) → is_among q calls ≡ false → open_calls q calls ≡ 0
 open_none q [] e = refl
 open_none q (call ∷ calls) e = let f = or_parts (call.pid.0 == q) (is_among q calls) e in rw (f.0, open_none q calls f.1) refl
 
-open_one : (b : Bool) (n : ℕ) → (b ≡ true → n ≡ 0) → n ≤ 1 → one b + n ≤ 1
-open_one true n h most = omega (arith, h refl)
-open_one false n h most = omega arith
-
 -- no process has two open calls
 pub open_most : (q : ℕ) (calls : List OpenCall) → Apart calls → open_calls q calls ≤ 1
 open_most q [] a = omega arith
-open_most q (call ∷ calls) a = open_one (call.pid.0 == q) (open_calls q calls)
-    (λ e. open_none q calls (subst (λ (n : ℕ). is_among n calls ≡ false) (eqb-true call.pid.0 q e) a.0)) (open_most q calls a.1)
+open_most q (call ∷ calls) a =
+    grind (
+      arith,
+      common_steps,
+      open_most q calls a.1,
+      λ (e : call.pid.0 ≡ q). open_none q calls (subst (λ (n : ℕ). is_among n calls ≡ false) e a.0),
+    )
 
 -- Balance: who steps gets one event or waits, and each call that ends gets one event
 

@@ -1,7 +1,7 @@
 -- Lists of open calls: what stays when some of them end, and when one more parks.
 use Rattle.hub_laws.proofs.Prelude.{◌≡◌, Bool, true, false, List, [], ◌∷◌, ◌++◌, refl, ◌∙◌, sym, subst, Option, Some, None, ℕ, ◌==◌, suc, ◌+◌, cond, arith}
 use Rattle.hub_laws.proofs.Prelude.{filter, ◌||◌, or-false, or_parts, or_left, or_right, or_from, false_from_ne_true, common_steps}
-use Rattle.hub_laws.proofs.Prelude.{list_any-append, list_any, AllByRecursion, option_map, slice_get, is_some, Case, Pid, Port, is_recv_on, first_with}
+use Rattle.hub_laws.proofs.Prelude.{list_any-append, list_any, AllByRecursion, option_map, slice_get, is_some, Case, Port, is_recv_on, first_with}
 use Rattle.hub_laws.proofs.Prelude.{is_send_on, Placed, Ending, or_else, lowest, lowest_from, OpenCall, Apart, is_among, some_call, Alone, CallFits}
 
 -- Numbers of processes
@@ -107,15 +107,9 @@ lowest-some i test (c ∷ cs) =
       | false ↦ lowest-some (i + 1) test cs
     ]
 
-first_or : (o : Option Ending) (t b : Bool) (x : Option Placed) (pid : Pid) → is_some x ≡ t → is_some o ≡ b
-    → is_some (or_else (option_map (λ c. record { pid = pid; at = c }) x) o) ≡ (t || b)
-first_or o t b None pid d e = rw (sym d) e
-first_or o t b (Some x) pid d e = rw (sym d) refl
-
 pub first-some : (test : Case → Bool) (calls : List OpenCall) → is_some (first_with test calls) ≡ some_call test calls
 first-some test [] = refl
-first-some test (call ∷ calls) = first_or (first_with test calls) (list_any test call.cases) (some_call test calls)
-    (lowest test call.cases) call.pid (lowest-some 0 test call.cases) (first-some test calls)
+first-some test (call ∷ calls) = grind (arith, common_steps, lowest-some 0 test call.cases, first-some test calls)
 
 -- where a case stands in a list that is numbered from `i`
 abbrev pub StandsAt : ℕ → List Case → Placed → Type 0

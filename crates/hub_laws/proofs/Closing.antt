@@ -1,5 +1,5 @@
 -- A close, one open call at a time: what a loop that ends the oldest call on the port has done.
-use Rattle.hub_laws.proofs.Prelude.{◌≡◌, Bool, true, false, List, [], ◌∷◌, refl, ap, ◌∙◌, sym, subst, Option, Some, None, ℕ, ◌==◌, not, filter, eqb-true}
+use Rattle.hub_laws.proofs.Prelude.{◌≡◌, true, false, List, [], ◌∷◌, refl, ap, ◌∙◌, sym, subst, Option, Some, None, ℕ, ◌==◌, not, filter, eqb-true}
 use Rattle.hub_laws.proofs.Prelude.{or_left, or_right, false_from_ne_true, list_any, filter_map, option_map, is_some, Pid, Port, first_with, Placed, Ending}
 use Rattle.hub_laws.proofs.Prelude.{or_else, lowest, is_on, without, OpenCall, fired, closing_event, closing_outcome, Apart, is_among}
 use Rattle.hub_laws.proofs.Calls.{lowest-some, same_number}
@@ -60,21 +60,19 @@ next_later p call calls e at on apart n =
       or_right (call.pid.0 == e.pid.0) (is_among e.pid.0 calls) n.2,
     )
 
-next_by : (p : Port) (call : OpenCall) (calls : List OpenCall) (o : Option Placed) (b : Bool) → o ≡ lowest (is_on p) call.cases
-    → b ≡ list_any (is_on p) call.cases → b ≡ is_some o → is_among call.pid.0 calls ≡ false → ClosesNext p calls (first_with (is_on p) calls)
-    → ClosesNext p (call ∷ calls) (or_else (option_map (λ c. record { pid = call.pid; at = c }) o) (first_with (is_on p) calls))
-next_by p call calls None false at on some apart rest = record {
+next_by : (p : Port) (call : OpenCall) (calls : List OpenCall) (o : Option Placed) → o ≡ lowest (is_on p) call.cases →
+    is_some o ≡ list_any (is_on p) call.cases → is_among call.pid.0 calls ≡ false → ClosesNext p calls (first_with (is_on p) calls) →
+    ClosesNext p (call ∷ calls) (or_else (option_map (λ c. record { pid = call.pid; at = c }) o) (first_with (is_on p) calls))
+next_by p call calls None at on apart rest = record {
   none = λ h. (skips p call calls at ∙ (rest.none h).0, stays p call calls on ∙ ap (λ cs. call ∷ cs) (rest.none h).1);
   next = λ e h. next_later p call calls e at on apart (rest.next e h);
 }
-next_by p call calls None true at on some apart rest = cc
-next_by p call calls (Some a) true at on some apart rest = record {
+next_by p call calls (Some a) at on apart rest = record {
   none = λ h. absurd (let g : ⊥ = cc in g);
   next = λ e h. let same : record { pid = call.pid; at = a } ≡ e = cc in subst (NextOf p (call ∷ calls)) same (next_here p call calls a at on apart);
 }
-next_by p call calls (Some a) false at on some apart rest = cc
 
 pub closes-next : (p : Port) (calls : List OpenCall) → Apart calls → ClosesNext p calls (first_with (is_on p) calls)
 closes-next p [] a = record { none = λ e. (refl, refl); next = λ e h. cc }
-closes-next p (call ∷ calls) a = next_by p call calls (lowest (is_on p) call.cases) (list_any (is_on p) call.cases) refl refl
-    (sym (lowest-some 0 (is_on p) call.cases)) a.0 (closes-next p calls a.1)
+closes-next p (call ∷ calls) a =
+    next_by p call calls (lowest (is_on p) call.cases) refl (lowest-some 0 (is_on p) call.cases) a.0 (closes-next p calls a.1)

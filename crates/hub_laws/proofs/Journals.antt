@@ -71,11 +71,9 @@ grows-law head es e = record {
 
 kept_most : (s : State) (es : List Entry) → length (kept_after s es) ≤ length es
 kept_most s [] = omega arith
-kept_most s (e ∷ es) = by (refusal s e.pid) (kept_most (moves s e).state es)
-  where
-    by : (o : Option Fault) → length (kept_after (moves s e).state es) ≤ length es → length (keeps o e (kept_after (moves s e).state es)) ≤ length (e ∷ es)
-    by None most = omega arith
-    by (Some f) most = omega arith
+kept_most s (e ∷ es) =
+    by-refusal (λ o. length (keeps o e (kept_after (admits s e o).state es)) ≤ length (e ∷ es)) s e.pid
+    (λ is. omega (arith, kept_most (turn s e).state es)) (λ f is. omega (arith, kept_most s es))
 
 -- where all entries are kept the first is admitted, and so are the others
 first_kept : (s : State) (e : Entry) (es : List Entry) (o : Option Fault) → keeps o e (kept_after (moves s e).state es) ≡ e ∷ es

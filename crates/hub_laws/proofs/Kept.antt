@@ -1,12 +1,12 @@
 -- Soundness of one port: where calls end or wait, and after each thing that a step does to its channel.
 use Rattle.hub_laws.proofs.Prelude.{◌≡◌, Bool, true, false, List, [], ◌∷◌, ◌++◌, refl, ◌∙◌, sym, Some, None, ℕ, ◌==◌, ◌+◌, cond, not, length, arith, filter}
-use Rattle.hub_laws.proofs.Prelude.{◌||◌, inl, inr, ◌-◌, ◌<◌, nat_lt, eqb-true, or_parts, or_left, or_right, or_from, or_cases, false_from_ne_true, ltb-false}
-use Rattle.hub_laws.proofs.Prelude.{lt-ltb, common_steps, list_any, AllByRecursion, slice_get, is_some, Case, Send, Recv, Head, Pid, Port, Value, can_proceed}
+use Rattle.hub_laws.proofs.Prelude.{◌||◌, inl, inr, ◌-◌, ◌<◌, nat_lt, or_parts, or_left, or_right, or_from, or_cases, false_from_ne_true, ltb-false}
+use Rattle.hub_laws.proofs.Prelude.{lt-ltb, common_steps, list_any, AllByRecursion, slice_get, is_some, Case, Head, Pid, Port, Value, can_proceed}
 use Rattle.hub_laws.proofs.Prelude.{port_of, is_recv_on, first_with, is_send_on, is_on, State, Channel, OpenCall, channel_at, opening, after_receive, shut}
 use Rattle.hub_laws.proofs.Prelude.{after_send, IsSound, PortSound, some_call, Alone, CallFits}
 use Rattle.hub_laws.proofs.Calls.{Fewer, fewer-filter, first-some, any_snoc, alone_snoc}
 use Rattle.hub_laws.proofs.Deeds.{fresh}
-use Rattle.hub_laws.proofs.Fires.{longer}
+use Rattle.hub_laws.proofs.Fires.{longer, is_on_port}
 use Rattle.hub_laws.proofs.Ready.{no_recv, no_send}
 
 -- at the opening
@@ -121,17 +121,11 @@ any_more t u (x ∷ xs) imp e = elim (or_cases (t x) (list_any t xs) e) [
   | inr r ↦ or_right (u x) (list_any u xs) (any_more t u xs imp r)
 ]
 
-gone_by : (b : Bool) (t u : Case → Bool) (call : OpenCall) (rest : List OpenCall) → b ≡ list_any u call.cases
-    → ((c : Case) → t c ≡ true → u c ≡ true) → some_call t rest ≡ false → some_call t (cond (not b) (call ∷ rest) rest) ≡ false
-gone_by true t u call rest is imp e = e
-gone_by false t u call rest is imp e = or_from (list_any t call.cases) (some_call t rest)
-    (false_from_ne_true (list_any t call.cases) (λ h. let g = any_more t u call.cases imp h in cc)) e
-
 -- a close leaves no such call
 gone_on : (t u : Case → Bool) (calls : List OpenCall) → ((c : Case) → t c ≡ true → u c ≡ true)
     → some_call t (filter (λ call. not (list_any u call.cases)) calls) ≡ false
 gone_on t u [] imp = refl
-gone_on t u (call ∷ calls) imp = gone_by (list_any u call.cases) t u call (filter (λ call. not (list_any u call.cases)) calls) refl imp (gone_on t u calls imp)
+gone_on t u (call ∷ calls) imp = grind (arith, common_steps, any_more t u call.cases imp, gone_on t u calls imp)
 
 pub port-shut : (p : Port) (c : Channel) (calls : List OpenCall) → PortSound p c calls →
     PortSound p (shut c) (filter (λ call. not (list_any (is_on p) call.cases)) calls)
@@ -164,21 +158,16 @@ alone-none p (call ∷ calls) r w =
     let w' = or_parts (list_any (is_send_on p) call.cases) (some_call (is_send_on p) calls) w in
     (λ e. w'.1, λ e. r'.1, alone-none p calls r'.1 w'.1)
 
-recv_unmade : (n : ℕ) (p : Port) (c : Case) → n < p.0 → is_recv_on p c ≡ true → nat_lt n (port_of c).0 ≡ true
-recv_unmade n p (Send q v) h e = cc
-recv_unmade n p (Recv q) h e = lt-ltb n q.0 (let g = eqb-true q.0 p.0 e in omega arith)
-
-send_unmade : (n : ℕ) (p : Port) (c : Case) → n < p.0 → is_send_on p c ≡ true → nat_lt n (port_of c).0 ≡ true
-send_unmade n p (Recv q) h e = cc
-send_unmade n p (Send q v) h e = lt-ltb n q.0 (let g = eqb-true q.0 p.0 e in omega arith)
+on_unmade : (n : ℕ) (p : Port) (c : Case) → n < p.0 → is_on p c ≡ true → nat_lt n (port_of c).0 ≡ true
+on_unmade n p c h e = lt-ltb n (port_of c).0 (rw (is_on_port p c e) h)
 
 pub port-fresh : (s : State) (q : Port) (cap : ℕ) → IsSound s → q.0 ≡ length s.channels + 1 →
     PortSound q (fresh cap) s.parked
 port-fresh s q cap sound new =
-    let recvs : some_call (is_recv_on q) s.parked ≡ false =
-    unmade (length s.channels) (is_recv_on q) s.parked sound.calls (λ c. recv_unmade (length s.channels) q c (omega (arith, new))) in
-    let sends : some_call (is_send_on q) s.parked ≡ false =
-    unmade (length s.channels) (is_send_on q) s.parked sound.calls (λ c. send_unmade (length s.channels) q c (omega (arith, new))) in
+    let n : ℕ = length s.channels in
+    let past : n < q.0 = omega (arith, new) in
+    let recvs = unmade n (is_recv_on q) s.parked sound.calls (λ c e. on_unmade n q c past (or_right (is_send_on q c) (is_recv_on q c) e)) in
+    let sends = unmade n (is_send_on q) s.parked sound.calls (λ c e. on_unmade n q c past (or_left (is_send_on q c) (is_recv_on q c) e)) in
     record {
       received = omega arith;
       fits = omega arith;

@@ -146,17 +146,17 @@ pub record ClosedAt (p : Port) (x : Ended) : Type 0 where
   pub on : is_on p at.case ≡ true
   pub stands : slice_get x.call.cases at.index ≡ Some at.case
 
-closed_by : (p : Port) (call : OpenCall) (calls kept : List OpenCall) (events : List Event) (b : Bool) (o : Option Placed) →
-    b ≡ is_some o → o ≡ lowest (is_on p) call.cases → Parts (ClosedAt p) calls kept events →
-    Parts (ClosedAt p) (call ∷ calls) (cond (not b) (call ∷ kept) kept)
+closed_by : (p : Port) (call : OpenCall) (calls kept : List OpenCall) (events : List Event) (o : Option Placed) →
+    o ≡ lowest (is_on p) call.cases → Parts (ClosedAt p) calls kept events →
+    Parts (ClosedAt p) (call ∷ calls) (cond (not (is_some o)) (call ∷ kept) kept)
     (cons_option (option_map (λ c. fired call.pid c.index (closing_outcome c.case)) o) events)
-closed_by p call calls kept events false None some is rest = record {
+closed_by p call calls kept events None is rest = record {
   ended = rest.ended;
   told = rest.told;
   each = rest.each;
   leaves = leave-later call rest.ended calls kept rest.leaves;
 }
-closed_by p call calls kept events true (Some a) some is rest =
+closed_by p call calls kept events (Some a) is rest =
     let x : Ended = record { call = call; what = what.Fired a.index (closing_outcome a.case) } in
     let l = lowest-at 0 (is_on p) call.cases a (sym is) in
     let k : a.index ≡ l.1.0 = omega (arith, l.1.1) in
@@ -166,8 +166,6 @@ closed_by p call calls kept events true (Some a) some is rest =
       each = (record { at = a; tells = refl; on = l.0; stands = rw k l.1.2 }, rest.each);
       leaves = next x rest.ended (call ∷ calls) calls kept (here calls) rest.leaves;
     }
-closed_by p call calls kept events true None some is rest = cc
-closed_by p call calls kept events false (Some a) some is rest = cc
 
 -- those that a close ends
 pub closed : (p : Port) (calls : List OpenCall) →
@@ -176,9 +174,8 @@ pub closed : (p : Port) (calls : List OpenCall) →
 closed p [] = record { ended = []; told = refl; each = tt; leaves = nobody [] }
 closed p (call ∷ calls) =
     let kept : List OpenCall = filter (λ call. not (list_any (is_on p) call.cases)) calls in
-    closed_by p call calls kept (filter_map (closing_event p) calls) (list_any (is_on p) call.cases)
-    (lowest (is_on p) call.cases)
-    (sym (lowest-some 0 (is_on p) call.cases)) refl (closed p calls)
+    rw (← lowest-some 0 (is_on p) call.cases)
+    (closed_by p call calls kept (filter_map (closing_event p) calls) (lowest (is_on p) call.cases) refl (closed p calls))
 
 -- those that a stall ends: all
 pub all_stalled : (calls : List OpenCall) → Parts (λ x. x.what ≡ what.Stalled) calls [] (stall_events calls)

@@ -1,8 +1,8 @@
 -- A journal holds at most one exit of each process.
-use Rattle.hub_laws.proofs.Prelude.{◌≡◌, Bool, true, false, List, [], ◌∷◌, ◌++◌, refl, ap, ◌∙◌, sym, subst, ℕ, ◌==◌, ◌+◌, ◌≤◌, cond}
-use Rattle.hub_laws.proofs.Prelude.{length, arith, ◌&&◌, ◌||◌, inl, inr, ◌<◌, eqb-true, or_cases, and_parts, length-map, length-append, map-append}
-use Rattle.hub_laws.proofs.Prelude.{AllByRecursion, Entry, Head, Pid, is_exit, admits, moves, state_after, state, kept_after, keeps, State, OpenCall}
-use Rattle.hub_laws.proofs.Prelude.{opening, turn, has_gone, one_step, steps_of, exits_of, LimitsLaw, Apart}
+use Rattle.hub_laws.proofs.Prelude.{◌≡◌, Bool, true, false, List, [], ◌∷◌, ◌++◌, refl, ap, ◌∙◌, sym, subst, ℕ, ◌==◌, ◌+◌, ◌≤◌, cond, length, arith, ◌&&◌}
+use Rattle.hub_laws.proofs.Prelude.{◌||◌, inl, inr, ◌<◌, eqb-true, or_cases, and_parts, common_steps, length-map, length-append, map-append, AllByRecursion}
+use Rattle.hub_laws.proofs.Prelude.{Entry, Head, Pid, is_exit, admits, moves, state_after, state, kept_after, keeps, State, OpenCall, opening, turn, has_gone}
+use Rattle.hub_laws.proofs.Prelude.{one_step, steps_of, exits_of, LimitsLaw, Apart}
 use Rattle.hub_laws.proofs.Ready.{Admitted, admitted, by-refusal}
 use Rattle.hub_laws.proofs.Leaving.{one}
 use Rattle.hub_laws.proofs.Distinct.{calls_by, among-calls_by, count-below}
@@ -14,18 +14,11 @@ use Rattle.hub_laws.proofs.Calls.{apart_snoc}
 -- Once
 
 once_by : (b g : Bool) (e : Entry) (es : List Entry) → (b ≡ true → g ≡ false) → length es + one (g || b) ≤ 1 → length (cond b (e ∷ es) es) + one g ≤ 1
-once_by true true e es free most = absurd (let h : true ≡ false = free refl in cc)
-once_by true false e es free most = omega arith
-once_by false true e es free most = most
-once_by false false e es free most = most
+once_by b g e es free most = grind (arith, common_steps)
 
 -- who has exited does not exit again, and nobody exits twice
 once_after : (q : ℕ) (s : State) (es : List Entry) → length (exits_of q (kept_after s es)) + one (has_gone s q) ≤ 1
-once_after q s [] = at (has_gone s q)
-  where
-    at : (b : Bool) → 0 + one b ≤ 1
-    at true = omega arith
-    at false = omega arith
+once_after q s [] = grind (arith, common_steps)
 once_after q s (e ∷ es) =
     by-refusal (λ o. length (exits_of q (keeps o e (kept_after (admits s e o).state es))) + one (has_gone s q) ≤ 1) s e.pid (λ is.
     let rest : length (exits_of q (kept_after (turn s e).state es)) + one (has_gone s q || (is_exit e.step && (e.pid.0 == q))) ≤ 1 =

@@ -13,14 +13,14 @@ events_after-append s [] fs = refl
 events_after-append s (e ∷ es) fs = ap (λ xs. (moves s e).events ++ xs) (events_after-append (moves s e).state es fs)
     ∙ sym (append_assoc (moves s e).events (events_after (moves s e).state es) (events_after (state_after (moves s e).state es) fs))
 
+keeps-append : (o : Option Fault) (e : Entry) (xs ys : List Entry) → keeps o e (xs ++ ys) ≡ keeps o e xs ++ ys
+keeps-append None e xs ys = refl
+keeps-append (Some f) e xs ys = refl
+
 pub kept_after-append : (s : State) (es fs : List Entry) → kept_after s (es ++ fs) ≡ kept_after s es ++ kept_after (state_after s es) fs
 kept_after-append s [] fs = refl
-kept_after-append s (e ∷ es) fs = ap (keeps (refusal s e.pid) e) (kept_after-append (moves s e).state es fs) ∙ by (refusal s e.pid)
-  where
-    by : (o : Option Fault) → keeps o e (kept_after (moves s e).state es ++ kept_after (state_after (moves s e).state es) fs)
-        ≡ keeps o e (kept_after (moves s e).state es) ++ kept_after (state_after (moves s e).state es) fs
-    by None = refl
-    by (Some f) = refl
+kept_after-append s (e ∷ es) fs = ap (keeps (refusal s e.pid) e) (kept_after-append (moves s e).state es fs)
+    ∙ keeps-append (refusal s e.pid) e (kept_after (moves s e).state es) (kept_after (state_after (moves s e).state es) fs)
 
 -- By one entry
 

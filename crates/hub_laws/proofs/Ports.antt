@@ -1,6 +1,7 @@
 -- The channel of a port, after one channel or one more was written.
-use Rattle.hub_laws.proofs.Prelude.{◌≡◌, Bool, true, false, List, [], ◌∷◌, refl, ap, sym, Some, None, ℕ, ◌==◌, zero, suc, cond, arith}
-use Rattle.hub_laws.proofs.Prelude.{◌-◌, ◌<◌, common_steps, slice_get, slice_set, Port, State, Channel, channel_at}
+use Rattle.hub_laws.proofs.Prelude.{◌≡◌, Bool, true, false, List, [], ◌∷◌, refl, ap, ◌∙◌, sym, Some, None, ℕ, ◌==◌, zero, suc, cond, length, arith, ◌-◌, ◌<◌}
+use Rattle.hub_laws.proofs.Prelude.{length-set, common_steps, get_or-set_same, slice_get_within, slice_get-get_or, slice_get, slice_set, Port, State, Channel}
+use Rattle.hub_laws.proofs.Prelude.{channel_at}
 
 pub above_zero : (n : ℕ) → (n == 0) ≡ false → 0 < n
 above_zero n e = grind (arith, common_steps)
@@ -24,9 +25,9 @@ same_port p q h = let f : ℕ → Port = λ n. record { 0 = n } in ap f h
 
 -- the channel that was written stands there
 get_set : (xs : List Channel) (i : ℕ) (c d : Channel) → slice_get xs i ≡ Some c → slice_get (slice_set xs i d) i ≡ Some d
-get_set [] i c d e = cc
-get_set (y ∷ ys) zero c d e = refl
-get_set (y ∷ ys) (suc i) c d e = get_set ys i c d e
+get_set xs i c d e =
+    let within : i < length xs = slice_get_within xs i c e in
+    slice_get-get_or (slice_set xs i d) i d (omega (arith, length-set xs i d)) ∙ ap (λ x. Some x) (get_or-set_same xs i d d within)
 
 pub written : (s t : State) (p : Port) (c d : Channel) → t.channels ≡ slice_set s.channels (p.0 - 1) d → channel_at s p ≡ Some c → channel_at t p ≡ Some d
 written s t p c d is e = let m = made s p c e in at_made t p d (record { number = m.number; channel = rw is (get_set s.channels (p.0 - 1) c d m.channel) })

@@ -10,7 +10,7 @@ pub use Rattle.std.proofs.lemmas.Bool.Decides.{nat_tests}
 pub use Rattle.std.proofs.lemmas.Grind.{common_steps}
 pub use Rattle.std.proofs.Math.Seq.{drop-cons, take-suc}
 pub use Rattle.std.proofs.lemmas.List.Folds.{list_any-append}
-pub use Rattle.std.proofs.lemmas.List.{drop_all, nil_from_length, length-map, length-append, map-append, length-drop, take-append-le}
+pub use Rattle.std.proofs.lemmas.List.{get_or-set_same, drop_all, nil_from_length, length-map, length-append, map-append, length-drop, take-append-le}
 pub use Rattle.std.proofs.lemmas.List.Elements.{filter_map-append, filter-append}
 pub use Rattle.std.proofs.lemmas.Map.Steps.{length-le_from_distinct_below}
 pub use Rattle.std.proofs.lemmas.Option.{slice_get_past, slice_get_cases, get_or_from_slice_get, slice_get_within, slice_get-get_or}

@@ -1,8 +1,8 @@
 -- The cases of a call that can proceed, and why an entry is admitted.
-use Rattle.hub_laws.proofs.Prelude.{◌≡◌, Bool, true, false, List, [], ◌∷◌, refl, sym, subst, Option, Some, None, ℕ, zero, suc, ◌+◌, cond, not, length}
-use Rattle.hub_laws.proofs.Prelude.{arith, filter, ◌||◌, inl, inr, ◌<◌, nat_lt, ◌%◌, or_parts, or_cases, common_steps, slice_get-get_or, list_any}
-use Rattle.hub_laws.proofs.Prelude.{enumerate_from, option_map_or, slice_get, Case, Fault, Pid, Port, can_proceed, is_recv_on, is_send_on}
-use Rattle.hub_laws.proofs.Prelude.{send_can, recv_can, State, Channel, channel_at, refusal, has_gone, is_waiting}
+use Rattle.hub_laws.proofs.Prelude.{◌≡◌, Bool, true, false, List, [], ◌∷◌, refl, sym, subst, Option, Some, None, ℕ, zero, suc, ◌+◌, cond, not, length, arith}
+use Rattle.hub_laws.proofs.Prelude.{filter, inl, inr, ◌<◌, nat_lt, ◌%◌, or_parts, or_cases, common_steps, slice_get-get_or, list_any, enumerate_from}
+use Rattle.hub_laws.proofs.Prelude.{option_map_or, slice_get, Case, Fault, Pid, Port, can_proceed, is_recv_on, is_send_on, send_can, recv_can, State, Channel}
+use Rattle.hub_laws.proofs.Prelude.{channel_at, refusal, has_gone, is_waiting}
 use Rattle.hub_base.specs.declared.fault.Fault.TheVariants as fault
 use Rattle.hub_laws.proofs.Calls.{StandsAt}
 use Rattle.hub_laws.proofs.Fires.{is_recv, is_send}
@@ -13,14 +13,10 @@ ready_none (x ∷ xs) word e =
     let some = slice_get-get_or (x ∷ xs) (word % length (x ∷ xs)) x (omega arith) in
     absurd (let g : ⊥ = cc in g)
 
-none_can_by : (b : Bool) (i : ℕ) (c : Case) (rest : List (ℕ × Case)) (t : Bool) → cond b ((i, c) ∷ rest) rest ≡ [] → (rest ≡ [] → t ≡ false) → (b || t) ≡ false
-none_can_by true i c rest t e h = cc
-none_can_by false i c rest t e h = h e
-
 -- where no case is listed none can proceed
 pub none_can : (i : ℕ) (can : Case → Bool) (cases : List Case) → filter (λ x. can x.1) (enumerate_from i cases) ≡ [] → list_any can cases ≡ false
 none_can i can [] e = refl
-none_can i can (c ∷ cs) e = none_can_by (can c) i c (filter (λ x. can x.1) (enumerate_from (i + 1) cs)) (list_any can cs) e (none_can (i + 1) can cs)
+none_can i can (c ∷ cs) e = grind (arith, common_steps, none_can (i + 1) can cs)
 
 -- a listed case can proceed, and stands in its place
 pub record Chosen (can : Case → Bool) (i : ℕ) (cases : List Case) (x : ℕ × Case) : Type 0 where

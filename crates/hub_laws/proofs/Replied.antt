@@ -1,6 +1,6 @@
 -- The events of an admitted entry are replies.
 use Rattle.hub_laws.proofs.Prelude.{◌≡◌, Bool, true, false, List, [], ◌∷◌, ◌++◌, refl, ap, ◌∙◌, sym, subst, Some, None, ℕ, ◌==◌, zero, suc, append-nil, ◌+◌}
-use Rattle.hub_laws.proofs.Prelude.{◌≤◌, cond, not, length, arith, ◌&&◌, filter, ◌||◌, nat_lt, and-false, and-true, eqb-true, or_parts, common_steps}
+use Rattle.hub_laws.proofs.Prelude.{◌≤◌, cond, not, length, arith, ◌&&◌, filter, nat_lt, and-false, and-true, eqb-true, or_parts, common_steps}
 use Rattle.hub_laws.proofs.Prelude.{nil_from_length, AllByRecursion, slice_get, Entry, Event, Head, Pid, admits, moves, state, State, OpenCall, refusal}
 use Rattle.hub_laws.proofs.Prelude.{is_waiting, IsAnswered, ends_waiting, endings, is_parked, last_from, reply, told_to, is_told, IsReply, IsLeft, AreReplied}
 use Rattle.hub_laws.proofs.Prelude.{RepliedLaw, IsSound, is_among}
@@ -9,7 +9,6 @@ use Rattle.hub_laws.proofs.Ready.{admitted}
 use Rattle.hub_laws.proofs.Rules.{state-sound}
 use Rattle.hub_laws.proofs.Events.{Counted, answered_counts, waiting-ends}
 use Rattle.hub_laws.proofs.Balance.{open_calls, ends, open_none, open_most, Balance, turn-balance}
-use Rattle.hub_laws.proofs.Leaving.{one}
 use Rattle.hub_laws.proofs.Answered.{moves-answered}
 use Rattle.hub_laws.proofs.Replies.{told_none, reply-untold, own-others, reply-entry}
 use Rattle.hub_laws.proofs.Longer.{state-entry}
@@ -18,11 +17,7 @@ use Rattle.hub_laws.proofs.Longer.{state-entry}
 
 among-count : (q : ℕ) (calls : List OpenCall) → is_among q calls ≡ nat_lt 0 (open_calls q calls)
 among-count q [] = refl
-among-count q (call ∷ calls) = by (call.pid.0 == q) (among-count q calls)
-  where
-    by : (b : Bool) → is_among q calls ≡ nat_lt 0 (open_calls q calls) → (b || is_among q calls) ≡ nat_lt 0 (one b + open_calls q calls)
-    by true e = grind (arith, common_steps)
-    by false e = let same : open_calls q calls ≡ 0 + open_calls q calls = omega arith in e ∙ ap (λ n. nat_lt 0 n) same
+among-count q (call ∷ calls) = grind (arith, common_steps, among-count q calls)
 
 moves-balance : (q : ℕ) (s : State) (e : Entry) → IsSound s → refusal s e.pid ≡ None → Balance q s e.pid (moves s e)
 moves-balance q s e sound is = subst (λ o. Balance q s e.pid (admits s e o)) (sym is) (turn-balance q s e sound)

@@ -1,26 +1,24 @@
 -- The words of soundness over buffers.
-use Rattle.hub_laws.proofs.Prelude.{◌≡◌, false, List, [], ◌∷◌, refl, ◌≤◌, length, arith, or_parts, or_from, drop_all, length-drop}
-use Rattle.hub_laws.proofs.Prelude.{list_any, Case, Entry, Head, Port, is_recv_on, is_send_on, is_on, state, State, Channel, OpenCall, IsSound, PortSound}
-use Rattle.hub_laws.proofs.Prelude.{some_call, PortLaws, StateLaws}
+use Rattle.hub_laws.proofs.Prelude.{◌≡◌, Bool, false, List, [], ◌∷◌, refl, ◌≤◌, length, arith, or_parts, or_from, drop_all, length-drop, list_any}
+use Rattle.hub_laws.proofs.Prelude.{Entry, Head, Port, is_recv_on, is_send_on, is_on, state, State, Channel, OpenCall, IsSound, PortSound, some_call}
+use Rattle.hub_laws.proofs.Prelude.{PortLaws, StateLaws}
 use Rattle.hub_laws.proofs.Distinct.{count-below}
 use Rattle.hub_laws.proofs.Lasting.{ports-law}
 use Rattle.hub_laws.proofs.Rules.{state-sound}
 
+none_either : {A : Type 0} (t u v : A → Bool) (xs : List A) → ((x : A) → t x ≡ false → u x ≡ false → v x ≡ false) →
+    list_any t xs ≡ false → list_any u xs ≡ false → list_any v xs ≡ false
+none_either t u v [] both r w = refl
+none_either t u v (x ∷ xs) both r w =
+    let r' = or_parts (t x) (list_any t xs) r in
+    let w' = or_parts (u x) (list_any u xs) w in
+    or_from (v x) (list_any v xs) (both x r'.0 w'.0) (none_either t u v xs both r'.1 w'.1)
+
 on_none : (p : Port) (calls : List OpenCall) → some_call (is_recv_on p) calls ≡ false → some_call (is_send_on p) calls ≡ false
     → some_call (is_on p) calls ≡ false
-on_none p [] r w = refl
-on_none p (call ∷ calls) r w =
-    let r' = or_parts (list_any (is_recv_on p) call.cases) (some_call (is_recv_on p) calls) r in
-    let w' = or_parts (list_any (is_send_on p) call.cases) (some_call (is_send_on p) calls) w in
-    or_from (list_any (is_on p) call.cases) (some_call (is_on p) calls) (cases_none p call.cases r'.0 w'.0) (on_none p calls r'.1 w'.1)
-  where
-    cases_none : (p : Port) (cases : List Case) → list_any (is_recv_on p) cases ≡ false → list_any (is_send_on p) cases ≡ false
-        → list_any (is_on p) cases ≡ false
-    cases_none p [] r w = refl
-    cases_none p (c ∷ cs) r w =
-        let r' = or_parts (is_recv_on p c) (list_any (is_recv_on p) cs) r in
-        let w' = or_parts (is_send_on p c) (list_any (is_send_on p) cs) w in
-        or_from (is_on p c) (list_any (is_on p) cs) (or_from (is_send_on p c) (is_recv_on p c) w'.0 r'.0) (cases_none p cs r'.1 w'.1)
+on_none p calls =
+    none_either (λ c. list_any (is_recv_on p) c.cases) (λ c. list_any (is_send_on p) c.cases) (λ c. list_any (is_on p) c.cases) calls
+    (λ c. none_either (is_recv_on p) (is_send_on p) (is_on p) c.cases (λ k r w. or_from (is_send_on p k) (is_recv_on p k) w r))
 
 port-laws : (p : Port) (c : Channel) (calls : List OpenCall) → PortSound p c calls → PortLaws p c calls
 port-laws p c calls f = record {

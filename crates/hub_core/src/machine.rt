@@ -37,6 +37,14 @@ impl Model for Machine {
     ghost invariant = { λ m. IsReached m.state };
 }
 
+/// Takes the events away one by one. They are few, and to clear the list would cost more.
+#[inline]
+fn empty(events: &mut Events)
+    ensures { events.new.items ≡ [] }
+{
+    while let Some(_event) = events.pop() {}
+}
+
 impl Machine {
     /// A machine of 1 to `MOST_PROCS` processes, at which nothing has happened. It takes all the memory that
     /// the open calls will ever need.
@@ -70,7 +78,7 @@ impl Machine {
         ensures unchanged { OnErr result (self.new ≡ self.old) }
         ensures empty { OnErr result (events.new.items ≡ []) }
     {
-        events.clear();
+        empty(events);
         if let Some(fault) = self.state.refusal(entry.pid) {
             return Err(fault);
         }
@@ -96,7 +104,7 @@ impl Machine {
         ensures unchanged { OnErr result (self.new ≡ self.old) }
         ensures empty { OnErr result (events.new.items ≡ []) }
     {
-        events.clear();
+        empty(events);
         if let Some(fault) = self.state.refusal(entry.pid) {
             events.push(tells(entry.pid, What::Fault(fault)));
             return Ok(());

@@ -40,6 +40,10 @@ fn is_unmade(board: &Board, port: Port) -> bool
 fn names_unmade(board: &Board, cases: &[Case]) -> bool
     ensures { result ≡ list_any (λ c. is_unmade_on board.now (port_of c)) cases.now }
 {
+    // Most calls have one case, which is looked at without a loop.
+    if cases.len() == 1 {
+        return is_unmade(board, cases[0].port());
+    }
     cases.iter().any(|case| is_unmade(board, case.port()))
 }
 

@@ -67,6 +67,7 @@ impl<'a> Steps<'a> {
 
     /// Makes the next step; `false` at the end of the journal. An `Err` is the journal's first fault, or
     /// memory.
+    #[inline(always)]
     pub fn advance(&mut self) -> Result<bool, ReplayFault>
         ensures ok { IfOk result (λ more. (bytes text : List ℕ)
             → Replayed bytes text self.old.reader self.old.machine

@@ -19,6 +19,7 @@ use Rattle.hub_base.proofs.Bodies.{body-again}
 use Rattle.hub_base.proofs.Takes.{fields-take}
 use Rattle.hub_base.proofs.Pieces.{pieces-some}
 use Rattle.hub_base.proofs.Numerals.{joined-pieces}
+use Rattle.hub_base.proofs.NextLine.{row-fine}
 
 behind-nil : (x : Reading) → x ≡ behind [] x
 behind-nil (Reads head es) = refl
@@ -27,12 +28,6 @@ behind-nil (Faulty k kind) = refl
 with-behind : (e : Entry) (es : List Entry) (x : Reading) → with_entry e (behind es x) ≡ behind (e ∷ es) x
 with-behind e es (Reads head fs) = refl
 with-behind e es (Faulty k kind) = refl
-
-within-limit : (n : ℕ) → n ≤ MOST_BYTES → nat_lt MOST_BYTES n ≡ false
-within-limit n h = grind (arith, common_steps)
-
-row-fine : (end : ℕ) (b : List ℕ) → end ≤ MOST_BYTES → row_fault end (record { bytes = b; whole = true }) ≡ None
-row-fine end b h = ap (λ t. cond t (Some TooLong) None) (within-limit end h)
 
 not-over : (x : Bool) (steps : ℕ) → steps + cond x 0 1 ≤ MOST_STEPS → (not x && nat_le MOST_STEPS steps) ≡ false
 not-over true steps h = refl

@@ -21,8 +21,8 @@ use hub_base::{
 };
 use std::sync::{Mutex, MutexGuard, Wait};
 
-/// How often a thread tries to take the lock before it may sleep, some 4 microseconds.
-const TRIES: u32 = 40;
+/// How often a thread tries to take the lock before it may sleep: for about a microsecond.
+const TRIES: u32 = 10;
 
 /// A hub that threads share. Each seat that is passed to it must come from its own `Blank::open`.
 #[derive(Drop)]
@@ -115,7 +115,7 @@ impl<K: HubName> LiveHub<K> {
         ensures own { own_of seat.new ≡ own_of seat.old }
     {
         let waker = &self.wakers[usize::from(seat.pid().0)];
-        // Where a port has a buffer, who sleeps lets the other side fill or empty it in one go.
+        // With a buffer it is quicker to sleep, and to let the other side fill or empty it in one go.
         let patient = desk.is_unbuffered();
         let mut desk = desk;
         for _ in rt.forever() {
@@ -123,7 +123,7 @@ impl<K: HubName> LiveHub<K> {
             if let Some(answer) = desk.pick(&self.words, seat) {
                 return answer;
             }
-            // Under the lock, so that whoever brings the answer tells it later.
+            // Still under the lock: whoever brings the answer has it later, and tells after that.
             waker.clear();
             drop(desk);
             waker.wait(rt, patient);

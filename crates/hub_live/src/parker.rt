@@ -1,26 +1,28 @@
 //! Where the thread of one process waits until another tells it that its answer is there.
 //!
 //! All of it is a hint, of which no clause speaks: whoever waited looks under the lock, and where it finds no answer
-//! it waits again. So that no wake is lost, who waits clears `told` under the lock, after it has found no answer there:
-//! whoever brings the answer has the lock later, and tells after that. The token of `sleeper` stays until it is taken.
+//! it waits again. No wake is lost: who waits clears `told` under the lock, where it has just found no answer, so
+//! whoever brings the answer has the lock later, and tells later still; and what `sleeper` was told it keeps until a
+//! sleep ends by it.
 
 use std::sync::Wait;
 use std::sync::atomic::{AtomicBool, Ordering};
 use std::thread;
 
-/// How often a thread looks before it sleeps, some 10 microseconds: about what it takes to put a thread to sleep and
-/// to wake it. They are counted in loads, since std's `spin_loop` emits no instruction.
+/// How often a thread looks before it sleeps: for some 10 microseconds, about what a sleep and a wake take. It is a
+/// number of loads, since std's `spin_loop` emits no instruction: a loop of those takes no time.
 const LOOKS: u32 = 20_000;
 
-/// How many loads take as long as a step under the lock.
+/// How many loads a pause takes: about as long as a step under the lock.
 const LOADS_OF_A_PAUSE: u32 = 200;
 
 /// Where one thread waits.
 #[derive(Drop)]
 pub(crate) struct Parker {
-    /// Whether it was told since it was cleared. What looks before it sleeps reads this: std's parker shows no token.
+    /// Whether it was told since it was cleared. Who looks reads this, since std's parker does not show whether a
+    /// sleep would end at once.
     told: AtomicBool,
-    /// Where it sleeps. Who wakes it makes a system call only where it does.
+    /// Where the thread sleeps. To wake it takes a system call only while it does.
     sleeper: thread::Parker,
     /// Keeps the words of two processes off one line of the cache.
     _apart: [u64; 6],
@@ -64,7 +66,7 @@ impl Parker {
         false
     }
 
-    /// Lets some hundred nanoseconds pass.
+    /// Lets some hundred nanoseconds pass. What it loads is of no use to it.
     pub(crate) fn pause(&self) {
         for _ in 0..LOADS_OF_A_PAUSE {
             let _told = self.told.load(Ordering::SeqCst);

@@ -1,5 +1,5 @@
 -- What a call promises of what its seat has then seen.
-use Rattle.std.specs.Prelude.{◌≡◌, ◌<◌, ◌++◌, ◌∷◌, ◌+◌, [], ℕ, true, false, List, None, Some}
+use Rattle.std.specs.Prelude.{◌≡◌, ◌<◌, ◌++◌, ◌∷◌, ◌+◌, [], ℕ, true, false, List, None, Some, Result, IfOk, IfErr, OnOk, OnErr}
 use Rattle.std.specs.List.{list_any}
 use mathlib.Core.List.{IsPrefix}
 use Rattle.hub_base.specs.declared.value.Pid.{Pid}
@@ -16,8 +16,10 @@ use Rattle.hub_base.specs.Text.{steps_of}
 use Rattle.hub_laws.specs.Answers.{is_answer_to}
 use Rattle.hub_laws.specs.Replies.{own, reply, is_parked}
 use Rattle.hub_core.specs.declared.terms.Terms.{Terms}
-use Rattle.hub_live.specs.Locked.{IsReplyTo}
+use Rattle.hub_core.specs.HubView.{Refuses}
+use Rattle.hub_live.specs.Locked.{IsReplyTo, LockedView, Serves}
 use Rattle.hub_live.specs.Name.{Name}
+use Rattle.hub_live.specs.Rule.{IsHistory}
 use Rattle.hub_live.specs.SeatView.{SeatView, IsIdle, own_of, reply_to}
 
 -- an answer that is not `Parked` is the process's reply
@@ -70,6 +72,22 @@ AskedNothing s t = AsksNothing s.hub.terms s.pid s.seen t.seen
 pub record RefusedEntry (s t : SeatView) (e : Entry) (f : Fault) : Type 0 where
   pub same : AskedNothing s t
   pub shows : Shows t.hub.terms e t.seen f
+
+-- a step of a seat's process that was made or refused: what it leaves under the lock and in the seat, and what is
+-- answered. The seat has then seen the whole journal
+pub record ServesSeat
+    (name : Name) (old : LockedView) (s : SeatView) (e : Entry) (new : LockedView) (t : SeatView) (result : Result Event Fault) : Type 0 where
+  pub same : (t.hub ≡ s.hub) × (t.pid ≡ s.pid)
+  pub seen : t.seen ≡ new.hub.journal
+  pub history : IsHistory name.terms t.seen
+  pub begins : IsPrefix s.seen t.seen
+  pub ok : IfOk result (λ answer. Serves old e new answer)
+  pub own : OnOk result (own_of t ≡ own_of s ++ e ∷ [])
+  pub told : IfOk result (λ x. Tells name.terms e.pid t.seen x)
+  pub refused : IfErr result (λ f. Refuses old.hub e f)
+  pub shows : IfErr result (λ f. Shows name.terms e t.seen f)
+  pub left : OnErr result (AskedNothing s t)
+  pub unchanged : OnErr result (new ≡ old)
 
 -- the entry of a seat's process with this step
 abbrev pub entry_of : SeatView → Step → Entry

@@ -4,13 +4,13 @@
 //! A step joins the caller's seat to the hub's before the journal changes and parts it afterwards,
 //! since a store is judged by what the seat that stores knows.
 
-ghost use Rattle.std.specs.Prelude.{◌≡◌, ◌≤◌, ◌<◌, ◌+◌, ◌++◌, ◌∷◌, [], List, length, Some, None, false, IfOk, IfErr, OnOk, OnErr, IfSome, IfNone, OnSome};
+ghost use Rattle.std.specs.Prelude.{◌≡◌, ◌≤◌, ◌<◌, ◌+◌, ◌++◌, ◌∷◌, [], List, length, Some, None, false, IfSome, IfNone, OnSome};
 ghost use Rattle.std.specs.List.{list_any};
 ghost use Rattle.hub_base.specs.Ready.{port_of};
 ghost use Rattle.hub_live.specs.Locked.{has_buffer};
-ghost use Rattle.hub_live.specs.Prelude.{IsPrefix, Entry, steps_of, IsLegal, number_of, port_changed_by, Refuses, state_of, mark_at, Serves};
-ghost use Rattle.hub_live.specs.Prelude.{answer_for, without_answer, IsReplyTo, IsHistory, IsFree, own_of, IsDesk, Tells, Shows, AskedNothing};
-ghost use Rattle.hub_live.specs.Prelude.{StandsIn, entry_by};
+ghost use Rattle.hub_live.specs.Prelude.{IsPrefix, Entry, steps_of, IsLegal, number_of, port_changed_by, state_of, mark_at};
+ghost use Rattle.hub_live.specs.Prelude.{answer_for, without_answer, IsReplyTo, IsHistory, IsFree, own_of, IsDesk};
+ghost use Rattle.hub_live.specs.Prelude.{ServesSeat, StandsIn, entry_by};
 
 use crate::locked::{Locked, Pids};
 use crate::mark::mark_of;
@@ -107,27 +107,26 @@ impl<K: HubName> Desk<K> {
         &mut self,
         words: &Words<K>,
         seat: &mut InnerSeat,
+        entry: Entry,
+    ) -> Result<Event, Fault>
+        requires hub { seat.old.hub ≡ K.name }
+        requires pid { seat.old.pid ≡ entry.pid }
+        requires free { IsFree seat.old }
+        ensures { ServesSeat K.name self.old seat.old entry self.new seat.new result }
+    {
+        self.serve(words, seat, &Request::of(&entry.step))
+    }
+
+    /// Makes and publishes the step that the seat's process asks for, as `step` does.
+    pub(crate) fn serve(
+        &mut self,
+        words: &Words<K>,
+        seat: &mut InnerSeat,
         request: &Request<'_>,
     ) -> Result<Event, Fault>
         requires hub { seat.old.hub ≡ K.name }
         requires free { IsFree seat.old }
-
-        ensures same { (seat.new.hub ≡ seat.old.hub) × (seat.new.pid ≡ seat.old.pid) }
-        ensures seen { seat.new.seen ≡ self.new.hub.journal }
-        ensures history { IsHistory K.name.terms seat.new.seen }
-        ensures begins { IsPrefix seat.old.seen seat.new.seen }
-
-        ensures ok { IfOk result (λ answer.
-            Serves self.old (entry_by seat.old.pid request.now) self.new answer) }
-        ensures own { OnOk result (
-            own_of seat.new ≡ own_of seat.old ++ entry_by seat.old.pid request.now ∷ []) }
-        ensures told { IfOk result (λ x. Tells K.name.terms seat.old.pid seat.new.seen x) }
-
-        ensures refused { IfErr result (λ f. Refuses self.old.hub (entry_by seat.old.pid request.now) f) }
-        ensures shows { IfErr result (λ f.
-            Shows K.name.terms (entry_by seat.old.pid request.now) seat.new.seen f) }
-        ensures left { OnErr result (AskedNothing seat.old seat.new) }
-        ensures unchanged { OnErr result (self.new ≡ self.old) }
+        ensures { ServesSeat K.name self.old seat.old (entry_by seat.old.pid request.now) self.new seat.new result }
     {
         let Some(mine) = seat.token.take() else {
             unreachable!()

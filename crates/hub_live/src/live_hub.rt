@@ -76,7 +76,7 @@ impl<K: HubName> LiveHub<K> {
     {
         let waker = &self.wakers[usize::from(seat.pid().0)];
         let mut desk = self.lock(rt, waker);
-        let answer = desk.step(&self.words, &mut seat.inner, request)?;
+        let answer = desk.serve(&self.words, &mut seat.inner, request)?;
         let ended = desk.ended();
         if !is_parked(answer.what) {
             // Those who wake find the lock free.

@@ -1,10 +1,10 @@
-use Rattle.std.proofs.Common.{◌∙◌, sym, ap, refl, subst}
+use Rattle.std.proofs.Common.{◌∙◌, sym, ap, refl, subst, rules}
 use Rattle.hub_live.specs.Prelude.{entry_by, IsHistory, Terms, LockedView, Met, Refuses, SeatView, Serves}
 use Rattle.hub_live.proofs.Desks.{served_by, refused_by, hub_steps, next_served, Stepped, stepped, desk_single, desk_seen, reply_there, refusal_seen}
 use Rattle.hub_live.proofs.Laters.{met, IsSeatOf, seat_opened, HasSeen, has_seen, asked_nothing}
-use Rattle.hub_live.proofs.desk.Desk.step.Given.{Over}
-use Rattle.hub_live.proofs.desk.Desk.step.Goals as goal
-use Rattle.hub_live.proofs.desk.Desk.step.Goals.{Joined-seat, Joined-seat-2}
+use Rattle.hub_live.proofs.desk.Desk.serve.Given.{Over}
+use Rattle.hub_live.proofs.desk.Desk.serve.Goals as goal
+use Rattle.hub_live.proofs.desk.Desk.serve.Goals.{Joined-seat, Joined-seat-2}
 
 pub mark_at-mark-requires : goal.mark_at-mark-requires
 mark_at-mark-requires g c =
@@ -25,10 +25,6 @@ served : (g : Over) (c : Joined-seat g)
     → Serves c.self.inside.locked (entry_by c.args.seat.now.pid c.args.request.now) c.step.new.self c.in-Ok.answer
 served g c = served_by c.args.request.now (stepper g c) c.in-Ok.ensures.ok
 
-pub returns-in-Ok-clause-ok : goal.returns-in-Ok-clause-ok
-returns-in-Ok-clause-ok g c =
-    subst (λ (l : LockedView). Serves l (entry_by c.args.seat.now.pid c.args.request.now) c.step.new.self c.in-Ok.answer) c.self.view_is (served g c)
-
 made : (g : Over) (c : Joined-seat g)
     → Stepped g.K.HubName.name c.args.seat.now (entry_by c.args.seat.now.pid c.args.request.now) c.step.new.self c.part.new.token c.seat.inside.pid
     c.part.result
@@ -43,22 +39,22 @@ invariant_of-self g c = (made g c).desk
 pub invariant_of-seat : goal.invariant_of-seat
 invariant_of-seat g c = (made g c).alone
 
-pub returns-in-Ok-clause-seen : goal.returns-in-Ok-clause-seen
-returns-in-Ok-clause-seen g c = (made g c).seen
-
-pub returns-in-Ok-clause-history : goal.returns-in-Ok-clause-history
-returns-in-Ok-clause-history g c = (made g c).history
-
-pub returns-in-Ok-clause-begins : goal.returns-in-Ok-clause-begins
-returns-in-Ok-clause-begins g c = (made g c).begins
-
-pub returns-in-Ok-clause-own : goal.returns-in-Ok-clause-own
-returns-in-Ok-clause-own g c = (made g c).own
-
-pub returns-in-Ok-clause-told : goal.returns-in-Ok-clause-told
-returns-in-Ok-clause-told g c clear =
+pub returns-in-Ok : goal.returns-in-Ok
+returns-in-Ok g c =
     let m = made g c in
-    reply_there m.desk.hub.terms (ap (λ (y : SeatView). y.pid) (stepper g c).shows) (sym m.seen) (c.in-Ok.ensures.reply clear)
+    record {
+      same = search rules;
+      seen = m.seen;
+      history = m.history;
+      begins = m.begins;
+      ok = subst (λ (l : LockedView). Serves l (entry_by c.args.seat.now.pid c.args.request.now) c.step.new.self c.in-Ok.answer) c.self.view_is (served g c);
+      own = m.own;
+      told = λ clear. reply_there m.desk.hub.terms (ap (λ (y : SeatView). y.pid) (stepper g c).shows) (sym m.seen) (c.in-Ok.ensures.reply clear);
+      refused = tt;
+      shows = tt;
+      left = tt;
+      unchanged = tt;
+    }
 
 seat : (g : Over) (c : Joined-seat-2 g) → IsSeatOf g.K.HubName.name c.args.seat.now c.seat.inside.pid c.in-Some.mine
 seat g c = seat_opened c.requires.hub c.seat.invariant c.seat.view_is (sym c.take.ensures.value ∙ c.in-Some.is)
@@ -75,25 +71,25 @@ pub invariant_of-self-in-Err : goal.invariant_of-self-in-Err
 invariant_of-self-in-Err g c =
     desk_seen c.self.invariant (ap (λ (l : LockedView). l.hub) c.in-Err.ensures.unchanged) c.part-in-Err.ensures.token (meeting g c).first
 
-pub returns-in-Err-clause-seen : goal.returns-in-Err-clause-seen
-returns-in-Err-clause-seen g c = sym (meeting g c).together ∙ (invariant_of-self-in-Err g c).seen
-
-pub returns-in-Err-clause-begins : goal.returns-in-Err-clause-begins
-returns-in-Err-clause-begins g c = (left g c).follows.begins
-
 refused : (g : Over) (c : Joined-seat-2 g) → Refuses c.self.inside.locked.hub (entry_by c.args.seat.now.pid c.args.request.now) c.in-Err.fault
 refused g c = refused_by c.args.request.now c.self.inside.locked.hub c.in-Err.fault (seat g c) c.in-Err.ensures.refused
 
-pub returns-in-Err-clause-refused : goal.returns-in-Err-clause-refused
-returns-in-Err-clause-refused g c =
-    subst (λ (l : LockedView). Refuses l.hub (entry_by c.args.seat.now.pid c.args.request.now) c.in-Err.fault) c.self.view_is (refused g c)
-
-pub returns-in-Err-clause-shows : goal.returns-in-Err-clause-shows
-returns-in-Err-clause-shows g c =
-    let seen = returns-in-Err-clause-seen g c ∙ ap (λ (l : LockedView). l.hub.journal) c.in-Err.ensures.unchanged in
-    let r = c.requires in
+pub returns-in-Err : goal.returns-in-Err
+returns-in-Err g c =
+    let seen = sym (meeting g c).together ∙ (invariant_of-self-in-Err g c).seen in
     let asked = entry_by c.args.seat.now.pid c.args.request.now in
-    refusal_seen c.part-in-Err.result asked c.in-Err.fault c.self.invariant (seat g c) (left g c).follows seen r.hub refl r.free (refused g c)
-
-pub returns-in-Err-clause-left : goal.returns-in-Err-clause-left
-returns-in-Err-clause-left g c = asked_nothing (left g c).follows c.requires.free
+    let r = c.requires in
+    record {
+      same = search rules;
+      seen = seen;
+      history = search rules;
+      begins = (left g c).follows.begins;
+      ok = tt;
+      own = tt;
+      told = tt;
+      refused = subst (λ (l : LockedView). Refuses l.hub asked c.in-Err.fault) c.self.view_is (refused g c);
+      shows = refusal_seen c.part-in-Err.result asked c.in-Err.fault c.self.invariant (seat g c) (left g c).follows
+          (seen ∙ ap (λ (l : LockedView). l.hub.journal) c.in-Err.ensures.unchanged) r.hub refl r.free (refused g c);
+      left = asked_nothing (left g c).follows r.free;
+      unchanged = search rules;
+    }

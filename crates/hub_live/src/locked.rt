@@ -104,16 +104,15 @@ fn put_all(answers: &mut [Option<Event>], events: &[Event])
     }
 }
 
-/// The processes of these events.
-fn pids_of(events: &[Event]) -> Pids
+/// Puts the processes of these events in place of those that were there.
+fn put_pids(pids: &mut Pids, events: &[Event])
     requires { length events.now ≤ MOST_PROCS }
-    ensures { result.items ≡ pids_of events.now }
+    ensures { pids.new.items ≡ pids_of events.now }
 {
-    let mut pids = Pids::new();
+    pids.clear();
     for event in events {
         pids.push(event.pid);
     }
-    pids
 }
 
 impl Locked {
@@ -152,7 +151,7 @@ impl Locked {
         let answer = *first;
         put(&mut self.answers, pid, None);
         put_all(&mut self.answers, ended);
-        self.ended = pids_of(ended);
+        put_pids(&mut self.ended, ended);
         Ok(answer)
     }
 

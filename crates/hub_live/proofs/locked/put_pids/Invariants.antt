@@ -1,6 +1,6 @@
 use Rattle.std.proofs.Common.{◌≡◌, ◌++◌, length, drop}
 use Rattle.hub_live.specs.Locked.{pids_of}
-use Rattle.hub_live.proofs.locked.pids_of.Given as goal
+use Rattle.hub_live.proofs.locked.put_pids.Given as goal
 
 abbrev pub invariant-loop-event : goal.invariant-loop-event
 invariant-loop-event l = record {

@@ -30,6 +30,14 @@ pub record Appends {E : Type 0} (old new : Vec ℕ) (text : List ℕ) (result : 
 abbrev pub pair : ℕ → List ℕ
 pair n = (48 + n / 10) ∷ (48 + n % 10) ∷ []
 
+-- the four digits of a number below 10,000
+abbrev pub four : ℕ → List ℕ
+four n = pair (n / 100) ++ pair (n % 100)
+
+-- the eight digits of a number below 100,000,000
+abbrev pub eight : ℕ → List ℕ
+eight n = four (n / 10000) ++ four (n % 10000)
+
 -- the text is put at this place, behind the bytes before it, and ends so many bytes on, or fewer
 pub record Puts (old new : List ℕ) (at : ℕ) (text : List ℕ) (most end : ℕ) : Type 0 where
   pub put : take end new ≡ take at old ++ text

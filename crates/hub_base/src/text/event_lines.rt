@@ -6,11 +6,10 @@
 ghost use Rattle.std.specs.Prelude.{◌≡◌, ◌+◌, ◌*◌, ◌≤◌, ◌<◌, ◌++◌, length, take, decimal};
 ghost use Rattle.std.specs.List.{flat_map};
 ghost use Rattle.hub_base.specs.EventText.{event_line, what_text, outcome_text};
-ghost use Rattle.hub_base.specs.Writing.{Puts, pair};
+ghost use Rattle.hub_base.specs.Writing.{Puts, pair, four, eight};
 
 use crate::limits::MOST_LINE;
 use crate::{Event, Outcome, What};
-use itoa::Buffer;
 
 /// The most digits of a number of 8 bits.
 const MOST_SMALL: usize = 3;
@@ -82,28 +81,67 @@ fn put_short(out: &mut [u8], at: usize, n: u64) -> usize
     }
 }
 
-/// Puts a number of five to eight digits.
+/// Puts four digits.
+#[inline(always)]
+fn put_four(out: &mut [u8], at: usize, n: u64) -> usize
+    requires below { n < 10000 }
+    requires room { at + 4 ≤ length out.old }
+    ensures { Puts out.old out.new at (four n) 4 result }
+{
+    let end = put_pair(out, at, n / 100);
+    put_pair(out, end, n % 100)
+}
+
+/// Puts eight digits.
+#[inline(always)]
+fn put_eight(out: &mut [u8], at: usize, n: u64) -> usize
+    requires below { n < 100000000 }
+    requires room { at + 8 ≤ length out.old }
+    ensures { Puts out.old out.new at (eight n) 8 result }
+{
+    let end = put_four(out, at, n / 10_000);
+    put_four(out, end, n % 10_000)
+}
+
+/// Puts a number of up to eight digits.
 #[inline(always)]
 fn put_middle(out: &mut [u8], at: usize, n: u64) -> usize
-    requires above { 10000 ≤ n }
     requires below { n < 100000000 }
     requires room { at + length (decimal n) ≤ length out.old }
     ensures { Puts out.old out.new at (decimal n) (length (decimal n)) result }
 {
-    let four = n % 10_000;
-    let high = put_short(out, at, n / 10_000);
-    let end = put_pair(out, high, four / 100);
-    put_pair(out, end, four % 100)
+    if n < 10_000 {
+        put_short(out, at, n)
+    } else {
+        let end = put_short(out, at, n / 10_000);
+        put_four(out, end, n % 10_000)
+    }
 }
 
-/// Puts a number of more digits.
-#[inline(never)]
-fn put_long(out: &mut [u8], at: usize, n: u64) -> usize
-    requires { at + length (decimal n) ≤ length out.old }
+/// Puts a number of up to sixteen digits.
+#[inline(always)]
+fn put_many(out: &mut [u8], at: usize, n: u64) -> usize
+    requires below { n < 10000000000000000 }
+    requires room { at + length (decimal n) ≤ length out.old }
     ensures { Puts out.old out.new at (decimal n) (length (decimal n)) result }
 {
-    let mut buffer = Buffer::new();
-    put(out, at, buffer.format(n).as_bytes())
+    if n < 100_000_000 {
+        put_middle(out, at, n)
+    } else {
+        let end = put_middle(out, at, n / 100_000_000);
+        put_eight(out, end, n % 100_000_000)
+    }
+}
+
+/// Puts a number of more than eight digits.
+#[inline(never)]
+fn put_long(out: &mut [u8], at: usize, n: u64) -> usize
+    requires above { 100000000 ≤ n }
+    requires room { at + length (decimal n) ≤ length out.old }
+    ensures { Puts out.old out.new at (decimal n) (length (decimal n)) result }
+{
+    let end = put_many(out, at, n / 100_000_000);
+    put_eight(out, end, n % 100_000_000)
 }
 
 /// Puts a number in decimal digits.
@@ -112,9 +150,7 @@ fn put_number(out: &mut [u8], at: usize, n: u64) -> usize
     requires { at + length (decimal n) ≤ length out.old }
     ensures { Puts out.old out.new at (decimal n) (length (decimal n)) result }
 {
-    if n < 10_000 {
-        put_short(out, at, n)
-    } else if n < 100_000_000 {
+    if n < 100_000_000 {
         put_middle(out, at, n)
     } else {
         put_long(out, at, n)

@@ -20,15 +20,16 @@ fn faults_have_texts(rt: HostRuntime) -> Result<(), Fail> {
     ] {
         assert_eq!(rt; format!(in rt.alloc(); "{fault}")?.as_str(), text);
     }
-    let source = SourceFault::Read;
-    assert_eq!(rt; format!(in rt.alloc(); "{source}")?.as_str(), "read failed");
-    let memory = SourceFault::NoMemory;
+    for (source, text) in [
+        (SourceFault::Read, "read failed"),
+        (SourceFault::NoMemory, "out of memory"),
+    ] {
+        assert_eq!(rt; format!(in rt.alloc(); "{source}")?.as_str(), text);
+    }
     assert_eq!(rt;
-        format!(in rt.alloc(); "{memory}")?.as_str(),
-        "out of memory"
+        format!(in rt.alloc(); "{WriteFailed}")?.as_str(),
+        "write failed"
     );
-    let sink = WriteFailed;
-    assert_eq!(rt; format!(in rt.alloc(); "{sink}")?.as_str(), "write failed");
     Ok(())
 }
 

@@ -3,12 +3,8 @@
 use super::fakes::{Jar, Trickle, Wrong};
 use hub_replay::{Counted, ReplayFault, replay};
 
-const JOURNAL: &[u8] = b"chanhub journal 1\n\
-    procs 2\n\
-    0 make 2\n\
-    0 send 1 10\n\
-    0 send 1 11\n\
-    1 recv 1\n";
+const JOURNAL: &[u8] =
+    b"chanhub journal 1\nprocs 2\n0 make 2\n0 send 1 10\n0 send 1 11\n1 recv 1\n";
 
 const EVENTS: &[u8] = b"0 made 1\n0 case 0 sent\n0 case 0 sent\n1 case 0 got 10\n";
 

@@ -1,34 +1,20 @@
 //! As many ports as a hub can have, and texts that are appended.
 
 use super::journals::report_of;
-use hub_base::{Case, Cases, Entry, Pid, Port, Step, Value};
+use crate::steps::entries::{make, recv, send};
 use hub_core::Hub;
 use hub_report::{PortReport, write_report};
 use std::test::Fail;
-
-fn entry(step: Step) -> Entry {
-    Entry { pid: Pid(0), step }
-}
-
-fn call(case: Case) -> Entry {
-    let mut cases = Cases::new();
-    cases.push(case);
-    entry(Step::Call {
-        cases,
-        default: false,
-        word: 0,
-    })
-}
 
 /// 64 ports are made, 9 goes through the last, and a further one is a fault.
 #[test]
 fn sixty_four_ports_are_told(rt: HostRuntime) -> Result<(), Fail> {
     let mut entries = Vec::new(rt.alloc());
     for cap in 1..=65 {
-        entries.push(entry(Step::Make(cap)))?;
+        entries.push(make(0, cap))?;
     }
-    entries.push(call(Case::Send(Port(64), Value::num(9))))?;
-    entries.push(call(Case::Recv(Port(64))))?;
+    entries.push(send(0, 64, 9))?;
+    entries.push(recv(0, 64))?;
     let hub = Hub::open(rt.alloc(), 1, 1000)?;
     let report = report_of(&rt, rt.alloc(), hub, &entries)?;
     assert_eq!(rt; report.journal.entries().len(), 67);

@@ -21,24 +21,16 @@ fn only_step(alloc: Global, quoted: &str) -> Result<ScriptStep, ScenarioFault> {
 #[test]
 fn steps_of_one_port_are_read(rt: HostRuntime) -> Result<(), Fail> {
     for (text, number) in [("0", 0), ("1", 1), ("64", 64), ("65535", 65535)] {
-        let recv = format!(in rt.alloc(); "'recv {text}'")?;
-        let recv = only_step(rt.alloc(), recv.as_str())?;
-        assert!(rt;
-            matches!(recv, ScriptStep::Recv(Port(port)) if port == number),
-            "{text}"
-        );
-        let close = format!(in rt.alloc(); "'close {text}'")?;
-        let close = only_step(rt.alloc(), close.as_str())?;
-        assert!(rt;
-            matches!(close, ScriptStep::Close(Port(port)) if port == number),
-            "{text}"
-        );
-        let range = format!(in rt.alloc(); "'range {text}'")?;
-        let range = only_step(rt.alloc(), range.as_str())?;
-        assert!(rt;
-            matches!(range, ScriptStep::Range(Port(port)) if port == number),
-            "{text}"
-        );
+        for keyword in ["recv", "close", "range"] {
+            let quoted = format!(in rt.alloc(); "'{keyword} {text}'")?;
+            let found = match only_step(rt.alloc(), quoted.as_str())? {
+                ScriptStep::Recv(port) => ("recv", port),
+                ScriptStep::Close(port) => ("close", port),
+                ScriptStep::Range(port) => ("range", port),
+                _ => ("another", Port(0)),
+            };
+            assert_eq!(rt; found, (keyword, Port(number)), "{keyword} {text}");
+        }
     }
     Ok(())
 }

@@ -18,28 +18,22 @@ fn begin(alloc: Global) -> Result<(), Fail> {
     Ok(())
 }
 
-/// What a hub shows of ports 0 to 2.
+/// What a hub shows of a port.
 #[derive(Clone, Copy, Debug, PartialEq, Eq)]
 struct Shown {
-    looks: [Option<Look>; 3],
-    oldest: [Option<Value>; 3],
-    second: [Option<Value>; 3],
+    look: Option<Look>,
+    oldest: Option<Value>,
+    second: Option<Value>,
 }
 
-fn look_at(hub: &Hub) -> Shown {
-    Shown {
-        looks: [hub.look(Port(0)), hub.look(Port(1)), hub.look(Port(2))],
-        oldest: [
-            hub.buffered(Port(0), 0),
-            hub.buffered(Port(1), 0),
-            hub.buffered(Port(2), 0),
-        ],
-        second: [
-            hub.buffered(Port(0), 1),
-            hub.buffered(Port(1), 1),
-            hub.buffered(Port(2), 1),
-        ],
-    }
+/// Of ports 0 to 2.
+fn look_at(hub: &Hub) -> [Shown; 3] {
+    let at = |port| Shown {
+        look: hub.look(Port(port)),
+        oldest: hub.buffered(Port(port), 0),
+        second: hub.buffered(Port(port), 1),
+    };
+    [at(0), at(1), at(2)]
 }
 
 /// Opens a hub and, where memory was refused, another.
@@ -86,6 +80,19 @@ fn steps_again(
     Ok(())
 }
 
+/// Opens a hub of so many processes and makes these steps, all of it where memory may be refused.
+fn hub_again(
+    rt: &impl Abort,
+    alloc: Global,
+    procs: u8,
+    entries: &[Entry],
+    wanted: &[&[Event]],
+) -> Result<(), Fail> {
+    begin(alloc)?;
+    let mut hub = open_again(alloc, procs)?;
+    steps_again(rt, &mut hub, entries, wanted)
+}
+
 // A call that waits on two ports ends at the second, and then another on the first.
 #[test]
 fn refused_opening_and_steps_are_made_again(rt: HostRuntime) -> Result<(), Fail> {
@@ -105,11 +112,10 @@ fn refused_opening_and_steps_are_made_again(rt: HostRuntime) -> Result<(), Fail>
         },
     );
     let sent = fired(0, Outcome::Sent);
-    begin(rt.alloc())?;
-    let mut hub = open_again(rt.alloc(), 3)?;
-    steps_again(
+    hub_again(
         &rt,
-        &mut hub,
+        rt.alloc(),
+        3,
         &entries,
         &[
             &[told(0, What::Made(Port(1)))],
@@ -135,11 +141,10 @@ fn refused_steps_leave_the_buffer(rt: HostRuntime) -> Result<(), Fail> {
         recv(0, 1),
     ];
     let sent = fired(0, Outcome::Sent);
-    begin(rt.alloc())?;
-    let mut hub = open_again(rt.alloc(), 1)?;
-    steps_again(
+    hub_again(
         &rt,
-        &mut hub,
+        rt.alloc(),
+        1,
         &entries,
         &[
             &[told(0, What::Made(Port(1)))],

@@ -1,6 +1,7 @@
 //! Reading entry by entry.
 
-use hub_base::{Entry, Kind, Pid, Reader, Step, TextFault, write_entry};
+use crate::steps::entries::make;
+use hub_base::{Kind, Reader, TextFault, write_entry};
 use std::test::Fail;
 
 const HEAD: &[u8] = b"chanhub journal 1\nprocs 64\n";
@@ -11,10 +12,7 @@ fn entries_are_read_into_one(rt: HostRuntime) -> Result<(), Fail> {
     let mut text = HEAD.to_vec(rt.alloc())?;
     text.extend_from_slice(lines)?;
     let mut reader = Reader::open(&text)?;
-    let mut entry = Entry {
-        pid: Pid(7),
-        step: Step::Make(7),
-    };
+    let mut entry = make(7, 7);
     let mut written = Vec::new(rt.alloc());
     for place in 0..6 {
         assert!(rt;

@@ -1,8 +1,9 @@
 //! Texts that are written: journals, which are read again, and events.
 
+use crate::steps::entries::told;
 use hub_base::{
-    Event, EventText, Fault, Journal, Outcome, Pid, Port, Value, What, read_journal, write_entry,
-    write_event, write_head, write_journal,
+    EventText, Fault, Journal, Outcome, Port, Value, What, read_journal, write_entry, write_event,
+    write_head, write_journal,
 };
 use std::test::Fail;
 
@@ -74,10 +75,7 @@ fn each_event_has_its_line(rt: HostRuntime) -> Result<(), Fail> {
         (50, What::Fault(Fault::NoProcess), "50 fault 1\n"),
         (60, What::Fault(Fault::NoMemory), "60 fault 11\n"),
     ] {
-        let event = Event {
-            pid: Pid(pid),
-            what,
-        };
+        let event = told(pid, what);
         let mut out = Vec::new(rt.alloc());
         write_event(&mut out, &event)?;
         assert_eq!(rt; out.as_slice(), line.as_bytes(), "{line}");
@@ -89,10 +87,6 @@ fn each_event_has_its_line(rt: HostRuntime) -> Result<(), Fail> {
 
 #[test]
 fn lines_of_events_join_into_one_text(rt: HostRuntime) -> Result<(), Fail> {
-    let told = |pid, what| Event {
-        pid: Pid(pid),
-        what,
-    };
     let got = |case, number| What::Fired {
         case,
         outcome: Outcome::Got(Value::num(number)),
@@ -113,13 +107,11 @@ fn lines_of_events_join_into_one_text(rt: HostRuntime) -> Result<(), Fail> {
 
 #[test]
 fn text_of_events_grows(rt: HostRuntime) -> Result<(), Fail> {
-    let longest = Event {
-        pid: Pid(255),
-        what: What::Fired {
-            case: 255,
-            outcome: Outcome::Got(Value::num(u64::MAX)),
-        },
+    let most = What::Fired {
+        case: 255,
+        outcome: Outcome::Got(Value::num(u64::MAX)),
     };
+    let longest = told(255, most);
     let mut text = EventText::new(rt.alloc());
     for _ in 0..2000 {
         text.write(&[longest, longest])?;

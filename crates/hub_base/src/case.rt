@@ -10,10 +10,10 @@ use arrayvec::ArrayVec;
 /// One communication of a call. Go: "Send statements", "Receive operator", "Select statements".
 #[derive(Clone, Copy, Debug, PartialEq, Eq)]
 pub enum Case {
-    /// Sends the value on the port.
-    Send(Port, Value),
     /// Receives a value from the port.
     Recv(Port),
+    /// Sends the value on the port.
+    Send(Port, Value),
 }
 
 impl Case {

@@ -112,7 +112,7 @@ impl<K: HubName> Desk<K> {
         requires hub { seat.old.hub ≡ K.name }
         requires pid { seat.old.pid ≡ entry.pid }
         requires free { IsFree seat.old }
-        ensures { ServesSeat K.name self.old seat.old entry self.new seat.new result }
+        ensures rules { ServesSeat K.name self.old seat.old entry self.new seat.new result }
     {
         self.serve(words, seat, &Request::of(&entry.step))
     }
@@ -132,7 +132,7 @@ impl<K: HubName> Desk<K> {
             unreachable!()
         };
         words.join(&mut self.token, mine);
-        match self.locked.step(seat.pid, request) {
+        match self.locked.serve(seat.pid, request) {
             Ok(answer) => {
                 let made = newest(&self.locked);
                 let port = changed(&made.step, answer.what);

@@ -137,7 +137,18 @@ impl Locked {
     ///
     /// Refused as the hub refuses it, and then nothing changes: an exit never by `JournalFull` or
     /// `NoMemory`.
-    pub fn step(&mut self, pid: Pid, request: &Request<'_>) -> Result<Event, Fault>
+    pub fn step(&mut self, entry: Entry) -> Result<Event, Fault>
+        ensures ok { IfOk result (λ answer. Serves self.old entry self.new answer) }
+        ensures reply { IfOk result (λ answer. is_parked answer.what ≡ false →
+            IsReplyTo self.new.hub.terms.head entry.pid.0 self.new.hub.journal answer) }
+        ensures refused { IfErr result (λ f. Refuses self.old.hub entry f) }
+        ensures unchanged { OnErr result (self.new ≡ self.old) }
+    {
+        self.serve(entry.pid, &Request::of(&entry.step))
+    }
+
+    /// Makes the step that a process asks for, as `step` does.
+    pub(crate) fn serve(&mut self, pid: Pid, request: &Request<'_>) -> Result<Event, Fault>
         ensures ok { IfOk result (λ answer. Serves self.old (entry_by pid request.now) self.new answer) }
         ensures reply { IfOk result (λ answer. is_parked answer.what ≡ false →
             IsReplyTo self.new.hub.terms.head pid.0 self.new.hub.journal answer) }

@@ -8,7 +8,7 @@ use hub_base::{Cases, Port, Step, copy_cases};
 /// A step, as it is passed down under the lock: the cases of a call stay where they are, until they are written
 /// into the journal.
 #[derive(Clone, Copy)]
-pub enum Request<'a> {
+pub(crate) enum Request<'a> {
     /// Makes a port of this capacity.
     Make(u32),
     /// Sends or receives.
@@ -28,7 +28,7 @@ pub enum Request<'a> {
 
 impl Request<'_> {
     /// What asks for this step.
-    pub fn of(step: &Step) -> Request<'_>
+    pub(crate) fn of(step: &Step) -> Request<'_>
         ensures { step_of result ≡ step.now }
     {
         match step {

@@ -3,6 +3,5 @@
 
 pub use crate::desk::Desk;
 pub use crate::locked::{Locked, Pids};
-pub use crate::request::Request;
 pub use crate::seat::InnerSeat;
 pub use crate::words::Words;

@@ -3,7 +3,7 @@
 use super::{ONE_WAITS, call, entry, fired, got, make, recv, send, told};
 use hub_base::{Case, Entry, Event, Fault, Look, Outcome, Pid, Port, Step, What};
 use hub_core::Hub;
-use hub_live::under_lock::{Locked, Request};
+use hub_live::under_lock::Locked;
 use std::alloc::Global;
 use std::process::Abort;
 use std::test::*;
@@ -12,14 +12,14 @@ use std::test::*;
 fn locked_after(alloc: Global, procs: u8, limit: u32, steps: &[Entry]) -> Result<Locked, Fail> {
     let mut locked = Locked::of(Hub::open(alloc, procs, limit)?);
     for entry in steps {
-        let _answer = locked.step(entry.pid, &Request::of(&entry.step))?;
+        let _answer = locked.step(entry.copy())?;
     }
     Ok(locked)
 }
 
 /// Makes the step, and compares its answer or what refuses it.
 fn step(rt: &impl Abort, locked: &mut Locked, entry: Entry, answer: Result<Event, Fault>) {
-    assert_eq!(rt; locked.step(entry.pid, &Request::of(&entry.step)), answer);
+    assert_eq!(rt; locked.step(entry), answer);
 }
 
 /// Takes the answer that waits for the process, and compares it.

@@ -9,7 +9,7 @@ use Rattle.hub_live.proofs.desk.Desk.serve.Goals.{Joined-seat, Joined-seat-2}
 pub mark_at-mark-requires : goal.mark_at-mark-requires
 mark_at-mark-requires g c =
     let is = hub_steps _ _ _ _ _ c.self.invariant.hub c.in-Ok.ensures.ok.step in
-    subst (λ (t : Terms). IsHistory t c.step.new.self.hub.journal) (sym is.terms) is.history
+    subst (λ (t : Terms). IsHistory t c.serve.new.self.hub.journal) (sym is.terms) is.history
 
 pub publish-requires-clause-next : goal.publish-requires-clause-next
 publish-requires-clause-next g c =
@@ -22,11 +22,11 @@ stepper : (g : Over) (c : Joined-seat g) → IsSeatOf g.K.HubName.name c.args.se
 stepper g c = seat_opened c.requires.hub c.seat.invariant c.seat.view_is (sym c.take.ensures.value ∙ c.in-Some.is)
 
 served : (g : Over) (c : Joined-seat g)
-    → Serves c.self.inside.locked (entry_by c.args.seat.now.pid c.args.request.now) c.step.new.self c.in-Ok.answer
+    → Serves c.self.inside.locked (entry_by c.args.seat.now.pid c.args.request.now) c.serve.new.self c.in-Ok.answer
 served g c = served_by c.args.request.now (stepper g c) c.in-Ok.ensures.ok
 
 made : (g : Over) (c : Joined-seat g)
-    → Stepped g.K.HubName.name c.args.seat.now (entry_by c.args.seat.now.pid c.args.request.now) c.step.new.self c.part.new.token c.seat.inside.pid
+    → Stepped g.K.HubName.name c.args.seat.now (entry_by c.args.seat.now.pid c.args.request.now) c.serve.new.self c.part.new.token c.seat.inside.pid
     c.part.result
 made g c =
     let p = c.part.ensures in
@@ -47,7 +47,7 @@ returns-in-Ok g c =
       seen = m.seen;
       history = m.history;
       begins = m.begins;
-      ok = subst (λ (l : LockedView). Serves l (entry_by c.args.seat.now.pid c.args.request.now) c.step.new.self c.in-Ok.answer) c.self.view_is (served g c);
+      ok = subst (λ (l : LockedView). Serves l (entry_by c.args.seat.now.pid c.args.request.now) c.serve.new.self c.in-Ok.answer) c.self.view_is (served g c);
       own = m.own;
       told = λ clear. reply_there m.desk.hub.terms (ap (λ (y : SeatView). y.pid) (stepper g c).shows) (sym m.seen) (c.in-Ok.ensures.reply clear);
       refused = tt;

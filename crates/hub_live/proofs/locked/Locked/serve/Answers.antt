@@ -3,8 +3,8 @@ use Rattle.hub_base.specs.declared.entry.Entry.{Entry}
 use Rattle.hub_live.specs.Locked.{LockedView, Serves}
 use Rattle.hub_live.specs.Request.{entry_by}
 use Rattle.hub_live.proofs.Locks.{told_some, serves, lawful_served, answer_replies}
-use Rattle.hub_live.proofs.locked.Locked.step.Goals as goal
-use Rattle.hub_live.proofs.locked.Locked.step.Goals.{After-put_pids}
+use Rattle.hub_live.proofs.locked.Locked.serve.Goals as goal
+use Rattle.hub_live.proofs.locked.Locked.serve.Goals.{After-put_pids}
 
 pub unreachable-requires : goal.unreachable-requires
 unreachable-requires c =

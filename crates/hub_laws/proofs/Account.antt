@@ -1,12 +1,11 @@
 -- The account of an entry, whatever its step: what its process is answered, which open calls end and what tells
 -- it, who waits then, what is written on which port, and who has gone. The laws follow from it.
-use Rattle.hub_laws.proofs.Prelude.{◌≡◌, Bool, true, false, List, [], ◌∷◌, ◌++◌, refl, ap, ◌∙◌, sym, subst, Option, Some, None, if◌then◌else◌, list_any}
+use Rattle.hub_laws.proofs.Prelude.{arith, ◌≡◌, Bool, true, false, List, [], ◌∷◌, ◌++◌, refl, ap, sym, Option, Some, None, if◌then◌else◌, list_any}
 use Rattle.hub_laws.proofs.Prelude.{AllByRecursion, filter_map, cons_option, option_map, Step, What, Head, Pid, Port, is_exit, can_proceed, State, Channel}
 use Rattle.hub_laws.proofs.Prelude.{OpenCall, calls, Change, tells, cases_or, of_what, is_answer_to, port_touched_by, found_closed, shown, is_parked, Apart}
-use Rattle.hub_laws.proofs.Prelude.{IsSound, PortSound}
-use Rattle.hub_laws.proofs.Prelude.{all_snoc}
-use Rattle.hub_laws.proofs.Calls.{Fewer, fewer-same}
-use Rattle.hub_laws.proofs.Deeds.{Deed, deed_of, at, Wrote, Does, idle}
+use Rattle.hub_laws.proofs.Prelude.{IsSound, PortSound, all_snoc}
+use Rattle.hub_laws.proofs.Calls.{Fewer}
+use Rattle.hub_laws.proofs.Deeds.{Deed, deed_of, at, Wrote, Does}
 use Rattle.hub_laws.proofs.Leaving.{Ended, events_of, EndsWell, InPlace, Leave, nobody, leave-all}
 
 -- the call of this step
@@ -99,23 +98,7 @@ pub alone : (s : State) (ts : List Channel) (pid : Pid) (step : Step) (answer : 
       };
       events = tells pid answer ∷ [];
     })
-alone s ts pid step answer fits placed blocked does still moved sound = record {
-  answer = answer;
-  ended = [];
-  told = refl;
-  fits = fits;
-  placed = placed;
-  ends = tt;
-  leaves = λ a. nobody (with_caller s.parked pid step answer);
-  fewer = fewer-same (with_caller s.parked pid step answer);
-  blocked = blocked;
-  does = does;
-  still = still;
-  moved = moved;
-  sound = sound;
-  head = refl;
-  gone = refl;
-}
+alone s ts pid step answer fits placed blocked does still moved sound = grind (arith, nobody)
 
 -- no call ends, and no channel is written
 pub silent : (s : State) (pid : Pid) (step : Step) (answer : What) → is_answer_to step answer ≡ true →
@@ -126,17 +109,9 @@ pub silent : (s : State) (pid : Pid) (step : Step) (answer : What) → is_answer
       state = record s { gone = with_leaver s.gone pid step; parked = with_caller s.parked pid step answer };
       events = tells pid answer ∷ [];
     })
-silent s pid step answer fits blocked none placed quiet =
-    alone s s.channels pid step answer fits placed blocked (λ sound. idle none refl (rw quiet refl)) (λ h sound p. refl)
-    (λ h sound p named same. let g : None ≡ Some p = sym none ∙ named in cc)
-    (λ sound p c names e. absurd (let g : ⊥ = cc in g))
+silent s pid step answer fits blocked none placed quiet = grind (arith, alone)
 
 -- the port that is written, where it is the one that is named
 pub named_sound : (named : Option Port) (cs ts : List Channel) (p : Port) (c d : Channel) (calls : List OpenCall) →
     named ≡ Some p → Wrote cs ts p c d → PortSound p d calls → NamedSound named ts calls
-named_sound named cs ts p c d calls names w fine q x h e =
-    let same : p ≡ q = cc in
-    let there : at ts p ≡ Some x = subst (λ (r : Port). at ts r ≡ Some x) (sym same) e in
-    let new : at ts p ≡ Some d = w.new in
-    let one : d ≡ x = cc in
-    subst (λ (r : Port). PortSound r x calls) same (subst (λ (y : Channel). PortSound p y calls) one fine)
+named_sound named cs ts p c d calls names w fine q x h e = grind arith

@@ -1,16 +1,16 @@
 -- After a close no case on the port is sent, and receives drain the buffer.
-use Rattle.hub_laws.proofs.Prelude.{◌≡◌, true, false, List, [], ◌∷◌, ◌++◌, refl, ap, ◌∙◌, sym, subst, Option, Some, None, ℕ, ◌==◌, suc, drop}
-use Rattle.hub_laws.proofs.Prelude.{append-nil, append_assoc, add-one, inl, inr, drop-cons, drop_all, slice_get_cases, get_or_from_slice_get}
-use Rattle.hub_laws.proofs.Prelude.{slice_get_within, slice_get, Case, Send, Recv, Entry, Close, Outcome, Sent, Fault, Head, Pid, Port, port_of, admits}
-use Rattle.hub_laws.proofs.Prelude.{moves, state_after, state, State, Channel, channel_at, opening, buffer_of, Change, after_receive, shut, stalls, closes}
-use Rattle.hub_laws.proofs.Prelude.{close_fault, is_unmade, fault_of, answers, Turned, turns_after, values_from, close_by, sent_at, heard, Drains}
-use Rattle.hub_laws.proofs.Prelude.{answers_done, StaysClosed, port_touched, IsSound}
+use Rattle.hub_laws.proofs.Prelude.{arith, ◌≡◌, true, false, List, [], ◌∷◌, ◌++◌, refl, ap, ◌∙◌, sym, subst, Option, Some, None, ℕ, ◌==◌, suc, drop}
+use Rattle.hub_laws.proofs.Prelude.{append-nil, append_assoc, add-one, inl, inr, drop-cons, drop_all, slice_get_cases, get_or_from_slice_get, slice_get_within}
+use Rattle.hub_laws.proofs.Prelude.{slice_get, Case, Send, Recv, Entry, Close, Outcome, Sent, Fault, Head, Pid, Port, port_of, moves, state_after, state}
+use Rattle.hub_laws.proofs.Prelude.{State, Channel, channel_at, opening, buffer_of, Change, after_receive, shut, stalls, closes, close_fault, is_unmade}
+use Rattle.hub_laws.proofs.Prelude.{fault_of, answers, Turned, turns_after, values_from, close_by, sent_at, heard, Drains, answers_done, StaysClosed}
+use Rattle.hub_laws.proofs.Prelude.{port_touched, IsSound}
 use Rattle.hub_base.specs.declared.fault.Fault.TheVariants as fault
 use Rattle.hub_laws.proofs.Branches.{by-stall}
-use Rattle.hub_laws.proofs.Deeds.{Knows, Deed, deed_of, told, picks, at, Moved, buffers, hands, fetches, gives, drains, refuses, shuts, DoesAt}
-use Rattle.hub_laws.proofs.Deeds.{stays_at, makes_at, moves_at}
+use Rattle.hub_laws.proofs.Deeds.{Knows, Deed, deed_of, told, picks, at, Moved, buffers, hands, fetches, gives, drains, refuses, shuts, DoesAt, stays_at}
+use Rattle.hub_laws.proofs.Deeds.{makes_at, moves_at}
 use Rattle.hub_laws.proofs.Calls.{same_number}
-use Rattle.hub_laws.proofs.Ready.{none_false, by-refusal}
+use Rattle.hub_laws.proofs.Ready.{none_false}
 use Rattle.hub_laws.proofs.Kept.{sound-opening}
 use Rattle.hub_laws.proofs.Rules.{moves-sound, state-sound}
 use Rattle.hub_laws.proofs.Does.{wrote-set, does-at}
@@ -57,13 +57,7 @@ stays_moved p c d ts deeds new over (gives w next is e) = record {
   drains = λ os h. rw (e, same_number p.0, drop_next c.sent c.received w next)
       (refl, (let k : Drains (drop (suc c.received) c.sent) os = rw add-one at h in k));
 }
-stays_moved p c d ts deeds new over (drains next is e) = record {
-  after = c;
-  stands = new ∙ ap (λ x. Some x) is;
-  closed = over;
-  none = rw e refl;
-  drains = λ os h. let k : buffer_of c ≡ [] = drop_end c.sent c.received next in rw (e, same_number p.0, k) (refl, rw k at h);
-}
+stays_moved p c d ts deeds new over (drains next is e) = grind (arith, drop_end)
 stays_moved p c d ts deeds new over (refuses v closed is e) = stays_same p c ts deeds (new ∙ ap (λ x. Some x) is) over (rw e refl) (rw e refl)
 stays_moved p c d ts deeds new over (shuts live is all) = cc
 
@@ -121,8 +115,7 @@ closed_answers s pid p (Some f) is h = cc
 
 -- a close that was answered `Done` leaves the channel closed
 pub close-closes : (s : State) (pid : Pid) (p : Port) → answers_done (moves s (close_by pid p)).events ≡ true → ClosedIn (moves s (close_by pid p)).state p
-close-closes s pid p = by-refusal (λ o. answers_done (admits s (close_by pid p) o).events ≡ true → ClosedIn (admits s (close_by pid p) o).state p) s pid
-    (λ is h. closed_answers s pid p (fault_of s (Close p)) refl h) (λ f is h. cc)
+close-closes s pid p = grind (arith, closed_answers)
 
 -- Runs
 

@@ -1,7 +1,6 @@
 -- An admitted entry is answered first, and any other changes nothing.
-use Rattle.hub_laws.proofs.Prelude.{◌≡◌, List, ap, sym, subst, None, Entry, Head, admits, moves, state, State, refusal, IsAnswered}
-use Rattle.hub_laws.proofs.Prelude.{AnswersLaw, PassedOverLaw}
-use Rattle.hub_laws.proofs.Faults.{refusal-refuses}
+use Rattle.hub_laws.proofs.Prelude.{arith, ◌≡◌, List, sym, subst, None, Entry, Head, admits, moves, state, State, refusal, IsAnswered, AnswersLaw}
+use Rattle.hub_laws.proofs.Prelude.{PassedOverLaw}
 use Rattle.hub_laws.proofs.Entries.{turn-answered}
 
 -- in any state
@@ -12,8 +11,4 @@ pub answers-law : (head : Head) (es : List Entry) (e : Entry) → AnswersLaw hea
 answers-law head es e is = moves-answered (state head es) e is
 
 pub passed_over-law : (head : Head) (es : List Entry) (e : Entry) → PassedOverLaw head es e
-passed_over-law head es e f is = record {
-  events = ap (λ o. (admits (state head es) e o).events) is;
-  state = ap (λ o. (admits (state head es) e o).state) is;
-  refuses = refusal-refuses (state head es) e.pid f is;
-}
+passed_over-law head es e f is = grind arith

@@ -1,10 +1,10 @@
 -- Each process is told one event for its entry, unless it waits, and one for each call of its that ends.
-use Rattle.hub_laws.proofs.Prelude.{◌≡◌, Bool, true, false, List, [], ◌∷◌, ◌++◌, refl, ◌∙◌, subst, ℕ, ◌==◌, ◌+◌, ◌≤◌, cond, not, length, arith, ◌&&◌}
-use Rattle.hub_laws.proofs.Prelude.{or_parts, common_steps, AllByRecursion, Entry, Step, Event, What, Pid, State, OpenCall, Change, tells, turn}
-use Rattle.hub_laws.proofs.Prelude.{counts, endings, is_parked, Apart, IsSound, is_among}
+use Rattle.hub_laws.proofs.Prelude.{◌≡◌, Bool, true, false, List, [], ◌∷◌, ◌++◌, refl, ◌∙◌, ℕ, ◌==◌, ◌+◌, ◌≤◌, cond, not, length, arith, ◌&&◌, or_parts}
+use Rattle.hub_laws.proofs.Prelude.{AllByRecursion, Entry, Step, Event, What, Pid, State, OpenCall, Change, tells, turn, counts, endings, is_parked, Apart}
+use Rattle.hub_laws.proofs.Prelude.{IsSound, is_among}
 use Rattle.hub_laws.proofs.Account.{Account, with_caller, call_of}
 use Rattle.hub_laws.proofs.Entries.{turn-account}
-use Rattle.hub_laws.proofs.Events.{answer_counts, waiting-ends}
+use Rattle.hub_laws.proofs.Events.{answer_counts}
 use Rattle.hub_laws.proofs.Leaving.{Ended, EndsWell, events_of, one, count, count_ended, leave-count}
 
 -- Counting
@@ -17,7 +17,7 @@ abbrev pub ends : ℕ → List Event → ℕ
 ends q events = length (endings q events)
 
 ends_cons : (q : ℕ) (e : Event) (es : List Event) → ends q (e ∷ es) ≡ one (counts e.what && (e.pid.0 == q)) + ends q es
-ends_cons q e es = grind (arith, common_steps)
+ends_cons q e es = grind arith
 
 pub open_none : (q : ℕ) (calls : List OpenCall) → is_among q calls ≡ false → open_calls q calls ≡ 0
 open_none q [] e = refl
@@ -26,13 +26,7 @@ open_none q (call ∷ calls) e = let f = or_parts (call.pid.0 == q) (is_among q 
 -- no process has two open calls
 pub open_most : (q : ℕ) (calls : List OpenCall) → Apart calls → open_calls q calls ≤ 1
 open_most q [] a = omega arith
-open_most q (call ∷ calls) a =
-    grind (
-      arith,
-      common_steps,
-      open_most q calls a.1,
-      λ (e : call.pid.0 ≡ q). open_none q calls (subst (λ (n : ℕ). is_among n calls ≡ false) e a.0),
-    )
+open_most q (call ∷ calls) a = grind (arith, open_none, open_most q calls a.1)
 
 -- Balance: who steps gets one event or waits, and each call that ends gets one event
 
@@ -42,8 +36,7 @@ Balance q s pid c = ends q c.events + open_calls q c.state.parked ≡ open_calls
 ended_count : (q : ℕ) (xs : List Ended) → AllByRecursion EndsWell xs →
     ends q (events_of xs) ≡ count_ended (λ call. call.pid.0 == q) xs
 ended_count q [] well = refl
-ended_count q (x ∷ xs) well =
-    ends_cons q (tells x.call.pid x.what) (events_of xs) ∙ rw ((waiting-ends x.what well.0.0).counted, ended_count q xs well.1) refl
+ended_count q (x ∷ xs) well = grind (arith, ended_count q xs well.1)
 
 -- the caller is told at once, or its call waits
 caller_count : (q : ℕ) (calls : List OpenCall) (pid : Pid) (step : Step) (w : What) →

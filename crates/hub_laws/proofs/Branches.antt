@@ -1,6 +1,6 @@
 -- The two branches of a send and of a stall, for any fact of what follows.
-use Rattle.hub_laws.proofs.Prelude.{◌≡◌, Bool, true, false, List, [], ◌++◌, refl, sym, Some, cond, filter_map, Event, Closed, Port, Value, is_recv_on}
-use Rattle.hub_laws.proofs.Prelude.{first_with, State, Channel, OpenCall, Change, tells, stalls, Firing, after_send, send_meets, send_fires, all_wait}
+use Rattle.hub_laws.proofs.Prelude.{arith, ◌≡◌, true, false, List, [], ◌++◌, Some, cond, filter_map, Event, Closed, Port, Value, is_recv_on, first_with, State}
+use Rattle.hub_laws.proofs.Prelude.{Channel, OpenCall, Change, tells, stalls, Firing, after_send, send_meets, send_fires, all_wait}
 use Rattle.hub_base.specs.declared.event.What.TheVariants as what
 
 -- a send on a closed port
@@ -9,11 +9,7 @@ refused_send s = record { outcome = Closed; state = s; ended = [] }
 
 pub by-closed : (P : Firing → Type 0) (s : State) (p : Port) (v : Value) (c : Channel) → (c.closed ≡ true → P (refused_send s))
     → (c.closed ≡ false → P (send_meets s p (after_send v c) (first_with (is_recv_on p) s.parked))) → P (send_fires s p v c)
-by-closed P s p v c over live = by c.closed refl
-  where
-    by : (b : Bool) → b ≡ c.closed → P (cond b (refused_send s) (send_meets s p (after_send v c) (first_with (is_recv_on p) s.parked)))
-    by true is = over (sym is)
-    by false is = live (sym is)
+by-closed P s p v c over live = grind arith
 
 -- what the calls are told that a stall ends
 abbrev pub stall_events : List OpenCall → List Event

@@ -1,16 +1,16 @@
 -- Lists of open calls: what stays when some of them end, and when one more parks.
-use Rattle.hub_laws.proofs.Prelude.{◌≡◌, Bool, true, false, List, [], ◌∷◌, ◌++◌, refl, ◌∙◌, sym, subst, Option, Some, None, ℕ, ◌==◌, suc, ◌+◌, cond, arith}
-use Rattle.hub_laws.proofs.Prelude.{filter, ◌||◌, or-false, or_parts, or_left, or_right, or_from, false_from_ne_true, common_steps}
-use Rattle.hub_laws.proofs.Prelude.{list_any-append, list_any, AllByRecursion, option_map, slice_get, is_some, Case, Port, is_recv_on, first_with}
-use Rattle.hub_laws.proofs.Prelude.{is_send_on, Placed, Ending, or_else, lowest, lowest_from, OpenCall, Apart, is_among, some_call, Alone, CallFits}
+use Rattle.hub_laws.proofs.Prelude.{◌≡◌, Bool, true, false, List, [], ◌∷◌, ◌++◌, refl, ◌∙◌, Option, Some, None, ℕ, ◌==◌, suc, ◌+◌, cond, arith, filter, ◌||◌}
+use Rattle.hub_laws.proofs.Prelude.{or-false, or_parts, or_from, false_from_ne_true, list_any-append, list_any, AllByRecursion, option_map, slice_get, is_some}
+use Rattle.hub_laws.proofs.Prelude.{Case, Port, is_recv_on, first_with, is_send_on, Placed, Ending, or_else, lowest, lowest_from, OpenCall, Apart, is_among}
+use Rattle.hub_laws.proofs.Prelude.{some_call, Alone, CallFits}
 
 -- Numbers of processes
 
 pub same_number : (a : ℕ) → (a == a) ≡ true
-same_number a = grind (arith, common_steps)
+same_number a = grind arith
 
 pub differ-sym : (a b : ℕ) → (a == b) ≡ false → (b == a) ≡ false
-differ-sym a b e = grind (arith, common_steps)
+differ-sym a b e = grind arith
 
 -- What stays when some of the calls end
 
@@ -24,50 +24,27 @@ pub record Fewer (kept calls : List OpenCall) : Type 0 where
 pub fewer-none : (calls : List OpenCall) → Fewer [] calls
 fewer-none calls = record { some = λ test e. cc; among = λ q e. cc; apart = λ a. tt; alone = λ p a. tt; each = λ n a. tt }
 
-pub fewer-same : (calls : List OpenCall) → Fewer calls calls
-fewer-same calls = record { some = λ test e. e; among = λ q e. e; apart = λ a. a; alone = λ p a. a; each = λ n a. a }
-
 any_kept : {A : Type 0} (test keep : A → Bool) (xs : List A) → list_any test (filter keep xs) ≡ true → list_any test xs ≡ true
 any_kept test keep [] e = e
-any_kept test keep (x ∷ xs) e = grind (arith, common_steps, any_kept test keep xs)
+any_kept test keep (x ∷ xs) e = grind (arith, any_kept test keep xs)
 
 pub none_kept : {A : Type 0} (test keep : A → Bool) (xs : List A) → list_any test xs ≡ false → list_any test (filter keep xs) ≡ false
 none_kept test keep xs e = false_from_ne_true (list_any test (filter keep xs)) (λ h. let t = any_kept test keep xs h in cc)
 
 apart_kept : (keep : OpenCall → Bool) (calls : List OpenCall) → Apart calls → Apart (filter keep calls)
 apart_kept keep [] a = tt
-apart_kept keep (call ∷ calls) a =
-    elim (keep call) as (λ b. Apart (cond b (call ∷ filter keep calls) (filter keep calls)))
-    [ true ↦ (none_kept (λ c. c.pid.0 == call.pid.0) keep calls a.0, apart_kept keep calls a.1) | false ↦ apart_kept keep calls a.1 ]
+apart_kept keep (call ∷ calls) a = grind (arith, none_kept, apart_kept keep calls a.1)
 
 alone_kept : (p : Port) (keep : OpenCall → Bool) (calls : List OpenCall) → Alone p calls → Alone p (filter keep calls)
 alone_kept p keep [] a = tt
-alone_kept p keep (call ∷ calls) a =
-    elim (keep call) as (λ b. Alone p (cond b (call ∷ filter keep calls) (filter keep calls))) [
-      | true ↦ (
-        λ r. none_kept (λ c. list_any (is_send_on p) c.cases) keep calls (a.0 r),
-        λ w. none_kept (λ c. list_any (is_recv_on p) c.cases) keep calls (a.1 w),
-        alone_kept p keep calls a.2,
-      )
-      | false ↦ alone_kept p keep calls a.2
-    ]
+alone_kept p keep (call ∷ calls) a = grind (arith, none_kept, alone_kept p keep calls a.2)
 
 pub all_kept : {A : Type 0} (P : A → Type 0) (keep : A → Bool) (xs : List A) → AllByRecursion P xs → AllByRecursion P (filter keep xs)
 all_kept P keep [] a = tt
-all_kept P keep (x ∷ xs) a =
-    elim (keep x) as (λ b. AllByRecursion P (cond b (x ∷ filter keep xs) (filter keep xs))) [
-      | true ↦ (a.0, all_kept P keep xs a.1)
-      | false ↦ all_kept P keep xs a.1
-    ]
+all_kept P keep (x ∷ xs) a = grind (arith, all_kept P keep xs a.1)
 
 pub fewer-filter : (keep : OpenCall → Bool) (calls : List OpenCall) → Fewer (filter keep calls) calls
-fewer-filter keep calls = record {
-  some = λ test. any_kept (λ c. list_any test c.cases) keep calls;
-  among = λ q. any_kept (λ c. c.pid.0 == q) keep calls;
-  apart = apart_kept keep calls;
-  alone = λ p. alone_kept p keep calls;
-  each = λ n. all_kept (CallFits n) keep calls;
-}
+fewer-filter keep calls = grind (arith, any_kept, apart_kept, alone_kept, all_kept)
 
 -- One more call
 
@@ -86,30 +63,18 @@ pub alone_snoc : (p : Port) (calls : List OpenCall) (call : OpenCall) → Alone 
     (list_any (is_recv_on p) call.cases ≡ true → some_call (is_send_on p) calls ≡ false) →
     (list_any (is_send_on p) call.cases ≡ true → some_call (is_recv_on p) calls ≡ false) → Alone p (calls ++ call ∷ [])
 alone_snoc p [] call a r w = (λ e. refl, λ e. refl, tt)
-alone_snoc p (c ∷ cs) call a r w = (
-  λ e. any_snoc (λ x. list_any (is_send_on p) x.cases) cs call ∙ or_from (some_call (is_send_on p) cs) (list_any (is_send_on p) call.cases) (a.0 e)
-      (false_from_ne_true (list_any (is_send_on p) call.cases) (λ t. let f = or_parts (list_any (is_recv_on p) c.cases) (some_call (is_recv_on p) cs) (w t) in
-      let g : list_any (is_recv_on p) c.cases ≡ false = f.0 in cc)),
-  λ e. any_snoc (λ x. list_any (is_recv_on p) x.cases) cs call ∙ or_from (some_call (is_recv_on p) cs) (list_any (is_recv_on p) call.cases) (a.1 e)
-      (false_from_ne_true (list_any (is_recv_on p) call.cases) (λ t. let f = or_parts (list_any (is_send_on p) c.cases) (some_call (is_send_on p) cs) (r t) in
-      let g : list_any (is_send_on p) c.cases ≡ false = f.0 in cc)),
-  alone_snoc p cs call a.2 (λ t. (or_parts (list_any (is_send_on p) c.cases) (some_call (is_send_on p) cs) (r t)).1)
-      (λ t. (or_parts (list_any (is_recv_on p) c.cases) (some_call (is_recv_on p) cs) (w t)).1),
-)
+alone_snoc p (c ∷ cs) call a r w =
+    grind (arith, any_snoc, alone_snoc p cs call a.2 (λ t. (or_parts (list_any (is_send_on p) c.cases) (some_call (is_send_on p) cs) (r t)).1))
 
 -- The first call with a case that passes
 
 pub lowest-some : (i : ℕ) (test : Case → Bool) (cases : List Case) → is_some (lowest_from i test cases) ≡ list_any test cases
 lowest-some i test [] = refl
-lowest-some i test (c ∷ cs) =
-    elim (test c) as (λ b. is_some (cond b (Some (record { index = i; case = c })) (lowest_from (i + 1) test cs)) ≡ (b || list_any test cs)) [
-      | true ↦ refl
-      | false ↦ lowest-some (i + 1) test cs
-    ]
+lowest-some i test (c ∷ cs) = grind (arith, lowest-some (i + 1) test cs)
 
 pub first-some : (test : Case → Bool) (calls : List OpenCall) → is_some (first_with test calls) ≡ some_call test calls
 first-some test [] = refl
-first-some test (call ∷ calls) = grind (arith, common_steps, lowest-some 0 test call.cases, first-some test calls)
+first-some test (call ∷ calls) = grind (arith, lowest-some 0 test call.cases, first-some test calls)
 
 -- where a case stands in a list that is numbered from `i`
 abbrev pub StandsAt : ℕ → List Case → Placed → Type 0
@@ -118,10 +83,7 @@ StandsAt i cases at = (k : ℕ) × (at.index ≡ i + k) × (slice_get cases k �
 placed : (b : Bool) (i : ℕ) (test : Case → Bool) (c : Case) (cs : List Case) (at : Placed) → b ≡ test c
     → cond b (Some (record { index = i; case = c })) (lowest_from (i + 1) test cs) ≡ Some at
     → (lowest_from (i + 1) test cs ≡ Some at → (test at.case ≡ true) × StandsAt (i + 1) cs at) → (test at.case ≡ true) × StandsAt i (c ∷ cs) at
-placed true i test c cs at is e rest =
-    let P : Placed → Type 0 = λ x. (test x.case ≡ true) × StandsAt i (c ∷ cs) x in
-    let h : record { index = i; case = c } ≡ at = cc in
-    subst P h (sym is, (0, omega arith, refl))
+placed true i test c cs at is e rest = grind arith
 placed false i test c cs at is e rest = let r = rest e in (r.0, (suc r.1.0, omega (arith, r.1.1), r.1.2))
 
 pub lowest-at : (i : ℕ) (test : Case → Bool) (cases : List Case) (at : Placed) → lowest_from i test cases ≡ Some at
@@ -141,28 +103,8 @@ pub record Found (P : OpenCall → Type 0) (test : Case → Bool) (calls : List 
 found_here : (P : OpenCall → Type 0) (test : Case → Bool) (call : OpenCall) (calls : List OpenCall) (e : Ending) (o : Option Placed)
     → o ≡ lowest test call.cases → or_else (option_map (λ c. record { pid = call.pid; at = c }) o) (first_with test calls) ≡ Some e → P call
     → (first_with test calls ≡ Some e → Found P test calls e) → Found P test (call ∷ calls) e
-found_here P test call calls e None is h known rest =
-    let r = rest h in
-    record {
-      call = r.call;
-      known = r.known;
-      pid = r.pid;
-      passes = r.passes;
-      stands = r.stands;
-      among = or_right (call.pid.0 == e.pid.0) (is_among e.pid.0 calls) r.among;
-    }
-found_here P test call calls e (Some at) is h known rest =
-    let same : record { pid = call.pid; at = at } ≡ e = cc in
-    let l = lowest-at 0 test call.cases at (sym is) in
-    let k : at.index ≡ l.1.0 = omega (arith, l.1.1) in
-    subst (Found P test (call ∷ calls)) same (record {
-      call = call;
-      known = known;
-      pid = refl;
-      passes = l.0;
-      stands = rw k l.1.2;
-      among = or_left (call.pid.0 == call.pid.0) (is_among call.pid.0 calls) (same_number call.pid.0);
-    })
+found_here P test call calls e None is h known rest = grind arith
+found_here P test call calls e (Some at) is h known rest = grind (arith, lowest-at)
 
 pub first-found : (P : OpenCall → Type 0) (test : Case → Bool) (calls : List OpenCall) (e : Ending) → AllByRecursion P calls
     → first_with test calls ≡ Some e → Found P test calls e

@@ -1,12 +1,10 @@
 -- No more values are sent on a port than there are admitted entries that are no exits.
-use Rattle.hub_laws.proofs.Prelude.{◌≡◌, Bool, true, false, List, [], ◌∷◌, ◌++◌, refl, sym, Option, Some, None, ℕ, ◌==◌, ◌+◌, ◌≤◌, cond, length}
-use Rattle.hub_laws.proofs.Prelude.{arith, ◌-◌, option_map_or, slice_get, Entry, Step, Exit, Event, Fault, Head, Port, is_exit, admits, moves}
-use Rattle.hub_laws.proofs.Prelude.{state_after, state, kept_after, keeps, State, Channel, channel_at, opening, refusal, turn, one_step, steps_of, Turned}
-use Rattle.hub_laws.proofs.Prelude.{CountsLaw, port_touched, IsSound}
-use Rattle.hub_laws.proofs.Deeds.{Knows, Deed, deed_of, told, at, Moved, Does, buffers, hands, fetches, gives, drains, refuses, shuts, DoesAt}
-use Rattle.hub_laws.proofs.Deeds.{stays_at, makes_at, moves_at}
+use Rattle.hub_laws.proofs.Prelude.{common_steps, ◌≡◌, Bool, true, false, List, [], ◌∷◌, ◌++◌, refl, sym, Option, Some, None, ℕ, ◌==◌, ◌+◌, ◌≤◌, cond, length}
+use Rattle.hub_laws.proofs.Prelude.{arith, ◌-◌, option_map_or, slice_get, Entry, Step, Event, Fault, Head, Port, is_exit, admits, moves, state_after, state}
+use Rattle.hub_laws.proofs.Prelude.{kept_after, keeps, State, Channel, channel_at, opening, refusal, turn, one_step, steps_of, Turned, CountsLaw, port_touched}
+use Rattle.hub_laws.proofs.Prelude.{IsSound}
+use Rattle.hub_laws.proofs.Deeds.{Knows, Deed, deed_of, told, at, Does, DoesAt}
 use Rattle.hub_laws.proofs.Does.{does-others, does-at}
-use Rattle.hub_laws.proofs.Fires.{longer}
 use Rattle.hub_laws.proofs.Kept.{sound-opening}
 use Rattle.hub_laws.proofs.Rules.{moves-sound, state-sound}
 use Rattle.hub_laws.proofs.Turns.{in_force, moves-turn}
@@ -17,19 +15,8 @@ sends_of o = option_map_or (λ c. length c.sent) o 0
 
 -- One step sends at most one
 
-moved_sends : (q : Port) (c d : Channel) (deeds : List Deed) → Moved q c d deeds → length d.sent ≤ length c.sent + 1
-moved_sends q c d deeds (buffers v live is e) = rw is (omega (arith, longer v c))
-moved_sends q c d deeds (hands v w live next is e) = rw is (omega (arith, longer v c))
-moved_sends q c d deeds (fetches v w live next is e) = rw is (omega (arith, longer v c))
-moved_sends q c d deeds (gives w next is e) = rw is (omega arith)
-moved_sends q c d deeds (drains next is e) = rw is (omega arith)
-moved_sends q c d deeds (refuses v over is e) = rw is (omega arith)
-moved_sends q c d deeds (shuts live is all) = rw is (omega arith)
-
 does_sends : (cs ts : List Channel) (deeds : List Deed) (p : Port) → DoesAt cs ts deeds p → sends_of (at ts p) ≤ sends_of (at cs p) + 1
-does_sends cs ts deeds p (stays_at same off) = rw same (omega arith)
-does_sends cs ts deeds p (makes_at cap before after e) = rw (before, after) (omega arith)
-does_sends cs ts deeds p (moves_at c d old new m) = rw (old, new) (moved_sends p c d deeds m)
+does_sends cs ts deeds p x4 = grind (arith, common_steps)
 
 -- and where it names no port, none
 idle_sends : (cs ts : List Channel) (named : Option Port) (deeds : List Deed) (p : Port) → named ≡ None →
@@ -37,9 +24,7 @@ idle_sends : (cs ts : List Channel) (named : Option Port) (deeds : List Deed) (p
 idle_sends cs ts named deeds p none does = rw (does-others cs ts named deeds does p (rw none refl)) (omega arith)
 
 exit_names_none : (step : Step) (events : List Event) → is_exit step ≡ true → port_touched step events ≡ None
-exit_names_none step [] e = refl
-exit_names_none Exit (x ∷ xs) e = refl
-exit_names_none step (x ∷ xs) e = absurd (let g : ⊥ = cc in g)
+exit_names_none step x1 e = grind arith
 
 step_sends : (s t : State) (e : Entry) (events : List Event) (deeds : List Deed) (p : Port) →
     Does s.channels t.channels (port_touched e.step events) deeds →

@@ -1,7 +1,7 @@
 -- What one step does to a channel, and the communications that it completes.
-use Rattle.hub_laws.proofs.Prelude.{◌≡◌, true, false, List, [], ◌∷◌, ◌++◌, Option, Some, None, if◌then◌else◌, ℕ, ◌==◌, ◌+◌, length, ◌-◌, ◌<◌}
-use Rattle.hub_laws.proofs.Prelude.{AllByRecursion, filter_map, slice_get, Case, Send, Recv, Event, Outcome, Sent, Closed, Got, Drained, MOST_PORTS, Pid}
-use Rattle.hub_laws.proofs.Prelude.{Port, Value, port_of, Channel, OpenCall, after_receive, shut, after_send, closing_outcome, next_value, of_what}
+use Rattle.hub_laws.proofs.Prelude.{◌≡◌, true, false, List, [], ◌∷◌, ◌++◌, Option, Some, None, if◌then◌else◌, ℕ, ◌==◌, ◌+◌, length, ◌-◌, ◌<◌, AllByRecursion}
+use Rattle.hub_laws.proofs.Prelude.{filter_map, slice_get, Case, Send, Recv, Event, Outcome, Sent, Closed, Got, Drained, MOST_PORTS, Pid, Port, Value, port_of}
+use Rattle.hub_laws.proofs.Prelude.{Channel, OpenCall, after_receive, shut, after_send, closing_outcome, next_value, of_what}
 
 -- a case that fired, with its outcome
 pub record Deed : Type 0 where

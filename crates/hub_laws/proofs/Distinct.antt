@@ -1,7 +1,6 @@
 -- Processes that are apart from one another are no more than there are numbers for them.
-use Rattle.hub_laws.proofs.Prelude.{◌≡◌, true, false, List, [], ◌∷◌, refl, ℕ, ◌==◌, ◌≤◌, length, arith, ◌<◌, map, eqb, or_parts}
-use Rattle.hub_laws.proofs.Prelude.{common_steps, length-map, length-le_from_distinct_below, list_any, AllByRecursion, Pid, OpenCall, Apart}
-use Rattle.hub_laws.proofs.Prelude.{is_among}
+use Rattle.hub_laws.proofs.Prelude.{◌≡◌, true, false, List, [], ◌∷◌, refl, ℕ, ◌==◌, ◌≤◌, length, arith, ◌<◌, map, eqb, or_parts, length-map}
+use Rattle.hub_laws.proofs.Prelude.{length-le_from_distinct_below, list_any, AllByRecursion, Pid, OpenCall, Apart, is_among}
 use Rattle.std.specs.List.{IsDistinct}
 use Rattle.hub_laws.proofs.Calls.{differ-sym}
 
@@ -19,7 +18,7 @@ distinct (c ∷ cs) a = (apart_from c.pid.0 cs a.0, distinct cs a.1)
 
 found : (q : ℕ) (calls : List OpenCall) → list_any (eqb q) (numbers calls) ≡ true → is_among q calls ≡ true
 found q [] e = e
-found q (c ∷ cs) e = grind (arith, common_steps, found q cs)
+found q (c ∷ cs) e = grind (arith, found q cs)
 
 -- no more calls wait than there are processes
 pub count-below : (procs : ℕ) (calls : List OpenCall) → Apart calls → ((q : ℕ) → is_among q calls ≡ true → q < procs) → length calls ≤ procs

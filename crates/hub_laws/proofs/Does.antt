@@ -1,13 +1,11 @@
 -- What a write does to the channels, and what follows of each port from what a step can do to them.
-use Rattle.hub_laws.proofs.Prelude.{◌≡◌, Bool, true, false, List, [], ◌∷◌, ◌++◌, refl, ap, ◌∙◌, sym, subst, Option, Some, None, ℕ, ◌==◌, zero, suc, ◌+◌, ◌≤◌}
-use Rattle.hub_laws.proofs.Prelude.{cond, length, arith, ◌-◌, ◌<◌, length-set, eqb-true, eqb-false, nat_tests, length-append, slice_get_past}
-use Rattle.hub_laws.proofs.Prelude.{slice_get_within, slice_get-get_or, AllByRecursion, option_map, slice_get, slice_set, get_or, MOST_PORTS, Port, Value}
-use Rattle.hub_laws.proofs.Prelude.{port_of, State, Channel, channel_at, after_send, next_value, shown, is_port, IsMade, IsSound}
-use Rattle.hub_laws.proofs.Deeds.{Deed, at, fresh, Wrote, Does, idle, adds, wrote, DoesAt, stays_at, makes_at, moves_at, buffers, hands, fetches, gives}
-use Rattle.hub_laws.proofs.Deeds.{drains, refuses, shuts, Moved, IsClosing}
+use Rattle.hub_laws.proofs.Prelude.{common_steps, ◌≡◌, Bool, true, false, List, [], ◌∷◌, ◌++◌, refl, ap, ◌∙◌, sym, subst, Option, Some, None, ℕ, ◌==◌, zero}
+use Rattle.hub_laws.proofs.Prelude.{suc, ◌+◌, ◌≤◌, cond, length, arith, ◌-◌, ◌<◌, length-set, eqb-true, eqb-false, slice_get_past, slice_get_within}
+use Rattle.hub_laws.proofs.Prelude.{slice_get-get_or, AllByRecursion, option_map, slice_get, slice_set, get_or, MOST_PORTS, Port, Value, port_of, State}
+use Rattle.hub_laws.proofs.Prelude.{Channel, channel_at, after_send, next_value, shown, is_port, IsMade, IsSound, all_more}
+use Rattle.hub_laws.proofs.Deeds.{Deed, at, fresh, Wrote, Does, idle, adds, wrote, DoesAt, stays_at, makes_at, moves_at, Moved}
 use Rattle.hub_laws.proofs.Fires.{longer}
 use Rattle.hub_laws.proofs.Ports.{above_zero, made, written, get_set_other, same_port}
-use Rattle.hub_laws.proofs.Prelude.{all_more}
 
 -- the channels after a write
 
@@ -32,24 +30,12 @@ wrote-same s q c e = record { old = e; new = e; others = λ p h. refl; ports = r
 
 -- where it leaves the port as it was, nothing changes
 pub wrote-still : (cs ts : List Channel) (q : Port) (c d : Channel) → Wrote cs ts q c d → d ≡ c → (p : Port) → at ts p ≡ at cs p
-wrote-still cs ts q c d w same p = by (q.0 == p.0) refl
-  where
-    by : (b : Bool) → b ≡ (q.0 == p.0) → at ts p ≡ at cs p
-    by true is =
-        let here : q ≡ p = same_port q p (eqb-true q.0 p.0 (sym is)) in
-        subst (λ (r : Port). at ts r ≡ at cs r) here (w.new ∙ ap (λ x. Some x) same ∙ sym w.old)
-    by false is = w.others p (sym is)
+wrote-still cs ts q c d w same p = grind arith
 
 -- where it leaves another to be shown, so does the port
 pub wrote-moves : (cs ts : List Channel) (q : Port) (c d : Channel) → Wrote cs ts q c d → (shown c ≡ shown d → ⊥) →
     (p : Port) → Some q ≡ Some p → option_map shown (at cs p) ≡ option_map shown (at ts p) → ⊥
-wrote-moves cs ts q c d w other p named h =
-    let same : q ≡ p = cc in
-    let here : option_map shown (at cs q) ≡ option_map shown (at ts q) =
-    subst (λ (r : Port). option_map shown (at cs r) ≡ option_map shown (at ts r)) (sym same) h in
-    let told : Some (shown c) ≡ Some (shown d) = sym (ap (option_map shown) w.old) ∙ here ∙ ap (option_map shown) w.new in
-    let one : shown c ≡ shown d = cc in
-    other one
+wrote-moves cs ts q c d w other p named h = grind arith
 
 -- a port that is made was none before
 last_one : (xs : List Channel) (d : Channel) → slice_get (xs ++ d ∷ []) (length xs) ≡ Some d
@@ -57,10 +43,7 @@ last_one [] d = refl
 last_one (x ∷ xs) d = last_one xs d
 
 pub next_port : (cs : List Channel) (d : Channel) (p : Port) → p.0 ≡ length cs + 1 → (at cs p ≡ None) × (at (cs ++ d ∷ []) p ≡ Some d)
-next_port cs d p is =
-    let some : (p.0 == 0) ≡ false = grind (arith, nat_tests) in
-    let place : p.0 - 1 ≡ length cs = omega arith in
-    rw (some, place) (slice_get_past cs (length cs) (omega arith), last_one cs d)
+next_port cs d p is = grind (arith, slice_get_past cs (length cs) (omega arith), last_one cs d)
 
 pub made-moves : (cs : List Channel) (cap : ℕ) (p : Port) → Some (record { 0 = length cs + 1 }) ≡ Some p →
     option_map shown (at cs p) ≡ option_map shown (at (cs ++ fresh cap ∷ []) p) → ⊥
@@ -87,62 +70,34 @@ get_snoc (x ∷ xs) zero d h = refl
 get_snoc (x ∷ xs) (suc i) d h = get_snoc xs i d (λ e. h (ap suc e))
 
 other_port : (cs : List Channel) (d : Channel) (p : Port) → (length cs + 1 == p.0) ≡ false → at (cs ++ d ∷ []) p ≡ at cs p
-other_port cs d p h = by (p.0 == 0) refl
-  where
-    by : (b : Bool) → b ≡ (p.0 == 0) → cond b None (slice_get (cs ++ d ∷ []) (p.0 - 1)) ≡ cond b None (slice_get cs (p.0 - 1))
-    by true is = refl
-    by false is = get_snoc cs (p.0 - 1) d (λ e. let n = above_zero p.0 (sym is) in absurd (eqb-false (length cs + 1) p.0 h (omega arith)))
+other_port cs d p h = grind (arith, get_snoc)
 
 -- What follows from what a step can do
 
 -- the port that is named is made
 pub does-made : (cs ts : List Channel) (named : Option Port) (deeds : List Deed) → Does cs ts named deeds →
     (p : Port) → named ≡ Some p → IsMade p (length ts)
-does-made cs ts named deeds (idle none same e) p h = absurd (let g : ⊥ = cc in g)
-does-made cs ts named deeds (adds cap room names same e) p h =
-    let n : record { 0 = length cs + 1 } ≡ p = cc in
-    subst (λ r. IsMade r (length ts)) n (record { some = omega arith; few = omega (arith, ap length same, length-append cs (fresh cap ∷ [])) })
-does-made cs ts named deeds (wrote q c d names w m) p h =
-    let n : q ≡ p = cc in
-    let m = made (record { head = record { procs = 0 }; gone = []; parked = []; channels = cs }) q c w.old in
-    let within : q.0 - 1 < length cs = slice_get_within cs (q.0 - 1) c m.channel in
-    subst (λ r. IsMade r (length ts)) n (record { some = m.number; few = omega (arith, within, m.number, w.ports) })
+does-made cs ts named deeds x4 p h = grind (arith, common_steps, slice_get_within)
 
 -- and no other is written
 pub does-others : (cs ts : List Channel) (named : Option Port) (deeds : List Deed) → Does cs ts named deeds →
     (p : Port) → is_port named p ≡ false → at ts p ≡ at cs p
-does-others cs ts named deeds (idle none same e) p h = ap (λ xs. at xs p) same
-does-others cs ts named deeds (adds cap room names same e) p h =
-    rw same (other_port cs (fresh cap) p (rw names at h))
-does-others cs ts named deeds (wrote q c d names w m) p h = w.others p (rw names at h)
+does-others cs ts named deeds x4 p h = grind (arith, other_port)
 
 -- no more ports than there may be
 pub does-few : (cs ts : List Channel) (named : Option Port) (deeds : List Deed) → Does cs ts named deeds →
     length cs ≤ MOST_PORTS → length ts ≤ MOST_PORTS
-does-few cs ts named deeds (idle none same e) few = rw same few
-does-few cs ts named deeds (adds cap room names same e) few =
-    omega (arith, room, ap length same, length-append cs (fresh cap ∷ []))
-does-few cs ts named deeds (wrote q c d names w m) few = omega (arith, few, w.ports)
+does-few cs ts named deeds x4 few = grind (arith, common_steps)
 
 -- and none is lost
 pub does-grows : (cs ts : List Channel) (named : Option Port) (deeds : List Deed) → Does cs ts named deeds →
     length cs ≤ length ts
-does-grows cs ts named deeds (idle none same e) = omega (arith, ap length same)
-does-grows cs ts named deeds (adds cap room names same e) =
-    omega (arith, ap length same, length-append cs (fresh cap ∷ []))
-does-grows cs ts named deeds (wrote q c d names w m) = omega (arith, w.ports)
+does-grows cs ts named deeds x4 = grind (arith, common_steps)
 
 -- where it moves one port, all communications are on that, and none on another
 pub elsewhere : (p q : Port) (c d : Channel) (deeds : List Deed) → (q.0 == p.0) ≡ false → Moved q c d deeds →
     AllByRecursion (λ x. ((port_of x.case).0 == p.0) ≡ false) deeds
-elsewhere p q c d deeds h (buffers v live is e) = rw e (h, tt)
-elsewhere p q c d deeds h (hands v w live next is e) = rw e (h, (h, tt))
-elsewhere p q c d deeds h (fetches v w live next is e) = rw e (h, (h, tt))
-elsewhere p q c d deeds h (gives w next is e) = rw e (h, tt)
-elsewhere p q c d deeds h (drains next is e) = rw e (h, tt)
-elsewhere p q c d deeds h (refuses v over is e) = rw e (h, tt)
-elsewhere p q c d deeds h (shuts live is all) =
-    all_more (IsClosing q) (λ x. ((port_of x.case).0 == p.0) ≡ false) deeds (λ x k. ap (λ (r : Port). r.0 == p.0) k.port ∙ h) all
+elsewhere p q c d deeds h x6 = grind (arith, all_more)
 
 -- at each port
 pub does-at : (cs ts : List Channel) (named : Option Port) (deeds : List Deed) → Does cs ts named deeds → (p : Port) → DoesAt cs ts deeds p

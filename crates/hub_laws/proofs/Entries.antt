@@ -1,18 +1,16 @@
 -- The account of each admitted entry: every step, the stall that can follow it, and a fault.
-use Rattle.hub_laws.proofs.Prelude.{◌≡◌, Bool, true, false, List, [], ◌∷◌, ◌++◌, refl, ap, ◌∙◌, sym, subst, Option, Some, None, if◌then◌else◌, ℕ, append-nil}
-use Rattle.hub_laws.proofs.Prelude.{◌+◌, not, length, filter, ◌-◌, ◌<◌, nat_le, nat_lt, leb-false, map-append, filter_map-append, list_any}
-use Rattle.hub_laws.proofs.Prelude.{AllByRecursion, slice_set, Entry, Step, Close, Exit, Make, Call, Event, What, Fault, MOST_PORTS, MOST_CAP, Pid, Port}
-use Rattle.hub_laws.proofs.Prelude.{is_on, State, Channel, OpenCall, channel_at, Change, tells, shut, closes, close_fault, is_unmade, fault_of, answers, turn}
-use Rattle.hub_laws.proofs.Prelude.{effect, of_what, IsAnswered, ends_waiting, port_touched_by, Shown, PortSound}
+use Rattle.hub_laws.proofs.Prelude.{arith, ◌≡◌, Bool, true, false, List, [], ◌∷◌, ◌++◌, refl, ap, ◌∙◌, sym, subst, Option, Some, None, ℕ, append-nil, ◌+◌, not}
+use Rattle.hub_laws.proofs.Prelude.{length, filter, ◌-◌, ◌<◌, map-append, filter_map-append, list_any, AllByRecursion, slice_set, Entry, Step, Close, Exit}
+use Rattle.hub_laws.proofs.Prelude.{Make, Call, Event, What, Fault, MOST_PORTS, Pid, Port, is_on, State, Channel, OpenCall, channel_at, Change, tells, shut}
+use Rattle.hub_laws.proofs.Prelude.{closes, close_fault, fault_of, answers, turn, effect, of_what, IsAnswered, ends_waiting, port_touched_by, Shown, PortSound}
+use Rattle.hub_laws.proofs.Prelude.{all_append, all_more}
 use Rattle.hub_base.specs.declared.fault.Fault.TheVariants as fault
 use Rattle.hub_base.specs.declared.event.What.TheVariants as what
 use Rattle.hub_laws.proofs.Branches.{by-stall, stalled}
-use Rattle.hub_laws.proofs.Prelude.{all_append, all_more}
 use Rattle.hub_laws.proofs.Calls.{fewer-none, fewer-filter}
 use Rattle.hub_laws.proofs.Deeds.{deed_of, fresh, IsClosing, shuts, adds, wrote, at}
 use Rattle.hub_laws.proofs.Does.{wrote-set, wrote-moves, made-moves, next_port}
 use Rattle.hub_laws.proofs.Faults.{journaled}
-use Rattle.hub_laws.proofs.Fires.{is_on_port}
 use Rattle.hub_laws.proofs.Kept.{port-fewer, port-shut, port-fresh}
 use Rattle.hub_laws.proofs.Leaving.{Ended, event_of, events_of, EndsWell, leave-join, ClosedAt, closed, all_stalled}
 use Rattle.hub_laws.proofs.Ready.{none_false}
@@ -27,9 +25,7 @@ closed_well p x c = rw c.tells (refl, (c.at.case, c.stands))
 closed_deeds : (p : Port) (xs : List Ended) → AllByRecursion (ClosedAt p) xs →
     AllByRecursion (IsClosing p) (ended_deeds xs)
 closed_deeds p [] all = tt
-closed_deeds p (x ∷ xs) all =
-    let c = all.0 in
-    rw (c.tells, c.stands) (record { port = is_on_port p c.at.case c.on; outcome = refl }, closed_deeds p xs all.1)
+closed_deeds p (x ∷ xs) all = grind (arith, closed_deeds p xs all.1)
 
 close_account : (s : State) (pid : Pid) (p : Port) (o : Option Channel) → o ≡ channel_at s p → close_fault o ≡ None →
     Account s pid (Close p) (closes s pid p o)
@@ -63,11 +59,7 @@ close_account s pid p (Some c) is h =
 -- A step that meets no fault
 
 room_for_port : (s : State) (cap : ℕ) → fault_of s (Make cap) ≡ None → length s.channels < MOST_PORTS
-room_for_port s cap h =
-    let full : Option Fault = if nat_le MOST_PORTS (length s.channels) then Some fault.TooManyPorts else None in
-    let a = none_false (nat_lt MOST_CAP cap) fault.BadCap full h in
-    let b = none_false (nat_le MOST_PORTS (length s.channels)) fault.TooManyPorts None a.1 in
-    leb-false MOST_PORTS (length s.channels) b.0
+room_for_port s cap h = grind arith
 
 pub effect-account : (s : State) (pid : Pid) (step : Step) → fault_of s step ≡ None →
     Account s pid step (effect s pid step)
@@ -83,9 +75,7 @@ effect-account s pid (Make cap) h =
     let one : fresh cap ≡ c = cc in
     subst (λ x. PortSound p x s.parked) one (port-fresh s p cap sound number))
 effect-account s pid (Call cases default word) h = calls-account s pid cases.items default word
-effect-account s pid (Close p) h =
-    let fine = none_false (is_unmade s p) fault.NoPort (close_fault (channel_at s p)) h in
-    close_account s pid p (channel_at s p) refl fine.1
+effect-account s pid (Close p) h = grind (arith, close_account)
 effect-account s pid Exit h = silent s pid Exit what.Done refl (λ h. cc) refl tt refl
 
 -- and a stall, which ends all that wait

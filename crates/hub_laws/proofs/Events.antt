@@ -1,25 +1,15 @@
 -- Which events answer, end a call, and count.
-use Rattle.hub_laws.proofs.Prelude.{◌≡◌, true, false, List, [], ◌∷◌, refl, ap, not, AllByRecursion, Entry, Step, Make, Call, Event, What, Fault, is_answer_to}
-use Rattle.hub_laws.proofs.Prelude.{IsAnswered, ends_waiting, is_busy, is_fault_of, refuses_entry, counts, is_call, is_refusal, was_admitted, ends_call}
-use Rattle.hub_laws.proofs.Prelude.{is_parked}
-use Rattle.hub_base.specs.declared.fault.Fault.TheVariants as fault
+use Rattle.hub_laws.proofs.Prelude.{arith, ◌≡◌, true, false, List, [], ◌∷◌, refl, ap, not, AllByRecursion, Entry, Step, Event, What, Fault, is_answer_to}
+use Rattle.hub_laws.proofs.Prelude.{IsAnswered, ends_waiting, is_busy, is_fault_of, refuses_entry, counts, is_refusal, was_admitted, ends_call, is_parked}
 use Rattle.hub_base.specs.declared.event.What.TheVariants as what
 
 -- Events of an admitted entry count but for `Parked`
 
 pub fault_admits : (step : Step) (f : Fault) → is_fault_of step f ≡ true → refuses_entry f ≡ false
-fault_admits (Make cap) fault.NoProcess e = absurd (let g : ⊥ = cc in g)
-fault_admits step fault.NoProcess e = absurd (let g : ⊥ = cc in g)
-fault_admits step fault.Gone e = absurd (let g : ⊥ = cc in g)
-fault_admits step fault.Busy e = absurd (let g : ⊥ = cc in g)
-fault_admits step f e = refl
+fault_admits step f e = grind arith
 
 fault_counts : (step : Step) (f : Fault) → is_fault_of step f ≡ true → is_busy f ≡ false
-fault_counts step f e = by f (fault_admits step f e)
-  where
-    by : (f : Fault) → refuses_entry f ≡ false → is_busy f ≡ false
-    by fault.Busy e = absurd (let g : ⊥ = cc in g)
-    by f e = refl
+fault_counts step f e = grind arith
 
 abbrev pub Counted : Event → Type 0
 Counted x = counts x.what ≡ not (is_parked x.what)
@@ -36,9 +26,7 @@ pub record EndsCall (w : What) : Type 0 where
   pub ends : ends_call w ≡ true
 
 pub waiting-ends : (w : What) → ends_waiting w ≡ true → EndsCall w
-waiting-ends (what.Fired i o) e = record { counted = refl; clear = refl; admitted = refl; ends = refl }
-waiting-ends what.Stalled e = record { counted = refl; clear = refl; admitted = refl; ends = refl }
-waiting-ends w e = absurd (let g : ⊥ = cc in g)
+waiting-ends w e = grind arith
 
 ended_counts : (events : List Event) → AllByRecursion (λ x. ends_waiting x.what ≡ true) events → AllByRecursion Counted events
 ended_counts [] a = tt
@@ -59,10 +47,3 @@ answered_admits e [] a = refl
 answered_admits e (x ∷ xs) a = answer_admits e.step x.what a.fits
 
 -- Which events end a call
-
-pub answer_ends : (step : Step) (w : What) → is_call step ≡ true → is_answer_to step w ≡ true → counts w ≡ true → ends_call w ≡ true
-answer_ends (Call cases default word) (what.Fault fault.TooManyCases) call fits c = refl
-answer_ends (Call cases default word) (what.Fault fault.NoPort) call fits c = refl
-answer_ends (Call cases default word) (what.Fired i o) call fits c = refl
-answer_ends (Call cases default word) what.Default call fits c = refl
-answer_ends step w call fits c = absurd (let g : ⊥ = cc in g)

@@ -1,7 +1,6 @@
 -- What is known of a case that fires, and of the call that it meets.
-use Rattle.hub_laws.proofs.Prelude.{◌≡◌, Bool, true, false, List, [], ◌∷◌, ◌++◌, ap, ◌∙◌, Option, ◌==◌, ◌+◌, length, inl, inr, eqb-true, or_cases}
-use Rattle.hub_laws.proofs.Prelude.{length-append, is_some, Case, Send, Recv, Port, Value, port_of, is_recv_on, first_with, is_send_on, Ending, is_on}
-use Rattle.hub_laws.proofs.Prelude.{Channel, OpenCall, some_call}
+use Rattle.hub_laws.proofs.Prelude.{◌≡◌, Bool, true, List, [], ◌∷◌, ◌++◌, ap, ◌∙◌, Option, ◌+◌, length, eqb-true, length-append, is_some, Case, Send, Recv}
+use Rattle.hub_laws.proofs.Prelude.{Port, Value, is_recv_on, first_with, is_send_on, Ending, Channel, OpenCall, some_call}
 use Rattle.hub_laws.proofs.Calls.{first-some}
 use Rattle.hub_laws.proofs.Ports.{same_port}
 
@@ -20,7 +19,3 @@ is_send p (Recv q) e = cc
 pub is_recv : (p : Port) (c : Case) → is_recv_on p c ≡ true → c ≡ Recv p
 is_recv p (Send q v) e = cc
 is_recv p (Recv q) e = ap (λ (r : Port). Recv r) (same_port q p (eqb-true q.0 p.0 e))
-
-pub is_on_port : (p : Port) (c : Case) → is_on p c ≡ true → port_of c ≡ p
-is_on_port p (Send q v) e = elim (or_cases (q.0 == p.0) false e) [ inl l ↦ same_port q p (eqb-true q.0 p.0 l) | inr r ↦ absurd (let g : ⊥ = cc in g) ]
-is_on_port p (Recv q) e = same_port q p (eqb-true q.0 p.0 e)

@@ -1,10 +1,10 @@
 -- The account of a call: a case that fires, alone or with an open call, or none.
-use Rattle.hub_laws.proofs.Prelude.{◌≡◌, Bool, true, false, List, [], ◌∷◌, refl, ap, sym, Option, Some, None, ℕ, ◌==◌, ◌+◌, not, length, arith, ◌-◌}
-use Rattle.hub_laws.proofs.Prelude.{◌<◌, ◌%◌, false_from_ne_true, slice_get_within, list_any, option_map_or, slice_get, is_some, slice_set}
-use Rattle.hub_laws.proofs.Prelude.{Case, Send, Recv, Step, Call, Outcome, Sent, Closed, Got, Drained, Pid, Port, Value, can_proceed, port_of, is_recv_on}
-use Rattle.hub_laws.proofs.Prelude.{first_with, is_send_on, Ending, without, ready, send_can, recv_can, State, Channel, OpenCall, channel_at, calls}
-use Rattle.hub_laws.proofs.Prelude.{after_receive, Firing, after_send, send_meets, send_fires, fired, next_value, fires, proceeds, chooses, outcome_of}
-use Rattle.hub_laws.proofs.Prelude.{with_sent, recv_takes, recv_meets, found_closed, shown, Shown, IsSound, PortSound, some_call}
+use Rattle.hub_laws.proofs.Prelude.{◌≡◌, Bool, true, false, List, [], ◌∷◌, refl, ap, sym, Option, Some, None, ℕ, ◌==◌, ◌+◌, not, length, arith, ◌-◌, ◌<◌, ◌%◌}
+use Rattle.hub_laws.proofs.Prelude.{false_from_ne_true, slice_get_within, list_any, option_map_or, slice_get, is_some, slice_set, Case, Send, Recv, Step, Call}
+use Rattle.hub_laws.proofs.Prelude.{Outcome, Sent, Closed, Got, Drained, Pid, Port, Value, can_proceed, port_of, is_recv_on, first_with, is_send_on, Ending}
+use Rattle.hub_laws.proofs.Prelude.{without, ready, send_can, recv_can, State, Channel, OpenCall, channel_at, calls, after_receive, Firing, after_send}
+use Rattle.hub_laws.proofs.Prelude.{send_meets, send_fires, fired, next_value, fires, proceeds, chooses, outcome_of, with_sent, recv_takes, recv_meets}
+use Rattle.hub_laws.proofs.Prelude.{found_closed, shown, Shown, IsSound, PortSound, some_call}
 use Rattle.hub_base.specs.declared.event.What.TheVariants as what
 use Rattle.hub_laws.proofs.Branches.{by-closed}
 use Rattle.hub_laws.proofs.Calls.{Fewer, fewer-filter}
@@ -174,18 +174,13 @@ abbrev pub Picked : State → List Case → ℕ × Case → Type 0
 Picked s cases x = (slice_get cases x.0 ≡ Some x.1) × (can_proceed s x.1 ≡ true)
 
 pub picked : (s : State) (cases : List Case) (k : ℕ) (x : ℕ × Case) → slice_get (ready s cases) k ≡ Some x → Picked s cases x
-picked s cases k x e =
-    let c = chosen (can_proceed s) 0 k cases x e in
-    let same : x.0 ≡ c.stands.0 = omega (arith, c.stands.1) in
-    (rw same c.stands.2, c.ready)
+picked s cases k x e = grind (arith, chosen (can_proceed s) 0 k cases x e)
 
 chooses_account : (s : State) (pid : Pid) (cases : List Case) (default : Bool) (word : ℕ) (o : Option (ℕ × Case)) →
     (o ≡ None → list_any (can_proceed s) cases ≡ false) → ((x : ℕ × Case) → o ≡ Some x → Picked s cases x) →
     Account s pid (Call (record { items = cases }) default word) (chooses s pid cases default o)
-chooses_account s pid cases true word None none some =
-    silent s pid (Call (record { items = cases }) true word) what.Default refl (λ h. cc) refl tt refl
-chooses_account s pid cases false word None none some =
-    silent s pid (Call (record { items = cases }) false word) what.Parked refl (λ h. none refl) refl tt refl
+chooses_account s pid cases true word None none some = grind (arith, silent s pid (Call (record { items = cases }) true word) what.Default)
+chooses_account s pid cases false word None none some = grind (arith, silent s pid (Call (record { items = cases }) false word) what.Parked)
 chooses_account s pid cases default word (Some x) none some =
     let f = some x refl in
     fires_account s pid cases default word x.0 x.1 (channel_at s (port_of x.1)) f.0 refl f.1

@@ -1,28 +1,20 @@
 -- The admitted entries of a run alone: their state, their events, and what joins them.
 use Rattle.hub_laws.proofs.Prelude.{◌≡◌, Bool, true, List, [], ◌∷◌, ◌++◌, refl, ap, ◌∙◌, Option, Some, None, append-nil, ◌≤◌, not, length, arith, filter}
-use Rattle.hub_laws.proofs.Prelude.{filter-append, AllByRecursion, Entry, Event, Fault, Head, admits, moves, state_after, state, kept_after, keeps, kept}
-use Rattle.hub_laws.proofs.Prelude.{events_after, State, opening, Change, refusal, turn, IsAnswered, ends_waiting, JournalLaw, Grows, Begins, is_refusal}
+use Rattle.hub_laws.proofs.Prelude.{filter-append, AllByRecursion, Entry, Event, Fault, Head, moves, state_after, state, kept_after, keeps, kept, events_after}
+use Rattle.hub_laws.proofs.Prelude.{State, opening, refusal, turn, IsAnswered, ends_waiting, JournalLaw, Grows, Begins, is_refusal}
 use Rattle.hub_laws.proofs.Events.{answer_admits, waiting-ends}
-use Rattle.hub_laws.proofs.Faults.{refusal-refuses}
 use Rattle.hub_laws.proofs.Entries.{turn-answered}
 use Rattle.hub_laws.proofs.Longer.{kept-entry}
-use Rattle.hub_laws.proofs.Ready.{by-refusal}
 
 -- The state, and which entries are admitted
 
 state_after-kept : (s : State) (es : List Entry) → state_after s (kept_after s es) ≡ state_after s es
 state_after-kept s [] = refl
-state_after-kept s (e ∷ es) =
-    by-refusal (λ o. state_after s (keeps o e (kept_after (admits s e o).state es)) ≡ state_after (admits s e o).state es) s e.pid
-    (λ is. ap (λ o. state_after (admits s e o).state (kept_after (turn s e).state es)) is ∙ state_after-kept (turn s e).state es)
-    (λ f is. state_after-kept s es)
+state_after-kept s (e ∷ es) = grind (arith, state_after-kept (turn s e).state es, state_after-kept s es)
 
 kept_after-kept : (s : State) (es : List Entry) → kept_after s (kept_after s es) ≡ kept_after s es
 kept_after-kept s [] = refl
-kept_after-kept s (e ∷ es) =
-    by-refusal (λ o. kept_after s (keeps o e (kept_after (admits s e o).state es)) ≡ keeps o e (kept_after (admits s e o).state es)) s e.pid
-    (λ is. ap (λ o. keeps o e (kept_after (admits s e o).state (kept_after (turn s e).state es))) is
-    ∙ ap (λ xs. e ∷ xs) (kept_after-kept (turn s e).state es)) (λ f is. kept_after-kept s es)
+kept_after-kept s (e ∷ es) = grind (arith, kept_after-kept (turn s e).state es, kept_after-kept s es)
 
 -- the journal of a run has the run's state
 pub state-kept : (head : Head) (es : List Entry) → state head (kept head es) ≡ state head es
@@ -47,12 +39,7 @@ answered_pass e (x ∷ xs) a = rw (answer_admits e.step x.what a.fits, ended_pas
 
 events_after-kept : (s : State) (es : List Entry) → events_after s (kept_after s es) ≡ filter no_refusal (events_after s es)
 events_after-kept s [] = refl
-events_after-kept s (e ∷ es) =
-    by-refusal (λ o. let c : Change = admits s e o in
-    events_after s (keeps o e (kept_after c.state es)) ≡ filter no_refusal (c.events ++ events_after c.state es)) s e.pid (λ is.
-    ap (λ o. (admits s e o).events ++ events_after (admits s e o).state (kept_after (turn s e).state es)) is
-    ∙ rw (events_after-kept (turn s e).state es, filter-append no_refusal (turn s e).events, answered_pass e (turn s e).events (turn-answered s e)) refl)
-    (λ f is. rw (refusal-refuses s e.pid f is) (events_after-kept s es))
+events_after-kept s (e ∷ es) = grind (arith, filter-append, answered_pass, turn-answered, events_after-kept (turn s e).state es, events_after-kept s es)
 
 pub journal-law : (head : Head) (es : List Entry) → JournalLaw head es
 journal-law head es = record { legal = kept-kept head es; state = state-kept head es; events = events_after-kept (opening head) es }
@@ -60,27 +47,19 @@ journal-law head es = record { legal = kept-kept head es; state = state-kept hea
 -- A further entry
 
 pub grows-law : (head : Head) (es : List Entry) (e : Entry) → Grows head es e
-grows-law head es e = record {
-  refused_alike = ap (λ s. refusal s e.pid) (state-kept head es);
-  moves_alike = ap (λ s. moves s e) (state-kept head es);
-  admitted = λ is. kept-entry head es e ∙ ap (λ o. kept head es ++ keeps o e []) is;
-  refused = λ f is. kept-entry head es e ∙ ap (λ o. kept head es ++ keeps o e []) is ∙ append-nil (kept head es);
-}
+grows-law head es e = grind (arith, state-kept, kept-entry, append-nil)
 
 -- A beginning
 
 kept_most : (s : State) (es : List Entry) → length (kept_after s es) ≤ length es
 kept_most s [] = omega arith
-kept_most s (e ∷ es) =
-    by-refusal (λ o. length (keeps o e (kept_after (admits s e o).state es)) ≤ length (e ∷ es)) s e.pid
-    (λ is. omega (arith, kept_most (turn s e).state es)) (λ f is. omega (arith, kept_most s es))
+kept_most s (e ∷ es) = grind (arith, kept_most (turn s e).state es, kept_most s es)
 
 -- where all entries are kept the first is admitted, and so are the others
 first_kept : (s : State) (e : Entry) (es : List Entry) (o : Option Fault) → keeps o e (kept_after (moves s e).state es) ≡ e ∷ es
     → (o ≡ None) × (kept_after (moves s e).state es ≡ es)
 first_kept s e es None h = (refl, cc)
-first_kept s e es (Some f) h =
-    absurd (let l : length (kept_after (moves s e).state es) ≡ length (e ∷ es) = ap length h in omega (arith, l, kept_most (moves s e).state es))
+first_kept s e es (Some f) h = grind (arith, kept_most (moves s e).state es)
 
 begin_after : (s : State) (es fs : List Entry) → kept_after s (es ++ fs) ≡ es ++ fs → (kept_after s es ≡ es) × (kept_after (state_after s es) fs ≡ fs)
 begin_after s [] fs h = (refl, h)

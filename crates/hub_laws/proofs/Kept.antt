@@ -1,84 +1,44 @@
 -- Soundness of one port: where calls end or wait, and after each thing that a step does to its channel.
-use Rattle.hub_laws.proofs.Prelude.{◌≡◌, Bool, true, false, List, [], ◌∷◌, ◌++◌, refl, ◌∙◌, sym, Some, None, ℕ, ◌==◌, ◌+◌, cond, not, length, arith, filter}
-use Rattle.hub_laws.proofs.Prelude.{◌||◌, inl, inr, ◌-◌, ◌<◌, nat_lt, or_parts, or_left, or_right, or_from, or_cases, false_from_ne_true, ltb-false}
-use Rattle.hub_laws.proofs.Prelude.{lt-ltb, common_steps, list_any, AllByRecursion, slice_get, is_some, Case, Head, Pid, Port, Value, can_proceed}
-use Rattle.hub_laws.proofs.Prelude.{port_of, is_recv_on, first_with, is_send_on, is_on, State, Channel, OpenCall, channel_at, opening, after_receive, shut}
-use Rattle.hub_laws.proofs.Prelude.{after_send, IsSound, PortSound, some_call, Alone, CallFits}
+use Rattle.hub_laws.proofs.Prelude.{◌≡◌, Bool, true, false, List, [], ◌∷◌, ◌++◌, refl, ◌∙◌, sym, Some, ℕ, ◌+◌, not, length, arith, filter, ◌||◌, inl, inr, ◌-◌}
+use Rattle.hub_laws.proofs.Prelude.{◌<◌, nat_lt, or_parts, or_left, or_right, or_from, or_cases, false_from_ne_true, ltb-false, common_steps, list_any}
+use Rattle.hub_laws.proofs.Prelude.{AllByRecursion, is_some, Case, Head, Pid, Port, Value, can_proceed, port_of, is_recv_on, first_with, is_send_on, is_on}
+use Rattle.hub_laws.proofs.Prelude.{State, Channel, OpenCall, channel_at, opening, after_receive, shut, after_send, IsSound, PortSound, some_call, Alone}
+use Rattle.hub_laws.proofs.Prelude.{CallFits}
 use Rattle.hub_laws.proofs.Calls.{Fewer, fewer-filter, first-some, any_snoc, alone_snoc}
 use Rattle.hub_laws.proofs.Deeds.{fresh}
-use Rattle.hub_laws.proofs.Fires.{longer, is_on_port}
 use Rattle.hub_laws.proofs.Ready.{no_recv, no_send}
 
 -- at the opening
 pub sound-opening : (head : Head) → IsSound (opening head)
-sound-opening head = record { apart = tt; present = λ q e. cc; calls = tt; ports = λ p c e. absurd (no_channel (p.0 == 0) (p.0 - 1) c e) }
-  where
-    no_channel : (b : Bool) (i : ℕ) (c : Channel) → cond b None (slice_get {X = Channel} [] i) ≡ Some c → ⊥
-    no_channel true i c e = cc
-    no_channel false i c e = cc
-
-none_fewer : (kept calls : List OpenCall) (test : Case → Bool) → Fewer kept calls → some_call test calls ≡ false → some_call test kept ≡ false
-none_fewer kept calls test fewer e = false_from_ne_true (some_call test kept) (λ h. let t = fewer.some test h in cc)
+sound-opening head = grind arith
 
 -- a channel that stays, while calls end
 pub port-fewer : (p : Port) (c : Channel) (kept calls : List OpenCall) → Fewer kept calls → PortSound p c calls → PortSound p c kept
-port-fewer p c kept calls fewer f = record {
-  received = f.received;
-  fits = f.fits;
-  receivers = λ h. f.receivers (fewer.some (is_recv_on p) h);
-  senders = λ h. f.senders (fewer.some (is_send_on p) h);
-  ended = λ h. (none_fewer kept calls (is_recv_on p) fewer (f.ended h).0, none_fewer kept calls (is_send_on p) fewer (f.ended h).1);
-  alone = fewer.alone p f.alone;
-}
+port-fewer p c kept calls fewer f = grind arith
 
 -- a value that goes through
 pub port-through : (p : Port) (v : Value) (c : Channel) (calls : List OpenCall) → PortSound p c calls → c.closed ≡ false
     → PortSound p (after_receive (after_send v c)) calls
-port-through p v c calls f live = record {
-  received = omega (arith, f.received, longer v c);
-  fits = omega (arith, f.fits, longer v c);
-  receivers = λ h. let r = f.receivers h in omega (arith, longer v c);
-  senders = λ h. let r = f.senders h in omega (arith, longer v c);
-  ended = λ h. absurd (let g : c.closed ≡ true = h in cc);
-  alone = f.alone;
-}
+port-through p v c calls f live = grind (arith, common_steps)
 
 -- a value that goes into the buffer
 pub port-sent : (p : Port) (v : Value) (c : Channel) (calls : List OpenCall) → PortSound p c calls → c.closed ≡ false
     → some_call (is_recv_on p) calls ≡ false → length c.sent < c.received + c.cap → PortSound p (after_send v c) calls
-port-sent p v c calls f live none room = record {
-  received = omega (arith, f.received, longer v c);
-  fits = omega (arith, longer v c);
-  receivers = λ h. absurd (let g : some_call (is_recv_on p) calls ≡ true = h in cc);
-  senders = λ h. let r = f.senders h in absurd (omega arith);
-  ended = λ h. absurd (let g : c.closed ≡ true = h in cc);
-  alone = f.alone;
-}
+port-sent p v c calls f live none room = grind (arith, common_steps)
 
 -- a value that comes out of the buffer
 pub port-received : (p : Port) (c : Channel) (calls : List OpenCall) → PortSound p c calls → some_call (is_send_on p) calls ≡ false
     → c.received < length c.sent → PortSound p (after_receive c) calls
-port-received p c calls f none some = record {
-  received = omega arith;
-  fits = omega (arith, f.fits);
-  receivers = λ h. let r = f.receivers h in absurd (omega arith);
-  senders = λ h. absurd (let g : some_call (is_send_on p) calls ≡ true = h in cc);
-  ended = f.ended;
-  alone = f.alone;
-}
+port-received p c calls f none some = grind arith
 
 pub room_by : (x y : Bool) (c : Channel) → x ≡ false → y ≡ false → (x || y || nat_lt (length c.sent - c.received) c.cap) ≡ true
     → length c.sent < c.received + c.cap
-room_by true y c d e h = cc
-room_by false true c d e h = cc
-room_by false false c d e h = grind (arith, common_steps)
+room_by x0 y c d e h = grind arith
 
 -- a call that waits
 
 or3_none : (x y z : Bool) → (x || y || z) ≡ false → (x ≡ false) × (y ≡ false) × (z ≡ false)
-or3_none true y z e = cc
-or3_none false true z e = cc
-or3_none false false z e = (refl, refl, e)
+or3_none x0 y z e = grind arith
 
 pub port-parks : (s : State) (pid : Pid) (cases : List Case) (p : Port) (c : Channel) → channel_at s p ≡ Some c →
     list_any (can_proceed s) cases ≡ false → PortSound p c s.parked →
@@ -125,7 +85,7 @@ any_more t u (x ∷ xs) imp e = elim (or_cases (t x) (list_any t xs) e) [
 gone_on : (t u : Case → Bool) (calls : List OpenCall) → ((c : Case) → t c ≡ true → u c ≡ true)
     → some_call t (filter (λ call. not (list_any u call.cases)) calls) ≡ false
 gone_on t u [] imp = refl
-gone_on t u (call ∷ calls) imp = grind (arith, common_steps, any_more t u call.cases imp, gone_on t u calls imp)
+gone_on t u (call ∷ calls) imp = grind (arith, any_more t u call.cases imp, gone_on t u calls imp)
 
 pub port-shut : (p : Port) (c : Channel) (calls : List OpenCall) → PortSound p c calls →
     PortSound p (shut c) (filter (λ call. not (list_any (is_on p) call.cases)) calls)
@@ -148,8 +108,7 @@ port-shut p c calls f =
 unmade : (n : ℕ) (t : Case → Bool) (calls : List OpenCall) → AllByRecursion (CallFits n) calls
     → ((c : Case) → t c ≡ true → nat_lt n (port_of c).0 ≡ true) → some_call t calls ≡ false
 unmade n t [] a imp = refl
-unmade n t (call ∷ calls) a imp = or_from (list_any t call.cases) (some_call t calls) (false_from_ne_true (list_any t call.cases)
-    (λ h. let g = any_more t (λ c. nat_lt n (port_of c).0) call.cases imp h in let k = a.0.made in cc)) (unmade n t calls a.1 imp)
+unmade n t (call ∷ calls) a imp = grind (arith, any_more, unmade n t calls a.1 imp)
 
 alone-none : (p : Port) (calls : List OpenCall) → some_call (is_recv_on p) calls ≡ false → some_call (is_send_on p) calls ≡ false → Alone p calls
 alone-none p [] r w = tt
@@ -158,21 +117,6 @@ alone-none p (call ∷ calls) r w =
     let w' = or_parts (list_any (is_send_on p) call.cases) (some_call (is_send_on p) calls) w in
     (λ e. w'.1, λ e. r'.1, alone-none p calls r'.1 w'.1)
 
-on_unmade : (n : ℕ) (p : Port) (c : Case) → n < p.0 → is_on p c ≡ true → nat_lt n (port_of c).0 ≡ true
-on_unmade n p c h e = lt-ltb n (port_of c).0 (rw (is_on_port p c e) h)
-
 pub port-fresh : (s : State) (q : Port) (cap : ℕ) → IsSound s → q.0 ≡ length s.channels + 1 →
     PortSound q (fresh cap) s.parked
-port-fresh s q cap sound new =
-    let n : ℕ = length s.channels in
-    let past : n < q.0 = omega (arith, new) in
-    let recvs = unmade n (is_recv_on q) s.parked sound.calls (λ c e. on_unmade n q c past (or_right (is_send_on q c) (is_recv_on q c) e)) in
-    let sends = unmade n (is_send_on q) s.parked sound.calls (λ c e. on_unmade n q c past (or_left (is_send_on q c) (is_recv_on q c) e)) in
-    record {
-      received = omega arith;
-      fits = omega arith;
-      receivers = λ e. refl;
-      senders = λ e. absurd (let g : some_call (is_send_on q) s.parked ≡ true = e in cc);
-      ended = λ e. (recvs, sends);
-      alone = alone-none q s.parked recvs sends;
-    }
+port-fresh s q cap sound new = grind (arith, unmade, alone-none)

@@ -1,10 +1,9 @@
 -- A step leaves the head, only an exit adds to those that have exited, and only a make to the ports.
-use Rattle.hub_laws.proofs.Prelude.{◌≡◌, Bool, true, false, List, [], ◌∷◌, ◌++◌, refl, ap, ◌∙◌, sym, Option, Some, None, ℕ, ◌==◌, ◌≤◌, cond, length, arith}
-use Rattle.hub_laws.proofs.Prelude.{◌&&◌, ◌||◌, inl, inr, ◌⊎◌, and-false, or-false, list_any, Entry, Fault, Head, MOST_PORTS, Pid, is_exit, admits, moves}
-use Rattle.hub_laws.proofs.Prelude.{state_after, state, State, opening, refusal, turn, has_gone, port_touched_by, IsSound}
+use Rattle.hub_laws.proofs.Prelude.{common_steps, ◌≡◌, false, List, [], ◌∷◌, refl, ◌∙◌, Option, Some, None, ℕ, ◌==◌, ◌≤◌, length, arith, ◌&&◌, ◌||◌, inl, inr}
+use Rattle.hub_laws.proofs.Prelude.{◌⊎◌, and-false, or-false, Entry, Fault, Head, MOST_PORTS, is_exit, admits, moves, state_after, state, State, opening}
+use Rattle.hub_laws.proofs.Prelude.{refusal, turn, has_gone, port_touched_by, IsSound}
 use Rattle.hub_laws.proofs.Account.{deeds_of}
 use Rattle.hub_laws.proofs.Entries.{turn-account}
-use Rattle.hub_laws.proofs.Calls.{any_snoc}
 use Rattle.hub_laws.proofs.Does.{does-few}
 use Rattle.hub_laws.proofs.Kept.{sound-opening}
 use Rattle.hub_laws.proofs.Rules.{moves-sound}
@@ -13,11 +12,7 @@ use Rattle.hub_laws.proofs.Deeds.{Deed}
 
 -- who has exited after it
 pub turn-leaves : (q : ℕ) (s : State) (e : Entry) → has_gone (turn s e).state q ≡ (has_gone s q || (is_exit e.step && (e.pid.0 == q)))
-turn-leaves q s e = ap (λ xs. list_any (λ (g : Pid). g.0 == q) xs) (turn-account s e).gone ∙ by (is_exit e.step)
-  where
-    by : (b : Bool) → list_any (λ (g : Pid). g.0 == q) (cond b (s.gone ++ e.pid ∷ []) s.gone) ≡ (has_gone s q || (b && (e.pid.0 == q)))
-    by true = any_snoc (λ (g : Pid). g.0 == q) s.gone e.pid
-    by false = sym (or-false (has_gone s q))
+turn-leaves q s e = grind (arith, common_steps)
 
 -- of a process that did not exit by it
 pub turn-gone : (q : ℕ) (s : State) (e : Entry) → (is_exit e.step ≡ false) ⊎ ((e.pid.0 == q) ≡ false) → has_gone (turn s e).state q ≡ has_gone s q

@@ -76,8 +76,7 @@ take-count test call calls kept (later c cs ks t) = omega (arith, take-count tes
 pub leave-count : (test : OpenCall → Bool) (xs : List Ended) (calls kept : List OpenCall) → Leave xs calls kept →
     count_ended test xs + count test kept ≡ count test calls
 leave-count test xs calls kept (nobody cs) = omega arith
-leave-count test xs calls kept (next y ys cs rest ks t l) =
-    omega (arith, take-count test y.call cs rest t, leave-count test ys rest ks l)
+leave-count test xs calls kept (next y ys cs rest ks t l) = grind (arith, take-count, leave-count test ys rest ks l)
 
 -- How calls end
 

@@ -1,6 +1,6 @@
 -- A run that goes on: by more entries, and by one.
-use Rattle.hub_laws.proofs.Prelude.{◌≡◌, List, [], ◌∷◌, ◌++◌, refl, ap, ◌∙◌, sym, Option, Some, None, append-nil, append_assoc, Entry, Fault, Head, moves}
-use Rattle.hub_laws.proofs.Prelude.{state_after, state, kept_after, keeps, kept, events_after, events, State, opening, refusal}
+use Rattle.hub_laws.proofs.Prelude.{arith, ◌≡◌, List, [], ◌∷◌, ◌++◌, refl, ap, ◌∙◌, append-nil, append_assoc, Entry, Head, moves, state_after, state}
+use Rattle.hub_laws.proofs.Prelude.{kept_after, keeps, kept, events_after, events, State, opening, refusal}
 
 -- By more entries
 
@@ -10,17 +10,11 @@ state_after-append s (e ∷ es) fs = state_after-append (moves s e).state es fs
 
 pub events_after-append : (s : State) (es fs : List Entry) → events_after s (es ++ fs) ≡ events_after s es ++ events_after (state_after s es) fs
 events_after-append s [] fs = refl
-events_after-append s (e ∷ es) fs = ap (λ xs. (moves s e).events ++ xs) (events_after-append (moves s e).state es fs)
-    ∙ sym (append_assoc (moves s e).events (events_after (moves s e).state es) (events_after (state_after (moves s e).state es) fs))
-
-keeps-append : (o : Option Fault) (e : Entry) (xs ys : List Entry) → keeps o e (xs ++ ys) ≡ keeps o e xs ++ ys
-keeps-append None e xs ys = refl
-keeps-append (Some f) e xs ys = refl
+events_after-append s (e ∷ es) fs = grind (arith, append_assoc, events_after-append (moves s e).state es fs)
 
 pub kept_after-append : (s : State) (es fs : List Entry) → kept_after s (es ++ fs) ≡ kept_after s es ++ kept_after (state_after s es) fs
 kept_after-append s [] fs = refl
-kept_after-append s (e ∷ es) fs = ap (keeps (refusal s e.pid) e) (kept_after-append (moves s e).state es fs)
-    ∙ keeps-append (refusal s e.pid) e (kept_after (moves s e).state es) (kept_after (state_after (moves s e).state es) fs)
+kept_after-append s (e ∷ es) fs = grind (arith, kept_after-append (moves s e).state es fs)
 
 -- By one entry
 

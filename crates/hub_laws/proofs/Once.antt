@@ -1,16 +1,14 @@
 -- Each admitted call has at most one event besides `Parked`.
-use Rattle.hub_laws.proofs.Prelude.{◌≡◌, Bool, true, false, List, [], ◌∷◌, ◌++◌, refl, ap, ◌∙◌, sym, subst, Some, ℕ, ◌==◌, ◌+◌, ◌≤◌, cond, not}
-use Rattle.hub_laws.proofs.Prelude.{length, arith, ◌&&◌, inl, inr, ◌<◌, and-false, eqb-true, and_parts, length-append, AllByRecursion, Entry, Step, Exit}
-use Rattle.hub_laws.proofs.Prelude.{Event, Fault, Head, Pid, is_exit, admits, moves, State, opening, Change, tells, refusal, turn, has_gone, turns_after}
-use Rattle.hub_laws.proofs.Prelude.{IsAnswered, ends_waiting, is_busy, refuses_entry, counts, endings, is_call, was_admitted, ends_call, endings_until}
-use Rattle.hub_laws.proofs.Prelude.{EndsOnce, AtMostOnce, IsSound}
+use Rattle.hub_laws.proofs.Prelude.{common_steps, ◌≡◌, Bool, true, false, List, [], ◌∷◌, ◌++◌, refl, ap, ◌∙◌, Some, ℕ, ◌==◌, ◌+◌, ◌≤◌, cond, not, length}
+use Rattle.hub_laws.proofs.Prelude.{arith, ◌&&◌, inl, inr, ◌<◌, AllByRecursion, Entry, Step, Exit, Event, Fault, Head, is_exit, admits, moves, State, opening}
+use Rattle.hub_laws.proofs.Prelude.{Change, tells, refusal, turn, has_gone, turns_after, IsAnswered, ends_waiting, refuses_entry, counts, endings, is_call}
+use Rattle.hub_laws.proofs.Prelude.{was_admitted, ends_call, endings_until, EndsOnce, AtMostOnce, IsSound}
 use Rattle.hub_base.specs.declared.event.What.TheVariants as what
 use Rattle.hub_laws.proofs.Account.{procs-of}
-use Rattle.hub_laws.proofs.Prelude.{all_append}
 use Rattle.hub_laws.proofs.Calls.{same_number}
-use Rattle.hub_laws.proofs.Events.{answered_admits, answer_ends, waiting-ends}
+use Rattle.hub_laws.proofs.Events.{answered_admits, waiting-ends}
 use Rattle.hub_laws.proofs.Entries.{turn-account, turn-answered}
-use Rattle.hub_laws.proofs.Faults.{refusal-refuses, refusal-busy}
+use Rattle.hub_laws.proofs.Faults.{refusal-refuses}
 use Rattle.hub_laws.proofs.Balance.{open_calls, ends, open_none, turn-balance}
 use Rattle.hub_laws.proofs.Lasting.{turn-gone}
 use Rattle.hub_laws.proofs.Ready.{admitted, by-refusal}
@@ -27,10 +25,7 @@ pub record AtMost (n : ℕ) (events : List Event) : Type 0 where
   pub each : EachEnds events
 
 joined : (n m : ℕ) (xs ys : List Event) → EachEnds xs → AtMost m ys → length xs + m ≤ n → AtMost n (xs ++ ys)
-joined n m xs ys each rest fits = record {
-  most = omega (arith, length-append xs ys, rest.most, fits);
-  each = all_append (λ x. ends_call x.what ≡ true) xs ys each rest.each;
-}
+joined n m xs ys each rest fits = grind (arith, common_steps)
 
 -- Which events of a process count
 
@@ -46,17 +41,12 @@ ended_each q (x ∷ xs) a = each_by q x xs (counts x.what && (x.pid.0 == q)) ref
 -- a call's own step
 own_each : (e : Entry) (events : List Event) → is_call e.step ≡ true → IsAnswered e.pid e.step events → EachEnds (endings e.pid.0 events)
 own_each e [] call a = tt
-own_each e (x ∷ xs) call a =
-    each_by e.pid.0 x xs (counts x.what && (x.pid.0 == e.pid.0)) refl
-    (λ h. answer_ends e.step x.what call a.fits ((and_parts (counts x.what) (x.pid.0 == e.pid.0) h).0)) (ended_each e.pid.0 xs a.ends)
+own_each e (x ∷ xs) call a = grind (arith, ended_each)
 
 -- the step of another process
 other_each : (q : ℕ) (e : Entry) (events : List Event) → (e.pid.0 == q) ≡ false → IsAnswered e.pid e.step events → EachEnds (endings q events)
 other_each q e [] other a = tt
-other_each q e (x ∷ xs) other a =
-    let not_mine : (x.pid.0 == q) ≡ false = ap (λ (p : Pid). p.0 == q) a.own ∙ other in
-    each_by q x xs (counts x.what && (x.pid.0 == q)) refl
-    (λ h. absurd (let mine = (and_parts (counts x.what) (x.pid.0 == q) h).1 in let g : ⊥ = cc in g)) (ended_each q xs a.ends)
+other_each q e (x ∷ xs) other a = grind (arith, ended_each)
 
 -- Up to the next admitted entry
 
@@ -66,26 +56,12 @@ turn-admitted s e = answered_admits e (turn s e).events (turn-answered s e)
 until_admitted : (q : ℕ) (s : State) (e : Entry) (rest : List Event) (a b : Bool) → a ≡ true
     → b ≡ (e.pid.0 == q) → IsSound s → (b ≡ false → AtMost (open_calls q (turn s e).state.parked) rest)
     → AtMost (open_calls q s.parked) (cond (a && b) [] (endings q (turn s e).events ++ rest))
-until_admitted q s e rest true true is m sound after = record { most = omega arith; each = tt }
-until_admitted q s e rest true false is m sound after =
-    let other : (e.pid.0 == q) ≡ false = sym m in
-    let bal : ends q (turn s e).events + open_calls q (turn s e).state.parked ≡ open_calls q s.parked + 0 = rw other at (turn-balance q s e sound) in
-    joined (open_calls q s.parked) (open_calls q (turn s e).state.parked) (endings q (turn s e).events) rest
-    (other_each q e (turn s e).events other (turn-answered s e)) (after refl) (omega (arith, bal))
-until_admitted q s e rest false b is m sound after = cc
-
-no_end : (q : ℕ) (pid : Pid) (f : Fault) (b : Bool) → b ≡ (pid.0 == q) → (b ≡ true → is_busy f ≡ true) → endings q (tells pid (what.Fault f) ∷ []) ≡ []
-no_end q pid f true m busy = rw (busy refl) refl
-no_end q pid f false m busy = rw (sym m, and-false (not (is_busy f))) refl
+until_admitted q s e rest x4 b is m sound after = grind (arith, common_steps, turn-balance, other_each, turn-answered)
 
 until_refused : (q : ℕ) (s : State) (e : Entry) (f : Fault) (rest : List Event) → refusal s e.pid ≡ Some f
     → q < s.head.procs → has_gone s q ≡ false → AtMost (open_calls q s.parked) rest
     → AtMost (open_calls q s.parked) (cond (not (refuses_entry f) && (e.pid.0 == q)) [] (endings q (tells e.pid (what.Fault f) ∷ []) ++ rest))
-until_refused q s e f rest is below here after =
-    let none : endings q (tells e.pid (what.Fault f) ∷ []) ≡ [] = no_end q e.pid f (e.pid.0 == q) refl (λ m.
-    let same : e.pid.0 ≡ q = eqb-true e.pid.0 q m in
-    refusal-busy s e.pid f (omega (arith, same)) (subst (λ (n : ℕ). has_gone s n ≡ false) (sym same) here) is) in
-    rw (refusal-refuses s e.pid f is, none) after
+until_refused q s e f rest is below here after = grind arith
 
 -- a process that is there is told no more than its open call's end, before its next admitted entry
 until_most : (q : ℕ) (s : State) (es : List Entry) → IsSound s → q < s.head.procs → has_gone s q ≡ false

@@ -1,5 +1,5 @@
 -- One entry writes at most the port that its answer names.
-use Rattle.hub_laws.proofs.Prelude.{◌≡◌, Bool, true, false, List, [], ◌∷◌, ◌++◌, refl, ap, ◌∙◌, sym, subst, Option, Some, None, ◌==◌, cond, length}
+use Rattle.hub_laws.proofs.Prelude.{arith, ◌≡◌, Bool, true, false, List, [], ◌∷◌, ◌++◌, refl, ap, ◌∙◌, sym, subst, Option, Some, None, ◌==◌, cond, length}
 use Rattle.hub_laws.proofs.Prelude.{option_map, option_map_or, Entry, Fault, Head, Port, admits, moves, state, State, channel_at, opening, refusal, turn}
 use Rattle.hub_laws.proofs.Prelude.{port_touched_by, found_closed, shown, port_touched, is_port, IsMade, port_changed, OnePortLaw, IsSound}
 use Rattle.hub_laws.proofs.Account.{deeds_of}
@@ -46,9 +46,7 @@ moves-moved s e None sound p h =
         option_map shown (at s.channels p) ≡ option_map shown (at (turn s e).state.channels p) → ⊥
     by true is h = cc
     by false is h = (turn-account s e).moved (sym is) sound p h
-moves-moved s e (Some f) sound p h =
-    let none : port_changed e.step (admits s e (Some f)).events ≡ None = fault_names_none e.step f in
-    absurd (let g : ⊥ = cc in g)
+moves-moved s e (Some f) sound p h = grind arith
 
 other_number : (o : Option Port) (p : Port) → (option_map_or (λ q. q.0) o 0 == p.0) ≡ false → is_port o p ≡ false
 other_number None p h = refl

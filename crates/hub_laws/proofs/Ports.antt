@@ -4,7 +4,7 @@ use Rattle.hub_laws.proofs.Prelude.{length-set, common_steps, get_or-set_same, s
 use Rattle.hub_laws.proofs.Prelude.{channel_at}
 
 pub above_zero : (n : ℕ) → (n == 0) ≡ false → 0 < n
-above_zero n e = grind (arith, common_steps)
+above_zero n e = grind arith
 
 pub record Made (s : State) (p : Port) (c : Channel) : Type 0 where
   pub number : 0 < p.0

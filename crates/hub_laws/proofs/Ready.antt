@@ -1,9 +1,8 @@
 -- The cases of a call that can proceed, and why an entry is admitted.
-use Rattle.hub_laws.proofs.Prelude.{◌≡◌, Bool, true, false, List, [], ◌∷◌, refl, sym, subst, Option, Some, None, ℕ, zero, suc, ◌+◌, cond, not, length, arith}
-use Rattle.hub_laws.proofs.Prelude.{filter, inl, inr, ◌<◌, nat_lt, ◌%◌, or_parts, or_cases, common_steps, slice_get-get_or, list_any, enumerate_from}
-use Rattle.hub_laws.proofs.Prelude.{option_map_or, slice_get, Case, Fault, Pid, Port, can_proceed, is_recv_on, is_send_on, send_can, recv_can, State, Channel}
-use Rattle.hub_laws.proofs.Prelude.{channel_at, refusal, has_gone, is_waiting}
-use Rattle.hub_base.specs.declared.fault.Fault.TheVariants as fault
+use Rattle.hub_laws.proofs.Prelude.{◌≡◌, Bool, true, false, List, [], ◌∷◌, refl, subst, Option, Some, None, ℕ, zero, suc, ◌+◌, cond, not, length, arith}
+use Rattle.hub_laws.proofs.Prelude.{filter, inl, inr, ◌<◌, nat_lt, ◌%◌, or_parts, or_cases, slice_get-get_or, list_any, enumerate_from, option_map_or}
+use Rattle.hub_laws.proofs.Prelude.{slice_get, Case, Fault, Pid, Port, can_proceed, is_recv_on, is_send_on, send_can, recv_can, State, Channel, channel_at}
+use Rattle.hub_laws.proofs.Prelude.{refusal, has_gone, is_waiting}
 use Rattle.hub_laws.proofs.Calls.{StandsAt}
 use Rattle.hub_laws.proofs.Fires.{is_recv, is_send}
 
@@ -16,7 +15,7 @@ ready_none (x ∷ xs) word e =
 -- where no case is listed none can proceed
 pub none_can : (i : ℕ) (can : Case → Bool) (cases : List Case) → filter (λ x. can x.1) (enumerate_from i cases) ≡ [] → list_any can cases ≡ false
 none_can i can [] e = refl
-none_can i can (c ∷ cs) e = grind (arith, common_steps, none_can (i + 1) can cs)
+none_can i can (c ∷ cs) e = grind (arith, none_can (i + 1) can cs)
 
 -- a listed case can proceed, and stands in its place
 pub record Chosen (can : Case → Bool) (i : ℕ) (cases : List Case) (x : ℕ × Case) : Type 0 where
@@ -29,9 +28,7 @@ chosen_later can i c cs x h = record { ready = h.ready; stands = (suc h.stands.0
 chosen_by : (b : Bool) (can : Case → Bool) (i k : ℕ) (c : Case) (cs : List Case) (x : ℕ × Case) → b ≡ can c
     → slice_get (cond b ((i, c) ∷ filter (λ x. can x.1) (enumerate_from (i + 1) cs)) (filter (λ x. can x.1) (enumerate_from (i + 1) cs))) k ≡ Some x
     → ((j : ℕ) → slice_get (filter (λ x. can x.1) (enumerate_from (i + 1) cs)) j ≡ Some x → Chosen can (i + 1) cs x) → Chosen can i (c ∷ cs) x
-chosen_by true can i zero c cs x is e rest =
-    let h : (i, c) ≡ x = cc in
-    subst (Chosen can i (c ∷ cs)) h (record { ready = sym is; stands = (0, omega arith, refl) })
+chosen_by true can i zero c cs x is e rest = grind arith
 chosen_by true can i (suc k) c cs x is e rest = chosen_later can i c cs x (rest k e)
 chosen_by false can i k c cs x is e rest = chosen_later can i c cs x (rest k e)
 
@@ -73,21 +70,12 @@ none_false true x o e = cc
 none_false false x o e = (refl, e)
 
 below : (a b : ℕ) → not (nat_lt a b) ≡ false → a < b
-below a b e = grind (arith, common_steps)
+below a b e = grind arith
 
 pub admitted : (s : State) (pid : Pid) → refusal s pid ≡ None → Admitted s pid
-admitted s pid h =
-    let a = none_false (not (nat_lt pid.0 s.head.procs)) fault.NoProcess
-    (cond (has_gone s pid.0) (Some fault.Gone) (cond (is_waiting s pid.0) (Some fault.Busy) None)) h in
-    let b = none_false (has_gone s pid.0) fault.Gone (cond (is_waiting s pid.0) (Some fault.Busy) None) a.1 in
-    let d = none_false (is_waiting s pid.0) fault.Busy None b.1 in
-    record { below = below pid.0 s.head.procs a.0; here = b.0; free = d.0 }
+admitted s pid h = grind arith
 
 -- a fact of what follows an entry, where it is admitted and where it is not
 pub by-refusal : (P : Option Fault → Type 0) (s : State) (pid : Pid) → (refusal s pid ≡ None → P None) →
     ((f : Fault) → refusal s pid ≡ Some f → P (Some f)) → P (refusal s pid)
-by-refusal P s pid adm ref = by (refusal s pid) refl
-  where
-    by : (o : Option Fault) → refusal s pid ≡ o → P o
-    by None is = adm is
-    by (Some f) is = ref f is
+by-refusal P s pid adm ref = grind arith

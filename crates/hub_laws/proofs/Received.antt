@@ -1,9 +1,8 @@
 -- What one entry adds to the values received on each port.
-use Rattle.hub_laws.proofs.Prelude.{◌≡◌, Bool, true, false, List, [], ◌∷◌, ◌++◌, refl, ap, ◌∙◌, sym, subst, Option, Some, None, ◌==◌, append-nil, ◌+◌, cond}
-use Rattle.hub_laws.proofs.Prelude.{length, eqb-true, AllByRecursion, filter_map, cons_option, Case, Send, Recv, Entry, What, Fault, Head, Port, Value}
-use Rattle.hub_laws.proofs.Prelude.{admits, state, State, Channel, opening, refusal, turn, closing_outcome, cases_or, of_what, got_on, received_values}
-use Rattle.hub_laws.proofs.Prelude.{port_touched_by, port_touched, is_port, value_of_outcome, value_got, got_in, got_at, received_from, received_on}
-use Rattle.hub_laws.proofs.Prelude.{ReceivedLaw, IsSound}
+use Rattle.hub_laws.proofs.Prelude.{arith, ◌≡◌, Bool, true, false, List, [], ◌∷◌, ◌++◌, refl, ap, ◌∙◌, sym, subst, Option, Some, None, ◌==◌, append-nil, cond}
+use Rattle.hub_laws.proofs.Prelude.{eqb-true, AllByRecursion, filter_map, cons_option, Case, Send, Recv, Entry, What, Fault, Head, Port, Value, admits, state}
+use Rattle.hub_laws.proofs.Prelude.{State, Channel, opening, turn, closing_outcome, cases_or, of_what, got_on, received_values, port_touched_by, port_touched}
+use Rattle.hub_laws.proofs.Prelude.{is_port, value_of_outcome, value_got, got_in, got_at, received_from, received_on, ReceivedLaw, IsSound}
 use Rattle.hub_base.specs.declared.event.What.TheVariants as what
 use Rattle.hub_laws.proofs.Account.{deeds_of, ended_deeds}
 use Rattle.hub_laws.proofs.Entries.{fault_names_none, turn-account}
@@ -31,8 +30,7 @@ got_one cases w xs deeds placed e = e
 
 got_ended : (xs : List Ended) → AllByRecursion EndsWell xs → got_in (events_of xs) ≡ values (ended_deeds xs)
 got_ended [] well = refl
-got_ended (x ∷ xs) well =
-    got_one x.call.cases x.what (got_in (events_of xs)) (ended_deeds xs) well.0.1 (got_ended xs well.1)
+got_ended (x ∷ xs) well = grind (arith, got_ended xs well.1)
 
 -- and all of them are on one port
 
@@ -54,11 +52,7 @@ got_values p c d deeds (shuts live is all) =
 got_named : (cs ts : List Channel) (named : Option Port) (deeds : List Deed) (p : Port) → Does cs ts named deeds →
     picks (got_on p) deeds ≡ cond (is_port named p) (values deeds) []
 got_named cs ts named deeds p (idle none is e) = rw (e, none) refl
-got_named cs ts named deeds p (adds cap room names is e) = rw (e, names) (by (length cs + 1 == p.0) [])
-  where
-    by : (b : Bool) (xs : List Value) → xs ≡ cond b xs xs
-    by true xs = refl
-    by false xs = refl
+got_named cs ts named deeds p (adds cap room names is e) = grind arith
 got_named cs ts named deeds p (wrote q c d names w m) = rw names (by (q.0 == p.0) refl)
   where
     by : (b : Bool) → b ≡ (q.0 == p.0) → picks (got_on p) deeds ≡ cond b (values deeds) []
@@ -89,9 +83,4 @@ told_by_events : (head : Head) (es : List Entry) (p : Port) → received_on (sta
 told_by_events head es p = got-after (opening head) [] es p (sound-opening head) tt ∙ ap (λ xs. xs ++ received_values head es p) (no_total received_from p)
 
 pub received_values-law : (head : Head) (es : List Entry) (e : Entry) → ReceivedLaw head es e
-received_values-law head es e = record {
-  adds = λ p.
-      ap (λ (s : State). received_on s p) (state-entry head es e)
-      ∙ moves-received (state head es) e (refusal (state head es) e.pid) p (state-sound head es);
-  told = told_by_events head es;
-}
+received_values-law head es e = grind (arith, state-entry, moves-received, state-sound, told_by_events)

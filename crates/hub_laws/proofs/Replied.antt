@@ -1,9 +1,8 @@
 -- The events of an admitted entry are replies.
 use Rattle.hub_laws.proofs.Prelude.{◌≡◌, Bool, true, false, List, [], ◌∷◌, ◌++◌, refl, ap, ◌∙◌, sym, subst, Some, None, ℕ, ◌==◌, zero, suc, append-nil, ◌+◌}
-use Rattle.hub_laws.proofs.Prelude.{◌≤◌, cond, not, length, arith, ◌&&◌, filter, nat_lt, and-false, and-true, eqb-true, or_parts, common_steps}
-use Rattle.hub_laws.proofs.Prelude.{nil_from_length, AllByRecursion, slice_get, Entry, Event, Head, Pid, admits, moves, state, State, OpenCall, refusal}
-use Rattle.hub_laws.proofs.Prelude.{is_waiting, IsAnswered, ends_waiting, endings, is_parked, last_from, reply, told_to, is_told, IsReply, IsLeft, AreReplied}
-use Rattle.hub_laws.proofs.Prelude.{RepliedLaw, IsSound, is_among}
+use Rattle.hub_laws.proofs.Prelude.{◌≤◌, not, length, arith, ◌&&◌, filter, nat_lt, and-false, or_parts, common_steps, AllByRecursion, slice_get, Entry, Event}
+use Rattle.hub_laws.proofs.Prelude.{Head, Pid, admits, moves, state, State, OpenCall, refusal, is_waiting, IsAnswered, ends_waiting, endings, is_parked}
+use Rattle.hub_laws.proofs.Prelude.{last_from, reply, told_to, is_told, IsReply, IsLeft, AreReplied, RepliedLaw, IsSound, is_among}
 use Rattle.hub_laws.proofs.Calls.{same_number}
 use Rattle.hub_laws.proofs.Ready.{admitted}
 use Rattle.hub_laws.proofs.Rules.{state-sound}
@@ -17,53 +16,28 @@ use Rattle.hub_laws.proofs.Longer.{state-entry}
 
 among-count : (q : ℕ) (calls : List OpenCall) → is_among q calls ≡ nat_lt 0 (open_calls q calls)
 among-count q [] = refl
-among-count q (call ∷ calls) = grind (arith, common_steps, among-count q calls)
+among-count q (call ∷ calls) = grind (arith, among-count q calls)
 
 moves-balance : (q : ℕ) (s : State) (e : Entry) → IsSound s → refusal s e.pid ≡ None → Balance q s e.pid (moves s e)
 moves-balance q s e sound is = subst (λ o. Balance q s e.pid (admits s e o)) (sym is) (turn-balance q s e sound)
 
 -- after an admitted entry a process was told at most one event that counts, and then it does not wait
 one_told : (q : ℕ) (s : State) (e : Entry) → IsSound s → refusal s e.pid ≡ None → ends q (moves s e).events + open_calls q (moves s e).state.parked ≤ 1
-one_told q s e sound is = by (e.pid.0 == q) refl
-  where
-    by : (b : Bool) → b ≡ (e.pid.0 == q) → ends q (moves s e).events + open_calls q (moves s e).state.parked ≤ 1
-    by true m =
-        let none : open_calls q s.parked ≡ 0 =
-        open_none q s.parked (subst (λ (n : ℕ). is_among n s.parked ≡ false) (eqb-true e.pid.0 q (sym m)) (admitted s e.pid is).free) in
-        let bal : ends q (moves s e).events + open_calls q (moves s e).state.parked ≡ open_calls q s.parked + 1 =
-        rw (sym m) at (moves-balance q s e sound is) in
-        omega (arith, bal, none)
-    by false m =
-        let bal : ends q (moves s e).events + open_calls q (moves s e).state.parked ≡ open_calls q s.parked + 0 =
-        rw (sym m) at (moves-balance q s e sound is) in
-        omega (arith, bal, open_most q s.parked sound.apart)
+one_told q s e sound is = grind (arith, open_none, moves-balance, open_most)
 
 -- What a process is told is what counts
 
 told_endings : (q : ℕ) (events : List Event) → AllByRecursion Counted events → told_to q events ≡ endings q events
 told_endings q [] a = refl
-told_endings q (x ∷ xs) a = rw (told_endings q xs a.1, a.0, and_swap (x.pid.0 == q) (not (is_parked x.what))) refl
-  where
-    and_swap : (a b : Bool) → (a && b) ≡ (b && a)
-    and_swap true b = sym (and-true b)
-    and_swap false b = sym (and-false b)
+told_endings q (x ∷ xs) a = grind (arith, told_endings q xs a.1)
 
 -- One event alone
 
 pub one_left : {A : Type 0} (test : A → Bool) (xs : List A) (i : ℕ) (x : A) → slice_get xs i ≡ Some x → test x ≡ true
     → length (filter test xs) ≤ 1 → filter test xs ≡ x ∷ []
 one_left test [] i x at passes most = cc
-one_left test (y ∷ ys) zero x at passes most =
-    let same : y ≡ x = cc in
-    let here : test y ≡ true = rw same passes in
-    let none : filter test ys ≡ [] = nil_from_length (filter test ys) (let k : length (y ∷ filter test ys) ≤ 1 = rw here at most in omega arith) in
-    rw (here, none) (ap (λ z. z ∷ []) same)
-one_left test (y ∷ ys) (suc i) x at passes most = by (test y) (one_left test ys i x at passes) most
-  where
-    by : (b : Bool) → (length (filter test ys) ≤ 1 → filter test ys ≡ x ∷ []) → length (cond b (y ∷ filter test ys) (filter test ys)) ≤ 1
-        → cond b (y ∷ filter test ys) (filter test ys) ≡ x ∷ []
-    by true rest h = let k : filter test ys ≡ x ∷ [] = rest (omega arith) in absurd (let l : length (filter test ys) ≡ 1 = ap length k in omega arith)
-    by false rest h = rest h
+one_left test (y ∷ ys) zero x at passes most = grind (arith, common_steps)
+one_left test (y ∷ ys) (suc i) x at passes most = grind (arith, one_left test ys i x)
 
 -- Replies
 
@@ -74,9 +48,7 @@ after_entry q head es e = ap (λ (s : State). is_waiting s q) (state-entry head 
 
 -- a process that was told of its call does not wait
 free_from : (q : ℕ) (s : State) (e : Entry) → IsSound s → refusal s e.pid ≡ None → ends q (moves s e).events ≡ 1 → is_among q (moves s e).state.parked ≡ false
-free_from q s e sound is told =
-    let none : open_calls q (moves s e).state.parked ≡ 0 = omega (arith, told, one_told q s e sound is) in
-    among-count q (moves s e).state.parked ∙ ap (λ n. nat_lt 0 n) none
+free_from q s e sound is told = grind (arith, one_told, among-count)
 
 event_replies : (head : Head) (es : List Entry) (e : Entry) → refusal (state head es) e.pid ≡ None → AllByRecursion Counted (moves (state head es) e).events →
     (i : ℕ) (x : Event) → slice_get (moves (state head es) e).events i ≡ Some x → is_parked x.what ≡ false → IsReply head (es ++ e ∷ []) x

@@ -1,12 +1,10 @@
 -- Entries of others leave a process alone that has no open call.
-use Rattle.hub_laws.proofs.Prelude.{◌≡◌, Bool, false, List, [], ◌∷◌, ◌++◌, refl, ap, ◌∙◌, sym, subst, Option, Some, None, ℕ, ◌==◌, append-nil, not, ◌&&◌}
-use Rattle.hub_laws.proofs.Prelude.{filter, or_parts, or_from, filter-append, list_any, AllByRecursion, Entry, Event, Head, admits, moves, state_after}
-use Rattle.hub_laws.proofs.Prelude.{state, events_after, events, State, OpenCall, opening, Change, turn, is_waiting, is_parked, last_from, reply}
-use Rattle.hub_laws.proofs.Prelude.{told_to, is_told, own, RepliesLaw, IsSound}
+use Rattle.hub_laws.proofs.Prelude.{arith, common_steps, ◌≡◌, Bool, false, List, [], ◌∷◌, ◌++◌, refl, ap, ◌∙◌, sym, subst, Option, Some, ℕ, ◌==◌, append-nil}
+use Rattle.hub_laws.proofs.Prelude.{filter, or_parts, or_from, filter-append, list_any, AllByRecursion, Entry, Event, Head, admits, moves, state_after, state}
+use Rattle.hub_laws.proofs.Prelude.{events_after, events, State, OpenCall, opening, Change, turn, is_waiting, last_from, reply, told_to, is_told, own}
+use Rattle.hub_laws.proofs.Prelude.{RepliesLaw, IsSound, all_append}
 use Rattle.hub_laws.proofs.Account.{account-all}
 use Rattle.hub_laws.proofs.Entries.{turn-account}
-use Rattle.hub_laws.proofs.Prelude.{all_append}
-use Rattle.hub_laws.proofs.Calls.{same_number}
 use Rattle.hub_laws.proofs.Leaving.{Ended, events_of}
 use Rattle.hub_laws.proofs.Longer.{events-entry, events_after-append, state_after-append}
 use Rattle.hub_laws.proofs.Rules.{moves-sound, state-sound}
@@ -67,13 +65,11 @@ told_none q (x ∷ xs) e = let f = or_parts (x.pid.0 == q) (is_told q xs) e in r
 -- what a process was told by a run that goes on
 pub told_to-append : (q : ℕ) (head : Head) (es fs : List Entry)
     → told_to q (events head (es ++ fs)) ≡ told_to q (events head es) ++ told_to q (events_after (state head es) fs)
-told_to-append q head es fs = ap (told_to q) (events_after-append (opening head) es fs)
-    ∙ filter-append (λ (e : Event). (e.pid.0 == q) && not (is_parked e.what)) (events head es) (events_after (state head es) fs)
+told_to-append q head es fs = grind (arith, events_after-append, filter-append)
 
 -- a process that is not told anything keeps its reply
 pub reply-untold : (q : ℕ) (head : Head) (es fs : List Entry) → is_told q (events_after (state head es) fs) ≡ false → reply q head (es ++ fs) ≡ reply q head es
-reply-untold q head es fs e = ap (λ xs. last_from None xs) (told_to-append q head es fs
-    ∙ ap (λ xs. told_to q (events head es) ++ xs) (told_none q (events_after (state head es) fs) e) ∙ append-nil (told_to q (events head es)))
+reply-untold q head es fs e = grind (arith, told_to-append, told_none, append-nil)
 
 last_append : {A : Type 0} (o : Option A) (xs ys : List A) → last_from o (xs ++ ys) ≡ last_from (last_from o xs) ys
 last_append o [] ys = refl
@@ -82,17 +78,13 @@ last_append o (x ∷ xs) ys = last_append (Some x) xs ys
 -- one entry more: the last of its events for the process, or what it had
 pub reply-entry : (q : ℕ) (head : Head) (es : List Entry) (e : Entry)
     → reply q head (es ++ e ∷ []) ≡ last_from (reply q head es) (told_to q (moves (state head es) e).events)
-reply-entry q head es e =
-    ap (λ xs. last_from None (told_to q xs)) (events-entry head es e)
-    ∙ ap (λ xs. last_from None xs) (filter-append (λ (x : Event). (x.pid.0 == q) && not (is_parked x.what)) (events head es) (moves (state head es) e).events)
-    ∙ last_append None (told_to q (events head es)) (told_to q (moves (state head es) e).events)
+reply-entry q head es e = grind (arith, events-entry, filter-append, last_append)
 
 pub own-others : (q : ℕ) (es fs : List Entry) → list_any (λ e. e.pid.0 == q) fs ≡ false → own q (es ++ fs) ≡ own q es
 own-others q es fs e = rw (filter-append (λ (e : Entry). e.pid.0 == q) es fs, filter_none fs (λ e. e.pid.0 == q) e) (append-nil (own q es))
 
 pub own-mine : (es : List Entry) (e : Entry) → own e.pid.0 (es ++ e ∷ []) ≡ own e.pid.0 es ++ e ∷ []
-own-mine es e = filter-append (λ (x : Entry). x.pid.0 == e.pid.0) es (e ∷ [])
-    ∙ ap (λ xs. own e.pid.0 es ++ xs) (let h : own e.pid.0 (e ∷ []) ≡ e ∷ [] = rw (same_number e.pid.0) refl in h)
+own-mine es e = grind (arith, common_steps)
 
 pub replies-law : (head : Head) (es : List Entry) (q : ℕ) (fs : List Entry) → RepliesLaw head es q fs
 replies-law head es q fs free others =

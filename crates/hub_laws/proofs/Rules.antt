@@ -1,31 +1,23 @@
 -- Each admitted entry keeps soundness.
-use Rattle.hub_laws.proofs.Prelude.{◌≡◌, Bool, true, false, List, [], ◌∷◌, ◌++◌, refl, ap, ◌∙◌, sym, subst, Option, Some, None, ℕ, ◌==◌, ◌≤◌, cond, length}
-use Rattle.hub_laws.proofs.Prelude.{arith, inl, inr, ◌<◌, nat_lt, eqb-true, or_from, or_cases, false_from_ne_true, ltb-false, lt-ltb, ltb-true, list_any}
-use Rattle.hub_laws.proofs.Prelude.{Case, Entry, Step, Exit, Call, What, Fault, Head, MOST_CASES, Pid, Port, is_exit, can_proceed, port_of, admits, moves}
-use Rattle.hub_laws.proofs.Prelude.{state_after, state, State, Channel, OpenCall, channel_at, opening, Change, is_unmade, fault_of, answers, refusal, turn}
-use Rattle.hub_laws.proofs.Prelude.{effect, has_gone, is_waiting, cases_or, is_answer_to, port_touched_by, is_port, is_parked, IsSound, PortSound, is_among}
-use Rattle.hub_laws.proofs.Prelude.{CallFits}
-use Rattle.hub_base.specs.declared.event.What.TheVariants as what
-use Rattle.hub_base.specs.declared.fault.Fault.TheVariants as fault
+use Rattle.hub_laws.proofs.Prelude.{common_steps, ◌≡◌, Bool, true, false, List, [], ◌∷◌, ◌++◌, refl, ap, ◌∙◌, sym, subst, Option, Some, None, ℕ, ◌==◌, ◌≤◌}
+use Rattle.hub_laws.proofs.Prelude.{cond, length, arith, inl, inr, ◌<◌, eqb-true, or_cases, list_any, Entry, Step, Call, What, Fault, Head, Pid, Port}
+use Rattle.hub_laws.proofs.Prelude.{can_proceed, admits, moves, state_after, state, State, Channel, OpenCall, channel_at, opening, Change, fault_of, answers}
+use Rattle.hub_laws.proofs.Prelude.{refusal, turn, effect, has_gone, is_waiting, cases_or, is_answer_to, port_touched_by, is_port, is_parked, IsSound}
+use Rattle.hub_laws.proofs.Prelude.{PortSound, is_among, CallFits, all_more, all_snoc}
 use Rattle.hub_laws.proofs.Account.{Account, NamedSound, call_of, deeds_of, with_caller, with_leaver, procs-of}
 use Rattle.hub_laws.proofs.Entries.{answers-account, effect-account}
-use Rattle.hub_laws.proofs.Prelude.{all_more, all_snoc}
 use Rattle.hub_laws.proofs.Calls.{Fewer, any_snoc, apart_snoc}
 use Rattle.hub_laws.proofs.Deeds.{Deed, at}
 use Rattle.hub_laws.proofs.Does.{does-grows, does-others}
 use Rattle.hub_laws.proofs.Kept.{any_more, port-fewer, port-parks, sound-opening}
 use Rattle.hub_laws.proofs.Ports.{same_port}
-use Rattle.hub_laws.proofs.Ready.{Admitted, admitted, none_false, by-refusal}
+use Rattle.hub_laws.proofs.Ready.{Admitted, admitted, by-refusal}
 
 -- The caller's call, where it waits
 
 fitting : (s : State) (pid : Pid) (step : Step) → fault_of s step ≡ None →
     CallFits (length s.channels) (call_of pid step)
-fitting s pid (Call cases default word) h =
-    let unmade : Bool = list_any (λ c. is_unmade s (port_of c)) cases.items in
-    let a = none_false (nat_lt MOST_CASES (length cases.items)) fault.TooManyCases (cond unmade (Some fault.NoPort) None) h in
-    let b = none_false unmade fault.NoPort None a.1 in
-    record { few = ltb-false MOST_CASES (length cases.items) a.0; made = b.0 }
+fitting s pid (Call cases default word) h = grind arith
 fitting s pid step h = record { few = omega arith; made = refl }
 
 parks_sound : (s : State) (call : OpenCall) → IsSound s → Admitted s call.pid → CallFits (length s.channels) call →
@@ -50,21 +42,8 @@ caller_sound s pid step w sound adm h blocked = by (is_parked w) refl
     by true is = parks_sound s (call_of pid step) sound adm (fitting s pid step h) (blocked (sym is))
     by false is = sound
 
--- who exits does not wait
-exit_parks_none : (step : Step) (w : What) → is_exit step ≡ true → is_answer_to step w ≡ true → is_parked w ≡ false
-exit_parks_none Exit what.Parked e fits = absurd (let g : ⊥ = cc in g)
-exit_parks_none step what.Parked e fits = absurd (let g : ⊥ = cc in g)
-exit_parks_none step w e fits = refl
-
 fits_more : (n m : ℕ) (call : OpenCall) → n ≤ m → CallFits n call → CallFits m call
-fits_more n m call h f = record {
-  few = f.few;
-  made = false_from_ne_true (list_any (λ c. nat_lt m (port_of c).0) call.cases) (λ e.
-      let beyond = λ (c : Case) (e : nat_lt m (port_of c).0 ≡ true). lt-ltb n (port_of c).0 (omega (arith, h, ltb-true m (port_of c).0 e)) in
-      let g = any_more (λ c. nat_lt m (port_of c).0) (λ c. nat_lt n (port_of c).0) call.cases beyond e in
-      let k = f.made in
-      cc);
-}
+fits_more n m call h f = grind (arith, any_more)
 
 -- A step
 
@@ -72,14 +51,7 @@ fits_more n m call h f = record {
 none_left : (q : ℕ) (s : State) (pid : Pid) (step : Step) (w : What) → Admitted s pid → is_answer_to step w ≡ true →
     is_among q (with_caller s.parked pid step w) ≡ true → has_gone s q ≡ false →
     list_any (λ g. g.0 == q) (with_leaver s.gone pid step) ≡ false
-none_left q s pid step w adm fits among here = by (is_exit step) refl
-  where
-    by : (b : Bool) → b ≡ is_exit step → list_any (λ g. g.0 == q) (cond b (s.gone ++ pid ∷ []) s.gone) ≡ false
-    by false is = here
-    by true is = any_snoc (λ g. g.0 == q) s.gone pid ∙ or_from (has_gone s q) (pid.0 == q) here (false_from_ne_true (pid.0 == q) (λ m.
-        let waits : is_among q s.parked ≡ true = rw (exit_parks_none step w (sym is) fits) at among in
-        let free : is_waiting s q ≡ false = subst (λ (n : ℕ). is_waiting s n ≡ false) (eqb-true pid.0 q m) adm.free in
-        cc))
+none_left q s pid step w adm fits among here = grind (arith, common_steps)
 
 -- each port: the one that the answer names, or one that is as it was
 port_sound : (s t : State) (named : Option Port) (calls : List OpenCall) (p : Port) (x : Channel) →
@@ -121,8 +93,7 @@ account_sound s pid step c sound adm h a =
     }
 
 pub effect-sound : (s : State) (pid : Pid) (step : Step) → IsSound s → Admitted s pid → fault_of s step ≡ None → IsSound (effect s pid step).state
-effect-sound s pid step sound adm h =
-    account_sound s pid step (effect s pid step) sound adm h (effect-account s pid step h)
+effect-sound s pid step sound adm h = grind (arith, account_sound s pid step (effect s pid step) sound adm h (effect-account s pid step h))
 
 pub turn-sound : (s : State) (e : Entry) → IsSound s → refusal s e.pid ≡ None → IsSound (turn s e).state
 turn-sound s e sound is = by (fault_of s e.step) refl

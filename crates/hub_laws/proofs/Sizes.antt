@@ -1,9 +1,8 @@
 -- One step tells no more events than there are processes, and one.
-use Rattle.hub_laws.proofs.Prelude.{◌≡◌, Bool, true, false, List, [], ◌∷◌, ◌++◌, refl, ap, subst, Option, Some, None, ℕ, ◌==◌, ◌+◌, ◌≤◌, cond, length}
-use Rattle.hub_laws.proofs.Prelude.{arith, inl, inr, ◌<◌, eqb-true, or_cases, length-map, length-append, Entry, Step, Close, Call, What, Head, Pid}
-use Rattle.hub_laws.proofs.Prelude.{Port, admits, moves, state, State, Channel, OpenCall, channel_at, opening, calls, Change, closes, turn, effect}
-use Rattle.hub_laws.proofs.Prelude.{is_parked, Apart, IsSound, is_among}
-use Rattle.hub_laws.proofs.Account.{Account, with_caller, call_of, procs-of}
+use Rattle.hub_laws.proofs.Prelude.{common_steps, ◌≡◌, true, List, [], ◌∷◌, refl, ap, subst, Option, Some, None, ℕ, ◌==◌, ◌+◌, ◌≤◌, length, arith, inl, inr}
+use Rattle.hub_laws.proofs.Prelude.{◌<◌, eqb-true, or_cases, length-map, Entry, Step, Close, Call, What, Head, Pid, Port, admits, moves, state, State, Channel}
+use Rattle.hub_laws.proofs.Prelude.{OpenCall, channel_at, opening, calls, Change, closes, turn, effect, Apart, IsSound, is_among}
+use Rattle.hub_laws.proofs.Account.{Account, with_caller, procs-of}
 use Rattle.hub_laws.proofs.Entries.{turn-account}
 use Rattle.hub_laws.proofs.Firing.{calls-account}
 use Rattle.hub_laws.proofs.Distinct.{count-below}
@@ -26,11 +25,7 @@ calls_length (call ∷ calls) = omega (arith, calls_length calls)
 
 caller_length : (calls : List OpenCall) (pid : Pid) (step : Step) (w : What) →
     length (with_caller calls pid step w) ≤ length calls + 1
-caller_length calls pid step w = by (is_parked w)
-  where
-    by : (b : Bool) → length (cond b (calls ++ call_of pid step ∷ []) calls) ≤ length calls + 1
-    by true = omega (arith, length-append calls (call_of pid step ∷ []))
-    by false = omega arith
+caller_length calls pid step w = grind (arith, common_steps)
 
 -- an event for each call that ends, and the others stay
 left_length : (xs : List Ended) (calls kept : List OpenCall) → Leave xs calls kept →

@@ -1,7 +1,6 @@
 -- The words of soundness over buffers.
-use Rattle.hub_laws.proofs.Prelude.{◌≡◌, Bool, false, List, [], ◌∷◌, refl, ◌≤◌, length, arith, or_parts, or_from, drop_all, length-drop, list_any}
-use Rattle.hub_laws.proofs.Prelude.{Entry, Head, Port, is_recv_on, is_send_on, is_on, state, State, Channel, OpenCall, IsSound, PortSound, some_call}
-use Rattle.hub_laws.proofs.Prelude.{PortLaws, StateLaws}
+use Rattle.hub_laws.proofs.Prelude.{◌≡◌, Bool, false, List, [], ◌∷◌, refl, ◌≤◌, length, arith, or_parts, or_from, drop_all, length-drop, list_any, Entry, Head}
+use Rattle.hub_laws.proofs.Prelude.{Port, is_recv_on, is_send_on, is_on, state, State, Channel, OpenCall, IsSound, PortSound, some_call, PortLaws, StateLaws}
 use Rattle.hub_laws.proofs.Distinct.{count-below}
 use Rattle.hub_laws.proofs.Lasting.{ports-law}
 use Rattle.hub_laws.proofs.Rules.{state-sound}
@@ -21,14 +20,7 @@ on_none p calls =
     (λ c. none_either (is_recv_on p) (is_send_on p) (is_on p) c.cases (λ k r w. or_from (is_send_on p k) (is_recv_on p k) w r))
 
 port-laws : (p : Port) (c : Channel) (calls : List OpenCall) → PortSound p c calls → PortLaws p c calls
-port-laws p c calls f = record {
-  fits = omega (arith, f.fits, length-drop c.received c.sent);
-  receivers = λ r. drop_all c.received c.sent (omega (arith, f.receivers r));
-  senders = λ w. omega (arith, f.senders w, length-drop c.received c.sent);
-  closed = λ h. on_none p calls (f.ended h).0 (f.ended h).1;
-  both = λ r w. omega (arith, f.receivers r, f.senders w);
-  alone = f.alone;
-}
+port-laws p c calls f = grind (arith, length-drop, drop_all, on_none)
 
 pub count-law : (s : State) → IsSound s → length s.parked ≤ s.head.procs
 count-law s sound = count-below s.head.procs s.parked sound.apart (λ q e. (sound.present q e).0)

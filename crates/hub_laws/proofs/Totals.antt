@@ -1,12 +1,10 @@
 -- What the deeds of a step add to what was sent and to what was received.
-use Rattle.hub_laws.proofs.Prelude.{◌≡◌, false, List, [], ◌∷◌, ◌++◌, refl, ap, ◌∙◌, sym, Option, Some, None, ℕ, ◌==◌}
-use Rattle.hub_laws.proofs.Prelude.{append-nil, add-one, ◌+◌, ◌≤◌, length, take, take-suc, take-append-le, get_or_from_slice_get, slice_get_within}
-use Rattle.hub_laws.proofs.Prelude.{AllByRecursion, cons_option, option_map_or, slice_get, Case, Send, Recv, Event, Outcome, Sent, Got, What, Pid, Port}
-use Rattle.hub_laws.proofs.Prelude.{Value, port_of, Channel, after_receive, after_send, closing_outcome, next_value, of_what, got_on, sent_on, received_from}
+use Rattle.hub_laws.proofs.Prelude.{arith, ◌≡◌, false, List, [], ◌∷◌, ◌++◌, refl, ap, sym, Option, Some, None, ℕ, ◌==◌, append-nil, ◌+◌, ◌≤◌, length, take}
+use Rattle.hub_laws.proofs.Prelude.{take-suc, take-append-le, get_or_from_slice_get, slice_get_within, AllByRecursion, cons_option, option_map_or, slice_get}
+use Rattle.hub_laws.proofs.Prelude.{Case, Send, Recv, Event, Outcome, Sent, Got, What, Pid, Port, Value, port_of, Channel, after_receive, after_send}
+use Rattle.hub_laws.proofs.Prelude.{closing_outcome, next_value, of_what, got_on, sent_on, received_from}
 use Rattle.hub_base.specs.declared.event.What.TheVariants as what
-use Rattle.hub_laws.proofs.Calls.{same_number}
-use Rattle.hub_laws.proofs.Deeds.{Deed, deed_of, told, picks, at, IsClosing, Moved, Does, buffers, hands, fetches, gives, drains, refuses, shuts}
-use Rattle.hub_laws.proofs.Deeds.{DoesAt, stays_at, makes_at, moves_at, fresh}
+use Rattle.hub_laws.proofs.Deeds.{Deed, deed_of, told, picks, at, IsClosing, Moved, Does, DoesAt, stays_at, makes_at, moves_at, fresh}
 use Rattle.hub_laws.proofs.Does.{does-at}
 
 -- a reading of events is a reading of deeds
@@ -60,19 +58,8 @@ sent_none : (p : Port) (k : Case) (o : Outcome) → ((port_of k).0 == p.0) ≡ f
 sent_none p (Send q v) Sent e = rw e refl
 sent_none p k o e = refl
 
-sent_closing : (p : Port) (k : Case) → sent_on p (Some k) (closing_outcome k) ≡ None
-sent_closing p (Send q v) = refl
-sent_closing p (Recv q) = refl
-
 sent_here : (p : Port) (c d : Channel) (deeds : List Deed) → Moved p c d deeds → d.sent ≡ c.sent ++ picks (sent_on p) deeds
-sent_here p c d deeds (buffers v live is e) = rw (e, is, same_number p.0) refl
-sent_here p c d deeds (hands v w live next is e) = rw (e, is, same_number p.0) refl
-sent_here p c d deeds (fetches v w live next is e) = rw (e, is, same_number p.0) refl
-sent_here p c d deeds (gives w next is e) = rw (e, is) (sym (append-nil c.sent))
-sent_here p c d deeds (drains next is e) = rw (e, is) (sym (append-nil c.sent))
-sent_here p c d deeds (refuses v over is e) = rw (e, is) (sym (append-nil c.sent))
-sent_here p c d deeds (shuts live is all) =
-    rw (is, closing-none (sent_on p) p deeds (sent_closing p) all) (sym (append-nil c.sent))
+sent_here p c d deeds x4 = grind (arith, append-nil, closing-none)
 
 pub sent-does : (cs ts : List Channel) (named : Option Port) (deeds : List Deed) (p : Port) → Does cs ts named deeds →
     total (λ c. c.sent) ts p ≡ total (λ c. c.sent) cs p ++ picks (sent_on p) deeds
@@ -90,24 +77,15 @@ got_closing p (Send q v) = refl
 got_closing p (Recv q) = refl
 
 pub take_next : {A : Type 0} (xs : List A) (i : ℕ) (w : A) → slice_get xs i ≡ Some w → take (i + 1) xs ≡ take i xs ++ w ∷ []
-take_next xs i w e =
-    rw add-one (take-suc xs i w (slice_get_within xs i w e)) ∙ ap (λ y. take i xs ++ y ∷ []) (get_or_from_slice_get xs i w w e)
+take_next xs i w e = grind (arith, take-suc xs i w (slice_get_within xs i w e), get_or_from_slice_get xs i w w e)
 
 pub through : (v w : Value) (c d : Channel) → c.received ≤ length c.sent → next_value (after_send v c) ≡ Some w
     → d ≡ after_receive (after_send v c) → received_from d ≡ received_from c ++ w ∷ []
-through v w c d fits next is =
-    rw is (take_next (c.sent ++ v ∷ []) c.received w next ∙ ap (λ xs. xs ++ w ∷ []) (take-append-le c.received c.sent (v ∷ []) fits))
+through v w c d fits next is = grind (arith, take_next (c.sent ++ v ∷ []) c.received w next, take-append-le c.received c.sent (v ∷ []) fits)
 
 got_here : (p : Port) (c d : Channel) (deeds : List Deed) → c.received ≤ length c.sent → Moved p c d deeds
     → received_from d ≡ received_from c ++ picks (got_on p) deeds
-got_here p c d deeds fits (buffers v live is e) = rw (e, is) (take-append-le c.received c.sent (v ∷ []) fits ∙ sym (append-nil (received_from c)))
-got_here p c d deeds fits (hands v w live next is e) = rw (e, same_number p.0) (through v w c d fits next is)
-got_here p c d deeds fits (fetches v w live next is e) = rw (e, same_number p.0) (through v w c d fits next is)
-got_here p c d deeds fits (gives w next is e) = rw (e, is, same_number p.0) (take_next c.sent c.received w next)
-got_here p c d deeds fits (drains next is e) = rw (e, is) (sym (append-nil (received_from c)))
-got_here p c d deeds fits (refuses v over is e) = rw (e, is) (sym (append-nil (received_from c)))
-got_here p c d deeds fits (shuts live is all) =
-    rw (is, closing-none (got_on p) p deeds (got_closing p) all) (sym (append-nil (received_from c)))
+got_here p c d deeds fits x5 = grind (arith, take-append-le, append-nil, through, take_next, closing-none)
 
 pub got-does : (cs ts : List Channel) (named : Option Port) (deeds : List Deed) (p : Port) →
     ((c : Channel) → at cs p ≡ Some c → c.received ≤ length c.sent) → Does cs ts named deeds →

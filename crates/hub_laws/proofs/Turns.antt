@@ -1,8 +1,7 @@
 -- One entry of a run: what it does to the channels, and which cases are then in force.
-use Rattle.hub_laws.proofs.Prelude.{◌≡◌, true, false, List, [], ◌∷◌, ◌++◌, refl, ap, ◌∙◌, ℕ, ◌==◌, cond, or_parts, AllByRecursion}
-use Rattle.hub_laws.proofs.Prelude.{cons_option, slice_get, Case, Entry, Step, Call, What, Pid, admits, moves, State, OpenCall, Change, tells}
-use Rattle.hub_laws.proofs.Prelude.{turn, cases_or, of_what, Turned, is_fault, refused, latest, last_call, is_answer_to, port_touched_by, port_touched}
-use Rattle.hub_laws.proofs.Prelude.{is_parked, IsSound, is_among}
+use Rattle.hub_laws.proofs.Prelude.{arith, ◌≡◌, true, false, List, [], ◌∷◌, ◌++◌, refl, ap, ◌∙◌, ℕ, ◌==◌, cond, or_parts, AllByRecursion, cons_option, Case}
+use Rattle.hub_laws.proofs.Prelude.{Entry, Step, What, Pid, admits, moves, State, OpenCall, Change, tells, turn, cases_or, of_what, Turned, is_fault, refused}
+use Rattle.hub_laws.proofs.Prelude.{latest, last_call, is_answer_to, port_touched_by, port_touched, is_parked, IsSound, is_among}
 use Rattle.hub_base.specs.declared.event.What.TheVariants as what
 use Rattle.hub_laws.proofs.Account.{account-all, deeds_of, ended_deeds}
 use Rattle.hub_laws.proofs.Entries.{fault_names_none, turn-account}
@@ -61,17 +60,12 @@ told_ended L (x ∷ xs) k = rw (k.0, told_ended L xs k.1) refl
 -- what the answer tells, of a call's own cases
 told_own : (L before : List Case) (step : Step) (w : What) → is_answer_to step w ≡ true →
     (is_fault w ≡ false → L ≡ cases_or step before) → of_what deed_of L w ≡ of_what deed_of (cases_or step []) w
-told_own L before (Call cases default word) (what.Fired i o) fits mine =
-    ap (λ l. deed_of (slice_get l i) o) (mine refl)
-told_own L before step (what.Fired i o) fits mine = absurd (let g : ⊥ = cc in g)
-told_own L before step w fits mine = refl
+told_own x0 before step w fits mine = grind arith
 
 -- only a call waits
 parked_call : (before : List Case) (step : Step) (w : What) → is_answer_to step w ≡ true → is_parked w ≡ true →
     (cases_or step before ≡ cases_or step []) × (is_fault w ≡ false)
-parked_call before (Call cases default word) what.Parked fits parks = (refl, refl)
-parked_call before step what.Parked fits parks = absurd (let g : ⊥ = cc in g)
-parked_call before step w fits parks = absurd (let g : ⊥ = cc in g)
+parked_call before step w fits parks = grind arith
 
 turn_turn : (s : State) (e : Entry) (ts : List Turned) → IsSound s → Admitted s e.pid → Knows (in_force ts) s.parked →
     TurnLaws s e.step (turn s e) (in_force (ts ++ record { entry = e; events = (turn s e).events } ∷ []))

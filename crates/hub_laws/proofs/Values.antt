@@ -1,8 +1,7 @@
 -- The values received, and then those in the buffer, are the values sent.
-use Rattle.hub_laws.proofs.Prelude.{◌≡◌, Bool, true, false, List, [], ◌∷◌, ◌++◌, refl, ap, ◌∙◌, sym, Option, Some, None, ◌==◌, append-nil, append_assoc}
-use Rattle.hub_laws.proofs.Prelude.{cond, ◌-◌, take, take-append-drop, option_map_or, slice_get, Case, Entry, Outcome, Head, Port, moves, state_after, state}
-use Rattle.hub_laws.proofs.Prelude.{State, Channel, channel_at, opening, buffer_of, Turned, turns_after, values_from, got_on, received_values, sent_on}
-use Rattle.hub_laws.proofs.Prelude.{sent_values, port_touched, IsSound}
+use Rattle.hub_laws.proofs.Prelude.{arith, ◌≡◌, List, [], ◌∷◌, ◌++◌, refl, ap, ◌∙◌, sym, Option, Some, append-nil, append_assoc, take, take-append-drop, Case}
+use Rattle.hub_laws.proofs.Prelude.{Entry, Outcome, Head, Port, moves, state_after, state, State, Channel, channel_at, opening, buffer_of, Turned, turns_after}
+use Rattle.hub_laws.proofs.Prelude.{values_from, got_on, received_values, sent_on, sent_values, port_touched, IsSound}
 use Rattle.hub_laws.proofs.Deeds.{Knows, deed_of, told, at}
 use Rattle.hub_laws.proofs.Kept.{sound-opening}
 use Rattle.hub_laws.proofs.Rules.{moves-sound}
@@ -42,11 +41,7 @@ got-after s ts es p = grows (λ c. take c.received c.sent) (got_on p) p (λ s e 
 
 -- before anything is made
 pub no_total : {A : Type 0} (f : Channel → List A) (p : Port) → total f [] p ≡ []
-no_total f p = by (p.0 == 0)
-  where
-    by : (b : Bool) → option_map_or f (cond b None (slice_get {X = Channel} [] (p.0 - 1))) [] ≡ []
-    by true = refl
-    by false = refl
+no_total f p = grind arith
 
 total_at : {A : Type 0} (f : Channel → List A) (s : State) (p : Port) (c : Channel) → channel_at s p ≡ Some c → total f s.channels p ≡ f c
 total_at f s p c e = let h : at s.channels p ≡ Some c = e in rw h refl

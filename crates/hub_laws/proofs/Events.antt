@@ -45,5 +45,3 @@ answer_admits step w e = refl
 pub answered_admits : (e : Entry) (events : List Event) → IsAnswered e.pid e.step events → was_admitted events ≡ true
 answered_admits e [] a = refl
 answered_admits e (x ∷ xs) a = answer_admits e.step x.what a.fits
-
--- Which events end a call

@@ -10,7 +10,8 @@ import sys
 
 
 class Hub:
-    def __init__(self, procs):
+    def __init__(self, edition, procs):
+        self.most_cases = 8 if edition == 1 else 16
         self.procs = procs
         self.gone = set()
         self.waiting = []  # (process, cases), oldest first
@@ -95,9 +96,11 @@ class Hub:
         if word == 'make':
             return 6 if step > 1024 else 7 if len(self.ports) == 64 else None
         if word == 'call':
-            if len(step[0]) > 8:
+            if len(step[0]) > self.most_cases:
                 return 4
             return 5 if any(case[1] > len(self.ports) for case in step[0]) else None
+        if word == 'cancel':
+            return None if any(step == other for other, _ in self.waiting) else 12
         if word == 'close':
             if step > len(self.ports):
                 return 5
@@ -122,6 +125,10 @@ class Hub:
             self.call(pid, *step)
         elif word == 'close':
             self.close(pid, step)
+        elif word == 'cancel':
+            self.end(step)
+            self.tell(pid, 'done')
+            self.tell(step, 'cancelled')
         else:
             self.gone.add(pid)
             self.tell(pid, 'done')
@@ -141,7 +148,7 @@ def case(text):
 
 def step(fields):
     word = fields[0]
-    if word in ('make', 'close'):
+    if word in ('make', 'close', 'cancel'):
         return word, int(fields[1])
     if word == 'send':
         return 'call', ([('s', int(fields[1]), int(fields[2]))], False, 0)
@@ -155,7 +162,7 @@ def step(fields):
 
 def main():
     lines = sys.stdin.read().splitlines()
-    hub = Hub(int(lines[1].split()[1]))
+    hub = Hub(int(lines[0].split()[2]), int(lines[1].split()[1]))
     for line in lines[2:]:
         fields = line.split()
         hub.step(int(fields[0]), *step(fields[1:]))

@@ -4,10 +4,10 @@
     random_journal.py SEED [LINES]           prints one
     random_journal.py FIRST LAST FOLDER      writes FOLDER/journal_SEED for each seed from FIRST to LAST
 
-Each is well formed, and asks for all that a hub can answer: every word, selects of 0 to 9 cases with and
-without a default, choice words from 0 to the greatest, closes, exits, port 0, ports that are not made,
-capacities that are too large, processes that are busy, gone or unknown. LINES counts the entries; where it
-is not said there are 60 to 300.
+Each is well formed, of the second edition where its seed is even, and asks for all that a hub can answer: every
+word, selects of 0 to 9 cases, in the second edition to 16, with and without a default, choice words from 0 to the
+greatest, closes, exits, in the second edition cancels, port 0, ports that are not made, capacities that are too
+large, processes that are busy, gone or unknown. LINES counts the entries; where it is not said there are 60 to 300.
 """
 import os
 import random
@@ -44,6 +44,7 @@ class Journal:
 
     def __init__(self, seed, entries):
         self.numbers = Numbers(seed)
+        self.edition = 1 if seed % 2 else 2
         self.entries = entries or 60 + self.numbers.below(241)
         self.procs = self.numbers.among([1, 2, 2, 3, 3, 4, 5, 8, 16, 64])
         self.capacities = self.numbers.among([[0], [0, 1], [0, 1, 2, 3], [1, 2], [0, 4, 1024]])
@@ -81,7 +82,8 @@ class Journal:
         return 'r%d' % self.port()
 
     def select(self):
-        count = self.numbers.among([0, 1, 2, 2, 2, 3, 3, 4, 5, 6, 7, 8, 8, 9])
+        counts = [0, 1, 2, 2, 2, 3, 3, 4, 5, 6, 7, 8, 8, 9]
+        count = self.numbers.among(counts if self.edition == 1 else counts + [12, 15, 16, 16])
         cases = [self.case() for _ in range(count)]
         default = self.numbers.one_in(3)
         word = self.numbers.word()
@@ -101,6 +103,8 @@ class Journal:
             return 'close %d' % self.port()
         if drawn < 7:
             return self.make()
+        if self.edition == 2 and drawn < 10 and self.numbers.one_in(2):
+            return 'cancel %d' % self.process()
         if drawn < 10 and self.exits_left > 0:
             self.exits_left -= 1
             return 'exit'
@@ -111,7 +115,7 @@ class Journal:
         return self.select()
 
     def text(self):
-        lines = ['chanhub journal 1', 'procs %d' % self.procs]
+        lines = ['chanhub journal %d' % self.edition, 'procs %d' % self.procs]
         for place in range(self.entries):
             step = self.make() if place < self.first_ports else self.step()
             lines.append('%d %s' % (self.process(), step))

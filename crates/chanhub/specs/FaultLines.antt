@@ -21,6 +21,7 @@ scenario_text scenario.BadToml = codes "bad toml"
 scenario_text scenario.BadKey = codes "bad key"
 scenario_text scenario.BadSeed = codes "bad seed"
 scenario_text scenario.BadLimit = codes "bad limit"
+scenario_text scenario.BadJournal = codes "bad journal"
 scenario_text scenario.BadPorts = codes "bad ports"
 scenario_text scenario.BadProcesses = codes "bad processes"
 scenario_text (scenario.BadScript process step) =

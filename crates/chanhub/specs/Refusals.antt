@@ -34,6 +34,7 @@ of_scenario scenario.BadToml = Scenario scenario.BadToml
 of_scenario scenario.BadKey = Scenario scenario.BadKey
 of_scenario scenario.BadSeed = Scenario scenario.BadSeed
 of_scenario scenario.BadLimit = Scenario scenario.BadLimit
+of_scenario scenario.BadJournal = Scenario scenario.BadJournal
 of_scenario scenario.BadPorts = Scenario scenario.BadPorts
 of_scenario scenario.BadProcesses = Scenario scenario.BadProcesses
 of_scenario (scenario.BadScript process step) = Scenario (scenario.BadScript process step)

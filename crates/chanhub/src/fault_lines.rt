@@ -26,6 +26,7 @@ fn write_scenario_line<X: Sink>(fault: ScenarioFault, errors: &mut X) -> Result<
         ScenarioFault::BadKey => "bad key",
         ScenarioFault::BadSeed => "bad seed",
         ScenarioFault::BadLimit => "bad limit",
+        ScenarioFault::BadJournal => "bad journal",
         ScenarioFault::BadPorts => "bad ports",
         ScenarioFault::BadProcesses => "bad processes",
         ScenarioFault::NoMemory => "out of memory",

@@ -1,5 +1,5 @@
 -- What an entry spells is read as that entry.
-use Rattle.std.proofs.Common.{◌≡◌, ℕ, zero, suc, ◌≤◌, ◌<◌, ◌^◌, Bool, true, false, cond, List, []}
+use Rattle.std.proofs.Common.{◌≡◌, ℕ, zero, suc, ◌≤◌, ◌<◌, ◌^◌, Bool, true, false, ◌&&◌, cond, List, []}
 use Rattle.std.proofs.Common.{◌∷◌, ◌++◌, length, map, refl, ap, ◌∙◌, Ok, Err, arith, codes}
 use Rattle.std.proofs.lemmas.Grind.{common_steps}
 use Rattle.std.proofs.lemmas.List.{length-map}
@@ -9,11 +9,13 @@ use Rattle.hub_base.specs.declared.case.Case.{Case}
 use Rattle.hub_base.specs.declared.case.Case.TheVariants.{Send, Recv}
 use Rattle.hub_base.specs.declared.entry.Entry.{Entry}
 use Rattle.hub_base.specs.declared.entry.Step.{Step}
-use Rattle.hub_base.specs.declared.entry.Step.TheVariants.{Make, Call, Close, Exit}
+use Rattle.hub_base.specs.declared.entry.Step.TheVariants.{Make, Call, Close, Exit, Cancel}
+use Rattle.hub_base.specs.declared.head.Edition.{Edition}
 use Rattle.hub_base.specs.declared.limits.TheConstants.{CASE_PLACES, GREATEST_PID, GREATEST_PORT, GREATEST_CAP, GREATEST_VALUE, GREATEST_WORD}
 use Rattle.hub_base.specs.declared.text.faults.Kind.TheVariants.{BadStep}
+use Rattle.hub_base.specs.Head.{is_of}
 use Rattle.hub_base.specs.Lines.Draft.{Sends, Receives}
-use Rattle.hub_base.specs.Lines.{numeral, ◌>>=◌, Draft, read_select, read_fields, choose, step_fields, call_fields}
+use Rattle.hub_base.specs.Lines.{numeral, ◌>>=◌, Draft, read_cancel, read_select, read_fields, choose, step_fields, call_fields}
 use Rattle.hub_base.specs.Lines.{select_fields, default_field, case_field, case_of, cases_of, draft_of, drafts_of}
 use Rattle.hub_base.specs.Lines.{send_draft, recv_draft, spelled, ends_default, last_default, same_text, by, call}
 use Rattle.hub_base.specs.Text.{Fits, CaseFits, CallFits, StepFits, fields_of}
@@ -74,13 +76,13 @@ few : (n : ℕ) → n ≤ CASE_PLACES → nat_lt CASE_PLACES n ≡ false
 few n h = grind (arith, common_steps)
 
 -- a select is read as it is spelled
-pub select-again : (pid : ℕ) (cs : List Case) (d : Bool) (w : ℕ) → pid ≤ GREATEST_PID → CallFits cs w → spelled cs d w ≡ Ok (call cs d w)
-    → call_fields cs d w ≡ select_fields cs d w → read_fields (decimal pid ∷ call_fields cs d w) ≡ Ok (by pid (call cs d w))
-select-again pid cs d w small fits whole fields =
+pub select-again : (ed : Edition) (pid : ℕ) (cs : List Case) (d : Bool) (w : ℕ) → pid ≤ GREATEST_PID → CallFits cs w → spelled cs d w ≡ Ok (call cs d w)
+    → call_fields cs d w ≡ select_fields cs d w → read_fields ed (decimal pid ∷ call_fields cs d w) ≡ Ok (by pid (call cs d w))
+select-again ed pid cs d w small fits whole fields =
     let ends = ends-again cs d in
     let count : nat_lt CASE_PLACES (length (map draft_for cs)) ≡ false =
     (let n = length-map cs draft_for in few (length (map draft_for cs)) (omega (arith, n, fits.few))) in
-    ap (λ gs. read_fields (decimal pid ∷ gs)) fields
+    ap (λ gs. read_fields ed (decimal pid ∷ gs)) fields
     ∙ ap (read_select (decimal pid) (decimal w)) ends
     ∙ ap (λ r. r >>= λ ds. cond (nat_lt CASE_PLACES (length ds)) (Err BadStep) (choose (decimal pid) (decimal w) (cases_of ds) d)) (drafts-again cs fits.each)
     ∙ ap (λ b. cond b (Err BadStep) (choose (decimal pid) (decimal w) (cases_of (map draft_for cs)) d)) count
@@ -91,34 +93,40 @@ select-again pid cs d w small fits whole fields =
     ∙ ap (λ r. r >>= λ step. Ok (by pid step)) whole
 
 -- a call is read as it is spelled, in its short form or as a select
-pub call-again : (pid : ℕ) (cs : List Case) (d : Bool) (w : ℕ) → pid ≤ GREATEST_PID → CallFits cs w
-    → read_fields (decimal pid ∷ call_fields cs d w) ≡ Ok (by pid (call cs d w))
-call-again pid [] d w small fits = select-again pid [] d w small fits refl refl
-call-again pid (Send p v ∷ []) true w small fits = select-again pid (Send p v ∷ []) true w small fits refl refl
-call-again pid (Send p v ∷ []) false zero small fits =
+pub call-again : (ed : Edition) (pid : ℕ) (cs : List Case) (d : Bool) (w : ℕ) → pid ≤ GREATEST_PID → CallFits cs w
+    → read_fields ed (decimal pid ∷ call_fields cs d w) ≡ Ok (by pid (call cs d w))
+call-again ed pid [] d w small fits = select-again ed pid [] d w small fits refl refl
+call-again ed pid (Send p v ∷ []) true w small fits = select-again ed pid (Send p v ∷ []) true w small fits refl refl
+call-again ed pid (Send p v ∷ []) false zero small fits =
     ap (λ r. r >>= λ pid. case_of (Sends (decimal p.0) (decimal v.0)) >>= λ c. Ok (by pid (call (c ∷ []) false 0)))
     (numeral-again GREATEST_PID pid (omega arith) small)
     ∙ ap (λ r. r >>= λ c. Ok (by pid (call (c ∷ []) false 0))) (case-again (Send p v) fits.each.0)
-call-again pid (Send p v ∷ []) false (suc w) small fits = select-again pid (Send p v ∷ []) false (suc w) small fits refl refl
-call-again pid (Recv p ∷ []) true w small fits = select-again pid (Recv p ∷ []) true w small fits refl refl
-call-again pid (Recv p ∷ []) false zero small fits =
+call-again ed pid (Send p v ∷ []) false (suc w) small fits = select-again ed pid (Send p v ∷ []) false (suc w) small fits refl refl
+call-again ed pid (Recv p ∷ []) true w small fits = select-again ed pid (Recv p ∷ []) true w small fits refl refl
+call-again ed pid (Recv p ∷ []) false zero small fits =
     ap (λ r. r >>= λ pid. case_of (Receives (decimal p.0)) >>= λ c. Ok (by pid (call (c ∷ []) false 0))) (numeral-again GREATEST_PID pid (omega arith) small)
     ∙ ap (λ r. r >>= λ c. Ok (by pid (call (c ∷ []) false 0))) (case-again (Recv p) fits.each.0)
-call-again pid (Recv p ∷ []) false (suc w) small fits = select-again pid (Recv p ∷ []) false (suc w) small fits refl refl
-call-again pid (Send p v ∷ c ∷ cs) d w small fits = select-again pid (Send p v ∷ c ∷ cs) d w small fits refl refl
-call-again pid (Recv p ∷ c ∷ cs) d w small fits = select-again pid (Recv p ∷ c ∷ cs) d w small fits refl refl
+call-again ed pid (Recv p ∷ []) false (suc w) small fits = select-again ed pid (Recv p ∷ []) false (suc w) small fits refl refl
+call-again ed pid (Send p v ∷ c ∷ cs) d w small fits = select-again ed pid (Send p v ∷ c ∷ cs) d w small fits refl refl
+call-again ed pid (Recv p ∷ c ∷ cs) d w small fits = select-again ed pid (Recv p ∷ c ∷ cs) d w small fits refl refl
 
-step-again : (pid : ℕ) (step : Step) → pid ≤ GREATEST_PID → StepFits step → read_fields (decimal pid ∷ step_fields step) ≡ Ok (by pid step)
-step-again pid (Make cap) small fits =
+step-again : (ed : Edition) (pid : ℕ) (step : Step) → pid ≤ GREATEST_PID → StepFits step → is_of ed step ≡ true
+    → read_fields ed (decimal pid ∷ step_fields step) ≡ Ok (by pid step)
+step-again ed pid (Make cap) small fits of_edition =
     ap (λ r. r >>= λ pid. numeral GREATEST_CAP (decimal cap) >>= λ cap. Ok (by pid (Make cap))) (numeral-again GREATEST_PID pid (omega arith) small)
     ∙ ap (λ r. r >>= λ cap. Ok (by pid (Make cap))) (numeral-again GREATEST_CAP cap (omega arith) fits)
-step-again pid (Call cases d w) small fits = call-again pid cases.items d w small fits
-step-again pid (Close p) small fits =
+step-again ed pid (Call cases d w) small fits of_edition = call-again ed pid cases.items d w small fits
+step-again ed pid (Close p) small fits of_edition =
     ap (λ r. r >>= λ pid. numeral GREATEST_PORT (decimal p.0) >>= λ p. Ok (by pid (Close (record { 0 = p }))))
     (numeral-again GREATEST_PID pid (omega arith) small)
     ∙ ap (λ r. r >>= λ p. Ok (by pid (Close (record { 0 = p })))) (numeral-again GREATEST_PORT p.0 (omega arith) fits)
-step-again pid Exit small fits = ap (λ r. r >>= λ pid. Ok (by pid Exit)) (numeral-again GREATEST_PID pid (omega arith) small)
+step-again ed pid Exit small fits of_edition = ap (λ r. r >>= λ pid. Ok (by pid Exit)) (numeral-again GREATEST_PID pid (omega arith) small)
+step-again ed pid (Cancel q) small fits of_edition =
+    ap (λ b. cond (b && true) (read_cancel (decimal pid) (decimal q.0 ∷ [])) (Err BadStep)) of_edition
+    ∙ ap (λ r. r >>= λ pid. numeral GREATEST_PID (decimal q.0) >>= λ q. Ok (by pid (Cancel (record { 0 = q }))))
+    (numeral-again GREATEST_PID pid (omega arith) small)
+    ∙ ap (λ r. r >>= λ q. Ok (by pid (Cancel (record { 0 = q })))) (numeral-again GREATEST_PID q.0 (omega arith) fits)
 
 -- what an entry spells is read as that entry
-pub fields-again : (e : Entry) → Fits e → read_fields (fields_of e) ≡ Ok e
-fields-again e fits = step-again e.pid.0 e.step fits.pid fits.step
+pub fields-again : (ed : Edition) (e : Entry) → Fits ed e → read_fields ed (fields_of e) ≡ Ok e
+fields-again ed e fits = step-again ed e.pid.0 e.step fits.pid fits.step fits.of_edition

@@ -8,8 +8,9 @@ use Rattle.hub_base.specs.declared.case.Case.{Case}
 use Rattle.hub_base.specs.declared.case.Case.TheVariants.{Send, Recv}
 use Rattle.hub_base.specs.declared.entry.Entry.{Entry}
 use Rattle.hub_base.specs.declared.entry.Step.{Step}
+use Rattle.hub_base.specs.declared.head.Edition.{Edition}
 use Rattle.hub_base.specs.declared.limits.TheConstants.{GREATEST_PID, GREATEST_PORT, GREATEST_CAP, GREATEST_VALUE, GREATEST_WORD}
-use Rattle.hub_base.specs.declared.entry.Step.TheVariants.{Make, Call, Close, Exit}
+use Rattle.hub_base.specs.declared.entry.Step.TheVariants.{Make, Call, Close, Exit, Cancel}
 use Rattle.hub_base.specs.Lines.{step_fields, call_fields, select_fields, default_field, case_field, read_fields, pieces, line}
 use Rattle.hub_base.specs.Reading.{rows, front}
 use Rattle.hub_base.specs.Text.{Fits, CaseFits, CallFits, StepFits, fields_of, body, row_of}
@@ -88,15 +89,17 @@ step-lacks m (Make cap) low fits = named m (codes "make") (decimal cap ∷ []) l
 step-lacks m (Call cases d w) low fits = call-lacks m cases.items d w low fits
 step-lacks m (Close p) low fits = named m (codes "close") (decimal p.0 ∷ []) low refl (one-lacks m GREATEST_PORT p.0 low (omega arith) fits)
 step-lacks m Exit low fits = named m (codes "exit") [] low refl refl
+step-lacks m (Cancel q) low fits = named m (codes "cancel") (decimal q.0 ∷ []) low refl (one-lacks m GREATEST_PID q.0 low (omega arith) fits)
 
 -- no field of an entry holds such a mark
-pub fields-lack : (m : ℕ) (e : Entry) → m < 48 → Fits e → all_lack m (fields_of e) ≡ true
-fields-lack m e low fits = both (lacks m (decimal e.pid.0)) (all_lack m (step_fields e.step))
+pub fields-lack : (ed : Edition) (m : ℕ) (e : Entry) → m < 48 → Fits ed e → all_lack m (fields_of e) ≡ true
+fields-lack ed m e low fits = both (lacks m (decimal e.pid.0)) (all_lack m (step_fields e.step))
     (decimal-lacks m e.pid.0 low (small e.pid.0 GREATEST_PID fits.pid (omega arith))) (step-lacks m e.step low fits.step)
 
 -- a line without its newline is read as its entry
-pub body-again : (e : Entry) → Fits e → read_fields (pieces 32 (body e)) ≡ Ok e
-body-again e fits = ap read_fields (pieces-joined 32 (decimal e.pid.0) (step_fields e.step) (fields-lack 32 e (omega arith) fits)) ∙ fields-again e fits
+pub body-again : (ed : Edition) (e : Entry) → Fits ed e → read_fields ed (pieces 32 (body e)) ≡ Ok e
+body-again ed e fits = ap (read_fields ed) (pieces-joined 32 (decimal e.pid.0) (step_fields e.step) (fields-lack ed 32 e (omega arith) fits))
+    ∙ fields-again ed e fits
 
 not-true : (b : Bool) → not b ≡ true → b ≡ false
 not-true true h = cc
@@ -110,14 +113,15 @@ rows-line (c ∷ cs) rest h =
     rw (not-true (c == 10) s.0) (ap (front c) (rows-line cs rest s.1))
 
 -- the line of an entry is one line
-pub rows-entry : (e : Entry) (rest : List ℕ) → Fits e → rows (line e ++ rest) ≡ row_of e ∷ rows rest
-rows-entry e rest fits =
+pub rows-entry : (ed : Edition) (e : Entry) (rest : List ℕ) → Fits ed e → rows (line e ++ rest) ≡ row_of e ∷ rows rest
+rows-entry ed e rest fits =
     ap rows (append_assoc (body e) (codes "\n") rest)
-    ∙ rows-line (body e) rest (lacks-joined 10 (decimal e.pid.0) (step_fields e.step) refl (fields-lack 10 e (omega arith) fits))
+    ∙ rows-line (body e) rest (lacks-joined 10 (decimal e.pid.0) (step_fields e.step) refl (fields-lack ed 10 e (omega arith) fits))
 
 -- and the lines of entries are as many
-pub rows-entries : (es : List Entry) (rest : List ℕ) → AllByRecursion Fits es → rows (flat_map line es ++ rest) ≡ map row_of es ++ rows rest
-rows-entries [] rest fits = refl
-rows-entries (e ∷ es) rest fits =
-    ap rows (append_assoc (line e) (flat_map line es) rest) ∙ rows-entry e (flat_map line es ++ rest) fits.0
-    ∙ ap (λ rs. row_of e ∷ rs) (rows-entries es rest fits.1)
+pub rows-entries : (ed : Edition) (es : List Entry) (rest : List ℕ) → AllByRecursion (Fits ed) es
+    → rows (flat_map line es ++ rest) ≡ map row_of es ++ rows rest
+rows-entries ed [] rest fits = refl
+rows-entries ed (e ∷ es) rest fits =
+    ap rows (append_assoc (line e) (flat_map line es) rest) ∙ rows-entry ed e (flat_map line es ++ rest) fits.0
+    ∙ ap (λ rs. row_of e ∷ rs) (rows-entries ed es rest fits.1)

@@ -38,6 +38,7 @@ what_fields what.Done = codes "done" ∷ []
 what_fields what.Parked = codes "parked" ∷ []
 what_fields what.Stalled = codes "stalled" ∷ []
 what_fields (what.Fault f) = codes "fault" ∷ decimal (fault_number f) ∷ []
+what_fields what.Cancelled = codes "cancelled" ∷ []
 
 -- the line without its newline
 abbrev event_body : Event → List ℕ
@@ -57,6 +58,7 @@ what-joined front what.Done = refl
 what-joined front what.Parked = refl
 what-joined front what.Stalled = refl
 what-joined front (what.Fault f) = refl
+what-joined front what.Cancelled = refl
 
 line-body : (e : Event) → event_line e ≡ event_body e ++ codes "\n"
 line-body e = ap (λ xs. xs ++ codes "\n") (sym (what-joined (decimal e.pid.0) e.what))
@@ -83,6 +85,7 @@ fault-small fault.NilClose = omega arith
 fault-small fault.AlreadyClosed = omega arith
 fault-small fault.JournalFull = omega arith
 fault-small fault.NoMemory = omega arith
+fault-small fault.NotParked = omega arith
 
 small : (n most : ℕ) → n ≤ most → most < 2 ^ 64 → n < 2 ^ 64
 small n most h k = omega arith
@@ -112,6 +115,7 @@ what-lacks m what.Stalled low fits = word-lacks m (codes "stalled") (lacks-high 
 what-lacks m (what.Fault f) low fits =
     both (lacks m (codes "fault")) (all_lack m (decimal (fault_number f) ∷ [])) (lacks-high m (codes "fault") low refl)
     (one-lacks m (fault_number f) low (small (fault_number f) 255 (fault-small f) (omega arith)))
+what-lacks m what.Cancelled low fits = word-lacks m (codes "cancelled") (lacks-high m (codes "cancelled") low refl)
 
 fields-lack : (m : ℕ) (e : Event) → m < 48 → EventFits e → all_lack m (decimal e.pid.0 ∷ what_fields e.what) ≡ true
 fields-lack m e low fits =
@@ -125,7 +129,7 @@ read_fault n =
     if n == 1 then fault.NoProcess else if n == 2 then fault.Gone else if n == 3 then fault.Busy
     else if n == 4 then fault.TooManyCases else if n == 5 then fault.NoPort else if n == 6 then fault.BadCap
     else if n == 7 then fault.TooManyPorts else if n == 8 then fault.NilClose else if n == 9 then fault.AlreadyClosed
-    else if n == 10 then fault.JournalFull else fault.NoMemory
+    else if n == 10 then fault.JournalFull else if n == 11 then fault.NoMemory else fault.NotParked
 
 fault-again : (f : Fault) → read_fault (fault_number f) ≡ f
 fault-again fault.NoProcess = refl
@@ -139,6 +143,7 @@ fault-again fault.NilClose = refl
 fault-again fault.AlreadyClosed = refl
 fault-again fault.JournalFull = refl
 fault-again fault.NoMemory = refl
+fault-again fault.NotParked = refl
 
 abbrev read_outcome : List (List ℕ) → Option Outcome
 read_outcome [] = None
@@ -160,7 +165,8 @@ abbrev read_what : List (List ℕ) → Option What
 read_what [] = None
 read_what (word ∷ []) =
     if same_text word (codes "default") then Some what.Default else if same_text word (codes "done") then Some what.Done
-    else if same_text word (codes "parked") then Some what.Parked else Some what.Stalled
+    else if same_text word (codes "parked") then Some what.Parked else if same_text word (codes "stalled") then Some what.Stalled
+    else Some what.Cancelled
 read_what (word ∷ n ∷ []) =
     if same_text word (codes "made") then option_map (λ p. what.Made (record { 0 = p })) (number GREATEST_PORT n)
     else option_map (λ n. what.Fault (read_fault n)) (number 255 n)
@@ -184,6 +190,7 @@ what-again what.Stalled fits = refl
 what-again (what.Fault f) fits =
     ap (option_map (λ n. what.Fault (read_fault n))) (number-again 255 (fault_number f) (omega arith) (fault-small f))
     ∙ ap (λ f. Some (what.Fault f)) (fault-again f)
+what-again what.Cancelled fits = refl
 
 abbrev read_told : Option ℕ → Option What → Option Event
 read_told None w = None

@@ -5,13 +5,16 @@ use Rattle.std.proofs.lemmas.Grind.{common_steps}
 use Rattle.std.specs.Prelude.{decimal, nat_lt}
 use Rattle.std.specs.List.{join_with_byte, AllByRecursion, flat_map}
 use Rattle.hub_base.specs.declared.entry.Entry.{Entry}
+use Rattle.hub_base.specs.declared.head.Edition.{Edition}
+use Rattle.hub_base.specs.declared.head.Edition.TheVariants.{One, Two}
 use Rattle.hub_base.specs.declared.head.Head.{Head}
 use Rattle.hub_base.specs.declared.limits.TheConstants.{MOST_PROCS, MOST_STEPS, MOST_BYTES}
-use Rattle.hub_base.specs.declared.text.faults.Kind.TheVariants.{BadHeader, TooLong}
+use Rattle.hub_base.specs.declared.text.faults.Kind.TheVariants.{TooLong}
 use Rattle.hub_base.specs.Head.{IsHead, head_of}
 use Rattle.hub_base.specs.Lines.{number, pieces, line, same_text}
-use Rattle.hub_base.specs.Reading.{Row, rows, front, Reading, Reads, Faulty, text, head_lines, procs_line, entries_from, row_fault}
+use Rattle.hub_base.specs.Reading.{Row, rows, front, Reads, text, header, head_lines, procs_line, entries_from, row_fault}
 use Rattle.hub_base.specs.Reading.{faulty_or, end_of, procs_field, above_zero, procs_number, procs_say, procs_from, reading, read_text}
+use Rattle.hub_base.specs.Reading.{edition_of, edition_says}
 use Rattle.hub_base.specs.Text.{Fits, IsText, row_of, steps_of, header_row, procs_row}
 use Rattle.hub_base.proofs.Bodies.{rows-line, rows-entries}
 use Rattle.hub_base.proofs.Bound.{number-ok}
@@ -69,36 +72,70 @@ procs-take bytes n h =
       few = x.1;
     }
 
+header-length : (e : Edition) → length (header e) ≡ 17
+header-length One = refl
+header-length Two = refl
+
 head-length : (h : Head) → length (head_lines h) ≡ 18 + length (procs_line h.procs) + 1
 head-length h =
-    let a : length (head_lines h) ≡ 18 + length (procs_line h.procs ++ codes "\n") =
-    length-append (codes "chanhub journal 1\n") (procs_line h.procs ++ codes "\n") in
+    let a = length-append (header h.edition) (codes "\n" ++ (procs_line h.procs ++ codes "\n")) in
     let b : length (procs_line h.procs ++ codes "\n") ≡ length (procs_line h.procs) + 1 = length-append (procs_line h.procs) (codes "\n") in
-    omega (arith, a, b)
+    omega (arith, a, b, header-length h.edition)
 
-first-place : end_of 0 header_row ≡ 18
-first-place = refl
+-- ---- the first line
+-- where it ends
+pub first-place : (e : Edition) → end_of 0 (header_row e) ≡ 18
+first-place One = refl
+first-place Two = refl
+
+-- it is read as it is spelled
+pub header-again : (e : Edition) (rs : List Row) → reading (header_row e ∷ rs) ≡ procs_from e 18 rs
+header-again One rs = refl
+header-again Two rs = refl
+
+header-row : (e : Edition) (x : List ℕ) → rows (header e ++ (codes "\n" ++ x)) ≡ header_row e ∷ rows x
+header-row One x = refl
+header-row Two x = refl
+
+header-joined : (e : Edition) (x y : List ℕ) → (header e ++ codes "\n") ++ (x ++ y) ≡ (header e ++ (codes "\n" ++ x)) ++ y
+header-joined One x y = refl
+header-joined Two x y = refl
+
+-- what says this edition is its spelling
+pub edition-take : (bytes : List ℕ) (e : Edition) → edition_of bytes ≡ Some e → bytes ≡ header e
+edition-take bytes e h = go (same_text bytes (header One)) (same_text bytes (header Two)) refl refl h where
+  go : (a b : Bool) → same_text bytes (header One) ≡ a → same_text bytes (header Two) ≡ b → cond a (Some One) (cond b (Some Two) None) ≡ Some e
+      → bytes ≡ header e
+  go true b p q h = let is : One ≡ e = cc in same-true bytes (header One) p ∙ ap header is
+  go false true p q h = let is : Two ≡ e = cc in same-true bytes (header Two) q ∙ ap header is
+  go false false p q h = cc
 
 -- ---- a text is read
 pub heads-again : (h : Head) (rs : List Row) → IsHead h → length (head_lines h) ≤ MOST_BYTES
-    → reading (header_row ∷ procs_row h.procs ∷ rs) ≡ entries_from h 3 (length (head_lines h)) 0 rs
+    → reading (header_row h.edition ∷ procs_row h.procs ∷ rs) ≡ entries_from h 3 (length (head_lines h)) 0 rs
 heads-again h rs is lim =
     let n : ℕ = h.procs in
+    let e : Edition = h.edition in
     let place : end_of 18 (procs_row n) ≡ length (head_lines h) = sym (head-length h) in
     let fits : nat_lt MOST_BYTES (end_of 18 (procs_row n)) ≡ false = (let l = head-length h in grind (arith, common_steps)) in
-    ap (λ b. faulty_or 2 (procs_say (procs_number (procs_line n)) (end_of 18 (procs_row n)) rs) (cond b (Some TooLong) None)) fits
-    ∙ ap (λ o. procs_say o (end_of 18 (procs_row n)) rs) (procs-again n is.0 is.1)
+    header-again e (procs_row n ∷ rs)
+    ∙ ap (λ b. faulty_or 2 (procs_say e (procs_number (procs_line n)) (end_of 18 (procs_row n)) rs) (cond b (Some TooLong) None)) fits
+    ∙ ap (λ o. procs_say e o (end_of 18 (procs_row n)) rs) (procs-again n is.0 is.1)
     ∙ ap (λ p. entries_from h 3 p 0 rs) place
 
 procs-lacks : (n : ℕ) → n ≤ MOST_PROCS → lacks 10 (procs_line n) ≡ true
 procs-lacks n few = lacks-append 10 (codes "procs ") (decimal n) refl (decimal-lacks 10 n (omega arith) (small n few))
 
-text-rows : (h : Head) (es : List Entry) → IsHead h → AllByRecursion Fits es → rows (text h es) ≡ header_row ∷ procs_row h.procs ∷ map row_of es
+text-rows : (h : Head) (es : List Entry) → IsHead h → AllByRecursion (Fits h.edition) es
+    → rows (text h es) ≡ header_row h.edition ∷ procs_row h.procs ∷ map row_of es
 text-rows h es is fits =
     let n : ℕ = h.procs in
-    ap (λ x. rows (codes "chanhub journal 1\n" ++ x)) (append_assoc (procs_line n) (codes "\n") (flat_map line es))
-    ∙ ap (λ rs. header_row ∷ rs) (rows-line (procs_line n) (flat_map line es) (procs-lacks n is.1)
-    ∙ ap (λ rs. procs_row n ∷ rs) (ap rows (sym (append-nil (flat_map line es))) ∙ rows-entries es [] fits ∙ append-nil (map row_of es)))
+    let second : List ℕ = procs_line n ++ codes "\n" in
+    ap rows (append_assoc (header h.edition) (codes "\n" ++ second) (flat_map line es))
+    ∙ header-row h.edition (second ++ flat_map line es)
+    ∙ ap (λ rs. header_row h.edition ∷ rs) (ap rows (append_assoc (procs_line n) (codes "\n") (flat_map line es))
+    ∙ rows-line (procs_line n) (flat_map line es) (procs-lacks n is.1)
+    ∙ ap (λ rs. procs_row n ∷ rs) (ap rows (sym (append-nil (flat_map line es))) ∙ rows-entries h.edition es [] fits ∙ append-nil (map row_of es)))
 
 text-length : (h : Head) (es : List Entry) → length (text h es) ≡ length (head_lines h) + length (flat_map line es)
 text-length h es = length-append (head_lines h) (flat_map line es)
@@ -147,9 +184,9 @@ unrows-entries (e ∷ es) = ap (λ r. line e ++ r) (unrows-entries es)
 
 -- two head lines and the lines of entries, within the limits
 pub record HeadTook (rs : List Row) (h : Head) (es : List Entry) : Type 0 where
-  pub lines : rs ≡ header_row ∷ procs_row h.procs ∷ map row_of es
+  pub lines : rs ≡ header_row h.edition ∷ procs_row h.procs ∷ map row_of es
   pub head : IsHead h
-  pub fits : AllByRecursion Fits es
+  pub fits : AllByRecursion (Fits h.edition) es
   pub bytes_fit : length (head_lines h) + length (flat_map line es) ≤ MOST_BYTES
   pub steps_fit : steps_of es ≤ MOST_STEPS
 
@@ -157,31 +194,33 @@ pub record HeadTook (rs : List Row) (h : Head) (es : List Entry) : Type 0 where
 pub whole-row : (r : Row) (bytes : List ℕ) → r.bytes ≡ bytes → r.whole ≡ true → r ≡ record { bytes = bytes; whole = true }
 whole-row r bytes b w = ap (λ b. record { bytes = b; whole = r.whole }) b ∙ ap (λ w. record { bytes = bytes; whole = w }) w
 
-header-said : (b : Bool) (x : Reading) (h : Head) (es : List Entry) → cond b x (Faulty 1 BadHeader) ≡ Reads h es → (b ≡ true) × (x ≡ Reads h es)
-header-said true x h es is = (refl, is)
-header-said false x h es is = cc
+header-said : (o : Option Edition) (start : ℕ) (rs : List Row) (h : Head) (es : List Entry) → edition_says o start rs ≡ Reads h es
+    → (e : Edition) × (o ≡ Some e) × (procs_from e start rs ≡ Reads h es)
+header-said None start rs h es is = cc
+header-said (Some e) start rs h es is = (e, refl, is)
 
 -- a second line that was read, and what the lines behind it say
-pub record Second (start : ℕ) (rs : List Row) (h : Head) (es : List Entry) : Type 0 where
+pub record Second (e : Edition) (start : ℕ) (rs : List Row) (h : Head) (es : List Entry) : Type 0 where
   pub first : Row
   pub more : List Row
   pub lines : rs ≡ first ∷ more
   pub fine : row_fault (end_of start first) first ≡ None
   pub head : Head
+  pub edition_is : head.edition ≡ e
   pub procs_is : procs_number first.bytes ≡ Some head.procs
   pub said : entries_from head 3 (end_of start first) 0 more ≡ Reads h es
 
-procs-said : (o : Option ℕ) (start : ℕ) (rs : List Row) (h : Head) (es : List Entry) → procs_say o start rs ≡ Reads h es
-    → (k : Head) × (o ≡ Some k.procs) × (entries_from k 3 start 0 rs ≡ Reads h es)
-procs-said None start rs h es is = cc
-procs-said (Some m) start rs h es is = (head_of m, refl, is)
+procs-said : (e : Edition) (o : Option ℕ) (start : ℕ) (rs : List Row) (h : Head) (es : List Entry) → procs_say e o start rs ≡ Reads h es
+    → (k : Head) × (k.edition ≡ e) × (o ≡ Some k.procs) × (entries_from k 3 start 0 rs ≡ Reads h es)
+procs-said e None start rs h es is = cc
+procs-said e (Some m) start rs h es is = (head_of e m, refl, refl, is)
 
-second : (start : ℕ) (rs : List Row) (h : Head) (es : List Entry) → procs_from start rs ≡ Reads h es → Second start rs h es
-second start [] h es is = cc
-second start (r ∷ rs) h es is =
-    let a = said-reads 2 (procs_say (procs_number r.bytes) (end_of start r) rs) (row_fault (end_of start r) r) h es is in
-    let b = procs-said (procs_number r.bytes) (end_of start r) rs h es a.1 in
-    record { first = r; more = rs; lines = refl; fine = a.0; head = b.0; procs_is = b.1; said = b.2 }
+second : (e : Edition) (start : ℕ) (rs : List Row) (h : Head) (es : List Entry) → procs_from e start rs ≡ Reads h es → Second e start rs h es
+second e start [] h es is = cc
+second e start (r ∷ rs) h es is =
+    let a = said-reads 2 (procs_say e (procs_number r.bytes) (end_of start r) rs) (row_fault (end_of start r) r) h es is in
+    let b = procs-said e (procs_number r.bytes) (end_of start r) rs h es a.1 in
+    record { first = r; more = rs; lines = refl; fine = a.0; head = b.0; edition_is = b.1; procs_is = b.2; said = b.3 }
 
 -- where the second line ends
 pub second-place : (r : Row) (h : Head) → r ≡ procs_row h.procs → end_of 18 r ≡ length (head_lines h)
@@ -191,13 +230,13 @@ second-place r h is = ap (end_of 18) is ∙ sym (head-length h)
 pub head-take : (rs : List Row) (h : Head) (es : List Entry) → reading rs ≡ Reads h es → HeadTook rs h es
 head-take [] h es said = cc
 head-take (r ∷ rs) h es said =
-    let a = said-reads 1 (cond (same_text r.bytes (codes "chanhub journal 1")) (procs_from (end_of 0 r) rs) (Faulty 1 BadHeader))
-    (row_fault (end_of 0 r) r) h es said in
-    let b = header-said (same_text r.bytes (codes "chanhub journal 1")) (procs_from (end_of 0 r) rs) h es a.1 in
+    let a = said-reads 1 (edition_says (edition_of r.bytes) (end_of 0 r) rs) (row_fault (end_of 0 r) r) h es said in
+    let b = header-said (edition_of r.bytes) (end_of 0 r) rs h es a.1 in
+    let e : Edition = b.0 in
     let w = row-none (end_of 0 r) r a.0 in
-    let is : r ≡ header_row = whole-row r (codes "chanhub journal 1") (same-true r.bytes (codes "chanhub journal 1") b.0) w.whole in
-    let place : end_of 0 r ≡ 18 = ap (end_of 0) is in
-    let s = second 18 rs h es (ap (λ p. procs_from p rs) (sym place) ∙ b.1) in
+    let is : r ≡ header_row e = whole-row r (header e) (edition-take r.bytes e b.1) w.whole in
+    let place : end_of 0 r ≡ 18 = ap (end_of 0) is ∙ first-place e in
+    let s = second e 18 rs h es (ap (λ p. procs_from e p rs) (sym place) ∙ b.2) in
     let v = row-none (end_of 18 s.first) s.first s.fine in
     let p = procs-take s.first.bytes s.head.procs s.procs_is in
     let row : s.first ≡ procs_row s.head.procs = whole-row s.first (procs_line s.head.procs) p.spelled v.whole in
@@ -205,7 +244,8 @@ head-take (r ∷ rs) h es said =
     let t = entries-take s.head h s.more es 3 (end_of 18 s.first) 0 v.fits (omega arith) s.said in
     let P : Head → Type 0 = λ h. HeadTook (r ∷ rs) h es in
     subst P t.head_is (record {
-      lines = ap (λ r. r ∷ rs) is ∙ ap (λ rs. header_row ∷ rs) (s.lines ∙ ap (λ r. r ∷ s.more) row ∙ ap (λ rs. procs_row s.head.procs ∷ rs) t.lines);
+      lines = ap (λ r. r ∷ rs) is ∙ ap (λ e. header_row e ∷ rs) (sym s.edition_is)
+          ∙ ap (λ rs. header_row s.head.edition ∷ rs) (s.lines ∙ ap (λ r. r ∷ s.more) row ∙ ap (λ rs. procs_row s.head.procs ∷ rs) t.lines);
       head = (p.some, p.few);
       fits = t.fits;
       bytes_fit = (let f = t.bytes_fit in omega (arith, end, f));
@@ -217,6 +257,7 @@ pub text-take : (bytes : List ℕ) (h : Head) (es : List Entry) → read_text by
 text-take bytes h es said =
     let t = head-take (rows bytes) h es said in
     let spelled : bytes ≡ text h es = sym (unrows bytes) ∙ ap (flat_map row_bytes) t.lines
-    ∙ ap (λ x. codes "chanhub journal 1\n" ++ ((procs_line h.procs ++ codes "\n") ++ x)) (unrows-entries es) in
+    ∙ ap (λ x. (header h.edition ++ codes "\n") ++ ((procs_line h.procs ++ codes "\n") ++ x)) (unrows-entries es)
+    ∙ header-joined h.edition (procs_line h.procs ++ codes "\n") (flat_map line es) in
     let l : length bytes ≡ length (head_lines h) + length (flat_map line es) = ap length spelled ∙ text-length h es in
     record { spelled = spelled; head = t.head; fits = t.fits; bytes_fit = (let f = t.bytes_fit in omega (arith, l, f)); steps_fit = t.steps_fit }

@@ -1,11 +1,10 @@
 -- What a reader does with the next line, where it is whole and within the limit of bytes.
 use Rattle.std.proofs.Common.{◌≡◌, ℕ, ◌+◌, ◌<◌, ◌≤◌, Bool, true, false, cond, List, ◌∷◌, length, ap, ◌∙◌, sym, subst, arith}
-use Rattle.std.proofs.Common.{None, Some, Result, Ok, Err, not, ◌&&◌}
+use Rattle.std.proofs.Common.{None, Some, Result, Ok, not, ◌&&◌}
 use Rattle.std.proofs.lemmas.Grind.{common_steps}
 use Rattle.std.specs.Borrow.{Bor}
 use Rattle.std.specs.Prelude.{nat_lt, nat_le}
 use Rattle.hub_base.specs.declared.entry.Entry.{Entry}
-use Rattle.hub_base.specs.declared.head.Head.{Head}
 use Rattle.hub_base.specs.declared.limits.TheConstants.{MOST_STEPS, MOST_BYTES}
 use Rattle.hub_base.specs.declared.text.faults.Kind.{Kind}
 use Rattle.hub_base.specs.declared.text.faults.Kind.TheVariants.{TooLong}
@@ -22,13 +21,13 @@ row-fine end b h = ap (λ t. cond t (Some TooLong) None) (within-limit end h)
 
 -- what the fields of the line say decides
 pub line-says : (r : Inside) (text : List ℕ) (rs : List Row) (said : Result Entry Kind) → rows r.rest.now ≡ record { bytes = text; whole = true } ∷ rs
-    → r.place + length text + 1 ≤ MOST_BYTES → read_fields (pieces 32 text) ≡ said
+    → r.place + length text + 1 ≤ MOST_BYTES → read_fields r.head.edition (pieces 32 text) ≡ said
     → left_of r
     ≡ entry_says r.line r.steps said (λ e. entries_from r.head (r.line + 1) (r.place + length text + 1) (counted r.steps e) rs)
 line-says r text rs said cut fits read =
     let goes : Entry → Reading = λ e. entries_from r.head (r.line + 1) (r.place + length text + 1) (counted r.steps e) rs in
     ap (entries_from r.head r.line r.place r.steps) cut
-    ∙ ap (faulty_or r.line (entry_says r.line r.steps (read_fields (pieces 32 text)) goes)) (row-fine (r.place + length text + 1) text fits)
+    ∙ ap (faulty_or r.line (entry_says r.line r.steps (read_fields r.head.edition (pieces 32 text)) goes)) (row-fine (r.place + length text + 1) text fits)
     ∙ ap (λ said. entry_says r.line r.steps said goes) read
 
 over-limit : (exit : Bool) (steps : ℕ) → exit ≡ false → MOST_STEPS ≤ steps → (not exit && nat_le MOST_STEPS steps) ≡ true
@@ -79,7 +78,7 @@ pub record Next (r s : Inside) (e : Entry) (text : List ℕ) (rest : Bor (List �
 
 pub entry-next : (r s : Inside) (e : Entry) (text : List ℕ) (rest : Bor (List ℕ)) (steps : ℕ)
     → rows r.rest.now ≡ record { bytes = text; whole = true } ∷ rows rest.now → r.place + length text + 1 ≤ MOST_BYTES
-    → read_fields (pieces 32 text) ≡ Ok e → Counts r.steps steps e
+    → read_fields r.head.edition (pieces 32 text) ≡ Ok e → Counts r.steps steps e
     → s ≡ record { head = r.head; rest = r.rest; line = r.line; place = r.place; steps = steps } → Next r s e text rest
 entry-next r s e text rest steps cut fits read count is =
     let goes : Entry → Reading = λ e. entries_from r.head (r.line + 1) (r.place + length text + 1) (counted r.steps e) (rows rest.now) in

@@ -1,9 +1,12 @@
 -- What the calls that read a journal promise, and the laws of texts.
-use Rattle.std.proofs.Common.{◌≡◌, ℕ, List, ◌++◌, inl, inr, refl, ap, ◌∙◌, sym, subst, Result, Ok, Err}
+use Rattle.std.proofs.Common.{◌≡◌, ℕ, List, [], ◌∷◌, ◌++◌, inl, inr, refl, ap, ◌∙◌, sym, subst, Result, Ok, Err}
 use Rattle.std.specs.Prelude.{IfOk, IfErr}
+use Rattle.std.specs.List.{AllByRecursion}
 use Rattle.hub_base.specs.declared.entry.Entry.{Entry}
+use Rattle.hub_base.specs.declared.head.Edition.{Edition}
 use Rattle.hub_base.specs.declared.head.Head.{Head}
 use Rattle.hub_base.specs.declared.text.faults.Kind.{Kind}
+use Rattle.hub_base.specs.Head.{AreOf}
 use Rattle.hub_base.specs.Lines.{pieces, line, read_fields}
 use Rattle.hub_base.specs.Reading.{rows, Reading, Reads, Faulty, read_text}
 use Rattle.hub_base.specs.declared.text.faults.ReadFault.{ReadFault}
@@ -51,10 +54,10 @@ ok-one : (e f : Entry) → told e ≡ told f → e ≡ f
 ok-one e f h = cc
 
 -- no spelling begins another
-pub one-spelling : (e f : Entry) (x y : List ℕ) → Fits e → Fits f → line e ++ x ≡ line f ++ y → (e ≡ f) × (x ≡ y)
-one-spelling e f x y fe ff h =
-    let one = rows-one (λ bs. read_fields (pieces 32 bs)) (row_of e) (row_of f) x y (sym (rows-entry e x fe) ∙ ap rows h ∙ rows-entry f y ff) in
-    (ok-one e f (sym (body-again e fe) ∙ one.0 ∙ body-again f ff), one.1)
+pub one-spelling : (ed : Edition) (e f : Entry) (x y : List ℕ) → Fits ed e → Fits ed f → line e ++ x ≡ line f ++ y → (e ≡ f) × (x ≡ y)
+one-spelling ed e f x y fe ff h =
+    let one = rows-one (λ bs. read_fields ed (pieces 32 bs)) (row_of e) (row_of f) x y (sym (rows-entry ed e x fe) ∙ ap rows h ∙ rows-entry ed f y ff) in
+    (ok-one e f (sym (body-again ed e fe) ∙ one.0 ∙ body-again ed f ff), one.1)
 
 -- what answers the reading answers the text
 pub gives-text : (bytes : List ℕ) (r : Result JournalView ReadFault) → Gives r (read_text bytes) → (head : Head) (es : List Entry)
@@ -70,6 +73,15 @@ gives-fault bytes r g k kind f = let P : Reading → Type 0 = λ x. Gives r x in
 pub found-text : (bytes : List ℕ) (r : Result JournalView ReadFault) → Gives r (read_text bytes) → IfOk r (λ j. IsText bytes j.head j.entries)
 found-text bytes (Ok j) g = text-take bytes j.head j.entries g
 found-text bytes (Err f) g = tt
+
+are-of : (edition : Edition) (es : List Entry) → AllByRecursion (Fits edition) es → AreOf edition es
+are-of edition [] fits = refl
+are-of edition (e ∷ es) fits = rw (fits.0.of_edition) (are-of edition es fits.1)
+
+-- and its entries are those of its edition
+pub found-fits : (bytes : List ℕ) (r : Result JournalView ReadFault) → Gives r (read_text bytes) → IfOk r (λ j. AreOf j.head.edition j.entries)
+found-fits bytes (Ok j) g = are-of j.head.edition j.entries (text-take bytes j.head j.entries g).fits
+found-fits bytes (Err f) g = tt
 
 fault-of : (bytes : List ℕ) (f : ReadFault) → Gives (Err f) (read_text bytes) → IsFaultOf bytes f
 fault-of bytes (fault.Text f) g = fault-take bytes f.line f.kind g

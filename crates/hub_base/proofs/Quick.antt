@@ -21,6 +21,7 @@ use Rattle.hub_base.specs.declared.limits.TheConstants.{GREATEST_PID, MOST_BYTES
 use Rattle.hub_base.specs.declared.case.Case.{Case}
 use Rattle.hub_base.specs.declared.case.Case.TheVariants.{Send, Recv}
 use Rattle.hub_base.specs.declared.entry.Step.{Step}
+use Rattle.hub_base.specs.Head.{is_of}
 use Rattle.hub_base.specs.Writing.{spaced, spaced_cases}
 use Rattle.hub_base.specs.Lines.{line, step_fields, case_field, call_fields, select_fields, default_field, spelled}
 use Rattle.hub_base.specs.Quick.{EndsLine, Stands, CaseStands, CasesStand, SelectStands, StepStands, Begins}
@@ -148,6 +149,7 @@ select-stands bs start at step end word so =
         inside = so.stands.inside;
       };
       fits = subst StepFits (sym so.is) so.fits;
+      of_each = λ edition. ap (is_of edition) so.is;
       no_exit = ap is_exit so.is;
     }
 
@@ -164,7 +166,7 @@ begins-line bs e at end pid small step newline = record {
     drop-cons bs end 0 step.stands.inside,
   );
   inside = omega (arith, step.stands.inside);
-  fits = record { pid = small; step = step.fits };
+  fits = λ edition. record { pid = small; step = step.fits; of_edition = step.of_each edition };
   no_exit = step.no_exit;
 }
 
@@ -191,8 +193,8 @@ line-again head k start steps bs e end so lim few =
     let rest : take (length bs - end) (drop end bs) ≡ drop end bs = grind (arith, common_steps) in
     let all : length (flat_map line (e ∷ [])) ≡ length (line e) = ap length (append-nil (line e)) in
     let one : steps_of (e ∷ []) ≡ 1 = ap (λ b. cond b 0 1 + 0) so.no_exit in
-    ap (entries_from head k start steps) (ap rows so.spelled ∙ rows-entry e (drop end bs) so.fits)
-    ∙ entries-again head (e ∷ []) (rows (drop end bs)) k start steps (k + 1) (start + end) (steps + 1) (so.fits, tt) refl
+    ap (entries_from head k start steps) (ap rows so.spelled ∙ rows-entry head.edition e (drop end bs) (so.fits head.edition))
+    ∙ entries-again head (e ∷ []) (rows (drop end bs)) k start steps (k + 1) (start + end) (steps + 1) (so.fits head.edition, tt) refl
     (omega (arith, here, all)) (omega (arith, one)) lim (omega arith)
     ∙ with-one e (entries_from head (k + 1) (start + end) (steps + 1) (rows (drop end bs)))
     ∙ ap (λ r. with_entry e (entries_from head (k + 1) (start + end) (steps + 1) (rows r))) (sym rest)

@@ -5,6 +5,7 @@ use Rattle.std.proofs.lemmas.Grind.{common_steps}
 use Rattle.std.specs.Prelude.{nat_lt, nat_le}
 use Rattle.std.specs.List.{join_with_byte, AllByRecursion, flat_map}
 use Rattle.hub_base.specs.declared.entry.Entry.{Entry}
+use Rattle.hub_base.specs.declared.head.Edition.{Edition}
 use Rattle.hub_base.specs.declared.head.Head.{Head}
 use Rattle.hub_base.specs.declared.text.faults.Kind.{Kind}
 use Rattle.hub_base.specs.declared.limits.TheConstants.{MOST_STEPS, MOST_BYTES}
@@ -46,7 +47,7 @@ same-from head k k' start start' steps steps' rs a b c = ap (λ k. entries_from 
     ∙ ap (λ start. entries_from head k' start steps rs) b ∙ ap (λ steps. entries_from head k' start' steps rs) c
 
 -- lines of entries are read as these, and the lines behind them go on
-pub entries-again : (head : Head) (es : List Entry) (rest : List Row) (k start steps k' start' steps' : ℕ) → AllByRecursion Fits es →
+pub entries-again : (head : Head) (es : List Entry) (rest : List Row) (k start steps k' start' steps' : ℕ) → AllByRecursion (Fits head.edition) es →
     k' ≡ k + length es → start' ≡ start + length (flat_map line es) → steps' ≡ steps + steps_of es → start' ≤ MOST_BYTES → steps' ≤ MOST_STEPS →
     entries_from head k start steps (map row_of es ++ rest) ≡ behind es (entries_from head k' start' steps' rest)
 entries-again head [] rest k start steps k' start' steps' fits a b c lim most =
@@ -59,8 +60,8 @@ entries-again head (e ∷ es) rest k start steps k' start' steps' fits a b c lim
     let small : end ≤ MOST_BYTES = omega (arith, all, here) in
     let few : over steps e ≡ false = not-over (is_exit e.step) steps (omega arith) in
     let next : counted steps e ≡ steps + one_step e = count (is_exit e.step) steps in
-    ap (faulty_or k (entry_says k steps (read_fields (pieces 32 (body e))) goes)) (row-fine end (body e) small)
-    ∙ ap (λ r. entry_says k steps r goes) (body-again e fits.0)
+    ap (faulty_or k (entry_says k steps (read_fields head.edition (pieces 32 (body e))) goes)) (row-fine end (body e) small)
+    ∙ ap (λ r. entry_says k steps r goes) (body-again head.edition e fits.0)
     ∙ ap (λ t. cond t (Faulty k TooLong) (with_entry e (goes e))) few
     ∙ ap (λ s. with_entry e (entries_from head (k + 1) end s (map row_of es ++ rest))) next
     ∙ ap (with_entry e) (entries-again head es rest (k + 1) end (steps + one_step e) k' start' steps' fits.1 (omega arith)
@@ -71,7 +72,7 @@ entries-again head (e ∷ es) rest k start steps k' start' steps' fits a b c lim
 pub record Took (head : Head) (start steps : ℕ) (rs : List Row) (other : Head) (es : List Entry) : Type 0 where
   pub head_is : head ≡ other
   pub lines : rs ≡ map row_of es
-  pub fits : AllByRecursion Fits es
+  pub fits : AllByRecursion (Fits head.edition) es
   pub bytes_fit : start + length (flat_map line es) ≤ MOST_BYTES
   pub steps_fit : steps + steps_of es ≤ MOST_STEPS
 
@@ -150,10 +151,10 @@ entries-take head other [] es k start steps lim most h =
     subst P none (record { head_is = head_is; lines = refl; fits = tt; bytes_fit = omega arith; steps_fit = omega arith })
 entries-take head other (r ∷ rs) es k start steps lim most h =
     let goes : Entry → Reading = λ e. entries_from head (k + 1) (end_of start r) (counted steps e) rs in
-    let a = said-reads k (entry_says k steps (read_fields (pieces 32 r.bytes)) goes) (row_fault (end_of start r) r) other es h in
+    let a = said-reads k (entry_says k steps (read_fields head.edition (pieces 32 r.bytes)) goes) (row_fault (end_of start r) r) other es h in
     let w = row-none (end_of start r) r a.0 in
-    let g = went k steps (read_fields (pieces 32 r.bytes)) goes other es a.1 in
-    let spells = fields-take (pieces 32 r.bytes) g.e g.read in
+    let g = went k steps (read_fields head.edition (pieces 32 r.bytes)) goes other es a.1 in
+    let spells = fields-take head.edition (pieces 32 r.bytes) g.e g.read in
     let here : r ≡ row_of g.e = row-is r g.e w.whole spells.0 in
     let end : end_of start r ≡ start + length (line g.e) = end-is start r g.e here in
     let next : counted steps g.e ≡ steps + one_step g.e = count (is_exit g.e.step) steps in
@@ -201,19 +202,19 @@ at-first k steps None (Ok e) goes faulty kind h =
       | inr a ↦ inr (record { e = e; fine = refl; read = refl; few = a.0; later = with-faulty e (goes e) faulty kind a.1 })
     ]
 
-fault-at : (place place' steps steps' : ℕ) (r : Row) (kind : Kind) → place ≡ place' → steps ≡ steps' → entry_fault place steps r ≡ Some kind
-    → entry_fault place' steps' r ≡ Some kind
-fault-at place place' steps steps' r kind a b h = sym (ap (λ p. entry_fault p steps r) a ∙ ap (λ s. entry_fault place' s r) b) ∙ h
+fault-at : (ed : Edition) (place place' steps steps' : ℕ) (r : Row) (kind : Kind) → place ≡ place' → steps ≡ steps' → entry_fault ed place steps r ≡ Some kind
+    → entry_fault ed place' steps' r ≡ Some kind
+fault-at ed place place' steps steps' r kind a b h = sym (ap (λ p. entry_fault ed p steps r) a ∙ ap (λ s. entry_fault ed place' s r) b) ∙ h
 
 -- where reading stops at a fault there stand lines of entries, and then a faulty line
 pub entries-fail : (head : Head) (rs : List Row) (k start steps faulty : ℕ) (kind : Kind) → start ≤ MOST_BYTES → steps ≤ MOST_STEPS
-    → entries_from head k start steps rs ≡ Faulty faulty kind → EntryFails start steps k rs faulty kind
+    → entries_from head k start steps rs ≡ Faulty faulty kind → EntryFails head.edition start steps k rs faulty kind
 entries-fail head [] k start steps faulty kind lim most h = cc
 entries-fail head (r ∷ rs) k start steps faulty kind lim most h =
     let goes : Entry → Reading = λ e. entries_from head (k + 1) (end_of start r) (counted steps e) rs in
-    let res = read_fields (pieces 32 r.bytes) in
-    elim (at-first k steps (row_fault (end_of start r) r) (read_fields (pieces 32 r.bytes)) goes faulty kind h)
-    as (λ _. EntryFails start steps k (r ∷ rs) faulty kind) [
+    let res = read_fields head.edition (pieces 32 r.bytes) in
+    elim (at-first k steps (row_fault (end_of start r) r) (read_fields head.edition (pieces 32 r.bytes)) goes faulty kind h)
+    as (λ _. EntryFails head.edition start steps k (r ∷ rs) faulty kind) [
       | inl a ↦ (let is = a.1 in record {
         es = [];
         bad = r;
@@ -223,11 +224,11 @@ entries-fail head (r ∷ rs) k start steps faulty kind lim most h =
         fits = tt;
         bytes_fit = omega arith;
         steps_fit = omega arith;
-        fault = fault-at start (start + length {A = ℕ} []) steps (steps + 0) r kind (omega arith) (omega arith) a.0;
+        fault = fault-at head.edition start (start + length {A = ℕ} []) steps (steps + 0) r kind (omega arith) (omega arith) a.0;
       })
       | inr g ↦ (
           let w = row-none (end_of start r) r g.fine in
-          let spells = fields-take (pieces 32 r.bytes) g.e g.read in
+          let spells = fields-take head.edition (pieces 32 r.bytes) g.e g.read in
           let here : r ≡ row_of g.e = row-is r g.e w.whole spells.0 in
           let end : end_of start r ≡ start + length (line g.e) = end-is start r g.e here in
           let next : counted steps g.e ≡ steps + one_step g.e = count (is_exit g.e.step) steps in
@@ -243,7 +244,7 @@ entries-fail head (r ∷ rs) k start steps faulty kind lim most h =
             fits = (spells.1, t.fits);
             bytes_fit = (let f = t.bytes_fit in omega (arith, all, end, f));
             steps_fit = (let f = t.steps_fit in omega (arith, next, f));
-            fault = fault-at _ _ _ _ t.bad kind (omega (arith, all, end)) (omega (arith, next)) t.fault;
+            fault = fault-at head.edition _ _ _ _ t.bad kind (omega (arith, all, end)) (omega (arith, next)) t.fault;
           })
     ]
 
@@ -258,7 +259,7 @@ faulty-again k steps None (Err other) goes kind h = let same : other ≡ kind = 
 faulty-again k steps None (Ok e) goes kind h = over-faulty (over steps e) k kind (with_entry e (goes e)) h
 
 -- and where such lines stand, reading stops there
-pub entries-fail-again : (head : Head) (rs : List Row) (k start steps faulty : ℕ) (kind : Kind) → EntryFails start steps k rs faulty kind
+pub entries-fail-again : (head : Head) (rs : List Row) (k start steps faulty : ℕ) (kind : Kind) → EntryFails head.edition start steps k rs faulty kind
     → entries_from head k start steps rs ≡ Faulty faulty kind
 entries-fail-again head rs k start steps faulty kind f =
     let place = start + length (flat_map line f.es) in
@@ -266,7 +267,7 @@ entries-fail-again head rs k start steps faulty kind f =
     let goes : Entry → Reading = λ e. entries_from head (faulty + 1) (end_of place f.bad) (counted done e) f.more in
     ap (entries_from head k start steps) f.lines
     ∙ entries-again head f.es (f.bad ∷ f.more) k start steps faulty place done f.fits f.count refl refl f.bytes_fit f.steps_fit
-    ∙ ap (behind f.es) (faulty-again faulty done (row_fault (end_of place f.bad) f.bad) (read_fields (pieces 32 f.bad.bytes)) goes kind f.fault)
+    ∙ ap (behind f.es) (faulty-again faulty done (row_fault (end_of place f.bad) f.bad) (read_fields head.edition (pieces 32 f.bad.bytes)) goes kind f.fault)
 
 -- ---- the first entry
 -- a fault stands in the first of the lines that are read or behind it

@@ -1,5 +1,5 @@
 -- What fields say is what they spell.
-use Rattle.std.proofs.Common.{◌≡◌, ℕ, zero, suc, ◌≤◌, Bool, true, false, cond, List, [], ◌∷◌, ◌++◌, length}
+use Rattle.std.proofs.Common.{◌≡◌, ℕ, zero, suc, ◌≤◌, Bool, true, false, cond, List, [], ◌∷◌, ◌++◌, ◌&&◌, length}
 use Rattle.std.proofs.Common.{map, refl, ap, ◌∙◌, sym, subst, Result, Ok, Err, arith, codes, ◌==◌}
 use Rattle.std.proofs.lemmas.Grind.{common_steps}
 use Rattle.std.specs.Prelude.{decimal, nat_lt}
@@ -8,12 +8,14 @@ use Rattle.hub_base.specs.declared.case.Case.{Case}
 use Rattle.hub_base.specs.declared.case.Case.TheVariants.{Send, Recv}
 use Rattle.hub_base.specs.declared.entry.Entry.{Entry}
 use Rattle.hub_base.specs.declared.entry.Step.{Step}
-use Rattle.hub_base.specs.declared.entry.Step.TheVariants.{Make, Close, Exit}
+use Rattle.hub_base.specs.declared.entry.Step.TheVariants.{Make, Close, Exit, Cancel}
+use Rattle.hub_base.specs.declared.head.Edition.{Edition}
 use Rattle.hub_base.specs.declared.text.faults.Kind.{Kind}
+use Rattle.hub_base.specs.Head.{has_cancel, is_of}
 use Rattle.hub_base.specs.declared.limits.TheConstants.{CASE_PLACES, GREATEST_PID, GREATEST_PORT, GREATEST_CAP, GREATEST_VALUE, GREATEST_WORD}
 use Rattle.hub_base.specs.declared.text.faults.Kind.TheVariants.{BadStep}
 use Rattle.hub_base.specs.Lines.Draft.{Sends, Receives}
-use Rattle.hub_base.specs.Lines.{numeral, ◌>>=◌, Draft, read_close, read_make, read_exit, read_send, read_recv, read_choice, read_select}
+use Rattle.hub_base.specs.Lines.{numeral, ◌>>=◌, Draft, read_close, read_make, read_cancel, read_exit, read_send, read_recv, read_choice, read_select}
 use Rattle.hub_base.specs.Lines.{read_step, read_fields, choose, step_fields, call_fields, select_fields, default_field, case_field, case_of}
 use Rattle.hub_base.specs.Lines.{cases_of, draft_of, drafts_of, send_draft, recv_draft, spelled, ends_default, same_text, by, call, pieces}
 use Rattle.hub_base.specs.Text.{CaseFits, StepFits, Spells}
@@ -21,40 +23,53 @@ use Rattle.hub_base.proofs.Bound.{bind_ok, numeral-ok}
 use Rattle.hub_base.proofs.Pieces.{pieces-some}
 use Rattle.hub_base.proofs.Numerals.{same-true, joined-pieces}
 
-one-field : (word : List ℕ) (pid p : List ℕ) (m n : ℕ) (step : Step) (e : Entry) → (step_fields step ≡ word ∷ decimal n ∷ []) → StepFits step →
-    (pid ≡ decimal m) × (m ≤ GREATEST_PID) → p ≡ decimal n → by m step ≡ e → Spells (pid ∷ word ∷ p ∷ []) e
-one-field word pid p m n step e fields fits a b is =
-    subst (Spells (pid ∷ word ∷ p ∷ [])) is
-    (ap (λ f. f ∷ word ∷ p ∷ []) a.0 ∙ ap (λ f. decimal m ∷ word ∷ f ∷ []) b ∙ ap (λ fs. decimal m ∷ fs) (sym fields), record { pid = a.1; step = fits })
+one-field : (ed : Edition) (word : List ℕ) (pid p : List ℕ) (m n : ℕ) (step : Step) (e : Entry) → (step_fields step ≡ word ∷ decimal n ∷ []) → StepFits step →
+    is_of ed step ≡ true → (pid ≡ decimal m) × (m ≤ GREATEST_PID) → p ≡ decimal n → by m step ≡ e → Spells ed (pid ∷ word ∷ p ∷ []) e
+one-field ed word pid p m n step e fields fits of_edition a b is =
+    subst (Spells ed (pid ∷ word ∷ p ∷ [])) is (
+      ap (λ f. f ∷ word ∷ p ∷ []) a.0 ∙ ap (λ f. decimal m ∷ word ∷ f ∷ []) b ∙ ap (λ fs. decimal m ∷ fs) (sym fields),
+      record { pid = a.1; step = fits; of_edition = of_edition },
+    )
 
 -- a make that was read was so spelled
-pub make-takes : (pid : List ℕ) (fs : List (List ℕ)) (e : Entry) → read_make pid fs ≡ Ok e → Spells (pid ∷ codes "make" ∷ fs) e
-make-takes pid [] e h = cc
-make-takes pid (p ∷ []) e h =
+pub make-takes : (ed : Edition) (pid : List ℕ) (fs : List (List ℕ)) (e : Entry) → read_make pid fs ≡ Ok e → Spells ed (pid ∷ codes "make" ∷ fs) e
+make-takes ed pid [] e h = cc
+make-takes ed pid (p ∷ []) e h =
     let a = bind_ok (numeral GREATEST_PID pid) (λ pid. numeral GREATEST_CAP p >>= λ p. Ok (by pid (Make p))) e h in
     let b = bind_ok (numeral GREATEST_CAP p) (λ p. Ok (by a.0 (Make p))) e a.2 in
     let y = numeral-ok GREATEST_CAP p b.0 (omega arith) b.1 in
-    one-field (codes "make") pid p a.0 b.0 (Make b.0) e refl y.1 (numeral-ok GREATEST_PID pid a.0 (omega arith) a.1) y.0 (cc)
-make-takes pid (p ∷ q ∷ fs) e h = cc
+    one-field ed (codes "make") pid p a.0 b.0 (Make b.0) e refl y.1 refl (numeral-ok GREATEST_PID pid a.0 (omega arith) a.1) y.0 (cc)
+make-takes ed pid (p ∷ q ∷ fs) e h = cc
 
 -- a close
-pub close-spells : (pid : List ℕ) (fs : List (List ℕ)) (e : Entry) → read_close pid fs ≡ Ok e → Spells (pid ∷ codes "close" ∷ fs) e
-close-spells pid [] e h = cc
-close-spells pid (p ∷ []) e h =
+pub close-spells : (ed : Edition) (pid : List ℕ) (fs : List (List ℕ)) (e : Entry) → read_close pid fs ≡ Ok e → Spells ed (pid ∷ codes "close" ∷ fs) e
+close-spells ed pid [] e h = cc
+close-spells ed pid (p ∷ []) e h =
     let a = bind_ok (numeral GREATEST_PID pid) (λ pid. numeral GREATEST_PORT p >>= λ p. Ok (by pid (Close (record { 0 = p })))) e h in
     let b = bind_ok (numeral GREATEST_PORT p) (λ p. Ok (by a.0 (Close (record { 0 = p })))) e a.2 in
     let y = numeral-ok GREATEST_PORT p b.0 (omega arith) b.1 in
-    one-field (codes "close") pid p a.0 b.0 (Close (record { 0 = b.0 })) e refl y.1 (numeral-ok GREATEST_PID pid a.0 (omega arith) a.1) y.0 (cc)
-close-spells pid (p ∷ q ∷ fs) e h = cc
+    one-field ed (codes "close") pid p a.0 b.0 (Close (record { 0 = b.0 })) e refl y.1 refl (numeral-ok GREATEST_PID pid a.0 (omega arith) a.1) y.0 (cc)
+close-spells ed pid (p ∷ q ∷ fs) e h = cc
+
+-- a cancel
+pub cancel-takes : (ed : Edition) (pid : List ℕ) (fs : List (List ℕ)) (e : Entry) → has_cancel ed ≡ true → read_cancel pid fs ≡ Ok e
+    → Spells ed (pid ∷ codes "cancel" ∷ fs) e
+cancel-takes ed pid [] e has h = cc
+cancel-takes ed pid (q ∷ []) e has h =
+    let a = bind_ok (numeral GREATEST_PID pid) (λ pid. numeral GREATEST_PID q >>= λ q. Ok (by pid (Cancel (record { 0 = q })))) e h in
+    let b = bind_ok (numeral GREATEST_PID q) (λ q. Ok (by a.0 (Cancel (record { 0 = q })))) e a.2 in
+    let y = numeral-ok GREATEST_PID q b.0 (omega arith) b.1 in
+    one-field ed (codes "cancel") pid q a.0 b.0 (Cancel (record { 0 = b.0 })) e refl y.1 has (numeral-ok GREATEST_PID pid a.0 (omega arith) a.1) y.0 (cc)
+cancel-takes ed pid (q ∷ r ∷ fs) e has h = cc
 
 -- an exit
-pub exit-takes : (pid : List ℕ) (fs : List (List ℕ)) (e : Entry) → read_exit pid fs ≡ Ok e → Spells (pid ∷ codes "exit" ∷ fs) e
-exit-takes pid [] e h =
+pub exit-takes : (ed : Edition) (pid : List ℕ) (fs : List (List ℕ)) (e : Entry) → read_exit pid fs ≡ Ok e → Spells ed (pid ∷ codes "exit" ∷ fs) e
+exit-takes ed pid [] e h =
     let a = bind_ok (numeral GREATEST_PID pid) (λ pid. Ok (by pid Exit)) e h in
     let x = numeral-ok GREATEST_PID pid a.0 (omega arith) a.1 in
     let is : by a.0 Exit ≡ e = cc in
-    subst (Spells (pid ∷ codes "exit" ∷ [])) is (ap (λ f. f ∷ codes "exit" ∷ []) x.0, record { pid = x.1; step = omega arith })
-exit-takes pid (q ∷ fs) e h = cc
+    subst (Spells ed (pid ∷ codes "exit" ∷ [])) is (ap (λ f. f ∷ codes "exit" ∷ []) x.0, record { pid = x.1; step = omega arith; of_edition = refl })
+exit-takes ed pid (q ∷ fs) e h = cc
 
 -- a draft as a field
 abbrev pub draft_field : Draft → List ℕ
@@ -201,9 +216,9 @@ few-le : (n : ℕ) → nat_lt CASE_PLACES n ≡ false → n ≤ CASE_PLACES
 few-le n h = grind (arith, common_steps)
 
 -- a select behind its word
-pub select-takes : (pid word : List ℕ) (fs : List (List ℕ)) (e : Entry) → read_select pid word (ends_default fs) ≡ Ok e
-    → Spells (pid ∷ codes "select" ∷ word ∷ fs) e
-select-takes pid word fs e h =
+pub select-takes : (ed : Edition) (pid word : List ℕ) (fs : List (List ℕ)) (e : Entry) → read_select pid word (ends_default fs) ≡ Ok e
+    → Spells ed (pid ∷ codes "select" ∷ word ∷ fs) e
+select-takes ed pid word fs e h =
     let d = (ends_default fs).1 in
     let o = bind_ok (drafts_of (ends_default fs).0) (λ ds. cond (nat_lt CASE_PLACES (length ds)) (Err BadStep) (choose pid word (cases_of ds) d)) e h in
     let ds = o.0 in
@@ -220,53 +235,58 @@ select-takes pid word fs e h =
     let is : by a.0 (call c.0 d b.0) ≡ e = ap (by a.0) w.step_is ∙ (cc) in
     let fields : fs ≡ map case_field c.0 ++ default_field d =
     ends-split fs ∙ ap (λ gs. gs ++ default_field d) (drafts-take (ends_default fs).0 ds o.1 ∙ cases.0) in
-    subst (Spells (pid ∷ codes "select" ∷ word ∷ fs)) is (
+    subst (Spells ed (pid ∷ codes "select" ∷ word ∷ fs)) is (
       ap (λ f. f ∷ codes "select" ∷ word ∷ fs) x.0 ∙ ap (λ f. decimal a.0 ∷ codes "select" ∷ f ∷ fs) y.0
           ∙ ap (λ gs. decimal a.0 ∷ codes "select" ∷ decimal b.0 ∷ gs) fields ∙ ap (λ gs. decimal a.0 ∷ gs) (sym w.fields_are),
-      record { pid = x.1; step = record { few = (let n = few-le (length ds) few.0 in omega (arith, cases.2)); each = cases.1; word_fits = y.1 } },
+      record {
+        pid = x.1;
+        step = record { few = (let n = few-le (length ds) few.0 in omega (arith, cases.2)); each = cases.1; word_fits = y.1 };
+        of_edition = refl;
+      },
     )
 
 -- a select
-pub choice-takes : (pid : List ℕ) (fs : List (List ℕ)) (e : Entry) → read_choice pid fs ≡ Ok e → Spells (pid ∷ codes "select" ∷ fs) e
-choice-takes pid [] e h = cc
-choice-takes pid (word ∷ fs) e h = select-takes pid word fs e h
+pub choice-takes : (ed : Edition) (pid : List ℕ) (fs : List (List ℕ)) (e : Entry) → read_choice pid fs ≡ Ok e → Spells ed (pid ∷ codes "select" ∷ fs) e
+choice-takes ed pid [] e h = cc
+choice-takes ed pid (word ∷ fs) e h = select-takes ed pid word fs e h
 
 -- a send
-pub send-takes : (pid : List ℕ) (fs : List (List ℕ)) (e : Entry) → read_send pid fs ≡ Ok e → Spells (pid ∷ codes "send" ∷ fs) e
-send-takes pid [] e h = cc
-send-takes pid (p ∷ []) e h = cc
-send-takes pid (p ∷ v ∷ []) e h =
+pub send-takes : (ed : Edition) (pid : List ℕ) (fs : List (List ℕ)) (e : Entry) → read_send pid fs ≡ Ok e → Spells ed (pid ∷ codes "send" ∷ fs) e
+send-takes ed pid [] e h = cc
+send-takes ed pid (p ∷ []) e h = cc
+send-takes ed pid (p ∷ v ∷ []) e h =
     let a = bind_ok (numeral GREATEST_PID pid) (λ pid. case_of (Sends p v) >>= λ c. Ok (by pid (call (c ∷ []) false 0))) e h in
     let b = bind_ok (case_of (Sends p v)) (λ c. Ok (by a.0 (call (c ∷ []) false 0))) e a.2 in
     let x = numeral-ok GREATEST_PID pid a.0 (omega arith) a.1 in
     let s = sends-takes p v b.0 b.1 in
     let last : by a.0 (call (b.0 ∷ []) false 0) ≡ e = cc in
     let is : by a.0 (call (Send (record { 0 = s.port }) (record { 0 = s.value }) ∷ []) false 0) ≡ e = ap (λ c. by a.0 (call (c ∷ []) false 0)) s.is ∙ last in
-    subst (Spells (pid ∷ codes "send" ∷ p ∷ v ∷ [])) is (
+    subst (Spells ed (pid ∷ codes "send" ∷ p ∷ v ∷ [])) is (
       ap (λ f. f ∷ codes "send" ∷ p ∷ v ∷ []) x.0 ∙ ap (λ f. decimal a.0 ∷ codes "send" ∷ f ∷ v ∷ []) s.port_is
           ∙ ap (λ f. decimal a.0 ∷ codes "send" ∷ decimal s.port ∷ f ∷ []) s.value_is,
-      record { pid = x.1; step = record { few = omega arith; each = ((s.port_fits, s.value_fits), tt); word_fits = omega arith } },
+      record { pid = x.1; step = record { few = omega arith; each = ((s.port_fits, s.value_fits), tt); word_fits = omega arith }; of_edition = refl },
     )
-send-takes pid (p ∷ v ∷ q ∷ fs) e h = cc
+send-takes ed pid (p ∷ v ∷ q ∷ fs) e h = cc
 
 -- a receive
-pub recv-takes : (pid : List ℕ) (fs : List (List ℕ)) (e : Entry) → read_recv pid fs ≡ Ok e → Spells (pid ∷ codes "recv" ∷ fs) e
-recv-takes pid [] e h = cc
-recv-takes pid (p ∷ []) e h =
+pub recv-takes : (ed : Edition) (pid : List ℕ) (fs : List (List ℕ)) (e : Entry) → read_recv pid fs ≡ Ok e → Spells ed (pid ∷ codes "recv" ∷ fs) e
+recv-takes ed pid [] e h = cc
+recv-takes ed pid (p ∷ []) e h =
     let a = bind_ok (numeral GREATEST_PID pid) (λ pid. case_of (Receives p) >>= λ c. Ok (by pid (call (c ∷ []) false 0))) e h in
     let b = bind_ok (case_of (Receives p)) (λ c. Ok (by a.0 (call (c ∷ []) false 0))) e a.2 in
     let x = numeral-ok GREATEST_PID pid a.0 (omega arith) a.1 in
     let s = receives-takes p b.0 b.1 in
     let last : by a.0 (call (b.0 ∷ []) false 0) ≡ e = cc in
     let is : by a.0 (call (Recv (record { 0 = s.port }) ∷ []) false 0) ≡ e = ap (λ c. by a.0 (call (c ∷ []) false 0)) s.is ∙ last in
-    subst (Spells (pid ∷ codes "recv" ∷ p ∷ [])) is (
+    subst (Spells ed (pid ∷ codes "recv" ∷ p ∷ [])) is (
       ap (λ f. f ∷ codes "recv" ∷ p ∷ []) x.0 ∙ ap (λ f. decimal a.0 ∷ codes "recv" ∷ f ∷ []) s.port_is,
-      record { pid = x.1; step = record { few = omega arith; each = (s.port_fits, tt); word_fits = omega arith } },
+      record { pid = x.1; step = record { few = omega arith; each = (s.port_fits, tt); word_fits = omega arith }; of_edition = refl },
     )
-recv-takes pid (p ∷ q ∷ fs) e h = cc
+recv-takes ed pid (p ∷ q ∷ fs) e h = cc
 
-under : (pid word name : List ℕ) (fs : List (List ℕ)) (e : Entry) → same_text word name ≡ true → Spells (pid ∷ name ∷ fs) e → Spells (pid ∷ word ∷ fs) e
-under pid word name fs e same s = (ap (λ w. pid ∷ w ∷ fs) (same-true word name same) ∙ s.0, s.1)
+under : (ed : Edition) (pid word name : List ℕ) (fs : List (List ℕ)) (e : Entry) → same_text word name ≡ true
+    → Spells ed (pid ∷ name ∷ fs) e → Spells ed (pid ∷ word ∷ fs) e
+under ed pid word name fs e same s = (ap (λ w. pid ∷ w ∷ fs) (same-true word name same) ∙ s.0, s.1)
 
 test : (b : Bool) (x y : Result Entry Kind) (e : Entry) (P : Type 0) → (b ≡ true → x ≡ Ok e → P) → (y ≡ Ok e → P) → cond b x y ≡ Ok e → P
 test true x y e P f g h = f refl h
@@ -275,19 +295,31 @@ test false x y e P f g h = g h
 none : (e : Entry) (P : Type 0) → Err BadStep ≡ Ok e → P
 none e P h = cc
 
+first-and : (a b : Bool) → (a && b) ≡ true → a ≡ true
+first-and true b h = refl
+first-and false b h = cc
+
+second-and : (a b : Bool) → (a && b) ≡ true → b ≡ true
+second-and true b h = h
+second-and false b h = cc
+
 -- a line, by its second field
-pub step-takes : (pid word : List ℕ) (fs : List (List ℕ)) (e : Entry) → read_step pid word fs ≡ Ok e → Spells (pid ∷ word ∷ fs) e
-step-takes pid word fs e h =
-    let P : Type 0 = Spells (pid ∷ word ∷ fs) e in
-    test (same_text word (codes "make")) _ _ e P (λ b x. under pid word (codes "make") fs e b (make-takes pid fs e x))
-    (test (same_text word (codes "send")) _ _ e P (λ b x. under pid word (codes "send") fs e b (send-takes pid fs e x))
-    (test (same_text word (codes "recv")) _ _ e P (λ b x. under pid word (codes "recv") fs e b (recv-takes pid fs e x))
-    (test (same_text word (codes "select")) _ _ e P (λ b x. under pid word (codes "select") fs e b (choice-takes pid fs e x))
-    (test (same_text word (codes "close")) _ _ e P (λ b x. under pid word (codes "close") fs e b (close-spells pid fs e x))
-    (test (same_text word (codes "exit")) _ _ e P (λ b x. under pid word (codes "exit") fs e b (exit-takes pid fs e x)) (none e P)))))) h
+pub step-takes : (ed : Edition) (pid word : List ℕ) (fs : List (List ℕ)) (e : Entry) → read_step ed pid word fs ≡ Ok e → Spells ed (pid ∷ word ∷ fs) e
+step-takes ed pid word fs e h =
+    let P : Type 0 = Spells ed (pid ∷ word ∷ fs) e in
+    let has = has_cancel ed in
+    let says = same_text word (codes "cancel") in
+    test (same_text word (codes "make")) _ _ e P (λ b x. under ed pid word (codes "make") fs e b (make-takes ed pid fs e x))
+    (test (same_text word (codes "send")) _ _ e P (λ b x. under ed pid word (codes "send") fs e b (send-takes ed pid fs e x))
+    (test (same_text word (codes "recv")) _ _ e P (λ b x. under ed pid word (codes "recv") fs e b (recv-takes ed pid fs e x))
+    (test (same_text word (codes "select")) _ _ e P (λ b x. under ed pid word (codes "select") fs e b (choice-takes ed pid fs e x))
+    (test (same_text word (codes "close")) _ _ e P (λ b x. under ed pid word (codes "close") fs e b (close-spells ed pid fs e x))
+    (test (same_text word (codes "exit")) _ _ e P (λ b x. under ed pid word (codes "exit") fs e b (exit-takes ed pid fs e x))
+    (test (has && says) _ _ e P
+    (λ b x. under ed pid word (codes "cancel") fs e (second-and has says b) (cancel-takes ed pid fs e (first-and has says b) x)) (none e P))))))) h
 
 -- what fields say is what they spell
-pub fields-take : (fs : List (List ℕ)) (e : Entry) → read_fields fs ≡ Ok e → Spells fs e
-fields-take [] e h = cc
-fields-take (pid ∷ []) e h = cc
-fields-take (pid ∷ word ∷ fs) e h = step-takes pid word fs e h
+pub fields-take : (ed : Edition) (fs : List (List ℕ)) (e : Entry) → read_fields ed fs ≡ Ok e → Spells ed fs e
+fields-take ed [] e h = cc
+fields-take ed (pid ∷ []) e h = cc
+fields-take ed (pid ∷ word ∷ fs) e h = step-takes ed pid word fs e h

@@ -25,6 +25,7 @@ what_text what.Done = codes " done"
 what_text what.Parked = codes " parked"
 what_text what.Stalled = codes " stalled"
 what_text (what.Fault f) = codes " fault " ++ decimal (fault_number f)
+what_text what.Cancelled = codes " cancelled"
 
 -- the process, what it is told, and a newline
 abbrev pub event_line : Event → List ℕ
@@ -46,6 +47,7 @@ WhatFits what.Done = Unit {0}
 WhatFits what.Parked = Unit {0}
 WhatFits what.Stalled = Unit {0}
 WhatFits (what.Fault f) = Unit {0}
+WhatFits what.Cancelled = Unit {0}
 
 -- and the process
 pub record EventFits (e : Event) : Type 0 where

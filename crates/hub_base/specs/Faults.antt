@@ -2,7 +2,7 @@
 use Rattle.std.specs.Prelude.{ℕ, List, codes}
 use Rattle.hub_base.specs.declared.fault.Fault.{Fault}
 use Rattle.hub_base.specs.declared.fault.Fault.TheVariants.{NoProcess, Gone, Busy, TooManyCases, NoPort, BadCap}
-use Rattle.hub_base.specs.declared.fault.Fault.TheVariants.{TooManyPorts, NilClose, AlreadyClosed, JournalFull, NoMemory}
+use Rattle.hub_base.specs.declared.fault.Fault.TheVariants.{TooManyPorts, NilClose, AlreadyClosed, JournalFull, NoMemory, NotParked}
 use Rattle.hub_base.specs.declared.text.faults.Kind.{Kind}
 use Rattle.hub_base.specs.declared.text.faults.Kind.TheVariants as kind
 
@@ -19,6 +19,7 @@ fault_number NilClose = 8
 fault_number AlreadyClosed = 9
 fault_number JournalFull = 10
 fault_number NoMemory = 11
+fault_number NotParked = 12
 
 -- the number of a kind, and what is wrong with a journal's line, in two words
 abbrev pub kind_row : Kind → ℕ × List ℕ

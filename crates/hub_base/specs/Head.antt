@@ -1,12 +1,40 @@
 -- Heads of journals.
-use Rattle.std.specs.Prelude.{ℕ, ◌≤◌}
+use Rattle.std.specs.Prelude.{ℕ, ◌≤◌, ◌≡◌, Bool, true, false, List}
+use Rattle.std.specs.List.{list_all}
+use Rattle.hub_base.specs.declared.entry.Entry.{Entry}
+use Rattle.hub_base.specs.declared.entry.Step.{Step}
+use Rattle.hub_base.specs.declared.entry.Step.TheVariants.{Make, Call, Close, Exit, Cancel}
+use Rattle.hub_base.specs.declared.head.Edition.{Edition}
+use Rattle.hub_base.specs.declared.head.Edition.TheVariants.{One, Two}
 use Rattle.hub_base.specs.declared.head.Head.{Head}
-use Rattle.hub_base.specs.declared.limits.TheConstants.{MOST_PROCS}
+use Rattle.hub_base.specs.declared.limits.TheConstants.{CASE_PLACES, MOST_CASES, MOST_PROCS}
 
 -- a hub may have so many processes
 abbrev pub IsHead : Head → Type 0
 IsHead h = (1 ≤ h.procs) × (h.procs ≤ MOST_PROCS)
 
--- the head of a journal of so many processes
-abbrev pub head_of : ℕ → Head
-head_of procs = record { procs = procs }
+-- the head of a journal of this edition and so many processes
+abbrev pub head_of : Edition → ℕ → Head
+head_of edition procs = record { edition = edition; procs = procs }
+
+-- the most cases that a call may have
+abbrev pub most_cases : Edition → ℕ
+most_cases One = MOST_CASES
+most_cases Two = CASE_PLACES
+
+-- whether a process may cancel the open call of another
+abbrev pub has_cancel : Edition → Bool
+has_cancel One = false
+has_cancel Two = true
+
+-- the step is one that a journal of this edition can have
+abbrev pub is_of : Edition → Step → Bool
+is_of edition (Make cap) = true
+is_of edition (Call cases default word) = true
+is_of edition (Close p) = true
+is_of edition Exit = true
+is_of edition (Cancel q) = has_cancel edition
+
+-- and so is each of these entries' steps
+abbrev pub AreOf : Edition → List Entry → Type 0
+AreOf edition es = list_all (λ e. is_of edition e.step) es ≡ true

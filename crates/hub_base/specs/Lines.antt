@@ -8,8 +8,10 @@ use Rattle.std.specs.Str.Parse.{digits_value}
 use Rattle.hub_base.specs.declared.case.Case.{Case}
 use Rattle.hub_base.specs.declared.case.Case.TheVariants.{Send, Recv}
 use Rattle.hub_base.specs.declared.entry.Step.{Step}
-use Rattle.hub_base.specs.declared.entry.Step.TheVariants.{Make, Call, Close, Exit}
+use Rattle.hub_base.specs.declared.entry.Step.TheVariants.{Make, Call, Close, Exit, Cancel}
 use Rattle.hub_base.specs.declared.entry.Entry.{Entry}
+use Rattle.hub_base.specs.declared.head.Edition.{Edition}
+use Rattle.hub_base.specs.Head.{has_cancel}
 use Rattle.hub_base.specs.Value.{value_of, value_field}
 use Rattle.hub_base.specs.declared.text.faults.Kind.{Kind}
 use Rattle.hub_base.specs.declared.limits.TheConstants.{CASE_PLACES, GREATEST_PID, GREATEST_PORT, GREATEST_CAP, GREATEST_VALUE, GREATEST_WORD}
@@ -43,6 +45,7 @@ step_fields (Make cap) = codes "make" ∷ decimal cap ∷ []
 step_fields (Call cases default word) = call_fields cases.items default word
 step_fields (Close p) = codes "close" ∷ decimal p.0 ∷ []
 step_fields Exit = codes "exit" ∷ []
+step_fields (Cancel q) = codes "cancel" ∷ decimal q.0 ∷ []
 
 -- the fields with single spaces between them, and a newline
 abbrev pub line : Entry → List ℕ
@@ -213,23 +216,31 @@ abbrev pub read_exit : List ℕ → List (List ℕ) → Result Entry Kind
 read_exit pid [] = numeral GREATEST_PID pid >>= λ pid. Ok (by pid Exit)
 read_exit pid other = Err BadStep
 
+-- `P cancel Q`
+abbrev pub read_cancel : List ℕ → List (List ℕ) → Result Entry Kind
+read_cancel pid (q ∷ []) =
+    numeral GREATEST_PID pid >>= λ pid. numeral GREATEST_PID q >>= λ q.
+    Ok (by pid (Cancel (record { 0 = q })))
+read_cancel pid other = Err BadStep
+
 -- `P select W CASE.. [default]`
 abbrev pub read_choice : List ℕ → List (List ℕ) → Result Entry Kind
 read_choice pid [] = Err BadStep
 read_choice pid (word ∷ fields) = read_select pid word (ends_default fields)
 
--- the second field says which step it is
-abbrev pub read_step : List ℕ → List ℕ → List (List ℕ) → Result Entry Kind
-read_step pid word rest =
+-- the second field says which step it is; a journal of the first edition has no cancel
+abbrev pub read_step : Edition → List ℕ → List ℕ → List (List ℕ) → Result Entry Kind
+read_step edition pid word rest =
     if same_text word (codes "make") then read_make pid rest
     else if same_text word (codes "send") then read_send pid rest
     else if same_text word (codes "recv") then read_recv pid rest
     else if same_text word (codes "select") then read_choice pid rest
     else if same_text word (codes "close") then read_close pid rest
     else if same_text word (codes "exit") then read_exit pid rest
+    else if has_cancel edition && same_text word (codes "cancel") then read_cancel pid rest
     else Err BadStep
 
--- what the fields of a line say
-abbrev pub read_fields : List (List ℕ) → Result Entry Kind
-read_fields (pid ∷ word ∷ rest) = read_step pid word rest
-read_fields other = Err BadStep
+-- what the fields of a line say in a journal of this edition
+abbrev pub read_fields : Edition → List (List ℕ) → Result Entry Kind
+read_fields edition (pid ∷ word ∷ rest) = read_step edition pid word rest
+read_fields edition other = Err BadStep

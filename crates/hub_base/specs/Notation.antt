@@ -1,11 +1,11 @@
 -- Short words for heads, entries and events, in which the worked rows are written: `procs 2` is the head
--- of a journal of two processes, `send 0 1 7` is process 0 that sends 7 on port 1, and
--- `case 0 0 (got 7)` tells it that case 0 of its call got 7.
+-- of a journal of two processes, `procs_two 2` the same in the second edition, `send 0 1 7` is process 0
+-- that sends 7 on port 1, and `case 0 0 (got 7)` tells it that case 0 of its call got 7.
 use Rattle.std.specs.Prelude.{ℕ, Bool, false, List, [], ◌∷◌}
 use Rattle.hub_base.specs.declared.value.Port.{Port}
 use Rattle.hub_base.specs.declared.case.Case.{Case}
 use Rattle.hub_base.specs.declared.case.Case.TheVariants.{Send, Recv}
-use Rattle.hub_base.specs.declared.entry.Step.TheVariants.{Make, Close, Exit}
+use Rattle.hub_base.specs.declared.entry.Step.TheVariants.{Make, Close, Exit, Cancel}
 use Rattle.hub_base.specs.declared.entry.Entry.{Entry}
 use Rattle.hub_base.specs.declared.event.Outcome.{Outcome}
 use Rattle.hub_base.specs.declared.event.Outcome.TheVariants.{Got}
@@ -13,15 +13,20 @@ use Rattle.hub_base.specs.declared.event.What.{What}
 use Rattle.hub_base.specs.declared.event.What.TheVariants as what
 use Rattle.hub_base.specs.declared.event.Event.{Event}
 use Rattle.hub_base.specs.declared.fault.Fault.{Fault}
+use Rattle.hub_base.specs.declared.head.Edition.TheVariants as edition
 use Rattle.hub_base.specs.declared.head.Head.{Head}
 use Rattle.hub_base.specs.Head.{head_of}
 use Rattle.hub_base.specs.Value.{value_of}
 use Rattle.hub_base.specs.Lines.{by, call}
 
 -- ---- heads
--- the head of a journal of so many processes
+-- the head of a journal of the first edition, of so many processes
 abbrev pub procs : ℕ → Head
-procs n = head_of n
+procs n = head_of edition.One n
+
+-- the same of the second edition
+abbrev pub procs_two : ℕ → Head
+procs_two n = head_of edition.Two n
 
 -- ---- cases
 -- the port of this number
@@ -61,6 +66,10 @@ close pid p = by pid (Close (port p))
 abbrev pub exit : ℕ → Entry
 exit pid = by pid Exit
 
+-- ends the open call of another process
+abbrev pub cancel : ℕ → ℕ → Entry
+cancel pid q = by pid (Cancel (record { 0 = q }))
+
 -- ---- events; the process that is told comes first
 -- this process is told so
 abbrev pub told : ℕ → What → Event
@@ -82,7 +91,7 @@ got n = Got (value_of n)
 abbrev pub defaulted : ℕ → Event
 defaulted pid = told pid what.Default
 
--- the close or the exit is done
+-- the close, the exit or the cancel is done
 abbrev pub done : ℕ → Event
 done pid = told pid what.Done
 
@@ -93,6 +102,10 @@ parked pid = told pid what.Parked
 -- everyone waited, so the call ended
 abbrev pub stalled : ℕ → Event
 stalled pid = told pid what.Stalled
+
+-- another process cancelled the call
+abbrev pub cancelled : ℕ → Event
+cancelled pid = told pid what.Cancelled
 
 -- the step had no effect, for this reason
 abbrev pub faulted : ℕ → Fault → Event

@@ -1,12 +1,14 @@
 -- What the quick reading of a line finds: a spelling between two places of the bytes.
-use Rattle.std.specs.Prelude.{◌≡◌, ◌≢◌, ◌≤◌, ◌<◌, ◌+◌, ℕ, List, ◌∷◌, ◌++◌, decimal, length, drop, get_or, Bool, false, Ok}
+use Rattle.std.specs.Prelude.{◌≡◌, ◌≢◌, ◌≤◌, ◌<◌, ◌+◌, ℕ, List, ◌∷◌, ◌++◌, decimal, length, drop, get_or, Bool, true, false, Ok}
 use Rattle.std.specs.List.{AllByRecursion}
 use Rattle.hub_base.specs.declared.case.Case.{Case}
 use Rattle.hub_base.specs.declared.case.Case.TheVariants.{Send}
 use Rattle.hub_base.specs.declared.entry.Entry.{Entry}
 use Rattle.hub_base.specs.declared.entry.Step.{Step}
+use Rattle.hub_base.specs.declared.head.Edition.{Edition}
 use Rattle.hub_base.specs.declared.value.Port.{Port}
 use Rattle.hub_base.specs.declared.value.Value.{Value}
+use Rattle.hub_base.specs.Head.{is_of}
 use Rattle.hub_base.specs.Lines.{line, step_fields, call, spelled, default_field}
 use Rattle.hub_base.specs.Reading.{is_exit}
 use Rattle.hub_base.specs.Text.{Fits, StepFits, CallFits, CaseFits}
@@ -40,10 +42,11 @@ pub record CasesStand (bytes : List ℕ) (start : ℕ) (cs : List Case) (end : �
   pub stands : Stands bytes start (spaced_cases cs) end
   pub fits : AllByRecursion CaseFits cs
 
--- the fields of a step that is no exit stand there, each behind a space
+-- the fields of a step that is no exit and that each edition has stand there, each behind a space
 pub record StepStands (bytes : List ℕ) (start : ℕ) (step : Step) (end : ℕ) : Type 0 where
   pub stands : Stands bytes start (spaced (step_fields step)) end
   pub fits : StepFits step
+  pub of_each : (edition : Edition) → is_of edition step ≡ true
   pub no_exit : is_exit step ≡ false
 
 -- the fields of a select stand there, from its word on
@@ -56,9 +59,9 @@ pub record SelectStands (bytes : List ℕ) (start : ℕ) (step : Step) (end : �
   pub stands : Stands bytes start (decimal word ++ spaced_cases cases ++ spaced (default_field default)) end
   pub fits : CallFits cases word
 
--- the bytes begin with the line of an entry that is no exit, and go on behind it
+-- the bytes begin with the line of an entry that is no exit and that each edition has, and go on behind it
 pub record Begins (bytes : List ℕ) (e : Entry) (end : ℕ) : Type 0 where
   pub spelled : bytes ≡ line e ++ drop end bytes
   pub inside : end ≤ length bytes
-  pub fits : Fits e
+  pub fits : (edition : Edition) → Fits edition e
   pub no_exit : is_exit e.step ≡ false

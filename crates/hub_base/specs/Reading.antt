@@ -6,8 +6,10 @@ use Rattle.std.specs.Prelude.{ℕ, ◌+◌, ◌<◌, ◌==◌, ◌&&◌, not, na
 use Rattle.std.specs.Prelude.{length, codes, decimal, Option, None, Some, Result, Ok, Err, if◌then◌else◌}
 use Rattle.std.specs.List.{flat_map}
 use Rattle.hub_base.specs.declared.entry.Step.{Step}
-use Rattle.hub_base.specs.declared.entry.Step.TheVariants.{Make, Call, Close, Exit}
+use Rattle.hub_base.specs.declared.entry.Step.TheVariants.{Make, Call, Close, Exit, Cancel}
 use Rattle.hub_base.specs.declared.entry.Entry.{Entry}
+use Rattle.hub_base.specs.declared.head.Edition.{Edition}
+use Rattle.hub_base.specs.declared.head.Edition.TheVariants as edition
 use Rattle.hub_base.specs.declared.head.Head.{Head}
 use Rattle.hub_base.specs.declared.text.faults.Kind.{Kind}
 use Rattle.hub_base.specs.declared.limits.TheConstants.{MOST_PROCS, MOST_STEPS, MOST_BYTES}
@@ -15,13 +17,18 @@ use Rattle.hub_base.specs.declared.text.faults.Kind.TheVariants.{BadHeader, BadP
 use Rattle.hub_base.specs.Head.{head_of}
 use Rattle.hub_base.specs.Lines.{line, pieces, read_fields, number, same_text}
 
+-- the first line without its newline
+abbrev pub header : Edition → List ℕ
+header edition.One = codes "chanhub journal 1"
+header edition.Two = codes "chanhub journal 2"
+
 -- the second line without its newline
 abbrev pub procs_line : ℕ → List ℕ
 procs_line n = codes "procs " ++ decimal n
 
 -- the two head lines
 abbrev pub head_lines : Head → List ℕ
-head_lines h = codes "chanhub journal 1\n" ++ (procs_line h.procs ++ codes "\n")
+head_lines h = header h.edition ++ (codes "\n" ++ (procs_line h.procs ++ codes "\n"))
 
 -- the text of this head and these entries
 abbrev pub text : Head → List Entry → List ℕ
@@ -49,6 +56,7 @@ is_exit (Make cap) = false
 is_exit (Call cases default word) = false
 is_exit (Close p) = false
 is_exit Exit = true
+is_exit (Cancel q) = false
 
 -- what a text says: this head and these entries, or its first faulty line, counted from 1,
 -- and the fault
@@ -113,7 +121,7 @@ abbrev pub entries_from : Head → ℕ → ℕ → ℕ → List Row → Reading
 entries_from h k start steps [] = Reads h []
 entries_from h k start steps (r ∷ rs) =
     within (end_of start r) k r (
-    entry_says k steps (read_fields (pieces 32 r.bytes)) (
+    entry_says k steps (read_fields h.edition (pieces 32 r.bytes)) (
     λ e. entries_from h (k + 1) (end_of start r) (counted steps e) rs))
 
 -- `procs`, and a number that a hub may have
@@ -131,23 +139,32 @@ abbrev pub procs_number : List ℕ → Option ℕ
 procs_number bytes = above_zero (procs_field (pieces 32 bytes))
 
 -- the lines behind the second, where it says so
-abbrev pub procs_say : Option ℕ → ℕ → List Row → Reading
-procs_say None start rs = Faulty 2 BadProcs
-procs_say (Some n) start rs = entries_from (head_of n) 3 start 0 rs
+abbrev pub procs_say : Edition → Option ℕ → ℕ → List Row → Reading
+procs_say ed None start rs = Faulty 2 BadProcs
+procs_say ed (Some n) start rs = entries_from (head_of ed n) 3 start 0 rs
 
--- what the lines from the second on say
-abbrev pub procs_from : ℕ → List Row → Reading
-procs_from start [] = Faulty 2 BadProcs
-procs_from start (r ∷ rs) =
-    within (end_of start r) 2 r (procs_say (procs_number r.bytes) (end_of start r) rs)
+-- what the lines from the second on say, in a journal of this edition
+abbrev pub procs_from : Edition → ℕ → List Row → Reading
+procs_from ed start [] = Faulty 2 BadProcs
+procs_from ed start (r ∷ rs) =
+    within (end_of start r) 2 r (procs_say ed (procs_number r.bytes) (end_of start r) rs)
+
+-- the edition that the first line says
+abbrev pub edition_of : List ℕ → Option Edition
+edition_of bytes =
+    if same_text bytes (header edition.One) then Some edition.One
+    else if same_text bytes (header edition.Two) then Some edition.Two else None
+
+-- the lines behind the first, where it says so
+abbrev pub edition_says : Option Edition → ℕ → List Row → Reading
+edition_says None start rs = Faulty 1 BadHeader
+edition_says (Some ed) start rs = procs_from ed start rs
 
 -- what all lines say
 abbrev pub reading : List Row → Reading
 reading [] = Faulty 1 BadHeader
 reading (r ∷ rs) =
-    within (end_of 0 r) 1 r (
-    if same_text r.bytes (codes "chanhub journal 1") then procs_from (end_of 0 r) rs
-    else Faulty 1 BadHeader)
+    within (end_of 0 r) 1 r (edition_says (edition_of r.bytes) (end_of 0 r) rs)
 
 -- what a text says
 abbrev pub read_text : List ℕ → Reading

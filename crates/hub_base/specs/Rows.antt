@@ -7,3 +7,4 @@ pub mod Selecting
 pub mod Leaving
 pub mod Refusing
 pub mod Limits
+pub mod Cancelling

@@ -1,7 +1,7 @@
 -- What one step does to a hub, and what it tells: sends, receives and selects, close, make and
--- exit, the stall rule, the faults that are journaled, and why an entry is not admitted.
+-- exit, cancel, the stall rule, the faults that are journaled, and why an entry is not admitted.
 -- Go: "Send statements", "Receive operator", "Select statements", "Close". Which waiting call is
--- served and which ready case fires are this project's choice.
+-- served and which ready case fires are this project's choice, and cancel is its own step.
 use Rattle.std.specs.Prelude.{ℕ, ◌+◌, ◌%◌, ◌==◌, nat_le, nat_lt, Bool, true, false, not, ◌&&◌, ◌||◌, List, []}
 use Rattle.std.specs.Prelude.{◌∷◌, ◌++◌, length, filter, Option, None, Some, slice_get, if◌then◌else◌}
 use Rattle.std.specs.List.{list_any, list_all, filter_map, range_with_len}
@@ -12,7 +12,7 @@ use Rattle.hub_base.specs.declared.value.Value.{Value}
 use Rattle.hub_base.specs.declared.case.Case.{Case}
 use Rattle.hub_base.specs.declared.case.Case.TheVariants.{Send, Recv}
 use Rattle.hub_base.specs.declared.entry.Step.{Step}
-use Rattle.hub_base.specs.declared.entry.Step.TheVariants.{Make, Call, Close, Exit}
+use Rattle.hub_base.specs.declared.entry.Step.TheVariants.{Make, Call, Close, Exit, Cancel}
 use Rattle.hub_base.specs.declared.entry.Entry.{Entry}
 use Rattle.hub_base.specs.declared.event.Outcome.{Outcome}
 use Rattle.hub_base.specs.declared.event.Outcome.TheVariants.{Sent, Got, Drained, Closed}
@@ -21,7 +21,8 @@ use Rattle.hub_base.specs.declared.fault.Fault.TheVariants as fault
 use Rattle.hub_base.specs.declared.event.What.{What}
 use Rattle.hub_base.specs.declared.event.What.TheVariants as what
 use Rattle.hub_base.specs.declared.event.Event.{Event}
-use Rattle.hub_base.specs.declared.limits.TheConstants.{MOST_CAP, MOST_CASES, MOST_PORTS}
+use Rattle.hub_base.specs.declared.limits.TheConstants.{MOST_CAP, MOST_PORTS}
+use Rattle.hub_base.specs.Head.{most_cases}
 use Rattle.hub_base.specs.State.{OpenCall, Channel, State, channel_at, with_channel}
 use Rattle.hub_base.specs.Ready.{is_recv_on, is_send_on, is_on, port_of, Ending, lowest, first_with, without, ready}
 
@@ -172,12 +173,21 @@ abbrev pub exits : State → Pid → Change
 exits s pid =
     record { state = record s { gone = s.gone ++ pid ∷ [] }; events = tells pid what.Done ∷ [] }
 
+-- a cancel: the open call of that process ends, and no value moves
+abbrev pub cancels : State → Pid → Pid → Change
+cancels s pid q =
+    record {
+      state = record s { parked = without q s.parked };
+      events = tells pid what.Done ∷ tells q what.Cancelled ∷ [];
+    }
+
 -- what a step does that meets no fault, before the stall rule
 abbrev pub effect : State → Pid → Step → Change
 effect s pid (Make cap) = makes s pid cap
 effect s pid (Call cases default word) = calls s pid cases.items default word
 effect s pid (Close p) = closes s pid p (channel_at s p)
 effect s pid Exit = exits s pid
+effect s pid (Cancel q) = cancels s pid q
 
 -- this process has exited
 abbrev pub has_gone : State → ℕ → Bool
@@ -212,17 +222,19 @@ abbrev pub close_fault : Option Channel → Option Fault
 close_fault None = Some fault.NilClose
 close_fault (Some c) = if c.closed then Some fault.AlreadyClosed else None
 
--- why an admitted step has no effect: too great a capacity, a port too many, too many cases, a port
--- that was not made, a close of the nil channel or of a closed one
+-- why an admitted step has no effect: too great a capacity, a port too many, more cases than the
+-- edition admits, a port that was not made, a close of the nil channel or of a closed one, a cancel
+-- of a process that has no open call
 abbrev pub fault_of : State → Step → Option Fault
 fault_of s (Make cap) =
     if nat_lt MOST_CAP cap then Some fault.BadCap
     else if nat_le MOST_PORTS (length s.channels) then Some fault.TooManyPorts else None
 fault_of s (Call cases default word) =
-    if nat_lt MOST_CASES (length cases.items) then Some fault.TooManyCases
+    if nat_lt (most_cases s.head.edition) (length cases.items) then Some fault.TooManyCases
     else if list_any (λ c. is_unmade s (port_of c)) cases.items then Some fault.NoPort else None
 fault_of s (Close p) = if is_unmade s p then Some fault.NoPort else close_fault (channel_at s p)
 fault_of s Exit = None
+fault_of s (Cancel q) = if is_waiting s q.0 then None else Some fault.NotParked
 
 -- the fault, or else what the step does
 abbrev pub answers : State → Entry → Option Fault → Change

@@ -1,23 +1,25 @@
 -- What a journal's text is, and where other bytes are faulty, said of whole lines and their
 -- spellings. How bytes are read is no part of it: that both agree is what `read_journal` and
 -- `one_reading` promise.
-use Rattle.std.specs.Prelude.{◌≡◌, ℕ, ◌+◌, ◌≤◌, true, List, [], ◌∷◌, ◌++◌, ◌⊎◌, length, map, codes}
+use Rattle.std.specs.Prelude.{◌≡◌, ℕ, ◌+◌, ◌≤◌, true, List, [], ◌∷◌, ◌++◌, ◌⊎◌, length, map}
 use Rattle.std.specs.Prelude.{decimal, Option, None, Some, Result, Ok, Err, if◌then◌else◌}
 use Rattle.std.specs.List.{flat_map, AllByRecursion, join_with_byte}
 use Rattle.hub_base.specs.declared.case.Case.{Case}
 use Rattle.hub_base.specs.declared.case.Case.TheVariants.{Send, Recv}
 use Rattle.hub_base.specs.declared.entry.Step.{Step}
-use Rattle.hub_base.specs.declared.entry.Step.TheVariants.{Make, Call, Close, Exit}
+use Rattle.hub_base.specs.declared.entry.Step.TheVariants.{Make, Call, Close, Exit, Cancel}
 use Rattle.hub_base.specs.declared.entry.Entry.{Entry}
+use Rattle.hub_base.specs.declared.head.Edition.{Edition}
 use Rattle.hub_base.specs.declared.head.Head.{Head}
 use Rattle.hub_base.specs.Value.{number_of}
 use Rattle.hub_base.specs.declared.text.faults.Kind.{Kind}
 use Rattle.hub_base.specs.declared.limits.TheConstants.{CASE_PLACES, MOST_STEPS, MOST_BYTES, GREATEST_PID}
 use Rattle.hub_base.specs.declared.limits.TheConstants.{GREATEST_PORT, GREATEST_CAP, GREATEST_VALUE, GREATEST_WORD}
 use Rattle.hub_base.specs.declared.text.faults.Kind.TheVariants.{BadHeader, BadProcs, TooLong}
-use Rattle.hub_base.specs.Lines.{line, step_fields, pieces, read_fields, same_text}
-use Rattle.hub_base.specs.Head.{IsHead}
-use Rattle.hub_base.specs.Reading.{text, head_lines, procs_line, Row, rows, is_exit, row_fault, end_of, over, procs_number}
+use Rattle.hub_base.specs.Lines.{line, step_fields, pieces, read_fields}
+use Rattle.hub_base.specs.Head.{IsHead, is_of}
+use Rattle.hub_base.specs.Reading.{text, header, head_lines, procs_line, Row, rows, is_exit, row_fault, end_of, over}
+use Rattle.hub_base.specs.Reading.{edition_of, procs_number}
 
 -- the numbers of a case are such as a text can hold
 abbrev pub CaseFits : Case → Type 0
@@ -36,11 +38,13 @@ StepFits (Make cap) = cap ≤ GREATEST_CAP
 StepFits (Call cases default word) = CallFits cases.items word
 StepFits (Close p) = p.0 ≤ GREATEST_PORT
 StepFits Exit = 0 ≤ 0
+StepFits (Cancel q) = q.0 ≤ GREATEST_PID
 
--- and of an entry
-pub record Fits (e : Entry) : Type 0 where
+-- and of an entry, in a journal of this edition
+pub record Fits (edition : Edition) (e : Entry) : Type 0 where
   pub pid : e.pid.0 ≤ GREATEST_PID
   pub step : StepFits e.step
+  pub of_edition : is_of edition e.step ≡ true
 
 -- 1 for a step, 0 for an exit
 abbrev pub one_step : Entry → ℕ
@@ -55,7 +59,7 @@ steps_of (e ∷ es) = one_step e + steps_of es
 pub record IsText (bytes : List ℕ) (h : Head) (es : List Entry) : Type 0 where
   pub spelled : bytes ≡ text h es
   pub head : IsHead h
-  pub fits : AllByRecursion Fits es
+  pub fits : AllByRecursion (Fits h.edition) es
   pub bytes_fit : length bytes ≤ MOST_BYTES
   pub steps_fit : steps_of es ≤ MOST_STEPS
 
@@ -67,9 +71,9 @@ fields_of e = decimal e.pid.0 ∷ step_fields e.step
 abbrev pub body : Entry → List ℕ
 body e = join_with_byte 32 (fields_of e)
 
--- these fields spell this entry
-abbrev pub Spells : List (List ℕ) → Entry → Type 0
-Spells fields e = (fields ≡ fields_of e) × Fits e
+-- these fields spell this entry, in a journal of this edition
+abbrev pub Spells : Edition → List (List ℕ) → Entry → Type 0
+Spells edition fields e = (fields ≡ fields_of e) × Fits edition e
 
 -- the line of an entry, as a row
 abbrev pub row_of : Entry → Row
@@ -86,37 +90,41 @@ first_fault None other = other
 first_fault (Some kind) other = Some kind
 
 -- what is wrong with a further line that begins at this place: the first fault that applies
-abbrev pub entry_fault : ℕ → ℕ → Row → Option Kind
-entry_fault place steps r =
-    first_fault (row_fault (end_of place r) r) (fault_of_entry steps (read_fields (pieces 32 r.bytes)))
+abbrev pub entry_fault : Edition → ℕ → ℕ → Row → Option Kind
+entry_fault edition place steps r =
+    first_fault (row_fault (end_of place r) r)
+    (fault_of_entry steps (read_fields edition (pieces 32 r.bytes)))
 
 -- lines of entries within the limits, and then a faulty line: the first of these lines has number k
 -- and begins at this place, and so many lines before it are no exits
-pub record EntryFails (place steps k : ℕ) (rs : List Row) (faulty : ℕ) (kind : Kind) : Type 0 where
+pub record EntryFails (edition : Edition) (place steps k : ℕ) (rs : List Row) (faulty : ℕ) (kind : Kind) : Type 0 where
   pub es : List Entry
   pub bad : Row
   pub more : List Row
   pub lines : rs ≡ map row_of es ++ bad ∷ more
   pub count : faulty ≡ k + length es
-  pub fits : AllByRecursion Fits es
+  pub fits : AllByRecursion (Fits edition) es
   pub bytes_fit : place + length (flat_map line es) ≤ MOST_BYTES
   pub steps_fit : steps + steps_of es ≤ MOST_STEPS
-  pub fault : entry_fault (place + length (flat_map line es)) (steps + steps_of es) bad ≡ Some kind
+  pub fault : entry_fault edition (place + length (flat_map line es)) (steps + steps_of es) bad ≡ Some kind
 
 -- ---- the head
 -- the first line
-abbrev pub header_row : Row
-header_row = record { bytes = codes "chanhub journal 1"; whole = true }
+abbrev pub header_row : Edition → Row
+header_row edition = record { bytes = header edition; whole = true }
 
 -- the second line
 abbrev pub procs_row : ℕ → Row
 procs_row n = record { bytes = procs_line n; whole = true }
 
+-- it says no edition
+abbrev pub fault_of_edition : Option Edition → Option Kind
+fault_of_edition None = Some BadHeader
+fault_of_edition (Some edition) = None
+
 -- what is wrong with the first line
 abbrev pub header_fault : Row → Option Kind
-header_fault r =
-    first_fault (row_fault (end_of 0 r) r) (
-    if same_text r.bytes (codes "chanhub journal 1") then None else Some BadHeader)
+header_fault r = first_fault (row_fault (end_of 0 r) r) (fault_of_edition (edition_of r.bytes))
 
 -- it says no number of processes
 abbrev pub fault_of_procs : Option ℕ → Option Kind
@@ -139,8 +147,9 @@ pub record FaultyFirst (rs : List Row) (k : ℕ) (kind : Kind) : Type 0 where
 
 -- line 2 is, behind the header
 pub record FaultySecond (rs : List Row) (k : ℕ) (kind : Kind) : Type 0 where
+  pub edition : Edition
   pub more : List Row
-  pub lines : rs ≡ header_row ∷ more
+  pub lines : rs ≡ header_row edition ∷ more
   pub number : k ≡ 2
   pub fault : fault_of_first procs_fault BadProcs more ≡ Some kind
 
@@ -148,9 +157,9 @@ pub record FaultySecond (rs : List Row) (k : ℕ) (kind : Kind) : Type 0 where
 pub record FaultyEntry (rs : List Row) (k : ℕ) (kind : Kind) : Type 0 where
   pub head : Head
   pub more : List Row
-  pub lines : rs ≡ header_row ∷ procs_row head.procs ∷ more
+  pub lines : rs ≡ header_row head.edition ∷ procs_row head.procs ∷ more
   pub possible : IsHead head
-  pub fails : EntryFails (length (head_lines head)) 0 3 more k kind
+  pub fails : EntryFails head.edition (length (head_lines head)) 0 3 more k kind
 
 -- the lines before the k-th are head lines and spellings within the limits, and of the k-th this is
 -- the first fault

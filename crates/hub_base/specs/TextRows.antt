@@ -4,7 +4,7 @@ use Rattle.std.specs.Prelude.{◌≡◌, List, ℕ, [], ◌∷◌, ◌++◌, cod
 use Rattle.std.specs.List.{flat_map, range_with_len}
 use Rattle.hub_base.specs.declared.text.faults.Kind.{Kind}
 use Rattle.hub_base.specs.declared.text.faults.Kind.TheVariants.{BadHeader, BadProcs, BadStep, BadNumber, CutLine}
-use Rattle.hub_base.specs.Notation.{procs, s, r, make, send, recv, select, close, exit}
+use Rattle.hub_base.specs.Notation.{procs, procs_two, s, r, make, send, recv, select, close, cancel, exit}
 use Rattle.hub_base.specs.Reading.{read_text, Reads, Faulty}
 
 -- the text of these lines
@@ -56,6 +56,18 @@ few_cases = refl
 pub head_alone : read_text (codes "chanhub journal 1\nprocs 64\n") ≡ Reads (procs 64) []
 head_alone = refl
 
+-- the same of the second edition, and its entries
+pub second_edition :
+    read_text (codes "chanhub journal 2\nprocs 3\n0 make 1\n")
+    ≡ Reads (procs_two 3) (make 0 1 ∷ [])
+second_edition = refl
+
+-- a cancel with the greatest numbers
+pub cancel_is_read :
+    read_text (codes "chanhub journal 2\nprocs 2\n255 cancel 255\n0 cancel 1\n")
+    ≡ Reads (procs_two 2) (cancel 255 255 ∷ cancel 0 1 ∷ [])
+cancel_is_read = refl
+
 -- ---- malformed texts
 -- each of these texts is malformed first at this line, in this way
 abbrev AllFaulty : ℕ → Kind → List (List ℕ) → Type 0
@@ -67,8 +79,9 @@ pub cut_lines :
     × AllFaulty 3 CutLine (codes "chanhub journal 1\nprocs 1\n0 make 1" ∷ [])
 cut_lines = (refl, refl, refl)
 
--- no text at all, and another version
-pub bad_headers : AllFaulty 1 BadHeader ([] ∷ codes "chanhub journal 3\nprocs 1\n" ∷ [])
+-- no text at all, a third edition, and one with a digit more
+pub bad_headers : AllFaulty 1 BadHeader (
+    [] ∷ codes "chanhub journal 3\nprocs 1\n" ∷ codes "chanhub journal 22\nprocs 1\n" ∷ [])
 bad_headers = refl
 
 -- no second line, too many processes and none, a leading zero, and a carriage return
@@ -98,6 +111,17 @@ pub bad_steps : AllFaulty 3 BadStep (map with_line (
     ∷ codes "0 select 0 r1:2 r1"
     ∷ codes "0 select 0 default r1" ∷ []))
 bad_steps = refl
+
+-- the first edition has no cancel, and in the second one names one process
+pub cancels_of_the_first_edition : AllFaulty 3 BadStep (with_line (codes "0 cancel 1") ∷ [])
+cancels_of_the_first_edition = refl
+
+pub bad_cancels :
+    AllFaulty 3 BadStep (
+    codes "chanhub journal 2\nprocs 2\n0 cancel\n"
+    ∷ codes "chanhub journal 2\nprocs 2\n0 cancel 1 1\n" ∷ [])
+    × AllFaulty 3 BadNumber (codes "chanhub journal 2\nprocs 2\n0 cancel 256\n" ∷ [])
+bad_cancels = (refl, refl)
 
 -- a select has at most sixteen cases
 abbrev sixteen_cases : List ℕ

@@ -1,7 +1,7 @@
 -- What was sent and received on a port, told from entries and events alone: the values of the sends
 -- that were answered `Sent`, and those of the receives that were answered `Got`, in order of the
 -- answers.
-use Rattle.std.specs.Prelude.{ℕ, ◌==◌, Bool, true, false, List, [], ◌∷◌, ◌++◌, Option, None, Some, slice_get, if◌then◌else◌}
+use Rattle.std.specs.Prelude.{◌==◌, Bool, true, false, List, [], ◌∷◌, ◌++◌, Option, None, Some, slice_get, if◌then◌else◌}
 use Rattle.std.specs.List.{filter_map}
 use Rattle.hub_base.specs.declared.value.Pid.{Pid}
 use Rattle.hub_base.specs.declared.value.Port.{Port}
@@ -9,7 +9,7 @@ use Rattle.hub_base.specs.declared.value.Value.{Value}
 use Rattle.hub_base.specs.declared.case.Case.{Case}
 use Rattle.hub_base.specs.declared.case.Case.TheVariants.{Send, Recv}
 use Rattle.hub_base.specs.declared.entry.Step.{Step}
-use Rattle.hub_base.specs.declared.entry.Step.TheVariants.{Make, Call, Close, Exit}
+use Rattle.hub_base.specs.declared.entry.Step.TheVariants.{Make, Call, Close, Exit, Cancel}
 use Rattle.hub_base.specs.declared.entry.Entry.{Entry}
 use Rattle.hub_base.specs.declared.head.Head.{Head}
 use Rattle.hub_base.specs.declared.event.Outcome.{Outcome}
@@ -40,6 +40,7 @@ is_fault what.Default = false
 is_fault what.Done = false
 is_fault what.Parked = false
 is_fault what.Stalled = false
+is_fault what.Cancelled = false
 
 -- whether the entry was answered by a fault
 abbrev pub refused : List Event → Bool
@@ -52,6 +53,7 @@ cases_or (Make cap) before = before
 cases_or (Call cases default word) before = cases.items
 cases_or (Close p) before = before
 cases_or Exit before = before
+cases_or (Cancel q) before = before
 
 -- the cases of the last call of a process that was not refused, after this turn
 abbrev pub latest : Pid → List Case → Turned → List Case
@@ -84,6 +86,7 @@ of_what pick cases what.Done = None
 of_what pick cases what.Parked = None
 of_what pick cases what.Stalled = None
 of_what pick cases (what.Fault f) = None
+of_what pick cases what.Cancelled = None
 
 -- what these turns tell by `pick`, where before them stand those turns
 abbrev pub values_from :

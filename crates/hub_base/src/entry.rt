@@ -2,7 +2,7 @@
 
 ghost use Rattle.std.specs.Prelude.{◌≡◌};
 
-use crate::{Cases, Pid, Port};
+use crate::{Cases, Edition, Pid, Port};
 
 /// One step of a process.
 #[derive(Debug, Drop, PartialEq, Eq)]
@@ -25,6 +25,9 @@ pub enum Step {
     Close(Port),
     /// Ends the process: no later step of it is admitted.
     Exit,
+    /// Ends the open call of this process with `What::Cancelled`. No value moves, and no port changes. Only a
+    /// journal of the second edition has it. Without an open call the answer is `Fault::NotParked`.
+    Cancel(Pid),
 }
 
 /// A step and the process that makes it.
@@ -37,6 +40,8 @@ pub struct Entry {
 }
 
 impl Entry {
+    ghost use Rattle.hub_base.specs.Head.{is_of};
+
     /// An equal entry. It takes no memory.
     pub fn copy(&self) -> Entry
         ensures { result ≡ self.now }
@@ -44,6 +49,16 @@ impl Entry {
         Entry {
             pid: self.pid,
             step: self.step.copy(),
+        }
+    }
+
+    /// Whether a journal of this edition can have the entry: of one of the first edition, no cancel is a step.
+    pub fn fits(&self, edition: Edition) -> bool
+        ensures { result ≡ is_of edition self.now.step }
+    {
+        match self.step {
+            Step::Make(_) | Step::Call { .. } | Step::Close(_) | Step::Exit => true,
+            Step::Cancel(_) => edition.has_cancel(),
         }
     }
 }
@@ -65,6 +80,7 @@ impl Step {
             },
             Step::Close(port) => Step::Close(*port),
             Step::Exit => Step::Exit,
+            Step::Cancel(pid) => Step::Cancel(*pid),
         }
     }
 }

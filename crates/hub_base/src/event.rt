@@ -26,7 +26,7 @@ pub enum What {
     Fired { case: u8, outcome: Outcome },
     /// No case could proceed, and the call has a default. Go: "Select statements".
     Default,
-    /// The close or the exit is done.
+    /// The close, the exit or the cancel is done.
     Done,
     /// No case can proceed: the call is open, and another event ends it.
     Parked,
@@ -34,6 +34,8 @@ pub enum What {
     Stalled,
     /// The step had no effect.
     Fault(Fault),
+    /// Another process cancelled the open call.
+    Cancelled,
 }
 
 /// What one process is told.

@@ -7,9 +7,9 @@ use thiserror::Error;
 /// Why a step had no effect.
 ///
 /// They are tested in the order 10, 1, 2, 3, then 11 where the journal has to grow and can't, then those
-/// of 4 to 9 that apply, by number, and last, for a make, 11 where its channel's memory is refused. Faults
-/// 4 to 9 are answers to journaled steps, which change no channel and no open call. The others are
-/// refusals: the step is not journaled and nothing changes.
+/// of 4 to 9 and 12 that apply, by number, and last, for a make, 11 where its channel's memory is refused.
+/// Faults 4 to 9 and 12 are answers to journaled steps, which change no channel and no open call. The others
+/// are refusals: the step is not journaled and nothing changes.
 #[derive(Clone, Copy, Debug, PartialEq, Eq, Error)]
 pub enum Fault {
     /// 1: the process number is not below the number of processes.
@@ -21,7 +21,8 @@ pub enum Fault {
     /// 3: the process has an open call.
     #[error("the process has an open call")]
     Busy,
-    /// 4: a call has more than `MOST_CASES` cases.
+    /// 4: a call has more cases than the edition admits: more than `MOST_CASES` in the first. In the second it
+    /// never comes, since an entry holds no more than a call may have.
     #[error("too many cases")]
     TooManyCases,
     /// 5: a case or a close names a port other than 0 that was not made.
@@ -46,12 +47,16 @@ pub enum Fault {
     /// 11: a growth was refused.
     #[error("out of memory")]
     NoMemory,
+    /// 12: a cancel of a process that has no open call: it is not below the number of processes, has exited, is
+    /// at work, or cancels itself.
+    #[error("no open call")]
+    NotParked,
 }
 
 impl Fault {
     ghost use Rattle.hub_base.specs.Faults.{fault_number};
 
-    /// The fault's number, 1 to 11, as event texts print it.
+    /// The fault's number, 1 to 12, as event texts print it.
     pub fn number(self) -> u8
         ensures { result ≡ fault_number self }
     {

@@ -1,8 +1,55 @@
 //! What the head lines of a journal say of its hub.
 
+ghost use Rattle.std.specs.Prelude.{◌≡◌};
+
+use crate::Entry;
+use crate::limits::{CASE_PLACES, MOST_CASES};
+
+/// The edition of a journal, and of the hub that writes it: which texts and which calls it admits. All else
+/// that a hub does is the same in both.
+#[derive(Clone, Copy, Debug, PartialEq, Eq)]
+pub enum Edition {
+    /// A journal whose first line is `chanhub journal 1`. A call has at most `MOST_CASES` cases.
+    One,
+    /// A journal whose first line is `chanhub journal 2`. A call has at most `CASE_PLACES` cases, as many as an
+    /// entry holds, and a process may cancel the open call of another.
+    Two,
+}
+
+impl Edition {
+    ghost use Rattle.std.specs.List.{list_all};
+    ghost use Rattle.hub_base.specs.Head.{most_cases, has_cancel, is_of};
+
+    /// The most cases that a call may have.
+    pub fn most_cases(self) -> usize
+        ensures { result ≡ most_cases self }
+    {
+        match self {
+            Edition::One => MOST_CASES,
+            Edition::Two => CASE_PLACES,
+        }
+    }
+
+    /// Whether a process may cancel the open call of another.
+    pub fn has_cancel(self) -> bool
+        ensures { result ≡ has_cancel self }
+    {
+        self == Edition::Two
+    }
+
+    /// Whether a journal of this edition can have all of these entries.
+    pub fn has_all(self, entries: &[Entry]) -> bool
+        ensures { result ≡ list_all (λ e. is_of self e.step) entries.now }
+    {
+        entries.iter().all(|entry| entry.fits(self))
+    }
+}
+
 /// What a journal says of its hub before the first entry, and what the meaning of its entries rests on.
 #[derive(Clone, Copy, Debug, PartialEq, Eq)]
 pub struct Head {
+    /// The edition, which the first line says.
+    pub edition: Edition,
     /// The number of processes, 1 to `MOST_PROCS` of every hub and every text.
     pub procs: u8,
 }

@@ -3,7 +3,7 @@
 ghost use Rattle.std.specs.Prelude.{◌≡◌};
 ghost use Rattle.hub_base.specs.Head.{head_of};
 
-use crate::{Entry, Head};
+use crate::{Edition, Entry, Head};
 use std::marker::Model;
 
 /// What the head lines say, and the entries in order.
@@ -25,13 +25,20 @@ impl Model for Journal {
 
 impl Journal {
     /// A journal of these entries. They need not be such as a hub admits.
-    pub fn of(procs: u8, entries: Vec<Entry>) -> Journal
-        ensures { result ≡ record { head = head_of procs; entries = entries.items } }
+    pub fn of(edition: Edition, procs: u8, entries: Vec<Entry>) -> Journal
+        ensures { result ≡ record { head = head_of edition procs; entries = entries.items } }
     {
         Journal {
-            head: Head { procs },
+            head: Head { edition, procs },
             list: entries,
         }
+    }
+
+    /// The edition.
+    pub fn edition(&self) -> Edition
+        ensures { result ≡ self.now.head.edition }
+    {
+        self.head.edition
     }
 
     /// The number of processes.

@@ -23,7 +23,7 @@ pub use counts::{Counts, Look};
 pub use entry::{Entry, Step, copy_cases};
 pub use event::{Event, Events, Outcome, What};
 pub use fault::Fault;
-pub use head::Head;
+pub use head::{Edition, Head};
 pub use journal::Journal;
 pub use limits::{
     CASE_PLACES, GREATEST_CAP, GREATEST_CASE, GREATEST_PID, GREATEST_PORT, GREATEST_VALUE,

@@ -6,11 +6,11 @@ pub const MOST_PROCS: usize = 64;
 /// The most ports of a hub. They are numbered from 1.
 pub const MOST_PORTS: usize = 64;
 
-/// The most cases that a call may have.
+/// The most cases that a call may have in the first edition.
 pub const MOST_CASES: usize = 8;
 
-/// The places that an entry has for cases, and so the most that a text may name. A call that names
-/// more than `MOST_CASES` is refused when it is made.
+/// The places that an entry has for cases: the most that a text may name, and the most that a call may have
+/// in the second edition. In the first, a call that names more than `MOST_CASES` is refused when it is made.
 pub const CASE_PLACES: usize = 16;
 
 /// The greatest capacity that a channel may have, in values.

@@ -51,11 +51,11 @@ waits_on-as : (s : State) (m : MachineLists) (pid : Pid) (cases : List Case) (de
     → StepsAs (waits s pid cases default) (after_call m (waits_on m.board m.counts m.steps pid cases default))
 waits_on-as s m pid cases true h = record {
   events = refl;
-  state = record { procs = h.procs; calls = h.calls; ports = h.ports; counts = h.counts; gone = h.gone };
+  state = record { edition = h.edition; procs = h.procs; calls = h.calls; ports = h.ports; counts = h.counts; gone = h.gone };
 }
 waits_on-as s m pid cases false h = record {
   events = refl;
-  state = record { procs = h.procs; calls = parked-calls s m pid m.steps cases h; ports = h.ports; counts = h.counts; gone = h.gone };
+  state = record { edition = h.edition; procs = h.procs; calls = parked-calls s m pid m.steps cases h; ports = h.ports; counts = h.counts; gone = h.gone };
 }
 
 -- o: the case that the choice word names among those that can proceed

@@ -1,4 +1,4 @@
--- A make, a close, an exit, and so each step, is on the lists what it is in the meaning.
+-- A make, a close, an exit, a cancel, and so each step, is on the lists what it is in the meaning.
 use Rattle.std.proofs.Common.{◌≡◌, ℕ, ◌+◌, ◌==◌, ◌<◌, ◌||◌, ◌≢◌, not, nat_lt, Bool, true, false, cond, List, []}
 use Rattle.std.proofs.Common.{◌∷◌, ◌++◌, length, filter, refl, ap, ◌∙◌, sym, subst, Option, Some, None, arith}
 use Rattle.std.specs.Prelude.{slice_set}
@@ -10,21 +10,21 @@ use Rattle.hub_base.specs.declared.value.Pid.{Pid}
 use Rattle.hub_base.specs.declared.value.Port.{Port}
 use Rattle.hub_base.specs.declared.case.Case.{Case}
 use Rattle.hub_base.specs.declared.entry.Step.{Step}
-use Rattle.hub_base.specs.declared.entry.Step.TheVariants.{Make, Call, Close, Exit}
+use Rattle.hub_base.specs.declared.entry.Step.TheVariants.{Make, Call, Close, Exit, Cancel}
 use Rattle.hub_base.specs.declared.fault.Fault.TheVariants as fault
 use Rattle.hub_base.specs.declared.event.What.TheVariants as what
-use Rattle.hub_base.specs.declared.limits.TheConstants.{MOST_CASES}
+use Rattle.hub_base.specs.Head.{most_cases}
 use Rattle.hub_base.specs.State.{State, Channel, channel_at}
-use Rattle.hub_base.specs.Ready.{is_on, port_of}
-use Rattle.hub_base.specs.Steps.{shut, closes, makes, exits, effect, tells, closing_event, is_unmade, fault_of, close_fault}
+use Rattle.hub_base.specs.Ready.{is_on, port_of, without}
+use Rattle.hub_base.specs.Steps.{shut, closes, makes, exits, cancels, is_waiting, effect, tells, closing_event, is_unmade, fault_of, close_fault}
 use Rattle.hub_laws.specs.Sound.{IsSound}
 use Rattle.hub_laws.proofs.Calls.{any_snoc}
 use Rattle.hub_laws.proofs.Ready.{none_false}
 use Rattle.std.proofs.lemmas.Bool.{eqb-true}
 use Rattle.hub_parts.specs.Records.{Ticketed}
-use Rattle.hub_parts.specs.Lists.{open_calls, port_at, closed_now, new_port}
+use Rattle.hub_parts.specs.Lists.{open_calls, still_open, port_at, closed_now, new_port}
 use Rattle.hub_core.specs.Records.{MachineLists, no_tally}
-use Rattle.hub_core.specs.ListSteps.{off_port, closes_on, makes_on, exits_on, effect_on, gone_on, is_unmade_on, call_fault_on, fault_on}
+use Rattle.hub_core.specs.ListSteps.{off_port, closes_on, makes_on, exits_on, cancels_on, effect_on, gone_on, open_on, is_unmade_on, call_fault_on, fault_on}
 use Rattle.hub_core.specs.Follows.{lists_of, tally_of, Matches}
 use Rattle.hub_core.specs.Agrees.{StepsAs}
 use Rattle.hub_core.proofs.Ports.{port-lists_of, ports-set, counts-same}
@@ -42,6 +42,7 @@ closes_on-as s m pid p None h is fine = cc
 closes_on-as s m pid p (Some c) h is fine = record {
   events = ap (λ calls. tells pid what.Done ∷ filter_map (closing_event p) calls) h.calls;
   state = record {
+    edition = h.edition;
     procs = h.procs;
     calls = open_calls-off_port p m.board.waiting ∙ ap (filter (λ call. not (list_any (is_on p) call.cases))) h.calls;
     ports = ports-set s m p (shut c) _ h (ap closed_now (port-lists_of s m p c h (sym is)));
@@ -55,6 +56,7 @@ makes_on-as : (s : State) (m : MachineLists) (pid : Pid) (cap : ℕ) → Matches
 makes_on-as s m pid cap h = record {
   events = ap (λ n. tells pid (what.Made (record { 0 = n + 1 })) ∷ []) (count-ports s m h);
   state = record {
+    edition = h.edition;
     procs = h.procs;
     calls = h.calls;
     ports = ap (λ ps. ps ++ new_port cap ∷ []) h.ports
@@ -81,6 +83,7 @@ exits_on-as : (s : State) (m : MachineLists) (pid : Pid) → Matches s m → pid
 exits_on-as s m pid h room = record {
   events = refl;
   state = record {
+    edition = h.edition;
     procs = h.procs;
     calls = h.calls;
     ports = h.ports;
@@ -89,13 +92,32 @@ exits_on-as s m pid h room = record {
   };
 }
 
+-- ---- a cancel
+open_calls-still_open : (q : Pid) (ws : List Ticketed) → open_calls (still_open q ws) ≡ without q (open_calls ws)
+open_calls-still_open q [] = refl
+open_calls-still_open q (w ∷ ws) = grind (arith, common_steps, open_calls-still_open q ws)
+
+cancels_on-as : (s : State) (m : MachineLists) (pid q : Pid) → Matches s m → StepsAs (cancels s pid q) (cancels_on m pid q)
+cancels_on-as s m pid q h = record {
+  events = refl;
+  state = record {
+    edition = h.edition;
+    procs = h.procs;
+    calls = open_calls-still_open q m.board.waiting ∙ ap (without q) h.calls;
+    ports = h.ports;
+    counts = h.counts;
+    gone = h.gone;
+  };
+}
+
 -- ---- the faults that are journaled
 unmade-as : (s : State) (m : MachineLists) (p : Port) → Matches s m → is_unmade_on m.board p ≡ is_unmade s p
 unmade-as s m p h = ap (λ n. nat_lt n p.0) (count-ports s m h)
 
-call_fault-as : (s : State) (m : MachineLists) (cases : List Case) → Matches s m → call_fault_on m.board cases
-    ≡ cond (nat_lt MOST_CASES (length cases)) (Some fault.TooManyCases) (cond (list_any (λ c. is_unmade s (port_of c)) cases) (Some fault.NoPort) None)
-call_fault-as s m cases h = rw (count-ports s m h) refl
+call_fault-as : (s : State) (m : MachineLists) (cases : List Case) → Matches s m → call_fault_on m.edition m.board cases
+    ≡ cond (nat_lt (most_cases s.head.edition) (length cases)) (Some fault.TooManyCases)
+    (cond (list_any (λ c. is_unmade s (port_of c)) cases) (Some fault.NoPort) None)
+call_fault-as s m cases h = rw (count-ports s m h, h.edition) refl
 
 close_fault_by : (s : State) (m : MachineLists) (p : Port) (unmade nil : Bool) → Matches s m → is_unmade s p ≡ unmade → (p.0 == 0) ≡ nil
     → cond unmade (Some fault.NoPort) (cond nil (Some fault.NilClose) (cond (port_at m.board p).closed (Some fault.AlreadyClosed) None))
@@ -106,11 +128,19 @@ close_fault_by s m p false false h named is =
     let found = made_channel s p named is in
     rw (port-lists_of s m p found.0 h found.1, found.1) refl
 
-pub fault_on-as : (s : State) (m : MachineLists) (step : Step) → Matches s m → fault_on m.board step ≡ fault_of s step
+open_calls-any : (q : ℕ) (ws : List Ticketed) → open_on ws q ≡ list_any (λ call. call.pid.0 == q) (open_calls ws)
+open_calls-any q [] = refl
+open_calls-any q (w ∷ ws) = ap (λ b. (w.call.pid.0 == q) || b) (open_calls-any q ws)
+
+open_on-as : (s : State) (m : MachineLists) (q : Pid) → Matches s m → open_on m.board.waiting q.0 ≡ is_waiting s q.0
+open_on-as s m q h = open_calls-any q.0 m.board.waiting ∙ ap (list_any (λ call. call.pid.0 == q.0)) h.calls
+
+pub fault_on-as : (s : State) (m : MachineLists) (step : Step) → Matches s m → fault_on m.edition m.board step ≡ fault_of s step
 fault_on-as s m (Make cap) h = rw (count-ports s m h) refl
 fault_on-as s m (Call cases default word) h = call_fault-as s m cases.items h
 fault_on-as s m (Close p) h = rw (unmade-as s m p h) (close_fault_by s m p (is_unmade s p) (p.0 == 0) h refl refl)
 fault_on-as s m Exit h = refl
+fault_on-as s m (Cancel q) h = ap (λ b. cond b None (Some fault.NotParked)) (open_on-as s m q h)
 
 -- ---- a step that has no fault
 named_cases : (s : State) (cases : List Case) (many : Bool)
@@ -122,7 +152,8 @@ pub effect_on-as : (s : State) (m : MachineLists) (pid : Pid) (step : Step) → 
     → fault_of s step ≡ None → StepsAs (effect s pid step) (effect_on m pid step)
 effect_on-as s m pid (Make cap) sound h room fine = makes_on-as s m pid cap h
 effect_on-as s m pid (Call cases default word) sound h room fine =
-    calls_on-as s m pid cases.items default word sound h (named_cases s cases.items (nat_lt MOST_CASES (length cases.items)) fine)
+    calls_on-as s m pid cases.items default word sound h (named_cases s cases.items (nat_lt (most_cases s.head.edition) (length cases.items)) fine)
 effect_on-as s m pid (Close p) sound h room fine =
     closes_on-as s m pid p (channel_at s p) h refl (none_false (is_unmade s p) fault.NoPort (close_fault (channel_at s p)) fine).1
 effect_on-as s m pid Exit sound h room fine = exits_on-as s m pid h room
+effect_on-as s m pid (Cancel q) sound h room fine = cancels_on-as s m pid q h

@@ -37,7 +37,7 @@ handed-tally_of v c = ap (λ n. record { sent = n; received = c.received + 1 }) 
 moved : (s : State) (m : MachineLists) (p : Port) (d : Channel) (ps : List PortLists) (ts : List Tally) → Matches s m
     → ps ≡ map lists_of (slice_set s.channels (p.0 - 1) d) → ts ≡ map tally_of (slice_set s.channels (p.0 - 1) d)
     → Matches (with_channel s p d) (with_board m (record m.board { ports = ps }) ts)
-moved s m p d ps ts h ports counts = record { procs = h.procs; calls = h.calls; ports = ports; counts = counts; gone = h.gone }
+moved s m p d ps ts h ports counts = record { edition = h.edition; procs = h.procs; calls = h.calls; ports = ports; counts = counts; gone = h.gone }
 
 -- a value went from a sender to a receiver: the call that waited has ended, and these are the ports
 handed : (s : State) (m : MachineLists) (p : Port) (c : Channel) (u : Value) (pid : Pid) (ps : List PortLists) → Matches s m → channel_at s p ≡ Some c
@@ -45,6 +45,7 @@ handed : (s : State) (m : MachineLists) (p : Port) (c : Channel) (u : Value) (pi
     → Matches (with_channel (record s { parked = without pid s.parked }) p (after_receive (after_send u c)))
     (with_board m (record m.board { waiting = still_open pid m.board.waiting; ports = ps }) (one_handed p m.counts))
 handed s m p c u pid ps h e is = record {
+  edition = h.edition;
   procs = h.procs;
   calls = open_calls-still_open pid m.board.waiting ∙ ap (without pid) h.calls;
   ports = is;
@@ -78,7 +79,7 @@ send_by : (closed : Bool) (s : State) (m : MachineLists) (p : Port) (v : Value) 
 send_by true s m p v c o sound h e is = record {
   outcome = refl;
   ended = refl;
-  state = record { procs = h.procs; calls = h.calls; ports = h.ports; counts = h.counts; gone = h.gone };
+  state = record { edition = h.edition; procs = h.procs; calls = h.calls; ports = h.ports; counts = h.counts; gone = h.gone };
 }
 send_by false s m p v c o sound h e is = send_to-as s m p v c o sound h e is
 
@@ -137,7 +138,7 @@ recv_from-as : (s : State) (m : MachineLists) (p : Port) (c : Channel) (o : Opti
     → channel_at s p ≡ Some c → o ≡ first_with (is_send_on p) s.parked → FiresAs (recv_meets s p c o) m (recv_from m.board m.counts p o)
 recv_from-as s m p c None sound h e is = rw (first_at s m p c h e) (take_value-as s m p c (next_value c) (sound.ports p c e) h e refl)
 recv_from-as s m p c (Some x) sound h e is =
-    let f = first-found (CallFits (length s.channels)) (is_send_on p) s.parked x sound.calls (sym is) in
+    let f = first-found (CallFits s.head.edition (length s.channels)) (is_send_on p) s.parked x sound.calls (sym is) in
     let_in-as s m p c x x.at.case f.passes (sound.ports p c e) h e
 
 pub recv-as : (s : State) (m : MachineLists) (p : Port) (c : Channel) → IsSound s → Matches s m → channel_at s p ≡ Some c

@@ -1,7 +1,9 @@
 -- The journal of a hub has room for its places and for the exit of each process, and what a step leaves of a hub.
 use Rattle.std.proofs.Common.{◌≡◌, ℕ, zero, suc, ◌+◌, ◌-◌, ◌≤◌, ◌<◌, ◌^◌, Bool, true, false, cond, List, [], ◌∷◌}
-use Rattle.std.proofs.Common.{◌++◌, length, refl, ap, ◌∙◌, sym, subst, None, arith, length-append}
+use Rattle.std.proofs.Common.{◌++◌, length, refl, ap, ◌∙◌, sym, subst, ◌&&◌, None, arith, length-append}
 use Rattle.std.specs.Prelude.{◌==◌, ◌↔◌, IsTrue, slice_set, slice_index_or, Result, Ok, Err, IsErr, IsErrAnd}
+use Rattle.std.specs.List.{list_all}
+use Rattle.std.proofs.lemmas.List.Folds.{list_all-append}
 use Rattle.std.proofs.Math.Seq.{get_or-append_seam, set-append_seam}
 use Rattle.std.specs.Global.{Vec}
 use Rattle.std.specs.Vec.{vec_capacity}
@@ -12,9 +14,10 @@ use Rattle.hub_base.specs.declared.case.Case.{Case}
 use Rattle.hub_base.specs.declared.event.Event.{Event}
 use Rattle.hub_base.specs.declared.fault.Fault.{Fault}
 use Rattle.hub_base.specs.declared.entry.Step.{Step}
-use Rattle.hub_base.specs.declared.entry.Step.TheVariants.{Make, Call, Close, Exit}
+use Rattle.hub_base.specs.declared.entry.Step.TheVariants.{Make, Call, Close, Exit, Cancel}
 use Rattle.hub_base.specs.declared.entry.Entry.{Entry}
 use Rattle.hub_base.specs.declared.limits.TheConstants.{MOST_PROCS, MOST_STEPS}
+use Rattle.hub_base.specs.Head.{is_of}
 use Rattle.hub_base.specs.Steps.{refusal}
 use Rattle.hub_base.specs.Runs.{state, kept}
 use Rattle.hub_base.specs.Reading.{is_exit}
@@ -67,6 +70,8 @@ room_after (Call cases default word) count length (suc places) procs capacity fe
 room_after (Close p) count length zero procs capacity few room spare = omega (arith, spare refl)
 room_after (Close p) count length (suc places) procs capacity few room spare = omega arith
 room_after Exit count length places procs capacity few room spare = omega arith
+room_after (Cancel q) count length zero procs capacity few room spare = omega (arith, spare refl)
+room_after (Cancel q) count length (suc places) procs capacity few room spare = omega arith
 
 within_by : (b : Bool) (count limit : ℕ) → count ≤ limit → (b ≡ false → count < limit) → cond b count (count + 1) ≤ limit
 within_by true count limit h room = h
@@ -111,13 +116,17 @@ has_place h e k takes =
     (made_room h e k takes)
 
 pub keeps_made : (h : Inside) (e : Entry) (entries : Vec Entry) (machine : MachineLists) (told : List Event) (count places : ℕ) → HubKeeps h
-    → Takes (shown h) e → Turns h.machine e machine told → entries.items ≡ h.entries.items ++ e ∷ [] → vec_capacity entries ≡ vec_capacity h.entries
+    → Takes (shown h) e → is_of h.terms.head.edition e.step ≡ true → Turns h.machine e machine told
+    → entries.items ≡ h.entries.items ++ e ∷ [] → vec_capacity entries ≡ vec_capacity h.entries
     → count ≡ count_after e.step h.count → places ≡ places_after e.step h.places
     → HubKeeps (record { terms = h.terms; places = places; count = count; machine = machine; entries = entries })
-keeps_made h e entries machine told count places k takes turns grown same counted placed = record {
+keeps_made h e entries machine told count places k takes fits turns grown same counted placed = record {
   head = k.head;
   limit = k.limit;
   legal = ap (kept h.terms.head) grown ∙ legal_longer h.terms.head h.entries.items e k.legal takes.admitted ∙ sym grown;
+  fits = ap (list_all (λ x. is_of h.terms.head.edition x.step)) grown
+      ∙ list_all-append (λ x. is_of h.terms.head.edition x.step) h.entries.items (e ∷ [])
+      ∙ ap (λ b. b && (is_of h.terms.head.edition e.step && true)) k.fits ∙ ap (λ b. b && true) fits;
   follows = subst (λ (es : List Entry). Follows h.terms.head es machine) (sym grown) (turns.ok h.terms.head h.entries.items k.follows).follows;
   count = counted ∙ count-snoc h.entries.items e h.count k.count ∙ ap steps_of (sym grown);
   within = omega (arith, counted, count_within e.step h.count h.terms.limit k.within (λ exit. omega (arith, takes.room exit, k.count)));

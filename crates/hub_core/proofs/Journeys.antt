@@ -1,12 +1,16 @@
 -- A run, entry by entry.
-use Rattle.std.proofs.Common.{◌≡◌, ℕ, ◌+◌, ◌<◌, Bool, true, false, List, [], ◌++◌}
+use Rattle.std.proofs.Common.{◌≡◌, ℕ, zero, suc, ◌+◌, ◌<◌, Bool, true, false, List, [], ◌∷◌, ◌++◌}
 use Rattle.std.proofs.Common.{length, take, refl, ap, ◌∙◌, sym, subst, Some, arith, nat_lt}
 use Rattle.std.specs.Prelude.{slice_get}
+use Rattle.std.specs.List.{list_all}
+use Rattle.std.proofs.lemmas.Bool.{and_parts}
 use Rattle.std.proofs.lemmas.Grind.{common_steps}
 use Rattle.std.proofs.lemmas.List.{take_all}
 use Rattle.std.proofs.lemmas.Option.{slice_get_within}
 use Rattle.hub_base.specs.declared.entry.Entry.{Entry}
 use Rattle.hub_base.specs.declared.event.Event.{Event}
+use Rattle.hub_base.specs.declared.head.Edition.{Edition}
+use Rattle.hub_base.specs.Head.{is_of, AreOf}
 use Rattle.hub_base.specs.State.{State, channel_at}
 use Rattle.hub_base.specs.Steps.{refusal}
 use Rattle.hub_base.specs.Runs.{state, events, kept, keeps, moves}
@@ -17,7 +21,7 @@ use Rattle.hub_laws.proofs.Longer.{events-entry, kept-entry}
 use Rattle.hub_laws.proofs.Totals.{take_next}
 use Rattle.hub_laws.proofs.Values.{values-law}
 use Rattle.hub_core.specs.declared.terms.Terms.{Terms}
-use Rattle.hub_core.specs.HubView.{HubView, state_of, HasRoom, IsFullFor}
+use Rattle.hub_core.specs.HubView.{HubView, opened_hub, state_of, HasRoom, IsFullFor}
 use Rattle.hub_base.specs.declared.fault.Fault.{Fault}
 use Rattle.hub_base.specs.declared.fault.Fault.TheVariants as fault
 use Rattle.hub_core.specs.RunsTo.{RunsTo, TellsOn, StopsAt, IsFullAt, IsFirstFull, IsOpenUpTo, RefusesAt, KeepsValues}
@@ -26,6 +30,12 @@ use Rattle.hub_core.specs.RunsTo.{RunsTo, TellsOn, StopsAt, IsFullAt, IsFirstFul
 pub record RunSoFar (terms : Terms) (es : List Entry) (i : ℕ) (hub : HubView) (told : List Event) : Type 0 where
   pub run : RunsTo terms (take i es) hub told
   pub room : (j : ℕ) → j < i → ¬ IsFullAt terms es j
+
+-- the same, where the run's hub was opened with these terms
+pub so_far : (terms : Terms) (opened : HubView) (es : List Entry) (i : ℕ) (hub : HubView) (told : List Event) → opened ≡ opened_hub terms
+    → RunSoFar opened.terms es i hub told → RunSoFar terms es i hub told
+so_far terms opened es i hub told is so =
+    subst (λ (t : Terms). RunSoFar t es i hub told) (ap (λ (h : HubView). h.terms) is) so
 
 limit-of : {s t : Terms} → s ≡ t → s.limit ≡ t.limit
 limit-of is = ap (λ (t : Terms). t.limit) is
@@ -43,6 +53,20 @@ not_full terms es i e hub told r h room = λ full.
     let same = same_entry es i e full.entry h full.stands in
     let step : is_exit e.step ≡ false = ap (λ (f : Entry). is_exit f.step) (sym same) ∙ full.step in
     absurd (omega (arith, room step, full.full, ap steps_of r.journal, limit-of r.terms))
+
+fits_at : (edition : Edition) (es : List Entry) (i : ℕ) (e : Entry) → AreOf edition es → slice_get es i ≡ Some e → is_of edition e.step ≡ true
+fits_at edition [] i e all h = cc
+fits_at edition (x ∷ es) zero e all h =
+    let same : x ≡ e = cc in
+    subst (λ (y : Entry). is_of edition y.step ≡ true) same (and_parts (is_of edition x.step) (list_all (λ y. is_of edition y.step) es) all).0
+fits_at edition (x ∷ es) (suc i) e all h =
+    fits_at edition es i e (and_parts (is_of edition x.step) (list_all (λ y. is_of edition y.step) es) all).1 h
+
+-- the hub's edition has the next entry of the run
+pub next_fits : (terms : Terms) (es : List Entry) (i : ℕ) (e : Entry) (hub : HubView) (told : List Event) → AreOf terms.head.edition es
+    → RunSoFar terms es i hub told → slice_get es i ≡ Some e → is_of hub.terms.head.edition e.step ≡ true
+next_fits terms es i e hub told all r h =
+    subst (λ (t : Terms). is_of t.head.edition e.step ≡ true) (sym r.run.terms) (fits_at terms.head.edition es i e all h)
 
 -- one entry more that is no place where the journal is full
 more_room : (terms : Terms) (es : List Entry) (i : ℕ) → ((j : ℕ) → j < i → ¬ IsFullAt terms es j) → ¬ IsFullAt terms es i → (j : ℕ)

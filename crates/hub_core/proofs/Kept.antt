@@ -7,7 +7,7 @@ use Rattle.hub_base.specs.declared.value.Value.{Value}
 use Rattle.hub_base.specs.declared.case.Case.{Case}
 use Rattle.hub_base.specs.declared.case.Case.TheVariants.{Send, Recv}
 use Rattle.hub_base.specs.declared.entry.Step.{Step}
-use Rattle.hub_base.specs.declared.entry.Step.TheVariants.{Make, Call, Close, Exit}
+use Rattle.hub_base.specs.declared.entry.Step.TheVariants.{Make, Call, Close, Exit, Cancel}
 use Rattle.hub_base.specs.declared.entry.Entry.{Entry}
 use Rattle.hub_base.specs.declared.fault.Fault.{Fault}
 use Rattle.hub_base.specs.declared.event.Outcome.TheVariants.{Closed}
@@ -90,6 +90,7 @@ module _ (P : Ticketed → Type 0) (n : ℕ) where
   Opens pid (Call cases default word) = P (ticketed pid n cases.items)
   Opens pid (Close p) = Unit {0}
   Opens pid Exit = Unit {0}
+  Opens pid (Cancel q) = Unit {0}
 
   pub effect_on_leaves : (m : MachineLists) (pid : Pid) (step : Step) → m.steps ≡ n → Opens pid step → Leaves m.board (effect_on m pid step).machine.board
   effect_on_leaves m pid (Make cap) is new = same_calls m.board _ refl refl refl
@@ -97,6 +98,7 @@ module _ (P : Ticketed → Type 0) (n : ℕ) where
       rw is (chooses_on_leaves m.board m.counts pid cases.items default (chosen_on m.board cases.items word) new)
   effect_on_leaves m pid (Close p) is new = record { waiting = λ h. all_kept P _ m.board.waiting h; next = λ h. omega arith; procs = refl }
   effect_on_leaves m pid Exit is new = same_calls m.board _ refl refl refl
+  effect_on_leaves m pid (Cancel q) is new = one_ended m.board _ q refl refl refl
 
   stalls_on_leaves : (b : Lists) (c : ListChange) → Leaves b c.machine.board → Leaves b (stalls_on c).machine.board
   stalls_on_leaves b c h =

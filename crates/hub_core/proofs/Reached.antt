@@ -12,7 +12,9 @@ use Rattle.hub_base.specs.declared.entry.Step.{Step}
 use Rattle.hub_base.specs.declared.entry.Entry.{Entry}
 use Rattle.hub_base.specs.declared.event.Event.{Event}
 use Rattle.hub_base.specs.declared.fault.Fault.TheVariants as fault
-use Rattle.hub_base.specs.declared.limits.TheConstants.{MOST_CASES, MOST_EVENTS, MOST_PROCS}
+use Rattle.hub_base.specs.declared.head.Edition.{Edition}
+use Rattle.hub_base.specs.declared.limits.TheConstants.{MOST_EVENTS, MOST_PROCS}
+use Rattle.hub_base.specs.Head.{most_cases}
 use Rattle.hub_base.specs.State.{State, Channel, channel_at}
 use Rattle.hub_base.specs.Ready.{port_of}
 use Rattle.hub_base.specs.Steps.{fault_of, effect}
@@ -97,7 +99,7 @@ pub record BeforeStall (m : MachineLists) (told : List Event) : Type 0 where
   pub apart : Apart (open_calls m.board.waiting)
   pub room : length told + length m.board.waiting ≤ MOST_EVENTS
 
-before_stall : (m : MachineLists) (pid : Pid) (step : Step) → IsReached m → refusal_of m.board m.gone pid ≡ None → fault_on m.board step ≡ None
+before_stall : (m : MachineLists) (pid : Pid) (step : Step) → IsReached m → refusal_of m.board m.gone pid ≡ None → fault_on m.edition m.board step ≡ None
     → m.board.procs ≤ MOST_PROCS → length m.gone ≡ MOST_PROCS → BeforeStall (effect_on m pid step).machine (effect_on m pid step).events
 before_stall m pid step r h fine few places =
     let s = state r.0 r.1 in
@@ -119,7 +121,7 @@ before_stall m pid step r h fine few places =
 
 -- the same, of the machine and the events that a step left
 pub before_stall_of : (m next : MachineLists) (pid : Pid) (step : Step) (told : List Event) → IsReached m → refusal_of m.board m.gone pid ≡ None →
-    fault_on m.board step ≡ None → m.board.procs ≤ MOST_PROCS → length m.gone ≡ MOST_PROCS →
+    fault_on m.edition m.board step ≡ None → m.board.procs ≤ MOST_PROCS → length m.gone ≡ MOST_PROCS →
     next ≡ (effect_on m pid step).machine → told ≡ (effect_on m pid step).events → BeforeStall next told
 before_stall_of m next pid step told r h fine few places machine events =
     rw (machine, events) (before_stall m pid step r h fine few places)
@@ -131,7 +133,7 @@ named_by ports (c ∷ cases) h =
     let parts = or_parts (nat_lt ports (port_of c).0) (list_any (λ c. nat_lt ports (port_of c).0) cases) h in
     (grind (arith, common_steps, parts.0), named_by ports cases parts.1)
 
-pub call_named : (b : Lists) (cases : List Case) → call_fault_on b cases ≡ None → AllMade (length b.ports) cases
-call_named b cases h =
+pub call_named : (edition : Edition) (b : Lists) (cases : List Case) → call_fault_on edition b cases ≡ None → AllMade (length b.ports) cases
+call_named edition b cases h =
     named_by (length b.ports) cases (none_false (list_any (λ c. is_unmade_on b (port_of c)) cases) fault.NoPort None
-    (none_false (nat_lt MOST_CASES (length cases)) fault.TooManyCases _ h).1).0
+    (none_false (nat_lt (most_cases edition) (length cases)) fault.TooManyCases _ h).1).0

@@ -57,7 +57,14 @@ stalls_by c d true same = record {
   events =
       ap (λ es. es ++ stalled_events d.machine.board.waiting) same.events
       ∙ ap (λ es. c.events ++ es) (stalled-calls d.machine.board.waiting ∙ ap (filter_map (λ call. Some (tells call.pid what.Stalled))) same.state.calls);
-  state = record { procs = same.state.procs; calls = refl; ports = same.state.ports; counts = same.state.counts; gone = same.state.gone };
+  state = record {
+    edition = same.state.edition;
+    procs = same.state.procs;
+    calls = refl;
+    ports = same.state.ports;
+    counts = same.state.counts;
+    gone = same.state.gone;
+  };
 }
 stalls_by c d false same = same
 

@@ -3,7 +3,7 @@ use Rattle.std.specs.Prelude.{◌≡◌, ◌≤◌, ◌<◌, ◌+◌, ℕ, List,
 use Rattle.std.specs.List.{AllByRecursion}
 use Rattle.hub_base.specs.declared.case.Case.{Case}
 use Rattle.hub_base.specs.declared.entry.Step.{Step}
-use Rattle.hub_base.specs.declared.entry.Step.TheVariants.{Make, Call, Close, Exit}
+use Rattle.hub_base.specs.declared.entry.Step.TheVariants.{Make, Call, Close, Exit, Cancel}
 use Rattle.hub_base.specs.declared.entry.Entry.{Entry}
 use Rattle.hub_base.specs.declared.head.Head.{Head}
 use Rattle.hub_base.specs.declared.event.Event.{Event}
@@ -28,6 +28,7 @@ tally_of c = record { sent = length c.sent; received = c.received }
 
 -- the machine's lists stand for the state: its open calls in order, its buffers, its counts, and who has exited
 pub record Matches (s : State) (m : MachineLists) : Type 0 where
+  pub edition : m.edition ≡ s.head.edition
   pub procs : m.board.procs ≡ s.head.procs
   pub calls : open_calls m.board.waiting ≡ s.parked
   pub ports : m.board.ports ≡ map lists_of s.channels
@@ -40,6 +41,7 @@ HasCases (Make cap) cases = ⊥
 HasCases (Call given default word) cases = given.items ≡ cases
 HasCases (Close p) cases = ⊥
 HasCases Exit cases = ⊥
+HasCases (Cancel q) cases = ⊥
 
 -- the entry is the one that opened this call
 abbrev pub IsEntryOf : Option Entry → OpenCall → Type 0
@@ -78,6 +80,7 @@ IsMake (Make cap) = Unit {0}
 IsMake (Call cases default word) = ⊥
 IsMake (Close p) = ⊥
 IsMake Exit = ⊥
+IsMake (Cancel q) = ⊥
 
 -- the step meets no fault, so a fault is not its answer
 abbrev pub IsFine : State → Entry → Type 0

@@ -6,7 +6,7 @@ use Rattle.hub_base.specs.declared.value.Pid.{Pid}
 use Rattle.hub_base.specs.declared.entry.Step.{Step}
 use Rattle.hub_base.specs.declared.entry.Entry.{Entry}
 use Rattle.hub_base.specs.Steps.{refusal}
-use Rattle.hub_base.specs.Head.{IsHead}
+use Rattle.hub_base.specs.Head.{IsHead, AreOf}
 use Rattle.hub_base.specs.Reading.{is_exit}
 use Rattle.hub_base.specs.Runs.{kept}
 use Rattle.hub_base.specs.Text.{steps_of}
@@ -23,6 +23,8 @@ pub record HubKeeps (h : Inside) : Type 0 where
   pub limit : IsLimit h.terms.limit
   -- each entry was admitted
   pub legal : kept h.terms.head h.entries.items ≡ h.entries.items
+  -- and is one that the edition has
+  pub fits : AreOf h.terms.head.edition h.entries.items
   pub follows : Follows h.terms.head h.entries.items h.machine
   -- the entries that are no exits are counted
   pub count : h.count ≡ steps_of h.entries.items

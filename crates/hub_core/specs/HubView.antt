@@ -2,7 +2,7 @@
 -- of `state terms.head journal`.
 use Rattle.std.specs.Prelude.{◌≡◌, ◌≤◌, ◌<◌, ◌+◌, ◌-◌, ◌⊎◌, ℕ, Bool, false, List, [], ◌∷◌, ◌++◌, length, None, Some, Result, IfErr, OnErr, IsErrOf}
 use Rattle.hub_base.specs.declared.entry.Step.{Step}
-use Rattle.hub_base.specs.declared.entry.Step.TheVariants.{Make, Call, Close, Exit}
+use Rattle.hub_base.specs.declared.entry.Step.TheVariants.{Make, Call, Close, Exit, Cancel}
 use Rattle.hub_base.specs.declared.entry.Entry.{Entry}
 use Rattle.hub_base.specs.declared.case.Case.{Case}
 use Rattle.hub_base.specs.declared.value.Pid.{Pid}
@@ -13,6 +13,7 @@ use Rattle.hub_base.specs.declared.limits.TheConstants.{MOST_PROCS, MOST_STEPS}
 use Rattle.hub_base.specs.State.{State}
 use Rattle.hub_base.specs.Steps.{refusal}
 use Rattle.hub_base.specs.Runs.{state, moves}
+use Rattle.hub_base.specs.declared.head.Edition.{Edition}
 use Rattle.hub_base.specs.Head.{IsHead, head_of}
 use Rattle.hub_base.specs.Reading.{is_exit}
 use Rattle.hub_base.specs.Lines.{call}
@@ -53,12 +54,13 @@ HasRoom h e = is_exit e.step ≡ false → steps_of h.journal < h.terms.limit
 abbrev pub IsFullFor : HubView → Entry → Type 0
 IsFullFor h e = (is_exit e.step ≡ false) × (h.terms.limit ≤ steps_of h.journal)
 
--- a close or a call takes one place
+-- a call, a close or a cancel takes one place
 abbrev pub places_after : Step → ℕ → ℕ
 places_after (Make cap) places = places
 places_after (Call cases default word) places = places - 1
 places_after (Close p) places = places - 1
 places_after Exit places = places
+places_after (Cancel q) places = places - 1
 
 -- the hub with one entry more
 abbrev pub with_entry : Entry → HubView → HubView
@@ -76,12 +78,13 @@ pub record Steps (old : HubView) (e : Entry) (new : HubView) (told : List Event)
   pub events : told ≡ (moves (state_of old) e).events
   pub journal : new ≡ with_entry e old
 
--- a growth is asked for by a make, and by a close or a call where no place is left
+-- a growth is asked for by a make, and by a call, a close or a cancel where no place is left
 abbrev pub Grows : Step → ℕ → Type 0
 Grows (Make cap) places = Unit {0}
 Grows (Call cases default word) places = places ≡ 0
 Grows (Close p) places = places ≡ 0
 Grows Exit places = ⊥
+Grows (Cancel q) places = places ≡ 0
 
 -- an entry more fits beside the places and an exit of each process, so that the journal need not grow
 abbrev pub HasSpare : HubInMemory → Type 0
@@ -115,9 +118,9 @@ pub record StepRules {A : Type 0} (old : HubInMemory) (e : Entry) (new : HubInMe
 abbrev pub opened_hub : Terms → HubView
 opened_hub t = record { terms = t; journal = []; places = 0 }
 
--- so many processes, and this limit
-abbrev pub terms_of : ℕ → ℕ → Terms
-terms_of procs limit = record { head = head_of procs; limit = limit }
+-- this edition, so many processes, and this limit
+abbrev pub terms_of : Edition → ℕ → ℕ → Terms
+terms_of edition procs limit = record { head = head_of edition procs; limit = limit }
 
 -- a limit of a journal
 abbrev pub IsLimit : ℕ → Type 0

@@ -7,18 +7,20 @@ use Rattle.hub_base.specs.declared.value.Pid.{Pid}
 use Rattle.hub_base.specs.declared.value.Port.{Port}
 use Rattle.hub_base.specs.declared.case.Case.{Case}
 use Rattle.hub_base.specs.declared.entry.Step.{Step}
-use Rattle.hub_base.specs.declared.entry.Step.TheVariants.{Make, Call, Close, Exit}
+use Rattle.hub_base.specs.declared.entry.Step.TheVariants.{Make, Call, Close, Exit, Cancel}
 use Rattle.hub_base.specs.declared.entry.Entry.{Entry}
 use Rattle.hub_base.specs.declared.fault.Fault.{Fault}
 use Rattle.hub_base.specs.declared.fault.Fault.TheVariants as fault
 use Rattle.hub_base.specs.declared.event.What.{What}
 use Rattle.hub_base.specs.declared.event.What.TheVariants as what
 use Rattle.hub_base.specs.declared.event.Event.{Event}
-use Rattle.hub_base.specs.declared.limits.TheConstants.{MOST_CAP, MOST_CASES, MOST_PORTS}
+use Rattle.hub_base.specs.declared.head.Edition.{Edition}
+use Rattle.hub_base.specs.declared.limits.TheConstants.{MOST_CAP, MOST_PORTS}
+use Rattle.hub_base.specs.Head.{most_cases}
 use Rattle.hub_base.specs.Ready.{is_on, port_of}
 use Rattle.hub_base.specs.Steps.{tells, closing_event}
 use Rattle.hub_parts.specs.Records.{Lists, Ticketed}
-use Rattle.hub_parts.specs.Lists.{port_at, with_new, with_port, closed_now, open_calls, parked}
+use Rattle.hub_parts.specs.Lists.{port_at, with_new, with_port, closed_now, open_calls, parked, ended_by}
 use Rattle.hub_core.specs.declared.tally.Tally.{Tally}
 use Rattle.hub_core.specs.declared.select.Chosen.{Chosen}
 use Rattle.hub_core.specs.Records.{MachineLists, no_tally}
@@ -93,7 +95,7 @@ pub record ListChange : Type 0 where
 
 -- the machine with this board and these counts
 abbrev pub with_board : MachineLists → Lists → List Tally → MachineLists
-with_board m b ts = record { board = b; gone = m.gone; counts = ts; steps = m.steps }
+with_board m b ts = record { edition = m.edition; board = b; gone = m.gone; counts = ts; steps = m.steps }
 
 -- what follows a call
 abbrev pub after_call : MachineLists → ListCall → ListChange
@@ -125,6 +127,7 @@ abbrev pub exits_on : MachineLists → Pid → ListChange
 exits_on m pid =
     record {
       machine = record {
+        edition = m.edition;
         board = m.board;
         gone = slice_set m.gone pid.0 true;
         counts = m.counts;
@@ -133,12 +136,21 @@ exits_on m pid =
       events = tells pid what.Done ∷ [];
     }
 
+-- a cancel of this process's open call
+abbrev pub cancels_on : MachineLists → Pid → Pid → ListChange
+cancels_on m pid q =
+    record {
+      machine = with_board m (ended_by q m.board) m.counts;
+      events = tells pid what.Done ∷ tells q what.Cancelled ∷ [];
+    }
+
 -- a step
 abbrev pub effect_on : MachineLists → Pid → Step → ListChange
 effect_on m pid (Make cap) = makes_on m pid cap
 effect_on m pid (Call cases default word) = call_on m pid cases.items default word
 effect_on m pid (Close p) = closes_on m pid p
 effect_on m pid Exit = exits_on m pid
+effect_on m pid (Cancel q) = cancels_on m pid q
 
 -- ---- when all wait
 -- the process has exited
@@ -182,25 +194,26 @@ abbrev pub is_unmade_on : Lists → Port → Bool
 is_unmade_on b p = nat_lt (length b.ports) p.0
 
 -- why a call has no effect
-abbrev pub call_fault_on : Lists → List Case → Option Fault
-call_fault_on b cases =
-    if nat_lt MOST_CASES (length cases) then Some fault.TooManyCases
+abbrev pub call_fault_on : Edition → Lists → List Case → Option Fault
+call_fault_on edition b cases =
+    if nat_lt (most_cases edition) (length cases) then Some fault.TooManyCases
     else if list_any (λ c. is_unmade_on b (port_of c)) cases then Some fault.NoPort
     else None
 
 -- why a step has no effect
-abbrev pub fault_on : Lists → Step → Option Fault
-fault_on b (Make cap) =
+abbrev pub fault_on : Edition → Lists → Step → Option Fault
+fault_on edition b (Make cap) =
     if nat_lt MOST_CAP cap then Some fault.BadCap
     else if nat_le MOST_PORTS (length b.ports) then Some fault.TooManyPorts
     else None
-fault_on b (Call cases default word) = call_fault_on b cases.items
-fault_on b (Close p) =
+fault_on edition b (Call cases default word) = call_fault_on edition b cases.items
+fault_on edition b (Close p) =
     if is_unmade_on b p then Some fault.NoPort
     else if p.0 == 0 then Some fault.NilClose
     else if (port_at b p).closed then Some fault.AlreadyClosed
     else None
-fault_on b Exit = None
+fault_on edition b Exit = None
+fault_on edition b (Cancel q) = if open_on b.waiting q.0 then None else Some fault.NotParked
 
 -- ---- one admitted entry
 -- the fault, or else what the step does and the stall rule
@@ -210,7 +223,7 @@ answers_on m e (Some f) = record { machine = m; events = tells e.pid (what.Fault
 
 -- the same machine after n entries
 abbrev pub with_steps : ℕ → MachineLists → MachineLists
-with_steps n m = record { board = m.board; gone = m.gone; counts = m.counts; steps = n }
+with_steps n m = record { edition = m.edition; board = m.board; gone = m.gone; counts = m.counts; steps = n }
 
 -- what follows, where n entries were admitted before
 abbrev pub counted : ℕ → ListChange → ListChange
@@ -218,7 +231,7 @@ counted n c = record { machine = with_steps (n + 1) c.machine; events = c.events
 
 -- an admitted entry
 abbrev pub turn_on : MachineLists → Entry → ListChange
-turn_on m e = counted m.steps (answers_on m e (fault_on m.board e.step))
+turn_on m e = counted m.steps (answers_on m e (fault_on m.edition m.board e.step))
 
 -- why an entry is not admitted
 abbrev pub refusal_of : Lists → List Bool → Pid → Option Fault

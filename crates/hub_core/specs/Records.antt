@@ -1,6 +1,7 @@
--- What contracts see of a machine: the board, who has exited, what each port has carried, and how
+-- What contracts see of a machine: the edition, the board, who has exited, what each port has carried, and how
 -- many entries were admitted. Names no struct but `Tally`.
 use Rattle.std.specs.Prelude.{ℕ, ◌+◌, ◌-◌, Bool, false, List, [], replicate, slice_index_or, slice_set}
+use Rattle.hub_base.specs.declared.head.Edition.{Edition}
 use Rattle.hub_base.specs.declared.head.Head.{Head}
 use Rattle.hub_base.specs.declared.value.Port.{Port}
 use Rattle.hub_base.specs.declared.limits.TheConstants.{MOST_PROCS}
@@ -9,6 +10,7 @@ use Rattle.hub_parts.specs.Records.{Lists}
 use Rattle.hub_parts.specs.Lists.{opened}
 
 pub record MachineLists : Type 0 where
+  pub edition : Edition
   pub board : Lists
   -- for each number that a process may have whether that process has exited
   pub gone : List Bool
@@ -19,7 +21,8 @@ pub record MachineLists : Type 0 where
 
 -- a machine with this head, and nothing made, gone or open
 abbrev pub opened_machine : Head → MachineLists
-opened_machine h = record { board = opened h.procs; gone = replicate MOST_PROCS false; counts = []; steps = 0 }
+opened_machine h =
+    record { edition = h.edition; board = opened h.procs; gone = replicate MOST_PROCS false; counts = []; steps = 0 }
 
 -- nothing was sent
 abbrev pub no_tally : Tally

@@ -4,11 +4,11 @@
 //! exit of each process from the opening on, and for the steps that were reserved; so neither an
 //! exit nor a reserved step asks for memory.
 
-ghost use Rattle.std.specs.Prelude.{◌≡◌, ◌≤◌, ◌<◌, ◌+◌, ◌-◌, ◌^◌, ◌↔◌, ◌++◌, ◌∷◌, ℕ, Bool, [], IsTrue, IfOk, IfErr, OnOk, OnErr, vec_len, length, max};
+ghost use Rattle.std.specs.Prelude.{◌≡◌, ◌≤◌, ◌<◌, ◌+◌, ◌-◌, ◌^◌, ◌↔◌, ◌++◌, ◌∷◌, ℕ, Bool, [], IsTrue, IfOk, IfErr, OnOk, OnErr, vec_len, length, max, true};
 ghost use Rattle.std.specs.Vec.{vec_capacity};
 ghost use Rattle.hub_base.specs.declared.entry.Entry.{Entry};
 ghost use Rattle.hub_base.specs.declared.value.Pid.{Pid};
-ghost use Rattle.hub_base.specs.Head.{IsHead, head_of};
+ghost use Rattle.hub_base.specs.Head.{IsHead, AreOf, head_of, is_of};
 ghost use Rattle.hub_base.specs.Reading.{is_exit};
 ghost use Rattle.hub_base.specs.Runs.{kept};
 ghost use Rattle.hub_core.specs.Looks.{look_at, value_at};
@@ -17,8 +17,8 @@ ghost use Rattle.hub_core.specs.HubKeeps.{count_after, IsSuch, Takes};
 
 use crate::{Machine, OpenFault, Terms};
 use hub_base::{
-    Cases, Entry, Events, Fault, Head, Journal, Look, MOST_PROCS, MOST_STEPS, NoMemory, Pid, Port,
-    Step, Value,
+    Cases, Edition, Entry, Events, Fault, Head, Journal, Look, MOST_PROCS, MOST_STEPS, NoMemory,
+    Pid, Port, Step, Value,
 };
 use std::alloc::{AllocError, Global};
 use std::marker::Model;
@@ -79,7 +79,7 @@ fn places_after(step: &Step, places: u32) -> u32
 {
     match step {
         Step::Make(_) | Step::Exit => places,
-        Step::Call { .. } | Step::Close(_) => places.saturating_sub(1),
+        Step::Call { .. } | Step::Close(_) | Step::Cancel(_) => places.saturating_sub(1),
     }
 }
 
@@ -89,7 +89,7 @@ fn grows(step: &Step, places: u32) -> bool
 {
     match step {
         Step::Make(_) => true,
-        Step::Call { .. } | Step::Close(_) => places == 0,
+        Step::Call { .. } | Step::Close(_) | Step::Cancel(_) => places == 0,
         Step::Exit => false,
     }
 }
@@ -141,15 +141,15 @@ fn push_call(entries: &mut Vec<Entry>, pid: Pid, cases: &Cases, default: bool, w
 }
 
 impl Hub {
-    /// A hub of 1 to `MOST_PROCS` processes whose journal may hold `limit` entries that are no exits, 1
+    /// A hub of this edition, of 1 to `MOST_PROCS` processes, whose journal may hold `limit` entries that are no exits, 1
     /// to `MOST_STEPS`. It takes the memory of all open calls, and of an exit of each process in the journal.
     ///
     /// Err, tested in this order, with nothing kept: `BadProcs`, `BadLimit`, `NoMemory`.
-    pub fn open(alloc: Global, procs: u8, limit: u32) -> Result<Hub, OpenFault>
-        ensures ok { IfOk result (λ h. h.hub ≡ opened_hub (terms_of procs limit)) }
+    pub fn open(alloc: Global, procs: u8, limit: u32, edition: Edition) -> Result<Hub, OpenFault>
+        ensures ok { IfOk result (λ h. h.hub ≡ opened_hub (terms_of edition procs limit)) }
         ensures exact { IfOk result (λ h. h.capacity ≡ procs) }
-        ensures bounds { OnOk result (IsHead (head_of procs) × IsLimit limit) }
-        ensures err { IfErr result (λ f. RefusesOpening (terms_of procs limit) f) }
+        ensures bounds { OnOk result (IsHead (head_of edition procs) × IsLimit limit) }
+        ensures err { IfErr result (λ f. RefusesOpening (terms_of edition procs limit) f) }
     {
         if procs == 0 || procs as usize > MOST_PROCS {
             return Err(OpenFault::BadProcs);
@@ -158,7 +158,7 @@ impl Hub {
             return Err(OpenFault::BadLimit);
         }
         let terms = Terms {
-            head: Head { procs },
+            head: Head { edition, procs },
             limit,
         };
         let machine = Machine::new(alloc, terms.head)?;
@@ -172,14 +172,15 @@ impl Hub {
         })
     }
 
-    /// Makes a step. The first event is the caller's answer; the calls that ended follow, in order
-    /// of arrival.
+    /// Makes a step that the hub's edition has. The first event is the caller's answer; the calls that ended
+    /// follow, in order of arrival.
     ///
     /// Refused by `JournalFull`, `NoProcess`, `Gone`, `Busy` and `NoMemory` alone, tested in this
     /// order; the hub is then as before. An exit is never refused by `JournalFull` or `NoMemory`,
     /// and by `NoMemory` only a make is, or a step for which no place is left. All other faults are
     /// answers, and their entries are kept.
     pub fn step(&mut self, entry: Entry) -> Result<Events, Fault>
+        requires fits { is_of self.old.hub.terms.head.edition entry.step ≡ true }
         ensures ok { IfOk result (λ events. Steps self.old.hub entry self.new.hub events.items) }
         ensures rules { StepRules self.old entry self.new result }
     {
@@ -191,6 +192,7 @@ impl Hub {
     /// Makes a step as `step` does, and leaves its events in place of those that were there. After a
     /// refusal these may be any.
     pub fn step_into(&mut self, entry: Entry, events: &mut Events) -> Result<(), Fault>
+        requires fits { is_of self.old.hub.terms.head.edition entry.step ≡ true }
         ensures ok { OnOk result (Steps self.old.hub entry self.new.hub events.new.items) }
         ensures rules { StepRules self.old entry self.new result }
     {
@@ -292,10 +294,19 @@ impl Hub {
         self.machine.buffered(port, place)
     }
 
-    /// The journal so far. Each of its entries was admitted when it came.
+    /// What its journal's head lines say: its edition, and its number of processes.
+    pub fn head(&self) -> Head
+        ensures value { result ≡ self.now.hub.terms.head }
+        ensures range { IsHead result }
+    {
+        self.terms.head
+    }
+
+    /// The journal so far. Each of its entries was admitted when it came, and is one that the edition has.
     pub fn entries(&self) -> &[Entry]
         ensures journal { result.now ≡ self.now.hub.journal }
         ensures legal { kept self.now.hub.terms.head self.now.hub.journal ≡ self.now.hub.journal }
+        ensures fits { AreOf self.now.hub.terms.head.edition self.now.hub.journal }
     {
         &self.entries
     }
@@ -304,7 +315,8 @@ impl Hub {
     pub fn into_journal(self) -> Journal
         ensures journal { result ≡ record { head = self.hub.terms.head; entries = self.hub.journal } }
         ensures legal { kept self.hub.terms.head self.hub.journal ≡ self.hub.journal }
+        ensures fits { AreOf self.hub.terms.head.edition self.hub.journal }
     {
-        Journal::of(self.terms.head.procs, self.entries)
+        Journal::of(self.terms.head.edition, self.terms.head.procs, self.entries)
     }
 }

@@ -4,6 +4,7 @@ ghost use Rattle.std.specs.Prelude.{◌≡◌, ◌≤◌, ◌<◌, ◌-◌, ◌^
 ghost use Rattle.hub_parts.specs.Keeps.{AllMade};
 ghost use Rattle.hub_base.specs.Steps.{tells};
 ghost use Rattle.hub_core.specs.ListSteps.{call_on, effect_on, turn_on, refusal_of, fault_on, open_on};
+ghost use Rattle.hub_laws.specs.Once.{is_call};
 ghost use Rattle.hub_core.specs.ListKeeps.{PortsKeep};
 ghost use Rattle.hub_core.specs.Looks.{look_on, value_on};
 ghost use Rattle.hub_core.specs.Records.{opened_machine};
@@ -17,8 +18,8 @@ use crate::select::{choose, wait};
 use crate::stalling::{all_wait, stop_all};
 use crate::tally::Tallies;
 use hub_base::{
-    Cases, Entry, Event, Events, Fault, Head, Look, MOST_CASES, MOST_PROCS, NoMemory, Pid, Port,
-    Step, Value, What,
+    Cases, Entry, Event, Events, Fault, Head, Look, MOST_PROCS, NoMemory, Pid, Port, Step, Value,
+    What,
 };
 use hub_parts::Board;
 use std::alloc::Global;
@@ -47,7 +48,13 @@ impl Model for MachineState {
     ghost use Rattle.hub_core.specs.StateKeeps.{StateKeeps};
 
     ghost view = { λ s.
-        record { board = s.board; gone = s.gone; counts = s.tallies; steps = s.steps } };
+        record {
+          edition = s.head.edition;
+          board = s.board;
+          gone = s.gone;
+          counts = s.tallies;
+          steps = s.steps;
+        } };
 
     ghost invariant = { λ s. StateKeeps s };
 }
@@ -91,7 +98,6 @@ impl MachineState {
     fn call(&mut self, pid: Pid, cases: &Cases, default: bool, word: u64, events: &mut Events)
         requires below { pid.0 < self.old.board.procs }
         requires free { open_on self.old.board.waiting pid.0 ≡ false }
-        requires few { length cases.now.items ≤ MOST_CASES }
         requires named { AllMade (length self.old.board.ports) cases.now.items }
         requires keep { PortsKeep self.old.board self.old.counts }
         requires later { self.old.board.next_ticket ≤ self.old.steps }
@@ -109,11 +115,13 @@ impl MachineState {
         }
     }
 
-    /// What a step without a fault does. A make that is refused memory changes nothing.
-    fn effect(&mut self, pid: Pid, step: &Step, events: &mut Events) -> Result<(), NoMemory>
+    /// What a step without a fault does that is no call. A make that is refused memory changes nothing.
+    #[inline(never)]
+    fn rare_effect(&mut self, pid: Pid, step: &Step, events: &mut Events) -> Result<(), NoMemory>
+        requires rare { is_call step.now ≡ false }
         requires reached { IsReached self.old }
         requires admitted { refusal_of self.old.board self.old.gone pid ≡ None }
-        requires fault { fault_on self.old.board step.now ≡ None }
+        requires fault { fault_on self.old.edition self.old.board step.now ≡ None }
         requires steps { self.old.steps < 2 ^ 32 - 1 }
         requires empty { events.old.items ≡ [] }
         ensures machine { OnOk result (self.new ≡ (effect_on self.old pid step.now).machine) }
@@ -128,11 +136,7 @@ impl MachineState {
                 self.tallies.add();
                 events.push(tells(pid, What::Made(port)));
             }
-            Step::Call {
-                cases,
-                default,
-                word,
-            } => self.call(pid, cases, *default, *word, events),
+            Step::Call { .. } => unreachable!(),
             Step::Close(port) => {
                 events.push(tells(pid, What::Done));
                 close(&mut self.board, events, *port);
@@ -141,7 +145,38 @@ impl MachineState {
                 self.gone[pid.0 as usize] = true;
                 events.push(tells(pid, What::Done));
             }
+            Step::Cancel(other) => {
+                self.board.withdraw(*other);
+                events.push(tells(pid, What::Done));
+                events.push(tells(*other, What::Cancelled));
+            }
         }
+        Ok(())
+    }
+
+    /// What a step without a fault does. A make that is refused memory changes nothing.
+    #[inline(always)]
+    fn effect(&mut self, pid: Pid, step: &Step, events: &mut Events) -> Result<(), NoMemory>
+        requires reached { IsReached self.old }
+        requires admitted { refusal_of self.old.board self.old.gone pid ≡ None }
+        requires fault { fault_on self.old.edition self.old.board step.now ≡ None }
+        requires steps { self.old.steps < 2 ^ 32 - 1 }
+        requires empty { events.old.items ≡ [] }
+        ensures machine { OnOk result (self.new ≡ (effect_on self.old pid step.now).machine) }
+        ensures events { OnOk result (events.new.items ≡ (effect_on self.old pid step.now).events) }
+        ensures make { OnErr result (IsMake step.now) }
+        ensures unchanged { OnErr result (self.new ≡ self.old) }
+        ensures empty { OnErr result (events.new.items ≡ []) }
+    {
+        let Step::Call {
+            cases,
+            default,
+            word,
+        } = step
+        else {
+            return self.rare_effect(pid, step, events);
+        };
+        self.call(pid, cases, *default, *word, events);
         Ok(())
     }
 
@@ -154,13 +189,13 @@ impl MachineState {
         ensures machine { OnOk result (self.new ≡ (turn_on self.old entry.now).machine) }
         ensures events { OnOk result (events.new.items ≡ (turn_on self.old entry.now).events) }
         ensures make { OnErr result (IsMake entry.now.step) }
-        ensures fine { OnErr result (fault_on self.old.board entry.now.step ≡ None) }
+        ensures fine { OnErr result (fault_on self.old.edition self.old.board entry.now.step ≡ None) }
         ensures unchanged { OnErr result (self.new ≡ self.old) }
         ensures empty { OnErr result (events.new.items ≡ []) }
         ensures places { length self.old.gone ≡ MOST_PROCS }
         ensures few { self.old.board.procs ≤ MOST_PROCS }
     {
-        if let Some(fault) = fault_of(&self.board, &entry.step) {
+        if let Some(fault) = fault_of(self.head.edition, &self.board, &entry.step) {
             events.push(tells(entry.pid, What::Fault(fault)));
         } else {
             self.effect(entry.pid, &entry.step, events)?;

@@ -1,12 +1,14 @@
 //! Why a step is not admitted, and the faults that are answers to admitted steps.
 
-ghost use Rattle.std.specs.Prelude.{◌≡◌, ◌≤◌, ◌<◌};
+ghost use Rattle.std.specs.Prelude.{◌≡◌, ◌≤◌, ◌<◌, false};
 ghost use Rattle.std.specs.List.{list_any};
 ghost use Rattle.hub_base.specs.Ready.{port_of};
+ghost use Rattle.hub_base.specs.declared.head.Edition.{Edition};
+ghost use Rattle.hub_laws.specs.Once.{is_call};
 ghost use Rattle.hub_core.specs.ListSteps.{refusal_of, fault_on, call_fault_on, is_unmade_on};
 
 use crate::stalling::has_gone;
-use hub_base::{Case, Fault, MOST_CAP, MOST_CASES, MOST_PORTS, MOST_PROCS, Pid, Port, Step};
+use hub_base::{Case, Edition, Fault, MOST_CAP, MOST_PORTS, MOST_PROCS, Pid, Port, Step};
 use hub_parts::Board;
 
 /// Why a step of this process is not admitted.
@@ -47,11 +49,11 @@ fn names_unmade(board: &Board, cases: &[Case]) -> bool
     cases.iter().any(|case| is_unmade(board, case.port()))
 }
 
-/// The fault of a call of these cases.
-fn call_fault(board: &Board, cases: &[Case]) -> Option<Fault>
-    ensures { result ≡ call_fault_on board.now cases.now }
+/// The fault of a call of these cases, in a hub of this edition.
+fn call_fault(edition: Edition, board: &Board, cases: &[Case]) -> Option<Fault>
+    ensures { result ≡ call_fault_on edition board.now cases.now }
 {
-    if cases.len() > MOST_CASES {
+    if cases.len() > edition.most_cases() {
         Some(Fault::TooManyCases)
     } else if names_unmade(board, cases) {
         Some(Fault::NoPort)
@@ -60,9 +62,11 @@ fn call_fault(board: &Board, cases: &[Case]) -> Option<Fault>
     }
 }
 
-/// The fault that an admitted step is answered with, the lowest that applies.
-pub(crate) fn fault_of(board: &Board, step: &Step) -> Option<Fault>
-    ensures { result ≡ fault_on board.now step.now }
+/// The fault of a step that is no call. It stands apart, since nearly all steps are calls.
+#[inline(never)]
+fn rare_fault(board: &Board, step: &Step) -> Option<Fault>
+    requires { is_call step.now ≡ false }
+    ensures { (edition : Edition) → result ≡ fault_on edition board.now step.now }
 {
     match step {
         Step::Make(cap) => {
@@ -74,7 +78,7 @@ pub(crate) fn fault_of(board: &Board, step: &Step) -> Option<Fault>
                 None
             }
         }
-        Step::Call { cases, .. } => call_fault(board, cases.as_slice()),
+        Step::Call { .. } => unreachable!(),
         Step::Close(port) => {
             if is_unmade(board, *port) {
                 Some(Fault::NoPort)
@@ -87,5 +91,21 @@ pub(crate) fn fault_of(board: &Board, step: &Step) -> Option<Fault>
             }
         }
         Step::Exit => None,
+        Step::Cancel(other) => if board.open(*other) {
+            None
+        } else {
+            Some(Fault::NotParked)
+        },
+    }
+}
+
+/// The fault that an admitted step is answered with, the lowest that applies.
+#[inline(always)]
+pub(crate) fn fault_of(edition: Edition, board: &Board, step: &Step) -> Option<Fault>
+    ensures { result ≡ fault_on edition board.now step.now }
+{
+    match step {
+        Step::Call { cases, .. } => call_fault(edition, board, cases.as_slice()),
+        _ => rare_fault(board, step),
     }
 }

@@ -1,14 +1,14 @@
 //! Runs: a hub is opened, and makes the steps of a list in order.
 
-ghost use Rattle.std.specs.Prelude.{◌≡◌, ℕ, IfOk, IfErr, OnOk};
-ghost use Rattle.hub_base.specs.Head.{head_of};
+ghost use Rattle.std.specs.Prelude.{◌≡◌, ℕ, true, IfOk, IfErr, OnOk};
+ghost use Rattle.hub_base.specs.Head.{AreOf, head_of, is_of};
 ghost use Rattle.hub_laws.specs.Once.{OnceLaw};
 ghost use Rattle.hub_core.specs.HubView.{terms_of};
 ghost use Rattle.hub_core.specs.RunsTo.{RunsTo, TellsOn, StopsAt, KeepsValues, ClosesForGood, RefusesRun, IsFullAt};
 
 use crate::machine_state::tells;
 use crate::{Hub, OpenFault};
-use hub_base::{Entry, Event, Fault, What};
+use hub_base::{Edition, Entry, Event, Fault, What};
 use std::alloc::{AllocError, Global};
 use thiserror::Error;
 
@@ -26,6 +26,7 @@ pub enum ListFault {
 
 /// Makes one step and appends what follows; a step that is not admitted is told as one fault.
 fn answer(hub: &mut Hub, events: &mut Vec<Event>, entry: &Entry) -> Result<(), Fault>
+    requires fits { is_of hub.old.hub.terms.head.edition entry.now.step ≡ true }
     ensures ok { OnOk result (TellsOn hub.old.hub entry.now hub.new.hub events.old.items events.new.items) }
     ensures err { IfErr result (λ f. StopsAt hub.old.hub entry.now f) }
 {
@@ -45,8 +46,8 @@ fn answer(hub: &mut Hub, events: &mut Vec<Event>, entry: &Entry) -> Result<(), F
     }
 }
 
-/// Opens a hub of so many processes with this limit, makes the steps in order, and gives the hub and
-/// the events of them all.
+/// Opens a hub of this edition, of so many processes, with this limit, makes the steps in order, each of which the
+/// edition has, and gives the hub and the events of them all.
 ///
 /// A step refused by `NoProcess`, `Gone` or `Busy` gives that fault as the event of its process, and
 /// the run goes on; a refusal by `JournalFull` or `NoMemory` ends it, and nothing is kept.
@@ -54,27 +55,30 @@ pub fn run(
     alloc: Global,
     procs: u8,
     limit: u32,
+    edition: Edition,
     entries: &[Entry],
 ) -> Result<(Hub, Vec<Event>), ListFault>
+    requires fits { AreOf edition entries.now }
+
     // The events are the definition's, and the journal holds the admitted entries.
-    ensures ok { IfOk result (λ r. RunsTo (terms_of procs limit) entries.now r.0.hub r.1.items) }
+    ensures ok { IfOk result (λ r. RunsTo (terms_of edition procs limit) entries.now r.0.hub r.1.items) }
 
     // On each port the values received, then those buffered, are those sent, in order.
-    ensures received_then_buffered { IfOk result (λ r. KeepsValues (head_of procs) entries.now r.0.hub) }
+    ensures received_then_buffered { IfOk result (λ r. KeepsValues (head_of edition procs) entries.now r.0.hub) }
 
     // Each admitted call completes at most one of its cases, once.
-    ensures at_most_one_case { OnOk result (OnceLaw (head_of procs) entries.now) }
+    ensures at_most_one_case { OnOk result (OnceLaw (head_of edition procs) entries.now) }
 
     // After a close no send completes on the port, and receives drain it, then learn the close.
-    ensures after_close { OnOk result (ClosesForGood (head_of procs) entries.now) }
+    ensures after_close { OnOk result (ClosesForGood (head_of edition procs) entries.now) }
 
     // The journal was never full at an entry that is no exit.
-    ensures never_full { OnOk result ((i : ℕ) → ¬ IsFullAt (terms_of procs limit) entries.now i) }
+    ensures never_full { OnOk result ((i : ℕ) → ¬ IsFullAt (terms_of edition procs limit) entries.now i) }
 
     // A full journal is answered at the first place where it is full.
-    ensures refused { IfErr result (λ f. RefusesRun (terms_of procs limit) entries.now f) }
+    ensures refused { IfErr result (λ f. RefusesRun (terms_of edition procs limit) entries.now f) }
 {
-    let mut hub = match Hub::open(alloc, procs, limit) {
+    let mut hub = match Hub::open(alloc, procs, limit, edition) {
         Ok(hub) => hub,
         Err(fault) => return Err(ListFault::Open(fault)),
     };

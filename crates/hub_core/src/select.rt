@@ -11,7 +11,7 @@ ghost use Rattle.hub_core.specs.ListSteps.{wait_on, told_to_wait, open_on, place
 
 use crate::ready_cases::{can_proceed, find_ready};
 use arrayvec::ArrayVec;
-use hub_base::{CASE_PLACES, Case, Cases, Event, Events, MOST_CASES, Pid, What};
+use hub_base::{CASE_PLACES, Case, Cases, Event, Events, Pid, What};
 use hub_parts::Board;
 
 /// A case that was chosen.
@@ -81,7 +81,6 @@ pub(crate) fn wait(
 )
     requires below { pid.0 < board.old.procs }
     requires free { open_on board.old.waiting pid.0 ≡ false }
-    requires few { length cases.now.items ≤ MOST_CASES }
     requires named { AllMade (length board.old.ports) cases.now.items }
     requires later { board.old.next_ticket ≤ ticket }
     requires empty { events.old.items ≡ [] }

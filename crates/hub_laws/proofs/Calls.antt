@@ -2,7 +2,7 @@
 use Rattle.hub_laws.proofs.Prelude.{◌≡◌, Bool, true, false, List, [], ◌∷◌, ◌++◌, refl, ◌∙◌, Option, Some, None, ℕ, ◌==◌, suc, ◌+◌, cond, arith, filter, ◌||◌}
 use Rattle.hub_laws.proofs.Prelude.{or-false, or_parts, or_from, false_from_ne_true, list_any-append, list_any, AllByRecursion, option_map, slice_get, is_some}
 use Rattle.hub_laws.proofs.Prelude.{Case, Port, is_recv_on, first_with, is_send_on, Placed, Ending, or_else, lowest, lowest_from, OpenCall, Apart, is_among}
-use Rattle.hub_laws.proofs.Prelude.{some_call, Alone, CallFits}
+use Rattle.hub_laws.proofs.Prelude.{some_call, Alone, CallFits, Edition}
 
 -- Numbers of processes
 
@@ -19,10 +19,10 @@ pub record Fewer (kept calls : List OpenCall) : Type 0 where
   pub among : (q : ℕ) → is_among q kept ≡ true → is_among q calls ≡ true
   pub apart : Apart calls → Apart kept
   pub alone : (p : Port) → Alone p calls → Alone p kept
-  pub each : (n : ℕ) → AllByRecursion (CallFits n) calls → AllByRecursion (CallFits n) kept
+  pub each : (edition : Edition) (n : ℕ) → AllByRecursion (CallFits edition n) calls → AllByRecursion (CallFits edition n) kept
 
 pub fewer-none : (calls : List OpenCall) → Fewer [] calls
-fewer-none calls = record { some = λ test e. cc; among = λ q e. cc; apart = λ a. tt; alone = λ p a. tt; each = λ n a. tt }
+fewer-none calls = record { some = λ test e. cc; among = λ q e. cc; apart = λ a. tt; alone = λ p a. tt; each = λ e n a. tt }
 
 any_kept : {A : Type 0} (test keep : A → Bool) (xs : List A) → list_any test (filter keep xs) ≡ true → list_any test xs ≡ true
 any_kept test keep [] e = e

@@ -1,18 +1,19 @@
 -- The account of each admitted entry: every step, the stall that can follow it, and a fault.
 use Rattle.hub_laws.proofs.Prelude.{arith, ◌≡◌, Bool, true, false, List, [], ◌∷◌, ◌++◌, refl, ap, ◌∙◌, sym, subst, Option, Some, None, ℕ, append-nil, ◌+◌, not}
 use Rattle.hub_laws.proofs.Prelude.{length, filter, ◌-◌, ◌<◌, map-append, filter_map-append, list_any, AllByRecursion, slice_set, Entry, Step, Close, Exit}
-use Rattle.hub_laws.proofs.Prelude.{Make, Call, Event, What, Fault, MOST_PORTS, Pid, Port, is_on, State, Channel, OpenCall, channel_at, Change, tells, shut}
+use Rattle.hub_laws.proofs.Prelude.{Make, Call, Cancel, Event, What, Fault, MOST_PORTS, Pid, Port, is_on, State, Channel, OpenCall, channel_at, Change}
+use Rattle.hub_laws.proofs.Prelude.{◌==◌, without, is_among, cancels, tells, shut}
 use Rattle.hub_laws.proofs.Prelude.{closes, close_fault, fault_of, answers, turn, effect, of_what, IsAnswered, ends_waiting, port_touched_by, Shown, PortSound}
 use Rattle.hub_laws.proofs.Prelude.{all_append, all_more}
 use Rattle.hub_base.specs.declared.fault.Fault.TheVariants as fault
 use Rattle.hub_base.specs.declared.event.What.TheVariants as what
 use Rattle.hub_laws.proofs.Branches.{by-stall, stalled}
 use Rattle.hub_laws.proofs.Calls.{fewer-none, fewer-filter}
-use Rattle.hub_laws.proofs.Deeds.{deed_of, fresh, IsClosing, shuts, adds, wrote, at}
+use Rattle.hub_laws.proofs.Deeds.{deed_of, fresh, IsClosing, shuts, idle, adds, wrote, at}
 use Rattle.hub_laws.proofs.Does.{wrote-set, wrote-moves, made-moves, next_port}
 use Rattle.hub_laws.proofs.Faults.{journaled}
 use Rattle.hub_laws.proofs.Kept.{port-fewer, port-shut, port-fresh}
-use Rattle.hub_laws.proofs.Leaving.{Ended, event_of, events_of, EndsWell, leave-join, ClosedAt, closed, all_stalled}
+use Rattle.hub_laws.proofs.Leaving.{Ended, event_of, events_of, EndsWell, nobody, next, leave-join, ClosedAt, closed, Sole, sole, all_stalled}
 use Rattle.hub_laws.proofs.Ready.{none_false}
 use Rattle.hub_laws.proofs.Account.{Account, alone, silent, named_sound, with_caller, with_leaver, ended_deeds}
 use Rattle.hub_laws.proofs.Firing.{calls-account}
@@ -56,6 +57,33 @@ close_account s pid p (Some c) is h =
       gone = refl;
     }
 
+-- A cancel
+
+waits_for : (s : State) (q : Pid) → fault_of s (Cancel q) ≡ None → is_among q.0 s.parked ≡ true
+waits_for s q h = grind arith
+
+cancel_account : (s : State) (pid q : Pid) → Sole q s.parked → Account s pid (Cancel q) (cancels s pid q)
+cancel_account s pid q one =
+    let x : Ended = record { call = one.call; what = what.Cancelled } in
+    let kept : List OpenCall = without q s.parked in
+    record {
+      answer = what.Done;
+      ended = x ∷ [];
+      told = ap (λ (p : Pid). tells pid what.Done ∷ tells p what.Cancelled ∷ []) (sym one.own);
+      fits = refl;
+      placed = tt;
+      ends = ((refl, tt), tt);
+      leaves = λ a. next x [] s.parked kept kept (one.takes a) (nobody kept);
+      fewer = fewer-filter (λ call. not (call.pid.0 == q.0)) s.parked;
+      blocked = λ h. cc;
+      sound = λ sound p c names e. cc;
+      does = λ sound. idle refl refl refl;
+      still = λ h. cc;
+      moved = λ h sound p names. cc;
+      head = refl;
+      gone = refl;
+    }
+
 -- A step that meets no fault
 
 room_for_port : (s : State) (cap : ℕ) → fault_of s (Make cap) ≡ None → length s.channels < MOST_PORTS
@@ -77,6 +105,7 @@ effect-account s pid (Make cap) h =
 effect-account s pid (Call cases default word) h = calls-account s pid cases.items default word
 effect-account s pid (Close p) h = grind (arith, close_account)
 effect-account s pid Exit h = silent s pid Exit what.Done refl (λ h. cc) refl tt refl
+effect-account s pid (Cancel q) h = cancel_account s pid q (sole q s.parked (waits_for s q h))
 
 -- and a stall, which ends all that wait
 

@@ -3,7 +3,7 @@ use Rattle.hub_laws.proofs.Prelude.{◌≡◌, Bool, true, false, List, [], ◌�
 use Rattle.hub_laws.proofs.Prelude.{◌<◌, nat_lt, or_parts, or_left, or_right, or_from, or_cases, false_from_ne_true, ltb-false, common_steps, list_any}
 use Rattle.hub_laws.proofs.Prelude.{AllByRecursion, is_some, Case, Head, Pid, Port, Value, can_proceed, port_of, is_recv_on, first_with, is_send_on, is_on}
 use Rattle.hub_laws.proofs.Prelude.{State, Channel, OpenCall, channel_at, opening, after_receive, shut, after_send, IsSound, PortSound, some_call, Alone}
-use Rattle.hub_laws.proofs.Prelude.{CallFits}
+use Rattle.hub_laws.proofs.Prelude.{CallFits, Edition}
 use Rattle.hub_laws.proofs.Calls.{Fewer, fewer-filter, first-some, any_snoc, alone_snoc}
 use Rattle.hub_laws.proofs.Deeds.{fresh}
 use Rattle.hub_laws.proofs.Ready.{no_recv, no_send}
@@ -105,10 +105,10 @@ port-shut p c calls f =
 -- a make
 
 -- nobody waits on a port that was not made
-unmade : (n : ℕ) (t : Case → Bool) (calls : List OpenCall) → AllByRecursion (CallFits n) calls
+unmade : (edition : Edition) (n : ℕ) (t : Case → Bool) (calls : List OpenCall) → AllByRecursion (CallFits edition n) calls
     → ((c : Case) → t c ≡ true → nat_lt n (port_of c).0 ≡ true) → some_call t calls ≡ false
-unmade n t [] a imp = refl
-unmade n t (call ∷ calls) a imp = grind (arith, any_more, unmade n t calls a.1 imp)
+unmade edition n t [] a imp = refl
+unmade edition n t (call ∷ calls) a imp = grind (arith, any_more, unmade edition n t calls a.1 imp)
 
 alone-none : (p : Port) (calls : List OpenCall) → some_call (is_recv_on p) calls ≡ false → some_call (is_send_on p) calls ≡ false → Alone p calls
 alone-none p [] r w = tt

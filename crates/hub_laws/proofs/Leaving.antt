@@ -1,5 +1,6 @@
 -- The open calls that end in one step, each with what its process is told, and those that stay.
-use Rattle.hub_laws.proofs.Prelude.{◌≡◌, Bool, true, false, List, [], ◌∷◌, ◌++◌, refl, ap, sym, subst, Option, Some, None, ℕ, ◌==◌, ◌+◌, cond, not, arith}
+use Rattle.hub_laws.proofs.Prelude.{◌≡◌, Bool, true, false, List, [], ◌∷◌, ◌++◌, refl, ap, sym, subst, Option, Some, None, ℕ, ◌==◌, ◌+◌, cond}
+use Rattle.hub_laws.proofs.Prelude.{◌||◌, not, arith, eqb-true}
 use Rattle.hub_laws.proofs.Prelude.{filter, map, or_parts, list_any, AllByRecursion, filter_map, cons_option, option_map, slice_get, is_some, Case, Event}
 use Rattle.hub_laws.proofs.Prelude.{What, Pid, Port, first_with, Placed, Ending, lowest, is_on, without, OpenCall, tells, fired, closing_event}
 use Rattle.hub_laws.proofs.Prelude.{closing_outcome, ends_waiting, Apart, is_among}
@@ -175,6 +176,28 @@ closed p (call ∷ calls) =
     let kept : List OpenCall = filter (λ call. not (list_any (is_on p) call.cases)) calls in
     rw (← lowest-some 0 (is_on p) call.cases)
     (closed_by p call calls kept (filter_map (closing_event p) calls) (lowest (is_on p) call.cases) refl (closed p calls))
+
+-- the one open call of this process, which a cancel ends
+pub record Sole (q : Pid) (calls : List OpenCall) : Type 0 where
+  pub call : OpenCall
+  pub own : call.pid ≡ q
+  pub takes : Apart calls → Takes call calls (without q calls)
+
+pub sole : (q : Pid) (calls : List OpenCall) → is_among q.0 calls ≡ true → Sole q calls
+sole q [] h = cc
+sole q (c ∷ cs) h = by (c.pid.0 == q.0) refl h (sole q cs)
+  where
+    by : (b : Bool) → b ≡ (c.pid.0 == q.0) → (b || is_among q.0 cs) ≡ true → (is_among q.0 cs ≡ true → Sole q cs) → Sole q (c ∷ cs)
+    by true is h rest =
+        let same : c.pid ≡ q = ap (λ (n : ℕ). record { 0 = n }) (eqb-true c.pid.0 q.0 (sym is)) in
+        record {
+          call = c;
+          own = same;
+          takes = λ a. subst (λ (p : Pid). Takes c (c ∷ cs) (without p (c ∷ cs))) same (rw (without_head c cs a.0) (here cs));
+        }
+    by false is h rest =
+        let r = rest h in
+        record { call = r.call; own = r.own; takes = λ a. rw (sym is) (later c cs (without q cs) (r.takes a.1)) }
 
 -- those that a stall ends: all
 pub all_stalled : (calls : List OpenCall) → Parts (λ x. x.what ≡ what.Stalled) calls [] (stall_events calls)

@@ -22,14 +22,15 @@ pub use Rattle.hub_base.specs.declared.case.Case.{Case}
 pub use Rattle.hub_base.specs.declared.case.Case.TheVariants.{Send, Recv}
 pub use Rattle.hub_base.specs.declared.entry.Entry.{Entry}
 pub use Rattle.hub_base.specs.declared.entry.Step.{Step}
-pub use Rattle.hub_base.specs.declared.entry.Step.TheVariants.{Close, Exit, Make, Call}
+pub use Rattle.hub_base.specs.declared.entry.Step.TheVariants.{Close, Exit, Make, Call, Cancel}
 pub use Rattle.hub_base.specs.declared.event.Event.{Event}
 pub use Rattle.hub_base.specs.declared.event.Outcome.{Outcome}
 pub use Rattle.hub_base.specs.declared.event.Outcome.TheVariants.{Sent, Closed, Got, Drained}
 pub use Rattle.hub_base.specs.declared.event.What.{What}
 pub use Rattle.hub_base.specs.declared.fault.Fault.{Fault}
 pub use Rattle.hub_base.specs.declared.head.Head.{Head}
-pub use Rattle.hub_base.specs.declared.limits.TheConstants.{MOST_PORTS, MOST_CAP, MOST_CASES}
+pub use Rattle.hub_base.specs.declared.head.Edition.{Edition}
+pub use Rattle.hub_base.specs.declared.limits.TheConstants.{MOST_PORTS, MOST_CAP}
 pub use Rattle.hub_base.specs.declared.value.Pid.{Pid}
 pub use Rattle.hub_base.specs.declared.value.Port.{Port}
 pub use Rattle.hub_base.specs.declared.value.Value.{Value}
@@ -40,7 +41,7 @@ pub use Rattle.hub_base.specs.Runs.{admits, moves, state_after, state, kept_afte
 pub use Rattle.hub_base.specs.State.{State, Channel, OpenCall, channel_at, opening, buffer_of}
 pub use Rattle.hub_base.specs.Steps.{calls, Change, tells, after_receive, shut, stalls, closes, close_fault, is_unmade, fault_of, answers, refusal, turn}
 pub use Rattle.hub_base.specs.Steps.{Firing, after_send, send_meets, send_fires, all_wait, fired, closing_event, closing_outcome, next_value, effect}
-pub use Rattle.hub_base.specs.Steps.{has_gone, is_waiting, fires, proceeds, chooses, outcome_of, with_sent, recv_takes, recv_meets}
+pub use Rattle.hub_base.specs.Steps.{has_gone, is_waiting, cancels, fires, proceeds, chooses, outcome_of, with_sent, recv_takes, recv_meets}
 pub use Rattle.hub_base.specs.Text.{one_step, steps_of}
 pub use Rattle.hub_base.specs.Values.{cases_or, of_what, Turned, turns_after, values_from, got_on, received_values, sent_on, is_fault, refused, latest}
 pub use Rattle.hub_base.specs.Values.{last_call, sent_values}

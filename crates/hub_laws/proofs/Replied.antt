@@ -48,7 +48,9 @@ after_entry q head es e = ap (λ (s : State). is_waiting s q) (state-entry head 
 
 -- a process that was told of its call does not wait
 free_from : (q : ℕ) (s : State) (e : Entry) → IsSound s → refusal s e.pid ≡ None → ends q (moves s e).events ≡ 1 → is_among q (moves s e).state.parked ≡ false
-free_from q s e sound is told = grind (arith, one_told, among-count)
+free_from q s e sound is told =
+    let none : open_calls q (moves s e).state.parked ≡ 0 = omega (arith, one_told q s e sound is, told) in
+    among-count q (moves s e).state.parked ∙ ap (nat_lt 0) none
 
 event_replies : (head : Head) (es : List Entry) (e : Entry) → refusal (state head es) e.pid ≡ None → AllByRecursion Counted (moves (state head es) e).events →
     (i : ℕ) (x : Event) → slice_get (moves (state head es) e).events i ≡ Some x → is_parked x.what ≡ false → IsReply head (es ++ e ∷ []) x

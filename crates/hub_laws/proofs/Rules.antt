@@ -3,7 +3,7 @@ use Rattle.hub_laws.proofs.Prelude.{common_steps, ◌≡◌, Bool, true, false, 
 use Rattle.hub_laws.proofs.Prelude.{cond, length, arith, inl, inr, ◌<◌, eqb-true, or_cases, list_any, Entry, Step, Call, What, Fault, Head, Pid, Port}
 use Rattle.hub_laws.proofs.Prelude.{can_proceed, admits, moves, state_after, state, State, Channel, OpenCall, channel_at, opening, Change, fault_of, answers}
 use Rattle.hub_laws.proofs.Prelude.{refusal, turn, effect, has_gone, is_waiting, cases_or, is_answer_to, port_touched_by, is_port, is_parked, IsSound}
-use Rattle.hub_laws.proofs.Prelude.{PortSound, is_among, CallFits, all_more, all_snoc}
+use Rattle.hub_laws.proofs.Prelude.{PortSound, is_among, CallFits, Edition, AllByRecursion, all_more, all_snoc}
 use Rattle.hub_laws.proofs.Account.{Account, NamedSound, call_of, deeds_of, with_caller, with_leaver, procs-of}
 use Rattle.hub_laws.proofs.Entries.{answers-account, effect-account}
 use Rattle.hub_laws.proofs.Calls.{Fewer, any_snoc, apart_snoc}
@@ -16,11 +16,11 @@ use Rattle.hub_laws.proofs.Ready.{Admitted, admitted, by-refusal}
 -- The caller's call, where it waits
 
 fitting : (s : State) (pid : Pid) (step : Step) → fault_of s step ≡ None →
-    CallFits (length s.channels) (call_of pid step)
+    CallFits s.head.edition (length s.channels) (call_of pid step)
 fitting s pid (Call cases default word) h = grind arith
 fitting s pid step h = record { few = omega arith; made = refl }
 
-parks_sound : (s : State) (call : OpenCall) → IsSound s → Admitted s call.pid → CallFits (length s.channels) call →
+parks_sound : (s : State) (call : OpenCall) → IsSound s → Admitted s call.pid → CallFits s.head.edition (length s.channels) call →
     list_any (can_proceed s) call.cases ≡ false → IsSound (record s { parked = s.parked ++ call ∷ [] })
 parks_sound s call sound adm fits none = record {
   apart = apart_snoc s.parked call sound.apart adm.free;
@@ -28,7 +28,7 @@ parks_sound s call sound adm fits none = record {
     | inl l ↦ sound.present q l
     | inr r ↦ let P : ℕ → Type 0 = λ n. (n < s.head.procs) × (has_gone s n ≡ false) in subst P (eqb-true call.pid.0 q r) (adm.below, adm.here)
   ];
-  calls = all_snoc (CallFits (length s.channels)) s.parked call sound.calls fits;
+  calls = all_snoc (CallFits s.head.edition (length s.channels)) s.parked call sound.calls fits;
   ports = λ p c e. port-parks s call.pid call.cases p c e none (sound.ports p c e);
 }
 
@@ -42,8 +42,8 @@ caller_sound s pid step w sound adm h blocked = by (is_parked w) refl
     by true is = parks_sound s (call_of pid step) sound adm (fitting s pid step h) (blocked (sym is))
     by false is = sound
 
-fits_more : (n m : ℕ) (call : OpenCall) → n ≤ m → CallFits n call → CallFits m call
-fits_more n m call h f = grind (arith, any_more)
+fits_more : (edition : Edition) (n m : ℕ) (call : OpenCall) → n ≤ m → CallFits edition n call → CallFits edition m call
+fits_more edition n m call h f = grind (arith, any_more)
 
 -- A step
 
@@ -85,8 +85,10 @@ account_sound s pid step c sound adm h a =
           let here = none_left q s pid step a.answer adm a.fits among there.1 in
           (omega (arith, there.0, procs-of a.head), ap (λ xs. list_any (λ (g : Pid). g.0 == q) xs) a.gone ∙ here);
       calls =
-          all_more (CallFits (length s.channels)) (CallFits (length c.state.channels)) c.state.parked
-          (λ call. fits_more (length s.channels) (length c.state.channels) call grows) (a.fewer.each (length s.channels) before.calls);
+          subst (λ (h : Head). AllByRecursion (CallFits h.edition (length c.state.channels)) c.state.parked) (sym a.head)
+          (all_more (CallFits s.head.edition (length s.channels)) (CallFits s.head.edition (length c.state.channels)) c.state.parked
+          (λ call. fits_more s.head.edition (length s.channels) (length c.state.channels) call grows)
+          (a.fewer.each s.head.edition (length s.channels) before.calls));
       ports = λ p x e.
           let others = does-others s.channels c.state.channels named deeds (a.does sound) in
           port_sound s c.state named waiting p x (a.sound sound) others (before.ports p) a.fewer e;

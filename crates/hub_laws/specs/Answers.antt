@@ -4,7 +4,7 @@ use Rattle.std.specs.Prelude.{◌≡◌, Bool, true, false, List, [], ◌∷◌,
 use Rattle.std.specs.List.{AllByRecursion}
 use Rattle.hub_base.specs.declared.value.Pid.{Pid}
 use Rattle.hub_base.specs.declared.entry.Step.{Step}
-use Rattle.hub_base.specs.declared.entry.Step.TheVariants.{Make, Call, Close, Exit}
+use Rattle.hub_base.specs.declared.entry.Step.TheVariants.{Make, Call, Close, Exit, Cancel}
 use Rattle.hub_base.specs.declared.entry.Entry.{Entry}
 use Rattle.hub_base.specs.declared.head.Head.{Head}
 use Rattle.hub_base.specs.declared.fault.Fault.{Fault}
@@ -24,12 +24,14 @@ is_answer_to (Call cases default word) what.Default = true
 is_answer_to (Call cases default word) what.Parked = true
 is_answer_to (Close p) what.Done = true
 is_answer_to Exit what.Done = true
+is_answer_to (Cancel q) what.Done = true
 is_answer_to step answer = false
 
 -- how a call that waits ends
 abbrev pub ends_waiting : What → Bool
 ends_waiting (what.Fired i outcome) = true
 ends_waiting what.Stalled = true
+ends_waiting what.Cancelled = true
 ends_waiting other = false
 
 -- an answer to this step of this process, and what follows it

@@ -1,7 +1,7 @@
 -- The faults that answer an entry: of one that is not admitted, and of one that is.
 use Rattle.std.specs.Prelude.{Bool, true, false}
 use Rattle.hub_base.specs.declared.entry.Step.{Step}
-use Rattle.hub_base.specs.declared.entry.Step.TheVariants.{Make, Call, Close}
+use Rattle.hub_base.specs.declared.entry.Step.TheVariants.{Make, Call, Close, Cancel}
 use Rattle.hub_base.specs.declared.fault.Fault.{Fault}
 use Rattle.hub_base.specs.declared.fault.Fault.TheVariants as fault
 
@@ -26,4 +26,5 @@ is_fault_of (Call cases default word) fault.NoPort = true
 is_fault_of (Close p) fault.NoPort = true
 is_fault_of (Close p) fault.NilClose = true
 is_fault_of (Close p) fault.AlreadyClosed = true
+is_fault_of (Cancel q) fault.NotParked = true
 is_fault_of step f = false

@@ -5,7 +5,7 @@
 use Rattle.std.specs.Prelude.{◌≡◌, ◌≤◌, ◌==◌, ◌&&◌, ℕ, Bool, true, false, not, List, [], ◌∷◌, ◌++◌, length, filter, if◌then◌else◌}
 use Rattle.std.specs.List.{AllByRecursion}
 use Rattle.hub_base.specs.declared.entry.Step.{Step}
-use Rattle.hub_base.specs.declared.entry.Step.TheVariants.{Make, Call, Close, Exit}
+use Rattle.hub_base.specs.declared.entry.Step.TheVariants.{Make, Call, Close, Exit, Cancel}
 use Rattle.hub_base.specs.declared.entry.Entry.{Entry}
 use Rattle.hub_base.specs.declared.head.Head.{Head}
 use Rattle.hub_base.specs.declared.fault.Fault.TheVariants as fault
@@ -21,6 +21,7 @@ is_call (Make cap) = false
 is_call (Call cases default word) = true
 is_call (Close p) = false
 is_call Exit = false
+is_call (Cancel q) = false
 
 abbrev pub is_refusal : What → Bool
 is_refusal (what.Fault f) = refuses_entry f
@@ -51,11 +52,12 @@ endings_until q (t ∷ ts) =
 abbrev pub events_of_call : Turned → List Turned → List Event
 events_of_call t ts = endings t.entry.pid.0 t.events ++ endings_until t.entry.pid.0 ts
 
--- what ends a call: a case that fired, the default, the stall of all, and the two faults of calls
+-- what ends a call: a case that fired, the default, the stall of all, a cancel, and the two faults of calls
 abbrev pub ends_call : What → Bool
 ends_call (what.Fired i outcome) = true
 ends_call what.Default = true
 ends_call what.Stalled = true
+ends_call what.Cancelled = true
 ends_call (what.Fault fault.TooManyCases) = true
 ends_call (what.Fault fault.NoPort) = true
 ends_call other = false

@@ -1,6 +1,6 @@
 -- One step writes the channel of at most one port, which its answer names: the port of the case
 -- that fired, the port that was made, or the port that was closed. A call that waits or takes its
--- default, an exit and a fault write none, and what follows an answer (calls that end) no other. Nor
+-- default, an exit, a cancel and a fault write none, and what follows an answer (calls that end) no other. Nor
 -- does a case write any that found its port closed: a send there, or a receive from it when drained.
 use Rattle.std.specs.Prelude.{◌≡◌, ◌≤◌, ◌<◌, ◌==◌, ◌++◌, ℕ, Bool, true, false, List, [], ◌∷◌, length, Option, Some, None, slice_get, if◌then◌else◌}
 use Rattle.std.specs.Option.{option_map, option_map_or}

@@ -33,6 +33,7 @@ value_got what.Default = None
 value_got what.Done = None
 value_got what.Parked = None
 value_got what.Stalled = None
+value_got what.Cancelled = None
 value_got (what.Fault f) = None
 
 -- the values that these events tell as got, in order

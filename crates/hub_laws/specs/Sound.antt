@@ -3,7 +3,8 @@ use Rattle.std.specs.Prelude.{◌≡◌, ◌≤◌, ◌<◌, ◌+◌, ◌==◌, 
 use Rattle.std.specs.List.{list_any, AllByRecursion}
 use Rattle.hub_base.specs.declared.value.Port.{Port}
 use Rattle.hub_base.specs.declared.case.Case.{Case}
-use Rattle.hub_base.specs.declared.limits.TheConstants.{MOST_CASES}
+use Rattle.hub_base.specs.declared.head.Edition.{Edition}
+use Rattle.hub_base.specs.Head.{most_cases}
 use Rattle.hub_base.specs.State.{State, Channel, OpenCall, channel_at}
 use Rattle.hub_base.specs.Ready.{is_send_on, is_recv_on, port_of}
 use Rattle.hub_base.specs.Steps.{is_waiting, has_gone}
@@ -29,9 +30,9 @@ Alone p (call ∷ calls) =
     × (list_any (is_send_on p) call.cases ≡ true → some_call (is_recv_on p) calls ≡ false)
     × Alone p calls
 
--- a call of no more cases than it may have, on ports that are made, where so many are, or on port 0
-pub record CallFits (ports : ℕ) (call : OpenCall) : Type 0 where
-  pub few : length call.cases ≤ MOST_CASES
+-- a call of no more cases than the edition admits, on ports that are made, where so many are, or on port 0
+pub record CallFits (edition : Edition) (ports : ℕ) (call : OpenCall) : Type 0 where
+  pub few : length call.cases ≤ most_cases edition
   pub made : list_any (λ c. nat_lt ports (port_of c).0) call.cases ≡ false
 
 -- a channel against the calls that wait
@@ -51,5 +52,5 @@ pub record PortSound (p : Port) (c : Channel) (calls : List OpenCall) : Type 0 w
 pub record IsSound (s : State) : Type 0 where
   pub apart : Apart s.parked
   pub present : (q : ℕ) → is_waiting s q ≡ true → (q < s.head.procs) × (has_gone s q ≡ false)
-  pub calls : AllByRecursion (CallFits (length s.channels)) s.parked
+  pub calls : AllByRecursion (CallFits s.head.edition (length s.channels)) s.parked
   pub ports : (p : Port) (c : Channel) → channel_at s p ≡ Some c → PortSound p c s.parked

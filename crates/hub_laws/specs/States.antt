@@ -25,7 +25,7 @@ pub record PortLaws (p : Port) (c : Channel) (calls : List OpenCall) : Type 0 wh
 pub record StateLaws (s : State) : Type 0 where
   pub apart : Apart s.parked
   pub present : (q : ℕ) → is_waiting s q ≡ true → (q < s.head.procs) × (has_gone s q ≡ false)
-  pub calls : AllByRecursion (CallFits (length s.channels)) s.parked
+  pub calls : AllByRecursion (CallFits s.head.edition (length s.channels)) s.parked
   pub ports : (p : Port) (c : Channel) → channel_at s p ≡ Some c → PortLaws p c s.parked
   -- no more ports are made than there may be, and no more calls wait than there are processes
   pub few : length s.channels ≤ MOST_PORTS

@@ -16,7 +16,7 @@ use Rattle.hub_core.specs.HubView.{places_after}
 use Rattle.hub_laws.proofs.Journals.{begins-law}
 use Rattle.hub_live.specs.Locked.{answer_for, IsLawful, last_told}
 use Rattle.hub_live.specs.Calls.{Answers, AnswersNoCall}
-use Rattle.hub_live.specs.Prelude.{Entry, Event, Pid, is_waiting, Step, Make, Call, Close, Exit, IsLegal, reply, last_from, is_parked, HubView, Steps}
+use Rattle.hub_live.specs.Prelude.{Entry, Event, Pid, is_waiting, Step, Make, Call, Close, Exit, Cancel, IsLegal, reply, last_from, is_parked, HubView, Steps}
 use Rattle.hub_live.specs.Prelude.{state_of, LockedView, IsReplyTo, pids_of, Serves}
 
 -- ---- places
@@ -186,6 +186,7 @@ parked_only (what.Fired i outcome) is = absurd (let g : ⊥ = cc in g)
 parked_only what.Default is = absurd (let g : ⊥ = cc in g)
 parked_only what.Done is = absurd (let g : ⊥ = cc in g)
 parked_only what.Stalled is = absurd (let g : ⊥ = cc in g)
+parked_only what.Cancelled is = absurd (let g : ⊥ = cc in g)
 parked_only (what.Fault f) is = absurd (let g : ⊥ = cc in g)
 
 -- the answer to a step that was made
@@ -200,6 +201,7 @@ answers_no_call pid (Make cap) x h = h
 answers_no_call pid (Call cases default word) x h = tt
 answers_no_call pid (Close p) x h = h
 answers_no_call pid Exit x h = h
+answers_no_call pid (Cancel q) x h = h
 
 -- only a call waits
 pub parked_call : (pid : Pid) (step : Step) (x y : Event) → is_answer_to step x.what ≡ true → is_parked x.what ≡ true → AnswersNoCall pid step y
@@ -210,3 +212,4 @@ parked_call pid step x y fits parked = by step (subst (λ (w : What). is_answer_
     by (Call cases default word) is = tt
     by (Close p) is = absurd (let g : ⊥ = cc in g)
     by Exit is = absurd (let g : ⊥ = cc in g)
+    by (Cancel q) is = absurd (let g : ⊥ = cc in g)

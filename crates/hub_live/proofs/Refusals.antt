@@ -14,8 +14,8 @@ use Rattle.hub_laws.proofs.Lasting.{turn-leaves, head-after}
 use Rattle.hub_laws.proofs.Replies.{replies-law}
 use Rattle.hub_core.specs.HubView.{Grows}
 use Rattle.hub_live.specs.Calls.{LeavesRoom, AsksNothing}
-use Rattle.hub_live.specs.Prelude.{IsPrefix, Head, Pid, Step, Make, Call, Close, Exit, Entry, Fault, refusal, is_waiting, moves, state, is_exit, steps_of}
-use Rattle.hub_live.specs.Prelude.{IsLegal, own, reply, HubView, Refuses, state_of, Terms, IsHub, Shows}
+use Rattle.hub_live.specs.Prelude.{IsPrefix, Head, Pid, Step, Make, Call, Close, Exit, Cancel, Entry, Fault, refusal, is_waiting, moves, state, is_exit}
+use Rattle.hub_live.specs.Prelude.{steps_of, IsLegal, own, reply, HubView, Refuses, state_of, Terms, IsHub, Shows}
 
 -- ---- entries of others
 
@@ -120,6 +120,7 @@ growing (Make cap) places g = refl
 growing (Call cases default word) places g = refl
 growing (Close p) places g = refl
 growing Exit places g = absurd g
+growing (Cancel q) places g = refl
 
 below_not : (p n : ℕ) → p < n → not (nat_lt p n) ≡ true → ⊥
 below_not p n lt h = grind (arith, nat_tests)
@@ -156,3 +157,4 @@ shows t h e fault.BadCap is below free r = absurd r
 shows t h e fault.TooManyPorts is below free r = absurd r
 shows t h e fault.NilClose is below free r = absurd r
 shows t h e fault.AlreadyClosed is below free r = absurd r
+shows t h e fault.NotParked is below free r = absurd r

@@ -1,6 +1,7 @@
 -- What names a hub.
 use Rattle.std.specs.Prelude.{[]}
 use Rattle.atomic_table.specs.Seated.{TableId}
+use Rattle.hub_base.specs.declared.head.Edition.TheVariants.{One}
 use Rattle.hub_core.specs.HubView.{terms_of}
 use Rattle.hub_core.specs.declared.terms.Terms.{Terms}
 
@@ -26,5 +27,5 @@ no_name =
         offset = 0;
         slot_names = [];
       };
-      terms = terms_of 0 0;
+      terms = terms_of One 0 0;
     }

@@ -7,6 +7,7 @@ use Rattle.atomic_table.specs.Table.{State}
 use Rattle.hub_base.specs.declared.entry.Entry.{Entry}
 use Rattle.hub_base.specs.declared.limits.TheConstants.{MOST_PORTS, MOST_STEPS}
 use Rattle.hub_base.specs.Text.{steps_of}
+use Rattle.hub_base.specs.declared.head.Edition.TheVariants.{One}
 use Rattle.hub_core.specs.HubView.{terms_of}
 use Rattle.hub_laws.specs.Journals.{IsLegal}
 use Rattle.hub_laws.specs.Replies.{own}
@@ -33,7 +34,7 @@ blank t = record { terms = t; number = None; seen = []; joined = None; joined_se
 
 -- a seat that another took in
 abbrev pub spent : View
-spent = blank (terms_of 0 0)
+spent = blank (terms_of One 0 0)
 
 -- number 0, the hub's, has seen the whole journal, a process's number every entry of the process
 abbrev pub Knows : List Entry → List Entry → ℕ → Type 0

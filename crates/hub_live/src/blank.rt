@@ -16,7 +16,7 @@ use crate::parker::Parker;
 use crate::rule::{HubTable, Token};
 use crate::seat::{InnerSeat, Seat};
 use crate::words::{Words, draw, open_table};
-use hub_base::{Head, Pid};
+use hub_base::{Edition, Head, Pid};
 use hub_core::{Hub, OpenFault, Terms};
 use std::alloc::{AllocError, Global};
 use std::marker::Model;
@@ -79,23 +79,28 @@ fn seats_of(alloc: Global, table: &HubTable, procs: u8) -> Result<Vec<Seat>, All
 }
 
 impl Blank {
-    /// A hub of 1 to `MOST_PROCS` processes whose journal may hold 1 to `MOST_STEPS` entries that are no
+    /// A hub of this edition, of 1 to `MOST_PROCS` processes, whose journal may hold 1 to `MOST_STEPS` entries that are no
     /// exits, and a seat for each process, in order. Refused as `Hub::open` is, and nothing is kept; by
     /// `NoMemory` also where the words, the parkers or the seats were refused memory, or a
     /// seat can't draw its number.
     #[tactic(auto, using(crate::proofs::Laters::all_of_hub, crate::proofs::Openings::refused_so, crate::proofs::Openings::memory_refused))]
-    pub fn open(alloc: Global, procs: u8, limit: u32) -> Result<(Blank, Vec<Seat>), OpenFault>
-        ensures hub { IfOk result (λ r. r.0.locked ≡ none_waits (opened_hub (terms_of procs limit))) }
-        ensures terms { IfOk result (λ r. r.0.name.terms ≡ terms_of procs limit) }
-        ensures bounds { OnOk result (IsHead (head_of procs) × IsLimit limit) }
+    pub fn open(
+        alloc: Global,
+        procs: u8,
+        limit: u32,
+        edition: Edition,
+    ) -> Result<(Blank, Vec<Seat>), OpenFault>
+        ensures hub { IfOk result (λ r. r.0.locked ≡ none_waits (opened_hub (terms_of edition procs limit))) }
+        ensures terms { IfOk result (λ r. r.0.name.terms ≡ terms_of edition procs limit) }
+        ensures bounds { OnOk result (IsHead (head_of edition procs) × IsLimit limit) }
         ensures count { IfOk result (λ r. vec_len r.1 ≡ procs) }
         ensures seats { IfOk result (λ r. AreSeats r.0.name 0 r.1.items) }
         ensures together { IfOk result (λ r. All (λ s. s.hub ≡ r.0.name) r.1.items) }
-        ensures err { IfErr result (λ f. RefusesOpening (terms_of procs limit) f) }
+        ensures err { IfErr result (λ f. RefusesOpening (terms_of edition procs limit) f) }
     {
-        let hub = Hub::open(alloc, procs, limit)?;
+        let hub = Hub::open(alloc, procs, limit, edition)?;
         let terms = Terms {
-            head: Head { procs },
+            head: Head { edition, procs },
             limit,
         };
         let (table, token) = open_table(alloc, terms)?;
@@ -120,6 +125,11 @@ impl Blank {
             locked,
             wakers,
         } = self;
-        LiveHub::of(Words::of(table), Desk::of(locked, token), wakers)
+        LiveHub::of(
+            locked.head(),
+            Words::of(table),
+            Desk::of(locked, token),
+            wakers,
+        )
     }
 }

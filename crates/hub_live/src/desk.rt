@@ -4,11 +4,12 @@
 //! A step joins the caller's seat to the hub's before the journal changes and parts it afterwards,
 //! since a store is judged by what the seat that stores knows.
 
-ghost use Rattle.std.specs.Prelude.{◌≡◌, ◌≤◌, ◌<◌, ◌+◌, ◌++◌, ◌∷◌, [], List, length, Some, None, false, IfSome, IfNone, OnSome};
+ghost use Rattle.std.specs.Prelude.{◌≡◌, ◌≤◌, ◌<◌, ◌+◌, ◌++◌, ◌∷◌, [], List, length, Some, None, true, false, IfSome, IfNone, OnSome};
 ghost use Rattle.std.specs.List.{list_any};
 ghost use Rattle.hub_base.specs.Ready.{port_of};
 ghost use Rattle.hub_live.specs.Locked.{has_buffer};
-ghost use Rattle.hub_live.specs.Prelude.{IsPrefix, Entry, steps_of, IsLegal, number_of, port_changed_by, state_of, mark_at};
+ghost use Rattle.hub_live.specs.Request.{step_of};
+ghost use Rattle.hub_live.specs.Prelude.{AreOf, is_of, IsPrefix, Entry, steps_of, IsLegal, number_of, port_changed_by, state_of, mark_at};
 ghost use Rattle.hub_live.specs.Prelude.{answer_for, without_answer, IsReplyTo, IsHistory, IsFree, own_of, IsDesk};
 ghost use Rattle.hub_live.specs.Prelude.{ServesSeat, StandsIn, entry_by};
 
@@ -99,7 +100,7 @@ impl<K: HubName> Desk<K> {
         }
     }
 
-    /// Makes and publishes one step of the seat's process, and gives its answer. The seat has then
+    /// Makes and publishes one step of the seat's process, one that the hub's edition has, and gives its answer. The seat has then
     /// seen the journal. Takes no lock.
     ///
     /// Refused by `JournalFull`, `Gone` and `NoMemory` alone, tested in this order, with no entry made.
@@ -112,6 +113,7 @@ impl<K: HubName> Desk<K> {
         requires hub { seat.old.hub ≡ K.name }
         requires pid { seat.old.pid ≡ entry.pid }
         requires free { IsFree seat.old }
+        requires fits { is_of K.name.terms.head.edition entry.step ≡ true }
         ensures rules { ServesSeat K.name self.old seat.old entry self.new seat.new result }
     {
         self.serve(words, seat, &Request::of(&entry.step))
@@ -126,6 +128,7 @@ impl<K: HubName> Desk<K> {
     ) -> Result<Event, Fault>
         requires hub { seat.old.hub ≡ K.name }
         requires free { IsFree seat.old }
+        requires fits { is_of K.name.terms.head.edition (step_of request.now) ≡ true }
         ensures { ServesSeat K.name self.old seat.old (entry_by seat.old.pid request.now) self.new seat.new result }
     {
         let Some(mine) = seat.token.take() else {
@@ -210,6 +213,7 @@ impl<K: HubName> Desk<K> {
     pub(crate) fn into_journal(self) -> Journal
         ensures journal { result ≡ record { head = K.name.terms.head; entries = self.hub.journal } }
         ensures legal { IsLegal K.name.terms.head self.hub.journal }
+        ensures fits { AreOf K.name.terms.head.edition self.hub.journal }
         ensures few { steps_of self.hub.journal ≤ K.name.terms.limit }
     {
         let Desk {

@@ -3,7 +3,7 @@
 
 ghost use Rattle.std.specs.Prelude.{◌≡◌, ◌<◌, ◌≤◌, ◌∷◌, ◌⊎◌, [], false, IfOk, IfErr, All};
 ghost use Rattle.hub_base.specs.declared.event.What.TheVariants as what;
-ghost use Rattle.hub_live.specs.Prelude.{Send, Recv, Make, Call, Close, Exit, call, tells, steps_of, IsLegal, counts_at, IsIdle, state_seen, Later};
+ghost use Rattle.hub_live.specs.Prelude.{Send, Recv, Make, Call, Close, Exit, Cancel, Two, AreOf, call, tells, steps_of, IsLegal, counts_at, IsIdle, state_seen, Later};
 ghost use Rattle.hub_live.specs.Prelude.{Made, Refused, Answers, AskedNothing, StandsIn};
 
 use crate::ends::{Chan, RecvPort, SendPort};
@@ -165,6 +165,18 @@ impl<K: HubName> Held<K> {
         hub.exit(rt, &mut self.seat)
     }
 
+    /// Cancels the open call of another process. Answers and refusals: `LiveHub::cancel`. Only hubs of the second
+    /// edition have it.
+    pub fn cancel<R: Wait>(&mut self, rt: &R, hub: &LiveHub<K>, pid: Pid) -> Result<Event, Fault>
+        requires { K.name.terms.head.edition ≡ Two }
+        ensures later { Later self.old self.new }
+        ensures ok { IfOk result (λ x. Made self.old self.new (Cancel pid) x) }
+        ensures answer { IfOk result (λ x. Answers self.old.pid (Cancel pid) x) }
+        ensures err { IfErr result (λ f. Refused self.old self.new (Cancel pid) f) }
+    {
+        hub.cancel(rt, &mut self.seat, pid)
+    }
+
     /// The counts of a port in the journal that the seat has then seen.
     pub fn look(&mut self, hub: &LiveHub<K>, port: Port) -> Option<Counts>
         ensures later { Later self.old self.new }
@@ -191,6 +203,7 @@ impl<K: HubName> LiveHub<K> {
     pub fn finish_held(self, held: Vec<Held<K>>) -> Journal
         ensures head { result.head ≡ K.name.terms.head }
         ensures legal { IsLegal result.head result.entries }
+        ensures fits { AreOf result.head.edition result.entries }
         ensures few { steps_of result.entries ≤ K.name.terms.limit }
         ensures seats { All (λ s. StandsIn s result.entries) held.items }
     {

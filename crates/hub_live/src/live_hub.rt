@@ -1,8 +1,8 @@
 //! A hub that threads share. Steps take its lock; looks and meetings take none.
 
-ghost use Rattle.std.specs.Prelude.{◌≡◌, ◌≤◌, ◌∷◌, ◌⊎◌, [], false, IfOk, IfErr, All, vec_len};
+ghost use Rattle.std.specs.Prelude.{◌≡◌, ◌≤◌, ◌∷◌, ◌⊎◌, [], true, false, IfOk, IfErr, All, vec_len};
 ghost use Rattle.hub_base.specs.declared.event.What.TheVariants as what;
-ghost use Rattle.hub_live.specs.Prelude.{Send, Recv, Make, Call, Close, Exit, call, tells, steps_of, IsLegal, is_parked, counts_at, state_seen, Later};
+ghost use Rattle.hub_live.specs.Prelude.{Send, Recv, Make, Call, Close, Exit, Cancel, Two, AreOf, is_of, call, tells, steps_of, IsLegal, is_parked, counts_at, state_seen, Later};
 ghost use Rattle.hub_live.specs.Request.{step_of};
 ghost use Rattle.hub_live.specs.Prelude.{entry_by, Made, Refused, MadeEntry, RefusedEntry, Answers, AnswersNoCall, AskedNothing, StandsIn};
 ghost use Rattle.hub_live.specs.Prelude.{IsHistory, IsPrefix, IsReplyTo, own_of};
@@ -17,7 +17,7 @@ use crate::request::Request;
 use crate::seat::{InnerSeat, Seat};
 use crate::words::Words;
 use hub_base::{
-    Case, Cases, CasesExt, Counts, Event, Fault, Journal, MOST_PORTS, Pid, Port, Value, What,
+    Case, Cases, CasesExt, Counts, Event, Fault, Head, Journal, MOST_PORTS, Pid, Port, Value, What,
 };
 use std::sync::{Mutex, MutexGuard, Wait};
 
@@ -27,6 +27,8 @@ const TRIES: u32 = 10;
 /// A hub that threads share. Each seat that is passed to it must come from its own `Blank::open`.
 #[derive(Drop)]
 pub struct LiveHub<K: HubName> {
+    /// What its journal's head lines say.
+    head: Head,
     /// What threads read without the lock.
     words: Words<K>,
     /// What a step takes the lock for.
@@ -34,7 +36,7 @@ pub struct LiveHub<K: HubName> {
     /// By process number: told when an answer waits for that process. That is only a hint: a call
     /// ends where it finds its own answer.
     wakers: Vec<Parker>,
-    ghost is: { vec_len wakers ≡ K.name.terms.head.procs },
+    ghost is: { (head ≡ K.name.terms.head) × (vec_len wakers ≡ K.name.terms.head.procs) },
 }
 
 fn is_parked(what: What) -> bool
@@ -44,14 +46,23 @@ fn is_parked(what: What) -> bool
 }
 
 impl<K: HubName> LiveHub<K> {
-    pub(crate) fn of(words: Words<K>, desk: Desk<K>, wakers: Vec<Parker>) -> LiveHub<K>
-        requires { vec_len wakers ≡ K.name.terms.head.procs }
+    pub(crate) fn of(head: Head, words: Words<K>, desk: Desk<K>, wakers: Vec<Parker>) -> LiveHub<K>
+        requires head { head ≡ K.name.terms.head }
+        requires wakers { vec_len wakers ≡ K.name.terms.head.procs }
     {
         LiveHub {
+            head,
             words,
             desk: Mutex::new(desk),
             wakers,
         }
+    }
+
+    /// What its journal's head lines say: its edition, and its number of processes. It takes no lock.
+    pub fn head(&self) -> Head
+        ensures { result ≡ K.name.terms.head }
+    {
+        self.head
     }
 
     /// Wakes the processes whose calls ended, and no others.
@@ -66,7 +77,8 @@ impl<K: HubName> LiveHub<K> {
     /// Makes a step, and waits where it parks.
     #[tactic(auto, using(crate::proofs::Locks::served_answers, crate::proofs::Locks::answers_no_call, crate::proofs::Locks::parked_call, crate::proofs::Laters::made_later))]
     fn ask<R: Wait>(&self, rt: &R, seat: &mut Seat, request: &Request<'_>) -> Result<Event, Fault>
-        requires { seat.old.hub ≡ K.name }
+        requires hub { seat.old.hub ≡ K.name }
+        requires fits { is_of K.name.terms.head.edition (step_of request.now) ≡ true }
         ensures later { Later seat.old seat.new }
         ensures ok { IfOk result (λ x.
             MadeEntry seat.old seat.new (entry_by seat.old.pid request.now) x) }
@@ -134,7 +146,7 @@ impl<K: HubName> LiveHub<K> {
 
     /// Makes a call of these cases, and waits until it ends: where a case fired, where the default was
     /// taken, or `Stalled` where everybody waits; never `What::Parked`. Of `k` cases that can proceed
-    /// number `word mod k` fires, counted from 0. More than `MOST_CASES` cases are answered by the fault
+    /// number `word mod k` fires, counted from 0. More cases than the edition admits are answered by the fault
     /// `TooManyCases`, and a port that was not made by `NoPort`. Others may take the lock while it waits.
     ///
     /// Refused, with no entry made and the hub as before, by `JournalFull` where the journal holds as
@@ -288,6 +300,23 @@ impl<K: HubName> LiveHub<K> {
         self.ask(rt, seat, &Request::Exit)
     }
 
+    /// Cancels the open call of another process: it ends with `Cancelled`, no value moves, and no port
+    /// changes. Answered `Done`, or the fault `NotParked` where that process has no open call: it is none of
+    /// the hub's, has exited, is at work, or is the seat's own. It takes the lock, and waits for no other
+    /// step. Only hubs of the second edition have it.
+    ///
+    /// Refused as a call is.
+    pub fn cancel<R: Wait>(&self, rt: &R, seat: &mut Seat, pid: Pid) -> Result<Event, Fault>
+        requires hub { seat.old.hub ≡ K.name }
+        requires edition { K.name.terms.head.edition ≡ Two }
+        ensures later { Later seat.old seat.new }
+        ensures ok { IfOk result (λ x. Made seat.old seat.new (Cancel pid) x) }
+        ensures answer { IfOk result (λ x. Answers seat.old.pid (Cancel pid) x) }
+        ensures err { IfErr result (λ f. Refused seat.old seat.new (Cancel pid) f) }
+    {
+        self.ask(rt, seat, &Request::Cancel(pid))
+    }
+
     /// The counts of a port in the journal that the seat has then seen: by at most one load, with no
     /// lock and no memory. `None` for port 0 and for a port that is not made there. Other threads may
     /// have made steps since. Go: "Length and capacity".
@@ -330,6 +359,7 @@ impl<K: HubName> LiveHub<K> {
     /// The words and what lay under the lock, once nobody shares them.
     pub(crate) fn into_parts(self) -> (Words<K>, Desk<K>) {
         let LiveHub {
+            head: _,
             words,
             desk,
             wakers: _,
@@ -343,6 +373,7 @@ impl<K: HubName> LiveHub<K> {
         requires { All (λ s. s.hub ≡ K.name) seats.items }
         ensures head { result.head ≡ K.name.terms.head }
         ensures legal { IsLegal result.head result.entries }
+        ensures fits { AreOf result.head.edition result.entries }
         ensures few { steps_of result.entries ≤ K.name.terms.limit }
         ensures seats { All (λ s. StandsIn s result.entries) seats.items }
     {

@@ -5,14 +5,15 @@
 //! no answer waiting, and an answer that waits is its process's reply. That the hub is what its journal
 //! leads to is kept by the hub's own type.
 
-ghost use Rattle.std.specs.Prelude.{◌≡◌, ◌≤◌, ◌<◌, ℕ, Some, false, length, slice_set, IfOk, IfErr, OnOk, OnErr, IfSome, IfNone};
+ghost use Rattle.std.specs.Prelude.{◌≡◌, ◌≤◌, ◌<◌, ℕ, Some, true, false, length, slice_set, IfOk, IfErr, OnOk, OnErr, IfSome, IfNone};
 ghost use Rattle.hub_core.specs.Looks.{look_at};
 ghost use Rattle.hub_live.specs.Locked.{none_waits, last_told};
-ghost use Rattle.hub_live.specs.Prelude.{IsLegal, is_parked, Refuses, Steps, state_of, answer_for, entry_by, IsReplyTo, pids_of, Serves, without_answer};
+ghost use Rattle.hub_live.specs.Request.{step_of};
+ghost use Rattle.hub_live.specs.Prelude.{AreOf, is_of, IsLegal, is_parked, Refuses, Steps, state_of, answer_for, entry_by, IsReplyTo, pids_of, Serves, without_answer};
 
 use crate::request::Request;
 use arrayvec::ArrayVec;
-use hub_base::{Entry, Event, Events, Fault, Journal, Look, MOST_PROCS, Pid, Port};
+use hub_base::{Entry, Event, Events, Fault, Head, Journal, Look, MOST_PROCS, Pid, Port};
 use hub_core::Hub;
 use std::marker::Model;
 
@@ -50,6 +51,7 @@ fn make_step(
     request: &Request<'_>,
     events: &mut Events,
 ) -> Result<(), Fault>
+    requires fits { is_of hub.old.hub.terms.head.edition (step_of request.now) ≡ true }
     ensures ok { OnOk result (
         Steps hub.old.hub (entry_by pid request.now) hub.new.hub events.new.items) }
     ensures refused { IfErr result (λ f. Refuses hub.old.hub (entry_by pid request.now) f) }
@@ -74,6 +76,7 @@ fn make_rare_step(
     request: &Request<'_>,
     events: &mut Events,
 ) -> Result<(), Fault>
+    requires fits { is_of hub.old.hub.terms.head.edition (step_of request.now) ≡ true }
     ensures ok { OnOk result (
         Steps hub.old.hub (entry_by pid request.now) hub.new.hub events.new.items) }
     ensures refused { IfErr result (λ f. Refuses hub.old.hub (entry_by pid request.now) f) }
@@ -131,13 +134,14 @@ impl Locked {
         }
     }
 
-    /// Makes a step, and gives its answer, the first of its events. What waited for the caller is
+    /// Makes a step that the hub's edition has, and gives its answer, the first of its events. What waited for the caller is
     /// dropped. Each event that follows, which ends a call, waits for its process, also a `Stalled`
     /// that follows the caller's own `Parked`.
     ///
     /// Refused as the hub refuses it, and then nothing changes: an exit never by `JournalFull` or
     /// `NoMemory`.
     pub fn step(&mut self, entry: Entry) -> Result<Event, Fault>
+        requires fits { is_of self.old.hub.terms.head.edition entry.step ≡ true }
         ensures ok { IfOk result (λ answer. Serves self.old entry self.new answer) }
         ensures reply { IfOk result (λ answer. is_parked answer.what ≡ false →
             IsReplyTo self.new.hub.terms.head entry.pid.0 self.new.hub.journal answer) }
@@ -149,6 +153,7 @@ impl Locked {
 
     /// Makes the step that a process asks for, as `step` does.
     pub(crate) fn serve(&mut self, pid: Pid, request: &Request<'_>) -> Result<Event, Fault>
+        requires fits { is_of self.old.hub.terms.head.edition (step_of request.now) ≡ true }
         ensures ok { IfOk result (λ answer. Serves self.old (entry_by pid request.now) self.new answer) }
         ensures reply { IfOk result (λ answer. is_parked answer.what ≡ false →
             IsReplyTo self.new.hub.terms.head pid.0 self.new.hub.journal answer) }
@@ -201,10 +206,19 @@ impl Locked {
         self.hub.look(port)
     }
 
-    /// The journal so far. It is legal: each of its entries was admitted when it came.
+    /// What its journal's head lines say: its edition, and its number of processes.
+    pub fn head(&self) -> Head
+        ensures { result ≡ self.now.hub.terms.head }
+    {
+        self.hub.head()
+    }
+
+    /// The journal so far. It is legal: each of its entries was admitted when it came, and is one that the
+    /// edition has.
     pub fn entries(&self) -> &[Entry]
         ensures journal { result.now ≡ self.now.hub.journal }
         ensures legal { IsLegal self.now.hub.terms.head self.now.hub.journal }
+        ensures fits { AreOf self.now.hub.terms.head.edition self.now.hub.journal }
     {
         self.hub.entries()
     }
@@ -213,6 +227,7 @@ impl Locked {
     pub fn into_journal(self) -> Journal
         ensures journal { result ≡ record { head = self.hub.terms.head; entries = self.hub.journal } }
         ensures legal { IsLegal self.hub.terms.head self.hub.journal }
+        ensures fits { AreOf self.hub.terms.head.edition self.hub.journal }
     {
         let Locked {
             hub,

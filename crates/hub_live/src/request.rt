@@ -3,7 +3,7 @@
 ghost use Rattle.std.specs.Prelude.{◌≡◌};
 ghost use Rattle.hub_live.specs.Request.{step_of};
 
-use hub_base::{Cases, Port, Step, copy_cases};
+use hub_base::{Cases, Pid, Port, Step, copy_cases};
 
 /// A step, as it is passed down under the lock: the cases of a call stay where they are, until they are written
 /// into the journal.
@@ -24,6 +24,8 @@ pub(crate) enum Request<'a> {
     Close(Port),
     /// Ends the process.
     Exit,
+    /// Ends the open call of this process.
+    Cancel(Pid),
 }
 
 impl Request<'_> {
@@ -44,6 +46,7 @@ impl Request<'_> {
             },
             Step::Close(port) => Request::Close(*port),
             Step::Exit => Request::Exit,
+            Step::Cancel(pid) => Request::Cancel(*pid),
         }
     }
 
@@ -64,6 +67,7 @@ impl Request<'_> {
             },
             Request::Close(port) => Step::Close(port),
             Request::Exit => Step::Exit,
+            Request::Cancel(pid) => Step::Cancel(pid),
         }
     }
 }

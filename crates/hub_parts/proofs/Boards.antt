@@ -10,7 +10,7 @@ use Rattle.hub_base.specs.declared.value.Port.{Port}
 use Rattle.hub_base.specs.declared.case.Case.{Case}
 use Rattle.hub_base.specs.declared.case.Case.TheVariants.{Send, Recv}
 use Rattle.hub_base.specs.Ready.{port_of}
-use Rattle.hub_base.specs.declared.limits.TheConstants.{MOST_CASES, MOST_PORTS}
+use Rattle.hub_base.specs.declared.limits.TheConstants.{CASE_PLACES, MOST_PORTS}
 use Rattle.hub_base.proofs.Lists.{all_snoc, all_more}
 use Rattle.hub_parts.specs.declared.wait_queue.TheConstants.{PLACES}
 use Rattle.hub_parts.specs.declared.side.Side.{Side}
@@ -34,7 +34,7 @@ calls_ended pid c n k =
     record {
       counted = k.counted;
       few = omega (arith, length-filter-le keep c.waiting, k.few);
-      small = all_filter (λ w. length w.call.cases ≤ MOST_CASES) keep c.waiting k.small;
+      small = all_filter (λ w. length w.call.cases ≤ CASE_PLACES) keep c.waiting k.small;
       made = all_filter (λ w. AllMade n w.call.cases) keep c.waiting k.made;
       ascending = ascending_filter keep c.waiting k.ascending;
       below = all_filter (λ w. w.ticket < c.next_ticket) keep c.waiting k.below;
@@ -186,12 +186,12 @@ ascending_snoc (v ∷ ws) w n le b a =
     let less : v.ticket < n = b.0 in
     (all_snoc (λ u. v.ticket < u.ticket) ws w a.0 (omega arith), ascending_snoc ws w n le b.1 a.1)
 
-pub calls_opened : (pid : Pid) (ticket : ℕ) (cases : List Case) (c : Calls) (n : ℕ) → CallsKeep c n → c.next_ticket ≤ ticket → length cases ≤ MOST_CASES
+pub calls_opened : (pid : Pid) (ticket : ℕ) (cases : List Case) (c : Calls) (n : ℕ) → CallsKeep c n → c.next_ticket ≤ ticket → length cases ≤ CASE_PLACES
     → AllMade n cases → length (c.waiting ++ ticketed pid ticket cases ∷ []) ≤ c.procs → CallsKeep (with_call pid ticket cases c) n
 calls_opened pid ticket cases c n k later small made few = record {
   counted = k.counted;
   few = few;
-  small = all_snoc (λ w. length w.call.cases ≤ MOST_CASES) c.waiting (ticketed pid ticket cases) k.small small;
+  small = all_snoc (λ w. length w.call.cases ≤ CASE_PLACES) c.waiting (ticketed pid ticket cases) k.small small;
   made = all_snoc (λ w. AllMade n w.call.cases) c.waiting (ticketed pid ticket cases) k.made made;
   ascending = ascending_snoc c.waiting (ticketed pid ticket cases) c.next_ticket later k.below k.ascending;
   below = all_snoc (λ w. w.ticket < ticket + 1) c.waiting (ticketed pid ticket cases)
@@ -200,21 +200,21 @@ calls_opened pid ticket cases c n k later small made few = record {
 
 -- a queue after room was made for a call
 queue_ready : (s : Side) (p : Port) (c : Calls) (cs : List ChannelLists) (cases : List Case) → 0 < p.0 → p.0 ≤ length cs → BoardKeeps c cs
-    → 0 < c.procs → length cases ≤ MOST_CASES → Ready (joins s p) c (queue_of s (channel_of (all_roomy c.waiting cs cases) p)) cases
+    → 0 < c.procs → length cases ≤ CASE_PLACES → Ready (joins s p) c (queue_of s (channel_of (all_roomy c.waiting cs cases) p)) cases
 queue_ready s p c cs cases positive within k free small =
     rw (queue_with_cases (λ i. roomy c.waiting) 0 cs cases s p positive within)
     (ready_after (joins s p) c 0 (queue_of s (channel_of cs p)) cases (k.queues s p positive within)
     (roomy_has (joins s p) c (queue_of s (channel_of cs p)) free k.calls.few k.calls.small (k.queues s p positive within)) small)
 
 pub roomy_can_join : (pid : Pid) (ticket : ℕ) (c : Calls) (cs : List ChannelLists) (cases : List Case) → BoardKeeps c cs → 0 < c.procs
-    → length cases ≤ MOST_CASES → AllMade (length cs) cases → CanJoin pid ticket 0 (all_roomy c.waiting cs cases) cases
+    → length cases ≤ CASE_PLACES → AllMade (length cs) cases → CanJoin pid ticket 0 (all_roomy c.waiting cs cases) cases
 roomy_can_join pid ticket c cs cases k free small made =
     let long = length-with_cases (λ i. roomy c.waiting) 0 cs cases in
     can_join pid ticket 0 (all_roomy c.waiting cs cases) cases (subst (λ n. AllMade n cases) (sym long) made)
     (λ s p positive within. (queue_ready s p c cs cases positive (rw long at within) k free small).room)
 
 pub board_parked : (pid : Pid) (ticket : ℕ) (c : Calls) (cs : List ChannelLists) (cases : List Case) → BoardKeeps c cs → 0 < c.procs
-    → length cases ≤ MOST_CASES → AllMade (length cs) cases → c.next_ticket ≤ ticket → length (c.waiting ++ ticketed pid ticket cases ∷ []) ≤ c.procs
+    → length cases ≤ CASE_PLACES → AllMade (length cs) cases → c.next_ticket ≤ ticket → length (c.waiting ++ ticketed pid ticket cases ∷ []) ≤ c.procs
     → BoardKeeps (with_call pid ticket cases c) (all_joined pid ticket 0 (all_roomy c.waiting cs cases) cases)
 board_parked pid ticket c cs cases k free small made later few =
     let roomy_long = length-with_cases (λ i. roomy c.waiting) 0 cs cases in

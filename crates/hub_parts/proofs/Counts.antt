@@ -13,7 +13,7 @@ use Rattle.hub_base.specs.declared.value.Port.{Port}
 use Rattle.hub_base.specs.declared.case.Case.{Case}
 use Rattle.hub_base.specs.declared.case.Case.TheVariants.{Send, Recv}
 use Rattle.hub_base.specs.Ready.{is_send_on, is_recv_on, is_on, first_with, lowest_from, or_else}
-use Rattle.hub_base.specs.declared.limits.TheConstants.{MOST_PORTS}
+use Rattle.hub_base.specs.declared.limits.TheConstants.{CASE_PLACES, MOST_PORTS}
 use Rattle.hub_parts.specs.declared.tickets.Opened.{Opened}
 use Rattle.hub_parts.specs.declared.tickets.case_counts.CaseCounts.{CaseCounts}
 use Rattle.hub_parts.specs.declared.side.Side.{Side}
@@ -22,7 +22,7 @@ use Rattle.hub_parts.specs.Records.{Ticketed}
 use Rattle.hub_parts.specs.Lists.{open_calls, passes}
 use Rattle.hub_parts.specs.CaseCounts.{changed, with_changed, all_changed, CaseAllows, AllAllow, one_more, one_less, with_raised}
 use Rattle.hub_parts.specs.CaseCounts.{with_lowered, CanRaise, CanLower, CanGrow, has_case, passing, all_passing, CountsCases, IsCountOf}
-use Rattle.hub_parts.specs.Tickets.{most_held, AreApart, pids, calls_of, cases_of}
+use Rattle.hub_parts.specs.Tickets.{AreApart, pids, calls_of, cases_of}
 
 abbrev iterate : (ℕ → ℕ) → ℕ → ℕ → ℕ
 iterate f zero x = x
@@ -144,11 +144,11 @@ passing-le test (c ∷ cases) = elim (test c) as (λ b. cond b (suc (passing tes
   | false ↦ omega (arith, passing-le test cases)
 ]
 
-all_passing-le : (test : Case → Bool) (ws : List Ticketed) → AllByRecursion (λ w. length w.call.cases ≤ most_held) ws
-    → all_passing test ws ≤ most_held * length ws
+all_passing-le : (test : Case → Bool) (ws : List Ticketed) → AllByRecursion (λ w. length w.call.cases ≤ CASE_PLACES) ws
+    → all_passing test ws ≤ CASE_PLACES * length ws
 all_passing-le test [] a = omega arith
 all_passing-le test (w ∷ ws) a =
-    let here : length w.call.cases ≤ most_held = a.0 in
+    let here : length w.call.cases ≤ CASE_PLACES = a.0 in
     omega (arith, passing-le test w.call.cases, all_passing-le test ws a.1)
 
 abbrev Fitting : ℕ → ℕ → Type 0
@@ -159,7 +159,7 @@ Covering n x = n ≤ x
 
 -- the calls of 255 processes fit
 pub can_raise : (t : CaseCounts) (ws : List Ticketed) (cases : List Case) → IsCountOf t ws
-    → AllByRecursion (λ w. length w.call.cases ≤ most_held) ws → length ws < 256 → length cases ≤ most_held → CanRaise t cases
+    → AllByRecursion (λ w. length w.call.cases ≤ CASE_PLACES) ws → length ws < 256 → length cases ≤ CASE_PLACES → CanRaise t cases
 can_raise t ws cases k few most small =
     all_allow one_more CanGrow Fitting (λ n x r. omega arith) (λ n x r. omega arith) t cases (record {
       sends = λ p within. rw (k.sends p (omega (arith, k.sends_length)))

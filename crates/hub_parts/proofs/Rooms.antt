@@ -12,7 +12,7 @@ use Rattle.hub_base.specs.declared.value.Port.{Port}
 use Rattle.hub_base.specs.declared.case.Case.{Case}
 use Rattle.hub_base.specs.declared.case.Case.TheVariants.{Send, Recv}
 use Rattle.hub_base.specs.Ready.{port_of}
-use Rattle.hub_base.specs.declared.limits.TheConstants.{MOST_CASES}
+use Rattle.hub_base.specs.declared.limits.TheConstants.{CASE_PLACES}
 use Rattle.hub_base.proofs.Lists.{all_append, all_more}
 use Rattle.hub_parts.specs.declared.side.Side.{Side}
 use Rattle.hub_parts.specs.declared.side.Side.TheVariants as side
@@ -35,11 +35,11 @@ length-waiters_from test pid ticket i (c ∷ cases) =
     ≡ length (cond b (c ∷ filter test cases) (filter test cases)))
     [ true ↦ ap suc (length-waiters_from test pid ticket (i + 1) cases) | false ↦ length-waiters_from test pid ticket (i + 1) cases ]
 
-most_waiters : (test : Case → Bool) (ws : List Ticketed) → AllByRecursion (λ w. length w.call.cases ≤ MOST_CASES) ws
-    → length (waiters test ws) ≤ MOST_CASES * length ws
+most_waiters : (test : Case → Bool) (ws : List Ticketed) → AllByRecursion (λ w. length w.call.cases ≤ CASE_PLACES) ws
+    → length (waiters test ws) ≤ CASE_PLACES * length ws
 most_waiters test [] a = omega arith
 most_waiters test (w ∷ ws) a =
-    let here : length w.call.cases ≤ MOST_CASES = a.0 in
+    let here : length w.call.cases ≤ CASE_PLACES = a.0 in
     omega (
       arith,
       length-append (waiters_of test w) (waiters test ws),
@@ -50,23 +50,23 @@ most_waiters test (w ∷ ws) a =
 
 -- the places for a call are free
 pub HasPlaces : Buffer Waiter → Type 0
-HasPlaces q = length q.items + MOST_CASES ≤ q.capacity
+HasPlaces q = length q.items + CASE_PLACES ≤ q.capacity
 
-roomy_step : (ws : List Ticketed) (q : Buffer Waiter) (b : Bool) → ltb (q.capacity - length q.items) MOST_CASES ≡ b → length q.items ≤ q.capacity
-    → length (live_of ws q.items) + MOST_CASES ≤ q.capacity → HasPlaces (cond b (buffer (live_of ws q.items) q.capacity) q)
+roomy_step : (ws : List Ticketed) (q : Buffer Waiter) (b : Bool) → ltb (q.capacity - length q.items) CASE_PLACES ≡ b → length q.items ≤ q.capacity
+    → length (live_of ws q.items) + CASE_PLACES ≤ q.capacity → HasPlaces (cond b (buffer (live_of ws q.items) q.capacity) q)
 unfolding HasPlaces
 roomy_step ws q true e fits few = few
-roomy_step ws q false e fits few = omega (arith, ltb-false (q.capacity - length q.items) MOST_CASES e)
+roomy_step ws q false e fits few = omega (arith, ltb-false (q.capacity - length q.items) CASE_PLACES e)
 
 pub roomy_has : (test : Case → Bool) (c : Calls) (q : Buffer Waiter) → 0 < c.procs → length c.waiting ≤ c.procs
-    → AllByRecursion (λ w. length w.call.cases ≤ MOST_CASES) c.waiting → QueueKeeps test c q → HasPlaces (roomy c.waiting q)
+    → AllByRecursion (λ w. length w.call.cases ≤ CASE_PLACES) c.waiting → QueueKeeps test c q → HasPlaces (roomy c.waiting q)
 roomy_has test c q some few small k =
-    let most : length (live_of c.waiting q.items) + MOST_CASES ≤ q.capacity = omega (arith, ap length k.live, most_waiters test c.waiting small, k.places) in
-    roomy_step c.waiting q (ltb (q.capacity - length q.items) MOST_CASES) refl k.fits most
+    let most : length (live_of c.waiting q.items) + CASE_PLACES ≤ q.capacity = omega (arith, ap length k.live, most_waiters test c.waiting small, k.places) in
+    roomy_step c.waiting q (ltb (q.capacity - length q.items) CASE_PLACES) refl k.fits most
 
 pub roomy_keeps : (test : Case → Bool) (c : Calls) (q : Buffer Waiter) → QueueKeeps test c q → QueueKeeps test c (roomy c.waiting q)
 roomy_keeps test c q k =
-    elim (ltb (q.capacity - length q.items) MOST_CASES) as (λ b. QueueKeeps test c (cond b (buffer (live_of c.waiting q.items) q.capacity) q)) [
+    elim (ltb (q.capacity - length q.items) CASE_PLACES) as (λ b. QueueKeeps test c (cond b (buffer (live_of c.waiting q.items) q.capacity) q)) [
       | true ↦ record {
         live = filter_within (lives c.waiting) (lives c.waiting) q.items (λ e h. h) ∙ k.live;
         below = all_filter (λ entry. entry.ticket < c.next_ticket) (lives c.waiting) q.items k.below;
@@ -79,7 +79,7 @@ roomy_keeps test c q k =
 -- where the places for a call are free, nothing is dropped
 stays_roomy : (ws : List Ticketed) (q : Buffer Waiter) → HasPlaces q → roomy ws q ≡ q
 unfolding HasPlaces
-stays_roomy ws q h = rw (le-ltb (q.capacity - length q.items) MOST_CASES (omega arith)) refl
+stays_roomy ws q h = rw (le-ltb (q.capacity - length q.items) CASE_PLACES (omega arith)) refl
 
 stay_after : (ws : List Ticketed) (test : Case → Bool) (i : ℕ) (q : Buffer Waiter) (cases : List Case) → HasPlaces q
     → queue_after (λ i. roomy ws) test i q cases ≡ q
@@ -95,7 +95,7 @@ pub record Ready (test : Case → Bool) (c : Calls) (q : Buffer Waiter) (cases :
   pub room : length q.items + length (filter test cases) ≤ q.capacity
 
 ready_step : (test : Case → Bool) (c : Calls) (i : ℕ) (q : Buffer Waiter) (case : Case) (cases : List Case) (b : Bool) → test case ≡ b → QueueKeeps test c q
-    → HasPlaces (roomy c.waiting q) → suc (length cases) ≤ MOST_CASES → Ready test c (queue_after (λ i. roomy c.waiting) test (i + 1) q cases) cases
+    → HasPlaces (roomy c.waiting q) → suc (length cases) ≤ CASE_PLACES → Ready test c (queue_after (λ i. roomy c.waiting) test (i + 1) q cases) cases
     → Ready test c (queue_after (λ i. roomy c.waiting) test (i + 1) (with_if b (roomy c.waiting) q) cases) (case ∷ cases)
 unfolding HasPlaces
 ready_step test c i q case cases true e k h few ih =
@@ -107,7 +107,7 @@ ready_step test c i q case cases false e k h few ih = record { keeps = ih.keeps;
 
 -- after room was made for the cases of a call
 pub ready_after : (test : Case → Bool) (c : Calls) (i : ℕ) (q : Buffer Waiter) (cases : List Case) → QueueKeeps test c q
-    → HasPlaces (roomy c.waiting q) → length cases ≤ MOST_CASES → Ready test c (queue_after (λ i. roomy c.waiting) test i q cases) cases
+    → HasPlaces (roomy c.waiting q) → length cases ≤ CASE_PLACES → Ready test c (queue_after (λ i. roomy c.waiting) test i q cases) cases
 ready_after test c i q [] k h few = record { keeps = k; room = omega (arith, k.fits) }
 ready_after test c i q (case ∷ cases) k h few =
     ready_step test c i q case cases (test case) refl k h few (ready_after test c (i + 1) q cases k h (omega arith))

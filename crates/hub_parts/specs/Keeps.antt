@@ -7,7 +7,7 @@ use Rattle.hub_base.specs.declared.value.Port.{Port}
 use Rattle.hub_base.specs.declared.value.Pid.{Pid}
 use Rattle.hub_base.specs.declared.case.Case.{Case}
 use Rattle.hub_base.specs.Ready.{is_send_on, is_recv_on, port_of}
-use Rattle.hub_base.specs.declared.limits.TheConstants.{MOST_CASES, MOST_PORTS}
+use Rattle.hub_base.specs.declared.limits.TheConstants.{CASE_PLACES, MOST_PORTS}
 use Rattle.hub_parts.specs.declared.wait_queue.TheConstants.{PLACES}
 use Rattle.hub_parts.specs.declared.side.Side.{Side}
 use Rattle.hub_parts.specs.declared.side.Side.TheVariants as side
@@ -44,7 +44,7 @@ AllMade n cases = AllByRecursion (λ c. (port_of c).0 ≤ n) cases
 pub record CallsKeep (c : Calls) (ports : ℕ) : Type 0 where
   pub counted : ports ≤ MOST_PORTS
   pub few : length c.waiting ≤ c.procs
-  pub small : AllByRecursion (λ w. length w.call.cases ≤ MOST_CASES) c.waiting
+  pub small : AllByRecursion (λ w. length w.call.cases ≤ CASE_PLACES) c.waiting
   pub made : AllByRecursion (λ w. AllMade ports w.call.cases) c.waiting
   pub ascending : Ascending c.waiting
   pub below : AllByRecursion (λ w. w.ticket < c.next_ticket) c.waiting

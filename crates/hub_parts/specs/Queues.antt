@@ -5,7 +5,7 @@ use Rattle.std.specs.List.{list_any, flat_map}
 use Rattle.circular_buffer.specs.Buffer.{Buffer, buffer}
 use Rattle.hub_base.specs.declared.value.Pid.{Pid}
 use Rattle.hub_base.specs.declared.case.Case.{Case}
-use Rattle.hub_base.specs.declared.limits.TheConstants.{MOST_CASES}
+use Rattle.hub_base.specs.declared.limits.TheConstants.{CASE_PLACES}
 use Rattle.hub_parts.specs.declared.wait_queue.Waiter.{Waiter}
 use Rattle.hub_parts.specs.Records.{Ticketed}
 
@@ -49,7 +49,7 @@ joined entry q = buffer (q.items ++ entry ∷ []) q.capacity
 
 -- where fewer places are free than a call may have cases, the live entries alone
 abbrev pub roomy : List Ticketed → Buffer Waiter → Buffer Waiter
-roomy ws q = if nat_lt (q.capacity - length q.items) MOST_CASES then all_live ws q else q
+roomy ws q = if nat_lt (q.capacity - length q.items) CASE_PLACES then all_live ws q else q
 
 -- the entry of case number i of a call
 abbrev pub waiter_at : Pid → ℕ → ℕ → Waiter

@@ -3,14 +3,14 @@
 //! In each queue of each port the live entries are the cases of the open calls on that side of that port: by
 //! ticket, and in one call in case order. Tickets rise along the list of open calls. Every entry's ticket, a dead
 //! one's too, is below the least that may come next, so a dead entry never becomes live. A queue has `PLACES`
-//! places for each process, and no process has more than one open call, of at most `MOST_CASES` cases: so the
+//! places for each process, and no process has more than one open call, of at most `CASE_PLACES` cases: so the
 //! live entries leave room for one call more.
 
 ghost use Rattle.std.specs.Prelude.{◌≡◌, ◌≤◌, ◌<◌, ◌+◌, [], length, IfOk, IfSome, OnErr, ◌==◌, true, false, slice_get, is_some};
 ghost use Rattle.std.specs.Option.{option_map};
 ghost use Rattle.std.specs.List.{list_any};
 ghost use Rattle.hub_base.specs.Ready.{first_with};
-ghost use Rattle.hub_parts.specs.Lists.{open_calls, parked, with_new, IsMade, port_at, with_port, pushed, popped, closed_now, passes, ending_of, after_taking, after_stop, opened};
+ghost use Rattle.hub_parts.specs.Lists.{open_calls, parked, with_new, IsMade, port_at, with_port, pushed, popped, closed_now, passes, ending_of, after_taking, after_stop, ended_by, opened};
 ghost use Rattle.hub_parts.specs.Keeps.{AllMade};
 
 mod parking;
@@ -18,7 +18,7 @@ mod parking;
 mod tests;
 
 use crate::{Channel, Ended, Side, Tickets};
-use hub_base::{Cases, MOST_CASES, MOST_PORTS, NoMemory, Pid, Port, Value};
+use hub_base::{Cases, MOST_PORTS, NoMemory, Pid, Port, Value};
 use parking::{join, make_room};
 use std::alloc::Global;
 use std::marker::Model;
@@ -84,7 +84,6 @@ impl Board {
     pub fn park(&mut self, pid: Pid, ticket: u32, cases: &Cases)
         requires below { pid.0 < self.old.procs }
         requires free { list_any (λ w. w.call.pid.0 == pid.0) self.old.waiting ≡ false }
-        requires few { length cases.now.items ≤ MOST_CASES }
         requires made { AllMade (length self.old.ports) cases.now.items }
         requires later { self.old.next_ticket ≤ ticket }
         ensures { self.new ≡ parked pid ticket cases.now.items self.old }
@@ -189,9 +188,20 @@ impl Board {
         ensures oldest { result ≡ option_map (λ w. w.call.pid) (slice_get self.old.waiting 0) }
         ensures left { self.new ≡ after_stop result self.old }
     {
-        let pid = self.calls.oldest()?;
+        let oldest = self.calls.oldest()?;
+        self.calls.end(oldest);
+        Some(oldest)
+    }
+
+    /// Ends the open call of this process, on whatever ports. The call leaves the queues of all its cases, and no
+    /// port changes. It takes no memory. It stands apart, since it is rare, and a machine's step is one function
+    /// that is shorter without it.
+    #[inline(never)]
+    pub fn withdraw(&mut self, pid: Pid)
+        requires { list_any (λ w. w.call.pid.0 == pid.0) self.old.waiting ≡ true }
+        ensures { self.new ≡ ended_by pid self.old }
+    {
         self.calls.end(pid);
-        Some(pid)
     }
 
     /// Whether the process has an open call.

@@ -2,16 +2,17 @@
 use Rattle.std.proofs.Common.{◌≡◌, ℕ, ◌+◌, ◌<◌, ◌≤◌, ◌==◌, Bool, true, false, List, [], ◌∷◌, ◌++◌, length, take, drop, refl, sym}
 use Rattle.std.proofs.Common.{ap, subst, ◌∙◌, arith, Option, Some, None, Result, Ok, Err, take-append-drop, length-take}
 use Rattle.std.proofs.lemmas.Bool.{lt-ltb}
-use Rattle.std.specs.Prelude.{codes, nat_lt, if◌then◌else◌}
+use Rattle.std.specs.Prelude.{nat_lt, if◌then◌else◌}
+use Rattle.hub_base.specs.declared.head.Edition.{Edition}
 use Rattle.hub_base.specs.declared.head.Head.{Head}
 use Rattle.hub_base.specs.declared.entry.Entry.{Entry}
 use Rattle.hub_base.specs.declared.text.faults.Kind.{Kind}
-use Rattle.hub_base.specs.declared.text.faults.Kind.TheVariants.{TooLong, BadHeader}
+use Rattle.hub_base.specs.declared.text.faults.Kind.TheVariants.{TooLong}
 use Rattle.hub_base.specs.declared.limits.TheConstants.{MOST_BYTES}
-use Rattle.hub_base.specs.Lines.{pieces, read_fields, same_text}
+use Rattle.hub_base.specs.Lines.{pieces, read_fields}
 use Rattle.hub_base.specs.Head.{head_of}
 use Rattle.hub_base.specs.Reading.{Reading, Faulty, Row, rows, front, end_of, within, faulty_or, entry_says, entries_from}
-use Rattle.hub_base.specs.Reading.{counted, over, with_entry, procs_number, procs_say, procs_from, reading, read_text}
+use Rattle.hub_base.specs.Reading.{counted, over, with_entry, edition_of, edition_says, procs_number, procs_say, procs_from, reading, read_text}
 
 -- the same rows up to one that ends past the limit in both
 data Alike : ℕ → List Row → List Row → Type 0 where
@@ -34,22 +35,27 @@ entries_from-alike : (head : Head) (k start steps : ℕ) (rs ss : List Row) → 
     → entries_from head k start steps rs ≡ entries_from head k start steps ss
 entries_from-alike head k start steps _ _ (past _ r s rs ss p q) = too_long (end_of start r) k r _ p ∙ sym (too_long (end_of start s) k s _ q)
 entries_from-alike head k start steps _ _ (next _ r rs ss h) =
-    ap (within (end_of start r) k r) (entry_says-same k steps (read_fields (pieces 32 r.bytes)) _ _
+    ap (within (end_of start r) k r) (entry_says-same k steps (read_fields head.edition (pieces 32 r.bytes)) _ _
     (λ e. entries_from-alike head (k + 1) (end_of start r) (counted steps e) rs ss h))
 
-procs_say-alike : (o : Option ℕ) (start : ℕ) (rs ss : List Row) → Alike start rs ss → procs_say o start rs ≡ procs_say o start ss
-procs_say-alike None start rs ss h = refl
-procs_say-alike (Some n) start rs ss h = entries_from-alike (head_of n) 3 start 0 rs ss h
+procs_say-alike : (edition : Edition) (o : Option ℕ) (start : ℕ) (rs ss : List Row) → Alike start rs ss
+    → procs_say edition o start rs ≡ procs_say edition o start ss
+procs_say-alike edition None start rs ss h = refl
+procs_say-alike edition (Some n) start rs ss h = entries_from-alike (head_of edition n) 3 start 0 rs ss h
 
-procs_from-alike : (start : ℕ) (rs ss : List Row) → Alike start rs ss → procs_from start rs ≡ procs_from start ss
-procs_from-alike start _ _ (past _ r s rs ss p q) = too_long (end_of start r) 2 r _ p ∙ sym (too_long (end_of start s) 2 s _ q)
-procs_from-alike start _ _ (next _ r rs ss h) = ap (within (end_of start r) 2 r) (procs_say-alike (procs_number r.bytes) (end_of start r) rs ss h)
+procs_from-alike : (edition : Edition) (start : ℕ) (rs ss : List Row) → Alike start rs ss → procs_from edition start rs ≡ procs_from edition start ss
+procs_from-alike edition start _ _ (past _ r s rs ss p q) = too_long (end_of start r) 2 r _ p ∙ sym (too_long (end_of start s) 2 s _ q)
+procs_from-alike edition start _ _ (next _ r rs ss h) =
+    ap (within (end_of start r) 2 r) (procs_say-alike edition (procs_number r.bytes) (end_of start r) rs ss h)
+
+edition_says-alike : (o : Option Edition) (start : ℕ) (rs ss : List Row) → Alike start rs ss → edition_says o start rs ≡ edition_says o start ss
+edition_says-alike None start rs ss h = refl
+edition_says-alike (Some edition) start rs ss h = procs_from-alike edition start rs ss h
 
 reading-alike : (rs ss : List Row) → Alike 0 rs ss → reading rs ≡ reading ss
 reading-alike _ _ (past _ r s rs ss p q) = too_long (end_of 0 r) 1 r _ p ∙ sym (too_long (end_of 0 s) 1 s _ q)
 reading-alike _ _ (next _ r rs ss h) =
-    ap (λ said. within (end_of 0 r) 1 r (if same_text r.bytes (codes "chanhub journal 1") then said else Faulty 1 BadHeader))
-    (procs_from-alike (end_of 0 r) rs ss h)
+    ap (within (end_of 0 r) 1 r) (edition_says-alike (edition_of r.bytes) (end_of 0 r) rs ss h)
 
 -- one byte more before the first row
 front-alike : (start c : ℕ) (rs ss : List Row) → Alike (start + 1) rs ss → Alike start (front c rs) (front c ss)

@@ -11,7 +11,7 @@ use Rattle.hub_base.specs.declared.case.Case.{Case}
 use Rattle.hub_base.specs.declared.case.Case.TheVariants.{Send, Recv}
 use Rattle.hub_base.specs.declared.entry.Entry.{Entry}
 use Rattle.hub_base.specs.declared.entry.Step.{Step}
-use Rattle.hub_base.specs.declared.entry.Step.TheVariants.{Make, Call, Close, Exit}
+use Rattle.hub_base.specs.declared.entry.Step.TheVariants.{Make, Call, Close, Exit, Cancel}
 use Rattle.hub_base.specs.declared.event.Event.{Event}
 use Rattle.hub_base.specs.declared.event.Outcome.{Outcome}
 use Rattle.hub_base.specs.declared.event.Outcome.TheVariants.{Sent, Got, Drained, Closed}
@@ -83,6 +83,7 @@ what_is_told what.Done = refl
 what_is_told what.Parked = refl
 what_is_told what.Stalled = refl
 what_is_told (what.Fault f) = none-behind (codes " fault ") (fault_number f) refl
+what_is_told what.Cancelled = refl
 
 -- an event's line has one
 newlines_in-event_line : (e : Event) → newlines_in (event_line e) ≡ 1
@@ -123,6 +124,7 @@ step-long (Make cap) = omega arith
 step-long (Call cases default word) = call-long cases.items default word
 step-long (Close p) = omega arith
 step-long Exit = omega arith
+step-long (Cancel q) = omega arith
 
 -- a line of a journal has two bytes at least
 line_is_long : (e : Entry) → 2 ≤ length (line e)

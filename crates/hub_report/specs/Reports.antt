@@ -42,6 +42,7 @@ is_stalled what.Default = false
 is_stalled what.Done = false
 is_stalled what.Parked = false
 is_stalled (what.Fault f) = false
+is_stalled what.Cancelled = false
 
 -- how many of these events tell such
 abbrev pub how_many : (What → Bool) → List Event → ℕ

@@ -49,7 +49,7 @@ fn make_ready<K: HubName, R: Wait>(
     seats: Vec<Held<K>>,
     scenario: &Scenario,
 ) -> Result<Vec<Held<K>>, Fault>
-    requires procs { K.name.terms.head.procs ≡ vec_len scenario.now.scripts }
+    requires head { K.name.terms.head ≡ run_head (scenario_view scenario.now) }
     requires some { 0 < vec_len seats }
     requires seats { AreSeats K.name 0 seats.items }
     ensures pids { IfOk result (λ r. map (λ s. s.pid) r.items ≡ map (λ s. s.pid) seats.items) }
@@ -95,7 +95,7 @@ fn run_named<K: HubName + Send + Sync, R: Threads + Wait + Sync, G: Gate + Sync>
     gate: &G,
 ) -> Result<Journal, RunFault>
     requires named { blank.name ≡ K.name }
-    requires procs { K.name.terms.head.procs ≡ vec_len scenario.now.scripts }
+    requires head { K.name.terms.head ≡ run_head (scenario_view scenario.now) }
     requires count { vec_len seats ≡ vec_len scenario.now.scripts }
     requires seats { AreSeats K.name 0 seats.items }
     requires hubs { All (λ s. s.hub ≡ K.name) seats.items }
@@ -134,7 +134,7 @@ pub fn run_scenario<R: Threads + Wait + Sync, G: Gate + Sync>(
     ensures report { IfOk result (λ r. IsReportOf r.journal r) }
 {
     let procs = scenario.scripts.len() as u8;
-    let Ok((blank, seats)) = Blank::open(alloc, procs, scenario.limit) else {
+    let Ok((blank, seats)) = Blank::open(alloc, procs, scenario.limit, scenario.edition) else {
         return Err(RunFault::NoMemory);
     };
     let journal = run_named::<Brand, _, _>(rt, alloc, blank, seats, scenario, gate)?;

@@ -9,32 +9,36 @@ use Rattle.std.proofs.lemmas.Bool.Decides.{nat_tests}
 use Rattle.std.proofs.lemmas.Str.{IsUtf8-from_is_utf8, is_utf8-from_IsUtf8}
 use Rattle.toml.specs.Data.{Items, Members}
 use Rattle.toml.specs.Parse.{parse_document}
+use Rattle.hub_base.specs.declared.head.Edition.{Edition}
 use Rattle.hub_base.specs.declared.limits.TheConstants.{MOST_PROCS, MOST_STEPS}
 use Rattle.hub_scenario.specs.declared.limits.TheConstants.{MOST_FILE_BYTES, GREATEST_SEED}
 use Rattle.hub_scenario.specs.declared.fault.ScenarioFault.{ScenarioFault}
 use Rattle.hub_scenario.specs.declared.fault.ScenarioFault.TheVariants.{TooLong, BadToml, BadKey, BadSeed, BadLimit}
-use Rattle.hub_scenario.specs.declared.fault.ScenarioFault.TheVariants.{BadPorts, BadProcesses, BadScript, NoMemory}
+use Rattle.hub_scenario.specs.declared.fault.ScenarioFault.TheVariants.{BadJournal, BadPorts, BadProcesses, BadScript, NoMemory}
 use Rattle.hub_scenario.specs.declared.script.ScriptStep.{ScriptStep}
-use Rattle.hub_scenario.specs.Causes.{SeedPasses, LimitPasses, PortsPass, ProcessesPass, AreProcesses, IsCause, IsCauseIn, IsSound, IsSoundIn}
+use Rattle.hub_scenario.specs.Causes.{SeedPasses, LimitPasses, JournalPasses, PortsPass, ProcessesPass, AreProcesses, IsCause, IsCauseIn, IsSound, IsSoundIn}
 use Rattle.hub_scenario.specs.Faults.{must, ◌>>=◌}
 use Rattle.hub_scenario.specs.Frames.{FrameData, frame_of}
-use Rattle.hub_scenario.specs.Numbers.{within, ports_of}
+use Rattle.hub_scenario.specs.Numbers.{within, edition_of, ports_of}
 use Rattle.hub_scenario.specs.Scenario.{ScenarioData, scripts_of, values_of, scenario_of, tree_of, reading}
 use Rattle.hub_scenario.specs.Scripts.{scripts_from}
 use Rattle.hub_scenario.proofs.Firsts.{same_err, first-bad, none-bad}
-use Rattle.hub_scenario.proofs.Ranges.{within-some, within-none, ports-some, ports-none, at_most}
+use Rattle.hub_scenario.proofs.Ranges.{within-some, within-none, edition-some, edition-none, ports-some, ports-none, at_most}
 use Rattle.hub_scenario.proofs.Shapes.{fails, shape, no_shape, bad_key}
 
 -- ---- the tests from each one on
-abbrev with_scripts : ℕ → ℕ → List ℕ → Result (List (List ScriptStep)) ScenarioFault → Result ScenarioData ScenarioFault
-with_scripts seed limit ports r =
-    r >>= λ scripts. Ok (record { seed = seed; limit = limit; ports = ports; scripts = scripts })
+abbrev with_scripts : ℕ → ℕ → Edition → List ℕ → Result (List (List ScriptStep)) ScenarioFault → Result ScenarioData ScenarioFault
+with_scripts seed limit edition ports r =
+    r >>= λ scripts. Ok (record { seed = seed; limit = limit; edition = edition; ports = ports; scripts = scripts })
 
-abbrev after_ports : FrameData → ℕ → ℕ → List ℕ → Result ScenarioData ScenarioFault
-after_ports f seed limit ports = with_scripts seed limit ports (scripts_of f.process)
+abbrev after_ports : FrameData → ℕ → ℕ → Edition → List ℕ → Result ScenarioData ScenarioFault
+after_ports f seed limit edition ports = with_scripts seed limit edition ports (scripts_of f.process)
+
+abbrev after_journal : FrameData → ℕ → ℕ → Edition → Result ScenarioData ScenarioFault
+after_journal f seed limit edition = must BadPorts (ports_of f.ports) >>= λ ports. after_ports f seed limit edition ports
 
 abbrev after_limit : FrameData → ℕ → ℕ → Result ScenarioData ScenarioFault
-after_limit f seed limit = must BadPorts (ports_of f.ports) >>= λ ports. after_ports f seed limit ports
+after_limit f seed limit = must BadJournal (edition_of f.journal) >>= λ edition. after_journal f seed limit edition
 
 abbrev after_seed : FrameData → ℕ → Result ScenarioData ScenarioFault
 after_seed f seed = must BadLimit (within 1 MOST_STEPS f.limit) >>= λ limit. after_limit f seed limit
@@ -63,24 +67,30 @@ scripts-case : (ms : Members) (f : FrameData) (e : ScenarioFault) (b : Bool) →
 scripts-case ms f e false passes is h = told ms BadProcesses e _ refl h (f, passes, not_counted f.process is)
 scripts-case ms f e true passes is h = script-case ms f e (passes, counted f.process is) h
 
-with_scripts-err : (seed limit : ℕ) (ports : List ℕ) (r : Result (List (List ScriptStep)) ScenarioFault) (e : ScenarioFault)
-    → with_scripts seed limit ports r ≡ Err e → r ≡ Err e
-with_scripts-err seed limit ports (Ok ss) e h = absurd (false≢true (sym (ap is_ok h)))
-with_scripts-err seed limit ports (Err a) e h = ap Err (same_err a e _ h refl)
+with_scripts-err : (seed limit : ℕ) (edition : Edition) (ports : List ℕ) (r : Result (List (List ScriptStep)) ScenarioFault) (e : ScenarioFault)
+    → with_scripts seed limit edition ports r ≡ Err e → r ≡ Err e
+with_scripts-err seed limit edition ports (Ok ss) e h = absurd (false≢true (sym (ap is_ok h)))
+with_scripts-err seed limit edition ports (Err a) e h = ap Err (same_err a e _ h refl)
 
 -- ---- the values
-ports-case : (ms : Members) (f : FrameData) (e : ScenarioFault) (seed limit : ℕ) (o : Option (List ℕ)) → LimitPasses ms f → ports_of f.ports ≡ o
-    → (must BadPorts o >>= λ ports. after_ports f seed limit ports) ≡ Err e → IsCause ms e
-ports-case ms f e seed limit None passes is h = told ms BadPorts e _ refl h (f, passes, ports-none f.ports is)
-ports-case ms f e seed limit (Some ports) passes is h =
+ports-case : (ms : Members) (f : FrameData) (e : ScenarioFault) (seed limit : ℕ) (edition : Edition) (o : Option (List ℕ)) → JournalPasses ms f
+    → ports_of f.ports ≡ o → (must BadPorts o >>= λ ports. after_ports f seed limit edition ports) ≡ Err e → IsCause ms e
+ports-case ms f e seed limit edition None passes is h = told ms BadPorts e _ refl h (f, passes, ports-none f.ports is)
+ports-case ms f e seed limit edition (Some ports) passes is h =
     scripts-case ms f e (nat_le 1 (length f.process) && nat_le (length f.process) MOST_PROCS) (passes, ports-some f.ports ports is) refl
-    (with_scripts-err seed limit ports (scripts_of f.process) e h)
+    (with_scripts-err seed limit edition ports (scripts_of f.process) e h)
+
+journal-case : (ms : Members) (f : FrameData) (e : ScenarioFault) (seed limit : ℕ) (o : Option Edition) → LimitPasses ms f → edition_of f.journal ≡ o
+    → (must BadJournal o >>= λ edition. after_journal f seed limit edition) ≡ Err e → IsCause ms e
+journal-case ms f e seed limit None passes is h = told ms BadJournal e _ refl h (f, passes, edition-none f.journal is)
+journal-case ms f e seed limit (Some edition) passes is h =
+    ports-case ms f e seed limit edition (ports_of f.ports) (passes, edition-some f.journal edition is) refl h
 
 limit-case : (ms : Members) (f : FrameData) (e : ScenarioFault) (seed : ℕ) (o : Option ℕ) → SeedPasses ms f → within 1 MOST_STEPS f.limit ≡ o
     → (must BadLimit o >>= λ limit. after_limit f seed limit) ≡ Err e → IsCause ms e
 limit-case ms f e seed None passes is h = told ms BadLimit e _ refl h (f, passes, within-none 1 MOST_STEPS f.limit is)
 limit-case ms f e seed (Some limit) passes is h =
-    ports-case ms f e seed limit (ports_of f.ports) (passes, within-some 1 MOST_STEPS f.limit limit is) refl h
+    journal-case ms f e seed limit (edition_of f.journal) (passes, within-some 1 MOST_STEPS f.limit limit is) refl h
 
 seed-case : (ms : Members) (f : FrameData) (e : ScenarioFault) (o : Option ℕ) → frame_of ms ≡ Ok f → within 0 GREATEST_SEED f.seed ≡ o
     → (must BadSeed o >>= λ seed. after_seed f seed) ≡ Err e → IsCause ms e
@@ -115,6 +125,7 @@ of_tree bytes ms BadToml short utf8 is why = absurd why
 of_tree bytes ms BadKey short utf8 is why = (ms, short, utf8, is, why)
 of_tree bytes ms BadSeed short utf8 is why = (ms, short, utf8, is, why)
 of_tree bytes ms BadLimit short utf8 is why = (ms, short, utf8, is, why)
+of_tree bytes ms BadJournal short utf8 is why = (ms, short, utf8, is, why)
 of_tree bytes ms BadPorts short utf8 is why = (ms, short, utf8, is, why)
 of_tree bytes ms BadProcesses short utf8 is why = (ms, short, utf8, is, why)
 of_tree bytes ms (BadScript p k) short utf8 is why = (ms, short, utf8, is, why)
@@ -143,10 +154,10 @@ cause_in bytes e h = long-case bytes e (nat_lt MOST_FILE_BYTES (length bytes)) r
 abbrev Sound : Members → Type 0
 Sound ms = (f : FrameData) × IsSound ms f
 
-with_scripts-ok : (seed limit : ℕ) (ports : List ℕ) (r : Result (List (List ScriptStep)) ScenarioFault) (s : ScenarioData)
-    → with_scripts seed limit ports r ≡ Ok s → (all : List (List ScriptStep)) × (r ≡ Ok all)
-with_scripts-ok seed limit ports (Ok all) s h = (all, refl)
-with_scripts-ok seed limit ports (Err a) s h = absurd (fails s a h)
+with_scripts-ok : (seed limit : ℕ) (edition : Edition) (ports : List ℕ) (r : Result (List (List ScriptStep)) ScenarioFault) (s : ScenarioData)
+    → with_scripts seed limit edition ports r ≡ Ok s → (all : List (List ScriptStep)) × (r ≡ Ok all)
+with_scripts-ok seed limit edition ports (Ok all) s h = (all, refl)
+with_scripts-ok seed limit edition ports (Err a) s h = absurd (fails s a h)
 
 sound_scripts-case : (ms : Members) (f : FrameData) (all : List (List ScriptStep)) (b : Bool)
     → PortsPass ms f → (nat_le 1 (length f.process) && nat_le (length f.process) MOST_PROCS) ≡ b
@@ -155,24 +166,30 @@ sound_scripts-case ms f all false passes is h = absurd (fails all BadProcesses h
 sound_scripts-case ms f all true passes is h = (
   f,
   record {
-    shape = shape ms f passes.0.0.0;
+    shape = shape ms f passes.0.0.0.0;
     passes = (passes, counted f.process is);
     steps = none-bad f.process all h;
   },
 )
 
-sound_ports-case : (ms : Members) (f : FrameData) (s : ScenarioData) (seed limit : ℕ) (o : Option (List ℕ)) → LimitPasses ms f → ports_of f.ports ≡ o
-    → (must BadPorts o >>= λ ports. after_ports f seed limit ports) ≡ Ok s → Sound ms
-sound_ports-case ms f s seed limit None passes is h = absurd (fails s BadPorts h)
-sound_ports-case ms f s seed limit (Some ports) passes is h =
-    let (all, read) = with_scripts-ok seed limit ports (scripts_of f.process) s h in
+sound_ports-case : (ms : Members) (f : FrameData) (s : ScenarioData) (seed limit : ℕ) (edition : Edition) (o : Option (List ℕ)) → JournalPasses ms f
+    → ports_of f.ports ≡ o → (must BadPorts o >>= λ ports. after_ports f seed limit edition ports) ≡ Ok s → Sound ms
+sound_ports-case ms f s seed limit edition None passes is h = absurd (fails s BadPorts h)
+sound_ports-case ms f s seed limit edition (Some ports) passes is h =
+    let (all, read) = with_scripts-ok seed limit edition ports (scripts_of f.process) s h in
     sound_scripts-case ms f all (nat_le 1 (length f.process) && nat_le (length f.process) MOST_PROCS) (passes, ports-some f.ports ports is) refl read
+
+sound_journal-case : (ms : Members) (f : FrameData) (s : ScenarioData) (seed limit : ℕ) (o : Option Edition) → LimitPasses ms f
+    → edition_of f.journal ≡ o → (must BadJournal o >>= λ edition. after_journal f seed limit edition) ≡ Ok s → Sound ms
+sound_journal-case ms f s seed limit None passes is h = absurd (fails s BadJournal h)
+sound_journal-case ms f s seed limit (Some edition) passes is h =
+    sound_ports-case ms f s seed limit edition (ports_of f.ports) (passes, edition-some f.journal edition is) refl h
 
 sound_limit-case : (ms : Members) (f : FrameData) (s : ScenarioData) (seed : ℕ) (o : Option ℕ) → SeedPasses ms f → within 1 MOST_STEPS f.limit ≡ o
     → (must BadLimit o >>= λ limit. after_limit f seed limit) ≡ Ok s → Sound ms
 sound_limit-case ms f s seed None passes is h = absurd (fails s BadLimit h)
 sound_limit-case ms f s seed (Some limit) passes is h =
-    sound_ports-case ms f s seed limit (ports_of f.ports) (passes, within-some 1 MOST_STEPS f.limit limit is) refl h
+    sound_journal-case ms f s seed limit (edition_of f.journal) (passes, within-some 1 MOST_STEPS f.limit limit is) refl h
 
 sound_seed-case : (ms : Members) (f : FrameData) (s : ScenarioData) (o : Option ℕ) → frame_of ms ≡ Ok f → within 0 GREATEST_SEED f.seed ≡ o
     → (must BadSeed o >>= λ seed. after_seed f seed) ≡ Ok s → Sound ms

@@ -1,12 +1,16 @@
 -- What the tests of numbers say of them.
-use Rattle.std.proofs.Common.{◌≡◌, ◌≤◌, ℕ, ◌∙◌, ℤ, pos, negsuc, Bool, true, false, ◌&&◌, nat_le, List, None, Some, refl, ap, sym, arith, if◌then◌else◌}
+use Rattle.std.proofs.Common.{◌≡◌, ◌≤◌, ◌==◌, inl, inr, ℕ, ◌∙◌, ℤ, pos, negsuc, Bool, true, false, ◌&&◌, nat_le, List, None, Some}
+use Rattle.std.proofs.Common.{refl, ap, sym, arith, if◌then◌else◌}
 use Rattle.std.specs.Cmp.{first_so, second_so}
 use Rattle.std.proofs.lemmas.Bool.Decides.{nat_tests}
+use Rattle.std.proofs.lemmas.Grind.{common_steps}
 use Rattle.toml.specs.Data.{Data, integer, Items, no_items, item}
+use Rattle.hub_base.specs.declared.head.Edition.{Edition}
+use Rattle.hub_base.specs.declared.head.Edition.TheVariants.{One, Two}
 use Rattle.hub_base.specs.declared.limits.TheConstants.{MOST_CAP, MOST_PORTS}
-use Rattle.hub_scenario.specs.Causes.{IsWithin, IsCapacity, ArePorts}
+use Rattle.hub_scenario.specs.Causes.{IsWithin, IsEdition, IsCapacity, ArePorts}
 use Rattle.hub_scenario.specs.Faults.{cons_some}
-use Rattle.hub_scenario.specs.Numbers.{within, capacity_of, capacities_of, count_items, ports_of}
+use Rattle.hub_scenario.specs.Numbers.{within, edition_of, capacity_of, capacities_of, count_items, ports_of}
 use Rattle.hub_scenario.proofs.Shapes.{apart, all_by, all-some, all-none}
 
 -- ---- a number in a range
@@ -32,6 +36,24 @@ within-some least most (negsuc n) m h = absurd (apart m None h refl)
 pub within-none : (least most : ℕ) (z : ℤ) → within least most z ≡ None → IsWithin least most z → ⊥
 within-none least most z h (n, is, low, high) =
     apart n (within least most z) (ap (within least most) is ∙ in_range least most n low high) h
+
+-- ---- the edition of a number
+numbered : (n m : ℕ) → (n == m) ≡ true → n ≡ m
+numbered n m h = grind (arith, common_steps)
+
+edition-case : (n : ℕ) (e : Edition) (a b : Bool) → (n == 1) ≡ a → (n == 2) ≡ b → (if a then Some One else if b then Some Two else None) ≡ Some e
+    → IsEdition (pos n)
+edition-case n e true b one two h = inl (ap pos (numbered n 1 one))
+edition-case n e false true one two h = inr (ap pos (numbered n 2 two))
+edition-case n e false false one two h = absurd (apart e None h refl)
+
+pub edition-some : (z : ℤ) (e : Edition) → edition_of z ≡ Some e → IsEdition z
+edition-some (pos n) e h = edition-case n e (n == 1) (n == 2) refl refl h
+edition-some (negsuc n) e h = absurd (apart e None h refl)
+
+pub edition-none : (z : ℤ) → edition_of z ≡ None → IsEdition z → ⊥
+edition-none z h (inl one) = apart One (edition_of (pos 1)) refl (ap edition_of (sym one) ∙ h)
+edition-none z h (inr two) = apart Two (edition_of (pos 2)) refl (ap edition_of (sym two) ∙ h)
 
 -- ---- ports
 capacity-some : (d : Data) (n : ℕ) → capacity_of d ≡ Some n → IsCapacity d

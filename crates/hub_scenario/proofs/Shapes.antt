@@ -12,7 +12,7 @@ use Rattle.std.proofs.lemmas.Cmp.{nat_list_cmp_total, tied_itself}
 use Rattle.std.proofs.lemmas.Map.Lookups.{exact_bytes}
 use Rattle.std.specs.Cmp.{first_so, second_so}
 use Rattle.toml.specs.Data.{Data, integer, array, table, Items, no_items, item, Members, no_members, member, get_member}
-use Rattle.hub_scenario.specs.declared.limits.TheConstants.{DEFAULT_LIMIT}
+use Rattle.hub_scenario.specs.declared.limits.TheConstants.{DEFAULT_JOURNAL, DEFAULT_LIMIT}
 use Rattle.hub_scenario.specs.declared.keys.Owner.{Owner}
 use Rattle.hub_scenario.specs.declared.keys.Owner.TheVariants.{File, Process}
 use Rattle.hub_scenario.specs.declared.fault.ScenarioFault.{ScenarioFault}
@@ -152,51 +152,60 @@ processes-none (Some d) h (ds, is, each) =
 pub fails : {A : Type 0} (x : A) (e : ScenarioFault) → Err e ≡ Ok x → ⊥
 fails x e h = false≢true (ap is_ok h)
 
-shape-case : (ms : Members) (f : FrameData) (b : Bool) (seed limit : Option ℤ) (ports : Option Items) (process : Option (List Items))
+shape-case : (ms : Members) (f : FrameData) (b : Bool) (seed limit journal : Option ℤ) (ports : Option Items) (process : Option (List Items))
     → keys_known File ms ≡ b → whole_or (pos 0) (get_member (codes "seed") ms) ≡ seed → whole_or (pos DEFAULT_LIMIT) (get_member (codes "limit") ms) ≡ limit
+    → whole_or (pos DEFAULT_JOURNAL) (get_member (codes "journal") ms) ≡ journal
     → array_at (get_member (codes "ports") ms) ≡ ports → option_and_then all_steps (array_at (get_member (codes "process") ms)) ≡ process
-    → (if b then framed seed limit ports process else Err BadKey) ≡ Ok f → HasShape ms
-shape-case ms f false s l p q known seed limit ports process h = absurd (fails f BadKey h)
-shape-case ms f true None l p q known seed limit ports process h = absurd (fails f BadKey h)
-shape-case ms f true (Some s) None p q known seed limit ports process h = absurd (fails f BadKey h)
-shape-case ms f true (Some s) (Some l) None q known seed limit ports process h = absurd (fails f BadKey h)
-shape-case ms f true (Some s) (Some l) (Some p) None known seed limit ports process h = absurd (fails f BadKey h)
-shape-case ms f true (Some s) (Some l) (Some p) (Some q) known seed limit ports process h = record {
+    → (if b then framed seed limit journal ports process else Err BadKey) ≡ Ok f → HasShape ms
+shape-case ms f false s l j p q known seed limit journal ports process h = absurd (fails f BadKey h)
+shape-case ms f true None l j p q known seed limit journal ports process h = absurd (fails f BadKey h)
+shape-case ms f true (Some s) None j p q known seed limit journal ports process h = absurd (fails f BadKey h)
+shape-case ms f true (Some s) (Some l) None p q known seed limit journal ports process h = absurd (fails f BadKey h)
+shape-case ms f true (Some s) (Some l) (Some j) None q known seed limit journal ports process h = absurd (fails f BadKey h)
+shape-case ms f true (Some s) (Some l) (Some j) (Some p) None known seed limit journal ports process h = absurd (fails f BadKey h)
+shape-case ms f true (Some s) (Some l) (Some j) (Some p) (Some q) known seed limit journal ports process h = record {
   keys = keys-known File ms known;
   seed = whole-some (pos 0) s (get_member (codes "seed") ms) seed;
   limit = whole-some (pos DEFAULT_LIMIT) l (get_member (codes "limit") ms) limit;
+  journal = whole-some (pos DEFAULT_JOURNAL) j (get_member (codes "journal") ms) journal;
   ports = is_array p (get_member (codes "ports") ms) ports;
   process = processes-some-case (get_member (codes "process") ms) (array_at (get_member (codes "process") ms)) q refl process;
 }
 
 -- a tree whose keys and kinds pass has the shape of a scenario
 pub shape : (ms : Members) (f : FrameData) → frame_of ms ≡ Ok f → HasShape ms
-shape ms f h = shape-case ms f (keys_known File ms) _ _ _ _ refl refl refl refl refl h
+shape ms f h = shape-case ms f (keys_known File ms) _ _ _ _ _ refl refl refl refl refl refl h
 
-no_shape-case : (ms : Members) (e : ScenarioFault) (b : Bool) (seed limit : Option ℤ) (ports : Option Items) (process : Option (List Items))
+no_shape-case : (ms : Members) (e : ScenarioFault) (b : Bool) (seed limit journal : Option ℤ) (ports : Option Items) (process : Option (List Items))
     → keys_known File ms ≡ b → whole_or (pos 0) (get_member (codes "seed") ms) ≡ seed → whole_or (pos DEFAULT_LIMIT) (get_member (codes "limit") ms) ≡ limit
+    → whole_or (pos DEFAULT_JOURNAL) (get_member (codes "journal") ms) ≡ journal
     → array_at (get_member (codes "ports") ms) ≡ ports → option_and_then all_steps (array_at (get_member (codes "process") ms)) ≡ process
-    → (if b then framed seed limit ports process else Err BadKey) ≡ Err e → HasShape ms → ⊥
-no_shape-case ms e false s l p q known seed limit ports process h has = keys-unknown File ms known has.keys
-no_shape-case ms e true None l p q known seed limit ports process h has = whole-none (pos 0) (get_member (codes "seed") ms) seed has.seed
-no_shape-case ms e true (Some s) None p q known seed limit ports process h has = whole-none (pos DEFAULT_LIMIT) (get_member (codes "limit") ms) limit has.limit
-no_shape-case ms e true (Some s) (Some l) None q known seed limit ports process h has = array-none (get_member (codes "ports") ms) ports has.ports
-no_shape-case ms e true (Some s) (Some l) (Some p) None known seed limit ports process h has =
+    → (if b then framed seed limit journal ports process else Err BadKey) ≡ Err e → HasShape ms → ⊥
+no_shape-case ms e false s l j p q known seed limit journal ports process h has = keys-unknown File ms known has.keys
+no_shape-case ms e true None l j p q known seed limit journal ports process h has = whole-none (pos 0) (get_member (codes "seed") ms) seed has.seed
+no_shape-case ms e true (Some s) None j p q known seed limit journal ports process h has =
+    whole-none (pos DEFAULT_LIMIT) (get_member (codes "limit") ms) limit has.limit
+no_shape-case ms e true (Some s) (Some l) None p q known seed limit journal ports process h has =
+    whole-none (pos DEFAULT_JOURNAL) (get_member (codes "journal") ms) journal has.journal
+no_shape-case ms e true (Some s) (Some l) (Some j) None q known seed limit journal ports process h has =
+    array-none (get_member (codes "ports") ms) ports has.ports
+no_shape-case ms e true (Some s) (Some l) (Some j) (Some p) None known seed limit journal ports process h has =
     processes-none (get_member (codes "process") ms) process has.process
-no_shape-case ms e true (Some s) (Some l) (Some p) (Some q) known seed limit ports process h has = false≢true (sym (ap is_ok h))
+no_shape-case ms e true (Some s) (Some l) (Some j) (Some p) (Some q) known seed limit journal ports process h has = false≢true (sym (ap is_ok h))
 
 -- and one that does not pass has not
 pub no_shape : (ms : Members) (e : ScenarioFault) → frame_of ms ≡ Err e → HasShape ms → ⊥
-no_shape ms e h = no_shape-case ms e (keys_known File ms) _ _ _ _ refl refl refl refl refl h
+no_shape ms e h = no_shape-case ms e (keys_known File ms) _ _ _ _ _ refl refl refl refl refl refl h
 
-bad_key-case : (e : ScenarioFault) (b : Bool) (seed limit : Option ℤ) (ports : Option Items) (process : Option (List Items))
-    → (if b then framed seed limit ports process else Err BadKey) ≡ Err e → BadKey ≡ e
-bad_key-case e false s l p q h = same_err BadKey e _ h refl
-bad_key-case e true None l p q h = same_err BadKey e _ h refl
-bad_key-case e true (Some s) None p q h = same_err BadKey e _ h refl
-bad_key-case e true (Some s) (Some l) None q h = same_err BadKey e _ h refl
-bad_key-case e true (Some s) (Some l) (Some p) None h = same_err BadKey e _ h refl
-bad_key-case e true (Some s) (Some l) (Some p) (Some q) h = absurd (false≢true (sym (ap is_ok h)))
+bad_key-case : (e : ScenarioFault) (b : Bool) (seed limit journal : Option ℤ) (ports : Option Items) (process : Option (List Items))
+    → (if b then framed seed limit journal ports process else Err BadKey) ≡ Err e → BadKey ≡ e
+bad_key-case e false s l j p q h = same_err BadKey e _ h refl
+bad_key-case e true None l j p q h = same_err BadKey e _ h refl
+bad_key-case e true (Some s) None j p q h = same_err BadKey e _ h refl
+bad_key-case e true (Some s) (Some l) None p q h = same_err BadKey e _ h refl
+bad_key-case e true (Some s) (Some l) (Some j) None q h = same_err BadKey e _ h refl
+bad_key-case e true (Some s) (Some l) (Some j) (Some p) None h = same_err BadKey e _ h refl
+bad_key-case e true (Some s) (Some l) (Some j) (Some p) (Some q) h = absurd (false≢true (sym (ap is_ok h)))
 
 pub bad_key : (ms : Members) (e : ScenarioFault) → frame_of ms ≡ Err e → BadKey ≡ e
-bad_key ms e h = bad_key-case e (keys_known File ms) _ _ _ _ h
+bad_key ms e h = bad_key-case e (keys_known File ms) _ _ _ _ _ h

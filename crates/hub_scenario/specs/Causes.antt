@@ -1,6 +1,6 @@
 -- When each fault of a scenario file comes, said of what stands in the file. Each cause says that the
 -- tests before it passed, so a file has at most one.
-use Rattle.std.specs.Prelude.{◌≡◌, ◌≤◌, ◌<◌, ℕ, ℤ, pos, true, List, length, codes, Some, None, IsSome, IfSome, Ok, IsUtf8, slice_get}
+use Rattle.std.specs.Prelude.{◌≡◌, ◌≤◌, ◌<◌, ◌⊎◌, ℕ, ℤ, pos, true, List, length, codes, Some, None, IsSome, IfSome, Ok, IsUtf8, slice_get}
 use Rattle.std.specs.Option.{IsSomeAnd}
 use Rattle.toml.specs.Data.{Data, integer, array, table, Items, get_item, Members, get_member}
 use Rattle.toml.specs.Parse.{parse_document}
@@ -10,7 +10,7 @@ use Rattle.hub_scenario.specs.declared.keys.Owner.{Owner}
 use Rattle.hub_scenario.specs.declared.keys.Owner.TheVariants.{File, Process}
 use Rattle.hub_scenario.specs.declared.fault.ScenarioFault.{ScenarioFault}
 use Rattle.hub_scenario.specs.declared.fault.ScenarioFault.TheVariants.{TooLong, BadToml, BadKey, BadSeed, BadLimit}
-use Rattle.hub_scenario.specs.declared.fault.ScenarioFault.TheVariants.{BadPorts, BadProcesses, BadScript, NoMemory}
+use Rattle.hub_scenario.specs.declared.fault.ScenarioFault.TheVariants.{BadJournal, BadPorts, BadProcesses, BadScript, NoMemory}
 use Rattle.hub_scenario.specs.Firsts.{FirstBadScript, AllSteps}
 use Rattle.hub_scenario.specs.Frames.{FrameData, frame_of}
 use Rattle.hub_scenario.specs.Keys.{is_key}
@@ -48,6 +48,7 @@ pub record HasShape (ms : Members) : Type 0 where
   pub keys : HasOnly File ms
   pub seed : IfSome (get_member (codes "seed") ms) IsWhole
   pub limit : IfSome (get_member (codes "limit") ms) IsWhole
+  pub journal : IfSome (get_member (codes "journal") ms) IsWhole
   pub ports : IsSomeAnd (get_member (codes "ports") ms) IsArray
   pub process : IsSomeAnd (get_member (codes "process") ms) (IsArrayOf IsProcess)
 
@@ -55,6 +56,10 @@ pub record HasShape (ms : Members) : Type 0 where
 -- a number in this range
 abbrev pub IsWithin : ℕ → ℕ → ℤ → Type 0
 IsWithin least most z = (n : ℕ) × (z ≡ pos n) × (least ≤ n) × (n ≤ most)
+
+-- the number of an edition
+abbrev pub IsEdition : ℤ → Type 0
+IsEdition z = (z ≡ pos 1) ⊎ (z ≡ pos 2)
 
 abbrev pub IsCapacity : Data → Type 0
 IsCapacity d = (z : ℤ) × (d ≡ integer z) × IsWithin 0 MOST_CAP z
@@ -74,8 +79,11 @@ SeedPasses ms f = (frame_of ms ≡ Ok f) × IsWithin 0 GREATEST_SEED f.seed
 abbrev pub LimitPasses : Members → FrameData → Type 0
 LimitPasses ms f = SeedPasses ms f × IsWithin 1 MOST_STEPS f.limit
 
+abbrev pub JournalPasses : Members → FrameData → Type 0
+JournalPasses ms f = LimitPasses ms f × IsEdition f.journal
+
 abbrev pub PortsPass : Members → FrameData → Type 0
-PortsPass ms f = LimitPasses ms f × ArePorts f.ports
+PortsPass ms f = JournalPasses ms f × ArePorts f.ports
 
 abbrev pub ProcessesPass : Members → FrameData → Type 0
 ProcessesPass ms f = PortsPass ms f × AreProcesses f.process
@@ -88,7 +96,8 @@ IsCause ms BadToml = ⊥
 IsCause ms BadKey = ¬ HasShape ms
 IsCause ms BadSeed = (f : FrameData) × (frame_of ms ≡ Ok f) × ¬ IsWithin 0 GREATEST_SEED f.seed
 IsCause ms BadLimit = (f : FrameData) × SeedPasses ms f × ¬ IsWithin 1 MOST_STEPS f.limit
-IsCause ms BadPorts = (f : FrameData) × LimitPasses ms f × ¬ ArePorts f.ports
+IsCause ms BadJournal = (f : FrameData) × LimitPasses ms f × ¬ IsEdition f.journal
+IsCause ms BadPorts = (f : FrameData) × JournalPasses ms f × ¬ ArePorts f.ports
 IsCause ms BadProcesses = (f : FrameData) × PortsPass ms f × ¬ AreProcesses f.process
 IsCause ms (BadScript p k) = (f : FrameData) × ProcessesPass ms f × FirstBadScript f.process p k
 IsCause ms NoMemory = ⊥

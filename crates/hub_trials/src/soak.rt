@@ -8,7 +8,7 @@ use crate::beginning::hold_with_ports;
 use crate::chances::{Chances, PORTS};
 use crate::random_calls::{RandomTask, Until};
 use crate::trouble::Trouble;
-use hub_base::{Counts, Event, Pid, Port};
+use hub_base::{Counts, Edition, Event, Pid, Port};
 use hub_core::{Hub, run};
 use hub_crew::{Member, run_crew};
 use hub_live::{Blank, Held, HubName, LiveHub, Seat};
@@ -142,7 +142,13 @@ fn in_round<K: HubName + Send + Sync, R: Threads + Wait + Clock + Sync>(
     let done = run_crew(rt, alloc, &hub, seats, task).map_err(|_| Trouble::NotStarted)?;
     let (seats, all) = parted(alloc, &hub, done)?;
     let journal = hub.finish_held(seats);
-    let Ok((replayed, events)) = run(alloc, journal.procs(), LIMIT, journal.entries()) else {
+    let Ok((replayed, events)) = run(
+        alloc,
+        journal.procs(),
+        LIMIT,
+        journal.edition(),
+        journal.entries(),
+    ) else {
         return Err(Trouble::NoReplay);
     };
     compare(alloc, all.as_slice(), events.as_slice())?;
@@ -157,7 +163,7 @@ fn round<R: Threads + Wait + Clock + Sync>(
     seed: u64,
     until: Until,
 ) -> Result<u64, Trouble> {
-    let (blank, seats) = Blank::open(alloc, PROCS, LIMIT)?;
+    let (blank, seats) = Blank::open(alloc, PROCS, LIMIT, Edition::One)?;
     in_round::<Brand, R>(rt, alloc, blank, seats, seed, until)
 }
 

@@ -5,7 +5,7 @@ ghost use Rattle.std.specs.Prelude.{◌≡◌, ◌≤◌, All};
 use crate::beginning::hold_with_ports;
 use crate::trouble::Trouble;
 use crate::workload::{Role, Workload};
-use hub_base::{Cases, Event, Fault, Port, Value, What};
+use hub_base::{Cases, Edition, Event, Fault, Port, Value, What};
 use hub_crew::{Task, run_crew};
 use hub_live::{Blank, Chan, Held, HubName, LiveHub, Seat};
 use std::alloc::{AllocError, Global};
@@ -181,7 +181,8 @@ fn rate_of<R: Threads + Wait + Clock + Sync>(
     turns: Turns,
 ) -> Result<u64, Trouble> {
     let Turns { workload, calls } = turns;
-    let (blank, seats) = Blank::open(alloc, workload.procs(), limit_of(workload, calls))?;
+    let limit = limit_of(workload, calls);
+    let (blank, seats) = Blank::open(alloc, workload.procs(), limit, Edition::One)?;
     let took = run_named::<Brand, R>(rt, alloc, blank, seats, turns)?;
     Ok(per_second(workload.operations(calls), took))
 }

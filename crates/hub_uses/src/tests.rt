@@ -3,7 +3,7 @@
 ghost use Rattle.std.specs.Prelude.{◌≡◌, All};
 
 use crate::{Pool, Work, hand_over, poll, share, waiting};
-use hub_base::{Counts, Event, Outcome, Pid, Port, Value, What};
+use hub_base::{Counts, Edition, Event, Outcome, Pid, Port, Value, What};
 use hub_live::{Blank, Chan, Held, HubName, LiveHub, Seat, hold_all};
 use std::marker::Brand;
 use std::process::Abort;
@@ -72,7 +72,12 @@ fn try_use<R: AllocGlobal + Threads + Wait + Abort + Sync>(
     cap: u32,
     of: Use,
 ) -> Result<(), Fail> {
-    try_named::<Brand, R>(rt, Blank::open(rt.alloc(), procs, 1000)?, cap, of)
+    try_named::<Brand, R>(
+        rt,
+        Blank::open(rt.alloc(), procs, 1000, Edition::One)?,
+        cap,
+        of,
+    )
 }
 
 #[test]

@@ -1,13 +1,13 @@
 -- Selects: which case fires, at once or after a wait. Go: "Select statements". That the word
 -- chooses, and that a waiting call fires at its lowest case that fits, is this project's choice.
-use Rattle.std.specs.Prelude.{◌≡◌, true, false, List, [], ◌∷◌, ◌++◌, flat_map, refl}
+use Rattle.std.specs.Prelude.{◌≡◌, true, false, List, [], ◌∷◌, ◌++◌, flat_map, map, refl}
 use Rattle.std.specs.List.{range_with_len}
 use Rattle.hub_base.specs.declared.entry.Entry.{Entry}
 use Rattle.hub_base.specs.declared.event.Outcome.TheVariants.{Sent}
 use Rattle.hub_base.specs.declared.fault.Fault.TheVariants.{TooManyCases}
 use Rattle.hub_base.specs.Value.{value_of}
 use Rattle.hub_base.specs.Values.{sent_values, received_values}
-use Rattle.hub_base.specs.Notation.{procs, port, s, r, make, select, send, recv, made, case, got, defaulted, parked, faulted}
+use Rattle.hub_base.specs.Notation.{procs, procs_two, port, s, r, make, select, send, recv, made, case, got, defaulted, parked, faulted}
 use Rattle.hub_base.specs.Runs.{events}
 
 -- of two cases that can proceed the word 3 chooses the second: 3 mod 2 = 1
@@ -63,13 +63,28 @@ pub lowest_case_fires :
     ≡ made 0 1 ∷ parked 1 ∷ case 0 0 Sent ∷ case 1 0 (got 3) ∷ []
 lowest_case_fires = refl
 
--- a call has at most eight cases
+-- a call has at most eight cases in the first edition
 pub eight_cases_at_most :
     events (procs 1) (
     select 0 0 (r 0 ∷ r 0 ∷ r 0 ∷ r 0 ∷ r 0 ∷ r 0 ∷ r 0 ∷ r 0 ∷ []) true
     ∷ select 0 0 (r 0 ∷ r 0 ∷ r 0 ∷ r 0 ∷ r 0 ∷ r 0 ∷ r 0 ∷ r 0 ∷ r 0 ∷ []) true ∷ [])
     ≡ defaulted 0 ∷ faulted 0 TooManyCases ∷ []
 eight_cases_at_most = refl
+
+-- in the second edition it has at most sixteen, as many as an entry holds: so it never has too many
+pub sixteen_cases_of_edition_two :
+    events (procs_two 1) (
+    select 0 0 (r 0 ∷ r 0 ∷ r 0 ∷ r 0 ∷ r 0 ∷ r 0 ∷ r 0 ∷ r 0 ∷ r 0 ∷ []) true
+    ∷ select 0 0 (map (λ p. r 0) (range_with_len 0 16)) true ∷ [])
+    ≡ defaulted 0 ∷ defaulted 0 ∷ []
+sixteen_cases_of_edition_two = refl
+
+-- the last of sixteen cases is the one that fits
+pub last_of_sixteen_cases_fires :
+    events (procs_two 2) (
+    make 0 0 ∷ make 0 0 ∷ select 1 0 (map (λ p. r 1) (range_with_len 0 15) ++ r 2 ∷ []) false ∷ send 0 2 7 ∷ [])
+    ≡ made 0 1 ∷ made 0 2 ∷ parked 1 ∷ case 0 0 Sent ∷ case 1 15 (got 7) ∷ []
+last_of_sixteen_cases_fires = refl
 
 -- each of a hundred selects ends at its second case, and leaves nothing behind at the port of its first
 pub hundred_selects_end_once :

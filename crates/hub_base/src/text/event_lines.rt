@@ -218,6 +218,7 @@ fn put_what(out: &mut [u8], at: usize, what: What) -> usize
             let end = put(out, at, b" fault ");
             put_small(out, end, fault.number())
         }
+        What::Cancelled => put(out, at, b" cancelled"),
     }
 }
 

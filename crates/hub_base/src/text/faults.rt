@@ -8,7 +8,7 @@ use thiserror::Error;
 /// What is wrong with a line of a journal's text.
 #[derive(Clone, Copy, Debug, PartialEq, Eq)]
 pub enum Kind {
-    /// 1: line 1 is anything else than `chanhub journal 1`, or the text is empty.
+    /// 1: line 1 is neither `chanhub journal 1` nor `chanhub journal 2`, or the text is empty.
     BadHeader,
     /// 2: line 2 is anything else than `procs N` with N from 1 to `MOST_PROCS`, or the text ends before it.
     BadProcs,

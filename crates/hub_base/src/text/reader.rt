@@ -9,15 +9,16 @@ ghost use Rattle.std.specs.Bool.{OnTrue, OnFalse};
 ghost use Rattle.std.specs.List.{AllByRecursion, flat_map};
 ghost use mathlib.Core.List.{IsPrefix};
 ghost use Rattle.hub_base.specs.EventText.{event_line, EventFits};
-ghost use Rattle.hub_base.specs.Head.{IsHead};
+ghost use Rattle.hub_base.specs.Head.{IsHead, AreOf};
 ghost use Rattle.hub_base.specs.Lines.{line};
-ghost use Rattle.hub_base.specs.Reading.{read_text, procs_number, procs_from, rows, is_exit, HasEntry};
+ghost use Rattle.hub_base.specs.Reading.{read_text, edition_of, procs_number, procs_from, rows, is_exit, HasEntry};
 ghost use Rattle.hub_base.specs.ReadJournal.{Gives, IsFaultOf};
 ghost use Rattle.hub_base.specs.Text.{IsText, IsFaulty, IsEither, Fits};
 ghost use Rattle.hub_base.specs.Reading.Reading.{Reads, Faulty};
-ghost use Rattle.hub_base.specs.Reader.{ReadsOn, FillsOn, procs_said};
+ghost use Rattle.hub_base.specs.Reader.{ReadsOn, FillsOn, edition_said, procs_said};
 ghost use Rattle.hub_base.specs.declared.entry.Entry.{Entry};
 ghost use Rattle.hub_base.specs.declared.event.Event.{Event};
+ghost use Rattle.hub_base.specs.declared.head.Edition.{Edition};
 ghost use Rattle.hub_base.specs.declared.head.Head.{Head};
 ghost use Rattle.hub_base.specs.declared.text.faults.Kind.{Kind};
 
@@ -27,7 +28,8 @@ use crate::text::lines::line_at;
 use crate::text::numbers::number;
 use crate::text::quick::quick_line;
 use crate::text::steps::{read_line, same_text};
-use crate::{Entry, Head, Journal, Kind, Pid, ReadFault, Step, TextFault};
+use crate::text::writer::header;
+use crate::{Edition, Entry, Head, Journal, Kind, Pid, ReadFault, Step, TextFault};
 use std::alloc::Global;
 use std::marker::Model;
 
@@ -36,6 +38,19 @@ fn is_exit(entry: &Entry) -> bool
     ensures { result ≡ is_exit entry.now.step }
 {
     matches!(&entry.step, Step::Exit)
+}
+
+/// The edition that the first line says.
+fn edition_of(line: &[u8]) -> Option<Edition>
+    ensures { result ≡ edition_of line.now }
+{
+    if same_text(line, header(Edition::One)) {
+        Some(Edition::One)
+    } else if same_text(line, header(Edition::Two)) {
+        Some(Edition::Two)
+    } else {
+        None
+    }
 }
 
 /// The number of processes that the second line says.
@@ -84,13 +99,14 @@ impl<'a> Model for Reader<'a> {
     ghost invariant = { λ r. ReaderKeeps r };
 }
 
-/// The reader behind the second line, which begins at this place.
-fn open_entries(bytes: &[u8], place: usize) -> Result<Reader<'_>, Kind>
+/// The reader behind the second line, which begins at this place, in a journal of this edition.
+fn open_entries(bytes: &[u8], place: usize, edition: Edition) -> Result<Reader<'_>, Kind>
     requires place { place ≤ MOST_BYTES }
-    ensures ok { IfOk result (λ r. procs_from place (rows bytes.now) ≡ r.left) }
+    ensures ok { IfOk result (λ r. procs_from edition place (rows bytes.now) ≡ r.left) }
+    ensures edition { IfOk result (λ r. r.head.edition ≡ edition) }
     ensures procs { IfOk result (λ r. procs_said (rows bytes.now) ≡ Some r.head.procs) }
     ensures bytes { IfOk result (λ r. r.bytes ≤ length bytes.now) }
-    ensures fault { IfErr result (λ kind. procs_from place (rows bytes.now) ≡ Faulty 2 kind) }
+    ensures fault { IfErr result (λ kind. procs_from edition place (rows bytes.now) ≡ Faulty 2 kind) }
 {
     if bytes.is_empty() {
         return Err(Kind::BadProcs);
@@ -99,7 +115,7 @@ fn open_entries(bytes: &[u8], place: usize) -> Result<Reader<'_>, Kind>
     match procs_number(line) {
         None => Err(Kind::BadProcs),
         Some(procs) => Ok(Reader {
-            head: Head { procs },
+            head: Head { edition, procs },
             rest,
             line: 3,
             place: place + line.len() + 1,
@@ -109,10 +125,11 @@ fn open_entries(bytes: &[u8], place: usize) -> Result<Reader<'_>, Kind>
 }
 
 impl<'a> Reader<'a> {
-    /// Reads the two head lines; an `Err` is a fault of one of them. The number of processes is the second
-    /// line's also where a later line is faulty.
+    /// Reads the two head lines; an `Err` is a fault of one of them. The edition is the first line's and the
+    /// number of processes the second's also where a later line is faulty.
     pub fn open(bytes: &'a [u8]) -> Result<Reader<'a>, TextFault>
         ensures ok { IfOk result (λ r. read_text bytes.now ≡ r.left) }
+        ensures edition { IfOk result (λ r. edition_said (rows bytes.now) ≡ Some r.head.edition) }
         ensures procs { IfOk result (λ r. procs_said (drop 1 (rows bytes.now)) ≡ Some r.head.procs) }
         ensures bytes { IfOk result (λ r. r.bytes ≤ length bytes.now) }
         ensures fault { IfErr result (λ f. read_text bytes.now ≡ Faulty f.line f.kind) }
@@ -124,13 +141,18 @@ impl<'a> Reader<'a> {
             });
         }
         let (line, rest) = line_at(bytes, 0).map_err(|kind| TextFault { line: 1, kind })?;
-        if !same_text(line, b"chanhub journal 1") {
-            return Err(TextFault {
+        match edition_of(line) {
+            None => Err(TextFault {
                 line: 1,
                 kind: Kind::BadHeader,
-            });
+            }),
+            Some(edition) => {
+                open_entries(rest, line.len() + 1, edition).map_err(|kind| TextFault {
+                    line: 2,
+                    kind,
+                })
+            }
         }
-        open_entries(rest, line.len() + 1).map_err(|kind| TextFault { line: 2, kind })
     }
 
     /// What the head lines say.
@@ -206,7 +228,7 @@ impl<'a> Reader<'a> {
                 kind,
             }),
         };
-        match read_line(text, entry) {
+        match read_line(self.head.edition, text, entry) {
             Ok(()) => {}
             Err(kind) => return Err(TextFault {
                 line: self.line,
@@ -251,7 +273,6 @@ fn collect_entries(alloc: Global, mut reader: Reader) -> Result<Journal, ReadFau
     ensures gives { Gives result reader.entry.left }
     ensures memory { IsErrOf result ReadFault.NoMemory → HasEntry reader.entry.left }
 {
-    let procs = reader.procs();
     let mut entries = Vec::new(alloc);
     loop {
         match reader.next_entry() {
@@ -260,7 +281,10 @@ fn collect_entries(alloc: Global, mut reader: Reader) -> Result<Journal, ReadFau
                     return Err(ReadFault::NoMemory);
                 }
             }
-            Ok(None) => return Ok(Journal::of(procs, entries)),
+            Ok(None) => {
+                let head = reader.head();
+                return Ok(Journal::of(head.edition, head.procs, entries));
+            }
             Err(fault) => return Err(ReadFault::Text(fault)),
         }
     }
@@ -277,13 +301,15 @@ fn read_all(alloc: Global, bytes: &[u8]) -> Result<Journal, ReadFault>
     }
 }
 
-/// The journal that a text says: its number of processes, and its entries, whether or not a hub
+/// The journal that a text says: its edition, its number of processes, and its entries, whether or not a hub
 /// admits them.
 ///
 /// `NoMemory` is answered only where a growth was refused, and `Text` for the first faulty line.
 pub fn read_journal(alloc: Global, bytes: &[u8]) -> Result<Journal, ReadFault>
     // What is read is so spelled, each byte of it.
     ensures found { IfOk result (λ j. IsText bytes.now j.head j.entries) }
+    // Its edition has each of its entries.
+    ensures fits { IfOk result (λ j. AreOf j.head.edition j.entries) }
     // What is so spelled is read, unless memory is refused.
     ensures only { (h : Head) (es : List Entry) → IsText bytes.now h es → Gives result (Reads h es) }
     // A fault is the first one.
@@ -314,10 +340,10 @@ pub fn one_reading()
         → IsText bytes h es → IsFaulty bytes k kind → ⊥ }
 {}
 
-/// A law: no spelling begins another, so a list of lines can be read in one way.
+/// A law: in one edition no spelling begins another, so a list of lines can be read in one way.
 pub fn one_spelling()
-    ensures { (e f : Entry) (x y : List ℕ)
-        → Fits e → Fits f → line e ++ x ≡ line f ++ y → (e ≡ f) × (x ≡ y) }
+    ensures { (edition : Edition) (e f : Entry) (x y : List ℕ)
+        → Fits edition e → Fits edition f → line e ++ x ≡ line f ++ y → (e ≡ f) × (x ≡ y) }
 {}
 
 /// A law: no event's line begins another's, so a list of lines can be read in one way; and where the

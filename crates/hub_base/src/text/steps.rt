@@ -11,7 +11,7 @@ use crate::limits::{GREATEST_CAP, GREATEST_PID, GREATEST_PORT, GREATEST_VALUE};
 use crate::text::fields::Fields;
 use crate::text::numbers::number;
 use crate::text::selects::read_select;
-use crate::{Case, Cases, Entry, Kind, Pid, Port, Step, Value};
+use crate::{Case, Cases, Edition, Entry, Kind, Pid, Port, Step, Value};
 
 /// The number that a field spells.
 pub fn numeral(bytes: &[u8], most: u64) -> Result<u64, Kind>
@@ -118,9 +118,10 @@ enum OneNumber {
     Make,
     Recv,
     Close,
+    Cancel,
 }
 
-/// What `P make C`, `P recv PORT` or `P close PORT` says, from the field behind the word on.
+/// What `P make C`, `P recv PORT`, `P close PORT` or `P cancel Q` says, from the field behind the word on.
 fn read_one_number(
     pid: &[u8],
     word: OneNumber,
@@ -140,6 +141,7 @@ fn read_one_number(
         OneNumber::Make => entry.step = Step::Make(capacity(number)?),
         OneNumber::Recv => set_call(&mut entry.step, recv_of(number)?),
         OneNumber::Close => entry.step = Step::Close(Port(port_number(number)?)),
+        OneNumber::Cancel => entry.step = Step::Cancel(Pid(process(number)?)),
     }
     Ok(())
 }
@@ -178,8 +180,14 @@ fn read_exit(pid: &[u8], fields: &mut Fields, entry: &mut Entry) -> Result<(), K
 }
 
 /// What a line says, by its second field.
-fn read_step(pid: &[u8], word: &[u8], fields: &mut Fields, entry: &mut Entry) -> Result<(), Kind>
-    ensures { Fills result entry.new (read_step pid.now word.now fields.old) }
+fn read_step(
+    edition: Edition,
+    pid: &[u8],
+    word: &[u8],
+    fields: &mut Fields,
+    entry: &mut Entry,
+) -> Result<(), Kind>
+    ensures { Fills result entry.new (read_step edition pid.now word.now fields.old) }
 {
     if same_text(word, b"make") {
         read_one_number(pid, OneNumber::Make, fields, entry)
@@ -193,14 +201,16 @@ fn read_step(pid: &[u8], word: &[u8], fields: &mut Fields, entry: &mut Entry) ->
         read_one_number(pid, OneNumber::Close, fields, entry)
     } else if same_text(word, b"exit") {
         read_exit(pid, fields, entry)
+    } else if edition.has_cancel() && same_text(word, b"cancel") {
+        read_one_number(pid, OneNumber::Cancel, fields, entry)
     } else {
         Err(Kind::BadStep)
     }
 }
 
-/// What a line without its newline says.
-pub fn read_line(line: &[u8], entry: &mut Entry) -> Result<(), Kind>
-    ensures { Fills result entry.new (read_fields (pieces 32 line.now)) }
+/// What a line without its newline says in a journal of this edition.
+pub fn read_line(edition: Edition, line: &[u8], entry: &mut Entry) -> Result<(), Kind>
+    ensures { Fills result entry.new (read_fields edition (pieces 32 line.now)) }
 {
     let mut fields = Fields::of(line, b' ');
     let Some(pid) = fields.next_field() else {
@@ -209,5 +219,5 @@ pub fn read_line(line: &[u8], entry: &mut Entry) -> Result<(), Kind>
     let Some(word) = fields.next_field() else {
         return Err(Kind::BadStep);
     };
-    read_step(pid, word, &mut fields, entry)
+    read_step(edition, pid, word, &mut fields, entry)
 }

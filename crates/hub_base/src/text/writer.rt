@@ -1,19 +1,19 @@
 //! Writing journals and events. A private function that is refused may leave a part behind, which
 //! the public one takes back.
 
-ghost use Rattle.std.specs.Prelude.{◌≡◌, ◌++◌, codes, decimal, OnOk, OnErr, IsOk, ◌↔◌, take, is_ok, if◌then◌else◌, ◌≤◌};
+ghost use Rattle.std.specs.Prelude.{◌≡◌, ◌++◌, codes, decimal, OnOk, OnErr, IsOk, ◌↔◌, take, is_ok, if◌then◌else◌, ◌≤◌, true};
 ghost use Rattle.hub_base.specs.EventText.{event_line};
 ghost use Rattle.hub_base.specs.Lines.{case_field, select_fields, call_fields, step_fields, line};
 ghost use Rattle.std.specs.List.{flat_map};
 ghost use Rattle.std.specs.Vec.{vec_capacity};
-ghost use Rattle.hub_base.specs.Head.{IsHead, head_of};
-ghost use Rattle.hub_base.specs.Reading.{head_lines, text};
+ghost use Rattle.hub_base.specs.Head.{IsHead, head_of, is_of};
+ghost use Rattle.hub_base.specs.Reading.{head_lines, header, text};
 ghost use Rattle.hub_base.specs.Writing.{Appends, spaced, spaced_cases, HasRoomFor};
 ghost use Rattle.hub_base.specs.Value.{value_field};
 
 use crate::limits::{MOST_LINE, MOST_PROCS};
 use crate::text::event_lines::put_event;
-use crate::{Case, Entry, Event, Head, Journal, NoMemory, Step, Value};
+use crate::{Case, Edition, Entry, Event, Head, Journal, NoMemory, Step, Value};
 use itoa::Buffer;
 use std::alloc::AllocError;
 
@@ -158,6 +158,7 @@ fn put_step(out: &mut Vec<u8>, step: &Step) -> Result<(), AllocError>
         } => put_call(out, cases.as_slice(), *default, *word),
         Step::Close(port) => put_before_number(out, b" close ", port.0.into()),
         Step::Exit => put(out, b" exit"),
+        Step::Cancel(pid) => put_before_number(out, b" cancel ", pid.0.into()),
     }
 }
 
@@ -170,9 +171,10 @@ fn put_entry(out: &mut Vec<u8>, entry: &Entry) -> Result<(), AllocError>
     put(out, b"\n")
 }
 
-/// Appends the entry's one spelling, a line; `Err` where a growth was refused, with nothing
-/// appended. It is read again as this entry.
-pub fn write_entry(out: &mut Vec<u8>, entry: &Entry) -> Result<(), NoMemory>
+/// Appends the one spelling, a line, of an entry that this edition has; `Err` where a growth was refused, with
+/// nothing appended. It is read again as this entry.
+pub fn write_entry(out: &mut Vec<u8>, edition: Edition, entry: &Entry) -> Result<(), NoMemory>
+    requires fits { is_of edition entry.now.step ≡ true }
     ensures ok { OnOk result (out.new.items ≡ out.old.items ++ line entry.now) }
     ensures err { OnErr result (out.new.items ≡ out.old.items) }
     ensures capacity { vec_capacity out.old ≤ vec_capacity out.new }
@@ -183,26 +185,37 @@ pub fn write_entry(out: &mut Vec<u8>, entry: &Entry) -> Result<(), NoMemory>
     undo_if_refused(out, before, done)
 }
 
+/// The first line of a journal of this edition, without its newline.
+pub fn header(edition: Edition) -> &'static [u8]
+    ensures { result.now ≡ header edition }
+{
+    match edition {
+        Edition::One => b"chanhub journal 1",
+        Edition::Two => b"chanhub journal 2",
+    }
+}
+
 /// Appends the two head lines.
 fn put_head(out: &mut Vec<u8>, head: Head) -> Result<(), AllocError>
     ensures { Appends out.old out.new (head_lines head) result }
 {
-    put(out, b"chanhub journal 1\n")?;
+    put(out, header(head.edition))?;
+    put(out, b"\n")?;
     put_before_number(out, b"procs ", head.procs.into())?;
     put(out, b"\n")
 }
 
-/// Appends the first two lines of a journal of 1 to `MOST_PROCS` processes; `Err` where a growth was refused,
-/// with nothing appended.
-pub fn write_head(out: &mut Vec<u8>, procs: u8) -> Result<(), NoMemory>
+/// Appends the first two lines of a journal of this edition, of 1 to `MOST_PROCS` processes; `Err` where a growth
+/// was refused, with nothing appended.
+pub fn write_head(out: &mut Vec<u8>, edition: Edition, procs: u8) -> Result<(), NoMemory>
     requires { (1 ≤ procs) × (procs ≤ MOST_PROCS) }
-    ensures ok { OnOk result (out.new.items ≡ out.old.items ++ head_lines (head_of procs)) }
+    ensures ok { OnOk result (out.new.items ≡ out.old.items ++ head_lines (head_of edition procs)) }
     ensures err { OnErr result (out.new.items ≡ out.old.items) }
     ensures capacity { vec_capacity out.old ≤ vec_capacity out.new }
-    ensures succeeds { HasRoomFor out.old (head_lines (head_of procs)) → IsOk result }
+    ensures succeeds { HasRoomFor out.old (head_lines (head_of edition procs)) → IsOk result }
 {
     let before = out.len();
-    let done = put_head(out, Head { procs });
+    let done = put_head(out, Head { edition, procs });
     undo_if_refused(out, before, done)
 }
 
@@ -228,7 +241,8 @@ fn put_journal(out: &mut Vec<u8>, journal: &Journal) -> Result<(), AllocError>
 }
 
 /// Appends the text of a journal of 1 to `MOST_PROCS` processes; `Err` where a growth was refused, with
-/// nothing appended. It is read again as this journal, where it keeps within the limits of texts.
+/// nothing appended. It is read again as this journal, where its edition has each entry and it keeps within the
+/// limits of texts.
 pub fn write_journal(out: &mut Vec<u8>, journal: &Journal) -> Result<(), NoMemory>
     requires { IsHead journal.now.head }
     ensures ok { OnOk result (

@@ -4,7 +4,7 @@ ghost use Rattle.std.specs.Prelude.{◌≡◌};
 
 use super::opened::{Opened, Runtime, Story, tell, tell_often};
 use super::{ONE_WAITS, fired, got, told};
-use hub_base::{Cases, CasesExt, Counts, Fault, Outcome, Pid, Port, Value, What};
+use hub_base::{Cases, CasesExt, Counts, Edition, Fault, Outcome, Pid, Port, Value, What};
 use hub_core::OpenFault;
 use hub_live::{Blank, Chan, HubName, LiveHub, Seat, mark_of};
 use std::process::Abort;
@@ -68,7 +68,7 @@ fn openings_are_refused(rt: HostRuntime) -> Result<(), Fail> {
         (1, 0, OpenFault::BadLimit),
         (64, 1_000_001, OpenFault::BadLimit),
     ] {
-        match Blank::open(rt.alloc(), procs, limit) {
+        match Blank::open(rt.alloc(), procs, limit, Edition::One) {
             Ok(_opened) => assert!(rt; false, "opened"),
             Err(refused) => assert_eq!(rt; refused, fault),
         }

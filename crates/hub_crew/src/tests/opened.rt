@@ -3,6 +3,7 @@
 ghost use Rattle.std.specs.Prelude.{◌≡◌, All, vec_len};
 
 use super::{one_thread, refusals, threads};
+use hub_base::Edition;
 use hub_live::{Blank, Held, HubName, LiveHub, Seat, hold_all};
 use std::marker::Brand;
 use std::process::Abort;
@@ -26,6 +27,7 @@ pub struct Opened<'r, K: HubName, R> {
 /// What a test does with its hub.
 #[derive(Clone, Copy)]
 pub enum Story {
+    Cancelling,
     Closing,
     Draining,
     Ending,
@@ -55,6 +57,7 @@ fn tell_named<K: HubName + Send + Sync, R: Runtime>(
     let seats = hold_all::<K>(rt.alloc(), seats)?;
     let opened = Opened { rt, hub, seats };
     match story {
+        Story::Cancelling => threads::cancel(opened),
         Story::Closing => threads::close(opened),
         Story::Draining => one_thread::drain(opened),
         Story::Ending => refusals::end(opened),
@@ -72,7 +75,11 @@ fn tell_named<K: HubName + Send + Sync, R: Runtime>(
 
 /// Opens a hub, and tells the story of it.
 pub(super) fn tell<R: Runtime>(rt: &R, procs: u8, limit: u32, story: Story) -> Result<(), Fail> {
-    let (blank, seats) = Blank::open(rt.alloc(), procs, limit)?;
+    let edition = match story {
+        Story::Cancelling => Edition::Two,
+        _ => Edition::One,
+    };
+    let (blank, seats) = Blank::open(rt.alloc(), procs, limit, edition)?;
     tell_named::<Brand, R>(rt, blank, seats, story)
 }
 

@@ -3,7 +3,7 @@
 
 use super::opened::{Opened, Runtime, Story, tell};
 use super::{ONE_WAITS, fired, got, told};
-use hub_base::{Case, Cases, CasesExt, Event, Fault, Outcome, Port, Value, What};
+use hub_base::{Case, Cases, CasesExt, Edition, Event, Fault, Outcome, Port, Value, What};
 use hub_core::OpenFault;
 use hub_live::{Blank, Chan, Held, HubName, LiveHub};
 use std::alloc::Global;
@@ -23,7 +23,7 @@ fn begin(alloc: Global) -> Result<(), Fail> {
 #[test]
 fn opening_is_whole_or_refused(rt: HostRuntime) -> Result<(), Fail> {
     begin(rt.alloc())?;
-    match Blank::open(rt.alloc(), 4, 100) {
+    match Blank::open(rt.alloc(), 4, 100, Edition::One) {
         Ok((_blank, seats)) => assert_eq!(rt; seats.len(), 4),
         Err(fault) => assert_eq!(rt; fault, OpenFault::NoMemory),
     }

@@ -3,9 +3,10 @@
 ghost use Rattle.std.specs.Prelude.{◌≡◌};
 
 use crate::Task;
-use hub_base::{Event, Fault, Pid, Port, Value};
+use hub_base::{Edition, Event, Fault, Pid, Port, Value, What};
 use hub_live::{Chan, Held, HubName, LiveHub};
 use std::sync::Wait;
+use std::sync::atomic::{AtomicBool, Ordering};
 
 /// One call of each process.
 #[derive(Clone, Copy)]
@@ -28,6 +29,57 @@ impl<K: HubName, R: Wait> Task<K, R> for OneCall {
             (OneCall::Pass, _) => seat.recv(rt, hub, &chan.receiver()),
             (OneCall::Stall, _) => seat.recv(rt, hub, &nil.receiver()),
             (OneCall::Close, _) => seat.close(rt, hub, &chan.sender()),
+        }
+    }
+}
+
+/// Process 1 tells that it begins, and receives from port 1; process 0 cancels its call.
+#[derive(Clone, Copy)]
+pub struct CancelOne<'a> {
+    pub begins: &'a AtomicBool,
+}
+
+/// Waits until process 1 has told that it begins, and cancels its call until that was open; then exits, so that
+/// nobody waits for ever. The last answer to a cancel.
+fn cancel_often<K: HubName, R: Wait>(
+    rt: &R,
+    hub: &LiveHub<K>,
+    seat: &mut Held<K>,
+    begins: &AtomicBool,
+) -> Result<Event, Fault>
+    ensures { seat.new.pid ≡ seat.old.pid }
+{
+    let mut last = Err(Fault::NotParked);
+    if hub.head().edition != Edition::Two {
+        return last;
+    }
+    for _ in 0..10_000_000u32 {
+        if begins.load(Ordering::SeqCst) {
+            break;
+        }
+    }
+    for _ in 0..100_000u32 {
+        last = seat.cancel(rt, hub, Pid(1));
+        if let Ok(answer) = last
+            && answer.what == What::Done
+        {
+            break;
+        }
+    }
+    let _exit = seat.exit(rt, hub);
+    last
+}
+
+impl<'a, K: HubName, R: Wait> Task<K, R> for CancelOne<'a> {
+    type Report = Result<Event, Fault>;
+
+    fn perform(self, rt: &R, hub: &LiveHub<K>, seat: &mut Held<K>) -> Result<Event, Fault> {
+        match seat.pid() {
+            Pid(0) => cancel_often(rt, hub, seat, self.begins),
+            _ => {
+                self.begins.store(true, Ordering::SeqCst);
+                seat.recv(rt, hub, &Chan::of(Port(1)).receiver())
+            }
         }
     }
 }

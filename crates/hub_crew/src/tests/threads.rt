@@ -1,12 +1,13 @@
 //! What threads that share a hub are told, each time with a new hub.
 
 use super::opened::{Opened, Runtime, Story, tell, tell_often};
-use super::tasks::{MakeOwn, OneCall, Watch, Watched};
+use super::tasks::{CancelOne, MakeOwn, OneCall, Watch, Watched};
 use super::{fired, got, make, recv, send, told};
 use crate::{Member, run_crew};
-use hub_base::{Counts, Entry, Outcome, Pid, Port, Step, What};
+use hub_base::{Counts, Edition, Entry, Outcome, Pid, Port, Step, What};
 use hub_live::{Held, HubName, LiveHub};
 use std::process::Abort;
+use std::sync::atomic::AtomicBool;
 use std::test::*;
 
 // A value goes from one thread to the other, whichever comes first.
@@ -53,6 +54,27 @@ pub fn stall<K: HubName + Send + Sync, R: Runtime>(opened: Opened<K, R>) -> Resu
         let member = done.pop().ok_or("two threads")?;
         assert_eq!(rt; member.report, Ok(told(pid, What::Stalled)));
     }
+    Ok(())
+}
+
+// Process 1 waits for a value that never comes, until its call is cancelled. Most of the cancels may come too early.
+#[test]
+fn waiting_call_is_cancelled(rt: HostRuntime) -> Result<(), Fail> {
+    tell(&rt, 2, 1_000_000, Story::Cancelling)
+}
+
+pub fn cancel<K: HubName + Send + Sync, R: Runtime>(opened: Opened<K, R>) -> Result<(), Fail> {
+    let Opened { rt, hub, mut seats } = opened;
+    seats.first_mut().ok_or("two seats")?.make(rt, &hub, 0)?;
+    let begins = AtomicBool::new(false);
+    let task = CancelOne { begins: &begins };
+    let mut done = run_crew(rt, rt.alloc(), &hub, seats, task)?;
+    for (pid, what) in [(1, What::Cancelled), (0, What::Done)] {
+        let member = done.pop().ok_or("two threads")?;
+        assert_eq!(rt; member.report, Ok(told(pid, what)));
+    }
+    assert_eq!(rt; hub.head().edition, Edition::Two);
+    assert_eq!(rt; hub.head().procs, 2);
     Ok(())
 }
 

@@ -10,7 +10,7 @@ ghost use Rattle.hub_parts.specs.Parking.{with_line, with_case, all_roomy, all_j
 ghost use Rattle.hub_parts.specs.Keeps.{AllMade};
 
 use crate::{Channel, Side, Tickets, Waiter};
-use hub_base::{Case, MOST_CASES, Pid, Port};
+use hub_base::{CASE_PLACES, Case, Pid, Port};
 
 /// Makes room in the queue of a side of a port; port 0 has none.
 fn room_at(ports: &mut Vec<Channel>, tickets: &Tickets, side: Side, port: Port)
@@ -71,7 +71,7 @@ fn join_for(ports: &mut Vec<Channel>, case: Case, waiter: Waiter)
 
 /// Adds an entry for each case to its queue, in case order.
 pub(crate) fn join(ports: &mut Vec<Channel>, pid: Pid, ticket: u32, cases: &[Case])
-    requires few { length cases.now ≤ MOST_CASES }
+    requires few { length cases.now ≤ CASE_PLACES }
     requires fits { CanJoin pid ticket 0 ports.old.items cases.now }
     ensures { ports.new.items ≡ all_joined pid ticket 0 ports.old.items cases.now }
 {

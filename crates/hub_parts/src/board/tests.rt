@@ -23,16 +23,16 @@ fn stored_receivers(board: &Board) -> u32
 /// The entries among the receivers of the first port after this many selects, where a row says.
 fn entries_after(selects: u32) -> Option<u32> {
     match selects {
-        25 => Some(25),
-        26 => Some(1),
-        100 => Some(25),
-        101 => Some(1),
+        49 => Some(49),
+        50 => Some(1),
+        100 => Some(2),
+        101 => Some(3),
         _ => None,
     }
 }
 
 // A select that waits on two ports and is served on the second leaves a dead entry on the first. Two processes have
-// 32 places there; the 26th select finds fewer than 8 of them free.
+// 64 places there; the 50th select finds fewer than 16 of them free, and so does the 99th.
 #[test]
 fn dead_entries_go_when_room_is_short(rt: HostRuntime) {
     let mut board = Board::new(rt.alloc(), 2).expect(&rt, "memory for a board");

@@ -1,6 +1,7 @@
 //! Journals of hubs: each of their entries was admitted, so they can be reported.
 
-use hub_base::{Entry, read_journal};
+use crate::steps::entries::make_step;
+use hub_base::{Edition, Entry, read_journal};
 use hub_core::Hub;
 use hub_report::{Report, write_report};
 use std::alloc::Global;
@@ -20,7 +21,7 @@ pub(crate) fn report_of(
     entries: &[Entry],
 ) -> Result<Report, Fail> {
     for entry in entries {
-        hub.step(entry.copy())?;
+        make_step(rt, &mut hub, entry.copy())?;
     }
     let journal = hub.into_journal();
     assert!(rt; journal.procs() >= 1 && journal.procs() <= 64);
@@ -37,7 +38,7 @@ pub(crate) fn told(
 ) -> Result<Vec<u8>, Fail> {
     let text = journal_text(alloc, procs, entries)?;
     let journal = read_journal(alloc, text.as_bytes())?;
-    let hub = Hub::open(alloc, procs, 1000)?;
+    let hub = Hub::open(alloc, procs, 1000, Edition::One)?;
     let report = report_of(rt, alloc, hub, journal.entries())?;
     let mut out = Vec::new(alloc);
     write_report(&mut out, &report)?;

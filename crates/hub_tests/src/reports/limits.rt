@@ -2,6 +2,7 @@
 
 use super::journals::report_of;
 use crate::steps::entries::{make, recv, send};
+use hub_base::Edition;
 use hub_core::Hub;
 use hub_report::{PortReport, write_report};
 use std::test::Fail;
@@ -15,7 +16,7 @@ fn sixty_four_ports_are_told(rt: HostRuntime) -> Result<(), Fail> {
     }
     entries.push(send(0, 64, 9))?;
     entries.push(recv(0, 64))?;
-    let hub = Hub::open(rt.alloc(), 1, 1000)?;
+    let hub = Hub::open(rt.alloc(), 1, 1000, Edition::One)?;
     let report = report_of(&rt, rt.alloc(), hub, &entries)?;
     assert_eq!(rt; report.journal.entries().len(), 67);
     assert_eq!(rt; report.ports.len(), 64);

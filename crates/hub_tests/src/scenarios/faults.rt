@@ -15,6 +15,7 @@ fn faults_have_their_texts(rt: HostRuntime) -> Result<(), Fail> {
         (ScenarioFault::BadKey, "bad key"),
         (ScenarioFault::BadSeed, "bad seed"),
         (ScenarioFault::BadLimit, "bad limit"),
+        (ScenarioFault::BadJournal, "bad journal"),
         (ScenarioFault::BadPorts, "bad ports"),
         (ScenarioFault::BadProcesses, "bad processes"),
         (script, "bad script: process 63 step 10000"),

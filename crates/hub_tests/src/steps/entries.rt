@@ -1,6 +1,8 @@
 //! Entries and events in short.
 
-use hub_base::{Case, Cases, Entry, Event, Outcome, Pid, Port, Step, Value, What};
+use hub_base::{Case, Cases, Entry, Event, Events, Fault, Outcome, Pid, Port, Step, Value, What};
+use hub_core::Hub;
+use std::process::Abort;
 
 pub(crate) fn by(pid: u8, step: Step) -> Entry {
     Entry {
@@ -19,6 +21,10 @@ pub(crate) fn close(pid: u8, port: u16) -> Entry {
 
 pub(crate) fn exit(pid: u8) -> Entry {
     by(pid, Step::Exit)
+}
+
+pub(crate) fn cancel(pid: u8, other: u8) -> Entry {
+    by(pid, Step::Cancel(Pid(other)))
 }
 
 fn call_of(pid: u8, cases: Cases) -> Entry {
@@ -65,6 +71,12 @@ pub(crate) fn used_up() -> [Entry; 7] {
         send(0, 1, 8),
         close(0, 1),
     ]
+}
+
+/// Makes a step, which the hub's edition must have.
+pub(crate) fn make_step(rt: &impl Abort, hub: &mut Hub, entry: Entry) -> Result<Events, Fault> {
+    assert!(rt; entry.fits(hub.head().edition));
+    hub.step(entry)
 }
 
 pub(crate) fn told(pid: u8, what: What) -> Event {

@@ -1,7 +1,7 @@
 //! A machine: steps without a journal.
 
 use super::entries::{exit, make, recv, told};
-use hub_base::{Event, Events, Fault, Head, Pid, Port, What};
+use hub_base::{Edition, Event, Events, Fault, Head, Pid, Port, What};
 use hub_core::Machine;
 use std::process::Abort;
 use std::test::Fail;
@@ -13,7 +13,13 @@ fn compare(rt: &impl Abort, events: &Events, wanted: &[Event]) {
 
 #[test]
 fn refused_steps_are_told(rt: HostRuntime) -> Result<(), Fail> {
-    let mut machine = Machine::new(rt.alloc(), Head { procs: 2 })?;
+    let mut machine = Machine::new(
+        rt.alloc(),
+        Head {
+            edition: Edition::One,
+            procs: 2,
+        },
+    )?;
     let mut events = Events::new();
     machine.answer(&make(0, 3), &mut events)?;
     compare(&rt, &events, &[told(0, What::Made(Port(1)))]);

@@ -1,6 +1,6 @@
 //! Openings: how many processes, and which limits; and the texts of what refuses a hub or a run.
 
-use hub_base::Fault;
+use hub_base::{Edition, Fault};
 use hub_core::{Hub, ListFault, OpenFault, run};
 use std::test::Fail;
 
@@ -16,9 +16,9 @@ fn openings_have_bounds(rt: HostRuntime) {
         (1, 1, None),
         (64, 1_000_000, None),
     ] {
-        let hub = Hub::open(rt.alloc(), procs, limit);
+        let hub = Hub::open(rt.alloc(), procs, limit, Edition::One);
         assert_eq!(rt; hub.err(), fault, "a hub of {procs} with limit {limit}");
-        let ran = run(rt.alloc(), procs, limit, &[]);
+        let ran = run(rt.alloc(), procs, limit, Edition::One, &[]);
         assert_eq!(rt;
             ran.err(),
             fault.map(ListFault::Open),

@@ -1,9 +1,9 @@
 //! What stays of a hub where memory is refused. The gate has memory; `tools/hub_refusals.sh` runs these tests with
 //! their allocations refused that come after `begin`.
 
-use super::entries::{close, fired, got, make, recv, recv_either, send, told, used_up};
+use super::entries::{close, fired, got, make, make_step, recv, recv_either, send, told, used_up};
 use super::hubs::step;
-use hub_base::{Entry, Event, Fault, Look, NoMemory, Outcome, Port, Value, What};
+use hub_base::{Edition, Entry, Event, Fault, Look, NoMemory, Outcome, Port, Value, What};
 use hub_core::{Hub, ListFault, OpenFault, run};
 use std::alloc::Global;
 use std::process::Abort;
@@ -38,8 +38,8 @@ fn look_at(hub: &Hub) -> [Shown; 3] {
 
 /// Opens a hub and, where memory was refused, another.
 fn open_again(alloc: Global, procs: u8) -> Result<Hub, OpenFault> {
-    match Hub::open(alloc, procs, 100) {
-        Err(OpenFault::NoMemory) => Hub::open(alloc, procs, 100),
+    match Hub::open(alloc, procs, 100, Edition::One) {
+        Err(OpenFault::NoMemory) => Hub::open(alloc, procs, 100, Edition::One),
         hub => hub,
     }
 }
@@ -53,11 +53,11 @@ fn step_again(
     wanted: &[Event],
 ) -> Result<(), Fail> {
     let looked = look_at(hub);
-    let events = match hub.step(entry.copy()) {
+    let events = match make_step(rt, hub, entry.copy()) {
         Err(Fault::NoMemory) => {
             assert_eq!(rt; hub.entries(), before);
             assert_eq!(rt; look_at(hub), looked);
-            hub.step(entry.copy())?
+            make_step(rt, hub, entry.copy())?
         }
         answer => answer?,
     };
@@ -159,15 +159,20 @@ fn refused_steps_leave_the_buffer(rt: HostRuntime) -> Result<(), Fail> {
 }
 
 /// Runs these entries and, where memory was refused, once more.
-fn run_again(alloc: Global, entries: &[Entry]) -> Result<(Hub, Vec<Event>), ListFault> {
-    match run(alloc, 1, 100, entries) {
+fn run_again(
+    rt: &impl Abort,
+    alloc: Global,
+    entries: &[Entry],
+) -> Result<(Hub, Vec<Event>), ListFault> {
+    assert!(rt; Edition::One.has_all(entries));
+    match run(alloc, 1, 100, Edition::One, entries) {
         Err(
             ListFault::Open(OpenFault::NoMemory)
             | ListFault::At {
                 fault: Fault::NoMemory,
                 ..
             },
-        ) => run(alloc, 1, 100, entries),
+        ) => run(alloc, 1, 100, Edition::One, entries),
         ran => ran,
     }
 }
@@ -185,7 +190,7 @@ fn refused_run_is_made_again(rt: HostRuntime) -> Result<(), Fail> {
         told(0, What::Fault(Fault::AlreadyClosed)),
     ];
     begin(rt.alloc())?;
-    let (hub, events) = run_again(rt.alloc(), &entries)?;
+    let (hub, events) = run_again(&rt, rt.alloc(), &entries)?;
     assert_eq!(rt; events.as_slice(), wanted.as_slice());
     assert_eq!(rt; hub.entries(), entries.as_slice());
     Ok(())
@@ -193,7 +198,7 @@ fn refused_run_is_made_again(rt: HostRuntime) -> Result<(), Fail> {
 
 #[test]
 fn refused_reservation_is_made_again(rt: HostRuntime) -> Result<(), Fail> {
-    let mut hub = Hub::open(rt.alloc(), 3, 100)?;
+    let mut hub = Hub::open(rt.alloc(), 3, 100, Edition::One)?;
     let before = look_at(&hub);
     begin(rt.alloc())?;
     if hub.reserve(5) == Err(NoMemory) {
@@ -210,8 +215,8 @@ fn refused_reservation_is_made_again(rt: HostRuntime) -> Result<(), Fail> {
 // A send, a receive, a park and a stall.
 #[test]
 fn reserved_steps_take_no_memory(rt: HostRuntime) -> Result<(), Fail> {
-    let mut hub = Hub::open(rt.alloc(), 2, 10)?;
-    hub.step(make(0, 1))?;
+    let mut hub = Hub::open(rt.alloc(), 2, 10, Edition::One)?;
+    make_step(&rt, &mut hub, make(0, 1))?;
     hub.reserve(4)?;
     begin(rt.alloc())?;
     // It shows the script that memory is refused by now.

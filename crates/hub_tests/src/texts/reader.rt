@@ -19,7 +19,8 @@ fn entries_are_read_into_one(rt: HostRuntime) -> Result<(), Fail> {
             reader.read_into(&mut entry)?,
             "there is an entry at {place}"
         );
-        write_entry(&mut written, &entry)?;
+        assert!(rt; entry.fits(reader.head().edition));
+        write_entry(&mut written, reader.head().edition, &entry)?;
     }
     assert!(rt;
         !reader.read_into(&mut entry)?,

@@ -32,6 +32,7 @@ fn faults_have_numbers_and_texts(rt: HostRuntime) -> Result<(), Fail> {
         (Fault::AlreadyClosed, 9, "close of a closed port"),
         (Fault::JournalFull, 10, "the journal is full"),
         (Fault::NoMemory, 11, "out of memory"),
+        (Fault::NotParked, 12, "no open call"),
     ] {
         assert_eq!(rt; fault.number(), number, "{fault:?}");
         assert_eq!(rt; format!(in rt.alloc(); "{fault}")?.as_str(), text);

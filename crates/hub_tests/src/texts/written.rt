@@ -36,14 +36,15 @@ fn what_is_read_is_written_again(rt: HostRuntime) -> Result<(), Fail> {
     for entry in journal.entries() {
         copies.push(entry.copy())?;
     }
-    let copied = Journal::of(journal.procs(), copies);
+    let copied = Journal::of(journal.edition(), journal.procs(), copies);
     for journal in [&journal, &copied] {
         let mut out = Vec::new(rt.alloc());
         let procs = journal.procs();
         assert!(rt; 1 <= procs && procs <= 64);
-        write_head(&mut out, procs)?;
+        write_head(&mut out, journal.edition(), procs)?;
         for entry in journal.entries() {
-            write_entry(&mut out, entry)?;
+            assert!(rt; entry.fits(journal.edition()));
+            write_entry(&mut out, journal.edition(), entry)?;
         }
         assert_eq!(rt; out.as_slice(), EVERY_LINE);
         write_journal(&mut out, journal)?;
@@ -74,6 +75,8 @@ fn each_event_has_its_line(rt: HostRuntime) -> Result<(), Fail> {
         (40, What::Stalled, "40 stalled\n"),
         (50, What::Fault(Fault::NoProcess), "50 fault 1\n"),
         (60, What::Fault(Fault::NoMemory), "60 fault 11\n"),
+        (70, What::Fault(Fault::NotParked), "70 fault 12\n"),
+        (80, What::Cancelled, "80 cancelled\n"),
     ] {
         let event = told(pid, what);
         let mut out = Vec::new(rt.alloc());

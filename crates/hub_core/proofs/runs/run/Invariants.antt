@@ -1,7 +1,6 @@
 -- The run so far.
-use Rattle.hub_core.specs.HubView.{terms_of}
 use Rattle.hub_core.proofs.Journeys.{RunSoFar}
 use Rattle.hub_core.proofs.runs.run.Given as goal
 
 abbrev pub invariant-loop-index : goal.invariant-loop-index
-invariant-loop-index l = RunSoFar (terms_of l.procs l.limit) l.entries l.index l.hub.hub l.events.items
+invariant-loop-index l = RunSoFar (l.initial.hub.hub.terms) l.entries l.index l.hub.hub l.events.items

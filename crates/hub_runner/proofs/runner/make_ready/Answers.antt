@@ -1,5 +1,4 @@
 use Rattle.std.proofs.Common.{arith, ap, ◌≡◌, ◌∙◌, subst, length, List, ℕ}
-use Rattle.hub_base.specs.Head.{head_of}
 use Rattle.hub_live.specs.SeatView.{SeatView}
 use Rattle.hub_scenario.specs.Scenario.{scenario_view, run_head}
 use Rattle.hub_runner.specs.Running.{AreMakes}
@@ -15,7 +14,7 @@ pub returns-clause-ready : goal.returns-clause-ready
 returns-clause-ready g c =
     let sc = scenario_view c.args.scenario.now in
     let name = g.K.HubName.name in
-    let head : name.terms.head ≡ run_head sc = ap head_of (c.requires.procs ∙ count_scripts c.args.scenario.now) in
+    let head : name.terms.head ≡ run_head sc = c.requires.head in
     all_ready name sc c.args.seats.items c.index_mut.result.now c.make_ports.new.seat head c.requires.seats (omega (arith, c.args.seats.ok.0, c.requires.some))
     (subst (λ (s : SeatView). Onward s c.make_ports.new.seat) c.index_mut.ensures.value c.make_ports.ensures.onward)
     (subst (λ (ports : List ℕ). AreMakes ports (asked_of c.make_ports.new.seat)) c.deref.ensures.value c.in_ok-make_ports.ensures.ok)

@@ -1,5 +1,4 @@
 use Rattle.std.proofs.Common.{◌≡◌, ◌∙◌, ap, map, List, length, arith, vec_len}
-use Rattle.hub_base.specs.Head.{head_of}
 use Rattle.hub_live.specs.SeatView.{SeatView}
 use Rattle.hub_scenario.specs.Scenario.{scenario_view, run_head}
 use Rattle.hub_runner.proofs.Runs.{all_follow, count_scripts}
@@ -9,7 +8,7 @@ pub returns-in-None-clause-follows : goal.returns-in-None-clause-follows
 returns-in-None-clause-follows g c =
     let sc = scenario_view c.args.scenario.now in
     let name = g.K.HubName.name in
-    let head : name.terms.head ≡ run_head sc = ap head_of (c.requires.procs ∙ count_scripts c.args.scenario.now) in
+    let head : name.terms.head ≡ run_head sc = c.requires.head in
     let many : length c.args.seats.items ≡ length sc.scripts =
     (let e : length c.args.seats.items ≡ vec_len c.args.scenario.now.scripts = omega (arith, c.requires.count, c.args.seats.ok.0) in e)
     ∙ count_scripts c.args.scenario.now in

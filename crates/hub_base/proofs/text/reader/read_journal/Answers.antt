@@ -1,8 +1,11 @@
-use Rattle.hub_base.proofs.OneReading.{gives-text, gives-fault, found-text, found-fault}
+use Rattle.hub_base.proofs.OneReading.{gives-text, gives-fault, found-text, found-fits, found-fault}
 use Rattle.hub_base.proofs.text.reader.read_journal.Goals as goal
 
 pub returns-clause-found : goal.returns-clause-found
 returns-clause-found c = found-text c.args.bytes.now c.read_all.result c.read_all.ensures.gives
+
+pub returns-clause-fits : goal.returns-clause-fits
+returns-clause-fits c = found-fits c.args.bytes.now c.read_all.result c.read_all.ensures.gives
 
 pub returns-clause-only : goal.returns-clause-only
 returns-clause-only c = gives-text c.args.bytes.now c.read_all.result c.read_all.ensures.gives

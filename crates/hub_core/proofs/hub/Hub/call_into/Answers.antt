@@ -45,7 +45,7 @@ invariant_of-self c =
     let made = c.before.before.before.before.before.before in
     let turns = subst (λ (x : Entry). Turns c.self.inside.machine x c.turn.new.self c.turn.new.events.items) (written made) c.in-Ok.ensures.ok in
     keeps_made c.self.inside (entry made) c.push_call.new.entries c.turn.new.self c.turn.new.events.items _ _ c.self.invariant (takes made)
-    turns c.push_call.ensures.items c.push_call.ensures.capacity refl c.saturating_sub-self-inside.ensures
+    refl turns c.push_call.ensures.items c.push_call.ensures.capacity refl c.saturating_sub-self-inside.ensures
 
 pub returns-clause-ok : goal.returns-clause-ok
 returns-clause-ok c =

@@ -1,5 +1,6 @@
 use Rattle.std.proofs.Common.{◌∙◌, ap, sym, subst, arith, length, List}
 use Rattle.hub_base.specs.declared.entry.Entry.{Entry}
+use Rattle.hub_base.specs.Head.{AreOf}
 use Rattle.hub_base.specs.Runs.{kept}
 use Rattle.hub_base.specs.Text.{steps_of}
 use Rattle.hub_core.specs.Follows.{Follows}
@@ -14,6 +15,7 @@ invariant_of-self-then-k-self c =
       head = c.self.invariant.head;
       limit = c.self.invariant.limit;
       legal = ap (kept c.self.inside.terms.head) same ∙ c.self.invariant.legal ∙ sym same;
+      fits = subst (AreOf c.self.inside.terms.head.edition) (sym same) c.self.invariant.fits;
       follows = subst (λ (es : List Entry). Follows c.self.inside.terms.head es c.self.inside.machine) (sym same) c.self.invariant.follows;
       count = c.self.invariant.count ∙ ap steps_of (sym same);
       within = c.self.invariant.within;

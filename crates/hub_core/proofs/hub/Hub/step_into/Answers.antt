@@ -1,5 +1,7 @@
-use Rattle.std.proofs.Common.{arith, sym}
+use Rattle.std.proofs.Common.{arith, ◌≡◌, ◌∙◌, ap, sym, subst, true}
+use Rattle.hub_base.specs.Head.{is_of}
 use Rattle.hub_core.specs.HubKeeps.{Takes}
+use Rattle.hub_core.specs.HubView.{HubInMemory, HubView}
 use Rattle.hub_core.proofs.Hubs.{has_place, keeps_made, shown, taken, turn_admitted, turn_steps}
 use Rattle.hub_core.proofs.hub.Hub.step_into.Goals as goal
 use Rattle.hub_core.proofs.hub.Hub.step_into.Goals.{After-places_after-self-inside}
@@ -25,6 +27,8 @@ push_reserved-requires c =
 
 pub invariant_of-self-2 : goal.invariant_of-self-2
 invariant_of-self-2 c =
+    let was = ap (λ (m : HubInMemory). m.hub) c.self-2.view_is ∙ c.in_ok-admit.ensures.same in
+    let fits = subst (λ (h : HubView). is_of h.terms.head.edition c.args.entry.step ≡ true) (sym was) c.requires.fits in
     keeps_made c.self-2.inside c.args.entry c.push_reserved.new.self c.turn.new.self c.turn.new.events.items _ _ c.self-2.invariant
-    (takes c.before.before.before) c.in-Ok.ensures.ok c.push_reserved.ensures.items c.push_reserved.ensures.capacity c.count_after-self-inside.ensures
+    (takes c.before.before.before) fits c.in-Ok.ensures.ok c.push_reserved.ensures.items c.push_reserved.ensures.capacity c.count_after-self-inside.ensures
     c.places_after-self-inside.ensures

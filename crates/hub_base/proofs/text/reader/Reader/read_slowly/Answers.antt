@@ -1,13 +1,17 @@
-use Rattle.std.proofs.Common.{◌≡◌, ◌+◌, ◌≤◌, ℕ, List, length, refl, ap, sym, ◌∙◌, subst, arith, Err, Ok}
+use Rattle.std.proofs.Common.{◌≡◌, ◌+◌, ◌≤◌, ℕ, true, List, length, refl, ap, sym, ◌∙◌, subst, arith, Err, Ok}
 use Rattle.std.specs.Borrow.{Bor}
 use Rattle.hub_base.specs.declared.entry.Entry.{Entry}
+use Rattle.hub_base.specs.declared.head.Head.{Head}
 use Rattle.hub_base.specs.declared.limits.TheConstants.{MOST_BYTES}
 use Rattle.hub_base.specs.declared.text.reader.Reader.TheInside.{Inside}
+use Rattle.hub_base.specs.Head.{is_of}
+use Rattle.hub_base.specs.Lines.{pieces}
 use Rattle.hub_base.specs.Reader.{ReaderView}
 use Rattle.hub_base.specs.ReaderKeeps.{left_of}
 use Rattle.hub_base.specs.Reading.{rows, entries_from, counted, HasEntry}
 use Rattle.hub_base.proofs.NextLine.{line-says, too-many, step-counts, exit-counts, entry-next, Next}
 use Rattle.hub_base.proofs.Running.{has-entry}
+use Rattle.hub_base.proofs.Takes.{fields-take}
 use Rattle.hub_base.proofs.text.reader.Reader.read_slowly.Goals as goal
 use Rattle.hub_base.proofs.text.reader.Reader.read_slowly.Goals.{then-not-is_exit+else-self-eq-MOST_STEPS, else-not-is_exit}
 
@@ -54,6 +58,8 @@ returns c =
         left ∙ next.read,
         next.head ∙ ap (λ (r : ReaderView). r.head) c.self.view_is,
         omega (arith, c.in-Ok.ensures.left, ap (λ (r : ReaderView). r.bytes) c.self.view_is),
+        subst (λ (h : Head). is_of h.edition c.read_line.new.entry.step ≡ true) (ap (λ (r : ReaderView). r.head) c.self.view_is)
+            (fields-take c.self.inside.head.edition (pieces 32 c.in-Ok.parts.0.now) c.read_line.new.entry c.in-Ok-read_line.ensures).1.of_edition,
       );
       some = subst HasEntry (sym left) (next-some c.self.inside c.if-not-is_exit.self-inside c.read_line.new.entry c.in-Ok.parts.0.now c.in-Ok.parts.1
           c.self.invariant.behind_head c.in-Ok.ensures.fits next);

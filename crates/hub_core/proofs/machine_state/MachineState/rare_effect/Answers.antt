@@ -1,0 +1,18 @@
+use Rattle.std.proofs.Common.{◌∙◌, ap, sym, subst, arith, length}
+use Rattle.hub_laws.specs.Sound.{Apart}
+use Rattle.hub_parts.specs.Lists.{open_calls}
+use Rattle.hub_core.specs.Records.{MachineLists}
+use Rattle.hub_core.specs.ListSteps.{fault_on}
+use Rattle.hub_core.proofs.Reached.{call_named, ports_keep, calls_apart, room_left}
+use Rattle.hub_core.proofs.machine_state.MachineState.rare_effect.Goals as goal
+
+pub close-requires-clause-apart : goal.close-requires-clause-apart
+close-requires-clause-apart c =
+    subst (λ (m : MachineLists). Apart (open_calls m.board.waiting)) (sym c.self.view_is) (calls_apart c.args.self.now c.requires.reached)
+
+pub close-requires-clause-room : goal.close-requires-clause-room
+close-requires-clause-room c =
+    let is = c.self.view_is in
+    let free = room_left c.args.self.now c.args.pid c.requires.reached c.requires.admitted
+    (omega (arith, ap (λ (m : MachineLists). m.board.procs) is, c.self.invariant.procs, c.self.invariant.few)) in
+    omega (arith, free, ap (λ (m : MachineLists). length m.board.waiting) is, c.push-in-Close.ensures.len, ap length c.requires.empty)

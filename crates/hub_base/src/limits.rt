@@ -28,8 +28,9 @@ pub const MOST_EVENTS: usize = MOST_PROCS + 1;
 /// The most bytes of an event's line: ` case `, ` got `, three numbers and the newline.
 pub const MOST_LINE: usize = 38;
 
-/// How many bytes a text of events grows by, beside those that it needs at once.
-pub const TEXT_GROWTH: usize = 65_536;
+/// How many bytes a text of events grows by, beside those that it needs at once. They are set to zero, so they are
+/// few: the lines that follow find them in the nearest memory.
+pub const TEXT_GROWTH: usize = 1_024;
 
 /// The greatest number that an entry can give a process. It may pass those of any hub.
 pub const GREATEST_PID: u8 = u8::MAX;

@@ -1,4 +1,4 @@
-//! The text of events, which grows by large pieces.
+//! The text of events, which grows by pieces.
 //!
 //! The bytes behind the written ones are there already, so a line is put into them piece by piece, and whether
 //! there is room is asked once for all events of a step.

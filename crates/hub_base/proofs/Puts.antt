@@ -1,5 +1,5 @@
 -- A text that is put in two parts, and a number by its first digits and the others.
-use Rattle.std.proofs.Common.{◌≡◌, ◌+◌, ◌∙◌, ℕ, List, ◌++◌, length, ap, arith, append_assoc, length-append}
+use Rattle.std.proofs.Common.{◌≡◌, ◌∙◌, ℕ, List, ◌++◌, length, ap, arith, append_assoc, length-append}
 use Rattle.std.specs.Fmt.{decimal}
 use Rattle.hub_base.specs.Writing.{Puts}
 
@@ -10,10 +10,6 @@ puts_both old mid new at end last s t first second = record {
   put = second.put ∙ ap (λ (xs : List ℕ). xs ++ t) first.put ∙ append_assoc _ s t;
   within = omega (arith, first.within, second.within, length-append s t);
 }
-
--- so many digits has a number whose first digits are those of another
-pub length_parts : (n m : ℕ) (ds : List ℕ) → decimal n ≡ decimal m ++ ds → length (decimal n) ≡ length (decimal m) + length ds
-length_parts n m ds is = ap length is ∙ length-append _ _
 
 -- a number is put: its first digits, and the others behind them
 pub puts_digits : (old mid new : List ℕ) (at end last n m : ℕ) (ds : List ℕ) → decimal n ≡ decimal m ++ ds

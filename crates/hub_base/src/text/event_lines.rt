@@ -68,6 +68,7 @@ fn put_first(out: &mut [u8], at: usize, n: u64) -> usize
 
 /// Puts a number of up to four digits.
 #[inline(always)]
+#[tactic(auto, using(itoa::proofs::Decimal::decimal_pair, itoa::proofs::Decimal::length_pair, crate::proofs::Puts::puts_digits))]
 fn put_short(out: &mut [u8], at: usize, n: u64) -> usize
     requires below { n < 10000 }
     requires room { at + length (decimal n) ≤ length out.old }
@@ -105,6 +106,7 @@ fn put_eight(out: &mut [u8], at: usize, n: u64) -> usize
 
 /// Puts a number of up to eight digits.
 #[inline(always)]
+#[tactic(auto, using(itoa::proofs::Decimal::decimal_four, itoa::proofs::Decimal::length_four, crate::proofs::Puts::puts_digits))]
 fn put_middle(out: &mut [u8], at: usize, n: u64) -> usize
     requires below { n < 100000000 }
     requires room { at + length (decimal n) ≤ length out.old }
@@ -118,29 +120,21 @@ fn put_middle(out: &mut [u8], at: usize, n: u64) -> usize
     }
 }
 
-/// Puts a number of up to sixteen digits.
-#[inline(always)]
-fn put_many(out: &mut [u8], at: usize, n: u64) -> usize
-    requires below { n < 10000000000000000 }
-    requires room { at + length (decimal n) ≤ length out.old }
-    ensures { Puts out.old out.new at (decimal n) (length (decimal n)) result }
-{
-    if n < 100_000_000 {
-        put_middle(out, at, n)
-    } else {
-        let end = put_middle(out, at, n / 100_000_000);
-        put_eight(out, end, n % 100_000_000)
-    }
-}
-
 /// Puts a number of more than eight digits.
 #[inline(never)]
+#[tactic(auto, using(crate::proofs::Decimals::decimal_eight, crate::proofs::Decimals::length_eight, crate::proofs::Puts::puts_digits))]
 fn put_long(out: &mut [u8], at: usize, n: u64) -> usize
     requires above { 100000000 ≤ n }
     requires room { at + length (decimal n) ≤ length out.old }
     ensures { Puts out.old out.new at (decimal n) (length (decimal n)) result }
 {
-    let end = put_many(out, at, n / 100_000_000);
+    let first = n / 100_000_000;
+    let end = if first < 100_000_000 {
+        put_middle(out, at, first)
+    } else {
+        let end = put_middle(out, at, first / 100_000_000);
+        put_eight(out, end, first % 100_000_000)
+    };
     put_eight(out, end, n % 100_000_000)
 }
 

@@ -74,18 +74,7 @@ one-lacks : (m n : ℕ) → m < 48 → n < 2 ^ 64 → all_lack m (decimal n ∷ 
 one-lacks m n low small = both (lacks m (decimal n)) true (decimal-lacks m n low small) refl
 
 fault-small : (f : Fault) → fault_number f ≤ 255
-fault-small fault.NoProcess = omega arith
-fault-small fault.Gone = omega arith
-fault-small fault.Busy = omega arith
-fault-small fault.TooManyCases = omega arith
-fault-small fault.NoPort = omega arith
-fault-small fault.BadCap = omega arith
-fault-small fault.TooManyPorts = omega arith
-fault-small fault.NilClose = omega arith
-fault-small fault.AlreadyClosed = omega arith
-fault-small fault.JournalFull = omega arith
-fault-small fault.NoMemory = omega arith
-fault-small fault.NotParked = omega arith
+fault-small f = grind arith
 
 small : (n most : ℕ) → n ≤ most → most < 2 ^ 64 → n < 2 ^ 64
 small n most h k = omega arith
@@ -132,18 +121,7 @@ read_fault n =
     else if n == 10 then fault.JournalFull else if n == 11 then fault.NoMemory else fault.NotParked
 
 fault-again : (f : Fault) → read_fault (fault_number f) ≡ f
-fault-again fault.NoProcess = refl
-fault-again fault.Gone = refl
-fault-again fault.Busy = refl
-fault-again fault.TooManyCases = refl
-fault-again fault.NoPort = refl
-fault-again fault.BadCap = refl
-fault-again fault.TooManyPorts = refl
-fault-again fault.NilClose = refl
-fault-again fault.AlreadyClosed = refl
-fault-again fault.JournalFull = refl
-fault-again fault.NoMemory = refl
-fault-again fault.NotParked = refl
+fault-again f = grind arith
 
 abbrev read_outcome : List (List ℕ) → Option Outcome
 read_outcome [] = None

@@ -1,5 +1,5 @@
 -- What fields say is what they spell.
-use Rattle.std.proofs.Common.{◌≡◌, ℕ, zero, suc, ◌≤◌, Bool, true, false, cond, List, [], ◌∷◌, ◌++◌, ◌&&◌, length}
+use Rattle.std.proofs.Common.{◌<◌, ◌^◌, ◌≡◌, ℕ, zero, suc, ◌≤◌, Bool, true, false, cond, List, [], ◌∷◌, ◌++◌, ◌&&◌, length}
 use Rattle.std.proofs.Common.{map, refl, ap, ◌∙◌, sym, subst, Result, Ok, Err, arith, codes, ◌==◌}
 use Rattle.std.proofs.lemmas.Grind.{common_steps}
 use Rattle.std.specs.Prelude.{decimal, nat_lt}
@@ -15,7 +15,7 @@ use Rattle.hub_base.specs.Head.{has_cancel, is_of}
 use Rattle.hub_base.specs.declared.limits.TheConstants.{CASE_PLACES, GREATEST_PID, GREATEST_PORT, GREATEST_CAP, GREATEST_VALUE, GREATEST_WORD}
 use Rattle.hub_base.specs.declared.text.faults.Kind.TheVariants.{BadStep}
 use Rattle.hub_base.specs.Lines.Draft.{Sends, Receives}
-use Rattle.hub_base.specs.Lines.{numeral, ◌>>=◌, Draft, read_close, read_make, read_cancel, read_exit, read_send, read_recv, read_choice, read_select}
+use Rattle.hub_base.specs.Lines.{numeral, ◌>>=◌, Draft, read_one, read_close, read_make, read_cancel, read_exit, read_send, read_recv, read_choice, read_select}
 use Rattle.hub_base.specs.Lines.{read_step, read_fields, choose, step_fields, call_fields, select_fields, default_field, case_field, case_of}
 use Rattle.hub_base.specs.Lines.{cases_of, draft_of, drafts_of, send_draft, recv_draft, spelled, ends_default, same_text, by, call, pieces}
 use Rattle.hub_base.specs.Text.{CaseFits, StepFits, Spells}
@@ -23,44 +23,37 @@ use Rattle.hub_base.proofs.Bound.{bind_ok, numeral-ok}
 use Rattle.hub_base.proofs.Pieces.{pieces-some}
 use Rattle.hub_base.proofs.Numerals.{same-true, joined-pieces}
 
-one-field : (ed : Edition) (word : List ℕ) (pid p : List ℕ) (m n : ℕ) (step : Step) (e : Entry) → (step_fields step ≡ word ∷ decimal n ∷ []) → StepFits step →
-    is_of ed step ≡ true → (pid ≡ decimal m) × (m ≤ GREATEST_PID) → p ≡ decimal n → by m step ≡ e → Spells ed (pid ∷ word ∷ p ∷ []) e
-one-field ed word pid p m n step e fields fits of_edition a b is =
+-- a word with one number that was read was so spelled
+one-takes : (ed : Edition) (word : List ℕ) (most : ℕ) (step : ℕ → Step) (pid : List ℕ) (fs : List (List ℕ)) (e : Entry) → most < 2 ^ 64
+    → ((n : ℕ) → step_fields (step n) ≡ word ∷ decimal n ∷ []) → ((n : ℕ) → n ≤ most → StepFits (step n)) → ((n : ℕ) → is_of ed (step n) ≡ true)
+    → read_one most step pid fs ≡ Ok e → Spells ed (pid ∷ word ∷ fs) e
+one-takes ed word most step pid [] e wide fields fits of_edition h = cc
+one-takes ed word most step pid (p ∷ []) e wide fields fits of_edition h =
+    let a = bind_ok (numeral GREATEST_PID pid) (λ pid. numeral most p >>= λ n. Ok (by pid (step n))) e h in
+    let b = bind_ok (numeral most p) (λ n. Ok (by a.0 (step n))) e a.2 in
+    let x = numeral-ok GREATEST_PID pid a.0 (omega arith) a.1 in
+    let y = numeral-ok most p b.0 wide b.1 in
+    let is : by a.0 (step b.0) ≡ e = cc in
     subst (Spells ed (pid ∷ word ∷ p ∷ [])) is (
-      ap (λ f. f ∷ word ∷ p ∷ []) a.0 ∙ ap (λ f. decimal m ∷ word ∷ f ∷ []) b ∙ ap (λ fs. decimal m ∷ fs) (sym fields),
-      record { pid = a.1; step = fits; of_edition = of_edition },
+      ap (λ f. f ∷ word ∷ p ∷ []) x.0 ∙ ap (λ f. decimal a.0 ∷ word ∷ f ∷ []) y.0 ∙ ap (λ fs. decimal a.0 ∷ fs) (sym (fields b.0)),
+      record { pid = x.1; step = fits b.0 y.1; of_edition = of_edition b.0 },
     )
+one-takes ed word most step pid (p ∷ q ∷ fs) e wide fields fits of_edition h = cc
 
--- a make that was read was so spelled
+-- a make
 pub make-takes : (ed : Edition) (pid : List ℕ) (fs : List (List ℕ)) (e : Entry) → read_make pid fs ≡ Ok e → Spells ed (pid ∷ codes "make" ∷ fs) e
-make-takes ed pid [] e h = cc
-make-takes ed pid (p ∷ []) e h =
-    let a = bind_ok (numeral GREATEST_PID pid) (λ pid. numeral GREATEST_CAP p >>= λ p. Ok (by pid (Make p))) e h in
-    let b = bind_ok (numeral GREATEST_CAP p) (λ p. Ok (by a.0 (Make p))) e a.2 in
-    let y = numeral-ok GREATEST_CAP p b.0 (omega arith) b.1 in
-    one-field ed (codes "make") pid p a.0 b.0 (Make b.0) e refl y.1 refl (numeral-ok GREATEST_PID pid a.0 (omega arith) a.1) y.0 (cc)
-make-takes ed pid (p ∷ q ∷ fs) e h = cc
+make-takes ed pid fs e h = one-takes ed (codes "make") GREATEST_CAP Make pid fs e (omega arith) (λ n. refl) (λ n fits. fits) (λ n. refl) h
 
 -- a close
 pub close-spells : (ed : Edition) (pid : List ℕ) (fs : List (List ℕ)) (e : Entry) → read_close pid fs ≡ Ok e → Spells ed (pid ∷ codes "close" ∷ fs) e
-close-spells ed pid [] e h = cc
-close-spells ed pid (p ∷ []) e h =
-    let a = bind_ok (numeral GREATEST_PID pid) (λ pid. numeral GREATEST_PORT p >>= λ p. Ok (by pid (Close (record { 0 = p })))) e h in
-    let b = bind_ok (numeral GREATEST_PORT p) (λ p. Ok (by a.0 (Close (record { 0 = p })))) e a.2 in
-    let y = numeral-ok GREATEST_PORT p b.0 (omega arith) b.1 in
-    one-field ed (codes "close") pid p a.0 b.0 (Close (record { 0 = b.0 })) e refl y.1 refl (numeral-ok GREATEST_PID pid a.0 (omega arith) a.1) y.0 (cc)
-close-spells ed pid (p ∷ q ∷ fs) e h = cc
+close-spells ed pid fs e h =
+    one-takes ed (codes "close") GREATEST_PORT (λ p. Close (record { 0 = p })) pid fs e (omega arith) (λ n. refl) (λ n fits. fits) (λ n. refl) h
 
 -- a cancel
 pub cancel-takes : (ed : Edition) (pid : List ℕ) (fs : List (List ℕ)) (e : Entry) → has_cancel ed ≡ true → read_cancel pid fs ≡ Ok e
     → Spells ed (pid ∷ codes "cancel" ∷ fs) e
-cancel-takes ed pid [] e has h = cc
-cancel-takes ed pid (q ∷ []) e has h =
-    let a = bind_ok (numeral GREATEST_PID pid) (λ pid. numeral GREATEST_PID q >>= λ q. Ok (by pid (Cancel (record { 0 = q })))) e h in
-    let b = bind_ok (numeral GREATEST_PID q) (λ q. Ok (by a.0 (Cancel (record { 0 = q })))) e a.2 in
-    let y = numeral-ok GREATEST_PID q b.0 (omega arith) b.1 in
-    one-field ed (codes "cancel") pid q a.0 b.0 (Cancel (record { 0 = b.0 })) e refl y.1 has (numeral-ok GREATEST_PID pid a.0 (omega arith) a.1) y.0 (cc)
-cancel-takes ed pid (q ∷ r ∷ fs) e has h = cc
+cancel-takes ed pid fs e has h =
+    one-takes ed (codes "cancel") GREATEST_PID (λ q. Cancel (record { 0 = q })) pid fs e (omega arith) (λ n. refl) (λ n fits. fits) (λ n. has) h
 
 -- an exit
 pub exit-takes : (ed : Edition) (pid : List ℕ) (fs : List (List ℕ)) (e : Entry) → read_exit pid fs ≡ Ok e → Spells ed (pid ∷ codes "exit" ∷ fs) e

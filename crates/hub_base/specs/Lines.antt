@@ -184,11 +184,15 @@ read_select pid word fields =
     if nat_lt CASE_PLACES (length drafts) then Err BadStep
     else choose pid word (cases_of drafts) fields.1
 
+-- a word with one number up to `most` behind it, which says this step
+abbrev pub read_one : ℕ → (ℕ → Step) → List ℕ → List (List ℕ) → Result Entry Kind
+read_one most step pid (n ∷ []) =
+    numeral GREATEST_PID pid >>= λ pid. numeral most n >>= λ n. Ok (by pid (step n))
+read_one most step pid other = Err BadStep
+
 -- `P make C`
 abbrev pub read_make : List ℕ → List (List ℕ) → Result Entry Kind
-read_make pid (cap ∷ []) =
-    numeral GREATEST_PID pid >>= λ pid. numeral GREATEST_CAP cap >>= λ cap. Ok (by pid (Make cap))
-read_make pid other = Err BadStep
+read_make = read_one GREATEST_CAP Make
 
 -- `P send PORT V`
 abbrev pub read_send : List ℕ → List (List ℕ) → Result Entry Kind
@@ -206,10 +210,7 @@ read_recv pid other = Err BadStep
 
 -- `P close PORT`
 abbrev pub read_close : List ℕ → List (List ℕ) → Result Entry Kind
-read_close pid (p ∷ []) =
-    numeral GREATEST_PID pid >>= λ pid. numeral GREATEST_PORT p >>= λ p.
-    Ok (by pid (Close (record { 0 = p })))
-read_close pid other = Err BadStep
+read_close = read_one GREATEST_PORT (λ p. Close (record { 0 = p }))
 
 -- `P exit`
 abbrev pub read_exit : List ℕ → List (List ℕ) → Result Entry Kind
@@ -218,10 +219,7 @@ read_exit pid other = Err BadStep
 
 -- `P cancel Q`
 abbrev pub read_cancel : List ℕ → List (List ℕ) → Result Entry Kind
-read_cancel pid (q ∷ []) =
-    numeral GREATEST_PID pid >>= λ pid. numeral GREATEST_PID q >>= λ q.
-    Ok (by pid (Cancel (record { 0 = q })))
-read_cancel pid other = Err BadStep
+read_cancel = read_one GREATEST_PID (λ q. Cancel (record { 0 = q }))
 
 -- `P select W CASE.. [default]`
 abbrev pub read_choice : List ℕ → List (List ℕ) → Result Entry Kind

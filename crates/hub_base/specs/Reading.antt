@@ -6,7 +6,7 @@ use Rattle.std.specs.Prelude.{ℕ, ◌+◌, ◌<◌, ◌==◌, ◌&&◌, not, na
 use Rattle.std.specs.Prelude.{length, codes, decimal, Option, None, Some, Result, Ok, Err, if◌then◌else◌}
 use Rattle.std.specs.List.{flat_map}
 use Rattle.hub_base.specs.declared.entry.Step.{Step}
-use Rattle.hub_base.specs.declared.entry.Step.TheVariants.{Make, Call, Close, Exit, Cancel}
+use Rattle.hub_base.specs.declared.entry.Step.TheVariants.{Exit}
 use Rattle.hub_base.specs.declared.entry.Entry.{Entry}
 use Rattle.hub_base.specs.declared.head.Edition.{Edition}
 use Rattle.hub_base.specs.declared.head.Edition.TheVariants as edition
@@ -52,11 +52,8 @@ rows (c ∷ cs) = if c == 10 then record { bytes = []; whole = true } ∷ rows c
 
 -- the step is an exit; all others count as steps
 abbrev pub is_exit : Step → Bool
-is_exit (Make cap) = false
-is_exit (Call cases default word) = false
-is_exit (Close p) = false
 is_exit Exit = true
-is_exit (Cancel q) = false
+is_exit other = false
 
 -- what a text says: this head and these entries, or its first faulty line, counted from 1,
 -- and the fault

@@ -2,7 +2,7 @@
 use Rattle.std.specs.Prelude.{◌≡◌, ◌≢◌, ◌≤◌, ◌<◌, ◌+◌, ℕ, List, ◌∷◌, ◌++◌, decimal, length, drop, get_or, Bool, true, false, Ok}
 use Rattle.std.specs.List.{AllByRecursion}
 use Rattle.hub_base.specs.declared.case.Case.{Case}
-use Rattle.hub_base.specs.declared.case.Case.TheVariants.{Send}
+use Rattle.hub_base.specs.declared.case.Case.TheVariants.{Send, Recv}
 use Rattle.hub_base.specs.declared.entry.Entry.{Entry}
 use Rattle.hub_base.specs.declared.entry.Step.{Step}
 use Rattle.hub_base.specs.declared.head.Edition.{Edition}
@@ -30,6 +30,13 @@ pub record SendStands (bytes : List ℕ) (start mark : ℕ) (c : Case) (end : �
   pub value : Value
   pub is : c ≡ Send port value
   pub stands : Stands bytes start (decimal port.0 ++ mark ∷ value_field value) end
+  pub fits : CaseFits c
+
+-- the port of a case that receives stands there
+pub record RecvStands (bytes : List ℕ) (start : ℕ) (c : Case) (end : ℕ) : Type 0 where
+  pub port : Port
+  pub is : c ≡ Recv port
+  pub stands : Stands bytes start (decimal port.0) end
   pub fits : CaseFits c
 
 -- this spelling of a case stands there

@@ -5,7 +5,7 @@
 
 ghost use Rattle.std.specs.Prelude.{◌≡◌, ◌≢◌, ◌≤◌, ◌<◌, ◌∷◌, ◌++◌, [], length, codes, decimal, false, IfSome};
 ghost use Rattle.hub_base.specs.Lines.{call_fields, case_field};
-ghost use Rattle.hub_base.specs.Quick.{EndsLine, Stands, SendStands, CaseStands, CasesStand, SelectStands, StepStands, Begins};
+ghost use Rattle.hub_base.specs.Quick.{EndsLine, Stands, SendStands, RecvStands, CaseStands, CasesStand, SelectStands, StepStands, Begins};
 ghost use Rattle.hub_base.specs.Writing.{spaced};
 
 use crate::limits::{GREATEST_PID, GREATEST_PORT};
@@ -116,6 +116,17 @@ fn send_at(bytes: &[u8], start: usize, mark: u8) -> Option<(Case, usize)>
     Some((Case::Send(Port(port as u16), Value::num(value)), end))
 }
 
+/// The case that receives and whose port stands at this place, and the place behind it.
+#[inline(always)]
+fn recv_at(bytes: &[u8], start: usize) -> Option<(Case, usize)>
+    requires line { EndsLine bytes.now }
+    requires start { start < length bytes.now }
+    ensures { IfSome result (λ x. RecvStands bytes.now start x.0 x.1) }
+{
+    let (port, end) = number_up_to(GREATEST_PORT.into(), bytes, start)?;
+    Some((Case::Recv(Port(port as u16)), end))
+}
+
 /// The case of a plain send or receive, from the space before the word on, and the place behind it.
 #[inline]
 fn plain_at(bytes: &[u8], start: usize) -> Option<(Case, usize)>
@@ -129,8 +140,7 @@ fn plain_at(bytes: &[u8], start: usize) -> Option<(Case, usize)>
         send_at(bytes, behind(bytes, end, b' ')?, b' ')
     } else {
         let end = behind_word(bytes, start, b"recv")?;
-        let (port, end) = number_up_to(GREATEST_PORT.into(), bytes, behind(bytes, end, b' ')?)?;
-        Some((Case::Recv(Port(port as u16)), end))
+        recv_at(bytes, behind(bytes, end, b' ')?)
     }
 }
 
@@ -157,8 +167,7 @@ fn case_at(bytes: &[u8], start: usize) -> Option<(Case, usize)>
     if let Some(end) = behind(bytes, start, b's') {
         send_at(bytes, end, b':')
     } else {
-        let (port, end) = number_up_to(GREATEST_PORT.into(), bytes, behind(bytes, start, b'r')?)?;
-        Some((Case::Recv(Port(port as u16)), end))
+        recv_at(bytes, behind(bytes, start, b'r')?)
     }
 }
 

@@ -1,5 +1,5 @@
 -- What a filter leaves of a list.
-use Rattle.std.proofs.Common.{◌≤◌, suc, Bool, true, false, cond, List, [], ◌∷◌, ◌++◌, length, filter, arith}
+use Rattle.std.proofs.Common.{◌≤◌, suc, Bool, true, false, cond, List, [], ◌∷◌, length, filter, arith}
 use Rattle.std.specs.List.{AllByRecursion}
 
 pub all_filter : {X : Type 0} (P : X → Type 0) (keep : X → Bool) (xs : List X) → AllByRecursion P xs → AllByRecursion P (filter keep xs)

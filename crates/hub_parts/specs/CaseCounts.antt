@@ -9,6 +9,8 @@ use Rattle.hub_parts.specs.Records.{Ticketed}
 use Rattle.hub_parts.specs.declared.side.Side.{Side}
 use Rattle.hub_parts.specs.declared.side.Side.TheVariants as side
 use Rattle.hub_parts.specs.declared.tickets.case_counts.CaseCounts.{CaseCounts}
+use Rattle.hub_parts.specs.declared.tickets.case_counts.Change.{Change}
+use Rattle.hub_parts.specs.declared.tickets.case_counts.Change.TheVariants.{More, Fewer}
 
 -- the numbers where the port's has changed
 abbrev pub changed : (ℕ → ℕ) → Port → List ℕ → List ℕ
@@ -46,13 +48,10 @@ one_more n = n + 1
 abbrev pub one_less : ℕ → ℕ
 one_less n = n - 1
 
--- the numbers with one case more on the port
-abbrev pub raised : Port → List ℕ → List ℕ
-raised p xs = changed one_more p xs
-
--- the numbers with one case fewer on the port
-abbrev pub lowered : Port → List ℕ → List ℕ
-lowered p xs = changed one_less p xs
+-- one case more or fewer
+abbrev pub changed_by : Change → ℕ → ℕ
+changed_by More = one_more
+changed_by Fewer = one_less
 
 -- the counts with these cases
 abbrev pub with_raised : CaseCounts → List Case → CaseCounts
@@ -70,13 +69,10 @@ CanGrow n = n + 1 < 65536
 abbrev pub IsPositive : ℕ → Type 0
 IsPositive n = 0 < n
 
--- the port's number can be raised
-abbrev pub Raises : List ℕ → Port → Type 0
-Raises xs p = Allows CanGrow xs p
-
--- the port's number can be lowered
-abbrev pub Lowers : List ℕ → Port → Type 0
-Lowers xs p = Allows IsPositive xs p
+-- the one or the other
+abbrev pub CanChange : Change → ℕ → Type 0
+CanChange More = CanGrow
+CanChange Fewer = IsPositive
 
 -- these cases can be counted, one by one
 abbrev pub CanRaise : CaseCounts → List Case → Type 0

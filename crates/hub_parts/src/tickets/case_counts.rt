@@ -4,7 +4,8 @@
 //! is counted like any other. A case on a port above the last is not counted.
 
 ghost use Rattle.std.specs.Prelude.{◌≡◌, ◌≤◌, replicate};
-ghost use Rattle.hub_parts.specs.CaseCounts.{raised, lowered, with_raised, with_lowered, Raises, Lowers, CanRaise, CanLower, has_case};
+ghost use Rattle.hub_parts.specs.CaseCounts.{changed, all_changed, changed_by, Allows, AllAllow, CanChange};
+ghost use Rattle.hub_parts.specs.CaseCounts.{with_raised, with_lowered, CanRaise, CanLower, has_case};
 
 use crate::Side;
 use hub_base::{Case, MOST_PORTS, Port};
@@ -24,23 +25,26 @@ pub(crate) struct CaseCounts {
     recvs: Counts,
 }
 
-/// One case more is on the port.
-fn raise(counts: &mut Counts, port: Port)
-    requires { Raises counts.old port }
-    ensures { counts.new ≡ raised port counts.old }
-{
-    if (port.0 as usize) < counts.len() {
-        counts[port.0 as usize] += 1;
-    }
+/// How a count changes.
+#[derive(Clone, Copy)]
+enum Change {
+    /// One case more.
+    More,
+    /// One case fewer.
+    Fewer,
 }
 
-/// One case fewer is on the port.
-fn lower(counts: &mut Counts, port: Port)
-    requires { Lowers counts.old port }
-    ensures { counts.new ≡ lowered port counts.old }
+/// The cases on the port are one more, or one fewer.
+#[inline(always)]
+fn change_at(counts: &mut Counts, port: Port, by: Change)
+    requires { Allows (CanChange by) counts.old port }
+    ensures { counts.new ≡ changed (changed_by by) port counts.old }
 {
     if (port.0 as usize) < counts.len() {
-        counts[port.0 as usize] -= 1;
+        match by {
+            Change::More => counts[port.0 as usize] += 1,
+            Change::Fewer => counts[port.0 as usize] -= 1,
+        }
     }
 }
 
@@ -56,17 +60,26 @@ impl CaseCounts {
         }
     }
 
+    /// Changes the count of each of these cases.
+    #[inline(always)]
+    fn change_each(&mut self, cases: &[Case], by: Change)
+        requires { AllAllow (changed_by by) (CanChange by) self.old cases.now }
+        ensures { self.new ≡ all_changed (changed_by by) self.old cases.now }
+    {
+        for case in cases {
+            match *case {
+                Case::Send(port, _value) => change_at(&mut self.sends, port, by),
+                Case::Recv(port) => change_at(&mut self.recvs, port, by),
+            }
+        }
+    }
+
     /// Counts the cases of a call that opens.
     pub(crate) fn add(&mut self, cases: &[Case])
         requires { CanRaise self.old cases.now }
         ensures { self.new ≡ with_raised self.old cases.now }
     {
-        for case in cases {
-            match *case {
-                Case::Send(port, _value) => raise(&mut self.sends, port),
-                Case::Recv(port) => raise(&mut self.recvs, port),
-            }
-        }
+        self.change_each(cases, Change::More);
     }
 
     /// Counts the cases of a call that ends no more.
@@ -74,12 +87,7 @@ impl CaseCounts {
         requires { CanLower self.old cases.now }
         ensures { self.new ≡ with_lowered self.old cases.now }
     {
-        for case in cases {
-            match *case {
-                Case::Send(port, _value) => lower(&mut self.sends, port),
-                Case::Recv(port) => lower(&mut self.recvs, port),
-            }
-        }
+        self.change_each(cases, Change::Fewer);
     }
 
     /// Whether some case is on this side of the port.

@@ -8,7 +8,7 @@ ghost use Rattle.hub_core.specs.ListKeeps.{PortsKeep, IsNamed};
 ghost use Rattle.hub_base.specs.Steps.{fired};
 ghost use Rattle.hub_core.specs.ListFirings.{Fires, send_on, take_on, recv_on, fire_on};
 
-use crate::tally::Tallies;
+use crate::tally::{Carried, Tallies};
 use hub_base::{Case, Event, Events, Outcome, Pid, Port, Value, What};
 use hub_parts::{Board, Ended, Side};
 
@@ -66,12 +66,12 @@ fn send(board: &mut Board, tallies: &mut Tallies, port: Port, value: Value) -> F
     // A receiver waits only where nothing is buffered, so no older value is passed over.
     match board.take(port, Side::Recv) {
         Some(receiver) => {
-            tallies.count_handed(port);
+            tallies.count(port, Carried::Handed);
             with(Outcome::Sent, receiver, Outcome::Got(value))
         }
         None => {
             board.push(port, value);
-            tallies.count_sent(port);
+            tallies.count(port, Carried::Sent);
             alone(Outcome::Sent)
         }
     }
@@ -86,7 +86,7 @@ fn take_value(board: &mut Board, tallies: &mut Tallies, port: Port) -> Firing
 {
     match board.pop(port) {
         Some(value) => {
-            tallies.count_received(port);
+            tallies.count(port, Carried::Received);
             alone(Outcome::Got(value))
         }
         None => alone(Outcome::Drained),
@@ -106,7 +106,7 @@ fn receive(board: &mut Board, tallies: &mut Tallies, port: Port) -> Firing
     let Case::Send(_port, sent) = sender.case else {
         unreachable!();
     };
-    tallies.count_handed(port);
+    tallies.count(port, Carried::Handed);
     // A sender waits only where the buffer is full, or where there is none: its value takes the place of the oldest.
     match board.pop(port) {
         Some(oldest) => {

@@ -1,7 +1,8 @@
 //! How many values each port has carried.
 
-ghost use Rattle.std.specs.Prelude.{◌≡◌, ◌≤◌, ◌<◌, ◌-◌, ◌^◌, ◌++◌, ◌∷◌, [], length};
-ghost use Rattle.hub_core.specs.Records.{tally_at, no_tally, one_sent, one_received, one_handed};
+ghost use Rattle.std.specs.Prelude.{◌≡◌, ◌≤◌, ◌<◌, ◌++◌, ◌∷◌, [], length};
+ghost use Rattle.hub_core.specs.Records.{tally_at, no_tally};
+ghost use Rattle.hub_core.specs.Carried.{CanCarry, one_carried};
 
 use arrayvec::ArrayVec;
 use hub_base::{MOST_PORTS, Port};
@@ -14,6 +15,17 @@ pub struct Tally {
     pub sent: u32,
     /// How many of their values were received.
     pub received: u32,
+}
+
+/// How a port carries a value in one step.
+#[derive(Clone, Copy)]
+pub(crate) enum Carried {
+    /// It was sent, and stays in the buffer.
+    Sent,
+    /// It was received out of the buffer.
+    Received,
+    /// It was handed from a sender to a receiver.
+    Handed,
 }
 
 /// The tallies of the ports that are made, in order; there is a place for each that there may be.
@@ -61,35 +73,21 @@ impl Tallies {
         self.list.as_slice()[port.0 as usize - 1]
     }
 
-    /// A value more was sent.
-    pub(crate) fn count_sent(&mut self, port: Port)
+    /// A value more was carried.
+    #[inline(always)]
+    pub(crate) fn count(&mut self, port: Port, carried: Carried)
         requires made { (0 < port.0) × (port.0 ≤ length self.old) }
-        requires room { (tally_at self.old port).sent < 2 ^ 32 - 1 }
-        ensures { self.new ≡ one_sent port self.old }
+        requires room { CanCarry carried (tally_at self.old port) }
+        ensures { self.new ≡ one_carried carried port self.old }
     {
         let tally = &mut self.list.as_mut_slice()[port.0 as usize - 1];
-        tally.sent += 1;
-    }
-
-    /// A value more was received.
-    pub(crate) fn count_received(&mut self, port: Port)
-        requires made { (0 < port.0) × (port.0 ≤ length self.old) }
-        requires room { (tally_at self.old port).received < 2 ^ 32 - 1 }
-        ensures { self.new ≡ one_received port self.old }
-    {
-        let tally = &mut self.list.as_mut_slice()[port.0 as usize - 1];
-        tally.received += 1;
-    }
-
-    /// A value more was handed from a sender to a receiver.
-    pub(crate) fn count_handed(&mut self, port: Port)
-        requires made { (0 < port.0) × (port.0 ≤ length self.old) }
-        requires sent { (tally_at self.old port).sent < 2 ^ 32 - 1 }
-        requires received { (tally_at self.old port).received < 2 ^ 32 - 1 }
-        ensures { self.new ≡ one_handed port self.old }
-    {
-        let tally = &mut self.list.as_mut_slice()[port.0 as usize - 1];
-        tally.sent += 1;
-        tally.received += 1;
+        match carried {
+            Carried::Sent => tally.sent += 1,
+            Carried::Received => tally.received += 1,
+            Carried::Handed => {
+                tally.sent += 1;
+                tally.received += 1;
+            }
+        }
     }
 }

@@ -15,7 +15,8 @@ use Rattle.hub_base.specs.Head.{has_cancel, is_of}
 use Rattle.hub_base.specs.declared.limits.TheConstants.{CASE_PLACES, GREATEST_PID, GREATEST_PORT, GREATEST_CAP, GREATEST_VALUE, GREATEST_WORD}
 use Rattle.hub_base.specs.declared.text.faults.Kind.TheVariants.{BadStep}
 use Rattle.hub_base.specs.Lines.Draft.{Sends, Receives}
-use Rattle.hub_base.specs.Lines.{numeral, ◌>>=◌, Draft, read_one, read_close, read_make, read_cancel, read_exit, read_send, read_recv, read_choice, read_select}
+use Rattle.hub_base.specs.Lines.{numeral, ◌>>=◌, Draft, read_one, read_close, read_make, read_cancel, read_exit, read_send, read_recv}
+use Rattle.hub_base.specs.Lines.{read_choice, read_select}
 use Rattle.hub_base.specs.Lines.{read_step, read_fields, choose, step_fields, call_fields, select_fields, default_field, case_field, case_of}
 use Rattle.hub_base.specs.Lines.{cases_of, draft_of, drafts_of, send_draft, recv_draft, spelled, ends_default, same_text, by, call, pieces}
 use Rattle.hub_base.specs.Text.{CaseFits, StepFits, Spells}

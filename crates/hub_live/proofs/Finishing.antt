@@ -1,8 +1,8 @@
 -- A loop over the seats that are compared with the journal at the end.
-use Rattle.std.proofs.Common.{◌≡◌, List, [], ◌∷◌, ◌++◌, length, refl, sym, ◌∙◌, subst, arith}
+use Rattle.std.proofs.Common.{◌≡◌, ◌≤◌, List, [], ◌∷◌, ◌++◌, length, refl, sym, ◌∙◌, subst, arith}
 use Rattle.std.specs.Prelude.{All}
 use Rattle.std.proofs.lemmas.List.{append-nil}
-use Rattle.hub_live.specs.Prelude.{Entry, LockedView, SeatView, StandsIn}
+use Rattle.hub_live.specs.Prelude.{AreOf, EndsIn, IsLegal, JournalView, LockedView, Name, SeatView, StandsIn, steps_of}
 use Rattle.hub_live.proofs.Loops.{all_snoc, one_further}
 
 -- the hub is as at the start, and the seats that were compared, which with those that are left are all, stand in its journal
@@ -21,8 +21,15 @@ compared_next {after = after} {done} {rest} {next} {all} {s} c same is here left
   split = one_further done rest next all s left c.split;
 }
 
-pub compared_all : {start now : LockedView} {done rest all : List SeatView} {journal : List Entry} → Compared start now done rest all → length rest ≡ 0
-    → journal ≡ now.hub.journal → All (λ s. StandsIn s journal) all
-compared_all {done = done} {rest = []} c none is =
-    subst (λ (x : List Entry × List SeatView). All (λ s. StandsIn s x.0) x.1) (λ i. (sym is i, (sym (append-nil done) ∙ c.split) i)) c.stand
-compared_all {rest = s ∷ rest} c none is = absurd (omega arith)
+compared_all : {start now : LockedView} {done rest all : List SeatView} → Compared start now done rest all → length rest ≡ 0
+    → All (λ s. StandsIn s now.hub.journal) all
+compared_all {now = now} {done} {rest = []} c none =
+    subst (λ (x : List SeatView). All (λ s. StandsIn s now.hub.journal) x) (sym (append-nil done) ∙ c.split) c.stand
+compared_all {rest = s ∷ rest} c none = absurd (omega arith)
+
+-- once all are compared, the journal is what the hub of this name ends in
+pub ended : (name : Name) {start now : LockedView} {done rest all : List SeatView} {journal : JournalView} → Compared start now done rest all → length rest ≡ 0
+    → journal ≡ record { head = name.terms.head; entries = now.hub.journal } → IsLegal name.terms.head now.hub.journal
+    → AreOf name.terms.head.edition now.hub.journal → steps_of now.hub.journal ≤ name.terms.limit → EndsIn name all journal
+ended name {all = all} c none is legal fits few =
+    subst (λ (j : JournalView). EndsIn name all j) (sym is) record { head = refl; legal = legal; fits = fits; few = few; seats = compared_all c none }

@@ -1,5 +1,5 @@
 -- What a call promises of what its seat has then seen.
-use Rattle.std.specs.Prelude.{◌≡◌, ◌<◌, ◌++◌, ◌∷◌, ◌+◌, [], ℕ, true, false, List, None, Some, Result, IfOk, IfErr, OnOk, OnErr}
+use Rattle.std.specs.Prelude.{◌≡◌, ◌<◌, ◌≤◌, ◌++◌, ◌∷◌, ◌+◌, [], ℕ, true, false, List, None, Some, Result, IfOk, IfErr, OnOk, OnErr, All}
 use Rattle.std.specs.List.{list_any}
 use mathlib.Core.List.{IsPrefix}
 use Rattle.hub_base.specs.declared.value.Pid.{Pid}
@@ -9,11 +9,14 @@ use Rattle.hub_base.specs.declared.entry.Entry.{Entry}
 use Rattle.hub_base.specs.declared.event.Event.{Event}
 use Rattle.hub_base.specs.declared.fault.Fault.{Fault}
 use Rattle.hub_base.specs.declared.fault.Fault.TheVariants as fault
+use Rattle.hub_base.specs.Head.{AreOf}
+use Rattle.hub_base.specs.Journal.{JournalView}
 use Rattle.hub_base.specs.Reading.{is_exit}
 use Rattle.hub_base.specs.Steps.{is_waiting, refusal}
 use Rattle.hub_base.specs.Runs.{state}
 use Rattle.hub_base.specs.Text.{steps_of}
 use Rattle.hub_laws.specs.Answers.{is_answer_to}
+use Rattle.hub_laws.specs.Journals.{IsLegal}
 use Rattle.hub_laws.specs.Replies.{own, reply, is_parked}
 use Rattle.hub_core.specs.declared.terms.Terms.{Terms}
 use Rattle.hub_core.specs.HubView.{Refuses}
@@ -123,3 +126,11 @@ AreSeats name first (s ∷ ss) =
 pub record StandsIn (s : SeatView) (journal : List Entry) : Type 0 where
   pub begins : IsPrefix s.seen journal
   pub same : AsksNothing s.hub.terms s.pid s.seen journal
+
+-- the journal that the hub of this name ends in, where these seats are handed in
+pub record EndsIn (name : Name) (handed_in : List SeatView) (journal : JournalView) : Type 0 where
+  pub head : journal.head ≡ name.terms.head
+  pub legal : IsLegal journal.head journal.entries
+  pub fits : AreOf journal.head.edition journal.entries
+  pub few : steps_of journal.entries ≤ name.terms.limit
+  pub seats : All (λ s. StandsIn s journal.entries) handed_in

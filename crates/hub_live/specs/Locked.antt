@@ -3,18 +3,20 @@
 use Rattle.std.specs.Prelude.{◌≡◌, ◌<◌, ◌==◌, ℕ, nat_lt, Bool, false, List, [], ◌∷◌, length, map, replicate, filter}
 use Rattle.std.specs.Option.{option_map_or}
 use Rattle.std.specs.Prelude.{Option, None, Some, IfSome, slice_index_or, slice_set, if◌then◌else◌}
+use Rattle.std.specs.Prelude.{Result, IfOk, IfErr, OnOk, OnErr}
 use Rattle.hub_base.specs.declared.head.Head.{Head}
 use Rattle.hub_base.specs.declared.value.Pid.{Pid}
 use Rattle.hub_base.specs.declared.value.Port.{Port}
 use Rattle.hub_base.specs.State.{State, channel_at}
 use Rattle.hub_base.specs.declared.entry.Entry.{Entry}
 use Rattle.hub_base.specs.declared.event.Event.{Event}
+use Rattle.hub_base.specs.declared.fault.Fault.{Fault}
 use Rattle.hub_base.specs.declared.limits.TheConstants.{MOST_PROCS}
 use Rattle.hub_base.specs.Steps.{is_waiting}
 use Rattle.hub_laws.specs.Journals.{IsLegal}
-use Rattle.hub_laws.specs.Replies.{reply, last_from}
+use Rattle.hub_laws.specs.Replies.{is_parked, reply, last_from}
 use Rattle.hub_base.specs.Runs.{state}
-use Rattle.hub_core.specs.HubView.{HubView, Steps}
+use Rattle.hub_core.specs.HubView.{HubView, Refuses, Steps}
 
 -- a hub, and the answers that wait
 pub record LockedView : Type 0 where
@@ -71,6 +73,21 @@ pub record Serves (old : LockedView) (e : Entry) (new : LockedView) (answer : Ev
   pub answers :
       (q : ℕ) → q < MOST_PROCS → answer_for new.answers q ≡ answer_after old.answers e.pid ended q
   pub pids : new.ended ≡ pids_of ended
+
+-- a step of the hub that was made or refused: what it leaves in the hub, and what it tells
+pub record MakesStep {A : Type 0} (old : HubView) (e : Entry) (new : HubView) (xs : List Event) (result : Result A Fault) : Type 0 where
+  pub ok : OnOk result (Steps old e new xs)
+  pub refused : IfErr result (λ f. Refuses old e f)
+  pub unchanged : OnErr result (new ≡ old)
+
+-- a step of the locked hub that was made or refused, and what is answered. An answer that is not `Parked` is
+-- the process's reply
+pub record ServesStep (old : LockedView) (e : Entry) (new : LockedView) (result : Result Event Fault) : Type 0 where
+  pub ok : IfOk result (λ answer. Serves old e new answer)
+  pub reply : IfOk result (λ answer. is_parked answer.what ≡ false →
+      IsReplyTo new.hub.terms.head e.pid.0 new.hub.journal answer)
+  pub refused : IfErr result (λ f. Refuses old.hub e f)
+  pub unchanged : OnErr result (new ≡ old)
 
 -- ---- a wait
 

@@ -33,11 +33,11 @@ pub use Rattle.hub_live.specs.declared.rule.View.{View}
 pub use Rattle.hub_live.specs.Mark.{IsOther, MarksOne, mark, mark_at, mark_of, port_numbered, read_back, counts_at}
 pub use Rattle.hub_live.specs.Rule.{Fits, Holds, IsHistory, Kept, Knows, blank, next_word}
 pub use Rattle.hub_live.specs.Moves.{Met, Published, Sees, SeesBoth, given_back, grown, parted, with_joined}
-pub use Rattle.hub_live.specs.Locked.{IsReplyTo, LockedView, Serves, pids_of, answer_for, without_answer}
+pub use Rattle.hub_live.specs.Locked.{IsReplyTo, LockedView, Serves, MakesStep, ServesStep, pids_of, answer_for, without_answer}
 pub use Rattle.hub_live.specs.Name.{Name, name_of}
 pub use Rattle.hub_live.specs.Named.{IsSingle, IsToken}
 pub use Rattle.hub_live.specs.SeatView.{IsFree, IsIdle, SeatView, own_of, state_seen}
 pub use Rattle.hub_live.specs.Request.{entry_by}
 pub use Rattle.hub_live.specs.Seated.{IsAlone, IsHub, seat_of, IsDesk}
 pub use Rattle.hub_live.specs.Calls.{AreSeats, Later, MadeEntry, Shows, StandsIn, Made, Refused, RefusedEntry, Answers, AnswersNoCall}
-pub use Rattle.hub_live.specs.Calls.{AskedNothing, Tells, ServesSeat}
+pub use Rattle.hub_live.specs.Calls.{AskedNothing, Tells, ServesSeat, EndsIn}

@@ -3,8 +3,8 @@
 
 ghost use Rattle.std.specs.Prelude.{◌≡◌, ◌<◌, ◌≤◌, ◌∷◌, ◌⊎◌, [], false, IfOk, IfErr, All};
 ghost use Rattle.hub_base.specs.declared.event.What.TheVariants as what;
-ghost use Rattle.hub_live.specs.Prelude.{Send, Recv, Make, Call, Close, Exit, Cancel, Two, AreOf, call, tells, steps_of, IsLegal, counts_at, IsIdle, state_seen, Later};
-ghost use Rattle.hub_live.specs.Prelude.{Made, Refused, Answers, AskedNothing, StandsIn};
+ghost use Rattle.hub_live.specs.Prelude.{Send, Recv, Make, Call, Close, Exit, Cancel, Two, call, tells, counts_at, IsIdle, state_seen, Later};
+ghost use Rattle.hub_live.specs.Prelude.{Made, Refused, Answers, AskedNothing, EndsIn};
 
 use crate::ends::{Chan, RecvPort, SendPort};
 use crate::live_hub::LiveHub;
@@ -201,11 +201,7 @@ impl<K: HubName> Held<K> {
 impl<K: HubName> LiveHub<K> {
     /// The journal, as `finish` gives it.
     pub fn finish_held(self, held: Vec<Held<K>>) -> Journal
-        ensures head { result.head ≡ K.name.terms.head }
-        ensures legal { IsLegal result.head result.entries }
-        ensures fits { AreOf result.head.edition result.entries }
-        ensures few { steps_of result.entries ≤ K.name.terms.limit }
-        ensures seats { All (λ s. StandsIn s result.entries) held.items }
+        ensures rules { EndsIn K.name held.items result }
     {
         let (words, mut desk) = self.into_parts();
         for one in held {

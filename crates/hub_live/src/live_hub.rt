@@ -2,9 +2,9 @@
 
 ghost use Rattle.std.specs.Prelude.{◌≡◌, ◌≤◌, ◌∷◌, ◌⊎◌, [], true, false, IfOk, IfErr, All, vec_len};
 ghost use Rattle.hub_base.specs.declared.event.What.TheVariants as what;
-ghost use Rattle.hub_live.specs.Prelude.{Send, Recv, Make, Call, Close, Exit, Cancel, Two, AreOf, is_of, call, tells, steps_of, IsLegal, is_parked, counts_at, state_seen, Later};
+ghost use Rattle.hub_live.specs.Prelude.{Send, Recv, Make, Call, Close, Exit, Cancel, Two, is_of, call, tells, is_parked, counts_at, state_seen, Later};
 ghost use Rattle.hub_live.specs.Request.{step_of};
-ghost use Rattle.hub_live.specs.Prelude.{entry_by, Made, Refused, MadeEntry, RefusedEntry, Answers, AnswersNoCall, AskedNothing, StandsIn};
+ghost use Rattle.hub_live.specs.Prelude.{entry_by, Made, Refused, MadeEntry, RefusedEntry, Answers, AnswersNoCall, AskedNothing, EndsIn};
 ghost use Rattle.hub_live.specs.Prelude.{IsHistory, IsPrefix, IsReplyTo, own_of};
 
 use crate::desk::Desk;
@@ -371,11 +371,7 @@ impl<K: HubName> LiveHub<K> {
     /// more in it. The list may be empty. Answers that wait are dropped. Waits for nobody.
     pub fn finish(self, seats: Vec<Seat>) -> Journal
         requires { All (λ s. s.hub ≡ K.name) seats.items }
-        ensures head { result.head ≡ K.name.terms.head }
-        ensures legal { IsLegal result.head result.entries }
-        ensures fits { AreOf result.head.edition result.entries }
-        ensures few { steps_of result.entries ≤ K.name.terms.limit }
-        ensures seats { All (λ s. StandsIn s result.entries) seats.items }
+        ensures rules { EndsIn K.name seats.items result }
     {
         let (words, mut desk) = self.into_parts();
         for seat in seats {

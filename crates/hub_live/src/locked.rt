@@ -5,11 +5,11 @@
 //! no answer waiting, and an answer that waits is its process's reply. That the hub is what its journal
 //! leads to is kept by the hub's own type.
 
-ghost use Rattle.std.specs.Prelude.{◌≡◌, ◌≤◌, ◌<◌, ℕ, Some, true, false, length, slice_set, IfOk, IfErr, OnOk, OnErr, IfSome, IfNone};
+ghost use Rattle.std.specs.Prelude.{◌≡◌, ◌≤◌, ◌<◌, ℕ, Some, true, length, slice_set, IfSome, IfNone};
 ghost use Rattle.hub_core.specs.Looks.{look_at};
 ghost use Rattle.hub_live.specs.Locked.{none_waits, last_told};
 ghost use Rattle.hub_live.specs.Request.{step_of};
-ghost use Rattle.hub_live.specs.Prelude.{AreOf, is_of, IsLegal, is_parked, Refuses, Steps, state_of, answer_for, entry_by, IsReplyTo, pids_of, Serves, without_answer};
+ghost use Rattle.hub_live.specs.Prelude.{AreOf, is_of, IsLegal, state_of, answer_for, entry_by, IsReplyTo, pids_of, MakesStep, ServesStep, without_answer};
 
 use crate::request::Request;
 use arrayvec::ArrayVec;
@@ -45,25 +45,17 @@ impl Model for Locked {
 }
 
 /// Makes the step that the process asks for.
-fn make_step(
-    hub: &mut Hub,
-    pid: Pid,
-    request: &Request<'_>,
-    events: &mut Events,
-) -> Result<(), Fault>
-    requires fits { is_of hub.old.hub.terms.head.edition (step_of request.now) ≡ true }
-    ensures ok { OnOk result (
-        Steps hub.old.hub (entry_by pid request.now) hub.new.hub events.new.items) }
-    ensures refused { IfErr result (λ f. Refuses hub.old.hub (entry_by pid request.now) f) }
-    ensures unchanged { OnErr result (hub.new.hub ≡ hub.old.hub) }
+fn make_step(hub: &mut Hub, pid: Pid, asked: &Request<'_>, events: &mut Events) -> Result<(), Fault>
+    requires fits { is_of hub.old.hub.terms.head.edition (step_of asked.now) ≡ true }
+    ensures { MakesStep hub.old.hub (entry_by pid asked.now) hub.new.hub events.new.items result }
 {
-    match *request {
+    match *asked {
         Request::Call {
             cases,
             default,
             word,
         } => hub.call_into(pid, cases, default, word, events),
-        _ => make_rare_step(hub, pid, request, events),
+        _ => make_rare_step(hub, pid, asked, events),
     }
 }
 
@@ -73,16 +65,13 @@ fn make_step(
 fn make_rare_step(
     hub: &mut Hub,
     pid: Pid,
-    request: &Request<'_>,
+    asked: &Request<'_>,
     events: &mut Events,
 ) -> Result<(), Fault>
-    requires fits { is_of hub.old.hub.terms.head.edition (step_of request.now) ≡ true }
-    ensures ok { OnOk result (
-        Steps hub.old.hub (entry_by pid request.now) hub.new.hub events.new.items) }
-    ensures refused { IfErr result (λ f. Refuses hub.old.hub (entry_by pid request.now) f) }
-    ensures unchanged { OnErr result (hub.new.hub ≡ hub.old.hub) }
+    requires fits { is_of hub.old.hub.terms.head.edition (step_of asked.now) ≡ true }
+    ensures { MakesStep hub.old.hub (entry_by pid asked.now) hub.new.hub events.new.items result }
 {
-    let step = request.step();
+    let step = asked.step();
     hub.step_into(Entry { pid, step }, events)
 }
 
@@ -142,11 +131,7 @@ impl Locked {
     /// `NoMemory`.
     pub fn step(&mut self, entry: Entry) -> Result<Event, Fault>
         requires fits { is_of self.old.hub.terms.head.edition entry.step ≡ true }
-        ensures ok { IfOk result (λ answer. Serves self.old entry self.new answer) }
-        ensures reply { IfOk result (λ answer. is_parked answer.what ≡ false →
-            IsReplyTo self.new.hub.terms.head entry.pid.0 self.new.hub.journal answer) }
-        ensures refused { IfErr result (λ f. Refuses self.old.hub entry f) }
-        ensures unchanged { OnErr result (self.new ≡ self.old) }
+        ensures rules { ServesStep self.old entry self.new result }
     {
         self.serve(entry.pid, &Request::of(&entry.step))
     }
@@ -154,11 +139,7 @@ impl Locked {
     /// Makes the step that a process asks for, as `step` does.
     pub(crate) fn serve(&mut self, pid: Pid, request: &Request<'_>) -> Result<Event, Fault>
         requires fits { is_of self.old.hub.terms.head.edition (step_of request.now) ≡ true }
-        ensures ok { IfOk result (λ answer. Serves self.old (entry_by pid request.now) self.new answer) }
-        ensures reply { IfOk result (λ answer. is_parked answer.what ≡ false →
-            IsReplyTo self.new.hub.terms.head pid.0 self.new.hub.journal answer) }
-        ensures refused { IfErr result (λ f. Refuses self.old.hub (entry_by pid request.now) f) }
-        ensures unchanged { OnErr result (self.new ≡ self.old) }
+        ensures { ServesStep self.old (entry_by pid request.now) self.new result }
     {
         make_step(&mut self.hub, pid, request, &mut self.events)?;
         let Some((first, ended)) = self.events.as_slice().split_first() else {

@@ -17,4 +17,4 @@ returns-in-None-clause-follows g c =
     ap (λ (ss : List SeatView). map (λ (s : SeatView). s.pid) ss) c.in_ok-held.ensures.same in
     all_follow name sc c.args.seats.items c.in_ok-seats.seats.items c.finish_held-journal.result.entries head many c.requires.seats
     (back.pids ∙ c.in_ok-members.ensures.pids ∙ c.in_ok-ready.ensures.pids ∙ held)
-    back.hubs (back.followed c.in-None.is) c.finish_held-journal.ensures.seats
+    back.hubs (back.followed c.in-None.is) c.finish_held-journal.ensures.rules.seats

@@ -29,9 +29,10 @@ served c =
 pub invariant_of-self-2 : goal.invariant_of-self-2
 invariant_of-self-2 c = lawful_served (before c) (after c) (asked c) c.in-Some.first.now c.self.invariant (served c)
 
-pub returns-clause-ok : goal.returns-clause-ok
-returns-clause-ok c = subst (λ (l : LockedView). Serves l (asked c) (after c) c.in-Some.first.now) c.self.view_is (served c)
-
-pub returns-clause-reply : goal.returns-clause-reply
-returns-clause-reply c =
-    answer_replies c.self.inside.hub.hub c.make_step.new.hub.hub (asked c) c.in-Some.first.now (served c).ended (served c).step
+pub returns : goal.returns
+returns c = record {
+  ok = subst (λ (l : LockedView). Serves l (asked c) (after c) c.in-Some.first.now) c.self.view_is (served c);
+  reply = answer_replies c.self.inside.hub.hub c.make_step.new.hub.hub (asked c) c.in-Some.first.now (served c).ended (served c).step;
+  refused = tt;
+  unchanged = tt;
+}

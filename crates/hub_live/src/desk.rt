@@ -4,7 +4,7 @@
 //! A step joins the caller's seat to the hub's before the journal changes and parts it afterwards,
 //! since a store is judged by what the seat that stores knows.
 
-ghost use Rattle.std.specs.Prelude.{◌≡◌, ◌≤◌, ◌<◌, ◌+◌, ◌++◌, ◌∷◌, [], List, length, Some, None, true, false, IfSome, IfNone, OnSome};
+ghost use Rattle.std.specs.Prelude.{◌≡◌, ◌≤◌, ◌<◌, ◌+◌, ◌↔◌, IsTrue, ◌++◌, ◌∷◌, [], List, length, Some, None, true, false, IfSome, IfNone, OnSome};
 ghost use Rattle.std.specs.List.{list_any};
 ghost use Rattle.hub_base.specs.Ready.{port_of};
 ghost use Rattle.hub_live.specs.Locked.{has_buffer};
@@ -187,6 +187,13 @@ impl<K: HubName> Desk<K> {
             ) => !names_buffered(&self.locked, cases.as_slice()),
             _ => false,
         }
+    }
+
+    /// Whether the last step that was made ended any call.
+    pub(crate) fn has_ended(&self) -> bool
+        ensures { IsTrue result ↔ 0 < length self.now.ended }
+    {
+        self.locked.has_ended()
     }
 
     /// Whose calls the last step ended, where it was made.

@@ -1,6 +1,6 @@
 //! A hub that threads share. Steps take its lock; looks and meetings take none.
 
-ghost use Rattle.std.specs.Prelude.{◌≡◌, ◌≤◌, ◌∷◌, ◌⊎◌, [], true, false, IfOk, IfErr, All, vec_len};
+ghost use Rattle.std.specs.Prelude.{◌≡◌, ◌∷◌, ◌⊎◌, [], true, false, IfOk, IfErr, All, vec_len};
 ghost use Rattle.hub_base.specs.declared.event.What.TheVariants as what;
 ghost use Rattle.hub_live.specs.Prelude.{Send, Recv, Make, Call, Close, Exit, Cancel, Two, is_of, call, tells, is_parked, counts_at, state_seen, Later};
 ghost use Rattle.hub_live.specs.Request.{step_of};
@@ -89,15 +89,21 @@ impl<K: HubName> LiveHub<K> {
         let waker = &self.wakers[usize::from(seat.pid().0)];
         let mut desk = self.lock(rt, waker);
         let answer = desk.serve(&self.words, &mut seat.inner, request)?;
-        let ended = desk.ended();
         if !is_parked(answer.what) {
-            // Those who wake find the lock free.
-            drop(desk);
-            self.wake(&ended);
+            if desk.has_ended() {
+                self.let_go(desk);
+            }
             return Ok(answer);
         }
-        self.wake(&ended);
+        self.wake(&desk.ended());
         Ok(self.wait_for_answer(rt, desk, &mut seat.inner))
+    }
+
+    /// Lets the lock go, and wakes the processes whose calls the last step ended, who then find it free.
+    fn let_go(&self, desk: MutexGuard<'_, Desk<K>>) {
+        let ended = desk.ended();
+        drop(desk);
+        self.wake(&ended);
     }
 
     /// Takes the lock. Whoever holds it mostly lets it go before a thread could sleep, so it tries for a while first.

@@ -5,7 +5,7 @@
 //! no answer waiting, and an answer that waits is its process's reply. That the hub is what its journal
 //! leads to is kept by the hub's own type.
 
-ghost use Rattle.std.specs.Prelude.{◌≡◌, ◌≤◌, ◌<◌, ℕ, Some, true, length, slice_set, IfSome, IfNone};
+ghost use Rattle.std.specs.Prelude.{◌≡◌, ◌≤◌, ◌<◌, ◌↔◌, ℕ, IsTrue, Some, true, length, slice_set, IfSome, IfNone};
 ghost use Rattle.hub_core.specs.Looks.{look_at};
 ghost use Rattle.hub_live.specs.Locked.{none_waits, last_told};
 ghost use Rattle.hub_live.specs.Request.{step_of};
@@ -166,6 +166,13 @@ impl Locked {
         } else {
             None
         }
+    }
+
+    /// Whether the last step that was made ended any call. Mostly none did.
+    pub(crate) fn has_ended(&self) -> bool
+        ensures { IsTrue result ↔ 0 < length self.now.ended }
+    {
+        !self.ended.is_empty()
     }
 
     /// Whose calls the last step that was made ended: they are to be woken. A wake is only a hint: no

@@ -7,12 +7,13 @@ use Rattle.hub_base.specs.declared.entry.Step.{Step}
 use Rattle.hub_base.specs.declared.entry.Step.TheVariants.{Call}
 use Rattle.hub_base.specs.declared.entry.Entry.{Entry}
 use Rattle.hub_base.specs.declared.event.Event.{Event}
+use Rattle.hub_base.specs.declared.event.What.{What}
 use Rattle.hub_base.specs.declared.fault.Fault.{Fault}
 use Rattle.hub_base.specs.declared.fault.Fault.TheVariants as fault
 use Rattle.hub_base.specs.Head.{AreOf}
 use Rattle.hub_base.specs.Journal.{JournalView}
 use Rattle.hub_base.specs.Reading.{is_exit}
-use Rattle.hub_base.specs.Steps.{is_waiting, refusal}
+use Rattle.hub_base.specs.Steps.{is_waiting, refusal, tells}
 use Rattle.hub_base.specs.Runs.{state}
 use Rattle.hub_base.specs.Text.{steps_of}
 use Rattle.hub_laws.specs.Answers.{is_answer_to}
@@ -99,6 +100,10 @@ entry_of s step = record { pid = s.pid; step = step }
 -- the process made the step, and the event is the reply
 abbrev pub Made : SeatView → SeatView → Step → Event → Type 0
 Made s t step x = MadeEntry s t (entry_of s step) x
+
+-- the process made the step, and was told this
+abbrev pub Told : SeatView → SeatView → Step → What → Type 0
+Told s t step told = Made s t step (tells s.pid told)
 
 -- the step was refused, and no entry was made
 abbrev pub Refused : SeatView → SeatView → Step → Fault → Type 0

@@ -1,10 +1,10 @@
 //! Seats whose hub is known by their type, so that their calls ask for nothing. Such a seat goes into a
 //! thread and comes back with no clause.
 
-ghost use Rattle.std.specs.Prelude.{◌≡◌, ◌<◌, ◌≤◌, ◌∷◌, ◌⊎◌, [], false, IfOk, IfErr, All};
+ghost use Rattle.std.specs.Prelude.{◌≡◌, ◌<◌, ◌∷◌, ◌⊎◌, [], false, IfOk, IfErr, All};
 ghost use Rattle.hub_base.specs.declared.event.What.TheVariants as what;
-ghost use Rattle.hub_live.specs.Prelude.{Send, Recv, Make, Call, Close, Exit, Cancel, Two, call, tells, counts_at, IsIdle, state_seen, Later};
-ghost use Rattle.hub_live.specs.Prelude.{Made, Refused, Answers, AskedNothing, EndsIn};
+ghost use Rattle.hub_live.specs.Prelude.{Send, Recv, Make, Call, Close, Exit, Cancel, Two, call, counts_at, IsIdle, state_seen, Later};
+ghost use Rattle.hub_live.specs.Prelude.{Made, Refused, Answers, AskedNothing, Told, EndsIn};
 
 use crate::ends::{Chan, RecvPort, SendPort};
 use crate::live_hub::LiveHub;
@@ -131,11 +131,9 @@ impl<K: HubName> Held<K> {
     /// answered by a fault.
     pub fn make_chan<R: Wait>(&mut self, rt: &R, hub: &LiveHub<K>, cap: u32) -> Result<Chan, Fault>
         ensures later { Later self.old self.new }
-        ensures ok { IfOk result (λ chan.
-            Made self.old self.new (Make cap) (tells self.old.pid (what.Made chan))) }
+        ensures ok { IfOk result (λ chan. Told self.old self.new (Make cap) (what.Made chan)) }
         ensures err { IfErr result (λ f.
-            Refused self.old self.new (Make cap) f
-            ⊎ Made self.old self.new (Make cap) (tells self.old.pid (what.Fault f))) }
+            Refused self.old self.new (Make cap) f ⊎ Told self.old self.new (Make cap) (what.Fault f)) }
     {
         hub.make_chan(rt, &mut self.seat, cap)
     }

@@ -2,9 +2,9 @@
 
 ghost use Rattle.std.specs.Prelude.{◌≡◌, ◌∷◌, ◌⊎◌, [], true, false, IfOk, IfErr, All, vec_len};
 ghost use Rattle.hub_base.specs.declared.event.What.TheVariants as what;
-ghost use Rattle.hub_live.specs.Prelude.{Send, Recv, Make, Call, Close, Exit, Cancel, Two, is_of, call, tells, is_parked, counts_at, state_seen, Later};
+ghost use Rattle.hub_live.specs.Prelude.{Send, Recv, Make, Call, Close, Exit, Cancel, Two, is_of, call, is_parked, counts_at, state_seen, Later};
 ghost use Rattle.hub_live.specs.Request.{step_of};
-ghost use Rattle.hub_live.specs.Prelude.{entry_by, Made, Refused, MadeEntry, RefusedEntry, Answers, AnswersNoCall, AskedNothing, EndsIn};
+ghost use Rattle.hub_live.specs.Prelude.{entry_by, Made, Refused, MadeEntry, RefusedEntry, Answers, AnswersNoCall, AskedNothing, Told, EndsIn};
 ghost use Rattle.hub_live.specs.Prelude.{IsHistory, IsPrefix, IsReplyTo, own_of};
 
 use crate::desk::Desk;
@@ -261,11 +261,9 @@ impl<K: HubName> LiveHub<K> {
     pub fn make_chan<R: Wait>(&self, rt: &R, seat: &mut Seat, cap: u32) -> Result<Chan, Fault>
         requires { seat.old.hub ≡ K.name }
         ensures later { Later seat.old seat.new }
-        ensures ok { IfOk result (λ chan.
-            Made seat.old seat.new (Make cap) (tells seat.old.pid (what.Made chan))) }
+        ensures ok { IfOk result (λ chan. Told seat.old seat.new (Make cap) (what.Made chan)) }
         ensures err { IfErr result (λ f.
-            Refused seat.old seat.new (Make cap) f
-            ⊎ Made seat.old seat.new (Make cap) (tells seat.old.pid (what.Fault f))) }
+            Refused seat.old seat.new (Make cap) f ⊎ Told seat.old seat.new (Make cap) (what.Fault f)) }
     {
         match self.make(rt, seat, cap)?.what {
             What::Made(port) => Ok(Chan::of(port)),

@@ -1,4 +1,4 @@
-use Rattle.std.proofs.Common.{◌∙◌, rules}
+use Rattle.std.proofs.Common.{◌∙◌, rules, length, ◌≡◌}
 use Rattle.hub_live.proofs.Finishing.{compared_next, ended}
 use Rattle.hub_live.proofs.live_hub.LiveHub.finish_held.Goals as goal
 
@@ -9,7 +9,6 @@ loop-one-preserved g c =
 
 pub returns : goal.returns
 returns g c =
-    let ok = c.loop-one.one-iterator.rest.ok in
-    let none = c.in-None.ensures.steps.0 in
+    let none : length c.loop-one.one-iterator.rest.items ≡ 0 = search (rules, c.loop-one.one-iterator.rest.ok, c.in-None.ensures.steps.0) in
     let is = c.into_journal.ensures in
-    record { rules = ended g.K.HubName.name c.loop-one.invariant (search (rules, ok, none)) is.journal is.legal is.fits is.few }
+    record { rules = ended g.K.HubName.name c.loop-one.invariant none is.journal is.legal is.fits is.few }

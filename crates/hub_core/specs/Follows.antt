@@ -1,7 +1,8 @@
 -- How a machine's lists stand for a state, and what it means that a machine follows a run.
-use Rattle.std.specs.Prelude.{◌≡◌, ◌≤◌, ◌<◌, ◌+◌, ℕ, List, [], ◌∷◌, ◌++◌, length, map, Option, None, Some, slice_get}
+use Rattle.std.specs.Prelude.{◌≡◌, ◌≤◌, ◌<◌, ◌+◌, ◌-◌, ◌^◌, Result, OnOk, OnErr, ℕ, List, [], ◌∷◌, ◌++◌, length, map, Option, None, Some, slice_get}
 use Rattle.std.specs.List.{AllByRecursion}
 use Rattle.hub_base.specs.declared.case.Case.{Case}
+use Rattle.hub_base.specs.declared.value.Pid.{Pid}
 use Rattle.hub_base.specs.declared.entry.Step.{Step}
 use Rattle.hub_base.specs.declared.entry.Step.TheVariants.{Make, Call, Close, Exit, Cancel}
 use Rattle.hub_base.specs.declared.entry.Entry.{Entry}
@@ -16,7 +17,7 @@ use Rattle.hub_parts.specs.Records.{PortLists, Ticketed}
 use Rattle.hub_parts.specs.Lists.{open_calls}
 use Rattle.hub_core.specs.declared.tally.Tally.{Tally}
 use Rattle.hub_core.specs.Records.{MachineLists}
-use Rattle.hub_core.specs.ListSteps.{gone_on}
+use Rattle.hub_core.specs.ListSteps.{gone_on, refusal_of, fault_on, effect_on}
 
 -- what a board shows of a channel: its buffer is what was sent and not yet received
 abbrev pub lists_of : Channel → PortLists
@@ -81,6 +82,23 @@ IsMake (Call cases default word) = ⊥
 IsMake (Close p) = ⊥
 IsMake Exit = ⊥
 IsMake (Cancel q) = ⊥
+
+-- a step may take effect: its process is admitted, it meets no fault, and nothing is told yet
+pub record MayTakeEffect (m : MachineLists) (pid : Pid) (step : Step) (told : List Event) : Type 0 where
+  pub reached : IsReached m
+  pub admitted : refusal_of m.board m.gone pid ≡ None
+  pub fault : fault_on m.edition m.board step ≡ None
+  pub steps : m.steps < 2 ^ 32 - 1
+  pub empty : told ≡ []
+
+-- it has taken effect, or was a make that was refused memory and has changed nothing
+pub record TakesEffect {E : Type 0} (old : MachineLists) (pid : Pid) (step : Step) (new : MachineLists) (told : List Event)
+    (result : Result (Unit {0}) E) : Type 0 where
+  pub machine : OnOk result (new ≡ (effect_on old pid step).machine)
+  pub events : OnOk result (told ≡ (effect_on old pid step).events)
+  pub make : OnErr result (IsMake step)
+  pub unchanged : OnErr result (new ≡ old)
+  pub empty : OnErr result (told ≡ [])
 
 -- the step meets no fault, so a fault is not its answer
 abbrev pub IsFine : State → Entry → Type 0

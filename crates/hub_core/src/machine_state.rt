@@ -3,12 +3,12 @@
 ghost use Rattle.std.specs.Prelude.{◌≡◌, ◌≤◌, ◌<◌, ◌-◌, ◌^◌, [], None, false, replicate, length, IfOk, OnOk, OnErr};
 ghost use Rattle.hub_parts.specs.Keeps.{AllMade};
 ghost use Rattle.hub_base.specs.Steps.{tells};
-ghost use Rattle.hub_core.specs.ListSteps.{call_on, effect_on, turn_on, refusal_of, fault_on, open_on};
+ghost use Rattle.hub_core.specs.ListSteps.{call_on, turn_on, refusal_of, fault_on, open_on};
 ghost use Rattle.hub_laws.specs.Once.{is_call};
 ghost use Rattle.hub_core.specs.ListKeeps.{PortsKeep};
 ghost use Rattle.hub_core.specs.Looks.{look_on, value_on};
 ghost use Rattle.hub_core.specs.Records.{opened_machine};
-ghost use Rattle.hub_core.specs.Follows.{IsMake, IsReached};
+ghost use Rattle.hub_core.specs.Follows.{IsMake, IsReached, MayTakeEffect, TakesEffect};
 
 use crate::closing::close;
 use crate::firing::{fire, tell};
@@ -119,16 +119,8 @@ impl MachineState {
     #[inline(never)]
     fn rare_effect(&mut self, pid: Pid, step: &Step, events: &mut Events) -> Result<(), NoMemory>
         requires rare { is_call step.now ≡ false }
-        requires reached { IsReached self.old }
-        requires admitted { refusal_of self.old.board self.old.gone pid ≡ None }
-        requires fault { fault_on self.old.edition self.old.board step.now ≡ None }
-        requires steps { self.old.steps < 2 ^ 32 - 1 }
-        requires empty { events.old.items ≡ [] }
-        ensures machine { OnOk result (self.new ≡ (effect_on self.old pid step.now).machine) }
-        ensures events { OnOk result (events.new.items ≡ (effect_on self.old pid step.now).events) }
-        ensures make { OnErr result (IsMake step.now) }
-        ensures unchanged { OnErr result (self.new ≡ self.old) }
-        ensures empty { OnErr result (events.new.items ≡ []) }
+        requires may { MayTakeEffect self.old pid step.now events.old.items }
+        ensures { TakesEffect self.old pid step.now self.new events.new.items result }
     {
         match step {
             Step::Make(cap) => {
@@ -157,16 +149,8 @@ impl MachineState {
     /// What a step without a fault does. A make that is refused memory changes nothing.
     #[inline(always)]
     fn effect(&mut self, pid: Pid, step: &Step, events: &mut Events) -> Result<(), NoMemory>
-        requires reached { IsReached self.old }
-        requires admitted { refusal_of self.old.board self.old.gone pid ≡ None }
-        requires fault { fault_on self.old.edition self.old.board step.now ≡ None }
-        requires steps { self.old.steps < 2 ^ 32 - 1 }
-        requires empty { events.old.items ≡ [] }
-        ensures machine { OnOk result (self.new ≡ (effect_on self.old pid step.now).machine) }
-        ensures events { OnOk result (events.new.items ≡ (effect_on self.old pid step.now).events) }
-        ensures make { OnErr result (IsMake step.now) }
-        ensures unchanged { OnErr result (self.new ≡ self.old) }
-        ensures empty { OnErr result (events.new.items ≡ []) }
+        requires { MayTakeEffect self.old pid step.now events.old.items }
+        ensures { TakesEffect self.old pid step.now self.new events.new.items result }
     {
         let Step::Call {
             cases,

@@ -13,4 +13,3 @@ call-requires-clause-named c =
 
 pub call-requires-clause-keep : goal.call-requires-clause-keep
 call-requires-clause-keep c = ports_keep c.args.self.now c.requires.reached c.requires.steps
-

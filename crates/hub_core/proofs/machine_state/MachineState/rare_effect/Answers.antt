@@ -8,11 +8,11 @@ use Rattle.hub_core.proofs.machine_state.MachineState.rare_effect.Goals as goal
 
 pub close-requires-clause-apart : goal.close-requires-clause-apart
 close-requires-clause-apart c =
-    subst (λ (m : MachineLists). Apart (open_calls m.board.waiting)) (sym c.self.view_is) (calls_apart c.args.self.now c.requires.reached)
+    subst (λ (m : MachineLists). Apart (open_calls m.board.waiting)) (sym c.self.view_is) (calls_apart c.args.self.now c.requires.may.reached)
 
 pub close-requires-clause-room : goal.close-requires-clause-room
 close-requires-clause-room c =
     let is = c.self.view_is in
-    let free = room_left c.args.self.now c.args.pid c.requires.reached c.requires.admitted
+    let free = room_left c.args.self.now c.args.pid c.requires.may.reached c.requires.may.admitted
     (omega (arith, ap (λ (m : MachineLists). m.board.procs) is, c.self.invariant.procs, c.self.invariant.few)) in
-    omega (arith, free, ap (λ (m : MachineLists). length m.board.waiting) is, c.push-in-Close.ensures.len, ap length c.requires.empty)
+    omega (arith, free, ap (λ (m : MachineLists). length m.board.waiting) is, c.push-in-Close.ensures.len, ap length c.requires.may.empty)

@@ -31,7 +31,7 @@ TRIALS = os.path.join(ROOT, 'crates', 'hub_trials', 'out', 'hub_trials')
 PEER = os.path.join(HERE, 'live_peer', 'target', 'release', 'live_peer')
 RUNS = int(os.environ.get('RUNS', '10'))
 SETS = 3
-JOURNALS = ('hand_overs', 'bursts', 'selects')
+JOURNALS = ('hand_overs', 'bursts', 'selects', 'bytes')
 WORKLOADS = ('alone', 'ping_pong', 'one_to_one', 'four_to_four', 'select_over_four', 'looks_1', 'looks_2', 'looks_4')
 # the calls and closes of each scenario
 SCENARIOS = {'pool': 99994, 'pipeline': 69994}

@@ -139,11 +139,16 @@ class Hub:
             self.waiting = []
 
 
+def value(text):
+    """A number, or bytes, which no rule looks into: `#` and their digits."""
+    return text if text.startswith('#') else int(text)
+
+
 def case(text):
     if text[0] == 'r':
         return 'r', int(text[1:])
-    port, value = text[1:].split(':')
-    return 's', int(port), int(value)
+    port, sent = text[1:].split(':')
+    return 's', int(port), value(sent)
 
 
 def step(fields):
@@ -151,7 +156,7 @@ def step(fields):
     if word in ('make', 'close', 'cancel'):
         return word, int(fields[1])
     if word == 'send':
-        return 'call', ([('s', int(fields[1]), int(fields[2]))], False, 0)
+        return 'call', ([('s', int(fields[1]), value(fields[2]))], False, 0)
     if word == 'recv':
         return 'call', ([('r', int(fields[1]))], False, 0)
     if word == 'select':

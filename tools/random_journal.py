@@ -6,8 +6,9 @@
 
 Each is well formed, of the second edition where its seed is even, and asks for all that a hub can answer: every
 word, selects of 0 to 9 cases, in the second edition to 16, with and without a default, choice words from 0 to the
-greatest, closes, exits, in the second edition cancels, port 0, ports that are not made, capacities that are too
-large, processes that are busy, gone or unknown. LINES counts the entries; where it is not said there are 60 to 300.
+greatest, closes, exits, in the second edition cancels and values of 0 to 32 bytes, port 0, ports that are not made,
+capacities that are too large, processes that are busy, gone or unknown. LINES counts the entries; where it is not said
+there are 60 to 300.
 """
 import os
 import random
@@ -73,12 +74,19 @@ class Journal:
         return 1 + self.numbers.below(self.ports)
 
     def next_value(self):
+        """The next number, now and then the greatest; in the second edition half of the values are bytes."""
         self.value += 1
-        return GREATEST['value'] if self.numbers.one_in(50) else self.value
+        if self.edition == 2 and self.numbers.one_in(2):
+            return self.bytes()
+        return '%d' % (GREATEST['value'] if self.numbers.one_in(50) else self.value)
+
+    def bytes(self):
+        length = self.numbers.among([0, 1, 2, 8, 31, 32, 32, self.numbers.below(33)])
+        return '#' + ''.join('%02x' % self.numbers.below(256) for _ in range(length))
 
     def case(self):
         if self.numbers.one_in(2):
-            return 's%d:%d' % (self.port(), self.next_value())
+            return 's%d:%s' % (self.port(), self.next_value())
         return 'r%d' % self.port()
 
     def select(self):
@@ -109,7 +117,7 @@ class Journal:
             self.exits_left -= 1
             return 'exit'
         if drawn < 40:
-            return 'send %d %d' % (self.port(), self.next_value())
+            return 'send %d %s' % (self.port(), self.next_value())
         if drawn < 70:
             return 'recv %d' % self.port()
         return self.select()

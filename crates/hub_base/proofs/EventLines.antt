@@ -12,12 +12,16 @@ use Rattle.hub_base.specs.declared.event.What.{What}
 use Rattle.hub_base.specs.declared.event.What.TheVariants as what
 use Rattle.hub_base.specs.declared.fault.Fault.{Fault}
 use Rattle.hub_base.specs.declared.fault.Fault.TheVariants as fault
-use Rattle.hub_base.specs.declared.limits.TheConstants.{GREATEST_PORT, GREATEST_VALUE}
+use Rattle.hub_base.specs.declared.limits.TheConstants.{GREATEST_PORT}
 use Rattle.hub_base.specs.EventText.{event_line, what_text, outcome_text, EventFits, WhatFits, OutcomeFits}
 use Rattle.hub_base.specs.Faults.{fault_number}
-use Rattle.hub_base.specs.Lines.{number, pieces, same_text}
+use Rattle.hub_base.specs.declared.head.Edition.TheVariants.{Two}
+use Rattle.hub_base.specs.Lines.{number, value, pieces, same_text}
 use Rattle.hub_base.specs.Reading.{Row, rows}
-use Rattle.hub_base.specs.Value.{value_of, value_field}
+use Rattle.hub_base.specs.Head.{has_content}
+use Rattle.hub_base.specs.Value.{Content, content, saying, value_field}
+use Rattle.hub_base.specs.Value.Content.{Num, Bytes}
+use Rattle.hub_base.proofs.ValueFields.{value-again, value-lacks}
 use Rattle.hub_base.proofs.Bodies.{lacks-high, rows-line}
 use Rattle.hub_base.proofs.Heads.{rows-one}
 use Rattle.hub_base.proofs.Numerals.{all_lack, lacks, decimal-lacks, lacks-joined, number-again, pieces-joined}
@@ -70,7 +74,7 @@ both true true h k = refl
 both true false h k = cc
 both false b h k = cc
 
-one-lacks : (m n : ℕ) → m < 48 → n < 2 ^ 64 → all_lack m (decimal n ∷ []) ≡ true
+one-lacks : (m n : ℕ) → m < 35 → n < 2 ^ 64 → all_lack m (decimal n ∷ []) ≡ true
 one-lacks m n low small = both (lacks m (decimal n)) true (decimal-lacks m n low small) refl
 
 fault-small : (f : Fault) → fault_number f ≤ 255
@@ -79,18 +83,18 @@ fault-small f = grind arith
 small : (n most : ℕ) → n ≤ most → most < 2 ^ 64 → n < 2 ^ 64
 small n most h k = omega arith
 
-outcome-lacks : (m : ℕ) (o : Outcome) → m < 48 → OutcomeFits o → all_lack m (outcome_fields o) ≡ true
+outcome-lacks : (m : ℕ) (o : Outcome) → m < 35 → OutcomeFits o → all_lack m (outcome_fields o) ≡ true
 outcome-lacks m Sent low fits = both (lacks m (codes "sent")) true (lacks-high m (codes "sent") low refl) refl
 outcome-lacks m (Got v) low fits =
     both (lacks m (codes "got")) (all_lack m (value_field v ∷ [])) (lacks-high m (codes "got") low refl)
-    (one-lacks m v.0 low (small v.0 GREATEST_VALUE fits (omega arith)))
+    (both (lacks m (value_field v)) true (value-lacks m v low fits) refl)
 outcome-lacks m Drained low fits = both (lacks m (codes "drained")) true (lacks-high m (codes "drained") low refl) refl
 outcome-lacks m Closed low fits = both (lacks m (codes "closed")) true (lacks-high m (codes "closed") low refl) refl
 
 word-lacks : (m : ℕ) (word : List ℕ) → lacks m word ≡ true → all_lack m (word ∷ []) ≡ true
 word-lacks m word h = both (lacks m word) true h refl
 
-what-lacks : (m : ℕ) (w : What) → m < 48 → WhatFits w → all_lack m (what_fields w) ≡ true
+what-lacks : (m : ℕ) (w : What) → m < 35 → WhatFits w → all_lack m (what_fields w) ≡ true
 what-lacks m (what.Made p) low fits =
     both (lacks m (codes "made")) (all_lack m (decimal p.0 ∷ [])) (lacks-high m (codes "made") low refl)
     (one-lacks m p.0 low (small p.0 GREATEST_PORT fits (omega arith)))
@@ -106,7 +110,7 @@ what-lacks m (what.Fault f) low fits =
     (one-lacks m (fault_number f) low (small (fault_number f) 255 (fault-small f) (omega arith)))
 what-lacks m what.Cancelled low fits = word-lacks m (codes "cancelled") (lacks-high m (codes "cancelled") low refl)
 
-fields-lack : (m : ℕ) (e : Event) → m < 48 → EventFits e → all_lack m (decimal e.pid.0 ∷ what_fields e.what) ≡ true
+fields-lack : (m : ℕ) (e : Event) → m < 35 → EventFits e → all_lack m (decimal e.pid.0 ∷ what_fields e.what) ≡ true
 fields-lack m e low fits =
     both (lacks m (decimal e.pid.0)) (all_lack m (what_fields e.what)) (decimal-lacks m e.pid.0 low (small e.pid.0 255 fits.pid (omega arith)))
     (what-lacks m e.what low fits.what)
@@ -127,11 +131,16 @@ abbrev read_outcome : List (List ℕ) → Option Outcome
 read_outcome [] = None
 read_outcome (word ∷ []) =
     if same_text word (codes "sent") then Some Sent else if same_text word (codes "drained") then Some Drained else Some Closed
-read_outcome (word ∷ value ∷ more) = option_map (λ n. Got (value_of n)) (number GREATEST_VALUE value)
+read_outcome (word ∷ bytes ∷ more) = option_map Got (option_map saying (value Two bytes))
+
+-- a journal of the second edition can have each value
+has-two : (c : Content) → has_content Two c ≡ true
+has-two (Num n) = refl
+has-two (Bytes bs) = refl
 
 outcome-again : (o : Outcome) → OutcomeFits o → read_outcome (outcome_fields o) ≡ Some o
 outcome-again Sent fits = refl
-outcome-again (Got v) fits = ap (option_map (λ n. Got (value_of n))) (number-again GREATEST_VALUE v.0 (omega arith) fits)
+outcome-again (Got v) fits = ap (option_map Got) (value-again Two v fits (has-two (content v)))
 outcome-again Drained fits = refl
 outcome-again Closed fits = refl
 

@@ -31,7 +31,8 @@ number-again most n wide fits =
 pub numeral-again : (most n : ℕ) → most < 2 ^ 64 → n ≤ most → numeral most (decimal n) ≡ Ok n
 numeral-again most n wide fits = ap (must BadNumber) (number-again most n wide fits)
 
-and-true : (a b : Bool) → (a && b) ≡ true → (a ≡ true) × (b ≡ true)
+-- both of two
+pub and-true : (a b : Bool) → (a && b) ≡ true → (a ≡ true) × (b ≡ true)
 and-true true b h = (refl, h)
 and-true false b h = cc
 
@@ -57,26 +58,27 @@ lacks-append mark (x ∷ xs) ys h k =
     let both = and-true (not (x == mark)) (lacks mark xs) h in
     rw (both.0, lacks-append mark xs ys both.1 k) refl
 
-digits-lack : (mark : ℕ) (xs : List ℕ) → ((c : ℕ) → is_ascii_digit c ≡ true → not (c == mark) ≡ true)
-    → list_all is_ascii_digit xs ≡ true → lacks mark xs ≡ true
-digits-lack mark [] h d = refl
-digits-lack mark (x ∷ xs) h d =
-    let both = and-true (is_ascii_digit x) (list_all is_ascii_digit xs) d in
-    rw (h x both.0, digits-lack mark xs h both.1) refl
+-- a mark that is none of these bytes
+pub all-lack : (P : ℕ → Bool) (mark : ℕ) (xs : List ℕ) → ((c : ℕ) → P c ≡ true → not (c == mark) ≡ true)
+    → list_all P xs ≡ true → lacks mark xs ≡ true
+all-lack P mark [] h d = refl
+all-lack P mark (x ∷ xs) h d =
+    let both = and-true (P x) (list_all P xs) d in
+    rw (h x both.0, all-lack P mark xs h both.1) refl
 
-no-mark : (mark : ℕ) → mark < 48 → (c : ℕ) → is_ascii_digit c ≡ true → not (c == mark) ≡ true
+no-mark : (mark : ℕ) → mark < 35 → (c : ℕ) → is_ascii_digit c ≡ true → not (c == mark) ≡ true
 no-mark mark low c d = grind (arith, common_steps)
 
 no-colon : (c : ℕ) → is_ascii_digit c ≡ true → not (c == 58) ≡ true
 no-colon c d = grind (arith, common_steps)
 
--- no mark below the digits stands in a decimal
-pub decimal-lacks : (mark n : ℕ) → mark < 48 → n < 2 ^ 64 → lacks mark (decimal n) ≡ true
-decimal-lacks mark n low small = digits-lack mark (decimal n) (no-mark mark low) (digits-of (decimal n) n small refl)
+-- no mark below those of values stands in a decimal
+pub decimal-lacks : (mark n : ℕ) → mark < 35 → n < 2 ^ 64 → lacks mark (decimal n) ≡ true
+decimal-lacks mark n low small = all-lack is_ascii_digit mark (decimal n) (no-mark mark low) (digits-of (decimal n) n small refl)
 
 -- and no colon
 pub decimal-lacks-colon : (n : ℕ) → n < 2 ^ 64 → lacks 58 (decimal n) ≡ true
-decimal-lacks-colon n small = digits-lack 58 (decimal n) no-colon (digits-of (decimal n) n small refl)
+decimal-lacks-colon n small = all-lack is_ascii_digit 58 (decimal n) no-colon (digits-of (decimal n) n small refl)
 
 not-true : (b : Bool) → not b ≡ true → b ≡ false
 not-true true h = cc

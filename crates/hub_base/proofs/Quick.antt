@@ -1,11 +1,11 @@
 -- A spelling that stands between two places of some bytes.
-use Rattle.std.proofs.Common.{◌≡◌, ◌≢◌, ℕ, zero, suc, ◌+◌, ◌*◌, ◌-◌, ◌<◌, ◌≤◌, ◌^◌, Bool, true, false, ◌&&◌, cond, Ok, List, [], ◌∷◌, ◌++◌, codes}
+use Rattle.std.proofs.Common.{◌≡◌, ◌≢◌, ℕ, zero, suc, ◌+◌, ◌*◌, ◌-◌, ◌<◌, ◌≤◌, ◌^◌, Bool, true, false, ◌&&◌, cond, Some, Ok, List, [], ◌∷◌, ◌++◌, codes}
 use Rattle.std.proofs.Common.{length, take, drop, get_or, refl, ap, ◌∙◌, sym, subst, arith, add-one, drop-cons, length-drop}
 use Rattle.std.proofs.Common.{append_assoc, append-nil, length-append}
 use Rattle.std.proofs.lemmas.Grind.{common_steps}
 use Rattle.std.proofs.lemmas.Fmt.{decimal_digit, first_decimal, decimal_nonempty}
 use Rattle.std.proofs.lemmas.Int.Digits.{digits_value_push}
-use Rattle.std.proofs.lemmas.List.{get_or_append_left}
+use Rattle.std.proofs.lemmas.List.{get_or_append_left, take-append-drop}
 use Rattle.std.proofs.lemmas.List.Folds.{list_all-append}
 use Rattle.std.proofs.lemmas.Str.{digit_value_digit}
 use Rattle.std.specs.Fmt.{decimal}
@@ -16,18 +16,23 @@ use Rattle.std.specs.Str.Parse.{digits_value}
 use Rattle.std.specs.Int.{from_le_bytes, w32}
 use Rattle.std.proofs.lemmas.Nat.{le_bytes_4}
 use Rattle.hub_base.specs.declared.entry.Entry.{Entry}
+use Rattle.hub_base.specs.declared.head.Edition.{Edition}
 use Rattle.hub_base.specs.declared.head.Head.{Head}
 use Rattle.hub_base.specs.declared.limits.TheConstants.{GREATEST_PID, MOST_BYTES, MOST_STEPS}
 use Rattle.hub_base.specs.declared.case.Case.{Case}
 use Rattle.hub_base.specs.declared.case.Case.TheVariants.{Send, Recv}
 use Rattle.hub_base.specs.declared.entry.Step.{Step}
-use Rattle.hub_base.specs.Head.{is_of}
+use Rattle.hub_base.specs.Head.{has_bytes, has_case, is_of}
+use Rattle.hub_base.specs.declared.value.Value.{Value}
+use Rattle.hub_base.specs.Value.{saying}
+use Rattle.std.specs.Option.{option_map}
 use Rattle.hub_base.specs.Writing.{spaced, spaced_cases}
-use Rattle.hub_base.specs.Lines.{line, step_fields, case_field, call_fields, select_fields, default_field, spelled}
-use Rattle.hub_base.specs.Quick.{EndsLine, Stands, CaseStands, CasesStand, SelectStands, StepStands, Begins}
+use Rattle.hub_base.specs.Lines.{line, step_fields, case_field, call_fields, select_fields, default_field, spelled, bytes_value}
+use Rattle.hub_base.specs.Quick.{EndsLine, Stands, ValueStands, CaseStands, CasesStand, SelectStands, StepStands, Begins}
 use Rattle.hub_base.specs.Reading.{Reading, Reads, Faulty, behind, is_exit, with_entry, entries_from, rows}
 use Rattle.hub_base.specs.Text.{CaseFits, StepFits, body, steps_of}
 use Rattle.hub_base.proofs.Bodies.{rows-entry}
+use Rattle.hub_base.proofs.ValueFields.{bytes-taken}
 use Rattle.hub_base.proofs.Running.{entries-again}
 use Rattle.hub_base.proofs.Spelled.{join-spaced, spaced-select}
 use Rattle.hub_base.proofs.Decimals.{digits-of, value-of, spelled as spelled-digits}
@@ -76,6 +81,29 @@ stands-push bs start n at ends so digit some small = record {
   inside = behind-digit bs at ends so.inside digit;
 }
 
+twice : (n m : ℕ) (bs : List ℕ) → drop n (drop m bs) ≡ drop (n + m) bs
+twice n m bs = grind (arith, common_steps)
+
+parted : (bs : List ℕ) (start end : ℕ) (digits : List ℕ) → start ≤ end → digits ≡ take (end - start) (drop start bs) → drop start bs ≡ digits ++ drop end bs
+parted bs start end digits le is =
+    let past : end - start + start ≡ end = omega (arith, le) in
+    sym (take-append-drop (end - start) (drop start bs)) ∙ ap (λ xs. xs ++ drop (end - start) (drop start bs)) (sym is)
+    ∙ ap (λ xs. digits ++ xs) (twice (end - start) start bs ∙ ap (λ n. drop n bs) past)
+
+-- bytes stand behind their mark, up to where their digits end
+pub stands-bytes : (ed : Edition) (bs : List ℕ) (start end : ℕ) (digits : List ℕ) (v : Value) → has_bytes ed ≡ true → get_or bs start 0 ≡ 35
+    → start + 1 ≤ end → end < length bs → digits ≡ take (end - (start + 1)) (drop (start + 1) bs) → option_map saying (bytes_value digits) ≡ Some v
+    → ValueStands ed bs start v end
+stands-bytes ed bs start end digits v has mark later inside is said =
+    let t = bytes-taken ed digits v has said in
+    let first : drop start bs ≡ 35 ∷ drop (start + 1) bs = drop-cons bs start 0 (omega arith) ∙ rw (add-one, mark) refl in
+    let rest = parted bs (start + 1) end digits later is in
+    record {
+      stands = record { spelled = first ∙ ap (λ xs. 35 ∷ xs) rest ∙ ap (λ xs. xs ++ drop end bs) t.field; inside = inside };
+      fits = t.fits;
+      of_edition = t.has;
+    }
+
 -- four bytes that are the same number are the same
 same-word : (xs ys : List ℕ) (n : ℕ) → length xs ≡ 4 → length ys ≡ 4 → ((i : ℕ) → get_or xs i 0 < 256) → ((i : ℕ) → get_or ys i 0 < 256)
     → n ≡ from_le_bytes w32 xs → n ≡ from_le_bytes w32 ys → xs ≡ ys
@@ -110,16 +138,21 @@ spaced-push [] c = append-nil (codes " " ++ case_field c)
 spaced-push (d ∷ cs) c = ap (λ r. (codes " " ++ case_field d) ++ r) (spaced-push cs c)
     ∙ sym (append_assoc (codes " " ++ case_field d) (spaced_cases cs) (codes " " ++ case_field c))
 
+all-of-push : (ed : Edition) (cs : List Case) (c : Case) → list_all (has_case ed) cs ≡ true → has_case ed c ≡ true
+    → list_all (has_case ed) (cs ++ c ∷ []) ≡ true
+all-of-push ed cs c all one = list_all-append (has_case ed) cs (c ∷ []) ∙ rw (all, one) refl
+
 -- one case more stands there
-pub cases-push : (bs : List ℕ) (start : ℕ) (cs : List Case) (at : ℕ) (c : Case) (end : ℕ) → CasesStand bs start cs at
-    → CaseStands bs at (codes " " ++ case_field c) c end → CasesStand bs start (cs ++ c ∷ []) end
-cases-push bs start cs at c end so one = record {
+pub cases-push : (ed : Edition) (bs : List ℕ) (start : ℕ) (cs : List Case) (at : ℕ) (c : Case) (end : ℕ) → CasesStand ed bs start cs at
+    → CaseStands ed bs at (codes " " ++ case_field c) c end → CasesStand ed bs start (cs ++ c ∷ []) end
+cases-push ed bs start cs at c end so one = record {
   stands = record {
     spelled = so.stands.spelled ∙ ap (λ r. spaced_cases cs ++ r) one.stands.spelled
         ∙ sym (append_assoc (spaced_cases cs) (codes " " ++ case_field c) (drop end bs)) ∙ ap (λ t. t ++ drop end bs) (sym (spaced-push cs c));
     inside = one.stands.inside;
   };
   fits = all-push cs c so.fits one.fits;
+  of_edition = all-of-push ed cs c so.of_edition one.of_edition;
 }
 
 -- what has no short form is spelled as a select
@@ -135,9 +168,10 @@ long-form (Send p v ∷ c ∷ cs) d w step h = refl
 long-form (Recv p ∷ c ∷ cs) d w step h = refl
 
 -- the word of a select and what stands behind it are its step
-pub select-stands : (bs : List ℕ) (start at : ℕ) (step : Step) (end : ℕ) → Stands bs start (codes " select ") at → SelectStands bs at step end
-    → StepStands bs start step end
-select-stands bs start at step end word so =
+pub select-stands : (ed : Edition) (bs : List ℕ) (start at : ℕ) (step : Step) (end : ℕ) → Stands bs start (codes " select ") at
+    → SelectStands ed bs at step end
+    → StepStands ed bs start step end
+select-stands ed bs start at step end word so =
     let text : List ℕ = decimal so.word ++ spaced_cases so.cases ++ spaced (default_field so.default) in
     let whole : spaced (step_fields step) ≡ codes " select " ++ text =
     ap (λ s. spaced (step_fields s)) so.is ∙ ap spaced (long-form so.cases so.default so.word step so.long)
@@ -149,14 +183,15 @@ select-stands bs start at step end word so =
         inside = so.stands.inside;
       };
       fits = subst StepFits (sym so.is) so.fits;
-      of_each = λ edition. ap (is_of edition) so.is;
+      of_edition = ap (is_of ed) so.is ∙ so.of_edition;
       no_exit = ap is_exit so.is;
     }
 
 -- a process, its step and a newline are a line
-pub begins-line : (bs : List ℕ) (e : Entry) (at end : ℕ) → Stands bs 0 (decimal e.pid.0) at → e.pid.0 ≤ GREATEST_PID → StepStands bs at e.step end
-    → get_or bs end 0 ≡ 10 → Begins bs e (end + 1)
-begins-line bs e at end pid small step newline = record {
+pub begins-line : (ed : Edition) (bs : List ℕ) (e : Entry) (at end : ℕ) → Stands bs 0 (decimal e.pid.0) at → e.pid.0 ≤ GREATEST_PID
+    → StepStands ed bs at e.step end
+    → get_or bs end 0 ≡ 10 → Begins ed bs e (end + 1)
+begins-line ed bs e at end pid small step newline = record {
   spelled = grind (
     arith,
     common_steps,
@@ -166,35 +201,36 @@ begins-line bs e at end pid small step newline = record {
     drop-cons bs end 0 step.stands.inside,
   );
   inside = omega (arith, step.stands.inside);
-  fits = λ edition. record { pid = small; step = step.fits; of_edition = step.of_each edition };
+  fits = record { pid = small; step = step.fits; of_edition = step.of_edition };
   no_exit = step.no_exit;
 }
 
 -- where the line ends
-end-of-line : (bs : List ℕ) (e : Entry) (end : ℕ) → Begins bs e end → end ≡ length (line e)
-end-of-line bs e end so =
+end-of-line : (ed : Edition) (bs : List ℕ) (e : Entry) (end : ℕ) → Begins ed bs e end → end ≡ length (line e)
+end-of-line ed bs e end so =
     let l : length bs ≡ length (line e) + length (drop end bs) = ap length so.spelled ∙ length-append (line e) (drop end bs) in
     let r = length-drop end bs in let i = so.inside in omega (arith, l, r, i)
 
 -- which is behind some byte
-pub end-some : (bs : List ℕ) (e : Entry) (end : ℕ) → Begins bs e end → 0 < end
-end-some bs e end so = let here = end-of-line bs e end so in let l = length-append (body e) (codes "\n") in omega (arith, here, l)
+pub end-some : (ed : Edition) (bs : List ℕ) (e : Entry) (end : ℕ) → Begins ed bs e end → 0 < end
+end-some ed bs e end so = let here = end-of-line ed bs e end so in let l = length-append (body e) (codes "\n") in omega (arith, here, l)
 
 with-one : (e : Entry) (r : Reading) → behind (e ∷ []) r ≡ with_entry e r
 with-one e (Reads head es) = refl
 with-one e (Faulty k kind) = refl
 
 -- a line that is spelled, within the limits, is read as its entry
-pub line-again : (head : Head) (k start steps : ℕ) (bs : List ℕ) (e : Entry) (end : ℕ) → Begins bs e end → start + end ≤ MOST_BYTES → steps < MOST_STEPS
+pub line-again : (head : Head) (k start steps : ℕ) (bs : List ℕ) (e : Entry) (end : ℕ) → Begins head.edition bs e end → start + end ≤ MOST_BYTES
+    → steps < MOST_STEPS
     → entries_from head k start steps (rows bs)
     ≡ with_entry e (entries_from head (k + 1) (start + end) (steps + 1) (rows (take (length bs - end) (drop end bs))))
 line-again head k start steps bs e end so lim few =
-    let here = end-of-line bs e end so in
+    let here = end-of-line head.edition bs e end so in
     let rest : take (length bs - end) (drop end bs) ≡ drop end bs = grind (arith, common_steps) in
     let all : length (flat_map line (e ∷ [])) ≡ length (line e) = ap length (append-nil (line e)) in
     let one : steps_of (e ∷ []) ≡ 1 = ap (λ b. cond b 0 1 + 0) so.no_exit in
-    ap (entries_from head k start steps) (ap rows so.spelled ∙ rows-entry head.edition e (drop end bs) (so.fits head.edition))
-    ∙ entries-again head (e ∷ []) (rows (drop end bs)) k start steps (k + 1) (start + end) (steps + 1) (so.fits head.edition, tt) refl
+    ap (entries_from head k start steps) (ap rows so.spelled ∙ rows-entry head.edition e (drop end bs) so.fits)
+    ∙ entries-again head (e ∷ []) (rows (drop end bs)) k start steps (k + 1) (start + end) (steps + 1) (so.fits, tt) refl
     (omega (arith, here, all)) (omega (arith, one)) lim (omega arith)
     ∙ with-one e (entries_from head (k + 1) (start + end) (steps + 1) (rows (drop end bs)))
     ∙ ap (λ r. with_entry e (entries_from head (k + 1) (start + end) (steps + 1) (rows r))) (sym rest)

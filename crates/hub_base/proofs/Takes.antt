@@ -3,7 +3,7 @@ use Rattle.std.proofs.Common.{◌<◌, ◌^◌, ◌≡◌, ℕ, zero, suc, ◌�
 use Rattle.std.proofs.Common.{map, refl, ap, ◌∙◌, sym, subst, Result, Ok, Err, arith, codes, ◌==◌}
 use Rattle.std.proofs.lemmas.Grind.{common_steps}
 use Rattle.std.specs.Prelude.{decimal, nat_lt}
-use Rattle.std.specs.List.{join_with_byte, AllByRecursion}
+use Rattle.std.specs.List.{join_with_byte, list_all, AllByRecursion}
 use Rattle.hub_base.specs.declared.case.Case.{Case}
 use Rattle.hub_base.specs.declared.case.Case.TheVariants.{Send, Recv}
 use Rattle.hub_base.specs.declared.entry.Entry.{Entry}
@@ -11,16 +11,19 @@ use Rattle.hub_base.specs.declared.entry.Step.{Step}
 use Rattle.hub_base.specs.declared.entry.Step.TheVariants.{Make, Close, Exit, Cancel}
 use Rattle.hub_base.specs.declared.head.Edition.{Edition}
 use Rattle.hub_base.specs.declared.text.faults.Kind.{Kind}
-use Rattle.hub_base.specs.Head.{has_cancel, is_of}
-use Rattle.hub_base.specs.declared.limits.TheConstants.{CASE_PLACES, GREATEST_PID, GREATEST_PORT, GREATEST_CAP, GREATEST_VALUE, GREATEST_WORD}
+use Rattle.hub_base.specs.Head.{has_cancel, has_value, has_case, is_of}
+use Rattle.hub_base.specs.declared.value.Value.{Value}
+use Rattle.hub_base.specs.Value.{IsValue, value_field}
+use Rattle.hub_base.specs.declared.limits.TheConstants.{CASE_PLACES, GREATEST_PID, GREATEST_PORT, GREATEST_CAP, GREATEST_WORD}
 use Rattle.hub_base.specs.declared.text.faults.Kind.TheVariants.{BadStep}
 use Rattle.hub_base.specs.Lines.Draft.{Sends, Receives}
-use Rattle.hub_base.specs.Lines.{numeral, ◌>>=◌, Draft, read_one, read_close, read_make, read_cancel, read_exit, read_send, read_recv}
+use Rattle.hub_base.specs.Lines.{numeral, value_read, ◌>>=◌, Draft, read_one, read_close, read_make, read_cancel, read_exit, read_send, read_recv}
 use Rattle.hub_base.specs.Lines.{read_choice, read_select}
 use Rattle.hub_base.specs.Lines.{read_step, read_fields, choose, step_fields, call_fields, select_fields, default_field, case_field, case_of}
 use Rattle.hub_base.specs.Lines.{cases_of, draft_of, drafts_of, send_draft, recv_draft, spelled, ends_default, same_text, by, call, pieces}
 use Rattle.hub_base.specs.Text.{CaseFits, StepFits, Spells}
 use Rattle.hub_base.proofs.Bound.{bind_ok, numeral-ok}
+use Rattle.hub_base.proofs.ValueFields.{read-takes}
 use Rattle.hub_base.proofs.Pieces.{pieces-some}
 use Rattle.hub_base.proofs.Numerals.{same-true, joined-pieces}
 
@@ -71,23 +74,24 @@ draft_field (Sends p v) = 115 ∷ (p ++ 58 ∷ v)
 draft_field (Receives p) = 114 ∷ p
 
 -- the spelling of a case that sends
-pub record SendSpelled (p v : List ℕ) (c : Case) : Type 0 where
+pub record SendSpelled (ed : Edition) (p v : List ℕ) (c : Case) : Type 0 where
   pub port : ℕ
-  pub value : ℕ
+  pub value : Value
   pub port_is : p ≡ decimal port
-  pub value_is : v ≡ decimal value
-  pub is : Send (record { 0 = port }) (record { 0 = value }) ≡ c
+  pub value_is : v ≡ value_field value
+  pub is : Send (record { 0 = port }) value ≡ c
   pub port_fits : port ≤ GREATEST_PORT
-  pub value_fits : value ≤ GREATEST_VALUE
+  pub value_fits : IsValue value
+  pub has : has_value ed value ≡ true
 
 -- a sending case that was read was so spelled
-pub sends-takes : (p v : List ℕ) (c : Case) → case_of (Sends p v) ≡ Ok c → SendSpelled p v c
-sends-takes p v c h =
-    let a = bind_ok (numeral GREATEST_PORT p) (λ p. numeral GREATEST_VALUE v >>= λ v. Ok (Send (record { 0 = p }) (record { 0 = v }))) c h in
-    let b = bind_ok (numeral GREATEST_VALUE v) (λ v. Ok (Send (record { 0 = a.0 }) (record { 0 = v }))) c a.2 in
+pub sends-takes : (ed : Edition) (p v : List ℕ) (c : Case) → case_of ed (Sends p v) ≡ Ok c → SendSpelled ed p v c
+sends-takes ed p v c h =
+    let a = bind_ok (numeral GREATEST_PORT p) (λ p. value_read ed v >>= λ v. Ok (Send (record { 0 = p }) v)) c h in
+    let b = bind_ok (value_read ed v) (λ v. Ok (Send (record { 0 = a.0 }) v)) c a.2 in
     let x = numeral-ok GREATEST_PORT p a.0 (omega arith) a.1 in
-    let y = numeral-ok GREATEST_VALUE v b.0 (omega arith) b.1 in
-    record { port = a.0; value = b.0; port_is = x.0; value_is = y.0; is = cc; port_fits = x.1; value_fits = y.1 }
+    let y = read-takes ed v b.0 b.1 in
+    record { port = a.0; value = b.0; port_is = x.0; value_is = y.field; is = cc; port_fits = x.1; value_fits = y.fits; has = y.has }
 
 -- the spelling of a case that receives
 pub record RecvSpelled (p : List ℕ) (c : Case) : Type 0 where
@@ -97,45 +101,57 @@ pub record RecvSpelled (p : List ℕ) (c : Case) : Type 0 where
   pub port_fits : port ≤ GREATEST_PORT
 
 -- a receiving case
-pub receives-takes : (p : List ℕ) (c : Case) → case_of (Receives p) ≡ Ok c → RecvSpelled p c
-receives-takes p c h =
+pub receives-takes : (ed : Edition) (p : List ℕ) (c : Case) → case_of ed (Receives p) ≡ Ok c → RecvSpelled p c
+receives-takes ed p c h =
     let a = bind_ok (numeral GREATEST_PORT p) (λ p. Ok (Recv (record { 0 = p }))) c h in
     let x = numeral-ok GREATEST_PORT p a.0 (omega arith) a.1 in
     record { port = a.0; port_is = x.0; is = cc; port_fits = x.1 }
 
 -- the field of a sending case, byte by byte
-pub send-field : (p v : ℕ) → case_field (Send (record { 0 = p }) (record { 0 = v })) ≡ 115 ∷ (decimal p ++ 58 ∷ decimal v)
+pub send-field : (p : ℕ) (v : Value) → case_field (Send (record { 0 = p }) v) ≡ 115 ∷ (decimal p ++ 58 ∷ value_field v)
 send-field p v = refl
 
 -- a case of either kind
-pub case-takes : (d : Draft) (c : Case) → case_of d ≡ Ok c → (draft_field d ≡ case_field c) × CaseFits c
-case-takes (Sends p v) c h =
-    let s = sends-takes p v c h in
-    let P : Case → Type 0 = λ c. (draft_field (Sends p v) ≡ case_field c) × CaseFits c in
-    subst P s.is (
-      ap (λ p. 115 ∷ (p ++ 58 ∷ v)) s.port_is ∙ ap (λ v. 115 ∷ (decimal s.port ++ 58 ∷ v)) s.value_is ∙ sym (send-field s.port s.value),
-      (s.port_fits, s.value_fits),
-    )
-case-takes (Receives p) c h =
-    let s = receives-takes p c h in
-    let P : Case → Type 0 = λ c. (draft_field (Receives p) ≡ case_field c) × CaseFits c in
-    subst P s.is (ap (λ p. 114 ∷ p) s.port_is, s.port_fits)
+pub record CaseTaken (ed : Edition) (d : Draft) (c : Case) : Type 0 where
+  pub field : draft_field d ≡ case_field c
+  pub fits : CaseFits c
+  pub has : has_case ed c ≡ true
+
+pub case-takes : (ed : Edition) (d : Draft) (c : Case) → case_of ed d ≡ Ok c → CaseTaken ed d c
+case-takes ed (Sends p v) c h =
+    let s = sends-takes ed p v c h in
+    subst (CaseTaken ed (Sends p v)) s.is record {
+      field = ap (λ p. 115 ∷ (p ++ 58 ∷ v)) s.port_is ∙ ap (λ v. 115 ∷ (decimal s.port ++ 58 ∷ v)) s.value_is ∙ sym (send-field s.port s.value);
+      fits = (s.port_fits, s.value_fits);
+      has = s.has;
+    }
+case-takes ed (Receives p) c h =
+    let s = receives-takes ed p c h in
+    subst (CaseTaken ed (Receives p)) s.is record { field = ap (λ p. 114 ∷ p) s.port_is; fits = s.port_fits; has = refl }
 
 -- all cases of a select
-pub cases-take : (ds : List Draft) (cs : List Case) → cases_of ds ≡ Ok cs
-    → (map draft_field ds ≡ map case_field cs) × AllByRecursion CaseFits cs × (length ds ≡ length cs)
-cases-take [] cs h =
-    let P : List Case → Type 0 = λ cs. (map draft_field [] ≡ map case_field cs) × AllByRecursion CaseFits cs × (length {A = Draft} [] ≡ length cs) in
+pub record CasesTaken (ed : Edition) (ds : List Draft) (cs : List Case) : Type 0 where
+  pub fields : map draft_field ds ≡ map case_field cs
+  pub fits : AllByRecursion CaseFits cs
+  pub has : list_all (has_case ed) cs ≡ true
+  pub count : length ds ≡ length cs
+
+pub cases-take : (ed : Edition) (ds : List Draft) (cs : List Case) → cases_of ed ds ≡ Ok cs → CasesTaken ed ds cs
+cases-take ed [] cs h =
     let is : [] ≡ cs = cc in
-    subst P is (refl, tt, refl)
-cases-take (d ∷ ds) cs h =
-    let a = bind_ok (case_of d) (λ c. cases_of ds >>= λ cs. Ok (c ∷ cs)) cs h in
-    let b = bind_ok (cases_of ds) (λ cs. Ok (a.0 ∷ cs)) cs a.2 in
-    let x = case-takes d a.0 a.1 in
-    let y = cases-take ds b.0 b.1 in
-    let P : List Case → Type 0 = λ cs. (map draft_field (d ∷ ds) ≡ map case_field cs) × AllByRecursion CaseFits cs × (length (d ∷ ds) ≡ length cs) in
+    subst (CasesTaken ed []) is record { fields = refl; fits = tt; has = refl; count = refl }
+cases-take ed (d ∷ ds) cs h =
+    let a = bind_ok (case_of ed d) (λ c. cases_of ed ds >>= λ cs. Ok (c ∷ cs)) cs h in
+    let b = bind_ok (cases_of ed ds) (λ cs. Ok (a.0 ∷ cs)) cs a.2 in
+    let x = case-takes ed d a.0 a.1 in
+    let y = cases-take ed ds b.0 b.1 in
     let is : a.0 ∷ b.0 ≡ cs = cc in
-    subst P is (ap (λ f. f ∷ map draft_field ds) x.0 ∙ ap (λ fs. case_field a.0 ∷ fs) y.0, (x.1, y.1), ap suc y.2)
+    subst (CasesTaken ed (d ∷ ds)) is record {
+      fields = ap (λ f. f ∷ map draft_field ds) x.field ∙ ap (λ fs. case_field a.0 ∷ fs) y.fields;
+      fits = (x.fits, y.fits);
+      has = rw x.has y.has;
+      count = ap suc y.count;
+    }
 
 two-parts : (cs : List ℕ) (ps : List (List ℕ)) (d : Draft) → join_with_byte 58 ps ≡ cs → send_draft ps ≡ Ok d → 115 ∷ cs ≡ draft_field d
 two-parts cs [] d j h = cc
@@ -210,73 +226,63 @@ few-le : (n : ℕ) → nat_lt CASE_PLACES n ≡ false → n ≤ CASE_PLACES
 few-le n h = grind (arith, common_steps)
 
 -- a select behind its word
-pub select-takes : (ed : Edition) (pid word : List ℕ) (fs : List (List ℕ)) (e : Entry) → read_select pid word (ends_default fs) ≡ Ok e
+pub select-takes : (ed : Edition) (pid word : List ℕ) (fs : List (List ℕ)) (e : Entry) → read_select ed pid word (ends_default fs) ≡ Ok e
     → Spells ed (pid ∷ codes "select" ∷ word ∷ fs) e
 select-takes ed pid word fs e h =
     let d = (ends_default fs).1 in
-    let o = bind_ok (drafts_of (ends_default fs).0) (λ ds. cond (nat_lt CASE_PLACES (length ds)) (Err BadStep) (choose pid word (cases_of ds) d)) e h in
+    let o = bind_ok (drafts_of (ends_default fs).0) (λ ds. cond (nat_lt CASE_PLACES (length ds)) (Err BadStep) (choose pid word (cases_of ed ds) d)) e h in
     let ds = o.0 in
-    let few = few-ok (nat_lt CASE_PLACES (length ds)) (choose pid word (cases_of ds) d) e o.2 in
+    let few = few-ok (nat_lt CASE_PLACES (length ds)) (choose pid word (cases_of ed ds) d) e o.2 in
     let a = bind_ok (numeral GREATEST_PID pid)
-    (λ pid. numeral GREATEST_WORD word >>= λ word. cases_of ds >>= λ cases. spelled cases d word >>= λ step. Ok (by pid step)) e few.1 in
-    let b = bind_ok (numeral GREATEST_WORD word) (λ word. cases_of ds >>= λ cases. spelled cases d word >>= λ step. Ok (by a.0 step)) e a.2 in
-    let c = bind_ok (cases_of ds) (λ cases. spelled cases d b.0 >>= λ step. Ok (by a.0 step)) e b.2 in
+    (λ pid. numeral GREATEST_WORD word >>= λ word. cases_of ed ds >>= λ cases. spelled cases d word >>= λ step. Ok (by pid step)) e few.1 in
+    let b = bind_ok (numeral GREATEST_WORD word) (λ word. cases_of ed ds >>= λ cases. spelled cases d word >>= λ step. Ok (by a.0 step)) e a.2 in
+    let c = bind_ok (cases_of ed ds) (λ cases. spelled cases d b.0 >>= λ step. Ok (by a.0 step)) e b.2 in
     let s = bind_ok (spelled c.0 d b.0) (λ step. Ok (by a.0 step)) e c.2 in
     let x = numeral-ok GREATEST_PID pid a.0 (omega arith) a.1 in
     let y = numeral-ok GREATEST_WORD word b.0 (omega arith) b.1 in
-    let cases = cases-take ds c.0 c.1 in
+    let cases = cases-take ed ds c.0 c.1 in
     let w = spelled-takes c.0 d b.0 s.0 s.1 in
     let is : by a.0 (call c.0 d b.0) ≡ e = ap (by a.0) w.step_is ∙ (cc) in
     let fields : fs ≡ map case_field c.0 ++ default_field d =
-    ends-split fs ∙ ap (λ gs. gs ++ default_field d) (drafts-take (ends_default fs).0 ds o.1 ∙ cases.0) in
+    ends-split fs ∙ ap (λ gs. gs ++ default_field d) (drafts-take (ends_default fs).0 ds o.1 ∙ cases.fields) in
     subst (Spells ed (pid ∷ codes "select" ∷ word ∷ fs)) is (
       ap (λ f. f ∷ codes "select" ∷ word ∷ fs) x.0 ∙ ap (λ f. decimal a.0 ∷ codes "select" ∷ f ∷ fs) y.0
           ∙ ap (λ gs. decimal a.0 ∷ codes "select" ∷ decimal b.0 ∷ gs) fields ∙ ap (λ gs. decimal a.0 ∷ gs) (sym w.fields_are),
       record {
         pid = x.1;
-        step = record { few = (let n = few-le (length ds) few.0 in omega (arith, cases.2)); each = cases.1; word_fits = y.1 };
-        of_edition = refl;
+        step = record { few = (let n = few-le (length ds) few.0 in omega (arith, cases.count)); each = cases.fits; word_fits = y.1 };
+        of_edition = cases.has;
       },
     )
 
 -- a select
-pub choice-takes : (ed : Edition) (pid : List ℕ) (fs : List (List ℕ)) (e : Entry) → read_choice pid fs ≡ Ok e → Spells ed (pid ∷ codes "select" ∷ fs) e
+pub choice-takes : (ed : Edition) (pid : List ℕ) (fs : List (List ℕ)) (e : Entry) → read_choice ed pid fs ≡ Ok e → Spells ed (pid ∷ codes "select" ∷ fs) e
 choice-takes ed pid [] e h = cc
 choice-takes ed pid (word ∷ fs) e h = select-takes ed pid word fs e h
 
 -- a send
-pub send-takes : (ed : Edition) (pid : List ℕ) (fs : List (List ℕ)) (e : Entry) → read_send pid fs ≡ Ok e → Spells ed (pid ∷ codes "send" ∷ fs) e
+pub send-takes : (ed : Edition) (pid : List ℕ) (fs : List (List ℕ)) (e : Entry) → read_send ed pid fs ≡ Ok e → Spells ed (pid ∷ codes "send" ∷ fs) e
 send-takes ed pid [] e h = cc
 send-takes ed pid (p ∷ []) e h = cc
 send-takes ed pid (p ∷ v ∷ []) e h =
-    let a = bind_ok (numeral GREATEST_PID pid) (λ pid. case_of (Sends p v) >>= λ c. Ok (by pid (call (c ∷ []) false 0))) e h in
-    let b = bind_ok (case_of (Sends p v)) (λ c. Ok (by a.0 (call (c ∷ []) false 0))) e a.2 in
+    let a = bind_ok (numeral GREATEST_PID pid) (λ pid. case_of ed (Sends p v) >>= λ c. Ok (by pid (call (c ∷ []) false 0))) e h in
+    let b = bind_ok (case_of ed (Sends p v)) (λ c. Ok (by a.0 (call (c ∷ []) false 0))) e a.2 in
     let x = numeral-ok GREATEST_PID pid a.0 (omega arith) a.1 in
-    let s = sends-takes p v b.0 b.1 in
+    let s = sends-takes ed p v b.0 b.1 in
     let last : by a.0 (call (b.0 ∷ []) false 0) ≡ e = cc in
-    let is : by a.0 (call (Send (record { 0 = s.port }) (record { 0 = s.value }) ∷ []) false 0) ≡ e = ap (λ c. by a.0 (call (c ∷ []) false 0)) s.is ∙ last in
+    let is : by a.0 (call (Send (record { 0 = s.port }) s.value ∷ []) false 0) ≡ e = ap (λ c. by a.0 (call (c ∷ []) false 0)) s.is ∙ last in
     subst (Spells ed (pid ∷ codes "send" ∷ p ∷ v ∷ [])) is (
       ap (λ f. f ∷ codes "send" ∷ p ∷ v ∷ []) x.0 ∙ ap (λ f. decimal a.0 ∷ codes "send" ∷ f ∷ v ∷ []) s.port_is
           ∙ ap (λ f. decimal a.0 ∷ codes "send" ∷ decimal s.port ∷ f ∷ []) s.value_is,
-      record { pid = x.1; step = record { few = omega arith; each = ((s.port_fits, s.value_fits), tt); word_fits = omega arith }; of_edition = refl },
+      record { pid = x.1; step = record { few = omega arith; each = ((s.port_fits, s.value_fits), tt); word_fits = omega arith }; of_edition = rw s.has refl },
     )
 send-takes ed pid (p ∷ v ∷ q ∷ fs) e h = cc
 
 -- a receive
 pub recv-takes : (ed : Edition) (pid : List ℕ) (fs : List (List ℕ)) (e : Entry) → read_recv pid fs ≡ Ok e → Spells ed (pid ∷ codes "recv" ∷ fs) e
-recv-takes ed pid [] e h = cc
-recv-takes ed pid (p ∷ []) e h =
-    let a = bind_ok (numeral GREATEST_PID pid) (λ pid. case_of (Receives p) >>= λ c. Ok (by pid (call (c ∷ []) false 0))) e h in
-    let b = bind_ok (case_of (Receives p)) (λ c. Ok (by a.0 (call (c ∷ []) false 0))) e a.2 in
-    let x = numeral-ok GREATEST_PID pid a.0 (omega arith) a.1 in
-    let s = receives-takes p b.0 b.1 in
-    let last : by a.0 (call (b.0 ∷ []) false 0) ≡ e = cc in
-    let is : by a.0 (call (Recv (record { 0 = s.port }) ∷ []) false 0) ≡ e = ap (λ c. by a.0 (call (c ∷ []) false 0)) s.is ∙ last in
-    subst (Spells ed (pid ∷ codes "recv" ∷ p ∷ [])) is (
-      ap (λ f. f ∷ codes "recv" ∷ p ∷ []) x.0 ∙ ap (λ f. decimal a.0 ∷ codes "recv" ∷ f ∷ []) s.port_is,
-      record { pid = x.1; step = record { few = omega arith; each = (s.port_fits, tt); word_fits = omega arith }; of_edition = refl },
-    )
-recv-takes ed pid (p ∷ q ∷ fs) e h = cc
+recv-takes ed pid fs e h =
+    one-takes ed (codes "recv") GREATEST_PORT (λ p. call (Recv (record { 0 = p }) ∷ []) false 0) pid fs e (omega arith) (λ n. refl)
+    (λ n fits. record { few = omega arith; each = (fits, tt); word_fits = omega arith }) (λ n. refl) h
 
 under : (ed : Edition) (pid word name : List ℕ) (fs : List (List ℕ)) (e : Entry) → same_text word name ≡ true
     → Spells ed (pid ∷ name ∷ fs) e → Spells ed (pid ∷ word ∷ fs) e

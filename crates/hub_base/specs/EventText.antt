@@ -5,9 +5,9 @@ use Rattle.hub_base.specs.declared.event.Outcome.TheVariants.{Sent, Got, Drained
 use Rattle.hub_base.specs.declared.event.What.{What}
 use Rattle.hub_base.specs.declared.event.What.TheVariants as what
 use Rattle.hub_base.specs.declared.event.Event.{Event}
-use Rattle.hub_base.specs.Value.{number_of, value_field}
+use Rattle.hub_base.specs.Value.{IsValue, value_field}
 use Rattle.hub_base.specs.Faults.{fault_number}
-use Rattle.hub_base.specs.declared.limits.TheConstants.{GREATEST_CASE, GREATEST_PID, GREATEST_PORT, GREATEST_VALUE}
+use Rattle.hub_base.specs.declared.limits.TheConstants.{GREATEST_CASE, GREATEST_PID, GREATEST_PORT}
 
 -- how a communication ended
 abbrev pub outcome_text : Outcome → List ℕ
@@ -31,10 +31,10 @@ what_text what.Cancelled = codes " cancelled"
 abbrev pub event_line : Event → List ℕ
 event_line e = decimal e.pid.0 ++ what_text e.what ++ codes "\n"
 
--- its numbers are such as an event can hold: the value that was got
+-- its parts are such as an event can hold: the value that was got
 abbrev pub OutcomeFits : Outcome → Type 0
 OutcomeFits Sent = Unit {0}
-OutcomeFits (Got v) = number_of v ≤ GREATEST_VALUE
+OutcomeFits (Got v) = IsValue v
 OutcomeFits Drained = Unit {0}
 OutcomeFits Closed = Unit {0}
 

@@ -1,6 +1,8 @@
 -- Heads of journals.
 use Rattle.std.specs.Prelude.{ℕ, ◌≤◌, ◌≡◌, Bool, true, false, List}
 use Rattle.std.specs.List.{list_all}
+use Rattle.hub_base.specs.declared.case.Case.{Case}
+use Rattle.hub_base.specs.declared.case.Case.TheVariants.{Send, Recv}
 use Rattle.hub_base.specs.declared.entry.Entry.{Entry}
 use Rattle.hub_base.specs.declared.entry.Step.{Step}
 use Rattle.hub_base.specs.declared.entry.Step.TheVariants.{Make, Call, Close, Exit, Cancel}
@@ -8,6 +10,9 @@ use Rattle.hub_base.specs.declared.head.Edition.{Edition}
 use Rattle.hub_base.specs.declared.head.Edition.TheVariants.{One, Two}
 use Rattle.hub_base.specs.declared.head.Head.{Head}
 use Rattle.hub_base.specs.declared.limits.TheConstants.{CASE_PLACES, MOST_CASES, MOST_PROCS}
+use Rattle.hub_base.specs.declared.value.Value.{Value}
+use Rattle.hub_base.specs.Value.{Content, content}
+use Rattle.hub_base.specs.Value.Content.{Num, Bytes}
 
 -- a hub may have so many processes
 abbrev pub IsHead : Head → Type 0
@@ -27,10 +32,29 @@ abbrev pub has_cancel : Edition → Bool
 has_cancel One = false
 has_cancel Two = true
 
+-- whether a value may be bytes
+abbrev pub has_bytes : Edition → Bool
+has_bytes One = false
+has_bytes Two = true
+
+-- a journal of this edition can have a value that says this
+abbrev pub has_content : Edition → Content → Bool
+has_content edition (Num n) = true
+has_content edition (Bytes bs) = has_bytes edition
+
+-- the value is one that a journal of this edition can have
+abbrev pub has_value : Edition → Value → Bool
+has_value edition v = has_content edition (content v)
+
+-- so is the value of the case
+abbrev pub has_case : Edition → Case → Bool
+has_case edition (Send p v) = has_value edition v
+has_case edition (Recv p) = true
+
 -- the step is one that a journal of this edition can have
 abbrev pub is_of : Edition → Step → Bool
 is_of edition (Make cap) = true
-is_of edition (Call cases default word) = true
+is_of edition (Call cases default word) = list_all (has_case edition) cases.items
 is_of edition (Close p) = true
 is_of edition Exit = true
 is_of edition (Cancel q) = has_cancel edition

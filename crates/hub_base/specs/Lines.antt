@@ -1,20 +1,26 @@
 -- The line of an entry: the fields that spell it, and what the fields of any line say. Each entry
 -- has one spelling. Numbers are decimal, without sign and without a leading zero.
-use Rattle.std.specs.Prelude.{ℕ, zero, ◌==◌, ◌&&◌, ◌||◌, not, nat_lt, nat_le, Bool, true, false, List, [], ◌∷◌, ◌++◌}
+use Rattle.std.specs.Prelude.{ℕ, zero, ◌*◌, ◌==◌, ◌&&◌, ◌||◌, not, nat_lt, nat_le, Bool, true, false, List, [], ◌∷◌, ◌++◌}
 use Rattle.std.specs.Prelude.{length, map, codes, decimal, Option, None, Some, Result, Ok, Err, if◌then◌else◌}
+use Rattle.std.specs.Option.{option_map}
 use Rattle.std.specs.List.{list_all, join_with_byte}
 use Rattle.std.specs.Char.{is_ascii_digit}
 use Rattle.std.specs.Str.Parse.{digits_value}
+use Rattle.hex.specs.declared.error.FromHexError.{FromHexError}
+use Rattle.hex.specs.Hex.{decode_of}
 use Rattle.hub_base.specs.declared.case.Case.{Case}
 use Rattle.hub_base.specs.declared.case.Case.TheVariants.{Send, Recv}
 use Rattle.hub_base.specs.declared.entry.Step.{Step}
 use Rattle.hub_base.specs.declared.entry.Step.TheVariants.{Make, Call, Close, Exit, Cancel}
 use Rattle.hub_base.specs.declared.entry.Entry.{Entry}
 use Rattle.hub_base.specs.declared.head.Edition.{Edition}
-use Rattle.hub_base.specs.Head.{has_cancel}
-use Rattle.hub_base.specs.Value.{value_of, value_field}
+use Rattle.hub_base.specs.Head.{has_bytes, has_cancel}
+use Rattle.hub_base.specs.declared.value.Value.{Value}
+use Rattle.hub_base.specs.Value.{Content, saying, value_field}
+use Rattle.hub_base.specs.Value.Content.{Num, Bytes}
 use Rattle.hub_base.specs.declared.text.faults.Kind.{Kind}
 use Rattle.hub_base.specs.declared.limits.TheConstants.{CASE_PLACES, GREATEST_PID, GREATEST_PORT, GREATEST_CAP, GREATEST_VALUE, GREATEST_WORD}
+use Rattle.hub_base.specs.declared.limits.TheConstants.{MOST_VALUE_BYTES}
 use Rattle.hub_base.specs.declared.text.faults.Kind.TheVariants.{BadStep, BadNumber}
 
 -- ---- writing
@@ -88,6 +94,30 @@ must kind (Some x) = Ok x
 abbrev pub numeral : ℕ → List ℕ → Result ℕ Kind
 numeral most bs = must BadNumber (number most bs)
 
+-- a hexadecimal digit in lower case: 97 to 102 are the letters a to f
+abbrev pub is_hex : ℕ → Bool
+is_hex c = is_ascii_digit c || (nat_le 97 c && nat_le c 102)
+
+-- the bytes that were decoded
+abbrev pub decoded : Result (List ℕ) FromHexError → Option Content
+decoded (Ok bytes) = Some (Bytes bytes)
+decoded (Err error) = None
+
+-- the bytes that such digits spell, two digits each
+abbrev pub bytes_value : List ℕ → Option Content
+bytes_value digits =
+    if list_all is_hex digits && nat_le (length digits) (2 * MOST_VALUE_BYTES) then decoded (decode_of digits) else None
+
+-- what the value says that a field spells in a journal of this edition: 35 is the mark `#`, behind which bytes stand
+abbrev pub value : Edition → List ℕ → Option Content
+value edition [] = None
+value edition (c ∷ cs) =
+    if has_bytes edition && (c == 35) then bytes_value cs else option_map Num (number GREATEST_VALUE (c ∷ cs))
+
+-- a field that has to be a value
+abbrev pub value_read : Edition → List ℕ → Result Value Kind
+value_read edition bs = must BadNumber (option_map saying (value edition bs))
+
 -- the first piece with this byte before it
 abbrev pub join_front : ℕ → List (List ℕ) → List (List ℕ)
 join_front c [] = (c ∷ []) ∷ []
@@ -131,21 +161,24 @@ abbrev pub drafts_of : List (List ℕ) → Result (List Draft) Kind
 drafts_of [] = Ok []
 drafts_of (f ∷ fs) = draft_of f >>= λ d. drafts_of fs >>= λ ds. Ok (d ∷ ds)
 
--- the case of such a field, where its parts are numbers
-abbrev pub case_of : Draft → Result Case Kind
-case_of (Sends p v) =
-    numeral GREATEST_PORT p >>= λ p. numeral GREATEST_VALUE v >>= λ v.
-    Ok (Send (record { 0 = p }) (value_of v))
-case_of (Receives p) = numeral GREATEST_PORT p >>= λ p. Ok (Recv (record { 0 = p }))
+-- the case that receives from the port of this number
+abbrev pub recv_case : List ℕ → Result Case Kind
+recv_case p = numeral GREATEST_PORT p >>= λ p. Ok (Recv (record { 0 = p }))
 
--- a fault of its shape, or else what its numbers say
-abbrev pub case_read : List ℕ → Result (Result Case Kind) Kind
-case_read field = draft_of field >>= λ draft. Ok (case_of draft)
+-- the case of such a field, where its parts are a number and a value
+abbrev pub case_of : Edition → Draft → Result Case Kind
+case_of edition (Sends p v) =
+    numeral GREATEST_PORT p >>= λ p. value_read edition v >>= λ v. Ok (Send (record { 0 = p }) v)
+case_of edition (Receives p) = recv_case p
+
+-- a fault of its shape, or else what its parts say
+abbrev pub case_read : Edition → List ℕ → Result (Result Case Kind) Kind
+case_read edition field = draft_of field >>= λ draft. Ok (case_of edition draft)
 
 -- the cases of such fields
-abbrev pub cases_of : List Draft → Result (List Case) Kind
-cases_of [] = Ok []
-cases_of (d ∷ ds) = case_of d >>= λ c. cases_of ds >>= λ cs. Ok (c ∷ cs)
+abbrev pub cases_of : Edition → List Draft → Result (List Case) Kind
+cases_of edition [] = Ok []
+cases_of edition (d ∷ ds) = case_of edition d >>= λ c. cases_of edition ds >>= λ cs. Ok (c ∷ cs)
 
 -- whether a field is a `default` with no field behind it
 abbrev pub last_default : List ℕ → List (List ℕ) → Bool
@@ -178,11 +211,11 @@ choose pid word cases default =
     cases >>= λ cases. spelled cases default word >>= λ step. Ok (by pid step)
 
 -- the fields behind the word of a select: all shapes are looked at before any number
-abbrev pub read_select : List ℕ → List ℕ → (List (List ℕ)) × Bool → Result Entry Kind
-read_select pid word fields =
+abbrev pub read_select : Edition → List ℕ → List ℕ → (List (List ℕ)) × Bool → Result Entry Kind
+read_select edition pid word fields =
     drafts_of fields.0 >>= λ drafts.
     if nat_lt CASE_PLACES (length drafts) then Err BadStep
-    else choose pid word (cases_of drafts) fields.1
+    else choose pid word (cases_of edition drafts) fields.1
 
 -- a word with one number up to `most` behind it, which says this step
 abbrev pub read_one : ℕ → (ℕ → Step) → List ℕ → List (List ℕ) → Result Entry Kind
@@ -195,18 +228,15 @@ abbrev pub read_make : List ℕ → List (List ℕ) → Result Entry Kind
 read_make = read_one GREATEST_CAP Make
 
 -- `P send PORT V`
-abbrev pub read_send : List ℕ → List (List ℕ) → Result Entry Kind
-read_send pid (p ∷ v ∷ []) =
-    numeral GREATEST_PID pid >>= λ pid. case_of (Sends p v) >>= λ c.
+abbrev pub read_send : Edition → List ℕ → List (List ℕ) → Result Entry Kind
+read_send edition pid (p ∷ v ∷ []) =
+    numeral GREATEST_PID pid >>= λ pid. case_of edition (Sends p v) >>= λ c.
     Ok (by pid (call (c ∷ []) false 0))
-read_send pid other = Err BadStep
+read_send edition pid other = Err BadStep
 
 -- `P recv PORT`
 abbrev pub read_recv : List ℕ → List (List ℕ) → Result Entry Kind
-read_recv pid (p ∷ []) =
-    numeral GREATEST_PID pid >>= λ pid. case_of (Receives p) >>= λ c.
-    Ok (by pid (call (c ∷ []) false 0))
-read_recv pid other = Err BadStep
+read_recv = read_one GREATEST_PORT (λ p. call (Recv (record { 0 = p }) ∷ []) false 0)
 
 -- `P close PORT`
 abbrev pub read_close : List ℕ → List (List ℕ) → Result Entry Kind
@@ -222,17 +252,17 @@ abbrev pub read_cancel : List ℕ → List (List ℕ) → Result Entry Kind
 read_cancel = read_one GREATEST_PID (λ q. Cancel (record { 0 = q }))
 
 -- `P select W CASE.. [default]`
-abbrev pub read_choice : List ℕ → List (List ℕ) → Result Entry Kind
-read_choice pid [] = Err BadStep
-read_choice pid (word ∷ fields) = read_select pid word (ends_default fields)
+abbrev pub read_choice : Edition → List ℕ → List (List ℕ) → Result Entry Kind
+read_choice edition pid [] = Err BadStep
+read_choice edition pid (word ∷ fields) = read_select edition pid word (ends_default fields)
 
--- the second field says which step it is; a journal of the first edition has no cancel
+-- the second field says which step it is; a journal of the first edition has no cancel, and no value that is bytes
 abbrev pub read_step : Edition → List ℕ → List ℕ → List (List ℕ) → Result Entry Kind
 read_step edition pid word rest =
     if same_text word (codes "make") then read_make pid rest
-    else if same_text word (codes "send") then read_send pid rest
+    else if same_text word (codes "send") then read_send edition pid rest
     else if same_text word (codes "recv") then read_recv pid rest
-    else if same_text word (codes "select") then read_choice pid rest
+    else if same_text word (codes "select") then read_choice edition pid rest
     else if same_text word (codes "close") then read_close pid rest
     else if same_text word (codes "exit") then read_exit pid rest
     else if has_cancel edition && same_text word (codes "cancel") then read_cancel pid rest

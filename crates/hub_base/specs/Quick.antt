@@ -1,18 +1,18 @@
 -- What the quick reading of a line finds: a spelling between two places of the bytes.
 use Rattle.std.specs.Prelude.{◌≡◌, ◌≢◌, ◌≤◌, ◌<◌, ◌+◌, ℕ, List, ◌∷◌, ◌++◌, decimal, length, drop, get_or, Bool, true, false, Ok}
-use Rattle.std.specs.List.{AllByRecursion}
+use Rattle.std.specs.List.{AllByRecursion, list_all}
 use Rattle.hub_base.specs.declared.case.Case.{Case}
 use Rattle.hub_base.specs.declared.case.Case.TheVariants.{Send, Recv}
 use Rattle.hub_base.specs.declared.entry.Entry.{Entry}
 use Rattle.hub_base.specs.declared.entry.Step.{Step}
 use Rattle.hub_base.specs.declared.head.Edition.{Edition}
 use Rattle.hub_base.specs.declared.value.Port.{Port}
-use Rattle.hub_base.specs.declared.value.Value.{Value}
-use Rattle.hub_base.specs.Head.{is_of}
+use Rattle.hub_base.specs.Head.{has_value, has_case, is_of}
 use Rattle.hub_base.specs.Lines.{line, step_fields, call, spelled, default_field}
 use Rattle.hub_base.specs.Reading.{is_exit}
 use Rattle.hub_base.specs.Text.{Fits, StepFits, CallFits, CaseFits}
-use Rattle.hub_base.specs.Value.{value_field}
+use Rattle.hub_base.specs.declared.value.Value.{Value}
+use Rattle.hub_base.specs.Value.{IsValue, value_field}
 use Rattle.hub_base.specs.Writing.{spaced, spaced_cases}
 
 -- the last byte is a newline, so behind every other byte there is one more
@@ -24,13 +24,20 @@ pub record Stands (bytes : List ℕ) (start : ℕ) (spelling : List ℕ) (end : 
   pub spelled : drop start bytes ≡ spelling ++ drop end bytes
   pub inside : end < length bytes
 
--- the numbers of a case that sends stand there, with this mark between them
-pub record SendStands (bytes : List ℕ) (start mark : ℕ) (c : Case) (end : ℕ) : Type 0 where
+-- a value stands there that a journal of this edition can have
+pub record ValueStands (edition : Edition) (bytes : List ℕ) (start : ℕ) (v : Value) (end : ℕ) : Type 0 where
+  pub stands : Stands bytes start (value_field v) end
+  pub fits : IsValue v
+  pub of_edition : has_value edition v ≡ true
+
+-- the port and the value of a case that sends stand there, with this mark between them
+pub record SendStands (edition : Edition) (bytes : List ℕ) (start mark : ℕ) (c : Case) (end : ℕ) : Type 0 where
   pub port : Port
   pub value : Value
   pub is : c ≡ Send port value
   pub stands : Stands bytes start (decimal port.0 ++ mark ∷ value_field value) end
   pub fits : CaseFits c
+  pub of_edition : has_case edition c ≡ true
 
 -- the port of a case that receives stands there
 pub record RecvStands (bytes : List ℕ) (start : ℕ) (c : Case) (end : ℕ) : Type 0 where
@@ -40,24 +47,26 @@ pub record RecvStands (bytes : List ℕ) (start : ℕ) (c : Case) (end : ℕ) : 
   pub fits : CaseFits c
 
 -- this spelling of a case stands there
-pub record CaseStands (bytes : List ℕ) (start : ℕ) (spelling : List ℕ) (c : Case) (end : ℕ) : Type 0 where
+pub record CaseStands (edition : Edition) (bytes : List ℕ) (start : ℕ) (spelling : List ℕ) (c : Case) (end : ℕ) : Type 0 where
   pub stands : Stands bytes start spelling end
   pub fits : CaseFits c
+  pub of_edition : has_case edition c ≡ true
 
 -- cases of a select stand there
-pub record CasesStand (bytes : List ℕ) (start : ℕ) (cs : List Case) (end : ℕ) : Type 0 where
+pub record CasesStand (edition : Edition) (bytes : List ℕ) (start : ℕ) (cs : List Case) (end : ℕ) : Type 0 where
   pub stands : Stands bytes start (spaced_cases cs) end
   pub fits : AllByRecursion CaseFits cs
+  pub of_edition : list_all (has_case edition) cs ≡ true
 
--- the fields of a step that is no exit and that each edition has stand there, each behind a space
-pub record StepStands (bytes : List ℕ) (start : ℕ) (step : Step) (end : ℕ) : Type 0 where
+-- the fields of a step that is no exit and that this edition has stand there, each behind a space
+pub record StepStands (edition : Edition) (bytes : List ℕ) (start : ℕ) (step : Step) (end : ℕ) : Type 0 where
   pub stands : Stands bytes start (spaced (step_fields step)) end
   pub fits : StepFits step
-  pub of_each : (edition : Edition) → is_of edition step ≡ true
+  pub of_edition : is_of edition step ≡ true
   pub no_exit : is_exit step ≡ false
 
 -- the fields of a select stand there, from its word on
-pub record SelectStands (bytes : List ℕ) (start : ℕ) (step : Step) (end : ℕ) : Type 0 where
+pub record SelectStands (edition : Edition) (bytes : List ℕ) (start : ℕ) (step : Step) (end : ℕ) : Type 0 where
   pub cases : List Case
   pub default : Bool
   pub word : ℕ
@@ -65,10 +74,11 @@ pub record SelectStands (bytes : List ℕ) (start : ℕ) (step : Step) (end : �
   pub long : spelled cases default word ≡ Ok step
   pub stands : Stands bytes start (decimal word ++ spaced_cases cases ++ spaced (default_field default)) end
   pub fits : CallFits cases word
+  pub of_edition : list_all (has_case edition) cases ≡ true
 
--- the bytes begin with the line of an entry that is no exit and that each edition has, and go on behind it
-pub record Begins (bytes : List ℕ) (e : Entry) (end : ℕ) : Type 0 where
+-- the bytes begin with the line of an entry that is no exit and that this edition has, and go on behind it
+pub record Begins (edition : Edition) (bytes : List ℕ) (e : Entry) (end : ℕ) : Type 0 where
   pub spelled : bytes ≡ line e ++ drop end bytes
   pub inside : end ≤ length bytes
-  pub fits : (edition : Edition) → Fits edition e
+  pub fits : Fits edition e
   pub no_exit : is_exit e.step ≡ false

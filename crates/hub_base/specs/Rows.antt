@@ -8,3 +8,4 @@ pub mod Leaving
 pub mod Refusing
 pub mod Limits
 pub mod Cancelling
+pub mod ByteValues

@@ -11,22 +11,22 @@ use Rattle.hub_base.specs.declared.entry.Step.TheVariants.{Make, Call, Close, Ex
 use Rattle.hub_base.specs.declared.entry.Entry.{Entry}
 use Rattle.hub_base.specs.declared.head.Edition.{Edition}
 use Rattle.hub_base.specs.declared.head.Head.{Head}
-use Rattle.hub_base.specs.Value.{number_of}
+use Rattle.hub_base.specs.Value.{IsValue}
 use Rattle.hub_base.specs.declared.text.faults.Kind.{Kind}
 use Rattle.hub_base.specs.declared.limits.TheConstants.{CASE_PLACES, MOST_STEPS, MOST_BYTES, GREATEST_PID}
-use Rattle.hub_base.specs.declared.limits.TheConstants.{GREATEST_PORT, GREATEST_CAP, GREATEST_VALUE, GREATEST_WORD}
+use Rattle.hub_base.specs.declared.limits.TheConstants.{GREATEST_PORT, GREATEST_CAP, GREATEST_WORD}
 use Rattle.hub_base.specs.declared.text.faults.Kind.TheVariants.{BadHeader, BadProcs, TooLong}
 use Rattle.hub_base.specs.Lines.{line, step_fields, pieces, read_fields}
 use Rattle.hub_base.specs.Head.{IsHead, is_of}
 use Rattle.hub_base.specs.Reading.{text, header, head_lines, procs_line, Row, rows, is_exit, row_fault, end_of, over}
 use Rattle.hub_base.specs.Reading.{edition_of, procs_number}
 
--- the numbers of a case are such as a text can hold
+-- the port and the value of a case are such as a text can hold
 abbrev pub CaseFits : Case → Type 0
-CaseFits (Send p v) = (p.0 ≤ GREATEST_PORT) × (number_of v ≤ GREATEST_VALUE)
+CaseFits (Send p v) = (p.0 ≤ GREATEST_PORT) × IsValue v
 CaseFits (Recv p) = p.0 ≤ GREATEST_PORT
 
--- a call whose cases have places in an entry, with such numbers
+-- a call whose cases have places in an entry, with such parts
 pub record CallFits (cases : List Case) (word : ℕ) : Type 0 where
   pub few : length cases ≤ CASE_PLACES
   pub each : AllByRecursion CaseFits cases

@@ -1,7 +1,8 @@
 -- Worked texts: what a journal's text says, and for which fault a malformed one is refused, and at
 -- which line. Each is computed from `read_text`.
-use Rattle.std.specs.Prelude.{◌≡◌, List, ℕ, [], ◌∷◌, ◌++◌, codes, map, refl, true, false}
+use Rattle.std.specs.Prelude.{◌≡◌, List, ℕ, [], ◌∷◌, ◌++◌, codes, map, replicate, refl, true, false}
 use Rattle.std.specs.List.{flat_map, range_with_len}
+use Rattle.hex.specs.Hex.{decode_pairs}
 use Rattle.hub_base.specs.declared.text.faults.Kind.{Kind}
 use Rattle.hub_base.specs.declared.text.faults.Kind.TheVariants.{BadHeader, BadProcs, BadStep, BadNumber, CutLine}
 use Rattle.hub_base.specs.Notation.{procs, procs_two, s, r, make, send, recv, select, close, cancel, exit}
@@ -102,6 +103,10 @@ first_faulty_line = refl
 abbrev with_line : List ℕ → List ℕ
 with_line line = text_of (codes "chanhub journal 1" ∷ codes "procs 1" ∷ line ∷ [])
 
+-- the same of the second edition
+abbrev with_line_two : List ℕ → List ℕ
+with_line_two line = text_of (codes "chanhub journal 2" ∷ codes "procs 1" ∷ line ∷ [])
+
 -- by shape: two spaces, a send without a value, two colons, a receive with a value, a case behind the
 -- default
 pub bad_steps : AllFaulty 3 BadStep (map with_line (
@@ -156,3 +161,19 @@ pub second_spelling : AllFaulty 5 BadStep (text_of (
     ∷ codes "0 select 5 s1:3"
     ∷ codes "0 select 0 r1" ∷ []) ∷ [])
 second_spelling = refl
+
+-- bytes by a digit in upper case, an odd number of digits, more than 64 of them, or what is no digit
+pub bad_bytes : AllFaulty 3 BadNumber (map with_line_two (
+    codes "0 send 1 #0F"
+    ∷ codes "0 send 1 #0"
+    ∷ (codes "0 send 1 #" ++ replicate 66 48)
+    ∷ codes "0 send 1 #0g"
+    ∷ codes "0 send 1 ##"
+    ∷ codes "0 send #00 1"
+    ∷ codes "0 select 0 s1:#0F r1" ∷ []))
+unfolding decode_pairs
+bad_bytes = refl
+
+-- in the first edition each value is a number
+pub bytes_of_the_first_edition : AllFaulty 3 BadNumber (map with_line (codes "0 send 1 #" ∷ codes "0 send 1 #00ff" ∷ codes "0 select 0 s1:#00 r1" ∷ []))
+bytes_of_the_first_edition = refl

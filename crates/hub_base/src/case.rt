@@ -1,10 +1,11 @@
 //! The communications of a call.
 
 ghost use Rattle.std.specs.Prelude.{◌≡◌, ◌∷◌, []};
+ghost use Rattle.hub_base.specs.Head.{has_case};
 ghost use Rattle.hub_base.specs.Ready.{port_of};
 
 use crate::limits::CASE_PLACES;
-use crate::{Port, Value};
+use crate::{Edition, Port, Value};
 use arrayvec::ArrayVec;
 
 /// One communication of a call. Go: "Send statements", "Receive operator", "Select statements".
@@ -24,6 +25,16 @@ impl Case {
         match self {
             Case::Send(port, _value) => port,
             Case::Recv(port) => port,
+        }
+    }
+
+    /// Whether a journal of this edition can have the case: its value, where it sends one, is one that it has.
+    pub fn fits(self, edition: Edition) -> bool
+        ensures { result ≡ has_case edition self }
+    {
+        match self {
+            Case::Send(_port, value) => value.fits(edition),
+            Case::Recv(_port) => true,
         }
     }
 }

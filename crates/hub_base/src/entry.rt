@@ -52,12 +52,14 @@ impl Entry {
         }
     }
 
-    /// Whether a journal of this edition can have the entry: of one of the first edition, no cancel is a step.
+    /// Whether a journal of this edition can have the entry: one of the first edition has no cancel, and no value that
+    /// is bytes.
     pub fn fits(&self, edition: Edition) -> bool
         ensures { result ≡ is_of edition self.now.step }
     {
         match self.step {
-            Step::Make(_) | Step::Call { .. } | Step::Close(_) | Step::Exit => true,
+            Step::Make(_) | Step::Close(_) | Step::Exit => true,
+            Step::Call { ref cases, .. } => edition.has_cases(cases.as_slice()),
             Step::Cancel(_) => edition.has_cancel(),
         }
     }

@@ -2,23 +2,24 @@
 
 ghost use Rattle.std.specs.Prelude.{◌≡◌};
 
-use crate::Entry;
 use crate::limits::{CASE_PLACES, MOST_CASES};
+use crate::{Case, Entry};
 
 /// The edition of a journal, and of the hub that writes it: which texts and which calls it admits. All else
 /// that a hub does is the same in both.
 #[derive(Clone, Copy, Debug, PartialEq, Eq)]
 pub enum Edition {
-    /// A journal whose first line is `chanhub journal 1`. A call has at most `MOST_CASES` cases.
+    /// A journal whose first line is `chanhub journal 1`. Each value is a number, and a call has at most `MOST_CASES`
+    /// cases.
     One,
-    /// A journal whose first line is `chanhub journal 2`. A call has at most `CASE_PLACES` cases, as many as an
-    /// entry holds, and a process may cancel the open call of another.
+    /// A journal whose first line is `chanhub journal 2`. A value is a number or bytes, a call has at most
+    /// `CASE_PLACES` cases, as many as an entry holds, and a process may cancel the open call of another.
     Two,
 }
 
 impl Edition {
     ghost use Rattle.std.specs.List.{list_all};
-    ghost use Rattle.hub_base.specs.Head.{most_cases, has_cancel, is_of};
+    ghost use Rattle.hub_base.specs.Head.{most_cases, has_bytes, has_cancel, has_case, is_of};
 
     /// The most cases that a call may have.
     pub fn most_cases(self) -> usize
@@ -30,11 +31,25 @@ impl Edition {
         }
     }
 
+    /// Whether a value may be bytes. In the first edition each is a number.
+    pub fn has_bytes(self) -> bool
+        ensures { result ≡ has_bytes self }
+    {
+        self != Edition::One
+    }
+
     /// Whether a process may cancel the open call of another.
     pub fn has_cancel(self) -> bool
         ensures { result ≡ has_cancel self }
     {
         self == Edition::Two
+    }
+
+    /// Whether a journal of this edition can have all of these cases.
+    pub fn has_cases(self, cases: &[Case]) -> bool
+        ensures { result ≡ list_all (has_case self) cases.now }
+    {
+        cases.iter().all(|case| case.fits(self))
     }
 
     /// Whether a journal of this edition can have all of these entries.

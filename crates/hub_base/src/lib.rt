@@ -28,7 +28,7 @@ pub use journal::Journal;
 pub use limits::{
     CASE_PLACES, GREATEST_CAP, GREATEST_CASE, GREATEST_PID, GREATEST_PORT, GREATEST_VALUE,
     GREATEST_WORD, MOST_BYTES, MOST_CAP, MOST_CASES, MOST_EVENTS, MOST_PORTS, MOST_PROCS,
-    MOST_STEPS,
+    MOST_STEPS, MOST_VALUE_BYTES,
 };
 pub use text::event_text::EventText;
 pub use text::faults::{Kind, NoMemory, ReadFault, TextFault};
@@ -37,5 +37,6 @@ pub use text::numbers::number;
 pub use text::reader::{Reader, one_event_spelling, one_reading, one_spelling, read_journal};
 pub use text::selects::read_case;
 pub use text::steps::same_text;
+pub use text::values::read_value;
 pub use text::writer::{undo_if_refused, write_entry, write_event, write_head, write_journal};
 pub use value::{Pid, Port, Value};

@@ -13,6 +13,9 @@ pub const MOST_CASES: usize = 8;
 /// in the second edition. In the first, a call that names more than `MOST_CASES` is refused when it is made.
 pub const CASE_PLACES: usize = 16;
 
+/// The most bytes of a value.
+pub const MOST_VALUE_BYTES: usize = 32;
+
 /// The greatest capacity that a channel may have, in values.
 pub const MOST_CAP: u32 = 1024;
 
@@ -25,8 +28,9 @@ pub const MOST_BYTES: usize = 67_108_864;
 /// The most events of a step: its answer, and one for each process whose call it ends.
 pub const MOST_EVENTS: usize = MOST_PROCS + 1;
 
-/// The most bytes of an event's line: ` case `, ` got `, three numbers and the newline.
-pub const MOST_LINE: usize = 38;
+/// The most bytes of an event's line: ` case `, ` got `, two numbers, a value of `MOST_VALUE_BYTES` bytes and the
+/// newline.
+pub const MOST_LINE: usize = 83;
 
 /// How many bytes a text of events grows by, beside those that it needs at once. They are set to zero, so they are
 /// few: the lines that follow find them in the nearest memory.
@@ -44,7 +48,7 @@ pub const GREATEST_PORT: u16 = u16::MAX;
 /// The greatest capacity that an entry can ask for.
 pub const GREATEST_CAP: u32 = u32::MAX;
 
-/// The greatest value.
+/// The greatest value that is a number.
 pub const GREATEST_VALUE: u64 = u64::MAX;
 
 /// The greatest choice word.

@@ -11,4 +11,5 @@ pub mod quick;
 pub mod reader;
 pub mod selects;
 pub mod steps;
+pub mod values;
 pub mod writer;

@@ -1,35 +1,99 @@
 //! What a channel carries, and the numbers that name ports and processes.
 
-ghost use Rattle.std.specs.Prelude.{◌≡◌, Some};
-ghost use Rattle.hub_base.specs.Value.{value_of, number_of};
+ghost use Rattle.std.specs.Prelude.{◌≡◌, ◌≤◌, ◌<◌, ◌↔◌, IfSome, IsNone, length, slice_get, true};
+ghost use Rattle.hub_base.specs.Head.{has_value};
+ghost use Rattle.hub_base.specs.Value.{content, value_of, bytes_of, number_in, bytes_in};
+ghost use Rattle.hub_base.specs.Value.Content.{Num, Bytes};
 
-/// A value that a channel carries: a whole number of 64 bits.
+use crate::Edition;
+use crate::limits::MOST_VALUE_BYTES;
+
+/// A value that a channel carries: a whole number of 64 bits, or 0 to `MOST_VALUE_BYTES` bytes. Only a journal of
+/// the second edition has values that are bytes.
 ///
 /// Only texts look inside it. A hub moves values and never reads one, so nothing that is proved of
 /// a hub depends on what a value is.
 #[derive(Clone, Copy, Debug, Default, PartialEq, Eq)]
-pub struct Value(u64);
+pub struct Value {
+    /// 0 for a number, and else one more than there are bytes.
+    form: u8,
+    /// The number, its lowest byte first, or the bytes. Zeros stand behind them, so that equal values are the same
+    /// bytes.
+    bytes: [u8; MOST_VALUE_BYTES],
+}
 
 impl Value {
     /// The value that is this number.
     pub fn num(number: u64) -> Value
-        ensures { result ≡ value_of number }
+        ensures is { result ≡ value_of number }
+        ensures says { content result ≡ Num number }
+        ensures fits { (edition : Edition) → has_value edition result ≡ true }
     {
-        Value(number)
+        let mut bytes = [0; MOST_VALUE_BYTES];
+        bytes[..8].copy_from_slice(&number.to_le_bytes());
+        Value { form: 0, bytes }
     }
 
-    /// The number that texts spell.
-    pub(crate) fn number(self) -> u64
-        ensures { result ≡ number_of self }
+    /// The value that is these bytes; `None` where they are more than `MOST_VALUE_BYTES`.
+    pub fn bytes(bytes: &[u8]) -> Option<Value>
+        ensures is { IfSome result (λ v. v ≡ bytes_of bytes.now) }
+        ensures says { IfSome result (λ v. content v ≡ Bytes bytes.now) }
+        ensures none { IsNone result ↔ (MOST_VALUE_BYTES < length bytes.now) }
     {
-        self.0
+        if bytes.len() > MOST_VALUE_BYTES {
+            return None;
+        }
+        let mut places = [0; MOST_VALUE_BYTES];
+        places[..bytes.len()].copy_from_slice(bytes);
+        Some(Value {
+            form: bytes.len() as u8 + 1,
+            bytes: places,
+        })
     }
 
-    /// The number that the value is. Each value of a journal of version 1 is one.
+    /// The number that the value is, unless it is bytes.
     pub fn as_num(self) -> Option<u64>
-        ensures { result ≡ Some (number_of self) }
+        ensures { result ≡ number_in (content self) }
     {
-        Some(self.number())
+        if self.form != 0 {
+            return None;
+        }
+        let b = &self.bytes;
+        Some(u64::from_le_bytes([b[0], b[1], b[2], b[3], b[4], b[5], b[6], b[7]]))
+    }
+
+    /// Whether a journal of this edition can have the value: one of the first edition has numbers alone.
+    pub fn fits(self, edition: Edition) -> bool
+        ensures { result ≡ has_value edition self }
+    {
+        edition.has_bytes() || self.form == 0
+    }
+
+    /// The bytes that it is; none for a number.
+    pub(crate) fn as_slice(&self) -> &[u8]
+        ensures bytes { result.now ≡ bytes_in (content self.now) }
+        ensures few { length result.now ≤ MOST_VALUE_BYTES }
+    {
+        let len = usize::from(self.form).saturating_sub(1);
+        if len < MOST_VALUE_BYTES {
+            &self.bytes[..len]
+        } else {
+            &self.bytes
+        }
+    }
+
+    /// How many bytes the value is; 0 for a number.
+    pub fn len(self) -> u8
+        ensures { result ≡ length (bytes_in (content self)) }
+    {
+        self.as_slice().len() as u8
+    }
+
+    /// Its byte of this number, counted from 0; `None` behind the last, and for a number.
+    pub fn byte(self, i: u8) -> Option<u8>
+        ensures { result ≡ slice_get (bytes_in (content self)) i }
+    {
+        self.as_slice().get(usize::from(i)).copied()
     }
 }
 

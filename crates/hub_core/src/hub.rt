@@ -217,6 +217,7 @@ impl Hub {
         word: u64,
         events: &mut Events,
     ) -> Result<(), Fault>
+        requires fits { is_of self.old.hub.terms.head.edition (call_of pid cases.now.items default word).step ≡ true }
         ensures ok { OnOk result (
             Steps self.old.hub (call_of pid cases.now.items default word) self.new.hub events.new.items) }
         ensures rules { StepRules self.old (call_of pid cases.now.items default word) self.new result }

@@ -1,9 +1,9 @@
 //! Seats whose hub is known by their type, so that their calls ask for nothing. Such a seat goes into a
 //! thread and comes back with no clause.
 
-ghost use Rattle.std.specs.Prelude.{◌≡◌, ◌<◌, ◌∷◌, ◌⊎◌, [], false, IfOk, IfErr, All};
+ghost use Rattle.std.specs.Prelude.{◌≡◌, ◌<◌, ◌∷◌, ◌⊎◌, [], true, false, IfOk, IfErr, All};
 ghost use Rattle.hub_base.specs.declared.event.What.TheVariants as what;
-ghost use Rattle.hub_live.specs.Prelude.{Send, Recv, Make, Call, Close, Exit, Cancel, Two, call, counts_at, IsIdle, state_seen, Later};
+ghost use Rattle.hub_live.specs.Prelude.{Send, Recv, Make, Call, Close, Exit, Cancel, Two, is_of, has_value, call, counts_at, IsIdle, state_seen, Later};
 ghost use Rattle.hub_live.specs.Prelude.{Made, Refused, Answers, AskedNothing, Told, EndsIn};
 
 use crate::ends::{Chan, RecvPort, SendPort};
@@ -77,6 +77,7 @@ impl<K: HubName> Held<K> {
         default: bool,
         word: u64,
     ) -> Result<Event, Fault>
+        requires { is_of K.name.terms.head.edition (Call cases default word) ≡ true }
         ensures later { Later self.old self.new }
         ensures ok { IfOk result (λ x. Made self.old self.new (Call cases default word) x) }
         ensures err { IfErr result (λ f. Refused self.old self.new (Call cases default word) f) }
@@ -92,6 +93,7 @@ impl<K: HubName> Held<K> {
         sender: &SendPort,
         value: Value,
     ) -> Result<Event, Fault>
+        requires { has_value K.name.terms.head.edition value ≡ true }
         ensures later { Later self.old self.new }
         ensures ok { IfOk result (λ x.
             Made self.old self.new (call (Send sender.now value ∷ []) false 0) x) }

@@ -2,7 +2,7 @@
 
 ghost use Rattle.std.specs.Prelude.{◌≡◌, ◌∷◌, ◌⊎◌, [], true, false, IfOk, IfErr, All, vec_len};
 ghost use Rattle.hub_base.specs.declared.event.What.TheVariants as what;
-ghost use Rattle.hub_live.specs.Prelude.{Send, Recv, Make, Call, Close, Exit, Cancel, Two, is_of, call, is_parked, counts_at, state_seen, Later};
+ghost use Rattle.hub_live.specs.Prelude.{Send, Recv, Make, Call, Close, Exit, Cancel, Two, is_of, has_case, has_value, call, is_parked, counts_at, state_seen, Later};
 ghost use Rattle.hub_live.specs.Request.{step_of};
 ghost use Rattle.hub_live.specs.Prelude.{entry_by, Made, Refused, MadeEntry, RefusedEntry, Answers, AnswersNoCall, AskedNothing, Told, EndsIn};
 ghost use Rattle.hub_live.specs.Prelude.{IsHistory, IsPrefix, IsReplyTo, own_of};
@@ -153,7 +153,8 @@ impl<K: HubName> LiveHub<K> {
     /// Makes a call of these cases, and waits until it ends: where a case fired, where the default was
     /// taken, or `Stalled` where everybody waits; never `What::Parked`. Of `k` cases that can proceed
     /// number `word mod k` fires, counted from 0. More cases than the edition admits are answered by the fault
-    /// `TooManyCases`, and a port that was not made by `NoPort`. Others may take the lock while it waits.
+    /// `TooManyCases`, and a port that was not made by `NoPort`. Others may take the lock while it waits. Its values
+    /// have to be such as the hub's edition has: `Edition::has_cases` tests it.
     ///
     /// Refused, with no entry made and the hub as before, by `JournalFull` where the journal holds as
     /// many entries that are no exits as its limit, `Gone` where the process has exited, and `NoMemory`
@@ -168,7 +169,8 @@ impl<K: HubName> LiveHub<K> {
         default: bool,
         word: u64,
     ) -> Result<Event, Fault>
-        requires { seat.old.hub ≡ K.name }
+        requires hub { seat.old.hub ≡ K.name }
+        requires fits { is_of K.name.terms.head.edition (Call cases default word) ≡ true }
         ensures later { Later seat.old seat.new }
         ensures ok { IfOk result (λ x. Made seat.old seat.new (Call cases default word) x) }
         ensures err { IfErr result (λ f. Refused seat.old seat.new (Call cases default word) f) }
@@ -183,7 +185,8 @@ impl<K: HubName> LiveHub<K> {
 
     /// Makes a call of this one case, without default and with word 0.
     fn call_one<R: Wait>(&self, rt: &R, seat: &mut Seat, case: Case) -> Result<Event, Fault>
-        requires { seat.old.hub ≡ K.name }
+        requires hub { seat.old.hub ≡ K.name }
+        requires fits { has_case K.name.terms.head.edition case ≡ true }
         ensures later { Later seat.old seat.new }
         ensures ok { IfOk result (λ x. Made seat.old seat.new (call (case ∷ []) false 0) x) }
         ensures err { IfErr result (λ f. Refused seat.old seat.new (call (case ∷ []) false 0) f) }
@@ -200,7 +203,8 @@ impl<K: HubName> LiveHub<K> {
     /// `Fired` with `Sent`, or with `Closed` where the port is or gets closed; `Stalled` where everybody
     /// waits; or the fault `NoPort` for a port that was not made.
     ///
-    /// Refused as a call is. Go: "Send statements".
+    /// Refused as a call is. The value has to be one that the hub's edition has, as each number is: `Value::fits`
+    /// tests it. Go: "Send statements".
     pub fn send<R: Wait>(
         &self,
         rt: &R,
@@ -208,7 +212,8 @@ impl<K: HubName> LiveHub<K> {
         sender: &SendPort,
         value: Value,
     ) -> Result<Event, Fault>
-        requires { seat.old.hub ≡ K.name }
+        requires hub { seat.old.hub ≡ K.name }
+        requires fits { has_value K.name.terms.head.edition value ≡ true }
         ensures later { Later seat.old seat.new }
         ensures ok { IfOk result (λ x.
             Made seat.old seat.new (call (Send sender.now value ∷ []) false 0) x) }

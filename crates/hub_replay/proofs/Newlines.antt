@@ -1,10 +1,11 @@
 -- An event's line has one newline, and a journal's events have so few lines that their number fits 32 bits.
 use Rattle.std.proofs.Common.{◌≡◌, ◌≢◌, ℕ, zero, suc, ◌+◌, ◌-◌, ◌*◌, ◌/◌, ◌%◌, ◌^◌, ◌<◌, ◌≤◌, ◌==◌, Bool, true}
 use Rattle.std.proofs.Common.{false, cond, List, [], ◌∷◌, ◌++◌, length, refl, ap, ◌∙◌, arith, length-append}
-use Rattle.std.specs.Prelude.{codes, decimal, nat_lt}
-use Rattle.std.specs.List.{flat_map, join_with_byte}
+use Rattle.std.specs.Prelude.{codes, decimal, nat_lt, not, slice_index}
+use Rattle.std.specs.List.{flat_map, join_with_byte, list_all}
+use Rattle.hex.specs.Hex.{encode_lower, encode_with, lower_digits}
 use Rattle.std.specs.Fmt.{digits, digits_onto, digit_glyph}
-use Rattle.std.proofs.lemmas.Bool.{ne_eqb}
+use Rattle.std.proofs.lemmas.Bool.{and_parts, ne_eqb, not-true}
 use Rattle.std.proofs.lemmas.List.Sums.{sum_by-append}
 use Rattle.hub_base.specs.declared.head.Head.{Head}
 use Rattle.hub_base.specs.declared.case.Case.{Case}
@@ -24,6 +25,8 @@ use Rattle.hub_base.specs.Lines.{line, step_fields, call_fields}
 use Rattle.hub_base.specs.Reading.{head_lines}
 use Rattle.hub_base.specs.Runs.{events}
 use Rattle.hub_base.specs.Text.{IsText}
+use Rattle.hub_base.specs.Value.{Content, content, field_of, value_field}
+use Rattle.hub_base.specs.Value.Content.{Num, Bytes}
 use Rattle.hub_replay.specs.Replay.{event_lines}
 use Rattle.hub_replay.specs.Verify.{newlines_in}
 
@@ -64,9 +67,34 @@ none-behind front n none =
     let digits = newlines_in-decimal n in
     omega (arith, all, none, digits)
 
+digit-apart : (t : List ℕ) (k : ℕ) → list_all (λ c. not (c == 10)) t ≡ true → (slice_index t k == 10) ≡ false
+digit-apart [] k none = refl
+digit-apart (c ∷ t) zero none = let own = and_parts (not (c == 10)) (list_all (λ c. not (c == 10)) t) none in not-true (c == 10) own.0
+digit-apart (c ∷ t) (suc k) none = digit-apart t k (and_parts (not (c == 10)) (list_all (λ c. not (c == 10)) t) none).1
+
+-- a hexadecimal digit is no newline
+newlines_in-hex_digit : (k : ℕ) (xs : List ℕ) → newlines_in (slice_index lower_digits k ∷ xs) ≡ newlines_in xs
+newlines_in-hex_digit k xs =
+    let one : newlines_in (slice_index lower_digits k ∷ []) ≡ 0 = ap (λ b. 0 + cond {A = ℕ} b 1 0) (digit-apart lower_digits k refl) in
+    let all = newlines_in-append (slice_index lower_digits k ∷ []) xs in
+    omega (arith, one, all)
+
+newlines_in-hex : (bs : List ℕ) → newlines_in (encode_lower bs) ≡ 0
+unfolding encode_with
+newlines_in-hex [] = refl
+newlines_in-hex (b ∷ bs) =
+    newlines_in-hex_digit (b / 16) (slice_index lower_digits (b % 16) ∷ encode_lower bs) ∙ newlines_in-hex_digit (b % 16) (encode_lower bs)
+    ∙ newlines_in-hex bs
+
+newlines_in-field : (c : Content) → newlines_in (field_of c) ≡ 0
+newlines_in-field (Num n) = newlines_in-decimal n
+newlines_in-field (Bytes bs) =
+    let all = newlines_in-append (codes "#") (encode_lower bs) in let digits = newlines_in-hex bs in omega (arith, all, digits)
+
 outcome : (o : Outcome) → newlines_in (outcome_text o) ≡ 0
 outcome Sent = refl
-outcome (Got v) = none-behind (codes " got ") v.0 refl
+outcome (Got v) =
+    let all = newlines_in-append (codes " got ") (value_field v) in let field = newlines_in-field (content v) in omega (arith, all, field)
 outcome Drained = refl
 outcome Closed = refl
 

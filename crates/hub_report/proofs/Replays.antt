@@ -20,7 +20,7 @@ use Rattle.hub_base.specs.declared.event.What.{What}
 use Rattle.hub_base.specs.declared.limits.TheConstants.{MOST_EVENTS, MOST_PORTS, MOST_PROCS, MOST_STEPS}
 use Rattle.hub_base.specs.Runs.{state, events, moves}
 use Rattle.hub_base.specs.Text.{steps_of}
-use Rattle.hub_base.specs.Value.{number_of}
+use Rattle.hub_report.specs.Reports.{number_of}
 use Rattle.hub_base.specs.Values.{is_fault}
 use Rattle.hub_laws.specs.Journals.{IsLegal}
 use Rattle.hub_laws.specs.OnePort.{IsMade, is_port, port_touched}

@@ -10,7 +10,7 @@ use Rattle.hub_base.specs.declared.entry.Entry.{Entry}
 use Rattle.hub_base.specs.declared.event.Event.{Event}
 use Rattle.hub_base.specs.declared.limits.TheConstants.{MOST_EVENTS, MOST_PORTS}
 use Rattle.hub_base.specs.Runs.{state}
-use Rattle.hub_base.specs.Value.{number_of}
+use Rattle.hub_report.specs.Reports.{number_of}
 use Rattle.hub_base.specs.Values.{is_fault}
 use Rattle.hub_laws.specs.OnePort.{port_touched, IsMade}
 use Rattle.hub_laws.specs.Received.{value_got, received_on}

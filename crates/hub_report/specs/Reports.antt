@@ -10,11 +10,17 @@ use Rattle.hub_base.specs.declared.event.Event.{Event}
 use Rattle.hub_base.specs.Journal.{JournalView}
 use Rattle.hub_base.specs.State.{Channel}
 use Rattle.hub_base.specs.Runs.{state, events}
-use Rattle.hub_base.specs.Value.{number_of}
+use Rattle.hub_base.specs.declared.value.Value.{Value}
+use Rattle.std.specs.Option.{option_map_or}
+use Rattle.hub_base.specs.Value.{content, number_in}
 use Rattle.hub_base.specs.Values.{is_fault}
 use Rattle.hub_laws.specs.Received.{received_from}
 use Rattle.hub_report.specs.declared.report.PortReport.{PortReport}
 use Rattle.hub_report.specs.declared.report.Report.{Report}
+
+-- what a value adds to a sum: bytes add nothing
+abbrev pub number_of : Value → ℕ
+number_of v = option_map_or (λ n. n) (number_in (content v)) 0
 
 -- of a channel: its capacity, how many values were sent, received and neither, the sum of those that
 -- were received, and whether it is closed

@@ -1,12 +1,14 @@
 -- All seats of a run, and the one journal.
 use Rattle.std.proofs.Common.{◌≡◌, ℕ, ◌+◌, ◌<◌, List, [], ◌∷◌, ◌++◌, length, get_or, map, refl, ap, ◌∙◌, sym, subst}
-use Rattle.std.proofs.Common.{Option, Some, Result, Ok, Err, OnOk, All, take, zero, suc, arith, ◌==◌, false, Bool, cond}
+use Rattle.std.proofs.Common.{Option, Some, Result, Ok, Err, OnOk, All, take, zero, suc, arith, ◌==◌, true, false, Bool, cond}
 use Rattle.std.specs.Prelude.{slice_get, IsOk, slice_set, Vec, vec_len, vec_items}
+use Rattle.std.specs.List.{list_all}
 use Rattle.std.specs.declared.alloc.Global.{Global}
 use Rattle.std.proofs.lemmas.List.{take_more, get_or-map, length-map}
 use Rattle.std.proofs.lemmas.Grind.{common_steps}
 use Rattle.std.specs.Option.{option_map}
 use Rattle.std.proofs.lemmas.Option.{slice_get_within, slice_get-map}
+use Rattle.hub_base.specs.declared.head.Edition.{Edition}
 use Rattle.hub_base.specs.declared.head.Head.{Head}
 use Rattle.hub_base.specs.declared.value.Pid.{Pid}
 use Rattle.hub_base.specs.declared.entry.Entry.{Entry}
@@ -18,6 +20,8 @@ use Rattle.hub_live.specs.Calls.{Later, Made, AreSeats, StandsIn}
 use Rattle.hub_scenario.specs.declared.script.ScriptStep.{ScriptStep}
 use Rattle.hub_scenario.specs.Scenario.{ScenarioData, scenario_view, run_head}
 use Rattle.hub_scenario.specs.declared.scenario.Scenario.{Scenario}
+use Rattle.hub_scenario.specs.Scripts.{AreOf}
+use Rattle.hub_scenario.specs.Steps.{has_step}
 use Rattle.hub_scenario.specs.ChoiceWords.{words_of_process}
 use Rattle.hub_runner.specs.Asked.{Asked, asked}
 use Rattle.hub_runner.specs.Scripts.{Follows, MakesThenFollows, FollowsScript, AllFollow, made_by}
@@ -36,6 +40,23 @@ count_scripts sc = omega (arith, sc.scripts.ok.0, length-map sc.scripts.items ve
 pub script_at : (sc : Scenario) (i : ℕ) (script : Vec ScriptStep Global) → slice_get sc.scripts.items i ≡ Some script
     → slice_get (scenario_view sc).scripts i ≡ Some script.items
 script_at sc i script at = slice_get-map vec_items sc.scripts.items i ∙ ap (option_map vec_items) at
+
+-- where the script of a seat's process stands
+pub place_of : (sc : Scenario) (s : SeatView) (pid : Pid) (i : ℕ) → IsReady (scenario_view sc) s → pid ≡ s.pid → pid.0 < s.hub.terms.head.procs
+    → i ≡ pid.0 → (i ≡ s.pid.0) × (i < length sc.scripts.items)
+place_of sc s pid i ready same below is = (
+  is ∙ ap (λ (p : Pid). p.0) same,
+  omega (arith, ap (λ (h : Head). h.procs) ready.head, sym (length-map sc.scripts.items vec_items), below, is),
+)
+
+-- each step of a process's script is of the edition that all are of
+pub script_fits : (edition : Edition) (scripts : List (List ScriptStep)) (pid : ℕ) (script : List ScriptStep) → AreOf edition scripts
+    → slice_get scripts pid ≡ Some script → list_all (has_step edition) script ≡ true
+script_fits edition [] pid script all at = cc
+script_fits edition (s ∷ scripts) zero script all at =
+    let same : s ≡ script = cc in
+    subst (λ (steps : List ScriptStep). list_all (has_step edition) steps ≡ true) same (all 0 s (omega arith))
+script_fits edition (s ∷ scripts) (suc pid) script all at = script_fits edition scripts pid script (λ k d lt. all (suc k) d (omega (arith, lt))) at
 
 -- ---- the ports
 

@@ -1,11 +1,13 @@
 //! One process: it makes the steps of its script in order, and exits.
 
-ghost use Rattle.std.specs.Prelude.{◌≡◌, ◌<◌, ◌-◌, ◌^◌, ◌+◌, ◌&&◌, ◌++◌, ◌∷◌, [], List, ℕ, Some, IfOk, OnOk};
+ghost use Rattle.std.specs.Prelude.{◌≡◌, ◌<◌, ◌-◌, ◌^◌, ◌+◌, ◌&&◌, ◌++◌, ◌∷◌, [], List, ℕ, Some, true, IfOk, OnOk};
+ghost use Rattle.std.specs.List.{list_all};
 ghost use Rattle.hub_base.specs.declared.entry.Step.TheVariants.{Exit};
 ghost use Rattle.hub_live.specs.Calls.{Later};
 ghost use Rattle.hub_report.specs.Reports.{is_stalled};
 ghost use Rattle.hub_scenario.specs.declared.script.ScriptStep.{ScriptStep};
 ghost use Rattle.hub_scenario.specs.ChoiceWords.{choice_word};
+ghost use Rattle.hub_scenario.specs.Steps.{has_step};
 ghost use Rattle.hub_runner.specs.Scripts.{asks, gets, is_range, taken_after};
 ghost use Rattle.hub_runner.specs.Working.{asked_of, Onward, Leads, Followed, goes_on_with};
 
@@ -69,6 +71,7 @@ fn ask<K: HubName, R: Wait>(
     step: &ScriptStep,
     word: u64,
 ) -> Result<Event, Fault>
+    requires { has_step K.name.terms.head.edition step.now ≡ true }
     ensures later { Later seat.old seat.new }
     ensures ok { IfOk result (λ x.
         asked_of seat.new
@@ -98,6 +101,7 @@ fn take_step<K: HubName, R: Wait, G: Gate>(
     step: &ScriptStep,
     word: u64,
 ) -> Result<bool, Fault>
+    requires { has_step K.name.terms.head.edition step.now ≡ true }
     ensures later { Later seat.old seat.new }
     ensures ok { IfOk result (λ goes_on. (words : ℕ → ℕ) (rest : List ScriptStep) (j : ℕ) →
         asks step.now word ≡ asks step.now (words j) →
@@ -126,7 +130,8 @@ fn follow_steps<K: HubName, R: Wait, G: Gate>(
     script: &[ScriptStep],
     words: &mut ChoiceWords,
 ) -> Result<(), Fault>
-    requires { words.old.drawn ≡ 0 }
+    requires none { words.old.drawn ≡ 0 }
+    requires fits { list_all (has_step K.name.terms.head.edition) script.now ≡ true }
     ensures onward { Onward seat.old seat.new }
     ensures ok { OnOk result ((k : ℕ)
         × Leads (asked_of seat.old) (asked_of seat.new) (choice_word words.old.seed)
@@ -162,7 +167,8 @@ pub fn follow<K: HubName, R: Wait, G: Gate>(
     script: &[ScriptStep],
     words: ChoiceWords,
 ) -> Result<(), Fault>
-    requires { words.drawn ≡ 0 }
+    requires none { words.drawn ≡ 0 }
+    requires fits { list_all (has_step K.name.terms.head.edition) script.now ≡ true }
     ensures onward { Onward seat.old seat.new }
     ensures ok { OnOk result (
         Followed (asked_of seat.old) (asked_of seat.new) (choice_word words.seed) script.now) }

@@ -16,7 +16,7 @@ use Rattle.hub_scenario.specs.declared.fault.ScenarioFault.{ScenarioFault}
 use Rattle.hub_scenario.specs.declared.fault.ScenarioFault.TheVariants.{TooLong, BadToml, BadKey, BadSeed, BadLimit}
 use Rattle.hub_scenario.specs.declared.fault.ScenarioFault.TheVariants.{BadJournal, BadPorts, BadProcesses, BadScript, NoMemory}
 use Rattle.hub_scenario.specs.declared.script.ScriptStep.{ScriptStep}
-use Rattle.hub_scenario.specs.Causes.{SeedPasses, LimitPasses, JournalPasses, PortsPass, ProcessesPass, AreProcesses, IsCause, IsCauseIn, IsSound, IsSoundIn}
+use Rattle.hub_scenario.specs.Causes.{SeedPasses, LimitPasses, JournalPasses, PortsPass, UpToSteps, AreProcesses, IsCause, IsCauseIn, IsSound, IsSoundIn}
 use Rattle.hub_scenario.specs.Faults.{must, ◌>>=◌}
 use Rattle.hub_scenario.specs.Frames.{FrameData, frame_of}
 use Rattle.hub_scenario.specs.Numbers.{within, edition_of, ports_of}
@@ -32,7 +32,7 @@ with_scripts seed limit edition ports r =
     r >>= λ scripts. Ok (record { seed = seed; limit = limit; edition = edition; ports = ports; scripts = scripts })
 
 abbrev after_ports : FrameData → ℕ → ℕ → Edition → List ℕ → Result ScenarioData ScenarioFault
-after_ports f seed limit edition ports = with_scripts seed limit edition ports (scripts_of f.process)
+after_ports f seed limit edition ports = with_scripts seed limit edition ports (scripts_of edition f.process)
 
 abbrev after_journal : FrameData → ℕ → ℕ → Edition → Result ScenarioData ScenarioFault
 after_journal f seed limit edition = must BadPorts (ports_of f.ports) >>= λ ports. after_ports f seed limit edition ports
@@ -57,15 +57,16 @@ counted dss is = (
 not_counted : (dss : List Items) → (nat_le 1 (length dss) && nat_le (length dss) MOST_PROCS) ≡ false → AreProcesses dss → ⊥
 not_counted dss is (low, high) = grind (arith, nat_tests)
 
-script-case : (ms : Members) (f : FrameData) (e : ScenarioFault) → ProcessesPass ms f → scripts_from 0 f.process ≡ Err e → IsCause ms e
-script-case ms f e passes h =
-    let (q, k, is, first) = first-bad f.process e h in subst (IsCause ms) (sym is) (f, passes, first)
+script-case : (ms : Members) (f : FrameData) (edition : Edition) (e : ScenarioFault) → UpToSteps ms f edition
+    → scripts_from edition 0 f.process ≡ Err e → IsCause ms e
+script-case ms f edition e passes h =
+    let (q, k, is, first) = first-bad edition f.process e h in subst (IsCause ms) (sym is) (f, edition, passes, first)
 
-scripts-case : (ms : Members) (f : FrameData) (e : ScenarioFault) (b : Bool) → PortsPass ms f
+scripts-case : (ms : Members) (f : FrameData) (edition : Edition) (e : ScenarioFault) (b : Bool) → PortsPass ms f → edition_of f.journal ≡ Some edition
     → (nat_le 1 (length f.process) && nat_le (length f.process) MOST_PROCS) ≡ b
-    → (if b then scripts_from 0 f.process else Err BadProcesses) ≡ Err e → IsCause ms e
-scripts-case ms f e false passes is h = told ms BadProcesses e _ refl h (f, passes, not_counted f.process is)
-scripts-case ms f e true passes is h = script-case ms f e (passes, counted f.process is) h
+    → (if b then scripts_from edition 0 f.process else Err BadProcesses) ≡ Err e → IsCause ms e
+scripts-case ms f edition e false passes numbered is h = told ms BadProcesses e _ refl h (f, passes, not_counted f.process is)
+scripts-case ms f edition e true passes numbered is h = script-case ms f edition e ((passes, counted f.process is), numbered) h
 
 with_scripts-err : (seed limit : ℕ) (edition : Edition) (ports : List ℕ) (r : Result (List (List ScriptStep)) ScenarioFault) (e : ScenarioFault)
     → with_scripts seed limit edition ports r ≡ Err e → r ≡ Err e
@@ -74,17 +75,18 @@ with_scripts-err seed limit edition ports (Err a) e h = ap Err (same_err a e _ h
 
 -- ---- the values
 ports-case : (ms : Members) (f : FrameData) (e : ScenarioFault) (seed limit : ℕ) (edition : Edition) (o : Option (List ℕ)) → JournalPasses ms f
-    → ports_of f.ports ≡ o → (must BadPorts o >>= λ ports. after_ports f seed limit edition ports) ≡ Err e → IsCause ms e
-ports-case ms f e seed limit edition None passes is h = told ms BadPorts e _ refl h (f, passes, ports-none f.ports is)
-ports-case ms f e seed limit edition (Some ports) passes is h =
-    scripts-case ms f e (nat_le 1 (length f.process) && nat_le (length f.process) MOST_PROCS) (passes, ports-some f.ports ports is) refl
-    (with_scripts-err seed limit edition ports (scripts_of f.process) e h)
+    → edition_of f.journal ≡ Some edition → ports_of f.ports ≡ o
+    → (must BadPorts o >>= λ ports. after_ports f seed limit edition ports) ≡ Err e → IsCause ms e
+ports-case ms f e seed limit edition None passes numbered is h = told ms BadPorts e _ refl h (f, passes, ports-none f.ports is)
+ports-case ms f e seed limit edition (Some ports) passes numbered is h =
+    scripts-case ms f edition e (nat_le 1 (length f.process) && nat_le (length f.process) MOST_PROCS) (passes, ports-some f.ports ports is) numbered refl
+    (with_scripts-err seed limit edition ports (scripts_of edition f.process) e h)
 
 journal-case : (ms : Members) (f : FrameData) (e : ScenarioFault) (seed limit : ℕ) (o : Option Edition) → LimitPasses ms f → edition_of f.journal ≡ o
     → (must BadJournal o >>= λ edition. after_journal f seed limit edition) ≡ Err e → IsCause ms e
 journal-case ms f e seed limit None passes is h = told ms BadJournal e _ refl h (f, passes, edition-none f.journal is)
 journal-case ms f e seed limit (Some edition) passes is h =
-    ports-case ms f e seed limit edition (ports_of f.ports) (passes, edition-some f.journal edition is) refl h
+    ports-case ms f e seed limit edition (ports_of f.ports) (passes, edition-some f.journal edition is) is refl h
 
 limit-case : (ms : Members) (f : FrameData) (e : ScenarioFault) (seed : ℕ) (o : Option ℕ) → SeedPasses ms f → within 1 MOST_STEPS f.limit ≡ o
     → (must BadLimit o >>= λ limit. after_limit f seed limit) ≡ Err e → IsCause ms e
@@ -150,40 +152,43 @@ pub cause_in : (bytes : List ℕ) (e : ScenarioFault) → reading bytes ≡ Err 
 cause_in bytes e h = long-case bytes e (nat_lt MOST_FILE_BYTES (length bytes)) refl h
 
 -- ---- a file that is read
--- the frame of a tree that passes each test
+-- the frame and the edition of a tree that passes each test
 abbrev Sound : Members → Type 0
-Sound ms = (f : FrameData) × IsSound ms f
+Sound ms = (f : FrameData) × (edition : Edition) × IsSound ms f edition
 
 with_scripts-ok : (seed limit : ℕ) (edition : Edition) (ports : List ℕ) (r : Result (List (List ScriptStep)) ScenarioFault) (s : ScenarioData)
     → with_scripts seed limit edition ports r ≡ Ok s → (all : List (List ScriptStep)) × (r ≡ Ok all)
 with_scripts-ok seed limit edition ports (Ok all) s h = (all, refl)
 with_scripts-ok seed limit edition ports (Err a) s h = absurd (fails s a h)
 
-sound_scripts-case : (ms : Members) (f : FrameData) (all : List (List ScriptStep)) (b : Bool)
-    → PortsPass ms f → (nat_le 1 (length f.process) && nat_le (length f.process) MOST_PROCS) ≡ b
-    → (if b then scripts_from 0 f.process else Err BadProcesses) ≡ Ok all → Sound ms
-sound_scripts-case ms f all false passes is h = absurd (fails all BadProcesses h)
-sound_scripts-case ms f all true passes is h = (
+sound_scripts-case : (ms : Members) (f : FrameData) (edition : Edition) (all : List (List ScriptStep)) (b : Bool)
+    → PortsPass ms f → edition_of f.journal ≡ Some edition → (nat_le 1 (length f.process) && nat_le (length f.process) MOST_PROCS) ≡ b
+    → (if b then scripts_from edition 0 f.process else Err BadProcesses) ≡ Ok all → Sound ms
+sound_scripts-case ms f edition all false passes numbered is h = absurd (fails all BadProcesses h)
+sound_scripts-case ms f edition all true passes numbered is h = (
   f,
+  edition,
   record {
     shape = shape ms f passes.0.0.0.0;
-    passes = (passes, counted f.process is);
-    steps = none-bad f.process all h;
+    passes = ((passes, counted f.process is), numbered);
+    steps = none-bad edition f.process all h;
   },
 )
 
 sound_ports-case : (ms : Members) (f : FrameData) (s : ScenarioData) (seed limit : ℕ) (edition : Edition) (o : Option (List ℕ)) → JournalPasses ms f
-    → ports_of f.ports ≡ o → (must BadPorts o >>= λ ports. after_ports f seed limit edition ports) ≡ Ok s → Sound ms
-sound_ports-case ms f s seed limit edition None passes is h = absurd (fails s BadPorts h)
-sound_ports-case ms f s seed limit edition (Some ports) passes is h =
-    let (all, read) = with_scripts-ok seed limit edition ports (scripts_of f.process) s h in
-    sound_scripts-case ms f all (nat_le 1 (length f.process) && nat_le (length f.process) MOST_PROCS) (passes, ports-some f.ports ports is) refl read
+    → edition_of f.journal ≡ Some edition → ports_of f.ports ≡ o
+    → (must BadPorts o >>= λ ports. after_ports f seed limit edition ports) ≡ Ok s → Sound ms
+sound_ports-case ms f s seed limit edition None passes numbered is h = absurd (fails s BadPorts h)
+sound_ports-case ms f s seed limit edition (Some ports) passes numbered is h =
+    let (all, read) = with_scripts-ok seed limit edition ports (scripts_of edition f.process) s h in
+    sound_scripts-case ms f edition all (nat_le 1 (length f.process) && nat_le (length f.process) MOST_PROCS) (passes, ports-some f.ports ports is)
+    numbered refl read
 
 sound_journal-case : (ms : Members) (f : FrameData) (s : ScenarioData) (seed limit : ℕ) (o : Option Edition) → LimitPasses ms f
     → edition_of f.journal ≡ o → (must BadJournal o >>= λ edition. after_journal f seed limit edition) ≡ Ok s → Sound ms
 sound_journal-case ms f s seed limit None passes is h = absurd (fails s BadJournal h)
 sound_journal-case ms f s seed limit (Some edition) passes is h =
-    sound_ports-case ms f s seed limit edition (ports_of f.ports) (passes, edition-some f.journal edition is) refl h
+    sound_ports-case ms f s seed limit edition (ports_of f.ports) (passes, edition-some f.journal edition is) is refl h
 
 sound_limit-case : (ms : Members) (f : FrameData) (s : ScenarioData) (seed : ℕ) (o : Option ℕ) → SeedPasses ms f → within 1 MOST_STEPS f.limit ≡ o
     → (must BadLimit o >>= λ limit. after_limit f seed limit) ≡ Ok s → Sound ms
@@ -206,8 +211,8 @@ sound_tree-case : (bytes : List ℕ) (s : ScenarioData) (b : Bool) (o : Option M
 sound_tree-case bytes s false o short utf8 is h = absurd (fails s BadToml h)
 sound_tree-case bytes s true None short utf8 is h = absurd (fails s BadToml h)
 sound_tree-case bytes s true (Some ms) short utf8 is h =
-    let (f, sound) = sound_frame-case ms s (frame_of ms) refl h in
-    (ms, f, short, IsUtf8-from_is_utf8 bytes utf8, is, sound)
+    let (f, edition, sound) = sound_frame-case ms s (frame_of ms) refl h in
+    (ms, f, edition, short, IsUtf8-from_is_utf8 bytes utf8, is, sound)
 
 sound_long-case : (bytes : List ℕ) (s : ScenarioData) (b : Bool) → nat_lt MOST_FILE_BYTES (length bytes) ≡ b
     → (if b then Err TooLong else tree_of bytes >>= scenario_of) ≡ Ok s → IsSoundIn bytes

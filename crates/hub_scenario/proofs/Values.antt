@@ -18,13 +18,14 @@ use Rattle.hub_scenario.specs.Numbers.{within, edition_of, ports_of}
 use Rattle.hub_scenario.specs.Scenario.{scripts_of, values_of}
 use Rattle.hub_scenario.specs.Scripts.{scripts_from}
 
-scripts-within : (dss : List Items) → 1 ≤ length dss → length dss ≤ MOST_PROCS → scripts_of dss ≡ scripts_from 0 dss
-scripts-within dss some few = grind (arith, nat_tests)
+scripts-within : (ed : Edition) (dss : List Items) → 1 ≤ length dss → length dss ≤ MOST_PROCS → scripts_of ed dss ≡ scripts_from ed 0 dss
+scripts-within ed dss some few = grind (arith, nat_tests)
 
 -- what the scripts of a lent slice say is what those of the frame say
-pub scripts-say : (process slice : List (Bor (Vec Value Global))) (r : Result (List (List ScriptStep)) ScenarioFault) → slice ≡ process
-    → 1 ≤ length (map seen process) → length (map seen process) ≤ MOST_PROCS → scripts_from 0 (map seen slice) ≡ r → scripts_of (map seen process) ≡ r
-scripts-say process slice r same some few says = scripts-within (map seen process) some few ∙ ap (λ xs. scripts_from 0 (map seen xs)) (sym same) ∙ says
+pub scripts-say : (ed : Edition) (process slice : List (Bor (Vec Value Global))) (r : Result (List (List ScriptStep)) ScenarioFault) → slice ≡ process
+    → 1 ≤ length (map seen process) → length (map seen process) ≤ MOST_PROCS → scripts_from ed 0 (map seen slice) ≡ r → scripts_of ed (map seen process) ≡ r
+scripts-say ed process slice r same some few says = scripts-within ed (map seen process) some few
+    ∙ ap (λ xs. scripts_from ed 0 (map seen xs)) (sym same) ∙ says
 
 pub seed-bad : (f : FrameData) → within 0 GREATEST_SEED f.seed ≡ None → values_of f ≡ Err BadSeed
 seed-bad f e = rw e refl
@@ -42,11 +43,11 @@ ports-bad f seed limit edition e e₁ e₂ e₃ e₄ = rw (e₁, e₂, e₃, e�
 
 pub scripts-bad : (f : FrameData) (seed limit : ℕ) (edition : Edition) (ports : List ℕ) (e : ScenarioFault) → within 0 GREATEST_SEED f.seed ≡ Some seed
     → within 1 MOST_STEPS f.limit ≡ Some limit → edition_of f.journal ≡ Some edition → must BadPorts (ports_of f.ports) ≡ Ok ports
-    → scripts_of f.process ≡ Err e → values_of f ≡ Err e
+    → scripts_of edition f.process ≡ Err e → values_of f ≡ Err e
 scripts-bad f seed limit edition ports e e₁ e₂ e₃ e₄ e₅ = rw (e₁, e₂, e₃, e₄, e₅) refl
 
 pub values-good : (f : FrameData) (seed limit : ℕ) (edition : Edition) (ports : List ℕ) (scripts : List (List ScriptStep))
     → within 0 GREATEST_SEED f.seed ≡ Some seed → within 1 MOST_STEPS f.limit ≡ Some limit → edition_of f.journal ≡ Some edition
-    → must BadPorts (ports_of f.ports) ≡ Ok ports → scripts_of f.process ≡ Ok scripts
+    → must BadPorts (ports_of f.ports) ≡ Ok ports → scripts_of edition f.process ≡ Ok scripts
     → values_of f ≡ Ok (record { seed = seed; limit = limit; edition = edition; ports = ports; scripts = scripts })
 values-good f seed limit edition ports scripts e₁ e₂ e₃ e₄ e₅ = rw (e₁, e₂, e₃, e₄, e₅) refl

@@ -4,6 +4,7 @@ use Rattle.std.specs.Prelude.{◌≡◌, ◌≤◌, ◌<◌, ◌⊎◌, ℕ, ℤ
 use Rattle.std.specs.Option.{IsSomeAnd}
 use Rattle.toml.specs.Data.{Data, integer, array, table, Items, get_item, Members, get_member}
 use Rattle.toml.specs.Parse.{parse_document}
+use Rattle.hub_base.specs.declared.head.Edition.{Edition}
 use Rattle.hub_base.specs.declared.limits.TheConstants.{MOST_CAP, MOST_PORTS, MOST_PROCS, MOST_STEPS}
 use Rattle.hub_scenario.specs.declared.limits.TheConstants.{MOST_FILE_BYTES, GREATEST_SEED}
 use Rattle.hub_scenario.specs.declared.keys.Owner.{Owner}
@@ -14,7 +15,7 @@ use Rattle.hub_scenario.specs.declared.fault.ScenarioFault.TheVariants.{BadJourn
 use Rattle.hub_scenario.specs.Firsts.{FirstBadScript, AllSteps}
 use Rattle.hub_scenario.specs.Frames.{FrameData, frame_of}
 use Rattle.hub_scenario.specs.Keys.{is_key}
-use Rattle.hub_scenario.specs.Numbers.{count_items}
+use Rattle.hub_scenario.specs.Numbers.{count_items, edition_of}
 
 -- ---- keys and kinds
 -- a whole number
@@ -88,6 +89,10 @@ PortsPass ms f = JournalPasses ms f × ArePorts f.ports
 abbrev pub ProcessesPass : Members → FrameData → Type 0
 ProcessesPass ms f = PortsPass ms f × AreProcesses f.process
 
+-- all but the steps, which are read as those of this edition
+abbrev pub UpToSteps : Members → FrameData → Edition → Type 0
+UpToSteps ms f edition = ProcessesPass ms f × (edition_of f.journal ≡ Some edition)
+
 -- ---- causes
 -- why a tree is refused; the first two faults and the last are none of a tree
 abbrev pub IsCause : Members → ScenarioFault → Type 0
@@ -99,7 +104,8 @@ IsCause ms BadLimit = (f : FrameData) × SeedPasses ms f × ¬ IsWithin 1 MOST_S
 IsCause ms BadJournal = (f : FrameData) × LimitPasses ms f × ¬ IsEdition f.journal
 IsCause ms BadPorts = (f : FrameData) × JournalPasses ms f × ¬ ArePorts f.ports
 IsCause ms BadProcesses = (f : FrameData) × PortsPass ms f × ¬ AreProcesses f.process
-IsCause ms (BadScript p k) = (f : FrameData) × ProcessesPass ms f × FirstBadScript f.process p k
+IsCause ms (BadScript p k) =
+    (f : FrameData) × (edition : Edition) × UpToSteps ms f edition × FirstBadScript edition f.process p k
 IsCause ms NoMemory = ⊥
 
 -- why the bytes of a file are refused
@@ -113,13 +119,13 @@ IsCauseIn bytes e =
 
 -- ---- no cause
 -- a tree that says a scenario passes each test, and each element of each script is a step
-pub record IsSound (ms : Members) (f : FrameData) : Type 0 where
+pub record IsSound (ms : Members) (f : FrameData) (edition : Edition) : Type 0 where
   pub shape : HasShape ms
-  pub passes : ProcessesPass ms f
-  pub steps : (q : ℕ) → IfSome (slice_get f.process q) (AllSteps 0)
+  pub passes : UpToSteps ms f edition
+  pub steps : (q : ℕ) → IfSome (slice_get f.process q) (AllSteps edition 0)
 
 -- and so do the bytes of a file
 abbrev pub IsSoundIn : List ℕ → Type 0
 IsSoundIn bytes =
-    (ms : Members) × (f : FrameData) × (length bytes ≤ MOST_FILE_BYTES) × IsUtf8 bytes
-    × (parse_document bytes ≡ Some ms) × IsSound ms f
+    (ms : Members) × (f : FrameData) × (edition : Edition) × (length bytes ≤ MOST_FILE_BYTES) × IsUtf8 bytes
+    × (parse_document bytes ≡ Some ms) × IsSound ms f edition

@@ -2,6 +2,7 @@
 
 ghost use Rattle.std.specs.Prelude.{◌≡◌, ℕ, List, Ok, Err, IfSome, slice_get};
 ghost use Rattle.toml.specs.Data.{Items};
+ghost use Rattle.hub_base.specs.declared.head.Edition.{Edition};
 ghost use Rattle.hub_scenario.specs.declared.fault.ScenarioFault.{ScenarioFault};
 ghost use Rattle.hub_scenario.specs.declared.fault.ScenarioFault.TheVariants.{BadScript};
 ghost use Rattle.hub_scenario.specs.declared.script.ScriptStep.{ScriptStep};
@@ -21,10 +22,10 @@ pub fn faults_in_order()
 /// The fault of scripts is their first element that is no step or has place 10,000, by process and
 /// then by place; where there is no fault, there is no such element.
 pub fn first_bad_script()
-    ensures first { (processes : List Items) (e : ScenarioFault) →
-        scripts_from 0 processes ≡ Err e →
-        (q : ℕ) × (k : ℕ) × (e ≡ BadScript q k) × FirstBadScript processes q k }
-    ensures none { (processes : List Items) (scripts : List (List ScriptStep)) →
-        scripts_from 0 processes ≡ Ok scripts →
-        (q : ℕ) → IfSome (slice_get processes q) (AllSteps 0) }
+    ensures first { (edition : Edition) (processes : List Items) (e : ScenarioFault) →
+        scripts_from edition 0 processes ≡ Err e →
+        (q : ℕ) × (k : ℕ) × (e ≡ BadScript q k) × FirstBadScript edition processes q k }
+    ensures none { (edition : Edition) (processes : List Items) (scripts : List (List ScriptStep)) →
+        scripts_from edition 0 processes ≡ Ok scripts →
+        (q : ℕ) → IfSome (slice_get processes q) (AllSteps edition 0) }
 {}

@@ -1,6 +1,9 @@
 //! Random choices of a process: what it does next, and on which ports.
 
-ghost use Rattle.std.specs.Prelude.{◌<◌, ◌≤◌, length};
+ghost use Rattle.std.specs.Prelude.{◌≡◌, ◌<◌, ◌≤◌, true, length};
+ghost use Rattle.std.specs.List.{list_all};
+ghost use Rattle.hub_base.specs.declared.head.Edition.{Edition};
+ghost use Rattle.hub_base.specs.Head.{has_case, has_value};
 
 use hub_base::{Case, Cases, Pid, Port, Value};
 use hub_live::Chan;
@@ -45,7 +48,10 @@ impl Chances {
         Port(1 + self.below(u64::from(PORTS)) as u16)
     }
 
-    fn case(&mut self, value: Value) -> Case {
+    fn case(&mut self, value: Value) -> Case
+        requires { (edition : Edition) → has_value edition value ≡ true }
+        ensures { (edition : Edition) → has_case edition result ≡ true }
+    {
         let chan = Chan::of(self.port());
         if self.below(2) == 0 {
             chan.sender().send(value)
@@ -65,9 +71,11 @@ impl Chances {
         }
     }
 
-    /// The cases of a call, of which each send sends this value.
+    /// The cases of a call, of which each send sends this value, which is a number.
     pub fn cases(&mut self, value: Value) -> Cases
-        ensures { length result.items ≤ 8 }
+        requires { (edition : Edition) → has_value edition value ≡ true }
+        ensures few { length result.items ≤ 8 }
+        ensures fits { (edition : Edition) → list_all (has_case edition) result.items ≡ true }
     {
         let mut cases = Cases::new();
         for _ in 0..self.count_of_cases() {
@@ -78,6 +86,8 @@ impl Chances {
 }
 
 /// No two sends of one hub have the same: it tells the process, and which of its sends it is.
-pub fn value_of(pid: Pid, count: u32) -> Value {
+pub fn value_of(pid: Pid, count: u32) -> Value
+    ensures { (edition : Edition) → has_value edition result ≡ true }
+{
     Value::num(u64::from(pid.0) * 0x1_0000_0000 + u64::from(count))
 }

@@ -1,6 +1,9 @@
 //! The random calls of one process, and what it was answered.
 
-ghost use Rattle.std.specs.Prelude.{◌≡◌, ◌++◌, ◌∷◌, [], IsOk, IfOk, OnOk};
+ghost use Rattle.std.specs.Prelude.{◌≡◌, ◌++◌, ◌∷◌, [], IsOk, IfOk, OnOk, true};
+ghost use Rattle.std.specs.List.{list_all};
+ghost use Rattle.hub_base.specs.declared.head.Edition.{Edition};
+ghost use Rattle.hub_base.specs.Head.{has_case};
 
 use crate::chances::{Chances, PORTS, value_of};
 use crate::trouble::Trouble;
@@ -83,7 +86,9 @@ impl RandomCalls {
     }
 
     /// The next call: its cases, whether it has a default, and its choice word.
-    fn next_call(&mut self, pid: Pid) -> (Cases, bool, u64) {
+    fn next_call(&mut self, pid: Pid) -> (Cases, bool, u64)
+        ensures { (edition : Edition) → list_all (has_case edition) result.0.items ≡ true }
+    {
         let value = value_of(pid, self.sent);
         self.sent = self.sent.wrapping_add(1);
         let cases = self.chances.cases(value);

@@ -1,6 +1,9 @@
 //! Operations a second of each workload.
 
-ghost use Rattle.std.specs.Prelude.{◌≡◌, ◌≤◌, All};
+ghost use Rattle.std.specs.Prelude.{◌≡◌, ◌≤◌, All, true};
+ghost use Rattle.std.specs.List.{list_all};
+ghost use Rattle.hub_base.specs.declared.head.Edition.{Edition};
+ghost use Rattle.hub_base.specs.Head.{has_case};
 
 use crate::beginning::hold_with_ports;
 use crate::trouble::Trouble;
@@ -61,7 +64,9 @@ fn answered(answer: Result<Event, Fault>) -> Result<(), Unanswered> {
     }
 }
 
-fn four_receives() -> Cases {
+fn four_receives() -> Cases
+    ensures { (edition : Edition) → list_all (has_case edition) result.items ≡ true }
+{
     let mut cases = Cases::new();
     cases.push(Chan::of(Port(1)).receiver().recv());
     cases.push(Chan::of(Port(2)).receiver().recv());

@@ -3,13 +3,15 @@
 //! Each function puts its piece at a place, behind the bytes before it, and tells where it ends. What lies behind
 //! that is no part of the text.
 
-ghost use Rattle.std.specs.Prelude.{◌≡◌, ◌+◌, ◌*◌, ◌≤◌, ◌<◌, ◌++◌, length, take, decimal};
+ghost use Rattle.std.specs.Prelude.{◌≡◌, ◌+◌, ◌*◌, ◌≤◌, ◌<◌, ◌++◌, ◌∷◌, length, take, decimal};
 ghost use Rattle.std.specs.List.{flat_map};
 ghost use Rattle.hub_base.specs.EventText.{event_line, what_text, outcome_text};
+ghost use Rattle.hex.specs.Hex.{encode_lower};
+ghost use Rattle.hub_base.specs.Value.{bytes_in, content, value_field};
 ghost use Rattle.hub_base.specs.Writing.{Puts, pair, four, eight};
 
-use crate::limits::MOST_LINE;
-use crate::{Event, Outcome, What};
+use crate::limits::{MOST_LINE, MOST_VALUE_BYTES};
+use crate::{Event, Outcome, Value, What};
 
 /// The most digits of a number of 8 bits.
 const MOST_SMALL: usize = 3;
@@ -17,11 +19,14 @@ const MOST_SMALL: usize = 3;
 /// The most digits of a number of 64 bits.
 const MOST_DIGITS: usize = 20;
 
+/// The most bytes of a value: `#`, and two digits for each byte that it is.
+pub const MOST_VALUE: usize = 1 + 2 * MOST_VALUE_BYTES;
+
 /// The most bytes of how a communication ended: ` got ` and a value.
-const MOST_OUTCOME: usize = 25;
+const MOST_OUTCOME: usize = 70;
 
 /// The most bytes of what a process is told: ` case `, a number, and how a communication ended.
-const MOST_WHAT: usize = 34;
+const MOST_WHAT: usize = 79;
 
 /// The digits of the numbers below 100, two each.
 static PAIRS: [u8; 200] =
@@ -171,6 +176,37 @@ fn put_large(out: &mut [u8], at: usize, n: u64) -> usize
     put_number(out, at, n)
 }
 
+/// Puts a value that is bytes. Most are numbers.
+#[inline(never)]
+pub fn put_bytes(out: &mut [u8], at: usize, value: &Value) -> usize
+    requires { at + MOST_VALUE ≤ length out.old }
+    ensures { Puts out.old out.new at (35 ∷ encode_lower (bytes_in (content value.now))) MOST_VALUE result }
+{
+    let bytes = value.as_slice();
+    let mut places = [0; 2 * MOST_VALUE_BYTES];
+    let digits = &mut places[..2 * bytes.len()];
+    match hex::encode_to_slice(bytes, digits) {
+        Ok(()) => {
+            let first = put(out, at, b"#");
+            put(out, first, digits)
+        }
+        Err(_other_length) => unreachable!(),
+    }
+}
+
+/// Puts a value.
+#[inline(always)]
+#[tactic(auto, using(crate::proofs::Decimals::twenty_digits, crate::proofs::Values::field_number, crate::proofs::Values::field_bytes))]
+fn put_value(out: &mut [u8], at: usize, value: Value) -> usize
+    requires { at + MOST_VALUE ≤ length out.old }
+    ensures { Puts out.old out.new at (value_field value) MOST_VALUE result }
+{
+    match value.as_num() {
+        Some(number) => put_large(out, at, number),
+        None => put_bytes(out, at, &value),
+    }
+}
+
 /// Puts how a communication ended, behind a space.
 #[inline(always)]
 fn put_outcome(out: &mut [u8], at: usize, outcome: Outcome) -> usize
@@ -181,7 +217,7 @@ fn put_outcome(out: &mut [u8], at: usize, outcome: Outcome) -> usize
         Outcome::Sent => put(out, at, b" sent"),
         Outcome::Got(value) => {
             let end = put(out, at, b" got ");
-            put_large(out, end, value.number())
+            put_value(out, end, value)
         }
         Outcome::Drained => put(out, at, b" drained"),
         Outcome::Closed => put(out, at, b" closed"),

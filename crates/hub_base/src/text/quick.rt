@@ -1,16 +1,17 @@
-//! Reading a call that is spelled as writers spell it, in one pass over its bytes.
+//! Reading a call of a journal of some edition that is spelled as writers spell it, in one pass over its bytes.
 //!
 //! Whatever else a line is, the answer is `None`, which says nothing of it: it is left to the slow
 //! reading. The last byte of all is a newline, so no place is tested for the end of the bytes.
 
-ghost use Rattle.std.specs.Prelude.{◌≡◌, ◌≢◌, ◌≤◌, ◌<◌, ◌∷◌, ◌++◌, [], length, codes, decimal, false, IfSome};
+ghost use Rattle.std.specs.Prelude.{◌≡◌, ◌≢◌, ◌≤◌, ◌<◌, ◌∷◌, ◌++◌, [], length, codes, decimal, get_or, false, IfSome};
 ghost use Rattle.hub_base.specs.Lines.{call_fields, case_field};
-ghost use Rattle.hub_base.specs.Quick.{EndsLine, Stands, SendStands, RecvStands, CaseStands, CasesStand, SelectStands, StepStands, Begins};
+ghost use Rattle.hub_base.specs.Quick.{EndsLine, Stands, ValueStands, SendStands, RecvStands, CaseStands, CasesStand, SelectStands, StepStands, Begins};
 ghost use Rattle.hub_base.specs.Writing.{spaced};
 
 use crate::limits::{GREATEST_PID, GREATEST_PORT};
 use crate::text::steps::set_call;
-use crate::{Case, Cases, Entry, Pid, Port, Step, Value};
+use crate::text::values::bytes_value;
+use crate::{Case, Cases, Edition, Entry, Pid, Port, Step, Value};
 
 /// The number at this place, and the place behind it.
 #[inline]
@@ -101,19 +102,52 @@ fn behind_words(bytes: &[u8], start: usize, first: &[u8; 4], second: &[u8; 4]) -
     behind_word(bytes, behind_word(bytes, start, first)?, second)
 }
 
+/// The value that is bytes and stands at this place, and the place behind it.
+#[inline(never)]
+fn bytes_at(edition: Edition, bytes: &[u8], start: usize) -> Option<(Value, usize)>
+    requires line { EndsLine bytes.now }
+    requires start { start < length bytes.now }
+    requires mark { get_or bytes.now start 0 ≡ 35 }
+    ensures { IfSome result (λ x. ValueStands edition bytes.now start x.0 x.1) }
+{
+    if !edition.has_bytes() {
+        return None;
+    }
+    let first = start + 1;
+    let mut end = first;
+    while bytes[end] != b' ' && bytes[end] != b'\n' {
+        end += 1;
+    }
+    Some((bytes_value(&bytes[first..end])?, end))
+}
+
+/// The value at this place, and the place behind it.
+#[inline]
+fn value_at(edition: Edition, bytes: &[u8], start: usize) -> Option<(Value, usize)>
+    requires line { EndsLine bytes.now }
+    requires start { start < length bytes.now }
+    ensures { IfSome result (λ x. ValueStands edition bytes.now start x.0 x.1) }
+{
+    if bytes[start] == b'#' {
+        return bytes_at(edition, bytes, start);
+    }
+    let (number, end) = number_at(bytes, start)?;
+    Some((Value::num(number), end))
+}
+
 /// The case that sends and whose port and value stand at this place with this mark between them, and the place
 /// behind it.
 #[inline]
-fn send_at(bytes: &[u8], start: usize, mark: u8) -> Option<(Case, usize)>
+fn send_at(edition: Edition, bytes: &[u8], start: usize, mark: u8) -> Option<(Case, usize)>
     requires line { EndsLine bytes.now }
     requires start { start < length bytes.now }
     requires mark { mark ≢ 10 }
-    ensures { IfSome result (λ x. SendStands bytes.now start mark x.0 x.1) }
+    ensures { IfSome result (λ x. SendStands edition bytes.now start mark x.0 x.1) }
 {
     let (port, end) = number_up_to(GREATEST_PORT.into(), bytes, start)?;
     let end = behind(bytes, end, mark)?;
-    let (value, end) = number_at(bytes, end)?;
-    Some((Case::Send(Port(port as u16), Value::num(value)), end))
+    let (value, end) = value_at(edition, bytes, end)?;
+    Some((Case::Send(Port(port as u16), value), end))
 }
 
 /// The case that receives and whose port stands at this place, and the place behind it.
@@ -129,15 +163,15 @@ fn recv_at(bytes: &[u8], start: usize) -> Option<(Case, usize)>
 
 /// The case of a plain send or receive, from the space before the word on, and the place behind it.
 #[inline]
-fn plain_at(bytes: &[u8], start: usize) -> Option<(Case, usize)>
+fn plain_at(edition: Edition, bytes: &[u8], start: usize) -> Option<(Case, usize)>
     requires line { EndsLine bytes.now }
     requires start { start < length bytes.now }
     ensures { IfSome result (λ x.
-        CaseStands bytes.now start (spaced (call_fields (x.0 ∷ []) false 0)) x.0 x.1) }
+        CaseStands edition bytes.now start (spaced (call_fields (x.0 ∷ []) false 0)) x.0 x.1) }
 {
     let start = behind(bytes, start, b' ')?;
     if let Some(end) = behind_word(bytes, start, b"send") {
-        send_at(bytes, behind(bytes, end, b' ')?, b' ')
+        send_at(edition, bytes, behind(bytes, end, b' ')?, b' ')
     } else {
         let end = behind_word(bytes, start, b"recv")?;
         recv_at(bytes, behind(bytes, end, b' ')?)
@@ -146,26 +180,26 @@ fn plain_at(bytes: &[u8], start: usize) -> Option<(Case, usize)>
 
 /// Reads a plain send or receive, from the space before the word on, and gives the place behind it.
 #[inline]
-fn plain_into(bytes: &[u8], start: usize, step: &mut Step) -> Option<usize>
+fn plain_into(edition: Edition, bytes: &[u8], start: usize, step: &mut Step) -> Option<usize>
     requires line { EndsLine bytes.now }
     requires start { start < length bytes.now }
-    ensures { IfSome result (λ end. StepStands bytes.now start step.new end) }
+    ensures { IfSome result (λ end. StepStands edition bytes.now start step.new end) }
 {
-    let (case, end) = plain_at(bytes, start)?;
+    let (case, end) = plain_at(edition, bytes, start)?;
     set_call(step, case);
     Some(end)
 }
 
 /// The case of a select, from the space before it on, and the place behind it.
 #[inline]
-fn case_at(bytes: &[u8], start: usize) -> Option<(Case, usize)>
+fn case_at(edition: Edition, bytes: &[u8], start: usize) -> Option<(Case, usize)>
     requires line { EndsLine bytes.now }
     requires start { start < length bytes.now }
-    ensures { IfSome result (λ x. CaseStands bytes.now start (codes " " ++ case_field x.0) x.0 x.1) }
+    ensures { IfSome result (λ x. CaseStands edition bytes.now start (codes " " ++ case_field x.0) x.0 x.1) }
 {
     let start = behind(bytes, start, b' ')?;
     if let Some(end) = behind(bytes, start, b's') {
-        send_at(bytes, end, b':')
+        send_at(edition, bytes, end, b':')
     } else {
         recv_at(bytes, behind(bytes, start, b'r')?)
     }
@@ -173,14 +207,14 @@ fn case_at(bytes: &[u8], start: usize) -> Option<(Case, usize)>
 
 /// Reads the cases of a select, from the space before the first on, and gives the place behind them.
 #[inline]
-fn cases_into(bytes: &[u8], start: usize, cases: &mut Cases) -> Option<usize>
+fn cases_into(edition: Edition, bytes: &[u8], start: usize, cases: &mut Cases) -> Option<usize>
     requires line { EndsLine bytes.now }
     requires start { start < length bytes.now }
-    ensures { IfSome result (λ end. CasesStand bytes.now start cases.new.items end) }
+    ensures { IfSome result (λ end. CasesStand edition bytes.now start cases.new.items end) }
 {
     cases.clear();
     let mut end = start;
-    while let Some((case, next)) = case_at(bytes, end) {
+    while let Some((case, next)) = case_at(edition, bytes, end) {
         if cases.is_full() {
             return None;
         }
@@ -193,10 +227,10 @@ fn cases_into(bytes: &[u8], start: usize, cases: &mut Cases) -> Option<usize>
 /// Reads a select from its word on, and gives the place behind it. It stands apart, so that the short forms
 /// have the registers to themselves.
 #[inline(never)]
-fn select_into(bytes: &[u8], start: usize, step: &mut Step) -> Option<usize>
+fn select_into(edition: Edition, bytes: &[u8], start: usize, step: &mut Step) -> Option<usize>
     requires line { EndsLine bytes.now }
     requires start { start < length bytes.now }
-    ensures { IfSome result (λ end. SelectStands bytes.now start step.new end) }
+    ensures { IfSome result (λ end. SelectStands edition bytes.now start step.new end) }
 {
     // Where no call stands the slow reading makes one, for the selects behind it.
     let Step::Call {
@@ -208,7 +242,7 @@ fn select_into(bytes: &[u8], start: usize, step: &mut Step) -> Option<usize>
         return None;
     };
     let (number, end) = number_at(bytes, start)?;
-    let end = cases_into(bytes, end, cases)?;
+    let end = cases_into(edition, bytes, end, cases)?;
     let (has_default, end) = match behind_words(bytes, end, b" def", b"ault") {
         Some(end) => (true, end),
         None => (false, end),
@@ -224,27 +258,27 @@ fn select_into(bytes: &[u8], start: usize, step: &mut Step) -> Option<usize>
 
 /// Reads a call, from the space behind the process on, and gives the place behind it. Most are no selects.
 #[inline]
-fn call_into(bytes: &[u8], start: usize, step: &mut Step) -> Option<usize>
+fn call_into(edition: Edition, bytes: &[u8], start: usize, step: &mut Step) -> Option<usize>
     requires line { EndsLine bytes.now }
     requires start { start < length bytes.now }
-    ensures { IfSome result (λ end. StepStands bytes.now start step.new end) }
+    ensures { IfSome result (λ end. StepStands edition bytes.now start step.new end) }
 {
-    if let Some(end) = plain_into(bytes, start, step) {
+    if let Some(end) = plain_into(edition, bytes, start, step) {
         return Some(end);
     }
     let word = behind_words(bytes, start, b" sel", b"ect ")?;
-    select_into(bytes, word, step)
+    select_into(edition, bytes, word, step)
 }
 
 /// Reads the first line into this entry, and gives the place behind it.
 #[inline]
-pub fn quick_line(bytes: &[u8], entry: &mut Entry) -> Option<usize>
+pub fn quick_line(edition: Edition, bytes: &[u8], entry: &mut Entry) -> Option<usize>
     requires line { EndsLine bytes.now }
     requires some { 0 < length bytes.now }
-    ensures { IfSome result (λ end. Begins bytes.now entry.new end) }
+    ensures { IfSome result (λ end. Begins edition bytes.now entry.new end) }
 {
     let (pid, end) = number_up_to(GREATEST_PID.into(), bytes, 0)?;
-    let end = call_into(bytes, end, &mut entry.step)?;
+    let end = call_into(edition, bytes, end, &mut entry.step)?;
     if bytes[end] != b'\n' {
         return None;
     }

@@ -175,7 +175,7 @@ impl<'a> Reader<'a> {
     /// at a fault the reader stays where it is, so that each further call answers the same, and the
     /// entry may be any.
     ///
-    /// An entry takes some 290 bytes, so a loop over a long text reads them all into one.
+    /// An entry takes some 600 bytes, so a loop over a long text reads them all into one.
     #[inline(always)]
     pub fn read_into(&mut self, entry: &mut Entry) -> Result<bool, TextFault>
         ensures reads { FillsOn self.old self.new entry.new result }
@@ -202,7 +202,7 @@ impl<'a> Reader<'a> {
         if self.steps == MOST_STEPS || self.rest[self.rest.len() - 1] != b'\n' {
             return false;
         }
-        match quick_line(self.rest, entry) {
+        match quick_line(self.head.edition, self.rest, entry) {
             Some(end) if end <= MOST_BYTES - self.place => {
                 self.steps += 1;
                 self.place += end;

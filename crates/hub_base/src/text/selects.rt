@@ -11,11 +11,11 @@ ghost use Rattle.hub_base.specs.declared.text.faults.Kind.TheVariants.{BadNumber
 use crate::limits::{CASE_PLACES, GREATEST_WORD};
 use crate::text::fields::Fields;
 use crate::text::steps::{numeral, process, recv_of, same_text, send_of};
-use crate::{Case, Cases, Entry, Kind, Pid, Step};
+use crate::{Case, Cases, Edition, Entry, Kind, Pid, Step};
 
-/// What a case field says: a fault of its shape, or else a case or a fault of its numbers.
-pub fn read_case(field: &[u8]) -> Result<Result<Case, Kind>, Kind>
-    ensures { result ≡ case_read field.now }
+/// What a case field says in a journal of this edition: a fault of its shape, or else a case or a fault of its parts.
+pub fn read_case(edition: Edition, field: &[u8]) -> Result<Result<Case, Kind>, Kind>
+    ensures { result ≡ case_read edition field.now }
 {
     let Some((letter, parts)) = field.split_first() else {
         return Err(Kind::BadStep);
@@ -31,7 +31,7 @@ pub fn read_case(field: &[u8]) -> Result<Result<Case, Kind>, Kind>
         if parts.next_field().is_some() {
             return Err(Kind::BadStep);
         }
-        Ok(send_of(port, value))
+        Ok(send_of(edition, port, value))
     } else if *letter == b'r' {
         if parts.next_field().is_some() {
             return Err(Kind::BadStep);
@@ -80,8 +80,13 @@ fn choose(
 }
 
 /// What `P select W CASE.. [default]` says, from the field of the word on.
-pub fn read_select(pid: &[u8], fields: &mut Fields, entry: &mut Entry) -> Result<(), Kind>
-    ensures { Fills result entry.new (read_choice pid.now fields.old) }
+pub fn read_select(
+    edition: Edition,
+    pid: &[u8],
+    fields: &mut Fields,
+    entry: &mut Entry,
+) -> Result<(), Kind>
+    ensures { Fills result entry.new (read_choice edition pid.now fields.old) }
 {
     let Some(word) = fields.next_field() else {
         return Err(Kind::BadStep);
@@ -93,7 +98,7 @@ pub fn read_select(pid: &[u8], fields: &mut Fields, entry: &mut Entry) -> Result
         if is_last_default(field, fields) {
             return choose(pid, word, cases, fine, true, entry);
         }
-        let case = read_case(field)?;
+        let case = read_case(edition, field)?;
         // One case too many is a fault of shape, as any in the fields behind it would be.
         if count == CASE_PLACES {
             return Err(Kind::BadStep);

@@ -3,15 +3,16 @@
 //! It is read into a given entry, which may be any after a fault.
 
 ghost use Rattle.std.specs.Prelude.{◌≡◌, ◌≤◌, ◌<◌, ◌∷◌, [], false, IfOk};
-ghost use Rattle.hub_base.specs.Lines.{numeral, read_exit, read_send, read_step, read_fields, pieces, case_of, by, call, same_text};
-ghost use Rattle.hub_base.specs.Lines.Draft.{Sends, Receives};
+ghost use Rattle.hub_base.specs.Lines.{numeral, read_exit, read_send, read_step, read_fields, pieces, case_of, recv_case, by, call, same_text};
+ghost use Rattle.hub_base.specs.Lines.Draft.{Sends};
 ghost use Rattle.hub_base.specs.Filling.{Fills, read_one_number};
 
-use crate::limits::{GREATEST_CAP, GREATEST_PID, GREATEST_PORT, GREATEST_VALUE};
+use crate::limits::{GREATEST_CAP, GREATEST_PID, GREATEST_PORT};
 use crate::text::fields::Fields;
 use crate::text::numbers::number;
 use crate::text::selects::read_select;
-use crate::{Case, Cases, Edition, Entry, Kind, Pid, Port, Step, Value};
+use crate::text::values::read_value;
+use crate::{Case, Cases, Edition, Entry, Kind, Pid, Port, Step};
 
 /// The number that a field spells.
 pub fn numeral(bytes: &[u8], most: u64) -> Result<u64, Kind>
@@ -50,17 +51,17 @@ pub fn same_text(a: &[u8], b: &[u8]) -> bool
 }
 
 /// The case that sends.
-pub fn send_of(port: &[u8], value: &[u8]) -> Result<Case, Kind>
-    ensures { result ≡ case_of (Sends port.now value.now) }
+pub fn send_of(edition: Edition, port: &[u8], value: &[u8]) -> Result<Case, Kind>
+    ensures { result ≡ case_of edition (Sends port.now value.now) }
 {
     let port = port_number(port)?;
-    let value = numeral(value, GREATEST_VALUE)?;
-    Ok(Case::Send(Port(port), Value::num(value)))
+    let value = read_value(edition, value)?;
+    Ok(Case::Send(Port(port), value))
 }
 
 /// The case that receives.
 pub fn recv_of(port: &[u8]) -> Result<Case, Kind>
-    ensures { result ≡ case_of (Receives port.now) }
+    ensures { result ≡ recv_case port.now }
 {
     let port = port_number(port)?;
     Ok(Case::Recv(Port(port)))
@@ -71,7 +72,7 @@ pub fn recv_of(port: &[u8]) -> Result<Case, Kind>
 pub fn set_call(step: &mut Step, case: Case)
     ensures { step.new ≡ call (case ∷ []) false 0 }
 {
-    // A call that stands there already is changed in place, since a new one is some 290 bytes.
+    // A call that stands there already is changed in place, since a new one is some 600 bytes.
     if !matches!(step, Step::Call { .. }) {
         *step = some_call();
     }
@@ -139,7 +140,7 @@ fn read_one_number(
     entry.pid = Pid(process(pid)?);
     match word {
         OneNumber::Make => entry.step = Step::Make(capacity(number)?),
-        OneNumber::Recv => set_call(&mut entry.step, recv_of(number)?),
+        OneNumber::Recv => set_call(&mut entry.step, Case::Recv(Port(port_number(number)?))),
         OneNumber::Close => entry.step = Step::Close(Port(port_number(number)?)),
         OneNumber::Cancel => entry.step = Step::Cancel(Pid(process(number)?)),
     }
@@ -147,8 +148,13 @@ fn read_one_number(
 }
 
 /// What `P send PORT V` says, from the field behind the word on.
-fn read_send(pid: &[u8], fields: &mut Fields, entry: &mut Entry) -> Result<(), Kind>
-    ensures { Fills result entry.new (read_send pid.now fields.old) }
+fn read_send(
+    edition: Edition,
+    pid: &[u8],
+    fields: &mut Fields,
+    entry: &mut Entry,
+) -> Result<(), Kind>
+    ensures { Fills result entry.new (read_send edition pid.now fields.old) }
 {
     let Some(port) = fields.next_field() else {
         return Err(Kind::BadStep);
@@ -160,7 +166,7 @@ fn read_send(pid: &[u8], fields: &mut Fields, entry: &mut Entry) -> Result<(), K
         return Err(Kind::BadStep);
     }
     let pid = process(pid)?;
-    let case = send_of(port, value)?;
+    let case = send_of(edition, port, value)?;
     entry.pid = Pid(pid);
     set_call(&mut entry.step, case);
     Ok(())
@@ -192,11 +198,11 @@ fn read_step(
     if same_text(word, b"make") {
         read_one_number(pid, OneNumber::Make, fields, entry)
     } else if same_text(word, b"send") {
-        read_send(pid, fields, entry)
+        read_send(edition, pid, fields, entry)
     } else if same_text(word, b"recv") {
         read_one_number(pid, OneNumber::Recv, fields, entry)
     } else if same_text(word, b"select") {
-        read_select(pid, fields, entry)
+        read_select(edition, pid, fields, entry)
     } else if same_text(word, b"close") {
         read_one_number(pid, OneNumber::Close, fields, entry)
     } else if same_text(word, b"exit") {

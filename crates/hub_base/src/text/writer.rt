@@ -12,8 +12,8 @@ ghost use Rattle.hub_base.specs.Writing.{Appends, spaced, spaced_cases, HasRoomF
 ghost use Rattle.hub_base.specs.Value.{value_field};
 
 use crate::limits::{MOST_LINE, MOST_PROCS};
-use crate::text::event_lines::put_event;
-use crate::{Case, Edition, Entry, Event, Head, Journal, NoMemory, Step, Value};
+use crate::text::event_lines::{MOST_VALUE, put_bytes, put_event};
+use crate::{Case, Edition, Entry, Event, Head, Journal, NoMemory, Port, Step, Value};
 use itoa::Buffer;
 use std::alloc::AllocError;
 
@@ -49,10 +49,35 @@ fn put_before_number(out: &mut Vec<u8>, before: &[u8], n: u64) -> Result<(), All
 }
 
 /// Appends a value.
+#[tactic(auto, using(crate::proofs::Values::field_number, crate::proofs::Values::field_bytes))]
 fn put_value(out: &mut Vec<u8>, value: Value) -> Result<(), AllocError>
-    ensures { Appends out.old out.new (value_field value) result }
+    ensures items { out.new.items ≡ (if is_ok result then out.old.items ++ value_field value else out.old.items) }
+    ensures capacity { vec_capacity out.old ≤ vec_capacity out.new }
+    ensures succeeds { HasRoomFor out.old (value_field value) → IsOk result }
 {
-    put_number(out, value.number())
+    match value.as_num() {
+        Some(number) => put_number(out, number),
+        None => {
+            let mut field = [0; MOST_VALUE];
+            let end = put_bytes(&mut field, 0, &value);
+            put(out, &field[..end])
+        }
+    }
+}
+
+/// Appends a word, or what else stands before a port, the port, a mark and a value.
+fn put_send(
+    out: &mut Vec<u8>,
+    before: &[u8],
+    port: Port,
+    mark: &[u8],
+    value: Value,
+) -> Result<(), AllocError>
+    ensures { Appends out.old out.new (before.now ++ decimal port.0 ++ mark.now ++ value_field value) result }
+{
+    put_before_number(out, before, port.0.into())?;
+    put(out, mark)?;
+    put_value(out, value)
 }
 
 /// The end of an append that began at this place: where a growth was refused, the bytes from there on
@@ -94,11 +119,7 @@ fn put_case(out: &mut Vec<u8>, case: Case) -> Result<(), AllocError>
     ensures { Appends out.old out.new (codes " " ++ case_field case) result }
 {
     match case {
-        Case::Send(port, value) => {
-            put_before_number(out, b" s", port.0.into())?;
-            put(out, b":")?;
-            put_value(out, value)
-        }
+        Case::Send(port, value) => put_send(out, b" s", port, b":", value),
         Case::Recv(port) => put_before_number(out, b" r", port.0.into()),
     }
 }
@@ -136,11 +157,7 @@ fn put_call(out: &mut Vec<u8>, cases: &[Case], default: bool, word: u64) -> Resu
         return put_select(out, cases, default, word);
     }
     match cases[0] {
-        Case::Send(port, value) => {
-            put_before_number(out, b" send ", port.0.into())?;
-            put(out, b" ")?;
-            put_value(out, value)
-        }
+        Case::Send(port, value) => put_send(out, b" send ", port, b" ", value),
         Case::Recv(port) => put_before_number(out, b" recv ", port.0.into()),
     }
 }

@@ -1,6 +1,6 @@
 //! Values, cases, and the numbers and texts of faults and of what is wrong with a line.
 
-use hub_base::{Case, Cases, Fault, Kind, Port, Value, copy_cases};
+use hub_base::{Case, Cases, Edition, Fault, Kind, Port, Value, copy_cases};
 use std::test::Fail;
 
 #[test]
@@ -8,6 +8,36 @@ fn values_are_numbers(rt: HostRuntime) {
     for number in [0, 7, u64::MAX] {
         assert_eq!(rt; Value::num(number).as_num(), Some(number));
     }
+}
+
+#[test]
+fn values_are_bytes(rt: HostRuntime) {
+    let most: [u8; 32] = *b"an even number of bytes, all 32.";
+    for bytes in [b"".as_slice(), b"\x00", b"\x00\xff", &most] {
+        let Some(value) = Value::bytes(bytes) else {
+            panic!(rt; "{bytes:?} are no value");
+        };
+        assert_eq!(rt; value.as_num(), None);
+        assert_eq!(rt; usize::from(value.len()), bytes.len());
+        for (i, byte) in bytes.iter().enumerate() {
+            assert_eq!(rt; value.byte(i as u8), Some(*byte));
+        }
+        assert_eq!(rt; value.byte(value.len()), None);
+        assert_eq!(rt; Value::bytes(bytes), Some(value));
+        assert!(rt; value.fits(Edition::Two));
+        assert!(rt; !value.fits(Edition::One));
+    }
+    assert_eq!(rt; Value::bytes(&[0; 33]), None);
+}
+
+#[test]
+fn a_number_has_no_bytes(rt: HostRuntime) {
+    let value = Value::num(7);
+    assert_eq!(rt; value.len(), 0);
+    assert_eq!(rt; value.byte(0), None);
+    assert!(rt; value.fits(Edition::One));
+    assert!(rt; Some(value) != Value::bytes(&[7, 0, 0, 0, 0, 0, 0, 0]));
+    assert_eq!(rt; Value::default(), Value::num(0));
 }
 
 #[test]

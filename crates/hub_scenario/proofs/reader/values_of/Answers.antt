@@ -32,7 +32,8 @@ returns-in_err-scripts-clause-fault c =
     let said : ¬ (e ≡ NoMemory) → values_of f ≡ Err e = λ own.
     scripts-bad f c.in-Some.seed c.in-Some-within.limit c.in-Some-edition_of.edition c.in_ok-ports.ports.items e (search rules) (search rules) (search rules)
     c.in_ok-ports.ensures.ok
-    (scripts-say c.args.frame.now.process.items c.as_slice.result.now (Err e) c.as_slice.ensures.value (search (rules, arith, length-map))
+    (scripts-say c.in-Some-edition_of.edition c.args.frame.now.process.items c.as_slice.result.now (Err e) c.as_slice.ensures.value
+    (search (rules, arith, length-map))
     (search (rules, arith, length-map)) (c.in_err-scripts.ensures.fault own)) in
     search (rules, said)
 
@@ -40,5 +41,6 @@ pub returns-clause-ok : goal.returns-clause-ok
 returns-clause-ok c =
     values-good (frame_view c.args.frame.now) c.in-Some.seed c.in-Some-within.limit c.in-Some-edition_of.edition c.in_ok-ports.ports.items
     (map vec_items c.in_ok-scripts.scripts.items) (search rules) (search rules) (search rules) c.in_ok-ports.ensures.ok
-    (scripts-say c.args.frame.now.process.items c.as_slice.result.now _ c.as_slice.ensures.value (search (rules, arith, length-map))
+    (scripts-say c.in-Some-edition_of.edition c.args.frame.now.process.items c.as_slice.result.now _ c.as_slice.ensures.value
+    (search (rules, arith, length-map))
     (search (rules, arith, length-map)) c.in_ok-scripts.ensures.ok)

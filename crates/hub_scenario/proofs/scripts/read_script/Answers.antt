@@ -15,10 +15,10 @@ loop-value-preserved c =
     let rest = items_view (drop (k + 1) all) in
     let pushed : c.push.new.self.items ≡ done ++ c.in-Some.read ∷ [] = search rules in
     let cut = cut_at all c.deref-value-items.result.now k v c.deref-value-items.ensures.value c.loop-value-test.true c.value-item.is in
-    let said = step-within i (view v) (omega arith) ∙ sym c.step_in.ensures ∙ c.in-Some.is in
+    let said = step-within c.args.edition i (view v) (omega arith) ∙ sym c.step_in.ensures ∙ c.in-Some.is in
     record {
-      same = c.loop-value.invariant.same ∙ step-more c.args.process i done (items_view (drop k all)) (view v) rest c.in-Some.read cut said
-          ∙ ap (λ xs. onto xs (script_from c.args.process (i + 1) rest)) (sym pushed);
+      same = c.loop-value.invariant.same ∙ step-more c.args.edition c.args.process i done (items_view (drop k all)) (view v) rest c.in-Some.read cut said
+          ∙ ap (λ xs. onto xs (script_from c.args.edition c.args.process (i + 1) rest)) (sym pushed);
       count = search rules;
       few = omega arith;
     }
@@ -30,8 +30,9 @@ returns-then-step-ge-MOST_SCRIPT_STEPS-clause-fault c _ =
     let all = c.args.steps.now.items in
     let v = c.value-item.result in
     let cut = cut_at all c.deref-value-items.result.now k v c.deref-value-items.ensures.value c.loop-value-test.true c.value-item.is in
-    c.loop-value.invariant.same ∙ step-refused c.args.process i c.loop-value.script.items (items_view (drop k all)) (view v) (items_view (drop (k + 1) all))
-    cut (step-past i (view v) (omega arith))
+    c.loop-value.invariant.same ∙ step-refused c.args.edition c.args.process i c.loop-value.script.items (items_view (drop k all)) (view v)
+    (items_view (drop (k + 1) all))
+    cut (step-past c.args.edition i (view v) (omega arith))
 
 pub returns-in_default-clause-fault : goal.returns-in_default-clause-fault
 returns-in_default-clause-fault c _ =
@@ -40,12 +41,14 @@ returns-in_default-clause-fault c _ =
     let all = c.args.steps.now.items in
     let v = c.value-item.result in
     let cut = cut_at all c.deref-value-items.result.now k v c.deref-value-items.ensures.value c.loop-value-test.true c.value-item.is in
-    let said = step-within i (view v) (omega arith) ∙ sym c.step_in.ensures ∙ c.in_default.is in
-    c.loop-value.invariant.same ∙ step-refused c.args.process i c.loop-value.script.items (items_view (drop k all)) (view v) (items_view (drop (k + 1) all))
+    let said = step-within c.args.edition i (view v) (omega arith) ∙ sym c.step_in.ensures ∙ c.in_default.is in
+    c.loop-value.invariant.same ∙ step-refused c.args.edition c.args.process i c.loop-value.script.items (items_view (drop k all)) (view v)
+    (items_view (drop (k + 1) all))
     cut said
 
 pub returns-clause-ok : goal.returns-clause-ok
 returns-clause-ok c =
     let none = drop_all c.loop-value.value-index c.args.steps.now.items (search (rules, arith)) in
-    c.loop-value.invariant.same ∙ ap (λ rest. onto c.loop-value.script.items (script_from c.args.process c.loop-value.step (items_view rest))) none
+    c.loop-value.invariant.same ∙ ap (λ rest. onto c.loop-value.script.items
+    (script_from c.args.edition c.args.process c.loop-value.step (items_view rest))) none
     ∙ ap Ok (append-nil c.loop-value.script.items)

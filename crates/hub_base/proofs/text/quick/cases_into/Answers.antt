@@ -5,4 +5,4 @@ pub loop-case-preserved : goal.loop-case-preserved
 loop-case-preserved c =
     let loop = c.loop-case in
     let e = c.push.ensures.items in
-    rw e (cases-push c.args.bytes.now c.args.start loop.cases.items loop.end c.in-Some.case c.in-Some.next loop.invariant c.in-Some.ensures)
+    rw e (cases-push c.args.edition c.args.bytes.now c.args.start loop.cases.items loop.end c.in-Some.case c.in-Some.next loop.invariant c.in-Some.ensures)

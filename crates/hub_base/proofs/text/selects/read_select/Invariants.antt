@@ -8,7 +8,8 @@ use Rattle.hub_base.proofs.text.selects.read_select.Given as goal
 -- the fields that are left say the same behind the cases so far
 abbrev pub invariant-loop-field : goal.invariant-loop-field
 invariant-loop-field l = record {
-  same : read_select l.pid l.word (ends_default l.initial.fields) ≡ rest_of l.pid l.word l.count (so_far l.fine l.cases.items) (ends_default l.fields);
+  same : read_select l.edition l.pid l.word (ends_default l.initial.fields) ≡ rest_of l.edition l.pid l.word l.count (so_far l.fine l.cases.items)
+      (ends_default l.fields);
   room : array_vec_len l.cases ≤ l.count;
   few : l.count ≤ CASE_PLACES;
 }

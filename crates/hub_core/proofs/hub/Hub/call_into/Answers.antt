@@ -1,8 +1,9 @@
-use Rattle.std.proofs.Common.{arith, ◌≡◌, ◌∙◌, Ok, ap, refl, subst}
+use Rattle.std.proofs.Common.{arith, ◌≡◌, ◌∙◌, Ok, ap, refl, subst, sym, true}
 use Rattle.hub_base.specs.declared.entry.Entry.{Entry}
 use Rattle.hub_core.specs.Follows.{Turns}
 use Rattle.hub_core.specs.HubKeeps.{Takes}
-use Rattle.hub_core.specs.HubView.{HubInMemory, StepRules, call_of}
+use Rattle.hub_base.specs.Head.{is_of}
+use Rattle.hub_core.specs.HubView.{HubView, HubInMemory, StepRules, call_of}
 use Rattle.hub_core.proofs.Hubs.{has_place, keeps_made, last_at, refused_so, rules_made, shown, steps_made, such_call, taken_call, turn_admitted, turn_steps}
 use Rattle.hub_core.proofs.hub.Hub.call_into.Goals as goal
 use Rattle.hub_core.proofs.hub.Hub.call_into.Goals.{After-index}
@@ -44,8 +45,10 @@ pub invariant_of-self : goal.invariant_of-self
 invariant_of-self c =
     let made = c.before.before.before.before.before.before in
     let turns = subst (λ (x : Entry). Turns c.self.inside.machine x c.turn.new.self c.turn.new.events.items) (written made) c.in-Ok.ensures.ok in
+    let was = ap (λ (m : HubInMemory). m.hub) c.self.view_is ∙ c.in_ok-admit.ensures.same in
+    let fits = subst (λ (h : HubView). is_of h.terms.head.edition (entry made).step ≡ true) (sym was) c.requires.fits in
     keeps_made c.self.inside (entry made) c.push_call.new.entries c.turn.new.self c.turn.new.events.items _ _ c.self.invariant (takes made)
-    refl turns c.push_call.ensures.items c.push_call.ensures.capacity refl c.saturating_sub-self-inside.ensures
+    fits turns c.push_call.ensures.items c.push_call.ensures.capacity refl c.saturating_sub-self-inside.ensures
 
 pub returns-clause-ok : goal.returns-clause-ok
 returns-clause-ok c =

@@ -1,0 +1,53 @@
+-- A value and what it says.
+use Rattle.std.proofs.Common.{◌≡◌, ℕ, ◌+◌, ◌-◌, true, List, ◌∷◌, ◌++◌, length, drop, replicate, Some, None, refl, ap, ◌∙◌, sym, subst, arith}
+use Rattle.std.proofs.lemmas.Bool.{lt-ltb}
+use Rattle.std.proofs.lemmas.List.{drop-replicate}
+use Rattle.std.proofs.lemmas.Nat.{from_le_bytes-to_le_bytes_8}
+use Rattle.std.proofs.Math.Seq.{take-append_seam}
+use Rattle.std.specs.Prelude.{nat_lt, decimal}
+use Rattle.hex.specs.Hex.{encode_lower}
+use Rattle.hub_base.specs.declared.limits.TheConstants.{MOST_VALUE_BYTES}
+use Rattle.hub_base.specs.declared.value.Value.{Value}
+use Rattle.hub_base.specs.Value.{Content, content, saying, bytes_of, IsContent, IsValue, bytes_in, number_in, field_of}
+use Rattle.hub_base.specs.Value.Content.{Num, Bytes}
+
+-- behind the bytes there are zeros
+pub zeros_behind : (bs : List ℕ) → drop (length bs) (replicate {A = ℕ} MOST_VALUE_BYTES 0) ≡ replicate (MOST_VALUE_BYTES - length bs) 0
+zeros_behind bs = drop-replicate {X = ℕ} (length bs) MOST_VALUE_BYTES 0
+
+abbrev kept : List ℕ → List ℕ → Value
+kept bs tail = record { form = length bs + 1; bytes = bs ++ tail }
+
+abbrev formed : ℕ → List ℕ → Value
+formed n bytes = record { form = n; bytes = bytes }
+
+-- bytes with zeros behind them are the value
+pub formed_is : (bs first tail : List ℕ) → first ≡ bs → tail ≡ replicate (MOST_VALUE_BYTES - length bs) 0
+    → formed (length bs + 1) (first ++ tail) ≡ bytes_of bs
+formed_is bs first tail is zeros =
+    ap (λ xs. formed (length bs + 1) (xs ++ tail)) is ∙ ap (λ ys. formed (length bs + 1) (bs ++ ys)) zeros
+
+-- bytes say what they are
+pub content_of : (bs tail : List ℕ) → content (kept bs tail) ≡ Bytes bs
+content_of bs tail =
+    let some : nat_lt 0 (length bs + 1) ≡ true = lt-ltb _ _ (omega arith) in
+    let less : length bs + 1 - 1 ≡ length bs = omega arith in
+    rw (some, less) (ap Bytes (take-append_seam bs tail))
+
+-- the value that says this says it
+pub content-saying : (c : Content) → IsContent c → content (saying c) ≡ c
+content-saying (Num n) fits = ap Num (from_le_bytes-to_le_bytes_8 n (omega (arith, fits)))
+content-saying (Bytes bs) fits = content_of bs (replicate (MOST_VALUE_BYTES - length bs) 0)
+
+-- and is one
+pub is-value : (c : Content) → IsContent c → IsValue (saying c)
+is-value c fits = record { fits = subst IsContent (sym (content-saying c fits)) fits; one = ap saying (content-saying c fits) }
+
+-- the field of a number, and of bytes
+pub field_number : (c : Content) (n : ℕ) → number_in c ≡ Some n → field_of c ≡ decimal n
+field_number (Num m) n h = let same : m ≡ n = cc in ap decimal same
+field_number (Bytes bs) n h = cc
+
+pub field_bytes : (c : Content) → number_in c ≡ None → field_of c ≡ 35 ∷ encode_lower (bytes_in c)
+field_bytes (Num n) h = cc
+field_bytes (Bytes bs) h = refl

@@ -1,0 +1,51 @@
+//! Values that are read: a number, or behind the mark `#` the hexadecimal digits of bytes.
+
+ghost use Rattle.std.specs.Prelude.{◌≡◌, ◌||◌, ◌&&◌, nat_le};
+ghost use Rattle.std.specs.List.{list_all};
+ghost use Rattle.std.specs.Option.{option_map};
+ghost use Rattle.hub_base.specs.Value.{saying};
+ghost use Rattle.hub_base.specs.Lines.{bytes_value, is_hex, value_read};
+
+use crate::limits::{GREATEST_VALUE, MOST_VALUE_BYTES};
+use crate::text::numbers::number;
+use crate::{Edition, Kind, Value};
+
+/// Whether it is a hexadecimal digit in lower case.
+fn is_hex(digit: u8) -> bool
+    ensures { result ≡ is_hex digit }
+{
+    digit.is_ascii_digit() || (b'a'..=b'f').contains(&digit)
+}
+
+/// Whether all of them are.
+fn all_hex(digits: &[u8]) -> bool
+    ensures { result ≡ list_all is_hex digits.now }
+{
+    digits.iter().all(|digit| is_hex(*digit))
+}
+
+/// The bytes that these digits spell, two digits each.
+pub fn bytes_value(digits: &[u8]) -> Option<Value>
+    ensures { result ≡ option_map saying (bytes_value digits.now) }
+{
+    if digits.len() > 2 * MOST_VALUE_BYTES || !all_hex(digits) {
+        return None;
+    }
+    let mut places = [0; MOST_VALUE_BYTES];
+    let bytes = &mut places[..digits.len() / 2];
+    match hex::decode_to_slice(digits, bytes) {
+        Ok(()) => Value::bytes(bytes),
+        Err(_odd) => None,
+    }
+}
+
+/// The value that a field spells in a journal of this edition.
+pub fn read_value(edition: Edition, field: &[u8]) -> Result<Value, Kind>
+    ensures { result ≡ value_read edition field.now }
+{
+    let value = match field.split_first() {
+        Some((b'#', digits)) if edition.has_bytes() => bytes_value(digits),
+        _ => number(field, GREATEST_VALUE).map(Value::num),
+    };
+    value.ok_or(Kind::BadNumber)
+}

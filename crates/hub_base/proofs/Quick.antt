@@ -1,11 +1,12 @@
 -- A spelling that stands between two places of some bytes.
 use Rattle.std.proofs.Common.{◌≡◌, ◌≢◌, ℕ, zero, suc, ◌+◌, ◌*◌, ◌-◌, ◌<◌, ◌≤◌, ◌^◌, Bool, true, false, ◌&&◌, cond, Some, Ok, List, [], ◌∷◌, ◌++◌, codes}
-use Rattle.std.proofs.Common.{length, take, drop, get_or, refl, ap, ◌∙◌, sym, subst, arith, add-one, drop-cons, length-drop}
+use Rattle.std.proofs.Common.{length, take, drop, get_or, refl, ap, ◌∙◌, sym, subst, arith, add-one, drop-cons, length-drop, get_or-drop}
 use Rattle.std.proofs.Common.{append_assoc, append-nil, length-append}
 use Rattle.std.proofs.lemmas.Grind.{common_steps}
 use Rattle.std.proofs.lemmas.Fmt.{decimal_digit, first_decimal, decimal_nonempty}
 use Rattle.std.proofs.lemmas.Int.Digits.{digits_value_push}
 use Rattle.std.proofs.lemmas.List.{get_or_append_left, take-append-drop}
+use Rattle.std.proofs.Math.Seq.{take-suc}
 use Rattle.std.proofs.lemmas.List.Folds.{list_all-append}
 use Rattle.std.proofs.lemmas.Str.{digit_value_digit}
 use Rattle.std.specs.Fmt.{decimal}
@@ -18,17 +19,18 @@ use Rattle.std.proofs.lemmas.Nat.{le_bytes_4}
 use Rattle.hub_base.specs.declared.entry.Entry.{Entry}
 use Rattle.hub_base.specs.declared.head.Edition.{Edition}
 use Rattle.hub_base.specs.declared.head.Head.{Head}
-use Rattle.hub_base.specs.declared.limits.TheConstants.{GREATEST_PID, MOST_BYTES, MOST_STEPS}
+use Rattle.hub_base.specs.declared.limits.TheConstants.{GREATEST_PID, GREATEST_PORT, MOST_BYTES, MOST_STEPS}
 use Rattle.hub_base.specs.declared.case.Case.{Case}
 use Rattle.hub_base.specs.declared.case.Case.TheVariants.{Send, Recv}
 use Rattle.hub_base.specs.declared.entry.Step.{Step}
 use Rattle.hub_base.specs.Head.{has_bytes, has_case, is_of}
+use Rattle.hub_base.specs.declared.value.Port.{Port}
 use Rattle.hub_base.specs.declared.value.Value.{Value}
-use Rattle.hub_base.specs.Value.{saying}
+use Rattle.hub_base.specs.Value.{saying, value_field}
 use Rattle.std.specs.Option.{option_map}
 use Rattle.hub_base.specs.Writing.{spaced, spaced_cases}
-use Rattle.hub_base.specs.Lines.{line, step_fields, case_field, call_fields, select_fields, default_field, spelled, bytes_value}
-use Rattle.hub_base.specs.Quick.{EndsLine, Stands, ValueStands, CaseStands, CasesStand, SelectStands, StepStands, Begins}
+use Rattle.hub_base.specs.Lines.{line, step_fields, case_field, call_fields, select_fields, default_field, spelled, bytes_value, is_hex}
+use Rattle.hub_base.specs.Quick.{EndsLine, Stands, ValueStands, SendStands, CaseStands, CasesStand, SelectStands, StepStands, Begins}
 use Rattle.hub_base.specs.Reading.{Reading, Reads, Faulty, behind, is_exit, with_entry, entries_from, rows}
 use Rattle.hub_base.specs.Text.{CaseFits, StepFits, body, steps_of}
 use Rattle.hub_base.proofs.Bodies.{rows-entry}
@@ -103,6 +105,37 @@ stands-bytes ed bs start end digits v has mark later inside is said =
       fits = t.fits;
       of_edition = t.has;
     }
+
+-- one digit more
+pub digits-push : (bs : List ℕ) (first end : ℕ) → EndsLine bs → first ≤ end → end < length bs
+    → list_all is_hex (take (end - first) (drop first bs)) ≡ true → is_hex (get_or bs end 0) ≡ true
+    → (end + 1 < length bs) × (list_all is_hex (take (end + 1 - first) (drop first bs)) ≡ true)
+digits-push bs first end ends later inside all hex =
+    let step : end + 1 - first ≡ suc (end - first) = omega (arith, later) in
+    let count = length-drop first bs in
+    let more = take-suc (drop first bs) (end - first) 0 (omega (arith, count, inside, later)) in
+    let at : get_or (drop first bs) (end - first) 0 ≡ get_or bs end 0 = grind (arith, common_steps, get_or-drop) in (
+      ends end inside (λ newline. let no : is_hex 10 ≡ true = subst (λ x. is_hex x ≡ true) newline hex in cc),
+      ap (λ n. list_all is_hex (take n (drop first bs))) step ∙ ap (list_all is_hex) more
+          ∙ list_all-append is_hex (take (end - first) (drop first bs)) (get_or (drop first bs) (end - first) 0 ∷ []) ∙ rw (all, at, hex) refl,
+    )
+
+-- a port, a mark and a value are a case that sends
+pub send-stands : (ed : Edition) (bs : List ℕ) (start mark : ℕ) (p : Port) (at mid : ℕ) (v : Value) (end : ℕ)
+    → Stands bs start (decimal p.0) at → p.0 ≤ GREATEST_PORT → Stands bs at (mark ∷ []) mid → ValueStands ed bs mid v end
+    → SendStands ed bs start mark (Send p v) end
+send-stands ed bs start mark p at mid v end port few between value = record {
+  port = p;
+  value = v;
+  is = refl;
+  stands = record {
+    spelled = port.spelled ∙ ap (λ r. decimal p.0 ++ r) (between.spelled ∙ ap (λ r. mark ∷ r) value.stands.spelled)
+        ∙ sym (append_assoc (decimal p.0) (mark ∷ value_field v) (drop end bs));
+    inside = value.stands.inside;
+  };
+  fits = (few, value.fits);
+  of_edition = value.of_edition;
+}
 
 -- four bytes that are the same number are the same
 same-word : (xs ys : List ℕ) (n : ℕ) → length xs ≡ 4 → length ys ≡ 4 → ((i : ℕ) → get_or xs i 0 < 256) → ((i : ℕ) → get_or ys i 0 < 256)

@@ -8,7 +8,7 @@ use Rattle.std.specs.Prelude.{nat_lt, decimal}
 use Rattle.hex.specs.Hex.{encode_lower}
 use Rattle.hub_base.specs.declared.limits.TheConstants.{MOST_VALUE_BYTES}
 use Rattle.hub_base.specs.declared.value.Value.{Value}
-use Rattle.hub_base.specs.Value.{Content, content, saying, bytes_of, IsContent, IsValue, bytes_in, number_in, field_of}
+use Rattle.hub_base.specs.Value.{Content, content, saying, padded, IsContent, IsValue, bytes_in, number_in, field_of}
 use Rattle.hub_base.specs.Value.Content.{Num, Bytes}
 
 -- behind the bytes there are zeros
@@ -18,14 +18,9 @@ zeros_behind bs = drop-replicate {X = ℕ} (length bs) MOST_VALUE_BYTES 0
 abbrev kept : List ℕ → List ℕ → Value
 kept bs tail = record { form = length bs + 1; bytes = bs ++ tail }
 
-abbrev formed : ℕ → List ℕ → Value
-formed n bytes = record { form = n; bytes = bytes }
-
--- bytes with zeros behind them are the value
-pub formed_is : (bs first tail : List ℕ) → first ≡ bs → tail ≡ replicate (MOST_VALUE_BYTES - length bs) 0
-    → formed (length bs + 1) (first ++ tail) ≡ bytes_of bs
-formed_is bs first tail is zeros =
-    ap (λ xs. formed (length bs + 1) (xs ++ tail)) is ∙ ap (λ ys. formed (length bs + 1) (bs ++ ys)) zeros
+-- bytes with zeros behind them
+pub padded_is : (bs first tail : List ℕ) → first ≡ bs → tail ≡ replicate (MOST_VALUE_BYTES - length bs) 0 → first ++ tail ≡ padded bs
+padded_is bs first tail is zeros = ap (λ xs. xs ++ tail) is ∙ ap (λ ys. bs ++ ys) zeros
 
 -- bytes say what they are
 pub content_of : (bs tail : List ℕ) → content (kept bs tail) ≡ Bytes bs

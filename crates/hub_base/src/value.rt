@@ -1,8 +1,8 @@
 //! What a channel carries, and the numbers that name ports and processes.
 
-ghost use Rattle.std.specs.Prelude.{◌≡◌, ◌≤◌, ◌<◌, ◌↔◌, IfSome, IsNone, length, slice_get, true};
+ghost use Rattle.std.specs.Prelude.{◌≡◌, ◌≤◌, ◌<◌, ◌↔◌, ℕ, List, IfSome, IsNone, length, slice_get, true};
 ghost use Rattle.hub_base.specs.Head.{has_value};
-ghost use Rattle.hub_base.specs.Value.{content, value_of, bytes_of, number_in, bytes_in};
+ghost use Rattle.hub_base.specs.Value.{content, value_of, bytes_of, padded, number_in, bytes_in};
 ghost use Rattle.hub_base.specs.Value.Content.{Num, Bytes};
 
 use crate::Edition;
@@ -45,10 +45,19 @@ impl Value {
         }
         let mut places = [0; MOST_VALUE_BYTES];
         places[..bytes.len()].copy_from_slice(bytes);
-        Some(Value {
-            form: bytes.len() as u8 + 1,
+        Some(Value::of_places(bytes.len(), places))
+    }
+
+    /// The value that is the first of these bytes, where zeros stand behind them.
+    #[inline]
+    pub(crate) fn of_places(len: usize, places: [u8; MOST_VALUE_BYTES]) -> Value
+        requires { len ≤ MOST_VALUE_BYTES }
+        ensures { (bs : List ℕ) → length bs ≡ len → places ≡ padded bs → result ≡ bytes_of bs }
+    {
+        Value {
+            form: len as u8 + 1,
             bytes: places,
-        })
+        }
     }
 
     /// The number that the value is, unless it is bytes.

@@ -10,7 +10,7 @@ ghost use Rattle.hub_base.specs.Writing.{spaced};
 
 use crate::limits::{GREATEST_PID, GREATEST_PORT};
 use crate::text::steps::set_call;
-use crate::text::values::bytes_value;
+use crate::text::values::{decode, is_hex};
 use crate::{Case, Cases, Edition, Entry, Pid, Port, Step, Value};
 
 /// The number at this place, and the place behind it.
@@ -102,7 +102,7 @@ fn behind_words(bytes: &[u8], start: usize, first: &[u8; 4], second: &[u8; 4]) -
     behind_word(bytes, behind_word(bytes, start, first)?, second)
 }
 
-/// The value that is bytes and stands at this place, and the place behind it.
+/// The value that is bytes and stands at this place, and the place behind it. Most are numbers.
 #[inline(never)]
 fn bytes_at(edition: Edition, bytes: &[u8], start: usize) -> Option<(Value, usize)>
     requires line { EndsLine bytes.now }
@@ -115,66 +115,89 @@ fn bytes_at(edition: Edition, bytes: &[u8], start: usize) -> Option<(Value, usiz
     }
     let first = start + 1;
     let mut end = first;
-    while bytes[end] != b' ' && bytes[end] != b'\n' {
+    while is_hex(bytes[end]) {
         end += 1;
     }
-    Some((bytes_value(&bytes[first..end])?, end))
+    Some((decode(&bytes[first..end])?, end))
 }
 
-/// The value at this place, and the place behind it.
+/// The value that is a number and stands at this place, and the place behind it.
 #[inline]
-fn value_at(edition: Edition, bytes: &[u8], start: usize) -> Option<(Value, usize)>
+fn num_at(bytes: &[u8], start: usize) -> Option<(Value, usize)>
     requires line { EndsLine bytes.now }
     requires start { start < length bytes.now }
-    ensures { IfSome result (λ x. ValueStands edition bytes.now start x.0 x.1) }
+    ensures { IfSome result (λ x. (edition : Edition) → ValueStands edition bytes.now start x.0 x.1) }
 {
-    if bytes[start] == b'#' {
-        return bytes_at(edition, bytes, start);
-    }
     let (number, end) = number_at(bytes, start)?;
     Some((Value::num(number), end))
 }
 
-/// The case that sends and whose port and value stand at this place with this mark between them, and the place
-/// behind it.
+/// The port whose number stands at this place, and the place behind it.
 #[inline]
-fn send_at(edition: Edition, bytes: &[u8], start: usize, mark: u8) -> Option<(Case, usize)>
+fn port_at(bytes: &[u8], start: usize) -> Option<(Port, usize)>
+    requires line { EndsLine bytes.now }
+    requires start { start < length bytes.now }
+    ensures spelled { IfSome result (λ x. Stands bytes.now start (decimal x.0.0) x.1) }
+    ensures fits { IfSome result (λ x. x.0.0 ≤ GREATEST_PORT) }
+{
+    let (port, end) = number_up_to(GREATEST_PORT.into(), bytes, start)?;
+    Some((Port(port as u16), end))
+}
+
+/// Reads the case that sends and whose port and value stand at this place with this mark between them, and gives
+/// the place behind it. It is written once, since it is large.
+#[inline]
+fn send_into(
+    edition: Edition,
+    bytes: &[u8],
+    start: usize,
+    mark: u8,
+    case: &mut Case,
+) -> Option<usize>
     requires line { EndsLine bytes.now }
     requires start { start < length bytes.now }
     requires mark { mark ≢ 10 }
-    ensures { IfSome result (λ x. SendStands edition bytes.now start mark x.0 x.1) }
+    ensures { IfSome result (λ end. SendStands edition bytes.now start mark case.new end) }
 {
-    let (port, end) = number_up_to(GREATEST_PORT.into(), bytes, start)?;
+    let (port, end) = port_at(bytes, start)?;
     let end = behind(bytes, end, mark)?;
-    let (value, end) = value_at(edition, bytes, end)?;
-    Some((Case::Send(Port(port as u16), value), end))
+    if bytes[end] == b'#' {
+        let (value, end) = bytes_at(edition, bytes, end)?;
+        *case = Case::Send(port, value);
+        Some(end)
+    } else {
+        let (value, end) = num_at(bytes, end)?;
+        *case = Case::Send(port, value);
+        Some(end)
+    }
 }
 
-/// The case that receives and whose port stands at this place, and the place behind it.
+/// Reads the case that receives and whose port stands at this place, and gives the place behind it.
 #[inline(always)]
-fn recv_at(bytes: &[u8], start: usize) -> Option<(Case, usize)>
+fn recv_into(bytes: &[u8], start: usize, case: &mut Case) -> Option<usize>
     requires line { EndsLine bytes.now }
     requires start { start < length bytes.now }
-    ensures { IfSome result (λ x. RecvStands bytes.now start x.0 x.1) }
+    ensures { IfSome result (λ end. RecvStands bytes.now start case.new end) }
 {
-    let (port, end) = number_up_to(GREATEST_PORT.into(), bytes, start)?;
-    Some((Case::Recv(Port(port as u16)), end))
+    let (port, end) = port_at(bytes, start)?;
+    *case = Case::Recv(port);
+    Some(end)
 }
 
-/// The case of a plain send or receive, from the space before the word on, and the place behind it.
+/// Reads the case of a plain send or receive, from the space before the word on, and gives the place behind it.
 #[inline]
-fn plain_at(edition: Edition, bytes: &[u8], start: usize) -> Option<(Case, usize)>
+fn plain_case_into(edition: Edition, bytes: &[u8], start: usize, case: &mut Case) -> Option<usize>
     requires line { EndsLine bytes.now }
     requires start { start < length bytes.now }
-    ensures { IfSome result (λ x.
-        CaseStands edition bytes.now start (spaced (call_fields (x.0 ∷ []) false 0)) x.0 x.1) }
+    ensures { IfSome result (λ end.
+        CaseStands edition bytes.now start (spaced (call_fields (case.new ∷ []) false 0)) case.new end) }
 {
     let start = behind(bytes, start, b' ')?;
     if let Some(end) = behind_word(bytes, start, b"send") {
-        send_at(edition, bytes, behind(bytes, end, b' ')?, b' ')
+        send_into(edition, bytes, behind(bytes, end, b' ')?, b' ', case)
     } else {
         let end = behind_word(bytes, start, b"recv")?;
-        recv_at(bytes, behind(bytes, end, b' ')?)
+        recv_into(bytes, behind(bytes, end, b' ')?, case)
     }
 }
 
@@ -185,23 +208,24 @@ fn plain_into(edition: Edition, bytes: &[u8], start: usize, step: &mut Step) -> 
     requires start { start < length bytes.now }
     ensures { IfSome result (λ end. StepStands edition bytes.now start step.new end) }
 {
-    let (case, end) = plain_at(edition, bytes, start)?;
+    let mut case = Case::default();
+    let end = plain_case_into(edition, bytes, start, &mut case)?;
     set_call(step, case);
     Some(end)
 }
 
-/// The case of a select, from the space before it on, and the place behind it.
+/// Reads the case of a select, from the space before it on, and gives the place behind it.
 #[inline]
-fn case_at(edition: Edition, bytes: &[u8], start: usize) -> Option<(Case, usize)>
+fn case_into(edition: Edition, bytes: &[u8], start: usize, case: &mut Case) -> Option<usize>
     requires line { EndsLine bytes.now }
     requires start { start < length bytes.now }
-    ensures { IfSome result (λ x. CaseStands edition bytes.now start (codes " " ++ case_field x.0) x.0 x.1) }
+    ensures { IfSome result (λ end. CaseStands edition bytes.now start (codes " " ++ case_field case.new) case.new end) }
 {
     let start = behind(bytes, start, b' ')?;
     if let Some(end) = behind(bytes, start, b's') {
-        send_at(edition, bytes, end, b':')
+        send_into(edition, bytes, end, b':', case)
     } else {
-        recv_at(bytes, behind(bytes, start, b'r')?)
+        recv_into(bytes, behind(bytes, start, b'r')?, case)
     }
 }
 
@@ -213,8 +237,9 @@ fn cases_into(edition: Edition, bytes: &[u8], start: usize, cases: &mut Cases) -
     ensures { IfSome result (λ end. CasesStand edition bytes.now start cases.new.items end) }
 {
     cases.clear();
+    let mut case = Case::default();
     let mut end = start;
-    while let Some((case, next)) = case_at(edition, bytes, end) {
+    while let Some(next) = case_into(edition, bytes, end, &mut case) {
         if cases.is_full() {
             return None;
         }

@@ -175,7 +175,7 @@ impl<'a> Reader<'a> {
     /// at a fault the reader stays where it is, so that each further call answers the same, and the
     /// entry may be any.
     ///
-    /// An entry takes some 600 bytes, so a loop over a long text reads them all into one.
+    /// An entry takes some 650 bytes, so a loop over a long text reads them all into one.
     #[inline(always)]
     pub fn read_into(&mut self, entry: &mut Entry) -> Result<bool, TextFault>
         ensures reads { FillsOn self.old self.new entry.new result }

@@ -1,6 +1,6 @@
 //! Values that are read: a number, or behind the mark `#` the hexadecimal digits of bytes.
 
-ghost use Rattle.std.specs.Prelude.{◌≡◌, ◌||◌, ◌&&◌, nat_le};
+ghost use Rattle.std.specs.Prelude.{◌≡◌, ◌||◌, ◌&&◌, nat_le, true};
 ghost use Rattle.std.specs.List.{list_all};
 ghost use Rattle.std.specs.Option.{option_map};
 ghost use Rattle.hub_base.specs.Value.{saying};
@@ -11,7 +11,8 @@ use crate::text::numbers::number;
 use crate::{Edition, Kind, Value};
 
 /// Whether it is a hexadecimal digit in lower case.
-fn is_hex(digit: u8) -> bool
+#[inline]
+pub fn is_hex(digit: u8) -> bool
     ensures { result ≡ is_hex digit }
 {
     digit.is_ascii_digit() || (b'a'..=b'f').contains(&digit)
@@ -25,17 +26,29 @@ fn all_hex(digits: &[u8]) -> bool
 }
 
 /// The bytes that these digits spell, two digits each.
-pub fn bytes_value(digits: &[u8]) -> Option<Value>
+pub fn decode(digits: &[u8]) -> Option<Value>
+    requires { list_all is_hex digits.now ≡ true }
     ensures { result ≡ option_map saying (bytes_value digits.now) }
 {
-    if digits.len() > 2 * MOST_VALUE_BYTES || !all_hex(digits) {
+    if digits.len() > 2 * MOST_VALUE_BYTES {
         return None;
     }
+    let half = digits.len() / 2;
     let mut places = [0; MOST_VALUE_BYTES];
-    let bytes = &mut places[..digits.len() / 2];
-    match hex::decode_to_slice(digits, bytes) {
-        Ok(()) => Value::bytes(bytes),
+    match hex::decode_to_slice(digits, &mut places[..half]) {
+        Ok(()) => Some(Value::of_places(half, places)),
         Err(_odd) => None,
+    }
+}
+
+/// The bytes that these digits spell, where all are digits.
+fn bytes_value(digits: &[u8]) -> Option<Value>
+    ensures { result ≡ option_map saying (bytes_value digits.now) }
+{
+    if all_hex(digits) {
+        decode(digits)
+    } else {
+        None
     }
 }
 

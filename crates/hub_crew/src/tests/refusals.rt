@@ -30,13 +30,14 @@ fn opening_is_whole_or_refused(rt: HostRuntime) -> Result<(), Fail> {
     Ok(())
 }
 
-/// Makes a call and, where memory was refused, the same once more.
-fn call_again<K: HubName, R: Wait>(
+/// Makes a call, which the hub's edition must have, and, where memory was refused, the same once more.
+fn call_again<K: HubName, R: Wait + Abort>(
     rt: &R,
     hub: &LiveHub<K>,
     seat: &mut Held<K>,
     case: Case,
 ) -> Result<Event, Fault> {
+    assert!(rt; case.fits(hub.head().edition));
     match seat.call(rt, hub, Cases::one(case), false, 0) {
         Err(Fault::NoMemory) => seat.call(rt, hub, Cases::one(case), false, 0),
         answer => answer,

@@ -7,6 +7,7 @@ use hub_base::{Edition, Event, Fault, Pid, Port, Value, What};
 use hub_live::{Chan, Held, HubName, LiveHub};
 use std::sync::Wait;
 use std::sync::atomic::{AtomicBool, Ordering};
+use std::thread;
 
 /// One call of each process.
 #[derive(Clone, Copy)]
@@ -40,7 +41,8 @@ pub struct CancelOne<'a> {
 }
 
 /// Waits until process 1 has told that it begins, and cancels its call until that was open; then exits, so that
-/// nobody waits for ever. The last answer to a cancel.
+/// nobody waits for ever. The last answer to a cancel. Between its looks and its cancels the processor goes to whoever
+/// wants it, so that on a busy machine process 1 has its turn too.
 fn cancel_often<K: HubName, R: Wait>(
     rt: &R,
     hub: &LiveHub<K>,
@@ -57,6 +59,7 @@ fn cancel_often<K: HubName, R: Wait>(
         if begins.load(Ordering::SeqCst) {
             break;
         }
+        thread::yield_now();
     }
     for _ in 0..100_000u32 {
         last = seat.cancel(rt, hub, Pid(1));
@@ -65,6 +68,7 @@ fn cancel_often<K: HubName, R: Wait>(
         {
             break;
         }
+        thread::yield_now();
     }
     let _exit = seat.exit(rt, hub);
     last

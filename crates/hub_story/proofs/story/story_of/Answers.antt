@@ -1,0 +1,10 @@
+use Rattle.std.proofs.Common.{◌∙◌, sym}
+use Rattle.hub_story.proofs.Ending.{places-below, waits-still}
+use Rattle.hub_story.proofs.story.story_of.Goals as goal
+
+pub returns : goal.returns
+returns c =
+    let ends = rw (c.deref.ensures.value, c.entries.ensures) at c.in_ok-ends.ensures in
+    let waiting = rw (c.deref-3.ensures.value, c.deref-2.ensures.value) at c.in_ok-waiting.ensures in
+    let below = rw (sym c.in_ok-told.ensures) at (places-below c.args.journal.now.head c.args.journal.now.entries) in
+    record { told = c.in_ok-told.ensures; ends = ends; waiting = waiting ∙ waits-still _ _ _ ends below }

@@ -1,0 +1,32 @@
+-- What stories tell agrees with the values of a port and with time.
+use Rattle.std.specs.Prelude.{◌≡◌, ◌≤◌, List, map}
+use Rattle.std.specs.List.{AllByRecursion}
+use Rattle.hub_base.specs.declared.value.Port.{Port}
+use Rattle.hub_base.specs.declared.entry.Entry.{Entry}
+use Rattle.hub_base.specs.declared.head.Head.{Head}
+use Rattle.hub_base.specs.Values.{sent_values, received_values}
+use Rattle.hub_story.specs.declared.moved.Passage.{Passage}
+use Rattle.hub_story.specs.Told.{told}
+use Rattle.hub_story.specs.Passing.{sends, receives, passages}
+
+-- the values of the sends that are told are the values sent, in order; so with receives
+pub record SendsLaw (h : Head) (es : List Entry) : Type 0 where
+  pub sent : (p : Port) → map (λ m. m.value) (sends es (told h es) p) ≡ sent_values h es p
+  pub received : (p : Port) → map (λ m. m.value) (receives es (told h es) p) ≡ received_values h es p
+
+-- the value that is received is the one that was sent
+abbrev pub IsPassage : Passage → Type 0
+IsPassage m = m.sent.value ≡ m.received.value
+
+-- every passage is one, and each value that was received has one
+pub record PassagesLaw (h : Head) (es : List Entry) : Type 0 where
+  pub each : (p : Port) → AllByRecursion IsPassage (passages es (told h es) p)
+  pub all : (p : Port) → map (λ m. m.received) (passages es (told h es) p) ≡ receives es (told h es) p
+
+-- a value is received by no earlier step than it was sent
+abbrev pub IsInTime : Passage → Type 0
+IsInTime m = m.sent.told.by ≤ m.received.told.by
+
+-- of every port
+abbrev pub InTimeLaw : Head → List Entry → Type 0
+InTimeLaw h es = (p : Port) → AllByRecursion IsInTime (passages es (told h es) p)

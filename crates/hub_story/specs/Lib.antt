@@ -1,0 +1,9 @@
+pub mod Told
+pub mod LastCalls
+pub mod Passing
+pub mod Waiting
+pub mod Ends
+pub mod Sides
+pub mod Stories
+pub mod Laws
+pub mod StoryRows

@@ -1,0 +1,14 @@
+-- The two sides of a port: its sends, and its receives.
+use Rattle.std.specs.Prelude.{Option}
+use Rattle.hub_base.specs.declared.value.Port.{Port}
+use Rattle.hub_base.specs.declared.value.Value.{Value}
+use Rattle.hub_base.specs.declared.case.Case.{Case}
+use Rattle.hub_base.specs.declared.event.Outcome.{Outcome}
+use Rattle.hub_base.specs.Values.{sent_on, got_on}
+use Rattle.hub_story.specs.declared.passing.Side.{Side}
+use Rattle.hub_story.specs.declared.passing.Side.TheVariants.{Sends, Receives}
+
+-- the value that a case moved on this side of the port, by its outcome
+abbrev pub value_on : Side → Port → Option Case → Outcome → Option Value
+value_on Sends p = sent_on p
+value_on Receives p = got_on p

@@ -1,0 +1,97 @@
+-- Worked rows of what journals tell.
+use Rattle.std.specs.Prelude.{◌≡◌, ℕ, false, List, [], ◌∷◌, map, Option, Some, refl}
+use Rattle.std.specs.Option.{option_map}
+use Rattle.hub_base.specs.declared.entry.Entry.{Entry}
+use Rattle.hub_base.specs.declared.case.Case.TheVariants.{Send}
+use Rattle.hub_base.specs.declared.value.Value.{Value}
+use Rattle.hub_base.specs.Value.{bytes_of}
+use Rattle.hub_base.specs.Notation.{procs, procs_two, port, r, make, send, recv, exit, select, cancel, cancelled}
+use Rattle.hub_story.specs.declared.told.Told.{Told}
+use Rattle.hub_story.specs.declared.moved.Passage.{Passage}
+use Rattle.hub_story.specs.Told.{told, end_of}
+use Rattle.hub_story.specs.Passing.{passages}
+use Rattle.hub_story.specs.Waiting.{still_waiting, stalled_by}
+
+-- the places of the entries between which values went
+abbrev arrows : List Passage → List (ℕ × ℕ)
+arrows ms = map (λ m. (m.sent.told.asked, m.received.told.asked)) ms
+
+-- the entry by whose step the entry at this place ended
+abbrev ended_by : List Told → ℕ → Option ℕ
+ended_by all place = option_map (λ t. t.by) (end_of all place)
+
+abbrev places : List Told → List ℕ
+places ts = map (λ t. t.asked) ts
+
+-- a receiver waits, and is served by the send
+abbrev hand_over : List Entry
+hand_over = make 0 0 ∷ recv 1 1 ∷ send 0 1 9 ∷ []
+
+pub handed_over : arrows (passages hand_over (told (procs 2) hand_over) (port 1)) ≡ (2, 1) ∷ []
+handed_over = refl
+
+pub ended_by_the_send : ended_by (told (procs 2) hand_over) 1 ≡ Some 2
+ended_by_the_send = refl
+
+-- a full buffer: the receive lets the waiting sender in, and its value comes out later; the last
+-- value stays
+abbrev through_a_buffer : List Entry
+through_a_buffer = make 0 1 ∷ send 0 1 5 ∷ send 0 1 6 ∷ recv 1 1 ∷ recv 1 1 ∷ send 0 1 7 ∷ []
+
+pub in_order :
+    arrows (passages through_a_buffer (told (procs 2) through_a_buffer) (port 1)) ≡ (1, 3) ∷ (2, 4) ∷ []
+in_order = refl
+
+pub let_in : ended_by (told (procs 2) through_a_buffer) 2 ≡ Some 3
+let_in = refl
+
+-- of a select the case that fired tells the port; a refused entry in between ends nothing
+abbrev on_two_ports : List Entry
+on_two_ports =
+    make 0 0 ∷ make 0 0 ∷ select 1 0 (r 1 ∷ r 2 ∷ []) false ∷ recv 1 1 ∷ send 0 2 8 ∷ recv 1 1 ∷ []
+
+pub by_its_port : arrows (passages on_two_ports (told (procs 2) on_two_ports) (port 2)) ≡ (4, 2) ∷ []
+by_its_port = refl
+
+pub busy_ends_at_once : ended_by (told (procs 2) on_two_ports) 3 ≡ Some 3
+busy_ends_at_once = refl
+
+pub one_still_waits : places (still_waiting (told (procs 2) on_two_ports)) ≡ 5 ∷ []
+one_still_waits = refl
+
+-- the exit of the last process that could have come stalls the other two
+abbrev everyone_stalls : List Entry
+everyone_stalls = make 0 0 ∷ recv 1 1 ∷ send 2 0 5 ∷ exit 0 ∷ []
+
+pub stalled_row : places (stalled_by (told (procs 3) everyone_stalls) 3) ≡ 1 ∷ 2 ∷ []
+stalled_row = refl
+
+pub nobody_still_waits : still_waiting (told (procs 3) everyone_stalls) ≡ []
+nobody_still_waits = refl
+
+-- a cancel ends the call of another process, and is told by the cancel's entry
+abbrev cancelled_call : List Entry
+cancelled_call = make 0 0 ∷ recv 1 1 ∷ cancel 0 1 ∷ send 0 1 4 ∷ []
+
+pub cancelled_row :
+    end_of (told (procs_two 2) cancelled_call) 1 ≡ Some (record { asked = 1; by = 2; event = cancelled 1 })
+cancelled_row = refl
+
+pub cancel_moves_nothing : passages cancelled_call (told (procs_two 2) cancelled_call) (port 1) ≡ []
+cancel_moves_nothing = refl
+
+pub sender_waits_alone : places (still_waiting (told (procs_two 2) cancelled_call)) ≡ 3 ∷ []
+sender_waits_alone = refl
+
+-- bytes are passed as numbers are
+abbrev two_bytes : Value
+two_bytes = bytes_of (222 ∷ 173 ∷ [])
+
+abbrev bytes_passed : List Entry
+bytes_passed = make 0 1 ∷ select 0 0 (Send (port 1) two_bytes ∷ []) false ∷ recv 1 1 ∷ []
+
+abbrev values : List Passage → List Value
+values ms = map (λ m. m.received.value) ms
+
+pub bytes_row : values (passages bytes_passed (told (procs_two 2) bytes_passed) (port 1)) ≡ two_bytes ∷ []
+bytes_row = refl

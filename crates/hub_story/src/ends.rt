@@ -1,0 +1,63 @@
+//! How each entry ended, and who waits.
+
+ghost use Rattle.std.specs.Prelude.{◌≡◌, IfOk, length};
+ghost use Rattle.std.specs.List.{filter};
+ghost use Rattle.hub_story.specs.Ends.{AreEnds, with_end, waits_by};
+ghost use Rattle.hub_story.specs.Waiting.{still_waiting};
+
+use crate::Told;
+use hub_base::What;
+use std::alloc::{AllocError, Global};
+
+/// Takes in the next event. The first that is not `Parked` ends its entry.
+fn note_end(ends: &mut Vec<Option<Told>>, told: &Told)
+    ensures { ends.new.items ≡ with_end ends.old.items told.now }
+{
+    let place = told.asked as usize;
+    if !matches!(told.event.what, What::Parked) && place < ends.len() && ends[place].is_none() {
+        ends[place] = Some(*told);
+    }
+}
+
+/// How each of so many entries ended, and by whose step; nothing while it waits.
+pub(crate) fn ends_of(
+    alloc: Global,
+    told: &[Told],
+    count: usize,
+) -> Result<Vec<Option<Told>>, AllocError>
+    ensures { IfOk result (λ ends. AreEnds told.now count ends.items) }
+{
+    let mut ends = vec![in alloc; None; count]?;
+    for told in told {
+        note_end(&mut ends, told);
+    }
+    Ok(ends)
+}
+
+/// Whether the call that was parked so had no other event.
+fn waits(ends: &[Option<Told>], told: &Told) -> bool
+    ensures { result ≡ waits_by ends.now told.now }
+{
+    matches!(told.event.what, What::Parked)
+        && match ends.get(told.asked as usize) {
+            Some(end) => end.is_none(),
+            None => true,
+        }
+}
+
+/// The calls that wait in the end, by arrival.
+pub(crate) fn waiting_of(
+    alloc: Global,
+    told: &[Told],
+    ends: &[Option<Told>],
+) -> Result<Vec<Told>, AllocError>
+    ensures { IfOk result (λ waiting. waiting.items ≡ filter (waits_by ends.now) told.now) }
+{
+    let mut waiting = Vec::new(alloc);
+    for told in told {
+        if waits(ends, told) {
+            waiting.push(*told)?;
+        }
+    }
+    Ok(waiting)
+}

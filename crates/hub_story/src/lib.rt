@@ -1,0 +1,19 @@
+//! A journal explained: which event answers or ends which entry, who passed which value to whom, and who waits.
+//!
+//! A story is a function of a journal. Each event is told with the entry that it answers, or whose call it ends, and
+//! with the entry by whose step it came; all else is a filter of that list.
+#![tactic(auto)]
+
+mod ends;
+mod last_calls;
+mod laws;
+mod moved;
+mod passing;
+mod story;
+mod telling;
+mod told;
+
+pub use laws::{passages_are_in_time, passages_are_told, sends_are_told};
+pub use moved::{Moved, Passage};
+pub use story::{Story, story_of};
+pub use told::Told;

@@ -1,0 +1,58 @@
+//! The story of a journal: what it tells, and what follows from that.
+
+ghost use Rattle.std.specs.Prelude.{◌≡◌, ◌<◌, ◌-◌, ◌^◌, length, IfOk};
+ghost use Rattle.hub_base.specs.Head.{IsHead};
+ghost use Rattle.hub_story.specs.Passing.{passages};
+ghost use Rattle.hub_story.specs.Stories.{IsStoryOf};
+
+use crate::ends::{ends_of, waiting_of};
+use crate::passing::passages_of;
+use crate::telling::tell_all;
+use crate::{Passage, Told};
+use hub_base::{Journal, NoMemory, Port};
+use std::alloc::{AllocError, Global};
+
+/// What a journal tells.
+#[derive(Drop)]
+pub struct Story {
+    /// Each event, in order.
+    pub told: Vec<Told>,
+    /// For each entry, in order, how it ended and by whose step: its answer, or what it was told after it waited.
+    /// `None` while it waits.
+    pub ends: Vec<Option<Told>>,
+    /// The calls that wait in the end, by arrival.
+    pub waiting: Vec<Told>,
+}
+
+/// The story of a journal of 1 to `MOST_PROCS` processes. Its entries are stepped once, and none is copied; the journal
+/// need not be legal. `Err` where memory was refused.
+pub fn story_of(alloc: Global, journal: &Journal) -> Result<Story, NoMemory>
+    requires head { IsHead journal.now.head }
+    requires few { length journal.now.entries < 2 ^ 32 - 1 }
+    ensures { IfOk result (λ story. IsStoryOf journal.now story) }
+{
+    let told = tell_all(alloc, journal)?;
+    let ends = ends_of(alloc, &told, journal.entries().len())?;
+    let waiting = waiting_of(alloc, &told, &ends)?;
+    Ok(Story {
+        told,
+        ends,
+        waiting,
+    })
+}
+
+impl Story {
+    /// The values that went through a port of this journal, oldest first, each from its send to its receive. A value
+    /// that was not received has none.
+    pub fn passages(
+        &self,
+        alloc: Global,
+        journal: &Journal,
+        port: Port,
+    ) -> Result<Vec<Passage>, AllocError>
+        ensures { IfOk result (λ all.
+            all.items ≡ passages journal.now.entries self.now.told.items port) }
+    {
+        passages_of(alloc, port, journal.entries(), &self.told)
+    }
+}

@@ -1,0 +1,55 @@
+//! What a journal tells, event by event. A machine makes the steps, once.
+
+ghost use Rattle.std.specs.Prelude.{◌≡◌, ◌<◌, ◌-◌, ◌^◌, ◌++◌, length, IfOk, OnOk};
+ghost use Rattle.std.specs.List.{filter_map};
+ghost use Rattle.hub_base.specs.Head.{IsHead};
+ghost use Rattle.hub_story.specs.Told.{told};
+ghost use Rattle.hub_story.specs.LastCalls.{tells_of};
+
+use crate::Told;
+use crate::last_calls::{LastCalls, asked_of, no_calls, note_call};
+use hub_base::{Event, Events, Journal, NoMemory};
+use hub_core::Machine;
+use std::alloc::{AllocError, Global};
+
+/// Tells the events of the entry at this place.
+fn tell(
+    told: &mut Vec<Told>,
+    calls: &LastCalls,
+    place: u32,
+    events: &[Event],
+) -> Result<(), AllocError>
+    ensures { OnOk result (
+        told.new.items ≡ told.old.items ++ filter_map (tells_of calls.now place) events.now) }
+{
+    for event in events {
+        if let Some(asked) = asked_of(calls, place, event) {
+            told.push(Told {
+                asked,
+                by: place,
+                event: *event,
+            })?;
+        }
+    }
+    Ok(())
+}
+
+/// All that a journal tells, in order.
+pub(crate) fn tell_all(alloc: Global, journal: &Journal) -> Result<Vec<Told>, NoMemory>
+    requires head { IsHead journal.now.head }
+    requires few { length journal.now.entries < 2 ^ 32 - 1 }
+    ensures { IfOk result (λ all. all.items ≡ told journal.now.head journal.now.entries) }
+{
+    let mut machine = Machine::new(alloc, journal.head())?;
+    let mut calls = no_calls();
+    let mut told = Vec::new(alloc);
+    let mut events = Events::new();
+    let mut place = 0;
+    for entry in journal.entries() {
+        machine.answer(entry, &mut events)?;
+        note_call(&mut calls, place, entry, &events);
+        tell(&mut told, &calls, place, &events)?;
+        place += 1;
+    }
+    Ok(told)
+}

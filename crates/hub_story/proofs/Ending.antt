@@ -149,7 +149,7 @@ places-below h es =
     (λ x b. omega (arith, b, length-turns (opening h) es)) (asked-below [] (turns_after (opening h) es))
 
 -- ---- who waits
-filter-agrees : {A : Type 0} (P : A → Type 0) (p q : A → Bool) → ((x : A) → P x → p x ≡ q x) → (xs : List A) → AllByRecursion P xs →
+pub filter-agrees : {A : Type 0} (P : A → Type 0) (p q : A → Bool) → ((x : A) → P x → p x ≡ q x) → (xs : List A) → AllByRecursion P xs →
     filter p xs ≡ filter q xs
 filter-agrees P p q same [] all = refl
 filter-agrees P p q same (x ∷ xs) all =

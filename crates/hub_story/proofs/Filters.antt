@@ -1,5 +1,6 @@
 -- A list that grows by what a reading gives of each item is what the reading gives of the items so far.
-use Rattle.std.proofs.Common.{◌≡◌, ◌<◌, ◌+◌, ℕ, List, [], ◌∷◌, ◌++◌, length, refl, ap, ◌∙◌, sym, Option, Some, None, get_or, take, add-one, append-nil, append_assoc}
+use Rattle.std.proofs.Common.{◌≡◌, ◌<◌, ◌+◌, ℕ, List, [], ◌∷◌, ◌++◌, length, refl}
+use Rattle.std.proofs.Common.{ap, ◌∙◌, sym, Option, Some, None, get_or, take, add-one, append-nil, append_assoc}
 use Rattle.std.proofs.Common.{◌≤◌, Bool, zero, suc, filter, arith}
 use Rattle.std.specs.List.{filter_map, cons_option}
 use Rattle.std.proofs.Math.Seq.{take-suc}

@@ -1,6 +1,6 @@
 -- Passages do not go back: at each step no more values were received on a port than sent, and what is
 -- told later is told by a later step.
-use Rattle.std.proofs.Common.{◌≡◌, ◌≤◌, ℕ, zero, suc, ◌+◌, List, [], ◌∷◌, ◌++◌, length, map, take, refl, ap, ◌∙◌, sym, arith, Option, Some, None}
+use Rattle.std.proofs.Common.{◌≡◌, ◌≤◌, ℕ, zero, suc, ◌+◌, List, [], ◌∷◌, ◌++◌, length, take, refl, ap, ◌∙◌, sym, arith, Option, Some, None}
 use Rattle.std.proofs.Common.{append-nil, append_assoc, length-append, subst}
 use Rattle.std.specs.List.{AllByRecursion, filter_map, cons_option}
 use Rattle.std.specs.Option.{option_map, option_map_or}
@@ -15,7 +15,7 @@ use Rattle.hub_base.specs.declared.event.Outcome.{Outcome}
 use Rattle.hub_base.specs.declared.event.Event.{Event}
 use Rattle.hub_base.specs.State.{State, Channel, opening}
 use Rattle.hub_base.specs.Runs.{state, state_after, moves}
-use Rattle.hub_base.specs.Values.{Turned, turns_after, of_what, sent_on, got_on}
+use Rattle.hub_base.specs.Values.{Turned, turns_after, of_what, sent_on, got_on, values_from}
 use Rattle.hub_base.proofs.Lists.{all_append, all_more}
 use Rattle.hub_laws.proofs.Deeds.{at}
 use Rattle.hub_story.specs.declared.told.Told.{Told}
@@ -134,20 +134,26 @@ few-total None = omega arith
 few-total (Some c) = take-few c.received c.sent
 
 -- of a run that these entries begin with
-module _ (h : Head) (p : Port) (es fs : List Entry) where
+module _ (h : Head) (es fs : List Entry) where
   abbrev all : List Entry
   all = es ++ fs
 
-  counted : (pick : Option Case → Outcome → Option Value) → ((o : Outcome) → pick None o ≡ None) → (vs : List Value) →
-      map (λ m. m.value) (filter_map (moved_by pick all) (told h es)) ≡ vs → length (filter_map (moved_by pick all) (told h es)) ≡ length vs
-  counted pick none vs is = sym (length-map (filter_map (moved_by pick all) (told h es)) (λ m. m.value)) ∙ ap length is
+  pub counted : (pick : Option Case → Outcome → Option Value) → ((o : Outcome) → pick None o ≡ None) →
+      length (filter_map (moved_by pick all) (told h es)) ≡ length (values_from pick [] (turns_after (opening h) es))
+  counted pick none =
+      sym (length-map (filter_map (moved_by pick all) (told h es)) (λ m. m.value))
+      ∙ ap length (values-told pick none all (turns_after (opening h) es) (stand-more es fs 0 (turns_after (opening h) es) (stand-turns (opening h) es)))
 
-  few : length (receives all (told h es) p) ≤ length (sends all (told h es) p)
-  few =
-      let stand = stand-more es fs 0 (turns_after (opening h) es) (stand-turns (opening h) es) in
-      let sent = counted (sent_on p) (λ o. refl) _ (values-told (sent_on p) (λ o. refl) all (turns_after (opening h) es) stand ∙ sent-all h es p) in
-      let got = counted (got_on p) (λ o. refl) _ (values-told (got_on p) (λ o. refl) all (turns_after (opening h) es) stand ∙ received-all h es p) in
-      omega (arith, sent, got, few-total (at (state h es).channels p))
+  few : (p : Port) → length (receives all (told h es) p) ≤ length (sends all (told h es) p)
+  few p =
+      omega (
+        arith,
+        counted (sent_on p) (λ o. refl),
+        counted (got_on p) (λ o. refl),
+        ap length (sent-all h es p),
+        ap length (received-all h es p),
+        few-total (at (state h es).channels p),
+      )
 
 -- ---- entry by entry
 -- what is moved is told by such steps where all that is told is
@@ -175,7 +181,7 @@ one h p es e fs before =
     all_more (λ x. x.by ≤ 0 + length ts) (λ x. x.by ≤ length ts) (told h es) (λ x b. omega (arith, b)) (told-below [] ts) in
     let new_by = all_more (λ x. x.by ≡ length ts) (λ x. x.by ≤ length ts) new (λ x b. at-most x.by (length ts) b) (turn-by ts t) in
     rw (told-entry h es e, filter_map-append (moved_by (sent_on p) all) (told h es) new, filter_map-append (moved_by (got_on p) all) (told h es) new)
-    (grown (length ts) (sends all (told h es) p) (receives all (told h es) p) (sends all new p) (receives all new p) (few h p es (e ∷ fs)) before
+    (grown (length ts) (sends all (told h es) p) (receives all (told h es) p) (sends all new p) (receives all new p) (few h es (e ∷ fs) p) before
     (all_append (λ m. m.told.by ≤ length ts) (sends all (told h es) p) (sends all new p)
     (moved-by (λ k. k ≤ length ts) (sent_on p) all (told h es) old_by) (moved-by (λ k. k ≤ length ts) (sent_on p) all new new_by))
     (moved-by (λ k. k ≡ length ts) (got_on p) all new (turn-by ts t)))

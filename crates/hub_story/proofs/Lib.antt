@@ -4,3 +4,6 @@ pub mod InTime
 pub mod Filters
 pub mod Tellings
 pub mod Ending
+pub mod Leavers
+pub mod Waits
+pub mod Levels

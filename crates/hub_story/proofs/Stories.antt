@@ -65,7 +65,7 @@ abbrev cases_of : List Entry → Option ℕ → List Case
 cases_of es None = []
 cases_of es (Some place) = cases_at es place
 
-at-cases : (es : List Entry) (place : ℕ) (e : Entry) → slice_get es place ≡ Some e → cases_at es place ≡ cases_or e.step []
+pub at-cases : (es : List Entry) (place : ℕ) (e : Entry) → slice_get es place ≡ Some e → cases_at es place ≡ cases_or e.step []
 at-cases es place e h = rw h refl
 
 call-cases : (es : List Entry) (place : ℕ) (e : Entry) (before : Option ℕ) → slice_get es place ≡ Some e →

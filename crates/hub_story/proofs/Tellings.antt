@@ -139,7 +139,8 @@ has-entry h es e calls all events has is fits =
           ∙ sym (told-entry h es e);
     }
 
-pub has-next : (h : Head) (entries : List Entry) (i : ℕ) (e : Entry) (calls now : List (Option ℕ)) (all new : List Told) (events : List Event) (m : MachineLists) →
+pub has-next : (h : Head) (entries : List Entry) (i : ℕ) (e : Entry) (calls now : List (Option ℕ)) (all new : List Told) (events : List Event)
+    (m : MachineLists) →
     i < length entries → e ≡ get_or entries i e → HasTold h (take i entries) calls all → Answers h (take i entries) e m events → e.pid.0 < 256 →
     now ≡ with_call calls i (record { entry = e; events = events }) → new ≡ all ++ filter_map (tells_of now i) events →
     Follows h (take (i + 1) entries) m × HasTold h (take (i + 1) entries) now new

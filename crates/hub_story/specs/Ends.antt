@@ -1,5 +1,6 @@
 -- How the entries of a journal ended, kept by their places.
-use Rattle.std.specs.Prelude.{◌≡◌, ◌<◌, ℕ, ◌&&◌, ◌||◌, Bool, not, List, length, Option, None, Some, is_some, slice_get, slice_index_or, slice_set, if◌then◌else◌}
+use Rattle.std.specs.Prelude.{◌≡◌, ◌<◌, ℕ, ◌&&◌, ◌||◌, Bool, not, List}
+use Rattle.std.specs.Prelude.{length, Option, None, Some, is_some, slice_get, slice_index_or, slice_set, if◌then◌else◌}
 use Rattle.hub_laws.specs.Replies.{is_parked}
 use Rattle.hub_story.specs.declared.told.Told.{Told}
 use Rattle.hub_story.specs.Told.{end_of}

@@ -1,13 +1,17 @@
--- What stories tell agrees with the values of a port and with time.
-use Rattle.std.specs.Prelude.{◌≡◌, ◌≤◌, List, map}
+-- What stories tell agrees with the values of a port, with its channel, with time, and with who waits.
+use Rattle.std.specs.Prelude.{◌≡◌, ◌≤◌, ℕ, List, length, map, take, Some}
 use Rattle.std.specs.List.{AllByRecursion}
 use Rattle.hub_base.specs.declared.value.Port.{Port}
 use Rattle.hub_base.specs.declared.entry.Entry.{Entry}
 use Rattle.hub_base.specs.declared.head.Head.{Head}
+use Rattle.hub_base.specs.State.{Channel, channel_at}
+use Rattle.hub_base.specs.Runs.{state}
 use Rattle.hub_base.specs.Values.{sent_values, received_values}
 use Rattle.hub_story.specs.declared.moved.Passage.{Passage}
 use Rattle.hub_story.specs.Told.{told}
 use Rattle.hub_story.specs.Passing.{sends, receives, passages}
+use Rattle.hub_story.specs.Waiting.{still_waiting, open_call}
+use Rattle.hub_story.specs.Levels.{sent_by, received_by}
 
 -- the values of the sends that are told are the values sent, in order; so with receives
 pub record SendsLaw (h : Head) (es : List Entry) : Type 0 where
@@ -30,3 +34,15 @@ IsInTime m = m.sent.told.by ≤ m.received.told.by
 -- of every port
 abbrev pub InTimeLaw : Head → List Entry → Type 0
 InTimeLaw h es = (p : Port) → AllByRecursion IsInTime (passages es (told h es) p)
+
+-- the calls that are told to wait in the end are those that wait
+abbrev pub WaitingLaw : Head → List Entry → Type 0
+WaitingLaw h es = map (open_call es) (still_waiting (told h es)) ≡ (state h es).parked
+
+-- on a port that is made after the first k entries, so many values were sent and received as its
+-- channel then tells
+pub record LevelsLaw (h : Head) (es : List Entry) : Type 0 where
+  pub sent : (k : ℕ) (p : Port) (c : Channel) → channel_at (state h (take k es)) p ≡ Some c
+      → sent_by es (told h es) p k ≡ length c.sent
+  pub received : (k : ℕ) (p : Port) (c : Channel) → channel_at (state h (take k es)) p ≡ Some c
+      → received_by es (told h es) p k ≡ c.received

@@ -2,6 +2,7 @@ pub mod Told
 pub mod LastCalls
 pub mod Passing
 pub mod Waiting
+pub mod Levels
 pub mod Ends
 pub mod Sides
 pub mod Stories

@@ -1,6 +1,6 @@
-//! What stories tell agrees with the values of a port, and with time.
+//! What stories tell agrees with the values of a port, with its channel, with time, and with who waits.
 
-ghost use Rattle.hub_story.specs.Laws.{InTimeLaw, PassagesLaw, SendsLaw};
+ghost use Rattle.hub_story.specs.Laws.{InTimeLaw, LevelsLaw, PassagesLaw, SendsLaw, WaitingLaw};
 
 use hub_base::{Entry, Head};
 
@@ -17,4 +17,15 @@ pub fn passages_are_told(head: Head, entries: &[Entry])
 /// No passage goes back: a value is received by no earlier step than it was sent.
 pub fn passages_are_in_time(head: Head, entries: &[Entry])
     ensures { InTimeLaw head entries.now }
+{}
+
+/// How many values were sent on a port and received from it by the first entries, whatever their number, is what its
+/// channel then tells.
+pub fn levels_are_told(head: Head, entries: &[Entry])
+    ensures { LevelsLaw head entries.now }
+{}
+
+/// The calls that are told to wait in the end are the open calls, by arrival.
+pub fn waiting_is_told(head: Head, entries: &[Entry])
+    ensures { WaitingLaw head entries.now }
 {}

@@ -11,9 +11,13 @@ mod moved;
 mod passing;
 mod story;
 mod telling;
+#[cfg(test)]
+mod tests;
 mod told;
 
-pub use laws::{passages_are_in_time, passages_are_told, sends_are_told};
+pub use laws::{
+    levels_are_told, passages_are_in_time, passages_are_told, sends_are_told, waiting_is_told,
+};
 pub use moved::{Moved, Passage};
 pub use story::{Story, story_of};
 pub use told::Told;

@@ -1,0 +1,5 @@
+use Rattle.hub_story.proofs.Levels.{levels-law}
+use Rattle.hub_story.proofs.laws.levels_are_told.Goals as goal
+
+pub returns : goal.returns
+returns c = levels-law c.args.head c.args.entries.now

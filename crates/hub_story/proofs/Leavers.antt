@@ -27,7 +27,7 @@ takes-among : (call : OpenCall) (calls kept : List OpenCall) → Takes call call
 takes-among call calls kept (here rest) = grind arith
 takes-among call calls kept (later c cs ks t) = let h = takes-among call cs ks t in grind arith
 
-takes-without : (call : OpenCall) (calls kept : List OpenCall) → Takes call calls kept → Apart calls → kept ≡ without call.pid calls
+pub takes-without : (call : OpenCall) (calls kept : List OpenCall) → Takes call calls kept → Apart calls → kept ≡ without call.pid calls
 takes-without call calls kept (here rest) apart = sym (without_head call rest apart.0)
 takes-without call calls kept (later c cs ks t) apart =
     by (c.pid.0 == call.pid.0) refl (takes-without call cs ks t apart.1) (takes-among call cs ks t)

@@ -5,5 +5,7 @@ pub mod Filters
 pub mod Tellings
 pub mod Ending
 pub mod Leavers
+pub mod Steps
+pub mod Once
 pub mod Waits
 pub mod Levels

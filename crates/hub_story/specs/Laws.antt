@@ -1,5 +1,5 @@
 -- What stories tell agrees with the values of a port, with its channel, with time, and with who waits.
-use Rattle.std.specs.Prelude.{◌≡◌, ◌≤◌, ℕ, List, length, map, take, Some}
+use Rattle.std.specs.Prelude.{◌≡◌, ◌≤◌, ℕ, List, filter, length, map, take, Some}
 use Rattle.std.specs.List.{AllByRecursion}
 use Rattle.hub_base.specs.declared.value.Port.{Port}
 use Rattle.hub_base.specs.declared.entry.Entry.{Entry}
@@ -8,7 +8,7 @@ use Rattle.hub_base.specs.State.{Channel, channel_at}
 use Rattle.hub_base.specs.Runs.{state}
 use Rattle.hub_base.specs.Values.{sent_values, received_values}
 use Rattle.hub_story.specs.declared.moved.Passage.{Passage}
-use Rattle.hub_story.specs.Told.{told}
+use Rattle.hub_story.specs.Told.{told, ends_it}
 use Rattle.hub_story.specs.Passing.{sends, receives, passages}
 use Rattle.hub_story.specs.Waiting.{still_waiting, open_call}
 use Rattle.hub_story.specs.Levels.{sent_by, received_by}
@@ -34,6 +34,10 @@ IsInTime m = m.sent.told.by ≤ m.received.told.by
 -- of every port
 abbrev pub InTimeLaw : Head → List Entry → Type 0
 InTimeLaw h es = (p : Port) → AllByRecursion IsInTime (passages es (told h es) p)
+
+-- each entry has one end at most
+abbrev pub EndingLaw : Head → List Entry → Type 0
+EndingLaw h es = (place : ℕ) → length (filter (ends_it place) (told h es)) ≤ 1
 
 -- the calls that are told to wait in the end are those that wait
 abbrev pub WaitingLaw : Head → List Entry → Type 0

@@ -1,6 +1,6 @@
 //! What stories tell agrees with the values of a port, with its channel, with time, and with who waits.
 
-ghost use Rattle.hub_story.specs.Laws.{InTimeLaw, LevelsLaw, PassagesLaw, SendsLaw, WaitingLaw};
+ghost use Rattle.hub_story.specs.Laws.{EndingLaw, InTimeLaw, LevelsLaw, PassagesLaw, SendsLaw, WaitingLaw};
 
 use hub_base::{Entry, Head};
 
@@ -17,6 +17,11 @@ pub fn passages_are_told(head: Head, entries: &[Entry])
 /// No passage goes back: a value is received by no earlier step than it was sent.
 pub fn passages_are_in_time(head: Head, entries: &[Entry])
     ensures { InTimeLaw head entries.now }
+{}
+
+/// Each entry has at most one end: its answer, or what it is told after it waited.
+pub fn entries_end_once(head: Head, entries: &[Entry])
+    ensures { EndingLaw head entries.now }
 {}
 
 /// How many values were sent on a port and received from it by the first entries, whatever their number, is what its

@@ -16,7 +16,8 @@ mod tests;
 mod told;
 
 pub use laws::{
-    levels_are_told, passages_are_in_time, passages_are_told, sends_are_told, waiting_is_told,
+    entries_end_once, levels_are_told, passages_are_in_time, passages_are_told, sends_are_told,
+    waiting_is_told,
 };
 pub use moved::{Moved, Passage};
 pub use story::{Story, story_of};

@@ -1,6 +1,6 @@
 -- A list that grows by what a reading gives of each item is what the reading gives of the items so far.
 use Rattle.std.proofs.Common.{◌≡◌, ◌<◌, ◌+◌, ℕ, List, [], ◌∷◌, ◌++◌, length, refl}
-use Rattle.std.proofs.Common.{ap, ◌∙◌, sym, Option, Some, None, get_or, take, add-one, append-nil, append_assoc}
+use Rattle.std.proofs.Common.{ap, ◌∙◌, sym, Option, Some, None, get_or, take, add-one, append-nil, append_assoc, length-append}
 use Rattle.std.proofs.Common.{◌≤◌, Bool, zero, suc, filter, arith}
 use Rattle.std.specs.List.{filter_map, cons_option}
 use Rattle.std.proofs.Math.Seq.{take-suc}
@@ -32,6 +32,16 @@ pub filter-take : {X : Type 0} (p : X → Bool) (xs : List X) (i : ℕ) (d : X) 
     filter p (take (i + 1) xs) ≡ filter p (take i xs) ++ filter p (get_or xs i d ∷ [])
 filter-take p xs i d below =
     ap (filter p) (rw add-one (take-suc xs i d below)) ∙ filter-append p (take i xs) (get_or xs i d ∷ [])
+
+-- and how many a reading then gives
+pub count-kept : {X Y : Type 0} (f : X → Option Y) (p : X → Bool) (xs : List X) (i : ℕ) (d : X) (old more : ℕ) → i < length xs →
+    old ≡ length (filter_map f (filter p (take i xs))) → more ≡ length (filter_map f (filter p (get_or xs i d ∷ []))) →
+    old + more ≡ length (filter_map f (filter p (take (i + 1) xs)))
+count-kept f p xs i d old more below was adds =
+    ap (λ n. n + more) was ∙ ap (λ n. length (filter_map f (filter p (take i xs))) + n) adds
+    ∙ sym (ap (λ l. length (filter_map f l)) (filter-take p xs i d below)
+    ∙ ap length (filter_map-append f (filter p (take i xs)) (filter p (get_or xs i d ∷ [])))
+    ∙ length-append (filter_map f (filter p (take i xs))) (filter_map f (filter p (get_or xs i d ∷ []))))
 
 -- ---- sends beside receives
 pub beside-none : (xs : List Moved) → beside xs [] ≡ []

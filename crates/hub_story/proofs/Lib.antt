@@ -8,4 +8,4 @@ pub mod Leavers
 pub mod Steps
 pub mod Once
 pub mod Waits
-pub mod Levels
+pub mod Filling

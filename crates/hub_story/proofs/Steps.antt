@@ -198,6 +198,15 @@ tells-event ts t x y = by (asked_by ts t x)
     by None h = absurd cc
     by (Some a) h = ap (λ (y : Told). y.event) (sym (same-inside h))
 
+-- where an entry is found for each event, each is told
+pub told-whole : (ts : List Turned) (t : Turned) (xs : List Event) → AllByRecursion (λ x. (a : ℕ) × (asked_by ts t x ≡ Some a)) xs →
+    map (λ (y : Told). y.event) (filter_map (tells_it ts t) xs) ≡ xs
+told-whole ts t [] all = refl
+told-whole ts t (x ∷ xs) all =
+    ap (λ o. map (λ (y : Told). y.event)
+    (cons_option (option_map (λ a. record { asked = a; by = length ts; event = x }) o) (filter_map (tells_it ts t) xs))) all.0.1
+    ∙ ap (λ l. x ∷ l) (told-whole ts t xs all.1)
+
 -- what is told of events that do not park is not of a parked call
 quiet : (ts : List Turned) (t : Turned) (xs : List Event) → AllByRecursion (λ x. is_parked x.what ≡ false) xs →
     AllByRecursion (λ y. is_parked y.event.what ≡ false) (filter_map (tells_it ts t) xs)

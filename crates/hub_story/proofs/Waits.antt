@@ -14,7 +14,7 @@ use Rattle.hub_base.specs.declared.entry.Entry.{Entry}
 use Rattle.hub_base.specs.declared.event.Event.{Event}
 use Rattle.hub_base.specs.State.{State, opening}
 use Rattle.hub_base.specs.Steps.{tells}
-use Rattle.hub_base.specs.Runs.{state, moves}
+use Rattle.hub_base.specs.Runs.{state, events, moves}
 use Rattle.hub_base.specs.Values.{Turned, turns_after, refused, is_fault}
 use Rattle.hub_base.proofs.Lists.{all_append, all_more}
 use Rattle.hub_laws.specs.Answers.{ends_waiting}
@@ -23,27 +23,31 @@ use Rattle.hub_laws.specs.Sound.{is_among}
 use Rattle.hub_laws.proofs.Account.{with_caller, call_of}
 use Rattle.hub_laws.proofs.Calls.{all_kept, same_number, differ-sym}
 use Rattle.hub_laws.proofs.Leaving.{events_of, event_of, leave-all}
-use Rattle.hub_laws.proofs.Longer.{state-entry}
+use Rattle.hub_laws.proofs.Longer.{state-entry, events-entry}
 use Rattle.hub_laws.proofs.Rules.{state-sound}
 use Rattle.hub_story.specs.declared.told.Told.{Told}
-use Rattle.hub_story.specs.Told.{may_end, call_or, latest_asked, last_asked, tells_it, told, ends_it, end_of}
+use Rattle.hub_story.specs.Told.{asked_by, may_end, call_or, latest_asked, last_asked, tells_it, told, ends_it, end_of}
 use Rattle.hub_story.specs.Waiting.{still_waiting, open_call}
-use Rattle.hub_story.specs.Laws.{EndingLaw, WaitingLaw}
+use Rattle.hub_story.specs.Laws.{EndingLaw, EventsLaw, WaitingLaw}
 use Rattle.hub_story.proofs.InTime.{same-inside, turns-entry, told-entry}
 use Rattle.hub_story.proofs.Stories.{Stand, at-cases, stand-turns, stand-more}
 use Rattle.hub_story.proofs.Ending.{filter-agrees, places-below}
 use Rattle.hub_story.proofs.Tellings.{last_asked-entry, length-turns}
 use Rattle.hub_story.proofs.Leavers.{leave-filter}
 use Rattle.hub_story.proofs.Steps.{ended_by, opens, old-waits, new-waits, map-filter, Waiting, ended-told, Stepped, stepped}
-use Rattle.hub_story.proofs.Steps.{filter-none, find-none, events-end, ends-may, last-apart}
+use Rattle.hub_story.proofs.Steps.{told-whole, filter-none, find-none, events-end, ends-may, last-apart}
 use Rattle.hub_story.proofs.Once.{leave-distinct, most-one, length-found, found-one, find-filter, filter-passes, all-map}
 
--- those that wait by what is told are those that wait by the state, and of each its call is the last of its process; and no
--- entry has ended twice
+-- each event is told; those that wait by what is told are those that wait by the state, and of each its call is the last of
+-- its process; and no entry has ended twice
 pub record Waits (all : List Entry) (h : Head) (es : List Entry) : Type 0 where
+  pub whole : map (λ t. t.event) (told h es) ≡ events h es
   pub calls : map (open_call all) (still_waiting (told h es)) ≡ (state h es).parked
   pub last : AllByRecursion (λ w. last_asked w.event.pid 0 None (turns_after (opening h) es) ≡ Some w.asked) (still_waiting (told h es))
   pub once : (place : ℕ) → length (filter (ends_it place) (told h es)) ≤ 1
+
+abbrev event : Told → Event
+event t = t.event
 
 -- the processes of these calls
 others-free : (all : List Entry) (q : ℕ) (ws : List Told) → is_among q (map (open_call all) ws) ≡ false → AllByRecursion (λ w. (q == w.event.pid.0) ≡ false) ws
@@ -81,6 +85,9 @@ next-waits : (all : List Entry) (h : Head) (es : List Entry) (e : Entry) → Sta
     Waits all h es → Waits all h (es ++ e ∷ [])
 next-waits all h es e stand waits =
     record {
+      whole =
+          ap (map event) grown ∙ map-append event (told h es) new ∙ ap (λ l. l ++ map event new) waits.whole
+          ∙ ap (λ l. events h es ++ l) (told-whole ts t told_now (answer_asked, enders_asked) ∙ sym st.told) ∙ sym (events-entry h es e);
       calls =
           ap (λ l. map (open_call all) (still_waiting l)) grown ∙ ap (map (open_call all)) (waiting ∙ kept)
           ∙ map-filter (open_call all) (λ call. not (is_told call.pid.0 (events_of st.ended))) (sw ++ pn)
@@ -104,14 +111,14 @@ next-waits all h es e stand waits =
     st : Stepped s e (moves s e)
     st = stepped s e (state-sound h es)
 
-    events : List Event
-    events = tells e.pid st.answer ∷ events_of st.ended
+    told_now : List Event
+    told_now = tells e.pid st.answer ∷ events_of st.ended
 
     t : Turned
-    t = record { entry = e; events = events }
+    t = record { entry = e; events = told_now }
 
     new : List Told
-    new = filter_map (tells_it ts t) events
+    new = filter_map (tells_it ts t) told_now
 
     sw : List Told
     sw = still_waiting (told h es)
@@ -200,6 +207,32 @@ next-waits all h es e stand waits =
         by true = ap (λ (cs : List Case). s.parked ++ record { pid = e.pid; cases = cs } ∷ []) (at-cases all (length ts) e here)
         by false = append-nil s.parked
 
+    -- what holds of the processes that wait, or wait now, holds of those whose calls end
+    of_enders : (P : Pid → Type 0) → AllByRecursion (λ w. P w.event.pid) (sw ++ pn) → AllByRecursion (λ x. P x.pid) (events_of st.ended)
+    of_enders P holds =
+        all-map (λ x. P x.pid) event_of st.ended
+        (leave-all (λ call. P call.pid) st.ended (with_caller s.parked e.pid e.step st.answer) (moves s e).state.parked st.leaves
+        (subst (AllByRecursion (λ call. P call.pid)) given (all-map (λ call. P call.pid) (open_call all) (sw ++ pn) holds))).0
+
+    -- ---- each event is told
+    Asked : Event → Type 0
+    Asked x = (a : ℕ) × (asked_by ts t x ≡ Some a)
+
+    answer_asked : Asked (tells e.pid st.answer)
+    answer_asked = (length ts, by (may_end st.answer) refl)
+      where
+        by : (b : Bool) → b ≡ may_end st.answer → cond b (last_asked e.pid 0 None (ts ++ t ∷ [])) (Some (length ts)) ≡ Some (length ts)
+        by true is = mine (st.called (inr (sym is)))
+        by false is = refl
+
+    enders_asked : AllByRecursion Asked (events_of st.ended)
+    enders_asked =
+        both (λ x. ends_waiting x.what ≡ true) (λ x. (a : ℕ) × (last_asked x.pid 0 None (ts ++ t ∷ []) ≡ Some a)) Asked
+        (λ x m k. (k.0, ap (λ b. cond b (last_asked x.pid 0 None (ts ++ t ∷ [])) (Some (length ts))) (ends-may x.what m).0 ∙ k.1))
+        (events_of st.ended) (events-end st.ended st.ends)
+        (of_enders (λ pid. (a : ℕ) × (last_asked pid 0 None (ts ++ t ∷ []) ≡ Some a))
+        (all_more Known (λ w. (a : ℕ) × (last_asked w.event.pid 0 None (ts ++ t ∷ []) ≡ Some a)) (sw ++ pn) (λ w k. (w.asked, k.last)) each))
+
     -- ---- no entry ends twice
     -- a process whose last call is this has not been told of its end; and its call is older, or waits
     Unended : Pid → Type 0
@@ -249,9 +282,7 @@ next-waits all h es e stand waits =
     enders : AllByRecursion Ends (events_of st.ended)
     enders =
         both (λ x. ends_waiting x.what ≡ true) (λ x. Unended x.pid) Ends (λ x a b. (a, b)) (events_of st.ended) (events-end st.ended st.ends)
-        (all-map (λ x. Unended x.pid) event_of st.ended
-        (leave-all (λ call. Unended call.pid) st.ended (with_caller s.parked e.pid e.step st.answer) (moves s e).state.parked st.leaves
-        (subst (AllByRecursion (λ call. Unended call.pid)) given (all-map (λ call. Unended call.pid) (open_call all) (sw ++ pn) unended))).0)
+        (of_enders Unended unended)
 
     hits : ℕ → Event → Bool
     hits place x = option_map_or (ends_it place) (tells_it ts t x) false
@@ -296,7 +327,7 @@ next-waits all h es e stand waits =
     single place =
         let parts : length (filter (ends_it place) (told h es ++ new)) ≡ length (filter (ends_it place) (told h es)) + length (filter (ends_it place) new) =
         ap length (filter-append (ends_it place) (told h es) new) ∙ length-append (filter (ends_it place) (told h es)) (filter (ends_it place) new) in
-        let found : length (filter (ends_it place) new) ≡ length (filter (hits place) events) = length-found (ends_it place) (tells_it ts t) events in
+        let found : length (filter (ends_it place) new) ≡ length (filter (hits place) told_now) = length-found (ends_it place) (tells_it ts t) told_now in
         let few = most-one (hits place) Ends (λ x y ex ey hx hy.
         last-apart all x.pid y.pid (ts ++ t ∷ []) place stands (hit-last place x ex.0 hx) (hit-last place y ey.0 hy)) st.ended
         (leave-distinct st.ended (with_caller s.parked e.pid e.step st.answer) (moves s e).state.parked st.leaves st.apart) enders in
@@ -333,8 +364,12 @@ waits-from h es (e ∷ fs) before =
     rw (append_assoc es (e ∷ []) fs) at further (next-waits (es ++ e ∷ fs) h es e (rw (append_assoc es (e ∷ []) fs) at stand) before)
 
 pub waiting-law : (h : Head) (es : List Entry) → WaitingLaw h es
-waiting-law h es = (waits-from h [] es (record { calls = refl; last = tt; once = λ place. omega arith })).calls
+waiting-law h es = (waits-from h [] es (record { whole = refl; calls = refl; last = tt; once = λ place. omega arith })).calls
+
+-- each event is told
+pub events-law : (h : Head) (es : List Entry) → EventsLaw h es
+events-law h es = (waits-from h [] es (record { whole = refl; calls = refl; last = tt; once = λ place. omega arith })).whole
 
 -- each entry has one end at most
 pub ending-law : (h : Head) (es : List Entry) → EndingLaw h es
-ending-law h es = (waits-from h [] es (record { calls = refl; last = tt; once = λ place. omega arith })).once
+ending-law h es = (waits-from h [] es (record { whole = refl; calls = refl; last = tt; once = λ place. omega arith })).once

@@ -5,13 +5,17 @@ use Rattle.hub_base.specs.declared.value.Port.{Port}
 use Rattle.hub_base.specs.declared.entry.Entry.{Entry}
 use Rattle.hub_base.specs.declared.head.Head.{Head}
 use Rattle.hub_base.specs.State.{Channel, channel_at}
-use Rattle.hub_base.specs.Runs.{state}
+use Rattle.hub_base.specs.Runs.{state, events}
 use Rattle.hub_base.specs.Values.{sent_values, received_values}
 use Rattle.hub_story.specs.declared.moved.Passage.{Passage}
 use Rattle.hub_story.specs.Told.{told, ends_it}
 use Rattle.hub_story.specs.Passing.{sends, receives, passages}
 use Rattle.hub_story.specs.Waiting.{still_waiting, open_call}
 use Rattle.hub_story.specs.Levels.{sent_by, received_by}
+
+-- each event is told, once and in order
+abbrev pub EventsLaw : Head → List Entry → Type 0
+EventsLaw h es = map (λ t. t.event) (told h es) ≡ events h es
 
 -- the values of the sends that are told are the values sent, in order; so with receives
 pub record SendsLaw (h : Head) (es : List Entry) : Type 0 where

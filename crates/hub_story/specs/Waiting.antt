@@ -23,6 +23,10 @@ abbrev pub is_stalled : What → Bool
 is_stalled what.Stalled = true
 is_stalled w = false
 
+-- this one did, after the entry at this place
+abbrev pub is_stalled_by : ℕ → Told → Bool
+is_stalled_by place t = is_stalled t.event.what && (t.by == place)
+
 -- the calls that ended as everybody waited after the entry at this place, by arrival
 abbrev pub stalled_by : List Told → ℕ → List Told
-stalled_by all place = filter (λ t. is_stalled t.event.what && (t.by == place)) all
+stalled_by all place = filter (is_stalled_by place) all

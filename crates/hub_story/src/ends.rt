@@ -3,7 +3,7 @@
 ghost use Rattle.std.specs.Prelude.{◌≡◌, IfOk, length};
 ghost use Rattle.std.specs.List.{filter};
 ghost use Rattle.hub_story.specs.Ends.{AreEnds, with_end, waits_by};
-ghost use Rattle.hub_story.specs.Waiting.{still_waiting};
+ghost use Rattle.hub_story.specs.Waiting.{is_stalled_by, stalled_by};
 
 use crate::Told;
 use hub_base::What;
@@ -60,4 +60,24 @@ pub(crate) fn waiting_of(
         }
     }
     Ok(waiting)
+}
+
+/// Whether the event says that everyone waited after the step of the entry at `place`.
+fn is_stalled_by(told: &Told, place: u32) -> bool
+    ensures { result ≡ is_stalled_by place told.now }
+{
+    matches!(told.event.what, What::Stalled) && told.by == place
+}
+
+/// The calls that ended as everyone waited after the entry at this place, by arrival.
+pub(crate) fn stalled_by(alloc: Global, told: &[Told], place: u32) -> Result<Vec<Told>, AllocError>
+    ensures { IfOk result (λ stalled. stalled.items ≡ stalled_by told.now place) }
+{
+    let mut stalled = Vec::new(alloc);
+    for told in told {
+        if is_stalled_by(told, place) {
+            stalled.push(*told)?;
+        }
+    }
+    Ok(stalled)
 }

@@ -1,8 +1,13 @@
 //! What stories tell agrees with the values of a port, with its channel, with time, and with who waits.
 
-ghost use Rattle.hub_story.specs.Laws.{EndingLaw, InTimeLaw, LevelsLaw, PassagesLaw, SendsLaw, WaitingLaw};
+ghost use Rattle.hub_story.specs.Laws.{EndingLaw, EventsLaw, InTimeLaw, LevelsLaw, PassagesLaw, SendsLaw, WaitingLaw};
 
 use hub_base::{Entry, Head};
+
+/// Each event of a run is told, once and in order.
+pub fn events_are_told(head: Head, entries: &[Entry])
+    ensures { EventsLaw head entries.now }
+{}
 
 /// The values of the sends that a story tells are the values sent, in order. So with receives.
 pub fn sends_are_told(head: Head, entries: &[Entry])

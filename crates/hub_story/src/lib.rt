@@ -7,6 +7,7 @@
 mod ends;
 mod last_calls;
 mod laws;
+mod levels;
 mod moved;
 mod passing;
 mod story;
@@ -16,9 +17,10 @@ mod tests;
 mod told;
 
 pub use laws::{
-    entries_end_once, levels_are_told, passages_are_in_time, passages_are_told, sends_are_told,
-    waiting_is_told,
+    entries_end_once, events_are_told, levels_are_told, passages_are_in_time, passages_are_told,
+    sends_are_told, waiting_is_told,
 };
+pub use levels::Level;
 pub use moved::{Moved, Passage};
 pub use story::{Story, story_of};
 pub use told::Told;

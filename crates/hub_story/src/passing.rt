@@ -31,7 +31,7 @@ fn value_on(side: Side, port: Port, case: Case, outcome: Outcome) -> Option<Valu
 }
 
 /// The value that is told to have moved on this side of the port.
-fn moved_by(side: Side, port: Port, entries: &[Entry], told: &Told) -> Option<Moved>
+pub(crate) fn moved_by(side: Side, port: Port, entries: &[Entry], told: &Told) -> Option<Moved>
     ensures { result ≡ moved_by (value_on side port) entries.now told.now }
 {
     let What::Fired { case, outcome } = told.event.what else {

@@ -2,13 +2,16 @@
 
 ghost use Rattle.std.specs.Prelude.{◌≡◌, ◌<◌, ◌-◌, ◌^◌, length, IfOk};
 ghost use Rattle.hub_base.specs.Head.{IsHead};
+ghost use Rattle.hub_story.specs.Levels.{received_by, sent_by};
 ghost use Rattle.hub_story.specs.Passing.{passages};
 ghost use Rattle.hub_story.specs.Stories.{IsStoryOf};
+ghost use Rattle.hub_story.specs.Waiting.{stalled_by};
 
-use crate::ends::{ends_of, waiting_of};
+use crate::ends::{ends_of, stalled_by, waiting_of};
+use crate::levels::level_of;
 use crate::passing::passages_of;
 use crate::telling::tell_all;
-use crate::{Passage, Told};
+use crate::{Level, Passage, Told};
 use hub_base::{Journal, NoMemory, Port};
 use std::alloc::{AllocError, Global};
 
@@ -54,5 +57,21 @@ impl Story {
             all.items ≡ passages journal.now.entries self.now.told.items port) }
     {
         passages_of(alloc, port, journal.entries(), &self.told)
+    }
+
+    /// How many values of this journal were sent on a port, and how many were received from it, by its first `count`
+    /// entries.
+    pub fn level(&self, journal: &Journal, port: Port, count: u32) -> Level
+        ensures sent { result.sent ≡ sent_by journal.now.entries self.now.told.items port count }
+        ensures received { result.received ≡ received_by journal.now.entries self.now.told.items port count }
+    {
+        level_of(port, journal.entries(), &self.told, count)
+    }
+
+    /// The calls that ended as everyone waited after the step of the entry at this place, by arrival.
+    pub fn stalled_by(&self, alloc: Global, place: u32) -> Result<Vec<Told>, AllocError>
+        ensures { IfOk result (λ all. all.items ≡ stalled_by self.now.told.items place) }
+    {
+        stalled_by(alloc, &self.told, place)
     }
 }

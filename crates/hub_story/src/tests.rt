@@ -1,6 +1,6 @@
 //! Tests through the public calls. What is expected was worked out by hand from the rules.
 
-use crate::{Passage, Story, Told, story_of};
+use crate::{Level, Passage, Story, Told, story_of};
 use hub_base::{Journal, Port, Value, read_journal};
 use std::alloc::Global;
 use std::process::Abort;
@@ -46,7 +46,7 @@ fn arrows(alloc: Global, passages: &[Passage]) -> Result<Vec<(u32, u32, Option<V
     Ok(arrows)
 }
 
-/// A receiver waits and is served by the send of two bytes; the call of another is cancelled; a sender waits in the end.
+/// A receiver waits, and is served by the send of two bytes; another's call is cancelled; a sender waits in the end.
 #[test]
 fn cancelled_calls_and_bytes_are_told(rt: HostRuntime) -> Result<(), Fail> {
     let text =
@@ -93,9 +93,21 @@ fn buffered_values_and_stalls_are_told(rt: HostRuntime) -> Result<(), Fail> {
     ];
     assert_eq!(rt; ends.as_slice(), expected.as_slice());
     assert_eq!(rt; story.waiting.len(), 0);
+    let stalled = places(rt.alloc(), &story.stalled_by(rt.alloc(), 6)?)?;
+    assert_eq!(rt; stalled.as_slice(), [(5, 6)].as_slice());
     let arrows = arrows(rt.alloc(), &story.passages(rt.alloc(), &journal, Port(1))?)?;
     let expected = [(1, 3, Some(Value::num(5))), (2, 4, Some(Value::num(6)))];
     assert_eq!(rt; arrows.as_slice(), expected.as_slice());
     assert_eq!(rt; story.passages(rt.alloc(), &journal, Port(2))?.len(), 0);
+    let before = Level {
+        sent: 1,
+        received: 0,
+    };
+    assert_eq!(rt; story.level(&journal, Port(1), 3), before);
+    let after = Level {
+        sent: 2,
+        received: 1,
+    };
+    assert_eq!(rt; story.level(&journal, Port(1), 4), after);
     Ok(())
 }

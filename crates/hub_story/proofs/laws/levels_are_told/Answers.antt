@@ -1,4 +1,4 @@
-use Rattle.hub_story.proofs.Levels.{levels-law}
+use Rattle.hub_story.proofs.Filling.{levels-law}
 use Rattle.hub_story.proofs.laws.levels_are_told.Goals as goal
 
 pub returns : goal.returns

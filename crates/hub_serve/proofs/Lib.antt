@@ -1,0 +1,9 @@
+mod Newlines
+mod FirstLines
+mod EntryLines
+mod Counting
+mod Stages
+mod Ending
+mod Hearing
+mod Saying
+mod Talking

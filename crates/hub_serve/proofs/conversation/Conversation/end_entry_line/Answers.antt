@@ -1,0 +1,27 @@
+use Rattle.std.proofs.Common.{ap, subst, refl, Option, ◌+◌, ◌-◌}
+use Rattle.hub_base.specs.declared.text.faults.Kind.{Kind}
+use Rattle.hub_serve.specs.Running.{Goes}
+use Rattle.hub_serve.proofs.Ending.{at-entries, entry-line, entry-ends, entry-fails}
+use Rattle.hub_serve.proofs.conversation.Conversation.end_entry_line.Goals as goal
+
+pub returns-in-Some-2 : goal.returns-in-Some-2
+returns-in-Some-2 c = λ lines line said body stands at.
+    let conversation = c.args.self.now in
+    let before = at-entries conversation lines line said body stands at c.in-Some.running c.in-Some.is c.requires.fits in
+    let goes = subst (λ (o : Option Kind). Goes before.head before.entries body c.answer.new.self.machine c.answer.new.self.steps
+    c.args.answers.now c.answer.new.answers o) c.in-Some-2.is
+    (c.in_ok-kind.ensures.goes before.head before.entries line body before.runs
+    (entry-line conversation lines line said body stands at c.in-Some.running c.in-Some.is c.requires.fits _ c.deref.ensures.value)) in
+    (entry-fails conversation lines line said body stands at c.in-Some.running c.in-Some.is c.requires.fits c.in-Some-2.kind goes.0, goes.1)
+
+pub returns : goal.returns
+returns c = λ lines line said body stands at.
+    let conversation = c.args.self.now in
+    let before = at-entries conversation lines line said body stands at c.in-Some.running c.in-Some.is c.requires.fits in
+    let goes = subst (λ (o : Option Kind). Goes before.head before.entries body c.answer.new.self.machine c.answer.new.self.steps
+    c.args.answers.now c.answer.new.answers o) c.in_default-2.is
+    (c.in_ok-kind.ensures.goes before.head before.entries line body before.runs
+    (entry-line conversation lines line said body stands at c.in-Some.running c.in-Some.is c.requires.fits _ c.deref.ensures.value)) in
+    entry-ends conversation lines line said body stands at c.in-Some.running c.in-Some.is c.requires.fits _ c.answer.new.self
+    c.args.answers.now c.answer.new.answers goes (ap (λ n. conversation.place + (n - conversation.front)) c.len.ensures) refl refl
+    c.truncate.ensures.items refl

@@ -1,0 +1,22 @@
+use Rattle.std.proofs.Common.{sym, ◌∙◌, ap, refl, ◌++◌}
+use Rattle.std.specs.List.{flat_map}
+use Rattle.hub_base.specs.EventText.{event_line}
+use Rattle.hub_serve.proofs.Counting.{entry-counts, entry-beyond}
+use Rattle.hub_serve.proofs.running.Running.answer.Goals as goal
+
+pub returns-in_default-steps_after-clause-goes : goal.returns-in_default-steps_after-clause-goes
+returns-in_default-steps_after-clause-goes c = λ head entries line body runs at_line.
+    (entry-beyond entries c.read_entry.new.entry _ _ runs.counted (sym c.in_default-steps_after.ensures) (c.in_default.ensures head line body at_line), refl)
+
+pub returns-clause-goes : goal.returns-clause-goes
+returns-clause-goes c = λ head entries line body runs at_line.
+    let count = entry-counts entries c.read_entry.new.entry _ c.in-Some.steps runs.counted (sym c.in-Some.ensures) in
+    let made = c.in_ok-answer.ensures.ok head entries runs.follows in
+    record {
+      entry = c.read_entry.new.entry;
+      read = c.in_default.ensures head line body at_line;
+      fits = count.fits;
+      runs = record { follows = made.follows; counted = count.counted };
+      said = c.in_ok-write.ensures.ok
+          ∙ ap (λ es. c.args.answers.now ++ flat_map event_line es) (c.as_slice.ensures.value ∙ made.events);
+    }

@@ -1,0 +1,96 @@
+//! Hears lines as they come, and says the events of their entries.
+
+ghost use Rattle.std.specs.Prelude.{◌≡◌, ◌+◌, ◌++◌, List, ℕ, [], OnOk, OnErr, IsErrOf};
+ghost use Rattle.hub_base.specs.declared.limits.TheConstants.{MOST_BYTES};
+ghost use Rattle.hub_base.specs.declared.text.faults.TextFault.{TextFault};
+ghost use Rattle.hub_replay.specs.Devices.{Failed};
+ghost use Rattle.hub_serve.specs.Serve.{HasConversed, HasNamed, HasBegun, HasStopped, HasHeardAtMost};
+ghost use Rattle.hub_serve.specs.Talks.{Stays, Grows, HasAnswered, IsAnswer};
+
+use crate::conversation::Conversation;
+use crate::{ServeFault, Talk};
+use hub_base::{EventText, MOST_BYTES, one_reading};
+use hub_replay::{CHUNK, WriteFailed};
+use std::alloc::Global;
+
+/// Says all of the answer that is left, and stops at the first write that fails or takes none.
+fn say_whole<T: Talk>(talk: &mut T, text: &[u8]) -> Result<(), WriteFailed>
+    requires { IsAnswer (T.heard talk.old) (T.said talk.old) text.now }
+    ensures whole { OnOk result (Grows (T.said talk.old) (T.said talk.new) text.now) }
+    ensures beginning { OnErr result (HasBegun (T.heard talk.new) (T.said talk.new)) }
+    ensures deaf { Stays (T.heard talk.old) (T.heard talk.new) }
+
+    // One write failed at `Err`, and else none; and no read did.
+    ensures err { OnErr result (Failed (T.failed_writes talk.old) (T.failed_writes talk.new)) }
+    ensures ok { OnOk result (T.failed_writes talk.new ≡ T.failed_writes talk.old) }
+    ensures reads { T.failed_reads talk.new ≡ T.failed_reads talk.old }
+{
+    let mut rest = text;
+    'rest: while !rest.is_empty() {
+        match talk.say(rest) {
+            Ok(count) if count > 0 => rest = &rest[count..],
+            _ => return Err(WriteFailed),
+        }
+    }
+    Ok(())
+}
+
+/// Hears a journal to its end, and says the event text of its whole lines each time that some have come. Nothing is
+/// tried again.
+///
+/// At each read what was said is the event text of the whole lines that were heard; at each write the piece is all that
+/// is missing in it. So the answers to what one read gave go out in one write, where the device takes it whole.
+pub fn converse<T: Talk>(alloc: Global, talk: &mut T) -> Result<(), ServeFault>
+    requires heard { T.heard talk.old [] }
+    requires said { T.said talk.old [] }
+    ensures ok { OnOk result (HasConversed (T.heard talk.new) (T.said talk.new)
+        × T.ended talk.new) }
+
+    // Nothing is said of a faulty line or behind it.
+    ensures text { (fault : TextFault) → IsErrOf result (ServeFault.Text fault)
+        → HasNamed (T.heard talk.new) (T.said talk.new) (T.ended talk.new) fault }
+    ensures read { IsErrOf result ServeFault.Read
+        → Failed (T.failed_reads talk.old) (T.failed_reads talk.new)
+        × HasAnswered (T.heard talk.new) (T.said talk.new) }
+    ensures write { IsErrOf result ServeFault.Write
+        → Failed (T.failed_writes talk.old) (T.failed_writes talk.new)
+        × HasBegun (T.heard talk.new) (T.said talk.new) }
+    ensures memory { IsErrOf result ServeFault.NoMemory
+        → HasStopped (T.heard talk.new) (T.said talk.new) }
+
+    // At most one byte more is heard than a journal may have, whatever the answer is.
+    ensures few { HasHeardAtMost (T.heard talk.new) (MOST_BYTES + 1) }
+
+    // No other call failed.
+    ensures reads_once { ¬ IsErrOf result ServeFault.Read
+        → T.failed_reads talk.new ≡ T.failed_reads talk.old }
+    ensures writes_once { ¬ IsErrOf result ServeFault.Write
+        → T.failed_writes talk.new ≡ T.failed_writes talk.old }
+{
+    // Its clauses say which fault a text has that is read so.
+    one_reading();
+    let mut conversation = Conversation::open(alloc);
+    let mut answers = EventText::new(alloc);
+    let mut chunk = [0; CHUNK];
+    'reads: loop {
+        let room = (MOST_BYTES - conversation.heard()).min(CHUNK - 1) + 1;
+        let place = &mut chunk[..room];
+        let Ok(count) = talk.hear(place) else {
+            return Err(ServeFault::Read);
+        };
+        if count == 0 {
+            if let Err(fault) = conversation.end() {
+                return Err(ServeFault::Text(fault));
+            }
+            return Ok(());
+        }
+        answers.clear();
+        let fault = conversation.hear(alloc, &place[..count], &mut answers)?;
+        if let Err(WriteFailed) = say_whole(talk, answers.text()) {
+            return Err(ServeFault::Write);
+        }
+        if let Some(fault) = fault {
+            return Err(ServeFault::Text(fault));
+        }
+    }
+}

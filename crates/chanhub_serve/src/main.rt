@@ -1,0 +1,82 @@
+//! `chanhub_serve`: answers the steps of a journal as its lines come.
+#![tactic(auto)]
+
+mod fault_lines;
+mod pieces;
+mod program;
+
+use hub_replay::{Counted, write_whole};
+use hub_serve::Pair;
+use program::run;
+use std::alloc::AllocError;
+use std::env;
+use std::marker::{Brand, PhantomData};
+use std::process::ExitCode;
+use std::rt::Env;
+
+/// What the program is asked for.
+enum Request {
+    /// No argument: to converse.
+    Converse,
+    /// `--help`: to say how it is used.
+    Help,
+    /// Any other.
+    Unknown,
+}
+
+/// How the program is used.
+const USAGE: &str = "usage: chanhub_serve\n\n\
+    Reads a journal from standard input, line by line as it comes, and answers the whole lines\n\
+    of each read at once on standard output: one line for each event. The answers are those of\n\
+    `chanhub replay`.\n\n\
+    Status 0: all was a journal, and is answered. 1: a device or memory. 2: a faulty line, which\n\
+    standard error names.\n";
+
+/// The arguments, the program's name first.
+fn arguments<R: Env + AllocGlobal>(rt: &R) -> Result<Vec<String>, AllocError> {
+    match env::args(rt) {
+        Ok(args) => args.collect(rt.alloc()),
+        Err(_) => Err(AllocError),
+    }
+}
+
+/// What the arguments ask for. Arguments that can't be read ask for nothing that is known.
+fn asked<R: Env + AllocGlobal>(rt: &R) -> Request {
+    match arguments(rt) {
+        Ok(words) => read_request(&words),
+        Err(AllocError) => Request::Unknown,
+    }
+}
+
+fn read_request(words: &[String]) -> Request {
+    match words.get(1) {
+        None => Request::Converse,
+        Some(word) if word.as_str() == "--help" && words.len() == 2 => Request::Help,
+        Some(_) => Request::Unknown,
+    }
+}
+
+fn main(rt: HostRuntime) -> ExitCode {
+    let mut errors = Counted::new(rt.stderr());
+    match asked(&rt) {
+        Request::Converse => {
+            let mut pair = Pair::<Brand, _, _> {
+                source: Counted::new(rt.stdin()),
+                sink: Counted::new(rt.stdout()),
+                of: PhantomData,
+            };
+            ExitCode::from(run(rt.alloc(), &mut pair, &mut errors))
+        }
+        Request::Help => {
+            let mut output = Counted::new(rt.stdout());
+            match write_whole(&mut output, USAGE.as_bytes()) {
+                Ok(()) => ExitCode::from(0),
+                Err(_) => ExitCode::from(1),
+            }
+        }
+        Request::Unknown => {
+            let _ = write_whole(&mut errors, b"chanhub: bad arguments\n");
+            ExitCode::from(2)
+        }
+    }
+}

@@ -1,0 +1,34 @@
+//! The conversation of the program, and its status.
+
+ghost use Rattle.std.specs.Prelude.{◌≡◌, ◌≤◌, []};
+ghost use Rattle.hub_replay.specs.Devices.{Failed};
+ghost use Rattle.hub_serve.specs.declared.fault.ServeFault.{ServeFault};
+ghost use Rattle.hub_serve.specs.Serve.{HasConversed};
+ghost use Rattle.chanhub_serve.specs.FaultLines.{fault_line, status_of, TellsOnce};
+ghost use Rattle.chanhub_serve.specs.Promises.{HasEnded};
+
+use crate::fault_lines::tell;
+use hub_replay::Sink;
+use hub_serve::{Talk, converse};
+use std::alloc::Global;
+
+/// Converses, and answers the exit status: 0 where all that was heard is a journal and all of its events were said; 1
+/// for a device or memory; 2 for a malformed journal. Why it is not 0 is told to `errors` as one line.
+pub fn run<T: Talk, X: Sink>(alloc: Global, talk: &mut T, errors: &mut X) -> u8
+    requires heard { T.heard talk.old [] }
+    requires said { T.said talk.old [] }
+    ensures statuses { result ≤ 2 }
+    ensures done { result ≡ 0 → HasConversed (T.heard talk.new) (T.said talk.new)
+        × T.ended talk.new × (errors.new ≡ errors.old) }
+    ensures ended { ¬ (result ≡ 0) → (fault : ServeFault) × (result ≡ status_of fault)
+        × HasEnded (T.heard talk.new) (T.said talk.new) (T.ended talk.new)
+        (Failed (T.failed_reads talk.old) (T.failed_reads talk.new))
+        (Failed (T.failed_writes talk.old) (T.failed_writes talk.new)) fault
+        × TellsOnce (X.contents errors.old) (X.contents errors.new)
+        (X.failures errors.old) (X.failures errors.new) (fault_line fault) }
+{
+    match converse(alloc, talk) {
+        Ok(()) => 0,
+        Err(fault) => tell(fault, errors),
+    }
+}

@@ -15,7 +15,7 @@ import sys
 
 ROOT = sys.argv[1] if len(sys.argv) > 1 else os.path.join(os.path.dirname(os.path.abspath(__file__)), '..')
 TICKED = re.compile(r'`([^`]+)`')
-CITED = re.compile(r'(?:(base|laws|core|live|replay|words|report|scenario|story) )?`([A-Z]\w*)`: ((?:`\w+`(?:, )?)+)')
+CITED = re.compile(r'(?:(base|laws|core|live|replay|serve|words|report|scenario|story) )?`([A-Z]\w*)`: ((?:`\w+`(?:, )?)+)')
 
 
 def read(*parts):

@@ -1,13 +1,14 @@
 #!/bin/sh
-# program.sh [PROGRAM]: runs the built program on the examples, journals and scenarios; on the rows of tests/; on random
-# journals beside the events that model.py makes of them; on the longest journal and one entry more; and with each of its
+# program.sh [PROGRAM [SERVE]]: runs the built program on the examples, journals and scenarios; on the rows of tests/; on
+# random journals beside the events that model.py makes of them; on the longest journal and one entry more; and with each of its
 # allocations refused. Runs a hub's tests and the live hub's, which `./test` has built, with theirs refused; compares
 # model.py, CLAIMS and the quotations of README with what they speak of; looks for limits that are written as numbers, and
-# for definitions and proofs that are too wide; counts the instructions of replays, where valgrind is there; and tries a
-# close by an end that receives. The last line counts: 'N passed, M failed'.
+# for definitions and proofs that are too wide; counts the instructions of replays, where valgrind is there; tries a
+# close by an end that receives; and converses with the built chanhub_serve. The last line counts: 'N passed, M failed'.
 set -u
 root=$(cd "$(dirname "$0")/.." && pwd)
 program=${1:-$root/crates/chanhub/out/chanhub}
+serve=${2:-$root/crates/chanhub_serve/out/chanhub_serve}
 random_journals=20
 passed=0
 failed=0
@@ -151,6 +152,9 @@ count $? "the longest journal"
 "$program" replay < "$work/too_long" > "$work/events" 2> "$work/errors"
 [ $? -eq 2 ] && [ ! -s "$work/events" ] && echo "chanhub: line 1000004: too long" | cmp -s - "$work/errors"
 count $? "one entry more than the longest journal has"
+
+"$root/tools/converse.py" "$program" "$serve" > "$work/conversations" 2>&1
+count $? "conversations: $(cat "$work/conversations")"
 
 "$root/tools/receivers_close_nothing.sh"
 count $? "a close by an end that receives"

@@ -4,7 +4,6 @@ ghost use Rattle.std.specs.Prelude.{◌≡◌};
 ghost use Rattle.hub_serve.specs.declared.fault.ServeFault.TheVariants as serve;
 
 use hub_base::{NoMemory, TextFault};
-use std::alloc::AllocError;
 use thiserror::Error;
 
 /// Why a conversation ended early, and what was said by then.
@@ -20,7 +19,8 @@ pub enum ServeFault {
     /// answer.
     #[error("write failed")]
     Write,
-    /// 4: a growth was refused. What was said answers the whole lines of all reads but the last.
+    /// 4: a growth was refused. What was said answers some of the whole lines, from the first on, and nothing else was
+    /// said.
     #[error("out of memory")]
     NoMemory,
 }
@@ -29,14 +29,6 @@ impl From<NoMemory> for ServeFault {
     ghost from_gives = { λ _ fault. fault ≡ serve.NoMemory };
 
     fn from(_: NoMemory) -> ServeFault {
-        ServeFault::NoMemory
-    }
-}
-
-impl From<AllocError> for ServeFault {
-    ghost from_gives = { λ _ fault. fault ≡ serve.NoMemory };
-
-    fn from(_: AllocError) -> ServeFault {
         ServeFault::NoMemory
     }
 }

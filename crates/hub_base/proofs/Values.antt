@@ -8,7 +8,8 @@ use Rattle.std.specs.Prelude.{nat_lt, decimal}
 use Rattle.hex.specs.Hex.{encode_lower}
 use Rattle.hub_base.specs.declared.limits.TheConstants.{MOST_VALUE_BYTES}
 use Rattle.hub_base.specs.declared.value.Value.{Value}
-use Rattle.hub_base.specs.Value.{Content, content, saying, padded, IsContent, IsValue, bytes_in, number_in, field_of}
+use Rattle.std.specs.Int.{to_le_bytes, w64}
+use Rattle.hub_base.specs.Value.{Content, content, saying, value_of, bytes_of, padded, IsContent, IsValue, bytes_in, number_in, field_of}
 use Rattle.hub_base.specs.Value.Content.{Num, Bytes}
 
 -- behind the bytes there are zeros
@@ -29,8 +30,26 @@ content_of bs tail =
     let less : length bs + 1 - 1 ≡ length bs = omega arith in
     rw (some, less) (ap Bytes (take-append_seam bs tail))
 
+abbrev formed : ℕ → List ℕ → Value
+formed form places = record { form = form; bytes = places }
+
+-- a value of these bytes, of this number
+pub bytes_are : (bs : List ℕ) (n : ℕ) (places : List ℕ) → length bs ≡ n → places ≡ padded bs → formed (n + 1) places ≡ bytes_of bs
+unfolding saying
+bytes_are bs n places count same = cc
+
+pub number_is : (n : ℕ) (places : List ℕ) → places ≡ padded (to_le_bytes w64 n) → formed 0 places ≡ value_of n
+unfolding saying
+number_is n places same = ap (formed 0) same
+
+-- the value that is these bytes says them
+pub content_bytes : (bs : List ℕ) → content (bytes_of bs) ≡ Bytes bs
+unfolding saying
+content_bytes bs = content_of bs (replicate (MOST_VALUE_BYTES - length bs) 0)
+
 -- the value that says this says it
 pub content-saying : (c : Content) → IsContent c → content (saying c) ≡ c
+unfolding saying
 content-saying (Num n) fits = ap Num (from_le_bytes-to_le_bytes_8 n (omega (arith, fits)))
 content-saying (Bytes bs) fits = content_of bs (replicate (MOST_VALUE_BYTES - length bs) 0)
 

@@ -19,7 +19,7 @@ abbrev pub padded : List ℕ → List ℕ
 padded bs = bs ++ replicate (MOST_VALUE_BYTES - length bs) 0
 
 -- the one value that says this
-abbrev pub saying : Content → Value
+unfoldable pub saying : Content → Value
 saying (Num n) = record { form = 0; bytes = padded (to_le_bytes w64 n) }
 saying (Bytes bs) = record { form = length bs + 1; bytes = padded bs }
 

@@ -41,6 +41,7 @@ two_reads (Err k) = tt
 
 -- the first reads numbers alone
 one_reads : (o : Option ℕ) → IfOk (lines.must BadNumber (option_map saying (option_map Num o))) (λ v. has_value One v ≡ true)
+unfolding saying
 one_reads None = tt
 one_reads (Some n) = refl
 

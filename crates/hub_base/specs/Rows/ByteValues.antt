@@ -9,7 +9,7 @@ use Rattle.hub_base.specs.declared.event.Outcome.TheVariants.{Sent, Got}
 use Rattle.hub_base.specs.Notation.{procs_two, port, s, r, make, select, recv, cancel, made, case, got, defaulted, parked, done, cancelled}
 use Rattle.hub_base.specs.Reading.{read_text, Reads}
 use Rattle.hub_base.specs.Runs.{events}
-use Rattle.hub_base.specs.Value.{value_field, value_of, bytes_of}
+use Rattle.hub_base.specs.Value.{saying, value_field, value_of, bytes_of}
 use Rattle.hex.specs.Hex.{decode_pairs, encode_with}
 
 -- the case that sends bytes on a port: `s1:#00ff` is `sb 1 (0 ∷ 255 ∷ [])`
@@ -35,7 +35,7 @@ unfolding decode_pairs
 byte_values_are_read = refl
 
 pub byte_values_are_spelled : map value_field (bytes_of [] ∷ bytes_of (0 ∷ 255 ∷ []) ∷ []) ≡ codes "#" ∷ codes "#00ff" ∷ []
-unfolding encode_with
+unfolding encode_with saying
 byte_values_are_spelled = refl
 
 -- a select of two sends, and one with a default

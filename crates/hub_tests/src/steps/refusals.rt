@@ -140,22 +140,16 @@ fn refused_steps_leave_the_buffer(rt: HostRuntime) -> Result<(), Fail> {
         close(0, 1),
         recv(0, 1),
     ];
-    let sent = fired(0, Outcome::Sent);
-    hub_again(
-        &rt,
-        rt.alloc(),
-        1,
-        &entries,
-        &[
-            &[told(0, What::Made(Port(1)))],
-            &[sent],
-            &[sent],
-            &[told(0, What::Made(Port(2)))],
-            &[got(0, 5)],
-            &[told(0, What::Done)],
-            &[got(0, 6)],
-        ],
-    )
+    let wanted: [&[Event]; 7] = [
+        &[told(0, What::Made(Port(1)))],
+        &[fired(0, Outcome::Sent)],
+        &[fired(0, Outcome::Sent)],
+        &[told(0, What::Made(Port(2)))],
+        &[got(0, 5)],
+        &[told(0, What::Done)],
+        &[got(0, 6)],
+    ];
+    hub_again(&rt, rt.alloc(), 1, &entries, &wanted)
 }
 
 /// Runs these entries and, where memory was refused, once more.

@@ -1,3 +1,2 @@
 mod Refused
-mod Written
 mod Carried

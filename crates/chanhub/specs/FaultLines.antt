@@ -1,18 +1,10 @@
 -- The one line that the program writes to standard error where it did not do what it was asked for.
-use Rattle.std.specs.Prelude.{◌≡◌, ◌⊎◌, ℕ, List, [], ◌∷◌, ◌++◌, codes, decimal, Option}
-use Rattle.std.specs.Borrow.{Bor}
-use Rattle.std.specs.Io.KnownBytes.{Appends}
-use Rattle.hub_base.specs.Faults.{kind_text}
+use Rattle.std.specs.Prelude.{ℕ, List, ◌++◌, codes, decimal}
 use Rattle.hub_scenario.specs.declared.fault.ScenarioFault.{ScenarioFault}
 use Rattle.hub_scenario.specs.declared.fault.ScenarioFault.TheVariants as scenario
-use Rattle.hub_replay.specs.Devices.{AppendsBeginning, Failed}
+use Rattle.hub_replay.specs.FaultLines.{line_of, fault_text as replay_text}
 use Rattle.chanhub.specs.declared.refusal.Refusal.{Refusal}
-use Rattle.chanhub.specs.declared.refusal.Refusal.TheVariants.{BadArguments, Read, Write, NoMemory, JournalFull, Journal, Scenario}
-
--- texts, one behind the other
-abbrev pub joined : List (Bor (List ℕ)) → List ℕ
-joined [] = []
-joined (piece ∷ pieces) = piece.now ++ joined pieces
+use Rattle.chanhub.specs.declared.refusal.Refusal.TheVariants.{BadArguments, JournalFull, Replay, Scenario}
 
 -- what is wrong with a scenario
 abbrev pub scenario_text : ScenarioFault → List ℕ
@@ -30,17 +22,9 @@ scenario_text scenario.NoMemory = codes "out of memory"
 
 abbrev pub fault_text : Refusal → List ℕ
 fault_text BadArguments = codes "bad arguments"
-fault_text Read = codes "read failed"
-fault_text Write = codes "write failed"
-fault_text NoMemory = codes "out of memory"
 fault_text JournalFull = codes "journal full"
-fault_text (Journal fault) = codes "line " ++ decimal fault.line ++ codes ": " ++ kind_text fault.kind
+fault_text (Replay fault) = replay_text fault
 fault_text (Scenario fault) = codes "scenario: " ++ scenario_text fault
 
 abbrev pub fault_line : Refusal → List ℕ
-fault_line refusal = codes "chanhub: " ++ fault_text refusal ++ codes "\n"
-
--- these bytes were written and no write failed, or a beginning of them was and one write failed
-abbrev pub TellsOnce : (held holds : Option (List ℕ)) → (before after : ℕ) → List ℕ → Type 0
-TellsOnce held holds before after bytes =
-    (Appends held holds bytes × (after ≡ before)) ⊎ (AppendsBeginning held holds bytes × Failed before after)
+fault_line refusal = line_of (fault_text refusal)

@@ -17,6 +17,7 @@ use Rattle.hub_scenario.specs.Scenario.{ScenarioData, reading, run_head}
 use Rattle.hub_words.specs.Words.{AsksFor, AsksForReplay}
 use Rattle.chanhub.specs.declared.refusal.Refusal.{Refusal}
 use Rattle.chanhub.specs.declared.refusal.Refusal.TheVariants as refusal
+use Rattle.hub_replay.specs.declared.fault.ReplayFault.TheVariants as replay
 use Rattle.chanhub.specs.declared.outcome.Outcome.{Outcome}
 use Rattle.chanhub.specs.declared.outcome.Outcome.TheVariants.{Done, Differs, Stalled}
 
@@ -101,38 +102,38 @@ HasBegun words unread left alone held holds =
 abbrev pub RefusesRun : List ℕ → Refusal → Type 0
 RefusesRun bytes (refusal.Scenario fault) = reading bytes ≡ Err fault
 RefusesRun bytes refusal.JournalFull = Unit {0}
-RefusesRun bytes refusal.NoMemory = Unit {0}
-RefusesRun bytes refusal.Write = Unit {0}
-RefusesRun bytes (refusal.Journal fault) = ⊥
-RefusesRun bytes refusal.Read = ⊥
+RefusesRun bytes (refusal.Replay replay.NoMemory) = Unit {0}
+RefusesRun bytes (refusal.Replay replay.Write) = Unit {0}
+RefusesRun bytes (refusal.Replay (replay.Text fault)) = ⊥
+RefusesRun bytes (refusal.Replay replay.Read) = ⊥
 RefusesRun bytes refusal.BadArguments = ⊥
 
 -- why nothing is compared with this journal
 abbrev pub RefusesComparison : List ℕ → Refusal → Type 0
-RefusesComparison journal (refusal.Journal fault) = IsFaulty journal fault.line fault.kind
-RefusesComparison journal refusal.NoMemory = Unit {0}
-RefusesComparison journal refusal.Write = Unit {0}
+RefusesComparison journal (refusal.Replay (replay.Text fault)) = IsFaulty journal fault.line fault.kind
+RefusesComparison journal (refusal.Replay replay.NoMemory) = Unit {0}
+RefusesComparison journal (refusal.Replay replay.Write) = Unit {0}
 RefusesComparison journal (refusal.Scenario fault) = ⊥
 RefusesComparison journal refusal.JournalFull = ⊥
-RefusesComparison journal refusal.Read = ⊥
+RefusesComparison journal (refusal.Replay replay.Read) = ⊥
 RefusesComparison journal refusal.BadArguments = ⊥
 
 -- why two files are not compared; of their bytes nothing is known
 abbrev pub RefusesFiles : Refusal → Type 0
-RefusesFiles (refusal.Journal fault) = (journal : List ℕ) × IsFaulty journal fault.line fault.kind
-RefusesFiles refusal.NoMemory = Unit {0}
-RefusesFiles refusal.Read = Unit {0}
-RefusesFiles refusal.Write = Unit {0}
+RefusesFiles (refusal.Replay (replay.Text fault)) = (journal : List ℕ) × IsFaulty journal fault.line fault.kind
+RefusesFiles (refusal.Replay replay.NoMemory) = Unit {0}
+RefusesFiles (refusal.Replay replay.Read) = Unit {0}
+RefusesFiles (refusal.Replay replay.Write) = Unit {0}
 RefusesFiles (refusal.Scenario fault) = ⊥
 RefusesFiles refusal.JournalFull = ⊥
 RefusesFiles refusal.BadArguments = ⊥
 
 -- why the bytes on standard input are not replayed
 abbrev pub RefusesReplay : (unread left : Option (List ℕ)) → (failed : Type 0) → Refusal → Type 0
-RefusesReplay unread left failed (refusal.Journal fault) = ReadsFaulty unread left fault
-RefusesReplay unread left failed refusal.Read = failed
-RefusesReplay unread left failed refusal.NoMemory = Unit {0}
-RefusesReplay unread left failed refusal.Write = Unit {0}
+RefusesReplay unread left failed (refusal.Replay (replay.Text fault)) = ReadsFaulty unread left fault
+RefusesReplay unread left failed (refusal.Replay replay.Read) = failed
+RefusesReplay unread left failed (refusal.Replay replay.NoMemory) = Unit {0}
+RefusesReplay unread left failed (refusal.Replay replay.Write) = Unit {0}
 RefusesReplay unread left failed (refusal.Scenario fault) = ⊥
 RefusesReplay unread left failed refusal.JournalFull = ⊥
 RefusesReplay unread left failed refusal.BadArguments = ⊥
@@ -142,16 +143,16 @@ RefusesReplay unread left failed refusal.BadArguments = ⊥
 abbrev pub RefusesScenario : (unread left : Option (List ℕ)) → (alone failed : Type 0) → Refusal → Type 0
 RefusesScenario unread left alone failed (refusal.Scenario fault) =
     (bytes : List ℕ) × TakesScenario unread left alone bytes × (reading bytes ≡ Err fault)
-RefusesScenario unread left alone failed refusal.Read = failed ⊎ alone
+RefusesScenario unread left alone failed (refusal.Replay replay.Read) = failed ⊎ alone
 RefusesScenario unread left alone failed refusal.JournalFull = Unit {0}
-RefusesScenario unread left alone failed refusal.NoMemory = Unit {0}
-RefusesScenario unread left alone failed refusal.Write = Unit {0}
-RefusesScenario unread left alone failed (refusal.Journal fault) = ⊥
+RefusesScenario unread left alone failed (refusal.Replay replay.NoMemory) = Unit {0}
+RefusesScenario unread left alone failed (refusal.Replay replay.Write) = Unit {0}
+RefusesScenario unread left alone failed (refusal.Replay (replay.Text fault)) = ⊥
 RefusesScenario unread left alone failed refusal.BadArguments = ⊥
 
 -- why arguments that ask for no replay are not carried out: they are no command's, or memory was refused to their reading
 abbrev pub RefusesArguments : Refusal → Type 0
-RefusesArguments why = (why ≡ refusal.BadArguments) ⊎ (why ≡ refusal.NoMemory)
+RefusesArguments why = (why ≡ refusal.BadArguments) ⊎ (why ≡ (refusal.Replay replay.NoMemory))
 
 -- why it was not done what its arguments asked for: each command has its own refusals. Only a replay, and a run of a
 -- scenario that no file holds, touch standard input
@@ -165,5 +166,5 @@ HasRefused words why unread left alone failed =
 -- what a refusal leaves: the output is as it was, but for a failed write, which is told only where a write failed, once,
 -- behind a beginning of what was to be written
 pub record IsRefused (why : Refusal) (unchanged failed begun : Type 0) : Type 0 where
-  pub unwritten : ¬ (why ≡ refusal.Write) → unchanged
-  pub write : why ≡ refusal.Write → failed × begun
+  pub unwritten : ¬ (why ≡ (refusal.Replay replay.Write)) → unchanged
+  pub write : why ≡ (refusal.Replay replay.Write) → failed × begun

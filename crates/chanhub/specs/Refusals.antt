@@ -2,7 +2,6 @@
 use Rattle.hub_words.specs.declared.request.ArgumentsFault.{ArgumentsFault}
 use Rattle.hub_words.specs.declared.request.ArgumentsFault.TheVariants as arguments
 use Rattle.hub_replay.specs.declared.fault.SourceFault.{SourceFault}
-use Rattle.hub_replay.specs.declared.fault.ReplayFault.{ReplayFault}
 use Rattle.hub_replay.specs.declared.fault.ReplayFault.TheVariants as replay
 use Rattle.hub_replay.specs.Replay.{replay_fault}
 use Rattle.hub_scenario.specs.declared.fault.ScenarioFault.{ScenarioFault}
@@ -10,25 +9,19 @@ use Rattle.hub_scenario.specs.declared.fault.ScenarioFault.TheVariants as scenar
 use Rattle.hub_runner.specs.declared.fault.RunFault.{RunFault}
 use Rattle.hub_runner.specs.declared.fault.RunFault.TheVariants as run
 use Rattle.chanhub.specs.declared.refusal.Refusal.{Refusal}
-use Rattle.chanhub.specs.declared.refusal.Refusal.TheVariants.{BadArguments, Read, Write, NoMemory, JournalFull, Journal, Scenario}
+use Rattle.chanhub.specs.declared.refusal.Refusal.TheVariants.{BadArguments, JournalFull, Replay, Scenario}
 
 abbrev pub of_arguments : ArgumentsFault → Refusal
 of_arguments arguments.BadArguments = BadArguments
-of_arguments arguments.NoMemory = NoMemory
-
-abbrev pub of_replay : ReplayFault → Refusal
-of_replay (replay.Text fault) = Journal fault
-of_replay replay.Read = Read
-of_replay replay.Write = Write
-of_replay replay.NoMemory = NoMemory
+of_arguments arguments.NoMemory = Replay replay.NoMemory
 
 -- a source gives no bytes to a file's reader for what it gives none to a replay
 abbrev pub of_source : SourceFault → Refusal
-of_source fault = of_replay (replay_fault fault)
+of_source fault = Replay (replay_fault fault)
 
 -- all faults but want of memory are the scenario's own
 abbrev pub of_scenario : ScenarioFault → Refusal
-of_scenario scenario.NoMemory = NoMemory
+of_scenario scenario.NoMemory = Replay replay.NoMemory
 of_scenario scenario.TooLong = Scenario scenario.TooLong
 of_scenario scenario.BadToml = Scenario scenario.BadToml
 of_scenario scenario.BadKey = Scenario scenario.BadKey
@@ -40,5 +33,5 @@ of_scenario scenario.BadProcesses = Scenario scenario.BadProcesses
 of_scenario (scenario.BadScript process step) = Scenario (scenario.BadScript process step)
 
 abbrev pub of_run : RunFault → Refusal
-of_run run.NoMemory = NoMemory
+of_run run.NoMemory = Replay replay.NoMemory
 of_run run.JournalFull = JournalFull

@@ -3,12 +3,12 @@
 ghost use Rattle.std.specs.Prelude.{◌≡◌, OnOk, OnErr};
 ghost use Rattle.std.specs.Io.KnownBytes.{Appends};
 ghost use Rattle.hub_replay.specs.Devices.{Failed, AppendsBeginning};
-ghost use Rattle.chanhub.specs.FaultLines.{fault_line, TellsOnce};
+ghost use Rattle.hub_replay.specs.FaultLines.{TellsOnce};
+ghost use Rattle.chanhub.specs.FaultLines.{fault_line};
 ghost use Rattle.chanhub.specs.Statuses.{status_of};
 
-use crate::pieces::write_pieces;
 use crate::refusal::Refusal;
-use hub_replay::{Sink, WriteFailed};
+use hub_replay::{Sink, WriteFailed, write_fault_line, write_pieces};
 use hub_scenario::ScenarioFault;
 use itoa::Buffer;
 
@@ -58,23 +58,8 @@ fn write_line<X: Sink>(refusal: Refusal, errors: &mut X) -> Result<(), WriteFail
 {
     match refusal {
         Refusal::BadArguments => write_pieces(errors, &["chanhub: bad arguments\n"]),
-        Refusal::Read => write_pieces(errors, &["chanhub: read failed\n"]),
-        Refusal::Write => write_pieces(errors, &["chanhub: write failed\n"]),
-        Refusal::NoMemory => write_pieces(errors, &["chanhub: out of memory\n"]),
+        Refusal::Replay(fault) => write_fault_line(fault, errors),
         Refusal::JournalFull => write_pieces(errors, &["chanhub: journal full\n"]),
-        Refusal::Journal(fault) => {
-            let mut digits = Buffer::new();
-            write_pieces(
-                errors,
-                &[
-                    "chanhub: line ",
-                    digits.format(fault.line),
-                    ": ",
-                    fault.kind.text(),
-                    "\n",
-                ],
-            )
-        }
         Refusal::Scenario(fault) => write_scenario_line(fault, errors),
     }
 }

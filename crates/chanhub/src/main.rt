@@ -5,13 +5,13 @@ mod commands;
 mod fault_lines;
 mod files;
 mod outcome;
-mod pieces;
 mod program;
 mod refusal;
 #[cfg(test)]
 mod tests;
 
 use fault_lines::refuse;
+use hub_base::NoMemory;
 use hub_replay::Counted;
 use program::run_words;
 use refusal::Refusal;
@@ -36,7 +36,7 @@ fn main(rt: HostRuntime) -> ExitCode {
     let mut errors = Counted::new(rt.stderr());
     let status = match arguments(&rt) {
         Ok(words) => run_words(&rt, &words, &mut input, &mut output, &mut errors),
-        Err(AllocError) => refuse(Refusal::NoMemory, &mut errors),
+        Err(AllocError) => refuse(Refusal::from(NoMemory), &mut errors),
     };
     ExitCode::from(status)
 }

@@ -8,7 +8,8 @@ ghost use Rattle.hub_replay.specs.Replay.{Replays, ReadsFaulty};
 ghost use Rattle.hub_words.specs.Words.{AsksForReplay, HasUnknownOption};
 ghost use Rattle.chanhub.specs.declared.outcome.Outcome.{Outcome};
 ghost use Rattle.chanhub.specs.declared.refusal.Refusal.{Refusal};
-ghost use Rattle.chanhub.specs.FaultLines.{fault_line, TellsOnce};
+ghost use Rattle.hub_replay.specs.FaultLines.{TellsOnce};
+ghost use Rattle.chanhub.specs.FaultLines.{fault_line};
 ghost use Rattle.chanhub.specs.Promises.{HasDone, HasBegun, HasRefused, IsRefused};
 ghost use Rattle.chanhub.specs.Statuses.{status_of, status_of_outcome};
 

@@ -1,11 +1,12 @@
 //! Why the program did not do what it was asked for.
 
 ghost use Rattle.std.specs.Prelude.{◌≡◌};
+ghost use Rattle.hub_replay.specs.declared.fault.ReplayFault.TheVariants as replay;
 ghost use Rattle.chanhub.specs.declared.refusal.Refusal.TheVariants as refusal;
-ghost use Rattle.chanhub.specs.Refusals.{of_arguments, of_source, of_replay, of_scenario, of_run};
+ghost use Rattle.chanhub.specs.Refusals.{of_arguments, of_source, of_scenario, of_run};
 ghost use Rattle.chanhub.specs.Statuses.{status_of};
 
-use hub_base::{NoMemory, TextFault};
+use hub_base::NoMemory;
 use hub_replay::{ReplayFault, SourceFault, WriteFailed};
 use hub_runner::RunFault;
 use hub_scenario::ScenarioFault;
@@ -16,17 +17,13 @@ use hub_words::ArgumentsFault;
 pub enum Refusal {
     /// The program has no such command, or not with these arguments. Nothing was read or written.
     BadArguments,
-    /// A read failed, or a named file can't be opened. Nothing was written.
-    Read,
-    /// A write failed. What was written is a beginning of what was to be written.
-    Write,
-    /// Memory was refused, or the start of a thread. Nothing was written.
-    NoMemory,
     /// The journal of a run was full. Nothing was written.
     JournalFull,
-    /// The journal is malformed; its first faulty line. Nothing was written.
-    Journal(TextFault),
-    /// The scenario is malformed. Nothing was written. Want of memory is `Refusal::NoMemory`.
+    /// As a replay tells it: a read failed, or a named file can't be opened; a write failed, and a beginning of what was
+    /// to be written was written; memory was refused, or the start of a thread; or the journal is malformed. But for the
+    /// failed write nothing was written.
+    Replay(ReplayFault),
+    /// The scenario is malformed. Nothing was written. Want of memory is told as a replay tells it.
     Scenario(ScenarioFault),
 }
 
@@ -36,8 +33,9 @@ impl Refusal {
         ensures { result ≡ status_of self }
     {
         match self {
-            Refusal::Read | Refusal::Write | Refusal::NoMemory | Refusal::JournalFull => 1,
-            Refusal::BadArguments | Refusal::Journal(_) | Refusal::Scenario(_) => 2,
+            Refusal::Replay(fault) => fault.status(),
+            Refusal::JournalFull => 1,
+            Refusal::BadArguments | Refusal::Scenario(_) => 2,
         }
     }
 }
@@ -48,7 +46,7 @@ impl From<ArgumentsFault> for Refusal {
     fn from(fault: ArgumentsFault) -> Refusal {
         match fault {
             ArgumentsFault::BadArguments => Refusal::BadArguments,
-            ArgumentsFault::NoMemory => Refusal::NoMemory,
+            ArgumentsFault::NoMemory => NoMemory.into(),
         }
     }
 }
@@ -62,15 +60,10 @@ impl From<SourceFault> for Refusal {
 }
 
 impl From<ReplayFault> for Refusal {
-    ghost from_gives = { λ fault given. given ≡ of_replay fault };
+    ghost from_gives = { λ fault given. given ≡ refusal.Replay fault };
 
     fn from(fault: ReplayFault) -> Refusal {
-        match fault {
-            ReplayFault::Text(fault) => Refusal::Journal(fault),
-            ReplayFault::Read => Refusal::Read,
-            ReplayFault::Write => Refusal::Write,
-            ReplayFault::NoMemory => Refusal::NoMemory,
-        }
+        Refusal::Replay(fault)
     }
 }
 
@@ -79,7 +72,7 @@ impl From<ScenarioFault> for Refusal {
 
     fn from(fault: ScenarioFault) -> Refusal {
         match fault {
-            ScenarioFault::NoMemory => Refusal::NoMemory,
+            ScenarioFault::NoMemory => NoMemory.into(),
             malformed => Refusal::Scenario(malformed),
         }
     }
@@ -90,24 +83,24 @@ impl From<RunFault> for Refusal {
 
     fn from(fault: RunFault) -> Refusal {
         match fault {
-            RunFault::NoMemory => Refusal::NoMemory,
+            RunFault::NoMemory => NoMemory.into(),
             RunFault::JournalFull => Refusal::JournalFull,
         }
     }
 }
 
 impl From<NoMemory> for Refusal {
-    ghost from_gives = { λ _ given. given ≡ refusal.NoMemory };
+    ghost from_gives = { λ _ given. given ≡ refusal.Replay replay.NoMemory };
 
     fn from(_: NoMemory) -> Refusal {
-        Refusal::NoMemory
+        Refusal::Replay(ReplayFault::NoMemory)
     }
 }
 
 impl From<WriteFailed> for Refusal {
-    ghost from_gives = { λ _ given. given ≡ refusal.Write };
+    ghost from_gives = { λ _ given. given ≡ refusal.Replay replay.Write };
 
     fn from(_: WriteFailed) -> Refusal {
-        Refusal::Write
+        Refusal::Replay(ReplayFault::Write)
     }
 }

@@ -1,2 +1,1 @@
-pub mod FaultLines
 pub mod Promises

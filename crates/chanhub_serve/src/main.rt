@@ -1,8 +1,6 @@
 //! `chanhub_serve`: answers the steps of a journal as its lines come.
 #![tactic(auto)]
 
-mod fault_lines;
-mod pieces;
 mod program;
 
 use hub_replay::{Counted, write_whole};

@@ -2,13 +2,12 @@
 
 ghost use Rattle.std.specs.Prelude.{◌≡◌, ◌≤◌, []};
 ghost use Rattle.hub_replay.specs.Devices.{Failed};
-ghost use Rattle.hub_serve.specs.declared.fault.ServeFault.{ServeFault};
+ghost use Rattle.hub_replay.specs.declared.fault.ReplayFault.{ReplayFault};
+ghost use Rattle.hub_replay.specs.FaultLines.{fault_text, line_of, status_of, TellsOnce};
 ghost use Rattle.hub_serve.specs.Serve.{HasConversed};
-ghost use Rattle.chanhub_serve.specs.FaultLines.{fault_line, status_of, TellsOnce};
 ghost use Rattle.chanhub_serve.specs.Promises.{HasEnded};
 
-use crate::fault_lines::tell;
-use hub_replay::Sink;
+use hub_replay::{Sink, tell_fault};
 use hub_serve::{Talk, converse};
 use std::alloc::Global;
 
@@ -20,15 +19,15 @@ pub fn run<T: Talk, X: Sink>(alloc: Global, talk: &mut T, errors: &mut X) -> u8
     ensures statuses { result ≤ 2 }
     ensures done { result ≡ 0 → HasConversed (T.heard talk.new) (T.said talk.new)
         × T.ended talk.new × (errors.new ≡ errors.old) }
-    ensures ended { ¬ (result ≡ 0) → (fault : ServeFault) × (result ≡ status_of fault)
+    ensures ended { ¬ (result ≡ 0) → (fault : ReplayFault) × (result ≡ status_of fault)
         × HasEnded (T.heard talk.new) (T.said talk.new) (T.ended talk.new)
         (Failed (T.failed_reads talk.old) (T.failed_reads talk.new))
         (Failed (T.failed_writes talk.old) (T.failed_writes talk.new)) fault
         × TellsOnce (X.contents errors.old) (X.contents errors.new)
-        (X.failures errors.old) (X.failures errors.new) (fault_line fault) }
+        (X.failures errors.old) (X.failures errors.new) (line_of (fault_text fault)) }
 {
     match converse(alloc, talk) {
         Ok(()) => 0,
-        Err(fault) => tell(fault, errors),
+        Err(fault) => tell_fault(fault, errors),
     }
 }

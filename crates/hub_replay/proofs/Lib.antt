@@ -1,5 +1,6 @@
 mod Comparing
 mod LongTexts
 mod Newlines
-mod Replayed
+pub mod Replayed
 mod Verified
+mod Written

@@ -30,7 +30,7 @@ events_after-more s (f ∷ es) e =
     ap (λ xs. (moves s f).events ++ xs) (events_after-more (moves s f).state es e)
     ∙ sym (append_assoc (moves s f).events (events_after (moves s f).state es) (moves (state_after (moves s f).state es) e).events)
 
-event_lines-more : (head : Head) (es : List Entry) (e : Entry)
+pub event_lines-more : (head : Head) (es : List Entry) (e : Entry)
     → event_lines head (es ++ e ∷ []) ≡ event_lines head es ++ flat_map event_line (moves (state head es) e).events
 event_lines-more head es e = ap (flat_map event_line) (events_after-more (opening head) es e)
     ∙ flat_map-append event_line (events head es) (moves (state head es) e).events

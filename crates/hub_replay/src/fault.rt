@@ -3,6 +3,7 @@
 ghost use Rattle.std.specs.Prelude.{◌≡◌};
 ghost use Rattle.hub_replay.specs.declared.fault.SourceFault.TheVariants as source;
 ghost use Rattle.hub_replay.specs.declared.fault.ReplayFault.TheVariants as replay;
+ghost use Rattle.hub_replay.specs.FaultLines.{status_of};
 ghost use Rattle.hub_replay.specs.Replay.{replay_fault};
 
 use hub_base::{NoMemory, TextFault};
@@ -25,22 +26,37 @@ pub enum SourceFault {
 #[error("write failed")]
 pub struct WriteFailed;
 
-/// Why a replay ended early, and what was written by then.
+/// Why a replay ended early, and what was written by then; or a conversation, which answers a journal's lines as they
+/// come.
 #[derive(Clone, Copy, Debug, PartialEq, Eq, Error)]
 pub enum ReplayFault {
-    /// 1: the journal is malformed; its first faulty line. Nothing was written.
+    /// 1: the journal is malformed; its first faulty line. Nothing was written. A conversation has answered the lines
+    /// before it.
     #[error("line {}: {}", .0.line, .0.kind.text())]
     Text(TextFault),
-    /// 2: a read failed. Nothing was written.
+    /// 2: a read failed. Nothing was written. A conversation has answered all whole lines that were read.
     #[error("read failed")]
     Read,
     /// 3: a write failed, or took no byte of a piece that is not empty. What was written is a beginning of
     /// the event text.
     #[error("write failed")]
     Write,
-    /// 4: a growth was refused. Nothing was written.
+    /// 4: a growth was refused. Nothing was written. A conversation has answered some of the whole lines, from the first
+    /// on.
     #[error("out of memory")]
     NoMemory,
+}
+
+impl ReplayFault {
+    /// The exit status of a program that ends with the fault: 1 for a device or memory, 2 for a malformed journal.
+    pub fn status(self) -> u8
+        ensures { result ≡ status_of self }
+    {
+        match self {
+            ReplayFault::Read | ReplayFault::Write | ReplayFault::NoMemory => 1,
+            ReplayFault::Text(_) => 2,
+        }
+    }
 }
 
 impl From<AllocError> for SourceFault {

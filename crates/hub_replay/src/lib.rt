@@ -9,6 +9,7 @@
 mod comparison;
 mod device;
 mod fault;
+mod fault_lines;
 mod pieces;
 mod replayer;
 mod steps;
@@ -16,6 +17,7 @@ mod verifier;
 
 pub use device::{Counted, Sink, Source};
 pub use fault::{ReplayFault, SourceFault, WriteFailed};
+pub use fault_lines::{tell_fault, write_fault_line, write_pieces};
 pub use pieces::{CHUNK, read_up_to, write_whole};
 pub use replayer::replay;
 pub use verifier::{Compared, verify};

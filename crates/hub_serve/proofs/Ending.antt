@@ -20,7 +20,8 @@ use Rattle.hub_serve.specs.Lines.{IsLine, IsSecond, IsEntryLine, first_line}
 use Rattle.hub_serve.specs.Running.{RunsTo, GoesOn}
 use Rattle.hub_serve.specs.Stands.{Stands, Ends, Fails, IsAt, AtHead, AtEntries, InHead}
 use Rattle.hub_serve.proofs.Newlines.{newlines_in-append, newlines-of-line}
-use Rattle.hub_serve.proofs.Stages.{line-reads, line-fails, event_lines-more}
+use Rattle.hub_replay.proofs.Replayed.{event_lines-more}
+use Rattle.hub_serve.proofs.Stages.{line-reads, line-fails}
 
 take-again : (n : ℕ) (xs : List ℕ) → take n (take n xs) ≡ take n xs
 take-again n xs = grind (arith, common_steps)

@@ -3,7 +3,6 @@ use Rattle.std.proofs.Common.{◌≡◌, ℕ, ◌+◌, ◌<◌, ◌≤◌, inl, 
 use Rattle.std.proofs.Common.{◌++◌, length, map, refl, ap, ◌∙◌, sym}
 use Rattle.std.proofs.Common.{arith, append_assoc, append-nil, length-append, Option, Some, None, Result, Ok, Err}
 use Rattle.std.proofs.lemmas.Bool.{lt-ltb}
-use Rattle.std.proofs.lemmas.Grind.{flat_map-append}
 use Rattle.std.specs.Prelude.{nat_lt}
 use Rattle.std.specs.List.{flat_map}
 use Rattle.hub_base.specs.declared.entry.Entry.{Entry}
@@ -13,19 +12,15 @@ use Rattle.hub_base.specs.declared.head.Head.{Head}
 use Rattle.hub_base.specs.declared.limits.TheConstants.{MOST_BYTES}
 use Rattle.hub_base.specs.declared.text.faults.Kind.{Kind}
 use Rattle.hub_base.specs.declared.text.faults.Kind.TheVariants.{TooLong, CutLine}
-use Rattle.hub_base.specs.EventText.{event_line}
 use Rattle.hub_base.specs.Lines.{line, pieces, read_fields}
 use Rattle.hub_base.specs.Reading.{Reading, Reads, Faulty, Row, rows, reading, read_text, end_of, row_fault, faulty_or, entry_says}
 use Rattle.hub_base.specs.Reading.{entries_from, with_entry}
 use Rattle.hub_base.specs.Reading.{behind, over, counted, head_lines}
-use Rattle.hub_base.specs.Runs.{moves, state_after, state, events_after, events}
-use Rattle.hub_base.specs.State.{State, opening}
 use Rattle.hub_base.specs.Text.{IsText, header_row, procs_row, row_of, steps_of, fault_of_entry}
 use Rattle.hub_base.proofs.Bodies.{rows-entries}
 use Rattle.hub_base.proofs.Heads.{heads-again, header-again, text-take}
 use Rattle.hub_base.proofs.NextLine.{row-fine}
 use Rattle.hub_base.proofs.Running.{entries-again}
-use Rattle.hub_replay.specs.Replay.{event_lines}
 use Rattle.hub_serve.specs.declared.running.Running.{Running}
 use Rattle.hub_serve.specs.Lines.{IsLine, first_line}
 use Rattle.hub_serve.specs.Stands.{InHead, IsAt}
@@ -93,18 +88,6 @@ module _ (lines : List ℕ) (head : Head) (entries : List Entry) (t : IsText lin
     line-fails kind fault more =
         ap read_text (append_assoc lines bytes more) ∙ line-goes more
         ∙ ap (behind entries) (says-fault (3 + length entries) (steps_of entries) (read_fields head.edition (pieces 32 body)) _ kind fault)
-
--- one entry more gives its events at the end
-events_after-more : (s : State) (es : List Entry) (e : Entry) → events_after s (es ++ e ∷ []) ≡ events_after s es ++ (moves (state_after s es) e).events
-events_after-more s [] e = append-nil (moves s e).events
-events_after-more s (f ∷ es) e =
-    ap (λ xs. (moves s f).events ++ xs) (events_after-more (moves s f).state es e)
-    ∙ sym (append_assoc (moves s f).events (events_after (moves s f).state es) (moves (state_after (moves s f).state es) e).events)
-
-pub event_lines-more : (head : Head) (es : List Entry) (e : Entry)
-    → event_lines head (es ++ e ∷ []) ≡ event_lines head es ++ flat_map event_line (moves (state head es) e).events
-event_lines-more head es e = ap (flat_map event_line) (events_after-more (opening head) es e)
-    ∙ flat_map-append event_line (events head es) (moves (state head es) e).events
 
 -- ---- a line that is too long, or cut
 first-length : (e : Edition) → length (first_line e) ≡ 18

@@ -14,9 +14,12 @@ use Rattle.hub_serve.specs.Serve.{HasConversed, HasNamed, HasStopped, HasHeardAt
 use Rattle.hub_serve.specs.Stands.{Stands, FailsHere, Hears, HearsAll, HearsBefore}
 use Rattle.hub_serve.specs.Talks.{Stays, Grows, HasAnswered, IsAnswer}
 use Rattle.std.specs.Result.{IsErrOf}
+use Rattle.std.specs.Prelude.{Result, Ok, IsErr, IsErrAnd}
+use Rattle.hub_replay.specs.declared.fault.ReplayFault.{ReplayFault}
 use Rattle.std.proofs.Common.{Err, vec_len, ◌-◌, ◌<◌}
-use Rattle.hub_serve.specs.declared.fault.ServeFault.TheVariants as serve
+use Rattle.hub_replay.specs.declared.fault.ReplayFault.TheVariants as replay
 use Rattle.hub_serve.proofs.Hearing.{tells, rest-length}
+use Rattle.hub_serve.proofs.Saying.{grows-none}
 
 -- each text that is read as faulty is faulty
 abbrev pub ReadsFaults : Type 0
@@ -65,6 +68,11 @@ module _ (Heard Said : List ℕ → Type 0) (c : Conversation) (so_far : Convers
     fits = so_far.fits;
   }
 
+  -- a read that gave nothing
+  pub conversing-silent : (Heard' Said' : List ℕ → Type 0) (piece : List ℕ) → length piece ≡ 0 → Grows Heard Heard' piece → Stays Said Said'
+      → Conversing Heard' Said' c
+  conversing-silent Heard' Said' piece none came silent = conversing-stays Heard' Said' (grows-none Heard Heard' piece none came) silent
+
   pub conversing-few : HasHeardAtMost Heard (MOST_BYTES + 1)
   conversing-few = (so_far.lines ++ so_far.rest, so_far.is_heard, let l = so_far.fits in omega (arith, l))
 
@@ -95,12 +103,14 @@ module _ (Heard Said : List ℕ → Type 0) (c : Conversation) (so_far : Convers
     pub came : Heard' ((so_far.lines ++ so_far.rest) ++ piece)
     came = grew (so_far.lines ++ so_far.rest) so_far.is_heard
 
-    pub came-few : length piece + length (so_far.lines ++ so_far.rest) ≤ MOST_BYTES + 1 → HasHeardAtMost Heard' (MOST_BYTES + 1)
-    came-few few = (
-      (so_far.lines ++ so_far.rest) ++ piece,
-      came,
-      let all = length-append (so_far.lines ++ so_far.rest) piece in omega (arith, all, few),
-    )
+    pub came-few : (Heard'' : List ℕ → Type 0) (before : ℕ) → before ≡ length so_far.lines + length so_far.rest → length piece ≤ (MOST_BYTES - before) + 1
+        → Stays Heard' Heard'' → HasHeardAtMost Heard'' (MOST_BYTES + 1)
+    came-few Heard'' before is few deaf =
+        let all = (so_far.lines ++ so_far.rest) ++ piece in
+        let long = length-append (so_far.lines ++ so_far.rest) piece in
+        let both = length-append so_far.lines so_far.rest in
+        let fits = so_far.fits in
+        (all, deaf all came, omega (arith, long, both, is, fits, few))
 
     -- where memory was refused
     pub came-stopped : HasStopped Heard' Said'
@@ -182,11 +192,19 @@ module _ (Heard Said : List ℕ → Type 0) (c : Conversation) (so_far : Convers
             (ap (λ l. read_text (l ++ more)) hears.parts ∙ hears.fails.fails more));
       }
 
-pub few-stays : (Heard Heard' : List ℕ → Type 0) (most : ℕ) → HasHeardAtMost Heard most → Stays Heard Heard' → HasHeardAtMost Heard' most
-few-stays Heard Heard' most (heard, is, few) deaf = (heard, deaf heard is, few)
+-- what is said before anything was answered by this read
+pub hears-anew : (lines rest said piece old new : List ℕ) (c : Conversation) (fault : Option TextFault) → old ≡ []
+    → Hears lines rest said piece old new c fault → Hears lines rest said piece [] new c fault
+hears-anew lines rest said piece old new c fault none hears =
+    subst (λ (answers : List ℕ). Hears lines rest said piece answers new c fault) none hears
 
-pub text-same : (a b : TextFault) → IsErrOf {T = Unit {0}} (Err (serve.Text a)) (serve.Text b) → a ≡ b
+pub text-same : (a b : TextFault) → IsErrOf {T = Unit {0}} (Err (replay.Text a)) (replay.Text b) → a ≡ b
 text-same a b h = cc
+
+pub text-given : {A : Type 0} (r : Result A ReplayFault) (a b : TextFault) → IsErr r × IsErrAnd r (λ given. given ≡ replay.Text a)
+    → IsErrOf r (replay.Text b) → a ≡ b
+text-given (Ok x) a b (bad, given) h = cc
+text-given (Err f) a b (bad, given) h = cc
 
 -- so many bytes were heard
 pub heard-length : (lines rest said : List ℕ) (c : Conversation) → Stands lines rest said c → c.place + (vec_len c.text - c.front) ≡ length (lines ++ rest)

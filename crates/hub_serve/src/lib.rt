@@ -7,14 +7,12 @@
 #![tactic(auto)]
 
 mod conversation;
-mod fault;
 mod lines;
 mod pair;
 mod running;
 mod server;
 mod talk;
 
-pub use fault::ServeFault;
 pub use pair::{Opening, Pair};
 pub use server::converse;
 pub use talk::Talk;

@@ -7,10 +7,10 @@ ghost use Rattle.hub_replay.specs.Devices.{Failed};
 ghost use Rattle.hub_serve.specs.Serve.{HasConversed, HasNamed, HasBegun, HasStopped, HasHeardAtMost};
 ghost use Rattle.hub_serve.specs.Talks.{Stays, Grows, HasAnswered, IsAnswer};
 
+use crate::Talk;
 use crate::conversation::Conversation;
-use crate::{ServeFault, Talk};
 use hub_base::{EventText, MOST_BYTES, one_reading};
-use hub_replay::{CHUNK, WriteFailed};
+use hub_replay::{CHUNK, ReplayFault, WriteFailed};
 use std::alloc::Global;
 
 /// Says all of the answer that is left, and stops at the first write that fails or takes none.
@@ -40,31 +40,31 @@ fn say_whole<T: Talk>(talk: &mut T, text: &[u8]) -> Result<(), WriteFailed>
 ///
 /// At each read what was said is the event text of the whole lines that were heard; at each write the piece is all that
 /// is missing in it. So the answers to what one read gave go out in one write, where the device takes it whole.
-pub fn converse<T: Talk>(alloc: Global, talk: &mut T) -> Result<(), ServeFault>
+pub fn converse<T: Talk>(alloc: Global, talk: &mut T) -> Result<(), ReplayFault>
     requires heard { T.heard talk.old [] }
     requires said { T.said talk.old [] }
     ensures ok { OnOk result (HasConversed (T.heard talk.new) (T.said talk.new)
         × T.ended talk.new) }
 
     // Nothing is said of a faulty line or behind it.
-    ensures text { (fault : TextFault) → IsErrOf result (ServeFault.Text fault)
+    ensures text { (fault : TextFault) → IsErrOf result (ReplayFault.Text fault)
         → HasNamed (T.heard talk.new) (T.said talk.new) (T.ended talk.new) fault }
-    ensures read { IsErrOf result ServeFault.Read
+    ensures read { IsErrOf result ReplayFault.Read
         → Failed (T.failed_reads talk.old) (T.failed_reads talk.new)
         × HasAnswered (T.heard talk.new) (T.said talk.new) }
-    ensures write { IsErrOf result ServeFault.Write
+    ensures write { IsErrOf result ReplayFault.Write
         → Failed (T.failed_writes talk.old) (T.failed_writes talk.new)
         × HasBegun (T.heard talk.new) (T.said talk.new) }
-    ensures memory { IsErrOf result ServeFault.NoMemory
+    ensures memory { IsErrOf result ReplayFault.NoMemory
         → HasStopped (T.heard talk.new) (T.said talk.new) }
 
     // At most one byte more is heard than a journal may have, whatever the answer is.
     ensures few { HasHeardAtMost (T.heard talk.new) (MOST_BYTES + 1) }
 
     // No other call failed.
-    ensures reads_once { ¬ IsErrOf result ServeFault.Read
+    ensures reads_once { ¬ IsErrOf result ReplayFault.Read
         → T.failed_reads talk.new ≡ T.failed_reads talk.old }
-    ensures writes_once { ¬ IsErrOf result ServeFault.Write
+    ensures writes_once { ¬ IsErrOf result ReplayFault.Write
         → T.failed_writes talk.new ≡ T.failed_writes talk.old }
 {
     // Its clauses say which fault a text has that is read so.
@@ -76,21 +76,17 @@ pub fn converse<T: Talk>(alloc: Global, talk: &mut T) -> Result<(), ServeFault>
         let room = (MOST_BYTES - conversation.heard()).min(CHUNK - 1) + 1;
         let place = &mut chunk[..room];
         let Ok(count) = talk.hear(place) else {
-            return Err(ServeFault::Read);
+            return Err(ReplayFault::Read);
         };
         if count == 0 {
-            if let Err(fault) = conversation.end() {
-                return Err(ServeFault::Text(fault));
-            }
+            conversation.end()?;
             return Ok(());
         }
         answers.clear();
         let fault = conversation.hear(alloc, &place[..count], &mut answers)?;
-        if let Err(WriteFailed) = say_whole(talk, answers.text()) {
-            return Err(ServeFault::Write);
-        }
+        say_whole(talk, answers.text())?;
         if let Some(fault) = fault {
-            return Err(ServeFault::Text(fault));
+            return Err(ReplayFault::Text(fault));
         }
     }
 }

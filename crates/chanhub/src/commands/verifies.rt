@@ -8,10 +8,9 @@ ghost use Rattle.chanhub.specs.Promises.{TellsComparison, IsRefused, RefusesComp
 
 use crate::files::read_file;
 use crate::outcome::Outcome;
-use crate::pieces::write_pieces;
 use crate::refusal::Refusal;
 use hub_base::MOST_BYTES;
-use hub_replay::{Compared, Sink, verify};
+use hub_replay::{Compared, Sink, verify, write_pieces};
 use itoa::Buffer;
 use std::alloc::Global;
 use std::rt::Files;

@@ -157,19 +157,13 @@ impl Conversation {
     {
         let mut left = piece;
         'lines: while let Some((line, behind)) = cut_line(left) {
-            match self.add(line) {
-                Ok(()) => {}
-                Err(AllocError) => return Err(NoMemory),
-            }
+            self.add(line)?;
             if let Some(fault) = self.end_line(alloc, answers)? {
                 return Ok(Some(fault));
             }
             left = behind;
         }
-        match self.add(left) {
-            Ok(()) => {}
-            Err(AllocError) => return Err(NoMemory),
-        }
+        self.add(left)?;
         if self.text.len() - self.front > MOST_BYTES - self.place {
             return Ok(Some(self.fault(Kind::TooLong)));
         }

@@ -9,7 +9,7 @@ returns-in-Some-2 c = λ lines rest said stands none.
     let going = c.lines.invariant lines rest said stands none in
     let cut = c.in-Some.ensures in
     let line = going.rest_now ++ c.in-Some.line.now in
-    let came = c.in-Ok.ensures.ok going.lines_now going.rest_now (said ++ going.more) going.stands in
+    let came = c.in_ok-add.ensures.ok going.lines_now going.rest_now (said ++ going.more) going.stands in
     let ends = subst (λ (o : Option TextFault). Ends going.lines_now line (said ++ going.more) c.lines.answers c.end_line.new.answers c.end_line.new.self o)
     c.in-Some-2.is (c.in_ok-fault.ensures going.lines_now line (said ++ going.more) (going.rest_now ++ cut.body) came (is-line going cut)) in
     line-faulty going cut c.in-Some-2.fault ends
@@ -19,7 +19,7 @@ lines-preserved c = λ lines rest said stands none.
     let going = c.lines.invariant lines rest said stands none in
     let cut = c.in-Some.ensures in
     let line = going.rest_now ++ c.in-Some.line.now in
-    let came = c.in-Ok.ensures.ok going.lines_now going.rest_now (said ++ going.more) going.stands in
+    let came = c.in_ok-add.ensures.ok going.lines_now going.rest_now (said ++ going.more) going.stands in
     let ends = subst (λ (o : Option TextFault). Ends going.lines_now line (said ++ going.more) c.lines.answers c.end_line.new.answers c.end_line.new.self o)
     c.in_default-2.is (c.in_ok-fault.ensures going.lines_now line (said ++ going.more) (going.rest_now ++ cut.body) came (is-line going cut)) in
     line-answered going cut ends
@@ -27,10 +27,10 @@ lines-preserved c = λ lines rest said stands none.
 pub returns-then-len-self : goal.returns-then-len-self
 returns-then-len-self c = λ lines rest said stands none.
     let going = c.lines.invariant lines rest said stands none in
-    piece-long going c.in_default.ensures _ (c.in-Ok-add.ensures.ok going.lines_now going.rest_now (said ++ going.more) going.stands)
+    piece-long going c.in_default.ensures _ (c.in_ok-add-2.ensures.ok going.lines_now going.rest_now (said ++ going.more) going.stands)
     (omega arith) (omega arith) c.fault.result c.fault.ensures.line c.fault.ensures.kind
 
 pub returns : goal.returns
 returns c = λ lines rest said stands none.
     let going = c.lines.invariant lines rest said stands none in
-    piece-heard going c.in_default.ensures _ (c.in-Ok-add.ensures.ok going.lines_now going.rest_now (said ++ going.more) going.stands) (omega arith)
+    piece-heard going c.in_default.ensures _ (c.in_ok-add-2.ensures.ok going.lines_now going.rest_now (said ++ going.more) going.stands) (omega arith)

@@ -1,11 +1,10 @@
 -- Pieces that are written one behind the other.
 use Rattle.std.proofs.Common.{◌≡◌, ℕ, ◌+◌, ◌<◌, suc, sym, ap, ◌∙◌, arith, List, ◌++◌, length, get_or, drop, drop-cons, append_assoc}
-use Rattle.std.proofs.Common.{Option, Bor, Result, Ok, Err}
-use Rattle.std.specs.Prelude.{IfErr}
+use Rattle.std.proofs.Common.{Option, Bor, Result, Ok, Err, IfErr}
 use Rattle.std.proofs.KnownBytes.{Appends-trans}
 use Rattle.std.specs.Io.KnownBytes.{Appends}
 use Rattle.hub_replay.specs.Devices.{AppendsBeginning}
-use Rattle.chanhub_serve.specs.FaultLines.{joined}
+use Rattle.hub_replay.specs.FaultLines.{joined}
 
 module _ (pieces : List (Bor (List ℕ))) (i : ℕ) (d : Bor (List ℕ)) (piece : List ℕ) (at : piece ≡ (get_or pieces i d).now) (below : i < length pieces) where
   here : joined (drop i pieces) ≡ piece ++ joined (drop (i + 1) pieces)

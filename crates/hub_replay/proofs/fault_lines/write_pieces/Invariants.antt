@@ -1,8 +1,8 @@
 -- Some pieces were written, the others are left, and no write has failed.
 use Rattle.std.proofs.Common.{◌≡◌, ℕ, List, ◌++◌, drop}
 use Rattle.std.specs.Io.KnownBytes.{Appends}
-use Rattle.chanhub.specs.FaultLines.{joined}
-use Rattle.chanhub.proofs.pieces.write_pieces.Given as goal
+use Rattle.hub_replay.specs.FaultLines.{joined}
+use Rattle.hub_replay.proofs.fault_lines.write_pieces.Given as goal
 
 abbrev pub invariant-loop-piece : goal.invariant-loop-piece
 invariant-loop-piece g l =

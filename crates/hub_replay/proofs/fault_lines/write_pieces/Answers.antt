@@ -1,8 +1,7 @@
 use Rattle.std.proofs.Common.{rules, ◌++◌}
 use Rattle.std.proofs.KnownBytes.{Appends-trans}
-use Rattle.chanhub.proofs.Refused.{if_err}
-use Rattle.chanhub.proofs.Written.{piece-written, piece-begun}
-use Rattle.chanhub.proofs.pieces.write_pieces.Goals as goal
+use Rattle.hub_replay.proofs.Written.{piece-written, piece-begun, if_err}
+use Rattle.hub_replay.proofs.fault_lines.write_pieces.Goals as goal
 
 pub returns-in_err-write_whole-clause-beginning : goal.returns-in_err-write_whole-clause-beginning
 returns-in_err-write_whole-clause-beginning g c =

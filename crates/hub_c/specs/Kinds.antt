@@ -1,0 +1,19 @@
+-- The numbers of what C asks for: each kind's place in this list, from 0 on.
+use Rattle.std.specs.Prelude.{List, [], ◌∷◌}
+use Rattle.hub_c.specs.declared.kind.StepKind.TheVariants as step
+use Rattle.hub_c.specs.declared.kind.GiveKind.TheVariants as give
+use Rattle.hub_c.specs.declared.kind.ReadKind.TheVariants as read
+use Rattle.hub_c.specs.declared.kind.Kind.{Kind}
+use Rattle.hub_c.specs.declared.kind.Kind.TheVariants.{Step, Give, Take, Read, Piece, Refusal, End}
+
+abbrev pub kinds : List Kind
+kinds =
+    Step step.Make ∷ Step step.Send ∷ Step step.SendBytes ∷ Step step.Recv ∷ Step step.Close ∷ Step step.Exit ∷
+    Step step.Cancel ∷ Step step.Select ∷ Step step.SelectOrDefault ∷
+    Give give.Byte ∷ Give give.Send ∷ Give give.SendBytes ∷ Give give.Recv ∷
+    Take ∷
+    Read read.Detail ∷ Read read.Number ∷ Read read.IsBytes ∷ Read read.Length ∷ Read read.Byte ∷
+    Read read.Ended ∷ Read read.EndedPid ∷
+    Read read.IsMade ∷ Read read.IsClosed ∷ Read read.Cap ∷ Read read.Sent ∷ Read read.Received ∷
+    Read read.Entries ∷ Read read.Word ∷
+    Piece ∷ Refusal ∷ End ∷ []

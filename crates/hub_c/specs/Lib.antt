@@ -1,0 +1,9 @@
+pub mod Kinds
+pub mod Answers
+pub mod Opens
+pub mod Stepping
+pub mod Giving
+pub mod Reading
+pub mod Pieces
+pub mod Does
+pub mod Rows

@@ -1,0 +1,65 @@
+//! A hub for C: a function that opens a hub at an address, and one that does what its numbers say on the hub there.
+//!
+//! Numbers go in and a number comes out, so that whatever numbers come are answered. What each number asks for stands
+//! in `kind`, what it does in `specs/Does`. The calls on one hub are ordered by a lock that is the caller's.
+#![tactic(auto)]
+
+mod answer;
+mod giving;
+mod handle;
+mod kind;
+mod piece;
+mod reading;
+mod session;
+mod stepping;
+
+ghost use Rattle.std.specs.Prelude.{◌≡◌};
+ghost use Rattle.std.specs.Borrow.{full_share, sem};
+ghost use Rattle.std.specs.Mem.{type_size};
+ghost use Rattle.std.specs.Ptr.{lies_at, room_at};
+ghost use Rattle.hub_c.specs.declared.handle.Handle.{Handle};
+ghost use Rattle.hub_c.specs.contracts.handle.Handle.{the_row};
+ghost use Rattle.hub_c.specs.Does.{Does};
+ghost use Rattle.hub_c.specs.Opens.{Opens};
+
+use handle::{Handle, act, open_handle};
+use std::alloc::Global;
+use std::mem::size_of;
+
+/// Does what the number of this kind says, on the hub at this address, with these numbers. Answers a number.
+#[unsafe(no_mangle)]
+pub unsafe extern "C" fn hub_c_do(hub: *mut u8, kind: u8, pid: u8, port: u16, value: u64) -> u64
+    ghost was: { Handle }
+    requires* { sem 𝓛 (lies_at the_row full_share hub was) }
+    ensures* { ∃ₛ (λ (now : Handle). sem 𝓛 (lies_at the_row full_share hub now)
+        ∗ ⌜ Does was kind pid port value now result ⌝) }
+{
+    let hub = unsafe { &mut *hub.cast::<Handle>() };
+    act(hub, kind, pid, port, value)
+}
+
+/// How many bytes a hub takes at its address. `malloc` gives such a place.
+#[unsafe(no_mangle)]
+pub extern "C" fn hub_c_size() -> usize
+    ensures { result ≡ type_size the_row }
+{
+    size_of::<Handle>()
+}
+
+/// Opens a hub of this edition, 1 or 2, of 1 to `MOST_PROCS` processes, whose journal may hold 1 to `MOST_STEPS` steps, at an
+/// address where there is room for it. What refuses it, if anything does, is then read of it.
+#[unsafe(no_mangle)]
+pub unsafe extern "C" fn hub_c_open(
+    alloc: Global,
+    place: *mut u8,
+    edition: u8,
+    procs: u8,
+    limit: u32,
+)
+    requires* { sem 𝓛 (room_at the_row place) }
+    ensures* { ∃ₛ (λ (now : Handle). sem 𝓛 (lies_at the_row full_share place now)
+        ∗ ⌜ Opens edition procs limit now ⌝) }
+{
+    let handle = open_handle(alloc, edition, procs, limit);
+    unsafe { place.cast::<Handle>().write(handle) }
+}

@@ -1,0 +1,164 @@
+//! The steps, and the answers that wait. Each step stands in a function of its own that is not inlined: a function pays at entry for the size of its
+//! locals, and an entry has room for many cases.
+
+ghost use Rattle.std.specs.Prelude.{◌≡◌, min};
+ghost use Rattle.hub_base.specs.Notation.{cancel, close, exit, make, recv, select, send};
+ghost use Rattle.hub_base.specs.declared.limits.TheConstants.{GREATEST_CAP, GREATEST_PID};
+ghost use Rattle.hub_c.specs.Stepping.{Stepped, Took, entry_asked, send_bytes};
+
+use crate::answer::{answer_number, event_number};
+use crate::kind::StepKind;
+use crate::session::{Numbers, Session};
+use hub_base::{Case, Cases, CasesExt, Entry, Pid, Port, Step, Value, copy_cases};
+
+/// The capacity of this number, the greatest one for what is above it. Both are refused alike.
+fn capacity(value: u64) -> u32
+    ensures { result ≡ min value GREATEST_CAP }
+{
+    match u32::try_from(value) {
+        Ok(cap) => cap,
+        Err(_) => u32::MAX,
+    }
+}
+
+/// The process of this number, the greatest one for what is above it. Neither is one of a hub.
+fn process(value: u64) -> Pid
+    ensures { result.0 ≡ min value GREATEST_PID }
+{
+    match u8::try_from(value) {
+        Ok(pid) => Pid(pid),
+        Err(_) => Pid(u8::MAX),
+    }
+}
+
+impl Session {
+    /// Makes a step that the hub's edition has, and forgets what was given. Answers what it came to, 0 for a step that
+    /// the edition has not.
+    fn step(&mut self, entry: Entry) -> u64
+        ensures { Stepped self.old entry self.new result }
+    {
+        self.bytes.clear();
+        self.cases.clear();
+        if !entry.fits(self.locked.head().edition) {
+            self.told = None;
+            return 0;
+        }
+        let came = self.locked.step(entry);
+        self.told = came.ok();
+        answer_number(came)
+    }
+
+    /// The same, of a call.
+    fn call(&mut self, pid: u8, cases: Cases, default: bool, word: u64) -> u64
+        ensures { Stepped self.old (select pid word cases.items default) self.new result }
+    {
+        let step = Step::Call {
+            cases,
+            default,
+            word,
+        };
+        self.step(Entry {
+            pid: Pid(pid),
+            step,
+        })
+    }
+
+    #[inline(never)]
+    fn make(&mut self, numbers: Numbers) -> u64
+        ensures { Stepped self.old (make numbers.pid (min numbers.value GREATEST_CAP)) self.new result }
+    {
+        let step = Step::Make(capacity(numbers.value));
+        self.step(Entry {
+            pid: Pid(numbers.pid),
+            step,
+        })
+    }
+
+    #[inline(never)]
+    fn send(&mut self, numbers: Numbers) -> u64
+        ensures { Stepped self.old (send numbers.pid numbers.port numbers.value) self.new result }
+    {
+        let case = Case::Send(Port(numbers.port), Value::num(numbers.value));
+        self.call(numbers.pid, Cases::one(case), false, 0)
+    }
+
+    #[inline(never)]
+    fn send_bytes(&mut self, numbers: Numbers) -> u64
+        ensures { Stepped self.old (send_bytes numbers.pid numbers.port self.old.bytes.items) self.new result }
+    {
+        let case = Case::Send(Port(numbers.port), self.value());
+        self.call(numbers.pid, Cases::one(case), false, 0)
+    }
+
+    #[inline(never)]
+    fn receive(&mut self, numbers: Numbers) -> u64
+        ensures { Stepped self.old (recv numbers.pid numbers.port) self.new result }
+    {
+        let case = Case::Recv(Port(numbers.port));
+        self.call(numbers.pid, Cases::one(case), false, 0)
+    }
+
+    #[inline(never)]
+    fn close(&mut self, numbers: Numbers) -> u64
+        ensures { Stepped self.old (close numbers.pid numbers.port) self.new result }
+    {
+        self.step(Entry {
+            pid: Pid(numbers.pid),
+            step: Step::Close(Port(numbers.port)),
+        })
+    }
+
+    #[inline(never)]
+    fn exit(&mut self, numbers: Numbers) -> u64
+        ensures { Stepped self.old (exit numbers.pid) self.new result }
+    {
+        self.step(Entry {
+            pid: Pid(numbers.pid),
+            step: Step::Exit,
+        })
+    }
+
+    #[inline(never)]
+    fn cancel(&mut self, numbers: Numbers) -> u64
+        ensures { Stepped self.old (cancel numbers.pid (min numbers.value GREATEST_PID)) self.new result }
+    {
+        let step = Step::Cancel(process(numbers.value));
+        self.step(Entry {
+            pid: Pid(numbers.pid),
+            step,
+        })
+    }
+
+    #[inline(never)]
+    fn select(&mut self, numbers: Numbers, default: bool) -> u64
+        ensures { Stepped self.old (select numbers.pid numbers.value self.old.cases.items default) self.new result }
+    {
+        let cases = copy_cases(&self.cases);
+        self.call(numbers.pid, cases, default, numbers.value)
+    }
+
+    /// Makes the step of this kind.
+    pub(crate) fn step_of_kind(&mut self, kind: StepKind, numbers: Numbers) -> u64
+        ensures { Stepped self.old (entry_asked kind self.old.bytes.items self.old.cases.items numbers) self.new result }
+    {
+        match kind {
+            StepKind::Make => self.make(numbers),
+            StepKind::Send => self.send(numbers),
+            StepKind::SendBytes => self.send_bytes(numbers),
+            StepKind::Recv => self.receive(numbers),
+            StepKind::Close => self.close(numbers),
+            StepKind::Exit => self.exit(numbers),
+            StepKind::Cancel => self.cancel(numbers),
+            StepKind::Select => self.select(numbers, false),
+            StepKind::SelectOrDefault => self.select(numbers, true),
+        }
+    }
+
+    /// Takes out the answer that waits for a process, and answers its number, 0 where none waits.
+    pub(crate) fn take(&mut self, pid: u8) -> u64
+        ensures { Took self.old pid self.new result }
+    {
+        self.told = self.locked.take(Pid(pid));
+        event_number(self.told)
+    }
+}

@@ -1,0 +1,3 @@
+module chanhub/pool
+
+go 1.18

@@ -1,0 +1,28 @@
+"""A deadlock that is explained: each of two threads waits for the other to send first."""
+import threading
+
+from chanhub import Hub, Seat, Stalled
+
+
+def ask_first(seat: Seat, mine: int, other: int) -> None:
+    try:
+        seat.send(mine, seat.recv(other))
+    except Stalled:
+        pass
+
+
+def main() -> None:
+    with Hub(procs=2) as hub:
+        left, right = hub.seat(0).make(0), hub.seat(0).make(0)
+        threads = [threading.Thread(target=ask_first, args=(hub.seat(0), left, right)),
+                   threading.Thread(target=ask_first, args=(hub.seat(1), right, left))]
+        for thread in threads:
+            thread.start()
+        for thread in threads:
+            thread.join()
+        for line in sorted(hub.journal().decode().splitlines()[-2:]):
+            print('stalled:', line)
+
+
+if __name__ == '__main__':
+    main()

@@ -1,0 +1,34 @@
+//! A deadlock that is explained: each of two threads waits for the other to send first.
+
+use chanhub::{Edition, Ended, Hub};
+use std::error::Error;
+use std::thread;
+
+fn main() -> Result<(), Box<dyn Error>> {
+    let (hub, mut seats) = Hub::open(Edition::One, 2, 1000)?;
+    let (to_right, from_left) = seats[0].channel(0).expect("a channel");
+    let (to_left, from_right) = seats[0].channel(0).expect("a channel");
+    let ends = [(from_right, to_right), (from_left, to_left)];
+    let threads = seats.into_iter().zip(ends).map(|(mut seat, (from, to))| {
+        thread::spawn(move || {
+            let came = from
+                .recv(&mut seat)
+                .and_then(|value| to.send(&mut seat, value));
+            assert_eq!(came, Err(Ended::Stalled));
+            seat
+        })
+    });
+    let threads: Vec<_> = threads.collect();
+    let seats: Vec<_> = threads
+        .into_iter()
+        .map(|thread| thread.join().expect("a thread ends"))
+        .collect();
+    let journal = hub.journal().ok_or("no memory")?;
+    drop(seats);
+    let mut calls: Vec<_> = journal.lines().rev().take(2).collect();
+    calls.sort();
+    for call in calls {
+        println!("stalled: {call}");
+    }
+    Ok(())
+}

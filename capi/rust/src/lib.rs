@@ -1,0 +1,46 @@
+//! A hub of Go channels that threads share, with a journal of all that happened.
+//!
+//! ```
+//! use chanhub::{Edition, Ended, Hub};
+//!
+//! let (hub, mut seats) = Hub::open(Edition::One, 2, 100).unwrap();
+//! let mut receives = seats.pop().unwrap();
+//! let mut sends = seats.pop().unwrap();
+//! let (sender, receiver) = sends.channel(0).unwrap();
+//! let thread = std::thread::spawn(move || sender.send(&mut sends, 7));
+//! assert_eq!(receiver.recv(&mut receives).unwrap().number(), Some(7));
+//! thread.join().unwrap().unwrap();
+//! assert_eq!(receiver.recv(&mut receives), Err(Ended::Stalled)); // the other process has exited
+//! assert_eq!(hub.look_at(&receiver).unwrap().received, 1);
+//! ```
+//!
+//! A hub that is gone takes no call:
+//!
+//! ```compile_fail,E0382
+//! let (hub, seats) = chanhub::Hub::open(chanhub::Edition::One, 1, 100).unwrap();
+//! drop(seats);
+//! drop(hub);
+//! hub.journal();
+//! ```
+//!
+//! Nor do two threads call by one seat:
+//!
+//! ```compile_fail,E0499
+//! let (_hub, mut seats) = chanhub::Hub::open(chanhub::Edition::One, 1, 100).unwrap();
+//! let seat = &mut seats[0];
+//! std::thread::scope(|s| {
+//!     s.spawn(|| seat.channel(0));
+//!     s.spawn(|| seat.channel(0));
+//! });
+//! ```
+
+mod error;
+mod hub;
+mod sys;
+mod table;
+mod value;
+
+pub use error::{Ended, Fault, OpenError};
+pub use hub::{Case, Counts, Edition, Hub, Receiver, Seat, Selected, Sender};
+pub use table::Table;
+pub use value::{Bytes, TooLong, Value};

@@ -1,0 +1,91 @@
+//! What a channel carries.
+
+use crate::sys;
+
+/// A number, or, in a hub of edition 2, 0 to 32 bytes.
+#[derive(Clone, Copy, Debug, PartialEq, Eq)]
+pub enum Value {
+    Number(u64),
+    Bytes(Bytes),
+}
+
+/// 0 to 32 bytes.
+#[derive(Clone, Copy, PartialEq, Eq)]
+pub struct Bytes {
+    length: u8,
+    places: [u8; 32],
+}
+
+/// More than 32 bytes.
+#[derive(Clone, Copy, Debug, PartialEq, Eq)]
+pub struct TooLong;
+
+impl Bytes {
+    pub fn as_slice(&self) -> &[u8] {
+        &self.places[..usize::from(self.length)]
+    }
+}
+
+impl std::fmt::Debug for Bytes {
+    fn fmt(&self, f: &mut std::fmt::Formatter<'_>) -> std::fmt::Result {
+        self.as_slice().fmt(f)
+    }
+}
+
+impl Value {
+    /// The number that it is.
+    pub fn number(self) -> Option<u64> {
+        match self {
+            Value::Number(number) => Some(number),
+            Value::Bytes(_) => None,
+        }
+    }
+
+    pub(crate) fn raw(self) -> sys::Value {
+        match self {
+            Value::Number(number) => sys::Value {
+                number,
+                ..sys::Value::default()
+            },
+            Value::Bytes(Bytes { length, places }) => sys::Value {
+                number: 0,
+                is_bytes: true,
+                length,
+                bytes: places,
+            },
+        }
+    }
+
+    pub(crate) fn of(raw: sys::Value) -> Value {
+        if raw.is_bytes {
+            Value::Bytes(Bytes {
+                length: raw.length,
+                places: raw.bytes,
+            })
+        } else {
+            Value::Number(raw.number)
+        }
+    }
+}
+
+impl From<u64> for Value {
+    fn from(number: u64) -> Value {
+        Value::Number(number)
+    }
+}
+
+impl TryFrom<&[u8]> for Value {
+    type Error = TooLong;
+
+    fn try_from(bytes: &[u8]) -> Result<Value, TooLong> {
+        let mut places = [0; 32];
+        places
+            .get_mut(..bytes.len())
+            .ok_or(TooLong)?
+            .copy_from_slice(bytes);
+        Ok(Value::Bytes(Bytes {
+            length: bytes.len() as u8,
+            places,
+        }))
+    }
+}

@@ -1,0 +1,151 @@
+//! What the crate's calls give.
+
+use chanhub::{
+    Case, Counts, Edition, Ended, Fault, Hub, OpenError, Seat, Selected, Sender, Table, Value,
+};
+use std::thread;
+use std::time::Duration;
+
+fn one_seat(edition: Edition) -> (Hub, Seat) {
+    let (hub, mut seats) = Hub::open(edition, 1, 100).unwrap();
+    (hub, seats.remove(0))
+}
+
+#[test]
+fn values_come_in_order() {
+    let (hub, mut seat) = one_seat(Edition::Two);
+    let (sender, receiver) = seat.channel(3).unwrap();
+    let bytes = Value::try_from(&[1u8, 2, 3][..]).unwrap();
+    sender.send(&mut seat, 7).unwrap();
+    sender.send(&mut seat, bytes).unwrap();
+    assert_eq!(
+        hub.look_at(&receiver),
+        Some(Counts {
+            cap: 3,
+            sent: 2,
+            received: 0,
+            closed: false
+        })
+    );
+    sender.close(&mut seat).unwrap();
+    assert_eq!(
+        receiver.drain(&mut seat).collect::<Vec<_>>(),
+        [Value::Number(7), bytes]
+    );
+    assert_eq!(receiver.recv(&mut seat), Err(Ended::Drained(0)));
+    assert_eq!(sender.send(&mut seat, 1), Err(Ended::Closed(0)));
+    assert_eq!(
+        sender.close(&mut seat),
+        Err(Ended::Fault(Fault::ALREADY_CLOSED))
+    );
+}
+
+#[test]
+fn select_tells_its_case() {
+    let (_hub, mut seat) = one_seat(Edition::One);
+    let (sender, receiver) = seat.channel(1).unwrap();
+    let cases = [Case::Recv(receiver), Case::Send(sender, Value::Number(5))];
+    assert_eq!(seat.select(&cases[..1], true, 0), Ok(Selected::Default));
+    assert_eq!(seat.select(&cases, false, 0), Ok(Selected::Sent(1)));
+    assert_eq!(
+        seat.select(&cases, false, 0),
+        Ok(Selected::Got(0, Value::Number(5)))
+    );
+    assert_eq!(
+        seat.select(&[cases[0]; 17], true, 0),
+        Err(Ended::Fault(Fault::BAD_CALL))
+    );
+}
+
+#[test]
+fn an_end_of_another_hub_is_refused() {
+    let (_one, mut seat) = one_seat(Edition::One);
+    let (other, mut stranger) = one_seat(Edition::One);
+    let (sender, receiver) = seat.channel(1).unwrap();
+    stranger.channel(1).unwrap();
+    assert_eq!(
+        sender.send(&mut stranger, 1),
+        Err(Ended::Fault(Fault::BAD_CALL))
+    );
+    assert_eq!(
+        receiver.recv(&mut stranger),
+        Err(Ended::Fault(Fault::BAD_CALL))
+    );
+    assert_eq!(
+        stranger.select(&[Case::Recv(receiver)], true, 0),
+        Err(Ended::Fault(Fault::BAD_CALL))
+    );
+    assert_eq!(other.look_at(&receiver), None);
+}
+
+#[test]
+fn openings_are_refused() {
+    assert_eq!(Hub::open(Edition::One, 65, 1).err(), Some(OpenError::Procs));
+    assert_eq!(Hub::open(Edition::Two, 1, 0).err(), Some(OpenError::Limit));
+}
+
+#[test]
+fn bytes_are_of_edition_two_and_few() {
+    let (_hub, mut seat) = one_seat(Edition::One);
+    let (sender, _) = seat.channel(1).unwrap();
+    let bytes = Value::try_from(&[0u8; 32][..]).unwrap();
+    assert_eq!(
+        sender.send(&mut seat, bytes),
+        Err(Ended::Fault(Fault::BAD_CALL))
+    );
+    assert!(Value::try_from(&[0u8; 33][..]).is_err());
+}
+
+#[test]
+fn a_call_that_waits_is_cancelled() {
+    let (_hub, mut seats) = Hub::open(Edition::Two, 2, 1_000_000).unwrap();
+    let mut waits = seats.pop().unwrap();
+    let mut cancels = seats.pop().unwrap();
+    let (_, receiver) = cancels.channel(0).unwrap();
+    let thread = thread::spawn(move || receiver.recv(&mut waits));
+    while let Err(fault) = cancels.cancel(1) {
+        assert_eq!(fault, Fault::NOT_PARKED);
+        thread::sleep(Duration::from_millis(1));
+    }
+    assert_eq!(thread.join().unwrap(), Err(Ended::Cancelled));
+}
+
+#[test]
+fn a_seat_keeps_its_hub() {
+    let (hub, mut seat) = one_seat(Edition::One);
+    drop(hub);
+    assert!(seat.channel(0).is_ok());
+}
+
+#[test]
+fn a_dropped_seat_has_exited() {
+    let (hub, seat) = one_seat(Edition::One);
+    drop(seat);
+    assert_eq!(
+        hub.journal().unwrap(),
+        "chanhub journal 1\nprocs 1\n0 exit\n"
+    );
+}
+
+#[test]
+fn things_go_by_number() {
+    let (_hub, mut seat) = one_seat(Edition::One);
+    let (sender, receiver) = seat.channel(1).unwrap();
+    let table = Table::new();
+    sender
+        .send(&mut seat, table.put(String::from("a thing")))
+        .unwrap();
+    let value = receiver.recv(&mut seat).unwrap();
+    assert_eq!(table.take(value).as_deref(), Some("a thing"));
+    assert_eq!(table.take(value), None);
+}
+
+#[test]
+fn what_threads_share_may_be_shared() {
+    fn may_go<T: Send>() {}
+    fn may_be_shared<T: Send + Sync>() {}
+    may_go::<Seat>();
+    may_be_shared::<Hub>();
+    may_be_shared::<Sender>();
+    may_be_shared::<Table<String>>();
+}

@@ -1,6 +1,7 @@
 pub mod Stories
 pub mod Passages
 pub mod InTime
+pub mod Ordered
 pub mod Filters
 pub mod Tellings
 pub mod Ending

@@ -1,6 +1,7 @@
 use Rattle.std.proofs.Common.{◌∙◌, sym, ap, map, List}
 use Rattle.hub_base.specs.declared.entry.Entry.{Entry}
 use Rattle.hub_story.specs.Waiting.{still_waiting, open_call}
+use Rattle.hub_story.proofs.Ordered.{in-order}
 use Rattle.hub_story.proofs.Ending.{places-below, waits-still}
 use Rattle.hub_story.proofs.Waits.{waiting-law}
 use Rattle.hub_story.proofs.story.story_of.Goals as goal
@@ -14,6 +15,7 @@ returns c =
     let entries : List Entry = c.args.journal.now.entries in
     record {
       told = c.in_ok-told.ensures;
+      in_order = rw c.in_ok-told.ensures (in-order c.args.journal.now.head c.args.journal.now.entries);
       ends = ends;
       waiting = still;
       calls =

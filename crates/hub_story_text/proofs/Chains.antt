@@ -1,0 +1,23 @@
+-- What is appended piece by piece.
+use Rattle.std.proofs.Common.{◌≡◌, ◌-◌, ◌≤◌, ℕ, List, ◌++◌, length, take, drop, ap, ◌∙◌, sym, append_assoc, Result, Ok, Err, OnOk, arith}
+use Rattle.std.proofs.lemmas.List.{take_all, length-drop}
+
+pub on-ok : {A E P Q : Type 0} (r : Result A E) → (P → Q) → OnOk r P → OnOk r Q
+on-ok (Ok x) f p = f p
+on-ok (Err e) f p = tt
+
+-- two pieces
+pub two : {A : Type 0} (out new x y : List A) → new ≡ out ++ x ++ y → new ≡ out ++ (x ++ y)
+two out new x y is = is ∙ append_assoc out x y
+
+-- one more piece, and two more
+pub one-more : {A : Type 0} (out was new x y : List A) → was ≡ out ++ x → new ≡ was ++ y → new ≡ out ++ (x ++ y)
+one-more out was new x y so is = is ∙ ap (λ l. l ++ y) so ∙ append_assoc out x y
+
+pub two-more : {A : Type 0} (out was new x y z : List A) → was ≡ out ++ x → new ≡ was ++ y ++ z → new ≡ out ++ (x ++ y ++ z)
+two-more out was new x y z so is =
+    is ∙ ap (λ l. l ++ y ++ z) so ∙ ap (λ l. l ++ z) (append_assoc out x y) ∙ append_assoc out (x ++ y) z
+
+-- all behind the first n
+pub rest-whole : {A : Type 0} (n : ℕ) (xs ys : List A) → xs ≡ ys → take (length xs - n) (drop n xs) ≡ drop n ys
+rest-whole n xs ys same = take_all (length xs - n) (drop n xs) (omega (arith, length-drop n xs)) ∙ ap (drop n) same

@@ -1,0 +1,172 @@
+-- Events that come in the order of their steps: those of one step stand together.
+use Rattle.std.proofs.Common.{◌≡◌, ◌≢◌, ◌≤◌, ◌<◌, ◌+◌, ◌==◌, ℕ, zero, suc, ◌-◌, zero-le, Bool, true, false, List, [], ◌∷◌, ◌++◌, length, take, drop, filter, nat_lt}
+use Rattle.std.proofs.Common.{refl, ap, ◌∙◌, sym, arith, append-nil, append_assoc, take-append-drop, subst, get_or}
+use Rattle.std.specs.List.{AllByRecursion}
+use Rattle.std.proofs.lemmas.Bool.{eq-eqb, eqb-true, lt-ltb, ltb-true}
+use Rattle.std.proofs.Math.Seq.{drop-cons, take-add}
+use Rattle.std.proofs.lemmas.List.{drop_all}
+use Rattle.std.proofs.lemmas.List.Elements.{filter-append}
+use Rattle.hub_story.specs.declared.told.Told.{Told}
+use Rattle.hub_story.specs.Levels.{told_by}
+use Rattle.hub_story.specs.Stories.{IsFrom}
+use Rattle.hub_story.specs.Waiting.{is_stalled, stalled_by}
+use Rattle.hub_story_text.specs.StoryText.{came_by}
+use Rattle.hub_story_text.proofs.Chains.{rest-whole}
+
+-- those of later steps only
+later : (place step : ℕ) (ts : List Told) → place < step → IsFrom step ts → came_by place ts ≡ []
+later place step [] below so = refl
+later place step (t ∷ ts) below so = by (t.by == place) refl (later place t.by ts (omega (arith, below, so.0)) so.1)
+  where
+    by : (b : Bool) → (t.by == place) ≡ b → came_by place ts ≡ [] → came_by place (t ∷ ts) ≡ []
+    by true e rest = absurd (omega (arith, eqb-true t.by place e, below, so.0))
+    by false e rest = rw e rest
+
+-- those of this step only
+all-came : (place : ℕ) (ts : List Told) → AllByRecursion (λ t. t.by ≡ place) ts → came_by place ts ≡ ts
+all-came place [] all = refl
+all-came place (t ∷ ts) all = rw (eq-eqb t.by place all.0) (ap (λ l. t ∷ l) (all-came place ts all.1))
+
+lower : (n m : ℕ) (ts : List Told) → n ≤ m → IsFrom m ts → IsFrom n ts
+lower n m [] below so = tt
+lower n m (t ∷ ts) below so = (omega (arith, below, so.0), so.1)
+
+-- the first of the rest is of another step
+pub not-first : (place : ℕ) (t : Told) (ts : List Told) → IsFrom place (t ∷ ts) → t.by ≢ place → IsFrom (place + 1) (t ∷ ts)
+not-first place t ts so other = (omega (arith, so.0, other), so.1)
+
+-- so the first of them are those that came by this step
+pub first-came : (place : ℕ) (xs ys : List Told) → AllByRecursion (λ t. t.by ≡ place) xs → IsFrom (place + 1) ys → xs ≡ came_by place (xs ++ ys)
+first-came place xs ys all so =
+    sym (filter-append (λ (t : Told). t.by == place) xs ys
+    ∙ ap (λ l. came_by place xs ++ l) (later place (place + 1) ys (omega arith) so) ∙ append-nil (came_by place xs) ∙ all-came place xs all)
+
+pub taken-came : (place n : ℕ) (ts : List Told) → AllByRecursion (λ t. t.by ≡ place) (take n ts) → IsFrom (place + 1) (drop n ts) →
+    take n ts ≡ came_by place ts
+taken-came place n ts all so = first-came place (take n ts) (drop n ts) all so ∙ ap (came_by place) (take-append-drop n ts)
+
+pub stop-came : (place i : ℕ) (ts : List Told) (d : Told) → i < length ts → AllByRecursion (λ t. t.by ≡ place) (take i ts) → IsFrom place (drop i ts) →
+    (get_or ts i d).by ≢ place → take i ts ≡ came_by place ts
+stop-came place i ts d below all so other =
+    taken-came place i ts all
+    (subst (IsFrom (place + 1)) (sym (drop-cons ts i d below))
+    (not-first place (get_or ts i d) (drop (suc i) ts) (subst (IsFrom place) (drop-cons ts i d below) so) other))
+
+pub end-came : (place i : ℕ) (ts : List Told) → length ts ≤ i → AllByRecursion (λ t. t.by ≡ place) (take i ts) → take i ts ≡ came_by place ts
+end-came place i ts past all = taken-came place i ts all (subst (IsFrom (place + 1)) (sym (drop_all i ts past)) tt)
+
+-- ---- all that is told before a step, and from it on
+-- none came before the step that they are from
+pub none-before : (place : ℕ) (ts : List Told) → IsFrom place ts → told_by place ts ≡ []
+none-before place [] so = refl
+none-before place (t ∷ ts) so = by (nat_lt t.by place) refl (none-before place ts (lower place t.by ts so.0 so.1))
+  where
+    by : (b : Bool) → nat_lt t.by place ≡ b → told_by place ts ≡ [] → told_by place (t ∷ ts) ≡ []
+    by true e rest = absurd (omega (arith, ltb-true t.by place e, so.0))
+    by false e rest = rw e rest
+
+-- all came before
+pub all-before : (place : ℕ) (ts : List Told) → AllByRecursion (λ t. t.by < place) ts → told_by place ts ≡ ts
+all-before place [] all = refl
+all-before place (t ∷ ts) all = rw (lt-ltb t.by place all.0) (ap (λ l. t ∷ l) (all-before place ts all.1))
+
+-- none of those before came by this step
+none-came : (place : ℕ) (ts : List Told) → AllByRecursion (λ t. t.by < place) ts → came_by place ts ≡ []
+none-came place [] all = refl
+none-came place (t ∷ ts) all = by (t.by == place) refl (none-came place ts all.1)
+  where
+    by : (b : Bool) → (t.by == place) ≡ b → came_by place ts ≡ [] → came_by place (t ∷ ts) ≡ []
+    by true e rest = absurd (omega (arith, eqb-true t.by place e, all.0))
+    by false e rest = rw e rest
+
+all-joined : (P : Told → Type 0) (xs ys : List Told) → AllByRecursion P xs → AllByRecursion P ys → AllByRecursion P (xs ++ ys)
+all-joined P [] ys all more = more
+all-joined P (x ∷ xs) ys all more = (all.0, all-joined P xs ys all.1 more)
+
+all-later : (place : ℕ) (ts : List Told) → AllByRecursion (λ t. t.by < place) ts → AllByRecursion (λ t. t.by < place + 1) ts
+all-later place [] all = tt
+all-later place (t ∷ ts) all = (omega (arith, all.0), all-later place ts all.1)
+
+came-later : (place : ℕ) (ts : List Told) → AllByRecursion (λ t. t.by < place + 1) (came_by place ts)
+came-later place [] = tt
+came-later place (t ∷ ts) = by (t.by == place) refl (came-later place ts)
+  where
+    by : (b : Bool) → (t.by == place) ≡ b → AllByRecursion (λ t. t.by < place + 1) (came_by place ts)
+        → AllByRecursion (λ t. t.by < place + 1) (came_by place (t ∷ ts))
+    by true e rest = rw e (omega (arith, eqb-true t.by place e), rest)
+    by false e rest = rw e rest
+
+-- ---- where a telling is cut: these came before the step at this place, and those come from it on
+pub record IsCut (place : ℕ) (all earlier later : List Told) : Type 0 where
+  pub is : all ≡ earlier ++ later
+  pub before : AllByRecursion (λ t. t.by < place) earlier
+  pub rest : IsFrom place later
+
+pub cut-first : (all : List Told) → IsFrom 0 all → IsCut 0 all [] all
+cut-first all so = record { is = refl; before = tt; rest = so }
+
+-- what came before the place
+pub cut-told : (place : ℕ) (all before rest : List Told) → IsCut place all before rest → told_by place all ≡ before
+cut-told place all before rest cut =
+    ap (told_by place) cut.is ∙ filter-append (λ (t : Told). nat_lt t.by place) before rest
+    ∙ ap (λ l. told_by place before ++ l) (none-before place rest cut.rest) ∙ append-nil (told_by place before)
+    ∙ all-before place before cut.before
+
+-- what came by it
+pub cut-came : (place : ℕ) (all before rest : List Told) → IsCut place all before rest → came_by place all ≡ came_by place rest
+cut-came place all before rest cut =
+    ap (came_by place) cut.is ∙ filter-append (λ (t : Told). t.by == place) before rest
+    ∙ ap (λ l. l ++ came_by place rest) (none-came place before cut.before)
+
+-- the next cut
+pub cut-next : (place n : ℕ) (all before rest : List Told) → IsCut place all before rest → take n rest ≡ came_by place rest →
+    IsFrom (place + 1) (drop n rest) → IsCut (place + 1) all (before ++ take n rest) (drop n rest)
+cut-next place n all before rest cut came so = record {
+  is = cut.is ∙ ap (λ l. before ++ l) (sym (take-append-drop n rest)) ∙ sym (append_assoc before (take n rest) (drop n rest));
+  before =
+      all-joined (λ t. t.by < place + 1) before (take n rest) (all-later place before cut.before)
+      (subst (AllByRecursion (λ t. t.by < place + 1)) (sym came) (came-later place rest));
+  rest = so;
+}
+
+-- those that were stalled by a step
+pub stalled-came : (place : ℕ) (ts : List Told) → filter (λ t. is_stalled t.event.what) (came_by place ts) ≡ stalled_by ts place
+stalled-came place [] = refl
+stalled-came place (t ∷ ts) = by (t.by == place) refl (is_stalled t.event.what) refl (stalled-came place ts)
+  where
+    by : (b : Bool) → (t.by == place) ≡ b → (c : Bool) → is_stalled t.event.what ≡ c →
+        filter (λ t. is_stalled t.event.what) (came_by place ts) ≡ stalled_by ts place →
+        filter (λ t. is_stalled t.event.what) (came_by place (t ∷ ts)) ≡ stalled_by (t ∷ ts) place
+    by true e true f rest = rw (e, f) (ap (λ l. t ∷ l) rest)
+    by true e false f rest = rw (e, f) rest
+    by false e true f rest = rw (e, f) rest
+    by false e false f rest = rw (e, f) rest
+
+-- ---- the events of a step among all, which are seen as a part of a list
+drop-twice : (a b : ℕ) (xs : List Told) → drop (a + b) xs ≡ drop b (drop a xs)
+drop-twice zero b xs = let same : 0 + b ≡ b = omega arith in ap (λ k. drop k xs) same
+drop-twice (suc a) b [] = drop_all (suc a + b) [] zero-le ∙ sym (drop_all b [] zero-le)
+drop-twice (suc a) b (x ∷ xs) = let next : suc a + b ≡ suc (a + b) = omega arith in ap (λ k. drop k (x ∷ xs)) next ∙ drop-twice a b xs
+
+pub record IsGroup (place from n : ℕ) (all seen : List Told) : Type 0 where
+  pub came : take (from + n - from) (drop from seen) ≡ came_by place all
+  pub next : IsCut (place + 1) all (take (from + n) all) (drop (from + n) all)
+  pub joined : take from all ++ take (from + n - from) (drop from seen) ≡ take (from + n) all
+
+pub group : (place from n : ℕ) (all seen : List Told) → seen ≡ all → IsCut place all (take from all) (drop from all) →
+    take n (take (length seen - from) (drop from seen)) ≡ came_by place (take (length seen - from) (drop from seen)) →
+    IsFrom (place + 1) (drop n (take (length seen - from) (drop from seen))) → IsGroup place from n all seen
+group place from n all seen same cut came so =
+    let part : take (length seen - from) (drop from seen) ≡ drop from all = rest-whole from seen all same in
+    let here : take n (drop from all) ≡ came_by place (drop from all) =
+    ap (take n) (sym part) ∙ came ∙ ap (came_by place) part in
+    let after : IsFrom (place + 1) (drop n (drop from all)) = subst (λ l. IsFrom (place + 1) (drop n l)) part so in
+    let size : from + n - from ≡ n = omega arith in
+    let seen-part : take (from + n - from) (drop from seen) ≡ take n (drop from all) = ap (λ k. take k (drop from seen)) size ∙ ap (λ l. take n (drop from l)) same in
+    let next = cut-next place n all (take from all) (drop from all) cut here after in
+    record {
+      came = seen-part ∙ here ∙ sym (cut-came place all (take from all) (drop from all) cut);
+      next = subst (IsCut (place + 1) all (take (from + n) all)) (sym (drop-twice from n all))
+          (subst (λ l. IsCut (place + 1) all l (drop n (drop from all))) (sym (take-add from n all)) next);
+      joined = ap (λ l. take from all ++ l) seen-part ∙ sym (take-add from n all);
+    }

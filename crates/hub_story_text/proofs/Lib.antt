@@ -1,0 +1,6 @@
+pub mod Chains
+pub mod StepLines
+pub mod Groups
+pub mod Movers
+pub mod Table
+pub mod StepTexts

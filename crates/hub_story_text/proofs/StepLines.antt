@@ -1,0 +1,105 @@
+-- What is written of a step: its own line, and which steps it ended.
+use Rattle.std.proofs.Common.{◌≡◌, ◌<◌, ◌+◌, ℕ, Bool, true, false, List, [], ◌∷◌, ◌++◌, length, take, filter, refl, ap, ◌∙◌, sym, append-nil, append_assoc, get_or, add-one, codes}
+use Rattle.std.proofs.Common.{◌≢◌, ◌-◌, ◌≤◌, Option, drop, length-append, arith}
+use Rattle.std.specs.List.{flat_map, list_all}
+use Rattle.std.proofs.Math.Seq.{take-suc, take-append_seam}
+use Rattle.std.proofs.lemmas.Fmt.{decimal_digit}
+use Rattle.std.proofs.lemmas.List.{append_cancel_right}
+use Rattle.std.proofs.lemmas.List.Elements.{filter-append}
+use Rattle.std.proofs.lemmas.Grind.{flat_map-append}
+use Rattle.hub_base.specs.declared.case.Case.{Case}
+use Rattle.hub_base.specs.declared.case.Case.TheVariants.{Send, Recv}
+use Rattle.hub_base.specs.declared.entry.Step.{Step}
+use Rattle.hub_base.specs.declared.entry.Step.TheVariants.{Make, Call, Close, Exit, Cancel}
+use Rattle.hub_base.specs.declared.head.Edition.TheVariants.{Two}
+use Rattle.hub_base.specs.Head.{is_of, has_case, has_content}
+use Rattle.hub_base.specs.declared.event.Outcome.TheVariants.{Got}
+use Rattle.hub_base.specs.declared.event.What.TheVariants.{Fired}
+use Rattle.hub_base.specs.declared.value.Port.{Port}
+use Rattle.hub_base.specs.declared.value.Value.{Value}
+use Rattle.hub_base.specs.declared.entry.Entry.{Entry}
+use Rattle.hub_base.specs.EventText.{event_line}
+use Rattle.hub_base.specs.Value.{Content, content, value_field}
+use Rattle.hub_base.specs.Value.Content.{Num, Bytes}
+use Rattle.hub_story.specs.declared.told.Told.{Told}
+use Rattle.hub_story_text.specs.declared.last_moves.Mover.{Mover}
+use Rattle.hub_story_text.specs.LineText.{with_ended, ends_words, step_number}
+use Rattle.hub_story_text.specs.WaiterText.{waiter_words, waiters_words}
+
+-- the second edition has each step
+any-content : (c : Content) → has_content Two c ≡ true
+any-content (Num n) = refl
+any-content (Bytes bs) = refl
+
+any-case : (c : Case) → has_case Two c ≡ true
+any-case (Send p v) = any-content (content v)
+any-case (Recv p) = refl
+
+any-cases : (cs : List Case) → list_all (has_case Two) cs ≡ true
+any-cases [] = refl
+any-cases (c ∷ cs) = rw (any-case c, any-cases cs) refl
+
+pub any-step : (s : Step) → is_of Two s ≡ true
+any-step (Make cap) = refl
+any-step (Call cases default word) = any-cases cases.items
+any-step (Close p) = refl
+any-step Exit = refl
+any-step (Cancel q) = refl
+
+-- one more that was ended
+ended-more : (ts : List Told) (t : Told) → with_ended (ends_words ts) t ≡ ends_words (ts ++ t ∷ [])
+ended-more [] t = ap (λ bs. codes "ends" ++ bs) (sym (append-nil (step_number t)))
+ended-more (x ∷ xs) t =
+    ap (λ bs. codes "ends" ++ bs)
+    (ap (λ bs. flat_map step_number (x ∷ xs) ++ bs) (sym (append-nil (step_number t))) ∙ sym (flat_map-append step_number (x ∷ xs) (t ∷ [])))
+
+-- one item more
+pub taken-next : {X : Type 0} (xs : List X) (i : ℕ) (d : X) → i < length xs → take (i + 1) xs ≡ take i xs ++ get_or xs i d ∷ []
+taken-next xs i d below = rw add-one (take-suc xs i d below)
+
+kept : (p : Told → Bool) (xs : List Told) (i : ℕ) (d : Told) → i < length xs →
+    filter p (take (i + 1) xs) ≡ filter p (take i xs) ++ filter p (get_or xs i d ∷ [])
+kept p xs i d below = ap (filter p) (taken-next xs i d below) ∙ filter-append p (take i xs) (get_or xs i d ∷ [])
+
+pub ends-one : (p : Told → Bool) (xs : List Told) (i : ℕ) (d : Told) (was now : List ℕ) → i < length xs → p (get_or xs i d) ≡ true →
+    was ≡ ends_words (filter p (take i xs)) → now ≡ with_ended was (get_or xs i d) → now ≡ ends_words (filter p (take (i + 1) xs))
+ends-one p xs i d was now below hit so is =
+    is ∙ ap (λ bs. with_ended bs (get_or xs i d)) so ∙ ended-more (filter p (take i xs)) (get_or xs i d)
+    ∙ ap (λ ts. ends_words (filter p (take i xs) ++ ts)) (sym (one p (get_or xs i d) hit)) ∙ ap ends_words (sym (kept p xs i d below))
+  where
+    one : (p : Told → Bool) (t : Told) → p t ≡ true → filter p (t ∷ []) ≡ t ∷ []
+    one p t h = rw h refl
+
+pub ends-none : (p : Told → Bool) (xs : List Told) (i : ℕ) (d : Told) (was : List ℕ) → i < length xs → p (get_or xs i d) ≡ false →
+    was ≡ ends_words (filter p (take i xs)) → was ≡ ends_words (filter p (take (i + 1) xs))
+ends-none p xs i d was below miss so =
+    so ∙ ap ends_words (sym (append-nil (filter p (take i xs))) ∙ ap (λ ts. filter p (take i xs) ++ ts) (sym (none p (get_or xs i d) miss))
+    ∙ sym (kept p xs i d below))
+  where
+    none : (p : Told → Bool) (t : Told) → p t ≡ false → filter p (t ∷ []) ≡ []
+    none p t h = rw h refl
+
+-- ---- a line without its newline
+pub without-newline : (whole words : List ℕ) (n : ℕ) → n ≡ length whole → whole ≡ words ++ 10 ∷ [] → take (n - 1) whole ≡ words
+without-newline whole words n len is =
+    let less : n - 1 ≡ length words = omega (arith, len ∙ ap length is ∙ length-append words (10 ∷ [])) in
+    ap (λ k. take k whole) less ∙ ap (take (length words)) is ∙ take-append_seam words (10 ∷ [])
+
+-- what stands before a value in the line of an event that tells of it
+pub value-words : (words : List ℕ) (v : Value) → words ++ codes "\n" ≡ event_line (record { pid = record { 0 = 0 }; what = Fired 0 (Got v) }) →
+    words ≡ codes "0 case 0 got " ++ value_field v
+value-words words v is =
+    append_cancel_right words (codes "0 case 0 got " ++ value_field v) (10 ∷ [])
+    (is ∙ ap (λ d. d ++ (codes " case " ++ d ++ (codes " got " ++ value_field v)) ++ codes "\n") (decimal_digit 0 (omega arith)))
+
+pub value-behind : (words : List ℕ) (v : Value) → words ++ codes "\n" ≡ event_line (record { pid = record { 0 = 0 }; what = Fired 0 (Got v) }) →
+    (13 ≤ length words) × (drop 13 words ≡ value_field v)
+value-behind words v is =
+    let so = value-words words v is in
+    (rw so (omega arith), ap (drop 13) so)
+
+-- there is somebody who waits
+pub not-empty : (heading : List ℕ) (es : List Entry) (senders receivers : Port → Option Mover) (ts : List Told) → ts ≢ [] →
+    waiters_words heading es senders receivers ts ≡ heading ++ flat_map (waiter_words es senders receivers) ts
+not-empty heading es senders receivers [] other = absurd (other refl)
+not-empty heading es senders receivers (t ∷ ts) other = refl

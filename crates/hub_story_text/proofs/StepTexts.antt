@@ -1,0 +1,95 @@
+-- The text of the steps, one by one.
+use Rattle.std.proofs.Common.{◌≡◌, ◌<◌, ◌+◌, ℕ, suc, Bool, true, false, List, [], ◌∷◌, ◌++◌, length, drop, filter, refl, ap, ◌∙◌, sym, subst, append_assoc, get_or, codes}
+use Rattle.std.proofs.Common.{Option, Some, if◌then◌else◌, add-one, slice_get}
+use Rattle.std.specs.List.{flat_map}
+use Rattle.std.proofs.Math.Seq.{drop-cons}
+use Rattle.hub_base.specs.declared.value.Port.{Port}
+use Rattle.hub_base.specs.declared.case.Case.{Case}
+use Rattle.hub_base.specs.declared.case.Case.TheVariants.{Send, Recv}
+use Rattle.hub_base.specs.declared.entry.Entry.{Entry}
+use Rattle.hub_story.specs.declared.told.Told.{Told}
+use Rattle.hub_story.specs.Told.{end_of}
+use Rattle.hub_story.specs.Levels.{told_by}
+use Rattle.hub_story.specs.Waiting.{is_stalled}
+use Rattle.hub_story.specs.Passing.{cases_at}
+use Rattle.hub_story_text.specs.declared.last_moves.Mover.{Mover}
+use Rattle.hub_story_text.specs.declared.last_moves.LastMoves.{LastMoves}
+use Rattle.hub_story_text.specs.declared.window.Window.{Window}
+use Rattle.hub_story_text.specs.LastMoves.{AreLast, last_sender, last_receiver, mover_at}
+use Rattle.hub_story_text.specs.StoryText.{came_by, stall_heading, steps_text, step_text, who_waits}
+use Rattle.hub_story_text.specs.LineText.{line}
+use Rattle.hub_story_text.specs.Partners.{partner_of}
+use Rattle.hub_story_text.specs.WaiterText.{case_words, waiter_words, waiters_words, port_words, since_words}
+use Rattle.hub_story_text.specs.Windows.{has}
+use Rattle.hub_story_text.proofs.Groups.{stalled-came}
+
+-- ---- the same movers give the same words
+same-port : (s s' r r' : Port → Option Mover) → ((p : Port) → s p ≡ s' p) → ((p : Port) → r p ≡ r' p) → (p : Port) → port_words s r p ≡ port_words s' r' p
+same-port s s' r r' hs hr p = rw (hs p, hr p) refl
+
+same-case : (s s' r r' : Port → Option Mover) → ((p : Port) → s p ≡ s' p) → ((p : Port) → r p ≡ r' p) → (c : Case) → case_words s r c ≡ case_words s' r' c
+same-case s s' r r' hs hr (Send p v) = ap (λ l. codes "            to send on port " ++ l) (same-port s s' r r' hs hr p)
+same-case s s' r r' hs hr (Recv p) = ap (λ l. codes "            to receive from port " ++ l) (same-port s s' r r' hs hr p)
+
+same-flat : {X A : Type 0} (f g : X → List A) → ((x : X) → f x ≡ g x) → (xs : List X) → flat_map f xs ≡ flat_map g xs
+same-flat f g h [] = refl
+same-flat f g h (x ∷ xs) = ap (λ l. l ++ flat_map f xs) (h x) ∙ ap (λ l. g x ++ l) (same-flat f g h xs)
+
+same-waiters : (heading : List ℕ) (es : List Entry) (s s' r r' : Port → Option Mover) → ((p : Port) → s p ≡ s' p) → ((p : Port) → r p ≡ r' p) →
+    (ts : List Told) → waiters_words heading es s r ts ≡ waiters_words heading es s' r' ts
+same-waiters heading es s s' r r' hs hr [] = refl
+same-waiters heading es s s' r r' hs hr (t ∷ ts) =
+    ap (λ l. heading ++ l) (same-flat (waiter_words es s r) (waiter_words es s' r')
+    (λ t. ap (λ l. since_words t ++ l) (same-flat (case_words s r) (case_words s' r') (same-case s s' r r' hs hr) (cases_at es t.asked))) (t ∷ ts))
+
+-- what the tables tell
+pub waiters-told : (heading : List ℕ) (es : List Entry) (until : List Told) (moves : LastMoves) → AreLast es until moves → (ts : List Told) →
+    waiters_words heading es (mover_at moves.sent.items) (mover_at moves.received.items) ts ≡ who_waits heading es until ts
+waiters-told heading es until moves so ts =
+    same-waiters heading es (mover_at moves.sent.items) (last_sender es until) (mover_at moves.received.items) (last_receiver es until) so.sent so.received ts
+
+-- ---- one step more
+step-first : (w : Window) (es : List Entry) (all : List Told) (place : ℕ) (rest : List Entry) (d : Entry) → place < length rest →
+    steps_text w es all place (drop place rest)
+    ≡ (if has w place then step_text es all place (get_or rest place d) else []) ++ steps_text w es all (place + 1) (drop (place + 1) rest)
+step-first w es all place rest d below =
+    ap (steps_text w es all place) (drop-cons rest place d below)
+    ∙ ap (λ k. (if has w place then step_text es all place (get_or rest place d) else []) ++ steps_text w es all (place + 1) (drop k rest)) (sym (add-one place))
+
+pub step-shown : (w : Window) (es : List Entry) (all : List Told) (place : ℕ) (d : Entry) (was now text : List ℕ) → place < length es →
+    has w place ≡ true → was ++ steps_text w es all place (drop place es) ≡ text → now ≡ was ++ step_text es all place (get_or es place d) →
+    now ++ steps_text w es all (place + 1) (drop (place + 1) es) ≡ text
+step-shown w es all place d was now text below shown so is =
+    ap (λ l. l ++ steps_text w es all (place + 1) (drop (place + 1) es)) is
+    ∙ append_assoc was (step_text es all place (get_or es place d)) (steps_text w es all (place + 1) (drop (place + 1) es))
+    ∙ ap (λ l. was ++ l) (ap (λ b. (if b then step_text es all place (get_or es place d) else []) ++ steps_text w es all (place + 1) (drop (place + 1) es)) (sym shown)
+    ∙ sym (step-first w es all place es d below)) ∙ so
+
+pub step-hidden : (w : Window) (es : List Entry) (all : List Told) (place : ℕ) (d : Entry) (was text : List ℕ) → place < length es →
+    has w place ≡ false → was ++ steps_text w es all place (drop place es) ≡ text →
+    was ++ steps_text w es all (place + 1) (drop (place + 1) es) ≡ text
+step-hidden w es all place d was text below hidden so =
+    ap (λ l. was ++ l) (ap (λ b. (if b then step_text es all place (get_or es place d) else []) ++ steps_text w es all (place + 1) (drop (place + 1) es)) (sym hidden)
+    ∙ sym (step-first w es all place es d below)) ∙ so
+
+-- ---- the text of one step, by what is looked up
+inside : {A : Type 0} {x y : A} → Some x ≡ Some y → x ≡ y
+inside h = cc
+
+pub step-is : (es : List Entry) (all : List Told) (place : ℕ) (e : Entry) (ends : List (Option Told)) (partners : List (Option ℕ)) (end : Option Told)
+    (partner : Option ℕ) (came : List Told) (moves : LastMoves) → slice_get ends place ≡ Some end → slice_get ends place ≡ Some (end_of all place) →
+    slice_get partners place ≡ Some partner → slice_get partners place ≡ Some (partner_of es all place) → came ≡ came_by place all →
+    AreLast es (told_by (place + 1) all) moves →
+    line es place e end partner came
+    ++ waiters_words stall_heading es (mover_at moves.sent.items) (mover_at moves.received.items) (filter (λ t. is_stalled t.event.what) came)
+    ≡ step_text es all place e
+step-is es all place e ends partners end partner came moves has-end is-end has-partner is-partner same last =
+    let end-is : end ≡ end_of all place = inside (sym has-end ∙ is-end) in
+    let partner-is : partner ≡ partner_of es all place = inside (sym has-partner ∙ is-partner) in
+    let below : List ℕ =
+    waiters_words stall_heading es (mover_at moves.sent.items) (mover_at moves.received.items) (filter (λ t. is_stalled t.event.what) came) in
+    ap (λ o. line es place e o partner came ++ below) end-is ∙ ap (λ o. line es place e (end_of all place) o came ++ below) partner-is
+    ∙ ap (λ l. line es place e (end_of all place) (partner_of es all place) l ++ below) same
+    ∙ ap (λ l. line es place e (end_of all place) (partner_of es all place) (came_by place all) ++ l)
+    (waiters-told stall_heading es (told_by (place + 1) all) moves last (filter (λ t. is_stalled t.event.what) came)
+    ∙ ap (who_waits stall_heading es (told_by (place + 1) all)) (ap (filter (λ t. is_stalled t.event.what)) same ∙ stalled-came place all))

@@ -1,0 +1,15 @@
+use Rattle.std.proofs.Common.{rules, ◌≡◌, ◌≢◌, ◌∙◌, ◌++◌, [], ap, sym, append-nil, append_assoc, drop}
+use Rattle.std.specs.List.{flat_map}
+use Rattle.std.proofs.lemmas.List.{drop_all}
+use Rattle.hub_story_text.specs.LastMoves.{mover_at}
+use Rattle.hub_story_text.specs.WaiterText.{waiter_words}
+use Rattle.hub_story_text.proofs.StepLines.{not-empty}
+use Rattle.hub_story_text.proofs.waiters.put_waiters.Goals as goal
+
+pub returns : goal.returns
+returns c =
+    let one = waiter_words c.args.entries.now (mover_at c.args.moves.now.sent.items) (mover_at c.args.moves.now.received.items) in
+    let none = drop_all c.loop-told.told-index c.args.waiters.now c.loop-told-test.false in
+    sym (append-nil c.loop-told.out.items) ∙ ap (λ l. c.loop-told.out.items ++ flat_map one l) (sym none) ∙ c.loop-told.invariant
+    ∙ append_assoc c.args.out.now.items c.args.heading.now _
+    ∙ ap (λ l. c.args.out.now.items ++ l) (sym (not-empty c.args.heading.now c.args.entries.now _ _ c.args.waiters.now (λ is. search (rules, is))))

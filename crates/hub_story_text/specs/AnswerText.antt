@@ -1,0 +1,38 @@
+-- What a step was told, in the words of events; a call of several cases names the one that fired.
+use Rattle.std.specs.Prelude.{ℕ, List, [], ◌∷◌, ◌++◌, codes, decimal, slice_get}
+use Rattle.std.specs.Option.{option_map_or}
+use Rattle.hub_base.specs.declared.case.Case.{Case}
+use Rattle.hub_base.specs.declared.case.Case.TheVariants.{Send, Recv}
+use Rattle.hub_base.specs.declared.event.Outcome.{Outcome}
+use Rattle.hub_base.specs.declared.event.Outcome.TheVariants.{Sent, Got, Drained, Closed}
+use Rattle.hub_base.specs.declared.event.What.{What}
+use Rattle.hub_base.specs.declared.event.What.TheVariants as what
+use Rattle.hub_base.specs.Value.{value_field}
+use Rattle.hub_base.specs.Faults.{fault_number}
+
+-- a case without its value: `s1` or `r1`
+abbrev pub case_name : Case → List ℕ
+case_name (Send p v) = codes "s" ++ decimal p.0
+case_name (Recv p) = codes "r" ++ decimal p.0
+
+-- which case fired; that of a call of one case goes without saying
+abbrev pub fired_name : List Case → ℕ → List ℕ
+fired_name (c ∷ []) i = []
+fired_name cases i = option_map_or (λ c. case_name c ++ codes " ") (slice_get cases i) []
+
+abbrev pub outcome_words : Outcome → List ℕ
+outcome_words Sent = codes "sent"
+outcome_words (Got v) = codes "got " ++ value_field v
+outcome_words Drained = codes "drained"
+outcome_words Closed = codes "closed"
+
+-- what a step of these cases was told; of a step that is no call the cases are none
+abbrev pub answer_words : List Case → What → List ℕ
+answer_words cases (what.Made p) = codes "made " ++ decimal p.0
+answer_words cases (what.Fired i o) = fired_name cases i ++ outcome_words o
+answer_words cases what.Default = codes "default"
+answer_words cases what.Done = codes "done"
+answer_words cases what.Parked = codes "waits"
+answer_words cases what.Stalled = codes "stalled"
+answer_words cases (what.Fault f) = codes "fault " ++ decimal (fault_number f)
+answer_words cases what.Cancelled = codes "cancelled"

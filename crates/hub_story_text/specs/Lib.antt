@@ -1,0 +1,9 @@
+pub mod Windows
+pub mod Cells
+pub mod AnswerText
+pub mod Partners
+pub mod LastMoves
+pub mod LineText
+pub mod WaiterText
+pub mod PortText
+pub mod StoryText

@@ -1,0 +1,86 @@
+-- The line of a step: its number, who asks what, what it was told in the end, how long it waited, where its value went or
+-- came from, and which other steps it ended. A step is printed by its number, counted from 1.
+use Rattle.std.specs.Prelude.{ℕ, ◌+◌, ◌-◌, ◌==◌, ◌&&◌, not, nat_lt, Bool, List, [], ◌∷◌, ◌++◌, codes, decimal, filter, slice_get}
+use Rattle.std.specs.Prelude.{Option, None, Some, if◌then◌else◌}
+use Rattle.std.specs.List.{flat_map, join_with_byte}
+use Rattle.std.specs.Option.{option_map_or}
+use Rattle.hub_base.specs.declared.value.Port.{Port}
+use Rattle.hub_base.specs.declared.case.Case.{Case}
+use Rattle.hub_base.specs.declared.case.Case.TheVariants.{Send, Recv}
+use Rattle.hub_base.specs.declared.entry.Entry.{Entry}
+use Rattle.hub_base.specs.declared.event.Outcome.{Outcome}
+use Rattle.hub_base.specs.declared.event.Outcome.TheVariants.{Sent, Got, Drained, Closed}
+use Rattle.hub_base.specs.declared.event.What.{What}
+use Rattle.hub_base.specs.declared.event.What.TheVariants as what
+use Rattle.hub_base.specs.Lines.{step_fields}
+use Rattle.hub_base.specs.Values.{cases_or, of_what}
+use Rattle.hub_laws.specs.Replies.{is_parked}
+use Rattle.hub_story.specs.declared.told.Told.{Told}
+use Rattle.hub_story_text.specs.declared.cells.TheConstants.{STEP_WIDTH, ASKS, ANSWER, WAITED, VALUE, ENDS}
+use Rattle.hub_story_text.specs.Cells.{right, with_cell}
+use Rattle.hub_story_text.specs.AnswerText.{answer_words}
+
+-- the entry's line in the journal, without its newline
+abbrev pub asks : Entry → List ℕ
+asks e = codes "P" ++ join_with_byte 32 (decimal e.pid.0 ∷ step_fields e.step)
+
+-- how many steps it waited, and until which; nothing where it did not wait
+abbrev pub waited_words : ℕ → Told → List ℕ
+waited_words place t =
+    if nat_lt place t.by then decimal (t.by - place) ++ codes ", until " ++ decimal (t.by + 1) else []
+
+-- the process of the entry at this place, and its step
+abbrev pub step_words : List Entry → ℕ → List ℕ
+step_words es place =
+    option_map_or (λ e. codes "P" ++ decimal e.pid.0) (slice_get es place) [] ++ codes ", step " ++ decimal (place + 1)
+
+-- where a value went that was sent on this port
+abbrev pub sent_words : List Entry → Port → Option ℕ → List ℕ
+sent_words es p None = codes "stays in port " ++ decimal p.0
+sent_words es p (Some place) = codes "to " ++ step_words es place
+
+-- where a value came from that was received
+abbrev pub got_words : List Entry → Option ℕ → List ℕ
+got_words es None = []
+got_words es (Some place) = codes "from " ++ step_words es place
+
+-- of the case that fired, where it moved a value
+abbrev pub moved_words : List Entry → Option ℕ → Case → Outcome → List ℕ
+moved_words es partner (Send p v) Sent = sent_words es p partner
+moved_words es partner (Recv p) (Got v) = got_words es partner
+moved_words es partner other outcome = []
+
+abbrev pub value_words : List Entry → List Case → Option ℕ → What → List ℕ
+value_words es cases partner (what.Fired i o) = option_map_or (λ c. moved_words es partner c o) (slice_get cases i) []
+value_words es cases partner other = []
+
+-- the event ended a step other than the one at this place
+abbrev pub ends_other : ℕ → Told → Bool
+ends_other place t = not (is_parked t.event.what) && not (t.asked == place)
+
+abbrev pub step_number : Told → List ℕ
+step_number t = codes " " ++ decimal (t.asked + 1)
+
+abbrev pub ends_words : List Told → List ℕ
+ends_words [] = []
+ends_words (t ∷ ts) = codes "ends" ++ flat_map step_number (t ∷ ts)
+
+-- an event that ended one more
+abbrev pub with_ended : List ℕ → Told → List ℕ
+with_ended [] t = codes "ends" ++ step_number t
+with_ended (c ∷ cs) t = c ∷ cs ++ step_number t
+
+-- behind who asks what: what it was told in the end, how long it waited, and what is known of its value
+abbrev pub with_end : List Entry → ℕ → Entry → Option ℕ → List ℕ → Option Told → List ℕ
+with_end es place e partner before None = with_cell ANSWER before (codes "waits")
+with_end es place e partner before (Some t) =
+    with_cell VALUE
+    (with_cell WAITED (with_cell ANSWER before (answer_words (cases_or e.step []) t.event.what)) (waited_words place t))
+    (value_words es (cases_or e.step []) partner t.event.what)
+
+-- the line of the entry at this place, by how it ended, by the other entry of its value's passage, and by what came by its step
+abbrev pub line : List Entry → ℕ → Entry → Option Told → Option ℕ → List Told → List ℕ
+line es place e end partner came =
+    with_cell ENDS (with_end es place e partner (with_cell ASKS (right STEP_WIDTH (place + 1)) (asks e)) end)
+    (ends_words (filter (ends_other place) came))
+    ++ codes "\n"

@@ -1,0 +1,55 @@
+-- The text of a story: a heading, a line for each step that the window has, with those whom it stalled below it; then what the
+-- ports carried, and who waits in the end.
+use Rattle.std.specs.Prelude.{ℕ, ◌+◌, ◌==◌, Bool, List, [], ◌∷◌, ◌++◌, codes, filter, length, if◌then◌else◌}
+use Rattle.std.specs.List.{flat_map}
+use Rattle.hub_base.specs.declared.entry.Entry.{Entry}
+use Rattle.hub_story.specs.declared.told.Told.{Told}
+use Rattle.hub_story.specs.Told.{end_of}
+use Rattle.hub_story.specs.Levels.{told_by}
+use Rattle.hub_story.specs.Waiting.{stalled_by, still_waiting}
+use Rattle.hub_story_text.specs.declared.window.Window.{Window}
+use Rattle.hub_story_text.specs.Windows.{has}
+use Rattle.hub_story_text.specs.LastMoves.{last_sender, last_receiver}
+use Rattle.hub_story_text.specs.LineText.{line}
+use Rattle.hub_story_text.specs.Partners.{partner_of}
+use Rattle.hub_story_text.specs.PortText.{made_line}
+use Rattle.hub_story_text.specs.WaiterText.{waiters_words}
+
+-- what came by the step at this place
+abbrev pub came_by : ℕ → List Told → List Told
+came_by place all = filter (λ t. t.by == place) all
+
+-- these calls below a heading, told after the first so many steps
+abbrev pub who_waits : List ℕ → List Entry → List Told → List Told → List ℕ
+who_waits heading es until waiters = waiters_words heading es (last_sender es until) (last_receiver es until) waiters
+
+abbrev pub stall_heading : List ℕ
+stall_heading = codes "        stall: everyone who is left waits\n"
+
+-- the line of a step, and those whom it stalled
+abbrev pub step_text : List Entry → List Told → ℕ → Entry → List ℕ
+step_text es all place e =
+    line es place e (end_of all place) (partner_of es all place) (came_by place all)
+    ++ who_waits stall_heading es (told_by (place + 1) all) (stalled_by all place)
+
+-- so of these entries, the first of which stands at this place, where the window has them
+abbrev pub steps_text : Window → List Entry → List Told → ℕ → List Entry → List ℕ
+steps_text w es all place [] = []
+steps_text w es all place (e ∷ rest) =
+    (if has w place then step_text es all place e else []) ++ steps_text w es all (place + 1) rest
+
+abbrev pub heading : List ℕ
+heading = codes "   step  who asks what                  answer            waited              value                 ends\n"
+
+abbrev pub end_heading : List ℕ
+end_heading = codes "in the end these wait\n"
+
+-- what the ports carried
+abbrev pub ports_text : List Entry → List Told → List ℕ
+ports_text es all = flat_map (λ t. made_line es all t t.event.what) all
+
+-- the whole
+abbrev pub story_text : Window → List Entry → List Told → List ℕ
+story_text w es all =
+    heading ++ steps_text w es all 0 es ++ ports_text es all
+    ++ who_waits end_heading es (told_by (length es) all) (still_waiting all)

@@ -1,0 +1,68 @@
+//! What a step was told, in the words of events.
+
+ghost use Rattle.std.specs.Prelude.{◌≡◌, ◌++◌, OnOk};
+ghost use Rattle.hub_story_text.specs.AnswerText.{answer_words, case_name, fired_name, outcome_words};
+
+use crate::numbers::{put_number, put_value};
+use hub_base::{Case, NoMemory, Outcome, What};
+use std::alloc::AllocError;
+
+/// Appends a case without its value.
+fn put_case_name(out: &mut Vec<u8>, case: Case) -> Result<(), AllocError>
+    ensures { OnOk result (out.new.items ≡ out.old.items ++ case_name case) }
+{
+    match case {
+        Case::Send(port, _) => put_number(out, b"s", port.0.into()),
+        Case::Recv(port) => put_number(out, b"r", port.0.into()),
+    }
+}
+
+/// Appends which case fired, where there was a choice.
+fn put_fired_name(out: &mut Vec<u8>, cases: &[Case], fired: u8) -> Result<(), AllocError>
+    ensures { OnOk result (out.new.items ≡ out.old.items ++ fired_name cases.now fired) }
+{
+    if cases.len() == 1 {
+        return Ok(());
+    }
+    let Some(case) = cases.get(usize::from(fired)) else {
+        return Ok(());
+    };
+    put_case_name(out, *case)?;
+    out.extend_from_slice(b" ")
+}
+
+/// Appends how a communication ended.
+fn put_outcome(out: &mut Vec<u8>, outcome: Outcome) -> Result<(), NoMemory>
+    ensures { OnOk result (out.new.items ≡ out.old.items ++ outcome_words outcome) }
+{
+    match outcome {
+        Outcome::Sent => out.extend_from_slice(b"sent")?,
+        Outcome::Got(value) => {
+            out.extend_from_slice(b"got ")?;
+            put_value(out, value)?;
+        }
+        Outcome::Drained => out.extend_from_slice(b"drained")?,
+        Outcome::Closed => out.extend_from_slice(b"closed")?,
+    }
+    Ok(())
+}
+
+/// Appends what a step of these cases was told.
+pub(crate) fn put_answer(out: &mut Vec<u8>, cases: &[Case], what: What) -> Result<(), NoMemory>
+    ensures { OnOk result (out.new.items ≡ out.old.items ++ answer_words cases.now what) }
+{
+    match what {
+        What::Made(port) => put_number(out, b"made ", port.0.into())?,
+        What::Fired { case, outcome } => {
+            put_fired_name(out, cases, case)?;
+            put_outcome(out, outcome)?;
+        }
+        What::Default => out.extend_from_slice(b"default")?,
+        What::Done => out.extend_from_slice(b"done")?,
+        What::Parked => out.extend_from_slice(b"waits")?,
+        What::Stalled => out.extend_from_slice(b"stalled")?,
+        What::Fault(fault) => put_number(out, b"fault ", fault.number().into())?,
+        What::Cancelled => out.extend_from_slice(b"cancelled")?,
+    }
+    Ok(())
+}

@@ -1,0 +1,21 @@
+//! The story of a journal as text: a line for each step, told from its end; what everyone waited for where all stalled,
+//! and in the end; and what each port carried.
+#![tactic(auto)]
+
+mod answers;
+mod cells;
+mod entries;
+mod last_moves;
+mod lines;
+mod numbers;
+mod partners;
+mod ports;
+mod steps;
+#[cfg(test)]
+mod tests;
+mod text;
+mod waiters;
+mod window;
+
+pub use text::story_text;
+pub use window::Window;

@@ -1,0 +1,84 @@
+//! What each port that was made carried.
+
+ghost use Rattle.std.specs.Prelude.{◌≡◌, ◌<◌, ◌^◌, ◌++◌, length, slice_get, OnOk, []};
+ghost use Rattle.std.specs.List.{flat_map};
+ghost use Rattle.std.specs.Option.{option_map_or};
+ghost use Rattle.hub_story_text.specs.PortText.{cap_words, counts_words, made_line, maker_words, port_line};
+
+use crate::numbers::{number_of, put_number};
+use hub_base::{Journal, Port, Step, What};
+use hub_story::{Level, Story, Told};
+use std::alloc::AllocError;
+
+/// Appends the capacity of the port that the entry at this place made.
+fn put_cap(out: &mut Vec<u8>, journal: &Journal, place: u32) -> Result<(), AllocError>
+    ensures { OnOk result (out.new.items ≡
+        out.old.items ++ option_map_or (λ e. cap_words e.step) (slice_get journal.now.entries place) []) }
+{
+    let Some(entry) = journal.entries().get(place as usize) else {
+        return Ok(());
+    };
+    match entry.step {
+        Step::Make(cap) => put_number(out, b" cap ", cap.into()),
+        _ => Ok(()),
+    }
+}
+
+/// Appends how much was sent, received and left.
+fn put_counts(out: &mut Vec<u8>, level: Level) -> Result<(), AllocError>
+    ensures { OnOk result (out.new.items ≡ out.old.items ++ counts_words level.sent level.received) }
+{
+    put_number(out, b" sent ", level.sent as u64)?;
+    put_number(out, b" received ", level.received as u64)?;
+    put_number(
+        out,
+        b" left ",
+        level.sent.saturating_sub(level.received) as u64,
+    )
+}
+
+/// Appends by whom a port was made.
+fn put_maker(out: &mut Vec<u8>, told: &Told) -> Result<(), AllocError>
+    ensures { OnOk result (out.new.items ≡ out.old.items ++ maker_words told.now) }
+{
+    put_number(out, b" made by P", told.event.pid.0.into())?;
+    put_number(out, b" at step ", number_of(told.asked))?;
+    out.extend_from_slice(b"\n")
+}
+
+/// Appends what a port carried that this event says was made.
+fn put_port(
+    out: &mut Vec<u8>,
+    journal: &Journal,
+    story: &Story,
+    told: &Told,
+    port: Port,
+) -> Result<(), AllocError>
+    requires { length journal.now.entries < 2 ^ 32 }
+    ensures { OnOk result (out.new.items ≡
+        out.old.items ++ port_line journal.now.entries story.now.told.items told.now port) }
+{
+    let level = story.level(journal, port, journal.entries().len() as u32);
+    put_number(out, b"port ", port.0.into())?;
+    put_cap(out, journal, told.asked)?;
+    put_counts(out, level)?;
+    put_maker(out, told)
+}
+
+/// Appends a line for each port, in the order in which they were made.
+pub(crate) fn put_ports(
+    out: &mut Vec<u8>,
+    journal: &Journal,
+    story: &Story,
+) -> Result<(), AllocError>
+    requires { length journal.now.entries < 2 ^ 32 }
+    ensures { OnOk result (out.new.items ≡ out.old.items
+        ++ flat_map (λ t. made_line journal.now.entries story.now.told.items t t.event.what) story.now.told.items) }
+{
+    for told in &story.told {
+        if let What::Made(port) = told.event.what {
+            put_port(out, journal, story, told, port)?;
+        }
+    }
+    Ok(())
+}

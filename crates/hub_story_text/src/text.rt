@@ -1,0 +1,49 @@
+//! The whole text.
+
+ghost use Rattle.std.specs.Prelude.{◌≡◌, ◌<◌, ◌-◌, ◌^◌, length, IfOk};
+ghost use Rattle.hub_story.specs.Stories.{IsStoryOf};
+ghost use Rattle.hub_story_text.specs.StoryText.{story_text};
+
+use crate::Window;
+use crate::last_moves::LastMoves;
+use crate::partners::partners_of;
+use crate::ports::put_ports;
+use crate::steps::put_steps;
+use crate::waiters::put_waiters;
+use hub_base::{Journal, NoMemory};
+use hub_story::Story;
+use std::alloc::Global;
+
+const HEADING: &[u8] =
+    b"   step  who asks what                  answer            waited              value                 ends\n";
+
+const END_HEADING: &[u8] = b"in the end these wait\n";
+
+/// The story of a journal as text: a line for each step that the window has, with those whom it stalled below it; then a line for
+/// each port that was made, and who waits in the end. Steps and the numbers of entries are counted from 1. `Err` where
+/// memory was refused.
+pub fn story_text(
+    alloc: Global,
+    journal: &Journal,
+    story: &Story,
+    window: Window,
+) -> Result<Vec<u8>, NoMemory>
+    requires story { IsStoryOf journal.now story.now }
+    requires few { length journal.now.entries < 2 ^ 32 - 1 }
+    ensures { IfOk result (λ text. text.items ≡ story_text window journal.now.entries story.now.told.items) }
+{
+    let partners = partners_of(alloc, journal, story)?;
+    let mut moves = LastMoves::new(alloc)?;
+    let mut out = Vec::new(alloc);
+    out.extend_from_slice(HEADING)?;
+    put_steps(&mut out, &mut moves, journal, story, &partners, window)?;
+    put_ports(&mut out, journal, story)?;
+    put_waiters(
+        &mut out,
+        END_HEADING,
+        journal.entries(),
+        &moves,
+        &story.waiting,
+    )?;
+    Ok(out)
+}

@@ -1,0 +1,112 @@
+//! Who waits, and for what.
+
+ghost use Rattle.std.specs.Prelude.{◌≡◌, ◌++◌, OnOk};
+ghost use Rattle.std.specs.List.{flat_map};
+ghost use Rattle.hub_story_text.specs.LastMoves.{mover_at};
+ghost use Rattle.hub_story_text.specs.WaiterText.{case_words, mover_words, port_words, since_words, waiter_words, waiters_words};
+
+use crate::entries::cases_at;
+use crate::last_moves::{LastMoves, Mover};
+use crate::numbers::{number_of, put_number};
+use hub_base::{Case, Entry, Port};
+use hub_story::Told;
+use std::alloc::AllocError;
+
+/// Appends a process and a step, behind these words.
+fn put_mover(out: &mut Vec<u8>, words: &[u8], mover: Option<Mover>) -> Result<(), AllocError>
+    ensures { OnOk result (out.new.items ≡ out.old.items ++ words.now ++ mover_words mover) }
+{
+    out.extend_from_slice(words)?;
+    match mover {
+        Some(mover) => {
+            put_number(out, b"P", mover.pid.0.into())?;
+            put_number(out, b" at step ", number_of(mover.step))
+        }
+        None => out.extend_from_slice(b"nobody"),
+    }
+}
+
+/// Appends a port, and who was the last there.
+fn put_port(out: &mut Vec<u8>, moves: &LastMoves, port: Port) -> Result<(), AllocError>
+    ensures { OnOk result (out.new.items ≡
+        out.old.items ++ port_words (mover_at moves.now.sent.items) (mover_at moves.now.received.items) port) }
+{
+    put_number(out, b"", port.0.into())?;
+    put_mover(out, b": last sent by ", moves.sender(port))?;
+    put_mover(out, b", last received by ", moves.receiver(port))?;
+    out.extend_from_slice(b"\n")?;
+    Ok(())
+}
+
+/// Appends what a case waits for.
+fn put_case(out: &mut Vec<u8>, moves: &LastMoves, case: Case) -> Result<(), AllocError>
+    ensures { OnOk result (out.new.items ≡
+        out.old.items ++ case_words (mover_at moves.now.sent.items) (mover_at moves.now.received.items) case) }
+{
+    match case {
+        Case::Send(port, _) => {
+            out.extend_from_slice(b"            to send on port ")?;
+            put_port(out, moves, port)
+        }
+        Case::Recv(port) => {
+            out.extend_from_slice(b"            to receive from port ")?;
+            put_port(out, moves, port)
+        }
+    }
+}
+
+/// Appends what each of these cases waits for.
+fn put_cases(out: &mut Vec<u8>, moves: &LastMoves, cases: &[Case]) -> Result<(), AllocError>
+    ensures { OnOk result (out.new.items ≡ out.old.items
+        ++ flat_map (case_words (mover_at moves.now.sent.items) (mover_at moves.now.received.items)) cases.now) }
+{
+    for case in cases {
+        put_case(out, moves, *case)?;
+    }
+    Ok(())
+}
+
+/// Appends who waits, and since which step.
+fn put_since(out: &mut Vec<u8>, told: &Told) -> Result<(), AllocError>
+    ensures { OnOk result (out.new.items ≡ out.old.items ++ since_words told.now) }
+{
+    put_number(out, b"          P", told.event.pid.0.into())?;
+    put_number(out, b" waits since step ", number_of(told.asked))?;
+    out.extend_from_slice(b"\n")?;
+    Ok(())
+}
+
+/// Appends a call that waited, and its cases.
+fn put_waiter(
+    out: &mut Vec<u8>,
+    entries: &[Entry],
+    moves: &LastMoves,
+    told: &Told,
+) -> Result<(), AllocError>
+    ensures { OnOk result (out.new.items ≡ out.old.items
+        ++ waiter_words entries.now (mover_at moves.now.sent.items) (mover_at moves.now.received.items) told.now) }
+{
+    put_since(out, told)?;
+    put_cases(out, moves, cases_at(entries, told.asked))
+}
+
+/// Appends these calls below a heading, if there are any.
+pub(crate) fn put_waiters(
+    out: &mut Vec<u8>,
+    heading: &[u8],
+    entries: &[Entry],
+    moves: &LastMoves,
+    waiters: &[Told],
+) -> Result<(), AllocError>
+    ensures { OnOk result (out.new.items ≡ out.old.items ++ waiters_words heading.now entries.now
+        (mover_at moves.now.sent.items) (mover_at moves.now.received.items) waiters.now) }
+{
+    if waiters.is_empty() {
+        return Ok(());
+    }
+    out.extend_from_slice(heading)?;
+    for told in waiters {
+        put_waiter(out, entries, moves, told)?;
+    }
+    Ok(())
+}

@@ -1,0 +1,105 @@
+-- Words, numbers, lines of entries and of events have only plain bytes.
+use Rattle.std.proofs.Common.{◌≡◌, ℕ, zero, suc, ◌<◌, ◌≤◌, ◌^◌, ◌&&◌, Bool, true, false, List, [], ◌∷◌, ◌++◌, codes, refl, arith, ◌∙◌, map}
+use Rattle.std.proofs.lemmas.Grind.{common_steps}
+use Rattle.std.proofs.lemmas.List.Folds.{list_all-append}
+use Rattle.std.specs.Prelude.{decimal}
+use Rattle.std.specs.List.{list_all, join_with_byte, AllByRecursion}
+use Rattle.std.specs.Char.{is_ascii_digit}
+use Rattle.hex.specs.Hex.{encode_lower}
+use Rattle.hub_base.specs.declared.value.Value.{Value}
+use Rattle.hub_base.specs.declared.case.Case.{Case}
+use Rattle.hub_base.specs.declared.case.Case.TheVariants.{Send, Recv}
+use Rattle.hub_base.specs.declared.entry.Step.{Step}
+use Rattle.hub_base.specs.declared.entry.Step.TheVariants.{Make, Call, Close, Exit, Cancel}
+use Rattle.hub_base.specs.declared.entry.Entry.{Entry}
+use Rattle.hub_base.specs.declared.head.Edition.{Edition}
+use Rattle.hub_base.specs.Value.{Content, IsContent, IsValue, content, field_of, value_field}
+use Rattle.hub_base.specs.Value.Content.{Num, Bytes}
+use Rattle.hub_base.specs.Lines.{is_hex, case_field, default_field, select_fields, call_fields, step_fields, line}
+use Rattle.hub_base.specs.Text.{CaseFits, CallFits, StepFits, Fits}
+use Rattle.hub_base.proofs.Decimals.{digits-of}
+use Rattle.hub_base.proofs.HexDigits.{encoded-hex}
+use Rattle.hub_picture.specs.Pieces.{joined}
+use Rattle.hub_picture.specs.Plain.{is_plain, IsPlain}
+
+pub plain-both : (xs ys : List ℕ) → IsPlain xs → IsPlain ys → IsPlain (xs ++ ys)
+plain-both xs ys hx hy = list_all-append is_plain xs ys ∙ rw (hx, hy) refl
+
+both : (a b : Bool) → (a && b) ≡ true → (a ≡ true) × (b ≡ true)
+both true true h = (refl, refl)
+both true false h = cc
+both false b h = cc
+
+each-plain : (P : ℕ → Bool) (xs : List ℕ) → ((c : ℕ) → P c ≡ true → is_plain c ≡ true) → list_all P xs ≡ true → IsPlain xs
+each-plain P [] h all = refl
+each-plain P (x ∷ xs) h all =
+    let parts = both (P x) (list_all P xs) all in
+    rw (h x parts.0, each-plain P xs h parts.1) refl
+
+digit-plain : (c : ℕ) → is_ascii_digit c ≡ true → is_plain c ≡ true
+digit-plain c d = grind (arith, common_steps)
+
+hex-plain : (c : ℕ) → is_hex c ≡ true → is_plain c ≡ true
+hex-plain c d = grind (arith, common_steps)
+
+pub plain-number : (n : ℕ) → n < 2 ^ 64 → IsPlain (decimal n)
+plain-number n small = each-plain is_ascii_digit (decimal n) digit-plain (digits-of (decimal n) n small refl)
+
+content-plain : (c : Content) → IsContent c → IsPlain (field_of c)
+content-plain (Num n) fits = plain-number n (omega (arith, fits))
+content-plain (Bytes bs) fits = each-plain is_hex (encode_lower bs) hex-plain (encoded-hex bs fits.1)
+
+pub plain-value : (v : Value) → IsValue v → IsPlain (value_field v)
+plain-value v is = content-plain (content v) is.fits
+
+-- ---- several texts, one after the other, and with spaces between them
+pub plain-joined : (texts : List (List ℕ)) → AllByRecursion IsPlain texts → IsPlain (joined texts)
+plain-joined [] all = refl
+plain-joined (t ∷ ts) all = plain-both t (joined ts) all.0 (plain-joined ts all.1)
+
+plain-spaced : (f : List ℕ) (fs : List (List ℕ)) → IsPlain f → AllByRecursion IsPlain fs → IsPlain (join_with_byte 32 (f ∷ fs))
+plain-spaced f [] h all = h
+plain-spaced f (g ∷ gs) h all = plain-both f (32 ∷ join_with_byte 32 (g ∷ gs)) h (plain-spaced g gs all.0 all.1)
+
+-- ---- entries
+small : (n most : ℕ) → n ≤ most → most < 2 ^ 64 → IsPlain (decimal n)
+small n most fits below = plain-number n (omega (arith, fits, below))
+
+case-plain : (c : Case) → CaseFits c → IsPlain (case_field c)
+case-plain (Send p v) fits =
+    plain-both (codes "s") (decimal p.0 ++ 58 ∷ value_field v) refl
+    (plain-both (decimal p.0) (58 ∷ value_field v) (small p.0 65535 fits.0 (omega arith)) (plain-value v fits.1))
+case-plain (Recv p) fits = plain-both (codes "r") (decimal p.0) refl (small p.0 65535 fits (omega arith))
+
+cases-plain : (cs : List Case) (default : Bool) → AllByRecursion CaseFits cs →
+    AllByRecursion IsPlain (map case_field cs ++ default_field default)
+cases-plain [] true all = (refl, _)
+cases-plain [] false all = _
+cases-plain (c ∷ cs) default all = (case-plain c all.0, cases-plain cs default all.1)
+
+select-plain : (cs : List Case) (default : Bool) (word : ℕ) → CallFits cs word → AllByRecursion IsPlain (select_fields cs default word)
+select-plain cs default word fits =
+    (refl, (small word 18446744073709551615 fits.word_fits (omega arith), cases-plain cs default fits.each))
+
+call-plain : (cs : List Case) (default : Bool) (word : ℕ) → CallFits cs word → AllByRecursion IsPlain (call_fields cs default word)
+call-plain (Send p v ∷ []) false zero fits = (refl, (small p.0 65535 fits.each.0.0 (omega arith), (plain-value v fits.each.0.1, _)))
+call-plain (Recv p ∷ []) false zero fits = (refl, (small p.0 65535 fits.each.0 (omega arith), _))
+call-plain [] default word fits = select-plain [] default word fits
+call-plain (Send p v ∷ []) true word fits = select-plain (Send p v ∷ []) true word fits
+call-plain (Send p v ∷ []) false (suc word) fits = select-plain (Send p v ∷ []) false (suc word) fits
+call-plain (Recv p ∷ []) true word fits = select-plain (Recv p ∷ []) true word fits
+call-plain (Recv p ∷ []) false (suc word) fits = select-plain (Recv p ∷ []) false (suc word) fits
+call-plain (Send p v ∷ d ∷ cs) default word fits = select-plain (Send p v ∷ d ∷ cs) default word fits
+call-plain (Recv p ∷ d ∷ cs) default word fits = select-plain (Recv p ∷ d ∷ cs) default word fits
+
+step-plain : (s : Step) → StepFits s → AllByRecursion IsPlain (step_fields s)
+step-plain (Make most) fits = (refl, (small most 4294967295 fits (omega arith), _))
+step-plain (Call cases default word) fits = call-plain cases.items default word fits
+step-plain (Close p) fits = (refl, (small p.0 65535 fits (omega arith), _))
+step-plain Exit fits = (refl, _)
+step-plain (Cancel q) fits = (refl, (small q.0 255 fits (omega arith), _))
+
+pub plain-line : (edition : Edition) (e : Entry) → Fits edition e → IsPlain (line e)
+plain-line edition e fits =
+    plain-both (join_with_byte 32 (decimal e.pid.0 ∷ step_fields e.step)) (codes "\n")
+    (plain-spaced (decimal e.pid.0) (step_fields e.step) (small e.pid.0 255 fits.pid (omega arith)) (step-plain e.step fits.step)) refl

@@ -1,0 +1,119 @@
+-- So have what is told of shapes, and what stands in boxes.
+use Rattle.std.proofs.Common.{ℕ, ◌<◌, ◌≤◌, ◌^◌, ◌+◌, List, [], ◌∷◌, ◌++◌, codes, refl, arith, Option, None, Some, IfSome}
+use Rattle.std.specs.Prelude.{decimal}
+use Rattle.hub_base.specs.declared.fault.Fault.{Fault}
+use Rattle.hub_base.specs.declared.fault.Fault.TheVariants as fault
+use Rattle.hub_base.specs.declared.event.Outcome.{Outcome}
+use Rattle.hub_base.specs.declared.event.Outcome.TheVariants.{Sent, Got, Drained, Closed}
+use Rattle.hub_base.specs.declared.event.What.{What}
+use Rattle.hub_base.specs.declared.event.What.TheVariants as what
+use Rattle.hub_base.specs.declared.event.Event.{Event}
+use Rattle.hub_base.specs.Faults.{fault_number}
+use Rattle.hub_base.specs.Lines.{line}
+use Rattle.hub_base.specs.EventText.{OutcomeFits, WhatFits, EventFits, outcome_text, what_text, event_line}
+use Rattle.hub_base.specs.declared.value.Value.{Value}
+use Rattle.hub_base.specs.Value.{Content, IsContent, IsValue, content, number_in, value_field}
+use Rattle.hub_base.specs.Value.Content.{Num, Bytes}
+use Rattle.hub_story.specs.declared.told.Told.{Told}
+use Rattle.hub_picture.specs.declared.asked.Asked.{Asked}
+use Rattle.hub_picture.specs.declared.label.Label.{Label}
+use Rattle.hub_picture.specs.declared.label.Label.TheVariants as label
+use Rattle.hub_picture.specs.Labels.{label_text, number_text, value_text}
+use Rattle.hub_picture.specs.Pieces.{end_text}
+use Rattle.hub_picture.specs.Svg.Arrows.{moved_title, arrow_title}
+use Rattle.hub_picture.specs.Svg.Boxes.{asked_title}
+use Rattle.hub_picture.specs.Svg.Stalls.{stall_title}
+use Rattle.hub_picture.specs.Plain.{IsPlain, ToldFits, AskedFits, LabelFits, PlainLaw}
+use Rattle.hub_picture.proofs.Plain.{plain-both, plain-number, plain-value, plain-joined, plain-line}
+
+fault-small : (f : Fault) → fault_number f ≤ 255
+fault-small fault.NoProcess = omega arith
+fault-small fault.Gone = omega arith
+fault-small fault.Busy = omega arith
+fault-small fault.TooManyCases = omega arith
+fault-small fault.NoPort = omega arith
+fault-small fault.BadCap = omega arith
+fault-small fault.TooManyPorts = omega arith
+fault-small fault.NilClose = omega arith
+fault-small fault.AlreadyClosed = omega arith
+fault-small fault.JournalFull = omega arith
+fault-small fault.NoMemory = omega arith
+fault-small fault.NotParked = omega arith
+
+-- a word, and a number up to so much
+pub worded : (word : List ℕ) (n most : ℕ) → IsPlain word → n ≤ most → most < 2 ^ 64 → IsPlain (word ++ decimal n)
+worded word n most plain fits below = plain-both word (decimal n) plain (plain-number n (omega (arith, fits, below)))
+
+outcome-plain : (o : Outcome) → OutcomeFits o → IsPlain (outcome_text o)
+outcome-plain Sent fits = refl
+outcome-plain (Got v) fits = plain-both (codes " got ") (value_field v) refl (plain-value v fits)
+outcome-plain Drained fits = refl
+outcome-plain Closed fits = refl
+
+what-plain : (w : What) → WhatFits w → IsPlain (what_text w)
+what-plain (what.Made p) fits = worded (codes " made ") p.0 65535 refl fits (omega arith)
+what-plain (what.Fired i o) fits =
+    plain-both (codes " case " ++ decimal i) (outcome_text o) (worded (codes " case ") i 255 refl fits.0 (omega arith)) (outcome-plain o fits.1)
+what-plain what.Default fits = refl
+what-plain what.Done fits = refl
+what-plain what.Parked fits = refl
+what-plain what.Stalled fits = refl
+what-plain (what.Fault f) fits = worded (codes " fault ") (fault_number f) 255 refl (fault-small f) (omega arith)
+what-plain what.Cancelled fits = refl
+
+pub plain-event : (e : Event) → EventFits e → IsPlain (event_line e)
+plain-event e fits =
+    plain-both (decimal e.pid.0 ++ what_text e.what) (codes "\n")
+    (plain-both (decimal e.pid.0) (what_text e.what) (plain-number e.pid.0 (omega (arith, fits.pid))) (what-plain e.what fits.what)) refl
+
+step-plain : (place : ℕ) → place < 2 ^ 32 → IsPlain (decimal (place + 1))
+step-plain place below = plain-number (place + 1) (omega (arith, below))
+
+end-plain : (ended : Option Told) → IfSome ended ToldFits → IsPlain (end_text ended)
+end-plain None fits = refl
+end-plain (Some t) fits =
+    plain-both (event_line t.event ++ codes "by step ") (decimal (t.by + 1))
+    (plain-both (event_line t.event) (codes "by step ") (plain-event t.event fits.event) refl) (step-plain t.by fits.by)
+
+asked-plain : (a : Asked) → AskedFits a → IsPlain (asked_title a)
+asked-plain a fits =
+    plain-joined (codes "step " ∷ decimal (a.place + 1) ∷ codes "\n" ∷ line a.entry ∷ end_text a.ended ∷ codes "\n" ∷ [])
+    (refl, (step-plain a.place fits.place, (refl, (plain-line fits.edition a.entry fits.entry, (end-plain a.ended fits.ended, (refl, _))))))
+
+moved-plain : (t : Told) → ToldFits t → IsPlain (moved_title t)
+moved-plain t fits =
+    plain-joined (event_line t.event ∷ codes "asked at step " ∷ decimal (t.asked + 1) ∷ codes " by step " ∷ decimal (t.by + 1) ∷ codes "\n" ∷ [])
+    (plain-event t.event fits.event, (refl, (step-plain t.asked fits.asked, (refl, (step-plain t.by fits.by, (refl, _))))))
+
+arrow-plain : (sent received : Told) → ToldFits sent → ToldFits received → IsPlain (arrow_title sent received)
+arrow-plain sent received one other =
+    plain-both (moved_title sent ++ codes "to\n") (moved_title received)
+    (plain-both (moved_title sent) (codes "to\n") (moved-plain sent one) refl) (moved-plain received other)
+
+stall-plain : (t : Told) → ToldFits t → IsPlain (stall_title t)
+stall-plain t fits =
+    plain-joined (codes "step " ∷ decimal (t.by + 1) ∷ codes " stalls process " ∷ decimal t.event.pid.0 ∷ codes " which waits from step "
+    ∷ decimal (t.asked + 1) ∷ codes "\n" ∷ [])
+    (refl, (step-plain t.by fits.by, (refl, (plain-number t.event.pid.0 (omega (arith, fits.event.pid)), (refl, (step-plain t.asked fits.asked, (refl, _)))))))
+
+label-plain : (l : Label) → LabelFits l → IsPlain (label_text l)
+label-plain (label.Make p) fits = worded (codes "m") p.0 65535 refl fits (omega arith)
+label-plain (label.Send p) fits = worded (codes "s") p.0 65535 refl fits (omega arith)
+label-plain (label.Receive p) fits = worded (codes "r") p.0 65535 refl fits (omega arith)
+label-plain label.Select fits = refl
+label-plain label.Default fits = refl
+label-plain (label.Close p) fits = worded (codes "c") p.0 65535 refl fits (omega arith)
+label-plain label.Exit fits = refl
+label-plain (label.Cancel q) fits = worded (codes "x") q.0 255 refl fits (omega arith)
+label-plain (label.Refused f) fits = worded (codes "f") (fault_number f) 255 refl (fault-small f) (omega arith)
+
+content-shown : (c : Content) → IsContent c → IsPlain (codes ":" ++ number_text (number_in c))
+content-shown (Num n) fits = worded (codes ":") n 18446744073709551615 refl fits (omega arith)
+content-shown (Bytes bs) fits = refl
+
+value-plain : (v : Option Value) → IfSome v IsValue → IsPlain (value_text v)
+value-plain None fits = refl
+value-plain (Some v) fits = content-shown (content v) fits.fits
+
+pub plain-law : PlainLaw
+plain-law = record { asked = asked-plain; arrow = arrow-plain; stall = stall-plain; label = label-plain; value = value-plain; number = plain-number }

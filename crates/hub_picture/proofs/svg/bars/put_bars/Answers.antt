@@ -1,0 +1,17 @@
+use Rattle.hub_picture.specs.Svg.Bars.{bar_in}
+use Rattle.hub_picture.proofs.Appended.{grown-more, next-shape, part}
+use Rattle.hub_picture.proofs.svg.bars.put_bars.Goals as goal
+
+pub loop-asked-preserved : goal.loop-asked-preserved
+loop-asked-preserved c =
+    let put = (rw c.in-Ok.is at c.put_bar_in.ensures).ok in
+    record {
+      same =
+          next-shape (bar_in c.args.frame) c.args.bars.now c.loop-asked.asked-index c.asked-item.result _ _ _ c.loop-asked-test.true c.asked-item.is put
+          c.loop-asked.invariant.same;
+      grown = grown-more _ _ _ c.loop-asked.invariant.grown (_, put);
+    }
+
+pub returns-in-Err : goal.returns-in-Err
+returns-in-Err c =
+    part c.args.out.now c.loop-asked.out c.put_bar_in.new.out _ _ c.loop-asked.invariant.grown (rw c.in-Err.is at c.put_bar_in.ensures).err

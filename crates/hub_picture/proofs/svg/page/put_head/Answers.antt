@@ -1,0 +1,7 @@
+use Rattle.hub_picture.proofs.Appended.{three}
+use Rattle.hub_picture.proofs.svg.page.put_head.Goals as goal
+
+pub returns : goal.returns
+returns c =
+    three c.args.out.now c.put_opening.new.out c.put_style.new.out c.put_paper.new.out _ _ _ _
+    c.in_ok-put_opening.ensures.ok c.in_ok-put_style.ensures.ok c.put_paper.ensures

@@ -1,0 +1,91 @@
+-- What is drawn of a journal, in processes and steps. Colours, lengths and texts are no part of it.
+use Rattle.std.specs.Prelude.{◌≡◌, ℕ, zero, suc, ◌+◌, min, Bool, true, false, ◌&&◌, nat_lt, List, [], ◌∷◌, ◌++◌, filter, map, length}
+use Rattle.std.specs.Prelude.{Option, None, Some, slice_index_or}
+use Rattle.hub_base.specs.declared.value.Port.{Port}
+use Rattle.hub_base.specs.declared.entry.Entry.{Entry}
+use Rattle.hub_base.specs.declared.limits.TheConstants.{MOST_PORTS}
+use Rattle.hub_base.specs.declared.event.What.{What}
+use Rattle.hub_base.specs.declared.event.What.TheVariants as what
+use Rattle.hub_base.specs.Journal.{JournalView}
+use Rattle.hub_story.specs.declared.told.Told.{Told}
+use Rattle.hub_story.specs.declared.moved.Passage.{Passage}
+use Rattle.hub_story.specs.declared.story.Story.{Story}
+use Rattle.hub_story.specs.Passing.{passages}
+use Rattle.hub_story.specs.Waiting.{is_stalled}
+use Rattle.hub_picture.specs.declared.window.Window.{Window}
+use Rattle.hub_picture.specs.declared.asked.Asked.{Asked}
+use Rattle.hub_picture.specs.declared.asked.Shown.{Shown}
+use Rattle.hub_picture.specs.declared.asked.Shown.TheVariants.{Boxes, Bars}
+use Rattle.hub_picture.specs.declared.arrows.Arrow.{Arrow}
+use Rattle.hub_picture.specs.declared.drawing.Drawing.{Drawing}
+use Rattle.hub_picture.specs.Windows.{has, touches, within}
+
+-- ---- what was asked
+-- these entries, the first of which stands at this place, and how each ended
+abbrev pub asked : Story → ℕ → List Entry → List Asked
+asked s place [] = []
+asked s place (e ∷ es) =
+    record { place = place; entry = e; ended = slice_index_or s.ends.items place None } ∷ asked s (place + 1) es
+
+-- a call that was asked at this place waits in the window: until a later step ended it, or still
+abbrev pub waits_in : Window → ℕ → Option Told → Bool
+waits_in w place None = nat_lt place w.end
+waits_in w place (Some end) = nat_lt place end.by && touches w place end.by
+
+-- the window shows an entry by a box where it has its step, and by a bar where it waits there
+abbrev pub shows : Shown → Window → ℕ → Option Told → Bool
+shows Boxes w place ended = has w place
+shows Bars w place ended = waits_in w place ended
+
+abbrev pub is_shown : Shown → Window → Asked → Bool
+is_shown shown w a = shows shown w a.place a.ended
+
+-- ---- what passed
+abbrev pub is_made : What → Bool
+is_made (what.Made p) = true
+is_made w = false
+
+-- a value goes from the step that sent it to the step that received it; the window has one of them, or lies between
+abbrev pub crosses : Window → Passage → Bool
+crosses w m = touches w m.sent.told.by m.received.told.by
+
+abbrev pub arrow_on : Port → Passage → Arrow
+arrow_on p m = record { port = p; passage = m }
+
+-- the arrows of a port
+abbrev pub arrows_on : Window → Port → List Passage → List Arrow
+arrows_on w p ms = map (arrow_on p) (filter (crosses w) ms)
+
+-- those of the first so many ports, which are numbered from 1
+abbrev pub arrows_to : ℕ → Window → List Entry → List Told → List Arrow
+arrows_to zero w es all = []
+arrows_to (suc n) w es all =
+    arrows_to n w es all ++ arrows_on w (record { 0 = n + 1 }) (passages es all (record { 0 = n + 1 }))
+
+-- it tells that a port was made
+abbrev pub makes_port : Told → Bool
+makes_port t = is_made t.event.what
+
+-- how many were made
+abbrev pub ports_of : List Told → ℕ
+ports_of all = min (length (filter makes_port all)) MOST_PORTS
+
+-- those of all ports that were made
+abbrev pub all_arrows : Window → List Entry → List Told → List Arrow
+all_arrows w es all = arrows_to (ports_of all) w es all
+
+-- ---- who was stalled
+-- it tells that a call ended in the window because everyone waited
+abbrev pub stalls_in : Window → Told → Bool
+stalls_in w t = is_stalled t.event.what && has w t.by
+
+-- ---- the whole
+-- the boxes are the entries of the window, the bars the calls that waited and the arrows the passages of all ports that
+-- touch it, the stalls who was stalled by its steps: each once, in order, and nothing else
+pub record IsDrawingOf (given : JournalView) (s : Story) (w : Window) (d : Drawing) : Type 0 where
+  pub procs : d.procs ≡ given.head.procs
+  pub window : d.window ≡ within w (length given.entries)
+  pub boxes : d.boxes.items ≡ filter (is_shown Boxes w) (asked s 0 given.entries)
+  pub bars : d.bars.items ≡ filter (is_shown Bars w) (asked s 0 given.entries)
+  pub arrows : d.arrows.items ≡ all_arrows w given.entries s.told.items
+  pub stalls : d.stalls.items ≡ filter (stalls_in w) s.told.items

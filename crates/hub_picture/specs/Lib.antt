@@ -1,0 +1,9 @@
+pub mod Windows
+pub mod Drawings
+pub mod Labels
+pub mod Pieces
+pub mod Frames
+pub mod Svg
+pub mod Plain
+pub mod PictureRows
+pub mod Ends

@@ -1,0 +1,93 @@
+-- Worked rows of drawings and of their text, worked out by hand.
+use Rattle.std.specs.Prelude.{◌≡◌, ℕ, true, false, List, [], ◌∷◌, codes, filter, map, None, Some, refl}
+use Rattle.std.specs.Option.{option_map}
+use Rattle.std.specs.Fmt.{digits}
+use Rattle.hub_base.specs.declared.entry.Entry.{Entry}
+use Rattle.hub_base.specs.Notation.{procs, port, make, send, recv, exit}
+use Rattle.hub_story.specs.declared.told.Told.{Told}
+use Rattle.hub_story.specs.Told.{told, end_of}
+use Rattle.hub_picture.specs.declared.window.Window.{Window}
+use Rattle.hub_picture.specs.declared.arrows.Arrow.{Arrow}
+use Rattle.hub_picture.specs.declared.frame.Frame.{Frame}
+use Rattle.hub_picture.specs.declared.frame.Scale.TheVariants.{Wide, Dense}
+use Rattle.hub_picture.specs.declared.label.Label.TheVariants.{Send}
+use Rattle.hub_picture.specs.Windows.{within}
+use Rattle.hub_picture.specs.Drawings.{waits_in, all_arrows, stalls_in}
+use Rattle.hub_picture.specs.Frames.{x_of, y_of}
+use Rattle.hub_picture.specs.Labels.{label_text, class_text}
+use Rattle.hub_picture.specs.Svg.Lanes.{tick_in}
+use Rattle.hub_picture.specs.Svg.Stalls.{stall_title}
+
+abbrev steps : ℕ → ℕ → Window
+steps first end = record { first = first; end = end }
+
+pub cut_row : within (steps 2 90) 7 ≡ steps 2 7
+cut_row = refl
+
+-- ---- a full buffer: process 0 sends at places 1 and 2, and waits at 2 until process 1 receives at 3
+abbrev through_a_buffer : List Entry
+through_a_buffer = make 0 1 ∷ send 0 1 5 ∷ send 0 1 6 ∷ recv 1 1 ∷ recv 1 1 ∷ []
+
+abbrev all_told : List Told
+all_told = told (procs 2) through_a_buffer
+
+-- by which step each arrow leaves, and by which it comes
+abbrev ends : List Arrow → List (ℕ × ℕ)
+ends arrows = map (λ a. (a.passage.sent.told.by, a.passage.received.told.by)) arrows
+
+pub arrows_row : ends (all_arrows (steps 0 5) through_a_buffer all_told) ≡ (1, 3) ∷ (3, 4) ∷ []
+arrows_row = refl
+
+-- the second arrow began before step 4, and the first ended before it
+pub window_row : ends (all_arrows (steps 4 5) through_a_buffer all_told) ≡ (3, 4) ∷ []
+window_row = refl
+
+pub wait_row : waits_in (steps 3 4) 2 (end_of all_told 2) ≡ true
+wait_row = refl
+
+pub no_wait_row : waits_in (steps 0 5) 1 (end_of all_told 1) ≡ false
+no_wait_row = refl
+
+pub open_row : waits_in (steps 8 9) 2 None ≡ true
+open_row = refl
+
+-- ---- both who are left are stalled by the exit at place 3, and so outside of the first three steps nobody is
+abbrev everyone_stalls : List Told
+everyone_stalls = told (procs 3) (make 0 0 ∷ recv 1 1 ∷ send 2 0 5 ∷ exit 0 ∷ [])
+
+pub stalled_row : map (λ t. t.asked) (filter (stalls_in (steps 3 4)) everyone_stalls) ≡ 1 ∷ 2 ∷ []
+stalled_row = refl
+
+pub not_stalled_row : filter (stalls_in (steps 0 3)) everyone_stalls ≡ []
+not_stalled_row = refl
+
+-- ---- the second band of a picture of two processes: steps 14 to 27
+abbrev second : Frame
+second = record { scale = Wide; band = 1; procs = 2; steps = steps 14 28 }
+
+-- half a column is 40; before the band is its left edge, and behind it its right one
+pub columns_row : map (x_of second) (3 ∷ 14 ∷ 15 ∷ 27 ∷ 99 ∷ []) ≡ 60 ∷ 100 ∷ 180 ∷ 1140 ∷ 1180 ∷ []
+columns_row = refl
+
+-- four rows of 58 stand above the band's first lane, and its own; a number that no process has stands below the lanes
+pub lanes_row : map (y_of second) (0 ∷ 1 ∷ 2 ∷ 200 ∷ []) ≡ 330 ∷ 388 ∷ 446 ∷ 446 ∷ []
+lanes_row = refl
+
+pub tick_row : tick_in second 14 ≡ codes "<text class=\"tick\" x=\"100\" y=\"300\">15</text>\n"
+unfolding digits
+tick_row = refl
+
+pub no_tick_row : tick_in (record { scale = Dense; band = 0; procs = 2; steps = steps 0 60 }) 2 ≡ []
+no_tick_row = refl
+
+pub label_row : label_text (Send (port 12)) ≡ codes "s12"
+unfolding digits
+label_row = refl
+
+pub class_row : class_text (Send (port 12)) ≡ codes "send h2"
+unfolding digits
+class_row = refl
+
+pub stall_row : option_map stall_title (end_of everyone_stalls 1) ≡ Some (codes "step 4 stalls process 1 which waits from step 2\n")
+unfolding digits
+stall_row = refl

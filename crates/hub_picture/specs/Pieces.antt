@@ -1,0 +1,36 @@
+-- The pieces of a picture's text. No piece comes from outside: each is a fixed word, a number, or a line that tells an
+-- entry or an event.
+use Rattle.std.specs.Prelude.{◌≡◌, ℕ, ◌+◌, List, [], ◌∷◌, ◌++◌, codes, decimal, Option, None, Some, Result, OnOk, OnErr}
+use Rattle.std.specs.Global.{Vec}
+use Rattle.hub_base.specs.Lines.{line}
+use Rattle.hub_base.specs.EventText.{event_line}
+use Rattle.hub_story.specs.declared.told.Told.{Told}
+use Rattle.hub_picture.specs.declared.piece.Piece.{Piece}
+use Rattle.hub_picture.specs.declared.piece.Piece.TheVariants.{Word, Number, Line, Tells, End, Class, Ending, Name, Moves}
+use Rattle.hub_picture.specs.Labels.{class_text, end_class, label_text, value_text}
+
+-- texts, one after the other
+abbrev pub joined : List (List ℕ) → List ℕ
+joined [] = []
+joined (text ∷ texts) = text ++ joined texts
+
+-- how an entry ended, and by which step; steps are told from 1
+abbrev pub end_text : Option Told → List ℕ
+end_text None = codes "waits"
+end_text (Some end) = event_line end.event ++ codes "by step " ++ decimal (end.by + 1)
+
+abbrev pub piece_text : Piece → List ℕ
+piece_text (Word bytes) = bytes.now
+piece_text (Number n) = decimal n
+piece_text (Line e) = line e.now
+piece_text (Tells e) = event_line e
+piece_text (End end) = end_text end
+piece_text (Class label) = class_text label
+piece_text (Ending w) = end_class w
+piece_text (Name label) = label_text label
+piece_text (Moves v) = value_text v
+
+-- the text is appended, or a part where memory was refused
+pub record Appends {E : Type 0} (old new : Vec ℕ) (text : List ℕ) (result : Result (Unit {0}) E) : Type 0 where
+  pub ok : OnOk result (new.items ≡ old.items ++ text)
+  pub err : OnErr result ((rest : List ℕ) × (new.items ≡ old.items ++ rest))

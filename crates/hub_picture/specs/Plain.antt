@@ -1,0 +1,56 @@
+-- No text between the tags of a picture has a byte that would have to be escaped there.
+use Rattle.std.specs.Prelude.{◌≡◌, ℕ, ◌<◌, ◌≤◌, ◌^◌, ◌==◌, ◌||◌, Bool, true, not, List, Option, IfSome, decimal}
+use Rattle.std.specs.List.{list_all}
+use Rattle.hub_base.specs.declared.head.Edition.{Edition}
+use Rattle.hub_base.specs.declared.value.Value.{Value}
+use Rattle.hub_base.specs.Value.{IsValue}
+use Rattle.hub_base.specs.declared.limits.TheConstants.{GREATEST_PID, GREATEST_PORT}
+use Rattle.hub_base.specs.EventText.{EventFits}
+use Rattle.hub_base.specs.Text.{Fits}
+use Rattle.hub_story.specs.declared.told.Told.{Told}
+use Rattle.hub_picture.specs.declared.asked.Asked.{Asked}
+use Rattle.hub_picture.specs.declared.label.Label.{Label}
+use Rattle.hub_picture.specs.declared.label.Label.TheVariants.{Make, Send, Receive, Select, Default, Close, Exit, Cancel, Refused}
+use Rattle.hub_picture.specs.Labels.{label_text, value_text}
+use Rattle.hub_picture.specs.Svg.Arrows.{arrow_title}
+use Rattle.hub_picture.specs.Svg.Boxes.{asked_title}
+use Rattle.hub_picture.specs.Svg.Stalls.{stall_title}
+
+-- it is none of `<`, `>`, `&` and the quotation mark
+abbrev pub is_plain : ℕ → Bool
+is_plain c = not ((c == 60) || (c == 62) || (c == 38) || (c == 34))
+
+abbrev pub IsPlain : List ℕ → Type 0
+IsPlain text = list_all is_plain text ≡ true
+
+-- its numbers are such as a journal can have
+pub record ToldFits (t : Told) : Type 0 where
+  pub asked : t.asked < 2 ^ 32
+  pub by : t.by < 2 ^ 32
+  pub event : EventFits t.event
+
+pub record AskedFits (a : Asked) : Type 0 where
+  pub place : a.place < 2 ^ 32
+  pub edition : Edition
+  pub entry : Fits edition a.entry
+  pub ended : IfSome a.ended ToldFits
+
+abbrev pub LabelFits : Label → Type 0
+LabelFits (Make p) = p.0 ≤ GREATEST_PORT
+LabelFits (Send p) = p.0 ≤ GREATEST_PORT
+LabelFits (Receive p) = p.0 ≤ GREATEST_PORT
+LabelFits Select = 0 ≤ 0
+LabelFits Default = 0 ≤ 0
+LabelFits (Close p) = p.0 ≤ GREATEST_PORT
+LabelFits Exit = 0 ≤ 0
+LabelFits (Cancel q) = q.0 ≤ GREATEST_PID
+LabelFits (Refused f) = 0 ≤ 0
+
+-- what is told of a box and of a bar, of an arrow and of a stall, what stands in a box, and every number
+pub record PlainLaw : Type 0 where
+  pub asked : (a : Asked) → AskedFits a → IsPlain (asked_title a)
+  pub arrow : (sent received : Told) → ToldFits sent → ToldFits received → IsPlain (arrow_title sent received)
+  pub stall : (t : Told) → ToldFits t → IsPlain (stall_title t)
+  pub label : (l : Label) → LabelFits l → IsPlain (label_text l)
+  pub value : (v : Option Value) → IfSome v IsValue → IsPlain (value_text v)
+  pub number : (n : ℕ) → n < 2 ^ 64 → IsPlain (decimal n)

@@ -1,0 +1,8 @@
+-- The text of a drawing.
+pub mod Style
+pub mod Boxes
+pub mod Bars
+pub mod Arrows
+pub mod Stalls
+pub mod Lanes
+pub mod Page

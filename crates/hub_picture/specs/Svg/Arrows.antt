@@ -1,0 +1,62 @@
+-- The arrow of a value on its way: straight down where it was handed over, slanted where it lay in the buffer.
+use Rattle.std.specs.Prelude.{ℕ, ◌+◌, ◌-◌, ◌/◌, Bool, ◌||◌, nat_lt, List, [], ◌∷◌, ◌++◌, codes, decimal, if◌then◌else◌}
+use Rattle.hub_base.specs.EventText.{event_line}
+use Rattle.hub_base.specs.declared.value.Port.{Port}
+use Rattle.hub_story.specs.declared.told.Told.{Told}
+use Rattle.hub_picture.specs.declared.arrows.Arrow.{Arrow}
+use Rattle.hub_picture.specs.declared.frame.Frame.{Frame}
+use Rattle.hub_picture.specs.Windows.{has}
+use Rattle.hub_picture.specs.Frames.{x_of, y_of, size_of}
+use Rattle.hub_picture.specs.Labels.{hue_of}
+use Rattle.hub_picture.specs.Pieces.{joined}
+
+-- what is told where one points at it: the port, and of both sides the entry that asked, the step by which the value
+-- moved, and what was told
+abbrev pub moved_title : Told → List ℕ
+moved_title t =
+    joined (
+    event_line t.event
+    ∷ codes "asked at step " ∷ decimal (t.asked + 1)
+    ∷ codes " by step " ∷ decimal (t.by + 1)
+    ∷ codes "\n"
+    ∷ [])
+
+abbrev pub arrow_opening : Port → List ℕ
+arrow_opening p =
+    joined (
+    codes "<g class=\"arrow h" ∷ decimal (hue_of p)
+    ∷ codes "\"><title>port " ∷ decimal p.0
+    ∷ codes " from\n"
+    ∷ [])
+
+abbrev pub arrow_title : Told → Told → List ℕ
+arrow_title sent received = moved_title sent ++ codes "to\n" ++ moved_title received
+
+-- the tip is at the side of the receiver's box that the sender's faces
+abbrev pub tip_of : Frame → ℕ → ℕ → ℕ
+tip_of f from to =
+    if nat_lt from to then y_of f to - size_of f.scale / 2
+    else if nat_lt to from then y_of f to + size_of f.scale / 2
+    else y_of f to
+
+abbrev pub arrow_body : Frame → Told → Told → List ℕ
+arrow_body f sent received =
+    joined (
+    codes "</title><path d=\"M" ∷ decimal (x_of f sent.by)
+    ∷ codes " " ∷ decimal (y_of f sent.event.pid.0)
+    ∷ codes "L" ∷ decimal (x_of f received.by)
+    ∷ codes " " ∷ decimal (tip_of f sent.event.pid.0 received.event.pid.0)
+    ∷ codes "\"/></g>\n"
+    ∷ [])
+
+abbrev pub arrow_text : Frame → Arrow → List ℕ
+arrow_text f a =
+    arrow_opening a.port ++ arrow_title a.passage.sent.told a.passage.received.told
+    ++ arrow_body f a.passage.sent.told a.passage.received.told
+
+-- the band has one of its ends
+abbrev pub ends_in : Frame → Arrow → Bool
+ends_in f a = has f.steps a.passage.sent.told.by || has f.steps a.passage.received.told.by
+
+abbrev pub arrow_in : Frame → Arrow → List ℕ
+arrow_in f a = if ends_in f a then arrow_text f a else []

@@ -1,0 +1,44 @@
+-- What stands behind the shapes of a band: a lane for each process, and the numbers of steps.
+use Rattle.std.specs.Prelude.{ℕ, zero, suc, ◌+◌, ◌-◌, ◌%◌, ◌==◌, List, [], ◌∷◌, ◌++◌, codes, decimal, if◌then◌else◌}
+use Rattle.hub_picture.specs.declared.frame.Frame.{Frame}
+use Rattle.hub_picture.specs.declared.frame.TheConstants.{LEFT}
+use Rattle.hub_picture.specs.Frames.{x_of, y_of, size_of, tick_of}
+use Rattle.hub_picture.specs.Pieces.{joined}
+
+-- the lane of a process, and its name before it
+abbrev pub lane_text : Frame → ℕ → List ℕ
+lane_text f pid =
+    joined (
+    codes "<path class=\"lane\" d=\"M" ∷ decimal LEFT
+    ∷ codes " " ∷ decimal (y_of f pid)
+    ∷ codes "L" ∷ decimal (x_of f f.steps.end)
+    ∷ codes " " ∷ decimal (y_of f pid)
+    ∷ codes "\"/><text class=\"name\" x=\"" ∷ decimal (LEFT - 8)
+    ∷ codes "\" y=\"" ∷ decimal (y_of f pid + 4)
+    ∷ codes "\">P" ∷ decimal pid
+    ∷ codes "</text>\n"
+    ∷ [])
+
+-- those of the first so many processes
+abbrev pub lanes_to : ℕ → Frame → List ℕ
+lanes_to zero f = []
+lanes_to (suc n) f = lanes_to n f ++ lane_text f n
+
+-- the number of a step, above the first lane
+abbrev pub tick_text : Frame → ℕ → List ℕ
+tick_text f place =
+    joined (
+    codes "<text class=\"tick\" x=\"" ∷ decimal (x_of f place)
+    ∷ codes "\" y=\"" ∷ decimal (y_of f 0 - size_of f.scale)
+    ∷ codes "\">" ∷ decimal (place + 1)
+    ∷ codes "</text>\n"
+    ∷ [])
+
+-- where it is one that is told
+abbrev pub tick_in : Frame → ℕ → List ℕ
+tick_in f place = if (place + 1) % tick_of f.scale == 0 then tick_text f place else []
+
+-- those of the first so many steps of the band
+abbrev pub ticks_to : ℕ → Frame → List ℕ
+ticks_to zero f = []
+ticks_to (suc n) f = ticks_to n f ++ tick_in f (f.steps.first + n)

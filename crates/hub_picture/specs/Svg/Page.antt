@@ -1,0 +1,110 @@
+-- The whole picture: a head, the bands of steps one below the other, and a foot that tells how to read it.
+use Rattle.std.specs.Prelude.{ℕ, zero, suc, ◌+◌, ◌-◌, ◌*◌, ◌/◌, nat_le, min, max, List, [], ◌∷◌, ◌++◌, codes, decimal, if◌then◌else◌}
+use Rattle.std.specs.List.{flat_map}
+use Rattle.hub_picture.specs.declared.drawing.Drawing.{Drawing}
+use Rattle.hub_picture.specs.declared.frame.Frame.{Frame}
+use Rattle.hub_picture.specs.declared.frame.Scale.{Scale}
+use Rattle.hub_picture.specs.declared.frame.Scale.TheVariants.{Wide, Middle, Dense}
+use Rattle.hub_picture.specs.declared.frame.TheConstants.{LEFT, TOP}
+use Rattle.hub_picture.specs.Frames.{frame_of, half_of, lane_of, steps_of}
+use Rattle.hub_picture.specs.Svg.Arrows.{arrow_in}
+use Rattle.hub_picture.specs.Svg.Bars.{bar_in}
+use Rattle.hub_picture.specs.Svg.Boxes.{box_in}
+use Rattle.hub_picture.specs.Svg.Lanes.{lanes_to, ticks_to}
+use Rattle.hub_picture.specs.Svg.Stalls.{stall_in}
+use Rattle.hub_picture.specs.Svg.Style.{style}
+use Rattle.hub_picture.specs.Pieces.{joined}
+
+-- ---- how much there is to show
+abbrev pub shown_of : Drawing → ℕ
+shown_of d = d.window.end - d.window.first
+
+abbrev pub scale_for : ℕ → Scale
+scale_for steps = if nat_le steps 14 then Wide else if nat_le steps 72 then Middle else Dense
+
+abbrev pub scale_of : Drawing → Scale
+scale_of d = scale_for (shown_of d)
+
+abbrev pub bands_of : Drawing → ℕ
+bands_of d = (shown_of d + steps_of (scale_of d) - 1) / steps_of (scale_of d)
+
+abbrev pub width_of : Drawing → ℕ
+width_of d = LEFT + max 660 (2 * half_of (scale_of d) * min (shown_of d) (steps_of (scale_of d))) + 20
+
+-- where the bands end
+abbrev pub foot_of : Drawing → ℕ
+foot_of d = TOP + lane_of (scale_of d) * (bands_of d * (d.procs + 2))
+
+-- ---- the text
+-- the tip of an arrow
+abbrev pub tip_text : List ℕ
+tip_text =
+    codes "<marker id=\"tip\" viewBox=\"0 0 8 8\" refX=\"7\" refY=\"4\" markerWidth=\"5\" markerHeight=\"5\" orient=\"auto\">"
+    ++ codes "<path class=\"tip\" d=\"M0 0L8 4L0 8z\"/></marker>"
+
+abbrev pub page_opening : Drawing → List ℕ
+page_opening d =
+    joined (
+    codes "<svg xmlns=\"http://www.w3.org/2000/svg\" width=\"" ∷ decimal (width_of d)
+    ∷ codes "\" height=\"" ∷ decimal (foot_of d + 60)
+    ∷ codes "\" viewBox=\"0 0 " ∷ decimal (width_of d)
+    ∷ codes " " ∷ decimal (foot_of d + 60)
+    ∷ codes "\" role=\"img\">\n<title>Steps " ∷ decimal (d.window.first + 1)
+    ∷ codes " to " ∷ decimal d.window.end
+    ∷ codes "</title>\n<style>"
+    ∷ [])
+
+abbrev pub paper_text : Drawing → List ℕ
+paper_text d =
+    joined (
+    codes "</style>\n<rect class=\"paper\" width=\"" ∷ decimal (width_of d)
+    ∷ codes "\" height=\"" ∷ decimal (foot_of d + 60)
+    ∷ codes "\"/>\n<text class=\"note\" x=\"12\" y=\"20\">Steps " ∷ decimal (d.window.first + 1)
+    ∷ codes " to " ∷ decimal d.window.end
+    ∷ codes " of " ∷ decimal d.procs
+    ∷ codes " processes</text>\n<defs>" ∷ tip_text
+    ∷ codes "</defs>\n"
+    ∷ [])
+
+abbrev pub head_text : Drawing → List ℕ
+head_text d = page_opening d ++ style ++ paper_text d
+
+-- what stands behind, and what before it
+abbrev pub back_text : Frame → Drawing → List ℕ
+back_text f d = lanes_to f.procs f ++ ticks_to (f.steps.end - f.steps.first) f ++ flat_map (stall_in f) d.stalls.items
+
+abbrev pub front_text : Frame → Drawing → List ℕ
+front_text f d =
+    flat_map (bar_in f) d.bars.items ++ flat_map (arrow_in f) d.arrows.items ++ flat_map (box_in f) d.boxes.items
+
+abbrev pub band_text : Frame → Drawing → List ℕ
+band_text f d = back_text f d ++ front_text f d
+
+-- the first so many bands
+abbrev pub bands_to : ℕ → Drawing → List ℕ
+bands_to zero d = []
+bands_to (suc n) d = bands_to n d ++ band_text (frame_of (scale_of d) d n) d
+
+-- how to read it
+abbrev pub first_note : List ℕ
+first_note =
+    codes "Box: an entry; filled it sends, hollow it receives. Bar: the "
+    ++ codes "call waits; the knob is its end. Colour: the port. Shaded: stalled."
+
+abbrev pub second_note : List ℕ
+second_note =
+    codes "Arrow: a value; straight down it was handed over, slanted it "
+    ++ codes "lay in the buffer. Dashed: refused, stalled, drained or still open."
+
+abbrev pub foot_text : Drawing → List ℕ
+foot_text d =
+    joined (
+    codes "<text class=\"note\" x=\"12\" y=\"" ∷ decimal (foot_of d + 24)
+    ∷ codes "\">" ∷ first_note
+    ∷ codes "</text>\n<text class=\"note\" x=\"12\" y=\"" ∷ decimal (foot_of d + 42)
+    ∷ codes "\">" ∷ second_note
+    ∷ codes "</text>\n</svg>\n"
+    ∷ [])
+
+abbrev pub svg_text : Drawing → List ℕ
+svg_text d = head_text d ++ bands_to (bands_of d) d ++ foot_text d

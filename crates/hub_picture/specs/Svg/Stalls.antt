@@ -1,0 +1,34 @@
+-- The band over the lane of a process that a step stalled.
+use Rattle.std.specs.Prelude.{ℕ, ◌+◌, ◌-◌, ◌*◌, ◌/◌, List, [], ◌∷◌, ◌++◌, codes, decimal, if◌then◌else◌}
+use Rattle.hub_story.specs.declared.told.Told.{Told}
+use Rattle.hub_picture.specs.declared.frame.Frame.{Frame}
+use Rattle.hub_picture.specs.Windows.{has}
+use Rattle.hub_picture.specs.Frames.{x_of, y_of, half_of, lane_of}
+use Rattle.hub_picture.specs.Pieces.{joined}
+
+-- what is told where one points at it
+abbrev pub stall_title : Told → List ℕ
+stall_title t =
+    joined (
+    codes "step " ∷ decimal (t.by + 1)
+    ∷ codes " stalls process " ∷ decimal t.event.pid.0
+    ∷ codes " which waits from step " ∷ decimal (t.asked + 1)
+    ∷ codes "\n"
+    ∷ [])
+
+abbrev pub stall_body : Frame → Told → List ℕ
+stall_body f t =
+    joined (
+    codes "</title><rect x=\"" ∷ decimal (x_of f t.by - half_of f.scale)
+    ∷ codes "\" y=\"" ∷ decimal (y_of f t.event.pid.0 - lane_of f.scale / 2)
+    ∷ codes "\" width=\"" ∷ decimal (2 * half_of f.scale)
+    ∷ codes "\" height=\"" ∷ decimal (lane_of f.scale)
+    ∷ codes "\"/></g>\n"
+    ∷ [])
+
+abbrev pub stall_text : Frame → Told → List ℕ
+stall_text f t = codes "<g class=\"stall\"><title>" ++ stall_title t ++ stall_body f t
+
+-- where the band has the step
+abbrev pub stall_in : Frame → Told → List ℕ
+stall_in f t = if has f.steps t.by then stall_text f t else []

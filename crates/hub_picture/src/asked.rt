@@ -1,0 +1,87 @@
+//! What was asked, and how it ended: the boxes and the bars of a drawing.
+
+ghost use Rattle.std.specs.Prelude.{◌≡◌, ◌<◌, ◌-◌, ◌^◌, None, IfOk, filter, length, slice_index_or};
+ghost use Rattle.hub_picture.specs.Drawings.{asked, is_shown, shows};
+
+use crate::Window;
+use hub_base::{Entry, Journal};
+use hub_story::{Story, Told};
+use std::alloc::{AllocError, Global};
+
+/// An entry, and how it ended.
+#[derive(Drop)]
+pub struct Asked {
+    /// Its place in the journal, counted from 0.
+    pub place: u32,
+    /// The entry.
+    pub entry: Entry,
+    /// What it was told at last, and by whose step. `None` while it waits.
+    pub ended: Option<Told>,
+}
+
+/// What a list of entries is for.
+#[derive(Clone, Copy)]
+pub(crate) enum Shown {
+    /// A box for each entry.
+    Boxes,
+    /// A bar for each that waited.
+    Bars,
+}
+
+/// How the entry at this place ended, by the story.
+fn end_at(story: &Story, place: u32) -> Option<Told>
+    ensures { result ≡ slice_index_or story.now.ends.items place None }
+{
+    match story.ends.get(place as usize) {
+        Some(end) => *end,
+        None => None,
+    }
+}
+
+/// Whether the window shows the wait of the entry at this place. A call waits until a later step ends it.
+fn shows_wait(window: Window, place: u32, ended: Option<Told>) -> bool
+    ensures { result ≡ shows Shown.Bars window place ended }
+{
+    match ended {
+        Some(end) => place < end.by && window.touches(place, end.by),
+        None => place < window.end,
+    }
+}
+
+/// Whether an entry that ended so is shown.
+pub(crate) fn shows(shown: Shown, window: Window, place: u32, ended: Option<Told>) -> bool
+    ensures { result ≡ shows shown window place ended }
+{
+    match shown {
+        Shown::Boxes => window.has(place),
+        Shown::Bars => shows_wait(window, place, ended),
+    }
+}
+
+/// The entries that are shown, in order.
+pub(crate) fn asked_in(
+    alloc: Global,
+    shown: Shown,
+    window: Window,
+    journal: &Journal,
+    story: &Story,
+) -> Result<Vec<Asked>, AllocError>
+    requires few { length journal.now.entries < 2 ^ 32 - 1 }
+    ensures { IfOk result (λ all.
+        all.items ≡ filter (is_shown shown window) (asked story.now 0 journal.now.entries)) }
+{
+    let mut all = Vec::new(alloc);
+    let mut place = 0;
+    for entry in journal.entries() {
+        let ended = end_at(story, place);
+        if shows(shown, window, place, ended) {
+            all.push(Asked {
+                place,
+                entry: entry.copy(),
+                ended,
+            })?;
+        }
+        place += 1;
+    }
+    Ok(all)
+}

@@ -1,0 +1,25 @@
+//! The picture of a journal: its story as shapes, and those as SVG.
+//!
+//! A drawing says what is shown, in processes and steps. Where that stands on a page, and how it is spelled, is left to
+//! the text of the picture, which is a function of the drawing.
+#![tactic(auto)]
+
+mod arrows;
+mod asked;
+mod drawing;
+mod frame;
+mod label;
+mod laws;
+mod piece;
+mod stalls;
+mod svg;
+#[cfg(test)]
+mod tests;
+mod window;
+
+pub use arrows::Arrow;
+pub use asked::Asked;
+pub use drawing::{Drawing, drawing_of};
+pub use laws::{ends_are_told, texts_are_plain};
+pub use svg::write_svg;
+pub use window::Window;

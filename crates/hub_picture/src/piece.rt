@@ -1,0 +1,174 @@
+//! The pieces of a picture's text. A function here that is refused may leave a part behind, which the public one takes
+//! back.
+
+ghost use Rattle.std.specs.Prelude.{◌≡◌, ◌++◌, codes, decimal};
+ghost use Rattle.std.specs.List.{flat_map};
+ghost use Rattle.hub_base.specs.EventText.{event_line};
+ghost use Rattle.hub_base.specs.Lines.{line};
+ghost use Rattle.hub_picture.specs.Labels.{class_text, hue_of, label_text, value_text};
+ghost use Rattle.hub_picture.specs.Pieces.{Appends, end_text, piece_text};
+
+use crate::label::{Label, end_class};
+use hub_base::{Edition, Entry, Event, NoMemory, Port, Value, What, write_entry, write_event};
+use hub_story::Told;
+use itoa::Buffer;
+use std::alloc::AllocError;
+
+/// A piece of text.
+#[derive(Clone, Copy)]
+pub(crate) enum Piece<'a> {
+    /// A fixed text.
+    Word(&'a [u8]),
+    /// A number.
+    Number(u64),
+    /// The line of an entry.
+    Line(&'a Entry),
+    /// The line of an event.
+    Tells(Event),
+    /// How an entry ended, and by which step.
+    End(Option<Told>),
+    /// The class of a label.
+    Class(Label),
+    /// What the class says of an end.
+    Ending(What),
+    /// A label.
+    Name(Label),
+    /// A value behind a label.
+    Moves(Option<Value>),
+}
+
+/// Appends these bytes.
+fn put(out: &mut Vec<u8>, bytes: &[u8]) -> Result<(), AllocError>
+    ensures { Appends out.old out.new bytes.now result }
+{
+    out.extend_from_slice(bytes)
+}
+
+/// Appends a number.
+fn put_number(out: &mut Vec<u8>, number: u64) -> Result<(), AllocError>
+    ensures { Appends out.old out.new (decimal number) result }
+{
+    let mut buffer = Buffer::new();
+    put(out, buffer.format(number).as_bytes())
+}
+
+/// Appends a word and a number.
+fn put_numbered(out: &mut Vec<u8>, word: &[u8], number: u64) -> Result<(), AllocError>
+    ensures { Appends out.old out.new (word.now ++ decimal number) result }
+{
+    put(out, word)?;
+    put_number(out, number)
+}
+
+/// Appends the line of an entry. The second edition has every entry.
+fn put_entry(out: &mut Vec<u8>, entry: &Entry) -> Result<(), AllocError>
+    ensures { Appends out.old out.new (line entry.now) result }
+{
+    match write_entry(out, Edition::Two, entry) {
+        Ok(()) => Ok(()),
+        Err(NoMemory) => Err(AllocError),
+    }
+}
+
+/// Appends the line of an event.
+fn put_event(out: &mut Vec<u8>, event: &Event) -> Result<(), AllocError>
+    ensures { Appends out.old out.new (event_line event.now) result }
+{
+    match write_event(out, event) {
+        Ok(()) => Ok(()),
+        Err(NoMemory) => Err(AllocError),
+    }
+}
+
+/// Appends how an entry ended, and by which step.
+fn put_end(out: &mut Vec<u8>, ended: Option<Told>) -> Result<(), AllocError>
+    ensures { Appends out.old out.new (end_text ended) result }
+{
+    match ended {
+        Some(end) => {
+            put_event(out, &end.event)?;
+            put_numbered(out, b"by step ", u64::from(end.by) + 1)
+        }
+        None => put(out, b"waits"),
+    }
+}
+
+/// Appends a word and the colour of a port.
+fn put_hue(out: &mut Vec<u8>, word: &[u8], port: Port) -> Result<(), AllocError>
+    ensures { Appends out.old out.new (word.now ++ decimal (hue_of port)) result }
+{
+    put_numbered(out, word, u64::from(port.0 % 5))
+}
+
+/// Appends the class of a label.
+fn put_class(out: &mut Vec<u8>, label: Label) -> Result<(), AllocError>
+    ensures { Appends out.old out.new (class_text label) result }
+{
+    match label {
+        Label::Send(port) => put_hue(out, b"send h", port),
+        Label::Receive(port) => put_hue(out, b"receive h", port),
+        Label::Make(port) | Label::Close(port) => put_hue(out, b"port h", port),
+        Label::Refused(_fault) => put(out, b"refused"),
+        _ => put(out, b"plain"),
+    }
+}
+
+/// Appends a label.
+fn put_label(out: &mut Vec<u8>, label: Label) -> Result<(), AllocError>
+    ensures { Appends out.old out.new (label_text label) result }
+{
+    match label {
+        Label::Make(port) => put_numbered(out, b"m", port.0.into()),
+        Label::Send(port) => put_numbered(out, b"s", port.0.into()),
+        Label::Receive(port) => put_numbered(out, b"r", port.0.into()),
+        Label::Select => put(out, b"?"),
+        Label::Default => put(out, b"def"),
+        Label::Close(port) => put_numbered(out, b"c", port.0.into()),
+        Label::Exit => put(out, b"exit"),
+        Label::Cancel(pid) => put_numbered(out, b"x", pid.0.into()),
+        Label::Refused(fault) => put_numbered(out, b"f", fault.number().into()),
+    }
+}
+
+/// Appends a value behind a label.
+fn put_value(out: &mut Vec<u8>, value: Option<Value>) -> Result<(), AllocError>
+    ensures { Appends out.old out.new (value_text value) result }
+{
+    match value {
+        Some(value) => match value.as_num() {
+            Some(number) => put_numbered(out, b":", number),
+            None => put(out, b":#"),
+        },
+        None => Ok(()),
+    }
+}
+
+/// Appends a piece.
+fn put_piece(out: &mut Vec<u8>, piece: &Piece<'_>) -> Result<(), AllocError>
+    ensures { Appends out.old out.new (piece_text piece.now) result }
+{
+    match piece {
+        Piece::Word(bytes) => put(out, bytes),
+        Piece::Number(number) => put_number(out, *number),
+        Piece::Line(entry) => put_entry(out, entry),
+        Piece::Tells(event) => put_event(out, event),
+        Piece::End(ended) => put_end(out, *ended),
+        Piece::Class(label) => put_class(out, *label),
+        Piece::Ending(what) => put(out, end_class(*what)),
+        Piece::Name(label) => put_label(out, *label),
+        Piece::Moves(value) => put_value(out, *value),
+    }
+}
+
+/// Appends pieces, in order.
+pub(crate) fn put_pieces(out: &mut Vec<u8>, pieces: &[Piece<'_>]) -> Result<(), AllocError>
+    ensures { Appends out.old out.new (flat_map piece_text pieces.now) result }
+{
+    for piece in pieces {
+        match put_piece(out, piece) {
+            Ok(()) => {}
+            Err(AllocError) => return Err(AllocError),
+        }
+    }
+    Ok(())
+}

@@ -1,0 +1,139 @@
+//! The arrows of values on their way.
+
+ghost use Rattle.std.specs.List.{flat_map};
+ghost use Rattle.std.specs.Prelude.{◌≡◌};
+ghost use Rattle.hub_picture.specs.Pieces.{Appends};
+ghost use Rattle.hub_picture.specs.Svg.Arrows.{arrow_body, arrow_in, arrow_opening, arrow_text};
+ghost use Rattle.hub_picture.specs.Svg.Arrows.{arrow_title, ends_in, moved_title, tip_of};
+
+use crate::Arrow;
+use crate::frame::{Frame, number_of};
+use crate::piece::{Piece, put_pieces};
+use hub_base::{Pid, Port};
+use hub_story::Told;
+use std::alloc::AllocError;
+
+/// Where the tip of an arrow between two processes is.
+fn tip(frame: Frame, from: Pid, to: Pid) -> u64
+    ensures { result ≡ tip_of frame from.0 to.0 }
+{
+    let (y, half) = (frame.y(to.0), frame.scale.size() / 2);
+    if from.0 < to.0 {
+        y - half
+    } else if to.0 < from.0 {
+        y + half
+    } else {
+        y
+    }
+}
+
+/// Appends the class of an arrow, and its port.
+fn put_opening(out: &mut Vec<u8>, port: Port) -> Result<(), AllocError>
+    ensures { Appends out.old out.new (arrow_opening port) result }
+{
+    put_pieces(
+        out,
+        &[
+            Piece::Word(b"<g class=\"arrow h"),
+            Piece::Number((port.0 % 5).into()),
+            Piece::Word(b"\"><title>port "),
+            Piece::Number(port.0.into()),
+            Piece::Word(b" from\n"),
+        ],
+    )
+}
+
+/// Appends what is told of a side of the passage.
+fn put_moved(out: &mut Vec<u8>, moved: &Told) -> Result<(), AllocError>
+    ensures { Appends out.old out.new (moved_title moved.now) result }
+{
+    put_pieces(
+        out,
+        &[
+            Piece::Tells(moved.event),
+            Piece::Word(b"asked at step "),
+            Piece::Number(number_of(moved.asked)),
+            Piece::Word(b" by step "),
+            Piece::Number(number_of(moved.by)),
+            Piece::Word(b"\n"),
+        ],
+    )
+}
+
+/// Appends what is told where one points at it.
+fn put_title(out: &mut Vec<u8>, sent: &Told, received: &Told) -> Result<(), AllocError>
+    ensures { Appends out.old out.new (arrow_title sent.now received.now) result }
+{
+    put_moved(out, sent)?;
+    put_pieces(out, &[Piece::Word(b"to\n")])?;
+    put_moved(out, received)
+}
+
+/// Appends the arrow itself.
+fn put_body(out: &mut Vec<u8>, frame: Frame, sent: &Told, received: &Told) -> Result<(), AllocError>
+    ensures { Appends out.old out.new (arrow_body frame sent.now received.now) result }
+{
+    put_pieces(
+        out,
+        &[
+            Piece::Word(b"</title><path d=\"M"),
+            Piece::Number(frame.x(sent.by)),
+            Piece::Word(b" "),
+            Piece::Number(frame.y(sent.event.pid.0)),
+            Piece::Word(b"L"),
+            Piece::Number(frame.x(received.by)),
+            Piece::Word(b" "),
+            Piece::Number(tip(frame, sent.event.pid, received.event.pid)),
+            Piece::Word(b"\"/></g>\n"),
+        ],
+    )
+}
+
+/// Appends an arrow.
+fn put_arrow(out: &mut Vec<u8>, frame: Frame, arrow: &Arrow) -> Result<(), AllocError>
+    ensures { Appends out.old out.new (arrow_text frame arrow.now) result }
+{
+    put_opening(out, arrow.port)?;
+    put_title(out, &arrow.passage.sent.told, &arrow.passage.received.told)?;
+    put_body(
+        out,
+        frame,
+        &arrow.passage.sent.told,
+        &arrow.passage.received.told,
+    )
+}
+
+/// Whether the band has an end of the arrow.
+fn ends_in(frame: Frame, arrow: &Arrow) -> bool
+    ensures { result ≡ ends_in frame arrow.now }
+{
+    frame.steps.has(arrow.passage.sent.told.by) || frame.steps.has(arrow.passage.received.told.by)
+}
+
+/// Appends an arrow where the band has an end of it.
+fn put_arrow_in(out: &mut Vec<u8>, frame: Frame, arrow: &Arrow) -> Result<(), AllocError>
+    ensures { Appends out.old out.new (arrow_in frame arrow.now) result }
+{
+    if ends_in(frame, arrow) {
+        put_arrow(out, frame, arrow)
+    } else {
+        Ok(())
+    }
+}
+
+/// Appends the arrows of a band.
+pub(crate) fn put_arrows(
+    out: &mut Vec<u8>,
+    frame: Frame,
+    arrows: &[Arrow],
+) -> Result<(), AllocError>
+    ensures { Appends out.old out.new (flat_map (arrow_in frame) arrows.now) result }
+{
+    for arrow in arrows {
+        match put_arrow_in(out, frame, arrow) {
+            Ok(()) => {}
+            Err(AllocError) => return Err(AllocError),
+        }
+    }
+    Ok(())
+}

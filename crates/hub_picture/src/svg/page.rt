@@ -1,0 +1,149 @@
+//! The page around the bands: its size, its head and its foot.
+
+ghost use Rattle.std.specs.Prelude.{◌≡◌, ◌≤◌, ◌+◌};
+ghost use Rattle.hub_picture.specs.Pieces.{Appends};
+ghost use Rattle.hub_picture.specs.Svg.Page.{bands_of, foot_of, scale_for, scale_of, shown_of, width_of};
+ghost use Rattle.hub_picture.specs.Svg.Page.{foot_text, head_text, page_opening, paper_text};
+
+use super::style::put_style;
+use crate::Drawing;
+use crate::frame::{LEFT, Scale, TOP, number_of};
+use crate::piece::{Piece, put_pieces};
+use std::alloc::AllocError;
+
+/// How many steps are shown.
+fn shown_of(drawing: &Drawing) -> u32
+    ensures { result ≡ shown_of drawing.now }
+{
+    drawing.window.end.saturating_sub(drawing.window.first)
+}
+
+/// How much room they have.
+fn scale_for(steps: u32) -> Scale
+    ensures { result ≡ scale_for steps }
+{
+    if steps <= 14 {
+        Scale::Wide
+    } else if steps <= 72 {
+        Scale::Middle
+    } else {
+        Scale::Dense
+    }
+}
+
+/// How much room the steps of a drawing have.
+pub(crate) fn scale_of(drawing: &Drawing) -> Scale
+    ensures { result ≡ scale_of drawing.now }
+{
+    scale_for(shown_of(drawing))
+}
+
+/// How many bands there are.
+pub(crate) fn bands_of(drawing: &Drawing) -> u32
+    ensures { result ≡ bands_of drawing.now }
+{
+    let steps = u64::from(scale_of(drawing).steps());
+    ((u64::from(shown_of(drawing)) + steps - 1) / steps) as u32
+}
+
+/// How wide the picture is.
+fn width_of(drawing: &Drawing) -> u64
+    ensures { result ≡ width_of drawing.now }
+{
+    let scale = scale_of(drawing);
+    let steps = shown_of(drawing).min(scale.steps());
+    LEFT + (2 * scale.half() * u64::from(steps)).max(660) + 20
+}
+
+/// Where the bands end.
+fn foot_of(drawing: &Drawing) -> u64
+    ensures value { result ≡ foot_of drawing.now }
+    ensures most { result ≤ 1125899906842624 }
+{
+    let lanes = u64::from(bands_of(drawing)) * (u64::from(drawing.procs) + 2);
+    TOP + scale_of(drawing).lane() * lanes
+}
+
+/// Appends the first words of a picture of this size.
+fn put_opening(out: &mut Vec<u8>, drawing: &Drawing) -> Result<(), AllocError>
+    ensures { Appends out.old out.new (page_opening drawing.now) result }
+{
+    let (width, height) = (width_of(drawing), foot_of(drawing) + 60);
+    put_pieces(
+        out,
+        &[
+            Piece::Word(b"<svg xmlns=\"http://www.w3.org/2000/svg\" width=\""),
+            Piece::Number(width),
+            Piece::Word(b"\" height=\""),
+            Piece::Number(height),
+            Piece::Word(b"\" viewBox=\"0 0 "),
+            Piece::Number(width),
+            Piece::Word(b" "),
+            Piece::Number(height),
+            Piece::Word(b"\" role=\"img\">\n<title>Steps "),
+            Piece::Number(number_of(drawing.window.first)),
+            Piece::Word(b" to "),
+            Piece::Number(drawing.window.end.into()),
+            Piece::Word(b"</title>\n<style>"),
+        ],
+    )
+}
+
+/// Appends the paper, and what it shows.
+fn put_paper(out: &mut Vec<u8>, drawing: &Drawing) -> Result<(), AllocError>
+    ensures { Appends out.old out.new (paper_text drawing.now) result }
+{
+    put_pieces(
+        out,
+        &[
+            Piece::Word(b"</style>\n<rect class=\"paper\" width=\""),
+            Piece::Number(width_of(drawing)),
+            Piece::Word(b"\" height=\""),
+            Piece::Number(foot_of(drawing) + 60),
+            Piece::Word(b"\"/>\n<text class=\"note\" x=\"12\" y=\"20\">Steps "),
+            Piece::Number(number_of(drawing.window.first)),
+            Piece::Word(b" to "),
+            Piece::Number(drawing.window.end.into()),
+            Piece::Word(b" of "),
+            Piece::Number(drawing.procs.into()),
+            Piece::Word(b" processes</text>\n<defs>"),
+            Piece::Word(
+                b"<marker id=\"tip\" viewBox=\"0 0 8 8\" refX=\"7\" refY=\"4\" markerWidth=\"5\" markerHeight=\"5\" orient=\"auto\">",
+            ),
+            Piece::Word(b"<path class=\"tip\" d=\"M0 0L8 4L0 8z\"/></marker>"),
+            Piece::Word(b"</defs>\n"),
+        ],
+    )
+}
+
+/// Appends the head of a picture.
+pub(crate) fn put_head(out: &mut Vec<u8>, drawing: &Drawing) -> Result<(), AllocError>
+    ensures { Appends out.old out.new (head_text drawing.now) result }
+{
+    put_opening(out, drawing)?;
+    put_style(out)?;
+    put_paper(out, drawing)
+}
+
+/// Appends its foot, which tells how to read it.
+pub(crate) fn put_foot(out: &mut Vec<u8>, drawing: &Drawing) -> Result<(), AllocError>
+    ensures { Appends out.old out.new (foot_text drawing.now) result }
+{
+    let foot = foot_of(drawing);
+    put_pieces(
+        out,
+        &[
+            Piece::Word(b"<text class=\"note\" x=\"12\" y=\""),
+            Piece::Number(foot + 24),
+            Piece::Word(b"\">"),
+            Piece::Word(b"Box: an entry; filled it sends, hollow it receives. Bar: the "),
+            Piece::Word(b"call waits; the knob is its end. Colour: the port. Shaded: stalled."),
+            Piece::Word(b"</text>\n<text class=\"note\" x=\"12\" y=\""),
+            Piece::Number(foot + 42),
+            Piece::Word(b"\">"),
+            Piece::Word(b"Arrow: a value; straight down it was handed over, slanted it "),
+            Piece::Word(b"lay in the buffer. Dashed: refused, stalled, drained or still open."),
+            Piece::Word(b"</text>\n</svg>\n"),
+        ],
+    )
+}

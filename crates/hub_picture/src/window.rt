@@ -1,0 +1,39 @@
+//! Which steps of a journal are shown.
+
+ghost use Rattle.std.specs.Prelude.{◌≡◌};
+ghost use Rattle.hub_picture.specs.Windows.{has, touches, within};
+
+/// Steps of a journal, counted from 0.
+#[derive(Clone, Copy, Debug, PartialEq, Eq)]
+pub struct Window {
+    /// The first step.
+    pub first: u32,
+    /// The step behind the last one.
+    pub end: u32,
+}
+
+impl Window {
+    /// Whether it has the step at this place.
+    pub fn has(self, place: u32) -> bool
+        ensures { result ≡ has self place }
+    {
+        self.first <= place && place < self.end
+    }
+
+    /// Whether it has a step of what goes on from one place until another.
+    pub fn touches(self, from: u32, until: u32) -> bool
+        ensures { result ≡ touches self from until }
+    {
+        from < self.end && self.first <= until
+    }
+
+    /// The part of it within so many steps.
+    pub fn within(self, count: u32) -> Window
+        ensures { result ≡ within self count }
+    {
+        Window {
+            first: self.first.min(count),
+            end: self.end.min(count),
+        }
+    }
+}

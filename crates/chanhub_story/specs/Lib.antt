@@ -1,0 +1,4 @@
+pub mod Windows
+pub mod Explains
+pub mod Faults
+pub mod Promises

@@ -26,7 +26,8 @@ enum Request {
 }
 
 /// How the program is used.
-const USAGE: &str = "usage: chanhub_story text [FROM TO]\n       chanhub_story picture [FROM TO]\n\n\
+const USAGE: &str =
+    "usage: chanhub_story text [FROM TO]\n       chanhub_story picture [FROM TO]\n\n\
     Reads a journal from standard input, and explains it on standard output. `text`: a line for\n\
     each step, told from its end, who waits where all stalled and in the end, and what the ports\n\
     carried. `picture`: an SVG for a browser. FROM and TO are steps, counted from 1: step K is\n\
@@ -94,13 +95,7 @@ fn main(rt: HostRuntime) -> ExitCode {
     match requested(&rt) {
         Request::Explain(asked) => {
             let mut input = Counted::new(rt.stdin());
-            ExitCode::from(run(
-                rt.alloc(),
-                asked,
-                &mut input,
-                &mut output,
-                &mut errors,
-            ))
+            ExitCode::from(run(rt.alloc(), asked, &mut input, &mut output, &mut errors))
         }
         Request::Help => match write_pieces(&mut output, &[USAGE]) {
             Ok(()) => ExitCode::from(0),

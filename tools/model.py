@@ -174,4 +174,5 @@ def main():
     sys.stdout.write(''.join(event + '\n' for event in hub.events))
 
 
-main()
+if __name__ == '__main__':
+    main()

@@ -1,5 +1,5 @@
 -- What is appended piece by piece.
-use Rattle.std.proofs.Common.{◌≡◌, ◌-◌, ◌≤◌, ℕ, List, ◌++◌, length, take, drop, ap, ◌∙◌, sym, append_assoc, Result, Ok, Err, OnOk, arith}
+use Rattle.std.proofs.Common.{◌≡◌, ◌-◌, ℕ, List, ◌++◌, length, take, drop, ap, ◌∙◌, append_assoc, Result, Ok, Err, OnOk, arith}
 use Rattle.std.proofs.lemmas.List.{take_all, length-drop}
 
 pub on-ok : {A E P Q : Type 0} (r : Result A E) → (P → Q) → OnOk r P → OnOk r Q

@@ -1,5 +1,6 @@
 -- Events that come in the order of their steps: those of one step stand together.
-use Rattle.std.proofs.Common.{◌≡◌, ◌≢◌, ◌≤◌, ◌<◌, ◌+◌, ◌==◌, ℕ, zero, suc, ◌-◌, zero-le, Bool, true, false, List, [], ◌∷◌, ◌++◌, length, take, drop, filter, nat_lt}
+use Rattle.std.proofs.Common.{◌≡◌, ◌≢◌, ◌≤◌, ◌<◌, ◌+◌, ◌==◌, ℕ, zero, suc, ◌-◌, zero-le}
+use Rattle.std.proofs.Common.{Bool, true, false, List, [], ◌∷◌, ◌++◌, length, take, drop, filter, nat_lt}
 use Rattle.std.proofs.Common.{refl, ap, ◌∙◌, sym, arith, append-nil, append_assoc, take-append-drop, subst, get_or}
 use Rattle.std.specs.List.{AllByRecursion}
 use Rattle.std.proofs.lemmas.Bool.{eq-eqb, eqb-true, lt-ltb, ltb-true}
@@ -162,7 +163,8 @@ group place from n all seen same cut came so =
     ap (take n) (sym part) ∙ came ∙ ap (came_by place) part in
     let after : IsFrom (place + 1) (drop n (drop from all)) = subst (λ l. IsFrom (place + 1) (drop n l)) part so in
     let size : from + n - from ≡ n = omega arith in
-    let seen-part : take (from + n - from) (drop from seen) ≡ take n (drop from all) = ap (λ k. take k (drop from seen)) size ∙ ap (λ l. take n (drop from l)) same in
+    let seen-part : take (from + n - from) (drop from seen) ≡ take n (drop from all) =
+    ap (λ k. take k (drop from seen)) size ∙ ap (λ l. take n (drop from l)) same in
     let next = cut-next place n all (take from all) (drop from all) cut here after in
     record {
       came = seen-part ∙ here ∙ sym (cut-came place all (take from all) (drop from all) cut);

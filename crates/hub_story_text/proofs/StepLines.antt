@@ -1,5 +1,6 @@
 -- What is written of a step: its own line, and which steps it ended.
-use Rattle.std.proofs.Common.{◌≡◌, ◌<◌, ◌+◌, ℕ, Bool, true, false, List, [], ◌∷◌, ◌++◌, length, take, filter, refl, ap, ◌∙◌, sym, append-nil, append_assoc, get_or, add-one, codes}
+use Rattle.std.proofs.Common.{◌≡◌, ◌<◌, ◌+◌, ℕ, Bool, true, false, List, [], ◌∷◌, ◌++◌}
+use Rattle.std.proofs.Common.{length, take, filter, refl, ap, ◌∙◌, sym, append-nil, get_or, add-one, codes}
 use Rattle.std.proofs.Common.{◌≢◌, ◌-◌, ◌≤◌, Option, drop, length-append, arith}
 use Rattle.std.specs.List.{flat_map, list_all}
 use Rattle.std.proofs.Math.Seq.{take-suc, take-append_seam}

@@ -1,5 +1,6 @@
 -- The text of the steps, one by one.
-use Rattle.std.proofs.Common.{◌≡◌, ◌<◌, ◌+◌, ℕ, suc, Bool, true, false, List, [], ◌∷◌, ◌++◌, length, drop, filter, refl, ap, ◌∙◌, sym, subst, append_assoc, get_or, codes}
+use Rattle.std.proofs.Common.{◌≡◌, ◌<◌, ◌+◌, ℕ, true, false, List, [], ◌∷◌}
+use Rattle.std.proofs.Common.{◌++◌, length, drop, filter, refl, ap, ◌∙◌, sym, append_assoc, get_or, codes}
 use Rattle.std.proofs.Common.{Option, Some, if◌then◌else◌, add-one, slice_get}
 use Rattle.std.specs.List.{flat_map}
 use Rattle.std.proofs.Math.Seq.{drop-cons}
@@ -54,7 +55,8 @@ step-first : (w : Window) (es : List Entry) (all : List Told) (place : ℕ) (res
     ≡ (if has w place then step_text es all place (get_or rest place d) else []) ++ steps_text w es all (place + 1) (drop (place + 1) rest)
 step-first w es all place rest d below =
     ap (steps_text w es all place) (drop-cons rest place d below)
-    ∙ ap (λ k. (if has w place then step_text es all place (get_or rest place d) else []) ++ steps_text w es all (place + 1) (drop k rest)) (sym (add-one place))
+    ∙ ap (λ k. (if has w place then step_text es all place (get_or rest place d) else []) ++ steps_text w es all (place + 1) (drop k rest))
+    (sym (add-one place))
 
 pub step-shown : (w : Window) (es : List Entry) (all : List Told) (place : ℕ) (d : Entry) (was now text : List ℕ) → place < length es →
     has w place ≡ true → was ++ steps_text w es all place (drop place es) ≡ text → now ≡ was ++ step_text es all place (get_or es place d) →
@@ -62,14 +64,16 @@ pub step-shown : (w : Window) (es : List Entry) (all : List Told) (place : ℕ) 
 step-shown w es all place d was now text below shown so is =
     ap (λ l. l ++ steps_text w es all (place + 1) (drop (place + 1) es)) is
     ∙ append_assoc was (step_text es all place (get_or es place d)) (steps_text w es all (place + 1) (drop (place + 1) es))
-    ∙ ap (λ l. was ++ l) (ap (λ b. (if b then step_text es all place (get_or es place d) else []) ++ steps_text w es all (place + 1) (drop (place + 1) es)) (sym shown)
+    ∙ ap (λ l. was ++ l)
+    (ap (λ b. (if b then step_text es all place (get_or es place d) else []) ++ steps_text w es all (place + 1) (drop (place + 1) es)) (sym shown)
     ∙ sym (step-first w es all place es d below)) ∙ so
 
 pub step-hidden : (w : Window) (es : List Entry) (all : List Told) (place : ℕ) (d : Entry) (was text : List ℕ) → place < length es →
     has w place ≡ false → was ++ steps_text w es all place (drop place es) ≡ text →
     was ++ steps_text w es all (place + 1) (drop (place + 1) es) ≡ text
 step-hidden w es all place d was text below hidden so =
-    ap (λ l. was ++ l) (ap (λ b. (if b then step_text es all place (get_or es place d) else []) ++ steps_text w es all (place + 1) (drop (place + 1) es)) (sym hidden)
+    ap (λ l. was ++ l)
+    (ap (λ b. (if b then step_text es all place (get_or es place d) else []) ++ steps_text w es all (place + 1) (drop (place + 1) es)) (sym hidden)
     ∙ sym (step-first w es all place es d below)) ∙ so
 
 -- ---- the text of one step, by what is looked up

@@ -1,7 +1,7 @@
 -- A table into which ways are taken one by one tells the first of each entry.
 use Rattle.std.proofs.Common.{◌≡◌, ◌<◌, ◌+◌, ◌==◌, ℕ, zero, suc, Bool, true, false, List, [], ◌∷◌, ◌++◌, length, replicate, refl, ap, ◌∙◌, sym, arith}
 use Rattle.std.proofs.Common.{Option, None, Some, is_some, slice_index_or, slice_set, append-nil, append_assoc, find}
-use Rattle.std.specs.List.{fold, flat_map}
+use Rattle.std.specs.List.{fold}
 use Rattle.std.specs.Option.{option_map, option_or}
 use Rattle.std.specs.Prelude.{cond}
 use Rattle.std.proofs.lemmas.Bool.{eqb-true, eqb-false}
@@ -78,7 +78,8 @@ table-tells pairs count =
     let so = all-more [] pairs count (replicate count None) (record { length = length-replicate count None; each = λ place few. none-yet count place }) in
     record {
       length = so.length;
-      each = λ place few. slice_get-get_or (fold with_way (replicate count None) pairs) place None (omega (arith, few, so.length)) ∙ ap Some (so.each place few);
+      each = λ place few.
+          slice_get-get_or (fold with_way (replicate count None) pairs) place None (omega (arith, few, so.length)) ∙ ap Some (so.each place few);
     }
 
 -- ---- port by port

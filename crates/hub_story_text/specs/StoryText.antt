@@ -1,6 +1,6 @@
 -- The text of a story: a heading, a line for each step that the window has, with those whom it stalled below it; then what the
 -- ports carried, and who waits in the end.
-use Rattle.std.specs.Prelude.{ℕ, ◌+◌, ◌==◌, Bool, List, [], ◌∷◌, ◌++◌, codes, filter, length, if◌then◌else◌}
+use Rattle.std.specs.Prelude.{ℕ, ◌+◌, ◌==◌, List, [], ◌∷◌, ◌++◌, codes, filter, length, if◌then◌else◌}
 use Rattle.std.specs.List.{flat_map}
 use Rattle.hub_base.specs.declared.entry.Entry.{Entry}
 use Rattle.hub_story.specs.declared.told.Told.{Told}

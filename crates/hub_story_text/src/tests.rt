@@ -50,23 +50,23 @@ fn buffered_values_and_a_stall_are_told(rt: HostRuntime) -> Result<(), Fail> {
 #[test]
 fn selects_cancels_and_faults_are_told(rt: HostRuntime) -> Result<(), Fail> {
     let journal = b"chanhub journal 2\nprocs 3\n\
-        0 make 0\n0 make 2\n1 select 0 r1 s2:#00ff default\n1 recv 1\n2 select 3 r1 s1:7\n0 cancel 1\n0 recv 9\n";
+        0 make 0\n0 make 1\n1 select 0 r1 s2:#00ff default\n1 recv 1\n2 select 3 r1 s2:7\n0 cancel 1\n0 recv 9\n";
     let text = told(&rt, rt.alloc(), journal, 0, 7)?;
     let expected =
         b"   step  who asks what                  answer            waited              value                 ends\n\
        \x20     1  P0 make 0                      made 1\n\
-       \x20     2  P0 make 2                      made 2\n\
+       \x20     2  P0 make 1                      made 2\n\
        \x20     3  P1 select 0 r1 s2:#00ff default  s2 sent                             stays in port 2\n\
        \x20     4  P1 recv 1                      cancelled         2, until 6\n\
-       \x20     5  P2 select 3 r1 s1:7            waits\n\
+       \x20     5  P2 select 3 r1 s2:7            waits\n\
        \x20     6  P0 cancel 1                    done                                                        ends 4\n\
        \x20     7  P0 recv 9                      fault 5\n\
         port 1 cap 0 sent 0 received 0 left 0 made by P0 at step 1\n\
-        port 2 cap 2 sent 1 received 0 left 1 made by P0 at step 2\n\
+        port 2 cap 1 sent 1 received 0 left 1 made by P0 at step 2\n\
         in the end these wait\n\
        \x20         P2 waits since step 5\n\
        \x20           to receive from port 1: last sent by nobody, last received by nobody\n\
-       \x20           to send on port 1: last sent by nobody, last received by nobody\n";
+       \x20           to send on port 2: last sent by P1 at step 3, last received by nobody\n";
     assert_eq!(rt; text.as_slice(), expected.as_slice());
     Ok(())
 }

@@ -1,5 +1,6 @@
 use Rattle.std.proofs.Common.{◌≡◌, ◌∙◌, ap, sym, subst, arith, length, min, replicate, None}
 use Rattle.std.specs.List.{flat_map, fold}
+use Rattle.hub_base.specs.declared.limits.TheConstants.{MOST_PORTS}
 use Rattle.hub_story_text.specs.Partners.{AreIn, both_ways, ports_made, ways, ways_from, with_way}
 use Rattle.hub_story_text.proofs.Table.{port-more, table-tells}
 use Rattle.hub_story_text.proofs.partners.partners_of.Goals as goal
@@ -13,7 +14,9 @@ loop-place-preserved c =
 pub returns : goal.returns
 returns c =
     let last : c.loop-place.place ≡ c.min-place-end.result = omega (arith, c.loop-place.auto.place-end, c.loop-place-test.false) in
-    let made = c.min-place-end.ensures ∙ ap (λ k. min k 64) (c.ports_made.ensures ∙ ap ports_made c.deref.ensures.value) in
+    let made = c.min-place-end.ensures ∙ ap (λ k. min k MOST_PORTS) (c.ports_made.ensures ∙ ap ports_made c.deref.ensures.value) in
     subst (AreIn (ways c.args.journal.now.entries c.args.story.now.told.items) (length c.args.journal.now.entries))
-    (sym (c.loop-place.invariant ∙ ap (λ k. fold with_way (replicate (length c.args.journal.now.entries) None) (ways_from c.args.journal.now.entries c.args.story.now.told.items 1 k)) (last ∙ made)))
+    (sym (c.loop-place.invariant
+    ∙ ap (λ k. fold with_way (replicate (length c.args.journal.now.entries) None)
+    (ways_from c.args.journal.now.entries c.args.story.now.told.items 1 k)) (last ∙ made)))
     (table-tells (ways c.args.journal.now.entries c.args.story.now.told.items) (length c.args.journal.now.entries))

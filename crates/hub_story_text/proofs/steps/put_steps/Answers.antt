@@ -52,7 +52,9 @@ loop-place-preserved c =
             cut = here.next;
             last = last;
             whole = c.note_all.ensures.whole;
-            text = step-shown c.args.window c.args.journal.now.entries told c.loop-place.place c.entry-item.result c.loop-place.out.items w.put_step.new.out.items _ below
+            text =
+                step-shown c.args.window c.args.journal.now.entries told c.loop-place.place c.entry-item.result c.loop-place.out.items
+                w.put_step.new.out.items _ below
                 (sym c.has.ensures ∙ w.if-has.true) so.text
                 (w.in_ok-put_step.ensures ∙ ap (λ e. c.loop-place.out.items ++ step_text c.args.journal.now.entries told c.loop-place.place e)
                 (rw c.entries-entry-items.ensures at c.entry-item.is));

@@ -1,6 +1,6 @@
-use Rattle.std.proofs.Common.{◌∙◌, ◌++◌, ap, length}
+use Rattle.std.proofs.Common.{◌++◌, ap, length}
 use Rattle.hub_story.specs.Levels.{told_by}
-use Rattle.hub_story_text.specs.StoryText.{heading, end_heading, ports_text, steps_text, who_waits}
+use Rattle.hub_story_text.specs.StoryText.{heading, end_heading, ports_text, steps_text}
 use Rattle.hub_story_text.proofs.StepTexts.{waiters-told}
 use Rattle.hub_story_text.proofs.text.story_text.Goals as goal
 

@@ -1,4 +1,4 @@
-use Rattle.std.proofs.Common.{rules, ◌≡◌, ◌≢◌, ◌∙◌, ◌++◌, [], ap, sym, append-nil, append_assoc, drop}
+use Rattle.std.proofs.Common.{rules, ◌∙◌, ◌++◌, ap, sym, append-nil, append_assoc}
 use Rattle.std.specs.List.{flat_map}
 use Rattle.std.proofs.lemmas.List.{drop_all}
 use Rattle.hub_story_text.specs.LastMoves.{mover_at}

@@ -1,0 +1,152 @@
+#!/usr/bin/env python3
+"""story.py STORY: has the built chanhub_story (STORY) tell the examples, random journals and the longest ones, whole and by
+windows, and compares each text with the one that story_model.py writes. Runs the rows of tests/stories.toml and
+tests/faulty_journals.toml too. The last line counts: 'N passed, M failed'."""
+import os
+import pathlib
+import random
+import subprocess
+import sys
+import tempfile
+import tomllib
+
+sys.dont_write_bytecode = True
+from story_model import Story
+
+ROOT = pathlib.Path(__file__).resolve().parent.parent
+RANDOM_JOURNALS = 60
+MINUTE = 60
+
+
+class Program:
+    """The built program."""
+
+    def __init__(self, path):
+        self.path = pathlib.Path(path).resolve()
+
+    def run(self, words, journal=b""):
+        """The status, what was written to standard output, and to standard error; nothing where it takes too long."""
+        try:
+            done = subprocess.run([self.path, *words], input=journal, capture_output=True, timeout=MINUTE)
+        except subprocess.TimeoutExpired:
+            return None
+        return done.returncode, done.stdout, done.stderr
+
+    def run_to_full(self, words, journal=b""):
+        """The status and what was written to standard error, where standard output takes nothing."""
+        with open("/dev/full", "wb") as full:
+            done = subprocess.run([self.path, *words], input=journal, stdout=full, stderr=subprocess.PIPE, timeout=MINUTE)
+        return done.returncode, done.stderr
+
+    def run_on_folder(self, words):
+        """The same as of `run`, where standard input is a folder, of which nothing can be read."""
+        folder = os.open(ROOT, os.O_RDONLY)
+        done = subprocess.run([self.path, *words], stdin=folder, capture_output=True, timeout=MINUTE)
+        os.close(folder)
+        return done.returncode, done.stdout, done.stderr
+
+    def tells(self, journal, story, window):
+        """Whether it tells these steps of the journal, or all where there is no window, as story_model.py does."""
+        words = ["text", *(str(step) for step in window or ())]
+        return self.run(words, journal.encode()) == (0, story.text(*window or (1, len(story.entries))), b"")
+
+
+def refused(fault):
+    return 2, b"", f"chanhub: {fault}\n".encode()
+
+
+def table(name):
+    return tomllib.loads((ROOT / "tests" / (name + ".toml")).read_text())
+
+
+def journals(work):
+    """Each example, and random journals of both editions."""
+    for path in sorted((ROOT / "examples" / "journals").iterdir()):
+        if not path.suffix:
+            yield path.name, path.read_text()
+    subprocess.run([ROOT / "tools" / "random_journal.py", "1", str(RANDOM_JOURNALS), work], check=True)
+    for seed in range(1, RANDOM_JOURNALS + 1):
+        yield f"random journal {seed}", (pathlib.Path(work) / f"journal_{seed}").read_text()
+
+
+def texts(program, work):
+    draw = random.Random(1)
+    for name, journal in journals(work):
+        story = Story(journal)
+        count = len(story.entries)
+        one = draw.randint(1, count)
+        yield name, program.tells(journal, story, None)
+        for window in ((1, count), (1, (count + 1) // 2), (one, one)):
+            yield f"{name}, steps {window[0]} to {window[1]}", program.tells(journal, story, window)
+
+
+def worked(program, _):
+    """The stories that were written by hand: told by the program, and by story_model.py."""
+    for row in table("stories")["story"]:
+        wanted = row["text"].encode()
+        first, last = row.get("steps", (1, len(Story(row["journal"]).entries)))
+        words = ["text", *(str(step) for step in row.get("steps", ()))]
+        yield row["name"], program.run(words, row["journal"].encode()) == (0, wanted, b"")
+        yield row["name"] + " by story_model.py", Story(row["journal"]).text(first, last) == wanted
+
+
+def faulty_journals(program, _):
+    """The fault comes first, whatever steps are asked for."""
+    rows = table("faulty_journals")
+    for group in rows["group"]:
+        for name, line in group["lines"].items():
+            journal = (group["before"] + line + "\n" + group["after"]).encode()
+            yield name, program.run(["text"], journal) == refused(group["fault"])
+            yield name + " with steps", program.run(["text", "2", "1"], journal) == refused(group["fault"])
+    for fault, faulty in rows["texts"].items():
+        for text in faulty:
+            yield repr(text), program.run(["text"], text.encode()) == refused(fault)
+
+
+def arguments(program, _):
+    rows = table("stories")["arguments"]
+    journal = rows["journal"].encode()
+    for fault, several in rows["refused"].items():
+        for words in several:
+            yield " ".join([fault + ":", *words]), program.run(words, journal) == refused(fault)
+    yield "a word that is not UTF-8", program.run([b"text\xff"], journal) == refused("bad arguments")
+    status, usage, errors = program.run(["--help"])
+    yield "help", status == 0 and usage.startswith(b"usage: chanhub_story text [FROM TO]\n") and errors == b""
+
+
+def devices(program, _):
+    journal = table("stories")["arguments"]["journal"].encode()
+    yield "a full device", program.run_to_full(["text"], journal) == (1, b"chanhub: write failed\n")
+    yield "a full device for one step", program.run_to_full(["text", "1", "1"], journal) == (1, b"chanhub: write failed\n")
+    yield "a fault before a full device", program.run_to_full(["text"]) == (2, b"chanhub: line 1: bad header\n")
+    yield "help for a full device", program.run_to_full(["--help"])[0] == 1
+    yield "a folder for a journal", program.run_on_folder(["text"]) == (1, b"", b"chanhub: read failed\n")
+
+
+def longest_journals(program, _):
+    """A journal has at most 1,000,000 entries that are no exits. Each is told within a minute."""
+    head = "chanhub journal 1\nprocs 1\n"
+    makes = head + "0 make 1025\n" * 1000000 + "0 exit\n"
+    values = range((1000000 - 64) // 2)
+    passing = "".join(f"0 send {value % 64 + 1} {value}\n0 recv {value % 64 + 1}\n" for value in values)
+    passing = head + "0 make 1\n" * 64 + passing + "0 exit\n"
+    for name, journal in (("makes", makes), ("passing of values", passing)):
+        yield f"the longest journal of {name}", program.tells(journal, Story(journal), None)
+    yield "one entry more", program.run(["text"], (makes + "0 make 1025\n").encode()) == refused("line 1000004: too long")
+
+
+def main():
+    program = Program(sys.argv[1])
+    passed = failed = 0
+    with tempfile.TemporaryDirectory() as work:
+        for checks in (worked, texts, faulty_journals, arguments, devices, longest_journals):
+            for name, good in checks(program, work):
+                passed, failed = passed + good, failed + (not good)
+                if not good:
+                    print(f"failed: {checks.__name__}: {name}")
+    print(f"{passed} passed, {failed} failed")
+    return 1 if failed else 0
+
+
+if __name__ == "__main__":
+    sys.exit(main())

@@ -1,0 +1,186 @@
+#!/usr/bin/env python3
+"""The story of a journal as text, by the rules and nothing else.
+
+    story_model.py [FROM TO] < JOURNAL
+
+It is a second reading of crates/hub_story_text/README.md, written from the lines of a journal and from the events that
+model.py gives of it, to compare chanhub_story with. It takes well-formed journals only, and steps that they have.
+"""
+import collections
+import sys
+
+sys.dont_write_bytecode = True
+import model
+
+HEADING = "   step  who asks what                  answer            waited              value                 ends"
+ASKS, ANSWER, WAITED, VALUE, ENDS = (HEADING.index(word) for word in ("who", "answer", "waited", "value", "ends"))
+
+
+class Entry:
+    """A line of a journal, and what becomes of it."""
+
+    __slots__ = ("line", "pid", "word", "asked", "cases", "end", "until", "partner", "ended", "below")
+
+    def __init__(self, line):
+        fields = line.split(" ")
+        self.line = line
+        self.pid = int(fields[0])
+        self.word, self.asked = model.step(fields[1:])
+        self.cases = self.asked[0] if self.word == "call" else ()
+        self.end = None  # the words of the event that ended it
+        self.until = None  # the place of the entry by which it ended
+        self.partner = None  # the place at the other end of its value's way
+        self.ended = ()  # the places of the other entries that it ended
+        self.below = ()  # lines on those whom it stalled
+
+
+class Port:
+    """What a port carried so far."""
+
+    def __init__(self, maker):
+        self.maker = maker
+        self.sent = self.received = 0
+        self.sender = self.receiver = "nobody"
+        # The places of values that only one of both ends is told of yet. A receiver may be told before its sender.
+        self.not_received = collections.deque()
+        self.not_sent = collections.deque()
+
+
+class Story:
+    """A journal, walked through once."""
+
+    def __init__(self, journal):
+        head, procs, *lines = journal.splitlines()
+        self.entries = [Entry(line) for line in lines]
+        self.ports = []
+        self.waiting = {}  # the place of each process's call that waits, by arrival
+        hub = model.Hub(int(head.split()[2]), int(procs.split()[1]))
+        for place, entry in enumerate(self.entries):
+            hub.step(entry.pid, entry.word, entry.asked)
+            events, hub.events = hub.events, []
+            self.take(place, events)
+
+    def take(self, by, events):
+        """The first event answers the entry, and each other one ends a call that waits."""
+        stalled = []
+        for number, event in enumerate(events):
+            pid, words = event.split(" ", 1)
+            place = self.waiting.pop(int(pid)) if number else by
+            if words == "parked":
+                self.waiting[int(pid)] = place
+            else:
+                self.finish(place, by, words)
+            if words == "stalled":
+                stalled.append(place)
+        if stalled:
+            self.entries[by].below = ("        stall: everyone who is left waits", *self.waiters(stalled))
+
+    def finish(self, place, by, words):
+        entry = self.entries[place]
+        entry.end, entry.until = words, by
+        if place != by:
+            self.entries[by].ended += (place,)
+        if words.startswith("made"):
+            self.ports.append(Port(place))
+        elif moves(entry):
+            self.move(place, by)
+
+    def move(self, place, by):
+        """A value was put into a port, or taken from it: the first that was put is the first that is taken."""
+        entry = self.entries[place]
+        port = self.ports[fired(entry)[1] - 1]
+        mover = f"P{entry.pid} at step {by + 1}"
+        if fired(entry)[0] == "s":
+            port.sent, port.sender = port.sent + 1, mover
+            others, own = port.not_sent, port.not_received
+        else:
+            port.received, port.receiver = port.received + 1, mover
+            others, own = port.not_received, port.not_sent
+        if others:
+            entry.partner = others.popleft()
+            self.entries[entry.partner].partner = place
+        else:
+            own.append(place)
+
+    def waiters(self, places):
+        """Lines on the calls at these places, and who moved a value where they wait."""
+        for place in places:
+            yield f"          P{self.entries[place].pid} waits since step {place + 1}"
+            for case in self.entries[place].cases:
+                port = self.ports[case[1] - 1] if case[1] else Port(None)
+                what = "send on" if case[0] == "s" else "receive from"
+                yield f"            to {what} port {case[1]}: last sent by {port.sender}, last received by {port.receiver}"
+
+    def value(self, entry):
+        """Where a value went, or came from."""
+        if not moves(entry):
+            return ""
+        side, port = fired(entry)[:2]
+        if entry.partner is None:
+            return f"stays in port {port}"
+        return f"{'to' if side == 's' else 'from'} P{self.entries[entry.partner].pid}, step {entry.partner + 1}"
+
+    def line(self, place):
+        entry = self.entries[place]
+        line = cell(f"{place + 1:7}", ASKS, "P" + entry.line)
+        line = cell(line, ANSWER, answer(entry))
+        if entry.end is not None and entry.until > place:
+            line = cell(line, WAITED, f"{entry.until - place}, until {entry.until + 1}")
+        line = cell(line, VALUE, self.value(entry))
+        return cell(line, ENDS, " ".join(["ends", *(str(ended + 1) for ended in entry.ended)]) if entry.ended else "")
+
+    def port_line(self, number):
+        port = self.ports[number - 1]
+        maker = self.entries[port.maker]
+        counts = f"sent {port.sent} received {port.received} left {port.sent - port.received}"
+        return f"port {number} cap {maker.asked} {counts} made by P{maker.pid} at step {port.maker + 1}"
+
+    def text(self, first, last):
+        """The text of the steps from one to another, counted from 1."""
+        lines = [HEADING]
+        for place in range(first - 1, last):
+            lines += [self.line(place), *self.entries[place].below]
+        lines += [self.port_line(number) for number in range(1, len(self.ports) + 1)]
+        if self.waiting:
+            lines += ["in the end these wait", *self.waiters(self.waiting.values())]
+        return "".join(line + "\n" for line in lines).encode()
+
+
+def cell(line, column, words):
+    """The line, and these words at their column, or two spaces behind it."""
+    return line.ljust(max(column, len(line) + 2)) + words if words else line
+
+
+def fired(entry):
+    """The case of a call that fired."""
+    return entry.cases[int(entry.end.split(" ")[1])]
+
+
+def outcome(entry):
+    """How a case ended, and its value: `sent` or `got 5`."""
+    return entry.end.split(" ", 2)[2]
+
+
+def moves(entry):
+    """Whether the entry put a value into a port or took one from it."""
+    return entry.end is not None and entry.end.startswith("case") and outcome(entry).split(" ")[0] in ("sent", "got")
+
+
+def answer(entry):
+    """What an entry was told in the end, with the case that fired where there was a choice."""
+    if entry.end is None:
+        return "waits"
+    if not entry.end.startswith("case"):
+        return entry.end
+    name = "%s%d " % fired(entry)[:2] if len(entry.cases) > 1 else ""
+    return name + outcome(entry)
+
+
+def main():
+    story = Story(sys.stdin.read())
+    first, last = (int(step) for step in sys.argv[1:3] or (1, len(story.entries)))
+    sys.stdout.buffer.write(story.text(first, last))
+
+
+if __name__ == "__main__":
+    main()

@@ -7,6 +7,7 @@ use Rattle.std.specs.List.{list_all, join_with_byte, AllByRecursion}
 use Rattle.std.specs.Char.{is_ascii_digit}
 use Rattle.hex.specs.Hex.{encode_lower}
 use Rattle.hub_base.specs.declared.value.Value.{Value}
+use Rattle.hub_base.specs.declared.limits.TheConstants.{GREATEST_CAP, GREATEST_PID, GREATEST_PORT, GREATEST_WORD}
 use Rattle.hub_base.specs.declared.case.Case.{Case}
 use Rattle.hub_base.specs.declared.case.Case.TheVariants.{Send, Recv}
 use Rattle.hub_base.specs.declared.entry.Step.{Step}
@@ -68,8 +69,8 @@ small n most fits below = plain-number n (omega (arith, fits, below))
 case-plain : (c : Case) → CaseFits c → IsPlain (case_field c)
 case-plain (Send p v) fits =
     plain-both (codes "s") (decimal p.0 ++ 58 ∷ value_field v) refl
-    (plain-both (decimal p.0) (58 ∷ value_field v) (small p.0 65535 fits.0 (omega arith)) (plain-value v fits.1))
-case-plain (Recv p) fits = plain-both (codes "r") (decimal p.0) refl (small p.0 65535 fits (omega arith))
+    (plain-both (decimal p.0) (58 ∷ value_field v) (small p.0 GREATEST_PORT fits.0 (omega arith)) (plain-value v fits.1))
+case-plain (Recv p) fits = plain-both (codes "r") (decimal p.0) refl (small p.0 GREATEST_PORT fits (omega arith))
 
 cases-plain : (cs : List Case) (default : Bool) → AllByRecursion CaseFits cs →
     AllByRecursion IsPlain (map case_field cs ++ default_field default)
@@ -79,11 +80,11 @@ cases-plain (c ∷ cs) default all = (case-plain c all.0, cases-plain cs default
 
 select-plain : (cs : List Case) (default : Bool) (word : ℕ) → CallFits cs word → AllByRecursion IsPlain (select_fields cs default word)
 select-plain cs default word fits =
-    (refl, (small word 18446744073709551615 fits.word_fits (omega arith), cases-plain cs default fits.each))
+    (refl, (small word GREATEST_WORD fits.word_fits (omega arith), cases-plain cs default fits.each))
 
 call-plain : (cs : List Case) (default : Bool) (word : ℕ) → CallFits cs word → AllByRecursion IsPlain (call_fields cs default word)
-call-plain (Send p v ∷ []) false zero fits = (refl, (small p.0 65535 fits.each.0.0 (omega arith), (plain-value v fits.each.0.1, _)))
-call-plain (Recv p ∷ []) false zero fits = (refl, (small p.0 65535 fits.each.0 (omega arith), _))
+call-plain (Send p v ∷ []) false zero fits = (refl, (small p.0 GREATEST_PORT fits.each.0.0 (omega arith), (plain-value v fits.each.0.1, _)))
+call-plain (Recv p ∷ []) false zero fits = (refl, (small p.0 GREATEST_PORT fits.each.0 (omega arith), _))
 call-plain [] default word fits = select-plain [] default word fits
 call-plain (Send p v ∷ []) true word fits = select-plain (Send p v ∷ []) true word fits
 call-plain (Send p v ∷ []) false (suc word) fits = select-plain (Send p v ∷ []) false (suc word) fits
@@ -93,13 +94,13 @@ call-plain (Send p v ∷ d ∷ cs) default word fits = select-plain (Send p v �
 call-plain (Recv p ∷ d ∷ cs) default word fits = select-plain (Recv p ∷ d ∷ cs) default word fits
 
 step-plain : (s : Step) → StepFits s → AllByRecursion IsPlain (step_fields s)
-step-plain (Make most) fits = (refl, (small most 4294967295 fits (omega arith), _))
+step-plain (Make most) fits = (refl, (small most GREATEST_CAP fits (omega arith), _))
 step-plain (Call cases default word) fits = call-plain cases.items default word fits
-step-plain (Close p) fits = (refl, (small p.0 65535 fits (omega arith), _))
+step-plain (Close p) fits = (refl, (small p.0 GREATEST_PORT fits (omega arith), _))
 step-plain Exit fits = (refl, _)
-step-plain (Cancel q) fits = (refl, (small q.0 255 fits (omega arith), _))
+step-plain (Cancel q) fits = (refl, (small q.0 GREATEST_PID fits (omega arith), _))
 
 pub plain-line : (edition : Edition) (e : Entry) → Fits edition e → IsPlain (line e)
 plain-line edition e fits =
     plain-both (join_with_byte 32 (decimal e.pid.0 ∷ step_fields e.step)) (codes "\n")
-    (plain-spaced (decimal e.pid.0) (step_fields e.step) (small e.pid.0 255 fits.pid (omega arith)) (step-plain e.step fits.step)) refl
+    (plain-spaced (decimal e.pid.0) (step_fields e.step) (small e.pid.0 GREATEST_PID fits.pid (omega arith)) (step-plain e.step fits.step)) refl

@@ -1,6 +1,7 @@
 -- So have what is told of shapes, and what stands in boxes.
 use Rattle.std.proofs.Common.{ℕ, ◌<◌, ◌≤◌, ◌^◌, ◌+◌, List, [], ◌∷◌, ◌++◌, codes, refl, arith, Option, None, Some, IfSome}
 use Rattle.std.specs.Prelude.{decimal}
+use Rattle.hub_base.specs.declared.limits.TheConstants.{GREATEST_PORT, GREATEST_VALUE}
 use Rattle.hub_base.specs.declared.fault.Fault.{Fault}
 use Rattle.hub_base.specs.declared.fault.Fault.TheVariants as fault
 use Rattle.hub_base.specs.declared.event.Outcome.{Outcome}
@@ -51,7 +52,7 @@ outcome-plain Drained fits = refl
 outcome-plain Closed fits = refl
 
 what-plain : (w : What) → WhatFits w → IsPlain (what_text w)
-what-plain (what.Made p) fits = worded (codes " made ") p.0 65535 refl fits (omega arith)
+what-plain (what.Made p) fits = worded (codes " made ") p.0 GREATEST_PORT refl fits (omega arith)
 what-plain (what.Fired i o) fits =
     plain-both (codes " case " ++ decimal i) (outcome_text o) (worded (codes " case ") i 255 refl fits.0 (omega arith)) (outcome-plain o fits.1)
 what-plain what.Default fits = refl
@@ -97,18 +98,18 @@ stall-plain t fits =
     (refl, (step-plain t.by fits.by, (refl, (plain-number t.event.pid.0 (omega (arith, fits.event.pid)), (refl, (step-plain t.asked fits.asked, (refl, _)))))))
 
 label-plain : (l : Label) → LabelFits l → IsPlain (label_text l)
-label-plain (label.Make p) fits = worded (codes "m") p.0 65535 refl fits (omega arith)
-label-plain (label.Send p) fits = worded (codes "s") p.0 65535 refl fits (omega arith)
-label-plain (label.Receive p) fits = worded (codes "r") p.0 65535 refl fits (omega arith)
+label-plain (label.Make p) fits = worded (codes "m") p.0 GREATEST_PORT refl fits (omega arith)
+label-plain (label.Send p) fits = worded (codes "s") p.0 GREATEST_PORT refl fits (omega arith)
+label-plain (label.Receive p) fits = worded (codes "r") p.0 GREATEST_PORT refl fits (omega arith)
 label-plain label.Select fits = refl
 label-plain label.Default fits = refl
-label-plain (label.Close p) fits = worded (codes "c") p.0 65535 refl fits (omega arith)
+label-plain (label.Close p) fits = worded (codes "c") p.0 GREATEST_PORT refl fits (omega arith)
 label-plain label.Exit fits = refl
 label-plain (label.Cancel q) fits = worded (codes "x") q.0 255 refl fits (omega arith)
 label-plain (label.Refused f) fits = worded (codes "f") (fault_number f) 255 refl (fault-small f) (omega arith)
 
 content-shown : (c : Content) → IsContent c → IsPlain (codes ":" ++ number_text (number_in c))
-content-shown (Num n) fits = worded (codes ":") n 18446744073709551615 refl fits (omega arith)
+content-shown (Num n) fits = worded (codes ":") n GREATEST_VALUE refl fits (omega arith)
 content-shown (Bytes bs) fits = refl
 
 value-plain : (v : Option Value) → IfSome v IsValue → IsPlain (value_text v)

@@ -15,7 +15,7 @@ import sys
 
 ROOT = sys.argv[1] if len(sys.argv) > 1 else os.path.join(os.path.dirname(os.path.abspath(__file__)), '..')
 TICKED = re.compile(r'`([^`]+)`')
-CITED = re.compile(r'(?:(base|laws|core|live|replay|serve|words|report|scenario|story) )?`([A-Z]\w*)`: ((?:`\w+`(?:, )?)+)')
+CITED = re.compile(r'(?:(base|laws|core|live|replay|serve|words|report|scenario|story_text|story|picture|c) )?`([A-Z]\w*)`: ((?:`\w+`(?:, )?)+)')
 
 
 def read(*parts):
@@ -39,11 +39,11 @@ def public_calls(crate):
     source = '\n'.join(read(path) for path in sorted(files('crates/%s/src' % crate, '.rt')))
     offered = set(re.findall(r'\w+', ' '.join(re.findall(r'^pub use ([^;]+);', source, re.M))))
     if has_file(crate, 'lib.rt'):
-        offered |= set(re.findall(r'^pub fn (\w+)', read('crates', crate, 'src', 'lib.rt'), re.M))
+        offered |= set(re.findall(r'^pub (?:unsafe )?(?:extern "C" )?fn (\w+)', read('crates', crate, 'src', 'lib.rt'), re.M))
     else:
         offered |= set(re.findall(r'^pub (?:fn|struct|enum) (\w+)', source, re.M))
     calls, owner = {}, ''
-    for line in re.split(r'\n(?=[^\s)>]|    pub fn )', source):
+    for line in re.split(r'\n(?=[^\s)>]|    pub fn )', source.replace('pub unsafe extern "C" fn', 'pub fn').replace('pub extern "C" fn', 'pub fn')):
         block = re.match(r'impl(?:<[^>]*>)? (\w+)(?:<[^>]*>)? \{', line)
         if block:
             owner = block.group(1)
@@ -55,7 +55,7 @@ def public_calls(crate):
         name = owner + '::' + found.group(2) if found.group(1) else found.group(2)
         if (owner if found.group(1) else found.group(2)) in offered:
             head = re.split(r'\n *\{', line, maxsplit=1)[0]
-            calls[name] = {label or '–' for label in re.findall(r'ensures (\w+)? ?\{', head)}
+            calls[name] = {label or '–' for label in re.findall(r'ensures\*? (\w+)? ?\{', head)}
     return calls
 
 

@@ -1,17 +1,21 @@
 #!/bin/sh
-# program.sh [PROGRAM [SERVE]]: runs the built program on the examples, journals and scenarios; on the rows of tests/; on
+# program.sh [PROGRAM [SERVE [STORY]]]: runs the built program on the examples, journals and scenarios; on the rows of tests/; on
 # random journals beside the events that model.py makes of them; on the longest journal and one entry more; and with each of its
 # allocations refused. Runs a hub's tests and the live hub's, which `./test` has built, with theirs refused; compares
 # model.py, CLAIMS and the quotations of README with what they speak of; looks for limits that are written as numbers, and
 # for definitions and proofs that are too wide; counts the instructions of replays, where valgrind is there; tries a
-# close by an end that receives; and converses with the built chanhub_serve. The last line counts: 'N passed, M failed'.
+# close by an end that receives; converses with the built chanhub_serve; compares the stories and pictures of the built
+# chanhub_story with second readings; and builds and tries the C library. The last line counts: 'N passed, M failed', and how
+# many were skipped, if any, for what the machine lacks.
 set -u
 root=$(cd "$(dirname "$0")/.." && pwd)
 program=${1:-$root/crates/chanhub/out/chanhub}
 serve=${2:-$root/crates/chanhub_serve/out/chanhub_serve}
+story=${3:-$root/crates/chanhub_story/out/chanhub_story}
 random_journals=20
 passed=0
 failed=0
+skipped=0
 work=$(mktemp -d)
 trap 'rm -rf "$work"' EXIT
 
@@ -39,6 +43,8 @@ live_refusals=$!
 hub_refusals=$!
 "$root/tools/check_instructions.py" "$program" > "$work/instructions" 2>&1 &
 instructions=$!
+"$root/tools/story.py" "$story" > "$work/stories" 2>&1 &
+stories=$!
 
 for events in "$root"/examples/journals/*.stdout; do
     journal=${events%.stdout}
@@ -171,6 +177,18 @@ count $? "lines of definitions and proofs that are too wide"
 "$root/tools/check_quotes.py"
 count $? "what README.md quotes"
 
+"$root/tools/picture.py" "$story" > "$work/pictures" 2>&1
+count $? "pictures: $(cat "$work/pictures")"
+wait "$stories"
+count $? "stories: $(cat "$work/stories")"
+
+# Built beside what the gate has proved; the last line counts with what was skipped.
+make -C "$root/capi" > "$work/capi" 2>&1 && "$root/capi/tests/check.sh" "$program" > "$work/capi" 2>&1
+status=$?
+cat "$work/capi"
+count "$status" "the C library"
+skipped=$((skipped + $(sed -n 's/^[0-9]* passed, [0-9]* failed, \([0-9]*\) skipped$/\1/p' "$work/capi" | grep . || echo 0)))
+
 wait "$refusals"
 count $? "refused allocations: $(cat "$work/refusals")"
 wait "$live_refusals"
@@ -182,7 +200,15 @@ wait "$instructions"
 status=$?
 cat "$work/instructions"
 # 77: nothing was counted, so it neither passed nor failed.
-[ "$status" -eq 77 ] || count "$status" "instructions of replays"
+if [ "$status" -eq 77 ]; then
+    skipped=$((skipped + 1))
+else
+    count "$status" "instructions of replays"
+fi
 
-echo "$passed passed, $failed failed"
+if [ "$skipped" -eq 0 ]; then
+    echo "$passed passed, $failed failed"
+else
+    echo "$passed passed, $failed failed, $skipped skipped"
+fi
 [ "$failed" -eq 0 ]

@@ -177,6 +177,9 @@ count $? "lines of definitions and proofs that are too wide"
 "$root/tools/check_quotes.py"
 count $? "what README.md quotes"
 
+CHANHUB=$program STORY=$story OPENER=cat TMPDIR=$work "$root/tools/explain.sh" "$root/examples/scenarios/hand_over" > "$work/told" 2> "$work/errors" &&
+    grep -q '^</svg>$' "$work/told" && [ ! -s "$work/errors" ]
+count $? "a scenario explained"
 "$root/tools/picture.py" "$story" > "$work/pictures" 2>&1
 count $? "pictures: $(cat "$work/pictures")"
 wait "$stories"

@@ -12,7 +12,10 @@ import sys
 sys.dont_write_bytecode = True
 import model
 
-HEADING = "   step  who asks what                  answer            waited              value                 ends"
+FAULTS = ["no such process", "the process has exited", "the process still waits in a call", "too many cases", "no such port",
+          "the capacity is too large", "too many ports", "close of the nil port", "close of a closed port",
+          "the journal is full", "out of memory", "that process does not wait"]
+HEADING = "   step  who asks what                  answer            waited              value or fault        ends"
 ASKS, ANSWER, WAITED, VALUE, ENDS = (HEADING.index(word) for word in ("who", "answer", "waited", "value", "ends"))
 
 
@@ -112,7 +115,9 @@ class Story:
                 yield f"            to {what} port {case[1]}: last sent by {port.sender}, last received by {port.receiver}"
 
     def value(self, entry):
-        """Where a value went, or came from."""
+        """Where a value went, or came from; of a step that was refused, why."""
+        if entry.end is not None and entry.end.startswith("fault"):
+            return FAULTS[int(entry.end.split(" ")[1]) - 1]
         if not moves(entry):
             return ""
         side, port = fired(entry)[:2]
@@ -124,7 +129,9 @@ class Story:
         entry = self.entries[place]
         line = cell(f"{place + 1:7}", ASKS, "P" + entry.line)
         line = cell(line, ANSWER, answer(entry))
-        if entry.end is not None and entry.until > place:
+        if entry.end is None:
+            line = cell(line, WAITED, f"{len(self.entries) - place - 1}, still")
+        elif entry.until > place:
             line = cell(line, WAITED, f"{entry.until - place}, until {entry.until + 1}")
         line = cell(line, VALUE, self.value(entry))
         return cell(line, ENDS, " ".join(["ends", *(str(ended + 1) for ended in entry.ended)]) if entry.ended else "")

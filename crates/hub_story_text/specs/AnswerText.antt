@@ -7,6 +7,8 @@ use Rattle.hub_base.specs.declared.event.Outcome.{Outcome}
 use Rattle.hub_base.specs.declared.event.Outcome.TheVariants.{Sent, Got, Drained, Closed}
 use Rattle.hub_base.specs.declared.event.What.{What}
 use Rattle.hub_base.specs.declared.event.What.TheVariants as what
+use Rattle.hub_base.specs.declared.fault.Fault.{Fault}
+use Rattle.hub_base.specs.declared.fault.Fault.TheVariants as fault
 use Rattle.hub_base.specs.Value.{value_field}
 use Rattle.hub_base.specs.Faults.{fault_number}
 
@@ -36,3 +38,18 @@ answer_words cases what.Parked = codes "waits"
 answer_words cases what.Stalled = codes "stalled"
 answer_words cases (what.Fault f) = codes "fault " ++ decimal (fault_number f)
 answer_words cases what.Cancelled = codes "cancelled"
+
+-- why a step had no effect, in words
+abbrev pub fault_words : Fault → List ℕ
+fault_words fault.NoProcess = codes "no such process"
+fault_words fault.Gone = codes "the process has exited"
+fault_words fault.Busy = codes "the process still waits in a call"
+fault_words fault.TooManyCases = codes "too many cases"
+fault_words fault.NoPort = codes "no such port"
+fault_words fault.BadCap = codes "the capacity is too large"
+fault_words fault.TooManyPorts = codes "too many ports"
+fault_words fault.NilClose = codes "close of the nil port"
+fault_words fault.AlreadyClosed = codes "close of a closed port"
+fault_words fault.JournalFull = codes "the journal is full"
+fault_words fault.NoMemory = codes "out of memory"
+fault_words fault.NotParked = codes "that process does not wait"

@@ -1,6 +1,6 @@
 -- The line of a step: its number, who asks what, what it was told in the end, how long it waited, where its value went or
 -- came from, and which other steps it ended. A step is printed by its number, counted from 1.
-use Rattle.std.specs.Prelude.{ℕ, ◌+◌, ◌-◌, ◌==◌, ◌&&◌, not, nat_lt, Bool, List, [], ◌∷◌, ◌++◌, codes, decimal, filter, slice_get}
+use Rattle.std.specs.Prelude.{ℕ, ◌+◌, ◌-◌, ◌==◌, ◌&&◌, not, nat_lt, Bool, List, [], ◌∷◌, ◌++◌, codes, decimal, filter, length, slice_get}
 use Rattle.std.specs.Prelude.{Option, None, Some, if◌then◌else◌}
 use Rattle.std.specs.List.{flat_map, join_with_byte}
 use Rattle.std.specs.Option.{option_map_or}
@@ -18,7 +18,7 @@ use Rattle.hub_laws.specs.Replies.{is_parked}
 use Rattle.hub_story.specs.declared.told.Told.{Told}
 use Rattle.hub_story_text.specs.declared.cells.TheConstants.{STEP_WIDTH, ASKS, ANSWER, WAITED, VALUE, ENDS}
 use Rattle.hub_story_text.specs.Cells.{right, with_cell}
-use Rattle.hub_story_text.specs.AnswerText.{answer_words}
+use Rattle.hub_story_text.specs.AnswerText.{answer_words, fault_words}
 
 -- the entry's line in the journal, without its newline
 abbrev pub asks : Entry → List ℕ
@@ -52,6 +52,7 @@ moved_words es partner other outcome = []
 
 abbrev pub value_words : List Entry → List Case → Option ℕ → What → List ℕ
 value_words es cases partner (what.Fired i o) = option_map_or (λ c. moved_words es partner c o) (slice_get cases i) []
+value_words es cases partner (what.Fault f) = fault_words f
 value_words es cases partner other = []
 
 -- the event ended a step other than the one at this place
@@ -70,9 +71,11 @@ abbrev pub with_ended : List ℕ → Told → List ℕ
 with_ended [] t = codes "ends" ++ step_number t
 with_ended (c ∷ cs) t = c ∷ cs ++ step_number t
 
--- behind who asks what: what it was told in the end, how long it waited, and what is known of its value
+-- behind who asks what: what it was told in the end, how long it waited, and what is known of its value, or what is wrong; a
+-- call that waits has waited until the journal's last step
 abbrev pub with_end : List Entry → ℕ → Entry → Option ℕ → List ℕ → Option Told → List ℕ
-with_end es place e partner before None = with_cell ANSWER before (codes "waits")
+with_end es place e partner before None =
+    with_cell WAITED (with_cell ANSWER before (codes "waits")) (decimal (length es - (place + 1)) ++ codes ", still")
 with_end es place e partner before (Some t) =
     with_cell VALUE
     (with_cell WAITED (with_cell ANSWER before (answer_words (cases_or e.step []) t.event.what)) (waited_words place t))

@@ -1,10 +1,10 @@
 //! What a step was told, in the words of events.
 
 ghost use Rattle.std.specs.Prelude.{◌≡◌, ◌++◌, OnOk};
-ghost use Rattle.hub_story_text.specs.AnswerText.{answer_words, case_name, fired_name, outcome_words};
+ghost use Rattle.hub_story_text.specs.AnswerText.{answer_words, case_name, fault_words, fired_name, outcome_words};
 
 use crate::numbers::{put_number, put_value};
-use hub_base::{Case, NoMemory, Outcome, What};
+use hub_base::{Case, Fault, NoMemory, Outcome, What};
 use std::alloc::AllocError;
 
 /// Appends a case without its value.
@@ -65,4 +65,24 @@ pub(crate) fn put_answer(out: &mut Vec<u8>, cases: &[Case], what: What) -> Resul
         What::Cancelled => out.extend_from_slice(b"cancelled")?,
     }
     Ok(())
+}
+
+/// Why a step had no effect, in words.
+pub(crate) fn fault_words(fault: Fault) -> &'static [u8]
+    ensures { result.now ≡ fault_words fault }
+{
+    match fault {
+        Fault::NoProcess => b"no such process",
+        Fault::Gone => b"the process has exited",
+        Fault::Busy => b"the process still waits in a call",
+        Fault::TooManyCases => b"too many cases",
+        Fault::NoPort => b"no such port",
+        Fault::BadCap => b"the capacity is too large",
+        Fault::TooManyPorts => b"too many ports",
+        Fault::NilClose => b"close of the nil port",
+        Fault::AlreadyClosed => b"close of a closed port",
+        Fault::JournalFull => b"the journal is full",
+        Fault::NoMemory => b"out of memory",
+        Fault::NotParked => b"that process does not wait",
+    }
 }

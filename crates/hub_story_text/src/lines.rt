@@ -1,10 +1,10 @@
 //! The line of a step.
 
-ghost use Rattle.std.specs.Prelude.{◌≡◌, ◌++◌, [], filter, OnOk, Some};
-ghost use Rattle.hub_story_text.specs.LineText.{asks, ends_other, ends_words, got_words, line, sent_words};
+ghost use Rattle.std.specs.Prelude.{◌≡◌, ◌+◌, ◌-◌, ◌++◌, [], codes, decimal, filter, OnOk, Some};
+ghost use Rattle.hub_story_text.specs.LineText.{asks, ends_other, ends_words, got_words, line, moved_words, sent_words};
 ghost use Rattle.hub_story_text.specs.LineText.{step_words, value_words, waited_words, with_end, with_ended};
 
-use crate::answers::put_answer;
+use crate::answers::{fault_words, put_answer};
 use crate::cells::{ANSWER, ASKS, ENDS, Row, VALUE, WAITED};
 use crate::entries::cases_of;
 use crate::numbers::{number_of, put_number};
@@ -31,6 +31,14 @@ fn put_waited(cell: &mut Vec<u8>, place: u32, told: &Told) -> Result<(), AllocEr
     }
     put_number(cell, b"", (told.by - place).into())?;
     put_number(cell, b", until ", number_of(told.by))
+}
+
+/// Appends how long a step has waited that still does, by the last of so many steps.
+fn put_still(cell: &mut Vec<u8>, place: u32, count: usize) -> Result<(), AllocError>
+    ensures { OnOk result (cell.new.items ≡ cell.old.items ++ decimal (count - (place + 1)) ++ codes ", still") }
+{
+    put_number(cell, b"", count.saturating_sub(place as usize + 1) as u64)?;
+    cell.extend_from_slice(b", still")
 }
 
 /// Appends the process of the entry at this place, and its step.
@@ -72,7 +80,24 @@ fn put_got(cell: &mut Vec<u8>, entries: &[Entry], partner: Option<u32>) -> Resul
     put_step(cell, entries, place)
 }
 
-/// Appends where the value of a step went or came from.
+/// Appends where the value went or came from that the case moved.
+fn put_passed(
+    cell: &mut Vec<u8>,
+    entries: &[Entry],
+    partner: Option<u32>,
+    case: Case,
+    outcome: Outcome,
+) -> Result<(), AllocError>
+    ensures { OnOk result (cell.new.items ≡ cell.old.items ++ moved_words entries.now partner case outcome) }
+{
+    match (case, outcome) {
+        (Case::Send(port, _), Outcome::Sent) => put_sent(cell, entries, port, partner),
+        (Case::Recv(_), Outcome::Got(_)) => put_got(cell, entries, partner),
+        _ => Ok(()),
+    }
+}
+
+/// Appends where the value of a step went or came from, or what is wrong with the step.
 fn put_moved(
     cell: &mut Vec<u8>,
     entries: &[Entry],
@@ -82,15 +107,12 @@ fn put_moved(
 ) -> Result<(), AllocError>
     ensures { OnOk result (cell.new.items ≡ cell.old.items ++ value_words entries.now cases.now partner what) }
 {
-    let What::Fired { case, outcome } = what else {
-        return Ok(());
-    };
-    let Some(case) = cases.get(usize::from(case)) else {
-        return Ok(());
-    };
-    match (*case, outcome) {
-        (Case::Send(port, _), Outcome::Sent) => put_sent(cell, entries, port, partner),
-        (Case::Recv(_), Outcome::Got(_)) => put_got(cell, entries, partner),
+    match what {
+        What::Fired { case, outcome } => match cases.get(usize::from(case)) {
+            Some(case) => put_passed(cell, entries, partner, *case, outcome),
+            None => Ok(()),
+        },
+        What::Fault(fault) => cell.extend_from_slice(fault_words(fault)),
         _ => Ok(()),
     }
 }
@@ -167,6 +189,8 @@ fn put_end(
         None => {
             row.cell.extend_from_slice(b"waits")?;
             row.put(ANSWER)?;
+            put_still(&mut row.cell, place, entries.len())?;
+            row.put(WAITED)?;
             Ok(())
         }
     }

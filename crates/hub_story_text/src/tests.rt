@@ -30,7 +30,7 @@ const BUFFERED: &[u8] = b"chanhub journal 1\nprocs 2\n\
 fn buffered_values_and_a_stall_are_told(rt: HostRuntime) -> Result<(), Fail> {
     let text = told(&rt, rt.alloc(), BUFFERED, 0, 7)?;
     let expected =
-        b"   step  who asks what                  answer            waited              value                 ends\n\
+        b"   step  who asks what                  answer            waited              value or fault        ends\n\
        \x20     1  P0 make 1                      made 1\n\
        \x20     2  P0 send 1 5                    sent                                  to P1, step 4\n\
        \x20     3  P0 send 1 6                    sent              1, until 4          to P1, step 5\n\
@@ -53,14 +53,14 @@ fn selects_cancels_and_faults_are_told(rt: HostRuntime) -> Result<(), Fail> {
         0 make 0\n0 make 1\n1 select 0 r1 s2:#00ff default\n1 recv 1\n2 select 3 r1 s2:7\n0 cancel 1\n0 recv 9\n";
     let text = told(&rt, rt.alloc(), journal, 0, 7)?;
     let expected =
-        b"   step  who asks what                  answer            waited              value                 ends\n\
+        b"   step  who asks what                  answer            waited              value or fault        ends\n\
        \x20     1  P0 make 0                      made 1\n\
        \x20     2  P0 make 1                      made 2\n\
        \x20     3  P1 select 0 r1 s2:#00ff default  s2 sent                             stays in port 2\n\
        \x20     4  P1 recv 1                      cancelled         2, until 6\n\
-       \x20     5  P2 select 3 r1 s2:7            waits\n\
+       \x20     5  P2 select 3 r1 s2:7            waits             2, still\n\
        \x20     6  P0 cancel 1                    done                                                        ends 4\n\
-       \x20     7  P0 recv 9                      fault 5\n\
+       \x20     7  P0 recv 9                      fault 5                               no such port\n\
         port 1 cap 0 sent 0 received 0 left 0 made by P0 at step 1\n\
         port 2 cap 1 sent 1 received 0 left 1 made by P0 at step 2\n\
         in the end these wait\n\
@@ -76,7 +76,7 @@ fn selects_cancels_and_faults_are_told(rt: HostRuntime) -> Result<(), Fail> {
 fn a_window_has_its_steps(rt: HostRuntime) -> Result<(), Fail> {
     let text = told(&rt, rt.alloc(), BUFFERED, 2, 4)?;
     let expected =
-        b"   step  who asks what                  answer            waited              value                 ends\n\
+        b"   step  who asks what                  answer            waited              value or fault        ends\n\
        \x20     3  P0 send 1 6                    sent              1, until 4          to P1, step 5\n\
        \x20     4  P1 recv 1                      got 5                                 from P0, step 2       ends 3\n\
         port 1 cap 1 sent 2 received 2 left 0 made by P0 at step 1\n";

@@ -1,7 +1,8 @@
 #!/usr/bin/env python3
 """story.py STORY: has the built chanhub_story (STORY) tell the examples, random journals and the longest ones, whole and by
 windows, and compares each text with the one that story_model.py writes. Runs the rows of tests/stories.toml and
-tests/faulty_journals.toml too. The last line counts: 'N passed, M failed'."""
+tests/faulty_journals.toml too, and stories with each allocation refused, which needs a C compiler. The last line counts:
+'N passed, M failed'."""
 import os
 import pathlib
 import random
@@ -16,6 +17,7 @@ from story_model import Story
 ROOT = pathlib.Path(__file__).resolve().parent.parent
 RANDOM_JOURNALS = 60
 MINUTE = 60
+MOST_ALLOCATIONS = 1000
 
 
 class Program:
@@ -24,10 +26,11 @@ class Program:
     def __init__(self, path):
         self.path = pathlib.Path(path).resolve()
 
-    def run(self, words, journal=b""):
+    def run(self, words, journal=b"", **environment):
         """The status, what was written to standard output, and to standard error; nothing where it takes too long."""
+        surroundings = {**os.environ, **environment}
         try:
-            done = subprocess.run([self.path, *words], input=journal, capture_output=True, timeout=MINUTE)
+            done = subprocess.run([self.path, *words], input=journal, capture_output=True, timeout=MINUTE, env=surroundings)
         except subprocess.TimeoutExpired:
             return None
         return done.returncode, done.stdout, done.stderr
@@ -123,6 +126,28 @@ def devices(program, _):
     yield "a folder for a journal", program.run_on_folder(["text"]) == (1, b"", b"chanhub: read failed\n")
 
 
+def survives_refusals(program, journal, refuse):
+    """With each allocation refused in turn the story is told, or that memory is wanting and nothing else."""
+    told = program.run(["text"], journal)
+    for number in range(1, MOST_ALLOCATIONS):
+        trace = refuse.with_name("refused")
+        trace.unlink(missing_ok=True)
+        done = program.run(["text"], journal, LD_PRELOAD=str(refuse), REFUSE=str(number), REFUSED=str(trace))
+        if not trace.exists():
+            return number > 1 and done == told
+        if done not in (told, (1, b"", b"chanhub: out of memory\n")):
+            return False
+    return False
+
+
+def refused_allocations(program, work):
+    refuse = pathlib.Path(work) / "refuse.so"
+    flags = ["-O1", "-shared", "-fPIC", "-fno-builtin", "-o", refuse]
+    subprocess.run([os.environ.get("CC", "cc"), *flags, ROOT / "tools" / "refuse.c"], check=True)
+    for row in table("stories")["story"]:
+        yield row["name"], survives_refusals(program, row["journal"].encode(), refuse)
+
+
 def longest_journals(program, _):
     """A journal has at most 1,000,000 entries that are no exits. Each is told within a minute."""
     head = "chanhub journal 1\nprocs 1\n"
@@ -139,7 +164,7 @@ def main():
     program = Program(sys.argv[1])
     passed = failed = 0
     with tempfile.TemporaryDirectory() as work:
-        for checks in (worked, texts, faulty_journals, arguments, devices, longest_journals):
+        for checks in (worked, texts, faulty_journals, arguments, devices, refused_allocations, longest_journals):
             for name, good in checks(program, work):
                 passed, failed = passed + good, failed + (not good)
                 if not good:

@@ -7,11 +7,13 @@ mod fault;
 mod program;
 
 use asked::{Asked, Form, Shown};
-use hub_base::number;
+use fault::{StoryFault, tell};
+use hub_base::{NoMemory, number};
 use hub_replay::{Counted, write_pieces};
 use program::run;
 use std::alloc::AllocError;
 use std::env;
+use std::io::ErrorKind;
 use std::process::ExitCode;
 use std::rt::Env;
 
@@ -35,20 +37,18 @@ const USAGE: &str =
     Status 0: it was written. 1: a device or memory. 2: a malformed journal, or steps that it\n\
     does not have; standard error names it.\n";
 
-/// The arguments, the program's name first.
+/// The arguments, the program's name first. Where one is not UTF-8 there are none.
 fn arguments<R: Env + AllocGlobal>(rt: &R) -> Result<Vec<String>, AllocError> {
     match env::args(rt) {
         Ok(args) => args.collect(rt.alloc()),
+        Err(error) if error.kind() == ErrorKind::InvalidData => Ok(Vec::new(rt.alloc())),
         Err(_) => Err(AllocError),
     }
 }
 
-/// What the arguments ask for. Arguments that can't be read ask for nothing that is known.
-fn requested<R: Env + AllocGlobal>(rt: &R) -> Request {
-    match arguments(rt) {
-        Ok(words) => read_request(&words),
-        Err(AllocError) => Request::Unknown,
-    }
+/// What the arguments ask for.
+fn requested<R: Env + AllocGlobal>(rt: &R) -> Result<Request, AllocError> {
+    Ok(read_request(&arguments(rt)?))
 }
 
 /// A step, counted from 1.
@@ -93,17 +93,18 @@ fn main(rt: HostRuntime) -> ExitCode {
     let mut output = Counted::new(rt.stdout());
     let mut errors = Counted::new(rt.stderr());
     match requested(&rt) {
-        Request::Explain(asked) => {
+        Ok(Request::Explain(asked)) => {
             let mut input = Counted::new(rt.stdin());
             ExitCode::from(run(rt.alloc(), asked, &mut input, &mut output, &mut errors))
         }
-        Request::Help => match write_pieces(&mut output, &[USAGE]) {
+        Ok(Request::Help) => match write_pieces(&mut output, &[USAGE]) {
             Ok(()) => ExitCode::from(0),
             Err(_) => ExitCode::from(1),
         },
-        Request::Unknown => {
+        Ok(Request::Unknown) => {
             let _ = write_pieces(&mut errors, &["chanhub: bad arguments\n"]);
             ExitCode::from(2)
         }
+        Err(AllocError) => ExitCode::from(tell(StoryFault::from(NoMemory), &mut errors)),
     }
 }

@@ -3,11 +3,12 @@
 
 mod program;
 
-use hub_replay::{Counted, write_whole};
+use hub_replay::{Counted, ReplayFault, tell_fault, write_whole};
 use hub_serve::Pair;
 use program::run;
 use std::alloc::AllocError;
 use std::env;
+use std::io::ErrorKind;
 use std::marker::{Brand, PhantomData};
 use std::process::ExitCode;
 use std::rt::Env;
@@ -30,20 +31,18 @@ const USAGE: &str = "usage: chanhub_serve\n\n\
     Status 0: all was a journal, and is answered. 1: a device or memory. 2: a faulty line, which\n\
     standard error names.\n";
 
-/// The arguments, the program's name first.
+/// The arguments, the program's name first. Where one is not UTF-8 there are none.
 fn arguments<R: Env + AllocGlobal>(rt: &R) -> Result<Vec<String>, AllocError> {
     match env::args(rt) {
         Ok(args) => args.collect(rt.alloc()),
+        Err(error) if error.kind() == ErrorKind::InvalidData => Ok(Vec::new(rt.alloc())),
         Err(_) => Err(AllocError),
     }
 }
 
-/// What the arguments ask for. Arguments that can't be read ask for nothing that is known.
-fn asked<R: Env + AllocGlobal>(rt: &R) -> Request {
-    match arguments(rt) {
-        Ok(words) => read_request(&words),
-        Err(AllocError) => Request::Unknown,
-    }
+/// What the arguments ask for.
+fn requested<R: Env + AllocGlobal>(rt: &R) -> Result<Request, AllocError> {
+    Ok(read_request(&arguments(rt)?))
 }
 
 fn read_request(words: &[String]) -> Request {
@@ -56,8 +55,8 @@ fn read_request(words: &[String]) -> Request {
 
 fn main(rt: HostRuntime) -> ExitCode {
     let mut errors = Counted::new(rt.stderr());
-    match asked(&rt) {
-        Request::Converse => {
+    match requested(&rt) {
+        Ok(Request::Converse) => {
             let mut pair = Pair::<Brand, _, _> {
                 source: Counted::new(rt.stdin()),
                 sink: Counted::new(rt.stdout()),
@@ -65,16 +64,17 @@ fn main(rt: HostRuntime) -> ExitCode {
             };
             ExitCode::from(run(rt.alloc(), &mut pair, &mut errors))
         }
-        Request::Help => {
+        Ok(Request::Help) => {
             let mut output = Counted::new(rt.stdout());
             match write_whole(&mut output, USAGE.as_bytes()) {
                 Ok(()) => ExitCode::from(0),
                 Err(_) => ExitCode::from(1),
             }
         }
-        Request::Unknown => {
+        Ok(Request::Unknown) => {
             let _ = write_whole(&mut errors, b"chanhub: bad arguments\n");
             ExitCode::from(2)
         }
+        Err(AllocError) => ExitCode::from(tell_fault(ReplayFault::NoMemory, &mut errors)),
     }
 }

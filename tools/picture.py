@@ -2,8 +2,8 @@
 """picture.py STORY: checks the pictures of the built chanhub_story (STORY), of the example journals, of 50 random ones and of
 windows of each. What a picture has to show is worked out here, from the journal and from the events that tools/model.py tells
 of it, and never from a picture: the boxes are the entries, the bars the calls that waited, the arrows go from the k-th value
-that was sent on a port to the k-th that was received, the stalls are the calls that were told so. The pictures of docs/pictures
-are drawn again and compared. The last line counts: 'N passed, M failed'."""
+that was sent on a port to the k-th that was received, the stalls are the calls that were told so. Arrows lie above the boxes, and
+go from one's side to the other's. The pictures of docs/pictures are drawn again and compared. The last line counts: 'N passed, M failed'."""
 import collections
 import pathlib
 import random
@@ -18,6 +18,7 @@ TOOLS = ROOT / "tools"
 SVG = "{http://www.w3.org/2000/svg}"
 WAIT = 60
 RANDOM = 50
+LAYERS = ["lane", "stall", "bar", "box", "arrow"]
 
 Asked = collections.namedtuple("Asked", "place line cases ended")
 Told = collections.namedtuple("Told", "by event")
@@ -154,6 +155,37 @@ def number(element, name):
     return int(element.get(name))
 
 
+def numbers(path):
+    return [int(digits) for digits in re.findall(r"\d+", path.get("d"))]
+
+
+def layers_agree(root):
+    """In each band stalls lie on the lanes, bars on them, boxes on these, and arrows on top."""
+    last = 0
+    for element in root:
+        shape = element.get("class", "").split(" ")[0]
+        if shape in LAYERS:
+            assert shape == "lane" or last <= LAYERS.index(shape), f"{shape} lies above {LAYERS[last]}"
+            last = LAYERS.index(shape)
+
+
+def arrows_agree(root, wanted, bands):
+    """Each goes from the side of its sender that faces the receiver to the side of this one that faces the sender, and in the
+    columns of their steps where its band has them."""
+    rects = {title.split("\n")[0]: group.find(SVG + "rect") for group, title in shapes(root, "box")}
+    columns = {step: number(rect, "x") + number(rect, "width") // 2 for step, rect in rects.items()}
+    lanes = [numbers(path)[1] for path in root.iter(SVG + "path") if path.get("class") == "lane"]
+    procs = len(lanes) // len(set(bands.band(place) for place in range(bands.first, bands.end)))
+    for (group, title), (band, _) in zip(shapes(root, "arrow"), sorted(wanted, key=lambda pair: pair[0])):
+        ends = numbers(group.find(SVG + "path"))
+        sent, received = (int(pid) for pid in re.findall(r"^(\d+) case", title, re.MULTILINE))
+        side = number(next(iter(rects.values())), "height") // 2 * ((sent < received) - (received < sent))
+        assert ends[1::2] == [lanes[band * procs + sent] + side, lanes[band * procs + received] - side], title
+        for x, step in zip(ends[::2], re.findall(r"by step (\d+)", title)):
+            place = int(step) - 1
+            assert not bands.has(place) or bands.band(place) != band or x == columns[f"step {step}"], title
+
+
 def places_agree(root):
     """Boxes of one step have one column, of one process one height in a band, and a value handed over goes straight down."""
     columns, heights = {}, collections.defaultdict(set)
@@ -164,7 +196,7 @@ def places_agree(root):
         heights[pid].add(number(rect, "y"))
     for group, title in shapes(root, "arrow"):
         steps = re.findall(r"by step (\d+)", title)
-        ends = re.findall(r"\d+", group.find(SVG + "path").get("d"))
+        ends = numbers(group.find(SVG + "path"))
         assert (steps[0] == steps[1]) <= (ends[0] == ends[2]), title
     width, height = number(root, "width"), number(root, "height")
     for rect in root.iter(SVG + "rect"):
@@ -193,6 +225,8 @@ def check_picture(picture, journal, first, end):
     same("bars", shapes(root, "bar"), bars(journal, bands))
     same("arrows", shapes(root, "arrow"), arrows(journal, bands))
     same("stalls", shapes(root, "stall"), stalls(journal, bands))
+    layers_agree(root)
+    arrows_agree(root, arrows(journal, bands), bands)
     places_agree(root)
 
 

@@ -39,8 +39,8 @@ fn put_front(out: &mut Vec<u8>, frame: Frame, drawing: &Drawing) -> Result<(), A
     ensures { Appends out.old out.new (front_text frame drawing.now) result }
 {
     put_bars(out, frame, &drawing.bars)?;
-    put_arrows(out, frame, &drawing.arrows)?;
-    put_boxes(out, frame, &drawing.boxes)
+    put_boxes(out, frame, &drawing.boxes)?;
+    put_arrows(out, frame, &drawing.arrows)
 }
 
 /// Appends a band.

@@ -97,3 +97,17 @@ fn picture_is_appended(rt: HostRuntime) -> Result<(), Fail> {
     assert!(rt; out.ends_with(b"</svg>\n"));
     Ok(())
 }
+
+/// The last arrow of the band, and the foot right behind it.
+const LAST_ARROW: &[u8] =
+    b"</title><path d=\"M340 113L420 141\"/></g>\n<text class=\"note\" x=\"12\" y=\"296\">Box: an entry;";
+
+/// An arrow goes from the lower side of its sender to the upper side of its receiver, and no box lies above it.
+#[test]
+fn arrow_goes_from_side_to_side(rt: HostRuntime) -> Result<(), Fail> {
+    let drawing = drawn(&rt, rt.alloc(), PIPE, Window { first: 0, end: 9 })?;
+    let mut out = Vec::new(rt.alloc());
+    write_svg(&drawing, &mut out)?;
+    assert!(rt; out.windows(LAST_ARROW.len()).any(|part| part == LAST_ARROW));
+    Ok(())
+}

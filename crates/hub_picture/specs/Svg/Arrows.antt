@@ -32,20 +32,21 @@ arrow_opening p =
 abbrev pub arrow_title : Told → Told → List ℕ
 arrow_title sent received = moved_title sent ++ codes "to\n" ++ moved_title received
 
--- the tip is at the side of the receiver's box that the sender's faces
-abbrev pub tip_of : Frame → ℕ → ℕ → ℕ
-tip_of f from to =
-    if nat_lt from to then y_of f to - size_of f.scale / 2
-    else if nat_lt to from then y_of f to + size_of f.scale / 2
-    else y_of f to
+-- the side of a process' box that the other's faces; on the lane where both are one process
+abbrev pub side_of : Frame → ℕ → ℕ → ℕ
+side_of f pid other =
+    if nat_lt other pid then y_of f pid - size_of f.scale / 2
+    else if nat_lt pid other then y_of f pid + size_of f.scale / 2
+    else y_of f pid
 
+-- from the side of the sender's box to the side of the receiver's
 abbrev pub arrow_body : Frame → Told → Told → List ℕ
 arrow_body f sent received =
     joined (
     codes "</title><path d=\"M" ∷ decimal (x_of f sent.by)
-    ∷ codes " " ∷ decimal (y_of f sent.event.pid.0)
+    ∷ codes " " ∷ decimal (side_of f sent.event.pid.0 received.event.pid.0)
     ∷ codes "L" ∷ decimal (x_of f received.by)
-    ∷ codes " " ∷ decimal (tip_of f sent.event.pid.0 received.event.pid.0)
+    ∷ codes " " ∷ decimal (side_of f received.event.pid.0 sent.event.pid.0)
     ∷ codes "\"/></g>\n"
     ∷ [])
 

@@ -42,13 +42,19 @@ tip_text =
     codes "<marker id=\"tip\" viewBox=\"0 0 8 8\" refX=\"7\" refY=\"4\" markerWidth=\"5\" markerHeight=\"5\" orient=\"auto\">"
     ++ codes "<path class=\"tip\" d=\"M0 0L8 4L0 8z\"/></marker>"
 
+-- the dot where it begins
+abbrev pub dot_text : List ℕ
+dot_text =
+    codes "<marker id=\"dot\" viewBox=\"0 0 8 8\" refX=\"4\" refY=\"4\" markerWidth=\"3\" markerHeight=\"3\">"
+    ++ codes "<circle class=\"tip\" cx=\"4\" cy=\"4\" r=\"4\"/></marker>"
+
 abbrev pub page_opening : Drawing → List ℕ
 page_opening d =
     joined (
     codes "<svg xmlns=\"http://www.w3.org/2000/svg\" width=\"" ∷ decimal (width_of d)
-    ∷ codes "\" height=\"" ∷ decimal (foot_of d + 60)
+    ∷ codes "\" height=\"" ∷ decimal (foot_of d + 78)
     ∷ codes "\" viewBox=\"0 0 " ∷ decimal (width_of d)
-    ∷ codes " " ∷ decimal (foot_of d + 60)
+    ∷ codes " " ∷ decimal (foot_of d + 78)
     ∷ codes "\" role=\"img\">\n<title>Steps " ∷ decimal (d.window.first + 1)
     ∷ codes " to " ∷ decimal d.window.end
     ∷ codes "</title>\n<style>"
@@ -58,24 +64,25 @@ abbrev pub paper_text : Drawing → List ℕ
 paper_text d =
     joined (
     codes "</style>\n<rect class=\"paper\" width=\"" ∷ decimal (width_of d)
-    ∷ codes "\" height=\"" ∷ decimal (foot_of d + 60)
+    ∷ codes "\" height=\"" ∷ decimal (foot_of d + 78)
     ∷ codes "\"/>\n<text class=\"note\" x=\"12\" y=\"20\">Steps " ∷ decimal (d.window.first + 1)
     ∷ codes " to " ∷ decimal d.window.end
     ∷ codes " of " ∷ decimal d.procs
     ∷ codes " processes</text>\n<defs>" ∷ tip_text
+    ∷ dot_text
     ∷ codes "</defs>\n"
     ∷ [])
 
 abbrev pub head_text : Drawing → List ℕ
 head_text d = page_opening d ++ style ++ paper_text d
 
--- what stands behind, and what before it
+-- what stands behind, and what before it: arrows above all, so that no box hides where one passes
 abbrev pub back_text : Frame → Drawing → List ℕ
 back_text f d = lanes_to f.procs f ++ ticks_to (f.steps.end - f.steps.first) f ++ flat_map (stall_in f) d.stalls.items
 
 abbrev pub front_text : Frame → Drawing → List ℕ
 front_text f d =
-    flat_map (bar_in f) d.bars.items ++ flat_map (arrow_in f) d.arrows.items ++ flat_map (box_in f) d.boxes.items
+    flat_map (bar_in f) d.bars.items ++ flat_map (box_in f) d.boxes.items ++ flat_map (arrow_in f) d.arrows.items
 
 abbrev pub band_text : Frame → Drawing → List ℕ
 band_text f d = back_text f d ++ front_text f d
@@ -93,8 +100,13 @@ first_note =
 
 abbrev pub second_note : List ℕ
 second_note =
-    codes "Arrow: a value; straight down it was handed over, slanted it "
-    ++ codes "lay in the buffer. Dashed: refused, stalled, drained or still open."
+    codes "Arrow: a value; it begins at the dot and ends at the tip. Straight "
+    ++ codes "down it was handed over, slanted it lay in the buffer."
+
+abbrev pub third_note : List ℕ
+third_note =
+    codes "Dashed box: it still waits, was cancelled, or found its port "
+    ++ codes "closed. Thick and orange: stalled, refused, or sent on a closed port."
 
 abbrev pub foot_text : Drawing → List ℕ
 foot_text d =
@@ -103,6 +115,8 @@ foot_text d =
     ∷ codes "\">" ∷ first_note
     ∷ codes "</text>\n<text class=\"note\" x=\"12\" y=\"" ∷ decimal (foot_of d + 42)
     ∷ codes "\">" ∷ second_note
+    ∷ codes "</text>\n<text class=\"note\" x=\"12\" y=\"" ∷ decimal (foot_of d + 60)
+    ∷ codes "\">" ∷ third_note
     ∷ codes "</text>\n</svg>\n"
     ∷ [])
 

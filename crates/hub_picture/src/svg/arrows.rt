@@ -4,7 +4,7 @@ ghost use Rattle.std.specs.List.{flat_map};
 ghost use Rattle.std.specs.Prelude.{◌≡◌};
 ghost use Rattle.hub_picture.specs.Pieces.{Appends};
 ghost use Rattle.hub_picture.specs.Svg.Arrows.{arrow_body, arrow_in, arrow_opening, arrow_text};
-ghost use Rattle.hub_picture.specs.Svg.Arrows.{arrow_title, ends_in, moved_title, tip_of};
+ghost use Rattle.hub_picture.specs.Svg.Arrows.{arrow_title, ends_in, moved_title, side_of};
 
 use crate::Arrow;
 use crate::frame::{Frame, number_of};
@@ -13,14 +13,14 @@ use hub_base::{Pid, Port};
 use hub_story::Told;
 use std::alloc::AllocError;
 
-/// Where the tip of an arrow between two processes is.
-fn tip(frame: Frame, from: Pid, to: Pid) -> u64
-    ensures { result ≡ tip_of frame from.0 to.0 }
+/// The side of a process' box that the other's faces.
+fn side(frame: Frame, pid: Pid, other: Pid) -> u64
+    ensures { result ≡ side_of frame pid.0 other.0 }
 {
-    let (y, half) = (frame.y(to.0), frame.scale.size() / 2);
-    if from.0 < to.0 {
+    let (y, half) = (frame.y(pid.0), frame.scale.size() / 2);
+    if other.0 < pid.0 {
         y - half
-    } else if to.0 < from.0 {
+    } else if pid.0 < other.0 {
         y + half
     } else {
         y
@@ -79,11 +79,11 @@ fn put_body(out: &mut Vec<u8>, frame: Frame, sent: &Told, received: &Told) -> Re
             Piece::Word(b"</title><path d=\"M"),
             Piece::Number(frame.x(sent.by)),
             Piece::Word(b" "),
-            Piece::Number(frame.y(sent.event.pid.0)),
+            Piece::Number(side(frame, sent.event.pid, received.event.pid)),
             Piece::Word(b"L"),
             Piece::Number(frame.x(received.by)),
             Piece::Word(b" "),
-            Piece::Number(tip(frame, sent.event.pid, received.event.pid)),
+            Piece::Number(side(frame, received.event.pid, sent.event.pid)),
             Piece::Word(b"\"/></g>\n"),
         ],
     )

@@ -68,7 +68,7 @@ fn foot_of(drawing: &Drawing) -> u64
 fn put_opening(out: &mut Vec<u8>, drawing: &Drawing) -> Result<(), AllocError>
     ensures { Appends out.old out.new (page_opening drawing.now) result }
 {
-    let (width, height) = (width_of(drawing), foot_of(drawing) + 60);
+    let (width, height) = (width_of(drawing), foot_of(drawing) + 78);
     put_pieces(
         out,
         &[
@@ -99,7 +99,7 @@ fn put_paper(out: &mut Vec<u8>, drawing: &Drawing) -> Result<(), AllocError>
             Piece::Word(b"</style>\n<rect class=\"paper\" width=\""),
             Piece::Number(width_of(drawing)),
             Piece::Word(b"\" height=\""),
-            Piece::Number(foot_of(drawing) + 60),
+            Piece::Number(foot_of(drawing) + 78),
             Piece::Word(b"\"/>\n<text class=\"note\" x=\"12\" y=\"20\">Steps "),
             Piece::Number(number_of(drawing.window.first)),
             Piece::Word(b" to "),
@@ -111,6 +111,10 @@ fn put_paper(out: &mut Vec<u8>, drawing: &Drawing) -> Result<(), AllocError>
                 b"<marker id=\"tip\" viewBox=\"0 0 8 8\" refX=\"7\" refY=\"4\" markerWidth=\"5\" markerHeight=\"5\" orient=\"auto\">",
             ),
             Piece::Word(b"<path class=\"tip\" d=\"M0 0L8 4L0 8z\"/></marker>"),
+            Piece::Word(
+                b"<marker id=\"dot\" viewBox=\"0 0 8 8\" refX=\"4\" refY=\"4\" markerWidth=\"3\" markerHeight=\"3\">",
+            ),
+            Piece::Word(b"<circle class=\"tip\" cx=\"4\" cy=\"4\" r=\"4\"/></marker>"),
             Piece::Word(b"</defs>\n"),
         ],
     )
@@ -141,8 +145,13 @@ pub(crate) fn put_foot(out: &mut Vec<u8>, drawing: &Drawing) -> Result<(), Alloc
             Piece::Word(b"</text>\n<text class=\"note\" x=\"12\" y=\""),
             Piece::Number(foot + 42),
             Piece::Word(b"\">"),
-            Piece::Word(b"Arrow: a value; straight down it was handed over, slanted it "),
-            Piece::Word(b"lay in the buffer. Dashed: refused, stalled, drained or still open."),
+            Piece::Word(b"Arrow: a value; it begins at the dot and ends at the tip. Straight "),
+            Piece::Word(b"down it was handed over, slanted it lay in the buffer."),
+            Piece::Word(b"</text>\n<text class=\"note\" x=\"12\" y=\""),
+            Piece::Number(foot + 60),
+            Piece::Word(b"\">"),
+            Piece::Word(b"Dashed box: it still waits, was cancelled, or found its port "),
+            Piece::Word(b"closed. Thick and orange: stalled, refused, or sent on a closed port."),
             Piece::Word(b"</text>\n</svg>\n"),
         ],
     )

@@ -9,10 +9,6 @@ use Rattle.chanhub.specs.declared.refusal.Refusal.TheVariants.{Replay}
 use Rattle.chanhub.specs.Promises.{IsRefused, RefusesReplay}
 use Rattle.chanhub.specs.Statuses.{status_of}
 
-pub if_err : {A F : Type 0} (r : Result A F) {P : Type 0} → P → IfErr r (λ _. P)
-if_err (Ok x) p = tt
-if_err (Err f) p = p
-
 pub handed : {A E F : Type 0} (r : Result A F) (of : E → F) (e : E) (Q : F → Type 0) → IsErr r × IsErrAnd r (λ given. given ≡ of e) → Q (of e) → IfErr r Q
 handed (Ok x) of e Q given q = tt
 handed (Err f) of e Q given q = subst Q (sym given.1) q

@@ -103,9 +103,6 @@ pub record IsCut (place : ℕ) (all earlier later : List Told) : Type 0 where
   pub before : AllByRecursion (λ t. t.by < place) earlier
   pub rest : IsFrom place later
 
-pub cut-first : (all : List Told) → IsFrom 0 all → IsCut 0 all [] all
-cut-first all so = record { is = refl; before = tt; rest = so }
-
 -- what came before the place
 pub cut-told : (place : ℕ) (all before rest : List Told) → IsCut place all before rest → told_by place all ≡ before
 cut-told place all before rest cut =

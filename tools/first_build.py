@@ -1,0 +1,111 @@
+#!/usr/bin/env python3
+"""Proves and builds the libraries below a program, two at a time, where none of them is built yet.
+
+    first_build.py PROGRAM
+
+By itself `rt` builds one library after the other: it locks all that lie below the one that it builds, and much of the time one
+of two processors idles. So the sources are copied, and while the longest chain of crates is built in its place, what lies
+beside it is built in the copy and handed over. What is left out here, `rt run` builds.
+"""
+import os
+import shutil
+import subprocess
+import sys
+import tempfile
+from concurrent.futures import FIRST_COMPLETED, ThreadPoolExecutor, wait
+
+ROOT = os.path.dirname(os.path.dirname(os.path.abspath(__file__)))
+LIBRARY = os.path.join('out', 'rlib')
+
+
+def folder(tree, crate):
+    return os.path.join(tree, 'crates', crate)
+
+
+def is_built(tree, crate):
+    return os.path.exists(os.path.join(folder(tree, crate), LIBRARY, 'stamp'))
+
+
+def read_crates():
+    """Each crate of crates.txt with those of them that it stands on."""
+    named = {}
+    with open(os.path.join(ROOT, 'crates.txt')) as file:
+        for line in file:
+            head, colon, libraries = line.partition('#')[0].partition(':')
+            if colon:
+                named[head.split()[0]] = libraries.split()
+    return {crate: [it for it in libraries if it in named] for crate, libraries in named.items()}
+
+
+def below(crate, crates):
+    found = set(crates[crate])
+    for it in crates[crate]:
+        found |= below(it, crates)
+    return found
+
+
+def work_of(crate):
+    """Its lines of code: what its proof takes, roughly."""
+    total = 0
+    for place, folders, files in os.walk(folder(ROOT, crate)):
+        folders[:] = [it for it in folders if it != 'out']
+        for name in files:
+            if name.endswith('.rt'):
+                with open(os.path.join(place, name), 'rb') as file:
+                    total += sum(1 for _ in file)
+    return total
+
+
+def chain_behind(crate, crates, wanted):
+    """The work of the longest chain of wanted crates that begins with this one."""
+    return work_of(crate) + max((chain_behind(it, crates, wanted) for it in wanted if crate in crates[it]), default=0)
+
+
+def hand_over(crate, source, target):
+    if not is_built(target, crate):
+        shutil.copytree(os.path.join(folder(source, crate), LIBRARY), os.path.join(folder(target, crate), LIBRARY), symlinks=True)
+
+
+def build(tree, jobs, crate):
+    return subprocess.run(['rt', 'lib', '--jobs', str(jobs)], cwd=folder(tree, crate), stdin=subprocess.DEVNULL).returncode == 0
+
+
+def build_all(crates, wanted, trees):
+    """Builds each wanted crate once those below it are built, first the one with the longest chain behind it. A tree builds
+    one at a time, with its number of jobs."""
+    left = sorted(wanted, key=lambda it: -chain_behind(it, crates, wanted))
+    built, running = {}, {}
+    with ThreadPoolExecutor(len(trees)) as pool:
+        while left or running:
+            for tree, jobs in trees.items():
+                ready = next((it for it in left if below(it, crates) <= built.keys()), None)
+                if ready and tree not in (place for place, _ in running.values()):
+                    for it in below(ready, crates):
+                        hand_over(it, built[it], tree)
+                    left.remove(ready)
+                    running[pool.submit(build, tree, jobs, ready)] = tree, ready
+            for done in wait(running, return_when=FIRST_COMPLETED).done:
+                tree, crate = running.pop(done)
+                if not done.result():
+                    left.clear()
+                    return False
+                built[crate] = tree
+    for crate, tree in built.items():
+        hand_over(crate, tree, ROOT)
+    return True
+
+
+def main():
+    crates = read_crates()
+    wanted = below(sys.argv[1], crates)
+    if any(is_built(ROOT, it) for it in wanted):
+        return 0
+    with tempfile.TemporaryDirectory() as beside:
+        for name in ('crates.txt', 'HANDLES'):
+            shutil.copy(os.path.join(ROOT, name), beside)
+        shutil.copytree(os.path.join(ROOT, 'crates'), os.path.join(beside, 'crates'), ignore=shutil.ignore_patterns('out'))
+        return 0 if build_all(crates, wanted, {ROOT: 2, beside: 1}) else 1
+
+
+if __name__ == '__main__':
+    sys.exit(main())

@@ -13,8 +13,6 @@ mod laws;
 mod piece;
 mod stalls;
 mod svg;
-#[cfg(test)]
-mod tests;
 mod window;
 
 pub use arrows::Arrow;

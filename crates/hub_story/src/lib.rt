@@ -12,8 +12,6 @@ mod moved;
 mod passing;
 mod story;
 mod telling;
-#[cfg(test)]
-mod tests;
 mod told;
 
 pub use laws::{

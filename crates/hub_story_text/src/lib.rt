@@ -11,8 +11,6 @@ mod numbers;
 mod partners;
 mod ports;
 mod steps;
-#[cfg(test)]
-mod tests;
 mod text;
 mod waiters;
 mod window;

@@ -1,8 +1,8 @@
 //! Tests through the public call. The texts were written by hand from the rules.
 
-use crate::{Window, story_text};
 use hub_base::read_journal;
 use hub_story::story_of;
+use hub_story_text::{Window, story_text};
 use std::alloc::Global;
 use std::process::Abort;
 use std::test::Fail;

@@ -1,7 +1,7 @@
 //! Tests through the public calls. What is expected was worked out by hand from the rules.
 
-use crate::{Level, Passage, Story, Told, story_of};
 use hub_base::{Journal, Port, Value, read_journal};
+use hub_story::{Level, Passage, Story, Told, story_of};
 use std::alloc::Global;
 use std::process::Abort;
 use std::test::Fail;

@@ -1,7 +1,7 @@
 //! Tests through the public calls. What is expected was worked out by hand from the rules.
 
-use crate::{Asked, Drawing, Window, drawing_of, write_svg};
 use hub_base::read_journal;
+use hub_picture::{Asked, Drawing, Window, drawing_of, write_svg};
 use hub_story::{Told, story_of};
 use std::alloc::Global;
 use std::process::Abort;

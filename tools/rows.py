@@ -5,6 +5,7 @@ The last line counts: 'N passed, M failed'.
 """
 import os
 import re
+import resource
 import subprocess
 import sys
 import tempfile
@@ -247,10 +248,52 @@ def arguments(folder):
         yield ' '.join(words), run_unasked(words, journal, folder) == refused('bad arguments')
 
 
+def run_into(stream, file, words, text, **how):
+    """The status, and what was written to the other one of standard output and standard error, where this one is a file."""
+    streams = {'stdout': subprocess.PIPE, 'stderr': subprocess.PIPE, stream: file}
+    done = subprocess.run(['chanhub', *words], executable=PROGRAM, input=text, timeout=60, **streams, **how)
+    return done.returncode, done.stderr if stream == 'stdout' else done.stdout
+
+
+def run_limited(stream, room, words, text, folder):
+    """The same where the file takes so many bytes and no more; and what it took."""
+    # The signal that comes with the first byte too many is ignored here, and so it is in the program.
+    how = {'restore_signals': False, 'preexec_fn': lambda: resource.setrlimit(resource.RLIMIT_FSIZE, (room, room))}
+    with tempfile.TemporaryFile(dir=folder) as file:
+        status, other = run_into(stream, file, words, text, **how)
+        file.seek(0)
+        return status, other, file.read()
+
+
+def devices(folder):
+    journal = b'chanhub journal 1\nprocs 2\n0 make 2\n0 send 1 10\n0 send 1 11\n1 recv 1\n'
+    events = b'0 made 1\n0 case 0 sent\n0 case 0 sent\n1 case 0 got 10\n'
+    stalls = b'ports = [0]\n[[process]]\nsteps = ["send 1 1"]\n[[process]]\nsteps = ["send 1 2"]\n'
+    failed_write, bad_header = b'chanhub: write failed\n', b'chanhub: line 1: bad header\n'
+    for room in range(len(events)):
+        told = run_limited('stdout', room, ['replay'], journal, folder)
+        yield 'an output with room for %d bytes' % room, told == (1, failed_write, events[:room])
+    for room in range(len(bad_header)):
+        told = run_limited('stderr', room, ['replay'], b'', folder)
+        yield 'standard error with room for %d bytes' % room, told == (2, b'', bad_header[:room])
+    with open('/dev/full', 'wb') as full:
+        for words, text in ((['replay'], journal), (['run'], stalls), (['run', '--journal'], stalls)):
+            yield ' '.join(words) + ' to a full device', run_into('stdout', full, words, text) == (1, failed_write)
+        yield 'a fault line to a full device', run_into('stderr', full, ['replay'], b'') == (2, b'')
+    for words in (['replay'], ['run']):
+        unreadable = os.open(folder, os.O_RDONLY)
+        done = subprocess.run(['chanhub', *words], executable=PROGRAM, stdin=unreadable, capture_output=True, timeout=60)
+        os.close(unreadable)
+        answer = done.returncode, done.stdout, done.stderr
+        yield ' '.join(words) + ' from a directory', answer == (1, b'', b'chanhub: read failed\n')
+
+
 def main():
     passed, failed = 0, 0
     with tempfile.TemporaryDirectory() as folder:
-        for rows in (journals, long_journals, faulty_journals, comparisons, runs, scenarios, long_scenarios, arguments):
+        for rows in (
+            journals, long_journals, faulty_journals, comparisons, runs, scenarios, long_scenarios, arguments, devices,
+        ):
             for name, is_well in rows(folder):
                 passed, failed = passed + is_well, failed + (not is_well)
                 if not is_well:

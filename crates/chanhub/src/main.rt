@@ -7,8 +7,6 @@ mod files;
 mod outcome;
 mod program;
 mod refusal;
-#[cfg(test)]
-mod tests;
 
 use fault_lines::refuse;
 use hub_base::NoMemory;

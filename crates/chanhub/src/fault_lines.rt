@@ -1,14 +1,13 @@
-//! The line on standard error that says why the program did not do what it was asked for.
+//! The line on standard error that says why the program did not do what it was asked for, and its status.
 
 ghost use Rattle.std.specs.Prelude.{◌≡◌, OnOk, OnErr};
 ghost use Rattle.std.specs.Io.KnownBytes.{Appends};
 ghost use Rattle.hub_replay.specs.Devices.{Failed, AppendsBeginning};
-ghost use Rattle.hub_replay.specs.FaultLines.{TellsOnce};
 ghost use Rattle.chanhub.specs.FaultLines.{fault_line};
 ghost use Rattle.chanhub.specs.Statuses.{status_of};
 
 use crate::refusal::Refusal;
-use hub_replay::{Sink, WriteFailed, write_fault_line, write_pieces};
+use hub_replay::{ProgramFault, Sink, WriteFailed, write_pieces};
 use hub_scenario::ScenarioFault;
 use itoa::Buffer;
 
@@ -48,28 +47,26 @@ fn write_scenario_line<X: Sink>(fault: ScenarioFault, errors: &mut X) -> Result<
     write_pieces(errors, &["chanhub: scenario: ", text, "\n"])
 }
 
-fn write_line<X: Sink>(refusal: Refusal, errors: &mut X) -> Result<(), WriteFailed>
-    ensures whole { OnOk result
-        (Appends (X.contents errors.old) (X.contents errors.new) (fault_line refusal)) }
-    ensures beginning { OnErr result
-        (AppendsBeginning (X.contents errors.old) (X.contents errors.new) (fault_line refusal)) }
-    ensures err { OnErr result (Failed (X.failures errors.old) (X.failures errors.new)) }
-    ensures ok { OnOk result (X.failures errors.new ≡ X.failures errors.old) }
-{
-    match refusal {
-        Refusal::BadArguments => write_pieces(errors, &["chanhub: bad arguments\n"]),
-        Refusal::Replay(fault) => write_fault_line(fault, errors),
-        Refusal::JournalFull => write_pieces(errors, &["chanhub: journal full\n"]),
-        Refusal::Scenario(fault) => write_scenario_line(fault, errors),
-    }
-}
+impl ProgramFault for Refusal {
+    ghost line = { fault_line };
 
-/// Tells the refusal as one line, and answers its status, also where the line can't be written.
-pub fn refuse<X: Sink>(refusal: Refusal, errors: &mut X) -> u8
-    ensures status { result ≡ status_of refusal }
-    ensures told { TellsOnce (X.contents errors.old) (X.contents errors.new)
-        (X.failures errors.old) (X.failures errors.new) (fault_line refusal) }
-{
-    let _ = write_line(refusal, errors);
-    refusal.status()
+    ghost status = { status_of };
+
+    /// 1 for a device, memory or a full journal, 2 for malformed input or arguments.
+    fn status(self) -> u8 {
+        match self {
+            Refusal::Replay(fault) => fault.status(),
+            Refusal::JournalFull => 1,
+            Refusal::BadArguments | Refusal::Scenario(_) => 2,
+        }
+    }
+
+    fn write_line<W: Sink>(self, errors: &mut W) -> Result<(), WriteFailed> {
+        match self {
+            Refusal::BadArguments => write_pieces(errors, &["chanhub: bad arguments\n"]),
+            Refusal::Replay(fault) => fault.write_line(errors),
+            Refusal::JournalFull => write_pieces(errors, &["chanhub: journal full\n"]),
+            Refusal::Scenario(fault) => write_scenario_line(fault, errors),
+        }
+    }
 }

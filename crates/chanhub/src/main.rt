@@ -8,25 +8,9 @@ mod outcome;
 mod program;
 mod refusal;
 
-use fault_lines::refuse;
-use hub_base::NoMemory;
-use hub_replay::Counted;
+use hub_replay::{Counted, arguments, tell_fault};
 use program::run_words;
-use refusal::Refusal;
-use std::alloc::AllocError;
-use std::env;
-use std::io::ErrorKind;
 use std::process::ExitCode;
-use std::rt::Env;
-
-/// The arguments, the program's name first. Where one is not UTF-8 there are none.
-fn arguments<R: Env + AllocGlobal>(rt: &R) -> Result<Vec<String>, AllocError> {
-    match env::args(rt) {
-        Ok(args) => args.collect(rt.alloc()),
-        Err(error) if error.kind() == ErrorKind::InvalidData => Ok(Vec::new(rt.alloc())),
-        Err(_) => Err(AllocError),
-    }
-}
 
 fn main(rt: HostRuntime) -> ExitCode {
     let mut input = Counted::new(rt.stdin());
@@ -34,7 +18,7 @@ fn main(rt: HostRuntime) -> ExitCode {
     let mut errors = Counted::new(rt.stderr());
     let status = match arguments(&rt) {
         Ok(words) => run_words(&rt, &words, &mut input, &mut output, &mut errors),
-        Err(AllocError) => refuse(Refusal::from(NoMemory), &mut errors),
+        Err(fault) => tell_fault(fault, &mut errors),
     };
     ExitCode::from(status)
 }

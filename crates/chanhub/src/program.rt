@@ -14,10 +14,9 @@ ghost use Rattle.chanhub.specs.Promises.{HasDone, HasBegun, HasRefused, IsRefuse
 ghost use Rattle.chanhub.specs.Statuses.{status_of, status_of_outcome};
 
 use crate::commands::{replay_input, run_from, verify_files};
-use crate::fault_lines::refuse;
 use crate::outcome::Outcome;
 use crate::refusal::Refusal;
-use hub_replay::{Sink, Source};
+use hub_replay::{Sink, Source, tell_fault};
 use hub_words::{Request, read_words};
 use std::convert::AsStr;
 use std::rt::Files;
@@ -110,6 +109,6 @@ pub fn run_words<
 {
     match carry_out(rt, words, input, output) {
         Ok(outcome) => outcome.status(),
-        Err(refusal) => refuse(refusal, errors),
+        Err(refusal) => tell_fault(refusal, errors),
     }
 }

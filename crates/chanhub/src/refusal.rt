@@ -4,7 +4,6 @@ ghost use Rattle.std.specs.Prelude.{◌≡◌};
 ghost use Rattle.hub_replay.specs.declared.fault.ReplayFault.TheVariants as replay;
 ghost use Rattle.chanhub.specs.declared.refusal.Refusal.TheVariants as refusal;
 ghost use Rattle.chanhub.specs.Refusals.{of_arguments, of_source, of_scenario, of_run};
-ghost use Rattle.chanhub.specs.Statuses.{status_of};
 
 use hub_base::NoMemory;
 use hub_replay::{ReplayFault, SourceFault, WriteFailed};
@@ -27,19 +26,6 @@ pub enum Refusal {
     Scenario(ScenarioFault),
 }
 
-impl Refusal {
-    /// The exit status: 1 for a device, memory or a full journal, 2 for malformed input or arguments.
-    pub fn status(self) -> u8
-        ensures { result ≡ status_of self }
-    {
-        match self {
-            Refusal::Replay(fault) => fault.status(),
-            Refusal::JournalFull => 1,
-            Refusal::BadArguments | Refusal::Scenario(_) => 2,
-        }
-    }
-}
-
 impl From<ArgumentsFault> for Refusal {
     ghost from_gives = { λ fault given. given ≡ of_arguments fault };
 
@@ -55,15 +41,7 @@ impl From<SourceFault> for Refusal {
     ghost from_gives = { λ fault given. given ≡ of_source fault };
 
     fn from(fault: SourceFault) -> Refusal {
-        ReplayFault::from(fault).into()
-    }
-}
-
-impl From<ReplayFault> for Refusal {
-    ghost from_gives = { λ fault given. given ≡ refusal.Replay fault };
-
-    fn from(fault: ReplayFault) -> Refusal {
-        Refusal::Replay(fault)
+        Refusal::Replay(fault.into())
     }
 }
 

@@ -3,15 +3,11 @@
 
 mod program;
 
-use hub_replay::{Counted, ReplayFault, tell_fault, write_whole};
+use hub_replay::{Counted, arguments, tell_fault, write_whole};
 use hub_serve::Pair;
 use program::run;
-use std::alloc::AllocError;
-use std::env;
-use std::io::ErrorKind;
 use std::marker::{Brand, PhantomData};
 use std::process::ExitCode;
-use std::rt::Env;
 
 /// What the program is asked for.
 enum Request {
@@ -31,20 +27,7 @@ const USAGE: &str = "usage: chanhub_serve\n\n\
     Status 0: all was a journal, and is answered. 1: a device or memory. 2: a faulty line, which\n\
     standard error names.\n";
 
-/// The arguments, the program's name first. Where one is not UTF-8 there are none.
-fn arguments<R: Env + AllocGlobal>(rt: &R) -> Result<Vec<String>, AllocError> {
-    match env::args(rt) {
-        Ok(args) => args.collect(rt.alloc()),
-        Err(error) if error.kind() == ErrorKind::InvalidData => Ok(Vec::new(rt.alloc())),
-        Err(_) => Err(AllocError),
-    }
-}
-
 /// What the arguments ask for.
-fn requested<R: Env + AllocGlobal>(rt: &R) -> Result<Request, AllocError> {
-    Ok(read_request(&arguments(rt)?))
-}
-
 fn read_request(words: &[String]) -> Request {
     match words.get(1) {
         None => Request::Converse,
@@ -55,7 +38,7 @@ fn read_request(words: &[String]) -> Request {
 
 fn main(rt: HostRuntime) -> ExitCode {
     let mut errors = Counted::new(rt.stderr());
-    match requested(&rt) {
+    match arguments(&rt).map(|words| read_request(&words)) {
         Ok(Request::Converse) => {
             let mut pair = Pair::<Brand, _, _> {
                 source: Counted::new(rt.stdin()),
@@ -75,6 +58,6 @@ fn main(rt: HostRuntime) -> ExitCode {
             let _ = write_whole(&mut errors, b"chanhub: bad arguments\n");
             ExitCode::from(2)
         }
-        Err(AllocError) => ExitCode::from(tell_fault(ReplayFault::NoMemory, &mut errors)),
+        Err(fault) => ExitCode::from(tell_fault(fault, &mut errors)),
     }
 }

@@ -1,10 +1,5 @@
--- The line and the status of a fault, and what a fault of a part is to the program.
+-- The line and the status of a fault.
 use Rattle.std.specs.Prelude.{ℕ, List, codes}
-use Rattle.hub_base.specs.declared.text.faults.ReadFault.{ReadFault}
-use Rattle.hub_base.specs.declared.text.faults.ReadFault.TheVariants as read
-use Rattle.hub_replay.specs.declared.fault.SourceFault.{SourceFault}
-use Rattle.hub_replay.specs.declared.fault.ReplayFault.TheVariants as replay
-use Rattle.hub_replay.specs.Replay.{replay_fault}
 use Rattle.hub_replay.specs.FaultLines.{line_of, fault_text as replay_text, status_of as replay_status}
 use Rattle.chanhub_story.specs.declared.fault.StoryFault.{StoryFault}
 use Rattle.chanhub_story.specs.declared.fault.StoryFault.TheVariants.{Backward, Outside, TooLong, Replay}
@@ -23,10 +18,3 @@ status_of Backward = 2
 status_of Outside = 2
 status_of TooLong = 2
 status_of (Replay fault) = replay_status fault
-
-abbrev pub of_read : ReadFault → StoryFault
-of_read (read.Text fault) = Replay (replay.Text fault)
-of_read read.NoMemory = Replay replay.NoMemory
-
-abbrev pub of_source : SourceFault → StoryFault
-of_source fault = Replay (replay_fault fault)

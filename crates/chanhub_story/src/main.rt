@@ -7,15 +7,10 @@ mod fault;
 mod program;
 
 use asked::{Asked, Form, Shown};
-use fault::{StoryFault, tell};
-use hub_base::{NoMemory, number};
-use hub_replay::{Counted, write_pieces};
+use hub_base::number;
+use hub_replay::{Counted, arguments, tell_fault, write_pieces};
 use program::run;
-use std::alloc::AllocError;
-use std::env;
-use std::io::ErrorKind;
 use std::process::ExitCode;
-use std::rt::Env;
 
 /// What the program is asked for.
 enum Request {
@@ -37,20 +32,6 @@ const USAGE: &str =
     Status 0: it was written. 1: a device or memory. 2: a malformed journal, or steps that it\n\
     does not have; standard error names it.\n";
 
-/// The arguments, the program's name first. Where one is not UTF-8 there are none.
-fn arguments<R: Env + AllocGlobal>(rt: &R) -> Result<Vec<String>, AllocError> {
-    match env::args(rt) {
-        Ok(args) => args.collect(rt.alloc()),
-        Err(error) if error.kind() == ErrorKind::InvalidData => Ok(Vec::new(rt.alloc())),
-        Err(_) => Err(AllocError),
-    }
-}
-
-/// What the arguments ask for.
-fn requested<R: Env + AllocGlobal>(rt: &R) -> Result<Request, AllocError> {
-    Ok(read_request(&arguments(rt)?))
-}
-
 /// A step, counted from 1.
 fn read_step(word: &str) -> Option<u32> {
     match number(word.as_bytes(), u64::from(u32::MAX)) {
@@ -71,6 +52,7 @@ fn read_shown(words: &[String]) -> Option<Shown> {
     }
 }
 
+/// What the arguments ask for.
 fn read_request(words: &[String]) -> Request {
     let Some(word) = words.get(1) else {
         return Request::Unknown;
@@ -92,7 +74,7 @@ fn read_request(words: &[String]) -> Request {
 fn main(rt: HostRuntime) -> ExitCode {
     let mut output = Counted::new(rt.stdout());
     let mut errors = Counted::new(rt.stderr());
-    match requested(&rt) {
+    match arguments(&rt).map(|words| read_request(&words)) {
         Ok(Request::Explain(asked)) => {
             let mut input = Counted::new(rt.stdin());
             ExitCode::from(run(rt.alloc(), asked, &mut input, &mut output, &mut errors))
@@ -105,6 +87,6 @@ fn main(rt: HostRuntime) -> ExitCode {
             let _ = write_pieces(&mut errors, &["chanhub: bad arguments\n"]);
             ExitCode::from(2)
         }
-        Err(AllocError) => ExitCode::from(tell(StoryFault::from(NoMemory), &mut errors)),
+        Err(fault) => ExitCode::from(tell_fault(fault, &mut errors)),
     }
 }

@@ -5,6 +5,8 @@ use Rattle.std.specs.List.{flat_map}
 use Rattle.std.specs.Io.KnownBytes.{Consumes, IsAtEnd}
 use Rattle.hub_base.specs.declared.head.Head.{Head}
 use Rattle.hub_base.specs.declared.entry.Entry.{Entry}
+use Rattle.hub_base.specs.declared.text.faults.ReadFault.{ReadFault}
+use Rattle.hub_base.specs.declared.text.faults.ReadFault.TheVariants as read
 use Rattle.hub_base.specs.declared.text.faults.TextFault.{TextFault}
 use Rattle.hub_base.specs.declared.limits.TheConstants.{MOST_BYTES}
 use Rattle.hub_base.specs.EventText.{event_line}
@@ -57,3 +59,8 @@ HasNone bytes replay.NoMemory = Unit {0}
 abbrev pub replay_fault : SourceFault → ReplayFault
 replay_fault source.Read = replay.Read
 replay_fault source.NoMemory = replay.NoMemory
+
+-- and what text that was not read is
+abbrev pub fault_of_read : ReadFault → ReplayFault
+fault_of_read (read.Text fault) = replay.Text fault
+fault_of_read read.NoMemory = replay.NoMemory

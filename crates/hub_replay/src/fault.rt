@@ -3,10 +3,9 @@
 ghost use Rattle.std.specs.Prelude.{◌≡◌};
 ghost use Rattle.hub_replay.specs.declared.fault.SourceFault.TheVariants as source;
 ghost use Rattle.hub_replay.specs.declared.fault.ReplayFault.TheVariants as replay;
-ghost use Rattle.hub_replay.specs.FaultLines.{status_of};
-ghost use Rattle.hub_replay.specs.Replay.{replay_fault};
+ghost use Rattle.hub_replay.specs.Replay.{replay_fault, fault_of_read};
 
-use hub_base::{NoMemory, TextFault};
+use hub_base::{NoMemory, ReadFault, TextFault};
 use std::alloc::AllocError;
 use thiserror::Error;
 
@@ -47,18 +46,6 @@ pub enum ReplayFault {
     NoMemory,
 }
 
-impl ReplayFault {
-    /// The exit status of a program that ends with the fault: 1 for a device or memory, 2 for a malformed journal.
-    pub fn status(self) -> u8
-        ensures { result ≡ status_of self }
-    {
-        match self {
-            ReplayFault::Read | ReplayFault::Write | ReplayFault::NoMemory => 1,
-            ReplayFault::Text(_) => 2,
-        }
-    }
-}
-
 impl From<AllocError> for SourceFault {
     ghost from_gives = { λ _ fault. fault ≡ source.NoMemory };
 
@@ -82,6 +69,17 @@ impl From<SourceFault> for ReplayFault {
         match fault {
             SourceFault::Read => ReplayFault::Read,
             SourceFault::NoMemory => ReplayFault::NoMemory,
+        }
+    }
+}
+
+impl From<ReadFault> for ReplayFault {
+    ghost from_gives = { λ read fault. fault ≡ fault_of_read read };
+
+    fn from(fault: ReadFault) -> ReplayFault {
+        match fault {
+            ReadFault::Text(fault) => ReplayFault::Text(fault),
+            ReadFault::NoMemory => ReplayFault::NoMemory,
         }
     }
 }

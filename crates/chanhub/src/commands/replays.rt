@@ -33,6 +33,8 @@ pub(crate) fn replay_input<S: Source, W: Sink>(
     ensures faulty { IfErr result (λ refusal. status_of refusal ≡ 2 → (fault : TextFault)
         × ReadsFaulty (S.remaining input.old) (S.remaining input.new) fault) }
 {
-    replay(alloc, input, output)?;
-    Ok(Outcome::Done)
+    match replay(alloc, input, output) {
+        Ok(()) => Ok(Outcome::Done),
+        Err(fault) => Err(Refusal::Replay(fault)),
+    }
 }

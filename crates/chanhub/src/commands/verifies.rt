@@ -34,7 +34,7 @@ fn tell_comparison<W: Sink>(
         (AppendsBeginning (W.contents output.old) (W.contents output.new)))) }
     ensures found { IfErr result (λ refusal. RefusesComparison journal.now refusal) }
 {
-    match verify(alloc, journal, events)? {
+    match verify(alloc, journal, events).map_err(Refusal::Replay)? {
         Compared::Same => {
             write_pieces(output, &["same\n"])?;
             Ok(Outcome::Done)

@@ -4,7 +4,7 @@ use Rattle.std.proofs.Common.{take-append-drop}
 use Rattle.std.proofs.lemmas.List.{take_rest}
 use Rattle.hub_serve.specs.Answers.{IsWhole}
 use Rattle.hub_serve.specs.Serve.{HasBegun}
-use Rattle.hub_serve.specs.Talks.{Stays, Grows, IsAnswer}
+use Rattle.hub_serve.specs.Talks.{Stays, Grows, IsAnswer, Spoken}
 
 -- n more bytes were taken, and the slice behind them is left
 pub taken-more : (all taken rest : List ℕ) (n : ℕ) → all ≡ taken ++ rest → all ≡ (taken ++ take n rest) ++ take (length rest - n) (drop n rest)
@@ -27,25 +27,21 @@ module _ (Heard Said Heard' Said' : List ℕ → Type 0) (text taken rest : List
     (grew : Grows Said Said' taken) (deaf : Stays Heard Heard') where
   left-whole : IsWhole answer.heard ((answer.said ++ taken) ++ rest)
   left-whole = let P : List ℕ → Type 0 = λ l. IsWhole answer.heard l in
-      subst P (ap (λ l. answer.said ++ l) is ∙ sym (append_assoc answer.said taken rest)) answer.whole
+      subst P (ap (λ l. answer.said ++ l) is ∙ sym (append_assoc answer.said taken rest)) answer.holds
+
+  left : {Holds : List ℕ → List ℕ → Type 0} → Holds answer.heard (answer.said ++ taken) → Spoken Heard' Said' Holds
+  left holds = record {
+    heard = answer.heard;
+    said = answer.said ++ taken;
+    is_heard = deaf answer.heard answer.is_heard;
+    is_said = grew answer.said answer.is_said;
+    holds = holds;
+  }
 
   -- what is left is all that is still to be said
   pub answer-left : IsAnswer Heard' Said' rest
-  answer-left = record {
-    heard = answer.heard;
-    said = answer.said ++ taken;
-    is_heard = deaf answer.heard answer.is_heard;
-    is_said = grew answer.said answer.is_said;
-    whole = left-whole;
-  }
+  answer-left = left left-whole
 
   -- and what was said is a beginning
   pub answer-begun : HasBegun Heard' Said'
-  answer-begun = record {
-    heard = answer.heard;
-    said = answer.said ++ taken;
-    rest = rest;
-    is_heard = deaf answer.heard answer.is_heard;
-    is_said = grew answer.said answer.is_said;
-    whole = left-whole;
-  }
+  answer-begun = left (rest, left-whole)

@@ -7,12 +7,13 @@ use Rattle.hub_base.specs.declared.text.faults.TextFault.{TextFault}
 use Rattle.hub_base.specs.Reading.{Faulty, read_text}
 use Rattle.hub_base.specs.Text.{IsFaulty}
 use Rattle.hub_replay.specs.Replay.{IsEventText}
+use Rattle.hub_replay.specs.Verify.{newlines_in}
 use Rattle.hub_serve.specs.declared.conversation.Conversation.{Conversation}
 use Rattle.hub_serve.specs.Answers.{Tells, AnswersBefore}
 use Rattle.hub_serve.specs.Conversing.{Conversing}
 use Rattle.hub_serve.specs.Serve.{HasConversed, HasNamed, HasStopped, HasHeardAtMost}
 use Rattle.hub_serve.specs.Stands.{Stands, FailsHere, Hears, HearsAll, HearsBefore}
-use Rattle.hub_serve.specs.Talks.{Stays, Grows, HasAnswered, IsAnswer}
+use Rattle.hub_serve.specs.Talks.{Stays, Grows, HasAnswered, IsAnswer, Spoken}
 use Rattle.std.specs.Result.{IsErrOf}
 use Rattle.std.specs.Prelude.{Result, Ok, IsErr, IsErrAnd}
 use Rattle.hub_replay.specs.declared.fault.ReplayFault.{ReplayFault}
@@ -38,26 +39,28 @@ conversing-first Heard Said c heard said stands = record {
   fits = omega arith;
 }
 
-module _ (Heard Said : List ℕ → Type 0) (c : Conversation) (so_far : Conversing Heard Said c) where
-  -- what was said answers all whole lines
-  pub conversing-answered : HasAnswered Heard Said
-  conversing-answered = record {
+module _ {Heard Said : List ℕ → Type 0} {c : Conversation} (so_far : Conversing Heard Said c) where
+  -- its lines are told
+  told-now : Tells so_far.lines so_far.said
+  told-now = tells c so_far.lines so_far.rest so_far.said so_far.stands
+
+  -- what holds of all that was heard and said
+  now : {Holds : List ℕ → List ℕ → Type 0} → Holds (so_far.lines ++ so_far.rest) so_far.said → Spoken Heard Said Holds
+  now holds = record {
     heard = so_far.lines ++ so_far.rest;
     said = so_far.said;
     is_heard = so_far.is_heard;
     is_said = so_far.is_said;
-    answers = record {
-      lines = so_far.lines;
-      rest = so_far.rest;
-      parts = refl;
-      whole = so_far.whole;
-      told = tells c so_far.lines so_far.rest so_far.said so_far.stands;
-    };
+    holds = holds;
   }
 
+  -- what was said answers all whole lines
+  pub conversing-answered : HasAnswered Heard Said
+  conversing-answered = now (record { lines = so_far.lines; rest = so_far.rest; parts = refl; whole = so_far.whole; told = told-now })
+
   -- so it does where nothing more was heard
-  pub conversing-stays : (Heard' Said' : List ℕ → Type 0) → Stays Heard Heard' → Stays Said Said' → Conversing Heard' Said' c
-  conversing-stays Heard' Said' heard said = record {
+  pub conversing-stays : {Heard' Said' : List ℕ → Type 0} → Stays Heard Heard' → Stays Said Said' → Conversing Heard' Said' c
+  conversing-stays heard said = record {
     lines = so_far.lines;
     rest = so_far.rest;
     said = so_far.said;
@@ -69,34 +72,30 @@ module _ (Heard Said : List ℕ → Type 0) (c : Conversation) (so_far : Convers
   }
 
   -- a read that gave nothing
-  pub conversing-silent : (Heard' Said' : List ℕ → Type 0) (piece : List ℕ) → length piece ≡ 0 → Grows Heard Heard' piece → Stays Said Said'
+  pub conversing-silent : {Heard' Said' : List ℕ → Type 0} (piece : List ℕ) → length piece ≡ 0 → Grows Heard Heard' piece → Stays Said Said'
       → Conversing Heard' Said' c
-  conversing-silent Heard' Said' piece none came silent = conversing-stays Heard' Said' (grows-none Heard Heard' piece none came) silent
+  conversing-silent {Heard'} {Said'} piece none came silent = conversing-stays (grows-none Heard Heard' piece none came) silent
 
   pub conversing-few : HasHeardAtMost Heard (MOST_BYTES + 1)
   conversing-few = (so_far.lines ++ so_far.rest, so_far.is_heard, let l = so_far.fits in omega (arith, l))
 
   -- nothing more comes, and it is a journal's text
   pub ended-whole : IsEventText (so_far.lines ++ so_far.rest) so_far.said → HasConversed Heard Said
-  ended-whole is = record { journal = so_far.lines ++ so_far.rest; text = so_far.said; is_heard = so_far.is_heard; is_said = so_far.is_said; is = is }
+  ended-whole is = now is
 
   -- or not
   pub ended-faulty : (Ended : Type 0) (fault : TextFault) → ReadsFaults → Ended → FailsHere so_far.lines so_far.rest fault → HasNamed Heard Said Ended fault
-  ended-faulty Ended fault faults ended here = record {
-    heard = so_far.lines ++ so_far.rest;
-    said = so_far.said;
-    is_heard = so_far.is_heard;
-    is_said = so_far.is_said;
+  ended-faulty Ended fault faults ended here = now (record {
     before = record {
       lines = so_far.lines;
       rest = so_far.rest;
       parts = refl;
-      told = tells c so_far.lines so_far.rest so_far.said so_far.stands;
+      told = told-now;
       number = here.number;
       faulty = faults (so_far.lines ++ so_far.rest) fault.line fault.kind here.fails;
     };
     last = inl ended;
-  }
+  })
 
   -- ---- a piece has come
   module _ (Heard' Said' : List ℕ → Type 0) (piece : List ℕ) (grew : Grows Heard Heard' piece) (silent : Stays Said Said') where
@@ -112,20 +111,24 @@ module _ (Heard Said : List ℕ → Type 0) (c : Conversation) (so_far : Convers
         let fits = so_far.fits in
         (all, deaf all came, omega (arith, long, both, is, fits, few))
 
-    -- where memory was refused
-    pub came-stopped : HasStopped Heard' Said'
-    came-stopped = record {
+    -- what holds of all that was heard and said now
+    came-now : {Holds : List ℕ → List ℕ → Type 0} → Holds ((so_far.lines ++ so_far.rest) ++ piece) so_far.said → Spoken Heard' Said' Holds
+    came-now holds = record {
       heard = (so_far.lines ++ so_far.rest) ++ piece;
       said = so_far.said;
       is_heard = came;
       is_said = silent so_far.said so_far.is_said;
-      answers = record {
-        lines = so_far.lines;
-        rest = so_far.rest ++ piece;
-        parts = append_assoc so_far.lines so_far.rest piece;
-        told = tells c so_far.lines so_far.rest so_far.said so_far.stands;
-      };
+      holds = holds;
     }
+
+    -- where memory was refused
+    pub came-stopped : HasStopped Heard' Said'
+    came-stopped = came-now (record {
+      lines = so_far.lines;
+      rest = so_far.rest ++ piece;
+      parts = append_assoc so_far.lines so_far.rest piece;
+      told = told-now;
+    })
 
     before-of : (new : List ℕ) (fault : TextFault) → ReadsFaults → HearsBefore so_far.lines so_far.rest so_far.said piece [] new fault
         → AnswersBefore ((so_far.lines ++ so_far.rest) ++ piece) (so_far.said ++ new) fault
@@ -142,32 +145,20 @@ module _ (Heard Said : List ℕ → Type 0) (c : Conversation) (so_far : Convers
     -- the answers are all that is to be said now
     pub came-answer : (c' : Conversation) (new : List ℕ) (fault : Option TextFault) → ReadsFaults
         → Hears so_far.lines so_far.rest so_far.said piece [] new c' fault → IsAnswer Heard' Said' new
-    came-answer c' new None faults hears = record {
-      heard = (so_far.lines ++ so_far.rest) ++ piece;
-      said = so_far.said;
-      is_heard = came;
-      is_said = silent so_far.said so_far.is_said;
-      whole = inl (record {
-        lines = hears.lines_now;
-        rest = hears.rest_now;
-        parts = hears.parts;
-        whole = hears.whole;
-        told = (let P : List ℕ → Type 0 = λ more. Tells hears.lines_now (so_far.said ++ more) in
-            subst P (sym hears.said_now) (tells c' hears.lines_now hears.rest_now (so_far.said ++ hears.more) hears.stands));
-      });
-    }
-    came-answer c' new (Some fault) faults hears = record {
-      heard = (so_far.lines ++ so_far.rest) ++ piece;
-      said = so_far.said;
-      is_heard = came;
-      is_said = silent so_far.said so_far.is_said;
-      whole = inr (fault, before-of new fault faults hears);
-    }
+    came-answer c' new None faults hears = came-now (inl (record {
+      lines = hears.lines_now;
+      rest = hears.rest_now;
+      parts = hears.parts;
+      whole = hears.whole;
+      told = (let P : List ℕ → Type 0 = λ more. Tells hears.lines_now (so_far.said ++ more) in
+          subst P (sym hears.said_now) (tells c' hears.lines_now hears.rest_now (so_far.said ++ hears.more) hears.stands));
+    }))
+    came-answer c' new (Some fault) faults hears = came-now (inr (fault, before-of new fault faults hears))
 
-    module _ (Heard'' Said'' : List ℕ → Type 0) (new : List ℕ) (deaf : Stays Heard' Heard'') (spoke : Grows Said' Said'' new) where
+    module _ {Heard'' Said'' : List ℕ → Type 0} {new : List ℕ} (deaf : Stays Heard' Heard'') (spoke : Grows Said' Said'' new) where
       -- and once they are said the conversation goes on
-      pub came-goes : (c' : Conversation) → HearsAll so_far.lines so_far.rest so_far.said piece [] new c' → Conversing Heard'' Said'' c'
-      came-goes c' hears = record {
+      pub came-goes : {c' : Conversation} → HearsAll so_far.lines so_far.rest so_far.said piece [] new c' → Conversing Heard'' Said'' c'
+      came-goes hears = record {
         lines = hears.lines_now;
         rest = hears.rest_now;
         said = so_far.said ++ hears.more;
@@ -187,16 +178,22 @@ module _ (Heard Said : List ℕ → Type 0) (c : Conversation) (so_far : Convers
         said = so_far.said ++ new;
         is_heard = deaf ((so_far.lines ++ so_far.rest) ++ piece) came;
         is_said = spoke so_far.said (silent so_far.said so_far.is_said);
-        before = before-of new fault faults hears;
-        last = inr (λ more. faults (((so_far.lines ++ so_far.rest) ++ piece) ++ more) fault.line fault.kind
-            (ap (λ l. read_text (l ++ more)) hears.parts ∙ hears.fails.fails more));
+        holds = record {
+          before = before-of new fault faults hears;
+          last = inr (λ more. faults (((so_far.lines ++ so_far.rest) ++ piece) ++ more) fault.line fault.kind
+              (ap (λ l. read_text (l ++ more)) hears.parts ∙ hears.fails.fails more));
+        };
       }
 
--- what is said before anything was answered by this read
-pub hears-anew : (lines rest said piece old new : List ℕ) (c : Conversation) (fault : Option TextFault) → old ≡ []
-    → Hears lines rest said piece old new c fault → Hears lines rest said piece [] new c fault
-hears-anew lines rest said piece old new c fault none hears =
-    subst (λ (answers : List ℕ). Hears lines rest said piece answers new c fault) none hears
+-- what a read has come to, where its answers began with none
+pub heard-anew : {Heard Said : List ℕ → Type 0} {c : Conversation} (so_far : Conversing Heard Said c) (c' : Conversation)
+    (piece old new : List ℕ) (fault same : Option TextFault) → old ≡ []
+    → ((lines rest said : List ℕ) → Stands lines rest said c → newlines_in rest ≡ 0 → Hears lines rest said piece old new c' fault)
+    → fault ≡ same → Hears so_far.lines so_far.rest so_far.said piece [] new c' same
+heard-anew so_far c' piece old new fault same none hears is =
+    let all = hears so_far.lines so_far.rest so_far.said so_far.stands so_far.whole in
+    let anew = subst (λ (answers : List ℕ). Hears so_far.lines so_far.rest so_far.said piece answers new c' fault) none all in
+    subst (λ (o : Option TextFault). Hears so_far.lines so_far.rest so_far.said piece [] new c' o) is anew
 
 pub text-same : (a b : TextFault) → IsErrOf {T = Unit {0}} (Err (replay.Text a)) (replay.Text b) → a ≡ b
 text-same a b h = cc
@@ -212,10 +209,10 @@ heard-length lines rest said c stands =
     let l = rest-length c lines rest said stands in let p = stands.place in let all = length-append lines rest in omega (arith, l, p, all)
 
 -- more of them than before
-pub heard-more : (Heard Said : List ℕ → Type 0) (c c' : Conversation) (so_far : Conversing Heard Said c) (piece new : List ℕ)
+pub heard-more : {Heard Said : List ℕ → Type 0} {c c' : Conversation} (so_far : Conversing Heard Said c) {piece new : List ℕ}
     → HearsAll so_far.lines so_far.rest so_far.said piece [] new c' → 0 < length piece
     → MOST_BYTES + 1 - (c'.place + (vec_len c'.text - c'.front)) < MOST_BYTES + 1 - (c.place + (vec_len c.text - c.front))
-heard-more Heard Said c c' so_far piece new hears some =
+heard-more {Heard} {Said} {c} {c'} so_far {piece} {new} hears some =
     let before = heard-length so_far.lines so_far.rest so_far.said c so_far.stands in
     let after = heard-length hears.lines_now hears.rest_now (so_far.said ++ hears.more) c' hears.stands in
     let parts = ap length hears.parts in

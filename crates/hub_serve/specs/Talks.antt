@@ -19,18 +19,18 @@ Gives Old New Ended r buf = MatchResult r (λ n. Grows Old New (take n buf) × (
 abbrev pub Takes : {E : Type 0} → (List ℕ → Type 0) → (List ℕ → Type 0) → Result ℕ E → List ℕ → Type 0
 Takes Old New r piece = MatchResult r (λ n. Grows Old New (take n piece)) (λ _. Stays Old New)
 
--- what was said answers all whole lines that were heard
-pub record HasAnswered (Heard Said : List ℕ → Type 0) : Type 0 where
+-- of some bytes that were heard and some that were said this holds
+pub record Spoken (Heard Said : List ℕ → Type 0) (Holds : List ℕ → List ℕ → Type 0) : Type 0 where
   pub heard : List ℕ
   pub said : List ℕ
   pub is_heard : Heard heard
   pub is_said : Said said
-  pub answers : Answers heard said
+  pub holds : Holds heard said
+
+-- what was said answers all whole lines that were heard
+abbrev pub HasAnswered : (List ℕ → Type 0) → (List ℕ → Type 0) → Type 0
+HasAnswered Heard Said = Spoken Heard Said Answers
 
 -- so it does with this piece behind it, or it answers the lines before a faulty one: nothing is missing in the piece
-pub record IsAnswer (Heard Said : List ℕ → Type 0) (piece : List ℕ) : Type 0 where
-  pub heard : List ℕ
-  pub said : List ℕ
-  pub is_heard : Heard heard
-  pub is_said : Said said
-  pub whole : IsWhole heard (said ++ piece)
+abbrev pub IsAnswer : (List ℕ → Type 0) → (List ℕ → Type 0) → List ℕ → Type 0
+IsAnswer Heard Said piece = Spoken Heard Said (λ heard said. IsWhole heard (said ++ piece))

@@ -2,15 +2,20 @@
 """picture.py STORY: checks the pictures of the built chanhub_story (STORY), of the example journals, of 50 random ones and of
 windows of each. What a picture has to show is worked out here, from the journal and from the events that tools/model.py tells
 of it, and never from a picture: the boxes are the entries, the bars the calls that waited, the arrows go from the k-th value
-that was sent on a port to the k-th that was received, the stalls are the calls that were told so. Arrows lie above the boxes, and
-go from one's side to the other's. The pictures of docs/pictures are drawn again and compared. The last line counts: 'N passed, M failed'."""
+that was sent on a port to the k-th that was received, the stalls are the calls that were told so, the levels are what ports hold
+from step to step. Arrows lie above the boxes, and go from one's side to the other's; a lane ends at its process's exit. The
+pictures of docs/pictures are drawn again and compared; each of them is drawn with each allocation refused, which needs a C
+compiler; and Chromium, where it is there, is asked whether all of a picture is in view and no text lies over another's box.
+The last line counts: 'N passed, M failed', and 'K skipped' where there is no Chromium."""
 import collections
+import os
 import pathlib
 import random
 import re
 import shutil
 import subprocess
 import sys
+import tempfile
 import xml.etree.ElementTree as xml
 
 ROOT = pathlib.Path(__file__).resolve().parent.parent
@@ -18,10 +23,13 @@ TOOLS = ROOT / "tools"
 SVG = "{http://www.w3.org/2000/svg}"
 WAIT = 60
 RANDOM = 50
-LAYERS = ["lane", "stall", "bar", "box", "arrow"]
+MOST_ALLOCATIONS = 1000
+LAYERS = ["lane", "stall", "strip", "level", "bar", "box", "arrow"]
+FULL = 12
 
 Asked = collections.namedtuple("Asked", "place line cases ended")
 Told = collections.namedtuple("Told", "by event")
+Held = collections.namedtuple("Held", "port first until count")
 
 
 def output_of(words, given=b""):
@@ -49,6 +57,8 @@ class Journal:
     def __init__(self, text):
         self.lines = text.decode().splitlines()[2:]
         self.ended = {}
+        self.exited = {}
+        self.room = {}
         self.stalls = []
         self.moved = {"s": collections.defaultdict(list), "r": collections.defaultdict(list)}
         events = output_of([sys.executable, str(TOOLS / "model.py")], text).decode().splitlines()
@@ -71,10 +81,25 @@ class Journal:
         self.ended[asked] = Told(by, event)
         if what == "stalled":
             self.stalls.append((by, int(pid), asked))
+        fields = self.lines[asked].split()
+        if what.startswith("made ") and int(fields[2]) > 0:
+            self.room[int(what.split()[1])] = int(fields[2])
+        if what == "done" and fields[1] == "exit":
+            self.exited[int(pid)] = by
         match = re.fullmatch(r"case (\d+) (sent|got .*)", what)
         if match:
             side, port = cases_of(self.lines[asked])[int(match[1])]
             self.moved[side][int(port)].append((asked, by, event))
+
+    def levels(self):
+        """For each port that has room, in order, its values from each step at which one moves until the next such step."""
+        for port in self.room:
+            ways = [sorted(by for _, by, _ in self.moved[side][port]) for side in "sr"]
+            steps = sorted(set(ways[0] + ways[1]))
+            for step, until in zip(steps, [*steps[1:], None]):
+                sent, received = (sum(by <= step for by in way) for way in ways)
+                if received < sent:
+                    yield Held(port, step, until, sent - received)
 
     def asked(self):
         return [Asked(place, line, cases_of(line), self.ended.get(place)) for place, line in enumerate(self.lines)]
@@ -96,6 +121,7 @@ class Bands:
         count = end - first
         self.first, self.end = first, end
         self.steps = 14 if count <= 14 else 36 if count <= 72 else 60
+        self.count = -(-count // self.steps)
 
     def band(self, place):
         return (place - self.first) // self.steps
@@ -138,6 +164,20 @@ def arrows(journal, bands):
             yield band, f"port {port} from\n{moved_title(sent)}to\n{moved_title(received)}"
 
 
+def strips(journal, bands):
+    for band in range(bands.count):
+        for port, room in journal.room.items():
+            yield band, f"port {port} has room for {room}\n"
+
+
+def levels(journal, bands):
+    for held in journal.levels():
+        until = "on" if held.until is None else f"until step {held.until + 1}"
+        title = f"port {held.port} holds {held.count} of {journal.room[held.port]} from step {held.first + 1} {until}\n"
+        for band in bands.between(held.first, bands.end if held.until is None else held.until):
+            yield band, title
+
+
 def stalls(journal, bands):
     for by, pid, asked in journal.stalls:
         if bands.has(by):
@@ -169,21 +209,76 @@ def layers_agree(root):
             last = LAYERS.index(shape)
 
 
+def by_band(wanted):
+    return sorted(wanted, key=lambda pair: pair[0])
+
+
+def columns_of(root):
+    """Where each step stands."""
+    boxes = ((int(title.split()[1]) - 1, group.find(SVG + "rect")) for group, title in shapes(root, "box"))
+    return {place: number(rect, "x") + number(rect, "width") // 2 for place, rect in boxes}
+
+
+def column(place, band, bands, columns, edges):
+    """Where a step stands in a band: at an edge where the band does not have it."""
+    if place is None or place >= bands.end or bands.band(place) > band:
+        return edges[1]
+    return columns[place] if bands.has(place) and bands.band(place) == band else edges[0]
+
+
+def lanes_agree(root, journal, bands):
+    """Each lane begins at the left edge of its band, and ends at the column of the exit of its process, or at the right edge."""
+    lanes = [numbers(path) for path in root.iter(SVG + "path") if path.get("class") == "lane"]
+    columns = columns_of(root)
+    procs = len(lanes) // bands.count
+    half = (columns[bands.first] - lanes[0][0]) if lanes else 0
+    for place, (left, y, end, other) in enumerate(lanes):
+        band = place // procs
+        right = left + 2 * half * (min(bands.end, bands.first + (band + 1) * bands.steps) - bands.first - band * bands.steps)
+        wanted = column(journal.exited.get(place % procs), band, bands, columns, (left, right))
+        assert (end, other) == (wanted, y), f"the lane of process {place % procs} ends at {end} and not at {wanted}"
+
+
+def levels_agree(root, journal, bands):
+    """Each level stands on the floor of its strip, between the columns of its steps, and is as high as what the port holds of
+    what it has room for; what stays is told behind it."""
+    columns = columns_of(root)
+    strips = {}
+    for place, (group, title) in enumerate(shapes(root, "strip")):
+        left, floor, right, _, full, _ = numbers(group.find(SVG + "path"))
+        strips[place // len(journal.room), int(title.split()[1])] = left, right, floor
+        assert floor - full == FULL, title
+    wanted = by_band(
+        (band, held)
+        for held in journal.levels()
+        for band in bands.between(held.first, bands.end if held.until is None else held.until)
+    )
+    for (group, title), (band, held) in zip(shapes(root, "level"), wanted):
+        left, right, floor = strips[band, held.port]
+        rect = group.find(SVG + "rect")
+        ends = [column(place, band, bands, columns, (left, right)) for place in (held.first, held.until)]
+        height = -(-held.count * FULL // journal.room[held.port])
+        shown = [number(rect, name) for name in ("x", "width", "y", "height")]
+        assert shown == [ends[0], ends[1] - ends[0], floor - height, height], title
+        stays = [text.text for text in group.iter(SVG + "text")]
+        assert stays == ([f"{held.count} stay"] if held.until is None else []), title
+
+
 def arrows_agree(root, wanted, bands):
     """Each goes from the side of its sender that faces the receiver to the side of this one that faces the sender, and in the
     columns of their steps where its band has them."""
     rects = {title.split("\n")[0]: group.find(SVG + "rect") for group, title in shapes(root, "box")}
-    columns = {step: number(rect, "x") + number(rect, "width") // 2 for step, rect in rects.items()}
+    columns = columns_of(root)
     lanes = [numbers(path)[1] for path in root.iter(SVG + "path") if path.get("class") == "lane"]
-    procs = len(lanes) // len(set(bands.band(place) for place in range(bands.first, bands.end)))
-    for (group, title), (band, _) in zip(shapes(root, "arrow"), sorted(wanted, key=lambda pair: pair[0])):
+    procs = len(lanes) // bands.count
+    for (group, title), (band, _) in zip(shapes(root, "arrow"), by_band(wanted)):
         ends = numbers(group.find(SVG + "path"))
         sent, received = (int(pid) for pid in re.findall(r"^(\d+) case", title, re.MULTILINE))
         side = number(next(iter(rects.values())), "height") // 2 * ((sent < received) - (received < sent))
         assert ends[1::2] == [lanes[band * procs + sent] + side, lanes[band * procs + received] - side], title
         for x, step in zip(ends[::2], re.findall(r"by step (\d+)", title)):
             place = int(step) - 1
-            assert not bands.has(place) or bands.band(place) != band or x == columns[f"step {step}"], title
+            assert not bands.has(place) or bands.band(place) != band or x == columns[place], title
 
 
 def places_agree(root):
@@ -206,7 +301,7 @@ def places_agree(root):
 
 def same(shape, shown, wanted):
     """The titles of a shape in the order of bands, and in a band in that in which they are wanted."""
-    wanted = [title for _, title in sorted(wanted, key=lambda pair: pair[0])]
+    wanted = [title for _, title in by_band(wanted)]
     shown = [title for _, title in shown]
     assert shown == wanted, f"{shape}: {len(shown)} shown, {len(wanted)} wanted; first other: " + next(
         (f"{one!r} for {other!r}" for one, other in zip(shown, wanted) if one != other), "one is the beginning of the other"
@@ -225,9 +320,78 @@ def check_picture(picture, journal, first, end):
     same("bars", shapes(root, "bar"), bars(journal, bands))
     same("arrows", shapes(root, "arrow"), arrows(journal, bands))
     same("stalls", shapes(root, "stall"), stalls(journal, bands))
+    same("strips", shapes(root, "strip"), strips(journal, bands))
+    same("levels", shapes(root, "level"), levels(journal, bands))
     layers_agree(root)
     arrows_agree(root, arrows(journal, bands), bands)
+    lanes_agree(root, journal, bands)
+    levels_agree(root, journal, bands)
     places_agree(root)
+
+
+# ---- what a browser shows
+
+# each picture stands in a section of its own; what is wrong with it is written there
+PAGE = """<!doctype html><meta charset="ascii"><body style="margin:0">%s<script>
+const meets = (a, b) => a.x + 1 < b.x + b.width && b.x + 1 < a.x + a.width && a.y + 1 < b.y + b.height && b.y + 1 < a.y + a.height;
+for (const section of document.querySelectorAll("section")) {
+    const svg = section.querySelector("svg"), view = svg.viewBox.baseVal, faults = [];
+    const boxes = [...svg.querySelectorAll(".box rect")];
+    for (const shape of svg.querySelectorAll("rect, path, circle, text")) {
+        if (shape.closest("defs")) continue;
+        const at = shape.getBBox(), name = shape.tagName + " " + shape.textContent + " at " + at.x + ", " + at.y;
+        if (at.x < 0 || at.y < 0 || at.x + at.width > view.width || at.y + at.height > view.height) faults.push(name + " is out of view");
+        if (shape.tagName === "text" && boxes.some((box) => box.parentNode !== shape.parentNode && meets(at, box.getBBox())))
+            faults.push(name + " lies over a box");
+    }
+    section.replaceChildren("faults of " + section.id + ": " + faults.join("; "));
+}
+</script>"""
+
+
+def browser():
+    return next(filter(None, map(shutil.which, ("chromium", "chromium-browser", "google-chrome"))), None)
+
+
+def check_views(count, pictures):
+    """Has the browser lay out all of these pictures, by name, at once."""
+    sections = "".join(f'<section id="{name}">{picture.decode()}</section>' for name, picture in pictures.items())
+    with tempfile.TemporaryDirectory() as work:
+        page = pathlib.Path(work) / "page.html"
+        page.write_text(PAGE % sections)
+        words = [browser(), "--headless", "--no-sandbox", "--disable-gpu", f"--user-data-dir={work}/user", "--dump-dom", page.as_uri()]
+        shown = output_of(words).decode()
+    for name in pictures:
+        faults = re.search(f"faults of {re.escape(name)}: ([^<]*)<", shown)
+        count.test(f"{name} in a browser: {faults and faults[1]}", faults is not None and faults[1] == "")
+
+
+# ---- refused allocations
+
+
+def survives_refusals(program, journal, refuse):
+    """With each allocation refused in turn the picture is drawn, or that memory is wanting and nothing else."""
+    wanted = output_of([program, "picture"], journal)
+    trace = refuse.with_name("refused")
+    for number in range(1, MOST_ALLOCATIONS):
+        trace.unlink(missing_ok=True)
+        surroundings = {**os.environ, "LD_PRELOAD": str(refuse), "REFUSE": str(number), "REFUSED": str(trace)}
+        done = subprocess.run([program, "picture"], input=journal, capture_output=True, timeout=WAIT, env=surroundings)
+        told = done.returncode, done.stdout, done.stderr
+        if not trace.exists():
+            return number > 1 and told == (0, wanted, b"")
+        if told not in ((0, wanted, b""), (1, b"", b"chanhub: out of memory\n")):
+            return False
+    return False
+
+
+def check_refusals(count, program, journals):
+    with tempfile.TemporaryDirectory() as work:
+        refuse = pathlib.Path(work) / "refuse.so"
+        flags = ["-O1", "-shared", "-fPIC", "-fno-builtin", "-o", refuse]
+        subprocess.run([os.environ.get("CC", "cc"), *flags, TOOLS / "refuse.c"], check=True)
+        for path in journals:
+            count.test(f"{path.name} with refused allocations", survives_refusals(program, path.read_bytes(), refuse))
 
 
 # ---- all of it
@@ -235,7 +399,16 @@ def check_picture(picture, journal, first, end):
 
 class Count:
     def __init__(self):
-        self.passed = self.failed = 0
+        self.passed = self.failed = self.skipped = 0
+
+    def test(self, name, good):
+        self.passed, self.failed = self.passed + good, self.failed + (not good)
+        if not good:
+            print(f"failed: {name}")
+
+    def skip(self, name):
+        self.skipped += 1
+        print(f"skipped: {name}")
 
     def run(self, name, test):
         try:
@@ -271,16 +444,22 @@ def check_document(count, program, path):
 def main():
     program = str(pathlib.Path(sys.argv[1]).resolve())
     count = Count()
-    for path in sorted((ROOT / "examples" / "journals").iterdir()):
-        if not path.suffix:
-            check_journal(count, program, path.name, path.read_bytes())
+    examples = [path for path in sorted((ROOT / "examples" / "journals").iterdir()) if not path.suffix]
+    documents = sorted((ROOT / "docs" / "pictures").glob("*.journal"))
+    for path in examples:
+        check_journal(count, program, path.name, path.read_bytes())
     for seed in range(1, RANDOM + 1):
         text = output_of([sys.executable, str(TOOLS / "random_journal.py"), str(seed)])
         check_journal(count, program, f"random journal {seed}", text)
-    for path in sorted((ROOT / "docs" / "pictures").glob("*.journal")):
+    for path in documents:
         check_document(count, program, path)
         check_journal(count, program, path.name, path.read_bytes())
-    print(f"{count.passed} passed, {count.failed} failed")
+    check_refusals(count, program, documents)
+    if browser():
+        check_views(count, {path.name: output_of([program, "picture"], path.read_bytes()) for path in examples + documents})
+    else:
+        count.skip("pictures in a browser, since there is no Chromium")
+    print(f"{count.passed} passed, {count.failed} failed" + (f", {count.skipped} skipped" if count.skipped else ""))
     return count.failed != 0
 
 

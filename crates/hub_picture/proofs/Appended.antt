@@ -31,12 +31,12 @@ pub part : {E : Type 0} (old mid new : Vec ℕ) (text : List ℕ) (e : E) → (r
 part old mid new text e was more = record { ok = _; err = grown-more old.items mid.items new.items was more }
 
 -- of texts that are appended in turn: one more, and those that are left
-pub next-shape : {X : Type 0} (text : X → List ℕ) (xs : List X) (i : ℕ) (x : X) (first old new : List ℕ) → i < length xs → x ≡ get_or xs i x →
-    new ≡ old ++ text x → old ++ flat_map text (drop i xs) ≡ first ++ flat_map text xs →
+pub next-shape : {X : Type 0} (text : X → List ℕ) (xs : List X) (i : ℕ) (x : X) (first old new : List ℕ) → i < length xs →
+    new ≡ old ++ text (get_or xs i x) → old ++ flat_map text (drop i xs) ≡ first ++ flat_map text xs →
     new ++ flat_map text (drop (i + 1) xs) ≡ first ++ flat_map text xs
-next-shape text xs i x first old new below is grown same =
-    ap (λ l. l ++ flat_map text (drop (i + 1) xs)) grown ∙ append_assoc old (text x) (flat_map text (drop (i + 1) xs))
-    ∙ ap (λ y. old ++ (text y ++ flat_map text (drop (i + 1) xs))) is ∙ ap (λ l. old ++ l) (sym (at_drop_more (flat_map text) xs i x below)) ∙ same
+next-shape text xs i x first old new below grown same =
+    ap (λ l. l ++ flat_map text (drop (i + 1) xs)) grown ∙ append_assoc old (text (get_or xs i x)) (flat_map text (drop (i + 1) xs))
+    ∙ ap (λ l. old ++ l) (sym (at_drop_more (flat_map text) xs i x below)) ∙ same
 
 -- a part of a text, where memory was refused behind its first part
 pub refused : {E : Type 0} (old mid new : Vec ℕ) (text : List ℕ) (result : Result (Unit {0}) E) → IsErr result →

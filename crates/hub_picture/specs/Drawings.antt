@@ -1,5 +1,5 @@
 -- What is drawn of a journal, in processes and steps. Colours, lengths and texts are no part of it.
-use Rattle.std.specs.Prelude.{◌≡◌, ℕ, zero, suc, ◌+◌, min, Bool, true, false, ◌&&◌, nat_lt, List, [], ◌∷◌, ◌++◌, filter, map, length}
+use Rattle.std.specs.Prelude.{◌≡◌, ℕ, zero, suc, ◌+◌, min, Bool, true, false, ◌&&◌, List, [], ◌∷◌, ◌++◌, filter, map, length}
 use Rattle.std.specs.Prelude.{Option, None, Some, slice_index_or}
 use Rattle.hub_base.specs.declared.value.Port.{Port}
 use Rattle.hub_base.specs.declared.entry.Entry.{Entry}
@@ -17,8 +17,10 @@ use Rattle.hub_picture.specs.declared.asked.Asked.{Asked}
 use Rattle.hub_picture.specs.declared.asked.Shown.{Shown}
 use Rattle.hub_picture.specs.declared.asked.Shown.TheVariants.{Boxes, Bars}
 use Rattle.hub_picture.specs.declared.arrows.Arrow.{Arrow}
+use Rattle.hub_picture.specs.Lanes.{lanes_of}
+use Rattle.hub_picture.specs.Levels.{all_strips, all_levels}
 use Rattle.hub_picture.specs.declared.drawing.Drawing.{Drawing}
-use Rattle.hub_picture.specs.Windows.{has, touches, within}
+use Rattle.hub_picture.specs.Windows.{goes_on, has, touches, within}
 
 -- ---- what was asked
 -- these entries, the first of which stands at this place, and how each ended
@@ -27,10 +29,14 @@ asked s place [] = []
 asked s place (e ∷ es) =
     record { place = place; entry = e; ended = slice_index_or s.ends.items place None } ∷ asked s (place + 1) es
 
+-- by which step it ended
+abbrev pub ended_by : Option Told → Option ℕ
+ended_by None = None
+ended_by (Some end) = Some end.by
+
 -- a call that was asked at this place waits in the window: until a later step ended it, or still
 abbrev pub waits_in : Window → ℕ → Option Told → Bool
-waits_in w place None = nat_lt place w.end
-waits_in w place (Some end) = nat_lt place end.by && touches w place end.by
+waits_in w place ended = goes_on w place (ended_by ended)
 
 -- the window shows an entry by a box where it has its step, and by a bar where it waits there
 abbrev pub shows : Shown → Window → ℕ → Option Told → Bool
@@ -80,12 +86,16 @@ abbrev pub stalls_in : Window → Told → Bool
 stalls_in w t = is_stalled t.event.what && has w t.by
 
 -- ---- the whole
--- the boxes are the entries of the window, the bars the calls that waited and the arrows the passages of all ports that
--- touch it, the stalls who was stalled by its steps: each once, in order, and nothing else
+-- the lanes are the processes, the strips the ports that have room; the boxes are the entries of the window, the bars the
+-- calls that waited, the arrows the passages of all ports, and the levels what ports held, as far as they touch it; the
+-- stalls who was stalled by its steps: each once, in order, and nothing else
 pub record IsDrawingOf (given : JournalView) (s : Story) (w : Window) (d : Drawing) : Type 0 where
   pub procs : d.procs ≡ given.head.procs
   pub window : d.window ≡ within w (length given.entries)
+  pub lanes : d.lanes.items ≡ lanes_of given.head.procs given.entries s.told.items
+  pub strips : d.strips.items ≡ all_strips given.entries s.told.items
   pub boxes : d.boxes.items ≡ filter (is_shown Boxes w) (asked s 0 given.entries)
   pub bars : d.bars.items ≡ filter (is_shown Bars w) (asked s 0 given.entries)
   pub arrows : d.arrows.items ≡ all_arrows w given.entries s.told.items
+  pub levels : d.levels.items ≡ all_levels w given.entries s.told.items
   pub stalls : d.stalls.items ≡ filter (stalls_in w) s.told.items

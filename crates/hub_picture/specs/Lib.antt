@@ -1,4 +1,6 @@
 pub mod Windows
+pub mod Lanes
+pub mod Levels
 pub mod Drawings
 pub mod Labels
 pub mod Pieces

@@ -64,7 +64,7 @@ not_stalled_row = refl
 
 -- ---- the second band of a picture of two processes: steps 14 to 27
 abbrev second : Frame
-second = record { scale = Wide; band = 1; procs = 2; steps = steps 14 28 }
+second = record { scale = Wide; band = 1; procs = 2; ports = 0; steps = steps 14 28 }
 
 -- half a column is 40; before the band is its left edge, and behind it its right one
 pub columns_row : map (x_of second) (3 ∷ 14 ∷ 15 ∷ 27 ∷ 99 ∷ []) ≡ 60 ∷ 100 ∷ 180 ∷ 1140 ∷ 1180 ∷ []
@@ -80,7 +80,7 @@ sides_row = refl
 
 -- in the first band lane 0 is at 98 and lane 1 at 156, and the columns of places 1, 3 and 4 at 180, 340 and 420
 abbrev first_band : Frame
-first_band = record { scale = Wide; band = 0; procs = 2; steps = steps 0 5 }
+first_band = record { scale = Wide; band = 0; procs = 2; ports = 0; steps = steps 0 5 }
 
 abbrev bodies : List Arrow → List (List ℕ)
 bodies arrows = map (λ a. arrow_body first_band a.passage.sent.told a.passage.received.told) arrows
@@ -94,7 +94,7 @@ pub tick_row : tick_in second 14 ≡ codes "<text class=\"tick\" x=\"100\" y=\"3
 unfolding digits
 tick_row = refl
 
-pub no_tick_row : tick_in (record { scale = Dense; band = 0; procs = 2; steps = steps 0 60 }) 2 ≡ []
+pub no_tick_row : tick_in (record { scale = Dense; band = 0; procs = 2; ports = 0; steps = steps 0 60 }) 2 ≡ []
 no_tick_row = refl
 
 pub label_row : label_text (Send (port 12)) ≡ codes "s12"

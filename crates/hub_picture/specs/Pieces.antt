@@ -6,7 +6,7 @@ use Rattle.hub_base.specs.Lines.{line}
 use Rattle.hub_base.specs.EventText.{event_line}
 use Rattle.hub_story.specs.declared.told.Told.{Told}
 use Rattle.hub_picture.specs.declared.piece.Piece.{Piece}
-use Rattle.hub_picture.specs.declared.piece.Piece.TheVariants.{Word, Number, Line, Tells, End, Class, Ending, Name, Moves}
+use Rattle.hub_picture.specs.declared.piece.Piece.TheVariants.{Word, Number, Line, Tells, End, Until, Class, Ending, Name, Moves}
 use Rattle.hub_picture.specs.Labels.{class_text, end_class, label_text, value_text}
 
 -- texts, one after the other
@@ -19,12 +19,18 @@ abbrev pub end_text : Option Told → List ℕ
 end_text None = codes "waits"
 end_text (Some end) = event_line end.event ++ codes "by step " ++ decimal (end.by + 1)
 
+-- until which step something goes on
+abbrev pub until_text : Option ℕ → List ℕ
+until_text None = codes " on"
+until_text (Some until) = codes " until step " ++ decimal (until + 1)
+
 abbrev pub piece_text : Piece → List ℕ
 piece_text (Word bytes) = bytes.now
 piece_text (Number n) = decimal n
 piece_text (Line e) = line e.now
 piece_text (Tells e) = event_line e
 piece_text (End end) = end_text end
+piece_text (Until until) = until_text until
 piece_text (Class label) = class_text label
 piece_text (Ending w) = end_class w
 piece_text (Name label) = label_text label

@@ -5,4 +5,5 @@ pub mod Bars
 pub mod Arrows
 pub mod Stalls
 pub mod Lanes
+pub mod Strips
 pub mod Page

@@ -1,5 +1,5 @@
 -- Which steps of a journal a picture shows. Steps are counted from 0.
-use Rattle.std.specs.Prelude.{ℕ, Bool, ◌&&◌, nat_le, nat_lt, min}
+use Rattle.std.specs.Prelude.{ℕ, Bool, ◌&&◌, nat_le, nat_lt, min, Option, None, Some}
 use Rattle.hub_picture.specs.declared.window.Window.{Window}
 
 -- the step at this place is one of them
@@ -9,6 +9,11 @@ has w place = nat_le w.first place && nat_lt place w.end
 -- a step of what goes on from one place until another is one of them
 abbrev pub touches : Window → ℕ → ℕ → Bool
 touches w from until = nat_lt from w.end && nat_le w.first until
+
+-- what goes on from one place until another, or still, lasts, and a step of it is one of them
+abbrev pub goes_on : Window → ℕ → Option ℕ → Bool
+goes_on w from None = nat_lt from w.end
+goes_on w from (Some until) = nat_lt from until && touches w from until
 
 -- those that a journal of so many steps has
 abbrev pub within : Window → ℕ → Window

@@ -1,7 +1,7 @@
 //! What was asked, and how it ended: the boxes and the bars of a drawing.
 
 ghost use Rattle.std.specs.Prelude.{◌≡◌, ◌<◌, ◌-◌, ◌^◌, None, IfOk, filter, length, slice_index_or};
-ghost use Rattle.hub_picture.specs.Drawings.{asked, is_shown, shows};
+ghost use Rattle.hub_picture.specs.Drawings.{asked, ended_by, is_shown, shows};
 
 use crate::Window;
 use hub_base::{Entry, Journal};
@@ -38,13 +38,13 @@ fn end_at(story: &Story, place: u32) -> Option<Told>
     }
 }
 
-/// Whether the window shows the wait of the entry at this place. A call waits until a later step ends it.
-fn shows_wait(window: Window, place: u32, ended: Option<Told>) -> bool
-    ensures { result ≡ shows Shown.Bars window place ended }
+/// By which step it ended.
+pub(crate) fn ended_by(ended: Option<Told>) -> Option<u32>
+    ensures { result ≡ ended_by ended }
 {
     match ended {
-        Some(end) => place < end.by && window.touches(place, end.by),
-        None => place < window.end,
+        Some(end) => Some(end.by),
+        None => None,
     }
 }
 
@@ -54,7 +54,7 @@ pub(crate) fn shows(shown: Shown, window: Window, place: u32, ended: Option<Told
 {
     match shown {
         Shown::Boxes => window.has(place),
-        Shown::Bars => shows_wait(window, place, ended),
+        Shown::Bars => window.shows(place, ended_by(ended)),
     }
 }
 

@@ -5,8 +5,11 @@ ghost use Rattle.hub_picture.specs.Drawings.{IsDrawingOf};
 
 use crate::arrows::arrows_in;
 use crate::asked::{Shown, asked_in};
+use crate::lanes::lanes_of;
+use crate::levels::levels_in;
 use crate::stalls::all_stalled;
-use crate::{Arrow, Asked, Window};
+use crate::strips::strips_of;
+use crate::{Arrow, Asked, Held, Lane, Strip, Window};
 use hub_base::{Journal, NoMemory};
 use hub_story::{Story, Told};
 use std::alloc::Global;
@@ -18,12 +21,18 @@ pub struct Drawing {
     pub procs: u8,
     /// The steps that are shown.
     pub window: Window,
+    /// The processes: a lane each, until it exits.
+    pub lanes: Vec<Lane>,
+    /// The ports that have room for values: a strip each.
+    pub strips: Vec<Strip>,
     /// The entries of these steps: a box each.
     pub boxes: Vec<Asked>,
     /// The calls that waited at one of them: a bar each, until it ended.
     pub bars: Vec<Asked>,
     /// The values that were on their way at one of them: an arrow each.
     pub arrows: Vec<Arrow>,
+    /// How full the ports were, while they held values: a level each, until it changed.
+    pub levels: Vec<Held>,
     /// Whoever was stalled by one of them: a band each.
     pub stalls: Vec<Told>,
 }
@@ -38,16 +47,23 @@ pub fn drawing_of(
     requires few { length journal.now.entries < 2 ^ 32 - 1 }
     ensures { IfOk result (λ drawing. IsDrawingOf journal.now story.now window drawing) }
 {
+    let entries = journal.entries();
+    let lanes = lanes_of(alloc, journal.procs(), entries, &story.told)?;
+    let strips = strips_of(alloc, entries, &story.told)?;
     let boxes = asked_in(alloc, Shown::Boxes, window, journal, story)?;
     let bars = asked_in(alloc, Shown::Bars, window, journal, story)?;
     let arrows = arrows_in(alloc, window, journal, story)?;
+    let levels = levels_in(alloc, window, entries, &story.told, &strips)?;
     let stalls = all_stalled(alloc, window, &story.told)?;
     Ok(Drawing {
         procs: journal.procs(),
-        window: window.within(journal.entries().len() as u32),
+        window: window.within(entries.len() as u32),
+        lanes,
+        strips,
         boxes,
         bars,
         arrows,
+        levels,
         stalls,
     })
 }

@@ -1,15 +1,23 @@
 //! Where steps and processes stand on a page.
 
 ghost use Rattle.std.specs.Prelude.{◌≡◌, ◌≤◌, ◌+◌, ◌*◌, min};
-ghost use Rattle.hub_picture.specs.Frames.{frame_of, half_of, lane_of, size_of, steps_of, thick_of, tick_of, x_of, y_of};
+ghost use Rattle.hub_picture.specs.Frames.{floor_of, frame_of, half_of, height_of, lane_of, ports_of, size_of, steps_of};
+ghost use Rattle.hub_picture.specs.Frames.{thick_of, tick_of, top_of, until, x_of, y_of};
 
 use crate::{Drawing, Window};
+use hub_base::MOST_PORTS;
 
 /// Where the first step of a band begins.
 pub(crate) const LEFT: u64 = 60;
 
 /// Where the first band begins.
 pub(crate) const TOP: u64 = 40;
+
+/// The height of a port's strip, with the room above it.
+pub(crate) const STRIP: u64 = 18;
+
+/// The height of a strip whose port is full.
+pub(crate) const FULL: u64 = 12;
 
 /// The number of the step at this place, from 1.
 pub(crate) fn number_of(place: u32) -> u64
@@ -113,8 +121,25 @@ pub(crate) struct Frame {
     pub band: u32,
     /// How many processes there are.
     pub procs: u8,
+    /// How many strips there are.
+    pub ports: u8,
     /// Its steps.
     pub steps: Window,
+}
+
+/// How many strips there are. No hub has more ports than `MOST_PORTS`.
+pub(crate) fn ports_of(drawing: &Drawing) -> u8
+    ensures { result ≡ ports_of drawing.now }
+{
+    drawing.strips.len().min(MOST_PORTS) as u8
+}
+
+/// The height of a band.
+pub(crate) fn height_of(scale: Scale, procs: u8, ports: u8) -> u64
+    ensures value { result ≡ height_of scale procs ports }
+    ensures most { result ≤ 20000 }
+{
+    scale.lane() * (u64::from(procs) + 2) + STRIP * u64::from(ports)
 }
 
 /// The first step of a band, or the end of the window where that comes first.
@@ -134,6 +159,7 @@ pub(crate) fn frame_of(scale: Scale, drawing: &Drawing, band: u32) -> Frame
         scale,
         band,
         procs: drawing.procs,
+        ports: ports_of(drawing),
         steps: Window {
             first: step_of(drawing.window, scale, band.into()),
             end: step_of(drawing.window, scale, u64::from(band) + 1),
@@ -153,13 +179,42 @@ impl Frame {
         LEFT + self.scale.half() * within.saturating_sub(2 * u64::from(self.steps.first))
     }
 
+    /// Where it begins.
+    fn top(self) -> u64
+        ensures value { result ≡ top_of self }
+        ensures least { TOP ≤ result }
+        ensures most { result ≤ 1125899906842624 }
+    {
+        TOP + u64::from(self.band) * height_of(self.scale, self.procs, self.ports)
+    }
+
     /// Where a process stands.
     pub fn y(self, pid: u8) -> u64
         ensures value { result ≡ y_of self pid }
         ensures least { TOP ≤ result }
-        ensures most { result ≤ 1125899906842624 }
+        ensures most { result ≤ 2251799813685248 }
     {
-        let above = u64::from(self.band) * (u64::from(self.procs) + 2);
-        TOP + self.scale.lane() * (above + 1 + u64::from(pid.min(self.procs)))
+        self.top() + self.scale.lane() * (1 + u64::from(pid.min(self.procs)))
+    }
+
+    /// The floor of the strip in this row.
+    pub fn floor(self, row: usize) -> u64
+        ensures value { result ≡ floor_of self row }
+        ensures least { TOP ≤ result }
+        ensures most { result ≤ 2251799813685248 }
+    {
+        let lane = self.scale.lane();
+        let lanes = lane * (u64::from(self.procs) + 1) + lane / 2;
+        self.top() + lanes + STRIP * (1 + row.min(self.ports.into()) as u64)
+    }
+
+    /// Until where something goes on that ends so.
+    pub fn until(self, end: Option<u32>) -> u32
+        ensures { result ≡ until self end }
+    {
+        match end {
+            Some(place) => place,
+            None => self.steps.end,
+        }
     }
 }

@@ -6,7 +6,7 @@ ghost use Rattle.std.specs.List.{flat_map};
 ghost use Rattle.hub_base.specs.EventText.{event_line};
 ghost use Rattle.hub_base.specs.Lines.{line};
 ghost use Rattle.hub_picture.specs.Labels.{class_text, hue_of, label_text, value_text};
-ghost use Rattle.hub_picture.specs.Pieces.{Appends, end_text, piece_text};
+ghost use Rattle.hub_picture.specs.Pieces.{Appends, end_text, piece_text, until_text};
 
 use crate::label::{Label, end_class};
 use hub_base::{Edition, Entry, Event, NoMemory, Port, Value, What, write_entry, write_event};
@@ -27,6 +27,8 @@ pub(crate) enum Piece<'a> {
     Tells(Event),
     /// How an entry ended, and by which step.
     End(Option<Told>),
+    /// Until which step something goes on.
+    Until(Option<u32>),
     /// The class of a label.
     Class(Label),
     /// What the class says of an end.
@@ -93,6 +95,16 @@ fn put_end(out: &mut Vec<u8>, ended: Option<Told>) -> Result<(), AllocError>
     }
 }
 
+/// Appends until which step something goes on.
+fn put_until(out: &mut Vec<u8>, until: Option<u32>) -> Result<(), AllocError>
+    ensures { Appends out.old out.new (until_text until) result }
+{
+    match until {
+        Some(until) => put_numbered(out, b" until step ", u64::from(until) + 1),
+        None => put(out, b" on"),
+    }
+}
+
 /// Appends a word and the colour of a port.
 fn put_hue(out: &mut Vec<u8>, word: &[u8], port: Port) -> Result<(), AllocError>
     ensures { Appends out.old out.new (word.now ++ decimal (hue_of port)) result }
@@ -153,6 +165,7 @@ fn put_piece(out: &mut Vec<u8>, piece: &Piece<'_>) -> Result<(), AllocError>
         Piece::Line(entry) => put_entry(out, entry),
         Piece::Tells(event) => put_event(out, event),
         Piece::End(ended) => put_end(out, *ended),
+        Piece::Until(until) => put_until(out, *until),
         Piece::Class(label) => put_class(out, *label),
         Piece::Ending(what) => put(out, end_class(*what)),
         Piece::Name(label) => put_label(out, *label),

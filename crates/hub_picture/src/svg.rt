@@ -4,7 +4,7 @@ ghost use Rattle.std.specs.Prelude.{◌≡◌, ◌≤◌, ◌++◌, OnErr, OnOk}
 ghost use Rattle.hub_picture.specs.Frames.{frame_of};
 ghost use Rattle.hub_picture.specs.Pieces.{Appends};
 ghost use Rattle.hub_picture.specs.Svg.Page.{bands_of, bands_to, scale_of, svg_text};
-ghost use Rattle.hub_picture.specs.Svg.Page.{back_text, band_text, foot_text, front_text, head_text};
+ghost use Rattle.hub_picture.specs.Svg.Page.{back_text, band_text, below_text, foot_text, front_text, head_text};
 
 mod arrows;
 mod bars;
@@ -12,6 +12,7 @@ mod boxes;
 mod lanes;
 mod page;
 mod stalls;
+mod strips;
 mod style;
 
 use self::arrows::put_arrows;
@@ -20,6 +21,7 @@ use self::boxes::put_boxes;
 use self::lanes::{put_lanes, put_ticks};
 use self::page::{bands_of, put_foot, put_head, scale_of};
 use self::stalls::put_stalls;
+use self::strips::{put_levels, put_strips};
 use crate::Drawing;
 use crate::frame::{Frame, frame_of};
 use hub_base::{NoMemory, undo_if_refused};
@@ -29,12 +31,20 @@ use std::alloc::AllocError;
 fn put_back(out: &mut Vec<u8>, frame: Frame, drawing: &Drawing) -> Result<(), AllocError>
     ensures { Appends out.old out.new (back_text frame drawing.now) result }
 {
-    put_lanes(out, frame)?;
+    put_lanes(out, frame, &drawing.lanes)?;
     put_ticks(out, frame)?;
     put_stalls(out, frame, &drawing.stalls)
 }
 
-/// Appends what stands before it.
+/// Appends what stands below.
+fn put_below(out: &mut Vec<u8>, frame: Frame, drawing: &Drawing) -> Result<(), AllocError>
+    ensures { Appends out.old out.new (below_text frame drawing.now) result }
+{
+    put_strips(out, frame, &drawing.strips)?;
+    put_levels(out, frame, &drawing.levels)
+}
+
+/// Appends what stands before all.
 fn put_front(out: &mut Vec<u8>, frame: Frame, drawing: &Drawing) -> Result<(), AllocError>
     ensures { Appends out.old out.new (front_text frame drawing.now) result }
 {
@@ -48,6 +58,7 @@ fn put_band(out: &mut Vec<u8>, frame: Frame, drawing: &Drawing) -> Result<(), Al
     ensures { Appends out.old out.new (band_text frame drawing.now) result }
 {
     put_back(out, frame, drawing)?;
+    put_below(out, frame, drawing)?;
     put_front(out, frame, drawing)
 }
 

@@ -1,7 +1,7 @@
 //! Which steps of a journal are shown.
 
 ghost use Rattle.std.specs.Prelude.{◌≡◌};
-ghost use Rattle.hub_picture.specs.Windows.{has, touches, within};
+ghost use Rattle.hub_picture.specs.Windows.{goes_on, has, touches, within};
 
 /// Steps of a journal, counted from 0.
 #[derive(Clone, Copy, Debug, PartialEq, Eq)]
@@ -25,6 +25,16 @@ impl Window {
         ensures { result ≡ touches self from until }
     {
         from < self.end && self.first <= until
+    }
+
+    /// Whether it shows what goes on from one place until another, or still.
+    pub(crate) fn shows(self, from: u32, until: Option<u32>) -> bool
+        ensures { result ≡ goes_on self from until }
+    {
+        match until {
+            Some(until) => from < until && self.touches(from, until),
+            None => from < self.end,
+        }
     }
 
     /// The part of it within so many steps.

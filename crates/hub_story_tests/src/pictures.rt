@@ -1,7 +1,7 @@
 //! Tests through the public calls. What is expected was worked out by hand from the rules.
 
-use hub_base::read_journal;
-use hub_picture::{Asked, Drawing, Window, drawing_of, write_svg};
+use hub_base::{Port, read_journal};
+use hub_picture::{Asked, Drawing, Lane, Strip, Window, drawing_of, write_svg};
 use hub_story::{Told, story_of};
 use std::alloc::Global;
 use std::process::Abort;
@@ -71,6 +71,46 @@ fn whole_journal_is_drawn(rt: HostRuntime) -> Result<(), Fail> {
     Ok(())
 }
 
+/// How much the ports held, from which step until which.
+fn levels(alloc: Global, drawing: &Drawing) -> Result<Vec<(u16, u32, Option<u32>, usize)>, Fail> {
+    let mut all = Vec::new(alloc);
+    for held in &drawing.levels {
+        let count = held.level.sent.saturating_sub(held.level.received);
+        all.push((held.strip.port.0, held.from, held.until, count))?;
+    }
+    Ok(all)
+}
+
+/// Each process has a lane until it exits, and each port a strip with its levels: one value lies there until it is received,
+/// and then the one whose sender waited.
+#[test]
+fn lanes_end_and_ports_fill(rt: HostRuntime) -> Result<(), Fail> {
+    let drawing = drawn(&rt, rt.alloc(), PIPE, Window { first: 0, end: 9 })?;
+    let exited = [
+        Lane {
+            pid: 0,
+            exited: Some(6),
+        },
+        Lane {
+            pid: 1,
+            exited: None,
+        },
+    ];
+    assert_eq!(rt; drawing.lanes.as_slice(), exited.as_slice());
+    let made = [Strip {
+        row: 0,
+        port: Port(1),
+        room: 1,
+    }];
+    assert_eq!(rt; drawing.strips.as_slice(), made.as_slice());
+    let levels = levels(rt.alloc(), &drawing)?;
+    assert_eq!(rt;
+        levels.as_slice(),
+        [(1, 1, Some(3), 1), (1, 3, Some(4), 1)].as_slice()
+    );
+    Ok(())
+}
+
 /// A window shows what began before it and goes on in it, and nothing that ended before.
 #[test]
 fn window_shows_what_touches_it(rt: HostRuntime) -> Result<(), Fail> {
@@ -92,7 +132,7 @@ fn picture_is_appended(rt: HostRuntime) -> Result<(), Fail> {
     let mut out = Vec::from_slice(rt.alloc(), b"before\n")?;
     write_svg(&drawing, &mut out)?;
     assert!(rt;
-        out.starts_with(b"before\n<svg xmlns=\"http://www.w3.org/2000/svg\" width=\"740\"")
+        out.starts_with(b"before\n<svg xmlns=\"http://www.w3.org/2000/svg\" width=\"776\"")
     );
     assert!(rt; out.ends_with(b"</svg>\n"));
     Ok(())
@@ -100,7 +140,7 @@ fn picture_is_appended(rt: HostRuntime) -> Result<(), Fail> {
 
 /// The last arrow of the band, and the foot right behind it.
 const LAST_ARROW: &[u8] =
-    b"</title><path d=\"M340 113L420 141\"/></g>\n<text class=\"note\" x=\"12\" y=\"296\">Box: an entry;";
+    b"</title><path d=\"M340 113L420 141\"/></g>\n<text class=\"note\" x=\"12\" y=\"314\">Box: an entry;";
 
 /// An arrow goes from the lower side of its sender to the upper side of its receiver, and no box lies above it.
 #[test]

@@ -5,15 +5,10 @@ use Rattle.hub_picture.specs.declared.asked.Asked.{Asked}
 use Rattle.hub_picture.specs.declared.asked.Shown.TheVariants.{Bars}
 use Rattle.hub_picture.specs.declared.frame.Frame.{Frame}
 use Rattle.hub_picture.specs.Windows.{has}
-use Rattle.hub_picture.specs.Drawings.{is_shown}
-use Rattle.hub_picture.specs.Frames.{x_of, y_of, thick_of}
+use Rattle.hub_picture.specs.Drawings.{ended_by, is_shown}
+use Rattle.hub_picture.specs.Frames.{x_of, y_of, until, thick_of}
 use Rattle.hub_picture.specs.Svg.Boxes.{opening_text, asked_title}
 use Rattle.hub_picture.specs.Pieces.{joined}
-
--- until where it waits: the end of the band where that is not known
-abbrev pub until : Frame → Option Told → ℕ
-until f None = f.steps.end
-until f (Some end) = end.by
 
 abbrev pub knob_text : Frame → ℕ → Told → List ℕ
 knob_text f pid end =
@@ -34,7 +29,7 @@ bar_body f a =
     joined (
     codes "</title><rect x=\"" ∷ decimal (x_of f a.place)
     ∷ codes "\" y=\"" ∷ decimal (y_of f a.entry.pid.0 - thick_of f.scale)
-    ∷ codes "\" width=\"" ∷ decimal (x_of f (until f a.ended) - x_of f a.place)
+    ∷ codes "\" width=\"" ∷ decimal (x_of f (until f (ended_by a.ended)) - x_of f a.place)
     ∷ codes "\" height=\"" ∷ decimal (2 * thick_of f.scale)
     ∷ codes "\"/>"
     ∷ [])

@@ -1,28 +1,24 @@
 -- What stands behind the shapes of a band: a lane for each process, and the numbers of steps.
 use Rattle.std.specs.Prelude.{ℕ, zero, suc, ◌+◌, ◌-◌, ◌%◌, ◌==◌, List, [], ◌∷◌, ◌++◌, codes, decimal, if◌then◌else◌}
 use Rattle.hub_picture.specs.declared.frame.Frame.{Frame}
+use Rattle.hub_picture.specs.declared.lanes.Lane.{Lane}
 use Rattle.hub_picture.specs.declared.frame.TheConstants.{LEFT}
-use Rattle.hub_picture.specs.Frames.{x_of, y_of, size_of, tick_of}
+use Rattle.hub_picture.specs.Frames.{x_of, y_of, until, size_of, tick_of}
 use Rattle.hub_picture.specs.Pieces.{joined}
 
--- the lane of a process, and its name before it
-abbrev pub lane_text : Frame → ℕ → List ℕ
-lane_text f pid =
+-- the lane of a process until it exits, and its name before it
+abbrev pub lane_text : Frame → Lane → List ℕ
+lane_text f l =
     joined (
     codes "<path class=\"lane\" d=\"M" ∷ decimal LEFT
-    ∷ codes " " ∷ decimal (y_of f pid)
-    ∷ codes "L" ∷ decimal (x_of f f.steps.end)
-    ∷ codes " " ∷ decimal (y_of f pid)
+    ∷ codes " " ∷ decimal (y_of f l.pid)
+    ∷ codes "L" ∷ decimal (x_of f (until f l.exited))
+    ∷ codes " " ∷ decimal (y_of f l.pid)
     ∷ codes "\"/><text class=\"name\" x=\"" ∷ decimal (LEFT - 8)
-    ∷ codes "\" y=\"" ∷ decimal (y_of f pid + 4)
-    ∷ codes "\">P" ∷ decimal pid
+    ∷ codes "\" y=\"" ∷ decimal (y_of f l.pid + 4)
+    ∷ codes "\">P" ∷ decimal l.pid
     ∷ codes "</text>\n"
     ∷ [])
-
--- those of the first so many processes
-abbrev pub lanes_to : ℕ → Frame → List ℕ
-lanes_to zero f = []
-lanes_to (suc n) f = lanes_to n f ++ lane_text f n
 
 -- the number of a step, above the first lane
 abbrev pub tick_text : Frame → ℕ → List ℕ

@@ -6,12 +6,13 @@ use Rattle.hub_picture.specs.declared.frame.Frame.{Frame}
 use Rattle.hub_picture.specs.declared.frame.Scale.{Scale}
 use Rattle.hub_picture.specs.declared.frame.Scale.TheVariants.{Wide, Middle, Dense}
 use Rattle.hub_picture.specs.declared.frame.TheConstants.{LEFT, TOP}
-use Rattle.hub_picture.specs.Frames.{frame_of, half_of, lane_of, steps_of}
+use Rattle.hub_picture.specs.Frames.{frame_of, half_of, height_of, ports_of, steps_of}
 use Rattle.hub_picture.specs.Svg.Arrows.{arrow_in}
 use Rattle.hub_picture.specs.Svg.Bars.{bar_in}
 use Rattle.hub_picture.specs.Svg.Boxes.{box_in}
-use Rattle.hub_picture.specs.Svg.Lanes.{lanes_to, ticks_to}
+use Rattle.hub_picture.specs.Svg.Lanes.{lane_text, ticks_to}
 use Rattle.hub_picture.specs.Svg.Stalls.{stall_in}
+use Rattle.hub_picture.specs.Svg.Strips.{strip_text, level_in}
 use Rattle.hub_picture.specs.Svg.Style.{style}
 use Rattle.hub_picture.specs.Pieces.{joined}
 
@@ -29,11 +30,11 @@ abbrev pub bands_of : Drawing → ℕ
 bands_of d = (shown_of d + steps_of (scale_of d) - 1) / steps_of (scale_of d)
 
 abbrev pub width_of : Drawing → ℕ
-width_of d = LEFT + max 660 (2 * half_of (scale_of d) * min (shown_of d) (steps_of (scale_of d))) + 20
+width_of d = LEFT + max 660 (2 * half_of (scale_of d) * min (shown_of d) (steps_of (scale_of d))) + 56
 
 -- where the bands end
 abbrev pub foot_of : Drawing → ℕ
-foot_of d = TOP + lane_of (scale_of d) * (bands_of d * (d.procs + 2))
+foot_of d = TOP + bands_of d * height_of (scale_of d) d.procs (ports_of d)
 
 -- ---- the text
 -- the tip of an arrow
@@ -78,14 +79,19 @@ head_text d = page_opening d ++ style ++ paper_text d
 
 -- what stands behind, and what before it: arrows above all, so that no box hides where one passes
 abbrev pub back_text : Frame → Drawing → List ℕ
-back_text f d = lanes_to f.procs f ++ ticks_to (f.steps.end - f.steps.first) f ++ flat_map (stall_in f) d.stalls.items
+back_text f d =
+    flat_map (lane_text f) d.lanes.items ++ ticks_to (f.steps.end - f.steps.first) f ++ flat_map (stall_in f) d.stalls.items
+
+-- what stands below
+abbrev pub below_text : Frame → Drawing → List ℕ
+below_text f d = flat_map (strip_text f) d.strips.items ++ flat_map (level_in f) d.levels.items
 
 abbrev pub front_text : Frame → Drawing → List ℕ
 front_text f d =
     flat_map (bar_in f) d.bars.items ++ flat_map (box_in f) d.boxes.items ++ flat_map (arrow_in f) d.arrows.items
 
 abbrev pub band_text : Frame → Drawing → List ℕ
-band_text f d = back_text f d ++ front_text f d
+band_text f d = back_text f d ++ below_text f d ++ front_text f d
 
 -- the first so many bands
 abbrev pub bands_to : ℕ → Drawing → List ℕ

@@ -1,28 +1,17 @@
 //! The bars of calls that waited.
 
 ghost use Rattle.std.specs.List.{flat_map};
-ghost use Rattle.std.specs.Prelude.{◌≡◌};
 ghost use Rattle.hub_picture.specs.Pieces.{Appends};
-ghost use Rattle.hub_picture.specs.Svg.Bars.{bar_body, bar_in, bar_text, drawn_bar, knob_in, knob_text, until};
+ghost use Rattle.hub_picture.specs.Svg.Bars.{bar_body, bar_in, bar_text, drawn_bar, knob_in, knob_text};
 
 use crate::Asked;
-use crate::asked::{Shown, shows};
+use crate::asked::{Shown, ended_by, shows};
 use crate::frame::Frame;
 use crate::piece::{Piece, put_pieces};
 use crate::svg::boxes::{put_asked_title, put_opening};
 use hub_base::Pid;
 use hub_story::Told;
 use std::alloc::AllocError;
-
-/// Until where a call waits that ended so.
-fn until(frame: Frame, ended: Option<Told>) -> u32
-    ensures { result ≡ until frame ended }
-{
-    match ended {
-        Some(end) => end.by,
-        None => frame.steps.end,
-    }
-}
 
 /// Appends the knob of a wait that ended so.
 fn put_knob(out: &mut Vec<u8>, frame: Frame, pid: Pid, end: &Told) -> Result<(), AllocError>
@@ -63,7 +52,7 @@ fn put_body(out: &mut Vec<u8>, frame: Frame, asked: &Asked) -> Result<(), AllocE
 {
     let x = frame.x(asked.place);
     let y = frame.y(asked.entry.pid.0);
-    let end = frame.x(until(frame, asked.ended));
+    let end = frame.x(frame.until(ended_by(asked.ended)));
     let thick = frame.scale.thick();
     put_pieces(
         out,

@@ -1,18 +1,20 @@
 //! What stands behind the shapes of a band.
 
 ghost use Rattle.std.specs.Prelude.{◌≡◌, ◌<◌, ◌+◌, ◌^◌, ◌-◌};
+ghost use Rattle.std.specs.List.{flat_map};
 ghost use Rattle.hub_picture.specs.Pieces.{Appends};
-ghost use Rattle.hub_picture.specs.Svg.Lanes.{lane_text, lanes_to, tick_in, tick_text, ticks_to};
+ghost use Rattle.hub_picture.specs.Svg.Lanes.{lane_text, tick_in, tick_text, ticks_to};
 
+use crate::Lane;
 use crate::frame::{Frame, LEFT, number_of};
 use crate::piece::{Piece, put_pieces};
 use std::alloc::AllocError;
 
-/// Appends the lane of a process.
-fn put_lane(out: &mut Vec<u8>, frame: Frame, pid: u8) -> Result<(), AllocError>
-    ensures { Appends out.old out.new (lane_text frame pid) result }
+/// Appends the lane of a process, until it exits.
+fn put_lane(out: &mut Vec<u8>, frame: Frame, lane: &Lane) -> Result<(), AllocError>
+    ensures { Appends out.old out.new (lane_text frame lane.now) result }
 {
-    let y = frame.y(pid);
+    let y = frame.y(lane.pid);
     put_pieces(
         out,
         &[
@@ -21,7 +23,7 @@ fn put_lane(out: &mut Vec<u8>, frame: Frame, pid: u8) -> Result<(), AllocError>
             Piece::Word(b" "),
             Piece::Number(y),
             Piece::Word(b"L"),
-            Piece::Number(frame.x(frame.steps.end)),
+            Piece::Number(frame.x(frame.until(lane.exited))),
             Piece::Word(b" "),
             Piece::Number(y),
             Piece::Word(b"\"/><text class=\"name\" x=\""),
@@ -29,18 +31,18 @@ fn put_lane(out: &mut Vec<u8>, frame: Frame, pid: u8) -> Result<(), AllocError>
             Piece::Word(b"\" y=\""),
             Piece::Number(y + 4),
             Piece::Word(b"\">P"),
-            Piece::Number(pid.into()),
+            Piece::Number(lane.pid.into()),
             Piece::Word(b"</text>\n"),
         ],
     )
 }
 
-/// Appends the lanes of all processes.
-pub(crate) fn put_lanes(out: &mut Vec<u8>, frame: Frame) -> Result<(), AllocError>
-    ensures { Appends out.old out.new (lanes_to frame.procs frame) result }
+/// Appends these lanes.
+pub(crate) fn put_lanes(out: &mut Vec<u8>, frame: Frame, lanes: &[Lane]) -> Result<(), AllocError>
+    ensures { Appends out.old out.new (flat_map (lane_text frame) lanes.now) result }
 {
-    for pid in 0..frame.procs {
-        match put_lane(out, frame, pid) {
+    for lane in lanes {
+        match put_lane(out, frame, lane) {
             Ok(()) => {}
             Err(AllocError) => return Err(AllocError),
         }

@@ -7,7 +7,7 @@ ghost use Rattle.hub_picture.specs.Svg.Page.{foot_text, head_text, page_opening,
 
 use super::style::put_style;
 use crate::Drawing;
-use crate::frame::{LEFT, Scale, TOP, number_of};
+use crate::frame::{LEFT, Scale, TOP, height_of, number_of, ports_of};
 use crate::piece::{Piece, put_pieces};
 use std::alloc::AllocError;
 
@@ -52,7 +52,7 @@ fn width_of(drawing: &Drawing) -> u64
 {
     let scale = scale_of(drawing);
     let steps = shown_of(drawing).min(scale.steps());
-    LEFT + (2 * scale.half() * u64::from(steps)).max(660) + 20
+    LEFT + (2 * scale.half() * u64::from(steps)).max(660) + 56
 }
 
 /// Where the bands end.
@@ -60,8 +60,8 @@ fn foot_of(drawing: &Drawing) -> u64
     ensures value { result ≡ foot_of drawing.now }
     ensures most { result ≤ 1125899906842624 }
 {
-    let lanes = u64::from(bands_of(drawing)) * (u64::from(drawing.procs) + 2);
-    TOP + scale_of(drawing).lane() * lanes
+    let height = height_of(scale_of(drawing), drawing.procs, ports_of(drawing));
+    TOP + u64::from(bands_of(drawing)) * height
 }
 
 /// Appends the first words of a picture of this size.

@@ -1,3 +1,4 @@
+use Rattle.std.proofs.Common.{◌∙◌, ◌++◌, ap}
 use Rattle.hub_picture.specs.Svg.Bars.{bar_in}
 use Rattle.hub_picture.proofs.Appended.{grown-more, next-shape, part}
 use Rattle.hub_picture.proofs.svg.bars.put_bars.Goals as goal
@@ -7,8 +8,8 @@ loop-asked-preserved c =
     let put = (rw c.in-Ok.is at c.put_bar_in.ensures).ok in
     record {
       same =
-          next-shape (bar_in c.args.frame) c.args.bars.now c.loop-asked.asked-index c.asked-item.result _ _ _ c.loop-asked-test.true c.asked-item.is put
-          c.loop-asked.invariant.same;
+          next-shape (bar_in c.args.frame) c.args.bars.now c.loop-asked.asked-index c.asked-item.result _ _ _ c.loop-asked-test.true
+          (put ∙ ap (λ a. c.loop-asked.out.items ++ bar_in c.args.frame a) c.asked-item.is) c.loop-asked.invariant.same;
       grown = grown-more _ _ _ c.loop-asked.invariant.grown (_, put);
     }
 

@@ -8,5 +8,6 @@ returns c =
       c.y-y.ensures.value,
       c.x-end.ensures.value,
       c.until.ensures,
+      c.ended_by.ensures,
       c.thick-thick.ensures.value,
     ) at c.put_pieces.ensures

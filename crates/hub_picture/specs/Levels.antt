@@ -1,0 +1,101 @@
+-- How full ports were: a strip for each port that has room for values, and on it a level from each value that moves there
+-- to the next.
+use Rattle.std.specs.Prelude.{ℕ, zero, ◌+◌, ◌==◌, ◌&&◌, Bool, nat_lt, List, [], ◌∷◌, filter, Option, None, Some, slice_get, if◌then◌else◌}
+use Rattle.std.specs.List.{flat_map}
+use Rattle.std.specs.Option.{option_map_or}
+use Rattle.hub_base.specs.declared.value.Port.{Port}
+use Rattle.hub_base.specs.declared.value.Value.{Value}
+use Rattle.hub_base.specs.declared.entry.Entry.{Entry}
+use Rattle.hub_base.specs.declared.entry.Step.{Step}
+use Rattle.hub_base.specs.declared.entry.Step.TheVariants.{Make}
+use Rattle.hub_base.specs.declared.case.Case.{Case}
+use Rattle.hub_base.specs.declared.event.Outcome.{Outcome}
+use Rattle.hub_base.specs.declared.event.What.{What}
+use Rattle.hub_base.specs.declared.event.What.TheVariants as what
+use Rattle.hub_base.specs.Values.{of_what, sent_on, got_on}
+use Rattle.hub_story.specs.declared.levels.Level.{Level}
+use Rattle.hub_story.specs.declared.told.Told.{Told}
+use Rattle.hub_story.specs.Passing.{cases_at}
+use Rattle.hub_picture.specs.declared.window.Window.{Window}
+use Rattle.hub_picture.specs.declared.strips.Strip.{Strip}
+use Rattle.hub_picture.specs.declared.levels.Held.{Held}
+use Rattle.hub_picture.specs.Windows.{goes_on}
+
+-- ---- the ports
+-- how many values the port has room for that this step makes
+abbrev pub room_of : Step → ℕ
+room_of (Make cap) = cap
+room_of s = 0
+
+-- how many the port has room for that the entry at this place makes
+abbrev pub room_at : List Entry → ℕ → ℕ
+room_at es place = option_map_or (λ e. room_of e.step) (slice_get es place) 0
+
+-- the strip of a port in this row, where it has room
+abbrev pub with_room : ℕ → Port → ℕ → Option Strip
+with_room row p room = if room == 0 then None else Some (record { row = row; port = p; room = room })
+
+-- that of the port that is told to be made by the entry at this place
+abbrev pub made_at : List Entry → ℕ → ℕ → What → Option Strip
+made_at es row place (what.Made p) = with_room row p (room_at es place)
+made_at es row place w = None
+
+abbrev pub strip_of : List Entry → ℕ → Told → Option Strip
+strip_of es row t = made_at es row t.asked t.event.what
+
+-- a strip before these, or else those
+abbrev pub before : Option Strip → List Strip → List Strip → List Strip
+before None these those = those
+before (Some s) these those = s ∷ these
+
+-- the strips of the ports that are told to be made, from this row on
+abbrev pub strips_from : List Entry → ℕ → List Told → List Strip
+strips_from es row [] = []
+strips_from es row (t ∷ ts) = before (strip_of es row t) (strips_from es (row + 1) ts) (strips_from es row ts)
+
+abbrev pub all_strips : List Entry → List Told → List Strip
+all_strips es all = strips_from es 0 all
+
+-- ---- what they held
+abbrev pub empty : Level
+empty = record { sent = zero; received = zero }
+
+-- one more, where a value moved
+abbrev pub counted : ℕ → Option Value → ℕ
+counted n None = n
+counted n (Some v) = n + 1
+
+-- with the value that a case moved on the port, by its outcome
+abbrev pub with_case : Port → Level → Case → Outcome → Level
+with_case p l c o = record { sent = counted l.sent (sent_on p (Some c) o); received = counted l.received (got_on p (Some c) o) }
+
+-- how many values were sent on the port and received from it, with what is told here
+abbrev pub after : List Entry → Port → Level → Told → Level
+after es p l t = record {
+  sent = counted l.sent (of_what (sent_on p) (cases_at es t.asked) t.event.what);
+  received = counted l.received (of_what (got_on p) (cases_at es t.asked) t.event.what);
+}
+
+abbrev pub is_same : Level → Level → Bool
+is_same l m = (l.sent == m.sent) && (l.received == m.received)
+
+abbrev pub held : Strip → ℕ → Option ℕ → Level → Held
+held s from until l = record { strip = s; from = from; until = until; level = l }
+
+-- from this step on the port had this level, and then these things were told
+abbrev pub levels_from : List Entry → Strip → ℕ → Level → List Told → List Held
+levels_from es s from l [] = held s from None l ∷ []
+levels_from es s from l (t ∷ ts) =
+    if is_same l (after es s.port l t) then levels_from es s from l ts
+    else held s from (Some t.by) l ∷ levels_from es s t.by (after es s.port l t) ts
+
+-- it is shown where the port holds a value at a step of the window
+abbrev pub shows_level : Window → Held → Bool
+shows_level w h = nat_lt h.level.received h.level.sent && goes_on w h.from h.until
+
+-- the levels of a port that are shown
+abbrev pub levels_on : Window → List Entry → List Told → Strip → List Held
+levels_on w es all s = filter (shows_level w) (levels_from es s 0 empty all)
+
+abbrev pub all_levels : Window → List Entry → List Told → List Held
+all_levels w es all = flat_map (levels_on w es all) (all_strips es all)

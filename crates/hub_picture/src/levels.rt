@@ -1,0 +1,153 @@
+//! How full ports were: the levels of a drawing.
+
+ghost use Rattle.std.specs.Prelude.{◌≡◌, ◌<◌, ◌≤◌, ◌+◌, ◌-◌, ◌^◌, ◌∷◌, ◌++◌, [], filter, IfOk, OnOk};
+ghost use Rattle.std.specs.List.{flat_map};
+ghost use Rattle.hub_picture.specs.Levels.{after, is_same, levels_on, shows_level, with_case};
+
+use crate::{Strip, Window};
+use hub_base::{Case, Entry, Outcome, Port, Step, What};
+use hub_story::{Level, Told};
+use std::alloc::{AllocError, Global};
+
+/// How full a port was from one step until another.
+#[derive(Clone, Copy, Debug, PartialEq, Eq)]
+pub struct Held {
+    /// The port.
+    pub strip: Strip,
+    /// From which step.
+    pub from: u32,
+    /// Until which step; `None` where it stayed so.
+    pub until: Option<u32>,
+    /// How many values were sent on it and received from it by then.
+    pub level: Level,
+}
+
+/// The level with the value that a case moved on the port, by its outcome.
+fn with_case(port: Port, level: Level, case: Case, outcome: Outcome) -> Level
+    requires sent { level.sent < 2 ^ 64 - 1 }
+    requires received { level.received < 2 ^ 64 - 1 }
+    ensures { result ≡ with_case port level case outcome }
+{
+    match (case, outcome) {
+        (Case::Send(on, _value), Outcome::Sent) if on.0 == port.0 => Level {
+            sent: level.sent + 1,
+            received: level.received,
+        },
+        (Case::Recv(on), Outcome::Got(_value)) if on.0 == port.0 => Level {
+            sent: level.sent,
+            received: level.received + 1,
+        },
+        _ => level,
+    }
+}
+
+/// The level with what is told here.
+fn after(entries: &[Entry], port: Port, level: Level, told: &Told) -> Level
+    requires sent { level.sent < 2 ^ 64 - 1 }
+    requires received { level.received < 2 ^ 64 - 1 }
+    ensures value { result ≡ after entries.now port level told.now }
+    ensures sent { result.sent ≤ level.sent + 1 }
+    ensures received { result.received ≤ level.received + 1 }
+{
+    let What::Fired { case, outcome } = told.event.what else {
+        return level;
+    };
+    let Some(entry) = entries.get(told.asked as usize) else {
+        return level;
+    };
+    let Step::Call { ref cases, .. } = entry.step else {
+        return level;
+    };
+    match cases.as_slice().get(usize::from(case)) {
+        Some(case) => with_case(port, level, *case, outcome),
+        None => level,
+    }
+}
+
+/// Whether two levels are the same.
+fn is_same(level: Level, other: Level) -> bool
+    ensures { result ≡ is_same level other }
+{
+    level.sent == other.sent && level.received == other.received
+}
+
+/// Whether the port holds a value at a step of the window.
+pub(crate) fn shows_level(window: Window, held: &Held) -> bool
+    ensures { result ≡ shows_level window held.now }
+{
+    held.level.received < held.level.sent && window.shows(held.from, held.until)
+}
+
+/// Adds a level, where it is shown.
+fn add_shown(levels: &mut Vec<Held>, window: Window, held: Held) -> Result<(), AllocError>
+    ensures { OnOk result (levels.new.items ≡ levels.old.items ++ filter (shows_level window) (held ∷ [])) }
+{
+    if shows_level(window, &held) {
+        levels.push(held)?;
+    }
+    Ok(())
+}
+
+/// Adds the levels of a port.
+fn add_levels(
+    levels: &mut Vec<Held>,
+    window: Window,
+    entries: &[Entry],
+    told: &[Told],
+    strip: Strip,
+) -> Result<(), AllocError>
+    ensures { OnOk result (
+        levels.new.items ≡ levels.old.items ++ levels_on window entries.now told.now strip) }
+{
+    let mut from = 0;
+    let mut level = Level {
+        sent: 0,
+        received: 0,
+    };
+    for told in told {
+        let next = after(entries, strip.port, level, told);
+        if !is_same(level, next) {
+            let until = Some(told.by);
+            add_shown(
+                levels,
+                window,
+                Held {
+                    strip,
+                    from,
+                    until,
+                    level,
+                },
+            )?;
+            from = told.by;
+            level = next;
+        }
+    }
+    add_shown(
+        levels,
+        window,
+        Held {
+            strip,
+            from,
+            until: None,
+            level,
+        },
+    )
+}
+
+/// The levels of these ports, oldest first.
+pub(crate) fn levels_in(
+    alloc: Global,
+    window: Window,
+    entries: &[Entry],
+    told: &[Told],
+    strips: &[Strip],
+) -> Result<Vec<Held>, AllocError>
+    ensures { IfOk result (λ all.
+        all.items ≡ flat_map (levels_on window entries.now told.now) strips.now) }
+{
+    let mut all = Vec::new(alloc);
+    for strip in strips {
+        add_levels(&mut all, window, entries, told, *strip)?;
+    }
+    Ok(all)
+}

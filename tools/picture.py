@@ -178,6 +178,44 @@ def levels(journal, bands):
             yield band, title
 
 
+# what the legend tells, and of which entries, by their lines and their ends
+MARKS = {
+    "Box: an entry. Filled it sends, white it receives. Its colour is the port's. ": lambda line, cases, end: True,
+    "m1: makes port 1. ": lambda line, cases, end: end.startswith("made"),
+    "c1: closes port 1. ": lambda line, cases, end: line[1] == "close" and end == "done",
+    "?: a select of which no case fired. ": lambda line, cases, end: line[1] == "select"
+    and len(cases) != 1
+    and end.split(" ")[0] not in ("case", "default", "fault"),
+    "def: took its default. ": lambda line, cases, end: end == "default",
+    "x1: cancels the call of process 1. ": lambda line, cases, end: line[1] == "cancel" and end == "done",
+    "f3, with a thick orange edge: refused by fault 3. ": lambda line, cases, end: end.startswith("fault"),
+    "Dashed edge: still waits. ": lambda line, cases, end: end == "",
+    "Dotted edge: the port was closed and empty. ": lambda line, cases, end: end.endswith("drained"),
+    "Finely dotted edge: cancelled. ": lambda line, cases, end: end == "cancelled",
+    "Thick orange edge: stalled, or sent on a closed port. ": lambda line, cases, end: end == "stalled" or end.endswith("closed"),
+}
+
+
+def legend(journal, bands):
+    """What the legend has to tell, in any order."""
+    shown = [asked for asked in journal.asked() if bands.has(asked.place)]
+    for words, holds in MARKS.items():
+        ends = ((asked, asked.ended.event.split(" ", 1)[1] if asked.ended else "") for asked in shown)
+        if any(holds(asked.line.split(), asked.cases, end) for asked, end in ends):
+            yield words
+    if any(bars(journal, bands)):
+        yield "Bar: the call waits, and ends at the knob. "
+    if any(sent[1] < bands.end and bands.first <= received[1] for _, sent, received in journal.passages()):
+        yield (
+            "Arrow: a value, from the dot to the tip. Straight down it was handed over, "
+            "slanted it lay in the buffer. "
+        )
+    if any(stalls(journal, bands)):
+        yield "Shaded: everyone who is left waits, and this step stalls them. "
+    if any(levels(journal, bands)):
+        yield "Strip: how full a port is; at the upper line it is full. "
+
+
 def stalls(journal, bands):
     for by, pid, asked in journal.stalls:
         if bands.has(by):
@@ -207,6 +245,15 @@ def layers_agree(root):
         if shape in LAYERS:
             assert shape == "lane" or last <= LAYERS.index(shape), f"{shape} lies above {LAYERS[last]}"
             last = LAYERS.index(shape)
+
+
+def legend_agrees(root, wanted):
+    """The legend has all of these, and nothing else."""
+    told = "".join(row.text or "" for row in root.iter(SVG + "tspan") if row.get("class") is None)
+    for words in wanted:
+        assert told.count(words) == 1, f"the legend does not tell: {words}"
+        told = told.replace(words, "")
+    assert told == "", f"the legend tells: {told}"
 
 
 def by_band(wanted):
@@ -313,7 +360,7 @@ def check_picture(picture, journal, first, end):
     if shutil.which("xmllint"):
         output_of(["xmllint", "--noout", "-"], picture)
     root = xml.fromstring(picture)
-    allowed = "svg title style defs marker rect circle path text g".split()
+    allowed = "svg title style defs marker rect circle path text tspan g".split()
     assert all(element.tag[len(SVG) :] in allowed for element in root.iter()), "an element of another kind"
     bands = Bands(first, end)
     same("boxes", shapes(root, "box"), boxes(journal, bands))
@@ -324,6 +371,7 @@ def check_picture(picture, journal, first, end):
     same("levels", shapes(root, "level"), levels(journal, bands))
     layers_agree(root)
     arrows_agree(root, arrows(journal, bands), bands)
+    legend_agrees(root, legend(journal, bands))
     lanes_agree(root, journal, bands)
     levels_agree(root, journal, bands)
     places_agree(root)

@@ -17,14 +17,20 @@ use Rattle.hub_base.specs.Value.{Content, IsContent, IsValue, content, number_in
 use Rattle.hub_base.specs.Value.Content.{Num, Bytes}
 use Rattle.hub_story.specs.declared.told.Told.{Told}
 use Rattle.hub_picture.specs.declared.asked.Asked.{Asked}
+use Rattle.hub_picture.specs.declared.levels.Held.{Held}
+use Rattle.hub_picture.specs.declared.strips.Strip.{Strip}
+use Rattle.hub_picture.specs.declared.svg.legend.Mark.{Mark}
+use Rattle.hub_picture.specs.declared.svg.legend.Mark.TheVariants as mark
 use Rattle.hub_picture.specs.declared.label.Label.{Label}
 use Rattle.hub_picture.specs.declared.label.Label.TheVariants as label
 use Rattle.hub_picture.specs.Labels.{label_text, number_text, value_text}
-use Rattle.hub_picture.specs.Pieces.{end_text}
+use Rattle.hub_picture.specs.Pieces.{end_text, until_text}
 use Rattle.hub_picture.specs.Svg.Arrows.{moved_title, arrow_title}
 use Rattle.hub_picture.specs.Svg.Boxes.{asked_title}
+use Rattle.hub_picture.specs.Svg.Legend.{mark_words}
 use Rattle.hub_picture.specs.Svg.Stalls.{stall_title}
-use Rattle.hub_picture.specs.Plain.{IsPlain, ToldFits, AskedFits, LabelFits, PlainLaw}
+use Rattle.hub_picture.specs.Svg.Strips.{strip_title, level_title, count_of}
+use Rattle.hub_picture.specs.Plain.{IsPlain, ToldFits, AskedFits, StripFits, HeldFits, LabelFits, PlainLaw}
 use Rattle.hub_picture.proofs.Plain.{plain-both, plain-number, plain-value, plain-joined, plain-line}
 
 fault-small : (f : Fault) → fault_number f ≤ 255
@@ -97,6 +103,49 @@ stall-plain t fits =
     ∷ decimal (t.asked + 1) ∷ codes "\n" ∷ [])
     (refl, (step-plain t.by fits.by, (refl, (plain-number t.event.pid.0 (omega (arith, fits.event.pid)), (refl, (step-plain t.asked fits.asked, (refl, _)))))))
 
+strip-plain : (s : Strip) → StripFits s → IsPlain (strip_title s)
+strip-plain s fits =
+    plain-joined (codes "port " ∷ decimal s.port.0 ∷ codes " has room for " ∷ decimal s.room ∷ codes "\n" ∷ [])
+    (refl, (plain-number s.port.0 (omega (arith, fits.port)), (refl, (plain-number s.room (omega (arith, fits.room)), (refl, _)))))
+
+until-plain : (until : Option ℕ) → IfSome until (λ u. u < 2 ^ 32) → IsPlain (until_text until)
+until-plain None fits = refl
+until-plain (Some u) fits = plain-both (codes " until step ") (decimal (u + 1)) refl (step-plain u fits)
+
+level-plain : (h : Held) → HeldFits h → IsPlain (level_title h)
+level-plain h fits =
+    plain-joined (codes "port " ∷ decimal h.strip.port.0 ∷ codes " holds " ∷ decimal (count_of h.level) ∷ codes " of " ∷ decimal h.strip.room
+    ∷ codes " from step " ∷ decimal (h.from + 1) ∷ until_text h.until ∷ codes "\n" ∷ []) (
+      refl,
+      (
+        plain-number h.strip.port.0 (omega (arith, fits.strip.port)),
+        (
+          refl,
+          (
+            plain-number (count_of h.level) (omega (arith, fits.sent)),
+            (refl, (plain-number h.strip.room (omega (arith, fits.strip.room)), (refl, (step-plain h.from fits.from, (until-plain h.until fits.until, (refl, _)))))),
+          ),
+        ),
+      ),
+    )
+
+legend-plain : (m : Mark) → IsPlain (mark_words m)
+legend-plain mark.Boxes = refl
+legend-plain mark.Makes = refl
+legend-plain mark.Closes = refl
+legend-plain mark.Selects = refl
+legend-plain mark.Defaults = refl
+legend-plain mark.Cancels = refl
+legend-plain mark.Refused = refl
+legend-plain mark.Open = refl
+legend-plain mark.Drained = refl
+legend-plain mark.Cancelled = refl
+legend-plain mark.Trouble = refl
+legend-plain mark.Bars = refl
+legend-plain mark.Arrows = refl
+legend-plain mark.Stalls = refl
+legend-plain mark.Levels = refl
+
 label-plain : (l : Label) → LabelFits l → IsPlain (label_text l)
 label-plain (label.Make p) fits = worded (codes "m") p.0 GREATEST_PORT refl fits (omega arith)
 label-plain (label.Send p) fits = worded (codes "s") p.0 GREATEST_PORT refl fits (omega arith)
@@ -117,4 +166,4 @@ value-plain None fits = refl
 value-plain (Some v) fits = content-shown (content v) fits.fits
 
 pub plain-law : PlainLaw
-plain-law = record { asked = asked-plain; arrow = arrow-plain; stall = stall-plain; label = label-plain; value = value-plain; number = plain-number }
+plain-law = record { asked = asked-plain; arrow = arrow-plain; stall = stall-plain; strip = strip-plain; level = level-plain; legend = legend-plain; label = label-plain; value = value-plain; number = plain-number }

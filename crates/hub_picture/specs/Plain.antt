@@ -9,12 +9,17 @@ use Rattle.hub_base.specs.EventText.{EventFits}
 use Rattle.hub_base.specs.Text.{Fits}
 use Rattle.hub_story.specs.declared.told.Told.{Told}
 use Rattle.hub_picture.specs.declared.asked.Asked.{Asked}
+use Rattle.hub_picture.specs.declared.levels.Held.{Held}
+use Rattle.hub_picture.specs.declared.strips.Strip.{Strip}
+use Rattle.hub_picture.specs.declared.svg.legend.Mark.{Mark}
 use Rattle.hub_picture.specs.declared.label.Label.{Label}
 use Rattle.hub_picture.specs.declared.label.Label.TheVariants.{Make, Send, Receive, Select, Default, Close, Exit, Cancel, Refused}
 use Rattle.hub_picture.specs.Labels.{label_text, value_text}
 use Rattle.hub_picture.specs.Svg.Arrows.{arrow_title}
 use Rattle.hub_picture.specs.Svg.Boxes.{asked_title}
+use Rattle.hub_picture.specs.Svg.Legend.{mark_words}
 use Rattle.hub_picture.specs.Svg.Stalls.{stall_title}
+use Rattle.hub_picture.specs.Svg.Strips.{strip_title, level_title}
 
 -- it is none of `<`, `>`, `&` and the quotation mark
 abbrev pub is_plain : ℕ → Bool
@@ -35,6 +40,16 @@ pub record AskedFits (a : Asked) : Type 0 where
   pub entry : Fits edition a.entry
   pub ended : IfSome a.ended ToldFits
 
+pub record StripFits (s : Strip) : Type 0 where
+  pub port : s.port.0 ≤ GREATEST_PORT
+  pub room : s.room < 2 ^ 32
+
+pub record HeldFits (h : Held) : Type 0 where
+  pub strip : StripFits h.strip
+  pub from : h.from < 2 ^ 32
+  pub until : IfSome h.until (λ u. u < 2 ^ 32)
+  pub sent : h.level.sent < 2 ^ 64
+
 abbrev pub LabelFits : Label → Type 0
 LabelFits (Make p) = p.0 ≤ GREATEST_PORT
 LabelFits (Send p) = p.0 ≤ GREATEST_PORT
@@ -46,11 +61,15 @@ LabelFits Exit = 0 ≤ 0
 LabelFits (Cancel q) = q.0 ≤ GREATEST_PID
 LabelFits (Refused f) = 0 ≤ 0
 
--- what is told of a box and of a bar, of an arrow and of a stall, what stands in a box, and every number
+-- what is told of a box and of a bar, of an arrow, of a stall, of a strip and of a level, what stands in a box and in the
+-- legend, and every number
 pub record PlainLaw : Type 0 where
   pub asked : (a : Asked) → AskedFits a → IsPlain (asked_title a)
   pub arrow : (sent received : Told) → ToldFits sent → ToldFits received → IsPlain (arrow_title sent received)
   pub stall : (t : Told) → ToldFits t → IsPlain (stall_title t)
+  pub strip : (s : Strip) → StripFits s → IsPlain (strip_title s)
+  pub level : (h : Held) → HeldFits h → IsPlain (level_title h)
+  pub legend : (m : Mark) → IsPlain (mark_words m)
   pub label : (l : Label) → LabelFits l → IsPlain (label_text l)
   pub value : (v : Option Value) → IfSome v IsValue → IsPlain (value_text v)
   pub number : (n : ℕ) → n < 2 ^ 64 → IsPlain (decimal n)

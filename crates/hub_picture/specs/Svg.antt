@@ -6,4 +6,5 @@ pub mod Arrows
 pub mod Stalls
 pub mod Lanes
 pub mod Strips
+pub mod Legend
 pub mod Page

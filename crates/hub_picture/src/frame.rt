@@ -19,6 +19,9 @@ pub(crate) const STRIP: u64 = 18;
 /// The height of a strip whose port is full.
 pub(crate) const FULL: u64 = 12;
 
+/// The height of a picture's legend.
+pub(crate) const LEGEND: u64 = 142;
+
 /// The number of the step at this place, from 1.
 pub(crate) fn number_of(place: u32) -> u64
     ensures { result ≡ place + 1 }

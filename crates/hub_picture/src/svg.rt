@@ -10,6 +10,7 @@ mod arrows;
 mod bars;
 mod boxes;
 mod lanes;
+mod legend;
 mod page;
 mod stalls;
 mod strips;

@@ -140,7 +140,7 @@ fn picture_is_appended(rt: HostRuntime) -> Result<(), Fail> {
 
 /// The last arrow of the band, and the foot right behind it.
 const LAST_ARROW: &[u8] =
-    b"</title><path d=\"M340 113L420 141\"/></g>\n<text class=\"note\" x=\"12\" y=\"314\">Box: an entry;";
+    b"</title><path d=\"M340 113L420 141\"/></g>\n<text class=\"note\" x=\"12\" y=\"290\">\n<tspan x=\"12\" dy=\"18\">Box: an entry.";
 
 /// An arrow goes from the lower side of its sender to the upper side of its receiver, and no box lies above it.
 #[test]

@@ -5,11 +5,12 @@ use Rattle.hub_picture.specs.declared.drawing.Drawing.{Drawing}
 use Rattle.hub_picture.specs.declared.frame.Frame.{Frame}
 use Rattle.hub_picture.specs.declared.frame.Scale.{Scale}
 use Rattle.hub_picture.specs.declared.frame.Scale.TheVariants.{Wide, Middle, Dense}
-use Rattle.hub_picture.specs.declared.frame.TheConstants.{LEFT, TOP}
+use Rattle.hub_picture.specs.declared.frame.TheConstants.{LEFT, TOP, LEGEND}
 use Rattle.hub_picture.specs.Frames.{frame_of, half_of, height_of, ports_of, steps_of}
 use Rattle.hub_picture.specs.Svg.Arrows.{arrow_in}
 use Rattle.hub_picture.specs.Svg.Bars.{bar_in}
 use Rattle.hub_picture.specs.Svg.Boxes.{box_in}
+use Rattle.hub_picture.specs.Svg.Legend.{legend_text}
 use Rattle.hub_picture.specs.Svg.Lanes.{lane_text, ticks_to}
 use Rattle.hub_picture.specs.Svg.Stalls.{stall_in}
 use Rattle.hub_picture.specs.Svg.Strips.{strip_text, level_in}
@@ -36,6 +37,10 @@ width_of d = LEFT + max 660 (2 * half_of (scale_of d) * min (shown_of d) (steps_
 abbrev pub foot_of : Drawing → ℕ
 foot_of d = TOP + bands_of d * height_of (scale_of d) d.procs (ports_of d)
 
+-- with the rows of the legend below them
+abbrev pub height_of_page : Drawing → ℕ
+height_of_page d = foot_of d + LEGEND
+
 -- ---- the text
 -- the tip of an arrow
 abbrev pub tip_text : List ℕ
@@ -53,9 +58,9 @@ abbrev pub page_opening : Drawing → List ℕ
 page_opening d =
     joined (
     codes "<svg xmlns=\"http://www.w3.org/2000/svg\" width=\"" ∷ decimal (width_of d)
-    ∷ codes "\" height=\"" ∷ decimal (foot_of d + 78)
+    ∷ codes "\" height=\"" ∷ decimal (height_of_page d)
     ∷ codes "\" viewBox=\"0 0 " ∷ decimal (width_of d)
-    ∷ codes " " ∷ decimal (foot_of d + 78)
+    ∷ codes " " ∷ decimal (height_of_page d)
     ∷ codes "\" role=\"img\">\n<title>Steps " ∷ decimal (d.window.first + 1)
     ∷ codes " to " ∷ decimal d.window.end
     ∷ codes "</title>\n<style>"
@@ -65,7 +70,7 @@ abbrev pub paper_text : Drawing → List ℕ
 paper_text d =
     joined (
     codes "</style>\n<rect class=\"paper\" width=\"" ∷ decimal (width_of d)
-    ∷ codes "\" height=\"" ∷ decimal (foot_of d + 78)
+    ∷ codes "\" height=\"" ∷ decimal (height_of_page d)
     ∷ codes "\"/>\n<text class=\"note\" x=\"12\" y=\"20\">Steps " ∷ decimal (d.window.first + 1)
     ∷ codes " to " ∷ decimal d.window.end
     ∷ codes " of " ∷ decimal d.procs
@@ -99,32 +104,11 @@ bands_to zero d = []
 bands_to (suc n) d = bands_to n d ++ band_text (frame_of (scale_of d) d n) d
 
 -- how to read it
-abbrev pub first_note : List ℕ
-first_note =
-    codes "Box: an entry; filled it sends, hollow it receives. Bar: the "
-    ++ codes "call waits; the knob is its end. Colour: the port. Shaded: stalled."
-
-abbrev pub second_note : List ℕ
-second_note =
-    codes "Arrow: a value; it begins at the dot and ends at the tip. Straight "
-    ++ codes "down it was handed over, slanted it lay in the buffer."
-
-abbrev pub third_note : List ℕ
-third_note =
-    codes "Dashed box: it still waits, was cancelled, or found its port "
-    ++ codes "closed. Thick and orange: stalled, refused, or sent on a closed port."
+abbrev pub foot_opening : Drawing → List ℕ
+foot_opening d = joined (codes "<text class=\"note\" x=\"12\" y=\"" ∷ decimal (foot_of d) ∷ codes "\">\n" ∷ [])
 
 abbrev pub foot_text : Drawing → List ℕ
-foot_text d =
-    joined (
-    codes "<text class=\"note\" x=\"12\" y=\"" ∷ decimal (foot_of d + 24)
-    ∷ codes "\">" ∷ first_note
-    ∷ codes "</text>\n<text class=\"note\" x=\"12\" y=\"" ∷ decimal (foot_of d + 42)
-    ∷ codes "\">" ∷ second_note
-    ∷ codes "</text>\n<text class=\"note\" x=\"12\" y=\"" ∷ decimal (foot_of d + 60)
-    ∷ codes "\">" ∷ third_note
-    ∷ codes "</text>\n</svg>\n"
-    ∷ [])
+foot_text d = foot_opening d ++ legend_text d ++ codes "</text>\n</svg>\n"
 
 abbrev pub svg_text : Drawing → List ℕ
 svg_text d = head_text d ++ bands_to (bands_of d) d ++ foot_text d

@@ -8,7 +8,8 @@ style =
     joined (
     codes "text{font-family:sans-serif;font-size:11px;fill:#222;text-anchor:middle}.paper{fill:#fff}\n"
     ∷ codes ".name,.note{font-size:11px}.name{text-anchor:end}.note{text-anchor:start;fill:#666}.tick{font-size:9px;fill:#666}\n"
-    ∷ codes ".lane{stroke:#999}.strip path{stroke:#bbb}.level rect{fill:currentColor}.stay{font-size:9px;text-anchor:start}.tip{fill:#666}.arrow path{stroke:currentColor;stroke-width:2;marker-start:url(#dot);marker-end:url(#tip)}\n"
+    ∷ codes ".lane{stroke:#999}.strip path{stroke:#bbb}.level rect{fill:currentColor}.stay{font-size:9px;text-anchor:start}\n"
+    ∷ codes ".tip{fill:#666}.arrow path{stroke:currentColor;stroke-width:2;marker-start:url(#dot);marker-end:url(#tip)}\n"
     ∷ codes ".h0{color:#56b4e9}.h1{color:#0072b2}.h2{color:#e69f00}.h3{color:#009e73}.h4{color:#cc79a7}\n"
     ∷ codes ".box rect,.bar rect{fill:#ddd;stroke:#888;stroke-width:1.5}.bar circle{fill:#888}\n"
     ∷ codes ".box.send rect{fill:currentColor;stroke:currentColor}.box.receive rect,.bar.receive rect{fill:#fff;stroke:currentColor}\n"

@@ -3,11 +3,12 @@
 ghost use Rattle.std.specs.Prelude.{◌≡◌, ◌≤◌, ◌+◌};
 ghost use Rattle.hub_picture.specs.Pieces.{Appends};
 ghost use Rattle.hub_picture.specs.Svg.Page.{bands_of, foot_of, scale_for, scale_of, shown_of, width_of};
-ghost use Rattle.hub_picture.specs.Svg.Page.{foot_text, head_text, page_opening, paper_text};
+ghost use Rattle.hub_picture.specs.Svg.Page.{foot_opening, foot_text, head_text, page_opening, paper_text};
 
+use super::legend::put_legend;
 use super::style::put_style;
 use crate::Drawing;
-use crate::frame::{LEFT, Scale, TOP, height_of, number_of, ports_of};
+use crate::frame::{LEFT, LEGEND, Scale, TOP, height_of, number_of, ports_of};
 use crate::piece::{Piece, put_pieces};
 use std::alloc::AllocError;
 
@@ -68,7 +69,7 @@ fn foot_of(drawing: &Drawing) -> u64
 fn put_opening(out: &mut Vec<u8>, drawing: &Drawing) -> Result<(), AllocError>
     ensures { Appends out.old out.new (page_opening drawing.now) result }
 {
-    let (width, height) = (width_of(drawing), foot_of(drawing) + 78);
+    let (width, height) = (width_of(drawing), foot_of(drawing) + LEGEND);
     put_pieces(
         out,
         &[
@@ -99,7 +100,7 @@ fn put_paper(out: &mut Vec<u8>, drawing: &Drawing) -> Result<(), AllocError>
             Piece::Word(b"</style>\n<rect class=\"paper\" width=\""),
             Piece::Number(width_of(drawing)),
             Piece::Word(b"\" height=\""),
-            Piece::Number(foot_of(drawing) + 78),
+            Piece::Number(foot_of(drawing) + LEGEND),
             Piece::Word(b"\"/>\n<text class=\"note\" x=\"12\" y=\"20\">Steps "),
             Piece::Number(number_of(drawing.window.first)),
             Piece::Word(b" to "),
@@ -129,30 +130,25 @@ pub(crate) fn put_head(out: &mut Vec<u8>, drawing: &Drawing) -> Result<(), Alloc
     put_paper(out, drawing)
 }
 
-/// Appends its foot, which tells how to read it.
-pub(crate) fn put_foot(out: &mut Vec<u8>, drawing: &Drawing) -> Result<(), AllocError>
-    ensures { Appends out.old out.new (foot_text drawing.now) result }
+/// Appends where its foot begins.
+fn put_foot_opening(out: &mut Vec<u8>, drawing: &Drawing) -> Result<(), AllocError>
+    ensures { Appends out.old out.new (foot_opening drawing.now) result }
 {
-    let foot = foot_of(drawing);
     put_pieces(
         out,
         &[
             Piece::Word(b"<text class=\"note\" x=\"12\" y=\""),
-            Piece::Number(foot + 24),
-            Piece::Word(b"\">"),
-            Piece::Word(b"Box: an entry; filled it sends, hollow it receives. Bar: the "),
-            Piece::Word(b"call waits; the knob is its end. Colour: the port. Shaded: stalled."),
-            Piece::Word(b"</text>\n<text class=\"note\" x=\"12\" y=\""),
-            Piece::Number(foot + 42),
-            Piece::Word(b"\">"),
-            Piece::Word(b"Arrow: a value; it begins at the dot and ends at the tip. Straight "),
-            Piece::Word(b"down it was handed over, slanted it lay in the buffer."),
-            Piece::Word(b"</text>\n<text class=\"note\" x=\"12\" y=\""),
-            Piece::Number(foot + 60),
-            Piece::Word(b"\">"),
-            Piece::Word(b"Dashed box: it still waits, was cancelled, or found its port "),
-            Piece::Word(b"closed. Thick and orange: stalled, refused, or sent on a closed port."),
-            Piece::Word(b"</text>\n</svg>\n"),
+            Piece::Number(foot_of(drawing)),
+            Piece::Word(b"\">\n"),
         ],
     )
+}
+
+/// Appends its foot, which tells how to read it.
+pub(crate) fn put_foot(out: &mut Vec<u8>, drawing: &Drawing) -> Result<(), AllocError>
+    ensures { Appends out.old out.new (foot_text drawing.now) result }
+{
+    put_foot_opening(out, drawing)?;
+    put_legend(out, drawing)?;
+    put_pieces(out, &[Piece::Word(b"</text>\n</svg>\n")])
 }

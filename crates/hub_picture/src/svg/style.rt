@@ -20,7 +20,10 @@ pub(crate) fn put_style(out: &mut Vec<u8>) -> Result<(), AllocError>
                 b".name,.note{font-size:11px}.name{text-anchor:end}.note{text-anchor:start;fill:#666}.tick{font-size:9px;fill:#666}\n",
             ),
             Piece::Word(
-                b".lane{stroke:#999}.strip path{stroke:#bbb}.level rect{fill:currentColor}.stay{font-size:9px;text-anchor:start}.tip{fill:#666}.arrow path{stroke:currentColor;stroke-width:2;marker-start:url(#dot);marker-end:url(#tip)}\n",
+                b".lane{stroke:#999}.strip path{stroke:#bbb}.level rect{fill:currentColor}.stay{font-size:9px;text-anchor:start}\n",
+            ),
+            Piece::Word(
+                b".tip{fill:#666}.arrow path{stroke:currentColor;stroke-width:2;marker-start:url(#dot);marker-end:url(#tip)}\n",
             ),
             Piece::Word(
                 b".h0{color:#56b4e9}.h1{color:#0072b2}.h2{color:#e69f00}.h3{color:#009e73}.h4{color:#cc79a7}\n",

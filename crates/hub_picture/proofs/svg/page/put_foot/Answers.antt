@@ -1,4 +1,7 @@
+use Rattle.hub_picture.proofs.Appended.{three}
 use Rattle.hub_picture.proofs.svg.page.put_foot.Goals as goal
 
 pub returns : goal.returns
-returns c = rw c.foot_of-foot.ensures.value at c.put_pieces.ensures
+returns c =
+    three c.args.out.now c.put_foot_opening.new.out c.put_legend.new.out c.put_pieces.new.out _ _ _ _
+    c.in_ok-put_foot_opening.ensures.ok c.in_ok-put_legend.ensures.ok c.put_pieces.ensures

@@ -1,0 +1,7 @@
+use Rattle.hub_picture.proofs.Appended.{three}
+use Rattle.hub_picture.proofs.svg.legend.put_box_rows.Goals as goal
+
+pub returns : goal.returns
+returns c =
+    three c.args.out.now c.put_row.new.out c.put_row-2.new.out c.put_row-3.new.out _ _ _ _
+    c.in_ok-put_row.ensures.ok c.in_ok-put_row-2.ensures.ok c.put_row-3.ensures

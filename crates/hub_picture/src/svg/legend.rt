@@ -1,0 +1,218 @@
+//! How to read what occurs in a picture.
+
+ghost use Rattle.std.specs.Prelude.{◌≡◌};
+ghost use Rattle.std.specs.List.{flat_map, list_any};
+ghost use Rattle.hub_picture.specs.Pieces.{Appends};
+ghost use Rattle.hub_picture.specs.Svg.Legend.{box_rows, edge_rows, has_mark, is_closed, is_drained, legend_text, mark_text};
+ghost use Rattle.hub_picture.specs.Svg.Legend.{mark_words, occurs, row_text, shape_rows};
+ghost use Rattle.hub_story.specs.Waiting.{is_stalled};
+
+use crate::label::{Label, label_of, last_told};
+use crate::piece::{Piece, put_pieces};
+use crate::{Asked, Drawing};
+use hub_base::{Outcome, What};
+use std::alloc::AllocError;
+
+/// What is told of.
+#[derive(Clone, Copy)]
+pub(crate) enum Mark {
+    /// An entry.
+    Boxes,
+    /// It made a port.
+    Makes,
+    /// It closes a port.
+    Closes,
+    /// It is a select of which no case fired.
+    Selects,
+    /// It took its default.
+    Defaults,
+    /// It cancels a call.
+    Cancels,
+    /// It was refused.
+    Refused,
+    /// It still waits.
+    Open,
+    /// It found its port closed and drained.
+    Drained,
+    /// It was cancelled.
+    Cancelled,
+    /// It was stalled, or sent on a closed port.
+    Trouble,
+    /// A bar.
+    Bars,
+    /// An arrow.
+    Arrows,
+    /// A field.
+    Stalls,
+    /// A level.
+    Levels,
+}
+
+/// Whether a call found its port closed and drained.
+fn is_drained(what: What) -> bool
+    ensures { result ≡ is_drained what }
+{
+    match what {
+        What::Fired { outcome, .. } => matches!(outcome, Outcome::Drained),
+        _ => false,
+    }
+}
+
+/// Whether it sent on a closed port.
+fn is_closed(what: What) -> bool
+    ensures { result ≡ is_closed what }
+{
+    match what {
+        What::Fired { outcome, .. } => matches!(outcome, Outcome::Closed),
+        _ => false,
+    }
+}
+
+/// Whether it was stalled.
+fn is_stalled(what: What) -> bool
+    ensures { result ≡ is_stalled what }
+{
+    matches!(what, What::Stalled)
+}
+
+/// Whether an entry has the mark.
+fn has_mark(mark: Mark, asked: &Asked) -> bool
+    ensures { result ≡ has_mark mark asked.now }
+{
+    let (label, what) = (label_of(asked), last_told(asked.ended));
+    match mark {
+        Mark::Boxes => true,
+        Mark::Makes => matches!(label, Label::Make(_)),
+        Mark::Closes => matches!(label, Label::Close(_)),
+        Mark::Selects => matches!(label, Label::Select),
+        Mark::Defaults => matches!(label, Label::Default),
+        Mark::Cancels => matches!(label, Label::Cancel(_)),
+        Mark::Refused => matches!(label, Label::Refused(_)),
+        Mark::Open => matches!(what, What::Parked),
+        Mark::Drained => is_drained(what),
+        Mark::Cancelled => matches!(what, What::Cancelled),
+        Mark::Trouble => is_stalled(what) || is_closed(what),
+        Mark::Bars | Mark::Arrows | Mark::Stalls | Mark::Levels => false,
+    }
+}
+
+/// Whether one of these boxes has the mark.
+fn has_any(mark: Mark, boxes: &[Asked]) -> bool
+    ensures { result ≡ list_any (has_mark mark) boxes.now }
+{
+    for asked in boxes {
+        if has_mark(mark, asked) {
+            return true;
+        }
+    }
+    false
+}
+
+/// Whether the drawing has it.
+fn occurs(drawing: &Drawing, mark: Mark) -> bool
+    ensures { result ≡ occurs drawing.now mark }
+{
+    match mark {
+        Mark::Bars => !drawing.bars.as_slice().is_empty(),
+        Mark::Arrows => !drawing.arrows.as_slice().is_empty(),
+        Mark::Stalls => !drawing.stalls.as_slice().is_empty(),
+        Mark::Levels => !drawing.levels.as_slice().is_empty(),
+        _ => has_any(mark, drawing.boxes.as_slice()),
+    }
+}
+
+/// What is told of it.
+fn words(mark: Mark) -> &'static [u8]
+    ensures { result.now ≡ mark_words mark }
+{
+    match mark {
+        Mark::Boxes =>
+            b"Box: an entry. Filled it sends, white it receives. Its colour is the port's. ",
+        Mark::Makes => b"m1: makes port 1. ",
+        Mark::Closes => b"c1: closes port 1. ",
+        Mark::Selects => b"?: a select of which no case fired. ",
+        Mark::Defaults => b"def: took its default. ",
+        Mark::Cancels => b"x1: cancels the call of process 1. ",
+        Mark::Refused => b"f3, with a thick orange edge: refused by fault 3. ",
+        Mark::Open => b"Dashed edge: still waits. ",
+        Mark::Drained => b"Dotted edge: the port was closed and empty. ",
+        Mark::Cancelled => b"Finely dotted edge: cancelled. ",
+        Mark::Trouble => b"Thick orange edge: stalled, or sent on a closed port. ",
+        Mark::Bars => b"Bar: the call waits, and ends at the knob. ",
+        Mark::Arrows =>
+            b"Arrow: a value, from the dot to the tip. Straight down it was handed over, slanted it lay in the buffer. ",
+        Mark::Stalls => b"Shaded: everyone who is left waits, and this step stalls them. ",
+        Mark::Levels => b"Strip: how full a port is; at the upper line it is full. ",
+    }
+}
+
+/// Appends that, where it occurs.
+fn put_mark(out: &mut Vec<u8>, drawing: &Drawing, mark: Mark) -> Result<(), AllocError>
+    ensures { Appends out.old out.new (mark_text drawing.now mark) result }
+{
+    if occurs(drawing, mark) {
+        put_pieces(out, &[Piece::Word(words(mark))])
+    } else {
+        Ok(())
+    }
+}
+
+/// Appends what is told of these.
+fn put_marks(out: &mut Vec<u8>, drawing: &Drawing, marks: &[Mark]) -> Result<(), AllocError>
+    ensures { Appends out.old out.new (flat_map (mark_text drawing.now) marks.now) result }
+{
+    for mark in marks {
+        match put_mark(out, drawing, *mark) {
+            Ok(()) => {}
+            Err(AllocError) => return Err(AllocError),
+        }
+    }
+    Ok(())
+}
+
+/// Appends a row of it.
+fn put_row(out: &mut Vec<u8>, drawing: &Drawing, marks: &[Mark]) -> Result<(), AllocError>
+    ensures { Appends out.old out.new (row_text drawing.now marks.now) result }
+{
+    put_pieces(out, &[Piece::Word(b"<tspan x=\"12\" dy=\"18\">")])?;
+    put_marks(out, drawing, marks)?;
+    put_pieces(out, &[Piece::Word(b"</tspan>\n")])
+}
+
+/// Appends the boxes, and what stands in them.
+fn put_box_rows(out: &mut Vec<u8>, drawing: &Drawing) -> Result<(), AllocError>
+    ensures { Appends out.old out.new (box_rows drawing.now) result }
+{
+    put_row(out, drawing, &[Mark::Boxes])?;
+    put_row(
+        out,
+        drawing,
+        &[Mark::Makes, Mark::Closes, Mark::Selects, Mark::Defaults],
+    )?;
+    put_row(out, drawing, &[Mark::Cancels, Mark::Refused])
+}
+
+/// Appends how boxes ended.
+fn put_edge_rows(out: &mut Vec<u8>, drawing: &Drawing) -> Result<(), AllocError>
+    ensures { Appends out.old out.new (edge_rows drawing.now) result }
+{
+    put_row(out, drawing, &[Mark::Open, Mark::Drained, Mark::Cancelled])?;
+    put_row(out, drawing, &[Mark::Trouble, Mark::Bars])
+}
+
+/// Appends what else is drawn.
+fn put_shape_rows(out: &mut Vec<u8>, drawing: &Drawing) -> Result<(), AllocError>
+    ensures { Appends out.old out.new (shape_rows drawing.now) result }
+{
+    put_row(out, drawing, &[Mark::Arrows])?;
+    put_row(out, drawing, &[Mark::Stalls, Mark::Levels])
+}
+
+/// Appends what is told of all that occurs.
+pub(crate) fn put_legend(out: &mut Vec<u8>, drawing: &Drawing) -> Result<(), AllocError>
+    ensures { Appends out.old out.new (legend_text drawing.now) result }
+{
+    put_box_rows(out, drawing)?;
+    put_edge_rows(out, drawing)?;
+    put_shape_rows(out, drawing)
+}

@@ -74,7 +74,8 @@ told_by-append h es fs =
     (λ x b. is-not-below x.by (length es) (omega (arith, b.0, many))) (told-within ts us)))
     ∙ append-nil (told_from [] ts)
 
-told_by-all : (h : Head) (es : List Entry) (k : ℕ) → length es ≤ k → told_by k (told h es) ≡ told h es
+-- all that is told came by the entries
+pub told_by-all : (h : Head) (es : List Entry) (k : ℕ) → length es ≤ k → told_by k (told h es) ≡ told h es
 told_by-all h es k few =
     let ts : List Turned = turns_after (opening h) es in
     filter-all (λ t. nat_lt t.by k) (told_from [] ts)

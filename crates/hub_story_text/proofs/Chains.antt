@@ -1,5 +1,7 @@
 -- What is appended piece by piece.
-use Rattle.std.proofs.Common.{◌≡◌, ◌-◌, ℕ, List, ◌++◌, length, take, drop, ap, ◌∙◌, append_assoc, Result, Ok, Err, OnOk, arith}
+use Rattle.std.proofs.Common.{◌≡◌, ◌<◌, ◌+◌, ◌-◌, ℕ, List, ◌++◌, length, take, drop, ap, ◌∙◌, sym, append_assoc, Result, Ok, Err, OnOk, add-one, arith, get_or}
+use Rattle.std.specs.List.{flat_map}
+use Rattle.std.proofs.Math.Seq.{drop-cons}
 use Rattle.std.proofs.lemmas.List.{take_all, length-drop}
 
 pub on-ok : {A E P Q : Type 0} (r : Result A E) → (P → Q) → OnOk r P → OnOk r Q
@@ -21,3 +23,10 @@ two-more out was new x y z so is =
 -- all behind the first n
 pub rest-whole : {A : Type 0} (n : ℕ) (xs ys : List A) → xs ≡ ys → take (length xs - n) (drop n xs) ≡ drop n ys
 rest-whole n xs ys same = take_all (length xs - n) (drop n xs) (omega (arith, length-drop n xs)) ∙ ap (drop n) same
+
+-- what is appended of one item more
+pub flat-next : {A : Type 0} (f : A → List ℕ) (xs : List A) (i : ℕ) (d : A) (was now text : List ℕ) → i < length xs → was ++ flat_map f (drop i xs) ≡ text →
+    now ≡ was ++ f (get_or xs i d) → now ++ flat_map f (drop (i + 1) xs) ≡ text
+flat-next f xs i d was now text below so is =
+    ap (λ l. l ++ flat_map f (drop (i + 1) xs)) is ∙ append_assoc was (f (get_or xs i d)) (flat_map f (drop (i + 1) xs))
+    ∙ ap (λ l. was ++ l) (ap (λ k. f (get_or xs i d) ++ flat_map f (drop k xs)) (add-one i) ∙ sym (ap (flat_map f) (drop-cons xs i d below))) ∙ so

@@ -4,3 +4,5 @@ pub mod Groups
 pub mod Movers
 pub mod Table
 pub mod StepTexts
+pub mod Written
+pub mod Places

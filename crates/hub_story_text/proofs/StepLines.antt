@@ -15,7 +15,8 @@ use Rattle.hub_base.specs.declared.entry.Step.TheVariants.{Make, Call, Close, Ex
 use Rattle.hub_base.specs.declared.head.Edition.TheVariants.{Two}
 use Rattle.hub_base.specs.Head.{is_of, has_case, has_content}
 use Rattle.hub_base.specs.declared.event.Outcome.TheVariants.{Got}
-use Rattle.hub_base.specs.declared.event.What.TheVariants.{Fired}
+use Rattle.hub_base.specs.declared.event.What.{What}
+use Rattle.hub_base.specs.declared.event.What.TheVariants.{Made, Fired, Default, Done, Parked, Stalled, Fault, Cancelled}
 use Rattle.hub_base.specs.declared.value.Port.{Port}
 use Rattle.hub_base.specs.declared.value.Value.{Value}
 use Rattle.hub_base.specs.declared.entry.Entry.{Entry}
@@ -25,7 +26,9 @@ use Rattle.hub_base.specs.Value.Content.{Num, Bytes}
 use Rattle.hub_story.specs.declared.told.Told.{Told}
 use Rattle.hub_story_text.specs.declared.last_moves.Mover.{Mover}
 use Rattle.hub_story_text.specs.LineText.{with_ended, ends_words, step_number}
+use Rattle.hub_story_text.specs.PortText.{made_line, port_line}
 use Rattle.hub_story_text.specs.WaiterText.{waiter_words, waiters_words}
+use Rattle.hub_story_text.proofs.Chains.{flat-next}
 
 -- the second edition has each step
 any-content : (c : Content) → has_content Two c ≡ true
@@ -104,3 +107,29 @@ pub not-empty : (heading : List ℕ) (es : List Entry) (senders receivers : Port
     waiters_words heading es senders receivers ts ≡ heading ++ flat_map (waiter_words es senders receivers) ts
 not-empty heading es senders receivers [] other = absurd (other refl)
 not-empty heading es senders receivers (t ∷ ts) other = refl
+
+-- no port is told to be made
+made-none : (es : List Entry) (all : List Told) (t : Told) (w : What) → ((p : Port) → w ≢ Made p) → made_line es all t w ≡ []
+made-none es all t (Made p) other = absurd (other p refl)
+made-none es all t (Fired i o) other = refl
+made-none es all t Default other = refl
+made-none es all t Done other = refl
+made-none es all t Parked other = refl
+made-none es all t Stalled other = refl
+made-none es all t (Fault f) other = refl
+made-none es all t Cancelled other = refl
+
+-- the ports that are told so far, and the next event
+pub ports-made : (es : List Entry) (all : List Told) (i : ℕ) (d : Told) (p : Port) (was now text : List ℕ) → i < length all →
+    was ++ flat_map (λ t. made_line es all t t.event.what) (drop i all) ≡ text → (get_or all i d).event.what ≡ Made p →
+    now ≡ was ++ port_line es all (get_or all i d) p → now ++ flat_map (λ t. made_line es all t t.event.what) (drop (i + 1) all) ≡ text
+ports-made es all i d p was now text below so made is =
+    flat-next (λ t. made_line es all t t.event.what) all i d was now text below so
+    (is ∙ ap (λ w. was ++ made_line es all (get_or all i d) w) (sym made))
+
+pub ports-not-made : (es : List Entry) (all : List Told) (i : ℕ) (d : Told) (was text : List ℕ) → i < length all →
+    was ++ flat_map (λ t. made_line es all t t.event.what) (drop i all) ≡ text → ((p : Port) → (get_or all i d).event.what ≢ Made p) →
+    was ++ flat_map (λ t. made_line es all t t.event.what) (drop (i + 1) all) ≡ text
+ports-not-made es all i d was text below so other =
+    flat-next (λ t. made_line es all t t.event.what) all i d was was text below so
+    (sym (append-nil was) ∙ ap (λ l. was ++ l) (sym (made-none es all (get_or all i d) (get_or all i d).event.what other)))

@@ -1,8 +1,10 @@
 pub mod Windows
 pub mod Cells
+pub mod Writing
 pub mod AnswerText
 pub mod Partners
 pub mod LastMoves
+pub mod PortMoves
 pub mod LineText
 pub mod WaiterText
 pub mod PortText

@@ -1,10 +1,11 @@
 //! A line in columns. A cell begins at its column, or two spaces behind what stands there; an empty one leaves no space.
 
-ghost use Rattle.std.specs.Prelude.{◌≡◌, ◌≤◌, ◌++◌, [], OnOk};
-ghost use Rattle.hub_story_text.specs.Cells.{gap, right, spaces, with_cell};
+ghost use Rattle.std.specs.Prelude.{◌≡◌, ◌≤◌, ◌++◌, IfOk, OnOk};
+ghost use Rattle.hub_story_text.specs.Cells.{gap, right, spaces};
+ghost use Rattle.hub_story_text.specs.Writing.{Opens, closed};
 
-use crate::numbers::put_number;
-use std::alloc::{AllocError, Global};
+use itoa::Buffer;
+use std::alloc::AllocError;
 
 /// How wide the numbers of steps are; they stand to the right.
 pub(crate) const STEP_WIDTH: usize = 7;
@@ -41,53 +42,44 @@ fn gap(column: usize, len: usize) -> usize
     column.saturating_sub(len).max(2)
 }
 
-/// A line, and the cell that comes next.
-#[derive(Drop)]
-pub(crate) struct Row {
-    /// What stands there.
-    pub(crate) line: Vec<u8>,
-    /// The cell.
-    pub(crate) cell: Vec<u8>,
+/// A cell of a text, while it is written.
+#[derive(Clone, Copy)]
+pub(crate) struct Cell {
+    /// How long the text was before the spaces that stand before the cell.
+    before: usize,
+    /// How long with them.
+    begin: usize,
 }
 
-impl Row {
-    /// An empty one.
-    pub(crate) fn new(alloc: Global) -> Row
-        ensures { (result.line.items ≡ []) × (result.cell.items ≡ []) }
-    {
-        Row {
-            line: Vec::new(alloc),
-            cell: Vec::new(alloc),
-        }
-    }
+/// Begins a cell at this column of the line that begins at `start`.
+pub(crate) fn open_cell(out: &mut Vec<u8>, start: usize, column: usize) -> Result<Cell, AllocError>
+    requires { column ≤ MOST_SPACES }
+    ensures { IfOk result (λ cell. Opens start column out.old.items out.new.items cell) }
+{
+    let before = out.len();
+    let spaces = gap(column, before.saturating_sub(start));
+    put_spaces(out, spaces)?;
+    Ok(Cell {
+        before,
+        begin: out.len(),
+    })
+}
 
-    /// The cell is put at this column; the next is empty.
-    pub(crate) fn put(&mut self, column: usize) -> Result<(), AllocError>
-        requires { column ≤ MOST_SPACES }
-        ensures line { OnOk result (self.new.line.items ≡ with_cell column self.old.line.items self.old.cell.items) }
-        ensures cell { OnOk result (self.new.cell.items ≡ []) }
-    {
-        if self.cell.is_empty() {
-            return Ok(());
-        }
-        let spaces = gap(column, self.line.len());
-        put_spaces(&mut self.line, spaces)?;
-        self.line.extend_from_slice(&self.cell)?;
-        self.cell.clear();
-        Ok(())
+/// Ends a cell: an empty one leaves no space.
+pub(crate) fn close_cell(out: &mut Vec<u8>, cell: Cell)
+    ensures { out.new.items ≡ closed out.old.items cell }
+{
+    if out.len() == cell.begin {
+        out.truncate(cell.before);
     }
+}
 
-    /// The cell is a number to the right of the line's beginning.
-    pub(crate) fn put_step(&mut self, number: u64) -> Result<(), AllocError>
-        requires empty { self.old.cell.items ≡ [] }
-        ensures line { OnOk result (self.new.line.items ≡ self.old.line.items ++ right STEP_WIDTH number) }
-        ensures cell { OnOk result (self.new.cell.items ≡ []) }
-    {
-        put_number(&mut self.cell, b"", number)?;
-        let spaces = STEP_WIDTH.saturating_sub(self.cell.len());
-        put_spaces(&mut self.line, spaces)?;
-        self.line.extend_from_slice(&self.cell)?;
-        self.cell.clear();
-        Ok(())
-    }
+/// Appends a number to the right of the first places of a line.
+pub(crate) fn put_right(out: &mut Vec<u8>, number: u64) -> Result<(), AllocError>
+    ensures { OnOk result (out.new.items ≡ out.old.items ++ right STEP_WIDTH number) }
+{
+    let mut buffer = Buffer::new();
+    let digits = buffer.format(number).as_bytes();
+    put_spaces(out, STEP_WIDTH.saturating_sub(digits.len()))?;
+    out.extend_from_slice(digits)
 }

@@ -25,3 +25,10 @@ pub(crate) fn cases_at(entries: &[Entry], place: u32) -> &[Case]
         None => &[],
     }
 }
+
+/// The case of this number, if there is one.
+pub(crate) fn case_of(cases: &[Case], number: u8) -> Option<Case>
+    ensures { result ≡ slice_get cases.now number }
+{
+    cases.get(usize::from(number)).copied()
+}

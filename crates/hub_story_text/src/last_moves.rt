@@ -32,7 +32,7 @@ pub(crate) struct LastMoves {
 }
 
 /// On which port a case with this outcome sent a value.
-fn sent_port(case: Case, outcome: Outcome) -> Option<Port>
+pub(crate) fn sent_port(case: Case, outcome: Outcome) -> Option<Port>
     ensures value { result ≡ sent_port case outcome }
     ensures few { IfSome result (λ port. port.0 < PORT_NUMBERS) }
 {
@@ -43,7 +43,7 @@ fn sent_port(case: Case, outcome: Outcome) -> Option<Port>
 }
 
 /// From which port it received one.
-fn got_port(case: Case, outcome: Outcome) -> Option<Port>
+pub(crate) fn got_port(case: Case, outcome: Outcome) -> Option<Port>
     ensures value { result ≡ got_port case outcome }
     ensures few { IfSome result (λ port. port.0 < PORT_NUMBERS) }
 {

@@ -9,6 +9,7 @@ mod last_moves;
 mod lines;
 mod numbers;
 mod partners;
+mod port_moves;
 mod ports;
 mod steps;
 mod text;

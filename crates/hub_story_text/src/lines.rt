@@ -1,11 +1,14 @@
 //! The line of a step.
 
-ghost use Rattle.std.specs.Prelude.{◌≡◌, ◌+◌, ◌-◌, ◌++◌, [], codes, decimal, filter, OnOk, Some};
+ghost use Rattle.std.specs.Prelude.{◌≡◌, ◌+◌, ◌-◌, ◌++◌, codes, decimal, filter, OnOk, Some};
+ghost use Rattle.hub_story_text.specs.AnswerText.{answer_words};
+ghost use Rattle.hub_story_text.specs.Cells.{with_cell};
+ghost use Rattle.hub_story_text.specs.Writing.{LineBecomes};
 ghost use Rattle.hub_story_text.specs.LineText.{asks, ends_other, ends_words, got_words, line, moved_words, sent_words};
 ghost use Rattle.hub_story_text.specs.LineText.{step_words, value_words, waited_words, with_end, with_ended};
 
 use crate::answers::{fault_words, put_answer};
-use crate::cells::{ANSWER, ASKS, ENDS, Row, VALUE, WAITED};
+use crate::cells::{ANSWER, ASKS, ENDS, VALUE, WAITED, close_cell, open_cell, put_right};
 use crate::entries::cases_of;
 use crate::numbers::{number_of, put_number};
 use hub_base::{Case, Edition, Entry, NoMemory, Outcome, Port, What, write_entry};
@@ -13,106 +16,106 @@ use hub_story::Told;
 use std::alloc::AllocError;
 
 /// Appends who asks what.
-fn put_asks(cell: &mut Vec<u8>, entry: &Entry) -> Result<(), NoMemory>
-    ensures { OnOk result (cell.new.items ≡ cell.old.items ++ asks entry.now) }
+fn put_asks(out: &mut Vec<u8>, entry: &Entry) -> Result<(), NoMemory>
+    ensures { OnOk result (out.new.items ≡ out.old.items ++ asks entry.now) }
 {
-    cell.extend_from_slice(b"P")?;
-    write_entry(cell, Edition::Two, entry)?;
-    cell.truncate(cell.len() - 1);
+    out.extend_from_slice(b"P")?;
+    write_entry(out, Edition::Two, entry)?;
+    out.truncate(out.len() - 1);
     Ok(())
 }
 
 /// Appends how long a step waited that ended so.
-fn put_waited(cell: &mut Vec<u8>, place: u32, told: &Told) -> Result<(), AllocError>
-    ensures { OnOk result (cell.new.items ≡ cell.old.items ++ waited_words place told.now) }
+fn put_waited(out: &mut Vec<u8>, place: u32, told: &Told) -> Result<(), AllocError>
+    ensures { OnOk result (out.new.items ≡ out.old.items ++ waited_words place told.now) }
 {
     if told.by <= place {
         return Ok(());
     }
-    put_number(cell, b"", (told.by - place).into())?;
-    put_number(cell, b", until ", number_of(told.by))
+    put_number(out, b"", (told.by - place).into())?;
+    put_number(out, b", until ", number_of(told.by))
 }
 
 /// Appends how long a step has waited that still does, by the last of so many steps.
-fn put_still(cell: &mut Vec<u8>, place: u32, count: usize) -> Result<(), AllocError>
-    ensures { OnOk result (cell.new.items ≡ cell.old.items ++ decimal (count - (place + 1)) ++ codes ", still") }
+fn put_still(out: &mut Vec<u8>, place: u32, count: usize) -> Result<(), AllocError>
+    ensures { OnOk result (out.new.items ≡ out.old.items ++ decimal (count - (place + 1)) ++ codes ", still") }
 {
-    put_number(cell, b"", count.saturating_sub(place as usize + 1) as u64)?;
-    cell.extend_from_slice(b", still")
+    put_number(out, b"", count.saturating_sub(place as usize + 1) as u64)?;
+    out.extend_from_slice(b", still")
 }
 
 /// Appends the process of the entry at this place, and its step.
-fn put_step(cell: &mut Vec<u8>, entries: &[Entry], place: u32) -> Result<(), AllocError>
-    ensures { OnOk result (cell.new.items ≡ cell.old.items ++ step_words entries.now place) }
+fn put_step(out: &mut Vec<u8>, entries: &[Entry], place: u32) -> Result<(), AllocError>
+    ensures { OnOk result (out.new.items ≡ out.old.items ++ step_words entries.now place) }
 {
     if let Some(entry) = entries.get(place as usize) {
-        put_number(cell, b"P", entry.pid.0.into())?;
+        put_number(out, b"P", entry.pid.0.into())?;
     }
-    put_number(cell, b", step ", number_of(place))
+    put_number(out, b", step ", number_of(place))
 }
 
 /// Appends where a value went that was sent on this port.
 fn put_sent(
-    cell: &mut Vec<u8>,
+    out: &mut Vec<u8>,
     entries: &[Entry],
     port: Port,
     partner: Option<u32>,
 ) -> Result<(), AllocError>
-    ensures { OnOk result (cell.new.items ≡ cell.old.items ++ sent_words entries.now port partner) }
+    ensures { OnOk result (out.new.items ≡ out.old.items ++ sent_words entries.now port partner) }
 {
     match partner {
         Some(place) => {
-            cell.extend_from_slice(b"to ")?;
-            put_step(cell, entries, place)
+            out.extend_from_slice(b"to ")?;
+            put_step(out, entries, place)
         }
-        None => put_number(cell, b"stays in port ", port.0.into()),
+        None => put_number(out, b"stays in port ", port.0.into()),
     }
 }
 
 /// Appends where a value came from that was received.
-fn put_got(cell: &mut Vec<u8>, entries: &[Entry], partner: Option<u32>) -> Result<(), AllocError>
-    ensures { OnOk result (cell.new.items ≡ cell.old.items ++ got_words entries.now partner) }
+fn put_got(out: &mut Vec<u8>, entries: &[Entry], partner: Option<u32>) -> Result<(), AllocError>
+    ensures { OnOk result (out.new.items ≡ out.old.items ++ got_words entries.now partner) }
 {
     let Some(place) = partner else {
         return Ok(());
     };
-    cell.extend_from_slice(b"from ")?;
-    put_step(cell, entries, place)
+    out.extend_from_slice(b"from ")?;
+    put_step(out, entries, place)
 }
 
 /// Appends where the value went or came from that the case moved.
 fn put_passed(
-    cell: &mut Vec<u8>,
+    out: &mut Vec<u8>,
     entries: &[Entry],
     partner: Option<u32>,
     case: Case,
     outcome: Outcome,
 ) -> Result<(), AllocError>
-    ensures { OnOk result (cell.new.items ≡ cell.old.items ++ moved_words entries.now partner case outcome) }
+    ensures { OnOk result (out.new.items ≡ out.old.items ++ moved_words entries.now partner case outcome) }
 {
     match (case, outcome) {
-        (Case::Send(port, _), Outcome::Sent) => put_sent(cell, entries, port, partner),
-        (Case::Recv(_), Outcome::Got(_)) => put_got(cell, entries, partner),
+        (Case::Send(port, _), Outcome::Sent) => put_sent(out, entries, port, partner),
+        (Case::Recv(_), Outcome::Got(_)) => put_got(out, entries, partner),
         _ => Ok(()),
     }
 }
 
 /// Appends where the value of a step went or came from, or what is wrong with the step.
 fn put_moved(
-    cell: &mut Vec<u8>,
+    out: &mut Vec<u8>,
     entries: &[Entry],
     cases: &[Case],
     partner: Option<u32>,
     what: What,
 ) -> Result<(), AllocError>
-    ensures { OnOk result (cell.new.items ≡ cell.old.items ++ value_words entries.now cases.now partner what) }
+    ensures { OnOk result (out.new.items ≡ out.old.items ++ value_words entries.now cases.now partner what) }
 {
     match what {
         What::Fired { case, outcome } => match cases.get(usize::from(case)) {
-            Some(case) => put_passed(cell, entries, partner, *case, outcome),
+            Some(case) => put_passed(out, entries, partner, *case, outcome),
             None => Ok(()),
         },
-        What::Fault(fault) => cell.extend_from_slice(fault_words(fault)),
+        What::Fault(fault) => out.extend_from_slice(fault_words(fault)),
         _ => Ok(()),
     }
 }
@@ -124,81 +127,153 @@ fn ends_other(place: u32, told: &Told) -> bool
     !matches!(told.event.what, What::Parked) && told.asked != place
 }
 
-/// Appends one step more that was ended.
-fn put_ended(cell: &mut Vec<u8>, told: &Told) -> Result<(), AllocError>
-    ensures { OnOk result (cell.new.items ≡ with_ended cell.old.items told.now) }
+/// Appends one step more that was ended, to those that begin there.
+fn put_ended(out: &mut Vec<u8>, begin: usize, told: &Told) -> Result<(), AllocError>
+    ensures { OnOk result (LineBecomes begin out.old.items out.new.items (λ words. with_ended words told.now)) }
 {
-    if cell.is_empty() {
-        cell.extend_from_slice(b"ends")?;
+    if out.len() == begin {
+        return put_number(out, b"ends ", number_of(told.asked));
     }
-    put_number(cell, b" ", number_of(told.asked))
+    put_number(out, b" ", number_of(told.asked))
 }
 
 /// Appends which other steps ended by the step at this place.
-fn put_ends(cell: &mut Vec<u8>, place: u32, came: &[Told]) -> Result<(), AllocError>
-    requires { cell.old.items ≡ [] }
-    ensures { OnOk result (cell.new.items ≡ ends_words (filter (ends_other place) came.now)) }
+fn put_ends(out: &mut Vec<u8>, place: u32, came: &[Told]) -> Result<(), AllocError>
+    ensures { OnOk result (out.new.items ≡ out.old.items ++ ends_words (filter (ends_other place) came.now)) }
 {
+    let begin = out.len();
     for told in came {
         if ends_other(place, told) {
-            put_ended(cell, told)?;
+            put_ended(out, begin, told)?;
         }
     }
     Ok(())
 }
 
+/// Who asks what, in its column.
+fn asks_cell(out: &mut Vec<u8>, start: usize, entry: &Entry) -> Result<(), NoMemory>
+    ensures { OnOk result (LineBecomes start out.old.items out.new.items (λ line. with_cell ASKS line (asks entry.now))) }
+{
+    let cell = open_cell(out, start, ASKS)?;
+    put_asks(out, entry)?;
+    close_cell(out, cell);
+    Ok(())
+}
+
+/// What a step of these cases was told.
+fn answer_cell(out: &mut Vec<u8>, start: usize, cases: &[Case], what: What) -> Result<(), NoMemory>
+    ensures { OnOk result (
+        LineBecomes start out.old.items out.new.items (λ line. with_cell ANSWER line (answer_words cases.now what))) }
+{
+    let cell = open_cell(out, start, ANSWER)?;
+    put_answer(out, cases, what)?;
+    close_cell(out, cell);
+    Ok(())
+}
+
+/// How long a step waited that ended so.
+fn waited_cell(out: &mut Vec<u8>, start: usize, place: u32, told: &Told) -> Result<(), AllocError>
+    ensures { OnOk result (
+        LineBecomes start out.old.items out.new.items (λ line. with_cell WAITED line (waited_words place told.now))) }
+{
+    let cell = open_cell(out, start, WAITED)?;
+    put_waited(out, place, told)?;
+    close_cell(out, cell);
+    Ok(())
+}
+
+/// How long a step has waited that still does.
+fn still_cell(out: &mut Vec<u8>, start: usize, place: u32, count: usize) -> Result<(), AllocError>
+    ensures { OnOk result (LineBecomes start out.old.items out.new.items
+        (λ line. with_cell WAITED line (decimal (count - (place + 1)) ++ codes ", still"))) }
+{
+    let cell = open_cell(out, start, WAITED)?;
+    put_still(out, place, count)?;
+    close_cell(out, cell);
+    Ok(())
+}
+
+/// What is known of the value of a step.
+fn value_cell(
+    out: &mut Vec<u8>,
+    start: usize,
+    entries: &[Entry],
+    cases: &[Case],
+    partner: Option<u32>,
+    what: What,
+) -> Result<(), AllocError>
+    ensures { OnOk result (LineBecomes start out.old.items out.new.items
+        (λ line. with_cell VALUE line (value_words entries.now cases.now partner what))) }
+{
+    let cell = open_cell(out, start, VALUE)?;
+    put_moved(out, entries, cases, partner, what)?;
+    close_cell(out, cell);
+    Ok(())
+}
+
+/// Which other steps ended by the step at this place.
+fn ends_cell(out: &mut Vec<u8>, start: usize, place: u32, came: &[Told]) -> Result<(), AllocError>
+    ensures { OnOk result (LineBecomes start out.old.items out.new.items
+        (λ line. with_cell ENDS line (ends_words (filter (ends_other place) came.now)))) }
+{
+    let cell = open_cell(out, start, ENDS)?;
+    put_ends(out, place, came)?;
+    close_cell(out, cell);
+    Ok(())
+}
+
 /// What a step was told in the end, how long it waited, and what is known of its value.
 fn put_told(
-    row: &mut Row,
+    out: &mut Vec<u8>,
+    start: usize,
     entries: &[Entry],
     place: u32,
     entry: &Entry,
     partner: Option<u32>,
     end: &Told,
 ) -> Result<(), NoMemory>
-    requires { row.old.cell.items ≡ [] }
-    ensures line { OnOk result (
-        row.new.line.items ≡ with_end entries.now place entry.now partner row.old.line.items (Some end.now)) }
-    ensures cell { OnOk result (row.new.cell.items ≡ []) }
+    ensures { OnOk result (LineBecomes start out.old.items out.new.items
+        (λ line. with_end entries.now place entry.now partner line (Some end.now))) }
 {
     let cases = cases_of(&entry.step);
-    put_answer(&mut row.cell, cases, end.event.what)?;
-    row.put(ANSWER)?;
-    put_waited(&mut row.cell, place, end)?;
-    row.put(WAITED)?;
-    put_moved(&mut row.cell, entries, cases, partner, end.event.what)?;
-    row.put(VALUE)?;
+    answer_cell(out, start, cases, end.event.what)?;
+    waited_cell(out, start, place, end)?;
+    value_cell(out, start, entries, cases, partner, end.event.what)?;
     Ok(())
 }
 
-/// The same, or that it waits.
+/// That it waits, and how long by the last of so many steps.
+fn put_waits(out: &mut Vec<u8>, start: usize, place: u32, count: usize) -> Result<(), NoMemory>
+    ensures { OnOk result (LineBecomes start out.old.items out.new.items
+        (λ line. with_cell WAITED (with_cell ANSWER line (codes "waits")) (decimal (count - (place + 1)) ++ codes ", still"))) }
+{
+    answer_cell(out, start, &[], What::Parked)?;
+    still_cell(out, start, place, count)?;
+    Ok(())
+}
+
+/// What became of a step.
 fn put_end(
-    row: &mut Row,
+    out: &mut Vec<u8>,
+    start: usize,
     entries: &[Entry],
     place: u32,
     entry: &Entry,
     partner: Option<u32>,
     end: Option<Told>,
 ) -> Result<(), NoMemory>
-    requires { row.old.cell.items ≡ [] }
-    ensures line { OnOk result (row.new.line.items ≡ with_end entries.now place entry.now partner row.old.line.items end) }
-    ensures cell { OnOk result (row.new.cell.items ≡ []) }
+    ensures { OnOk result (LineBecomes start out.old.items out.new.items
+        (λ line. with_end entries.now place entry.now partner line end)) }
 {
     match end {
-        Some(end) => put_told(row, entries, place, entry, partner, &end),
-        None => {
-            row.cell.extend_from_slice(b"waits")?;
-            row.put(ANSWER)?;
-            put_still(&mut row.cell, place, entries.len())?;
-            row.put(WAITED)?;
-            Ok(())
-        }
+        Some(end) => put_told(out, start, entries, place, entry, partner, &end),
+        None => put_waits(out, start, place, entries.len()),
     }
 }
 
-/// The line of the entry at this place, in an empty row.
+/// Appends the line of the entry at this place.
 pub(crate) fn put_line(
-    row: &mut Row,
+    out: &mut Vec<u8>,
     entries: &[Entry],
     place: u32,
     entry: &Entry,
@@ -206,16 +281,13 @@ pub(crate) fn put_line(
     end: Option<Told>,
     came: &[Told],
 ) -> Result<(), NoMemory>
-    requires empty { (row.old.line.items ≡ []) × (row.old.cell.items ≡ []) }
-    ensures line { OnOk result (row.new.line.items ≡ line entries.now place entry.now end partner came.now) }
-    ensures cell { OnOk result (row.new.cell.items ≡ []) }
+    ensures { OnOk result (out.new.items ≡ out.old.items ++ line entries.now place entry.now end partner came.now) }
 {
-    row.put_step(number_of(place))?;
-    put_asks(&mut row.cell, entry)?;
-    row.put(ASKS)?;
-    put_end(row, entries, place, entry, partner, end)?;
-    put_ends(&mut row.cell, place, came)?;
-    row.put(ENDS)?;
-    row.line.extend_from_slice(b"\n")?;
+    let start = out.len();
+    put_right(out, number_of(place))?;
+    asks_cell(out, start, entry)?;
+    put_end(out, start, entries, place, entry, partner, end)?;
+    ends_cell(out, start, place, came)?;
+    out.extend_from_slice(b"\n")?;
     Ok(())
 }

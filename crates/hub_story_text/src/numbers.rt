@@ -38,7 +38,7 @@ fn event_words(alloc: Global, event: &Event) -> Result<Vec<u8>, NoMemory>
 const BEFORE_VALUE: &[u8] = b"0 case 0 got ";
 
 /// Appends a value: the line of an event that tells of it ends with it.
-pub(crate) fn put_value(out: &mut Vec<u8>, value: Value) -> Result<(), NoMemory>
+fn put_any_value(out: &mut Vec<u8>, value: Value) -> Result<(), NoMemory>
     ensures { OnOk result (out.new.items ≡ out.old.items ++ value_field value) }
 {
     let words = event_words(
@@ -52,5 +52,17 @@ pub(crate) fn put_value(out: &mut Vec<u8>, value: Value) -> Result<(), NoMemory>
         },
     )?;
     out.extend_from_slice(&words[BEFORE_VALUE.len()..])?;
+    Ok(())
+}
+
+/// Appends a value. Most are numbers.
+#[tactic(auto, using(hub_base::proofs::Values::field_number))]
+pub(crate) fn put_value(out: &mut Vec<u8>, value: Value) -> Result<(), NoMemory>
+    ensures { OnOk result (out.new.items ≡ out.old.items ++ value_field value) }
+{
+    match value.as_num() {
+        Some(number) => put_number(out, b"", number)?,
+        None => put_any_value(out, value)?,
+    }
     Ok(())
 }

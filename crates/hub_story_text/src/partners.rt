@@ -1,11 +1,13 @@
 //! To which entry the value of an entry went, or from which it came.
 
 ghost use Rattle.std.specs.Prelude.{◌≡◌, ◌∷◌, [], IfOk, OnOk, length};
-ghost use Rattle.std.specs.List.{flat_map, fold};
-ghost use Rattle.hub_story_text.specs.Partners.{AreIn, both_ways, is_made, ports_made, ways, with_way};
+ghost use Rattle.std.specs.List.{fold};
+ghost use Rattle.hub_story_text.specs.Partners.{AreIn, is_made, ports_made, ways, with_way};
+ghost use Rattle.hub_story_text.specs.PortMoves.{AreMoves, paired};
 
+use crate::port_moves::{PortMoves, places_on};
 use hub_base::{Journal, MOST_PORTS, Port, What};
-use hub_story::{Passage, Story, Told};
+use hub_story::{Story, Told};
 use std::alloc::{AllocError, Global};
 
 /// Whether the event tells that a port was made.
@@ -36,14 +38,13 @@ fn note_way(table: &mut Vec<Option<u32>>, from: u32, to: u32)
     }
 }
 
-/// Takes in both ends of each of these passages.
-fn note_passages(table: &mut Vec<Option<u32>>, passages: &[Passage])
-    ensures { table.new.items ≡ fold with_way table.old.items (flat_map both_ways passages.now) }
+/// Takes in that the values of the calls at the first places went to those at the second, one by one.
+fn note_pairs(table: &mut Vec<Option<u32>>, sent: &[u32], received: &[u32])
+    ensures { table.new.items ≡ fold with_way table.old.items (paired sent.now received.now) }
 {
-    for passage in passages {
-        let (sent, received) = (passage.sent.told.asked, passage.received.told.asked);
-        note_way(table, sent, received);
-        note_way(table, received, sent);
+    for place in 0..sent.len().min(received.len()) {
+        note_way(table, sent[place], received[place]);
+        note_way(table, received[place], sent[place]);
     }
 }
 
@@ -52,14 +53,18 @@ pub(crate) fn partners_of(
     alloc: Global,
     journal: &Journal,
     story: &Story,
+    moves: &PortMoves,
 ) -> Result<Vec<Option<u32>>, AllocError>
+    requires { AreMoves journal.now.entries story.now.told.items moves.now }
     ensures { IfOk result (λ table.
         AreIn (ways journal.now.entries story.now.told.items) (length journal.now.entries) table.items) }
 {
     let mut table = vec![in alloc; None; journal.entries().len()]?;
     for place in 0..ports_made(&story.told).min(MOST_PORTS) {
-        let passages = story.passages(alloc, journal, Port(place as u16 + 1))?;
-        note_passages(&mut table, &passages);
+        let port = Port(place as u16 + 1);
+        let sent = places_on(alloc, &moves.sent, port)?;
+        let received = places_on(alloc, &moves.received, port)?;
+        note_pairs(&mut table, &sent, &received);
     }
     Ok(table)
 }

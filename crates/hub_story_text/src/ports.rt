@@ -1,11 +1,14 @@
 //! What each port that was made carried.
 
-ghost use Rattle.std.specs.Prelude.{◌≡◌, ◌<◌, ◌^◌, ◌++◌, length, slice_get, OnOk, []};
+ghost use Rattle.std.specs.Prelude.{◌≡◌, ◌++◌, length, slice_get, OnOk, []};
 ghost use Rattle.std.specs.List.{flat_map};
 ghost use Rattle.std.specs.Option.{option_map_or};
+ghost use Rattle.hub_story.specs.Levels.{told_by};
+ghost use Rattle.hub_story_text.specs.PortMoves.{AreMoves};
 ghost use Rattle.hub_story_text.specs.PortText.{cap_words, counts_words, made_line, maker_words, port_line};
 
 use crate::numbers::{number_of, put_number};
+use crate::port_moves::PortMoves;
 use hub_base::{Journal, Port, Step, What};
 use hub_story::{Level, Story, Told};
 use std::alloc::AllocError;
@@ -51,17 +54,18 @@ fn put_port(
     out: &mut Vec<u8>,
     journal: &Journal,
     story: &Story,
+    moves: &PortMoves,
     told: &Told,
     port: Port,
 ) -> Result<(), AllocError>
-    requires { length journal.now.entries < 2 ^ 32 }
+    requires whole { told_by (length journal.now.entries) story.now.told.items ≡ story.now.told.items }
+    requires moves { AreMoves journal.now.entries story.now.told.items moves.now }
     ensures { OnOk result (out.new.items ≡
         out.old.items ++ port_line journal.now.entries story.now.told.items told.now port) }
 {
-    let level = story.level(journal, port, journal.entries().len() as u32);
     put_number(out, b"port ", port.0.into())?;
     put_cap(out, journal, told.asked)?;
-    put_counts(out, level)?;
+    put_counts(out, moves.level(port))?;
     put_maker(out, told)
 }
 
@@ -70,14 +74,16 @@ pub(crate) fn put_ports(
     out: &mut Vec<u8>,
     journal: &Journal,
     story: &Story,
+    moves: &PortMoves,
 ) -> Result<(), AllocError>
-    requires { length journal.now.entries < 2 ^ 32 }
+    requires whole { told_by (length journal.now.entries) story.now.told.items ≡ story.now.told.items }
+    requires moves { AreMoves journal.now.entries story.now.told.items moves.now }
     ensures { OnOk result (out.new.items ≡ out.old.items
         ++ flat_map (λ t. made_line journal.now.entries story.now.told.items t t.event.what) story.now.told.items) }
 {
     for told in &story.told {
         if let What::Made(port) = told.event.what {
-            put_port(out, journal, story, told, port)?;
+            put_port(out, journal, story, moves, told, port)?;
         }
     }
     Ok(())

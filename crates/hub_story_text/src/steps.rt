@@ -1,7 +1,6 @@
 //! The lines of the steps.
 
 ghost use Rattle.std.specs.Prelude.{◌≡◌, ◌≤◌, ◌<◌, ◌+◌, ◌-◌, ◌^◌, ◌++◌, [], drop, filter, length, slice_get, take, IfOk, OnOk, Some};
-ghost use Rattle.hub_story_text.specs.LineText.{line};
 ghost use Rattle.hub_story_text.specs.WaiterText.{waiters_words};
 ghost use Rattle.hub_story.specs.Levels.{told_by};
 ghost use Rattle.hub_story.specs.Stories.{IsFrom, IsStoryOf};
@@ -11,7 +10,6 @@ ghost use Rattle.hub_story_text.specs.Partners.{AreIn, ways};
 ghost use Rattle.hub_story_text.specs.StoryText.{came_by, stall_heading, step_text, steps_text};
 
 use crate::Window;
-use crate::cells::Row;
 use crate::last_moves::LastMoves;
 use crate::lines::put_line;
 use crate::waiters::put_waiters;
@@ -60,24 +58,6 @@ fn item_at<T: Copy>(items: &[T], place: usize) -> T
     items[place]
 }
 
-/// Appends the line of the entry at this place.
-fn put_row(
-    out: &mut Vec<u8>,
-    entries: &[Entry],
-    place: u32,
-    entry: &Entry,
-    partner: Option<u32>,
-    end: Option<Told>,
-    came: &[Told],
-) -> Result<(), NoMemory>
-    ensures { OnOk result (out.new.items ≡ out.old.items ++ line entries.now place entry.now end partner came.now) }
-{
-    let mut row = Row::new(*out.allocator());
-    put_line(&mut row, entries, place, entry, partner, end, came)?;
-    out.extend_from_slice(&row.line)?;
-    Ok(())
-}
-
 /// Appends those whom a step stalled.
 fn put_stalled(
     out: &mut Vec<u8>,
@@ -117,7 +97,7 @@ fn put_step(
     let entries = journal.entries();
     let partner = item_at(partners, place);
     let end = item_at(&story.ends, place);
-    put_row(out, entries, place as u32, entry, partner, end, came)?;
+    put_line(out, entries, place as u32, entry, partner, end, came)?;
     put_stalled(out, entries, moves, came)
 }
 

@@ -7,6 +7,7 @@ ghost use Rattle.hub_story_text.specs.StoryText.{story_text};
 use crate::Window;
 use crate::last_moves::LastMoves;
 use crate::partners::partners_of;
+use crate::port_moves::PortMoves;
 use crate::ports::put_ports;
 use crate::steps::put_steps;
 use crate::waiters::put_waiters;
@@ -32,12 +33,13 @@ pub fn story_text(
     requires few { length journal.now.entries < 2 ^ 32 - 1 }
     ensures { IfOk result (λ text. text.items ≡ story_text window journal.now.entries story.now.told.items) }
 {
-    let partners = partners_of(alloc, journal, story)?;
+    let passed = PortMoves::of(alloc, journal.entries(), &story.told)?;
+    let partners = partners_of(alloc, journal, story, &passed)?;
     let mut moves = LastMoves::new(alloc)?;
     let mut out = Vec::new(alloc);
     out.extend_from_slice(HEADING)?;
     put_steps(&mut out, &mut moves, journal, story, &partners, window)?;
-    put_ports(&mut out, journal, story)?;
+    put_ports(&mut out, journal, story, &passed)?;
     put_waiters(
         &mut out,
         END_HEADING,

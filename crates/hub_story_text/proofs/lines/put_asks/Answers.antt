@@ -10,8 +10,8 @@ write_entry-requires c = record { fits = any-step c.args.entry.now.step }
 pub returns : goal.returns
 returns c =
     c.truncate.ensures.items
-    ∙ without-newline c.write_entry.new.out.items (c.args.cell.now.items ++ asks c.args.entry.now) c.len.result
+    ∙ without-newline c.write_entry.new.out.items (c.args.out.now.items ++ asks c.args.entry.now) c.len.result
     (omega (arith, c.len.ensures, c.write_entry.new.out.ok))
     (c.in_ok-write_entry.ensures.ok ∙ ap (λ l. l ++ line c.args.entry.now) c.in_ok-extend_from_slice.ensures.items
-    ∙ append_assoc c.args.cell.now.items (80 ∷ []) (line c.args.entry.now)
-    ∙ sym (append_assoc c.args.cell.now.items (asks c.args.entry.now) (10 ∷ [])))
+    ∙ append_assoc c.args.out.now.items (80 ∷ []) (line c.args.entry.now)
+    ∙ sym (append_assoc c.args.out.now.items (asks c.args.entry.now) (10 ∷ [])))

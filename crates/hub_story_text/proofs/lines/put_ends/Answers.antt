@@ -1,4 +1,4 @@
-use Rattle.std.proofs.Common.{◌∙◌, sym}
+use Rattle.std.proofs.Common.{◌≡◌, ◌∙◌, ◌++◌, ap, sym, refl, arith, length}
 use Rattle.hub_story_text.specs.LineText.{ends_other}
 use Rattle.hub_story_text.proofs.StepLines.{ends-one, ends-none}
 use Rattle.hub_story_text.proofs.lines.put_ends.Goals as goal
@@ -6,11 +6,15 @@ use Rattle.hub_story_text.proofs.lines.put_ends.Goals.{then-ends_other+in_ok-put
 
 pub loop-told-preserved : goal.loop-told-preserved
 loop-told-preserved c =
+    let before = c.args.out.now.items in
+    let at : length before ≡ c.len-begin.result = omega (arith, c.len-begin.ensures, c.args.out.now.ok) in
     elim c.if-ends_other.branch [
       | then-ends_other+in_ok-put_ended w ↦
-          rw w.cell-is (ends-one (ends_other c.args.place) c.args.came.now c.loop-told.told-index _ c.loop-told.cell.items w.put_ended.new.cell.items
-          c.loop-told-test.true (sym c.ends_other.ensures ∙ w.if-ends_other.true) c.loop-told.invariant w.in_ok-put_ended.ensures)
+          rw w.out-is (w.in_ok-put_ended.ensures before _ at c.loop-told.invariant
+          ∙ ap (λ l. before ++ l) (ends-one (ends_other c.args.place) c.args.came.now c.loop-told.told-index _ _ _
+          c.loop-told-test.true (sym c.ends_other.ensures ∙ w.if-ends_other.true) refl refl))
       | else-ends_other w ↦
-          rw w.cell-is (ends-none (ends_other c.args.place) c.args.came.now c.loop-told.told-index _ c.loop-told.cell.items c.loop-told-test.true
-          (sym c.ends_other.ensures ∙ w.if-ends_other.false) c.loop-told.invariant)
+          rw w.out-is (c.loop-told.invariant
+          ∙ ap (λ l. before ++ l) (ends-none (ends_other c.args.place) c.args.came.now c.loop-told.told-index _ _ c.loop-told-test.true
+          (sym c.ends_other.ensures ∙ w.if-ends_other.false) refl))
     ]

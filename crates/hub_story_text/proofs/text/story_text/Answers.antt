@@ -1,12 +1,19 @@
-use Rattle.std.proofs.Common.{◌++◌, ap, length}
+use Rattle.std.proofs.Common.{◌∙◌, ◌++◌, ap, sym, arith, length}
 use Rattle.hub_story.specs.Levels.{told_by}
+use Rattle.hub_story.proofs.Filling.{told_by-all}
 use Rattle.hub_story_text.specs.StoryText.{heading, end_heading, ports_text, steps_text}
 use Rattle.hub_story_text.proofs.StepTexts.{waiters-told}
 use Rattle.hub_story_text.proofs.text.story_text.Goals as goal
 
+pub put_ports-requires-clause-whole : goal.put_ports-requires-clause-whole
+put_ports-requires-clause-whole c =
+    let es = c.args.journal.now.entries in
+    let told = c.requires.story.told in
+    ap (told_by (length es)) told ∙ told_by-all c.args.journal.now.head es (length es) (omega arith) ∙ sym told
+
 pub returns : goal.returns
 returns c =
-    let waits = rw (c.entries.ensures, c.deref-2.ensures.value, c.requires.story.waiting) at c.in_ok-put_waiters.ensures in
+    let waits = rw (c.entries-2.ensures, c.deref-3.ensures.value, c.requires.story.waiting) at c.in_ok-put_waiters.ensures in
     let until = told_by (length c.args.journal.now.entries) c.args.story.now.told.items in
     rw (waits, c.in_ok-put_ports.ensures, c.in_ok-put_steps.ensures.text, c.in_ok-extend_from_slice.ensures.items, c.new-out.ensures.items)
     (ap (λ l. heading ++ steps_text c.args.window c.args.journal.now.entries c.args.story.now.told.items 0 c.args.journal.now.entries

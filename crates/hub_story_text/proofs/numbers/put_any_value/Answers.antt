@@ -1,7 +1,7 @@
 use Rattle.std.proofs.Common.{rules, arith, ap, ◌++◌, ◌∙◌}
 use Rattle.hub_story_text.proofs.Chains.{rest-whole}
 use Rattle.hub_story_text.proofs.StepLines.{value-behind}
-use Rattle.hub_story_text.proofs.numbers.put_value.Goals as goal
+use Rattle.hub_story_text.proofs.numbers.put_any_value.Goals as goal
 
 pub slice_bounds-extend_from_slice-count : goal.slice_bounds-extend_from_slice-count
 slice_bounds-extend_from_slice-count c =

@@ -1,0 +1,187 @@
+-- Which calls moved values through a port: their places, one by one, are those of the port's sends and receives.
+use Rattle.std.proofs.Common.{◌≡◌, ◌≤◌, ◌<◌, ◌+◌, ◌==◌, ℕ, zero, suc, zero-le, Bool, true, false, List, [], ◌∷◌, ◌++◌, length, map, min}
+use Rattle.std.proofs.Common.{refl, ap, ◌∙◌, sym, arith, Option, Some, None, get_or, take, drop, add-one, append-nil, slice_get}
+use Rattle.std.specs.Prelude.{cond}
+use Rattle.std.specs.List.{filter_map, flat_map, cons_option}
+use Rattle.std.specs.Option.{option_map, option_and_then}
+use Rattle.std.proofs.Math.Seq.{drop-cons}
+use Rattle.std.proofs.lemmas.List.{drop_all, length-map}
+use Rattle.std.proofs.lemmas.List.Elements.{filter_map-append}
+use Rattle.hub_base.specs.declared.value.Port.{Port}
+use Rattle.hub_base.specs.declared.value.Value.{Value}
+use Rattle.hub_base.specs.declared.case.Case.{Case}
+use Rattle.hub_base.specs.declared.case.Case.TheVariants.{Send, Recv}
+use Rattle.hub_base.specs.declared.entry.Entry.{Entry}
+use Rattle.hub_base.specs.declared.event.Outcome.{Outcome}
+use Rattle.hub_base.specs.declared.event.Outcome.TheVariants.{Sent, Got, Drained, Closed}
+use Rattle.hub_base.specs.declared.event.What.{What}
+use Rattle.hub_base.specs.declared.event.What.TheVariants as what
+use Rattle.hub_base.specs.Values.{of_what, sent_on, got_on}
+use Rattle.hub_story.specs.declared.told.Told.{Told}
+use Rattle.hub_story.specs.declared.moved.Moved.{Moved}
+use Rattle.hub_story.specs.Passing.{beside, cases_at, moved_by, receives, sends}
+use Rattle.hub_story_text.specs.declared.port_moves.PortMove.{PortMove}
+use Rattle.hub_story_text.specs.declared.port_moves.PortMoves.{PortMoves}
+use Rattle.hub_story_text.specs.LastMoves.{got_port, sent_port}
+use Rattle.hub_story_text.specs.Partners.{both_ways, ways_of}
+use Rattle.hub_story_text.specs.PortMoves.{AreMore, AreMoves, move_at, move_of, paired, place_on, places_on, port_of}
+use Rattle.hub_story_text.proofs.StepLines.{taken-next}
+
+-- ---- one event more
+pub moves-next : (es : List Entry) (told : List Told) (i : ℕ) (d : Told) (old new : PortMoves) → i < length told → AreMoves es (take i told) old →
+    AreMore es (get_or told i d) old new → AreMoves es (take (i + 1) told) new
+moves-next es told i d old new below was more = record {
+  sent =
+      more.sent ∙ ap (λ l. l ++ filter_map (move_of sent_port es) (get_or told i d ∷ [])) was.sent
+      ∙ sym (ap (filter_map (move_of sent_port es)) (taken-next told i d below)
+      ∙ filter_map-append (move_of sent_port es) (take i told) (get_or told i d ∷ []));
+  received =
+      more.received ∙ ap (λ l. l ++ filter_map (move_of got_port es) (get_or told i d ∷ [])) was.received
+      ∙ sym (ap (filter_map (move_of got_port es)) (taken-next told i d below)
+      ∙ filter_map-append (move_of got_port es) (take i told) (get_or told i d ∷ []));
+}
+
+-- ---- the places of a port's moves
+abbrev asked : Moved → ℕ
+asked m = m.told.asked
+
+abbrev moved : Told → Value → Moved
+moved t v = record { told = t; value = v }
+
+-- a move on the port is told with the value, and one on another with none
+one-port : (place : ℕ) (q p : Port) (v : Value) (t : Told) → place ≡ t.asked →
+    place_on p (move_at place q) ≡ option_map asked (option_map (moved t) (cond (q.0 == p.0) (Some v) None))
+one-port place q p v t at = by (q.0 == p.0)
+  where
+    by : (b : Bool) → cond b (Some place) None ≡ option_map asked (option_map (moved t) (cond b (Some v) None))
+    by true = ap Some at
+    by false = refl
+
+sent-case : (p : Port) (t : Told) (c : Option Case) (o : Outcome) →
+    option_and_then (place_on p) (option_map (move_at t.asked) (port_of sent_port c o)) ≡ option_map asked (option_map (moved t) (sent_on p c o))
+sent-case p t None o = refl
+sent-case p t (Some (Recv q)) o = refl
+sent-case p t (Some (Send q v)) Sent = one-port t.asked q p v t refl
+sent-case p t (Some (Send q v)) (Got w) = refl
+sent-case p t (Some (Send q v)) Drained = refl
+sent-case p t (Some (Send q v)) Closed = refl
+
+got-case : (p : Port) (t : Told) (c : Option Case) (o : Outcome) →
+    option_and_then (place_on p) (option_map (move_at t.asked) (port_of got_port c o)) ≡ option_map asked (option_map (moved t) (got_on p c o))
+got-case p t None o = refl
+got-case p t (Some (Send q v)) o = refl
+got-case p t (Some (Recv q)) (Got w) = one-port t.asked q p w t refl
+got-case p t (Some (Recv q)) Sent = refl
+got-case p t (Some (Recv q)) Drained = refl
+got-case p t (Some (Recv q)) Closed = refl
+
+-- what is picked of the case that fired is so of all that a process is told
+any-what : (port : Case → Outcome → Option Port) (value : Option Case → Outcome → Option Value) (p : Port) (t : Told) →
+    ((c : Option Case) (o : Outcome) →
+    option_and_then (place_on p) (option_map (move_at t.asked) (port_of port c o)) ≡ option_map asked (option_map (moved t) (value c o))) →
+    (cases : List Case) (w : What) →
+    option_and_then (place_on p) (option_map (move_at t.asked) (of_what (port_of port) cases w))
+    ≡ option_map asked (option_map (moved t) (of_what value cases w))
+any-what port value p t so cases (what.Fired i o) = so (slice_get cases i) o
+any-what port value p t so cases (what.Made q) = refl
+any-what port value p t so cases what.Default = refl
+any-what port value p t so cases what.Done = refl
+any-what port value p t so cases what.Parked = refl
+any-what port value p t so cases what.Stalled = refl
+any-what port value p t so cases (what.Fault f) = refl
+any-what port value p t so cases what.Cancelled = refl
+
+-- one move more, or none
+more-places : (p : Port) (o : Option PortMove) (q : Option Moved) (ms : List PortMove) (ns : List Moved) →
+    option_and_then (place_on p) o ≡ option_map asked q → places_on p ms ≡ map asked ns →
+    places_on p (cons_option o ms) ≡ map asked (cons_option q ns)
+more-places p None None ms ns is so = so
+more-places p None (Some n) ms ns is so = cc
+more-places p (Some m) q ms ns is so = ap (λ r. cons_option r (places_on p ms)) is ∙ by q
+  where
+    by : (q : Option Moved) → cons_option (option_map asked q) (places_on p ms) ≡ map asked (cons_option q ns)
+    by None = so
+    by (Some n) = ap (λ l. n.told.asked ∷ l) so
+
+all-places : (port : Case → Outcome → Option Port) (value : Option Case → Outcome → Option Value) (es : List Entry) (p : Port) →
+    ((t : Told) → option_and_then (place_on p) (move_of port es t) ≡ option_map asked (moved_by value es t)) →
+    (ts : List Told) → places_on p (filter_map (move_of port es) ts) ≡ map asked (filter_map (moved_by value es) ts)
+all-places port value es p one [] = refl
+all-places port value es p one (t ∷ ts) =
+    more-places p (move_of port es t) (moved_by value es t) (filter_map (move_of port es) ts) (filter_map (moved_by value es) ts) (one t)
+    (all-places port value es p one ts)
+
+sent-places : (es : List Entry) (all : List Told) (moves : PortMoves) → AreMoves es all moves → (p : Port) →
+    places_on p moves.sent.items ≡ map asked (sends es all p)
+sent-places es all moves so p =
+    ap (places_on p) so.sent
+    ∙ all-places sent_port (sent_on p) es p (λ t. any-what sent_port (sent_on p) p t (sent-case p t) (cases_at es t.asked) t.event.what) all
+
+received-places : (es : List Entry) (all : List Told) (moves : PortMoves) → AreMoves es all moves → (p : Port) →
+    places_on p moves.received.items ≡ map asked (receives es all p)
+received-places es all moves so p =
+    ap (places_on p) so.received
+    ∙ all-places got_port (got_on p) es p (λ t. any-what got_port (got_on p) p t (got-case p t) (cases_at es t.asked) t.event.what) all
+
+-- so they are as many
+pub sent-many : (es : List Entry) (all : List Told) (moves : PortMoves) → AreMoves es all moves → (p : Port) →
+    length (places_on p moves.sent.items) ≡ length (sends es all p)
+sent-many es all moves so p = ap length (sent-places es all moves so p) ∙ length-map (sends es all p) asked
+
+pub received-many : (es : List Entry) (all : List Told) (moves : PortMoves) → AreMoves es all moves → (p : Port) →
+    length (places_on p moves.received.items) ≡ length (receives es all p)
+received-many es all moves so p = ap length (received-places es all moves so p) ∙ length-map (receives es all p) asked
+
+-- ---- places beside places
+pairs-beside : (xs ys : List Moved) → flat_map both_ways (beside xs ys) ≡ paired (map asked xs) (map asked ys)
+pairs-beside [] ys = refl
+pairs-beside (x ∷ xs) [] = refl
+pairs-beside (x ∷ xs) (y ∷ ys) =
+    ap (λ l. (x.told.asked, y.told.asked) ∷ (y.told.asked, x.told.asked) ∷ l) (pairs-beside xs ys)
+
+pub ways-paired : (es : List Entry) (all : List Told) (moves : PortMoves) → AreMoves es all moves → (number : ℕ) →
+    paired (places_on (record { 0 = number }) moves.sent.items) (places_on (record { 0 = number }) moves.received.items) ≡ ways_of es all number
+ways-paired es all moves so number =
+    let p : Port = record { 0 = number } in
+    ap (λ l. paired l (places_on p moves.received.items)) (sent-places es all moves so p)
+    ∙ ap (paired (map asked (sends es all p))) (received-places es all moves so p) ∙ sym (pairs-beside (sends es all p) (receives es all p))
+
+-- two more
+pub pairs-next : (xs ys : List ℕ) (i d : ℕ) → i < length xs → i < length ys →
+    paired (drop i xs) (drop i ys) ≡ (get_or xs i d, get_or ys i d) ∷ (get_or ys i d, get_or xs i d) ∷ paired (drop (i + 1) xs) (drop (i + 1) ys)
+pairs-next xs ys i d hx hy = rw (add-one i, drop-cons xs i d hx, drop-cons ys i d hy) refl
+
+no-partners : (xs : List ℕ) → paired xs [] ≡ []
+no-partners [] = refl
+no-partners (x ∷ xs) = refl
+
+pub pairs-end : (xs ys : List ℕ) (i : ℕ) → min (length xs) (length ys) ≤ i → paired (drop i xs) (drop i ys) ≡ []
+pairs-end [] ys i past = ap (λ l. paired l (drop i ys)) (drop_all i [] zero-le)
+pairs-end (x ∷ xs) [] i past = ap (paired (drop i (x ∷ xs))) (drop_all i [] zero-le) ∙ no-partners (drop i (x ∷ xs))
+pairs-end (x ∷ xs) (y ∷ ys) zero past = absurd (omega (arith, past))
+pairs-end (x ∷ xs) (y ∷ ys) (suc i) past = pairs-end xs ys i (omega (arith, past))
+
+-- what one event more tells, where it says that a case fired
+pub fired-move : (pick : Case → Outcome → Option Port) (es : List Entry) (t : Told) (i : ℕ) (o : Outcome) (c : Option Case) → t.event.what ≡ what.Fired i o →
+    slice_get (cases_at es t.asked) i ≡ c →
+    filter_map (move_of pick es) (t ∷ []) ≡ cons_option (option_map (move_at t.asked) (port_of pick c o)) []
+fired-move pick es t i o c fired is =
+    ap (λ w. cons_option (option_map (move_at t.asked) (of_what (port_of pick) (cases_at es t.asked) w)) []) fired
+    ∙ ap (λ c. cons_option (option_map (move_at t.asked) (port_of pick c o)) []) is
+
+-- no move more, and one
+pub no-move : (es : List Entry) (t : Told) (i : ℕ) (o : Outcome) (moves : PortMoves) → t.event.what ≡ what.Fired i o →
+    slice_get (cases_at es t.asked) i ≡ None → AreMore es t moves moves
+no-move es t i o moves fired is = record {
+  sent = sym (ap (λ l. moves.sent.items ++ l) (fired-move sent_port es t i o None fired is) ∙ append-nil moves.sent.items);
+  received = sym (ap (λ l. moves.received.items ++ l) (fired-move got_port es t i o None fired is) ∙ append-nil moves.received.items);
+}
+
+pub one-move : (es : List Entry) (t : Told) (i : ℕ) (o : Outcome) (c : Case) (old new : PortMoves) → t.event.what ≡ what.Fired i o →
+    slice_get (cases_at es t.asked) i ≡ Some c →
+    new.sent.items ≡ old.sent.items ++ cons_option (option_map (move_at t.asked) (sent_port c o)) [] →
+    new.received.items ≡ old.received.items ++ cons_option (option_map (move_at t.asked) (got_port c o)) [] → AreMore es t old new
+one-move es t i o c old new fired is sent received = record {
+  sent = sent ∙ ap (λ l. old.sent.items ++ l) (sym (fired-move sent_port es t i o (Some c) fired is));
+  received = received ∙ ap (λ l. old.received.items ++ l) (sym (fired-move got_port es t i o (Some c) fired is));
+}

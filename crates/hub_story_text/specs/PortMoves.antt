@@ -1,0 +1,51 @@
+-- Which calls moved values through which ports, by the places of their entries.
+use Rattle.std.specs.Prelude.{◌≡◌, ℕ, ◌==◌, List, [], ◌∷◌, ◌++◌, Option, None, Some, if◌then◌else◌}
+use Rattle.std.specs.List.{filter_map}
+use Rattle.std.specs.Option.{option_map}
+use Rattle.hub_base.specs.declared.value.Port.{Port}
+use Rattle.hub_base.specs.declared.case.Case.{Case}
+use Rattle.hub_base.specs.declared.entry.Entry.{Entry}
+use Rattle.hub_base.specs.declared.event.Outcome.{Outcome}
+use Rattle.hub_base.specs.Values.{of_what}
+use Rattle.hub_story.specs.declared.told.Told.{Told}
+use Rattle.hub_story.specs.Passing.{cases_at}
+use Rattle.hub_story_text.specs.declared.port_moves.PortMove.{PortMove}
+use Rattle.hub_story_text.specs.declared.port_moves.PortMoves.{PortMoves}
+use Rattle.hub_story_text.specs.LastMoves.{sent_port, got_port}
+
+-- the port that is picked of a case, if there is one
+abbrev pub port_of : (Case → Outcome → Option Port) → Option Case → Outcome → Option Port
+port_of pick None o = None
+port_of pick (Some c) o = pick c o
+
+-- a call at this place moved a value through the port
+abbrev pub move_at : ℕ → Port → PortMove
+move_at place p = record { port = p; place = place }
+
+-- which call is told to have moved a value, where `pick` tells its port
+abbrev pub move_of : (Case → Outcome → Option Port) → List Entry → Told → Option PortMove
+move_of pick es t = option_map (move_at t.asked) (of_what (port_of pick) (cases_at es t.asked) t.event.what)
+
+-- all that are told, in order
+pub record AreMoves (es : List Entry) (all : List Told) (moves : PortMoves) : Type 0 where
+  pub sent : moves.sent.items ≡ filter_map (move_of sent_port es) all
+  pub received : moves.received.items ≡ filter_map (move_of got_port es) all
+
+-- with those of one event more
+pub record AreMore (es : List Entry) (t : Told) (old new : PortMoves) : Type 0 where
+  pub sent : new.sent.items ≡ old.sent.items ++ filter_map (move_of sent_port es) (t ∷ [])
+  pub received : new.received.items ≡ old.received.items ++ filter_map (move_of got_port es) (t ∷ [])
+
+-- the place of the call, where it moved its value through this port
+abbrev pub place_on : Port → PortMove → Option ℕ
+place_on p m = if m.port.0 == p.0 then Some m.place else None
+
+-- the places of those that did
+abbrev pub places_on : Port → List PortMove → List ℕ
+places_on p ms = filter_map (place_on p) ms
+
+-- each of the first places with the second that stands beside it, both ways
+abbrev pub paired : List ℕ → List ℕ → List (ℕ × ℕ)
+paired [] ys = []
+paired (x ∷ xs) [] = []
+paired (x ∷ xs) (y ∷ ys) = (x, y) ∷ (y, x) ∷ paired xs ys

@@ -1,0 +1,118 @@
+//! Which calls moved values, and through which ports: all of them in one pass over what is told, in 8 bytes each.
+
+ghost use Rattle.std.specs.Prelude.{◌≡◌, ◌++◌, List, [], IfOk, OnOk, length};
+ghost use Rattle.std.specs.List.{cons_option};
+ghost use Rattle.std.specs.Option.{option_map};
+ghost use Rattle.hub_base.specs.declared.entry.Entry.{Entry};
+ghost use Rattle.hub_story.specs.declared.told.Told.{Told};
+ghost use Rattle.hub_story.specs.Passing.{receives, sends};
+ghost use Rattle.hub_story_text.specs.PortMoves.{AreMore, AreMoves, move_at, places_on};
+
+use crate::entries::{case_of, cases_at};
+use crate::last_moves::{got_port, sent_port};
+use hub_base::{Entry, Port, What};
+use hub_story::{Level, Told};
+use std::alloc::{AllocError, Global};
+
+/// A call that moved a value.
+#[derive(Clone, Copy, Debug, PartialEq, Eq)]
+pub(crate) struct PortMove {
+    /// Through which port.
+    pub(crate) port: Port,
+    /// The place of its entry.
+    pub(crate) place: u32,
+}
+
+/// The calls that moved values, in the order in which the values moved.
+#[derive(Drop)]
+pub(crate) struct PortMoves {
+    /// Those that sent one.
+    pub(crate) sent: Vec<PortMove>,
+    /// Those that received one.
+    pub(crate) received: Vec<PortMove>,
+}
+
+/// Takes in that a call at this place moved a value through the port, if there is one.
+fn push_move(moves: &mut Vec<PortMove>, port: Option<Port>, place: u32) -> Result<(), AllocError>
+    ensures { OnOk result (moves.new.items ≡ moves.old.items ++ cons_option (option_map (move_at place) port) []) }
+{
+    if let Some(port) = port {
+        moves.push(PortMove { port, place })?;
+    }
+    Ok(())
+}
+
+impl PortMoves {
+    /// Takes in the next event of these entries.
+    fn note(&mut self, entries: &[Entry], told: &Told) -> Result<(), AllocError>
+        ensures { OnOk result (AreMore entries.now told.now self.old self.new) }
+    {
+        let What::Fired { case, outcome } = told.event.what else {
+            return Ok(());
+        };
+        let Some(case) = case_of(cases_at(entries, told.asked), case) else {
+            return Ok(());
+        };
+        push_move(&mut self.sent, sent_port(case, outcome), told.asked)?;
+        push_move(&mut self.received, got_port(case, outcome), told.asked)
+    }
+
+    /// All that are told of these entries.
+    pub(crate) fn of(
+        alloc: Global,
+        entries: &[Entry],
+        told: &[Told],
+    ) -> Result<PortMoves, AllocError>
+        ensures { IfOk result (AreMoves entries.now told.now) }
+    {
+        let mut moves = PortMoves {
+            sent: Vec::new(alloc),
+            received: Vec::new(alloc),
+        };
+        for told in told {
+            moves.note(entries, told)?;
+        }
+        Ok(moves)
+    }
+
+    /// How many values went into the port, and how many came out of it.
+    pub(crate) fn level(&self, port: Port) -> Level
+        ensures sent { (es : List Entry) (all : List Told) → AreMoves es all self.now
+            → result.sent ≡ length (sends es all port) }
+        ensures received { (es : List Entry) (all : List Told) → AreMoves es all self.now
+            → result.received ≡ length (receives es all port) }
+    {
+        Level {
+            sent: count_on(&self.sent, port),
+            received: count_on(&self.received, port),
+        }
+    }
+}
+
+/// The places of the calls that moved their values through this port, in order.
+pub(crate) fn places_on(
+    alloc: Global,
+    moves: &[PortMove],
+    port: Port,
+) -> Result<Vec<u32>, AllocError>
+    ensures { IfOk result (λ places. places.items ≡ places_on port moves.now) }
+{
+    let mut places = Vec::new(alloc);
+    for moved in moves {
+        if moved.port.0 == port.0 {
+            places.push(moved.place)?;
+        }
+    }
+    Ok(places)
+}
+
+/// How many there are.
+fn count_on(moves: &[PortMove], port: Port) -> usize
+    ensures { result ≡ length (places_on port moves.now) }
+{
+    let mut count = 0;
+    for moved in moves {
+        count += usize::from(moved.port.0 == port.0);
+    }
+    count
+}

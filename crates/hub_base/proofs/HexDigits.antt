@@ -6,6 +6,8 @@ use Rattle.std.proofs.lemmas.Bool.{and_parts, cases_lt}
 use Rattle.std.proofs.lemmas.Grind.{common_steps}
 use Rattle.std.specs.Prelude.{nat_le}
 use Rattle.std.specs.List.{list_all}
+use Rattle.std.proofs.Common.{◌++◌, get_or, ◌||◌, ◌==◌}
+use Rattle.hub_base.specs.declared.text.values.TheConstants.{WORTHS}
 use Rattle.hex.specs.declared.error.FromHexError.{FromHexError}
 use Rattle.hex.specs.Hex.{IsBytes, decode_of, decode_pairs, digit_or_error, encode_lower, encode_with, hex_digit_value, lower_digits, pair_value}
 use Rattle.hex.specs.Hex.{value_at, ◌>>=◌}
@@ -99,3 +101,41 @@ pub hex-spells : (digits bs : List ℕ) → list_all is_hex digits ≡ true → 
 hex-spells digits bs h e =
     let ok = decode_of-ok digits bs e in
     pairs-spell 0 digits bs h (sym (decode_of-even digits ok.0) ∙ e)
+
+-- what the table has for each byte below this is its worth as a digit, where that is below 16
+abbrev worths_are : ℕ → Bool
+worths_are zero = true
+worths_are (suc n) = (nat_le 16 (get_or WORTHS n 0) || (slice_index lower_digits (get_or WORTHS n 0) == n)) && worths_are n
+
+worth-below : (n c : ℕ) → worths_are n ≡ true → c < n → get_or WORTHS c 0 < 16 → slice_index lower_digits (get_or WORTHS c 0) ≡ c
+worth-below zero c h lt small = absurd (omega arith)
+worth-below (suc n) c h lt small =
+    let parts = and_parts (nat_le 16 (get_or WORTHS n 0) || (slice_index lower_digits (get_or WORTHS n 0) == n)) (worths_are n) h in
+    elim (cases_lt c n) [
+      | inl below ↦ worth-below n c parts.1 below small
+      | inr top ↦
+          let e : c ≡ n = omega arith in
+          let here : (nat_le 16 (get_or WORTHS c 0) || (slice_index lower_digits (get_or WORTHS c 0) == c)) ≡ true = rw e parts.0 in
+          grind (arith, common_steps)
+    ]
+
+-- the table has the worth of each digit
+pub worth_at : (c : ℕ) → c < 256 → get_or WORTHS c 0 < 16 → slice_index lower_digits (get_or WORTHS c 0) ≡ c
+worth_at c lt small = worth-below 256 c refl lt small
+
+-- one byte more is two digits more
+pub encode-push : (bs : List ℕ) (high low : ℕ) → low < 16
+    → encode_lower (bs ++ (high * 16 + low) ∷ []) ≡ encode_lower bs ++ slice_index lower_digits high ∷ slice_index lower_digits low ∷ []
+unfolding encode_with
+encode-push [] high low small =
+    let up : (high * 16 + low) / 16 ≡ high = omega (arith, small) in
+    let down : (high * 16 + low) % 16 ≡ low = omega (arith, small) in
+    rw (up, down) refl
+encode-push (b ∷ bs) high low small =
+    ap (λ ds. slice_index lower_digits (b / 16) ∷ slice_index lower_digits (b % 16) ∷ ds) (encode-push bs high low small)
+
+pub bytes-push : (bs : List ℕ) (b : ℕ) → IsBytes bs → b < 256 → IsBytes (bs ++ b ∷ [])
+bytes-push [] b all small zero = small
+bytes-push [] b all small (suc i) = all i
+bytes-push (c ∷ bs) b all small zero = all 0
+bytes-push (c ∷ bs) b all small (suc i) = bytes-push bs b (λ j. all (suc j)) small i

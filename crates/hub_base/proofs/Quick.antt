@@ -1,12 +1,11 @@
 -- A spelling that stands between two places of some bytes.
-use Rattle.std.proofs.Common.{◌≡◌, ◌≢◌, ℕ, zero, suc, ◌+◌, ◌*◌, ◌-◌, ◌<◌, ◌≤◌, ◌^◌, Bool, true, false, ◌&&◌, cond, Some, Ok, List, [], ◌∷◌, ◌++◌, codes}
-use Rattle.std.proofs.Common.{length, take, drop, get_or, refl, ap, ◌∙◌, sym, subst, arith, add-one, drop-cons, length-drop, get_or-drop}
+use Rattle.std.proofs.Common.{◌≡◌, ◌≢◌, ℕ, zero, suc, ◌+◌, ◌*◌, ◌-◌, ◌<◌, ◌≤◌, ◌^◌, Bool, true, false, ◌&&◌, cond, Ok, List, [], ◌∷◌, ◌++◌, codes}
+use Rattle.std.proofs.Common.{length, take, drop, get_or, refl, ap, ◌∙◌, sym, subst, arith, add-one, drop-cons, length-drop}
 use Rattle.std.proofs.Common.{append_assoc, append-nil, length-append}
 use Rattle.std.proofs.lemmas.Grind.{common_steps}
 use Rattle.std.proofs.lemmas.Fmt.{decimal_digit, first_decimal, decimal_nonempty}
 use Rattle.std.proofs.lemmas.Int.Digits.{digits_value_push}
 use Rattle.std.proofs.lemmas.List.{get_or_append_left, take-append-drop}
-use Rattle.std.proofs.Math.Seq.{take-suc}
 use Rattle.std.proofs.lemmas.List.Folds.{list_all-append}
 use Rattle.std.proofs.lemmas.Str.{digit_value_digit}
 use Rattle.std.specs.Fmt.{decimal}
@@ -23,18 +22,24 @@ use Rattle.hub_base.specs.declared.limits.TheConstants.{GREATEST_PID, GREATEST_P
 use Rattle.hub_base.specs.declared.case.Case.{Case}
 use Rattle.hub_base.specs.declared.case.Case.TheVariants.{Send, Recv}
 use Rattle.hub_base.specs.declared.entry.Step.{Step}
-use Rattle.hub_base.specs.Head.{has_bytes, has_case, is_of}
+use Rattle.hub_base.specs.Head.{has_bytes, has_content, has_case, is_of}
 use Rattle.hub_base.specs.declared.value.Port.{Port}
 use Rattle.hub_base.specs.declared.value.Value.{Value}
-use Rattle.hub_base.specs.Value.{saying, value_field}
-use Rattle.std.specs.Option.{option_map}
+use Rattle.hub_base.specs.declared.limits.TheConstants.{MOST_VALUE_BYTES}
+use Rattle.hub_base.specs.Value.{bytes_of, padded, value_field, IsContent, field_of}
+use Rattle.hub_base.specs.Value.Content.{Bytes}
+use Rattle.std.proofs.Common.{replicate, set, slice_index}
+use Rattle.std.proofs.lemmas.Grind.{take-set_at}
+use Rattle.std.proofs.lemmas.List.{drop-replicate, drop-set-lt, length-set}
+use Rattle.hex.specs.Hex.{IsBytes, encode_lower, encode_with, lower_digits}
+use Rattle.hub_base.proofs.HexDigits.{bytes-push, digit-hex, encode-push}
+use Rattle.hub_base.proofs.Values.{content-saying, is-value, padded_is}
 use Rattle.hub_base.specs.Writing.{spaced, spaced_cases}
-use Rattle.hub_base.specs.Lines.{line, step_fields, case_field, call_fields, select_fields, default_field, spelled, bytes_value, is_hex}
+use Rattle.hub_base.specs.Lines.{line, step_fields, case_field, call_fields, select_fields, default_field, spelled, is_hex}
 use Rattle.hub_base.specs.Quick.{EndsLine, Stands, ValueStands, SendStands, CaseStands, CasesStand, SelectStands, StepStands, Begins}
 use Rattle.hub_base.specs.Reading.{Reading, Reads, Faulty, behind, is_exit, with_entry, entries_from, rows}
 use Rattle.hub_base.specs.Text.{CaseFits, StepFits, body, steps_of}
 use Rattle.hub_base.proofs.Bodies.{rows-entry}
-use Rattle.hub_base.proofs.ValueFields.{bytes-taken}
 use Rattle.hub_base.proofs.Running.{entries-again}
 use Rattle.hub_base.proofs.Spelled.{join-spaced, spaced-select}
 use Rattle.hub_base.proofs.Decimals.{digits-of, value-of, spelled as spelled-digits}
@@ -86,39 +91,79 @@ stands-push bs start n at ends so digit some small = record {
 twice : (n m : ℕ) (bs : List ℕ) → drop n (drop m bs) ≡ drop (n + m) bs
 twice n m bs = grind (arith, common_steps)
 
-parted : (bs : List ℕ) (start end : ℕ) (digits : List ℕ) → start ≤ end → digits ≡ take (end - start) (drop start bs) → drop start bs ≡ digits ++ drop end bs
-parted bs start end digits le is =
-    let past : end - start + start ≡ end = omega (arith, le) in
-    sym (take-append-drop (end - start) (drop start bs)) ∙ ap (λ xs. xs ++ drop (end - start) (drop start bs)) (sym is)
-    ∙ ap (λ xs. digits ++ xs) (twice (end - start) start bs ∙ ap (λ n. drop n bs) past)
+-- the mark and the digits of the first of these bytes stand there, and zeros behind those
+pub record Decoded (text : List ℕ) (start len : ℕ) (places : List ℕ) (end : ℕ) : Type 0 where
+  pub stands : Stands text start (35 ∷ encode_lower (take len places)) end
+  pub few : len ≤ MOST_VALUE_BYTES
+  pub all : length places ≡ MOST_VALUE_BYTES
+  pub bytes : IsBytes (take len places)
+  pub behind : drop len places ≡ replicate (MOST_VALUE_BYTES - len) 0
 
--- bytes stand behind their mark, up to where their digits end
-pub stands-bytes : (ed : Edition) (bs : List ℕ) (start end : ℕ) (digits : List ℕ) (v : Value) → has_bytes ed ≡ true → get_or bs start 0 ≡ 35
-    → start + 1 ≤ end → end < length bs → digits ≡ take (end - (start + 1)) (drop (start + 1) bs) → option_map saying (bytes_value digits) ≡ Some v
-    → ValueStands ed bs start v end
-stands-bytes ed bs start end digits v has mark later inside is said =
-    let t = bytes-taken ed digits v has said in
-    let first : drop start bs ≡ 35 ∷ drop (start + 1) bs = drop-cons bs start 0 (omega arith) ∙ rw (add-one, mark) refl in
-    let rest = parted bs (start + 1) end digits later is in
+-- behind the mark stand the digits of no byte
+pub mark-stands : (text : List ℕ) (start : ℕ) → EndsLine text → start < length text → get_or text start 0 ≡ 35
+    → Decoded text start 0 (replicate MOST_VALUE_BYTES 0) (start + 1)
+unfolding encode_with
+mark-stands text start ends inside mark = record {
+  stands = record {
+    spelled = drop-cons text start 0 inside ∙ rw (add-one, mark) refl;
+    inside = ends start inside (λ newline. let no : 35 ≡ 10 = sym mark ∙ newline in absurd (omega (arith, no)));
+  };
+  few = omega arith;
+  all = refl;
+  bytes = λ i. omega arith;
+  behind = refl;
+}
+
+-- behind a digit there is one byte more
+behind-hex : (text : List ℕ) (i d : ℕ) → EndsLine text → i < length text → d < 16 → slice_index lower_digits d ≡ get_or text i 0 → i + 1 < length text
+behind-hex text i d ends inside small is =
+    ends i inside (λ newline. let no : is_hex 10 ≡ true = subst (λ x. is_hex x ≡ true) (is ∙ newline) (digit-hex d small) in cc)
+
+-- two digits more are one byte more
+pub decoded-push : (text : List ℕ) (start len : ℕ) (places : List ℕ) (end high low : ℕ) → EndsLine text → Decoded text start len places end
+    → len < MOST_VALUE_BYTES → high < 16 → slice_index lower_digits high ≡ get_or text end 0
+    → low < 16 → slice_index lower_digits low ≡ get_or text (end + 1) 0
+    → Decoded text start (len + 1) (set places len (high * 16 + low)) (end + 2)
+decoded-push text start len places end high low ends so room high-small high-is low-small low-is =
+    let byte : ℕ = high * 16 + low in
+    let count = so.all in
+    let more : take (len + 1) (set places len byte) ≡ take len places ++ byte ∷ [] =
+    take-set_at places len (len + 1) byte refl (omega (arith, count, room)) in
+    let digits : encode_lower (take (len + 1) (set places len byte)) ≡ encode_lower (take len places) ++ get_or text end 0 ∷ get_or text (end + 1) 0 ∷ [] =
+    ap encode_lower more ∙ encode-push (take len places) high low low-small ∙ rw (high-is, low-is) refl in
+    let next = behind-hex text end high ends so.stands.inside high-small high-is in
+    let two : drop end text ≡ get_or text end 0 ∷ get_or text (end + 1) 0 ∷ drop (end + 2) text = grind (arith, common_steps, drop-cons, next) in
     record {
-      stands = record { spelled = first ∙ ap (λ xs. 35 ∷ xs) rest ∙ ap (λ xs. xs ++ drop end bs) t.field; inside = inside };
-      fits = t.fits;
-      of_edition = t.has;
-    }
+      stands = record {
+        spelled = so.stands.spelled ∙ ap (λ r. 35 ∷ (encode_lower (take len places) ++ r)) two
+            ∙ ap (λ xs. 35 ∷ xs) (sym (append_assoc (encode_lower (take len places)) (get_or text end 0 ∷ get_or text (end + 1) 0 ∷ []) (drop (end + 2) text)))
+            ∙ ap (λ ds. 35 ∷ (ds ++ drop (end + 2) text)) (sym digits);
+        inside = (let last = behind-hex text (end + 1) low ends next low-small low-is in omega (arith, last));
+      };
+      few = omega (arith, room);
+      all = length-set places len byte ∙ count;
+      bytes = subst IsBytes (sym more) (bytes-push (take len places) byte so.bytes (omega (arith, high-small, low-small)));
+      behind = drop-set-lt (len + 1) places len byte (omega arith) ∙ one-fewer;
+    } where
+      one-fewer : drop (len + 1) places ≡ replicate (MOST_VALUE_BYTES - (len + 1)) 0
+      one-fewer = grind (arith, common_steps, twice 1 len places, so.behind, drop-replicate {X = ℕ} 1 (MOST_VALUE_BYTES - len) 0)
 
--- one digit more
-pub digits-push : (bs : List ℕ) (first end : ℕ) → EndsLine bs → first ≤ end → end < length bs
-    → list_all is_hex (take (end - first) (drop first bs)) ≡ true → is_hex (get_or bs end 0) ≡ true
-    → (end + 1 < length bs) × (list_all is_hex (take (end + 1 - first) (drop first bs)) ≡ true)
-digits-push bs first end ends later inside all hex =
-    let step : end + 1 - first ≡ suc (end - first) = omega (arith, later) in
-    let count = length-drop first bs in
-    let more = take-suc (drop first bs) (end - first) 0 (omega (arith, count, inside, later)) in
-    let at : get_or (drop first bs) (end - first) 0 ≡ get_or bs end 0 = grind (arith, common_steps, get_or-drop) in (
-      ends end inside (λ newline. let no : is_hex 10 ≡ true = subst (λ x. is_hex x ≡ true) newline hex in cc),
-      ap (λ n. list_all is_hex (take n (drop first bs))) step ∙ ap (list_all is_hex) more
-          ∙ list_all-append is_hex (take (end - first) (drop first bs)) (get_or (drop first bs) (end - first) 0 ∷ []) ∙ rw (all, at, hex) refl,
-    )
+-- the bytes that stand there are a value
+pub decoded-value : (ed : Edition) (text : List ℕ) (start len : ℕ) (places : List ℕ) (end : ℕ) (v : Value) → has_bytes ed ≡ true
+    → Decoded text start len places end
+    → ((bs : List ℕ) → length bs ≡ len → places ≡ padded bs → v ≡ bytes_of bs) → ValueStands ed text start v end
+decoded-value ed text start len places end v has so is =
+    let bs : List ℕ = take len places in
+    let count : length bs ≡ len = (let all = so.all in let few = so.few in grind (arith, common_steps)) in
+    let zeros : drop len places ≡ replicate (MOST_VALUE_BYTES - length bs) 0 = so.behind ∙ ap (λ n. replicate (MOST_VALUE_BYTES - n) 0) (sym count) in
+    let pads : places ≡ padded bs = sym (take-append-drop len places) ∙ padded_is bs bs (drop len places) refl zeros in
+    let fits : IsContent (Bytes bs) = (rw count so.few, so.bytes) in
+    let same = content-saying (Bytes bs) fits in
+    subst (λ x. ValueStands ed text start x end) (sym (is bs count pads)) record {
+      stands = subst (λ f. Stands text start f end) (ap field_of (sym same)) so.stands;
+      fits = is-value (Bytes bs) fits;
+      of_edition = ap (has_content ed) same ∙ has;
+    }
 
 -- a port, a mark and a value are a case that sends
 pub send-stands : (ed : Edition) (bs : List ℕ) (start mark : ℕ) (p : Port) (at mid : ℕ) (v : Value) (end : ℕ)

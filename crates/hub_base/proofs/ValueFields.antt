@@ -3,7 +3,7 @@ use Rattle.std.proofs.Common.{◌≡◌, ℕ, ◌*◌, ◌≤◌, ◌<◌, ◌^�
 use Rattle.std.proofs.Common.{refl, ap, ◌∙◌, sym, subst, arith, not, ◌&&◌, ◌==◌}
 use Rattle.std.proofs.lemmas.Grind.{common_steps}
 use Rattle.std.proofs.lemmas.Bool.{and_parts}
-use Rattle.std.specs.Prelude.{◌/◌, decimal, nat_le, IfSome, IsNone, MatchResult}
+use Rattle.std.specs.Prelude.{◌/◌, decimal, nat_le, MatchResult}
 use Rattle.std.specs.List.{list_all}
 use Rattle.std.specs.Option.{option_map}
 use Rattle.std.specs.Char.{is_ascii_digit}
@@ -118,16 +118,6 @@ said-taken : (ed : Edition) (bs : List ℕ) (c : Content) → Said ed bs c → T
 said-taken ed bs c s =
     let same = content-saying c s.fits in
     record { field = s.field ∙ ap field_of (sym same); fits = is-value c s.fits; has = ap (has_content ed) same ∙ s.has }
-
--- bytes that were read behind their mark
-pub bytes-taken : (ed : Edition) (digits : List ℕ) (v : Value) → has_bytes ed ≡ true → option_map saying (bytes_value digits) ≡ Some v
-    → Taken ed (35 ∷ digits) v
-bytes-taken ed digits v has h = by (bytes_value digits) refl h where
-  by : (o : Option Content) → bytes_value digits ≡ o → option_map saying o ≡ Some v → Taken ed (35 ∷ digits) v
-  by None is e = cc
-  by (Some c) is e =
-      let same : saying c ≡ v = cc in
-      subst (Taken ed (35 ∷ digits)) same (said-taken ed (35 ∷ digits) c (marked ed digits c has is))
 
 -- a field that was read as a value spells it
 pub read-takes : (ed : Edition) (bs : List ℕ) (v : Value) → value_read ed bs ≡ Ok v → Taken ed bs v

@@ -197,21 +197,21 @@ pub fn put_bytes(out: &mut [u8], at: usize, value: &Value) -> usize
 /// Puts a value.
 #[inline(always)]
 #[tactic(auto, using(crate::proofs::Decimals::twenty_digits, crate::proofs::Values::field_number, crate::proofs::Values::field_bytes))]
-fn put_value(out: &mut [u8], at: usize, value: Value) -> usize
+fn put_value(out: &mut [u8], at: usize, value: &Value) -> usize
     requires { at + MOST_VALUE ≤ length out.old }
-    ensures { Puts out.old out.new at (value_field value) MOST_VALUE result }
+    ensures { Puts out.old out.new at (value_field value.now) MOST_VALUE result }
 {
     match value.as_num() {
         Some(number) => put_large(out, at, number),
-        None => put_bytes(out, at, &value),
+        None => put_bytes(out, at, value),
     }
 }
 
 /// Puts how a communication ended, behind a space.
 #[inline(always)]
-fn put_outcome(out: &mut [u8], at: usize, outcome: Outcome) -> usize
+fn put_outcome(out: &mut [u8], at: usize, outcome: &Outcome) -> usize
     requires { at + MOST_OUTCOME ≤ length out.old }
-    ensures { Puts out.old out.new at (outcome_text outcome) MOST_OUTCOME result }
+    ensures { Puts out.old out.new at (outcome_text outcome.now) MOST_OUTCOME result }
 {
     match outcome {
         Outcome::Sent => put(out, at, b" sent"),
@@ -226,9 +226,9 @@ fn put_outcome(out: &mut [u8], at: usize, outcome: Outcome) -> usize
 
 /// Puts what a process is told, behind a space.
 #[inline(always)]
-fn put_what(out: &mut [u8], at: usize, what: What) -> usize
+fn put_what(out: &mut [u8], at: usize, what: &What) -> usize
     requires { at + MOST_WHAT ≤ length out.old }
-    ensures { Puts out.old out.new at (what_text what) MOST_WHAT result }
+    ensures { Puts out.old out.new at (what_text what.now) MOST_WHAT result }
 {
     match what {
         What::Made(port) => {
@@ -237,7 +237,7 @@ fn put_what(out: &mut [u8], at: usize, what: What) -> usize
         }
         What::Fired { case, outcome } => {
             let word = put(out, at, b" case ");
-            let end = put_small(out, word, case);
+            let end = put_small(out, word, *case);
             put_outcome(out, end, outcome)
         }
         What::Default => put(out, at, b" default"),
@@ -253,18 +253,18 @@ fn put_what(out: &mut [u8], at: usize, what: What) -> usize
 }
 
 /// Puts a line.
-#[inline]
+#[inline(always)]
 pub fn put_event(out: &mut [u8], at: usize, event: &Event) -> usize
     requires { at + MOST_LINE ≤ length out.old }
     ensures { Puts out.old out.new at (event_line event.now) MOST_LINE result }
 {
     let pid = put_small(out, at, event.pid.0);
-    let what = put_what(out, pid, event.what);
+    let what = put_what(out, pid, &event.what);
     put(out, what, b"\n")
 }
 
 /// Puts the line of each event.
-#[inline]
+#[inline(always)]
 pub fn put_events(out: &mut [u8], at: usize, events: &[Event]) -> usize
     requires { at + length events.now * MOST_LINE ≤ length out.old }
     ensures text { take result out.new ≡ take at out.old ++ flat_map event_line events.now }

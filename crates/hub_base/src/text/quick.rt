@@ -8,9 +8,9 @@ ghost use Rattle.hub_base.specs.Lines.{call_fields, case_field};
 ghost use Rattle.hub_base.specs.Quick.{EndsLine, Stands, ValueStands, SendStands, RecvStands, CaseStands, CasesStand, SelectStands, StepStands, Begins};
 ghost use Rattle.hub_base.specs.Writing.{spaced};
 
-use crate::limits::{GREATEST_PID, GREATEST_PORT};
+use crate::limits::{GREATEST_PID, GREATEST_PORT, MOST_VALUE_BYTES};
 use crate::text::steps::set_call;
-use crate::text::values::{decode, is_hex};
+use crate::text::values::worth;
 use crate::{Case, Cases, Edition, Entry, Pid, Port, Step, Value};
 
 /// The number at this place, and the place behind it.
@@ -113,12 +113,19 @@ fn bytes_at(edition: Edition, bytes: &[u8], start: usize) -> Option<(Value, usiz
     if !edition.has_bytes() {
         return None;
     }
-    let first = start + 1;
-    let mut end = first;
-    while is_hex(bytes[end]) {
-        end += 1;
+    let mut places = [0; MOST_VALUE_BYTES];
+    let mut len = 0;
+    let mut end = start + 1;
+    while let Some(high) = worth(bytes[end]) {
+        let low = worth(bytes[end + 1])?;
+        if len == MOST_VALUE_BYTES {
+            return None;
+        }
+        places[len] = high * 16 + low;
+        len += 1;
+        end += 2;
     }
-    Some((decode(&bytes[first..end])?, end))
+    Some((Value::of_places(len, places), end))
 }
 
 /// The value that is a number and stands at this place, and the place behind it.
@@ -208,6 +215,19 @@ fn plain_into(edition: Edition, bytes: &[u8], start: usize, step: &mut Step) -> 
     requires start { start < length bytes.now }
     ensures { IfSome result (λ end. StepStands edition bytes.now start step.new end) }
 {
+    // Over the one case of a call that stands there already it is read in place, and moved nowhere.
+    if let Step::Call {
+        cases,
+        default,
+        word,
+    } = step
+    {
+        if cases.len() == 1 {
+            *default = false;
+            *word = 0;
+            return plain_case_into(edition, bytes, start, &mut cases[0]);
+        }
+    }
     let mut case = Case::default();
     let end = plain_case_into(edition, bytes, start, &mut case)?;
     set_call(step, case);

@@ -1,6 +1,7 @@
 //! Values that are read: a number, or behind the mark `#` the hexadecimal digits of bytes.
 
-ghost use Rattle.std.specs.Prelude.{◌≡◌, ◌||◌, ◌&&◌, nat_le, true};
+ghost use Rattle.std.specs.Prelude.{◌≡◌, ◌<◌, ◌||◌, ◌&&◌, nat_le, true, slice_index, IfSome};
+ghost use Rattle.hex.specs.Hex.{lower_digits};
 ghost use Rattle.std.specs.List.{list_all};
 ghost use Rattle.std.specs.Option.{option_map};
 ghost use Rattle.hub_base.specs.Value.{saying};
@@ -10,9 +11,32 @@ use crate::limits::{GREATEST_VALUE, MOST_VALUE_BYTES};
 use crate::text::numbers::number;
 use crate::{Edition, Kind, Value};
 
+/// What each byte is as a hexadecimal digit in lower case; 16 for one that is none.
+static WORTHS: [u8; 256] = [
+    16, 16, 16, 16, 16, 16, 16, 16, 16, 16, 16, 16, 16, 16, 16, 16, 16, 16, 16, 16, 16, 16, 16, 16,
+    16, 16, 16, 16, 16, 16, 16, 16, 16, 16, 16, 16, 16, 16, 16, 16, 16, 16, 16, 16, 16, 16, 16, 16,
+    0, 1, 2, 3, 4, 5, 6, 7, 8, 9, 16, 16, 16, 16, 16, 16, 16, 16, 16, 16, 16, 16, 16, 16, 16, 16,
+    16, 16, 16, 16, 16, 16, 16, 16, 16, 16, 16, 16, 16, 16, 16, 16, 16, 16, 16, 16, 16, 16, 16, 10,
+    11, 12, 13, 14, 15, 16, 16, 16, 16, 16, 16, 16, 16, 16, 16, 16, 16, 16, 16, 16, 16, 16, 16, 16,
+    16, 16, 16, 16, 16, 16, 16, 16, 16, 16, 16, 16, 16, 16, 16, 16, 16, 16, 16, 16, 16, 16, 16, 16,
+    16, 16, 16, 16, 16, 16, 16, 16, 16, 16, 16, 16, 16, 16, 16, 16, 16, 16, 16, 16, 16, 16, 16, 16,
+    16, 16, 16, 16, 16, 16, 16, 16, 16, 16, 16, 16, 16, 16, 16, 16, 16, 16, 16, 16, 16, 16, 16, 16,
+    16, 16, 16, 16, 16, 16, 16, 16, 16, 16, 16, 16, 16, 16, 16, 16, 16, 16, 16, 16, 16, 16, 16, 16,
+    16, 16, 16, 16, 16, 16, 16, 16, 16, 16, 16, 16, 16, 16, 16, 16, 16, 16, 16, 16, 16, 16, 16, 16,
+    16, 16, 16, 16, 16, 16, 16, 16, 16, 16, 16, 16, 16, 16,
+];
+
+/// What a byte is as a hexadecimal digit in lower case.
+#[inline(always)]
+pub fn worth(digit: u8) -> Option<u8>
+    ensures { IfSome result (λ d. (d < 16) × (slice_index lower_digits d ≡ digit)) }
+{
+    let worth = WORTHS[usize::from(digit)];
+    if worth < 16 { Some(worth) } else { None }
+}
+
 /// Whether it is a hexadecimal digit in lower case.
-#[inline]
-pub fn is_hex(digit: u8) -> bool
+fn is_hex(digit: u8) -> bool
     ensures { result ≡ is_hex digit }
 {
     digit.is_ascii_digit() || (b'a'..=b'f').contains(&digit)
@@ -26,7 +50,7 @@ fn all_hex(digits: &[u8]) -> bool
 }
 
 /// The bytes that these digits spell, two digits each.
-pub fn decode(digits: &[u8]) -> Option<Value>
+fn decode(digits: &[u8]) -> Option<Value>
     requires { list_all is_hex digits.now ≡ true }
     ensures { result ≡ option_map saying (bytes_value digits.now) }
 {

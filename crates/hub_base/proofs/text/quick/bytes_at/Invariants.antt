@@ -1,11 +1,10 @@
-use Rattle.std.proofs.Common.{◌≡◌, ◌-◌, ◌≤◌, ◌<◌, true, length, take, drop}
-use Rattle.std.specs.List.{list_all}
-use Rattle.hub_base.specs.Lines.{is_hex}
+use Rattle.std.proofs.Common.{◌-◌, length}
+use Rattle.hub_base.proofs.Quick.{Decoded}
 use Rattle.hub_base.proofs.text.quick.bytes_at.Given as goal
 
--- all are digits up to this place
-abbrev pub invariant-loop-end : goal.invariant-loop-end
-invariant-loop-end l = (l.first ≤ l.end) × (l.end < length l.bytes) × (list_all is_hex (take (l.end - l.first) (drop l.first l.bytes)) ≡ true)
+-- the bytes that were read so far stand before this place
+abbrev pub invariant-loop-high : goal.invariant-loop-high
+invariant-loop-high l = Decoded l.bytes l.start l.len l.places l.end
 
-abbrev pub decreases-loop-end : goal.decreases-loop-end
-decreases-loop-end l = length l.bytes - l.end
+abbrev pub decreases-loop-high : goal.decreases-loop-high
+decreases-loop-high l = length l.bytes - l.end

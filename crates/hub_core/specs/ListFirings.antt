@@ -15,7 +15,7 @@ use Rattle.hub_base.specs.Steps.{fired}
 use Rattle.hub_parts.specs.Records.{Lists}
 use Rattle.hub_parts.specs.Lists.{port_at, with_port, pushed, popped, ended_by}
 use Rattle.hub_core.specs.declared.tally.Tally.{Tally}
-use Rattle.hub_core.specs.declared.firing.Firing.{Firing}
+use Rattle.hub_core.specs.declared.firing.Caller.{Caller}
 use Rattle.hub_core.specs.Records.{one_sent, one_received, one_handed}
 use Rattle.hub_core.specs.ListReady.{receiver_on, sender_on}
 
@@ -117,9 +117,8 @@ fire_on b ts (Recv p) = recv_on b ts p
 abbrev pub firing_events : Pid → ℕ → ListFiring → List Event
 firing_events pid index f = fired pid index f.outcome ∷ option_to_list f.ended
 
--- the case that the code fired, and the board and the counts that it left, are those of the lists
-pub record Fires (f : Firing) (b : Lists) (ts : List Tally) (g : ListFiring) : Type 0 where
-  pub outcome : f.outcome ≡ g.outcome
-  pub ended : f.ended ≡ g.ended
+-- what the code told, and the board and the counts that it left, are those of the lists
+pub record Fires (caller : Caller) (events : List Event) (b : Lists) (ts : List Tally) (g : ListFiring) : Type 0 where
+  pub told : events ≡ firing_events caller.pid caller.index g
   pub board : b ≡ g.board
   pub counts : ts ≡ g.counts

@@ -1,7 +1,7 @@
 //! How a case fires: the caller is told, and then the waiting call that ended with it. Go: "Send statements", "Receive operator".
 
-ghost use Rattle.std.specs.Prelude.{◌≡◌, ◌∷◌, [], None, Some, true};
-ghost use Rattle.std.specs.Option.{option_to_list};
+ghost use Rattle.std.specs.Prelude.{◌≡◌, ◌<◌, ◌∷◌, ◌++◌, [], true};
+ghost use Rattle.arrayvec.specs.ArrayVec.{array_vec_len};
 ghost use Rattle.hub_parts.specs.Lists.{IsMade};
 ghost use Rattle.hub_core.specs.ListReady.{SendFits, can_on};
 ghost use Rattle.hub_core.specs.ListKeeps.{PortsKeep, IsNamed};
@@ -9,99 +9,115 @@ ghost use Rattle.hub_base.specs.Steps.{fired};
 ghost use Rattle.hub_core.specs.ListFirings.{Fires, send_on, take_on, recv_on, fire_on};
 
 use crate::tally::{Carried, Tallies};
-use hub_base::{Case, Event, Events, Outcome, Pid, Port, Value, What};
+use hub_base::{Case, Event, Events, MOST_EVENTS, Outcome, Pid, Port, Value, What};
 use hub_parts::{Board, Ended, Side};
 
-/// What the caller of a case that fired is told, and the call that ended with it.
+/// Whose case fires.
 #[derive(Clone, Copy)]
-pub(crate) struct Firing {
-    /// How the caller's case ended.
-    outcome: Outcome,
-    /// What the waiting call is told that ended with it.
-    ended: Option<Event>,
+pub(crate) struct Caller {
+    /// The process whose call it is.
+    pub(crate) pid: Pid,
+    /// The number of the case in the call.
+    pub(crate) index: u8,
 }
 
-fn fired(pid: Pid, case: u8, outcome: Outcome) -> Event
-    ensures { result ≡ fired pid case outcome }
+/// Tells a process how its case ended.
+#[inline(always)]
+fn tell(events: &mut Events, pid: Pid, case: u8, outcome: Outcome)
+    requires { array_vec_len events.old < MOST_EVENTS }
+    ensures { events.new.items ≡ events.old.items ++ fired pid case outcome ∷ [] }
 {
-    Event {
+    events.push(Event {
         pid,
         what: What::Fired { case, outcome },
-    }
+    });
 }
 
-/// A case that fired by itself.
-#[inline]
-fn alone(outcome: Outcome) -> Firing
-    ensures { result ≡ record { outcome = outcome; ended = None } }
+/// Tells the caller of a case that fired, and then the waiting call that ended with it.
+#[inline(always)]
+fn tell_both(events: &mut Events, caller: Caller, outcome: Outcome, ended: Ended, theirs: Outcome)
+    requires { events.old.items ≡ [] }
+    ensures { events.new.items
+        ≡ fired caller.pid caller.index outcome ∷ fired ended.pid ended.index theirs ∷ [] }
 {
-    Firing {
-        outcome,
-        ended: None,
-    }
-}
-
-/// A case that fired together with one of this waiting call, which is told `theirs`.
-#[inline]
-fn with(outcome: Outcome, ended: Ended, theirs: Outcome) -> Firing
-    ensures { result ≡ record { outcome = outcome; ended = Some (fired ended.pid ended.index theirs) } }
-{
-    Firing {
-        outcome,
-        ended: Some(fired(ended.pid, ended.index, theirs)),
-    }
+    tell(events, caller.pid, caller.index, outcome);
+    tell(events, ended.pid, ended.index, theirs);
 }
 
 /// A send that can proceed: to the oldest receiver that waits, or else into the buffer.
 #[inline]
-fn send(board: &mut Board, tallies: &mut Tallies, port: Port, value: Value) -> Firing
+fn send(
+    board: &mut Board,
+    tallies: &mut Tallies,
+    events: &mut Events,
+    caller: Caller,
+    port: Port,
+    value: Value,
+)
     requires made { IsMade board.old port }
     requires keep { PortsKeep board.old tallies.old }
     requires can { SendFits board.old port }
-    ensures { Fires result board.new tallies.new (send_on board.old tallies.old port value) }
+    requires empty { events.old.items ≡ [] }
+    ensures { Fires caller events.new.items board.new tallies.new (send_on board.old tallies.old port value) }
 {
     if board.closed(port) {
-        return alone(Outcome::Closed);
+        tell(events, caller.pid, caller.index, Outcome::Closed);
+        return;
     }
     // A receiver waits only where nothing is buffered, so no older value is passed over.
     match board.take(port, Side::Recv) {
         Some(receiver) => {
             tallies.count(port, Carried::Handed);
-            with(Outcome::Sent, receiver, Outcome::Got(value))
+            tell_both(events, caller, Outcome::Sent, receiver, Outcome::Got(value));
         }
         None => {
             board.push(port, value);
             tallies.count(port, Carried::Sent);
-            alone(Outcome::Sent)
+            tell(events, caller.pid, caller.index, Outcome::Sent);
         }
     }
 }
 
 /// The oldest value of the buffer, where no sender waits.
 #[inline]
-fn take_value(board: &mut Board, tallies: &mut Tallies, port: Port) -> Firing
+fn take_value(
+    board: &mut Board,
+    tallies: &mut Tallies,
+    events: &mut Events,
+    caller: Caller,
+    port: Port,
+)
     requires made { IsMade board.old port }
     requires keep { PortsKeep board.old tallies.old }
-    ensures { Fires result board.new tallies.new (take_on board.old tallies.old port) }
+    requires empty { events.old.items ≡ [] }
+    ensures { Fires caller events.new.items board.new tallies.new (take_on board.old tallies.old port) }
 {
     match board.pop(port) {
         Some(value) => {
             tallies.count(port, Carried::Received);
-            alone(Outcome::Got(value))
+            tell(events, caller.pid, caller.index, Outcome::Got(value));
         }
-        None => alone(Outcome::Drained),
+        None => tell(events, caller.pid, caller.index, Outcome::Drained),
     }
 }
 
 /// A receive. The value of a sender that waits comes in behind those in the buffer.
 #[inline]
-fn receive(board: &mut Board, tallies: &mut Tallies, port: Port) -> Firing
+fn receive(
+    board: &mut Board,
+    tallies: &mut Tallies,
+    events: &mut Events,
+    caller: Caller,
+    port: Port,
+)
     requires made { IsMade board.old port }
     requires keep { PortsKeep board.old tallies.old }
-    ensures { Fires result board.new tallies.new (recv_on board.old tallies.old port) }
+    requires empty { events.old.items ≡ [] }
+    ensures { Fires caller events.new.items board.new tallies.new (recv_on board.old tallies.old port) }
 {
     let Some(sender) = board.take(port, Side::Send) else {
-        return take_value(board, tallies, port);
+        take_value(board, tallies, events, caller, port);
+        return;
     };
     let Case::Send(_port, sent) = sender.case else {
         unreachable!();
@@ -111,34 +127,29 @@ fn receive(board: &mut Board, tallies: &mut Tallies, port: Port) -> Firing
     match board.pop(port) {
         Some(oldest) => {
             board.push(port, sent);
-            with(Outcome::Got(oldest), sender, Outcome::Sent)
+            tell_both(events, caller, Outcome::Got(oldest), sender, Outcome::Sent);
         }
-        None => with(Outcome::Got(sent), sender, Outcome::Sent),
+        None => tell_both(events, caller, Outcome::Got(sent), sender, Outcome::Sent),
     }
 }
 
-/// A case that can proceed.
+/// A case that can proceed fires: the caller is told, and then the waiting call that ended with it.
 #[inline]
-pub(crate) fn fire(board: &mut Board, tallies: &mut Tallies, case: Case) -> Firing
+pub(crate) fn fire(
+    board: &mut Board,
+    tallies: &mut Tallies,
+    events: &mut Events,
+    caller: Caller,
+    case: Case,
+)
     requires named { IsNamed board.old case }
     requires keep { PortsKeep board.old tallies.old }
     requires can { can_on board.old case ≡ true }
-    ensures { Fires result board.new tallies.new (fire_on board.old tallies.old case) }
+    requires empty { events.old.items ≡ [] }
+    ensures { Fires caller events.new.items board.new tallies.new (fire_on board.old tallies.old case) }
 {
     match case {
-        Case::Send(port, value) => send(board, tallies, port, value),
-        Case::Recv(port) => receive(board, tallies, port),
-    }
-}
-
-/// Tells the caller of the case that fired, and then the call that ended with it.
-#[inline]
-pub(crate) fn tell(events: &mut Events, pid: Pid, index: u8, firing: Firing)
-    requires { events.old.items ≡ [] }
-    ensures { events.new.items ≡ fired pid index firing.outcome ∷ option_to_list firing.ended }
-{
-    events.push(fired(pid, index, firing.outcome));
-    if let Some(event) = firing.ended {
-        events.push(event);
+        Case::Send(port, value) => send(board, tallies, events, caller, port, value),
+        Case::Recv(port) => receive(board, tallies, events, caller, port),
     }
 }

@@ -11,7 +11,7 @@ ghost use Rattle.hub_core.specs.Records.{opened_machine};
 ghost use Rattle.hub_core.specs.Follows.{IsMake, IsReached, MayTakeEffect, TakesEffect};
 
 use crate::closing::close;
-use crate::firing::{fire, tell};
+use crate::firing::{Caller, fire};
 use crate::looking::{buffered, look};
 use crate::refusals::{fault_of, refusal};
 use crate::select::{choose, wait};
@@ -109,8 +109,17 @@ impl MachineState {
         match choose(&self.board, cases.as_slice(), word) {
             None => wait(&mut self.board, events, self.steps, pid, cases, default),
             Some(chosen) => {
-                let firing = fire(&mut self.board, &mut self.tallies, chosen.case);
-                tell(events, pid, chosen.index, firing);
+                let caller = Caller {
+                    pid,
+                    index: chosen.index,
+                };
+                fire(
+                    &mut self.board,
+                    &mut self.tallies,
+                    events,
+                    caller,
+                    chosen.case,
+                );
             }
         }
     }

@@ -5,7 +5,7 @@ use Rattle.hub_core.proofs.machine_state.MachineState.call.Goals as goal
 
 pub invariant_of-self-in-Some : goal.invariant_of-self-in-Some
 invariant_of-self-in-Some c = record {
-  procs = ap (λ (b : Lists). b.procs) c.fire-firing.ensures.board
+  procs = ap (λ (b : Lists). b.procs) c.fire.ensures.board
       ∙ fire_on-procs c.self.inside.board c.self.inside.tallies c.in-Some.chosen.case ∙ c.self.invariant.procs;
   few = c.self.invariant.few;
 }

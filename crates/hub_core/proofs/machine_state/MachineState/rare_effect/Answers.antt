@@ -1,9 +1,8 @@
-use Rattle.std.proofs.Common.{◌∙◌, ap, sym, subst, arith, length}
+use Rattle.std.proofs.Common.{ap, sym, subst, arith, length}
 use Rattle.hub_laws.specs.Sound.{Apart}
 use Rattle.hub_parts.specs.Lists.{open_calls}
 use Rattle.hub_core.specs.Records.{MachineLists}
-use Rattle.hub_core.specs.ListSteps.{fault_on}
-use Rattle.hub_core.proofs.Reached.{call_named, ports_keep, calls_apart, room_left}
+use Rattle.hub_core.proofs.Reached.{calls_apart, room_left}
 use Rattle.hub_core.proofs.machine_state.MachineState.rare_effect.Goals as goal
 
 pub close-requires-clause-apart : goal.close-requires-clause-apart

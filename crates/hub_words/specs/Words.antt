@@ -24,6 +24,13 @@ IsReplay Replay = Unit {0}
 IsReplay (Run file journal) = ⊥
 IsReplay (Verify journal events) = ⊥
 
+-- this request is for a run
+abbrev pub IsRun : Request → Type 0
+IsRun request = command_of request ≡ codes "run"
+
+abbrev pub IsVerify : Request → Type 0
+IsVerify request = command_of request ≡ codes "verify"
+
 -- it begins with a `-`, and is not `--journal`
 abbrev pub is_unknown_option : List ℕ → Bool
 is_unknown_option word = (slice_index word 0 == 45) && not (bytes_eq word (codes "--journal"))

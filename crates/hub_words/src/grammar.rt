@@ -1,4 +1,4 @@
-//! The commands with arguments of their own, in `clap`'s words.
+//! The commands with arguments of their own, in `clap`'s words. `replay` takes none, and needs no parse.
 
 use clap::{Arg, ArgAction, Command};
 use std::alloc::{AllocError, Global};
@@ -10,30 +10,29 @@ fn bare<'a>(alloc: Global, name: &'a str) -> Command<'a> {
         .disable_version_flag(true)
 }
 
+/// An argument that may stand.
+fn optional<'a>(alloc: Global, name: &'a str) -> Arg<'a> {
+    Arg::new(alloc, name).action(ArgAction::Set)
+}
+
+/// An option of this name, without a value.
+fn option<'a>(alloc: Global, name: &'a str) -> Arg<'a> {
+    Arg::new(alloc, name).long(name).action(ArgAction::SetTrue)
+}
+
+pub(crate) fn run_command<'a>(alloc: Global) -> Result<Command<'a>, AllocError> {
+    bare(alloc, "run")
+        .arg(optional(alloc, "file"))?
+        .arg(option(alloc, "journal"))
+}
+
 /// An argument that has to stand.
 fn required<'a>(alloc: Global, name: &'a str) -> Arg<'a> {
-    Arg::new(alloc, name).required(true).action(ArgAction::Set)
+    optional(alloc, name).required(true)
 }
 
-fn run_command<'a>(alloc: Global) -> Result<Command<'a>, AllocError> {
-    let file = Arg::new(alloc, "file").action(ArgAction::Set);
-    let journal = Arg::new(alloc, "journal")
-        .long("journal")
-        .action(ArgAction::SetTrue);
-    bare(alloc, "run").arg(file)?.arg(journal)
-}
-
-fn verify_command<'a>(alloc: Global) -> Result<Command<'a>, AllocError> {
+pub(crate) fn verify_command<'a>(alloc: Global) -> Result<Command<'a>, AllocError> {
     bare(alloc, "verify")
         .arg(required(alloc, "journal"))?
         .arg(required(alloc, "events"))
-}
-
-/// `run` and `verify`. `replay` takes no arguments, and needs no parse.
-pub(crate) fn program<'a>(alloc: Global) -> Result<Command<'a>, AllocError> {
-    bare(alloc, "chanhub")
-        .disable_help_subcommand(true)
-        .subcommand_required(true)
-        .subcommand(run_command(alloc)?)?
-        .subcommand(verify_command(alloc)?)
 }

@@ -1,13 +1,13 @@
 //! From the arguments to what they ask for.
 
 ghost use Rattle.std.specs.Prelude.{◌≡◌, ◌↔◌, map, IsOk, IfOk, IfSome, IsErrOf};
-ghost use Rattle.hub_words.specs.Words.{AsksFor, AsksForReplay, HasUnknownOption, IsReplay, command_of};
+ghost use Rattle.hub_words.specs.Words.{AsksFor, AsksForReplay, HasUnknownOption, IsReplay, IsRun, IsVerify, command_of};
 
-use crate::grammar::program;
+use crate::grammar::{run_command, verify_command};
 use crate::options::{asks_for_replay, command, has_unknown_option};
 use crate::{ArgumentsFault, Request};
 use clap::error::ErrorKind;
-use clap::{ArgMatches, Error};
+use clap::{ArgMatches, Command, Error};
 use std::alloc::Global;
 use std::convert::AsStr;
 
@@ -18,21 +18,40 @@ fn fault_of(error: &Error) -> ArgumentsFault {
     }
 }
 
-fn request_of<'a>(command: &str, found: &ArgMatches<'a>) -> Option<Request<'a>>
-    ensures command { IfSome result (λ request. command.now ≡ command_of request) }
-    ensures other { IfSome result (λ request. ¬ IsReplay request) }
+/// What `clap` reads of a command, of which the first word is the name.
+fn matches_of<'a, S: AsStr>(
+    command: Command<'a>,
+    words: &'a [S],
+) -> Result<ArgMatches<'a>, ArgumentsFault> {
+    command
+        .try_get_matches_from(words)
+        .map_err(|error| fault_of(&error))
+}
+
+fn read_run<'a, S: AsStr>(alloc: Global, words: &'a [S]) -> Result<Request<'a>, ArgumentsFault>
+    ensures { IfOk result IsRun }
 {
-    match command {
-        "run" => Some(Request::Run {
-            file: found.get_str("file"),
-            journal: found.get_flag("journal"),
-        }),
-        "verify" => Some(Request::Verify {
-            journal: found.get_str("journal")?,
-            events: found.get_str("events")?,
-        }),
-        _ => None,
-    }
+    let found = matches_of(run_command(alloc)?, words)?;
+    Ok(Request::Run {
+        file: found.get_str("file"),
+        journal: found.get_flag("journal"),
+    })
+}
+
+fn verify_of<'a>(found: &ArgMatches<'a>) -> Option<Request<'a>>
+    ensures { IfSome result IsVerify }
+{
+    Some(Request::Verify {
+        journal: found.get_str("journal")?,
+        events: found.get_str("events")?,
+    })
+}
+
+fn read_verify<'a, S: AsStr>(alloc: Global, words: &'a [S]) -> Result<Request<'a>, ArgumentsFault>
+    ensures { IfOk result IsVerify }
+{
+    let found = matches_of(verify_command(alloc)?, words)?;
+    verify_of(&found).ok_or(ArgumentsFault::BadArguments)
 }
 
 /// What `clap` reads.
@@ -41,20 +60,14 @@ fn parse<'a, S: AsStr>(alloc: Global, words: &'a [S]) -> Result<Request<'a>, Arg
         AsksFor (command_of request) (map S.text words.entry.now)) }
     ensures other { IfOk result (λ request. ¬ IsReplay request) }
 {
+    let [_, arguments @ ..] = words else {
+        return Err(ArgumentsFault::BadArguments);
+    };
     // No option stands before a command, so the command is what follows the program's name.
-    let Some(command) = command(words) else {
-        return Err(ArgumentsFault::BadArguments);
-    };
-    let matches = match program(alloc)?.try_get_matches_from(words) {
-        Ok(matches) => matches,
-        Err(error) => return Err(fault_of(&error)),
-    };
-    let Some((_, found)) = matches.subcommand() else {
-        return Err(ArgumentsFault::BadArguments);
-    };
-    match request_of(command, found) {
-        Some(request) => Ok(request),
-        None => Err(ArgumentsFault::BadArguments),
+    match command(words) {
+        Some("run") => read_run(alloc, arguments),
+        Some("verify") => read_verify(alloc, arguments),
+        _ => Err(ArgumentsFault::BadArguments),
     }
 }
 

@@ -5,6 +5,7 @@ replay      `chanhub replay` beside OTHER, the command of another program that r
 verify      `chanhub verify` beside `chanhub replay`
 live        `hub_trials` beside live_peer, which is built where there is cargo
 scenarios   `hub_trials` beside `chanhub run`
+capi        the C library beside the plain hub of live_peer, called from C: c_times.c, linked with each
 
 Journals and scenarios are made in FOLDER, where they are not there. RUNS (10, or what the environment says) is how often
 each program runs, in turn with the other. What can't be measured is said to be skipped.
@@ -29,10 +30,18 @@ from check_instructions import LINES, has_valgrind, instructions, make_beginning
 CHANHUB = os.path.join(ROOT, 'crates', 'chanhub', 'out', 'chanhub')
 TRIALS = os.path.join(ROOT, 'crates', 'hub_trials', 'out', 'hub_trials')
 PEER = os.path.join(HERE, 'live_peer', 'target', 'release', 'live_peer')
+LIBRARY = os.path.join(ROOT, 'capi', 'out', 'libchanhub.a')
+C_HEADER = os.path.join(ROOT, 'capi', 'chanhub.h')
+C_TIMES = os.path.join(HERE, 'c_times.c')
+PEER_LIBRARY = os.path.join(HERE, 'live_peer', 'target', 'release', 'liblive_peer.a')
 RUNS = int(os.environ.get('RUNS', '10'))
 SETS = 3
 JOURNALS = ('hand_overs', 'bursts', 'selects', 'bytes')
 WORKLOADS = ('alone', 'ping_pong', 'one_to_one', 'four_to_four', 'select_over_four', 'looks_1', 'looks_2', 'looks_4')
+# of c_times.c: what is timed, and of what one thread does also the instructions of a call
+C_WORKLOADS = ('hand_overs', 'buffered', 'alone', 'look', 'journal')
+C_COUNTED = ('alone', 'look')
+C_CALLS = 200000
 # the calls and closes of each scenario
 SCENARIOS = {'pool': 99994, 'pipeline': 69994}
 
@@ -185,12 +194,59 @@ def scenarios(folder, _):
     print_table('Scenarios, in thousands a second', 'hub_trials', 'chanhub run', rows)
 
 
-# each part, and the programs that it needs
+def built_with(library, folder):
+    """c_times, linked with this library."""
+    program = os.path.join(folder, 'c_times_' + os.path.basename(library).removesuffix('.a'))
+    words = ['cc', '-O2', '-std=c11', '-I' + os.path.dirname(C_HEADER), C_TIMES, library, '-lpthread', '-ldl', '-lm', '-o', program]
+    subprocess.run(words, check=True)
+    return program
+
+
+def c_rates(program):
+    """The best and the median rate of each workload, of RUNS runs."""
+    done = subprocess.run([program, str(C_CALLS), str(RUNS)], stdout=subprocess.PIPE, text=True, check=True)
+    fields = [line.split() for line in done.stdout.splitlines()]
+    return {name: {'best': int(best), 'median': int(median)} for name, _, best, _, median in fields}
+
+
+def c_instructions(program, workload):
+    """The instructions of one call: what 100,000 more of them take."""
+    few, many = [instructions([program, str(calls), '1', workload], os.devnull) for calls in (C_CALLS // 2, C_CALLS)]
+    return (many - few) / (C_CALLS // 2)
+
+
+def c_rows(programs):
+    sets = list(in_turns(SETS, [lambda program=program: c_rates(program) for program in programs]))
+    for name in C_WORKLOADS:
+        bests = [max(rates[name]['best'] for rates in of_one) / 1000 for of_one in sets]
+        yield Row(name + ', best', bests)
+        yield Row(name + ', median', [statistics.median(rates[name]['median'] for rates in of_one) / 1000 for of_one in sets])
+    if has_valgrind():
+        for name in C_COUNTED:
+            yield Row(name + ', instructions of a call', [c_instructions(program, name) for program in programs])
+    else:
+        skip('instructions: valgrind is not there')
+
+
+def capi(folder, _):
+    libraries = [LIBRARY]
+    if shutil.which('cargo'):
+        build_peer()
+        libraries.append(PEER_LIBRARY)
+    else:
+        skip('live_peer: cargo is not there')
+    os.makedirs(folder, exist_ok=True)
+    rows = c_rows([built_with(library, folder) for library in libraries])
+    print_table('The C library, in thousands of calls a second, and of bytes of the journal', 'libchanhub', 'live_peer', rows)
+
+
+# each part, and what has to be built for it
 PARTS = {
     'replay': (replay, [CHANHUB]),
     'verify': (verify, [CHANHUB]),
     'live': (live, [TRIALS]),
     'scenarios': (scenarios, [TRIALS, CHANHUB]),
+    'capi': (capi, [LIBRARY]),
 }
 
 
@@ -202,7 +258,7 @@ def main():
     said = parser.parse_args()
     for name in [said.only] if said.only else PARTS:
         part, programs = PARTS[name]
-        missing = [os.path.relpath(program, ROOT) for program in programs if not os.access(program, os.X_OK)]
+        missing = [os.path.relpath(program, ROOT) for program in programs if not os.path.exists(program)]
         if missing:
             skip('%s: not built: %s' % (name, ' '.join(missing)))
         else:

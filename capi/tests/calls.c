@@ -124,8 +124,35 @@ static void edition_two(void) {
     chanhub_free(hub);
 }
 
+/* Each call in the name of this process is refused so. */
+static void are_faults(chanhub *hub, unsigned pid, int number) {
+    is_fault("make", chanhub_make(hub, pid, 0), number);
+    is_fault("send", chanhub_send(hub, pid, 0, chanhub_number(1)), number);
+    is_fault("recv", chanhub_recv(hub, pid, 0), number);
+    is_fault("select", chanhub_select(hub, pid, NULL, 0, true, 0), number);
+    is_fault("close", chanhub_close(hub, pid, 0), number);
+    is_fault("exit", chanhub_exit(hub, pid), number);
+    is_fault("cancel", chanhub_cancel(hub, pid, 0), number);
+}
+
+/* Without a hub, and in the name of no process. */
+static void nobody(void) {
+    size_t length = 1;
+    are_faults(NULL, 0, CHANHUB_BAD_CALL);
+    is("look", chanhub_look(NULL, 0).made, 0);
+    is("journal", chanhub_journal(NULL, &length) == NULL && length == 0, 1);
+    chanhub_free(NULL), chanhub_free_text(NULL);
+    chanhub *hub;
+    is("opened", chanhub_open(&hub, 2, 3, 10), 0);
+    for (unsigned pid = 3; pid < 256; pid++) are_faults(hub, pid, CHANHUB_NO_PROCESS);
+    for (unsigned pid = 256; pid; pid *= 2) are_faults(hub, pid, CHANHUB_BAD_CALL);
+    has_journal("journal", hub, "chanhub journal 2\nprocs 3\n");
+    chanhub_free(hub);
+}
+
 static void *run(void *unused) {
     openings();
+    nobody();
     edition_one();
     edition_two();
     return unused;

@@ -52,7 +52,7 @@ impl Step {
     }
 
     /// The cases of a call.
-    fn cases(&self) -> &[Case] {
+    pub(crate) fn cases(&self) -> &[Case] {
         match self {
             Step::Call { cases, count, .. } => &cases[..usize::from(*count)],
             _ => &[],
@@ -400,6 +400,12 @@ impl LiveHub {
 
     pub fn look(&self, port: Port) -> Option<Counts> {
         self.hub.lock().unwrap().look(port)
+    }
+
+    /// What this makes of the number of processes and the journal so far.
+    pub(crate) fn with_journal<T>(&self, make: impl FnOnce(usize, &[Entry]) -> T) -> T {
+        let hub = self.hub.lock().unwrap();
+        make(hub.processes.len(), &hub.journal)
     }
 
     pub fn into_journal(self) -> Vec<Entry> {

@@ -1,11 +1,9 @@
 //! A plain hub of Go's channels under one lock: its times, and the events of a journal.
 
-mod hub;
 mod times;
 
-use hub::{Case, Hub, Pid, Step, What};
+use live_peer::hub::{Case, Hub, Pid, Step};
 use std::error::Error;
-use std::fmt::{self, Display, Formatter};
 use std::io::{self, BufWriter, Write};
 
 fn main() -> Result<(), Box<dyn Error>> {
@@ -68,21 +66,4 @@ fn case_of(field: &str) -> Result<Case, Box<dyn Error>> {
     let send = field.strip_prefix('s').ok_or("not a case")?;
     let (port, value) = send.split_once(':').ok_or("not a case")?;
     Ok(Case::Send(port.parse()?, value.parse()?))
-}
-
-impl Display for What {
-    fn fmt(&self, f: &mut Formatter<'_>) -> fmt::Result {
-        match self {
-            What::Made(port) => write!(f, "made {port}"),
-            What::Sent(case) => write!(f, "case {case} sent"),
-            What::Got(case, value) => write!(f, "case {case} got {value}"),
-            What::Drained(case) => write!(f, "case {case} drained"),
-            What::Closed(case) => write!(f, "case {case} closed"),
-            What::Default => write!(f, "default"),
-            What::Done => write!(f, "done"),
-            What::Parked => write!(f, "parked"),
-            What::Stalled => write!(f, "stalled"),
-            What::Fault(fault) => write!(f, "fault {}", *fault as u8),
-        }
-    }
 }

@@ -1,6 +1,6 @@
 //! How many operations a second the hub answers, to threads that begin at one signal.
 
-use crate::hub::{Case, Entry, Hub, LiveHub, Pid, Step, What};
+use live_peer::hub::{Case, Entry, Hub, LiveHub, Pid, Step, What};
 use std::hint::black_box;
 use std::sync::Barrier;
 use std::thread;

@@ -12,8 +12,7 @@ kinds =
     Step step.Cancel ∷ Step step.Select ∷ Step step.SelectOrDefault ∷
     Give give.Byte ∷ Give give.Send ∷ Give give.SendBytes ∷ Give give.Recv ∷
     Take ∷
-    Read read.Detail ∷ Read read.Number ∷ Read read.IsBytes ∷ Read read.Length ∷ Read read.Byte ∷
-    Read read.Ended ∷ Read read.EndedPid ∷
-    Read read.IsMade ∷ Read read.IsClosed ∷ Read read.Cap ∷ Read read.Sent ∷ Read read.Received ∷
+    Read read.Number ∷ Read read.Length ∷ Read read.Byte ∷ Read read.EndedPid ∷
+    Read read.Port ∷ Read read.Counts ∷
     Read read.Entries ∷ Read read.Word ∷
     Piece ∷ Refusal ∷ End ∷ []

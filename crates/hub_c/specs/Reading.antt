@@ -1,22 +1,21 @@
 -- What is read of a session, which stays as it is.
-use Rattle.std.specs.Prelude.{ℕ, ◌-◌, Bool, true, false, List, [], ◌++◌, length, take, drop, replicate, slice_get}
-use Rattle.std.specs.Prelude.{Option, is_some, is_none, unwrap_or}
+use Rattle.std.specs.Prelude.{ℕ, ◌+◌, ◌*◌, ◌-◌, Bool, true, false, List, [], ◌++◌, length, take, drop, replicate, slice_get}
+use Rattle.std.specs.Prelude.{Option, None, Some, unwrap_or}
 use Rattle.std.specs.Int.{from_le_bytes, w64}
 use Rattle.std.specs.Option.{option_map_or}
 use Rattle.hub_base.specs.declared.counts.Look.{Look}
 use Rattle.hub_base.specs.declared.value.Pid.{Pid}
 use Rattle.hub_base.specs.declared.value.Value.{Value}
 use Rattle.hub_base.specs.Notation.{port}
-use Rattle.hub_base.specs.State.{State}
 use Rattle.hub_base.specs.Value.{content, number_in, bytes_in}
 use Rattle.hub_core.specs.HubView.{state_of}
 use Rattle.hub_core.specs.Looks.{look_at}
 use Rattle.hub_c.specs.declared.kind.ReadKind.{ReadKind}
-use Rattle.hub_c.specs.declared.kind.ReadKind.TheVariants.{Detail, Number, IsBytes, Length, Byte, Ended, EndedPid}
-use Rattle.hub_c.specs.declared.kind.ReadKind.TheVariants.{IsMade, IsClosed, Cap, Sent, Received, Entries, Word}
+use Rattle.hub_c.specs.declared.kind.ReadKind.TheVariants.{Number, Length, Byte, EndedPid, Port, Counts, Entries, Word}
+use Rattle.hub_c.specs.declared.reading.TheConstants.{RECEIVED}
 use Rattle.hub_c.specs.declared.session.Numbers.{Numbers}
 use Rattle.hub_c.specs.declared.session.Session.{Session}
-use Rattle.hub_c.specs.Answers.{detail_of, value_got}
+use Rattle.hub_c.specs.Answers.{value_got}
 
 -- 1 for true
 abbrev pub bit : Bool → ℕ
@@ -26,10 +25,6 @@ bit false = 0
 -- the number that was received
 abbrev pub number_read : Option Value → ℕ
 number_read got = option_map_or (λ v. unwrap_or (number_in (content v)) 0) got 0
-
--- whether bytes were received
-abbrev pub bytes_read : Option Value → Bool
-bytes_read got = option_map_or (λ v. is_none (number_in (content v))) got false
 
 -- the bytes that were received
 abbrev pub bytes_got : Option Value → List ℕ
@@ -43,13 +38,15 @@ byte_read got place = unwrap_or (slice_get (bytes_got got) place) 0
 abbrev pub pid_read : List Pid → ℕ → ℕ
 pid_read pids place = option_map_or (λ p. p.0) (slice_get pids place) 0
 
--- zeros, as of a port that is not made
-abbrev pub no_look : Look
-no_look = record { cap = 0; counts = record { len = 0; sent = 0; received = 0; closed = false } }
+-- 0 for a port that is not made, else 1; 2 more where it is closed; and its capacity above that
+abbrev pub port_number : Option Look → ℕ
+port_number None = 0
+port_number (Some look) = 1 + 2 * bit look.counts.closed + 4 * look.cap
 
--- the capacity and the counts of a port
-abbrev pub port_read : State → ℕ → Look
-port_read state p = unwrap_or (look_at state (port p)) no_look
+-- how many sends on a port completed, and above it how many values were received; 0 for one that is not made
+abbrev pub counts_number : Option Look → ℕ
+counts_number None = 0
+counts_number (Some look) = look.counts.sent + RECEIVED * look.counts.received
 
 -- the first eight of some bytes, with zeros behind the last
 abbrev pub eight_of : List ℕ → List ℕ
@@ -61,17 +58,11 @@ word_at text place = from_le_bytes w64 (eight_of (drop place text))
 
 -- what is read
 abbrev pub reading : ReadKind → Session → Numbers → ℕ
-reading Detail s n = option_map_or (λ x. detail_of x.what) s.told 0
 reading Number s n = number_read (value_got s.told)
-reading IsBytes s n = bit (bytes_read (value_got s.told))
 reading Length s n = length (bytes_got (value_got s.told))
 reading Byte s n = byte_read (value_got s.told) n.value
-reading Ended s n = length s.locked.ended
 reading EndedPid s n = pid_read s.locked.ended n.value
-reading IsMade s n = bit (is_some (look_at (state_of s.locked.hub) (port n.port)))
-reading IsClosed s n = bit (port_read (state_of s.locked.hub) n.port).counts.closed
-reading Cap s n = (port_read (state_of s.locked.hub) n.port).cap
-reading Sent s n = (port_read (state_of s.locked.hub) n.port).counts.sent
-reading Received s n = (port_read (state_of s.locked.hub) n.port).counts.received
+reading Port s n = port_number (look_at (state_of s.locked.hub) (port n.port))
+reading Counts s n = counts_number (look_at (state_of s.locked.hub) (port n.port))
 reading Entries s n = length s.locked.hub.journal
 reading Word s n = word_at s.piece.items n.value

@@ -24,17 +24,21 @@ first_kind = refl
 pub take_kind : slice_get kinds 13 ≡ Some Take
 take_kind = refl
 
-pub last_kind : slice_get kinds 30 ≡ Some End
+pub last_kind : slice_get kinds 24 ≡ Some End
 last_kind = refl
 
-pub no_kind : slice_get kinds 31 ≡ None
+pub no_kind : slice_get kinds 25 ≡ None
 no_kind = refl
 
 -- ---- answers
-pub drained_row : answer_number (Ok (case 0 2 Drained)) ≡ 4
+-- case 2 is drained, and a step that is so answered has ended no call; a step that made port 3 would have ended one
+pub drained_row : answer_number (Ok (case 0 2 Drained)) 0 ≡ 131076
 drained_row = refl
 
-pub refused_row : answer_number (Err Busy) ≡ 259
+pub ended_row : answer_number (Ok (made 0 3)) 1 ≡ 4295163905
+ended_row = refl
+
+pub refused_row : answer_number (Err Busy) 1 ≡ 259
 refused_row = refl
 
 pub none_waits_row : event_number None ≡ 0

@@ -1,5 +1,5 @@
 -- What a step of C is, what it leaves and answers, and how an answer that waits is taken.
-use Rattle.std.specs.Prelude.{◌≡◌, ℕ, true, false, List, [], ◌∷◌, min, Option, None, Some, Result, Ok, Err, IfSome, MatchBool}
+use Rattle.std.specs.Prelude.{◌≡◌, ℕ, true, false, List, [], ◌∷◌, length, min, Option, None, Some, Result, Ok, Err, IfSome, MatchBool}
 use Rattle.hub_base.specs.declared.case.Case.{Case}
 use Rattle.hub_base.specs.declared.case.Case.TheVariants as case
 use Rattle.hub_base.specs.declared.entry.Entry.{Entry}
@@ -42,13 +42,21 @@ pub record Served (was : Session) (e : Entry) (now : Session) (answer : ℕ) : T
   pub came : Result Event Fault
   pub serves : ServesStep was.locked e now.locked came
   pub told : now.told ≡ told_by came
-  pub number : answer ≡ answer_number came
+  pub number : answer ≡ answer_number came (length now.locked.ended)
 
 -- the hub's edition has no such step, and the hub is as before
 pub record NotServed (was now : Session) (answer : ℕ) : Type 0 where
   pub unchanged : now.locked ≡ was.locked
   pub told : now.told ≡ None
   pub number : answer ≡ 0
+
+-- what was given is forgotten, and all else is as before
+pub record Forgets (was now : Session) : Type 0 where
+  pub bytes : now.bytes.items ≡ []
+  pub cases : now.cases.items ≡ []
+  pub hub : now.locked ≡ was.locked
+  pub told : now.told ≡ was.told
+  pub piece : now.piece ≡ was.piece
 
 -- a step: what was given before it is forgotten
 pub record Stepped (was : Session) (e : Entry) (now : Session) (answer : ℕ) : Type 0 where

@@ -42,30 +42,18 @@ pub enum GiveKind {
 /// What is read. Nothing changes.
 #[derive(Clone, Copy, Debug, PartialEq, Eq)]
 pub enum ReadKind {
-    /// Of the answer that was told last: the port that was made, the index of the case that fired, or the fault's number.
-    Detail,
     /// The number that was received.
     Number,
-    /// Whether bytes were received.
-    IsBytes,
     /// How many bytes were received.
     Length,
     /// The byte that was received at place `value`.
     Byte,
-    /// How many calls the last step ended.
-    Ended,
-    /// Whose call that at place `value` of these was.
+    /// Whose call that at place `value` of those was that the last step ended.
     EndedPid,
-    /// Whether the port is made.
-    IsMade,
-    /// Whether it is closed.
-    IsClosed,
-    /// Its capacity.
-    Cap,
-    /// How many sends on it completed.
-    Sent,
-    /// How many values were received from it.
-    Received,
+    /// Whether the port is made, whether it is closed, and its capacity.
+    Port,
+    /// How many sends on it completed, and how many values were received from it.
+    Counts,
     /// How many entries the journal has.
     Entries,
     /// Eight bytes of the piece, from place `value` on.
@@ -110,23 +98,17 @@ pub(crate) fn kind_of(number: u8) -> Option<Kind>
         11 => Kind::Give(GiveKind::SendBytes),
         12 => Kind::Give(GiveKind::Recv),
         13 => Kind::Take,
-        14 => Kind::Read(ReadKind::Detail),
-        15 => Kind::Read(ReadKind::Number),
-        16 => Kind::Read(ReadKind::IsBytes),
-        17 => Kind::Read(ReadKind::Length),
-        18 => Kind::Read(ReadKind::Byte),
-        19 => Kind::Read(ReadKind::Ended),
-        20 => Kind::Read(ReadKind::EndedPid),
-        21 => Kind::Read(ReadKind::IsMade),
-        22 => Kind::Read(ReadKind::IsClosed),
-        23 => Kind::Read(ReadKind::Cap),
-        24 => Kind::Read(ReadKind::Sent),
-        25 => Kind::Read(ReadKind::Received),
-        26 => Kind::Read(ReadKind::Entries),
-        27 => Kind::Read(ReadKind::Word),
-        28 => Kind::Piece,
-        29 => Kind::Refusal,
-        30 => Kind::End,
+        14 => Kind::Read(ReadKind::Number),
+        15 => Kind::Read(ReadKind::Length),
+        16 => Kind::Read(ReadKind::Byte),
+        17 => Kind::Read(ReadKind::EndedPid),
+        18 => Kind::Read(ReadKind::Port),
+        19 => Kind::Read(ReadKind::Counts),
+        20 => Kind::Read(ReadKind::Entries),
+        21 => Kind::Read(ReadKind::Word),
+        22 => Kind::Piece,
+        23 => Kind::Refusal,
+        24 => Kind::End,
         _ => return None,
     };
     Some(kind)

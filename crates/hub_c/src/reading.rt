@@ -1,14 +1,16 @@
 //! What is read of the last answer, of the calls that the last step ended, of a port, and of the journal.
 
 ghost use Rattle.std.specs.Prelude.{◌≡◌, drop};
-ghost use Rattle.hub_live.specs.Prelude.{state_of};
 ghost use Rattle.hub_c.specs.Answers.{value_got};
-ghost use Rattle.hub_c.specs.Reading.{number_read, bytes_read, byte_read, pid_read, port_read, reading, eight_of, word_at};
+ghost use Rattle.hub_c.specs.Reading.{number_read, byte_read, pid_read, port_number, counts_number, reading, eight_of, word_at};
 
-use crate::answer::{detail_of, value_got};
+use crate::answer::value_got;
 use crate::kind::ReadKind;
 use crate::session::{Numbers, Session};
 use hub_base::{Look, Port, Value};
+
+/// What the number of values that were received is multiplied by.
+pub const RECEIVED: u64 = 1 << 32;
 
 /// The number that a value is, 0 for none and for bytes.
 fn number_in(got: Option<Value>) -> u64
@@ -17,16 +19,6 @@ fn number_in(got: Option<Value>) -> u64
     match got {
         Some(value) => value.as_num().unwrap_or(0),
         None => 0,
-    }
-}
-
-/// Whether a value is bytes.
-fn is_bytes(got: Option<Value>) -> bool
-    ensures { result ≡ bytes_read got }
-{
-    match got {
-        Some(value) => value.as_num().is_none(),
-        None => false,
     }
 }
 
@@ -39,6 +31,26 @@ fn byte_in(got: Option<Value>, place: u64) -> u64
     };
     match value.byte(place) {
         Some(byte) => byte.into(),
+        None => 0,
+    }
+}
+
+/// Whether a port is made, whether it is closed, and its capacity.
+fn port_number(look: Option<Look>) -> u64
+    ensures { result ≡ port_number look }
+{
+    match look {
+        Some(look) => 1 + 2 * u64::from(look.counts.closed) + 4 * u64::from(look.cap),
+        None => 0,
+    }
+}
+
+/// How many sends on a port completed, and how many values were received from it.
+fn counts_number(look: Option<Look>) -> u64
+    ensures { result ≡ counts_number look }
+{
+    match look {
+        Some(look) => { u64::from(look.counts.sent) + RECEIVED * u64::from(look.counts.received) }
         None => 0,
     }
 }
@@ -78,31 +90,17 @@ impl Session {
         }
     }
 
-    /// The capacity and the counts of a port, zeros where it is not made.
-    fn look(&self, port: u16) -> Look
-        ensures { result ≡ port_read (state_of self.now.locked.hub) port }
-    {
-        self.locked.look(Port(port)).unwrap_or_default()
-    }
-
     /// Reads what this kind says.
     pub(crate) fn read(&self, kind: ReadKind, numbers: Numbers) -> u64
         ensures { result ≡ reading kind self.now numbers }
     {
-        let port = numbers.port;
         match kind {
-            ReadKind::Detail => detail_of(self.told),
-            ReadKind::Number => number_in(value_got(self.told)),
-            ReadKind::IsBytes => is_bytes(value_got(self.told)).into(),
-            ReadKind::Length => value_got(self.told).map_or(0, |value| value.len().into()),
-            ReadKind::Byte => byte_in(value_got(self.told), numbers.value),
-            ReadKind::Ended => self.locked.ended().len() as u64,
+            ReadKind::Number => number_in(value_got(&self.told)),
+            ReadKind::Length => value_got(&self.told).map_or(0, |value| value.len().into()),
+            ReadKind::Byte => byte_in(value_got(&self.told), numbers.value),
             ReadKind::EndedPid => self.ended_at(numbers.value),
-            ReadKind::IsMade => self.locked.look(Port(port)).is_some().into(),
-            ReadKind::IsClosed => self.look(port).counts.closed.into(),
-            ReadKind::Cap => self.look(port).cap.into(),
-            ReadKind::Sent => self.look(port).counts.sent.into(),
-            ReadKind::Received => self.look(port).counts.received.into(),
+            ReadKind::Port => port_number(self.locked.look(Port(numbers.port))),
+            ReadKind::Counts => counts_number(self.locked.look(Port(numbers.port))),
             ReadKind::Entries => self.locked.entries().len() as u64,
             ReadKind::Word => word_at(&self.piece, numbers.value),
         }

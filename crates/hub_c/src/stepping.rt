@@ -1,10 +1,11 @@
-//! The steps, and the answers that wait. Each step stands in a function of its own that is not inlined: a function pays at entry for the size of its
-//! locals, and an entry has room for many cases.
+//! The steps, and the answers that wait. Each step stands in a function of its own that is not inlined: a function pays
+//! at entry for the size of its locals, and an entry has room for many cases.
 
-ghost use Rattle.std.specs.Prelude.{◌≡◌, min};
+ghost use Rattle.std.specs.Prelude.{◌≡◌, ◌∷◌, [], false, length, min, true};
+ghost use Rattle.hub_base.specs.Head.{has_case, is_of};
 ghost use Rattle.hub_base.specs.Notation.{cancel, close, exit, make, recv, select, send};
 ghost use Rattle.hub_base.specs.declared.limits.TheConstants.{GREATEST_CAP, GREATEST_PID};
-ghost use Rattle.hub_c.specs.Stepping.{Stepped, Took, entry_asked, send_bytes};
+ghost use Rattle.hub_c.specs.Stepping.{Forgets, Stepped, Took, entry_asked, send_bytes};
 
 use crate::answer::{answer_number, event_number};
 use crate::kind::StepKind;
@@ -32,20 +33,62 @@ fn process(value: u64) -> Pid
 }
 
 impl Session {
-    /// Makes a step that the hub's edition has, and forgets what was given. Answers what it came to, 0 for a step that
-    /// the edition has not.
-    fn step(&mut self, entry: Entry) -> u64
-        ensures { Stepped self.old entry self.new result }
+    /// Forgets what was given.
+    fn forget(&mut self)
+        ensures { Forgets self.old self.new }
     {
         self.bytes.clear();
         self.cases.clear();
-        if !entry.fits(self.locked.head().edition) {
-            self.told = None;
-            return 0;
-        }
+    }
+
+    /// How many calls the last step ended.
+    fn ended(&self) -> u8
+        ensures { result ≡ length self.now.locked.ended }
+    {
+        self.locked.ended().as_slice().len() as u8
+    }
+
+    /// Makes a step that the hub's edition has, and forgets what was given. Answers what it came to. It is inlined, so
+    /// that an entry of many places is not copied.
+    #[inline(always)]
+    fn step_of_edition(&mut self, entry: Entry) -> u64
+        requires fits { is_of self.old.locked.hub.terms.head.edition entry.step ≡ true }
+        ensures { Stepped self.old entry self.new result }
+    {
+        self.forget();
         let came = self.locked.step(entry);
+        let answer = answer_number(&came, self.ended());
         self.told = came.ok();
-        answer_number(came)
+        answer
+    }
+
+    /// The same of any step, and 0 for one that the edition has not.
+    fn step(&mut self, entry: Entry) -> u64
+        ensures { Stepped self.old entry self.new result }
+    {
+        if entry.fits(self.locked.head().edition) {
+            return self.step_of_edition(entry);
+        }
+        self.forget();
+        self.told = None;
+        0
+    }
+
+    /// Makes a call of one case, which every edition has.
+    #[inline(always)]
+    fn call_one(&mut self, pid: u8, case: Case) -> u64
+        requires fits { has_case self.old.locked.hub.terms.head.edition case ≡ true }
+        ensures { Stepped self.old (select pid 0 (case ∷ []) false) self.new result }
+    {
+        let step = Step::Call {
+            cases: Cases::one(case),
+            default: false,
+            word: 0,
+        };
+        self.step_of_edition(Entry {
+            pid: Pid(pid),
+            step,
+        })
     }
 
     /// The same, of a call.
@@ -79,7 +122,7 @@ impl Session {
         ensures { Stepped self.old (send numbers.pid numbers.port numbers.value) self.new result }
     {
         let case = Case::Send(Port(numbers.port), Value::num(numbers.value));
-        self.call(numbers.pid, Cases::one(case), false, 0)
+        self.call_one(numbers.pid, case)
     }
 
     #[inline(never)]
@@ -95,7 +138,7 @@ impl Session {
         ensures { Stepped self.old (recv numbers.pid numbers.port) self.new result }
     {
         let case = Case::Recv(Port(numbers.port));
-        self.call(numbers.pid, Cases::one(case), false, 0)
+        self.call_one(numbers.pid, case)
     }
 
     #[inline(never)]
@@ -159,6 +202,6 @@ impl Session {
         ensures { Took self.old pid self.new result }
     {
         self.told = self.locked.take(Pid(pid));
-        event_number(self.told)
+        event_number(&self.told)
     }
 }

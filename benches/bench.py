@@ -31,9 +31,9 @@ CHANHUB = os.path.join(ROOT, 'crates', 'chanhub', 'out', 'chanhub')
 TRIALS = os.path.join(ROOT, 'crates', 'hub_trials', 'out', 'hub_trials')
 PEER = os.path.join(HERE, 'live_peer', 'target', 'release', 'live_peer')
 LIBRARY = os.path.join(ROOT, 'capi', 'out', 'libchanhub.a')
-C_HEADER = os.path.join(ROOT, 'capi', 'chanhub.h')
 C_TIMES = os.path.join(HERE, 'c_times.c')
 PEER_LIBRARY = os.path.join(HERE, 'live_peer', 'target', 'release', 'liblive_peer.a')
+PEER_BYTES_LIBRARY = os.path.join(HERE, 'live_peer', 'target', 'bytes', 'release', 'liblive_peer.a')
 RUNS = int(os.environ.get('RUNS', '10'))
 SETS = 3
 JOURNALS = ('hand_overs', 'bursts', 'selects', 'bytes')
@@ -163,8 +163,8 @@ def rates_of(program):
     return {name: int(median) for name, _, _, _, median in fields}
 
 
-def build_peer():
-    words = ['cargo', 'build', '--release', '--offline', '--quiet', '--target-dir', 'target']
+def build_peer(target='target', *words):
+    words = ['cargo', 'build', '--release', '--offline', '--quiet', '--target-dir', target, *words]
     subprocess.run(words, cwd=os.path.join(HERE, 'live_peer'), check=True)
 
 
@@ -194,11 +194,11 @@ def scenarios(folder, _):
     print_table('Scenarios, in thousands a second', 'hub_trials', 'chanhub run', rows)
 
 
-def built_with(library, folder):
-    """c_times, linked with this library."""
-    program = os.path.join(folder, 'c_times_' + os.path.basename(library).removesuffix('.a'))
-    words = ['cc', '-O2', '-std=c11', '-I' + os.path.dirname(C_HEADER), C_TIMES, library, '-lpthread', '-ldl', '-lm', '-o', program]
-    subprocess.run(words, check=True)
+def c_times(name, library, folder):
+    """The program c_times, linked with this library."""
+    program = os.path.join(folder, 'c_times_' + name)
+    words = ['cc', '-O2', '-std=c11', '-D_POSIX_C_SOURCE=200809L', '-I' + os.path.join(ROOT, 'capi'), C_TIMES, library]
+    subprocess.run([*words, '-lpthread', '-ldl', '-lm', '-o', program], check=True)
     return program
 
 
@@ -216,10 +216,10 @@ def c_instructions(program, workload):
 
 
 def c_rows(programs):
+    """Rows of what each program takes, all in turns."""
     sets = list(in_turns(SETS, [lambda program=program: c_rates(program) for program in programs]))
     for name in C_WORKLOADS:
-        bests = [max(rates[name]['best'] for rates in of_one) / 1000 for of_one in sets]
-        yield Row(name + ', best', bests)
+        yield Row(name + ', best', [max(rates[name]['best'] for rates in of_one) / 1000 for of_one in sets])
         yield Row(name + ', median', [statistics.median(rates[name]['median'] for rates in of_one) / 1000 for of_one in sets])
     if has_valgrind():
         for name in C_COUNTED:
@@ -229,15 +229,18 @@ def c_rows(programs):
 
 
 def capi(folder, _):
-    libraries = [LIBRARY]
+    os.makedirs(folder, exist_ok=True)
+    programs = [c_times('chanhub', LIBRARY, folder)]
     if shutil.which('cargo'):
         build_peer()
-        libraries.append(PEER_LIBRARY)
+        build_peer('target/bytes', '--features', 'bytes')
+        programs += [c_times('numbers', PEER_LIBRARY, folder), c_times('bytes', PEER_BYTES_LIBRARY, folder)]
     else:
         skip('live_peer: cargo is not there')
-    os.makedirs(folder, exist_ok=True)
-    rows = c_rows([built_with(library, folder) for library in libraries])
-    print_table('The C library, in thousands of calls a second, and of bytes of the journal', 'libchanhub', 'live_peer', rows)
+    rows = list(c_rows(programs))
+    title = 'The C library, in thousands of calls a second, and of bytes of the journal a second'
+    for place, other in list(enumerate(['live_peer', 'live_peer with bytes'], 1))[:max(1, len(programs) - 1)]:
+        print_table(title, 'libchanhub', other, [Row(row.name, [row.values[0], *row.values[place:place + 1]]) for row in rows])
 
 
 # each part, and what has to be built for it

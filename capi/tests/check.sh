@@ -41,9 +41,9 @@ prints() {
     "$@" > "$work/printed" && cmp "$work/printed" "$wanted"
 }
 
-# crew NAME CAP COUNT: whether each of 64 threads is told what a replay by the rules tells it.
+# crew NAME CAP COUNT [PROGRAM]: whether each of 64 threads is told what a replay tells it, by the rules or by the program.
 crew() {
-    mkdir -p "$work/$1-$2" && "$work/$1" "$work/$1-$2" "$2" "$3" && tests/compare.py "$work/$1-$2"
+    mkdir -p "$work/$1-$2" && "$work/$1" "$work/$1-$2" "$2" "$3" && tests/compare.py "$work/$1-$2" ${4+"$4"}
 }
 
 # has_only_names NM..: whether what this lists are the header's names and no other.
@@ -69,8 +69,9 @@ for test in calls crew; do
 done
 check 'each call' "$work/calls"
 for cap in 0 1 7 1024; do
-    check "64 threads, capacity $cap" crew crew "$cap" 2500
+    check "64 threads that pass 160,000 values, capacity $cap" crew crew "$cap" 5000 "$program"
 done
+check '64 threads, by the rules' crew crew 2 500
 check 'refuse builds' "$cc" $flags -Wl,--wrap=malloc,--wrap=calloc,--wrap=realloc tests/refuse.c out/libchanhub.a -lpthread -o "$work/refuse"
 check 'each allocation refused' "$work/refuse"
 for example in pool deadlock; do
@@ -111,7 +112,7 @@ fi
 check 'the Python module' env PYTHONPATH=python:tests python3 -m unittest -q test_chanhub
 check 'pool.py' prints "$work/sum" python3 python/pool.py
 check 'deadlock.py' prints "$work/stalled" python3 python/deadlock.py
-check '20 random rigs' tests/rigs.py "$program" 20
+check '50 random rigs' tests/rigs.py "$program" 50
 
 if command -v cargo > "$work/found"; then
     for test in --tests --doc; do

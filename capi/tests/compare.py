@@ -1,7 +1,7 @@
 #!/usr/bin/env python3
-"""compare.py FOLDER: whether what FOLDER/told says each process was told is what a replay of FOLDER/journal tells it.
+"""compare.py FOLDER [PROGRAM]: whether what FOLDER/told says each process was told is what a replay of FOLDER/journal tells it.
 
-The replay is that of tools/model.py, by the rules alone.
+The replay is that of PROGRAM, a built chanhub; where none is named, that of tools/model.py, by the rules alone.
 """
 import os
 import subprocess
@@ -24,7 +24,8 @@ def main():
     folder = sys.argv[1]
     with open(os.path.join(folder, 'journal'), 'rb') as journal:
         model = [sys.executable, os.path.join(TOOLS, 'model.py')]
-        events = subprocess.run(model, stdin=journal, stdout=subprocess.PIPE, check=True).stdout.decode()
+        replay = [sys.argv[2], 'replay'] if len(sys.argv) > 2 else model
+        events = subprocess.run(replay, stdin=journal, stdout=subprocess.PIPE, check=True).stdout.decode()
     with open(os.path.join(folder, 'told'), encoding='ascii') as told:
         same = by_process(told.read().splitlines()) == by_process(events.splitlines())
     print('the same' if same else 'another')

@@ -2,6 +2,7 @@
 //! with this library or with that one. Values are numbers, and what is passed is not tested.
 
 use crate::hub::{Case, LiveHub, Pid, Port, Step, What};
+use crate::value::Value as Number;
 use std::ffi::{CString, c_char, c_int, c_uint};
 use std::fmt::Write;
 
@@ -55,7 +56,7 @@ impl From<What> for Told {
         };
         match what {
             What::Made(port) => told.port = port,
-            What::Got(_, value) => told.value.number = value,
+            What::Got(_, value) => told.value.number = value.as_number().unwrap_or(0),
             What::Fault(fault) => told.fault = fault as u8,
             _ => (),
         }
@@ -110,7 +111,7 @@ pub unsafe extern "C" fn chanhub_send(
     port: c_uint,
     value: Value,
 ) -> Told {
-    let case = Case::Send(port as Port, value.number);
+    let case = Case::Send(port as Port, Number::number(value.number));
     unsafe { &*hub }
         .step(pid as Pid, Step::call(&[case], false, 0))
         .into()

@@ -1,11 +1,11 @@
 //! A hub of Go's channels with its journal, and the same hub under one lock, for threads to share.
 
+use crate::value::Value;
 use std::collections::VecDeque;
 use std::sync::{Condvar, Mutex};
 
 pub type Pid = u8;
 pub type Port = u16;
-pub type Value = u64;
 
 const MOST_PORTS: usize = 64;
 const MOST_CAPACITY: u32 = 1024;
@@ -312,7 +312,7 @@ impl Hub {
             let channel = &mut self.channels[usize::from(case.port())];
             let (queue, value) = match *case {
                 Case::Send(_, value) => (&mut channel.senders, value),
-                Case::Recv(_) => (&mut channel.receivers, 0),
+                Case::Recv(_) => (&mut channel.receivers, Value::number(0)),
             };
             if queue.len() == queue.capacity() {
                 queue.retain(|waiter| is_live(&self.processes, waiter));

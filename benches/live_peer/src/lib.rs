@@ -3,3 +3,4 @@
 pub mod c;
 pub mod hub;
 mod text;
+pub mod value;

@@ -3,6 +3,7 @@
 mod times;
 
 use live_peer::hub::{Case, Hub, Pid, Step};
+use live_peer::value::Value;
 use std::error::Error;
 use std::io::{self, BufWriter, Write};
 
@@ -42,7 +43,7 @@ fn entry_of(line: &str) -> Result<(Pid, Step), Box<dyn Error>> {
     let step = match fields[1..] {
         ["make", capacity] => Step::Make(capacity.parse()?),
         ["send", port, value] => {
-            let case = Case::Send(port.parse()?, value.parse()?);
+            let case = Case::Send(port.parse()?, Value::number(value.parse()?));
             Step::call(&[case], false, 0)
         }
         ["recv", port] => Step::call(&[Case::Recv(port.parse()?)], false, 0),
@@ -65,5 +66,5 @@ fn case_of(field: &str) -> Result<Case, Box<dyn Error>> {
     }
     let send = field.strip_prefix('s').ok_or("not a case")?;
     let (port, value) = send.split_once(':').ok_or("not a case")?;
-    Ok(Case::Send(port.parse()?, value.parse()?))
+    Ok(Case::Send(port.parse()?, Value::number(value.parse()?)))
 }

@@ -1,6 +1,7 @@
 //! How many operations a second the hub answers, to threads that begin at one signal.
 
 use live_peer::hub::{Case, Entry, Hub, LiveHub, Pid, Step, What};
+use live_peer::value::Value;
 use std::hint::black_box;
 use std::sync::Barrier;
 use std::thread;
@@ -9,15 +10,17 @@ use std::time::Instant;
 /// The calls that a process makes over and over. One without any looks at port 1.
 type Script = &'static [&'static [Case]];
 
+const SEVEN: Value = Value::number(7);
+
 // S and R are sends and receives, as in a journal's text, with the number of the port.
-const S1: Script = &[&[Case::Send(1, 7)]];
-const S2: Script = &[&[Case::Send(2, 7)]];
-const S3: Script = &[&[Case::Send(3, 7)]];
-const S4: Script = &[&[Case::Send(4, 7)]];
+const S1: Script = &[&[Case::Send(1, SEVEN)]];
+const S2: Script = &[&[Case::Send(2, SEVEN)]];
+const S3: Script = &[&[Case::Send(3, SEVEN)]];
+const S4: Script = &[&[Case::Send(4, SEVEN)]];
 const R1: Script = &[&[Case::Recv(1)]];
-const TURNS: Script = &[&[Case::Send(1, 7)], &[Case::Recv(1)]];
-const PING: Script = &[&[Case::Send(1, 7)], &[Case::Recv(2)]];
-const PONG: Script = &[&[Case::Recv(1)], &[Case::Send(2, 7)]];
+const TURNS: Script = &[&[Case::Send(1, SEVEN)], &[Case::Recv(1)]];
+const PING: Script = &[&[Case::Send(1, SEVEN)], &[Case::Recv(2)]];
+const PONG: Script = &[&[Case::Recv(1)], &[Case::Send(2, SEVEN)]];
 const ANY: &[Case] = &[Case::Recv(1), Case::Recv(2), Case::Recv(3), Case::Recv(4)];
 const SELECTS: Script = &[ANY, ANY, ANY, ANY];
 const LOOKS: Script = &[];
@@ -96,7 +99,7 @@ fn follow(hub: &LiveHub, pid: Pid, script: Script, rounds: u64) {
         for cases in script {
             let word = if cases.len() > 1 { turn } else { 0 };
             let answer = hub.step(pid, Step::call(cases, false, word));
-            assert!(matches!(answer, What::Sent(_) | What::Got(_, 7)));
+            assert!(matches!(answer, What::Sent(_) | What::Got(_, SEVEN)));
             turn += 1;
         }
     }

@@ -16,6 +16,7 @@ FAULTS = ["no such process", "the process has exited", "the process still waits 
           "the capacity is too large", "too many ports", "close of the nil port", "close of a closed port",
           "the journal is full", "out of memory", "that process does not wait"]
 HEADING = "   step  who asks what                  answer            waited              value or fault        ends"
+LONGEST = 5  # how many of the longest waits are told
 ASKS, ANSWER, WAITED, VALUE, ENDS = (HEADING.index(word) for word in ("who", "answer", "waited", "value", "ends"))
 
 
@@ -142,12 +143,24 @@ class Story:
         counts = f"sent {port.sent} received {port.received} left {port.sent - port.received}"
         return f"port {number} cap {maker.asked} {counts} made by P{maker.pid} at step {port.maker + 1}"
 
+    def waits(self):
+        """How many of the calls waited, and the lines of those that waited longest, the older of equal ones first."""
+        steps = {}
+        for place, entry in enumerate(self.entries):
+            until = len(self.entries) - 1 if entry.end is None else entry.until
+            if entry.end is None or until > place:
+                steps[place] = until - place
+        yield f"{len(steps)} of {sum(entry.word == 'call' for entry in self.entries)} calls waited"
+        for place in sorted(steps, key=lambda place: (-steps[place], place))[:LONGEST]:
+            yield self.line(place)
+
     def text(self, first, last):
         """The text of the steps from one to another, counted from 1."""
         lines = [HEADING]
         for place in range(first - 1, last):
             lines += [self.line(place), *self.entries[place].below]
         lines += [self.port_line(number) for number in range(1, len(self.ports) + 1)]
+        lines += self.waits()
         if self.waiting:
             lines += ["in the end these wait", *self.waiters(self.waiting.values())]
         return "".join(line + "\n" for line in lines).encode()

@@ -6,3 +6,4 @@ pub mod Table
 pub mod StepTexts
 pub mod Written
 pub mod Places
+pub mod Ranks

@@ -77,7 +77,7 @@ step-hidden w es all place d was text below hidden so =
     ∙ sym (step-first w es all place es d below)) ∙ so
 
 -- ---- the text of one step, by what is looked up
-inside : {A : Type 0} {x y : A} → Some x ≡ Some y → x ≡ y
+pub inside : {A : Type 0} {x y : A} → Some x ≡ Some y → x ≡ y
 inside h = cc
 
 pub step-is : (es : List Entry) (all : List Told) (place : ℕ) (e : Entry) (ends : List (Option Told)) (partners : List (Option ℕ)) (end : Option Told)

@@ -8,4 +8,5 @@ pub mod PortMoves
 pub mod LineText
 pub mod WaiterText
 pub mod PortText
+pub mod Waits
 pub mod StoryText

@@ -1,5 +1,5 @@
 -- The text of a story: a heading, a line for each step that the window has, with those whom it stalled below it; then what the
--- ports carried, and who waits in the end.
+-- ports carried, which calls waited longest, and who waits in the end.
 use Rattle.std.specs.Prelude.{ℕ, ◌+◌, ◌==◌, List, [], ◌∷◌, ◌++◌, codes, filter, length, if◌then◌else◌}
 use Rattle.std.specs.List.{flat_map}
 use Rattle.hub_base.specs.declared.entry.Entry.{Entry}
@@ -14,6 +14,7 @@ use Rattle.hub_story_text.specs.LineText.{line}
 use Rattle.hub_story_text.specs.Partners.{partner_of}
 use Rattle.hub_story_text.specs.PortText.{made_line}
 use Rattle.hub_story_text.specs.WaiterText.{waiters_words}
+use Rattle.hub_story_text.specs.Waits.{waits_text}
 
 -- what came by the step at this place
 abbrev pub came_by : ℕ → List Told → List Told
@@ -51,5 +52,5 @@ ports_text es all = flat_map (λ t. made_line es all t t.event.what) all
 -- the whole
 abbrev pub story_text : Window → List Entry → List Told → List ℕ
 story_text w es all =
-    heading ++ steps_text w es all 0 es ++ ports_text es all
+    heading ++ steps_text w es all 0 es ++ ports_text es all ++ waits_text es all
     ++ who_waits end_heading es (told_by (length es) all) (still_waiting all)

@@ -23,13 +23,15 @@ pub(crate) const ENDS: usize = 100;
 /// How many spaces are appended at most.
 const MOST_SPACES: usize = ENDS;
 
+/// So many spaces.
+static SPACES: [u8; MOST_SPACES] = [b' '; MOST_SPACES];
+
 /// Appends so many spaces.
 fn put_spaces(out: &mut Vec<u8>, count: usize) -> Result<(), AllocError>
     requires { count ≤ MOST_SPACES }
     ensures { OnOk result (out.new.items ≡ out.old.items ++ spaces count) }
 {
-    let spaces = [b' '; MOST_SPACES];
-    out.extend_from_slice(&spaces[..count])?;
+    out.extend_from_slice(&SPACES[..count])?;
     Ok(())
 }
 

@@ -14,6 +14,7 @@ mod ports;
 mod steps;
 mod text;
 mod waiters;
+mod waits;
 mod window;
 
 pub use text::story_text;

@@ -51,7 +51,7 @@ fn stalled_of(alloc: Global, came: &[Told]) -> Result<Vec<Told>, AllocError>
 }
 
 /// What stands at this place.
-fn item_at<T: Copy>(items: &[T], place: usize) -> T
+pub(crate) fn item_at<T: Copy>(items: &[T], place: usize) -> T
     requires { place < length items.now }
     ensures { slice_get items.now place ≡ Some result }
 {

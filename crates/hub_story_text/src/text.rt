@@ -11,6 +11,7 @@ use crate::port_moves::PortMoves;
 use crate::ports::put_ports;
 use crate::steps::put_steps;
 use crate::waiters::put_waiters;
+use crate::waits::put_waits;
 use hub_base::{Journal, NoMemory};
 use hub_story::Story;
 use std::alloc::Global;
@@ -21,7 +22,7 @@ const HEADING: &[u8] =
 const END_HEADING: &[u8] = b"in the end these wait\n";
 
 /// The story of a journal as text: a line for each step that the window has, with those whom it stalled below it; then a line for
-/// each port that was made, and who waits in the end. Steps and the numbers of entries are counted from 1. `Err` where
+/// each port that was made, which calls waited longest, and who waits in the end. Steps and the numbers of entries are counted from 1. `Err` where
 /// memory was refused.
 pub fn story_text(
     alloc: Global,
@@ -40,6 +41,7 @@ pub fn story_text(
     out.extend_from_slice(HEADING)?;
     put_steps(&mut out, &mut moves, journal, story, &partners, window)?;
     put_ports(&mut out, journal, story, &passed)?;
+    put_waits(&mut out, journal, story, &partners)?;
     put_waiters(
         &mut out,
         END_HEADING,

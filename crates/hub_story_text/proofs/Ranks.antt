@@ -1,0 +1,84 @@
+-- Waits that stand longest first, one by one.
+use Rattle.std.proofs.Common.{◌≡◌, ◌≤◌, ◌<◌, ◌+◌, ℕ, zero, suc, Bool, true, false, List, [], ◌∷◌, ◌++◌, length, take, drop}
+use Rattle.std.proofs.Common.{refl, ap, ◌∙◌, sym, arith, append_assoc, length-append, append-nil, add-one, get_or}
+use Rattle.std.specs.Prelude.{cond, nat_lt, insert}
+use Rattle.std.specs.List.{cons_option, fold}
+use Rattle.std.proofs.Math.Seq.{drop-cons}
+use Rattle.std.proofs.lemmas.Bool.{lt-ltb}
+use Rattle.std.proofs.lemmas.List.{drop_all}
+use Rattle.std.proofs.lemmas.List.Sums.{fold-append}
+use Rattle.hub_story.specs.declared.told.Told.{Told}
+use Rattle.hub_story.specs.Told.{end_of}
+use Rattle.hub_story_text.specs.declared.waits.TheConstants.{MOST_LONGEST}
+use Rattle.hub_story_text.specs.declared.waits.Wait.{Wait}
+use Rattle.hub_story_text.specs.declared.waits.Waits.{Waits}
+use Rattle.hub_story_text.specs.Waits.{AreWaits, longest, wait_of, waits_below, with_wait}
+use Rattle.hub_story_text.proofs.StepLines.{taken-next}
+
+not-below : (a b : ℕ) → b ≤ a → nat_lt a b ≡ false
+not-below a b h = grind arith
+
+-- ---- where a wait comes
+pub rank-next : (xs : List Wait) (i : ℕ) (d w : Wait) → i < length xs → w.steps ≤ (get_or xs i d).steps →
+    with_wait w xs ≡ take i xs ++ with_wait w (drop i xs) → with_wait w xs ≡ take (i + 1) xs ++ with_wait w (drop (i + 1) xs)
+rank-next xs i d w below behind so =
+    let x = get_or xs i d in
+    so ∙ ap (λ l. take i xs ++ with_wait w l) (drop-cons xs i d below)
+    ∙ ap (λ b. take i xs ++ cond b (w ∷ x ∷ drop (suc i) xs) (x ∷ with_wait w (drop (suc i) xs))) (not-below x.steps w.steps behind)
+    ∙ sym (append_assoc (take i xs) (x ∷ []) (with_wait w (drop (suc i) xs)))
+    ∙ ap (λ l. l ++ with_wait w (drop (suc i) xs)) (sym (taken-next xs i d below))
+    ∙ ap (λ k. take (i + 1) xs ++ with_wait w (drop k xs)) (sym (add-one i))
+
+pub rank-here : (xs : List Wait) (i : ℕ) (d w : Wait) → i < length xs → (get_or xs i d).steps < w.steps →
+    with_wait w xs ≡ take i xs ++ with_wait w (drop i xs) → with_wait w xs ≡ insert xs i w
+rank-here xs i d w below before so =
+    let x = get_or xs i d in
+    let first = drop-cons xs i d below in
+    so ∙ ap (λ l. take i xs ++ with_wait w l) first
+    ∙ ap (λ b. take i xs ++ cond b (w ∷ x ∷ drop (suc i) xs) (x ∷ with_wait w (drop (suc i) xs))) (lt-ltb x.steps w.steps before)
+    ∙ ap (λ l. take i xs ++ w ∷ l) (sym first)
+
+pub rank-last : (xs : List Wait) (i : ℕ) (w : Wait) → i ≡ length xs →
+    with_wait w xs ≡ take i xs ++ with_wait w (drop i xs) → with_wait w xs ≡ insert xs (length xs) w
+rank-last xs i w at so =
+    let none = drop_all i xs (omega (arith, at)) in
+    so ∙ ap (λ l. take i xs ++ with_wait w l) none ∙ ap (λ l. take i xs ++ w ∷ l) (sym none) ∙ ap (λ k. insert xs k w) at
+
+-- ---- the first few are ranked by the first few
+take-less : {A : Type 0} (k : ℕ) (xs : List A) → take k (take (suc k) xs) ≡ take k xs
+take-less zero xs = refl
+take-less (suc k) [] = refl
+take-less (suc k) (x ∷ xs) = ap (λ l. x ∷ l) (take-less k xs)
+
+cut-first : {A : Type 0} (k : ℕ) (x : A) (xs : List A) → take k (x ∷ take k xs) ≡ take k (x ∷ xs)
+cut-first zero x xs = refl
+cut-first (suc k) x xs = ap (λ l. x ∷ l) (take-less k xs)
+
+few-enough : (k : ℕ) (w : Wait) (xs : List Wait) → take k (with_wait w (take k xs)) ≡ take k (with_wait w xs)
+few-enough zero w xs = refl
+few-enough (suc k) w [] = refl
+few-enough (suc k) w (x ∷ xs) = by (nat_lt x.steps w.steps) (few-enough k w xs)
+  where
+    by : (b : Bool) → take k (with_wait w (take k xs)) ≡ take k (with_wait w xs) →
+        take (suc k) (cond b (w ∷ x ∷ take k xs) (x ∷ with_wait w (take k xs))) ≡ take (suc k) (cond b (w ∷ x ∷ xs) (x ∷ with_wait w xs))
+    by true rest = ap (λ l. w ∷ l) (cut-first k x xs)
+    by false rest = ap (λ l. x ∷ l) rest
+
+pub longest-more : (ws : List Wait) (w : Wait) → take MOST_LONGEST (with_wait w (longest ws)) ≡ longest (ws ++ w ∷ [])
+longest-more ws w =
+    few-enough MOST_LONGEST w (fold (λ ranked w. with_wait w ranked) [] ws)
+    ∙ ap (take MOST_LONGEST) (sym (fold-append (λ ranked w. with_wait w ranked) [] ws (w ∷ [])))
+
+pub wait-more : (ws : List Wait) (w : Wait) (old new : Waits) → AreWaits ws old → new.count ≡ old.count + 1 →
+    new.longest.items ≡ take MOST_LONGEST (with_wait w old.longest.items) → AreWaits (ws ++ w ∷ []) new
+wait-more ws w old new so count ranked = record {
+  count = omega (arith, count, so.count, length-append ws (w ∷ []));
+  longest = ranked ∙ ap (λ l. take MOST_LONGEST (with_wait w l)) so.longest ∙ longest-more ws w;
+}
+
+pub no-wait-more : (ws : List Wait) (new : Waits) → AreWaits ws new → AreWaits (ws ++ []) new
+no-wait-more ws new so = rw (append-nil ws) so
+
+pub waits-next : (count n : ℕ) (all : List Told) →
+    waits_below count all (n + 1) ≡ waits_below count all n ++ cons_option (wait_of count n (end_of all n)) []
+waits-next count n all = ap (waits_below count all) (add-one n)

@@ -1,0 +1,24 @@
+use Rattle.std.proofs.Common.{◌++◌, [], codes, count_by, decimal, length}
+use Rattle.std.specs.List.{flat_map}
+use Rattle.hub_base.specs.declared.entry.Entry.{Entry}
+use Rattle.hub_story_text.specs.Waits.{is_call, line_at, longest, waits}
+use Rattle.hub_story_text.proofs.Chains.{on-ok, two, one-more, two-more}
+use Rattle.hub_story_text.proofs.waits.put_waits.Goals as goal
+
+pub returns : goal.returns
+returns c =
+    let es = c.args.journal.now.entries in
+    let told = c.args.story.now.told.items in
+    let out = c.args.out.now.items in
+    let waited = decimal (length (waits es told)) in
+    let calls = decimal (count_by (λ (e : Entry). is_call e.step) es) in
+    let counted = rw c.entries.ensures at c.calls_of.ensures in
+    let first = two out c.put_number.new.out.items [] waited (rw c.in_ok-waits.ensures.count at c.in_ok-put_number.ensures) in
+    let second = two-more out c.put_number.new.out.items c.put_number-2.new.out.items waited (codes " of ") calls first
+    (rw counted at c.in_ok-put_number-2.ensures) in
+    let heading = one-more out c.put_number-2.new.out.items c.extend_from_slice.new.self.items (waited ++ codes " of " ++ calls)
+    (codes " calls waited\n") second c.in_ok-extend_from_slice.ensures.items in
+    on-ok c.put_longest.result
+    (one-more out c.extend_from_slice.new.self.items c.put_longest.new.out.items (waited ++ codes " of " ++ calls ++ codes " calls waited\n")
+    (flat_map (line_at es told) (longest (waits es told))) heading)
+    (rw (c.deref.ensures.value, c.in_ok-waits.ensures.longest) at c.put_longest.ensures)

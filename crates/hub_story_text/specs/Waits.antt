@@ -1,0 +1,58 @@
+-- The calls that waited: how many, and which of them waited longest.
+use Rattle.std.specs.Prelude.{◌≡◌, ℕ, zero, suc, ◌+◌, ◌-◌, nat_lt, Bool, true, false, List, [], ◌∷◌, ◌++◌, codes, count_by, decimal, length, take, slice_get}
+use Rattle.std.specs.Prelude.{Option, None, Some, if◌then◌else◌}
+use Rattle.std.specs.List.{cons_option, flat_map, fold}
+use Rattle.std.specs.Option.{option_map_or}
+use Rattle.hub_base.specs.declared.entry.Step.{Step}
+use Rattle.hub_base.specs.declared.entry.Step.TheVariants.{Call}
+use Rattle.hub_base.specs.declared.entry.Entry.{Entry}
+use Rattle.hub_story.specs.declared.told.Told.{Told}
+use Rattle.hub_story.specs.Told.{end_of}
+use Rattle.hub_story_text.specs.declared.waits.TheConstants.{MOST_LONGEST}
+use Rattle.hub_story_text.specs.declared.waits.Wait.{Wait}
+use Rattle.hub_story_text.specs.declared.waits.Waits.{Waits}
+use Rattle.hub_story_text.specs.LineText.{line}
+use Rattle.hub_story_text.specs.Partners.{partner_of}
+
+abbrev pub is_call : Step → Bool
+is_call (Call cases default word) = true
+is_call other = false
+
+-- the wait of the call at a place, by how it ended: until a later step, or until the last of so many
+abbrev pub wait_of : ℕ → ℕ → Option Told → Option Wait
+wait_of count place None = Some (record { place = place; steps = count - (place + 1) })
+wait_of count place (Some t) = if nat_lt place t.by then Some (record { place = place; steps = t.by - place }) else None
+
+-- the waits of the calls at the places below the second number, oldest first
+abbrev pub waits_below : ℕ → List Told → ℕ → List Wait
+waits_below count all zero = []
+waits_below count all (suc n) = waits_below count all n ++ cons_option (wait_of count n (end_of all n)) []
+
+-- all
+abbrev pub waits : List Entry → List Told → List Wait
+waits es all = waits_below (length es) all (length es)
+
+-- one wait more among others that stand longest first; of equal ones the older one is first
+abbrev pub with_wait : Wait → List Wait → List Wait
+with_wait w [] = w ∷ []
+with_wait w (x ∷ xs) = if nat_lt x.steps w.steps then w ∷ x ∷ xs else x ∷ with_wait w xs
+
+-- longest first, but no more than a few
+abbrev pub longest : List Wait → List Wait
+longest ws = take MOST_LONGEST (fold (λ ranked w. with_wait w ranked) [] ws)
+
+-- they are so many, and the longest of them are these
+pub record AreWaits (ws : List Wait) (told : Waits) : Type 0 where
+  pub count : told.count ≡ length ws
+  pub longest : told.longest.items ≡ longest ws
+
+-- the line of the step at this place, again
+abbrev pub line_at : List Entry → List Told → Wait → List ℕ
+line_at es all w =
+    option_map_or (λ e. line es w.place e (end_of all w.place) (partner_of es all w.place) []) (slice_get es w.place) []
+
+-- how many of the calls waited, and the lines of those that waited longest
+abbrev pub waits_text : List Entry → List Told → List ℕ
+waits_text es all =
+    decimal (length (waits es all)) ++ codes " of " ++ decimal (count_by (λ e. is_call e.step) es) ++ codes " calls waited\n"
+    ++ flat_map (line_at es all) (longest (waits es all))

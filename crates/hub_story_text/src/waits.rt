@@ -1,0 +1,184 @@
+//! How many calls waited, and which of them waited longest.
+
+ghost use Rattle.std.specs.Prelude.{◌≡◌, ◌≤◌, ◌<◌, ◌+◌, ◌-◌, ◌^◌, ◌++◌, List, [], count_by, insert, length, take, IfOk, OnOk};
+ghost use Rattle.std.specs.List.{cons_option, flat_map};
+ghost use Rattle.hub_story.specs.Stories.{IsStoryOf};
+ghost use Rattle.hub_story_text.specs.declared.waits.Wait.{Wait};
+ghost use Rattle.hub_story_text.specs.Partners.{AreIn, ways};
+ghost use Rattle.hub_story_text.specs.Waits.{AreWaits, is_call, line_at, wait_of, waits, waits_text, with_wait};
+
+use crate::lines::put_line;
+use crate::numbers::put_number;
+use crate::steps::item_at;
+use hub_base::{Entry, Journal, NoMemory, Step};
+use hub_story::{Story, Told};
+use std::alloc::{AllocError, Global};
+
+/// How many of the longest waits are told.
+pub(crate) const MOST_LONGEST: usize = 5;
+
+/// The wait of a call.
+#[derive(Clone, Copy, Debug, PartialEq, Eq)]
+pub(crate) struct Wait {
+    /// The place of its entry.
+    pub(crate) place: u32,
+    /// How many steps it waited.
+    pub(crate) steps: u32,
+}
+
+/// The waits of some calls.
+#[derive(Drop)]
+pub(crate) struct Waits {
+    /// How many there are.
+    pub(crate) count: usize,
+    /// The longest few, longest first.
+    pub(crate) longest: Vec<Wait>,
+}
+
+/// The wait of the call at this place, one of so many, that ended so.
+fn wait_of(count: usize, place: usize, end: Option<Told>) -> Option<Wait>
+    requires few { count < 2 ^ 32 - 1 }
+    requires within { place < count }
+    ensures { result ≡ wait_of count place end }
+{
+    let place = place as u32;
+    match end {
+        None => Some(Wait {
+            place,
+            steps: count as u32 - (place + 1),
+        }),
+        Some(end) if place < end.by => Some(Wait {
+            place,
+            steps: end.by - place,
+        }),
+        Some(_) => None,
+    }
+}
+
+/// Behind how many of these, which stand longest first, a wait comes.
+fn rank_of(ranked: &[Wait], wait: Wait) -> usize
+    ensures within { result ≤ length ranked.now }
+    ensures ranked { with_wait wait ranked.now ≡ insert ranked.now result wait }
+{
+    for (rank, other) in ranked.iter().enumerate() {
+        if other.steps < wait.steps {
+            return rank;
+        }
+    }
+    ranked.len()
+}
+
+/// Takes a wait in among these, which stand longest first, and keeps the first few.
+fn rank(ranked: &mut Vec<Wait>, wait: Wait) -> Result<(), AllocError>
+    ensures { OnOk result (ranked.new.items ≡ take MOST_LONGEST (with_wait wait ranked.old.items)) }
+{
+    let rank = rank_of(ranked, wait);
+    ranked.insert(rank, wait)?;
+    ranked.truncate(MOST_LONGEST);
+    Ok(())
+}
+
+impl Waits {
+    /// Takes in the next wait, if there is one.
+    fn note(&mut self, wait: Option<Wait>) -> Result<(), AllocError>
+        requires { self.old.count < 2 ^ 32 }
+        ensures waits { OnOk result ((ws : List Wait) → AreWaits ws self.old → AreWaits (ws ++ cons_option wait []) self.new) }
+        ensures few { OnOk result (self.new.count ≤ self.old.count + 1) }
+    {
+        let Some(wait) = wait else {
+            return Ok(());
+        };
+        rank(&mut self.longest, wait)?;
+        self.count += 1;
+        Ok(())
+    }
+
+    /// All of a journal.
+    fn of(alloc: Global, journal: &Journal, story: &Story) -> Result<Waits, AllocError>
+        requires story { IsStoryOf journal.now story.now }
+        requires few { length journal.now.entries < 2 ^ 32 - 1 }
+        ensures { IfOk result (AreWaits (waits journal.now.entries story.now.told.items)) }
+    {
+        let count = journal.entries().len();
+        let mut waits = Waits {
+            count: 0,
+            longest: Vec::new(alloc),
+        };
+        for place in 0..count {
+            let end = item_at(&story.ends, place);
+            waits.note(wait_of(count, place, end))?;
+        }
+        Ok(waits)
+    }
+}
+
+/// How many of these entries are calls.
+fn calls_of(entries: &[Entry]) -> usize
+    ensures { result ≡ count_by (λ e. is_call e.step) entries.now }
+{
+    let mut calls = 0;
+    for entry in entries {
+        calls += usize::from(matches!(entry.step, Step::Call { .. }));
+    }
+    calls
+}
+
+/// Appends the line of the step whose call waited so.
+fn put_wait(
+    out: &mut Vec<u8>,
+    journal: &Journal,
+    story: &Story,
+    partners: &[Option<u32>],
+    wait: Wait,
+) -> Result<(), NoMemory>
+    requires story { IsStoryOf journal.now story.now }
+    requires partners { AreIn (ways journal.now.entries story.now.told.items) (length journal.now.entries) partners.now }
+    ensures { OnOk result (out.new.items ≡ out.old.items ++ line_at journal.now.entries story.now.told.items wait) }
+{
+    let place = wait.place as usize;
+    let entries = journal.entries();
+    let Some(entry) = entries.get(place) else {
+        return Ok(());
+    };
+    let partner = item_at(partners, place);
+    let end = item_at(&story.ends, place);
+    put_line(out, entries, wait.place, entry, partner, end, &[])
+}
+
+/// Appends the lines of these.
+fn put_longest(
+    out: &mut Vec<u8>,
+    journal: &Journal,
+    story: &Story,
+    partners: &[Option<u32>],
+    longest: &[Wait],
+) -> Result<(), NoMemory>
+    requires story { IsStoryOf journal.now story.now }
+    requires partners { AreIn (ways journal.now.entries story.now.told.items) (length journal.now.entries) partners.now }
+    ensures { OnOk result (out.new.items ≡
+        out.old.items ++ flat_map (line_at journal.now.entries story.now.told.items) longest.now) }
+{
+    for wait in longest {
+        put_wait(out, journal, story, partners, *wait)?;
+    }
+    Ok(())
+}
+
+/// Appends how many calls waited, and the lines of those that waited longest.
+pub(crate) fn put_waits(
+    out: &mut Vec<u8>,
+    journal: &Journal,
+    story: &Story,
+    partners: &[Option<u32>],
+) -> Result<(), NoMemory>
+    requires story { IsStoryOf journal.now story.now }
+    requires few { length journal.now.entries < 2 ^ 32 - 1 }
+    requires partners { AreIn (ways journal.now.entries story.now.told.items) (length journal.now.entries) partners.now }
+    ensures { OnOk result (out.new.items ≡ out.old.items ++ waits_text journal.now.entries story.now.told.items) }
+{
+    let waits = Waits::of(*out.allocator(), journal, story)?;
+    put_number(out, b"", waits.count as u64)?;
+    put_number(out, b" of ", calls_of(journal.entries()) as u64)?;
+    out.extend_from_slice(b" calls waited\n")?;
+    put_longest(out, journal, story, partners, &waits.longest)
+}

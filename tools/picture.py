@@ -196,6 +196,28 @@ MARKS = {
 }
 
 
+def mover(moved, step):
+    last = [(by, event) for _, by, event in moved if by <= step][-1:]
+    return "".join(f"P{event.split()[0]} by step {by + 1}" for by, event in last) or "nobody"
+
+
+def waiters(journal, bands):
+    """Whoever the last step that stalls anyone stalls, and whoever waits in the end, where that is shown: a row for each case."""
+    stalled = [(by, asked) for by, _, asked in journal.stalls if bands.has(by)]
+    rows = [(by, asked) for by, asked in stalled if by == stalled[-1][0]]
+    if bands.end >= len(journal.lines):
+        rows += [(bands.end, asked.place) for asked in journal.asked() if asked.ended is None]
+    for step, asked in rows:
+        for side, port in cases_of(journal.lines[asked]):
+            aim = "send on" if side == "s" else "receive from"
+            moved = [mover(journal.moved[way][int(port)], step) for way in "sr"]
+            pid = journal.lines[asked].split()[0]
+            yield (
+                f"P{pid} waits from step {asked + 1} to {aim} port {port}; "
+                f"the last to send there: {moved[0]}, to receive: {moved[1]}. "
+            )
+
+
 def legend(journal, bands):
     """What the legend has to tell, in any order."""
     shown = [asked for asked in journal.asked() if bands.has(asked.place)]
@@ -372,6 +394,8 @@ def check_picture(picture, journal, first, end):
     layers_agree(root)
     arrows_agree(root, arrows(journal, bands), bands)
     legend_agrees(root, legend(journal, bands))
+    rows = [row.text for row in root.iter(SVG + "tspan") if row.get("class") == "waits"]
+    assert rows == list(waiters(journal, bands)), f"those who wait: {rows}"
     lanes_agree(root, journal, bands)
     levels_agree(root, journal, bands)
     places_agree(root)

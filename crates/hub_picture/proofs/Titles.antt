@@ -2,6 +2,9 @@
 use Rattle.std.proofs.Common.{ℕ, ◌<◌, ◌≤◌, ◌^◌, ◌+◌, List, [], ◌∷◌, ◌++◌, codes, refl, arith, Option, None, Some, IfSome}
 use Rattle.std.specs.Prelude.{decimal}
 use Rattle.hub_base.specs.declared.limits.TheConstants.{GREATEST_PORT, GREATEST_VALUE}
+use Rattle.hub_base.specs.declared.case.Case.{Case}
+use Rattle.hub_base.specs.declared.case.Case.TheVariants as case
+use Rattle.hub_base.specs.Text.{CaseFits}
 use Rattle.hub_base.specs.declared.fault.Fault.{Fault}
 use Rattle.hub_base.specs.declared.fault.Fault.TheVariants as fault
 use Rattle.hub_base.specs.declared.event.Outcome.{Outcome}
@@ -19,18 +22,20 @@ use Rattle.hub_story.specs.declared.told.Told.{Told}
 use Rattle.hub_picture.specs.declared.asked.Asked.{Asked}
 use Rattle.hub_picture.specs.declared.levels.Held.{Held}
 use Rattle.hub_picture.specs.declared.strips.Strip.{Strip}
+use Rattle.hub_picture.specs.declared.waiters.Waiter.{Waiter}
 use Rattle.hub_picture.specs.declared.svg.legend.Mark.{Mark}
 use Rattle.hub_picture.specs.declared.svg.legend.Mark.TheVariants as mark
 use Rattle.hub_picture.specs.declared.label.Label.{Label}
 use Rattle.hub_picture.specs.declared.label.Label.TheVariants as label
 use Rattle.hub_picture.specs.Labels.{label_text, number_text, value_text}
-use Rattle.hub_picture.specs.Pieces.{end_text, until_text}
+use Rattle.hub_picture.specs.Pieces.{aim_text, end_text, mover_text, until_text}
 use Rattle.hub_picture.specs.Svg.Arrows.{moved_title, arrow_title}
 use Rattle.hub_picture.specs.Svg.Boxes.{asked_title}
 use Rattle.hub_picture.specs.Svg.Legend.{mark_words}
 use Rattle.hub_picture.specs.Svg.Stalls.{stall_title}
 use Rattle.hub_picture.specs.Svg.Strips.{strip_title, level_title, count_of}
-use Rattle.hub_picture.specs.Plain.{IsPlain, ToldFits, AskedFits, StripFits, HeldFits, LabelFits, PlainLaw}
+use Rattle.hub_picture.specs.Svg.Waiters.{waiter_words}
+use Rattle.hub_picture.specs.Plain.{IsPlain, ToldFits, AskedFits, StripFits, HeldFits, WaiterFits, LabelFits, PlainLaw}
 use Rattle.hub_picture.proofs.Plain.{plain-both, plain-number, plain-value, plain-joined, plain-line}
 
 fault-small : (f : Fault) → fault_number f ≤ 255
@@ -105,8 +110,10 @@ stall-plain t fits =
 
 strip-plain : (s : Strip) → StripFits s → IsPlain (strip_title s)
 strip-plain s fits =
+    let port : IsPlain (decimal s.port.0) = plain-number s.port.0 (omega (arith, fits.port)) in
+    let room : IsPlain (decimal s.room) = plain-number s.room (omega (arith, fits.room)) in
     plain-joined (codes "port " ∷ decimal s.port.0 ∷ codes " has room for " ∷ decimal s.room ∷ codes "\n" ∷ [])
-    (refl, (plain-number s.port.0 (omega (arith, fits.port)), (refl, (plain-number s.room (omega (arith, fits.room)), (refl, _)))))
+    (refl, (port, (refl, (room, (refl, _)))))
 
 until-plain : (until : Option ℕ) → IfSome until (λ u. u < 2 ^ 32) → IsPlain (until_text until)
 until-plain None fits = refl
@@ -114,20 +121,36 @@ until-plain (Some u) fits = plain-both (codes " until step ") (decimal (u + 1)) 
 
 level-plain : (h : Held) → HeldFits h → IsPlain (level_title h)
 level-plain h fits =
+    let port : IsPlain (decimal h.strip.port.0) = plain-number h.strip.port.0 (omega (arith, fits.strip.port)) in
+    let count : IsPlain (decimal (count_of h.level)) = plain-number (count_of h.level) (omega (arith, fits.sent)) in
+    let room : IsPlain (decimal h.strip.room) = plain-number h.strip.room (omega (arith, fits.strip.room)) in
+    let from : IsPlain (decimal (h.from + 1)) = step-plain h.from fits.from in
+    let until : IsPlain (until_text h.until) = until-plain h.until fits.until in
     plain-joined (codes "port " ∷ decimal h.strip.port.0 ∷ codes " holds " ∷ decimal (count_of h.level) ∷ codes " of " ∷ decimal h.strip.room
-    ∷ codes " from step " ∷ decimal (h.from + 1) ∷ until_text h.until ∷ codes "\n" ∷ []) (
-      refl,
-      (
-        plain-number h.strip.port.0 (omega (arith, fits.strip.port)),
-        (
-          refl,
-          (
-            plain-number (count_of h.level) (omega (arith, fits.sent)),
-            (refl, (plain-number h.strip.room (omega (arith, fits.strip.room)), (refl, (step-plain h.from fits.from, (until-plain h.until fits.until, (refl, _)))))),
-          ),
-        ),
-      ),
-    )
+    ∷ codes " from step " ∷ decimal (h.from + 1) ∷ until_text h.until ∷ codes "\n" ∷ [])
+    (refl, (port, (refl, (count, (refl, (room, (refl, (from, (until, (refl, _))))))))))
+
+aim-plain : (c : Case) → CaseFits c → IsPlain (aim_text c)
+aim-plain (case.Send p v) fits = worded (codes " to send on port ") p.0 GREATEST_PORT refl fits.0 (omega arith)
+aim-plain (case.Recv p) fits = worded (codes " to receive from port ") p.0 GREATEST_PORT refl fits (omega arith)
+
+mover-plain : (mover : Option Told) → IfSome mover ToldFits → IsPlain (mover_text mover)
+mover-plain None fits = refl
+mover-plain (Some t) fits =
+    plain-both (codes "P" ++ decimal t.event.pid.0) (codes " by step " ++ decimal (t.by + 1))
+    (plain-both (codes "P") (decimal t.event.pid.0) refl (plain-number t.event.pid.0 (omega (arith, fits.event.pid))))
+    (plain-both (codes " by step ") (decimal (t.by + 1)) refl (step-plain t.by fits.by))
+
+waiter-plain : (w : Waiter) → WaiterFits w → IsPlain (waiter_words w)
+waiter-plain w fits =
+    let pid : IsPlain (decimal w.told.event.pid.0) = plain-number w.told.event.pid.0 (omega (arith, fits.told.event.pid)) in
+    let from : IsPlain (decimal (w.told.asked + 1)) = step-plain w.told.asked fits.told.asked in
+    let aim : IsPlain (aim_text w.case) = aim-plain w.case fits.case in
+    let sender : IsPlain (mover_text w.sender) = mover-plain w.sender fits.sender in
+    let receiver : IsPlain (mover_text w.receiver) = mover-plain w.receiver fits.receiver in
+    plain-joined (codes "P" ∷ decimal w.told.event.pid.0 ∷ codes " waits from step " ∷ decimal (w.told.asked + 1) ∷ aim_text w.case
+    ∷ codes "; the last to send there: " ∷ mover_text w.sender ∷ codes ", to receive: " ∷ mover_text w.receiver ∷ codes ". " ∷ [])
+    (refl, (pid, (refl, (from, (aim, (refl, (sender, (refl, (receiver, (refl, _))))))))))
 
 legend-plain : (m : Mark) → IsPlain (mark_words m)
 legend-plain mark.Boxes = refl
@@ -166,4 +189,15 @@ value-plain None fits = refl
 value-plain (Some v) fits = content-shown (content v) fits.fits
 
 pub plain-law : PlainLaw
-plain-law = record { asked = asked-plain; arrow = arrow-plain; stall = stall-plain; strip = strip-plain; level = level-plain; legend = legend-plain; label = label-plain; value = value-plain; number = plain-number }
+plain-law = record {
+  asked = asked-plain;
+  arrow = arrow-plain;
+  stall = stall-plain;
+  strip = strip-plain;
+  level = level-plain;
+  waiter = waiter-plain;
+  legend = legend-plain;
+  label = label-plain;
+  value = value-plain;
+  number = plain-number;
+}

@@ -19,6 +19,7 @@ use Rattle.hub_picture.specs.declared.asked.Shown.TheVariants.{Boxes, Bars}
 use Rattle.hub_picture.specs.declared.arrows.Arrow.{Arrow}
 use Rattle.hub_picture.specs.Lanes.{lanes_of}
 use Rattle.hub_picture.specs.Levels.{all_strips, all_levels}
+use Rattle.hub_picture.specs.Waiters.{all_waiters}
 use Rattle.hub_picture.specs.declared.drawing.Drawing.{Drawing}
 use Rattle.hub_picture.specs.Windows.{goes_on, has, touches, within}
 
@@ -88,7 +89,7 @@ stalls_in w t = is_stalled t.event.what && has w t.by
 -- ---- the whole
 -- the lanes are the processes, the strips the ports that have room; the boxes are the entries of the window, the bars the
 -- calls that waited, the arrows the passages of all ports, and the levels what ports held, as far as they touch it; the
--- stalls who was stalled by its steps: each once, in order, and nothing else
+-- stalls who was stalled by its steps, and the waiters who waits in vain, and for what: each once, in order, and nothing else
 pub record IsDrawingOf (given : JournalView) (s : Story) (w : Window) (d : Drawing) : Type 0 where
   pub procs : d.procs ≡ given.head.procs
   pub window : d.window ≡ within w (length given.entries)
@@ -99,3 +100,4 @@ pub record IsDrawingOf (given : JournalView) (s : Story) (w : Window) (d : Drawi
   pub arrows : d.arrows.items ≡ all_arrows w given.entries s.told.items
   pub levels : d.levels.items ≡ all_levels w given.entries s.told.items
   pub stalls : d.stalls.items ≡ filter (stalls_in w) s.told.items
+  pub waiters : d.waiters.items ≡ all_waiters w given.entries s.told.items (filter (stalls_in w) s.told.items) s.waiting.items

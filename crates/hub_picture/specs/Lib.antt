@@ -1,6 +1,7 @@
 pub mod Windows
 pub mod Lanes
 pub mod Levels
+pub mod Waiters
 pub mod Drawings
 pub mod Labels
 pub mod Pieces

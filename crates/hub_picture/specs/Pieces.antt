@@ -2,11 +2,13 @@
 -- entry or an event.
 use Rattle.std.specs.Prelude.{◌≡◌, ℕ, ◌+◌, List, [], ◌∷◌, ◌++◌, codes, decimal, Option, None, Some, Result, OnOk, OnErr}
 use Rattle.std.specs.Global.{Vec}
+use Rattle.hub_base.specs.declared.case.Case.{Case}
+use Rattle.hub_base.specs.declared.case.Case.TheVariants as case
 use Rattle.hub_base.specs.Lines.{line}
 use Rattle.hub_base.specs.EventText.{event_line}
 use Rattle.hub_story.specs.declared.told.Told.{Told}
 use Rattle.hub_picture.specs.declared.piece.Piece.{Piece}
-use Rattle.hub_picture.specs.declared.piece.Piece.TheVariants.{Word, Number, Line, Tells, End, Until, Class, Ending, Name, Moves}
+use Rattle.hub_picture.specs.declared.piece.Piece.TheVariants.{Word, Number, Line, Tells, End, Until, Mover, Aim, Class, Ending, Name, Moves}
 use Rattle.hub_picture.specs.Labels.{class_text, end_class, label_text, value_text}
 
 -- texts, one after the other
@@ -24,6 +26,16 @@ abbrev pub until_text : Option ℕ → List ℕ
 until_text None = codes " on"
 until_text (Some until) = codes " until step " ++ decimal (until + 1)
 
+-- who it was, and by which step
+abbrev pub mover_text : Option Told → List ℕ
+mover_text None = codes "nobody"
+mover_text (Some t) = (codes "P" ++ decimal t.event.pid.0) ++ (codes " by step " ++ decimal (t.by + 1))
+
+-- what a case waits for
+abbrev pub aim_text : Case → List ℕ
+aim_text (case.Send p v) = codes " to send on port " ++ decimal p.0
+aim_text (case.Recv p) = codes " to receive from port " ++ decimal p.0
+
 abbrev pub piece_text : Piece → List ℕ
 piece_text (Word bytes) = bytes.now
 piece_text (Number n) = decimal n
@@ -31,6 +43,8 @@ piece_text (Line e) = line e.now
 piece_text (Tells e) = event_line e
 piece_text (End end) = end_text end
 piece_text (Until until) = until_text until
+piece_text (Mover t) = mover_text t
+piece_text (Aim c) = aim_text c
 piece_text (Class label) = class_text label
 piece_text (Ending w) = end_class w
 piece_text (Name label) = label_text label

@@ -6,11 +6,12 @@ use Rattle.hub_base.specs.declared.value.Value.{Value}
 use Rattle.hub_base.specs.Value.{IsValue}
 use Rattle.hub_base.specs.declared.limits.TheConstants.{GREATEST_PID, GREATEST_PORT}
 use Rattle.hub_base.specs.EventText.{EventFits}
-use Rattle.hub_base.specs.Text.{Fits}
+use Rattle.hub_base.specs.Text.{CaseFits, Fits}
 use Rattle.hub_story.specs.declared.told.Told.{Told}
 use Rattle.hub_picture.specs.declared.asked.Asked.{Asked}
 use Rattle.hub_picture.specs.declared.levels.Held.{Held}
 use Rattle.hub_picture.specs.declared.strips.Strip.{Strip}
+use Rattle.hub_picture.specs.declared.waiters.Waiter.{Waiter}
 use Rattle.hub_picture.specs.declared.svg.legend.Mark.{Mark}
 use Rattle.hub_picture.specs.declared.label.Label.{Label}
 use Rattle.hub_picture.specs.declared.label.Label.TheVariants.{Make, Send, Receive, Select, Default, Close, Exit, Cancel, Refused}
@@ -20,6 +21,7 @@ use Rattle.hub_picture.specs.Svg.Boxes.{asked_title}
 use Rattle.hub_picture.specs.Svg.Legend.{mark_words}
 use Rattle.hub_picture.specs.Svg.Stalls.{stall_title}
 use Rattle.hub_picture.specs.Svg.Strips.{strip_title, level_title}
+use Rattle.hub_picture.specs.Svg.Waiters.{waiter_words}
 
 -- it is none of `<`, `>`, `&` and the quotation mark
 abbrev pub is_plain : ℕ → Bool
@@ -50,6 +52,12 @@ pub record HeldFits (h : Held) : Type 0 where
   pub until : IfSome h.until (λ u. u < 2 ^ 32)
   pub sent : h.level.sent < 2 ^ 64
 
+pub record WaiterFits (w : Waiter) : Type 0 where
+  pub told : ToldFits w.told
+  pub case : CaseFits w.case
+  pub sender : IfSome w.sender ToldFits
+  pub receiver : IfSome w.receiver ToldFits
+
 abbrev pub LabelFits : Label → Type 0
 LabelFits (Make p) = p.0 ≤ GREATEST_PORT
 LabelFits (Send p) = p.0 ≤ GREATEST_PORT
@@ -61,14 +69,15 @@ LabelFits Exit = 0 ≤ 0
 LabelFits (Cancel q) = q.0 ≤ GREATEST_PID
 LabelFits (Refused f) = 0 ≤ 0
 
--- what is told of a box and of a bar, of an arrow, of a stall, of a strip and of a level, what stands in a box and in the
--- legend, and every number
+-- what is told of a box and of a bar, of an arrow, of a stall, of a strip and of a level, of a waiter, what stands in a box
+-- and in the legend, and every number
 pub record PlainLaw : Type 0 where
   pub asked : (a : Asked) → AskedFits a → IsPlain (asked_title a)
   pub arrow : (sent received : Told) → ToldFits sent → ToldFits received → IsPlain (arrow_title sent received)
   pub stall : (t : Told) → ToldFits t → IsPlain (stall_title t)
   pub strip : (s : Strip) → StripFits s → IsPlain (strip_title s)
   pub level : (h : Held) → HeldFits h → IsPlain (level_title h)
+  pub waiter : (w : Waiter) → WaiterFits w → IsPlain (waiter_words w)
   pub legend : (m : Mark) → IsPlain (mark_words m)
   pub label : (l : Label) → LabelFits l → IsPlain (label_text l)
   pub value : (v : Option Value) → IfSome v IsValue → IsPlain (value_text v)

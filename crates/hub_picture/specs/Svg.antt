@@ -6,5 +6,6 @@ pub mod Arrows
 pub mod Stalls
 pub mod Lanes
 pub mod Strips
+pub mod Waiters
 pub mod Legend
 pub mod Page

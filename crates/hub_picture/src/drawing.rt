@@ -9,7 +9,8 @@ use crate::lanes::lanes_of;
 use crate::levels::levels_in;
 use crate::stalls::all_stalled;
 use crate::strips::strips_of;
-use crate::{Arrow, Asked, Held, Lane, Strip, Window};
+use crate::waiters::waiters_in;
+use crate::{Arrow, Asked, Held, Lane, Strip, Waiter, Window};
 use hub_base::{Journal, NoMemory};
 use hub_story::{Story, Told};
 use std::alloc::Global;
@@ -35,6 +36,8 @@ pub struct Drawing {
     pub levels: Vec<Held>,
     /// Whoever was stalled by one of them: a band each.
     pub stalls: Vec<Told>,
+    /// Whoever waits in vain, and for what: a row each, below the picture.
+    pub waiters: Vec<Waiter>,
 }
 
 /// The drawing of a journal by its story, as far as the window shows it. `Err` where memory was refused.
@@ -55,6 +58,7 @@ pub fn drawing_of(
     let arrows = arrows_in(alloc, window, journal, story)?;
     let levels = levels_in(alloc, window, entries, &story.told, &strips)?;
     let stalls = all_stalled(alloc, window, &story.told)?;
+    let waiters = waiters_in(alloc, window, entries, &story.told, &stalls, &story.waiting)?;
     Ok(Drawing {
         procs: journal.procs(),
         window: window.within(entries.len() as u32),
@@ -65,5 +69,6 @@ pub fn drawing_of(
         arrows,
         levels,
         stalls,
+        waiters,
     })
 }

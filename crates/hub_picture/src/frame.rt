@@ -5,7 +5,7 @@ ghost use Rattle.hub_picture.specs.Frames.{floor_of, frame_of, half_of, height_o
 ghost use Rattle.hub_picture.specs.Frames.{thick_of, tick_of, top_of, until, x_of, y_of};
 
 use crate::{Drawing, Window};
-use hub_base::MOST_PORTS;
+use hub_base::{CASE_PLACES, MOST_PORTS, MOST_PROCS};
 
 /// Where the first step of a band begins.
 pub(crate) const LEFT: u64 = 60;
@@ -21,6 +21,12 @@ pub(crate) const FULL: u64 = 12;
 
 /// The height of a picture's legend.
 pub(crate) const LEGEND: u64 = 142;
+
+/// The height of a row of those who wait.
+pub(crate) const ROW: u64 = 18;
+
+/// The most such rows for which a page has room: for two lists of all processes, each with the most cases.
+pub(crate) const MOST_ROWS: usize = 2 * MOST_PROCS * CASE_PLACES;
 
 /// The number of the step at this place, from 1.
 pub(crate) fn number_of(place: u32) -> u64

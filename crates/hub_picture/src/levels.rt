@@ -2,7 +2,7 @@
 
 ghost use Rattle.std.specs.Prelude.{◌≡◌, ◌<◌, ◌≤◌, ◌+◌, ◌-◌, ◌^◌, ◌∷◌, ◌++◌, [], filter, IfOk, OnOk};
 ghost use Rattle.std.specs.List.{flat_map};
-ghost use Rattle.hub_picture.specs.Levels.{after, is_same, levels_on, shows_level, with_case};
+ghost use Rattle.hub_picture.specs.Levels.{after, empty, is_same, levels_on, shows_level, with_case};
 
 use crate::{Strip, Window};
 use hub_base::{Case, Entry, Outcome, Port, Step, What};
@@ -42,7 +42,7 @@ fn with_case(port: Port, level: Level, case: Case, outcome: Outcome) -> Level
 }
 
 /// The level with what is told here.
-fn after(entries: &[Entry], port: Port, level: Level, told: &Told) -> Level
+pub(crate) fn after(entries: &[Entry], port: Port, level: Level, told: &Told) -> Level
     requires sent { level.sent < 2 ^ 64 - 1 }
     requires received { level.received < 2 ^ 64 - 1 }
     ensures value { result ≡ after entries.now port level told.now }
@@ -61,6 +61,16 @@ fn after(entries: &[Entry], port: Port, level: Level, told: &Told) -> Level
     match cases.as_slice().get(usize::from(case)) {
         Some(case) => with_case(port, level, *case, outcome),
         None => level,
+    }
+}
+
+/// The level of a port on which nothing was sent.
+pub(crate) fn empty() -> Level
+    ensures { result ≡ empty }
+{
+    Level {
+        sent: 0,
+        received: 0,
     }
 }
 

@@ -16,6 +16,7 @@ mod piece;
 mod stalls;
 mod strips;
 mod svg;
+mod waiters;
 mod window;
 
 pub use arrows::Arrow;
@@ -26,4 +27,5 @@ pub use laws::{ends_are_told, texts_are_plain};
 pub use levels::Held;
 pub use strips::Strip;
 pub use svg::write_svg;
+pub use waiters::Waiter;
 pub use window::Window;

@@ -6,10 +6,12 @@ ghost use Rattle.std.specs.List.{flat_map};
 ghost use Rattle.hub_base.specs.EventText.{event_line};
 ghost use Rattle.hub_base.specs.Lines.{line};
 ghost use Rattle.hub_picture.specs.Labels.{class_text, hue_of, label_text, value_text};
-ghost use Rattle.hub_picture.specs.Pieces.{Appends, end_text, piece_text, until_text};
+ghost use Rattle.hub_picture.specs.Pieces.{Appends, aim_text, end_text, mover_text, piece_text, until_text};
 
 use crate::label::{Label, end_class};
-use hub_base::{Edition, Entry, Event, NoMemory, Port, Value, What, write_entry, write_event};
+use hub_base::{
+    Case, Edition, Entry, Event, NoMemory, Port, Value, What, write_entry, write_event,
+};
 use hub_story::Told;
 use itoa::Buffer;
 use std::alloc::AllocError;
@@ -29,6 +31,10 @@ pub(crate) enum Piece<'a> {
     End(Option<Told>),
     /// Until which step something goes on.
     Until(Option<u32>),
+    /// Who moved a value, and by which step.
+    Mover(Option<Told>),
+    /// What a case waits for.
+    Aim(Case),
     /// The class of a label.
     Class(Label),
     /// What the class says of an end.
@@ -105,6 +111,29 @@ fn put_until(out: &mut Vec<u8>, until: Option<u32>) -> Result<(), AllocError>
     }
 }
 
+/// Appends who moved a value, and by which step.
+fn put_mover(out: &mut Vec<u8>, mover: Option<Told>) -> Result<(), AllocError>
+    ensures { Appends out.old out.new (mover_text mover) result }
+{
+    match mover {
+        Some(told) => {
+            put_numbered(out, b"P", told.event.pid.0.into())?;
+            put_numbered(out, b" by step ", u64::from(told.by) + 1)
+        }
+        None => put(out, b"nobody"),
+    }
+}
+
+/// Appends what a case waits for.
+fn put_aim(out: &mut Vec<u8>, case: Case) -> Result<(), AllocError>
+    ensures { Appends out.old out.new (aim_text case) result }
+{
+    match case {
+        Case::Send(port, _value) => put_numbered(out, b" to send on port ", port.0.into()),
+        Case::Recv(port) => put_numbered(out, b" to receive from port ", port.0.into()),
+    }
+}
+
 /// Appends a word and the colour of a port.
 fn put_hue(out: &mut Vec<u8>, word: &[u8], port: Port) -> Result<(), AllocError>
     ensures { Appends out.old out.new (word.now ++ decimal (hue_of port)) result }
@@ -166,6 +195,8 @@ fn put_piece(out: &mut Vec<u8>, piece: &Piece<'_>) -> Result<(), AllocError>
         Piece::Tells(event) => put_event(out, event),
         Piece::End(ended) => put_end(out, *ended),
         Piece::Until(until) => put_until(out, *until),
+        Piece::Mover(told) => put_mover(out, *told),
+        Piece::Aim(case) => put_aim(out, *case),
         Piece::Class(label) => put_class(out, *label),
         Piece::Ending(what) => put(out, end_class(*what)),
         Piece::Name(label) => put_label(out, *label),

@@ -15,6 +15,7 @@ mod page;
 mod stalls;
 mod strips;
 mod style;
+mod waiters;
 
 use self::arrows::put_arrows;
 use self::bars::put_bars;

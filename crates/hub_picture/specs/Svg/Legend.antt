@@ -11,7 +11,8 @@ use Rattle.hub_picture.specs.declared.drawing.Drawing.{Drawing}
 use Rattle.hub_picture.specs.declared.label.Label.{Label}
 use Rattle.hub_picture.specs.declared.label.Label.TheVariants as label
 use Rattle.hub_picture.specs.declared.svg.legend.Mark.{Mark}
-use Rattle.hub_picture.specs.declared.svg.legend.Mark.TheVariants.{Boxes, Makes, Closes, Selects, Defaults, Cancels, Refused, Open, Drained, Cancelled, Trouble, Bars, Arrows, Stalls, Levels}
+use Rattle.hub_picture.specs.declared.svg.legend.Mark.TheVariants.{Boxes, Makes, Closes, Selects, Defaults, Cancels, Refused, Open}
+use Rattle.hub_picture.specs.declared.svg.legend.Mark.TheVariants.{Drained, Cancelled, Trouble, Bars, Arrows, Stalls, Levels}
 use Rattle.hub_picture.specs.Labels.{label_of, last_told}
 
 -- ---- what a label says

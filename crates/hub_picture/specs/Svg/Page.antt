@@ -1,11 +1,11 @@
 -- The whole picture: a head, the bands of steps one below the other, and a foot that tells how to read it.
-use Rattle.std.specs.Prelude.{ℕ, zero, suc, ◌+◌, ◌-◌, ◌*◌, ◌/◌, nat_le, min, max, List, [], ◌∷◌, ◌++◌, codes, decimal, if◌then◌else◌}
+use Rattle.std.specs.Prelude.{ℕ, zero, suc, ◌+◌, ◌-◌, ◌*◌, ◌/◌, nat_le, min, max, length, List, [], ◌∷◌, ◌++◌, codes, decimal, if◌then◌else◌}
 use Rattle.std.specs.List.{flat_map}
 use Rattle.hub_picture.specs.declared.drawing.Drawing.{Drawing}
 use Rattle.hub_picture.specs.declared.frame.Frame.{Frame}
 use Rattle.hub_picture.specs.declared.frame.Scale.{Scale}
 use Rattle.hub_picture.specs.declared.frame.Scale.TheVariants.{Wide, Middle, Dense}
-use Rattle.hub_picture.specs.declared.frame.TheConstants.{LEFT, TOP, LEGEND}
+use Rattle.hub_picture.specs.declared.frame.TheConstants.{LEFT, TOP, LEGEND, ROW, MOST_ROWS}
 use Rattle.hub_picture.specs.Frames.{frame_of, half_of, height_of, ports_of, steps_of}
 use Rattle.hub_picture.specs.Svg.Arrows.{arrow_in}
 use Rattle.hub_picture.specs.Svg.Bars.{bar_in}
@@ -14,6 +14,7 @@ use Rattle.hub_picture.specs.Svg.Legend.{legend_text}
 use Rattle.hub_picture.specs.Svg.Lanes.{lane_text, ticks_to}
 use Rattle.hub_picture.specs.Svg.Stalls.{stall_in}
 use Rattle.hub_picture.specs.Svg.Strips.{strip_text, level_in}
+use Rattle.hub_picture.specs.Svg.Waiters.{waiter_text}
 use Rattle.hub_picture.specs.Svg.Style.{style}
 use Rattle.hub_picture.specs.Pieces.{joined}
 
@@ -37,9 +38,9 @@ width_of d = LEFT + max 660 (2 * half_of (scale_of d) * min (shown_of d) (steps_
 abbrev pub foot_of : Drawing → ℕ
 foot_of d = TOP + bands_of d * height_of (scale_of d) d.procs (ports_of d)
 
--- with the rows of the legend below them
+-- with the rows of those who wait and of the legend below them
 abbrev pub height_of_page : Drawing → ℕ
-height_of_page d = foot_of d + LEGEND
+height_of_page d = foot_of d + LEGEND + ROW * min (length d.waiters.items) MOST_ROWS
 
 -- ---- the text
 -- the tip of an arrow
@@ -107,8 +108,12 @@ bands_to (suc n) d = bands_to n d ++ band_text (frame_of (scale_of d) d n) d
 abbrev pub foot_opening : Drawing → List ℕ
 foot_opening d = joined (codes "<text class=\"note\" x=\"12\" y=\"" ∷ decimal (foot_of d) ∷ codes "\">\n" ∷ [])
 
+-- the rows of those who wait, and of the legend
+abbrev pub rows_text : Drawing → List ℕ
+rows_text d = flat_map waiter_text d.waiters.items ++ legend_text d
+
 abbrev pub foot_text : Drawing → List ℕ
-foot_text d = foot_opening d ++ legend_text d ++ codes "</text>\n</svg>\n"
+foot_text d = foot_opening d ++ rows_text d ++ codes "</text>\n</svg>\n"
 
 abbrev pub svg_text : Drawing → List ℕ
 svg_text d = head_text d ++ bands_to (bands_of d) d ++ foot_text d

@@ -2,13 +2,14 @@
 
 ghost use Rattle.std.specs.Prelude.{◌≡◌, ◌≤◌, ◌+◌};
 ghost use Rattle.hub_picture.specs.Pieces.{Appends};
-ghost use Rattle.hub_picture.specs.Svg.Page.{bands_of, foot_of, scale_for, scale_of, shown_of, width_of};
-ghost use Rattle.hub_picture.specs.Svg.Page.{foot_opening, foot_text, head_text, page_opening, paper_text};
+ghost use Rattle.hub_picture.specs.Svg.Page.{bands_of, foot_of, height_of_page, scale_for, scale_of, shown_of, width_of};
+ghost use Rattle.hub_picture.specs.Svg.Page.{foot_opening, foot_text, head_text, page_opening, paper_text, rows_text};
 
 use super::legend::put_legend;
 use super::style::put_style;
+use super::waiters::put_waiters;
 use crate::Drawing;
-use crate::frame::{LEFT, LEGEND, Scale, TOP, height_of, number_of, ports_of};
+use crate::frame::{LEFT, LEGEND, MOST_ROWS, ROW, Scale, TOP, height_of, number_of, ports_of};
 use crate::piece::{Piece, put_pieces};
 use std::alloc::AllocError;
 
@@ -65,11 +66,19 @@ fn foot_of(drawing: &Drawing) -> u64
     TOP + u64::from(bands_of(drawing)) * height
 }
 
+/// How high the picture is.
+fn height_of_page(drawing: &Drawing) -> u64
+    ensures { result ≡ height_of_page drawing.now }
+{
+    let rows = drawing.waiters.len().min(MOST_ROWS) as u64;
+    foot_of(drawing) + LEGEND + ROW * rows
+}
+
 /// Appends the first words of a picture of this size.
 fn put_opening(out: &mut Vec<u8>, drawing: &Drawing) -> Result<(), AllocError>
     ensures { Appends out.old out.new (page_opening drawing.now) result }
 {
-    let (width, height) = (width_of(drawing), foot_of(drawing) + LEGEND);
+    let (width, height) = (width_of(drawing), height_of_page(drawing));
     put_pieces(
         out,
         &[
@@ -100,7 +109,7 @@ fn put_paper(out: &mut Vec<u8>, drawing: &Drawing) -> Result<(), AllocError>
             Piece::Word(b"</style>\n<rect class=\"paper\" width=\""),
             Piece::Number(width_of(drawing)),
             Piece::Word(b"\" height=\""),
-            Piece::Number(foot_of(drawing) + LEGEND),
+            Piece::Number(height_of_page(drawing)),
             Piece::Word(b"\"/>\n<text class=\"note\" x=\"12\" y=\"20\">Steps "),
             Piece::Number(number_of(drawing.window.first)),
             Piece::Word(b" to "),
@@ -144,11 +153,19 @@ fn put_foot_opening(out: &mut Vec<u8>, drawing: &Drawing) -> Result<(), AllocErr
     )
 }
 
-/// Appends its foot, which tells how to read it.
+/// Appends the rows of those who wait, and of the legend.
+fn put_rows(out: &mut Vec<u8>, drawing: &Drawing) -> Result<(), AllocError>
+    ensures { Appends out.old out.new (rows_text drawing.now) result }
+{
+    put_waiters(out, &drawing.waiters)?;
+    put_legend(out, drawing)
+}
+
+/// Appends its foot, which tells who waits in vain, and how to read it.
 pub(crate) fn put_foot(out: &mut Vec<u8>, drawing: &Drawing) -> Result<(), AllocError>
     ensures { Appends out.old out.new (foot_text drawing.now) result }
 {
     put_foot_opening(out, drawing)?;
-    put_legend(out, drawing)?;
+    put_rows(out, drawing)?;
     put_pieces(out, &[Piece::Word(b"</text>\n</svg>\n")])
 }

@@ -1,0 +1,8 @@
+use Rattle.std.proofs.Common.{◌≡◌, ◌++◌, drop, map}
+use Rattle.hub_picture.specs.Waiters.{waits_for}
+use Rattle.hub_picture.proofs.waiters.add_cases.Given as goal
+
+abbrev pub invariant-loop-case : goal.invariant-loop-case
+invariant-loop-case l =
+    l.all.items ++ map (waits_for l.entries l.told l.step l.call) (drop l.case-index l.cases)
+    ≡ l.fn.all.items ++ map (waits_for l.entries l.told l.step l.call) l.cases

@@ -1,0 +1,71 @@
+-- Who waits in vain: whoever the last step of the window that stalls anyone stalls, and, where the window goes to the end,
+-- whoever waits then. For each of their cases, who was the last to send on its port by then, and who to receive from it.
+use Rattle.std.specs.Prelude.{ℕ, zero, ◌==◌, ◌&&◌, Bool, nat_le, nat_lt, List, [], ◌∷◌, ◌++◌, filter, map, length}
+use Rattle.std.specs.Prelude.{Option, None, Some, if◌then◌else◌}
+use Rattle.std.specs.List.{flat_map}
+use Rattle.hub_base.specs.declared.value.Port.{Port}
+use Rattle.hub_base.specs.declared.case.Case.{Case}
+use Rattle.hub_base.specs.declared.case.Case.TheVariants.{Send, Recv}
+use Rattle.hub_base.specs.declared.entry.Entry.{Entry}
+use Rattle.hub_story.specs.declared.told.Told.{Told}
+use Rattle.hub_story.specs.Passing.{cases_at}
+use Rattle.hub_picture.specs.declared.window.Window.{Window}
+use Rattle.hub_picture.specs.declared.waiters.Waiter.{Waiter}
+use Rattle.hub_picture.specs.Levels.{after, empty}
+
+abbrev pub port_of : Case → Port
+port_of (Send p v) = p
+port_of (Recv p) = p
+
+-- by this step or an earlier one it was sent on the port, or received from it: an empty port counts one by it
+abbrev pub sent_until : List Entry → Port → ℕ → Told → Bool
+sent_until es p step t = nat_le t.by step && nat_lt 0 (after es p empty t).sent
+
+abbrev pub received_until : List Entry → Port → ℕ → Told → Bool
+received_until es p step t = nat_le t.by step && nat_lt 0 (after es p empty t).received
+
+-- this one, where that is so, or else the one before
+abbrev pub later : Bool → Told → Option Told → Option Told
+later so t before = if so then Some t else before
+
+-- the last of these, or else the one before
+abbrev pub last_that : (Told → Bool) → Option Told → List Told → Option Told
+last_that P before [] = before
+last_that P before (t ∷ ts) = last_that P (later (P t) t before) ts
+
+-- what a call waits for by one of its cases, as it stands after this step
+abbrev pub waits_for : List Entry → List Told → ℕ → Told → Case → Waiter
+waits_for es all step t c = record {
+  told = t;
+  case = c;
+  sender = last_that (sent_until es (port_of c) step) None all;
+  receiver = last_that (received_until es (port_of c) step) None all;
+}
+
+abbrev pub waiters_of : List Entry → List Told → ℕ → Told → List Waiter
+waiters_of es all step t = map (waits_for es all step t) (cases_at es t.asked)
+
+-- of one who was stalled, as it stands after the step that stalled it
+abbrev pub stalled_waiters : List Entry → List Told → Told → List Waiter
+stalled_waiters es all t = waiters_of es all t.by t
+
+-- the step of the last of these, or else that
+abbrev pub last_step : ℕ → List Told → ℕ
+last_step before [] = before
+last_step before (t ∷ ts) = last_step t.by ts
+
+abbrev pub is_by : ℕ → Told → Bool
+is_by step t = t.by == step
+
+-- those of these that came last
+abbrev pub last_of : List Told → List Told
+last_of ts = filter (is_by (last_step zero ts)) ts
+
+-- the calls that wait in the end, where the window goes so far
+abbrev pub open_in : Window → ℕ → List Told → List Told
+open_in w count waiting = if nat_le count w.end then waiting else []
+
+abbrev pub all_waiters : Window → List Entry → List Told → List Told → List Told → List Waiter
+all_waiters w es all stalls waiting =
+    flat_map (stalled_waiters es all) (last_of stalls)
+    ++ flat_map (waiters_of es all (length es)) (open_in w (length es) waiting)

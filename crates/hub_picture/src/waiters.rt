@@ -1,0 +1,231 @@
+//! Who waits in vain, and for what: the foot of a drawing.
+
+ghost use Rattle.std.specs.Prelude.{◌≡◌, ◌<◌, ◌-◌, ◌^◌, ◌++◌, None, [], filter, length, map, IfOk, OnOk};
+ghost use Rattle.std.specs.List.{flat_map};
+ghost use Rattle.hub_base.specs.Values.{cases_or};
+ghost use Rattle.hub_story.specs.Passing.{cases_at};
+ghost use Rattle.hub_picture.specs.Waiters.{all_waiters, is_by, last_step, last_that, later, open_in, port_of};
+ghost use Rattle.hub_picture.specs.Waiters.{received_until, sent_until, stalled_waiters, waiters_of, waits_for};
+
+use crate::Window;
+use crate::levels::{after, empty};
+use hub_base::{Case, Entry, Port, Step};
+use hub_story::Told;
+use std::alloc::{AllocError, Global};
+
+/// A call that waits, one of its cases, and who was the last at its port.
+#[derive(Clone, Copy, Debug, PartialEq, Eq)]
+pub struct Waiter {
+    /// The call: that it was stalled, or that it waits.
+    pub told: Told,
+    /// The case.
+    pub case: Case,
+    /// The last send on its port.
+    pub sender: Option<Told>,
+    /// The last receive from it.
+    pub receiver: Option<Told>,
+}
+
+/// The port of a case.
+fn port_of(case: Case) -> Port
+    ensures { result ≡ port_of case }
+{
+    match case {
+        Case::Send(port, _value) => port,
+        Case::Recv(port) => port,
+    }
+}
+
+/// Whether it was sent on the port by this step or an earlier one.
+fn sent_until(entries: &[Entry], port: Port, step: u32, told: &Told) -> bool
+    ensures { result ≡ sent_until entries.now port step told.now }
+{
+    told.by <= step && after(entries, port, empty(), told).sent > 0
+}
+
+/// Whether it was received from the port by this step or an earlier one.
+fn received_until(entries: &[Entry], port: Port, step: u32, told: &Told) -> bool
+    ensures { result ≡ received_until entries.now port step told.now }
+{
+    told.by <= step && after(entries, port, empty(), told).received > 0
+}
+
+/// This one, where that is so, or else the one before.
+fn later(so: bool, told: &Told, before: Option<Told>) -> Option<Told>
+    ensures { result ≡ later so told.now before }
+{
+    if so { Some(*told) } else { before }
+}
+
+/// The last send on a port by this step.
+fn last_sent(entries: &[Entry], told: &[Told], port: Port, step: u32) -> Option<Told>
+    ensures { result ≡ last_that (sent_until entries.now port step) None told.now }
+{
+    let mut last = None;
+    for told in told {
+        last = later(sent_until(entries, port, step, told), told, last);
+    }
+    last
+}
+
+/// The last receive from a port by this step.
+fn last_received(entries: &[Entry], told: &[Told], port: Port, step: u32) -> Option<Told>
+    ensures { result ≡ last_that (received_until entries.now port step) None told.now }
+{
+    let mut last = None;
+    for told in told {
+        last = later(received_until(entries, port, step, told), told, last);
+    }
+    last
+}
+
+/// What a call waits for by a case of it, as it stands after this step.
+fn waits_for(entries: &[Entry], told: &[Told], step: u32, call: &Told, case: Case) -> Waiter
+    ensures { result ≡ waits_for entries.now told.now step call.now case }
+{
+    Waiter {
+        told: *call,
+        case,
+        sender: last_sent(entries, told, port_of(case), step),
+        receiver: last_received(entries, told, port_of(case), step),
+    }
+}
+
+/// The cases of a step; none where it is no call.
+fn cases_of(step: &Step) -> &[Case]
+    ensures { result.now ≡ cases_or step.now [] }
+{
+    match step {
+        Step::Call { cases, .. } => cases.as_slice(),
+        _ => &[],
+    }
+}
+
+/// The cases of the entry at this place.
+fn cases_at(entries: &[Entry], place: u32) -> &[Case]
+    ensures { result.now ≡ cases_at entries.now place }
+{
+    match entries.get(place as usize) {
+        Some(entry) => cases_of(&entry.step),
+        None => &[],
+    }
+}
+
+/// Adds what a call waits for by each of these cases.
+fn add_cases(
+    all: &mut Vec<Waiter>,
+    entries: &[Entry],
+    told: &[Told],
+    step: u32,
+    call: &Told,
+    cases: &[Case],
+) -> Result<(), AllocError>
+    ensures { OnOk result (
+        all.new.items ≡ all.old.items ++ map (waits_for entries.now told.now step call.now) cases.now) }
+{
+    for case in cases {
+        all.push(waits_for(entries, told, step, call, *case))?;
+    }
+    Ok(())
+}
+
+/// Adds what a call waits for, as it stands after this step.
+fn add_waiters(
+    all: &mut Vec<Waiter>,
+    entries: &[Entry],
+    told: &[Told],
+    step: u32,
+    call: &Told,
+) -> Result<(), AllocError>
+    ensures { OnOk result (
+        all.new.items ≡ all.old.items ++ waiters_of entries.now told.now step call.now) }
+{
+    add_cases(
+        all,
+        entries,
+        told,
+        step,
+        call,
+        cases_at(entries, call.asked),
+    )
+}
+
+/// The step of the last of these.
+fn last_step(told: &[Told]) -> u32
+    ensures { result ≡ last_step 0 told.now }
+{
+    let mut step = 0;
+    for told in told {
+        step = told.by;
+    }
+    step
+}
+
+/// Adds what they wait for whom this step stalled.
+fn add_stalled(
+    all: &mut Vec<Waiter>,
+    entries: &[Entry],
+    told: &[Told],
+    step: u32,
+    stalls: &[Told],
+) -> Result<(), AllocError>
+    ensures { OnOk result (all.new.items ≡ all.old.items
+        ++ flat_map (stalled_waiters entries.now told.now) (filter (is_by step) stalls.now)) }
+{
+    for call in stalls {
+        if call.by == step {
+            add_waiters(all, entries, told, call.by, call)?;
+        }
+    }
+    Ok(())
+}
+
+/// Adds what these calls wait for in the end.
+fn add_open(
+    all: &mut Vec<Waiter>,
+    entries: &[Entry],
+    told: &[Told],
+    step: u32,
+    waiting: &[Told],
+) -> Result<(), AllocError>
+    ensures { OnOk result (all.new.items ≡ all.old.items
+        ++ flat_map (waiters_of entries.now told.now step) waiting.now) }
+{
+    for call in waiting {
+        add_waiters(all, entries, told, step, call)?;
+    }
+    Ok(())
+}
+
+/// The calls that wait in the end, where the window goes so far.
+fn open_in(window: Window, count: u32, waiting: &[Told]) -> &[Told]
+    ensures { result.now ≡ open_in window count waiting.now }
+{
+    if count <= window.end { waiting } else { &[] }
+}
+
+/// Whoever waits in vain, and for what.
+pub(crate) fn waiters_in(
+    alloc: Global,
+    window: Window,
+    entries: &[Entry],
+    told: &[Told],
+    stalls: &[Told],
+    waiting: &[Told],
+) -> Result<Vec<Waiter>, AllocError>
+    requires few { length entries.now < 2 ^ 32 - 1 }
+    ensures { IfOk result (λ all.
+        all.items ≡ all_waiters window entries.now told.now stalls.now waiting.now) }
+{
+    let count = entries.len() as u32;
+    let mut all = Vec::new(alloc);
+    add_stalled(&mut all, entries, told, last_step(stalls), stalls)?;
+    add_open(
+        &mut all,
+        entries,
+        told,
+        count,
+        open_in(window, count, waiting),
+    )?;
+    Ok(all)
+}

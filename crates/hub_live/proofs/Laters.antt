@@ -1,6 +1,6 @@
 -- What a look, a meeting and a call leave in a seat.
 use Rattle.std.proofs.Common.{◌≡◌, ℕ, ◌+◌, ◌<◌, ◌==◌, ◌&&◌, Bool, true, false, not, cond, List, [], ◌∷◌, ◌++◌}
-use Rattle.std.proofs.Common.{filter, refl, sym, ap, ◌∙◌, subst, Option, Some, None, add-one, length, arith}
+use Rattle.std.proofs.Common.{filter, refl, sym, ap, ◌∙◌, subst, Option, Some, None, Ok, add-one, length, arith}
 use Rattle.std.specs.Prelude.{All, IsSome}
 use Rattle.std.proofs.lemmas.List.Elements.{All-cons}
 use Rattle.std.proofs.lemmas.Bool.{and_parts}
@@ -8,10 +8,13 @@ use Rattle.hub_base.specs.Runs.{events}
 use Rattle.hub_live.specs.Moves.{Knew}
 use Rattle.hub_live.specs.Seated.{IsSeated}
 use Rattle.hub_live.specs.Calls.{AskedNothing}
+use Rattle.hub_live.specs.Request.{step_of}
+use Rattle.hub_live.specs.declared.request.Request.{Request}
 use Rattle.hub_live.specs.Prelude.{IsPrefix, Seat, Head, Pid, Entry, Event, is_waiting, state, own, reply, last_from, is_parked, Terms, View, IsReplyTo, Name}
 use Rattle.hub_live.specs.Prelude.{name_of, IsHistory, Knows, Sees, SeesBoth, Met, with_joined, parted, given_back, SeatView, IsIdle, IsFree, own_of, IsToken}
-use Rattle.hub_live.specs.Prelude.{IsSingle, IsAlone, seat_of, StandsIn, Later, MadeEntry, AreSeats}
-use Rattle.hub_live.proofs.Prefixes.{prefix_self}
+use Rattle.hub_live.specs.Prelude.{IsSingle, IsAlone, seat_of, StandsIn, Later, MadeEntry, AreSeats, LockedView, entry_by, ServesSeat, AnswersNoCall}
+use Rattle.hub_live.proofs.Prefixes.{prefix_self, prefix_trans}
+use Rattle.hub_live.proofs.Locks.{served_answers, answers_no_call, parked_call}
 use Rattle.hub_live.proofs.Refusals.{asks_nothing}
 
 -- ---- a look
@@ -134,7 +137,7 @@ reply_ended q head es x is =
     not_true (is_parked x.what) (and_parts (x.pid.0 == q) (not (is_parked x.what)) told).1
 
 -- s made the entry and became a, and then b, which was told so
-pub made_later : (t : Terms) (s a b : SeatView) (e : Entry) (x : Event) → s.hub.terms ≡ t → a.hub ≡ s.hub → own_of a ≡ own_of s ++ e ∷ []
+made_later : (t : Terms) (s a b : SeatView) (e : Entry) (x : Event) → s.hub.terms ≡ t → a.hub ≡ s.hub → own_of a ≡ own_of s ++ e ∷ []
     → b.hub ≡ a.hub → b.pid ≡ a.pid → own_of b ≡ own_of a → IsReplyTo t.head a.pid.0 b.seen x → MadeEntry s b e x
 made_later t s a b e x terms ah ao bh bp bo told =
     let same_terms : b.hub.terms ≡ t = ap (λ (n : Name). n.terms) (bh ∙ ah) ∙ terms in
@@ -142,6 +145,51 @@ made_later t s a b e x terms ah ao bh bp bo told =
       own = bo ∙ ao;
       reply = (λ i. reply (bp i).0 (same_terms i).head b.seen) ∙ told.reply;
       ended = reply_ended a.pid.0 t.head b.seen x told.reply;
+    }
+
+-- a seat whose process was told this is idle again
+later_told : {name : Name} {s t : SeatView} {x : Event} → s.hub ≡ name → (t.hub ≡ s.hub) × (t.pid ≡ s.pid) → IsPrefix s.seen t.seen
+    → IsHistory name.terms t.seen → IsReplyTo name.terms.head s.pid.0 t.seen x → Later s t
+later_told {t = t} named same begins history told =
+    let hub = same.0 ∙ named in
+    record {
+      hub = same.0;
+      pid = same.1;
+      begins = begins;
+      idle = record {
+        history = subst (λ (n : Name). IsHistory n.terms t.seen) (sym hub) history;
+        free = (λ i. is_waiting (state (hub i).terms.head t.seen) (same.1 i).0) ∙ told.free;
+      };
+    }
+
+-- what a call that was answered leaves in its seat
+pub record Answered (s t : SeatView) (request : Request) (x : Event) : Type 0 where
+  pub later : Later s t
+  pub made : MadeEntry s t (entry_by s.pid request) x
+  pub answer : AnswersNoCall s.pid (step_of request) x
+
+-- it was answered at once
+pub answered_at_once : {name : Name} {old new : LockedView} {s t : SeatView} {x : Event} (request : Request) → s.hub ≡ name
+    → ServesSeat name old s (entry_by s.pid request) new t (Ok x) → is_parked x.what ≡ false → Answered s t request x
+answered_at_once {name} {old} {new} {s} {t} {x} request hub served clear =
+    let told = served.told clear in
+    let told_there = subst (λ (p : Pid). IsReplyTo name.terms.head p.0 t.seen x) (sym served.same.1) told in
+    record {
+      later = later_told hub served.same served.begins served.history told;
+      made = made_later name.terms s t t (entry_by s.pid request) x (ap (λ (n : Name). n.terms) hub) served.same.0 served.own refl refl refl told_there;
+      answer = answers_no_call s.pid (step_of request) x (served_answers old new (entry_by s.pid request) x served.ok);
+    }
+
+-- it parked, and its seat came from t to u while it waited
+pub answered_later : {name : Name} {old new : LockedView} {s t u : SeatView} {parked x : Event} (request : Request) → s.hub ≡ name
+    → ServesSeat name old s (entry_by s.pid request) new t (Ok parked) → is_parked parked.what ≡ true → (u.hub ≡ t.hub) × (u.pid ≡ t.pid)
+    → IsReplyTo name.terms.head t.pid.0 u.seen x → IsHistory name.terms u.seen → IsPrefix t.seen u.seen → own_of u ≡ own_of t → Answered s u request x
+answered_later {name} {old} {new} {s} {t} {u} {parked} {x} request hub served waits same told history begins still =
+    let told_there = subst (λ (p : Pid). IsReplyTo name.terms.head p.0 u.seen x) served.same.1 told in
+    record {
+      later = later_told hub (same.0 ∙ served.same.0, same.1 ∙ served.same.1) (prefix_trans s.seen t.seen u.seen served.begins begins) history told_there;
+      made = made_later name.terms s t u (entry_by s.pid request) x (ap (λ (n : Name). n.terms) hub) served.same.0 served.own same.0 same.1 still told;
+      answer = parked_call s.pid (step_of request) parked x (served_answers old new (entry_by s.pid request) parked served.ok).1 waits;
     }
 
 -- ---- the seats of a new hub

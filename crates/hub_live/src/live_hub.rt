@@ -75,7 +75,6 @@ impl<K: HubName> LiveHub<K> {
     }
 
     /// Makes a step, and waits where it parks.
-    #[tactic(auto, using(crate::proofs::Locks::served_answers, crate::proofs::Locks::answers_no_call, crate::proofs::Locks::parked_call, crate::proofs::Laters::made_later))]
     fn ask<R: Wait>(&self, rt: &R, seat: &mut Seat, request: &Request<'_>) -> Result<Event, Fault>
         requires hub { seat.old.hub ≡ K.name }
         requires fits { is_of K.name.terms.head.edition (step_of request.now) ≡ true }

@@ -138,9 +138,9 @@ fn picture_is_appended(rt: HostRuntime) -> Result<(), Fail> {
     Ok(())
 }
 
-/// The last arrow of the band, and the foot right behind it.
+/// The last arrow of the band, and the foot right behind it: the call that waits when the others have gone.
 const LAST_ARROW: &[u8] =
-    b"</title><path d=\"M340 113L420 141\"/></g>\n<text class=\"note\" x=\"12\" y=\"290\">\n<tspan x=\"12\" dy=\"18\">Box: an entry.";
+    b"</title><path d=\"M340 113L420 141\"/></g>\n<text class=\"note\" x=\"12\" y=\"290\">\n<tspan class=\"waits\" x=\"12\" dy=\"18\">P1 waits from step 6 to receive from port 1; the last to send there: P0 by step 4, to receive: P1 by step 5. </tspan>\n<tspan x=\"12\" dy=\"18\">Box: an entry.";
 
 /// An arrow goes from the lower side of its sender to the upper side of its receiver, and no box lies above it.
 #[test]

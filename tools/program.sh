@@ -28,6 +28,11 @@ count() {
     fi
 }
 
+# skipped_in FILE: how many its last line of counts says were skipped.
+skipped_in() {
+    sed -n 's/^[0-9]* passed, [0-9]* failed, \([0-9]*\) skipped$/\1/p' "$1" | grep . || echo 0
+}
+
 # replays JOURNAL EVENTS: whether the program prints these events of it, and nothing else.
 replays() {
     "$program" replay < "$1" > "$work/events" 2> "$work/errors" &&
@@ -182,6 +187,8 @@ CHANHUB=$program STORY=$story OPENER=cat TMPDIR=$work "$root/tools/explain.sh" "
 count $? "a scenario explained"
 "$root/tools/picture.py" "$story" > "$work/pictures" 2>&1
 count $? "pictures: $(cat "$work/pictures")"
+grep '^skipped: ' "$work/pictures"
+skipped=$((skipped + $(skipped_in "$work/pictures")))
 wait "$stories"
 count $? "stories: $(cat "$work/stories")"
 
@@ -190,7 +197,7 @@ make -C "$root/capi" > "$work/capi" 2>&1 && "$root/capi/tests/check.sh" "$progra
 status=$?
 cat "$work/capi"
 count "$status" "the C library"
-skipped=$((skipped + $(sed -n 's/^[0-9]* passed, [0-9]* failed, \([0-9]*\) skipped$/\1/p' "$work/capi" | grep . || echo 0)))
+skipped=$((skipped + $(skipped_in "$work/capi")))
 
 wait "$refusals"
 count $? "refused allocations: $(cat "$work/refusals")"

@@ -14,34 +14,14 @@ import sys
 import tempfile
 from concurrent.futures import FIRST_COMPLETED, ThreadPoolExecutor, wait
 
-ROOT = os.path.dirname(os.path.dirname(os.path.abspath(__file__)))
+sys.dont_write_bytecode = True
+from crates import ROOT, below, folder, read_crates
+
 LIBRARY = os.path.join('out', 'rlib')
-
-
-def folder(tree, crate):
-    return os.path.join(tree, 'crates', crate)
 
 
 def is_built(tree, crate):
     return os.path.exists(os.path.join(folder(tree, crate), LIBRARY, 'stamp'))
-
-
-def read_crates():
-    """Each crate of crates.txt with those of them that it stands on."""
-    named = {}
-    with open(os.path.join(ROOT, 'crates.txt')) as file:
-        for line in file:
-            head, colon, libraries = line.partition('#')[0].partition(':')
-            if colon:
-                named[head.split()[0]] = libraries.split()
-    return {crate: [it for it in libraries if it in named] for crate, libraries in named.items()}
-
-
-def below(crate, crates):
-    found = set(crates[crate])
-    for it in crates[crate]:
-        found |= below(it, crates)
-    return found
 
 
 def work_of(crate):

@@ -1,5 +1,5 @@
 -- Digits in lower case spell the bytes that they are decoded to.
-use Rattle.std.proofs.Common.{◌≡◌, ℕ, zero, suc, ◌+◌, ◌-◌, ◌*◌, ◌/◌, ◌%◌, ◌<◌, Bool, true, false, ◌&&◌, List, [], ◌∷◌, slice_index, Some, Result, Ok}
+use Rattle.std.proofs.Common.{◌≡◌, ℕ, zero, suc, ◌+◌, ◌-◌, ◌*◌, ◌/◌, ◌%◌, ◌<◌, ◌≤◌, Bool, true, false, ◌&&◌, List, [], ◌∷◌, slice_index, Some, Result, Ok}
 use Rattle.std.proofs.Common.{Err, inl, inr}
 use Rattle.std.proofs.Common.{refl, sym, ap, ◌∙◌, arith}
 use Rattle.std.proofs.lemmas.Bool.{and_parts, cases_lt}
@@ -7,7 +7,7 @@ use Rattle.std.proofs.lemmas.Grind.{common_steps}
 use Rattle.std.specs.Prelude.{nat_le}
 use Rattle.std.specs.List.{list_all}
 use Rattle.std.proofs.Common.{◌++◌, get_or, ◌||◌, ◌==◌}
-use Rattle.hub_base.specs.declared.text.values.TheConstants.{WORTHS}
+use Rattle.hub_base.specs.declared.text.values.TheConstants.{HIGHS, LOWS}
 use Rattle.hex.specs.declared.error.FromHexError.{FromHexError}
 use Rattle.hex.specs.Hex.{IsBytes, decode_of, decode_pairs, digit_or_error, encode_lower, encode_with, hex_digit_value, lower_digits, pair_value}
 use Rattle.hex.specs.Hex.{value_at, ◌>>=◌}
@@ -102,26 +102,59 @@ hex-spells digits bs h e =
     let ok = decode_of-ok digits bs e in
     pairs-spell 0 digits bs h (sym (decode_of-even digits ok.0) ∙ e)
 
--- what the table has for each byte below this is its worth as a digit, where that is below 16
+-- what the first table has for a byte: 16 times what it is worth as a digit, or 256
+abbrev is_high : ℕ → ℕ → Bool
+is_high c v = (v == 256) || (nat_le v 240 && ((v % 16 == 0) && (slice_index lower_digits (v / 16) == c)))
+
+-- what the second has: what it is worth, or 256
+abbrev is_low : ℕ → ℕ → Bool
+is_low c v = (v == 256) || (nat_le v 15 && (slice_index lower_digits v == c))
+
 abbrev worths_are : ℕ → Bool
 worths_are zero = true
-worths_are (suc n) = (nat_le 16 (get_or WORTHS n 0) || (slice_index lower_digits (get_or WORTHS n 0) == n)) && worths_are n
+worths_are (suc n) = is_high n (get_or HIGHS n 0) && (is_low n (get_or LOWS n 0) && worths_are n)
 
-worth-below : (n c : ℕ) → worths_are n ≡ true → c < n → get_or WORTHS c 0 < 16 → slice_index lower_digits (get_or WORTHS c 0) ≡ c
-worth-below zero c h lt small = absurd (omega arith)
-worth-below (suc n) c h lt small =
-    let parts = and_parts (nat_le 16 (get_or WORTHS n 0) || (slice_index lower_digits (get_or WORTHS n 0) == n)) (worths_are n) h in
+worths-below : (n c : ℕ) → worths_are n ≡ true → c < n → (is_high c (get_or HIGHS c 0) ≡ true) × (is_low c (get_or LOWS c 0) ≡ true)
+worths-below zero c h lt = absurd (omega arith)
+worths-below (suc n) c h lt =
+    let first = and_parts (is_high n (get_or HIGHS n 0)) (is_low n (get_or LOWS n 0) && worths_are n) h in
+    let second = and_parts (is_low n (get_or LOWS n 0)) (worths_are n) first.1 in
     elim (cases_lt c n) [
-      | inl below ↦ worth-below n c parts.1 below small
-      | inr top ↦
-          let e : c ≡ n = omega arith in
-          let here : (nat_le 16 (get_or WORTHS c 0) || (slice_index lower_digits (get_or WORTHS c 0) == c)) ≡ true = rw e parts.0 in
-          grind (arith, common_steps)
+      | inl below ↦ worths-below n c second.1 below
+      | inr top ↦ (let e : c ≡ n = omega arith in rw e (first.0, second.0))
     ]
 
--- the table has the worth of each digit
-pub worth_at : (c : ℕ) → c < 256 → get_or WORTHS c 0 < 16 → slice_index lower_digits (get_or WORTHS c 0) ≡ c
-worth_at c lt small = worth-below 256 c refl lt small
+high-most : (c v : ℕ) → is_high c v ≡ true → v ≤ 256
+high-most c v h = grind (arith, common_steps)
+
+low-most : (c v : ℕ) → is_low c v ≡ true → v ≤ 256
+low-most c v h = grind (arith, common_steps)
+
+high-digit : (c v : ℕ) → is_high c v ≡ true → v < 256 → (slice_index lower_digits (v / 16) ≡ c) × (v % 16 ≡ 0)
+high-digit c v h lt = (grind (arith, common_steps), grind (arith, common_steps))
+
+low-digit : (c v : ℕ) → is_low c v ≡ true → v < 256 → (slice_index lower_digits v ≡ c) × (v < 16)
+low-digit c v h lt = (grind (arith, common_steps), grind (arith, common_steps))
+
+-- what the tables have fits beside one another
+pub worths-most : (high low : ℕ) → high < 256 → low < 256 → get_or HIGHS high 0 + get_or LOWS low 0 ≤ 512
+worths-most high low high-lt low-lt =
+    let first = high-most high (get_or HIGHS high 0) (worths-below 256 high refl high-lt).0 in
+    let second = low-most low (get_or LOWS low 0) (worths-below 256 low refl low-lt).1 in
+    omega (arith, first, second)
+
+-- two digits are those of the byte that the tables make of them
+pub byte-digits : (high low : ℕ) → high < 256 → low < 256 → get_or HIGHS high 0 + get_or LOWS low 0 < 256
+    → (slice_index lower_digits ((get_or HIGHS high 0 + get_or LOWS low 0) / 16) ≡ high)
+    × (slice_index lower_digits ((get_or HIGHS high 0 + get_or LOWS low 0) % 16) ≡ low)
+byte-digits high low high-lt low-lt small =
+    let v = get_or HIGHS high 0 in
+    let w = get_or LOWS low 0 in
+    let first = high-digit high v (worths-below 256 high refl high-lt).0 (omega arith) in
+    let second = low-digit low w (worths-below 256 low refl low-lt).1 (omega arith) in
+    let up : (v + w) / 16 ≡ v / 16 = omega (arith, first.1, second.1) in
+    let down : (v + w) % 16 ≡ w = omega (arith, first.1, second.1) in
+    (ap (slice_index lower_digits) up ∙ first.0, ap (slice_index lower_digits) down ∙ second.0)
 
 -- one byte more is two digits more
 pub encode-push : (bs : List ℕ) (high low : ℕ) → low < 16

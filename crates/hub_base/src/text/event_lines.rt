@@ -183,13 +183,10 @@ pub fn put_bytes(out: &mut [u8], at: usize, value: &Value) -> usize
     ensures { Puts out.old out.new at (35 ∷ encode_lower (bytes_in (content value.now))) MOST_VALUE result }
 {
     let bytes = value.as_slice();
-    let mut places = [0; 2 * MOST_VALUE_BYTES];
-    let digits = &mut places[..2 * bytes.len()];
-    match hex::encode_to_slice(bytes, digits) {
-        Ok(()) => {
-            let first = put(out, at, b"#");
-            put(out, first, digits)
-        }
+    let first = put(out, at, b"#");
+    let end = first + 2 * bytes.len();
+    match hex::encode_to_slice(bytes, &mut out[first..end]) {
+        Ok(()) => end,
         Err(_other_length) => unreachable!(),
     }
 }

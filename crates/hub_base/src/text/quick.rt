@@ -10,7 +10,7 @@ ghost use Rattle.hub_base.specs.Writing.{spaced};
 
 use crate::limits::{GREATEST_PID, GREATEST_PORT, MOST_VALUE_BYTES};
 use crate::text::steps::set_call;
-use crate::text::values::worth;
+use crate::text::values::byte_of;
 use crate::{Case, Cases, Edition, Entry, Pid, Port, Step, Value};
 
 /// The number at this place, and the place behind it.
@@ -116,12 +116,13 @@ fn bytes_at(edition: Edition, bytes: &[u8], start: usize) -> Option<(Value, usiz
     let mut places = [0; MOST_VALUE_BYTES];
     let mut len = 0;
     let mut end = start + 1;
-    while let Some(high) = worth(bytes[end]) {
-        let low = worth(bytes[end + 1])?;
-        if len == MOST_VALUE_BYTES {
-            return None;
-        }
-        places[len] = high * 16 + low;
+    // Digits that are too many, or lack their second, are left there, where the caller wants another mark.
+    let most = (end + 2 * MOST_VALUE_BYTES).min(bytes.len());
+    while end + 1 < most {
+        let Some(byte) = byte_of(bytes[end], bytes[end + 1]) else {
+            break;
+        };
+        places[len] = byte;
         len += 1;
         end += 2;
     }

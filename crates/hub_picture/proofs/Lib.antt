@@ -1,5 +1,4 @@
 mod Appended
-mod Bands
 mod Editions
 pub mod Plain
 mod Ports

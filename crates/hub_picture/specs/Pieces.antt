@@ -1,6 +1,7 @@
 -- The pieces of a picture's text. No piece comes from outside: each is a fixed word, a number, or a line that tells an
 -- entry or an event.
 use Rattle.std.specs.Prelude.{◌≡◌, ℕ, ◌+◌, List, [], ◌∷◌, ◌++◌, codes, decimal, Option, None, Some, Result, OnOk, OnErr}
+use Rattle.std.specs.Borrow.{Bor}
 use Rattle.std.specs.Global.{Vec}
 use Rattle.hub_base.specs.declared.case.Case.{Case}
 use Rattle.hub_base.specs.declared.case.Case.TheVariants as case
@@ -49,6 +50,17 @@ piece_text (Class label) = class_text label
 piece_text (Ending w) = end_class w
 piece_text (Name label) = label_text label
 piece_text (Moves v) = value_text v
+
+-- a number behind a word, if there is one
+abbrev pub behind_text : Option ℕ → List ℕ
+behind_text None = []
+behind_text (Some n) = decimal n
+
+-- words, and behind each the number in its place, while there is one
+abbrev pub filled : List (Bor (List ℕ)) → List ℕ → List ℕ
+filled [] ns = []
+filled (w ∷ ws) [] = w.now ++ filled ws []
+filled (w ∷ ws) (n ∷ ns) = w.now ++ decimal n ++ filled ws ns
 
 -- the text is appended, or a part where memory was refused
 pub record Appends {E : Type 0} (old new : Vec ℕ) (text : List ℕ) (result : Result (Unit {0}) E) : Type 0 where

@@ -36,7 +36,7 @@ pub(crate) fn number_of(place: u32) -> u64
 }
 
 /// How much room steps and processes have.
-#[derive(Clone, Copy, Debug, PartialEq, Eq)]
+#[derive(Clone, Copy)]
 pub(crate) enum Scale {
     /// For a few steps.
     Wide,
@@ -122,7 +122,7 @@ impl Scale {
 }
 
 /// A band of steps.
-#[derive(Clone, Copy, Debug, PartialEq, Eq)]
+#[derive(Clone, Copy)]
 pub(crate) struct Frame {
     /// How much room steps and processes have.
     pub scale: Scale,

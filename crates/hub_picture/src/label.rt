@@ -10,7 +10,7 @@ use hub_base::{Case, Fault, Outcome, Pid, Port, Step, Value, What};
 use hub_story::Told;
 
 /// What an entry is, in a word.
-#[derive(Clone, Copy, Debug, PartialEq, Eq)]
+#[derive(Clone, Copy)]
 pub(crate) enum Label {
     /// It made this port.
     Make(Port),

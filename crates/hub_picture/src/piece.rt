@@ -6,9 +6,10 @@ ghost use Rattle.std.specs.List.{flat_map};
 ghost use Rattle.hub_base.specs.EventText.{event_line};
 ghost use Rattle.hub_base.specs.Lines.{line};
 ghost use Rattle.hub_picture.specs.Labels.{class_text, hue_of, label_text, value_text};
-ghost use Rattle.hub_picture.specs.Pieces.{Appends, aim_text, end_text, mover_text, piece_text, until_text};
+ghost use Rattle.hub_picture.specs.Pieces.{Appends, aim_text, behind_text, end_text, filled, mover_text, piece_text, until_text};
 
 use crate::label::{Label, end_class};
+use crate::pen::{Pen, put_each};
 use hub_base::{
     Case, Edition, Entry, Event, NoMemory, Port, Value, What, write_entry, write_event,
 };
@@ -46,7 +47,7 @@ pub(crate) enum Piece<'a> {
 }
 
 /// Appends these bytes.
-fn put(out: &mut Vec<u8>, bytes: &[u8]) -> Result<(), AllocError>
+pub(crate) fn put(out: &mut Vec<u8>, bytes: &[u8]) -> Result<(), AllocError>
     ensures { Appends out.old out.new bytes.now result }
 {
     out.extend_from_slice(bytes)
@@ -184,23 +185,28 @@ fn put_value(out: &mut Vec<u8>, value: Option<Value>) -> Result<(), AllocError>
     }
 }
 
-/// Appends a piece.
-fn put_piece(out: &mut Vec<u8>, piece: &Piece<'_>) -> Result<(), AllocError>
-    ensures { Appends out.old out.new (piece_text piece.now) result }
-{
-    match piece {
-        Piece::Word(bytes) => put(out, bytes),
-        Piece::Number(number) => put_number(out, *number),
-        Piece::Line(entry) => put_entry(out, entry),
-        Piece::Tells(event) => put_event(out, event),
-        Piece::End(ended) => put_end(out, *ended),
-        Piece::Until(until) => put_until(out, *until),
-        Piece::Mover(told) => put_mover(out, *told),
-        Piece::Aim(case) => put_aim(out, *case),
-        Piece::Class(label) => put_class(out, *label),
-        Piece::Ending(what) => put(out, end_class(*what)),
-        Piece::Name(label) => put_label(out, *label),
-        Piece::Moves(value) => put_value(out, *value),
+/// Pieces.
+#[derive(Clone, Copy)]
+struct Pieces;
+
+impl Pen<Piece<'_>> for Pieces {
+    ghost text = { λ _. piece_text };
+
+    fn put(&self, out: &mut Vec<u8>, piece: &Piece<'_>) -> Result<(), AllocError> {
+        match piece {
+            Piece::Word(bytes) => put(out, bytes),
+            Piece::Number(number) => put_number(out, *number),
+            Piece::Line(entry) => put_entry(out, entry),
+            Piece::Tells(event) => put_event(out, event),
+            Piece::End(ended) => put_end(out, *ended),
+            Piece::Until(until) => put_until(out, *until),
+            Piece::Mover(told) => put_mover(out, *told),
+            Piece::Aim(case) => put_aim(out, *case),
+            Piece::Class(label) => put_class(out, *label),
+            Piece::Ending(what) => put(out, end_class(*what)),
+            Piece::Name(label) => put_label(out, *label),
+            Piece::Moves(value) => put_value(out, *value),
+        }
     }
 }
 
@@ -208,8 +214,30 @@ fn put_piece(out: &mut Vec<u8>, piece: &Piece<'_>) -> Result<(), AllocError>
 pub(crate) fn put_pieces(out: &mut Vec<u8>, pieces: &[Piece<'_>]) -> Result<(), AllocError>
     ensures { Appends out.old out.new (flat_map piece_text pieces.now) result }
 {
-    for piece in pieces {
-        match put_piece(out, piece) {
+    put_each(out, &Pieces, pieces)
+}
+
+/// Appends a word, and the number behind it, if there is one.
+fn put_word(out: &mut Vec<u8>, word: &[u8], number: Option<u64>) -> Result<(), AllocError>
+    ensures { Appends out.old out.new (word.now ++ behind_text number) result }
+{
+    put(out, word)?;
+    match number {
+        Some(number) => put_number(out, number),
+        None => Ok(()),
+    }
+}
+
+/// Appends words, and behind each the number in its place, while there is one.
+pub(crate) fn put_filled(
+    out: &mut Vec<u8>,
+    words: &[&[u8]],
+    numbers: &[u64],
+) -> Result<(), AllocError>
+    ensures { Appends out.old out.new (filled words.now numbers.now) result }
+{
+    for (place, word) in words.iter().enumerate() {
+        match put_word(out, word, numbers.get(place).copied()) {
             Ok(()) => {}
             Err(AllocError) => return Err(AllocError),
         }

@@ -17,15 +17,16 @@ mod strips;
 mod style;
 mod waiters;
 
-use self::arrows::put_arrows;
-use self::bars::put_bars;
-use self::boxes::put_boxes;
-use self::lanes::{put_lanes, put_ticks};
+use self::arrows::Arrows;
+use self::bars::Bars;
+use self::boxes::Boxes;
+use self::lanes::{Lanes, put_ticks};
 use self::page::{bands_of, put_foot, put_head, scale_of};
-use self::stalls::put_stalls;
-use self::strips::{put_levels, put_strips};
+use self::stalls::Stalls;
+use self::strips::{Levels, Strips};
 use crate::Drawing;
 use crate::frame::{Frame, frame_of};
+use crate::pen::put_each;
 use hub_base::{NoMemory, undo_if_refused};
 use std::alloc::AllocError;
 
@@ -33,26 +34,26 @@ use std::alloc::AllocError;
 fn put_back(out: &mut Vec<u8>, frame: Frame, drawing: &Drawing) -> Result<(), AllocError>
     ensures { Appends out.old out.new (back_text frame drawing.now) result }
 {
-    put_lanes(out, frame, &drawing.lanes)?;
+    put_each(out, &Lanes(frame), &drawing.lanes)?;
     put_ticks(out, frame)?;
-    put_stalls(out, frame, &drawing.stalls)
+    put_each(out, &Stalls(frame), &drawing.stalls)
 }
 
 /// Appends what stands below.
 fn put_below(out: &mut Vec<u8>, frame: Frame, drawing: &Drawing) -> Result<(), AllocError>
     ensures { Appends out.old out.new (below_text frame drawing.now) result }
 {
-    put_strips(out, frame, &drawing.strips)?;
-    put_levels(out, frame, &drawing.levels)
+    put_each(out, &Strips(frame), &drawing.strips)?;
+    put_each(out, &Levels(frame), &drawing.levels)
 }
 
 /// Appends what stands before all.
 fn put_front(out: &mut Vec<u8>, frame: Frame, drawing: &Drawing) -> Result<(), AllocError>
     ensures { Appends out.old out.new (front_text frame drawing.now) result }
 {
-    put_bars(out, frame, &drawing.bars)?;
-    put_boxes(out, frame, &drawing.boxes)?;
-    put_arrows(out, frame, &drawing.arrows)
+    put_each(out, &Bars(frame), &drawing.bars)?;
+    put_each(out, &Boxes(frame), &drawing.boxes)?;
+    put_each(out, &Arrows(frame), &drawing.arrows)
 }
 
 /// Appends a band.

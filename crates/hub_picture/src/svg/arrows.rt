@@ -1,6 +1,5 @@
 //! The arrows of values on their way.
 
-ghost use Rattle.std.specs.List.{flat_map};
 ghost use Rattle.std.specs.Prelude.{◌≡◌};
 ghost use Rattle.hub_picture.specs.Pieces.{Appends};
 ghost use Rattle.hub_picture.specs.Svg.Arrows.{arrow_body, arrow_in, arrow_opening, arrow_text};
@@ -8,7 +7,8 @@ ghost use Rattle.hub_picture.specs.Svg.Arrows.{arrow_title, ends_in, moved_title
 
 use crate::Arrow;
 use crate::frame::{Frame, number_of};
-use crate::piece::{Piece, put_pieces};
+use crate::pen::Pen;
+use crate::piece::{Piece, put, put_filled, put_pieces};
 use hub_base::{Pid, Port};
 use hub_story::Told;
 use std::alloc::AllocError;
@@ -31,15 +31,10 @@ fn side(frame: Frame, pid: Pid, other: Pid) -> u64
 fn put_opening(out: &mut Vec<u8>, port: Port) -> Result<(), AllocError>
     ensures { Appends out.old out.new (arrow_opening port) result }
 {
-    put_pieces(
+    put_filled(
         out,
-        &[
-            Piece::Word(b"<g class=\"arrow h"),
-            Piece::Number((port.0 % 5).into()),
-            Piece::Word(b"\"><title>port "),
-            Piece::Number(port.0.into()),
-            Piece::Word(b" from\n"),
-        ],
+        &[b"<g class=\"arrow h", b"\"><title>port ", b" from\n"],
+        &[(port.0 % 5).into(), port.0.into()],
     )
 }
 
@@ -65,7 +60,7 @@ fn put_title(out: &mut Vec<u8>, sent: &Told, received: &Told) -> Result<(), Allo
     ensures { Appends out.old out.new (arrow_title sent.now received.now) result }
 {
     put_moved(out, sent)?;
-    put_pieces(out, &[Piece::Word(b"to\n")])?;
+    put(out, b"to\n")?;
     put_moved(out, received)
 }
 
@@ -73,18 +68,14 @@ fn put_title(out: &mut Vec<u8>, sent: &Told, received: &Told) -> Result<(), Allo
 fn put_body(out: &mut Vec<u8>, frame: Frame, sent: &Told, received: &Told) -> Result<(), AllocError>
     ensures { Appends out.old out.new (arrow_body frame sent.now received.now) result }
 {
-    put_pieces(
+    put_filled(
         out,
+        &[b"</title><path d=\"M", b" ", b"L", b" ", b"\"/></g>\n"],
         &[
-            Piece::Word(b"</title><path d=\"M"),
-            Piece::Number(frame.x(sent.by)),
-            Piece::Word(b" "),
-            Piece::Number(side(frame, sent.event.pid, received.event.pid)),
-            Piece::Word(b"L"),
-            Piece::Number(frame.x(received.by)),
-            Piece::Word(b" "),
-            Piece::Number(side(frame, received.event.pid, sent.event.pid)),
-            Piece::Word(b"\"/></g>\n"),
+            frame.x(sent.by),
+            side(frame, sent.event.pid, received.event.pid),
+            frame.x(received.by),
+            side(frame, received.event.pid, sent.event.pid),
         ],
     )
 }
@@ -110,30 +101,18 @@ fn ends_in(frame: Frame, arrow: &Arrow) -> bool
     frame.steps.has(arrow.passage.sent.told.by) || frame.steps.has(arrow.passage.received.told.by)
 }
 
-/// Appends an arrow where the band has an end of it.
-fn put_arrow_in(out: &mut Vec<u8>, frame: Frame, arrow: &Arrow) -> Result<(), AllocError>
-    ensures { Appends out.old out.new (arrow_in frame arrow.now) result }
-{
-    if ends_in(frame, arrow) {
-        put_arrow(out, frame, arrow)
-    } else {
-        Ok(())
-    }
-}
+/// Arrows, where this band has an end of them.
+#[derive(Clone, Copy)]
+pub(crate) struct Arrows(pub Frame);
 
-/// Appends the arrows of a band.
-pub(crate) fn put_arrows(
-    out: &mut Vec<u8>,
-    frame: Frame,
-    arrows: &[Arrow],
-) -> Result<(), AllocError>
-    ensures { Appends out.old out.new (flat_map (arrow_in frame) arrows.now) result }
-{
-    for arrow in arrows {
-        match put_arrow_in(out, frame, arrow) {
-            Ok(()) => {}
-            Err(AllocError) => return Err(AllocError),
+impl Pen<Arrow> for Arrows {
+    ghost text = { λ pen. arrow_in pen.0 };
+
+    fn put(&self, out: &mut Vec<u8>, arrow: &Arrow) -> Result<(), AllocError> {
+        if ends_in(self.0, arrow) {
+            put_arrow(out, self.0, arrow)
+        } else {
+            Ok(())
         }
     }
-    Ok(())
 }

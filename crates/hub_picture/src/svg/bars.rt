@@ -1,13 +1,13 @@
 //! The bars of calls that waited.
 
-ghost use Rattle.std.specs.List.{flat_map};
 ghost use Rattle.hub_picture.specs.Pieces.{Appends};
 ghost use Rattle.hub_picture.specs.Svg.Bars.{bar_body, bar_in, bar_text, drawn_bar, knob_in, knob_text};
 
 use crate::Asked;
 use crate::asked::{Shown, ended_by, shows};
 use crate::frame::Frame;
-use crate::piece::{Piece, put_pieces};
+use crate::pen::Pen;
+use crate::piece::{put, put_filled};
 use crate::svg::boxes::{put_asked_title, put_opening};
 use hub_base::Pid;
 use hub_story::Told;
@@ -17,17 +17,10 @@ use std::alloc::AllocError;
 fn put_knob(out: &mut Vec<u8>, frame: Frame, pid: Pid, end: &Told) -> Result<(), AllocError>
     ensures { Appends out.old out.new (knob_text frame pid.0 end.now) result }
 {
-    put_pieces(
+    put_filled(
         out,
-        &[
-            Piece::Word(b"<circle cx=\""),
-            Piece::Number(frame.x(end.by)),
-            Piece::Word(b"\" cy=\""),
-            Piece::Number(frame.y(pid.0)),
-            Piece::Word(b"\" r=\""),
-            Piece::Number(frame.scale.thick() + 1),
-            Piece::Word(b"\"/>"),
-        ],
+        &[b"<circle cx=\"", b"\" cy=\"", b"\" r=\"", b"\"/>"],
+        &[frame.x(end.by), frame.y(pid.0), frame.scale.thick() + 1],
     )
 }
 
@@ -54,19 +47,16 @@ fn put_body(out: &mut Vec<u8>, frame: Frame, asked: &Asked) -> Result<(), AllocE
     let y = frame.y(asked.entry.pid.0);
     let end = frame.x(frame.until(ended_by(asked.ended)));
     let thick = frame.scale.thick();
-    put_pieces(
+    put_filled(
         out,
         &[
-            Piece::Word(b"</title><rect x=\""),
-            Piece::Number(x),
-            Piece::Word(b"\" y=\""),
-            Piece::Number(y - thick),
-            Piece::Word(b"\" width=\""),
-            Piece::Number(end.saturating_sub(x)),
-            Piece::Word(b"\" height=\""),
-            Piece::Number(2 * thick),
-            Piece::Word(b"\"/>"),
+            b"</title><rect x=\"",
+            b"\" y=\"",
+            b"\" width=\"",
+            b"\" height=\"",
+            b"\"/>",
         ],
+        &[x, y - thick, end.saturating_sub(x), 2 * thick],
     )
 }
 
@@ -76,7 +66,7 @@ fn put_drawn(out: &mut Vec<u8>, frame: Frame, asked: &Asked) -> Result<(), Alloc
 {
     put_body(out, frame, asked)?;
     put_knob_in(out, frame, asked.entry.pid, asked.ended)?;
-    put_pieces(out, &[Piece::Word(b"</g>\n")])
+    put(out, b"</g>\n")
 }
 
 /// Appends the bar of a call.
@@ -88,26 +78,18 @@ fn put_bar(out: &mut Vec<u8>, frame: Frame, asked: &Asked) -> Result<(), AllocEr
     put_drawn(out, frame, asked)
 }
 
-/// The same where it waits in the band.
-fn put_bar_in(out: &mut Vec<u8>, frame: Frame, asked: &Asked) -> Result<(), AllocError>
-    ensures { Appends out.old out.new (bar_in frame asked.now) result }
-{
-    if shows(Shown::Bars, frame.steps, asked.place, asked.ended) {
-        put_bar(out, frame, asked)
-    } else {
-        Ok(())
-    }
-}
+/// Bars, where their calls wait in this band.
+#[derive(Clone, Copy)]
+pub(crate) struct Bars(pub Frame);
 
-/// Appends the bars of a band.
-pub(crate) fn put_bars(out: &mut Vec<u8>, frame: Frame, bars: &[Asked]) -> Result<(), AllocError>
-    ensures { Appends out.old out.new (flat_map (bar_in frame) bars.now) result }
-{
-    for asked in bars {
-        match put_bar_in(out, frame, asked) {
-            Ok(()) => {}
-            Err(AllocError) => return Err(AllocError),
+impl Pen<Asked> for Bars {
+    ghost text = { λ pen. bar_in pen.0 };
+
+    fn put(&self, out: &mut Vec<u8>, asked: &Asked) -> Result<(), AllocError> {
+        if shows(Shown::Bars, self.0.steps, asked.place, asked.ended) {
+            put_bar(out, self.0, asked)
+        } else {
+            Ok(())
         }
     }
-    Ok(())
 }

@@ -1,12 +1,12 @@
 //! The boxes of entries.
 
-ghost use Rattle.std.specs.List.{flat_map};
 ghost use Rattle.hub_picture.specs.Pieces.{Appends};
 ghost use Rattle.hub_picture.specs.Svg.Boxes.{asked_title, box_body, box_in, box_text, opening_text};
 
 use crate::Asked;
 use crate::frame::{Frame, number_of};
 use crate::label::{label_of, last_told, shown_value};
+use crate::pen::Pen;
 use crate::piece::{Piece, put_pieces};
 use std::alloc::AllocError;
 
@@ -82,26 +82,18 @@ fn put_box(out: &mut Vec<u8>, frame: Frame, asked: &Asked) -> Result<(), AllocEr
     put_body(out, frame, asked)
 }
 
-/// The same where the band has its step.
-fn put_box_in(out: &mut Vec<u8>, frame: Frame, asked: &Asked) -> Result<(), AllocError>
-    ensures { Appends out.old out.new (box_in frame asked.now) result }
-{
-    if frame.steps.has(asked.place) {
-        put_box(out, frame, asked)
-    } else {
-        Ok(())
-    }
-}
+/// Boxes, where this band has their step.
+#[derive(Clone, Copy)]
+pub(crate) struct Boxes(pub Frame);
 
-/// Appends the boxes of a band.
-pub(crate) fn put_boxes(out: &mut Vec<u8>, frame: Frame, boxes: &[Asked]) -> Result<(), AllocError>
-    ensures { Appends out.old out.new (flat_map (box_in frame) boxes.now) result }
-{
-    for asked in boxes {
-        match put_box_in(out, frame, asked) {
-            Ok(()) => {}
-            Err(AllocError) => return Err(AllocError),
+impl Pen<Asked> for Boxes {
+    ghost text = { λ pen. box_in pen.0 };
+
+    fn put(&self, out: &mut Vec<u8>, asked: &Asked) -> Result<(), AllocError> {
+        if self.0.steps.has(asked.place) {
+            put_box(out, self.0, asked)
+        } else {
+            Ok(())
         }
     }
-    Ok(())
 }

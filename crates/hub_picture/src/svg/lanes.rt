@@ -1,69 +1,65 @@
 //! What stands behind the shapes of a band.
 
 ghost use Rattle.std.specs.Prelude.{◌≡◌, ◌<◌, ◌+◌, ◌^◌, ◌-◌};
-ghost use Rattle.std.specs.List.{flat_map};
 ghost use Rattle.hub_picture.specs.Pieces.{Appends};
 ghost use Rattle.hub_picture.specs.Svg.Lanes.{lane_text, tick_in, tick_text, ticks_to};
 
 use crate::Lane;
 use crate::frame::{Frame, LEFT, number_of};
-use crate::piece::{Piece, put_pieces};
+use crate::pen::Pen;
+use crate::piece::put_filled;
 use std::alloc::AllocError;
 
-/// Appends the lane of a process, until it exits.
-fn put_lane(out: &mut Vec<u8>, frame: Frame, lane: &Lane) -> Result<(), AllocError>
-    ensures { Appends out.old out.new (lane_text frame lane.now) result }
-{
-    let y = frame.y(lane.pid);
-    put_pieces(
-        out,
-        &[
-            Piece::Word(b"<path class=\"lane\" d=\"M"),
-            Piece::Number(LEFT),
-            Piece::Word(b" "),
-            Piece::Number(y),
-            Piece::Word(b"L"),
-            Piece::Number(frame.x(frame.until(lane.exited))),
-            Piece::Word(b" "),
-            Piece::Number(y),
-            Piece::Word(b"\"/><text class=\"name\" x=\""),
-            Piece::Number(LEFT - 8),
-            Piece::Word(b"\" y=\""),
-            Piece::Number(y + 4),
-            Piece::Word(b"\">P"),
-            Piece::Number(lane.pid.into()),
-            Piece::Word(b"</text>\n"),
-        ],
-    )
-}
+/// Lanes, in this band: each until its process exits.
+#[derive(Clone, Copy)]
+pub(crate) struct Lanes(pub Frame);
 
-/// Appends these lanes.
-pub(crate) fn put_lanes(out: &mut Vec<u8>, frame: Frame, lanes: &[Lane]) -> Result<(), AllocError>
-    ensures { Appends out.old out.new (flat_map (lane_text frame) lanes.now) result }
-{
-    for lane in lanes {
-        match put_lane(out, frame, lane) {
-            Ok(()) => {}
-            Err(AllocError) => return Err(AllocError),
-        }
+impl Pen<Lane> for Lanes {
+    ghost text = { λ pen. lane_text pen.0 };
+
+    fn put(&self, out: &mut Vec<u8>, lane: &Lane) -> Result<(), AllocError> {
+        let y = self.0.y(lane.pid);
+        put_filled(
+            out,
+            &[
+                b"<path class=\"lane\" d=\"M",
+                b" ",
+                b"L",
+                b" ",
+                b"\"/><text class=\"name\" x=\"",
+                b"\" y=\"",
+                b"\">P",
+                b"</text>\n",
+            ],
+            &[
+                LEFT,
+                y,
+                self.0.x(self.0.until(lane.exited)),
+                y,
+                LEFT - 8,
+                y + 4,
+                lane.pid.into(),
+            ],
+        )
     }
-    Ok(())
 }
 
 /// Appends the number of a step.
 fn put_tick(out: &mut Vec<u8>, frame: Frame, place: u32) -> Result<(), AllocError>
     ensures { Appends out.old out.new (tick_text frame place) result }
 {
-    put_pieces(
+    put_filled(
         out,
         &[
-            Piece::Word(b"<text class=\"tick\" x=\""),
-            Piece::Number(frame.x(place)),
-            Piece::Word(b"\" y=\""),
-            Piece::Number(frame.y(0) - frame.scale.size()),
-            Piece::Word(b"\">"),
-            Piece::Number(number_of(place)),
-            Piece::Word(b"</text>\n"),
+            b"<text class=\"tick\" x=\"",
+            b"\" y=\"",
+            b"\">",
+            b"</text>\n",
+        ],
+        &[
+            frame.x(place),
+            frame.y(0) - frame.scale.size(),
+            number_of(place),
         ],
     )
 }

@@ -1,14 +1,15 @@
 //! How to read what occurs in a picture.
 
 ghost use Rattle.std.specs.Prelude.{◌≡◌};
-ghost use Rattle.std.specs.List.{flat_map, list_any};
+ghost use Rattle.std.specs.List.{list_any};
 ghost use Rattle.hub_picture.specs.Pieces.{Appends};
 ghost use Rattle.hub_picture.specs.Svg.Legend.{box_rows, edge_rows, has_mark, is_closed, is_drained, legend_text, mark_text};
 ghost use Rattle.hub_picture.specs.Svg.Legend.{mark_words, occurs, row_text, shape_rows};
 ghost use Rattle.hub_story.specs.Waiting.{is_stalled};
 
 use crate::label::{Label, label_of, last_told};
-use crate::piece::{Piece, put_pieces};
+use crate::pen::{Pen, put_each};
+use crate::piece::put;
 use crate::{Asked, Drawing};
 use hub_base::{Outcome, What};
 use std::alloc::AllocError;
@@ -146,37 +147,29 @@ fn words(mark: Mark) -> &'static [u8]
     }
 }
 
-/// Appends that, where it occurs.
-fn put_mark(out: &mut Vec<u8>, drawing: &Drawing, mark: Mark) -> Result<(), AllocError>
-    ensures { Appends out.old out.new (mark_text drawing.now mark) result }
-{
-    if occurs(drawing, mark) {
-        put_pieces(out, &[Piece::Word(words(mark))])
-    } else {
-        Ok(())
-    }
-}
+/// What is told of marks, where this drawing has them.
+#[derive(Clone, Copy)]
+struct Marks<'a>(&'a Drawing);
 
-/// Appends what is told of these.
-fn put_marks(out: &mut Vec<u8>, drawing: &Drawing, marks: &[Mark]) -> Result<(), AllocError>
-    ensures { Appends out.old out.new (flat_map (mark_text drawing.now) marks.now) result }
-{
-    for mark in marks {
-        match put_mark(out, drawing, *mark) {
-            Ok(()) => {}
-            Err(AllocError) => return Err(AllocError),
+impl Pen<Mark> for Marks<'_> {
+    ghost text = { λ pen. mark_text pen.0.now };
+
+    fn put(&self, out: &mut Vec<u8>, mark: &Mark) -> Result<(), AllocError> {
+        if occurs(self.0, *mark) {
+            put(out, words(*mark))
+        } else {
+            Ok(())
         }
     }
-    Ok(())
 }
 
 /// Appends a row of it.
 fn put_row(out: &mut Vec<u8>, drawing: &Drawing, marks: &[Mark]) -> Result<(), AllocError>
     ensures { Appends out.old out.new (row_text drawing.now marks.now) result }
 {
-    put_pieces(out, &[Piece::Word(b"<tspan x=\"12\" dy=\"18\">")])?;
-    put_marks(out, drawing, marks)?;
-    put_pieces(out, &[Piece::Word(b"</tspan>\n")])
+    put(out, b"<tspan x=\"12\" dy=\"18\">")?;
+    put_each(out, &Marks(drawing), marks)?;
+    put(out, b"</tspan>\n")
 }
 
 /// Appends the boxes, and what stands in them.

@@ -7,10 +7,11 @@ ghost use Rattle.hub_picture.specs.Svg.Page.{foot_opening, foot_text, head_text,
 
 use super::legend::put_legend;
 use super::style::put_style;
-use super::waiters::put_waiters;
+use super::waiters::Rows;
 use crate::Drawing;
 use crate::frame::{LEFT, LEGEND, MOST_ROWS, ROW, Scale, TOP, height_of, number_of, ports_of};
-use crate::piece::{Piece, put_pieces};
+use crate::pen::put_each;
+use crate::piece::{put, put_filled};
 use std::alloc::AllocError;
 
 /// How many steps are shown.
@@ -79,22 +80,24 @@ fn put_opening(out: &mut Vec<u8>, drawing: &Drawing) -> Result<(), AllocError>
     ensures { Appends out.old out.new (page_opening drawing.now) result }
 {
     let (width, height) = (width_of(drawing), height_of_page(drawing));
-    put_pieces(
+    put_filled(
         out,
         &[
-            Piece::Word(b"<svg xmlns=\"http://www.w3.org/2000/svg\" width=\""),
-            Piece::Number(width),
-            Piece::Word(b"\" height=\""),
-            Piece::Number(height),
-            Piece::Word(b"\" viewBox=\"0 0 "),
-            Piece::Number(width),
-            Piece::Word(b" "),
-            Piece::Number(height),
-            Piece::Word(b"\" role=\"img\">\n<title>Steps "),
-            Piece::Number(number_of(drawing.window.first)),
-            Piece::Word(b" to "),
-            Piece::Number(drawing.window.end.into()),
-            Piece::Word(b"</title>\n<style>"),
+            b"<svg xmlns=\"http://www.w3.org/2000/svg\" width=\"",
+            b"\" height=\"",
+            b"\" viewBox=\"0 0 ",
+            b" ",
+            b"\" role=\"img\">\n<title>Steps ",
+            b" to ",
+            b"</title>\n<style>",
+        ],
+        &[
+            width,
+            height,
+            width,
+            height,
+            number_of(drawing.window.first),
+            drawing.window.end.into(),
         ],
     )
 }
@@ -103,29 +106,27 @@ fn put_opening(out: &mut Vec<u8>, drawing: &Drawing) -> Result<(), AllocError>
 fn put_paper(out: &mut Vec<u8>, drawing: &Drawing) -> Result<(), AllocError>
     ensures { Appends out.old out.new (paper_text drawing.now) result }
 {
-    put_pieces(
+    put_filled(
         out,
         &[
-            Piece::Word(b"</style>\n<rect class=\"paper\" width=\""),
-            Piece::Number(width_of(drawing)),
-            Piece::Word(b"\" height=\""),
-            Piece::Number(height_of_page(drawing)),
-            Piece::Word(b"\"/>\n<text class=\"note\" x=\"12\" y=\"20\">Steps "),
-            Piece::Number(number_of(drawing.window.first)),
-            Piece::Word(b" to "),
-            Piece::Number(drawing.window.end.into()),
-            Piece::Word(b" of "),
-            Piece::Number(drawing.procs.into()),
-            Piece::Word(b" processes</text>\n<defs>"),
-            Piece::Word(
-                b"<marker id=\"tip\" viewBox=\"0 0 8 8\" refX=\"7\" refY=\"4\" markerWidth=\"5\" markerHeight=\"5\" orient=\"auto\">",
-            ),
-            Piece::Word(b"<path class=\"tip\" d=\"M0 0L8 4L0 8z\"/></marker>"),
-            Piece::Word(
-                b"<marker id=\"dot\" viewBox=\"0 0 8 8\" refX=\"4\" refY=\"4\" markerWidth=\"3\" markerHeight=\"3\">",
-            ),
-            Piece::Word(b"<circle class=\"tip\" cx=\"4\" cy=\"4\" r=\"4\"/></marker>"),
-            Piece::Word(b"</defs>\n"),
+            b"</style>\n<rect class=\"paper\" width=\"",
+            b"\" height=\"",
+            b"\"/>\n<text class=\"note\" x=\"12\" y=\"20\">Steps ",
+            b" to ",
+            b" of ",
+            b" processes</text>\n<defs>\
+<marker id=\"tip\" viewBox=\"0 0 8 8\" refX=\"7\" refY=\"4\" markerWidth=\"5\" markerHeight=\"5\" orient=\"auto\">\
+<path class=\"tip\" d=\"M0 0L8 4L0 8z\"/></marker>\
+<marker id=\"dot\" viewBox=\"0 0 8 8\" refX=\"4\" refY=\"4\" markerWidth=\"3\" markerHeight=\"3\">\
+<circle class=\"tip\" cx=\"4\" cy=\"4\" r=\"4\"/></marker>\
+</defs>\n",
+        ],
+        &[
+            width_of(drawing),
+            height_of_page(drawing),
+            number_of(drawing.window.first),
+            drawing.window.end.into(),
+            drawing.procs.into(),
         ],
     )
 }
@@ -143,13 +144,10 @@ pub(crate) fn put_head(out: &mut Vec<u8>, drawing: &Drawing) -> Result<(), Alloc
 fn put_foot_opening(out: &mut Vec<u8>, drawing: &Drawing) -> Result<(), AllocError>
     ensures { Appends out.old out.new (foot_opening drawing.now) result }
 {
-    put_pieces(
+    put_filled(
         out,
-        &[
-            Piece::Word(b"<text class=\"note\" x=\"12\" y=\""),
-            Piece::Number(foot_of(drawing)),
-            Piece::Word(b"\">\n"),
-        ],
+        &[b"<text class=\"note\" x=\"12\" y=\"", b"\">\n"],
+        &[foot_of(drawing)],
     )
 }
 
@@ -157,7 +155,7 @@ fn put_foot_opening(out: &mut Vec<u8>, drawing: &Drawing) -> Result<(), AllocErr
 fn put_rows(out: &mut Vec<u8>, drawing: &Drawing) -> Result<(), AllocError>
     ensures { Appends out.old out.new (rows_text drawing.now) result }
 {
-    put_waiters(out, &drawing.waiters)?;
+    put_each(out, &Rows, &drawing.waiters)?;
     put_legend(out, drawing)
 }
 
@@ -167,5 +165,5 @@ pub(crate) fn put_foot(out: &mut Vec<u8>, drawing: &Drawing) -> Result<(), Alloc
 {
     put_foot_opening(out, drawing)?;
     put_rows(out, drawing)?;
-    put_pieces(out, &[Piece::Word(b"</text>\n</svg>\n")])
+    put(out, b"</text>\n</svg>\n")
 }

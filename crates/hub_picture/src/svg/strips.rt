@@ -1,6 +1,5 @@
 //! The strips of ports, and their levels.
 
-ghost use Rattle.std.specs.List.{flat_map};
 ghost use Rattle.std.specs.Prelude.{◌≡◌, ◌≤◌};
 ghost use Rattle.hub_picture.specs.Pieces.{Appends};
 ghost use Rattle.hub_picture.specs.Svg.Strips.{count_of, drawn_level, height, level_body, level_in, level_opening, level_text};
@@ -8,7 +7,8 @@ ghost use Rattle.hub_picture.specs.Svg.Strips.{level_title, stay_in, stay_text, 
 
 use crate::frame::{FULL, Frame, LEFT, number_of};
 use crate::levels::shows_level;
-use crate::piece::{Piece, put_pieces};
+use crate::pen::Pen;
+use crate::piece::{Piece, put, put_filled, put_pieces};
 use crate::{Held, Strip};
 use hub_base::Port;
 use hub_story::Level;
@@ -26,15 +26,10 @@ fn height(room: u32, count: u64) -> u64
 fn put_strip_title(out: &mut Vec<u8>, strip: &Strip) -> Result<(), AllocError>
     ensures { Appends out.old out.new (strip_title strip.now) result }
 {
-    put_pieces(
+    put_filled(
         out,
-        &[
-            Piece::Word(b"port "),
-            Piece::Number(strip.port.0.into()),
-            Piece::Word(b" has room for "),
-            Piece::Number(strip.room.into()),
-            Piece::Word(b"\n"),
-        ],
+        &[b"port ", b" has room for ", b"\n"],
+        &[strip.port.0.into(), strip.room.into()],
     )
 }
 
@@ -44,56 +39,46 @@ fn put_strip_body(out: &mut Vec<u8>, frame: Frame, strip: &Strip) -> Result<(), 
 {
     let (end, floor) = (frame.x(frame.steps.end), frame.floor(strip.row));
     let full = height(strip.room, strip.room.into());
-    put_pieces(
+    put_filled(
         out,
         &[
-            Piece::Word(b"</title><path d=\"M"),
-            Piece::Number(LEFT),
-            Piece::Word(b" "),
-            Piece::Number(floor),
-            Piece::Word(b"H"),
-            Piece::Number(end),
-            Piece::Word(b"M"),
-            Piece::Number(LEFT),
-            Piece::Word(b" "),
-            Piece::Number(floor.saturating_sub(full)),
-            Piece::Word(b"H"),
-            Piece::Number(end),
-            Piece::Word(b"\"/><text class=\"name\" x=\""),
-            Piece::Number(LEFT - 8),
-            Piece::Word(b"\" y=\""),
-            Piece::Number(floor),
-            Piece::Word(b"\">port "),
-            Piece::Number(strip.port.0.into()),
-            Piece::Word(b"</text></g>\n"),
+            b"</title><path d=\"M",
+            b" ",
+            b"H",
+            b"M",
+            b" ",
+            b"H",
+            b"\"/><text class=\"name\" x=\"",
+            b"\" y=\"",
+            b"\">port ",
+            b"</text></g>\n",
+        ],
+        &[
+            LEFT,
+            floor,
+            end,
+            LEFT,
+            floor.saturating_sub(full),
+            end,
+            LEFT - 8,
+            floor,
+            strip.port.0.into(),
         ],
     )
 }
 
-/// Appends the strip of a port.
-fn put_strip(out: &mut Vec<u8>, frame: Frame, strip: &Strip) -> Result<(), AllocError>
-    ensures { Appends out.old out.new (strip_text frame strip.now) result }
-{
-    put_pieces(out, &[Piece::Word(b"<g class=\"strip\"><title>")])?;
-    put_strip_title(out, strip)?;
-    put_strip_body(out, frame, strip)
-}
+/// Strips of ports, in this band.
+#[derive(Clone, Copy)]
+pub(crate) struct Strips(pub Frame);
 
-/// Appends these strips.
-pub(crate) fn put_strips(
-    out: &mut Vec<u8>,
-    frame: Frame,
-    strips: &[Strip],
-) -> Result<(), AllocError>
-    ensures { Appends out.old out.new (flat_map (strip_text frame) strips.now) result }
-{
-    for strip in strips {
-        match put_strip(out, frame, strip) {
-            Ok(()) => {}
-            Err(AllocError) => return Err(AllocError),
-        }
+impl Pen<Strip> for Strips {
+    ghost text = { λ pen. strip_text pen.0 };
+
+    fn put(&self, out: &mut Vec<u8>, strip: &Strip) -> Result<(), AllocError> {
+        put(out, b"<g class=\"strip\"><title>")?;
+        put_strip_title(out, strip)?;
+        put_strip_body(out, self.0, strip)
     }
-    Ok(())
 }
 
 /// How many values a port of this level holds.
@@ -107,13 +92,10 @@ fn count_of(level: Level) -> u64
 fn put_opening(out: &mut Vec<u8>, port: Port) -> Result<(), AllocError>
     ensures { Appends out.old out.new (level_opening port) result }
 {
-    put_pieces(
+    put_filled(
         out,
-        &[
-            Piece::Word(b"<g class=\"level h"),
-            Piece::Number((port.0 % 5).into()),
-            Piece::Word(b"\"><title>"),
-        ],
+        &[b"<g class=\"level h", b"\"><title>"],
+        &[(port.0 % 5).into()],
     )
 }
 
@@ -146,19 +128,16 @@ fn put_level_body(out: &mut Vec<u8>, frame: Frame, held: &Held) -> Result<(), Al
     let end = frame.x(frame.until(held.until));
     let floor = frame.floor(held.strip.row);
     let high = height(held.strip.room, count_of(held.level));
-    put_pieces(
+    put_filled(
         out,
         &[
-            Piece::Word(b"</title><rect x=\""),
-            Piece::Number(x),
-            Piece::Word(b"\" y=\""),
-            Piece::Number(floor.saturating_sub(high)),
-            Piece::Word(b"\" width=\""),
-            Piece::Number(end.saturating_sub(x)),
-            Piece::Word(b"\" height=\""),
-            Piece::Number(high),
-            Piece::Word(b"\"/>"),
+            b"</title><rect x=\"",
+            b"\" y=\"",
+            b"\" width=\"",
+            b"\" height=\"",
+            b"\"/>",
         ],
+        &[x, floor.saturating_sub(high), end.saturating_sub(x), high],
     )
 }
 
@@ -166,16 +145,18 @@ fn put_level_body(out: &mut Vec<u8>, frame: Frame, held: &Held) -> Result<(), Al
 fn put_stay(out: &mut Vec<u8>, frame: Frame, held: &Held) -> Result<(), AllocError>
     ensures { Appends out.old out.new (stay_text frame held.now) result }
 {
-    put_pieces(
+    put_filled(
         out,
         &[
-            Piece::Word(b"<text class=\"stay\" x=\""),
-            Piece::Number(frame.x(frame.steps.end) + 4),
-            Piece::Word(b"\" y=\""),
-            Piece::Number(frame.floor(held.strip.row)),
-            Piece::Word(b"\">"),
-            Piece::Number(count_of(held.level)),
-            Piece::Word(b" stay</text>"),
+            b"<text class=\"stay\" x=\"",
+            b"\" y=\"",
+            b"\">",
+            b" stay</text>",
+        ],
+        &[
+            frame.x(frame.steps.end) + 4,
+            frame.floor(held.strip.row),
+            count_of(held.level),
         ],
     )
 }
@@ -196,7 +177,7 @@ fn put_drawn(out: &mut Vec<u8>, frame: Frame, held: &Held) -> Result<(), AllocEr
 {
     put_level_body(out, frame, held)?;
     put_stay_in(out, frame, held)?;
-    put_pieces(out, &[Piece::Word(b"</g>\n")])
+    put(out, b"</g>\n")
 }
 
 /// Appends a level.
@@ -208,26 +189,18 @@ fn put_level(out: &mut Vec<u8>, frame: Frame, held: &Held) -> Result<(), AllocEr
     put_drawn(out, frame, held)
 }
 
-/// The same where the band shows it.
-fn put_level_in(out: &mut Vec<u8>, frame: Frame, held: &Held) -> Result<(), AllocError>
-    ensures { Appends out.old out.new (level_in frame held.now) result }
-{
-    if shows_level(frame.steps, held) {
-        put_level(out, frame, held)
-    } else {
-        Ok(())
-    }
-}
+/// Levels, where this band shows them.
+#[derive(Clone, Copy)]
+pub(crate) struct Levels(pub Frame);
 
-/// Appends the levels of a band.
-pub(crate) fn put_levels(out: &mut Vec<u8>, frame: Frame, levels: &[Held]) -> Result<(), AllocError>
-    ensures { Appends out.old out.new (flat_map (level_in frame) levels.now) result }
-{
-    for held in levels {
-        match put_level_in(out, frame, held) {
-            Ok(()) => {}
-            Err(AllocError) => return Err(AllocError),
+impl Pen<Held> for Levels {
+    ghost text = { λ pen. level_in pen.0 };
+
+    fn put(&self, out: &mut Vec<u8>, held: &Held) -> Result<(), AllocError> {
+        if shows_level(self.0.steps, held) {
+            put_level(out, self.0, held)
+        } else {
+            Ok(())
         }
     }
-    Ok(())
 }

@@ -1,12 +1,12 @@
 //! The rows of those who wait in vain.
 
-ghost use Rattle.std.specs.List.{flat_map};
 ghost use Rattle.hub_picture.specs.Pieces.{Appends};
 ghost use Rattle.hub_picture.specs.Svg.Waiters.{waiter_text, waiter_words};
 
 use crate::Waiter;
 use crate::frame::number_of;
-use crate::piece::{Piece, put_pieces};
+use crate::pen::Pen;
+use crate::piece::{Piece, put, put_pieces};
 use std::alloc::AllocError;
 
 /// Appends what is told of a waiter.
@@ -30,27 +30,16 @@ fn put_words(out: &mut Vec<u8>, waiter: &Waiter) -> Result<(), AllocError>
     )
 }
 
-/// Appends its row.
-fn put_waiter(out: &mut Vec<u8>, waiter: &Waiter) -> Result<(), AllocError>
-    ensures { Appends out.old out.new (waiter_text waiter.now) result }
-{
-    put_pieces(
-        out,
-        &[Piece::Word(b"<tspan class=\"waits\" x=\"12\" dy=\"18\">")],
-    )?;
-    put_words(out, waiter)?;
-    put_pieces(out, &[Piece::Word(b"</tspan>\n")])
-}
+/// The rows of those who wait.
+#[derive(Clone, Copy)]
+pub(crate) struct Rows;
 
-/// Appends these rows.
-pub(crate) fn put_waiters(out: &mut Vec<u8>, waiters: &[Waiter]) -> Result<(), AllocError>
-    ensures { Appends out.old out.new (flat_map waiter_text waiters.now) result }
-{
-    for waiter in waiters {
-        match put_waiter(out, waiter) {
-            Ok(()) => {}
-            Err(AllocError) => return Err(AllocError),
-        }
+impl Pen<Waiter> for Rows {
+    ghost text = { λ _. waiter_text };
+
+    fn put(&self, out: &mut Vec<u8>, waiter: &Waiter) -> Result<(), AllocError> {
+        put(out, b"<tspan class=\"waits\" x=\"12\" dy=\"18\">")?;
+        put_words(out, waiter)?;
+        put(out, b"</tspan>\n")
     }
-    Ok(())
 }

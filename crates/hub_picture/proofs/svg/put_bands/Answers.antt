@@ -1,7 +1,9 @@
-use Rattle.hub_picture.proofs.Bands.{next-band}
+use Rattle.std.proofs.Common.{refl}
+use Rattle.hub_picture.specs.Svg.Page.{bands_to}
+use Rattle.hub_picture.proofs.Appended.{counted}
 use Rattle.hub_picture.proofs.svg.put_bands.Goals as goal
 
 pub loop-band-preserved : goal.loop-band-preserved
 loop-band-preserved c =
     let put = rw (c.frame_of.ensures, c.scale_of.ensures) at (rw c.in-Ok.is at c.put_band.ensures).ok in
-    next-band c.args.drawing.now c.loop-band.band _ _ _ c.loop-band.invariant put
+    counted (λ k. bands_to k c.args.drawing.now) _ c.loop-band.band _ _ _ refl c.loop-band.invariant put

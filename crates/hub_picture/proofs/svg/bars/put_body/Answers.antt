@@ -10,4 +10,4 @@ returns c =
       c.until.ensures,
       c.ended_by.ensures,
       c.thick-thick.ensures.value,
-    ) at c.put_pieces.ensures
+    ) at c.put_filled.ensures

@@ -1,7 +1,12 @@
-use Rattle.hub_picture.proofs.Appended.{three}
+use Rattle.hub_picture.proofs.Appended.{refused, three}
 use Rattle.hub_picture.proofs.svg.bars.put_drawn.Goals as goal
+
+pub returns-in_err-put_knob_in : goal.returns-in_err-put_knob_in
+returns-in_err-put_knob_in c =
+    refused c.args.out.now c.put_body.new.out c.put_knob_in.new.out _ _ c.from_residual-in_err-put_knob_in.ensures.0 (_, c.in_ok-put_body.ensures.ok)
+    c.in_err-put_knob_in.ensures.err
 
 pub returns : goal.returns
 returns c =
-    three c.args.out.now c.put_body.new.out c.put_knob_in.new.out c.put_pieces.new.out _ _ _ _
-    c.in_ok-put_body.ensures.ok c.in_ok-put_knob_in.ensures.ok c.put_pieces.ensures
+    three c.args.out.now c.put_body.new.out c.put_knob_in.new.out c.put.new.out _ _ _ _
+    c.in_ok-put_body.ensures.ok c.in_ok-put_knob_in.ensures.ok c.put.ensures

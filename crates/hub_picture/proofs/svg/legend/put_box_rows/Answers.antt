@@ -1,5 +1,10 @@
-use Rattle.hub_picture.proofs.Appended.{three}
+use Rattle.hub_picture.proofs.Appended.{refused, three}
 use Rattle.hub_picture.proofs.svg.legend.put_box_rows.Goals as goal
+
+pub returns-in_err-put_row-2 : goal.returns-in_err-put_row-2
+returns-in_err-put_row-2 c =
+    refused c.args.out.now c.put_row.new.out c.put_row-2.new.out _ _ c.from_residual-in_err-put_row-2.ensures.0 (_, c.in_ok-put_row.ensures.ok)
+    c.in_err-put_row-2.ensures.err
 
 pub returns : goal.returns
 returns c =

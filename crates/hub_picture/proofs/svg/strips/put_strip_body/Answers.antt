@@ -9,4 +9,4 @@ returns c =
       c.height-full.ensures,
       c.into.ensures,
       c.into-2.ensures,
-    ) at c.put_pieces.ensures
+    ) at c.put_filled.ensures

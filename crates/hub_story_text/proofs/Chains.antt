@@ -30,3 +30,7 @@ pub flat-next : {A : Type 0} (f : A → List ℕ) (xs : List A) (i : ℕ) (d : A
 flat-next f xs i d was now text below so is =
     ap (λ l. l ++ flat_map f (drop (i + 1) xs)) is ∙ append_assoc was (f (get_or xs i d)) (flat_map f (drop (i + 1) xs))
     ∙ ap (λ l. was ++ l) (ap (λ k. f (get_or xs i d) ++ flat_map f (drop k xs)) (add-one i) ∙ sym (ap (flat_map f) (drop-cons xs i d below))) ∙ so
+
+-- five texts behind another
+pub five-behind : (before a b c d e : List ℕ) → before ++ a ++ b ++ c ++ d ++ e ≡ before ++ (a ++ b ++ c ++ d ++ e)
+five-behind before a b c d e = simp append_assoc

@@ -1,10 +1,11 @@
 //! What a step was told, in the words of events.
 
-ghost use Rattle.std.specs.Prelude.{◌≡◌, ◌++◌, OnOk};
+ghost use Rattle.std.specs.Prelude.{◌≡◌, ◌++◌, codes, decimal, OnOk};
+ghost use Rattle.hub_base.specs.Value.{value_field};
 ghost use Rattle.hub_story_text.specs.AnswerText.{answer_words, case_name, fault_words, fired_name, outcome_words};
 
 use crate::numbers::{put_number, put_value};
-use hub_base::{Case, Fault, NoMemory, Outcome, What};
+use hub_base::{Case, Fault, NoMemory, Outcome, Value, What};
 use std::alloc::AllocError;
 
 /// Appends a case without its value.
@@ -31,20 +32,47 @@ fn put_fired_name(out: &mut Vec<u8>, cases: &[Case], fired: u8) -> Result<(), Al
     out.extend_from_slice(b" ")
 }
 
+/// Appends these words.
+fn put_words(out: &mut Vec<u8>, words: &[u8]) -> Result<(), NoMemory>
+    ensures { OnOk result (out.new.items ≡ out.old.items ++ words.now) }
+{
+    Ok(out.extend_from_slice(words)?)
+}
+
+/// Appends a number behind these words.
+fn put_counted(out: &mut Vec<u8>, words: &[u8], number: u64) -> Result<(), NoMemory>
+    ensures { OnOk result (out.new.items ≡ out.old.items ++ words.now ++ decimal number) }
+{
+    Ok(put_number(out, words, number)?)
+}
+
+/// Appends a value that was received.
+fn put_got(out: &mut Vec<u8>, value: Value) -> Result<(), NoMemory>
+    ensures { OnOk result (out.new.items ≡ out.old.items ++ codes "got " ++ value_field value) }
+{
+    put_words(out, b"got ")?;
+    put_value(out, value)
+}
+
 /// Appends how a communication ended.
 fn put_outcome(out: &mut Vec<u8>, outcome: Outcome) -> Result<(), NoMemory>
     ensures { OnOk result (out.new.items ≡ out.old.items ++ outcome_words outcome) }
 {
     match outcome {
-        Outcome::Sent => out.extend_from_slice(b"sent")?,
-        Outcome::Got(value) => {
-            out.extend_from_slice(b"got ")?;
-            put_value(out, value)?;
-        }
-        Outcome::Drained => out.extend_from_slice(b"drained")?,
-        Outcome::Closed => out.extend_from_slice(b"closed")?,
+        Outcome::Sent => put_words(out, b"sent"),
+        Outcome::Got(value) => put_got(out, value),
+        Outcome::Drained => put_words(out, b"drained"),
+        Outcome::Closed => put_words(out, b"closed"),
     }
-    Ok(())
+}
+
+/// Appends which case fired, and how it ended.
+fn put_fired(out: &mut Vec<u8>, cases: &[Case], fired: u8, outcome: Outcome) -> Result<(), NoMemory>
+    ensures { OnOk result (
+        out.new.items ≡ out.old.items ++ fired_name cases.now fired ++ outcome_words outcome) }
+{
+    put_fired_name(out, cases, fired)?;
+    put_outcome(out, outcome)
 }
 
 /// Appends what a step of these cases was told.
@@ -52,19 +80,15 @@ pub(crate) fn put_answer(out: &mut Vec<u8>, cases: &[Case], what: What) -> Resul
     ensures { OnOk result (out.new.items ≡ out.old.items ++ answer_words cases.now what) }
 {
     match what {
-        What::Made(port) => put_number(out, b"made ", port.0.into())?,
-        What::Fired { case, outcome } => {
-            put_fired_name(out, cases, case)?;
-            put_outcome(out, outcome)?;
-        }
-        What::Default => out.extend_from_slice(b"default")?,
-        What::Done => out.extend_from_slice(b"done")?,
-        What::Parked => out.extend_from_slice(b"waits")?,
-        What::Stalled => out.extend_from_slice(b"stalled")?,
-        What::Fault(fault) => put_number(out, b"fault ", fault.number().into())?,
-        What::Cancelled => out.extend_from_slice(b"cancelled")?,
+        What::Made(port) => put_counted(out, b"made ", port.0.into()),
+        What::Fired { case, outcome } => put_fired(out, cases, case, outcome),
+        What::Default => put_words(out, b"default"),
+        What::Done => put_words(out, b"done"),
+        What::Parked => put_words(out, b"waits"),
+        What::Stalled => put_words(out, b"stalled"),
+        What::Fault(fault) => put_counted(out, b"fault ", fault.number().into()),
+        What::Cancelled => put_words(out, b"cancelled"),
     }
-    Ok(())
 }
 
 /// Why a step had no effect, in words.

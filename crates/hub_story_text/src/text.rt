@@ -1,7 +1,10 @@
 //! The whole text.
 
-ghost use Rattle.std.specs.Prelude.{◌≡◌, ◌<◌, ◌-◌, ◌^◌, length, IfOk};
+ghost use Rattle.std.specs.Prelude.{◌≡◌, ◌<◌, ◌-◌, ◌^◌, ◌++◌, [], length, IfOk, OnOk};
 ghost use Rattle.hub_story.specs.Stories.{IsStoryOf};
+ghost use Rattle.hub_story_text.specs.LastMoves.{AreLast, IsWhole};
+ghost use Rattle.hub_story_text.specs.Partners.{AreIn, ways};
+ghost use Rattle.hub_story_text.specs.PortMoves.{AreMoves};
 ghost use Rattle.hub_story_text.specs.StoryText.{story_text};
 
 use crate::Window;
@@ -21,6 +24,33 @@ const HEADING: &[u8] =
 
 const END_HEADING: &[u8] = b"in the end these wait\n";
 
+/// Appends the story of a journal, by what is known of its values; `last` comes to tell who moved one last.
+fn put_story(
+    out: &mut Vec<u8>,
+    last: &mut LastMoves,
+    journal: &Journal,
+    story: &Story,
+    moves: &PortMoves,
+    partners: &[Option<u32>],
+    window: Window,
+) -> Result<(), NoMemory>
+    requires story { IsStoryOf journal.now story.now }
+    requires few { length journal.now.entries < 2 ^ 32 - 1 }
+    requires moves { AreMoves journal.now.entries story.now.told.items moves.now }
+    requires partners { AreIn (ways journal.now.entries story.now.told.items) (length journal.now.entries) partners.now }
+    requires none { AreLast journal.now.entries [] last.old }
+    requires whole { IsWhole last.old }
+    ensures { OnOk result (out.new.items ≡
+        out.old.items ++ story_text window journal.now.entries story.now.told.items) }
+{
+    out.extend_from_slice(HEADING)?;
+    put_steps(out, last, journal, story, partners, window)?;
+    put_ports(out, journal, story, moves)?;
+    put_waits(out, journal, story, partners)?;
+    put_waiters(out, END_HEADING, journal.entries(), last, &story.waiting)?;
+    Ok(())
+}
+
 /// The story of a journal as text: a line for each step that the window has, with those whom it stalled below it; then a line for
 /// each port that was made, which calls waited longest, and who waits in the end. Steps and the numbers of entries are counted from 1. `Err` where
 /// memory was refused.
@@ -34,20 +64,12 @@ pub fn story_text(
     requires few { length journal.now.entries < 2 ^ 32 - 1 }
     ensures { IfOk result (λ text. text.items ≡ story_text window journal.now.entries story.now.told.items) }
 {
-    let passed = PortMoves::of(alloc, journal.entries(), &story.told)?;
-    let partners = partners_of(alloc, journal, story, &passed)?;
-    let mut moves = LastMoves::new(alloc)?;
+    let moves = PortMoves::of(alloc, journal.entries(), &story.told)?;
+    let partners = partners_of(alloc, journal, story, &moves)?;
+    let mut last = LastMoves::new(alloc)?;
     let mut out = Vec::new(alloc);
-    out.extend_from_slice(HEADING)?;
-    put_steps(&mut out, &mut moves, journal, story, &partners, window)?;
-    put_ports(&mut out, journal, story, &passed)?;
-    put_waits(&mut out, journal, story, &partners)?;
-    put_waiters(
-        &mut out,
-        END_HEADING,
-        journal.entries(),
-        &moves,
-        &story.waiting,
+    put_story(
+        &mut out, &mut last, journal, story, &moves, &partners, window,
     )?;
     Ok(out)
 }

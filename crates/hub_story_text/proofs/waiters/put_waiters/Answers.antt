@@ -3,8 +3,15 @@ use Rattle.std.specs.List.{flat_map}
 use Rattle.std.proofs.lemmas.List.{drop_all}
 use Rattle.hub_story_text.specs.LastMoves.{mover_at}
 use Rattle.hub_story_text.specs.WaiterText.{waiter_words}
+use Rattle.hub_story_text.proofs.Chains.{flat-next}
 use Rattle.hub_story_text.proofs.StepLines.{not-empty}
 use Rattle.hub_story_text.proofs.waiters.put_waiters.Goals as goal
+
+pub loop-told-preserved : goal.loop-told-preserved
+loop-told-preserved c =
+    let one = waiter_words c.args.entries.now (mover_at c.args.moves.now.sent.items) (mover_at c.args.moves.now.received.items) in
+    flat-next one c.args.waiters.now c.loop-told.told-index _ c.loop-told.out.items c.put_waiter.new.out.items _ c.loop-told-test.true
+    c.loop-told.invariant c.in_ok-put_waiter.ensures
 
 pub returns : goal.returns
 returns c =

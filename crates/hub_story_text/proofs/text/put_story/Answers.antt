@@ -3,8 +3,9 @@ use Rattle.hub_story.specs.Levels.{told_by}
 use Rattle.hub_story.proofs.Filling.{told_by-all}
 use Rattle.hub_story_text.specs.StoryText.{heading, end_heading, ports_text, steps_text}
 use Rattle.hub_story_text.specs.Waits.{waits_text}
+use Rattle.hub_story_text.proofs.Chains.{five-behind}
 use Rattle.hub_story_text.proofs.StepTexts.{waiters-told}
-use Rattle.hub_story_text.proofs.text.story_text.Goals as goal
+use Rattle.hub_story_text.proofs.text.put_story.Goals as goal
 
 pub put_ports-requires-clause-whole : goal.put_ports-requires-clause-whole
 put_ports-requires-clause-whole c =
@@ -16,14 +17,8 @@ pub returns : goal.returns
 returns c =
     let es = c.args.journal.now.entries in
     let told = c.args.story.now.told.items in
-    let waits = rw (c.entries-2.ensures, c.deref-4.ensures.value, c.requires.story.waiting) at c.in_ok-put_waiters.ensures in
-    rw (
-      waits,
-      c.in_ok-put_waits.ensures,
-      c.in_ok-put_ports.ensures,
-      c.in_ok-put_steps.ensures.text,
-      c.in_ok-extend_from_slice.ensures.items,
-      c.new-out.ensures.items,
-    )
-    (ap (λ l. heading ++ steps_text c.args.window es told 0 es ++ ports_text es told ++ waits_text es told ++ l)
+    let waits = rw (c.entries.ensures, c.deref.ensures.value, c.requires.story.waiting) at c.in_ok-put_waiters.ensures in
+    rw (waits, c.in_ok-put_waits.ensures, c.in_ok-put_ports.ensures, c.in_ok-put_steps.ensures.text, c.in_ok-extend_from_slice.ensures.items)
+    (five-behind c.args.out.now.items heading (steps_text c.args.window es told 0 es) (ports_text es told) (waits_text es told) _
+    ∙ ap (λ l. c.args.out.now.items ++ (heading ++ steps_text c.args.window es told 0 es ++ ports_text es told ++ waits_text es told ++ l))
     (waiters-told end_heading es (told_by (length es) told) c.put_steps.new.moves c.in_ok-put_steps.ensures.last _))

@@ -18,7 +18,7 @@ use Rattle.std.proofs.lemmas.Nat.{le_bytes_4}
 use Rattle.hub_base.specs.declared.entry.Entry.{Entry}
 use Rattle.hub_base.specs.declared.head.Edition.{Edition}
 use Rattle.hub_base.specs.declared.head.Head.{Head}
-use Rattle.hub_base.specs.declared.limits.TheConstants.{GREATEST_PID, GREATEST_PORT, MOST_BYTES, MOST_STEPS}
+use Rattle.hub_base.specs.declared.limits.TheConstants.{CASE_PLACES, GREATEST_PID, GREATEST_PORT, GREATEST_WORD, MOST_BYTES, MOST_STEPS}
 use Rattle.hub_base.specs.declared.case.Case.{Case}
 use Rattle.hub_base.specs.declared.case.Case.TheVariants.{Send, Recv}
 use Rattle.hub_base.specs.declared.entry.Step.{Step}
@@ -35,7 +35,7 @@ use Rattle.hex.specs.Hex.{IsBytes, encode_lower, encode_with, lower_digits}
 use Rattle.hub_base.proofs.HexDigits.{bytes-push, digit-hex, encode-push}
 use Rattle.hub_base.proofs.Values.{content-saying, is-value, padded_is}
 use Rattle.hub_base.specs.Writing.{spaced, spaced_cases}
-use Rattle.hub_base.specs.Lines.{line, step_fields, case_field, call_fields, select_fields, default_field, spelled, is_hex}
+use Rattle.hub_base.specs.Lines.{line, step_fields, case_field, call, call_fields, select_fields, default_field, spelled, is_hex}
 use Rattle.hub_base.specs.Quick.{EndsLine, Stands, ValueStands, SendStands, CaseStands, CasesStand, SelectStands, StepStands, Begins}
 use Rattle.hub_base.specs.Reading.{Reading, Reads, Faulty, behind, is_exit, with_entry, entries_from, rows}
 use Rattle.hub_base.specs.Text.{CaseFits, StepFits, body, steps_of}
@@ -231,6 +231,30 @@ cases-push ed bs start cs at c end so one = record {
   };
   fits = all-push cs c so.fits one.fits;
   of_edition = all-of-push ed cs c so.of_edition one.of_edition;
+}
+
+-- nothing stands at each place behind which there is more
+pub stands-nothing : (bs : List ℕ) (at : ℕ) → at < length bs → Stands bs at [] at
+stands-nothing bs at inside = record { spelled = refl; inside = inside }
+
+-- a word, cases and what says whether there is a default are a select, where that has no short form
+pub selected : (ed : Edition) (bs : List ℕ) (start at mid end : ℕ) (cs : List Case) (d : Bool) (w : ℕ) → Stands bs start (decimal w) at → w ≤ GREATEST_WORD
+    → CasesStand ed bs at cs mid → length cs ≤ CASE_PLACES → Stands bs mid (spaced (default_field d)) end
+    → spelled cs d w ≡ Ok (call cs d w) → SelectStands ed bs start (call cs d w) end
+selected ed bs start at mid end cs d w word small cases few last long = record {
+  cases = cs;
+  default = d;
+  word = w;
+  is = refl;
+  long = long;
+  stands = record {
+    spelled = word.spelled ∙ ap (λ r. decimal w ++ r) (cases.stands.spelled ∙ ap (λ r. spaced_cases cs ++ r) last.spelled)
+        ∙ sym (append_assoc (decimal w) (spaced_cases cs) (spaced (default_field d) ++ drop end bs))
+        ∙ sym (append_assoc (decimal w ++ spaced_cases cs) (spaced (default_field d)) (drop end bs));
+    inside = last.inside;
+  };
+  fits = record { few = few; each = cases.fits; word_fits = small };
+  of_edition = cases.of_edition;
 }
 
 -- what has no short form is spelled as a select

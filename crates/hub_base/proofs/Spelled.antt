@@ -1,8 +1,8 @@
 -- Fields joined by spaces, and fields each behind a space.
-use Rattle.std.proofs.Common.{◌≡◌, ℕ, List, [], ◌∷◌, ◌++◌, map, refl, ap, ◌∙◌, sym, append_assoc, append-nil}
+use Rattle.std.proofs.Common.{◌≡◌, ℕ, zero, suc, Bool, true, false, ◌⊎◌, inl, inr, Ok, List, [], ◌∷◌, ◌++◌, length, map, refl, ap, ◌∙◌, sym, append_assoc, append-nil}
 use Rattle.std.specs.List.{join_with_byte}
 use Rattle.hub_base.specs.declared.case.Case.{Case}
-use Rattle.hub_base.specs.Lines.{case_field}
+use Rattle.hub_base.specs.Lines.{case_field, call, spelled}
 use Rattle.hub_base.specs.Writing.{spaced, spaced_cases}
 
 -- fields joined by spaces are the first, and the others each behind a space
@@ -19,3 +19,15 @@ spaced-select (c ∷ cs) gs = ap (λ r. 32 ∷ (case_field c ++ r)) (spaced-sele
 -- what grew twice grew
 pub grown-more : (x y z : List ℕ) → (a : List ℕ) × (y ≡ x ++ a) → (b : List ℕ) × (z ≡ y ++ b) → (r : List ℕ) × (z ≡ x ++ r)
 grown-more x y z (a, e) (b, f) = (a ++ b, f ∙ ap (λ y. y ++ b) e ∙ append_assoc x a b)
+
+-- a select that is no plain send or receive, by the tests of the code
+pub no-short-form : (cases : List Case) (count : ℕ) (default : Bool) (w : ℕ) → count ≡ length cases
+    → (count ≡ 1 × default ≡ false × (w ≡ 0 → ⊥)) ⊎ ((count ≡ 1 × default ≡ true) ⊎ (count ≡ 1 → ⊥))
+    → spelled cases default w ≡ Ok (call cases default w)
+no-short-form [] count default w counted tests = refl
+no-short-form (c ∷ []) count true w counted tests = refl
+no-short-form (c ∷ []) count false zero counted (inl (one, plain, some)) = absurd (some refl)
+no-short-form (c ∷ []) count false zero counted (inr (inl (one, last))) = cc
+no-short-form (c ∷ []) count false zero counted (inr (inr more)) = absurd (more counted)
+no-short-form (c ∷ []) count false (suc w) counted tests = refl
+no-short-form (c ∷ d ∷ more) count default w counted tests = refl

@@ -2,7 +2,8 @@
 
 ghost use Rattle.std.specs.Prelude.{◌≡◌};
 
-use thiserror::Error;
+use std::error::Error;
+use std::fmt;
 
 /// Why a step had no effect.
 ///
@@ -10,46 +11,34 @@ use thiserror::Error;
 /// of 4 to 9 and 12 that apply, by number, and last, for a make, 11 where its channel's memory is refused.
 /// Faults 4 to 9 and 12 are answers to journaled steps, which change no channel and no open call. The others
 /// are refusals: the step is not journaled and nothing changes.
-#[derive(Clone, Copy, Debug, PartialEq, Eq, Error)]
+#[derive(Clone, Copy, Debug, PartialEq, Eq)]
 pub enum Fault {
     /// 1: the process number is not below the number of processes.
-    #[error("no such process")]
     NoProcess,
     /// 2: the process has exited.
-    #[error("the process has exited")]
     Gone,
     /// 3: the process has an open call.
-    #[error("the process has an open call")]
     Busy,
     /// 4: a call has more cases than the edition admits: more than `MOST_CASES` in the first. In the second it
     /// never comes, since an entry holds no more than a call may have.
-    #[error("too many cases")]
     TooManyCases,
     /// 5: a case or a close names a port other than 0 that was not made.
-    #[error("no such port")]
     NoPort,
     /// 6: a capacity above `MOST_CAP`.
-    #[error("the capacity is too large")]
     BadCap,
     /// 7: `MOST_PORTS` ports are made already.
-    #[error("too many ports")]
     TooManyPorts,
     /// 8: a close of port 0. Go: a close of the nil channel panics ("Close").
-    #[error("close of the nil port")]
     NilClose,
     /// 9: a close of a closed port. Go: it panics ("Close").
-    #[error("close of a closed port")]
     AlreadyClosed,
     /// 10: a step other than `Step::Exit`, where the journal holds as many of them as its limit
     /// allows.
-    #[error("the journal is full")]
     JournalFull,
     /// 11: a growth was refused.
-    #[error("out of memory")]
     NoMemory,
     /// 12: a cancel of a process that has no open call: it is not below the number of processes, has exited, is
     /// at work, or cancels itself.
-    #[error("no open call")]
     NotParked,
 }
 
@@ -62,4 +51,30 @@ impl Fault {
     {
         self as u8 + 1
     }
+
+    /// What is wrong, as it is printed.
+    fn text(self) -> &'static str {
+        match self {
+            Fault::NoProcess => "no such process",
+            Fault::Gone => "the process has exited",
+            Fault::Busy => "the process has an open call",
+            Fault::TooManyCases => "too many cases",
+            Fault::NoPort => "no such port",
+            Fault::BadCap => "the capacity is too large",
+            Fault::TooManyPorts => "too many ports",
+            Fault::NilClose => "close of the nil port",
+            Fault::AlreadyClosed => "close of a closed port",
+            Fault::JournalFull => "the journal is full",
+            Fault::NoMemory => "out of memory",
+            Fault::NotParked => "no open call",
+        }
+    }
 }
+
+impl fmt::Display for Fault {
+    fn fmt<W: fmt::Write>(&self, f: &mut fmt::Formatter<W>) -> fmt::Result {
+        f.write_str(self.text())
+    }
+}
+
+impl Error for Fault {}

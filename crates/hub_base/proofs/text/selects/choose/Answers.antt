@@ -1,22 +1,11 @@
-use Rattle.std.proofs.Common.{◌≡◌, ℕ, Bool, true, false, List, [], ◌∷◌, length, zero, suc, ap, refl, sym, ◌∙◌, ◌⊎◌, inl, inr, Ok, Err}
+use Rattle.std.proofs.Common.{◌≡◌, ℕ, Bool, true, List, ap, sym, ◌∙◌, Ok, Err}
 use Rattle.std.specs.Prelude.{if◌then◌else◌}
 use Rattle.hub_base.specs.declared.case.Case.{Case}
 use Rattle.hub_base.specs.declared.limits.TheConstants.{GREATEST_PID, GREATEST_WORD}
 use Rattle.hub_base.specs.declared.text.faults.Kind.TheVariants.{BadNumber}
 use Rattle.hub_base.specs.Lines.{◌>>=◌, numeral, choose, spelled, by, call}
+use Rattle.hub_base.proofs.Spelled.{no-short-form}
 use Rattle.hub_base.proofs.text.selects.choose.Goals as goal
-
--- a select that is no plain send or receive, by the tests of the code
-no-short-form : (cases : List Case) (count : ℕ) (default : Bool) (w : ℕ) → count ≡ length cases
-    → (count ≡ 1 × default ≡ false × (w ≡ 0 → ⊥)) ⊎ ((count ≡ 1 × default ≡ true) ⊎ (count ≡ 1 → ⊥))
-    → spelled cases default w ≡ Ok (call cases default w)
-no-short-form [] count default w counted tests = refl
-no-short-form (c ∷ []) count true w counted tests = refl
-no-short-form (c ∷ []) count false zero counted (inl (one, plain, some)) = absurd (some refl)
-no-short-form (c ∷ []) count false zero counted (inr (inl (one, last))) = cc
-no-short-form (c ∷ []) count false zero counted (inr (inr more)) = absurd (more counted)
-no-short-form (c ∷ []) count false (suc w) counted tests = refl
-no-short-form (c ∷ d ∷ more) count default w counted tests = refl
 
 chosen : (pid word : List ℕ) (p w : ℕ) (cases : List Case) (fine default : Bool) → numeral GREATEST_PID pid ≡ Ok p → numeral GREATEST_WORD word ≡ Ok w
     → fine ≡ true → spelled cases default w ≡ Ok (call cases default w)

@@ -1,5 +1,6 @@
 -- Fields joined by spaces, and fields each behind a space.
-use Rattle.std.proofs.Common.{◌≡◌, ℕ, zero, suc, Bool, true, false, ◌⊎◌, inl, inr, Ok, List, [], ◌∷◌, ◌++◌, length, map, refl, ap, ◌∙◌, sym, append_assoc, append-nil}
+use Rattle.std.proofs.Common.{◌≡◌, ℕ, zero, suc, Bool, true, false, ◌⊎◌, inl, inr, Ok, List, [], ◌∷◌, ◌++◌, length, map}
+use Rattle.std.proofs.Common.{refl, ap, ◌∙◌, sym, append_assoc, append-nil}
 use Rattle.std.specs.List.{join_with_byte}
 use Rattle.hub_base.specs.declared.case.Case.{Case}
 use Rattle.hub_base.specs.Lines.{case_field, call, spelled}
@@ -15,10 +16,6 @@ pub spaced-select : (cs : List Case) (gs : List (List ℕ)) → spaced (map case
 spaced-select [] gs = refl
 spaced-select (c ∷ cs) gs = ap (λ r. 32 ∷ (case_field c ++ r)) (spaced-select cs gs)
     ∙ ap (λ r. 32 ∷ r) (sym (append_assoc (case_field c) (spaced_cases cs) (spaced gs)))
-
--- what grew twice grew
-pub grown-more : (x y z : List ℕ) → (a : List ℕ) × (y ≡ x ++ a) → (b : List ℕ) × (z ≡ y ++ b) → (r : List ℕ) × (z ≡ x ++ r)
-grown-more x y z (a, e) (b, f) = (a ++ b, f ∙ ap (λ y. y ++ b) e ∙ append_assoc x a b)
 
 -- a select that is no plain send or receive, by the tests of the code
 pub no-short-form : (cases : List Case) (count : ℕ) (default : Bool) (w : ℕ) → count ≡ length cases

@@ -1,7 +1,7 @@
 //! Writing journals and events. A private function that is refused may leave a part behind, which
 //! the public one takes back.
 
-ghost use Rattle.std.specs.Prelude.{◌≡◌, ◌++◌, codes, decimal, OnOk, OnErr, IsOk, ◌↔◌, take, is_ok, if◌then◌else◌, ◌≤◌, true};
+ghost use Rattle.std.specs.Prelude.{◌≡◌, ◌++◌, codes, decimal, OnOk, OnErr, IsOk, ◌↔◌, take, ◌≤◌, true};
 ghost use Rattle.hub_base.specs.EventText.{event_line};
 ghost use Rattle.hub_base.specs.Lines.{case_field, select_fields, call_fields, step_fields, line};
 ghost use Rattle.std.specs.List.{flat_map};
@@ -19,9 +19,8 @@ use std::alloc::AllocError;
 
 /// Appends these bytes.
 fn put(out: &mut Vec<u8>, bytes: &[u8]) -> Result<(), AllocError>
-    ensures items { out.new.items ≡ (if is_ok result then out.old.items ++ bytes.now else out.old.items) }
-    ensures capacity { vec_capacity out.old ≤ vec_capacity out.new }
-    ensures succeeds { HasRoomFor out.old (bytes.now) → IsOk result }
+    ensures appends { Appends out.old out.new bytes.now result }
+    ensures unchanged { OnErr result (out.new.items ≡ out.old.items) }
 {
     out.extend_from_slice(bytes)
 }
@@ -29,9 +28,7 @@ fn put(out: &mut Vec<u8>, bytes: &[u8]) -> Result<(), AllocError>
 /// Appends a number in decimal digits. Most have one: they number processes, ports and cases.
 #[tactic(auto, using(std::proofs::lemmas::Fmt::decimal_digit))]
 fn put_number(out: &mut Vec<u8>, n: u64) -> Result<(), AllocError>
-    ensures items { out.new.items ≡ (if is_ok result then out.old.items ++ decimal n else out.old.items) }
-    ensures capacity { vec_capacity out.old ≤ vec_capacity out.new }
-    ensures succeeds { HasRoomFor out.old (decimal n) → IsOk result }
+    ensures { Appends out.old out.new (decimal n) result }
 {
     if n < 10 {
         return put(out, &[b'0' + n as u8]);
@@ -51,9 +48,7 @@ fn put_before_number(out: &mut Vec<u8>, before: &[u8], n: u64) -> Result<(), All
 /// Appends a value.
 #[tactic(auto, using(crate::proofs::Values::field_number, crate::proofs::Values::field_bytes))]
 fn put_value(out: &mut Vec<u8>, value: Value) -> Result<(), AllocError>
-    ensures items { out.new.items ≡ (if is_ok result then out.old.items ++ value_field value else out.old.items) }
-    ensures capacity { vec_capacity out.old ≤ vec_capacity out.new }
-    ensures succeeds { HasRoomFor out.old (value_field value) → IsOk result }
+    ensures { Appends out.old out.new (value_field value) result }
 {
     match value.as_num() {
         Some(number) => put_number(out, number),

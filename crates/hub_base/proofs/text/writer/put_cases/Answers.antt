@@ -1,10 +1,20 @@
-use Rattle.std.proofs.Common.{ap, arith, length}
-use Rattle.std.proofs.lemmas.Grind.{common_steps}
-use Rattle.hub_base.proofs.Spelled.{grown-more}
+use Rattle.std.proofs.Common.{refl, Err}
+use Rattle.hub_base.specs.declared.case.Case.TheVariants.{Recv}
+use Rattle.hub_base.proofs.Appending.{each-more, each-done, each-part, spaced_case, spaced-flat}
 use Rattle.hub_base.proofs.text.writer.put_cases.Goals as goal
+
+pub returns : goal.returns
+returns c =
+    rw (← spaced-flat c.args.cases.now) (each-done spaced_case c.args.cases.now c.loop-case.case-index c.loop-case-test.false c.loop-case.invariant)
 
 pub returns-in-Err : goal.returns-in-Err
 returns-in-Err c =
-    let so = c.loop-case.invariant in
-    let part = grown-more c.args.out.now.items c.loop-case.out.items c.put_case.new.out.items so.grown c.in-Err.ensures.err in
-    grind (arith, common_steps, ap length so.same, part)
+    let cases = c.args.cases.now in
+    let i = c.loop-case.case-index in
+    let here = each-more spaced_case cases i (Recv (record { 0 = 0 })) c.loop-case-test.true refl c.loop-case.invariant c.in-Err.ensures in
+    rw (← spaced-flat cases) (each-part spaced_case cases i (Err c.in-Err.field-0) here refl)
+
+pub loop-case-preserved : goal.loop-case-preserved
+loop-case-preserved c =
+    each-more spaced_case c.args.cases.now c.loop-case.case-index (Recv (record { 0 = 0 })) c.loop-case-test.true refl c.loop-case.invariant
+    c.in-Ok.ensures

@@ -13,6 +13,7 @@ use Rattle.hub_base.specs.declared.value.Pid.{Pid}
 use Rattle.hub_base.specs.declared.case.Case.{Case}
 use Rattle.hub_base.specs.declared.event.Event.{Event}
 use Rattle.hub_base.specs.declared.fault.Fault.{Fault}
+use Rattle.hub_base.specs.declared.fault.Fault.TheVariants.{NoMemory}
 use Rattle.hub_base.specs.declared.entry.Step.{Step}
 use Rattle.hub_base.specs.declared.entry.Step.TheVariants.{Make, Call, Close, Exit, Cancel}
 use Rattle.hub_base.specs.declared.entry.Entry.{Entry}
@@ -25,9 +26,9 @@ use Rattle.hub_base.specs.Text.{steps_of, one_step}
 use Rattle.hub_laws.proofs.Limits.{limits-law}
 use Rattle.hub_core.specs.Records.{MachineLists}
 use Rattle.hub_core.specs.declared.hub.Hub.TheInside.{Inside}
-use Rattle.hub_core.specs.Follows.{Follows, Turns}
+use Rattle.hub_core.specs.Follows.{Follows, IsFine, IsMake, RefusesMake, Turns}
 use Rattle.hub_core.specs.ListSteps.{refusal_of}
-use Rattle.hub_core.specs.HubView.{HubInMemory, HubView, Grows, Steps, StepRules, call_of, places_after, with_entry}
+use Rattle.hub_core.specs.HubView.{HubInMemory, HubView, Grows, Refuses, Steps, StepRules, call_of, places_after, state_of, with_entry}
 use Rattle.hub_core.specs.HubKeeps.{HubKeeps, IsSuch, Takes, count_after}
 use Rattle.hub_core.proofs.Following.{kept-admitted}
 use Rattle.hub_core.proofs.Reached.{steps-length}
@@ -133,12 +134,17 @@ keeps_made h e entries machine told count places k takes fits turns grown same c
   room = omega (arith, made_room h e k takes, counted, placed, same);
 }
 
+-- what an entry is to a hub that shows this
+pub such : (h : Inside) {old : HubInMemory} (e : Entry) {exit grows : Bool} → shown h ≡ old → is_exit e.step ≡ exit
+    → (IsTrue grows ↔ Grows e.step h.places) → IsSuch old.hub e.pid exit grows e
+such h e {exit} {grows} was ends more =
+    subst (λ (m : HubInMemory). IsSuch m.hub e.pid exit grows e) was (record { own = refl; ends = ends; more = more })
+
 -- what a hub takes, by what it shows
 pub taken : (h h' : Inside) {old new : HubInMemory} (e : Entry) {exit grows : Bool} → shown h ≡ old → shown h' ≡ new → is_exit e.step ≡ exit
     → (IsTrue grows ↔ Grows e.step h.places) → ((x : Entry) → IsSuch old.hub e.pid exit grows x → Takes new x) → Takes (shown h') e
 taken h h' e {exit} {grows} was is ends more takes =
-    let such = subst (λ (m : HubInMemory). IsSuch m.hub e.pid exit grows e) was (record { own = refl; ends = ends; more = more }) in
-    subst (λ (m : HubInMemory). Takes m e) (sym is) (takes e such)
+    subst (λ (m : HubInMemory). Takes m e) (sym is) (takes e (such h e was ends more))
 
 -- ---- a call, which is written in its place
 
@@ -147,9 +153,7 @@ none_left places = (eqb-true places 0, λ (none : places ≡ 0). rw none refl)
 
 pub such_call : (h : Inside) {now : HubInMemory} (pid : Pid) (cases : List Case) (default : Bool) (word : ℕ) → shown h ≡ now
     → IsSuch now.hub pid false (h.places == 0) (call_of pid cases default word)
-such_call h pid cases default word is =
-    subst (λ (m : HubInMemory). IsSuch m.hub pid false (h.places == 0) (call_of pid cases default word)) is
-    (record { own = refl; ends = refl; more = none_left h.places })
+such_call h pid cases default word is = such h (call_of pid cases default word) is refl (none_left h.places)
 
 pub taken_call : (h h' : Inside) {old new : HubInMemory} (pid : Pid) (cases : List Case) (default : Bool) (word : ℕ) → shown h ≡ old → shown h' ≡ new
     → ((x : Entry) → IsSuch old.hub pid false (h.places == 0) x → Takes new x) → Takes (shown h') (call_of pid cases default word)
@@ -183,6 +187,27 @@ rules_made {old} r same = record {
   memory = r.memory;
   fine = r.fine;
   unchanged = tt;
+  spare = λ has. same ∙ r.spare has;
+  kept = λ none. same ∙ r.kept none;
+  capacity = subst (λ (n : ℕ). old.capacity ≤ n) (sym same) r.capacity;
+}
+
+make_grows : (step : Step) (places : ℕ) → IsMake step → Grows step places
+make_grows (Make cap) places make = tt
+make_grows (Call cases default word) places make = absurd make
+make_grows (Close p) places make = absurd make
+make_grows Exit places make = absurd make
+make_grows (Cancel q) places make = absurd make
+
+-- an admitted make that the machine refuses memory
+pub rules_refused : {h : Inside} {old mid new : HubInMemory} {e : Entry} {machine : MachineLists} {told : List Event} → HubKeeps h → Takes (shown h) e
+    → RefusesMake h.machine e machine told → StepRules {A = Unit {0}} old e mid (Ok tt) → (shown h).hub ≡ old.hub → new.hub ≡ old.hub
+    → new.capacity ≡ mid.capacity → StepRules {A = Unit {0}} old e new (Err NoMemory)
+rules_refused {h} {old} {e = e} k takes refuses r was unchanged same = record {
+  refused = subst (λ (x : HubView). Refuses x e NoMemory) was (takes.room, takes.admitted, make_grows e.step h.places refuses.make);
+  memory = λ is has. refuses.make;
+  fine = λ is has. subst (λ (x : HubView). IsFine (state_of x) e) was (refuses.fine h.terms.head h.entries.items k.follows);
+  unchanged = unchanged;
   spare = λ has. same ∙ r.spare has;
   kept = λ none. same ∙ r.kept none;
   capacity = subst (λ (n : ℕ). old.capacity ≤ n) (sym same) r.capacity;

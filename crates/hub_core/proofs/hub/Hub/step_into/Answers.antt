@@ -2,7 +2,7 @@ use Rattle.std.proofs.Common.{arith, ◌≡◌, ◌∙◌, ap, sym, subst, true}
 use Rattle.hub_base.specs.Head.{is_of}
 use Rattle.hub_core.specs.HubKeeps.{Takes}
 use Rattle.hub_core.specs.HubView.{HubInMemory, HubView}
-use Rattle.hub_core.proofs.Hubs.{has_place, keeps_made, shown, taken, turn_admitted, turn_steps}
+use Rattle.hub_core.proofs.Hubs.{has_place, keeps_made, shown, taken, turn_admitted, turn_steps, such, refused_so, rules_made, rules_refused, steps_made}
 use Rattle.hub_core.proofs.hub.Hub.step_into.Goals as goal
 use Rattle.hub_core.proofs.hub.Hub.step_into.Goals.{After-places_after-self-inside}
 
@@ -32,3 +32,28 @@ invariant_of-self-2 c =
     keeps_made c.self-2.inside c.args.entry c.push_reserved.new.self c.turn.new.self c.turn.new.events.items _ _ c.self-2.invariant
     (takes c.before.before.before) fits c.in-Ok.ensures.ok c.push_reserved.ensures.items c.push_reserved.ensures.capacity c.count_after-self-inside.ensures
     c.places_after-self-inside.ensures
+
+pub returns-in_err-admit-clause-rules : goal.returns-in_err-admit-clause-rules
+returns-in_err-admit-clause-rules c =
+    let is = such c.self.inside c.args.entry c.self.view_is (sym c.is_exit-exit.ensures) c.grows-grows.ensures in
+    refused_so c.from_residual.result c.in_err-admit.field-0.0 c.from_residual.ensures (c.in_err-admit.ensures.rules _ is)
+
+pub returns-in_default-clause-rules : goal.returns-in_default-clause-rules
+returns-in_default-clause-rules c =
+    let is = such c.self.inside c.args.entry c.self.view_is (sym c.is_exit-exit.ensures) c.grows-grows.ensures in
+    let takes = taken c.self.inside c.self-2.inside c.args.entry c.self.view_is c.self-2.view_is (sym c.is_exit-exit.ensures)
+    c.grows-grows.ensures c.in_ok-admit.ensures.ok in
+    let was = ap (λ (m : HubInMemory). m.hub) c.self-2.view_is ∙ c.in_ok-admit.ensures.same in
+    rules_refused c.self-2.invariant takes c.in_default.ensures.err (c.in_ok-admit.ensures.rules _ is) was was
+    (ap (λ (m : HubInMemory). m.capacity) c.self-2.view_is)
+
+pub returns-clause-ok : goal.returns-clause-ok
+returns-clause-ok c =
+    let was = ap (λ (m : HubInMemory). m.hub) c.self-2.view_is ∙ c.in_ok-admit.ensures.same in
+    steps_made c.args.entry c.self-2.invariant (takes c.before.before.before) c.in-Ok.ensures.ok was
+    (λ i. record { terms = c.self-2.inside.terms; journal = c.push_reserved.ensures.items i; places = c.places_after-self-inside.ensures i })
+
+pub returns-clause-rules : goal.returns-clause-rules
+returns-clause-rules c =
+    let is = such c.self.inside c.args.entry c.self.view_is (sym c.is_exit-exit.ensures) c.grows-grows.ensures in
+    rules_made (c.in_ok-admit.ensures.rules _ is) (c.push_reserved.ensures.capacity ∙ ap (λ (m : HubInMemory). m.capacity) c.self-2.view_is)

@@ -1,19 +1,22 @@
 -- A change of the queues of a call's cases, seen at one queue.
 use Rattle.std.proofs.Common.{◌≡◌, ◌≢◌, ℕ, ◌+◌, ◌-◌, ◌<◌, ◌≤◌, ◌==◌, Bool, true, false, cond, List, [], ◌∷◌}
-use Rattle.std.proofs.Common.{length, map, get_or, set, refl, ap, ◌∙◌, sym, arith, eq-eqb, zero, suc, inl, inr}
+use Rattle.std.proofs.Common.{length, drop, map, get_or, set, refl, ap, ◌∙◌, sym, subst, arith, add-one, drop-cons, eq-eqb, zero, suc, inl, inr}
 use Rattle.std.proofs.lemmas.Bool.{cases_eq, ne_eqb, eqb-true, eqb-false}
 use Rattle.std.proofs.lemmas.List.{length-set, get_or-set_same, get_or-set_other, map-set, set-get_or}
 use Rattle.circular_buffer.specs.Buffer.{Buffer}
+use Rattle.hub_base.specs.declared.value.Pid.{Pid}
 use Rattle.hub_base.specs.declared.value.Port.{Port}
 use Rattle.hub_base.specs.declared.case.Case.{Case}
 use Rattle.hub_base.specs.declared.case.Case.TheVariants.{Send, Recv}
+use Rattle.hub_base.specs.Ready.{port_of}
 use Rattle.hub_parts.specs.declared.side.Side.{Side}
 use Rattle.hub_parts.specs.declared.side.Side.TheVariants as side
 use Rattle.hub_parts.specs.declared.wait_queue.Waiter.{Waiter}
 use Rattle.hub_parts.specs.Records.{ChannelLists, PortLists}
 use Rattle.hub_parts.specs.Channels.{queue_of, with_queue, channel_of, no_channel}
-use Rattle.hub_parts.specs.Parking.{with_line, with_case, with_cases}
-use Rattle.hub_parts.specs.Keeps.{joins}
+use Rattle.hub_parts.specs.Parking.{with_line, with_case, with_cases, CanJoin, CaseFits}
+use Rattle.hub_parts.specs.Queues.{joined, waiter_at}
+use Rattle.hub_parts.specs.Keeps.{AllMade, joins}
 
 abbrev Change : Type 0
 Change = Buffer Waiter → Buffer Waiter
@@ -30,6 +33,23 @@ length-with_line f s p cs = elim (p.0 == 0) as (λ b. length (cond b cs (set cs 
 pub length-with_case : (f : Change) (cs : List ChannelLists) (c : Case) → length (with_case f cs c) ≡ length cs
 length-with_case f cs (Send p v) = length-with_line f side.Send p cs
 length-with_case f cs (Recv p) = length-with_line f side.Recv p cs
+
+-- the case whose turn it is, and those behind it
+next-drop : (cases : List Case) (i : ℕ) (d : Case) → i < length cases → drop i cases ≡ get_or cases i d ∷ drop (i + 1) cases
+next-drop cases i d inside = rw (add-one) (drop-cons cases i d inside)
+
+pub with_cases-next : (f : ℕ → Change) (i : ℕ) (cs : List ChannelLists) (cases : List Case) (d : Case) → i < length cases
+    → with_cases f (i + 1) (with_case (f i) cs (get_or cases i d)) (drop (i + 1) cases) ≡ with_cases f i cs (drop i cases)
+with_cases-next f i cs cases d inside = sym (ap (with_cases f i cs) (next-drop cases i d inside))
+
+pub made-next : (n i : ℕ) (cases : List Case) (d : Case) → i < length cases → AllMade n (drop i cases)
+    → ((port_of (get_or cases i d)).0 ≤ n) × AllMade n (drop (i + 1) cases)
+made-next n i cases d inside made = subst (AllMade n) (next-drop cases i d inside) made
+
+pub joins-next : (pid : Pid) (ticket i : ℕ) (cs : List ChannelLists) (cases : List Case) (d : Case) → i < length cases
+    → CanJoin pid ticket i cs (drop i cases)
+    → CaseFits cs (get_or cases i d) × CanJoin pid ticket (i + 1) (with_case (joined (waiter_at pid ticket i)) cs (get_or cases i d)) (drop (i + 1) cases)
+joins-next pid ticket i cs cases d inside can = subst (CanJoin pid ticket i cs) (next-drop cases i d inside) can
 
 pub length-with_cases : (f : ℕ → Change) (i : ℕ) (cs : List ChannelLists) (cases : List Case) → length (with_cases f i cs cases) ≡ length cs
 length-with_cases f i cs [] = refl

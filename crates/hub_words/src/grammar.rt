@@ -3,11 +3,18 @@
 use clap::{Arg, ArgAction, Command};
 use std::alloc::{AllocError, Global};
 
-/// A command that knows no help and no version.
-fn bare<'a>(alloc: Global, name: &'a str) -> Command<'a> {
+/// A command of these two arguments, which knows no help and no version.
+fn command<'a>(
+    alloc: Global,
+    name: &'a str,
+    first: Arg<'a>,
+    second: Arg<'a>,
+) -> Result<Command<'a>, AllocError> {
     Command::new(alloc, name)
         .disable_help_flag(true)
         .disable_version_flag(true)
+        .arg(first)?
+        .arg(second)
 }
 
 /// An argument that may stand.
@@ -21,9 +28,12 @@ fn option<'a>(alloc: Global, name: &'a str) -> Arg<'a> {
 }
 
 pub(crate) fn run_command<'a>(alloc: Global) -> Result<Command<'a>, AllocError> {
-    bare(alloc, "run")
-        .arg(optional(alloc, "file"))?
-        .arg(option(alloc, "journal"))
+    command(
+        alloc,
+        "run",
+        optional(alloc, "file"),
+        option(alloc, "journal"),
+    )
 }
 
 /// An argument that has to stand.
@@ -32,7 +42,10 @@ fn required<'a>(alloc: Global, name: &'a str) -> Arg<'a> {
 }
 
 pub(crate) fn verify_command<'a>(alloc: Global) -> Result<Command<'a>, AllocError> {
-    bare(alloc, "verify")
-        .arg(required(alloc, "journal"))?
-        .arg(required(alloc, "events"))
+    command(
+        alloc,
+        "verify",
+        required(alloc, "journal"),
+        required(alloc, "events"),
+    )
 }

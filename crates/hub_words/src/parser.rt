@@ -8,7 +8,7 @@ use crate::options::{asks_for_replay, command, has_unknown_option};
 use crate::{ArgumentsFault, Request};
 use clap::error::ErrorKind;
 use clap::{ArgMatches, Command, Error};
-use std::alloc::Global;
+use std::alloc::{AllocError, Global};
 use std::convert::AsStr;
 
 fn fault_of(error: &Error) -> ArgumentsFault {
@@ -20,22 +20,28 @@ fn fault_of(error: &Error) -> ArgumentsFault {
 
 /// What `clap` reads of a command, of which the first word is the name.
 fn matches_of<'a, S: AsStr>(
-    command: Command<'a>,
+    command: Result<Command<'a>, AllocError>,
     words: &'a [S],
 ) -> Result<ArgMatches<'a>, ArgumentsFault> {
-    command
+    command?
         .try_get_matches_from(words)
         .map_err(|error| fault_of(&error))
+}
+
+fn run_of<'a>(found: &ArgMatches<'a>) -> Request<'a>
+    ensures { IsRun result }
+{
+    Request::Run {
+        file: found.get_str("file"),
+        journal: found.get_flag("journal"),
+    }
 }
 
 fn read_run<'a, S: AsStr>(alloc: Global, words: &'a [S]) -> Result<Request<'a>, ArgumentsFault>
     ensures { IfOk result IsRun }
 {
-    let found = matches_of(run_command(alloc)?, words)?;
-    Ok(Request::Run {
-        file: found.get_str("file"),
-        journal: found.get_flag("journal"),
-    })
+    let found = matches_of(run_command(alloc), words)?;
+    Ok(run_of(&found))
 }
 
 fn verify_of<'a>(found: &ArgMatches<'a>) -> Option<Request<'a>>
@@ -50,7 +56,7 @@ fn verify_of<'a>(found: &ArgMatches<'a>) -> Option<Request<'a>>
 fn read_verify<'a, S: AsStr>(alloc: Global, words: &'a [S]) -> Result<Request<'a>, ArgumentsFault>
     ensures { IfOk result IsVerify }
 {
-    let found = matches_of(verify_command(alloc)?, words)?;
+    let found = matches_of(verify_command(alloc), words)?;
     verify_of(&found).ok_or(ArgumentsFault::BadArguments)
 }
 

@@ -6,7 +6,7 @@ ghost use Rattle.hub_words.specs.declared.request.ArgumentsFault.TheVariants as 
 use std::alloc::AllocError;
 
 /// What the program is to do. Names of files are those of the arguments; an empty one is a name too.
-#[derive(Clone, Copy, Debug, PartialEq, Eq)]
+#[derive(Clone, Copy)]
 pub enum Request<'a> {
     /// Replay the journal on standard input.
     Replay,

@@ -18,14 +18,13 @@ use Rattle.hub_scenario.specs.Numbers.{within, edition_of, ports_of}
 use Rattle.hub_scenario.specs.Scenario.{scripts_of, values_of}
 use Rattle.hub_scenario.specs.Scripts.{scripts_from}
 
-scripts-within : (ed : Edition) (dss : List Items) → 1 ≤ length dss → length dss ≤ MOST_PROCS → scripts_of ed dss ≡ scripts_from ed 0 dss
+pub scripts-within : (ed : Edition) (dss : List Items) → 1 ≤ length dss → length dss ≤ MOST_PROCS → scripts_of ed dss ≡ scripts_from ed 0 dss
 scripts-within ed dss some few = grind (arith, nat_tests)
 
 -- what the scripts of a lent slice say is what those of the frame say
 pub scripts-say : (ed : Edition) (process slice : List (Bor (Vec Value Global))) (r : Result (List (List ScriptStep)) ScenarioFault) → slice ≡ process
-    → 1 ≤ length (map seen process) → length (map seen process) ≤ MOST_PROCS → scripts_from ed 0 (map seen slice) ≡ r → scripts_of ed (map seen process) ≡ r
-scripts-say ed process slice r same some few says = scripts-within ed (map seen process) some few
-    ∙ ap (λ xs. scripts_from ed 0 (map seen xs)) (sym same) ∙ says
+    → scripts_of ed (map seen slice) ≡ r → scripts_of ed (map seen process) ≡ r
+scripts-say ed process slice r same says = ap (λ xs. scripts_of ed (map seen xs)) (sym same) ∙ says
 
 pub seed-bad : (f : FrameData) → within 0 GREATEST_SEED f.seed ≡ None → values_of f ≡ Err BadSeed
 seed-bad f e = rw e refl

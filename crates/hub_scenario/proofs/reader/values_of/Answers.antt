@@ -1,5 +1,4 @@
-use Rattle.std.proofs.Common.{rules, arith, ◌≡◌, map, vec_items, Err}
-use Rattle.std.proofs.lemmas.List.{length-map}
+use Rattle.std.proofs.Common.{rules, ◌≡◌, map, vec_items, Err}
 use Rattle.hub_scenario.specs.declared.fault.ScenarioFault.TheVariants.{NoMemory}
 use Rattle.hub_scenario.specs.FrameView.{frame_view}
 use Rattle.hub_scenario.specs.Scenario.{values_of}
@@ -33,8 +32,7 @@ returns-in_err-scripts-clause-fault c =
     scripts-bad f c.in-Some.seed c.in-Some-within.limit c.in-Some-edition_of.edition c.in_ok-ports.ports.items e (search rules) (search rules) (search rules)
     c.in_ok-ports.ensures.ok
     (scripts-say c.in-Some-edition_of.edition c.args.frame.now.process.items c.as_slice.result.now (Err e) c.as_slice.ensures.value
-    (search (rules, arith, length-map))
-    (search (rules, arith, length-map)) (c.in_err-scripts.ensures.fault own)) in
+    (c.in_err-scripts.ensures.fault own)) in
     search (rules, said)
 
 pub returns-clause-ok : goal.returns-clause-ok
@@ -42,5 +40,4 @@ returns-clause-ok c =
     values-good (frame_view c.args.frame.now) c.in-Some.seed c.in-Some-within.limit c.in-Some-edition_of.edition c.in_ok-ports.ports.items
     (map vec_items c.in_ok-scripts.scripts.items) (search rules) (search rules) (search rules) c.in_ok-ports.ensures.ok
     (scripts-say c.in-Some-edition_of.edition c.args.frame.now.process.items c.as_slice.result.now _ c.as_slice.ensures.value
-    (search (rules, arith, length-map))
-    (search (rules, arith, length-map)) c.in_ok-scripts.ensures.ok)
+    c.in_ok-scripts.ensures.ok)

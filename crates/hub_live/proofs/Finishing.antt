@@ -21,15 +21,15 @@ compared_next {after = after} {done} {rest} {next} {all} {s} c same is here left
   split = one_further done rest next all s left c.split;
 }
 
-compared_all : {start now : LockedView} {done rest all : List SeatView} → Compared start now done rest all → length rest ≡ 0
+pub compared_all : {start now : LockedView} {done rest all : List SeatView} → Compared start now done rest all → length rest ≡ 0
     → All (λ s. StandsIn s now.hub.journal) all
 compared_all {now = now} {done} {rest = []} c none =
     subst (λ (x : List SeatView). All (λ s. StandsIn s now.hub.journal) x) (sym (append-nil done) ∙ c.split) c.stand
 compared_all {rest = s ∷ rest} c none = absurd (omega arith)
 
--- once all are compared, the journal is what the hub of this name ends in
-pub ended : (name : Name) {start now : LockedView} {done rest all : List SeatView} {journal : JournalView} → Compared start now done rest all → length rest ≡ 0
+-- what the hub of this name ends in, where all that are handed in stand in its journal
+pub ended : (name : Name) (now : LockedView) {all : List SeatView} {journal : JournalView} → All (λ s. StandsIn s now.hub.journal) all
     → journal ≡ record { head = name.terms.head; entries = now.hub.journal } → IsLegal name.terms.head now.hub.journal
     → AreOf name.terms.head.edition now.hub.journal → steps_of now.hub.journal ≤ name.terms.limit → EndsIn name all journal
-ended name {all = all} c none is legal fits few =
-    subst (λ (j : JournalView). EndsIn name all j) (sym is) record { head = refl; legal = legal; fits = fits; few = few; seats = compared_all c none }
+ended name now {all = all} stand is legal fits few =
+    subst (λ (j : JournalView). EndsIn name all j) (sym is) record { head = refl; legal = legal; fits = fits; few = few; seats = stand }

@@ -12,7 +12,8 @@ use Rattle.hub_live.specs.Request.{step_of}
 use Rattle.hub_live.specs.declared.request.Request.{Request}
 use Rattle.hub_live.specs.Prelude.{IsPrefix, Seat, Head, Pid, Entry, Event, is_waiting, state, own, reply, last_from, is_parked, Terms, View, IsReplyTo, Name}
 use Rattle.hub_live.specs.Prelude.{name_of, IsHistory, Knows, Sees, SeesBoth, Met, with_joined, parted, given_back, SeatView, IsIdle, IsFree, own_of, IsToken}
-use Rattle.hub_live.specs.Prelude.{IsSingle, IsAlone, seat_of, StandsIn, Later, MadeEntry, AreSeats, LockedView, entry_by, ServesSeat, AnswersNoCall}
+use Rattle.hub_live.specs.Prelude.{IsSingle, IsAlone, seat_of, StandsIn, Later, MadeEntry, AreSeats, LockedView, entry_by, ServesSeat}
+use Rattle.hub_live.specs.Prelude.{Answers, AnswersNoCall, HasEnded, Step}
 use Rattle.hub_live.proofs.Prefixes.{prefix_self, prefix_trans}
 use Rattle.hub_live.proofs.Locks.{served_answers, answers_no_call, parked_call}
 use Rattle.hub_live.proofs.Refusals.{asks_nothing}
@@ -162,34 +163,36 @@ later_told {t = t} named same begins history told =
       };
     }
 
+answered_so : (pid : Pid) (step : Step) (first x : Event) → Answers pid step first → (is_parked first.what ≡ false → x ≡ first)
+    → (b : Bool) → is_parked first.what ≡ b → AnswersNoCall pid step x
+answered_so pid step first x by same false clear = answers_no_call pid step x (subst (Answers pid step) (sym (same clear)) by)
+answered_so pid step first x by same true waits = parked_call pid step first x by.1 waits
+
+-- a step that did not park has ended
+pub ended_at_once : {name : Name} {s : SeatView} {x : Event} → IsHistory name.terms s.seen → IsReplyTo name.terms.head s.pid.0 s.seen x
+    → HasEnded name s s x
+ended_at_once {s = s} history told = record { same = (refl, refl); told = told; history = history; begins = prefix_self s.seen; own = refl }
+
 -- what a call that was answered leaves in its seat
 pub record Answered (s t : SeatView) (request : Request) (x : Event) : Type 0 where
   pub later : Later s t
   pub made : MadeEntry s t (entry_by s.pid request) x
   pub answer : AnswersNoCall s.pid (step_of request) x
 
--- it was answered at once
-pub answered_at_once : {name : Name} {old new : LockedView} {s t : SeatView} {x : Event} (request : Request) → s.hub ≡ name
-    → ServesSeat name old s (entry_by s.pid request) new t (Ok x) → is_parked x.what ≡ false → Answered s t request x
-answered_at_once {name} {old} {new} {s} {t} {x} request hub served clear =
-    let told = served.told clear in
-    let told_there = subst (λ (p : Pid). IsReplyTo name.terms.head p.0 t.seen x) (sym served.same.1) told in
+-- its step was answered, maybe by `Parked`, and then ended, while its seat came from t to u; by the same answer where
+-- it did not park
+pub answered : {name : Name} {old new : LockedView} {s t u : SeatView} {first x : Event} (request : Request) → s.hub ≡ name
+    → ServesSeat name old s (entry_by s.pid request) new t (Ok first) → HasEnded name t u x → (is_parked first.what ≡ false → x ≡ first)
+    → Answered s u request x
+answered {name} {old} {new} {s} {t} {u} {first} {x} request hub served ended same =
+    let told = subst (λ (p : Pid). IsReplyTo name.terms.head p.0 u.seen x) served.same.1 ended.told in
+    let by = served_answers old new (entry_by s.pid request) first served.ok in
     record {
-      later = later_told hub served.same served.begins served.history told;
-      made = made_later name.terms s t t (entry_by s.pid request) x (ap (λ (n : Name). n.terms) hub) served.same.0 served.own refl refl refl told_there;
-      answer = answers_no_call s.pid (step_of request) x (served_answers old new (entry_by s.pid request) x served.ok);
-    }
-
--- it parked, and its seat came from t to u while it waited
-pub answered_later : {name : Name} {old new : LockedView} {s t u : SeatView} {parked x : Event} (request : Request) → s.hub ≡ name
-    → ServesSeat name old s (entry_by s.pid request) new t (Ok parked) → is_parked parked.what ≡ true → (u.hub ≡ t.hub) × (u.pid ≡ t.pid)
-    → IsReplyTo name.terms.head t.pid.0 u.seen x → IsHistory name.terms u.seen → IsPrefix t.seen u.seen → own_of u ≡ own_of t → Answered s u request x
-answered_later {name} {old} {new} {s} {t} {u} {parked} {x} request hub served waits same told history begins still =
-    let told_there = subst (λ (p : Pid). IsReplyTo name.terms.head p.0 u.seen x) served.same.1 told in
-    record {
-      later = later_told hub (same.0 ∙ served.same.0, same.1 ∙ served.same.1) (prefix_trans s.seen t.seen u.seen served.begins begins) history told_there;
-      made = made_later name.terms s t u (entry_by s.pid request) x (ap (λ (n : Name). n.terms) hub) served.same.0 served.own same.0 same.1 still told;
-      answer = parked_call s.pid (step_of request) parked x (served_answers old new (entry_by s.pid request) parked served.ok).1 waits;
+      later = later_told hub (ended.same.0 ∙ served.same.0, ended.same.1 ∙ served.same.1)
+          (prefix_trans s.seen t.seen u.seen served.begins ended.begins) ended.history told;
+      made = made_later name.terms s t u (entry_by s.pid request) x (ap (λ (n : Name). n.terms) hub) served.same.0 served.own ended.same.0 ended.same.1
+          ended.own ended.told;
+      answer = answered_so s.pid (step_of request) first x by same (is_parked first.what) refl;
     }
 
 -- ---- the seats of a new hub

@@ -93,6 +93,15 @@ pub record ServesSeat
   pub left : OnErr result (AskedNothing s t)
   pub unchanged : OnErr result (new ≡ old)
 
+-- a step of a seat's process was made, and has ended with this answer: nothing else was asked, and the event is the
+-- process's reply
+pub record HasEnded (name : Name) (s t : SeatView) (x : Event) : Type 0 where
+  pub same : (t.hub ≡ s.hub) × (t.pid ≡ s.pid)
+  pub told : IsReplyTo name.terms.head s.pid.0 t.seen x
+  pub history : IsHistory name.terms t.seen
+  pub begins : IsPrefix s.seen t.seen
+  pub own : own_of t ≡ own_of s
+
 -- the entry of a seat's process with this step
 abbrev pub entry_of : SeatView → Step → Entry
 entry_of s step = record { pid = s.pid; step = step }

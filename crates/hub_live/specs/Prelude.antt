@@ -40,4 +40,4 @@ pub use Rattle.hub_live.specs.SeatView.{IsFree, IsIdle, SeatView, own_of, state_
 pub use Rattle.hub_live.specs.Request.{entry_by}
 pub use Rattle.hub_live.specs.Seated.{IsAlone, IsHub, seat_of, IsDesk}
 pub use Rattle.hub_live.specs.Calls.{AreSeats, Later, MadeEntry, Shows, StandsIn, Made, Refused, RefusedEntry, Answers, AnswersNoCall}
-pub use Rattle.hub_live.specs.Calls.{AskedNothing, Tells, Told, ServesSeat, EndsIn}
+pub use Rattle.hub_live.specs.Calls.{AskedNothing, HasEnded, Tells, Told, ServesSeat, EndsIn}

@@ -78,6 +78,27 @@ fn seats_of(alloc: Global, table: &HubTable, procs: u8) -> Result<Vec<Seat>, All
     Ok(seats)
 }
 
+/// What threads share beside the hub, put around it, and a seat for each process, in order.
+fn surround(alloc: Global, hub: Hub, terms: Terms) -> Result<(Blank, Vec<Seat>), AllocError>
+    requires hub { hub.hub ≡ opened_hub terms }
+    requires bounds { IsHead terms.head × IsLimit terms.limit }
+    ensures hub { IfOk result (λ r. r.0.locked ≡ none_waits (opened_hub terms)) }
+    ensures terms { IfOk result (λ r. r.0.name.terms ≡ terms) }
+    ensures count { IfOk result (λ r. vec_len r.1 ≡ terms.head.procs) }
+    ensures seats { IfOk result (λ r. AreSeats r.0.name 0 r.1.items) }
+{
+    let (table, token) = open_table(alloc, terms)?;
+    let wakers = wakers_of(alloc, terms.head.procs)?;
+    let seats = seats_of(alloc, &table, terms.head.procs)?;
+    let blank = Blank {
+        table,
+        token,
+        locked: Locked::of(hub),
+        wakers,
+    };
+    Ok((blank, seats))
+}
+
 impl Blank {
     /// A hub of this edition, of 1 to `MOST_PROCS` processes, whose journal may hold 1 to `MOST_STEPS` entries that are no
     /// exits, and a seat for each process, in order. Refused as `Hub::open` is, and nothing is kept; by
@@ -103,16 +124,7 @@ impl Blank {
             head: Head { edition, procs },
             limit,
         };
-        let (table, token) = open_table(alloc, terms)?;
-        let wakers = wakers_of(alloc, procs)?;
-        let seats = seats_of(alloc, &table, procs)?;
-        let blank = Blank {
-            table,
-            token,
-            locked: Locked::of(hub),
-            wakers,
-        };
-        Ok((blank, seats))
+        Ok(surround(alloc, hub, terms)?)
     }
 
     /// The hub under its name.

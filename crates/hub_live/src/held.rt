@@ -4,12 +4,14 @@
 ghost use Rattle.std.specs.Prelude.{◌≡◌, ◌<◌, ◌∷◌, ◌⊎◌, [], true, false, IfOk, IfErr, All};
 ghost use Rattle.hub_base.specs.declared.event.What.TheVariants as what;
 ghost use Rattle.hub_live.specs.Prelude.{Send, Recv, Make, Call, Close, Exit, Cancel, Two, is_of, has_value, call, counts_at, IsIdle, state_seen, Later};
-ghost use Rattle.hub_live.specs.Prelude.{Made, Refused, Answers, AskedNothing, Told, EndsIn};
+ghost use Rattle.hub_live.specs.Prelude.{Made, Refused, Answers, AskedNothing, StandsIn, Told, EndsIn};
 
+use crate::desk::Desk;
 use crate::ends::{Chan, RecvPort, SendPort};
 use crate::live_hub::LiveHub;
 use crate::name::HubName;
 use crate::seat::Seat;
+use crate::words::Words;
 use hub_base::{Cases, Counts, Event, Fault, Journal, Pid, Port, Value};
 use std::alloc::{AllocError, Global};
 use std::marker::{Model, PhantomData};
@@ -198,15 +200,24 @@ impl<K: HubName> Held<K> {
     }
 }
 
+/// Shows of each of these seats that the journal begins with what it has seen, and that its process asked nothing
+/// more in it.
+fn compare_all<K: HubName>(words: &Words<K>, desk: &mut Desk<K>, held: Vec<Held<K>>)
+    ensures same { desk.new ≡ desk.old }
+    ensures stand { All (λ s. StandsIn s desk.new.hub.journal) held.items }
+{
+    for one in held {
+        desk.compare(words, one.into_seat().into_inner());
+    }
+}
+
 impl<K: HubName> LiveHub<K> {
     /// The journal, as `finish` gives it.
     pub fn finish_held(self, held: Vec<Held<K>>) -> Journal
         ensures rules { EndsIn K.name held.items result }
     {
         let (words, mut desk) = self.into_parts();
-        for one in held {
-            desk.compare(&words, one.into_seat().into_inner());
-        }
+        compare_all(&words, &mut desk, held);
         desk.into_journal()
     }
 }

@@ -4,8 +4,8 @@ ghost use Rattle.std.specs.Prelude.{◌≡◌, ◌∷◌, ◌⊎◌, [], true, f
 ghost use Rattle.hub_base.specs.declared.event.What.TheVariants as what;
 ghost use Rattle.hub_live.specs.Prelude.{Send, Recv, Make, Call, Close, Exit, Cancel, Two, is_of, has_case, has_value, call, is_parked, counts_at, state_seen, Later};
 ghost use Rattle.hub_live.specs.Request.{step_of};
-ghost use Rattle.hub_live.specs.Prelude.{entry_by, Made, Refused, MadeEntry, RefusedEntry, Answers, AnswersNoCall, AskedNothing, Told, EndsIn};
-ghost use Rattle.hub_live.specs.Prelude.{IsHistory, IsPrefix, IsReplyTo, own_of};
+ghost use Rattle.hub_live.specs.Prelude.{entry_by, Made, Refused, MadeEntry, RefusedEntry, Answers, AnswersNoCall, AskedNothing, Tells, Told, EndsIn};
+ghost use Rattle.hub_live.specs.Prelude.{HasEnded, IsHistory, StandsIn};
 
 use crate::desk::Desk;
 use crate::ends::{Chan, RecvPort, SendPort};
@@ -43,6 +43,18 @@ fn is_parked(what: What) -> bool
     ensures { result ≡ is_parked what }
 {
     matches!(what, What::Parked)
+}
+
+/// Shows of each of these seats that the journal begins with what it has seen, and that its process asked nothing
+/// more in it.
+fn compare_all<K: HubName>(words: &Words<K>, desk: &mut Desk<K>, seats: Vec<Seat>)
+    requires { All (λ s. s.hub ≡ K.name) seats.items }
+    ensures same { desk.new ≡ desk.old }
+    ensures stand { All (λ s. StandsIn s desk.new.hub.journal) seats.items }
+{
+    for seat in seats {
+        desk.compare(words, seat.into_inner());
+    }
 }
 
 impl<K: HubName> LiveHub<K> {
@@ -88,14 +100,32 @@ impl<K: HubName> LiveHub<K> {
         let waker = &self.wakers[usize::from(seat.pid().0)];
         let mut desk = self.lock(rt, waker);
         let answer = desk.serve(&self.words, &mut seat.inner, request)?;
+        Ok(self.end_step(rt, desk, &mut seat.inner, answer))
+    }
+
+    /// Wakes the processes whose calls a step ended that was answered so, and waits where it parked.
+    #[inline]
+    fn end_step<'a, R: Wait>(
+        &'a self,
+        rt: &R,
+        desk: MutexGuard<'a, Desk<K>>,
+        seat: &mut InnerSeat,
+        answer: Event,
+    ) -> Event
+        requires hub { seat.old.hub ≡ K.name }
+        requires history { IsHistory K.name.terms seat.old.seen }
+        requires told { Tells K.name.terms seat.old.pid seat.old.seen answer }
+        ensures ended { HasEnded K.name seat.old seat.new result }
+        ensures answer { is_parked answer.what ≡ false → result ≡ answer }
+    {
         if !is_parked(answer.what) {
             if desk.has_ended() {
                 self.let_go(desk);
             }
-            return Ok(answer);
+            return answer;
         }
         self.wake(&desk.ended());
-        Ok(self.wait_for_answer(rt, desk, &mut seat.inner))
+        self.wait_for_answer(rt, desk, seat)
     }
 
     /// Lets the lock go, and wakes the processes whose calls the last step ended, who then find it free.
@@ -123,13 +153,8 @@ impl<K: HubName> LiveHub<K> {
         desk: MutexGuard<'a, Desk<K>>,
         seat: &mut InnerSeat,
     ) -> Event
-        requires hub { seat.old.hub ≡ K.name }
-
-        ensures same { (seat.new.hub ≡ seat.old.hub) × (seat.new.pid ≡ seat.old.pid) }
-        ensures told { IsReplyTo K.name.terms.head seat.old.pid.0 seat.new.seen result }
-        ensures history { IsHistory K.name.terms seat.new.seen }
-        ensures begins { IsPrefix seat.old.seen seat.new.seen }
-        ensures own { own_of seat.new ≡ own_of seat.old }
+        requires { seat.old.hub ≡ K.name }
+        ensures { HasEnded K.name seat.old seat.new result }
     {
         let waker = &self.wakers[usize::from(seat.pid().0)];
         // With a buffer it is quicker to sleep, and to let the other side fill or empty it in one go.
@@ -382,9 +407,7 @@ impl<K: HubName> LiveHub<K> {
         ensures rules { EndsIn K.name seats.items result }
     {
         let (words, mut desk) = self.into_parts();
-        for seat in seats {
-            desk.compare(&words, seat.into_inner());
-        }
+        compare_all(&words, &mut desk, seats);
         desk.into_journal()
     }
 }

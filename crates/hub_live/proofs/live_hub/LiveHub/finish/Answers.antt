@@ -1,13 +1,7 @@
-use Rattle.std.proofs.Common.{rules, length, ◌≡◌}
-use Rattle.hub_live.proofs.Finishing.{compared_next, ended}
+use Rattle.hub_live.proofs.Finishing.{ended}
 use Rattle.hub_live.proofs.live_hub.LiveHub.finish.Goals as goal
-
-pub loop-seat-preserved : goal.loop-seat-preserved
-loop-seat-preserved g c =
-    compared_next c.loop-seat.invariant c.compare.ensures.same c.into_inner.ensures.inner c.compare.ensures.stands c.in-Some.ensures.steps.0
 
 pub returns : goal.returns
 returns g c =
-    let none : length c.loop-seat.seat-iterator.rest.items ≡ 0 = search (rules, c.loop-seat.seat-iterator.rest.ok, c.in-None.ensures.steps.0) in
     let is = c.into_journal.ensures in
-    record { rules = ended g.K.HubName.name c.loop-seat.invariant none is.journal is.legal is.fits is.few }
+    record { rules = ended g.K.HubName.name c.compare_all.new.desk c.compare_all.ensures.stand is.journal is.legal is.fits is.few }

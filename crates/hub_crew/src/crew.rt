@@ -1,6 +1,6 @@
 //! One thread for each seat, none of which begins until all are started.
 
-ghost use Rattle.std.specs.Prelude.{◌≡◌, ◌≤◌, [], true, IfOk, IfSome, All, map, vec_len, vec_capacity};
+ghost use Rattle.std.specs.Prelude.{◌≡◌, ◌≤◌, [], true, IfOk, OnOk, IfSome, All, map, vec_len, vec_capacity};
 
 use crate::start::Start;
 use crate::task::{Member, Task};
@@ -10,10 +10,10 @@ use std::alloc::{AllocError, Global};
 use std::marker::PhantomData;
 use std::sync::Wait;
 use std::thread;
-use std::thread::{Promise, PromisedHandle, Threads};
+use std::thread::{Promise, PromisedHandle, Scope, Threads};
 
 /// What a thread owes: the seat of its process, and where it began, what its task promises of it.
-#[derive(Clone, Copy)]
+#[derive(Drop)]
 struct Owed<K, R, T> {
     /// The number of the process.
     pid: Pid,
@@ -52,6 +52,30 @@ fn work<K: HubName, R: Wait, T: Task<K, R>>(
     Some(Member { seat, report })
 }
 
+/// Starts the thread of one seat. `None` where it can't be started.
+fn spawn<'s, E, K: HubName + Send + Sync + 's, R: Wait + Sync + 's, T: Task<K, R> + 's>(
+    scope: &Scope<'s, E>,
+    rt: &'s R,
+    hub: &'s LiveHub<K>,
+    start: &'s Start,
+    seat: Held<K>,
+    task: T,
+) -> Option<Started<K, R, T>>
+    requires { T.begins task seat }
+    ensures { IfSome result (λ h. (h.promise.pid ≡ seat.pid) × (h.promise.task ≡ task)) }
+{
+    let owed = Owed {
+        pid: seat.pid(),
+        task,
+        of: PhantomData,
+    };
+    let job = move || -> Option<Member<K, T::Report>>
+        requires { T.begins task seat }
+        ensures { IfSome result (λ m. (m.seat.pid ≡ seat.pid) × T.ends task m.seat m.report) }
+    { work(rt, hub, start, seat, task) };
+    scope.spawn_with(owed, job).ok()
+}
+
 /// Starts a thread for each seat, and lets all begin once all are started. Whether they were; else none
 /// begins.
 fn start_all<K: HubName + Send + Sync, R: Threads + Wait + Sync, T: Task<K, R>>(
@@ -83,16 +107,9 @@ fn start_all<K: HubName + Send + Sync, R: Threads + Wait + Sync, T: Task<K, R>>(
         {
             let mut handles = room;
             for seat in seats {
-                let owed = Owed {
-                    pid: seat.pid(),
-                    task,
-                    of: PhantomData,
-                };
-                let job = move || -> Option<Member<K, T::Report>>
-                    requires { T.begins task seat }
-                    ensures { IfSome result (λ m. (m.seat.pid ≡ seat.pid) × T.ends task m.seat m.report) }
-                { work(rt, hub, start, seat, task) };
-                let Ok(handle) = scope.spawn_with(owed, job) else {
+                // Copies, since a thread keeps them for as long as the scope lasts.
+                let (rt, hub, start) = (rt, hub, start);
+                let Some(handle) = spawn(scope, rt, hub, start, seat, task) else {
                     start.tell(rt, false);
                     return (handles, false);
                 };
@@ -104,22 +121,24 @@ fn start_all<K: HubName + Send + Sync, R: Threads + Wait + Sync, T: Task<K, R>>(
     )
 }
 
-/// The members whose threads have ended. Err where one did not begin, once all have ended.
+/// The members whose threads have ended. Err where they were not started or one did not begin, once all have ended.
 fn join_all<K: HubName, R: Threads, T: Task<K, R>>(
     rt: &R,
     handles: Vec<Started<K, R, T>>,
+    started: bool,
     room: Vec<Member<K, T::Report>>,
     task: T,
 ) -> Result<Vec<Member<K, T::Report>>, AllocError>
     requires tasks { All (λ h. h.promise.task ≡ task) handles.items }
     requires empty { room.items ≡ [] }
     requires room { vec_len handles ≤ vec_capacity room }
+    ensures started { OnOk result (started ≡ true) }
     ensures pids { IfOk result (λ done.
         map (λ m. m.seat.pid) done.items ≡ map (λ h. h.promise.pid) handles.items) }
     ensures ends { IfOk result (λ done. All (λ m. T.ends task m.seat m.report) done.items) }
 {
     let mut done = room;
-    let mut all = true;
+    let mut all = started;
     for handle in handles {
         match handle.join(rt) {
             Some(member) => done.push_reserved(member),
@@ -127,6 +146,19 @@ fn join_all<K: HubName, R: Threads, T: Task<K, R>>(
         }
     }
     if all { Ok(done) } else { Err(AllocError) }
+}
+
+/// Room for the handles and the members of so many threads.
+fn room_for<K: HubName, R, T: Task<K, R>>(
+    alloc: Global,
+    count: usize,
+) -> Result<(Vec<Started<K, R, T>>, Vec<Member<K, T::Report>>), AllocError>
+    ensures empty { IfOk result (λ r. (r.0.items ≡ []) × (r.1.items ≡ [])) }
+    ensures room { IfOk result (λ r. (count ≤ vec_capacity r.0) × (count ≤ vec_capacity r.1)) }
+{
+    let handles = Vec::with_capacity(alloc, count)?;
+    let members = Vec::with_capacity(alloc, count)?;
+    Ok((handles, members))
 }
 
 /// The task in a thread for each seat, and the seats with what their threads told, in order. None
@@ -148,13 +180,7 @@ pub fn run_crew<K: HubName + Send + Sync, R: Threads + Wait + Sync, T: Task<K, R
     ensures ends { IfOk result (λ done. All (λ m. T.ends task m.seat m.report) done.items) }
 {
     // All memory comes first, so that no thread is left waiting and no handle is lost.
-    let handles = Vec::with_capacity(alloc, seats.len())?;
-    let members = Vec::with_capacity(alloc, seats.len())?;
+    let (handles, members) = room_for(alloc, seats.len())?;
     let (handles, started) = start_all(rt, hub, seats, task, handles);
-    let members = join_all(rt, handles, members, task)?;
-    if started {
-        Ok(members)
-    } else {
-        Err(AllocError)
-    }
+    join_all(rt, handles, started, members, task)
 }

@@ -11,11 +11,12 @@ loop-handle-preserved-in-Some-join g c =
     let m = c.in-Some-join.member in
     let task : c.in-Some.handle.promise.task ≡ c.args.task =
     all_next c.loop-handle.yielded c.loop-handle.handle-iterator.rest.items c.next.new.self.rest.items c.args.handles.items c.in-Some.handle
-    (λ h. h.promise.task ≡ c.args.task) step.0 i.2 c.requires.tasks in (
-      (λ all. map_snoc c.loop-handle.done.items c.push_reserved.new.self.items c.loop-handle.yielded m c.in-Some.handle (λ m. m.seat.pid)
-          (λ h. h.promise.pid) more.items (i.0 all) kept.0),
-      all_snoc c.loop-handle.done.items c.push_reserved.new.self.items m (λ m. g.T.Task.ends c.args.task m.seat m.report) more.items i.1
-          (subst (λ t. g.T.Task.ends t m.seat m.report) task kept.1),
-      one_further c.loop-handle.yielded c.loop-handle.handle-iterator.rest.items c.next.new.self.rest.items c.args.handles.items c.in-Some.handle step.0 i.2,
-      omega (arith, i.3, more.len, more.capacity, step),
-    )
+    (λ h. h.promise.task ≡ c.args.task) step.0 i.split c.requires.tasks in record {
+      begun = i.begun;
+      pids = λ all. map_snoc c.loop-handle.done.items c.push_reserved.new.self.items c.loop-handle.yielded m c.in-Some.handle (λ m. m.seat.pid)
+          (λ h. h.promise.pid) more.items (i.pids all) kept.0;
+      ends = all_snoc c.loop-handle.done.items c.push_reserved.new.self.items m (λ m. g.T.Task.ends c.args.task m.seat m.report) more.items i.ends
+          (subst (λ t. g.T.Task.ends t m.seat m.report) task kept.1);
+      split = one_further c.loop-handle.yielded c.loop-handle.handle-iterator.rest.items c.next.new.self.rest.items c.args.handles.items c.in-Some.handle step.0 i.split;
+      room = omega (arith, i.room, more.len, more.capacity, step);
+    }

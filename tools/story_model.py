@@ -87,13 +87,13 @@ class Story:
         if words.startswith("made"):
             self.ports.append(Port(place))
         elif moves(entry):
-            self.move(place, by)
+            self.move(place)
 
-    def move(self, place, by):
+    def move(self, place):
         """A value was put into a port, or taken from it: the first that was put is the first that is taken."""
         entry = self.entries[place]
         port = self.ports[fired(entry)[1] - 1]
-        mover = f"P{entry.pid} at step {by + 1}"
+        mover = f"P{entry.pid} at step {place + 1}"
         if fired(entry)[0] == "s":
             port.sent, port.sender = port.sent + 1, mover
             others, own = port.not_sent, port.not_received
@@ -150,7 +150,7 @@ class Story:
             until = len(self.entries) - 1 if entry.end is None else entry.until
             if entry.end is None or until > place:
                 steps[place] = until - place
-        yield f"{len(steps)} of {sum(entry.word == 'call' for entry in self.entries)} calls waited"
+        yield f"{len(steps)} of {sum(entry.word == 'call' for entry in self.entries)} calls waited, longest first"
         for place in sorted(steps, key=lambda place: (-steps[place], place))[:LONGEST]:
             yield self.line(place)
 

@@ -15,9 +15,9 @@ use Rattle.hub_story_text.specs.declared.last_moves.TheConstants.{PORT_NUMBERS}
 use Rattle.hub_story_text.specs.declared.last_moves.Mover.{Mover}
 use Rattle.hub_story_text.specs.declared.last_moves.LastMoves.{LastMoves}
 
--- the process, and the step by which its call ended
+-- the process, and its step
 abbrev pub mover_of : Told → Mover
-mover_of t = record { pid = t.event.pid; step = t.by }
+mover_of t = record { pid = t.event.pid; step = t.asked }
 
 -- the last of these, or else the one before
 abbrev pub latest : Option Mover → List Moved → Option Mover

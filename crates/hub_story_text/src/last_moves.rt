@@ -13,7 +13,7 @@ use std::alloc::{AllocError, Global};
 /// How many numbers a case can give a port.
 pub(crate) const PORT_NUMBERS: usize = 65_536;
 
-/// A process, and the place of the entry by whose step its call ended.
+/// A process, and the place of its entry.
 #[derive(Clone, Copy, Debug, PartialEq, Eq)]
 pub(crate) struct Mover {
     /// The process.
@@ -89,7 +89,7 @@ impl LastMoves {
         };
         let mover = Mover {
             pid: told.event.pid,
-            step: told.by,
+            step: told.asked,
         };
         set_mover(&mut self.sent, sent_port(*case, outcome), mover);
         set_mover(&mut self.received, got_port(*case, outcome), mover);

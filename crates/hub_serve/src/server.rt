@@ -1,10 +1,11 @@
 //! Hears lines as they come, and says the events of their entries.
 
-ghost use Rattle.std.specs.Prelude.{◌≡◌, ◌+◌, ◌++◌, List, ℕ, [], OnOk, OnErr, IsErrOf};
+ghost use Rattle.std.specs.Prelude.{◌≡◌, ◌+◌, ◌++◌, List, ℕ, [], length, OnOk, OnErr, IsErrOf};
 ghost use Rattle.hub_base.specs.declared.limits.TheConstants.{MOST_BYTES};
 ghost use Rattle.hub_base.specs.declared.text.faults.TextFault.{TextFault};
 ghost use Rattle.hub_replay.specs.Devices.{Failed};
-ghost use Rattle.hub_serve.specs.Serve.{HasConversed, HasNamed, HasBegun, HasStopped, HasHeardAtMost};
+ghost use Rattle.hub_serve.specs.Conversing.{Conversing};
+ghost use Rattle.hub_serve.specs.Serve.{HasConversed, HasNamed, HasBegun, HasEnded, HasStopped, HasHeardAtMost};
 ghost use Rattle.hub_serve.specs.Talks.{Stays, Grows, HasAnswered, IsAnswer};
 
 use crate::Talk;
@@ -33,6 +34,41 @@ fn say_whole<T: Talk>(talk: &mut T, text: &[u8]) -> Result<(), WriteFailed>
         }
     }
     Ok(())
+}
+
+/// Goes on with a conversation to its end. What has to be dropped is the caller's, so that no way out of the loop
+/// drops it.
+fn converse_on<T: Talk>(
+    alloc: Global,
+    talk: &mut T,
+    conversation: &mut Conversation,
+    answers: &mut EventText,
+    chunk: &mut [u8],
+) -> Result<(), ReplayFault>
+    requires conversing { Conversing (T.heard talk.old) (T.said talk.old) conversation.old }
+    requires room { length chunk.old ≡ CHUNK }
+    ensures { HasEnded (T.heard talk.new) (T.said talk.new) (T.ended talk.new) (T.failed_reads talk.old) (T.failed_reads talk.new)
+        (T.failed_writes talk.old) (T.failed_writes talk.new) result }
+{
+    // Its clauses say which fault a text has that is read so.
+    one_reading();
+    'reads: loop {
+        let room = (MOST_BYTES - conversation.heard()).min(CHUNK - 1) + 1;
+        let place = &mut chunk[..room];
+        let Ok(count) = talk.hear(place) else {
+            return Err(ReplayFault::Read);
+        };
+        if count == 0 {
+            conversation.end()?;
+            return Ok(());
+        }
+        answers.clear();
+        let fault = conversation.hear(alloc, &place[..count], answers)?;
+        say_whole(talk, answers.text())?;
+        if let Some(fault) = fault {
+            return Err(ReplayFault::Text(fault));
+        }
+    }
 }
 
 /// Hears a journal to its end, and says the event text of its whole lines each time that some have come. Nothing is
@@ -67,26 +103,8 @@ pub fn converse<T: Talk>(alloc: Global, talk: &mut T) -> Result<(), ReplayFault>
     ensures writes_once { ¬ IsErrOf result ReplayFault.Write
         → T.failed_writes talk.new ≡ T.failed_writes talk.old }
 {
-    // Its clauses say which fault a text has that is read so.
-    one_reading();
     let mut conversation = Conversation::open(alloc);
     let mut answers = EventText::new(alloc);
     let mut chunk = [0; CHUNK];
-    'reads: loop {
-        let room = (MOST_BYTES - conversation.heard()).min(CHUNK - 1) + 1;
-        let place = &mut chunk[..room];
-        let Ok(count) = talk.hear(place) else {
-            return Err(ReplayFault::Read);
-        };
-        if count == 0 {
-            conversation.end()?;
-            return Ok(());
-        }
-        answers.clear();
-        let fault = conversation.hear(alloc, &place[..count], &mut answers)?;
-        say_whole(talk, answers.text())?;
-        if let Some(fault) = fault {
-            return Err(ReplayFault::Text(fault));
-        }
-    }
+    converse_on(alloc, talk, &mut conversation, &mut answers, &mut chunk)
 }

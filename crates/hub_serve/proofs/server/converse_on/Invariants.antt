@@ -2,7 +2,7 @@
 use Rattle.std.proofs.Common.{◌≡◌, ◌+◌, ◌-◌, vec_len}
 use Rattle.hub_base.specs.declared.limits.TheConstants.{MOST_BYTES}
 use Rattle.hub_serve.specs.Conversing.{Conversing}
-use Rattle.hub_serve.proofs.server.converse.Given as goal
+use Rattle.hub_serve.proofs.server.converse_on.Given as goal
 
 abbrev pub invariant-reads : goal.invariant-reads
 invariant-reads g l =

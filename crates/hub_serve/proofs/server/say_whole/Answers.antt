@@ -1,5 +1,6 @@
-use Rattle.std.proofs.Common.{◌++◌, take, drop, length, ◌-◌, rules}
-use Rattle.hub_serve.proofs.Saying.{taken-more, grows-more, grows-stays, answer-begun}
+use Rattle.std.proofs.Common.{◌++◌, take, drop, length, ◌-◌, arith, rules}
+use Rattle.std.proofs.lemmas.Grind.{common_steps}
+use Rattle.hub_serve.proofs.Saying.{taken-more, grows-more, grows-stays, answer-begun, answer-left}
 use Rattle.hub_serve.proofs.server.say_whole.Goals as goal
 
 pub rest-preserved : goal.rest-preserved
@@ -32,3 +33,13 @@ returns-in_default-2-clause-beginning g c =
     c.args.text.now taken c.rest.rest.now c.requires split
     (grows-stays (g.T.Talk.said c.args.talk.now) (g.T.Talk.said c.rest.talk) (g.T.Talk.said c.say.new.self) taken grew c.in_default.ensures.bytes)
     (λ bytes h. c.say.ensures.deaf bytes (deaf bytes h))
+
+pub say-requires : goal.say-requires
+say-requires g c =
+    let (taken, split, grew, deaf, writes, reads) = c.rest.invariant in
+    record {
+      some = grind (arith, common_steps);
+      whole =
+          answer-left (g.T.Talk.heard c.args.talk.now) (g.T.Talk.said c.args.talk.now) (g.T.Talk.heard c.rest.talk) (g.T.Talk.said c.rest.talk)
+          c.args.text.now taken c.rest.rest.now c.requires split grew deaf;
+    }

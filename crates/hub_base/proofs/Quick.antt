@@ -36,7 +36,7 @@ use Rattle.hub_base.proofs.HexDigits.{bytes-push, digit-hex, encode-push}
 use Rattle.hub_base.proofs.Values.{content-saying, is-value, padded_is}
 use Rattle.hub_base.specs.Writing.{spaced, spaced_cases}
 use Rattle.hub_base.specs.Lines.{line, step_fields, case_field, call, call_fields, select_fields, default_field, spelled, is_hex}
-use Rattle.hub_base.specs.Quick.{EndsLine, Stands, ValueStands, SendStands, CaseStands, CasesStand, SelectStands, StepStands, Begins}
+use Rattle.hub_base.specs.Quick.{EndsLine, Stands, ValueStands, SendStands, RecvStands, CaseStands, CasesStand, SelectStands, StepStands, Begins}
 use Rattle.hub_base.specs.Reading.{Reading, Reads, Faulty, behind, is_exit, with_entry, entries_from, rows}
 use Rattle.hub_base.specs.Text.{CaseFits, StepFits, body, steps_of}
 use Rattle.hub_base.proofs.Bodies.{rows-entry}
@@ -180,6 +180,54 @@ send-stands ed bs start mark p at mid v end port few between value = record {
   };
   fits = (few, value.fits);
   of_edition = value.of_edition;
+}
+
+-- a spelling, and another behind it
+pub stands-then : {bs x y : List ℕ} {start at end : ℕ} → Stands bs start x at → Stands bs at y end → Stands bs start (x ++ y) end
+stands-then {bs} {x} {y} {end = end} first next = record {
+  spelled = first.spelled ∙ ap (λ r. x ++ r) next.spelled ∙ sym (append_assoc x y (drop end bs));
+  inside = next.inside;
+}
+
+-- the case of a select that sends
+pub case-send : (ed : Edition) (bs : List ℕ) (start at : ℕ) (c : Case) (end : ℕ) → Stands bs start (codes " s") at → SendStands ed bs at 58 c end
+    → CaseStands ed bs start (codes " " ++ case_field c) c end
+case-send ed bs start at c end word so = record {
+  stands = subst (λ d. Stands bs start (codes " " ++ case_field d) end) (sym so.is) (stands-then word so.stands);
+  fits = so.fits;
+  of_edition = so.of_edition;
+}
+
+-- and one that receives
+pub case-recv : (ed : Edition) (bs : List ℕ) (start at : ℕ) (c : Case) (end : ℕ) → Stands bs start (codes " r") at → RecvStands bs at c end
+    → CaseStands ed bs start (codes " " ++ case_field c) c end
+case-recv ed bs start at c end word so = record {
+  stands = subst (λ d. Stands bs start (codes " " ++ case_field d) end) (sym so.is) (stands-then word so.stands);
+  fits = so.fits;
+  of_edition = ap (has_case ed) so.is;
+}
+
+-- a plain send
+pub plain-send : (ed : Edition) (bs : List ℕ) (start at : ℕ) (c : Case) (end : ℕ) → Stands bs start (codes " send ") at → SendStands ed bs at 32 c end
+    → CaseStands ed bs start (spaced (call_fields (c ∷ []) false 0)) c end
+plain-send ed bs start at c end word so = record {
+  stands = subst (λ d. Stands bs start (spaced (call_fields (d ∷ []) false 0)) end) (sym so.is) (
+      subst (λ v. Stands bs start (codes " send " ++ (decimal so.port.0 ++ 32 ∷ v)) end) (sym (append-nil (value_field so.value)))
+      (stands-then word so.stands)
+      );
+  fits = so.fits;
+  of_edition = so.of_edition;
+}
+
+-- and a plain receive
+pub plain-recv : (ed : Edition) (bs : List ℕ) (start at : ℕ) (c : Case) (end : ℕ) → Stands bs start (codes " recv ") at → RecvStands bs at c end
+    → CaseStands ed bs start (spaced (call_fields (c ∷ []) false 0)) c end
+plain-recv ed bs start at c end word so = record {
+  stands = subst (λ d. Stands bs start (spaced (call_fields (d ∷ []) false 0)) end) (sym so.is) (
+      subst (λ n. Stands bs start (codes " recv " ++ n) end) (sym (append-nil (decimal so.port.0))) (stands-then word so.stands)
+      );
+  fits = so.fits;
+  of_edition = ap (has_case ed) so.is;
 }
 
 -- four bytes that are the same number are the same

@@ -26,3 +26,6 @@ returns-in-Some-clause-some c =
     has-entry c.self.inside.head c.self.inside.line (c.self.inside.place + c.in-Some.end) (c.self.inside.steps + 1)
     (rows (take (length rest - c.in-Some.end) (drop c.in-Some.end rest))) c.quick_line.new.entry c.args.self.now.left c.self.invariant.behind_head
     (omega arith) (omega arith) (ap (λ (r : ReaderView). r.left) (sym c.self.view_is) ∙ read)
+
+pub invariant_of-self : goal.invariant_of-self
+invariant_of-self c = grind (arith, common_steps)

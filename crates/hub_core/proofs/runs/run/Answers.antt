@@ -27,6 +27,12 @@ returns-in-Err-answer-clause-refused c =
     (slice_get_read c.args.entries.now _ c.loop-index.index c.index-entries-index.result refl (omega arith) c.index-entries-index.is)
     c.in-Err-answer.ensures.err
 
+pub returns-clause-ok : goal.returns-clause-ok
+returns-clause-ok c =
+    run_whole (terms_of c.args.edition c.args.procs c.args.limit) c.args.entries.now c.loop-index.index _ _
+    (so_far (terms_of c.args.edition c.args.procs c.args.limit) c.in-Ok.hub.hub _ _ _ _ c.in-Ok.ensures.ok c.loop-index.invariant)
+    (omega arith)
+
 pub returns-clause-received_then_buffered : goal.returns-clause-received_then_buffered
 returns-clause-received_then_buffered c =
     values_kept (terms_of c.args.edition c.args.procs c.args.limit) c.args.entries.now _ _

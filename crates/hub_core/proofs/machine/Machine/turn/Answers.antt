@@ -1,5 +1,8 @@
-use Rattle.std.proofs.Common.{sym, subst, rules}
+use Rattle.std.proofs.Common.{sym, subst, rules, ◌∙◌, Result, Ok, Err}
+use Rattle.std.specs.Prelude.{OnErr}
+use Rattle.hub_base.specs.Runs.{state}
 use Rattle.hub_core.specs.Follows.{Follows}
+use Rattle.hub_core.proofs.Effects.{fault_on-as}
 use Rattle.hub_core.proofs.Following.{admits_on, reached_next}
 use Rattle.hub_core.proofs.machine.Machine.turn.Goals as goal
 
@@ -15,3 +18,18 @@ returns-clause-ok c = record {
       c.in_ok-turn.ensures.few c.in_ok-turn.ensures.places c.in_ok-turn.ensures.machine c.in_ok-turn.ensures.events;
   steps = search rules;
 }
+
+on_err : {E : Type 0} {P : Type 0} (r : Result (Unit {0}) E) → P → OnErr r P
+on_err (Ok done) holds = tt
+on_err (Err e) holds = holds
+
+pub returns-in_err-turn-clause-err : goal.returns-in_err-turn-clause-err
+returns-in_err-turn-clause-err c =
+    let refused = c.in_err-turn.ensures in
+    on_err c.from_residual.result record {
+      make = refused.make;
+      fine = λ head es h.
+          sym (fault_on-as (state head es) c.self.inside.state c.args.entry.now.step (subst (Follows head es) (sym c.self.view_is) h).matches) ∙ refused.fine;
+      unchanged = refused.unchanged ∙ c.self.view_is;
+      empty = refused.empty;
+    }

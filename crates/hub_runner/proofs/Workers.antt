@@ -47,6 +47,9 @@ made_ok s t asking wanted (Err f) is free later made = tt
 pub still_onward : (s t u : SeatView) → Onward s t → Later t u → Onward s u
 still_onward s t u o l = record { hub = l.hub ∙ o.hub; pid = l.pid ∙ o.pid; begins = prefix_trans s.seen t.seen u.seen o.begins l.begins }
 
+pub still_later : (s t u : SeatView) → Onward s t → Later t u → Later s u
+still_later s t u o l = record { hub = l.hub ∙ o.hub; pid = l.pid ∙ o.pid; begins = prefix_trans s.seen t.seen u.seen o.begins l.begins; idle = l.idle }
+
 -- ---- the script
 
 pub leads_trans : (a b c : List Asked) (words : ℕ → ℕ) (s r t : List ScriptStep) (i j k : ℕ) → Leads a b words s i r j

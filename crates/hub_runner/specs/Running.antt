@@ -1,5 +1,5 @@
 -- The seats of a run, before their processes begin and after they have ended.
-use Rattle.std.specs.Prelude.{◌≡◌, ℕ, List, [], ◌∷◌, Some, slice_get, length}
+use Rattle.std.specs.Prelude.{◌≡◌, ℕ, List, [], ◌∷◌, Some, slice_get}
 use Rattle.hub_base.specs.declared.entry.Step.TheVariants as step
 use Rattle.hub_live.specs.SeatView.{SeatView}
 use Rattle.hub_scenario.specs.declared.script.ScriptStep.{ScriptStep}

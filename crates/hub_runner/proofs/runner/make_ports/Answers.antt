@@ -9,3 +9,10 @@ loop-cap-preserved g c = (
   made_more c.loop-cap.seat c.make.new.self c.args.ports.now c.loop-cap.cap-index _ c.in_ok-make.field-0 c.pid-pid.ensures.idle.free
       c.make.ensures.later c.in_ok-make.ensures.ok (omega arith) (search rules) c.loop-cap.invariant.1,
 )
+
+pub returns-in_err-make-clause-onward : goal.returns-in_err-make-clause-onward
+returns-in_err-make-clause-onward g c =
+    still_onward c.args.seat.now c.loop-cap.seat c.make.new.self c.loop-cap.invariant.0 c.make.ensures.later
+
+pub returns-clause-onward : goal.returns-clause-onward
+returns-clause-onward g c = c.loop-cap.invariant.0

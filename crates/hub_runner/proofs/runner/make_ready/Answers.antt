@@ -1,9 +1,9 @@
-use Rattle.std.proofs.Common.{arith, ap, ◌≡◌, ◌∙◌, subst, length, List, ℕ}
+use Rattle.std.proofs.Common.{arith, ap, ◌≡◌, ◌∙◌, subst, List, ℕ}
 use Rattle.hub_live.specs.SeatView.{SeatView}
 use Rattle.hub_scenario.specs.Scenario.{scenario_view, run_head}
 use Rattle.hub_runner.specs.Running.{AreMakes}
 use Rattle.hub_runner.specs.Working.{asked_of, Onward}
-use Rattle.hub_runner.proofs.Runs.{asked_blank, all_ready, count_scripts}
+use Rattle.hub_runner.proofs.Runs.{asked_blank, all_ready}
 use Rattle.hub_runner.proofs.runner.make_ready.Goals as goal
 
 pub make_ports-requires : goal.make_ports-requires

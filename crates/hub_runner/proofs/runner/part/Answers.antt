@@ -11,7 +11,7 @@ loop-member-preserved g c =
     let sc = scenario_view c.args.scenario.now in
     let m = c.in-Some.member in
     let seats = c.loop-member.seats.items in
-    let grown = c.in_ok-push.ensures.items in
+    let grown = c.in-Ok.ensures.items in
     let kept = all_next c.loop-member.yielded c.loop-member.member-iterator.rest.items c.next.new.self.rest.items c.args.members.items m
     (λ m. OnOk m.report (HasFollowed sc m.seat)) c.in-Some.ensures.steps.0 i.3 c.requires in (
       map_snoc seats c.push.new.self.items c.loop-member.yielded m.seat m (λ s. s.pid) (λ m. m.seat.pid) grown i.0 refl,

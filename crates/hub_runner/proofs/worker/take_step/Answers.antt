@@ -1,6 +1,6 @@
 use Rattle.std.proofs.Common.{false, true, sym, ◌∙◌}
 use Rattle.hub_runner.specs.Working.{asked_of}
-use Rattle.hub_runner.proofs.Workers.{leads_end, leads_again, left_stalled, left_done, still_onward}
+use Rattle.hub_runner.proofs.Workers.{leads_end, leads_again, left_stalled, left_done, still_onward, still_later}
 use Rattle.hub_runner.proofs.worker.take_step.Goals as goal
 
 pub returns-then-is_stalled-clause-ok : goal.returns-then-is_stalled-clause-ok
@@ -14,6 +14,15 @@ returns-then-not-repeats-clause-ok g c = λ words rest j chosen.
     leads_end (asked_of c.args.seat.now) (asked_of c.loop.seat) (asked_of c.ask.new.seat) words c.args.step.now rest j c.args.word c.in_ok-event.event true
     (c.loop.invariant.3 words rest j chosen) c.in_ok-event.ensures.ok chosen
     (left_done c.args.step.now rest c.in_ok-event.event (sym c.is_stalled.ensures ∙ c.if-is_stalled.false) (sym c.repeats.ensures ∙ c.if-not-repeats.true))
+
+pub returns-then-is_stalled-clause-later : goal.returns-then-is_stalled-clause-later
+returns-then-is_stalled-clause-later g c = still_later c.args.seat.now c.loop.seat c.ask.new.seat c.loop.invariant.2 c.ask.ensures.later
+
+pub returns-then-not-repeats-clause-later : goal.returns-then-not-repeats-clause-later
+returns-then-not-repeats-clause-later g c = still_later c.args.seat.now c.loop.seat c.ask.new.seat c.loop.invariant.2 c.ask.ensures.later
+
+pub returns-in_err-event-clause-later : goal.returns-in_err-event-clause-later
+returns-in_err-event-clause-later g c = still_later c.args.seat.now c.loop.seat c.ask.new.seat c.loop.invariant.2 c.ask.ensures.later
 
 pub loop-preserved : goal.loop-preserved
 loop-preserved g c = (

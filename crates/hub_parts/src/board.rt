@@ -14,8 +14,6 @@ ghost use Rattle.hub_parts.specs.Lists.{open_calls, parked, with_new, IsMade, po
 ghost use Rattle.hub_parts.specs.Keeps.{AllMade};
 
 mod parking;
-#[cfg(test)]
-mod tests;
 
 use crate::{Channel, Ended, Side, Tickets};
 use hub_base::{Cases, MOST_PORTS, NoMemory, Pid, Port, Value};

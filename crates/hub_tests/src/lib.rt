@@ -2,6 +2,10 @@
 #![tactic(auto)]
 
 #[cfg(test)]
+mod compare;
+#[cfg(test)]
+mod parts;
+#[cfg(test)]
 mod replays;
 #[cfg(test)]
 mod reports;

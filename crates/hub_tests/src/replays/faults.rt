@@ -1,5 +1,6 @@
 //! The texts of faults.
 
+use crate::compare::{has_text, same};
 use hub_base::{Kind, TextFault};
 use hub_replay::{ReplayFault, SourceFault, WriteFailed};
 use std::test::Fail;
@@ -18,27 +19,31 @@ fn faults_have_texts(rt: HostRuntime) -> Result<(), Fail> {
         (ReplayFault::Write, "write failed"),
         (ReplayFault::NoMemory, "out of memory"),
     ] {
-        assert_eq!(rt; format!(in rt.alloc(); "{fault}")?.as_str(), text);
+        has_text(&rt, rt.alloc(), fault, text)?;
     }
     for (source, text) in [
         (SourceFault::Read, "read failed"),
         (SourceFault::NoMemory, "out of memory"),
     ] {
-        assert_eq!(rt; format!(in rt.alloc(); "{source}")?.as_str(), text);
+        has_text(&rt, rt.alloc(), source, text)?;
     }
-    assert_eq!(rt;
-        format!(in rt.alloc(); "{WriteFailed}")?.as_str(),
-        "write failed"
-    );
-    Ok(())
+    has_text(&rt, rt.alloc(), WriteFailed, "write failed")
 }
 
 #[test]
 fn faults_of_devices_are_faults_of_replays(rt: HostRuntime) {
-    assert_eq!(rt; ReplayFault::from(SourceFault::Read), ReplayFault::Read);
-    assert_eq!(rt;
-        ReplayFault::from(SourceFault::NoMemory),
-        ReplayFault::NoMemory
+    same(
+        &rt,
+        ReplayFault::from(SourceFault::Read),
+        ReplayFault::Read,
+        "read",
     );
-    assert_eq!(rt; ReplayFault::from(WriteFailed), ReplayFault::Write);
+    let refused = ReplayFault::from(SourceFault::NoMemory);
+    same(&rt, refused, ReplayFault::NoMemory, "memory");
+    same(
+        &rt,
+        ReplayFault::from(WriteFailed),
+        ReplayFault::Write,
+        "write",
+    );
 }

@@ -1,5 +1,6 @@
 //! Comparisons of bytes with the event text of a journal. `tests/comparisons.toml` has more, for the program.
 
+use crate::compare::same;
 use hub_base::{Kind, TextFault};
 use hub_replay::{Compared, ReplayFault, verify};
 use std::test::Fail;
@@ -12,7 +13,7 @@ fn last_line_is_compared(rt: HostRuntime) {
         ("0 made 1\n0 parked\n", Compared::Differs(3)),
     ] {
         let answer = verify(rt.alloc(), journal, events.as_bytes());
-        assert_eq!(rt; answer, Ok(compared));
+        same(&rt, answer, Ok(compared), events);
     }
 }
 
@@ -27,6 +28,11 @@ fn journal_of_too_many_bytes_is_faulty(rt: HostRuntime) -> Result<(), Fail> {
         line: 4,
         kind: Kind::TooLong,
     });
-    assert_eq!(rt; verify(rt.alloc(), &journal, b"0 made 1\n"), Err(fault));
+    same(
+        &rt,
+        verify(rt.alloc(), &journal, b"0 made 1\n"),
+        Err(fault),
+        "too long",
+    );
     Ok(())
 }

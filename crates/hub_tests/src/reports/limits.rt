@@ -1,10 +1,12 @@
 //! As many ports as a hub can have, and texts that are appended.
 
 use super::journals::report_of;
+use crate::compare::same;
 use crate::steps::entries::{make, recv, send};
 use hub_base::Edition;
 use hub_core::Hub;
-use hub_report::{PortReport, write_report};
+use hub_report::{PortReport, Report, write_report};
+use std::process::Abort;
 use std::test::Fail;
 
 /// 64 ports are made, 9 goes through the last, and a further one is a fault.
@@ -18,8 +20,23 @@ fn sixty_four_ports_are_told(rt: HostRuntime) -> Result<(), Fail> {
     entries.push(recv(0, 64))?;
     let hub = Hub::open(rt.alloc(), 1, 1000, Edition::One)?;
     let report = report_of(&rt, rt.alloc(), hub, &entries)?;
-    assert_eq!(rt; report.journal.entries().len(), 67);
-    assert_eq!(rt; report.ports.len(), 64);
+    tells_the_last_port(&rt, &report);
+
+    let mut out = Vec::from_slice(rt.alloc(), b"before\n")?;
+    write_report(&mut out, &report)?;
+    same(&rt, out.starts_with(FIRST_LINES), true, "first lines");
+    same(&rt, out.ends_with(LAST_LINES), true, "last lines");
+    Ok(())
+}
+
+const FIRST_LINES: &[u8] = b"before\nport 1 cap 1 sent 0 received 0 left 0 sum 0 open\n";
+
+const LAST_LINES: &[u8] = b"\nport 64 cap 64 sent 1 received 1 left 0 sum 9 open\nfaults 1\n";
+
+/// All ports but the further one, and the fault.
+fn tells_the_last_port(rt: &impl Abort, report: &Report) {
+    same(rt, report.journal.entries().len(), 67, "entries");
+    same(rt, report.ports.len(), 64, "ports");
     let last = PortReport {
         cap: 64,
         sent: 1,
@@ -28,12 +45,11 @@ fn sixty_four_ports_are_told(rt: HostRuntime) -> Result<(), Fail> {
         sum: 9,
         closed: false,
     };
-    assert_eq!(rt; report.ports.last(), Some(&last));
-    assert_eq!(rt; (report.stalled, report.faults), (0, 1));
-
-    let mut out = Vec::from_slice(rt.alloc(), b"before\n")?;
-    write_report(&mut out, &report)?;
-    assert!(rt; out.starts_with(b"before\nport 1 cap 1 sent 0 received 0 left 0 sum 0 open\n"));
-    assert!(rt; out.ends_with(b"\nport 64 cap 64 sent 1 received 1 left 0 sum 9 open\nfaults 1\n"));
-    Ok(())
+    same(rt, report.ports.last(), Some(&last), "last port");
+    same(
+        rt,
+        (report.stalled, report.faults),
+        (0, 1),
+        "stalled and faults",
+    );
 }

@@ -1,6 +1,7 @@
 //! Worked journals, with what is told of them.
 
 use super::journals::told;
+use crate::compare::same;
 use std::test::Fail;
 
 struct Row {
@@ -80,7 +81,7 @@ const ROWS: [Row; 8] = [
 fn worked_journals_have_their_reports(rt: HostRuntime) -> Result<(), Fail> {
     for row in &ROWS {
         let text = told(&rt, rt.alloc(), row.procs, row.entries)?;
-        assert_eq!(rt; text.as_slice(), row.text.as_bytes(), "{}", row.name);
+        same(&rt, text.as_slice(), row.text.as_bytes(), row.name);
     }
     Ok(())
 }

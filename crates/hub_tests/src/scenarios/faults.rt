@@ -1,5 +1,6 @@
 //! The texts of faults.
 
+use crate::compare::has_text;
 use hub_scenario::ScenarioFault;
 use std::test::Fail;
 
@@ -21,8 +22,7 @@ fn faults_have_their_texts(rt: HostRuntime) -> Result<(), Fail> {
         (script, "bad script: process 63 step 10000"),
         (ScenarioFault::NoMemory, "out of memory"),
     ] {
-        let text = format!(in rt.alloc(); "{fault}")?;
-        assert_eq!(rt; text.as_str(), expected);
+        has_text(&rt, rt.alloc(), fault, expected)?;
     }
     Ok(())
 }

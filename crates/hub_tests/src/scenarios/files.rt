@@ -1,7 +1,9 @@
 //! Files that are read. `tools/rows.py` reads those that reach a limit, by the program.
 
+use crate::compare::same;
 use hub_base::Port;
-use hub_scenario::{ScriptStep, read_scenario};
+use hub_scenario::{Scenario, ScriptStep, read_scenario};
+use std::process::Abort;
 use std::test::Fail;
 
 #[test]
@@ -9,17 +11,30 @@ fn two_processes_are_read(rt: HostRuntime) -> Result<(), Fail> {
     let text =
         b"# two processes\nseed = 3\nports = [0, 7]\n[[process]]\nsteps = [\"send 1 4\", \"send 1 5\", \"close 1\"]\n[[process]]\nsteps = ['range 1', 'select s1:4 r2 default']\n";
     let scenario = read_scenario(rt.alloc(), text)?;
-    assert_eq!(rt; scenario.seed, 3);
-    assert_eq!(rt; scenario.limit, 100_000);
-    assert_eq!(rt; scenario.ports.as_slice(), [0, 7].as_slice());
-    assert_eq!(rt; scenario.scripts.len(), 2);
-    assert!(rt; matches!(scenario.scripts.first(), Some(steps) if steps.len() == 3));
-    let Some(steps) = scenario.scripts.get(1) else {
-        return Ok(());
-    };
+    has_numbers(&rt, &scenario, (3, 100_000, &[0, 7], 2), "two processes");
+    let first = scenario.scripts.first().ok_or("two scripts")?;
+    same(&rt, first.len(), 3, "first script");
+    ranges_and_selects(&rt, scenario.scripts.get(1).ok_or("two scripts")?);
+    Ok(())
+}
+
+/// Its seed, its limit, its ports, and how many processes it has.
+fn has_numbers(
+    rt: &impl Abort,
+    scenario: &Scenario,
+    (seed, limit, ports, processes): (u64, u32, &[u32], usize),
+    name: &str,
+) {
+    same(rt, scenario.seed, seed, name);
+    same(rt, scenario.limit, limit, name);
+    same(rt, scenario.ports.as_slice(), ports, name);
+    same(rt, scenario.scripts.len(), processes, name);
+}
+
+/// A range over port 1, and a select of two cases with a default.
+fn ranges_and_selects(rt: &impl Abort, steps: &[ScriptStep]) {
     assert!(rt; matches!(steps.first(), Some(ScriptStep::Range(Port(1)))));
     assert!(rt; matches!(steps.get(1), Some(ScriptStep::Select(cases, true)) if cases.len() == 2));
-    Ok(())
 }
 
 #[test]
@@ -63,10 +78,7 @@ fn greatest_and_least_numbers_are_read(rt: HostRuntime) -> Result<(), Fail> {
     ];
     for (name, text, seed, limit, ports) in rows {
         let scenario = read_scenario(rt.alloc(), text)?;
-        assert_eq!(rt; scenario.seed, seed, "{name}");
-        assert_eq!(rt; scenario.limit, limit, "{name}");
-        assert_eq!(rt; scenario.ports.as_slice(), ports.as_slice(), "{name}");
-        assert_eq!(rt; scenario.scripts.len(), 1, "{name}");
+        has_numbers(&rt, &scenario, (seed, limit, &ports, 1), name);
     }
     Ok(())
 }

@@ -1,5 +1,6 @@
 //! Texts of steps.
 
+use crate::compare::same;
 use hub_base::Port;
 use hub_scenario::{ScenarioFault, ScriptStep, read_scenario};
 use std::alloc::Global;
@@ -23,16 +24,21 @@ fn steps_of_one_port_are_read(rt: HostRuntime) -> Result<(), Fail> {
     for (text, number) in [("0", 0), ("1", 1), ("64", 64), ("65535", 65535)] {
         for keyword in ["recv", "close", "range"] {
             let quoted = format!(in rt.alloc(); "'{keyword} {text}'")?;
-            let found = match only_step(rt.alloc(), quoted.as_str())? {
-                ScriptStep::Recv(port) => ("recv", port),
-                ScriptStep::Close(port) => ("close", port),
-                ScriptStep::Range(port) => ("range", port),
-                _ => ("another", Port(0)),
-            };
-            assert_eq!(rt; found, (keyword, Port(number)), "{keyword} {text}");
+            let found = keyword_and_port(&only_step(rt.alloc(), quoted.as_str())?);
+            same(&rt, found, (keyword, Port(number)), text);
         }
     }
     Ok(())
+}
+
+/// The keyword of a step of one port, and the port.
+fn keyword_and_port(step: &ScriptStep) -> (&'static str, Port) {
+    match step {
+        ScriptStep::Recv(port) => ("recv", *port),
+        ScriptStep::Close(port) => ("close", *port),
+        ScriptStep::Range(port) => ("range", *port),
+        _ => ("another", Port(0)),
+    }
 }
 
 #[test]
@@ -44,14 +50,18 @@ fn sends_are_read(rt: HostRuntime) -> Result<(), Fail> {
         ("\"send\\u00201 4\"", 1, 4),
         ("'send 65535 18446744073709551615'", 65535, u64::MAX),
     ] {
-        let step = only_step(rt.alloc(), quoted)?;
-        assert!(rt;
-            matches!(step, ScriptStep::Send(Port(port), value)
-            if port == to && value.as_num() == Some(number)),
-            "{quoted}"
-        );
+        let sent = sent_by(&only_step(rt.alloc(), quoted)?);
+        same(&rt, sent, Some((Port(to), Some(number))), quoted);
     }
     Ok(())
+}
+
+/// Where a step sends, and which number.
+fn sent_by(step: &ScriptStep) -> Option<(Port, Option<u64>)> {
+    match step {
+        ScriptStep::Send(port, value) => Some((*port, value.as_num())),
+        _ => None,
+    }
 }
 
 #[test]
@@ -77,12 +87,16 @@ fn selects_are_read(rt: HostRuntime) -> Result<(), Fail> {
             true,
         ),
     ] {
-        let step = only_step(rt.alloc(), quoted)?;
-        assert!(rt;
-            matches!(step, ScriptStep::Select(cases, default)
-            if cases.len() == count && default == has_default),
-            "{quoted}"
-        );
+        let selected = selected_by(&only_step(rt.alloc(), quoted)?);
+        same(&rt, selected, Some((count, has_default)), quoted);
     }
     Ok(())
+}
+
+/// How many cases a step selects from, and whether it has a default.
+fn selected_by(step: &ScriptStep) -> Option<(usize, bool)> {
+    match step {
+        ScriptStep::Select(cases, default) => Some((cases.len(), *default)),
+        _ => None,
+    }
 }

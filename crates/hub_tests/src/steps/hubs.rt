@@ -3,6 +3,7 @@
 use super::entries::{
     cancel, close, exit, fired, got, make, make_step, recv, recv_either, send, told, used_up,
 };
+use crate::compare::same;
 use hub_base::{Counts, Edition, Entry, Event, Fault, Look, Outcome, Port, Value, What};
 use hub_core::{Hub, ListFault, run};
 use std::alloc::Global;
@@ -32,13 +33,13 @@ pub(super) fn step(
     wanted: &[Event],
 ) -> Result<(), Fail> {
     let events = make_step(rt, hub, entry)?;
-    assert_eq!(rt; events.as_slice(), wanted);
+    same(rt, events.as_slice(), wanted, "events");
     Ok(())
 }
 
 /// Sees that the step is refused, for this.
 fn refuse(rt: &impl Abort, hub: &mut Hub, entry: Entry, fault: Fault) {
-    assert_eq!(rt; make_step(rt, hub, entry).err(), Some(fault));
+    same(rt, make_step(rt, hub, entry).err(), Some(fault), "fault");
 }
 
 /// A value is sent and received, and the closed port is drained.
@@ -51,9 +52,9 @@ fn closed_port_shows_its_counts(rt: HostRuntime) -> Result<(), Fail> {
         received: 1,
         closed: true,
     };
-    assert_eq!(rt; hub.look(Port(1)), Some(Look { cap: 2, counts }));
+    same(&rt, hub.look(Port(1)), Some(Look { cap: 2, counts }), 1);
     for port in [0, 2, 65, u16::MAX] {
-        assert_eq!(rt; hub.look(Port(port)), None, "port {port}");
+        same(&rt, hub.look(Port(port)), None, port);
     }
     Ok(())
 }
@@ -83,11 +84,7 @@ fn buffer_shows_its_values(rt: HostRuntime) -> Result<(), Fail> {
         (2, 0, None),
     ] {
         let value = hub.buffered(Port(port), place);
-        assert_eq!(rt;
-            value,
-            number.map(Value::num),
-            "place {place} of port {port}"
-        );
+        same(&rt, value, number.map(Value::num), (port, place));
     }
     Ok(())
 }
@@ -98,45 +95,76 @@ fn buffer_shows_its_values(rt: HostRuntime) -> Result<(), Fail> {
 fn open_call_is_cancelled(rt: HostRuntime) -> Result<(), Fail> {
     let entries = [make(0, 0), make(0, 1), recv_either(1, 1, 2)];
     let mut hub = hub_after(&rt, rt.alloc(), 3, Edition::Two, &entries)?;
-    assert_eq!(rt; hub.head().edition, Edition::Two);
-    assert_eq!(rt; hub.head().procs, 3);
-    step(
-        &rt,
-        &mut hub,
-        cancel(0, 1),
-        &[told(0, What::Done), told(1, What::Cancelled)],
-    )?;
-    for other in [1, 0, 2, 3, 255] {
-        let nobody = [told(0, What::Fault(Fault::NotParked))];
-        step(&rt, &mut hub, cancel(0, other), &nobody)?;
-    }
-    step(&rt, &mut hub, send(0, 2, 5), &[fired(0, Outcome::Sent)])?;
-    assert_eq!(rt; hub.buffered(Port(2), 0), Some(Value::num(5)));
-    step(&rt, &mut hub, send(0, 1, 6), &[told(0, What::Parked)])?;
-    assert_eq!(rt; hub.entries().len(), 11);
+    same(&rt, hub.head().edition, Edition::Two, "edition");
+    same(&rt, hub.head().procs, 3, "processes");
+    cancel_each(&rt, &mut hub)?;
+    send_to_nobody(&rt, &mut hub)?;
+    same(&rt, hub.entries().len(), 11, "entries");
     Ok(())
+}
+
+/// The call of process 1 is cancelled; then there is none.
+fn cancel_each(rt: &impl Abort, hub: &mut Hub) -> Result<(), Fail> {
+    let cancelled = [told(0, What::Done), told(1, What::Cancelled)];
+    step(rt, hub, cancel(0, 1), &cancelled)?;
+    let nobody = [told(0, What::Fault(Fault::NotParked))];
+    for other in [1, 0, 2, 3, 255] {
+        step(rt, hub, cancel(0, other), &nobody)?;
+    }
+    Ok(())
+}
+
+/// Nobody receives from port 2, which has a buffer, nor from port 1.
+fn send_to_nobody(rt: &impl Abort, hub: &mut Hub) -> Result<(), Fail> {
+    step(rt, hub, send(0, 2, 5), &[fired(0, Outcome::Sent)])?;
+    same(
+        rt,
+        hub.buffered(Port(2), 0),
+        Some(Value::num(5)),
+        "buffered",
+    );
+    step(rt, hub, send(0, 1, 6), &[told(0, What::Parked)])
 }
 
 #[test]
 fn full_journal_takes_exits_alone(rt: HostRuntime) -> Result<(), Fail> {
     let mut hub = Hub::open(rt.alloc(), 2, 1, Edition::One)?;
-    make_step(&rt, &mut hub, make(0, 0))?;
-    for entry in [recv(0, 0), recv(7, 0), make(1, 0), close(0, 1)] {
-        refuse(&rt, &mut hub, entry, Fault::JournalFull);
-    }
-    assert_eq!(rt; hub.entries(), [make(0, 0)].as_slice(), "nothing changed");
-    for pid in [0, 1] {
-        step(&rt, &mut hub, exit(pid), &[told(pid, What::Done)])?;
-    }
-    refuse(&rt, &mut hub, exit(1), Fault::Gone);
-    // 10 before 2
-    refuse(&rt, &mut hub, make(1, 0), Fault::JournalFull);
+    fill_and_exit(&rt, &mut hub)?;
     let journal = hub.into_journal();
-    assert_eq!(rt; journal.procs(), 2);
-    assert_eq!(rt;
-        journal.entries(),
-        [make(0, 0), exit(0), exit(1)].as_slice()
+    same(&rt, journal.procs(), 2, "processes");
+    let made = [make(0, 0), exit(0), exit(1)];
+    same(&rt, journal.entries(), made.as_slice(), "entries");
+    Ok(())
+}
+
+/// A make fills the journal, and then both processes exit.
+fn fill_and_exit(rt: &impl Abort, hub: &mut Hub) -> Result<(), Fail> {
+    make_step(rt, hub, make(0, 0))?;
+    refuse_all(rt, hub);
+    exit_both(rt, hub)?;
+    refuse(rt, hub, exit(1), Fault::Gone);
+    // 10 before 2
+    refuse(rt, hub, make(1, 0), Fault::JournalFull);
+    Ok(())
+}
+
+/// No step but an exit is made.
+fn refuse_all(rt: &impl Abort, hub: &mut Hub) {
+    for entry in [recv(0, 0), recv(7, 0), make(1, 0), close(0, 1)] {
+        refuse(rt, hub, entry, Fault::JournalFull);
+    }
+    same(
+        rt,
+        hub.entries(),
+        [make(0, 0)].as_slice(),
+        "nothing changed",
     );
+}
+
+fn exit_both(rt: &impl Abort, hub: &mut Hub) -> Result<(), Fail> {
+    for pid in [0, 1] {
+        step(rt, hub, exit(pid), &[told(pid, What::Done)])?;
+    }
     Ok(())
 }
 
@@ -148,28 +176,42 @@ fn run_ends_where_the_journal_is_full(rt: HostRuntime) -> Result<(), Fail> {
         fault: Fault::JournalFull,
     };
     assert!(rt; Edition::One.has_all(&entries));
-    assert_eq!(rt;
-        run(rt.alloc(), 3, 2, Edition::One, &entries).err(),
-        Some(full)
-    );
+    let stopped = run(rt.alloc(), 3, 2, Edition::One, &entries).err();
+    same(&rt, stopped, Some(full), "full");
     let (hub, events) = run(rt.alloc(), 3, 3, Edition::One, &entries)?;
-    assert_eq!(rt;
-        hub.entries().len(),
-        4,
-        "the second exit is refused, and not kept"
+    // The second exit is refused, and not kept.
+    same(
+        &rt,
+        (hub.entries().len(), events.len()),
+        (4, 5),
+        "entries and events",
     );
-    assert_eq!(rt; events.len(), 5);
     Ok(())
+}
+
+/// A hub of so many processes where process 0 has made a port with one place, and so many steps are reserved.
+pub(super) fn reserved_hub(
+    rt: &impl Abort,
+    alloc: Global,
+    procs: u8,
+    steps: u32,
+) -> Result<Hub, Fail> {
+    let mut hub = hub_after(rt, alloc, procs, Edition::One, &[make(0, 1)])?;
+    hub.reserve(steps)?;
+    Ok(hub)
+}
+
+/// Process 0 sends 5 on port 1, and receives it.
+pub(super) fn pass_five(rt: &impl Abort, hub: &mut Hub) -> Result<(), Fail> {
+    step(rt, hub, send(0, 1, 5), &[fired(0, Outcome::Sent)])?;
+    step(rt, hub, recv(0, 1), &[got(0, 5)])
 }
 
 #[test]
 fn reserved_steps_are_made(rt: HostRuntime) -> Result<(), Fail> {
-    let mut hub = Hub::open(rt.alloc(), 1, 10, Edition::One)?;
-    make_step(&rt, &mut hub, make(0, 1))?;
-    hub.reserve(3)?;
+    let mut hub = reserved_hub(&rt, rt.alloc(), 1, 3)?;
     hub.reserve(0)?;
-    step(&rt, &mut hub, send(0, 1, 5), &[fired(0, Outcome::Sent)])?;
-    step(&rt, &mut hub, recv(0, 1), &[got(0, 5)])?;
+    pass_five(&rt, &mut hub)?;
     let stalled = [told(0, What::Parked), told(0, What::Stalled)];
     step(&rt, &mut hub, recv(0, 1), &stalled)
 }

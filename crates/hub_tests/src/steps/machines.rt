@@ -1,6 +1,7 @@
 //! A machine: steps without a journal.
 
 use super::entries::{exit, make, recv, told};
+use crate::compare::same;
 use hub_base::{Edition, Event, Events, Fault, Head, Pid, Port, What};
 use hub_core::Machine;
 use std::process::Abort;
@@ -8,7 +9,7 @@ use std::test::Fail;
 
 /// Compares what the processes are told.
 fn compare(rt: &impl Abort, events: &Events, wanted: &[Event]) {
-    assert_eq!(rt; events.as_slice(), wanted);
+    same(rt, events.as_slice(), wanted, "events");
 }
 
 #[test]
@@ -32,11 +33,11 @@ fn refused_steps_are_told(rt: HostRuntime) -> Result<(), Fail> {
         (1, Some(Fault::Busy)),
         (2, Some(Fault::NoProcess)),
     ] {
-        assert_eq!(rt; machine.refusal(Pid(pid)), fault, "process {pid}");
+        same(&rt, machine.refusal(Pid(pid)), fault, pid);
     }
     machine.answer(&exit(0), &mut events)?;
     compare(&rt, &events, &[told(0, What::Done), told(1, What::Stalled)]);
     let refused = machine.step(&make(0, 0), &mut events);
-    assert_eq!(rt; refused.err(), Some(Fault::Gone));
+    same(&rt, refused.err(), Some(Fault::Gone), "gone");
     Ok(())
 }

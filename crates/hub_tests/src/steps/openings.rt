@@ -1,5 +1,6 @@
 //! Openings: how many processes, and which limits; and the texts of what refuses a hub or a run.
 
+use crate::compare::{has_text, same};
 use hub_base::{Edition, Fault};
 use hub_core::{Hub, ListFault, OpenFault, run};
 use std::test::Fail;
@@ -16,14 +17,10 @@ fn openings_have_bounds(rt: HostRuntime) {
         (1, 1, None),
         (64, 1_000_000, None),
     ] {
-        let hub = Hub::open(rt.alloc(), procs, limit, Edition::One);
-        assert_eq!(rt; hub.err(), fault, "a hub of {procs} with limit {limit}");
-        let ran = run(rt.alloc(), procs, limit, Edition::One, &[]);
-        assert_eq!(rt;
-            ran.err(),
-            fault.map(ListFault::Open),
-            "a run of {procs} with limit {limit}"
-        );
+        let opened = Hub::open(rt.alloc(), procs, limit, Edition::One).err();
+        same(&rt, opened, fault, (procs, limit));
+        let ran = run(rt.alloc(), procs, limit, Edition::One, &[]).err();
+        same(&rt, ran, fault.map(ListFault::Open), (procs, limit));
     }
 }
 
@@ -34,7 +31,7 @@ fn opening_faults_have_numbers(rt: HostRuntime) {
         (OpenFault::BadLimit, 2),
         (OpenFault::NoMemory, 3),
     ] {
-        assert_eq!(rt; fault.number(), number, "{fault:?}");
+        same(&rt, fault.number(), number, fault);
     }
 }
 
@@ -59,7 +56,7 @@ fn faults_have_texts(rt: HostRuntime) -> Result<(), Fail> {
         ),
         (full, "entry 3: the journal is full"),
     ] {
-        assert_eq!(rt; format!(in rt.alloc(); "{fault}")?.as_str(), text);
+        has_text(&rt, rt.alloc(), fault, text)?;
     }
     Ok(())
 }

@@ -2,7 +2,8 @@
 //! their allocations refused that come after `begin`.
 
 use super::entries::{close, fired, got, make, make_step, recv, recv_either, send, told, used_up};
-use super::hubs::step;
+use super::hubs::{pass_five, reserved_hub, step};
+use crate::compare::same;
 use hub_base::{Edition, Entry, Event, Fault, Look, NoMemory, Outcome, Port, Value, What};
 use hub_core::{Hub, ListFault, OpenFault, run};
 use std::alloc::Global;
@@ -55,13 +56,13 @@ fn step_again(
     let looked = look_at(hub);
     let events = match make_step(rt, hub, entry.copy()) {
         Err(Fault::NoMemory) => {
-            assert_eq!(rt; hub.entries(), before);
-            assert_eq!(rt; look_at(hub), looked);
+            same(rt, hub.entries(), before, "entries");
+            same(rt, look_at(hub), looked, "looks");
             make_step(rt, hub, entry.copy())?
         }
         answer => answer?,
     };
-    assert_eq!(rt; events.as_slice(), wanted);
+    same(rt, events.as_slice(), wanted, "events");
     Ok(())
 }
 
@@ -76,7 +77,7 @@ fn steps_again(
         let before = entries.get(..i).ok_or("entries before")?;
         step_again(rt, hub, before, entry, events)?;
     }
-    assert_eq!(rt; hub.entries(), entries);
+    same(rt, hub.entries(), entries, "entries");
     Ok(())
 }
 
@@ -185,8 +186,8 @@ fn refused_run_is_made_again(rt: HostRuntime) -> Result<(), Fail> {
     ];
     begin(rt.alloc())?;
     let (hub, events) = run_again(&rt, rt.alloc(), &entries)?;
-    assert_eq!(rt; events.as_slice(), wanted.as_slice());
-    assert_eq!(rt; hub.entries(), entries.as_slice());
+    same(&rt, events.as_slice(), wanted.as_slice(), "events");
+    same(&rt, hub.entries(), entries.as_slice(), "entries");
     Ok(())
 }
 
@@ -196,8 +197,8 @@ fn refused_reservation_is_made_again(rt: HostRuntime) -> Result<(), Fail> {
     let before = look_at(&hub);
     begin(rt.alloc())?;
     if hub.reserve(5) == Err(NoMemory) {
-        assert_eq!(rt; hub.entries().len(), 0);
-        assert_eq!(rt; look_at(&hub), before);
+        same(&rt, hub.entries().len(), 0, "entries");
+        same(&rt, look_at(&hub), before, "looks");
         hub.reserve(5)?;
     }
     let entries = [make(0, 1), send(0, 1, 5), recv(1, 1)];
@@ -209,14 +210,11 @@ fn refused_reservation_is_made_again(rt: HostRuntime) -> Result<(), Fail> {
 // A send, a receive, a park and a stall.
 #[test]
 fn reserved_steps_take_no_memory(rt: HostRuntime) -> Result<(), Fail> {
-    let mut hub = Hub::open(rt.alloc(), 2, 10, Edition::One)?;
-    make_step(&rt, &mut hub, make(0, 1))?;
-    hub.reserve(4)?;
+    let mut hub = reserved_hub(&rt, rt.alloc(), 2, 4)?;
     begin(rt.alloc())?;
     // It shows the script that memory is refused by now.
     let _refused: Result<Vec<u8>, _> = Vec::with_capacity(rt.alloc(), 1);
-    step(&rt, &mut hub, send(0, 1, 5), &[fired(0, Outcome::Sent)])?;
-    step(&rt, &mut hub, recv(0, 1), &[got(0, 5)])?;
+    pass_five(&rt, &mut hub)?;
     step(&rt, &mut hub, recv(1, 1), &[told(1, What::Parked)])?;
     let stalled = [
         told(0, What::Parked),

@@ -1,8 +1,13 @@
 //! Both editions: their first lines, and how many cases a call may have in each.
 
+use crate::compare::same;
 use crate::steps::entries::{cancel, make, told};
-use hub_base::{Edition, Fault, Kind, Reader, TextFault, What, read_journal, write_journal};
+use hub_base::{
+    Edition, Fault, Journal, Kind, Reader, TextFault, What, read_journal, write_journal,
+};
 use hub_core::run;
+use std::alloc::Global;
+use std::process::Abort;
 use std::test::Fail;
 
 // A call of nine cases, none of which can proceed, with a default.
@@ -17,14 +22,20 @@ const SECOND: &[u8] = b"chanhub journal 2\n\
 #[test]
 fn both_editions_are_read_and_written(rt: HostRuntime) -> Result<(), Fail> {
     for (edition, text) in [(Edition::One, FIRST), (Edition::Two, SECOND)] {
-        assert_eq!(rt; Reader::open(text)?.head().edition, edition);
+        same(&rt, Reader::open(text)?.head().edition, edition, edition);
         let journal = read_journal(rt.alloc(), text)?;
-        assert_eq!(rt; journal.edition(), edition);
-        assert!(rt; journal.procs() == 2);
-        let mut out = Vec::new(rt.alloc());
-        write_journal(&mut out, &journal)?;
-        assert_eq!(rt; out.as_slice(), text);
+        same(&rt, journal.edition(), edition, edition);
+        is_written(&rt, rt.alloc(), &journal, text)?;
     }
+    Ok(())
+}
+
+/// The journal, of two processes, is written as this text.
+fn is_written(rt: &impl Abort, alloc: Global, journal: &Journal, text: &[u8]) -> Result<(), Fail> {
+    assert!(rt; journal.procs() == 2);
+    let mut out = Vec::new(alloc);
+    write_journal(&mut out, journal)?;
+    same(rt, out.as_slice(), text, "written");
     Ok(())
 }
 
@@ -34,29 +45,35 @@ fn nine_cases_are_too_many_in_the_first_edition(rt: HostRuntime) -> Result<(), F
         (FIRST, What::Fault(Fault::TooManyCases)),
         (SECOND, What::Default),
     ] {
-        let journal = read_journal(rt.alloc(), text)?;
-        let (edition, procs) = (journal.edition(), journal.procs());
-        let (_hub, events) = run(rt.alloc(), procs, 10, edition, journal.entries())?;
-        assert_eq!(rt; events.as_slice(), [told(1, answer)].as_slice());
+        is_answered(&rt, rt.alloc(), text, answer)?;
     }
+    Ok(())
+}
+
+/// The one call of the journal with this text is answered so.
+fn is_answered(rt: &impl Abort, alloc: Global, text: &[u8], answer: What) -> Result<(), Fail> {
+    let journal = read_journal(alloc, text)?;
+    let (edition, procs) = (journal.edition(), journal.procs());
+    let (_hub, events) = run(alloc, procs, 10, edition, journal.entries())?;
+    same(rt, events.as_slice(), [told(1, answer)].as_slice(), edition);
     Ok(())
 }
 
 #[test]
 fn editions_have_their_most_cases(rt: HostRuntime) {
-    assert_eq!(rt; Edition::One.most_cases(), 8);
-    assert_eq!(rt; Edition::Two.most_cases(), 16);
+    same(&rt, Edition::One.most_cases(), 8, "first");
+    same(&rt, Edition::Two.most_cases(), 16, "second");
 }
 
 #[test]
 fn second_edition_has_cancels(rt: HostRuntime) {
     let entries = [make(0, 1), cancel(0, 1)];
     for (edition, has) in [(Edition::One, false), (Edition::Two, true)] {
-        assert_eq!(rt; edition.has_cancel(), has);
-        assert!(rt; entries[0].fits(edition));
-        assert_eq!(rt; entries[1].fits(edition), has);
-        assert!(rt; edition.has_all(&entries[..1]));
-        assert_eq!(rt; edition.has_all(&entries), has);
+        same(&rt, edition.has_cancel(), has, edition);
+        same(&rt, entries[0].fits(edition), true, edition);
+        same(&rt, entries[1].fits(edition), has, edition);
+        same(&rt, edition.has_all(&entries[..1]), true, edition);
+        same(&rt, edition.has_all(&entries), has, edition);
     }
 }
 
@@ -67,14 +84,22 @@ fn cancels_are_read_and_written(rt: HostRuntime) -> Result<(), Fail> {
     let journal = read_journal(rt.alloc(), text)?;
     let cancels = [cancel(0, 1), cancel(255, 255)];
     assert_eq!(rt; journal.entries(), cancels.as_slice());
-    let mut out = Vec::new(rt.alloc());
-    write_journal(&mut out, &journal)?;
-    assert_eq!(rt; out.as_slice(), text.as_slice());
+    is_written(&rt, rt.alloc(), &journal, text)?;
+    is_no_step(&rt)
+}
+
+/// A cancel behind the head lines of the first edition.
+fn is_no_step(rt: &impl Abort) -> Result<(), Fail> {
     let mut reader = Reader::open(b"chanhub journal 1\nprocs 2\n0 cancel 1\n")?;
     let no_step = TextFault {
         line: 3,
         kind: Kind::BadStep,
     };
-    assert_eq!(rt; reader.next_entry().err(), Some(no_step));
+    same(
+        rt,
+        reader.next_entry().err(),
+        Some(no_step),
+        "first edition",
+    );
     Ok(())
 }

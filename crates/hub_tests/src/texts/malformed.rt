@@ -1,7 +1,9 @@
 //! Texts that are refused: at which line, and for what.
 
+use crate::compare::same;
 use hub_base::{Kind, ReadFault, TextFault, read_journal};
 use std::alloc::Global;
+use std::process::Abort;
 use std::test::Fail;
 
 /// Why the text is refused, or `None` where it is read.
@@ -26,17 +28,26 @@ fn each_beginning_of_a_text(rt: HostRuntime) -> Result<(), Fail> {
         (7, "0 send 1 9", None),
         (8, "1 recv 1", None),
     ] {
-        let found = fault_of(rt.alloc(), &text);
-        assert_eq!(rt; found, before, "before line {number}");
-        for byte in line.as_bytes() {
-            text.push(*byte)?;
-            let found = fault_of(rt.alloc(), &text);
-            assert_eq!(rt; found, at(number, Kind::CutLine), "in line {number}");
-        }
-        text.push(b'\n')?;
+        same(&rt, fault_of(rt.alloc(), &text), before, number);
+        add_line(&rt, rt.alloc(), &mut text, number, line)?;
     }
-    let found = fault_of(rt.alloc(), &text);
-    assert_eq!(rt; found, None, "the whole text");
+    same(&rt, fault_of(rt.alloc(), &text), None, "the whole text");
+    Ok(())
+}
+
+/// The line of this number goes to the end of the text, which is cut short at each of its bytes.
+fn add_line(
+    rt: &impl Abort,
+    alloc: Global,
+    text: &mut Vec<u8>,
+    number: u32,
+    line: &str,
+) -> Result<(), Fail> {
+    for byte in line.as_bytes() {
+        text.push(*byte)?;
+        same(rt, fault_of(alloc, text), at(number, Kind::CutLine), number);
+    }
+    text.push(b'\n')?;
     Ok(())
 }
 
@@ -52,8 +63,7 @@ fn bytes_have_a_limit(rt: HostRuntime) -> Result<(), Fail> {
     ] {
         text.resize(bytes, b'0')?;
         text.push(end)?;
-        let found = fault_of(rt.alloc(), &text);
-        assert_eq!(rt; found, at(3, kind), "{name}");
+        same(&rt, fault_of(rt.alloc(), &text), at(3, kind), name);
         text.pop();
     }
     Ok(())

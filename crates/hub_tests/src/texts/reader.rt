@@ -1,5 +1,6 @@
 //! Reading entry by entry.
 
+use crate::compare::same;
 use crate::steps::entries::make;
 use hub_base::{Kind, Reader, TextFault, write_entry};
 use std::test::Fail;
@@ -15,18 +16,12 @@ fn entries_are_read_into_one(rt: HostRuntime) -> Result<(), Fail> {
     let mut entry = make(7, 7);
     let mut written = Vec::new(rt.alloc());
     for place in 0..6 {
-        assert!(rt;
-            reader.read_into(&mut entry)?,
-            "there is an entry at {place}"
-        );
+        same(&rt, reader.read_into(&mut entry)?, true, place);
         assert!(rt; entry.fits(reader.head().edition));
         write_entry(&mut written, reader.head().edition, &entry)?;
     }
-    assert!(rt;
-        !reader.read_into(&mut entry)?,
-        "there is none behind the last"
-    );
-    assert_eq!(rt; written.as_slice(), lines.as_slice());
+    same(&rt, reader.read_into(&mut entry)?, false, "behind the last");
+    same(&rt, written.as_slice(), lines.as_slice(), "lines");
     Ok(())
 }
 
@@ -34,23 +29,24 @@ fn entries_are_read_into_one(rt: HostRuntime) -> Result<(), Fail> {
 fn reader_stays_at_a_fault(rt: HostRuntime) -> Result<(), Fail> {
     let text = b"chanhub journal 1\nprocs 2\n1 exit\n0 exit 1\n0 exit\n";
     let mut reader = Reader::open(text)?;
-    assert_eq!(rt; reader.procs(), 2);
-    assert!(rt; matches!(reader.next_entry(), Ok(Some(_exit))));
+    same(&rt, reader.procs(), 2, "processes");
+    same(&rt, reader.next_entry()?.is_some(), true, "first entry");
     let fault = TextFault {
         line: 4,
         kind: Kind::BadStep,
     };
-    assert_eq!(rt; reader.next_entry().err(), Some(fault));
-    assert_eq!(rt; reader.next_entry().err(), Some(fault), "and stays there");
+    for read in ["once", "and stays there"] {
+        same(&rt, reader.next_entry().err(), Some(fault), read);
+    }
     Ok(())
 }
 
 #[test]
 fn reader_stays_at_the_end(rt: HostRuntime) -> Result<(), Fail> {
     let mut reader = Reader::open(b"chanhub journal 1\nprocs 64\n0 exit\n")?;
-    assert_eq!(rt; reader.procs(), 64);
-    assert!(rt; matches!(reader.next_entry(), Ok(Some(_exit))));
-    assert!(rt; matches!(reader.next_entry(), Ok(None)));
-    assert!(rt; matches!(reader.next_entry(), Ok(None)), "and stays there");
+    same(&rt, reader.procs(), 64, "processes");
+    for (read, is_there) in [("exit", true), ("end", false), ("and stays there", false)] {
+        same(&rt, reader.next_entry()?.is_some(), is_there, read);
+    }
     Ok(())
 }

@@ -1,12 +1,14 @@
 //! Values, cases, and the numbers and texts of faults and of what is wrong with a line.
 
+use crate::compare::{has_text, same};
 use hub_base::{Case, Cases, Edition, Fault, Kind, Port, Value, copy_cases};
+use std::process::Abort;
 use std::test::Fail;
 
 #[test]
 fn values_are_numbers(rt: HostRuntime) {
     for number in [0, 7, u64::MAX] {
-        assert_eq!(rt; Value::num(number).as_num(), Some(number));
+        same(&rt, Value::num(number).as_num(), Some(number), number);
     }
 }
 
@@ -17,27 +19,33 @@ fn values_are_bytes(rt: HostRuntime) {
         let Some(value) = Value::bytes(bytes) else {
             panic!(rt; "{bytes:?} are no value");
         };
-        assert_eq!(rt; value.as_num(), None);
-        assert_eq!(rt; usize::from(value.len()), bytes.len());
-        for (i, byte) in bytes.iter().enumerate() {
-            assert_eq!(rt; value.byte(i as u8), Some(*byte));
-        }
-        assert_eq!(rt; value.byte(value.len()), None);
-        assert_eq!(rt; Value::bytes(bytes), Some(value));
-        assert!(rt; value.fits(Edition::Two));
-        assert!(rt; !value.fits(Edition::One));
+        is_bytes(&rt, value, bytes);
     }
-    assert_eq!(rt; Value::bytes(&[0; 33]), None);
+    same(&rt, Value::bytes(&[0; 33]), None, "33 bytes");
+}
+
+/// The value shows these bytes and no number, and is one of the second edition.
+fn is_bytes(rt: &impl Abort, value: Value, bytes: &[u8]) {
+    same(rt, value.as_num(), None, bytes);
+    same(rt, usize::from(value.len()), bytes.len(), bytes);
+    for i in 0..value.len() {
+        same(rt, value.byte(i), bytes.get(usize::from(i)).copied(), i);
+    }
+    same(rt, value.byte(value.len()), None, bytes);
+    same(rt, Value::bytes(bytes), Some(value), bytes);
+    same(rt, value.fits(Edition::Two), true, bytes);
+    same(rt, value.fits(Edition::One), false, bytes);
 }
 
 #[test]
 fn a_number_has_no_bytes(rt: HostRuntime) {
     let value = Value::num(7);
-    assert_eq!(rt; value.len(), 0);
-    assert_eq!(rt; value.byte(0), None);
-    assert!(rt; value.fits(Edition::One));
-    assert!(rt; Some(value) != Value::bytes(&[7, 0, 0, 0, 0, 0, 0, 0]));
-    assert_eq!(rt; Value::default(), Value::num(0));
+    same(&rt, value.len(), 0, "length");
+    same(&rt, value.byte(0), None, "first byte");
+    same(&rt, value.fits(Edition::One), true, "first edition");
+    let bytes = Value::bytes(&[7, 0, 0, 0, 0, 0, 0, 0]);
+    same(&rt, Some(value) == bytes, false, "number and bytes");
+    same(&rt, Value::default(), Value::num(0), "default");
 }
 
 #[test]
@@ -45,7 +53,12 @@ fn cases_are_copied_in_order(rt: HostRuntime) {
     let mut cases = Cases::new();
     cases.push(Case::Send(Port(1), Value::num(2)));
     cases.push(Case::Recv(Port(3)));
-    assert_eq!(rt; copy_cases(&cases), cases);
+    same(
+        &rt,
+        copy_cases(&cases).as_slice(),
+        cases.as_slice(),
+        "cases",
+    );
 }
 
 #[test]
@@ -64,8 +77,8 @@ fn faults_have_numbers_and_texts(rt: HostRuntime) -> Result<(), Fail> {
         (Fault::NoMemory, 11, "out of memory"),
         (Fault::NotParked, 12, "no open call"),
     ] {
-        assert_eq!(rt; fault.number(), number, "{fault:?}");
-        assert_eq!(rt; format!(in rt.alloc(); "{fault}")?.as_str(), text);
+        same(&rt, fault.number(), number, fault);
+        has_text(&rt, rt.alloc(), fault, text)?;
     }
     Ok(())
 }
@@ -80,7 +93,7 @@ fn kinds_have_numbers_and_texts(rt: HostRuntime) {
         (Kind::CutLine, 5, "cut line"),
         (Kind::TooLong, 6, "too long"),
     ] {
-        assert_eq!(rt; kind.number(), number, "{kind:?}");
-        assert_eq!(rt; kind.text(), text, "{kind:?}");
+        same(&rt, kind.number(), number, text);
+        same(&rt, kind.text(), text, text);
     }
 }

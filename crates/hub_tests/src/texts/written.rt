@@ -1,10 +1,13 @@
 //! Texts that are written: journals, which are read again, and events.
 
+use crate::compare::same;
 use crate::steps::entries::told;
 use hub_base::{
-    EventText, Fault, Journal, Outcome, Port, Value, What, read_journal, write_entry, write_event,
-    write_head, write_journal,
+    Event, EventText, Fault, Journal, Outcome, Port, Value, What, read_journal, write_entry,
+    write_event, write_head, write_journal,
 };
+use std::alloc::Global;
+use std::process::Abort;
 use std::test::Fail;
 
 const EVERY_LINE: &[u8] = b"chanhub journal 1\n\
@@ -31,25 +34,38 @@ const EVERY_LINE: &[u8] = b"chanhub journal 1\n\
 #[test]
 fn what_is_read_is_written_again(rt: HostRuntime) -> Result<(), Fail> {
     let journal = read_journal(rt.alloc(), EVERY_LINE)?;
-    assert_eq!(rt; journal.entries().len(), 18);
-    let mut copies = Vec::new(rt.alloc());
+    same(&rt, journal.entries().len(), 18, "entries");
+    is_every_line(&rt, rt.alloc(), &journal)?;
+    is_every_line(&rt, rt.alloc(), &copy_of(rt.alloc(), &journal)?)
+}
+
+/// A journal with copies of these entries.
+fn copy_of(alloc: Global, journal: &Journal) -> Result<Journal, Fail> {
+    let mut copies = Vec::new(alloc);
     for entry in journal.entries() {
         copies.push(entry.copy())?;
     }
-    let copied = Journal::of(journal.edition(), journal.procs(), copies);
-    for journal in [&journal, &copied] {
-        let mut out = Vec::new(rt.alloc());
-        let procs = journal.procs();
-        assert!(rt; 1 <= procs && procs <= 64);
-        write_head(&mut out, journal.edition(), procs)?;
-        for entry in journal.entries() {
-            assert!(rt; entry.fits(journal.edition()));
-            write_entry(&mut out, journal.edition(), entry)?;
-        }
-        assert_eq!(rt; out.as_slice(), EVERY_LINE);
-        write_journal(&mut out, journal)?;
-        assert_eq!(rt; out.len(), 2 * EVERY_LINE.len());
-        assert_eq!(rt; &out[EVERY_LINE.len()..], EVERY_LINE);
+    Ok(Journal::of(journal.edition(), journal.procs(), copies))
+}
+
+/// The journal is written so, line by line, and then as a whole behind that.
+fn is_every_line(rt: &impl Abort, alloc: Global, journal: &Journal) -> Result<(), Fail> {
+    let mut out = Vec::new(alloc);
+    let procs = journal.procs();
+    assert!(rt; 1 <= procs && procs <= 64);
+    write_head(&mut out, journal.edition(), procs)?;
+    write_entries(rt, &mut out, journal)?;
+    same(rt, out.as_slice(), EVERY_LINE, "line by line");
+    write_journal(&mut out, journal)?;
+    same(rt, out.len(), 2 * EVERY_LINE.len(), "length");
+    same(rt, out.ends_with(EVERY_LINE), true, "whole");
+    Ok(())
+}
+
+fn write_entries(rt: &impl Abort, out: &mut Vec<u8>, journal: &Journal) -> Result<(), Fail> {
+    for entry in journal.entries() {
+        assert!(rt; entry.fits(journal.edition()));
+        write_entry(out, journal.edition(), entry)?;
     }
     Ok(())
 }
@@ -78,13 +94,18 @@ fn each_event_has_its_line(rt: HostRuntime) -> Result<(), Fail> {
         (70, What::Fault(Fault::NotParked), "70 fault 12\n"),
         (80, What::Cancelled, "80 cancelled\n"),
     ] {
-        let event = told(pid, what);
-        let mut out = Vec::new(rt.alloc());
-        write_event(&mut out, &event)?;
-        assert_eq!(rt; out.as_slice(), line.as_bytes(), "{line}");
-        write_event(&mut out, &event)?;
-        assert_eq!(rt; out.len(), 2 * line.len(), "appended: {line}");
+        has_line(&rt, rt.alloc(), told(pid, what), line)?;
     }
+    Ok(())
+}
+
+/// The event is written as this line, and once more behind it.
+fn has_line(rt: &impl Abort, alloc: Global, event: Event, line: &str) -> Result<(), Fail> {
+    let mut out = Vec::new(alloc);
+    write_event(&mut out, &event)?;
+    same(rt, out.as_slice(), line.as_bytes(), line);
+    write_event(&mut out, &event)?;
+    same(rt, out.len(), 2 * line.len(), line);
     Ok(())
 }
 
@@ -95,16 +116,16 @@ fn lines_of_events_join_into_one_text(rt: HostRuntime) -> Result<(), Fail> {
         outcome: Outcome::Got(Value::num(number)),
     };
     let mut text = EventText::new(rt.alloc());
-    assert_eq!(rt; text.text(), "".as_bytes());
+    same(&rt, text.text(), b"", "new");
     text.write(&[told(9, What::Parked), told(10, got(99, 100))])?;
     text.write(&[])?;
     text.write(&[told(100, got(9, 9_999_999_999_999_999_999))])?;
     let expected = "9 parked\n10 case 99 got 100\n100 case 9 got 9999999999999999999\n";
-    assert_eq!(rt; text.text(), expected.as_bytes());
+    same(&rt, text.text(), expected.as_bytes(), "joined");
     text.clear();
-    assert_eq!(rt; text.text(), "".as_bytes());
+    same(&rt, text.text(), b"", "cleared");
     text.write(&[told(0, What::Stalled)])?;
-    assert_eq!(rt; text.text(), "0 stalled\n".as_bytes());
+    same(&rt, text.text(), b"0 stalled\n", "written anew");
     Ok(())
 }
 
@@ -120,11 +141,13 @@ fn text_of_events_grows(rt: HostRuntime) -> Result<(), Fail> {
         text.write(&[longest, longest])?;
     }
     let line = b"255 case 255 got 18446744073709551615\n";
-    assert_eq!(rt; text.text().len(), 4000 * line.len());
-    assert!(rt;
-        text.text()
-            .chunks(line.len())
-            .all(|found| found == line.as_slice())
+    same(&rt, text.text().len(), 4000 * line.len(), "length");
+    let mut lines = text.text().chunks(line.len());
+    same(
+        &rt,
+        lines.all(|found| found == line.as_slice()),
+        true,
+        "lines",
     );
     Ok(())
 }

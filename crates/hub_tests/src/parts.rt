@@ -1,0 +1,4 @@
+//! Tests through the public calls. Expected values are worked out by hand from the rules.
+
+mod boards;
+mod queues;

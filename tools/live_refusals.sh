@@ -1,11 +1,11 @@
 #!/bin/sh
 # live_refusals.sh [TESTS]: runs the live hub's tests of refused memory with the first allocation after their mark
 # refused, then with the second, and so on until a run meets no refusal; and that of the calls which take no memory with
-# all of them refused. Each run must pass. TESTS is the built program of hub_crew's tests, where they stand, if it is not
-# said. It needs a C compiler (CC, or cc).
+# all of them refused. Each run must pass. TESTS is the built program of hub_live_tests' tests, where they stand, if it is
+# not said. It needs a C compiler (CC, or cc).
 set -eu
 root=$(cd "$(dirname "$0")/.." && pwd)
-tests=${1:-$root/crates/hub_crew/out/hub_crew_tests}
+tests=${1:-$root/crates/hub_live_tests/out/hub_live_tests_tests}
 if [ ! -x "$tests" ]; then
     echo "live_refusals.sh: $tests is not built" >&2
     exit 2
@@ -21,7 +21,7 @@ trap 'exit 130' INT TERM
 passes() {
     rm -f "$work/refused"
     timeout 60 env LD_PRELOAD="$work/refuse.so" REFUSE="$1" REFUSE_AFTER=$mark REFUSED="$work/refused" \
-        "$tests" "tests::refusals::$2" > "$work/output" 2>&1 && return 0
+        "$tests" "live::refusals::$2" > "$work/output" 2>&1 && return 0
     echo "live_refusals.sh: $2, with allocation $1 after its mark refused:" >&2
     cat "$work/output" >&2
     return 1

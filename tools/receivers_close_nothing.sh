@@ -1,25 +1,25 @@
 #!/bin/sh
 # receivers_close_nothing.sh: a close by an end that receives is no program: its types are refused, before any proof.
-# Tried on a copy of hub_crew whose test of a close takes the other end. Needs crates that were built.
+# Tried on a copy of hub_uses whose pool closes the other end. Needs crates that were built.
 set -u
 root=$(cd "$(dirname "$0")/.." && pwd)
 work=$(mktemp -d)
 trap 'rm -rf "$work"' EXIT
 mkdir "$work/crates"
 cp "$root/HANDLES" "$work"
-for crate in hub_base hub_laws hub_parts hub_core hub_live hub_crew; do
+for crate in hub_base hub_laws hub_parts hub_core hub_live hub_crew hub_uses; do
     cp -a "$root/crates/$crate" "$work/crates"
     grep "^$crate:" "$root/crates.txt" >> "$work/crates.txt"
 done
 
-tests=src/tests/tasks.rt
-sed -i 's/seat\.close(rt, hub, &chan\.sender())/seat.close(rt, hub, \&chan.receiver())/' \
-    "$work/crates/hub_crew/$tests"
-if cmp -s "$work/crates/hub_crew/$tests" "$root/crates/hub_crew/$tests"; then
+pool=src/pool.rt
+sed -i 's/seat\.close(rt, hub, &sender)/seat.close(rt, hub, \&self.chan.receiver())/' \
+    "$work/crates/hub_uses/$pool"
+if cmp -s "$work/crates/hub_uses/$pool" "$root/crates/hub_uses/$pool"; then
     echo "receivers_close_nothing: no close to change"
     exit 1
 fi
-cd "$work/crates/hub_crew" && rt try --test > "$work/told" 2>&1
+cd "$work/crates/hub_uses" && rt check > "$work/told" 2>&1
 if grep -q 'error\[mismatched-types\]: expected `&End<Sends>`, found `&End<Receives>`' "$work/told"; then
     exit 0
 fi

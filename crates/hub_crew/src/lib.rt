@@ -6,8 +6,6 @@
 mod crew;
 mod start;
 mod task;
-#[cfg(test)]
-mod tests;
 
 pub use crew::run_crew;
 pub use task::{Member, Task};

@@ -6,8 +6,6 @@ mod handing_over;
 mod meeting;
 mod polling;
 mod pool;
-#[cfg(test)]
-mod tests;
 
 pub use handing_over::hand_over;
 pub use meeting::share;

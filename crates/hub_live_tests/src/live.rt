@@ -1,4 +1,4 @@
-//! Tests of the live hub, in one thread and in several, and of the crew.
+//! The live hub, in one thread and in several, and crews.
 
 use hub_base::{
     Case, Cases, CasesExt, Counts, Entry, Event, Outcome, Pid, Port, Step, Value, What,
@@ -6,7 +6,7 @@ use hub_base::{
 
 mod locked;
 mod one_thread;
-mod opened;
+pub(crate) mod opened;
 mod refusals;
 mod tasks;
 mod threads;
@@ -58,10 +58,10 @@ fn told(pid: u8, what: What) -> Event {
     }
 }
 
-fn fired(pid: u8, outcome: Outcome) -> Event {
+pub(crate) fn fired(pid: u8, outcome: Outcome) -> Event {
     told(pid, What::Fired { case: 0, outcome })
 }
 
-fn got(pid: u8, number: u64) -> Event {
+pub(crate) fn got(pid: u8, number: u64) -> Event {
     fired(pid, Outcome::Got(Value::num(number)))
 }

@@ -1,6 +1,7 @@
 //! Which answers wait for which process under the lock of a live hub.
 
 use super::{ONE_WAITS, call, entry, fired, got, make, recv, send, told};
+use crate::compare::same;
 use hub_base::{Case, Edition, Entry, Event, Fault, Look, Outcome, Pid, Port, Step, What};
 use hub_core::Hub;
 use hub_live::under_lock::Locked;
@@ -32,12 +33,12 @@ fn make_step(rt: &impl Abort, locked: &mut Locked, entry: Entry) -> Result<Event
 
 /// Makes the step, and compares its answer or what refuses it.
 fn step(rt: &impl Abort, locked: &mut Locked, entry: Entry, answer: Result<Event, Fault>) {
-    assert_eq!(rt; make_step(rt, locked, entry), answer);
+    same(rt, make_step(rt, locked, entry), answer, "answer");
 }
 
 /// Takes the answer that waits for the process, and compares it.
 fn take(rt: &impl Abort, locked: &mut Locked, pid: u8, answer: Option<Event>) {
-    assert_eq!(rt; locked.take(Pid(pid)), answer, "process {pid}");
+    same(rt, locked.take(Pid(pid)), answer, pid);
 }
 
 // A receiver parks, a sender's step ends its call, and the value waits for the receiver.
@@ -47,10 +48,10 @@ fn answer_waits_until_it_is_taken(rt: HostRuntime) -> Result<(), Fail> {
     step(&rt, &mut locked, make(0), Ok(told(0, What::Made(Port(1)))));
     step(&rt, &mut locked, recv(1), Ok(told(1, What::Parked)));
     take(&rt, &mut locked, 1, None);
-    assert_eq!(rt; locked.ended().len(), 0);
+    same(&rt, locked.ended().as_slice(), &[], "ended");
 
     step(&rt, &mut locked, send(0), Ok(fired(0, Outcome::Sent)));
-    assert_eq!(rt; locked.ended().as_slice(), [Pid(1)].as_slice());
+    same(&rt, locked.ended().as_slice(), &[Pid(1)], "ended");
     take(&rt, &mut locked, 0, None);
     take(&rt, &mut locked, 1, Some(got(1, 9)));
     take(&rt, &mut locked, 1, None);
@@ -65,11 +66,11 @@ fn steps_are_kept(rt: HostRuntime) -> Result<(), Fail> {
         cap: 1,
         counts: ONE_WAITS,
     };
-    assert_eq!(rt; locked.look(Port(1)), Some(look));
-    assert_eq!(rt; locked.entries().len(), 2);
+    same(&rt, locked.look(Port(1)), Some(look), "look");
+    same(&rt, locked.entries().len(), 2, "entries");
     let journal = locked.into_journal();
-    assert_eq!(rt; journal.procs(), 2);
-    assert_eq!(rt; journal.entries().len(), 2);
+    same(&rt, journal.procs(), 2, "processes");
+    same(&rt, journal.entries().len(), 2, "entries of the journal");
     Ok(())
 }
 
@@ -78,16 +79,21 @@ fn steps_are_kept(rt: HostRuntime) -> Result<(), Fail> {
 fn each_stalled_process_finds_its_answer(rt: HostRuntime) -> Result<(), Fail> {
     for procs in 1..3 {
         let mut locked = locked_after(&rt, rt.alloc(), procs, 10, &[])?;
-        for pid in 0..procs {
-            let nil = call(pid, Case::Recv(Port(0)));
-            step(&rt, &mut locked, nil, Ok(told(pid, What::Parked)));
-        }
-        for pid in 0..procs {
-            take(&rt, &mut locked, pid, Some(told(pid, What::Stalled)));
-            take(&rt, &mut locked, pid, None);
-        }
+        stall_all(&rt, &mut locked, procs);
     }
     Ok(())
+}
+
+/// Each process waits for ever, and finds that it stalled.
+fn stall_all(rt: &impl Abort, locked: &mut Locked, procs: u8) {
+    for pid in 0..procs {
+        let nil = call(pid, Case::Recv(Port(0)));
+        step(rt, locked, nil, Ok(told(pid, What::Parked)));
+    }
+    for pid in 0..procs {
+        take(rt, locked, pid, Some(told(pid, What::Stalled)));
+        take(rt, locked, pid, None);
+    }
 }
 
 // Go: "Close". Both receivers learn of it, and the step's own answer waits for nobody.
@@ -103,13 +109,21 @@ fn close_answers_each_receiver(rt: HostRuntime) -> Result<(), Fail> {
     Ok(())
 }
 
+/// Process 0 cancels the call of process 1.
+fn cancel() -> Entry {
+    entry(0, Step::Cancel(Pid(1)))
+}
+
+fn exit(pid: u8) -> Entry {
+    entry(pid, Step::Exit)
+}
+
 // The call that is cancelled is answered by that alone, and its process makes its next step.
 #[test]
 fn cancelled_call_finds_its_answer(rt: HostRuntime) -> Result<(), Fail> {
     let mut locked = locked_after(&rt, rt.alloc(), 2, 10, &[make(0), recv(1)])?;
-    let cancel = || entry(0, Step::Cancel(Pid(1)));
     step(&rt, &mut locked, cancel(), Ok(told(0, What::Done)));
-    assert_eq!(rt; locked.ended().as_slice(), [Pid(1)].as_slice());
+    same(&rt, locked.ended().as_slice(), &[Pid(1)], "ended");
     take(&rt, &mut locked, 1, Some(told(1, What::Cancelled)));
     let nobody = told(0, What::Fault(Fault::NotParked));
     step(&rt, &mut locked, cancel(), Ok(nobody));
@@ -121,16 +135,11 @@ fn cancelled_call_finds_its_answer(rt: HostRuntime) -> Result<(), Fail> {
 #[test]
 fn refusal_leaves_what_waits(rt: HostRuntime) -> Result<(), Fail> {
     let mut locked = locked_after(&rt, rt.alloc(), 3, 3, &[make(0), recv(1)])?;
-    step(
-        &rt,
-        &mut locked,
-        entry(7, Step::Exit),
-        Err(Fault::NoProcess),
-    );
-    step(&rt, &mut locked, entry(1, Step::Exit), Err(Fault::Busy));
+    step(&rt, &mut locked, exit(7), Err(Fault::NoProcess));
+    step(&rt, &mut locked, exit(1), Err(Fault::Busy));
     step(&rt, &mut locked, send(0), Ok(fired(0, Outcome::Sent)));
     step(&rt, &mut locked, recv(1), Err(Fault::JournalFull));
-    assert_eq!(rt; locked.entries().len(), 3);
+    same(&rt, locked.entries().len(), 3, "entries");
     take(&rt, &mut locked, 1, Some(got(1, 9)));
     Ok(())
 }
@@ -139,9 +148,8 @@ fn refusal_leaves_what_waits(rt: HostRuntime) -> Result<(), Fail> {
 #[test]
 fn next_step_drops_what_waits(rt: HostRuntime) -> Result<(), Fail> {
     let mut locked = locked_after(&rt, rt.alloc(), 2, 3, &[make(0), recv(1), send(0)])?;
-    let exit = || entry(1, Step::Exit);
-    step(&rt, &mut locked, exit(), Ok(told(1, What::Done)));
+    step(&rt, &mut locked, exit(1), Ok(told(1, What::Done)));
     take(&rt, &mut locked, 1, None);
-    step(&rt, &mut locked, exit(), Err(Fault::Gone));
+    step(&rt, &mut locked, exit(1), Err(Fault::Gone));
     Ok(())
 }

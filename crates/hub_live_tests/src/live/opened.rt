@@ -3,8 +3,9 @@
 ghost use Rattle.std.specs.Prelude.{◌≡◌, All, vec_len};
 
 use super::{one_thread, refusals, threads};
+use crate::uses;
 use hub_base::Edition;
-use hub_live::{Blank, Held, HubName, LiveHub, Seat, hold_all};
+use hub_live::{Blank, Chan, Held, HubName, LiveHub, Seat, hold_all};
 use std::marker::Brand;
 use std::process::Abort;
 use std::sync::Wait;
@@ -31,15 +32,19 @@ pub enum Story {
     Closing,
     Draining,
     Ending,
+    HandingOver,
     Looking,
     MakingAgain,
     MakingOwn,
     Meeting,
     Passing,
+    Polling,
     Selecting,
+    Sharing,
     Stalling,
     StallingAlone,
     Watching,
+    WorkingOff,
 }
 
 /// A hub has a name only where a function is generic over it, so each story is called from here.
@@ -61,26 +66,41 @@ fn tell_named<K: HubName + Send + Sync, R: Runtime>(
         Story::Closing => threads::close(opened),
         Story::Draining => one_thread::drain(opened),
         Story::Ending => refusals::end(opened),
+        Story::HandingOver => uses::hand_nine_over(opened),
         Story::Looking => one_thread::look(opened),
         Story::MakingAgain => refusals::make_again(opened),
         Story::MakingOwn => threads::make_own(opened),
         Story::Meeting => one_thread::meet(opened),
         Story::Passing => threads::pass(opened),
+        Story::Polling => uses::poll_both(opened),
         Story::Selecting => one_thread::select(opened),
+        Story::Sharing => uses::share_close(opened),
         Story::Stalling => threads::stall(opened),
         Story::StallingAlone => one_thread::stall_alone(opened),
         Story::Watching => threads::watch(opened),
+        Story::WorkingOff => uses::work_off(opened),
     }
 }
 
 /// Opens a hub, and tells the story of it.
-pub(super) fn tell<R: Runtime>(rt: &R, procs: u8, limit: u32, story: Story) -> Result<(), Fail> {
+pub(crate) fn tell<R: Runtime>(rt: &R, procs: u8, limit: u32, story: Story) -> Result<(), Fail> {
     let edition = match story {
         Story::Cancelling => Edition::Two,
         _ => Edition::One,
     };
     let (blank, seats) = Blank::open(rt.alloc(), procs, limit, edition)?;
     tell_named::<Brand, R>(rt, blank, seats, story)
+}
+
+/// Process 0 makes a channel of this capacity.
+pub(crate) fn make_first<K: HubName, R: Wait>(
+    rt: &R,
+    hub: &LiveHub<K>,
+    seats: &mut Vec<Held<K>>,
+    cap: u32,
+) -> Result<Chan, Fail> {
+    let first = seats.first_mut().ok_or("a seat")?;
+    Ok(first.make_chan(rt, hub, cap)?)
 }
 
 /// The story a hundred times, each of a new hub of two processes: threads may come in any order.

@@ -2,8 +2,8 @@
 
 ghost use Rattle.std.specs.Prelude.{◌≡◌};
 
-use crate::Task;
 use hub_base::{Edition, Event, Fault, Pid, Port, Value, What};
+use hub_crew::Task;
 use hub_live::{Chan, Held, HubName, LiveHub};
 use std::sync::Wait;
 use std::sync::atomic::{AtomicBool, Ordering};

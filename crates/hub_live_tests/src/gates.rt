@@ -1,7 +1,10 @@
 //! What a gate sees of a run: that threads run at the same time, and what is counted before each call.
 
+use crate::compare::same;
+use hub_report::PortReport;
 use hub_runner::{Gate, run_scenario};
 use hub_scenario::read_scenario;
+use std::process::Abort;
 use std::sync::atomic::{AtomicBool, AtomicU32, Ordering};
 use std::test::Fail;
 use std::thread;
@@ -48,13 +51,18 @@ fn processes_run_at_the_same_time(rt: HostRuntime) -> Result<(), Fail> {
             missed: AtomicBool::new(false),
         };
         let report = run_scenario(&rt, rt.alloc(), &scenario, &gate)?;
-        assert!(rt; !gate.missed.load(Ordering::SeqCst));
-        assert_eq!(rt; report.ports.len(), 2);
-        for port in report.ports.as_slice() {
-            assert_eq!(rt; (port.sent, port.received, port.left), (1, 0, 1));
-        }
+        same(&rt, gate.missed.load(Ordering::SeqCst), false, "missed");
+        each_has_one(&rt, report.ports.as_slice());
     }
     Ok(())
+}
+
+/// Both ports hold the value that was sent there.
+fn each_has_one(rt: &impl Abort, ports: &[PortReport]) {
+    same(rt, ports.len(), 2, "ports");
+    for port in ports {
+        same(rt, (port.sent, port.received, port.left), (1, 0, 1), "port");
+    }
 }
 
 /// Counts the calls of all processes, and adds up their numbers.
@@ -82,8 +90,8 @@ fn each_receive_of_a_range_passes_the_gate(rt: HostRuntime) -> Result<(), Fail> 
         numbers: AtomicU32::new(0),
     };
     let report = run_scenario(&rt, rt.alloc(), &scenario, &gate)?;
-    assert_eq!(rt; gate.calls.load(Ordering::SeqCst), 6);
-    assert_eq!(rt; gate.numbers.load(Ordering::SeqCst), 6);
-    assert_eq!(rt; report.journal.entries().len(), 9);
+    same(&rt, gate.calls.load(Ordering::SeqCst), 6, "calls");
+    same(&rt, gate.numbers.load(Ordering::SeqCst), 6, "numbers");
+    same(&rt, report.journal.entries().len(), 9, "entries");
     Ok(())
 }

@@ -3,6 +3,7 @@
 
 use super::opened::{Opened, Runtime, Story, tell};
 use super::{ONE_WAITS, fired, got, told};
+use crate::compare::same;
 use hub_base::{Case, Cases, CasesExt, Edition, Event, Fault, Outcome, Port, Value, What};
 use hub_core::OpenFault;
 use hub_live::{Blank, Chan, Held, HubName, LiveHub};
@@ -24,8 +25,8 @@ fn begin(alloc: Global) -> Result<(), Fail> {
 fn opening_is_whole_or_refused(rt: HostRuntime) -> Result<(), Fail> {
     begin(rt.alloc())?;
     match Blank::open(rt.alloc(), 4, 100, Edition::One) {
-        Ok((_blank, seats)) => assert_eq!(rt; seats.len(), 4),
-        Err(fault) => assert_eq!(rt; fault, OpenFault::NoMemory),
+        Ok((_blank, seats)) => same(&rt, seats.len(), 4, "seats"),
+        Err(fault) => same(&rt, fault, OpenFault::NoMemory, "refused"),
     }
     Ok(())
 }
@@ -54,7 +55,7 @@ pub fn make_again<K: HubName, R: Runtime>(opened: Opened<K, R>) -> Result<(), Fa
     let Opened { rt, hub, mut seats } = opened;
     begin(rt.alloc())?;
     pass_again(rt, &hub, seats.first_mut().ok_or("one seat")?)?;
-    assert_eq!(rt; hub.finish_held(seats).entries().len(), 41);
+    same(rt, hub.finish_held(seats).entries().len(), 41, "entries");
     Ok(())
 }
 
@@ -68,14 +69,14 @@ fn pass_again<K: HubName, R: Wait + Abort>(
         Err(Fault::NoMemory) => seat.make(rt, hub, 1)?,
         answer => answer?,
     };
-    assert_eq!(rt; made, told(0, What::Made(Port(1))));
+    same(rt, made, told(0, What::Made(Port(1))), "made");
     let chan = Chan::of(Port(1));
     for number in 0..20 {
         let send = chan.sender().send(Value::num(number));
         let sent = call_again(rt, hub, seat, send)?;
-        assert_eq!(rt; sent, fired(0, Outcome::Sent));
+        same(rt, sent, fired(0, Outcome::Sent), number);
         let received = call_again(rt, hub, seat, chan.receiver().recv())?;
-        assert_eq!(rt; received, got(0, number));
+        same(rt, received, got(0, number), number);
     }
     Ok(())
 }
@@ -90,17 +91,48 @@ pub fn end<K: HubName, R: Runtime>(opened: Opened<K, R>) -> Result<(), Fail> {
     let Opened { rt, hub, mut seats } = opened;
     let mut second = seats.pop().ok_or("two seats")?;
     let first = seats.first_mut().ok_or("two seats")?;
-    let sender = first.make_chan(rt, &hub, 1)?.sender();
-    first.send(rt, &hub, &sender, Value::num(4))?;
+    send_and_begin(rt, &hub, first)?;
+    look_meet_and_exit(rt, &hub, first, &mut second)?;
+    seats.push(second)?;
+    same(rt, hub.finish_held(seats).entries().len(), 4, "entries");
+    Ok(())
+}
+
+/// A value waits in a channel, and from here on all allocations may be refused.
+fn send_and_begin<K: HubName, R: AllocGlobal + Wait>(
+    rt: &R,
+    hub: &LiveHub<K>,
+    seat: &mut Held<K>,
+) -> Result<(), Fail> {
+    let sender = seat.make_chan(rt, hub, 1)?.sender();
+    seat.send(rt, hub, &sender, Value::num(4))?;
     begin(rt.alloc())?;
     // It shows the script that memory is refused by now.
     let _refused: Result<Vec<u8>, _> = Vec::with_capacity(rt.alloc(), 1);
-    assert_eq!(rt; first.look(&hub, Port(1)), Some(ONE_WAITS));
-    first.meet(&hub, &mut second);
-    assert_eq!(rt; second.look(&hub, Port(1)), Some(ONE_WAITS));
-    assert_eq!(rt; first.exit(rt, &hub)?, told(0, What::Done));
-    assert_eq!(rt; second.exit(rt, &hub)?, told(1, What::Done));
-    seats.push(second)?;
-    assert_eq!(rt; hub.finish_held(seats).entries().len(), 4);
+    Ok(())
+}
+
+/// Both look at the value that waits, the second once it has met the first, and exit.
+fn look_meet_and_exit<K: HubName, R: Wait + Abort>(
+    rt: &R,
+    hub: &LiveHub<K>,
+    first: &mut Held<K>,
+    second: &mut Held<K>,
+) -> Result<(), Fail> {
+    same(rt, first.look(hub, Port(1)), Some(ONE_WAITS), "first look");
+    first.meet(hub, second);
+    same(
+        rt,
+        second.look(hub, Port(1)),
+        Some(ONE_WAITS),
+        "second look",
+    );
+    same(rt, first.exit(rt, hub)?, told(0, What::Done), "first exit");
+    same(
+        rt,
+        second.exit(rt, hub)?,
+        told(1, What::Done),
+        "second exit",
+    );
     Ok(())
 }

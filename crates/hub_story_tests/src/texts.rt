@@ -40,9 +40,9 @@ fn buffered_values_and_a_stall_are_told(rt: HostRuntime) -> Result<(), Fail> {
        \x20     7  P0 exit                        done                                                        ends 6\n\
        \x20       stall: everyone who is left waits\n\
        \x20         P1 waits since step 6\n\
-       \x20           to receive from port 1: last sent by P0 at step 4, last received by P1 at step 5\n\
+       \x20           to receive from port 1: last sent by P0 at step 3, last received by P1 at step 5\n\
         port 1 cap 1 sent 2 received 2 left 0 made by P0 at step 1\n\
-        2 of 5 calls waited\n\
+        2 of 5 calls waited, longest first\n\
        \x20     3  P0 send 1 6                    sent              1, until 4          to P1, step 5\n\
        \x20     6  P1 recv 1                      stalled           1, until 7\n";
     assert_eq!(rt; text.as_slice(), expected.as_slice());
@@ -66,7 +66,7 @@ fn selects_cancels_and_faults_are_told(rt: HostRuntime) -> Result<(), Fail> {
        \x20     7  P0 recv 9                      fault 5                               no such port\n\
         port 1 cap 0 sent 0 received 0 left 0 made by P0 at step 1\n\
         port 2 cap 1 sent 1 received 0 left 1 made by P0 at step 2\n\
-        2 of 4 calls waited\n\
+        2 of 4 calls waited, longest first\n\
        \x20     4  P1 recv 1                      cancelled         2, until 6\n\
        \x20     5  P2 select 3 r1 s2:7            waits             2, still\n\
         in the end these wait\n\
@@ -86,7 +86,7 @@ fn a_window_has_its_steps(rt: HostRuntime) -> Result<(), Fail> {
        \x20     3  P0 send 1 6                    sent              1, until 4          to P1, step 5\n\
        \x20     4  P1 recv 1                      got 5                                 from P0, step 2       ends 3\n\
         port 1 cap 1 sent 2 received 2 left 0 made by P0 at step 1\n\
-        2 of 5 calls waited\n\
+        2 of 5 calls waited, longest first\n\
        \x20     3  P0 send 1 6                    sent              1, until 4          to P1, step 5\n\
        \x20     6  P1 recv 1                      stalled           1, until 7\n";
     assert_eq!(rt; text.as_slice(), expected.as_slice());

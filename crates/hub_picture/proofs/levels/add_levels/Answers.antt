@@ -5,6 +5,6 @@ use Rattle.hub_picture.proofs.levels.add_levels.Goals as goal
 
 pub loop-told-preserved : goal.loop-told-preserved
 loop-told-preserved c = elim c.if-not-is_same.branch [
-  then-not-is_same+in_ok-add_shown w ↦ grind (arith, common_steps) |
-  else-not-is_same w ↦ grind (arith, common_steps)
+  | then-not-is_same+in_ok-add_shown w ↦ grind (arith, common_steps)
+  | else-not-is_same w ↦ grind (arith, common_steps)
 ]

@@ -37,7 +37,8 @@ HasHeardAtMost Heard most = (heard : List ℕ) × Heard heard × (length heard �
 
 -- how a conversation ended, which of its calls failed, and what it had heard and said by then: `reads` and `writes` had
 -- failed when it began, and so many by now
-pub record HasEnded (Heard Said : List ℕ → Type 0) (Ended : Type 0) (reads reads_now writes writes_now : ℕ) (result : Result (Unit {0}) ReplayFault) : Type 0 where
+pub record HasEnded
+    (Heard Said : List ℕ → Type 0) (Ended : Type 0) (reads reads_now writes writes_now : ℕ) (result : Result (Unit {0}) ReplayFault) : Type 0 where
   pub ok : OnOk result (HasConversed Heard Said × Ended)
   pub text : (fault : TextFault) → IsErrOf result (Text fault) → HasNamed Heard Said Ended fault
   pub read : IsErrOf result Read → Failed reads reads_now × HasAnswered Heard Said

@@ -17,7 +17,8 @@ loop-handle-preserved-in-Some-join g c =
           (λ h. h.promise.pid) more.items (i.pids all) kept.0;
       ends = all_snoc c.loop-handle.done.items c.push_reserved.new.self.items m (λ m. g.T.Task.ends c.args.task m.seat m.report) more.items i.ends
           (subst (λ t. g.T.Task.ends t m.seat m.report) task kept.1);
-      split = one_further c.loop-handle.yielded c.loop-handle.handle-iterator.rest.items c.next.new.self.rest.items c.args.handles.items c.in-Some.handle step.0 i.split;
+      split = one_further c.loop-handle.yielded c.loop-handle.handle-iterator.rest.items c.next.new.self.rest.items c.args.handles.items
+          c.in-Some.handle step.0 i.split;
       room = omega (arith, i.room, more.len, more.capacity, step);
     }
 
@@ -31,7 +32,8 @@ loop-handle-preserved g c =
       begun = never;
       pids = never;
       ends = i.ends;
-      split = one_further c.loop-handle.yielded c.loop-handle.handle-iterator.rest.items c.next.new.self.rest.items c.args.handles.items c.in-Some.handle step.0 i.split;
+      split = one_further c.loop-handle.yielded c.loop-handle.handle-iterator.rest.items c.next.new.self.rest.items c.args.handles.items
+          c.in-Some.handle step.0 i.split;
       room = omega (arith, i.room, step);
     }
 

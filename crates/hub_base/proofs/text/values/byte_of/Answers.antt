@@ -12,5 +12,6 @@ overflow_add-byte c =
 pub returns-then-byte-lt256 : goal.returns-then-byte-lt256
 returns-then-byte-lt256 c =
     let small : get_or HIGHS c.from.result 0 + get_or LOWS c.from-2.result 0 < 256 = c.if-byte-lt256.true in
-    let are = byte-digits c.from.result c.from-2.result (omega (arith, c.from.ensures, c.ranges.high.fits)) (omega (arith, c.from-2.ensures, c.ranges.low.fits)) small in
+    let are = byte-digits c.from.result c.from-2.result (omega (arith, c.from.ensures, c.ranges.high.fits))
+    (omega (arith, c.from-2.ensures, c.ranges.low.fits)) small in
     (are.0 ∙ c.from.ensures, are.1 ∙ c.from-2.ensures)

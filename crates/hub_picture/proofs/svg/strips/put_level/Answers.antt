@@ -3,7 +3,8 @@ use Rattle.hub_picture.proofs.svg.strips.put_level.Goals as goal
 
 pub returns-in_err-put_level_title : goal.returns-in_err-put_level_title
 returns-in_err-put_level_title c =
-    refused c.args.out.now c.put_opening.new.out c.put_level_title.new.out _ _ c.from_residual-in_err-put_level_title.ensures.0 (_, c.in_ok-put_opening.ensures.ok)
+    refused c.args.out.now c.put_opening.new.out c.put_level_title.new.out _ _ c.from_residual-in_err-put_level_title.ensures.0
+    (_, c.in_ok-put_opening.ensures.ok)
     c.in_err-put_level_title.ensures.err
 
 pub returns : goal.returns

@@ -32,6 +32,7 @@ TRIALS = os.path.join(ROOT, 'crates', 'hub_trials', 'out', 'hub_trials')
 PEER = os.path.join(HERE, 'live_peer', 'target', 'release', 'live_peer')
 LIBRARY = os.path.join(ROOT, 'capi', 'out', 'libchanhub.a')
 C_TIMES = os.path.join(HERE, 'c_times.c')
+PEER_BYTES = os.path.join(HERE, 'live_peer', 'target', 'bytes', 'release', 'live_peer')
 PEER_LIBRARY = os.path.join(HERE, 'live_peer', 'target', 'release', 'liblive_peer.a')
 PEER_BYTES_LIBRARY = os.path.join(HERE, 'live_peer', 'target', 'bytes', 'release', 'liblive_peer.a')
 RUNS = int(os.environ.get('RUNS', '10'))
@@ -168,14 +169,27 @@ def build_peer(target='target', *words):
     subprocess.run(words, cwd=os.path.join(HERE, 'live_peer'), check=True)
 
 
+def build_peers():
+    """The plain hub of numbers, and the one whose values have room for bytes."""
+    build_peer()
+    build_peer('target/bytes', '--features', 'bytes')
+
+
+def print_beside(title, ours, rows):
+    """A table beside each of the plain hubs, of rows that have a value of each."""
+    others = ['live_peer', 'live_peer with bytes'][:max(1, len(rows[0].values) - 1)]
+    for place, other in enumerate(others, 1):
+        print_table(title, ours, other, [Row(row.name, [row.values[0], *row.values[place:place + 1]]) for row in rows])
+
+
 def live(*_):
     makers = [lambda: rates_of(TRIALS)]
     if shutil.which('cargo'):
-        build_peer()
-        makers.append(lambda: rates_of(PEER))
+        build_peers()
+        makers += [lambda: rates_of(PEER), lambda: rates_of(PEER_BYTES)]
     else:
         skip('live_peer: cargo is not there')
-    print_table('The live hub, in thousands a second', 'hub_trials', 'live_peer', rate_rows(WORKLOADS, makers))
+    print_beside('The live hub, in thousands a second', 'hub_trials', list(rate_rows(WORKLOADS, makers)))
 
 
 def rates_of_runs(folder):
@@ -232,15 +246,12 @@ def capi(folder, _):
     os.makedirs(folder, exist_ok=True)
     programs = [c_times('chanhub', LIBRARY, folder)]
     if shutil.which('cargo'):
-        build_peer()
-        build_peer('target/bytes', '--features', 'bytes')
+        build_peers()
         programs += [c_times('numbers', PEER_LIBRARY, folder), c_times('bytes', PEER_BYTES_LIBRARY, folder)]
     else:
         skip('live_peer: cargo is not there')
-    rows = list(c_rows(programs))
     title = 'The C library, in thousands of calls a second, and of bytes of the journal a second'
-    for place, other in list(enumerate(['live_peer', 'live_peer with bytes'], 1))[:max(1, len(programs) - 1)]:
-        print_table(title, 'libchanhub', other, [Row(row.name, [row.values[0], *row.values[place:place + 1]]) for row in rows])
+    print_beside(title, 'libchanhub', list(c_rows(programs)))
 
 
 # each part, and what has to be built for it

@@ -6,11 +6,14 @@ use std::fmt::{self, Display, Formatter};
 #[derive(Clone, Copy, Debug, PartialEq)]
 pub struct Value(u64);
 
+/// Without alignment, as a value of the proved hub is, so that the cases of an entry take no more bytes than they need.
 #[cfg(feature = "bytes")]
 #[derive(Clone, Copy, Debug, PartialEq)]
-pub enum Value {
-    Number(u64),
-    Bytes { length: u8, bytes: [u8; 32] },
+pub struct Value {
+    /// 0 for a number, and else one more than there are bytes.
+    form: u8,
+    /// The number, its lowest byte first, or the bytes.
+    bytes: [u8; 32],
 }
 
 #[cfg(not(feature = "bytes"))]
@@ -27,13 +30,17 @@ impl Value {
 #[cfg(feature = "bytes")]
 impl Value {
     pub const fn number(number: u64) -> Value {
-        Value::Number(number)
+        let mut bytes = [0; 32];
+        let [a, b, c, d, e, f, g, h] = number.to_le_bytes();
+        (bytes[0], bytes[1], bytes[2], bytes[3]) = (a, b, c, d);
+        (bytes[4], bytes[5], bytes[6], bytes[7]) = (e, f, g, h);
+        Value { form: 0, bytes }
     }
 
     pub fn as_number(self) -> Option<u64> {
-        match self {
-            Value::Number(number) => Some(number),
-            Value::Bytes { .. } => None,
+        match (self.form, self.bytes.first_chunk()) {
+            (0, Some(number)) => Some(u64::from_le_bytes(*number)),
+            _ => None,
         }
     }
 }

@@ -4,6 +4,8 @@
 #[cfg(test)]
 mod compare;
 #[cfg(test)]
+mod explained;
+#[cfg(test)]
 mod parts;
 #[cfg(test)]
 mod replays;

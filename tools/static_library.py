@@ -40,6 +40,7 @@ def words():
 def main():
     if not all(is_left(it) for it in below(CRATE, read_crates())):
         return 0
+    os.makedirs(os.path.join(folder(ROOT, CRATE), 'out'), exist_ok=True)
     return subprocess.run(words(), cwd=folder(ROOT, CRATE), stdin=subprocess.DEVNULL).returncode
 
 

@@ -103,7 +103,7 @@ def laws(crate):
 
 def check_edits(crate, text, calls):
     turned = set()
-    for folder in ('must-fail', 'further-edits'):
+    for folder in ('edits', 'further-edits'):
         for path in files('crates/%s/%s' % (crate, folder), '.edit'):
             call = re.match(r'call: (\S+)\n', read(path))
             if not call or call.group(1) not in calls:

@@ -1,5 +1,6 @@
 """The crates of crates.txt and where they lie, for the scripts here that build them."""
 import os
+import subprocess
 
 ROOT = os.path.dirname(os.path.dirname(os.path.abspath(__file__)))
 
@@ -8,15 +9,23 @@ def folder(tree, crate):
     return os.path.join(tree, 'crates', crate)
 
 
-def read_lines():
-    """Each crate with the libraries that it names, those of the toolchain among them."""
-    found = {}
+def read_heads():
+    """Each crate's words before the colon, its name and what it is, with the libraries that it names."""
     with open(os.path.join(ROOT, 'crates.txt')) as file:
         for line in file:
             head, colon, libraries = line.partition('#')[0].partition(':')
             if colon:
-                found[head.split()[0]] = libraries.split()
-    return found
+                yield head.split(), libraries.split()
+
+
+def read_lines():
+    """Each crate with the libraries that it names, those of the toolchain among them."""
+    return {head[0]: libraries for head, libraries in read_heads()}
+
+
+def kind_of(crate):
+    """The words for a crate that is a static library."""
+    return ['--crate-type', 'staticlib'] if [crate, 'staticlib'] in (head for head, _ in read_heads()) else []
 
 
 def read_crates():
@@ -31,3 +40,25 @@ def below(crate, crates):
     for it in crates[crate]:
         found |= below(it, crates)
     return found
+
+
+def rlib(crate):
+    return os.path.join(folder(ROOT, crate), 'out', 'rlib', crate + '.rlib')
+
+
+def kit():
+    """The folder of the toolchain."""
+    return os.path.dirname(subprocess.run(['rt', 'doc'], stdout=subprocess.PIPE, text=True, check=True).stdout.strip())
+
+
+def words_of(crate, verb):
+    """The words by which `rattle` checks or builds a crate over the built libraries below it, without those for its output."""
+    crates = read_crates()
+    at = kit()
+    of_kit = ['std'] + [it for it in read_lines()[crate] if it not in crates]
+    given = [f'{it}={at}/rlibs/{it}.rlib' for it in of_kit] + [f'{it}={rlib(it)}' for it in crates[crate]]
+    places = [f'{at}/rlibs'] + [os.path.dirname(rlib(it)) for it in sorted(below(crate, crates))]
+    is_program = os.path.exists(os.path.join(folder(ROOT, crate), 'src', 'main.rt'))
+    return [f'{at}/bin/rattle', verb, '--crate-name', crate, 'src/main.rt' if is_program else 'src/lib.rt',
+            *(word for it in given for word in ('--extern', it)), *(word for it in places for word in ('-L', f'dependency={it}')),
+            '--antt-project', f'{at}/rattle/logic/antt-project.json', '--logic-built', f'{at}/logic_built', *kind_of(crate)]

@@ -193,7 +193,7 @@ wait "$stories"
 count $? "stories: $(cat "$work/stories")"
 
 # Built over what the gate has proved; the last line counts with what was skipped.
-"$root/tools/static_library.py" > "$work/capi" 2>&1 && make -C "$root/capi" >> "$work/capi" 2>&1 &&
+make -C "$root/capi" > "$work/capi" 2>&1 &&
     "$root/capi/tests/check.sh" "$program" > "$work/capi" 2>&1
 status=$?
 cat "$work/capi"

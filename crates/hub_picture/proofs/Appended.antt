@@ -12,27 +12,27 @@ grown-more first old new was more =
     (was.0 ++ more.0, more.1 ∙ ap (λ l. l ++ more.0) was.1 ∙ append_assoc first was.0 more.0)
 
 -- two texts, one after the other
-pub then : {E : Type 0} (old mid new : Vec ℕ) (text more : List ℕ) (result : Result (Unit {0}) E) → mid.items ≡ old.items ++ text →
+pub then : {E : Type 0} {old mid new : Vec ℕ} (text more : List ℕ) {result : Result (Unit {0}) E} → mid.items ≡ old.items ++ text →
     Appends mid new more result → Appends old new (text ++ more) result
-then old mid new text more (Ok u) was next = record { ok = next.ok ∙ ap (λ xs. xs ++ more) was ∙ append_assoc old.items text more; err = _ }
-then old mid new text more (Err e) was next = record { ok = _; err = grown-more old.items mid.items new.items (text, was) next.err }
+then {old} {mid} {new} text more {result = Ok u} was next =
+    record { ok = next.ok ∙ ap (λ xs. xs ++ more) was ∙ append_assoc old.items text more; err = _ }
+then {old} {mid} {new} text more {result = Err e} was next = record { ok = _; err = grown-more old.items mid.items new.items (text, was) next.err }
 
 -- and three
-pub three : {E : Type 0} (old first second new : Vec ℕ) (a b c : List ℕ) (result : Result (Unit {0}) E) → first.items ≡ old.items ++ a →
-    second.items ≡ first.items ++ b → Appends second new c result → Appends old new (a ++ b ++ c) result
-three old first second new a b c result was more next =
-    then old second new (a ++ b) c result (more ∙ ap (λ xs. xs ++ b) was ∙ append_assoc old.items a b) next
+pub three : {E : Type 0} {old second new : Vec ℕ} {first : List ℕ} (a b c : List ℕ) {result : Result (Unit {0}) E} → first ≡ old.items ++ a →
+    second.items ≡ first ++ b → Appends second new c result → Appends old new (a ++ b ++ c) result
+three {old} a b c was more next = then (a ++ b) c (more ∙ ap (λ xs. xs ++ b) was ∙ append_assoc old.items a b) next
 
 -- a part of a text, where memory was refused behind a part
-pub part : {E : Type 0} (old mid new : Vec ℕ) (text : List ℕ) (e : E) → (rest : List ℕ) × (mid.items ≡ old.items ++ rest) →
-    (more : List ℕ) × (new.items ≡ mid.items ++ more) → Appends old new text (Err e)
-part old mid new text e was more = record { ok = _; err = grown-more old.items mid.items new.items was more }
+pub part : {E : Type 0} {old new : Vec ℕ} {mid : List ℕ} {text : List ℕ} {e : E} → (rest : List ℕ) × (mid ≡ old.items ++ rest) →
+    (more : List ℕ) × (new.items ≡ mid ++ more) → Appends old new text (Err e)
+part {old} {new} {mid} was more = record { ok = _; err = grown-more old.items mid new.items was more }
 
 -- the same of a result that is known to be a refusal
-pub refused : {E : Type 0} (old mid new : Vec ℕ) (text : List ℕ) (result : Result (Unit {0}) E) → IsErr result →
-    (rest : List ℕ) × (mid.items ≡ old.items ++ rest) → (more : List ℕ) × (new.items ≡ mid.items ++ more) → Appends old new text result
-refused old mid new text (Ok u) wrong was more = grind (arith, wrong)
-refused old mid new text (Err e) right was more = part old mid new text e was more
+pub refused : {E : Type 0} {old new : Vec ℕ} {mid : List ℕ} {text : List ℕ} {result : Result (Unit {0}) E} → IsErr result →
+    (rest : List ℕ) × (mid ≡ old.items ++ rest) → (more : List ℕ) × (new.items ≡ mid ++ more) → Appends old new text result
+refused {result = Ok u} wrong was more = grind (arith, wrong)
+refused {result = Err e} right was more = part was more
 
 -- texts are appended in turn: those that are left, behind what stands there
 pub record Goes {X : Type 0} (text : X → List ℕ) (xs : List X) (i : ℕ) (first now : List ℕ) : Type 0 where

@@ -7,4 +7,4 @@ loop-thing-preserved g c =
     c.loop-thing.invariant (rw c.in-Ok.is at c.put.ensures).ok
 
 pub returns-in-Err : goal.returns-in-Err
-returns-in-Err g c = part c.args.out.now c.loop-thing.out c.put.new.out _ _ c.loop-thing.invariant.grown (rw c.in-Err.is at c.put.ensures).err
+returns-in-Err g c = part c.loop-thing.invariant.grown (rw c.in-Err.is at c.put.ensures).err

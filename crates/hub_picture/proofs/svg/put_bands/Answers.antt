@@ -9,5 +9,4 @@ loop-band-preserved c =
     counted (λ k. bands_to k c.args.drawing.now) _ c.loop-band.band _ _ _ refl c.loop-band.invariant put
 
 pub returns-in-Err : goal.returns-in-Err
-returns-in-Err c =
-    part c.args.out.now c.loop-band.out c.put_band.new.out _ _ (_, c.loop-band.invariant) (rw c.in-Err.is at c.put_band.ensures).err
+returns-in-Err c = part (_, c.loop-band.invariant) (rw c.in-Err.is at c.put_band.ensures).err

@@ -2,11 +2,7 @@ use Rattle.hub_picture.proofs.Appended.{refused, three}
 use Rattle.hub_picture.proofs.svg.arrows.put_arrow.Goals as goal
 
 pub returns-in_err-put_title : goal.returns-in_err-put_title
-returns-in_err-put_title c =
-    refused c.args.out.now c.put_opening.new.out c.put_title.new.out _ _ c.from_residual-in_err-put_title.ensures.0 (_, c.in_ok-put_opening.ensures.ok)
-    c.in_err-put_title.ensures.err
+returns-in_err-put_title c = refused c.from_residual-in_err-put_title.ensures.0 (_, c.in_ok-put_opening.ensures.ok) c.in_err-put_title.ensures.err
 
 pub returns : goal.returns
-returns c =
-    three c.args.out.now c.put_opening.new.out c.put_title.new.out c.put_body.new.out _ _ _ _
-    c.in_ok-put_opening.ensures.ok c.in_ok-put_title.ensures.ok c.put_body.ensures
+returns c = three _ _ _ c.in_ok-put_opening.ensures.ok c.in_ok-put_title.ensures.ok c.put_body.ensures

@@ -8,5 +8,4 @@ loop-step-preserved c =
     counted (λ k. ticks_to k c.args.frame) _ c.loop-step.step _ _ _ refl c.loop-step.invariant (rw c.in-Ok.is at c.put_tick_in.ensures).ok
 
 pub returns-in-Err : goal.returns-in-Err
-returns-in-Err c =
-    part c.args.out.now c.loop-step.out c.put_tick_in.new.out _ _ (_, c.loop-step.invariant) (rw c.in-Err.is at c.put_tick_in.ensures).err
+returns-in-Err c = part (_, c.loop-step.invariant) (rw c.in-Err.is at c.put_tick_in.ensures).err

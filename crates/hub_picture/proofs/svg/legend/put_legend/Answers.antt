@@ -3,11 +3,7 @@ use Rattle.hub_picture.proofs.svg.legend.put_legend.Goals as goal
 
 pub returns-in_err-put_edge_rows : goal.returns-in_err-put_edge_rows
 returns-in_err-put_edge_rows c =
-    refused c.args.out.now c.put_box_rows.new.out c.put_edge_rows.new.out _ _ c.from_residual-in_err-put_edge_rows.ensures.0
-    (_, c.in_ok-put_box_rows.ensures.ok)
-    c.in_err-put_edge_rows.ensures.err
+    refused c.from_residual-in_err-put_edge_rows.ensures.0 (_, c.in_ok-put_box_rows.ensures.ok) c.in_err-put_edge_rows.ensures.err
 
 pub returns : goal.returns
-returns c =
-    three c.args.out.now c.put_box_rows.new.out c.put_edge_rows.new.out c.put_shape_rows.new.out _ _ _ _
-    c.in_ok-put_box_rows.ensures.ok c.in_ok-put_edge_rows.ensures.ok c.put_shape_rows.ensures
+returns c = three _ _ _ c.in_ok-put_box_rows.ensures.ok c.in_ok-put_edge_rows.ensures.ok c.put_shape_rows.ensures

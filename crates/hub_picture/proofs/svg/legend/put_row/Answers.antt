@@ -2,11 +2,7 @@ use Rattle.hub_picture.proofs.Appended.{refused, three}
 use Rattle.hub_picture.proofs.svg.legend.put_row.Goals as goal
 
 pub returns-in_err-put_each : goal.returns-in_err-put_each
-returns-in_err-put_each c =
-    refused c.args.out.now c.put.new.out c.put_each.new.out _ _ c.from_residual-in_err-put_each.ensures.0 (_, c.in_ok-put.ensures.ok)
-    c.in_err-put_each.ensures.err
+returns-in_err-put_each c = refused c.from_residual-in_err-put_each.ensures.0 (_, c.in_ok-put.ensures.ok) c.in_err-put_each.ensures.err
 
 pub returns : goal.returns
-returns c =
-    three c.args.out.now c.put.new.out c.put_each.new.out c.put-2.new.out _ _ _ _
-    c.in_ok-put.ensures.ok c.in_ok-put_each.ensures.ok c.put-2.ensures
+returns c = three _ _ _ c.in_ok-put.ensures.ok c.in_ok-put_each.ensures.ok c.put-2.ensures

@@ -2,11 +2,7 @@ use Rattle.hub_picture.proofs.Appended.{refused, three}
 use Rattle.hub_picture.proofs.svg.page.put_head.Goals as goal
 
 pub returns-in_err-put_style : goal.returns-in_err-put_style
-returns-in_err-put_style c =
-    refused c.args.out.now c.put_opening.new.out c.put_style.new.out _ _ c.from_residual-in_err-put_style.ensures.0 (_, c.in_ok-put_opening.ensures.ok)
-    c.in_err-put_style.ensures.err
+returns-in_err-put_style c = refused c.from_residual-in_err-put_style.ensures.0 (_, c.in_ok-put_opening.ensures.ok) c.in_err-put_style.ensures.err
 
 pub returns : goal.returns
-returns c =
-    three c.args.out.now c.put_opening.new.out c.put_style.new.out c.put_paper.new.out _ _ _ _
-    c.in_ok-put_opening.ensures.ok c.in_ok-put_style.ensures.ok c.put_paper.ensures
+returns c = three _ _ _ c.in_ok-put_opening.ensures.ok c.in_ok-put_style.ensures.ok c.put_paper.ensures

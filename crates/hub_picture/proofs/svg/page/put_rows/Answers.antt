@@ -2,5 +2,4 @@ use Rattle.hub_picture.proofs.Appended.{then}
 use Rattle.hub_picture.proofs.svg.page.put_rows.Goals as goal
 
 pub returns : goal.returns
-returns c =
-    then c.args.out.now c.put_each.new.out c.put_legend.new.out _ _ _ (rw c.deref.ensures.value at c.in_ok-put_each.ensures.ok) c.put_legend.ensures
+returns c = then _ _ (rw c.deref.ensures.value at c.in_ok-put_each.ensures.ok) c.put_legend.ensures

@@ -3,11 +3,7 @@ use Rattle.hub_picture.proofs.svg.strips.put_drawn.Goals as goal
 
 pub returns-in_err-put_stay_in : goal.returns-in_err-put_stay_in
 returns-in_err-put_stay_in c =
-    refused c.args.out.now c.put_level_body.new.out c.put_stay_in.new.out _ _ c.from_residual-in_err-put_stay_in.ensures.0
-    (_, c.in_ok-put_level_body.ensures.ok)
-    c.in_err-put_stay_in.ensures.err
+    refused c.from_residual-in_err-put_stay_in.ensures.0 (_, c.in_ok-put_level_body.ensures.ok) c.in_err-put_stay_in.ensures.err
 
 pub returns : goal.returns
-returns c =
-    three c.args.out.now c.put_level_body.new.out c.put_stay_in.new.out c.put.new.out _ _ _ _
-    c.in_ok-put_level_body.ensures.ok c.in_ok-put_stay_in.ensures.ok c.put.ensures
+returns c = three _ _ _ c.in_ok-put_level_body.ensures.ok c.in_ok-put_stay_in.ensures.ok c.put.ensures

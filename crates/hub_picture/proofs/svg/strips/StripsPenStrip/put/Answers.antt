@@ -3,10 +3,7 @@ use Rattle.hub_picture.proofs.svg.strips.StripsPenStrip.put.Goals as goal
 
 pub returns-in_err-put_strip_title : goal.returns-in_err-put_strip_title
 returns-in_err-put_strip_title c =
-    refused c.args.out.now c.put.new.out c.put_strip_title.new.out _ _ c.from_residual-in_err-put_strip_title.ensures.0 (_, c.in_ok-put.ensures.ok)
-    c.in_err-put_strip_title.ensures.err
+    refused c.from_residual-in_err-put_strip_title.ensures.0 (_, c.in_ok-put.ensures.ok) c.in_err-put_strip_title.ensures.err
 
 pub returns : goal.returns
-returns c =
-    three c.args.out.now c.put.new.out c.put_strip_title.new.out c.put_strip_body.new.out _ _ _ _
-    c.in_ok-put.ensures.ok c.in_ok-put_strip_title.ensures.ok c.put_strip_body.ensures
+returns c = three _ _ _ c.in_ok-put.ensures.ok c.in_ok-put_strip_title.ensures.ok c.put_strip_body.ensures

@@ -26,19 +26,6 @@ use Rattle.hub_serve.proofs.Saying.{grows-none}
 abbrev pub ReadsFaults : Type 0
 ReadsFaults = (bytes : List ℕ) (k : ℕ) (kind : Kind) → read_text bytes ≡ Faulty k kind → IsFaulty bytes k kind
 
--- before the first read
-pub conversing-first : (Heard Said : List ℕ → Type 0) (c : Conversation) → Heard [] → Said [] → Stands [] [] [] c → Conversing Heard Said c
-conversing-first Heard Said c heard said stands = record {
-  lines = [];
-  rest = [];
-  said = [];
-  is_heard = heard;
-  is_said = said;
-  stands = stands;
-  whole = refl;
-  fits = omega arith;
-}
-
 module _ {Heard Said : List ℕ → Type 0} {c : Conversation} (so_far : Conversing Heard Said c) where
   -- its lines are told
   told-now : Tells so_far.lines so_far.said
@@ -75,9 +62,6 @@ module _ {Heard Said : List ℕ → Type 0} {c : Conversation} (so_far : Convers
   pub conversing-silent : {Heard' Said' : List ℕ → Type 0} (piece : List ℕ) → length piece ≡ 0 → Grows Heard Heard' piece → Stays Said Said'
       → Conversing Heard' Said' c
   conversing-silent {Heard'} {Said'} piece none came silent = conversing-stays (grows-none Heard Heard' piece none came) silent
-
-  pub conversing-few : HasHeardAtMost Heard (MOST_BYTES + 1)
-  conversing-few = (so_far.lines ++ so_far.rest, so_far.is_heard, let l = so_far.fits in omega (arith, l))
 
   -- nothing more comes, and it is a journal's text
   pub ended-whole : IsEventText (so_far.lines ++ so_far.rest) so_far.said → HasConversed Heard Said

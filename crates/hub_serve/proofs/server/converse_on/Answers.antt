@@ -1,27 +1,27 @@
-use Rattle.std.proofs.Common.{ℕ, List, ◌<◌, sym, subst, arith, rules, length, refl, take}
+use Rattle.std.proofs.Common.{ℕ, List, ◌<◌, ◌+◌, sym, subst, arith, rules, length, refl, take}
 use Rattle.std.proofs.lemmas.Grind.{common_steps}
+use Rattle.hub_base.specs.declared.limits.TheConstants.{MOST_BYTES}
 use Rattle.hub_base.specs.declared.text.faults.TextFault.{TextFault}
-use Rattle.hub_serve.specs.Serve.{HasNamed}
-use Rattle.hub_serve.specs.Talks.{Grows, IsAnswer}
+use Rattle.hub_serve.specs.Serve.{HasConversed, HasNamed, HasStopped, HasHeardAtMost}
+use Rattle.hub_serve.specs.Talks.{Grows, HasAnswered, IsAnswer}
 use Rattle.hub_serve.proofs.Talking.{conversing-answered, conversing-silent, conversing-stays, ended-whole, ended-faulty, came-few}
 use Rattle.hub_serve.proofs.Talking.{came-stopped, came-answer, came-goes, came-named, heard-anew, text-same, text-given, heard-more}
 use Rattle.hub_serve.proofs.server.converse_on.Goals as goal
 
 pub returns-in_default : goal.returns-in_default
-returns-in_default g c = record {
-  ok = search rules;
-  text = search rules;
-  read =
-      λ is. (
-        search rules,
-        conversing-answered (conversing-stays c.reads.invariant.0 c.in_default.ensures.bytes c.hear.ensures.silent),
-      );
-  write = search rules;
-  memory = search rules;
-  few = search rules;
-  reads_once = search rules;
-  writes_once = search rules;
-}
+returns-in_default g c =
+    let answered : HasAnswered (g.T.Talk.heard c.hear.new.self) (g.T.Talk.said c.hear.new.self) =
+    conversing-answered (conversing-stays c.reads.invariant.0 c.in_default.ensures.bytes c.hear.ensures.silent) in
+    search (rules, answered)
+
+pub returns-then-count-eq0 : goal.returns-then-count-eq0
+returns-then-count-eq0 g c =
+    let ended = c.in-Ok.ensures.bytes.1 c.if-count-eq0.true (grind (arith, common_steps)) in
+    let now = conversing-silent c.reads.invariant.0 (take c.in-Ok.count c.hear.new.buf) (grind (arith, common_steps))
+    c.in-Ok.ensures.bytes.0 c.hear.ensures.silent in
+    let whole : HasConversed (g.T.Talk.heard c.hear.new.self) (g.T.Talk.said c.hear.new.self) =
+    ended-whole now (c.in_ok-end.ensures.ok now.lines now.rest now.said now.stands now.whole) in
+    search (rules, whole, ended)
 
 pub returns-in_err-end : goal.returns-in_err-end
 returns-in_err-end g c = record {
@@ -43,51 +43,22 @@ returns-in_err-end g c = record {
   writes_once = search rules;
 }
 
-pub returns-then-count-eq0 : goal.returns-then-count-eq0
-returns-then-count-eq0 g c = record {
-  ok =
-      let ended = c.in-Ok.ensures.bytes.1 c.if-count-eq0.true (grind (arith, common_steps)) in
-      let now = conversing-silent c.reads.invariant.0 (take c.in-Ok.count c.hear.new.buf) (grind (arith, common_steps))
-      c.in-Ok.ensures.bytes.0 c.hear.ensures.silent in
-      (ended-whole now (c.in_ok-end.ensures.ok now.lines now.rest now.said now.stands now.whole), ended);
-  text = search rules;
-  read = search rules;
-  write = search rules;
-  memory = search rules;
-  few = search rules;
-  reads_once = search rules;
-  writes_once = search rules;
-}
-
 pub returns-in_err-fault : goal.returns-in_err-fault
-returns-in_err-fault g c = record {
-  ok = search rules;
-  text = search rules;
-  read = search rules;
-  write = search rules;
-  memory = λ is. came-stopped c.reads.invariant.0 _ _ _ c.in-Ok.ensures.bytes.0 c.hear.ensures.silent;
-  few =
-      let so_far = c.reads.invariant.0 in
-      came-few so_far _ _ (take c.in-Ok.count c.hear.new.buf) c.in-Ok.ensures.bytes.0 c.hear.ensures.silent _ c.heard.result
-      (c.heard.ensures.all so_far.lines so_far.rest so_far.said so_far.stands) (grind (arith, common_steps)) (λ bytes heard. heard);
-  reads_once = search rules;
-  writes_once = search rules;
-}
+returns-in_err-fault g c =
+    let so_far = c.reads.invariant.0 in
+    let stopped : HasStopped (g.T.Talk.heard c.hear.new.self) (g.T.Talk.said c.hear.new.self) =
+    came-stopped so_far _ _ _ c.in-Ok.ensures.bytes.0 c.hear.ensures.silent in
+    let few : HasHeardAtMost (g.T.Talk.heard c.hear.new.self) (MOST_BYTES + 1) =
+    came-few so_far _ _ (take c.in-Ok.count c.hear.new.buf) c.in-Ok.ensures.bytes.0 c.hear.ensures.silent _ c.heard.result
+    (c.heard.ensures.all so_far.lines so_far.rest so_far.said so_far.stands) (grind (arith, common_steps)) (λ bytes heard. heard) in
+    search (rules, stopped, few)
 
 pub returns-in_err-say_whole : goal.returns-in_err-say_whole
-returns-in_err-say_whole g c = record {
-  ok = search rules;
-  text = search rules;
-  read = search rules;
-  write = search rules;
-  memory = search rules;
-  few =
-      let so_far = c.reads.invariant.0 in
-      came-few so_far _ _ (take c.in-Ok.count c.hear.new.buf) c.in-Ok.ensures.bytes.0 c.hear.ensures.silent _ c.heard.result
-      (c.heard.ensures.all so_far.lines so_far.rest so_far.said so_far.stands) (grind (arith, common_steps)) c.say_whole.ensures.deaf;
-  reads_once = search rules;
-  writes_once = search rules;
-}
+returns-in_err-say_whole g c =
+    let so_far = c.reads.invariant.0 in
+    let few = came-few so_far _ _ (take c.in-Ok.count c.hear.new.buf) c.in-Ok.ensures.bytes.0 c.hear.ensures.silent _ c.heard.result
+    (c.heard.ensures.all so_far.lines so_far.rest so_far.said so_far.stands) (grind (arith, common_steps)) c.say_whole.ensures.deaf in
+    search (rules, few)
 
 pub returns-in-Some : goal.returns-in-Some
 returns-in-Some g c = record {

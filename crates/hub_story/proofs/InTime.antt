@@ -166,9 +166,6 @@ moved-by P pick es ts all =
 at-most : (a b : ℕ) → a ≡ b → a ≤ b
 at-most a b e = omega arith
 
-zero-plus : (a : ℕ) → 0 + a ≡ a
-zero-plus a = omega arith
-
 one : (h : Head) (p : Port) (es : List Entry) (e : Entry) (fs : List Entry) →
     AllByRecursion IsInTime (passages (es ++ e ∷ fs) (told h es) p) →
     AllByRecursion IsInTime (passages (es ++ e ∷ fs) (told h (es ++ e ∷ [])) p)

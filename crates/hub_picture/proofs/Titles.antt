@@ -6,7 +6,6 @@ use Rattle.hub_base.specs.declared.case.Case.{Case}
 use Rattle.hub_base.specs.declared.case.Case.TheVariants as case
 use Rattle.hub_base.specs.Text.{CaseFits}
 use Rattle.hub_base.specs.declared.fault.Fault.{Fault}
-use Rattle.hub_base.specs.declared.fault.Fault.TheVariants as fault
 use Rattle.hub_base.specs.declared.event.Outcome.{Outcome}
 use Rattle.hub_base.specs.declared.event.Outcome.TheVariants.{Sent, Got, Drained, Closed}
 use Rattle.hub_base.specs.declared.event.What.{What}
@@ -39,18 +38,7 @@ use Rattle.hub_picture.specs.Plain.{IsPlain, ToldFits, AskedFits, StripFits, Hel
 use Rattle.hub_picture.proofs.Plain.{plain-both, plain-number, plain-value, plain-joined, plain-line}
 
 fault-small : (f : Fault) → fault_number f ≤ 255
-fault-small fault.NoProcess = omega arith
-fault-small fault.Gone = omega arith
-fault-small fault.Busy = omega arith
-fault-small fault.TooManyCases = omega arith
-fault-small fault.NoPort = omega arith
-fault-small fault.BadCap = omega arith
-fault-small fault.TooManyPorts = omega arith
-fault-small fault.NilClose = omega arith
-fault-small fault.AlreadyClosed = omega arith
-fault-small fault.JournalFull = omega arith
-fault-small fault.NoMemory = omega arith
-fault-small fault.NotParked = omega arith
+fault-small f = grind arith
 
 -- a word, and a number up to so much
 pub worded : (word : List ℕ) (n most : ℕ) → IsPlain word → n ≤ most → most < 2 ^ 64 → IsPlain (word ++ decimal n)

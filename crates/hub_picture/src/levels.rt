@@ -109,39 +109,22 @@ fn add_levels(
     ensures { OnOk result (
         levels.new.items ≡ levels.old.items ++ levels_on window entries.now told.now strip) }
 {
-    let mut from = 0;
-    let mut level = Level {
-        sent: 0,
-        received: 0,
+    let mut held = Held {
+        strip,
+        from: 0,
+        until: None,
+        level: empty(),
     };
     for told in told {
-        let next = after(entries, strip.port, level, told);
-        if !is_same(level, next) {
+        let next = after(entries, strip.port, held.level, told);
+        if !is_same(held.level, next) {
             let until = Some(told.by);
-            add_shown(
-                levels,
-                window,
-                Held {
-                    strip,
-                    from,
-                    until,
-                    level,
-                },
-            )?;
-            from = told.by;
-            level = next;
+            add_shown(levels, window, Held { until, ..held })?;
+            held.from = told.by;
+            held.level = next;
         }
     }
-    add_shown(
-        levels,
-        window,
-        Held {
-            strip,
-            from,
-            until: None,
-            level,
-        },
-    )
+    add_shown(levels, window, held)
 }
 
 /// The levels of these ports, oldest first.

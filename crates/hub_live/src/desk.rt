@@ -4,7 +4,7 @@
 //! A step joins the caller's seat to the hub's before the journal changes and parts it afterwards,
 //! since a store is judged by what the seat that stores knows.
 
-ghost use Rattle.std.specs.Prelude.{◌≡◌, ◌≤◌, ◌<◌, ◌+◌, ◌↔◌, IsTrue, ◌++◌, ◌∷◌, [], List, length, Some, None, true, false, IfSome, IfNone, OnSome};
+ghost use Rattle.std.specs.Prelude.{◌≡◌, ◌≤◌, ◌<◌, ◌+◌, ◌↔◌, IsTrue, ◌++◌, ◌∷◌, [], List, length, Some, None, true, false, IfSome, IfNone, OnSome, All};
 ghost use Rattle.std.specs.List.{list_any};
 ghost use Rattle.hub_base.specs.Ready.{port_of};
 ghost use Rattle.hub_live.specs.Locked.{has_buffer};
@@ -18,7 +18,7 @@ use crate::mark::mark_of;
 use crate::name::HubName;
 use crate::request::Request;
 use crate::rule::Token;
-use crate::seat::InnerSeat;
+use crate::seat::{InnerSeat, Seat};
 use crate::words::Words;
 use hub_base::{Case, Entry, Event, Fault, Journal, MOST_STEPS, Pid, Port, Step, What};
 use hub_core::port_changed;
@@ -214,6 +214,17 @@ impl<K: HubName> Desk<K> {
         let InnerSeat { pid: _, token } = seat;
         let Some(mine) = token else { unreachable!() };
         words.meet(&mut self.token, mine);
+    }
+
+    /// The same of each of these seats.
+    pub(crate) fn compare_all(&mut self, words: &Words<K>, seats: Vec<Seat>)
+        requires { All (λ s. s.hub ≡ K.name) seats.items }
+        ensures same { self.new ≡ self.old }
+        ensures stand { All (λ s. StandsIn s self.new.hub.journal) seats.items }
+    {
+        for seat in seats {
+            self.compare(words, seat.into_inner());
+        }
     }
 
     /// The journal. Answers that wait are dropped.

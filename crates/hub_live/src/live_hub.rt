@@ -4,8 +4,7 @@ ghost use Rattle.std.specs.Prelude.{◌≡◌, ◌∷◌, ◌⊎◌, [], true, f
 ghost use Rattle.hub_base.specs.declared.event.What.TheVariants as what;
 ghost use Rattle.hub_live.specs.Prelude.{Send, Recv, Make, Call, Close, Exit, Cancel, Two, is_of, has_case, has_value, call, is_parked, counts_at, state_seen, Later};
 ghost use Rattle.hub_live.specs.Request.{step_of};
-ghost use Rattle.hub_live.specs.Prelude.{entry_by, Made, Refused, MadeEntry, RefusedEntry, Answers, AnswersNoCall, AskedNothing, Tells, Told, EndsIn};
-ghost use Rattle.hub_live.specs.Prelude.{HasEnded, IsHistory, StandsIn};
+ghost use Rattle.hub_live.specs.Prelude.{entry_by, Made, Refused, MadeEntry, RefusedEntry, Answers, AnswersNoCall, AskedNothing, Tells, Told, EndsIn, HasEnded, IsHistory};
 
 use crate::desk::Desk;
 use crate::ends::{Chan, RecvPort, SendPort};
@@ -43,18 +42,6 @@ fn is_parked(what: What) -> bool
     ensures { result ≡ is_parked what }
 {
     matches!(what, What::Parked)
-}
-
-/// Shows of each of these seats that the journal begins with what it has seen, and that its process asked nothing
-/// more in it.
-fn compare_all<K: HubName>(words: &Words<K>, desk: &mut Desk<K>, seats: Vec<Seat>)
-    requires { All (λ s. s.hub ≡ K.name) seats.items }
-    ensures same { desk.new ≡ desk.old }
-    ensures stand { All (λ s. StandsIn s desk.new.hub.journal) seats.items }
-{
-    for seat in seats {
-        desk.compare(words, seat.into_inner());
-    }
 }
 
 impl<K: HubName> LiveHub<K> {
@@ -407,7 +394,7 @@ impl<K: HubName> LiveHub<K> {
         ensures rules { EndsIn K.name seats.items result }
     {
         let (words, mut desk) = self.into_parts();
-        compare_all(&words, &mut desk, seats);
+        desk.compare_all(&words, seats);
         desk.into_journal()
     }
 }

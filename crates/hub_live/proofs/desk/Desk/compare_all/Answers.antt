@@ -1,6 +1,6 @@
 use Rattle.std.proofs.Common.{rules, length, ◌≡◌}
 use Rattle.hub_live.proofs.Finishing.{compared_next, compared_all}
-use Rattle.hub_live.proofs.live_hub.compare_all.Goals as goal
+use Rattle.hub_live.proofs.desk.Desk.compare_all.Goals as goal
 
 pub loop-seat-preserved : goal.loop-seat-preserved
 loop-seat-preserved g c =

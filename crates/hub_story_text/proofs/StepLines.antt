@@ -1,4 +1,4 @@
--- What is written of a step: its own line, and which steps it ended.
+-- What is written of a step: its own line, and what it did to others.
 use Rattle.std.proofs.Common.{◌≡◌, ◌<◌, ◌+◌, ℕ, Bool, true, false, List, [], ◌∷◌, ◌++◌}
 use Rattle.std.proofs.Common.{length, take, filter, refl, ap, ◌∙◌, sym, append-nil, get_or, add-one, codes}
 use Rattle.std.proofs.Common.{◌≢◌, ◌-◌, ◌≤◌, Option, drop, length-append, arith}
@@ -25,7 +25,9 @@ use Rattle.hub_base.specs.Value.{Content, content, value_field}
 use Rattle.hub_base.specs.Value.Content.{Num, Bytes}
 use Rattle.hub_story.specs.declared.told.Told.{Told}
 use Rattle.hub_story_text.specs.declared.last_moves.Mover.{Mover}
-use Rattle.hub_story_text.specs.LineText.{with_ended, ends_words, step_number}
+use Rattle.hub_story_text.specs.declared.ends.Ending.{Ending}
+use Rattle.hub_story_text.specs.declared.ends.Ending.TheVariants.{Frees, Cancels, Stalls}
+use Rattle.hub_story_text.specs.EndsText.{ending_word, ends_words, step_number, with_ended}
 use Rattle.hub_story_text.specs.PortText.{made_line, port_line}
 use Rattle.hub_story_text.specs.WaiterText.{waiter_words, waiters_words}
 use Rattle.hub_story_text.proofs.Chains.{flat-next}
@@ -51,11 +53,16 @@ any-step Exit = refl
 any-step (Cancel q) = refl
 
 -- one more that was ended
-ended-more : (ts : List Told) (t : Told) → with_ended (ends_words ts) t ≡ ends_words (ts ++ t ∷ [])
-ended-more [] t = ap (λ bs. codes "ends" ++ bs) (sym (append-nil (step_number t)))
-ended-more (x ∷ xs) t =
-    ap (λ bs. codes "ends" ++ bs)
-    (ap (λ bs. flat_map step_number (x ∷ xs) ++ bs) (sym (append-nil (step_number t))) ∙ sym (flat_map-append step_number (x ∷ xs) (t ∷ [])))
+step-more : (word : List ℕ) (ts : List Told) (t : Told) → word ++ (flat_map step_number ts ++ step_number t) ≡ word ++ flat_map step_number (ts ++ t ∷ [])
+step-more word ts t =
+    ap (λ bs. word ++ bs)
+    (ap (λ bs. flat_map step_number ts ++ bs) (sym (append-nil (step_number t))) ∙ sym (flat_map-append step_number ts (t ∷ [])))
+
+ended-more : (ending : Ending) (ts : List Told) (t : Told) → with_ended ending (ends_words ending ts) t ≡ ends_words ending (ts ++ t ∷ [])
+ended-more ending [] t = ap (λ bs. ending_word ending ++ bs) (sym (append-nil (step_number t)))
+ended-more Frees (x ∷ xs) t = step-more (ending_word Frees) (x ∷ xs) t
+ended-more Cancels (x ∷ xs) t = step-more (ending_word Cancels) (x ∷ xs) t
+ended-more Stalls (x ∷ xs) t = step-more (ending_word Stalls) (x ∷ xs) t
 
 -- one item more
 pub taken-next : {X : Type 0} (xs : List X) (i : ℕ) (d : X) → i < length xs → take (i + 1) xs ≡ take i xs ++ get_or xs i d ∷ []
@@ -65,19 +72,19 @@ kept : (p : Told → Bool) (xs : List Told) (i : ℕ) (d : Told) → i < length 
     filter p (take (i + 1) xs) ≡ filter p (take i xs) ++ filter p (get_or xs i d ∷ [])
 kept p xs i d below = ap (filter p) (taken-next xs i d below) ∙ filter-append p (take i xs) (get_or xs i d ∷ [])
 
-pub ends-one : (p : Told → Bool) (xs : List Told) (i : ℕ) (d : Told) (was now : List ℕ) → i < length xs → p (get_or xs i d) ≡ true →
-    was ≡ ends_words (filter p (take i xs)) → now ≡ with_ended was (get_or xs i d) → now ≡ ends_words (filter p (take (i + 1) xs))
-ends-one p xs i d was now below hit so is =
-    is ∙ ap (λ bs. with_ended bs (get_or xs i d)) so ∙ ended-more (filter p (take i xs)) (get_or xs i d)
-    ∙ ap (λ ts. ends_words (filter p (take i xs) ++ ts)) (sym (one p (get_or xs i d) hit)) ∙ ap ends_words (sym (kept p xs i d below))
+pub ends-one : (ending : Ending) (p : Told → Bool) (xs : List Told) (i : ℕ) (d : Told) (was now : List ℕ) → i < length xs → p (get_or xs i d) ≡ true →
+    was ≡ ends_words ending (filter p (take i xs)) → now ≡ with_ended ending was (get_or xs i d) → now ≡ ends_words ending (filter p (take (i + 1) xs))
+ends-one ending p xs i d was now below hit so is =
+    is ∙ ap (λ bs. with_ended ending bs (get_or xs i d)) so ∙ ended-more ending (filter p (take i xs)) (get_or xs i d)
+    ∙ ap (λ ts. ends_words ending (filter p (take i xs) ++ ts)) (sym (one p (get_or xs i d) hit)) ∙ ap (ends_words ending) (sym (kept p xs i d below))
   where
     one : (p : Told → Bool) (t : Told) → p t ≡ true → filter p (t ∷ []) ≡ t ∷ []
     one p t h = rw h refl
 
-pub ends-none : (p : Told → Bool) (xs : List Told) (i : ℕ) (d : Told) (was : List ℕ) → i < length xs → p (get_or xs i d) ≡ false →
-    was ≡ ends_words (filter p (take i xs)) → was ≡ ends_words (filter p (take (i + 1) xs))
-ends-none p xs i d was below miss so =
-    so ∙ ap ends_words (sym (append-nil (filter p (take i xs))) ∙ ap (λ ts. filter p (take i xs) ++ ts) (sym (none p (get_or xs i d) miss))
+pub ends-none : (ending : Ending) (p : Told → Bool) (xs : List Told) (i : ℕ) (d : Told) (was : List ℕ) → i < length xs → p (get_or xs i d) ≡ false →
+    was ≡ ends_words ending (filter p (take i xs)) → was ≡ ends_words ending (filter p (take (i + 1) xs))
+ends-none ending p xs i d was below miss so =
+    so ∙ ap (ends_words ending) (sym (append-nil (filter p (take i xs))) ∙ ap (λ ts. filter p (take i xs) ++ ts) (sym (none p (get_or xs i d) miss))
     ∙ sym (kept p xs i d below))
   where
     none : (p : Told → Bool) (t : Told) → p t ≡ false → filter p (t ∷ []) ≡ []

@@ -5,6 +5,7 @@ pub mod AnswerText
 pub mod Partners
 pub mod LastMoves
 pub mod PortMoves
+pub mod EndsText
 pub mod LineText
 pub mod WaiterText
 pub mod PortText

@@ -1,8 +1,8 @@
 -- The line of a step: its number, who asks what, what it was told in the end, how long it waited, where its value went or
--- came from, and which other steps it ended. A step is printed by its number, counted from 1.
-use Rattle.std.specs.Prelude.{ℕ, ◌+◌, ◌-◌, ◌==◌, ◌&&◌, not, nat_lt, Bool, List, [], ◌∷◌, ◌++◌, codes, decimal, filter, length, slice_get}
+-- came from, and what it did to others that waited. A step is printed by its number, counted from 1.
+use Rattle.std.specs.Prelude.{ℕ, ◌+◌, ◌-◌, nat_lt, List, [], ◌∷◌, ◌++◌, codes, decimal, length, slice_get}
 use Rattle.std.specs.Prelude.{Option, None, Some, if◌then◌else◌}
-use Rattle.std.specs.List.{flat_map, join_with_byte}
+use Rattle.std.specs.List.{join_with_byte}
 use Rattle.std.specs.Option.{option_map_or}
 use Rattle.hub_base.specs.declared.value.Port.{Port}
 use Rattle.hub_base.specs.declared.case.Case.{Case}
@@ -14,11 +14,12 @@ use Rattle.hub_base.specs.declared.event.What.{What}
 use Rattle.hub_base.specs.declared.event.What.TheVariants as what
 use Rattle.hub_base.specs.Lines.{step_fields}
 use Rattle.hub_base.specs.Values.{cases_or}
-use Rattle.hub_laws.specs.Replies.{is_parked}
 use Rattle.hub_story.specs.declared.told.Told.{Told}
-use Rattle.hub_story_text.specs.declared.cells.TheConstants.{STEP_WIDTH, ASKS, ANSWER, WAITED, VALUE, ENDS}
+use Rattle.hub_story_text.specs.declared.cells.TheConstants.{STEP_WIDTH, ASKS, ANSWER, WAITED, VALUE}
+use Rattle.hub_story_text.specs.declared.ends.Ending.TheVariants.{Frees, Cancels, Stalls}
 use Rattle.hub_story_text.specs.Cells.{right, with_cell}
 use Rattle.hub_story_text.specs.AnswerText.{answer_words, fault_words}
+use Rattle.hub_story_text.specs.EndsText.{with_ends}
 
 -- the entry's line in the journal, without its newline
 abbrev pub asks : Entry → List ℕ
@@ -55,22 +56,6 @@ value_words es cases partner (what.Fired i o) = option_map_or (λ c. moved_words
 value_words es cases partner (what.Fault f) = fault_words f
 value_words es cases partner other = []
 
--- the event ended a step other than the one at this place
-abbrev pub ends_other : ℕ → Told → Bool
-ends_other place t = not (is_parked t.event.what) && not (t.asked == place)
-
-abbrev pub step_number : Told → List ℕ
-step_number t = codes " " ++ decimal (t.asked + 1)
-
-abbrev pub ends_words : List Told → List ℕ
-ends_words [] = []
-ends_words (t ∷ ts) = codes "ends" ++ flat_map step_number (t ∷ ts)
-
--- an event that ended one more
-abbrev pub with_ended : List ℕ → Told → List ℕ
-with_ended [] t = codes "ends" ++ step_number t
-with_ended (c ∷ cs) t = c ∷ cs ++ step_number t
-
 -- behind who asks what: what it was told in the end, how long it waited, and what is known of its value, or what is wrong; a
 -- call that waits has waited until the journal's last step
 abbrev pub with_end : List Entry → ℕ → Entry → Option ℕ → List ℕ → Option Told → List ℕ
@@ -84,6 +69,7 @@ with_end es place e partner before (Some t) =
 -- the line of the entry at this place, by how it ended, by the other entry of its value's passage, and by what came by its step
 abbrev pub line : List Entry → ℕ → Entry → Option Told → Option ℕ → List Told → List ℕ
 line es place e end partner came =
-    with_cell ENDS (with_end es place e partner (with_cell ASKS (right STEP_WIDTH (place + 1)) (asks e)) end)
-    (ends_words (filter (ends_other place) came))
+    with_ends Stalls place came
+    (with_ends Cancels place came
+    (with_ends Frees place came (with_end es place e partner (with_cell ASKS (right STEP_WIDTH (place + 1)) (asks e)) end)))
     ++ codes "\n"

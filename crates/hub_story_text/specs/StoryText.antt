@@ -40,7 +40,7 @@ steps_text w es all place (e ∷ rest) =
     (if has w place then step_text es all place e else []) ++ steps_text w es all (place + 1) rest
 
 abbrev pub heading : List ℕ
-heading = codes "   step  who asks what                  answer            waited              value or fault        ends\n"
+heading = codes "   step  who asks what                  answer            waited              value or fault        what else it does\n"
 
 abbrev pub end_heading : List ℕ
 end_heading = codes "in the end these wait\n"

@@ -17,7 +17,7 @@ pub(crate) const ANSWER: usize = 40;
 pub(crate) const WAITED: usize = 58;
 /// Where begins who has the value, or who sent it.
 pub(crate) const VALUE: usize = 78;
-/// Where begins which steps it ended.
+/// Where begins what it did to other steps.
 pub(crate) const ENDS: usize = 100;
 
 /// How many spaces are appended at most.

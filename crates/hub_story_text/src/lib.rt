@@ -4,6 +4,7 @@
 
 mod answers;
 mod cells;
+mod ends;
 mod entries;
 mod last_moves;
 mod lines;

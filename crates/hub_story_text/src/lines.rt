@@ -1,14 +1,15 @@
 //! The line of a step.
 
-ghost use Rattle.std.specs.Prelude.{◌≡◌, ◌+◌, ◌-◌, ◌++◌, codes, decimal, filter, OnOk, Some};
+ghost use Rattle.std.specs.Prelude.{◌≡◌, ◌+◌, ◌-◌, ◌++◌, codes, decimal, OnOk, Some};
 ghost use Rattle.hub_story_text.specs.AnswerText.{answer_words};
 ghost use Rattle.hub_story_text.specs.Cells.{with_cell};
 ghost use Rattle.hub_story_text.specs.Writing.{LineBecomes};
-ghost use Rattle.hub_story_text.specs.LineText.{asks, ends_other, ends_words, got_words, line, moved_words, sent_words};
-ghost use Rattle.hub_story_text.specs.LineText.{step_words, value_words, waited_words, with_end, with_ended};
+ghost use Rattle.hub_story_text.specs.LineText.{asks, got_words, line, moved_words, sent_words};
+ghost use Rattle.hub_story_text.specs.LineText.{step_words, value_words, waited_words, with_end};
 
 use crate::answers::{fault_words, put_answer};
-use crate::cells::{ANSWER, ASKS, ENDS, VALUE, WAITED, close_cell, open_cell, put_right};
+use crate::cells::{ANSWER, ASKS, VALUE, WAITED, close_cell, open_cell, put_right};
+use crate::ends::{Ending, ends_cell};
 use crate::entries::cases_of;
 use crate::numbers::{number_of, put_number};
 use hub_base::{Case, Edition, Entry, NoMemory, Outcome, Port, What, write_entry};
@@ -120,36 +121,6 @@ fn put_moved(
     }
 }
 
-/// Whether the event ended a step other than the one at this place.
-fn ends_other(place: u32, told: &Told) -> bool
-    ensures { result ≡ ends_other place told.now }
-{
-    !matches!(told.event.what, What::Parked) && told.asked != place
-}
-
-/// Appends one step more that was ended, to those that begin there.
-fn put_ended(out: &mut Vec<u8>, begin: usize, told: &Told) -> Result<(), AllocError>
-    ensures { OnOk result (LineBecomes begin out.old.items out.new.items (λ words. with_ended words told.now)) }
-{
-    if out.len() == begin {
-        return put_number(out, b"ends ", number_of(told.asked));
-    }
-    put_number(out, b" ", number_of(told.asked))
-}
-
-/// Appends which other steps ended by the step at this place.
-fn put_ends(out: &mut Vec<u8>, place: u32, came: &[Told]) -> Result<(), AllocError>
-    ensures { OnOk result (out.new.items ≡ out.old.items ++ ends_words (filter (ends_other place) came.now)) }
-{
-    let begin = out.len();
-    for told in came {
-        if ends_other(place, told) {
-            put_ended(out, begin, told)?;
-        }
-    }
-    Ok(())
-}
-
 /// Who asks what, in its column.
 fn asks_cell(out: &mut Vec<u8>, start: usize, entry: &Entry) -> Result<(), NoMemory>
     ensures { OnOk result (LineBecomes start out.old.items out.new.items (λ line. with_cell ASKS line (asks entry.now))) }
@@ -207,17 +178,6 @@ fn value_cell(
 {
     let cell = open_cell(out, start, VALUE)?;
     put_moved(out, entries, cases, partner, what)?;
-    close_cell(out, cell);
-    Ok(())
-}
-
-/// Which other steps ended by the step at this place.
-fn ends_cell(out: &mut Vec<u8>, start: usize, place: u32, came: &[Told]) -> Result<(), AllocError>
-    ensures { OnOk result (LineBecomes start out.old.items out.new.items
-        (λ line. with_cell ENDS line (ends_words (filter (ends_other place) came.now)))) }
-{
-    let cell = open_cell(out, start, ENDS)?;
-    put_ends(out, place, came)?;
     close_cell(out, cell);
     Ok(())
 }
@@ -287,7 +247,9 @@ pub(crate) fn put_line(
     put_right(out, number_of(place))?;
     asks_cell(out, start, entry)?;
     put_end(out, start, entries, place, entry, partner, end)?;
-    ends_cell(out, start, place, came)?;
+    ends_cell(out, start, Ending::Frees, place, came)?;
+    ends_cell(out, start, Ending::Cancels, place, came)?;
+    ends_cell(out, start, Ending::Stalls, place, came)?;
     out.extend_from_slice(b"\n")?;
     Ok(())
 }

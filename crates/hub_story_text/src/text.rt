@@ -20,7 +20,7 @@ use hub_story::Story;
 use std::alloc::Global;
 
 const HEADING: &[u8] =
-    b"   step  who asks what                  answer            waited              value or fault        ends\n";
+    b"   step  who asks what                  answer            waited              value or fault        what else it does\n";
 
 const END_HEADING: &[u8] = b"in the end these wait\n";
 

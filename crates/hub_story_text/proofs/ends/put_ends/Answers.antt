@@ -1,8 +1,8 @@
 use Rattle.std.proofs.Common.{◌≡◌, ◌∙◌, ◌++◌, ap, sym, refl, arith, length}
-use Rattle.hub_story_text.specs.LineText.{ends_other}
+use Rattle.hub_story_text.specs.EndsText.{ends_other}
 use Rattle.hub_story_text.proofs.StepLines.{ends-one, ends-none}
-use Rattle.hub_story_text.proofs.lines.put_ends.Goals as goal
-use Rattle.hub_story_text.proofs.lines.put_ends.Goals.{then-ends_other+in_ok-put_ended, else-ends_other}
+use Rattle.hub_story_text.proofs.ends.put_ends.Goals as goal
+use Rattle.hub_story_text.proofs.ends.put_ends.Goals.{then-ends_other+in_ok-put_ended, else-ends_other}
 
 pub loop-told-preserved : goal.loop-told-preserved
 loop-told-preserved c =
@@ -11,10 +11,10 @@ loop-told-preserved c =
     elim c.if-ends_other.branch [
       | then-ends_other+in_ok-put_ended w ↦
           rw w.out-is (w.in_ok-put_ended.ensures before _ at c.loop-told.invariant
-          ∙ ap (λ l. before ++ l) (ends-one (ends_other c.args.place) c.args.came.now c.loop-told.told-index _ _ _
+          ∙ ap (λ l. before ++ l) (ends-one c.args.ending (ends_other c.args.ending c.args.place) c.args.came.now c.loop-told.told-index _ _ _
           c.loop-told-test.true (sym c.ends_other.ensures ∙ w.if-ends_other.true) refl refl))
       | else-ends_other w ↦
           rw w.out-is (c.loop-told.invariant
-          ∙ ap (λ l. before ++ l) (ends-none (ends_other c.args.place) c.args.came.now c.loop-told.told-index _ _ c.loop-told-test.true
+          ∙ ap (λ l. before ++ l) (ends-none c.args.ending (ends_other c.args.ending c.args.place) c.args.came.now c.loop-told.told-index _ _ c.loop-told-test.true
           (sym c.ends_other.ensures ∙ w.if-ends_other.false) refl))
     ]

@@ -1,5 +1,5 @@
 use Rattle.hub_story_text.proofs.Written.{cell-put}
-use Rattle.hub_story_text.proofs.lines.ends_cell.Goals as goal
+use Rattle.hub_story_text.proofs.ends.ends_cell.Goals as goal
 
 pub returns : goal.returns
 returns c before line at is =

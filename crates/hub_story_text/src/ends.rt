@@ -1,0 +1,93 @@
+//! What a step did to calls that waited.
+
+ghost use Rattle.std.specs.Prelude.{◌≡◌, ◌++◌, filter, OnOk};
+ghost use Rattle.hub_story_text.specs.EndsText.{ending_word, ends_other, ends_so, ends_words, with_ended, with_ends};
+ghost use Rattle.hub_story_text.specs.Writing.{LineBecomes};
+
+use crate::cells::{ENDS, close_cell, open_cell};
+use crate::numbers::{number_of, put_number};
+use hub_base::What;
+use hub_story::Told;
+use std::alloc::AllocError;
+
+/// How a step ends a call that waits.
+#[derive(Clone, Copy)]
+pub(crate) enum Ending {
+    /// A case of the call fires.
+    Frees,
+    /// It is cancelled.
+    Cancels,
+    /// Everyone who is left waits.
+    Stalls,
+}
+
+/// Whether an event ends a call in this way.
+fn ends_so(ending: Ending, what: What) -> bool
+    ensures { result ≡ ends_so ending what }
+{
+    match (ending, what) {
+        (Ending::Frees, What::Fired { .. }) => true,
+        (Ending::Cancels, What::Cancelled) => true,
+        (Ending::Stalls, What::Stalled) => true,
+        _ => false,
+    }
+}
+
+/// Whether it so ended a step other than the one at this place.
+fn ends_other(ending: Ending, place: u32, told: &Told) -> bool
+    ensures { result ≡ ends_other ending place told.now }
+{
+    ends_so(ending, told.event.what) && told.asked != place
+}
+
+/// The word for it.
+fn ending_word(ending: Ending) -> &'static [u8]
+    ensures { result.now ≡ ending_word ending }
+{
+    match ending {
+        Ending::Frees => b"frees",
+        Ending::Cancels => b"cancels",
+        Ending::Stalls => b"stalls",
+    }
+}
+
+/// Appends one step more that so ended, to those that begin there.
+fn put_ended(out: &mut Vec<u8>, begin: usize, ending: Ending, told: &Told) -> Result<(), AllocError>
+    ensures { OnOk result (LineBecomes begin out.old.items out.new.items (λ words. with_ended ending words told.now)) }
+{
+    if out.len() == begin {
+        out.extend_from_slice(ending_word(ending))?;
+        return put_number(out, b" ", number_of(told.asked));
+    }
+    put_number(out, b" ", number_of(told.asked))
+}
+
+/// Appends which other steps so ended by the step at this place.
+fn put_ends(out: &mut Vec<u8>, ending: Ending, place: u32, came: &[Told]) -> Result<(), AllocError>
+    ensures { OnOk result (out.new.items ≡ out.old.items ++ ends_words ending (filter (ends_other ending place) came.now)) }
+{
+    let begin = out.len();
+    for told in came {
+        if ends_other(ending, place, told) {
+            put_ended(out, begin, ending, told)?;
+        }
+    }
+    Ok(())
+}
+
+/// Which other steps so ended by the step at this place, in the last column.
+pub(crate) fn ends_cell(
+    out: &mut Vec<u8>,
+    start: usize,
+    ending: Ending,
+    place: u32,
+    came: &[Told],
+) -> Result<(), AllocError>
+    ensures { OnOk result (
+        LineBecomes start out.old.items out.new.items (λ line. with_ends ending place came.now line)) }
+{
+    let cell = open_cell(out, start, ENDS)?;
+    put_ends(out, ending, place, came)?;
+    close_cell(out, cell);
+    Ok(())
+}

@@ -1,8 +1,8 @@
 -- Who was the last to move a value on a port, after one event more.
 use Rattle.std.proofs.Common.{◌≡◌, ℕ, List, [], ◌∷◌, ◌++◌, refl, ap, ◌∙◌, sym, Option, None, Some}
-use Rattle.std.proofs.Common.{slice_index_or, replicate, zero, suc}
+use Rattle.std.proofs.Common.{filter, slice_index_or, replicate, zero, suc}
 use Rattle.std.specs.List.{filter_map}
-use Rattle.std.proofs.lemmas.List.Elements.{filter_map-append}
+use Rattle.std.proofs.lemmas.List.Elements.{filter-append, filter_map-append}
 use Rattle.hub_base.specs.declared.entry.Entry.{Entry}
 use Rattle.hub_base.specs.Values.{sent_on, got_on}
 use Rattle.hub_story.specs.declared.told.Told.{Told}
@@ -11,6 +11,7 @@ use Rattle.hub_story.specs.Passing.{moved_by}
 use Rattle.hub_story_text.specs.declared.last_moves.LastMoves.{LastMoves}
 use Rattle.hub_story_text.specs.declared.last_moves.Mover.{Mover}
 use Rattle.hub_story_text.specs.LastMoves.{AreLast, AreNext, latest, mover_of, mover_at}
+use Rattle.hub_story_text.specs.Leavers.{leaves}
 
 pub latest-append : (o : Option Mover) (xs ys : List Moved) → latest o (xs ++ ys) ≡ latest (latest o xs) ys
 latest-append o [] ys = refl
@@ -23,14 +24,15 @@ latest-next f o before x = ap (latest o) (filter_map-append f before (x ∷ []))
 
 -- ---- event by event
 pub last-more : (es : List Entry) (before : List Told) (t : Told) (old new : LastMoves) → AreLast es before old → AreNext es t old new →
-    AreLast es (before ++ t ∷ []) new
-last-more es before t old new was next = record {
+    new.left.items ≡ old.left.items ++ filter (leaves es) (t ∷ []) → AreLast es (before ++ t ∷ []) new
+last-more es before t old new was next left = record {
   sent = λ p.
       next.sent p ∙ ap (λ o. latest o (filter_map (moved_by (sent_on p) es) (t ∷ []))) (was.sent p)
       ∙ sym (latest-next (moved_by (sent_on p) es) None before t);
   received = λ p.
       next.received p ∙ ap (λ o. latest o (filter_map (moved_by (got_on p) es) (t ∷ []))) (was.received p)
       ∙ sym (latest-next (moved_by (got_on p) es) None before t);
+  left = left ∙ ap (λ l. l ++ filter (leaves es) (t ∷ [])) was.left ∙ sym (filter-append (leaves es) before (t ∷ []));
 }
 
 none-at : (n k : ℕ) → slice_index_or (replicate {A = Option Mover} n None) k None ≡ None
@@ -39,10 +41,11 @@ none-at (suc n) zero = refl
 none-at (suc n) (suc k) = none-at n k
 
 pub nobody-yet : (es : List Entry) (moves : LastMoves) (n : ℕ) → moves.sent.items ≡ replicate n None → moves.received.items ≡ replicate n None →
-    AreLast es [] moves
-nobody-yet es moves n sent received = record {
+    moves.left.items ≡ [] → AreLast es [] moves
+nobody-yet es moves n sent received left = record {
   sent = λ p. ap (λ l. mover_at l p) sent ∙ none-at n p.0;
   received = λ p. ap (λ l. mover_at l p) received ∙ none-at n p.0;
+  left = left;
 }
 
 -- what is nobody's clone is nobody

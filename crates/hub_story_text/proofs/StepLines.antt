@@ -29,7 +29,7 @@ use Rattle.hub_story_text.specs.declared.ends.Ending.{Ending}
 use Rattle.hub_story_text.specs.declared.ends.Ending.TheVariants.{Frees, Cancels, Stalls}
 use Rattle.hub_story_text.specs.EndsText.{ending_word, ends_words, step_number, with_ended}
 use Rattle.hub_story_text.specs.PortText.{made_line, port_line}
-use Rattle.hub_story_text.specs.WaiterText.{waiter_words, waiters_words}
+use Rattle.hub_story_text.specs.WaiterText.{left_words, waiter_words, waiters_words}
 use Rattle.hub_story_text.proofs.Chains.{flat-next}
 
 -- the second edition has each step
@@ -110,10 +110,10 @@ value-behind words v is =
     (rw so (omega arith), ap (drop 13) so)
 
 -- there is somebody who waits
-pub not-empty : (heading : List ℕ) (es : List Entry) (senders receivers : Port → Option Mover) (ts : List Told) → ts ≢ [] →
-    waiters_words heading es senders receivers ts ≡ heading ++ flat_map (waiter_words es senders receivers) ts
-not-empty heading es senders receivers [] other = absurd (other refl)
-not-empty heading es senders receivers (t ∷ ts) other = refl
+pub not-empty : (nobody heading : List ℕ) (es : List Entry) (senders receivers : Port → Option Mover) (left ts : List Told) → ts ≢ [] →
+    waiters_words nobody heading es senders receivers left ts ≡ heading ++ left_words left ++ flat_map (waiter_words es senders receivers) ts
+not-empty nobody heading es senders receivers left [] other = absurd (other refl)
+not-empty nobody heading es senders receivers left (t ∷ ts) other = refl
 
 -- no port is told to be made
 made-none : (es : List Entry) (all : List Told) (t : Told) (w : What) → ((p : Port) → w ≢ Made p) → made_line es all t w ≡ []

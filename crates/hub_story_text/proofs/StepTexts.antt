@@ -17,10 +17,11 @@ use Rattle.hub_story_text.specs.declared.last_moves.Mover.{Mover}
 use Rattle.hub_story_text.specs.declared.last_moves.LastMoves.{LastMoves}
 use Rattle.hub_story_text.specs.declared.window.Window.{Window}
 use Rattle.hub_story_text.specs.LastMoves.{AreLast, last_sender, last_receiver, mover_at}
+use Rattle.hub_story_text.specs.Leavers.{leavers}
 use Rattle.hub_story_text.specs.StoryText.{came_by, stall_heading, steps_text, step_text, who_waits}
 use Rattle.hub_story_text.specs.LineText.{line}
 use Rattle.hub_story_text.specs.Partners.{partner_of}
-use Rattle.hub_story_text.specs.WaiterText.{case_words, waiter_words, waiters_words, port_words, since_words}
+use Rattle.hub_story_text.specs.WaiterText.{case_words, left_words, port_words, waiter_words, waiters_words, who_words}
 use Rattle.hub_story_text.specs.Windows.{has}
 use Rattle.hub_story_text.proofs.Groups.{stalled-came}
 
@@ -36,18 +37,21 @@ same-flat : {X A : Type 0} (f g : X → List A) → ((x : X) → f x ≡ g x) �
 same-flat f g h [] = refl
 same-flat f g h (x ∷ xs) = ap (λ l. l ++ flat_map f xs) (h x) ∙ ap (λ l. g x ++ l) (same-flat f g h xs)
 
-same-waiters : (heading : List ℕ) (es : List Entry) (s s' r r' : Port → Option Mover) → ((p : Port) → s p ≡ s' p) → ((p : Port) → r p ≡ r' p) →
-    (ts : List Told) → waiters_words heading es s r ts ≡ waiters_words heading es s' r' ts
-same-waiters heading es s s' r r' hs hr [] = refl
-same-waiters heading es s s' r r' hs hr (t ∷ ts) =
-    ap (λ l. heading ++ l) (same-flat (waiter_words es s r) (waiter_words es s' r')
-    (λ t. ap (λ l. since_words t ++ l) (same-flat (case_words s r) (case_words s' r') (same-case s s' r r' hs hr) (cases_at es t.asked))) (t ∷ ts))
+same-waiters : (nobody heading : List ℕ) (es : List Entry) (s s' r r' : Port → Option Mover) → ((p : Port) → s p ≡ s' p) → ((p : Port) → r p ≡ r' p) →
+    (left ts : List Told) → waiters_words nobody heading es s r left ts ≡ waiters_words nobody heading es s' r' left ts
+same-waiters nobody heading es s s' r r' hs hr left [] = refl
+same-waiters nobody heading es s s' r r' hs hr left (t ∷ ts) =
+    ap (λ l. heading ++ left_words left ++ l) (same-flat (waiter_words es s r) (waiter_words es s' r')
+    (λ t. ap (λ l. who_words (codes " waits since step ") t ++ l)
+    (same-flat (case_words s r) (case_words s' r') (same-case s s' r r' hs hr) (cases_at es t.asked))) (t ∷ ts))
 
 -- what the tables tell
-pub waiters-told : (heading : List ℕ) (es : List Entry) (until : List Told) (moves : LastMoves) → AreLast es until moves → (ts : List Told) →
-    waiters_words heading es (mover_at moves.sent.items) (mover_at moves.received.items) ts ≡ who_waits heading es until ts
-waiters-told heading es until moves so ts =
-    same-waiters heading es (mover_at moves.sent.items) (last_sender es until) (mover_at moves.received.items) (last_receiver es until) so.sent so.received ts
+pub waiters-told : (nobody heading : List ℕ) (es : List Entry) (until : List Told) (moves : LastMoves) → AreLast es until moves → (ts : List Told) →
+    waiters_words nobody heading es (mover_at moves.sent.items) (mover_at moves.received.items) moves.left.items ts ≡ who_waits nobody heading es until ts
+waiters-told nobody heading es until moves so ts =
+    ap (λ left. waiters_words nobody heading es (mover_at moves.sent.items) (mover_at moves.received.items) left ts) so.left
+    ∙ same-waiters nobody heading es (mover_at moves.sent.items) (last_sender es until) (mover_at moves.received.items) (last_receiver es until)
+    so.sent so.received (leavers es until) ts
 
 -- ---- one step more
 step-first : (w : Window) (es : List Entry) (all : List Told) (place : ℕ) (rest : List Entry) (d : Entry) → place < length rest →
@@ -85,15 +89,15 @@ pub step-is : (es : List Entry) (all : List Told) (place : ℕ) (e : Entry) (end
     slice_get partners place ≡ Some partner → slice_get partners place ≡ Some (partner_of es all place) → came ≡ came_by place all →
     AreLast es (told_by (place + 1) all) moves →
     line es place e end partner came
-    ++ waiters_words stall_heading es (mover_at moves.sent.items) (mover_at moves.received.items) (filter (λ t. is_stalled t.event.what) came)
+    ++ waiters_words [] stall_heading es (mover_at moves.sent.items) (mover_at moves.received.items) moves.left.items (filter (λ t. is_stalled t.event.what) came)
     ≡ step_text es all place e
 step-is es all place e ends partners end partner came moves has-end is-end has-partner is-partner same last =
     let end-is : end ≡ end_of all place = inside (sym has-end ∙ is-end) in
     let partner-is : partner ≡ partner_of es all place = inside (sym has-partner ∙ is-partner) in
     let below : List ℕ =
-    waiters_words stall_heading es (mover_at moves.sent.items) (mover_at moves.received.items) (filter (λ t. is_stalled t.event.what) came) in
+    waiters_words [] stall_heading es (mover_at moves.sent.items) (mover_at moves.received.items) moves.left.items (filter (λ t. is_stalled t.event.what) came) in
     ap (λ o. line es place e o partner came ++ below) end-is ∙ ap (λ o. line es place e (end_of all place) o came ++ below) partner-is
     ∙ ap (λ l. line es place e (end_of all place) (partner_of es all place) l ++ below) same
     ∙ ap (λ l. line es place e (end_of all place) (partner_of es all place) (came_by place all) ++ l)
-    (waiters-told stall_heading es (told_by (place + 1) all) moves last (filter (λ t. is_stalled t.event.what) came)
-    ∙ ap (who_waits stall_heading es (told_by (place + 1) all)) (ap (filter (λ t. is_stalled t.event.what)) same ∙ stalled-came place all))
+    (waiters-told [] stall_heading es (told_by (place + 1) all) moves last (filter (λ t. is_stalled t.event.what) came)
+    ∙ ap (who_waits [] stall_heading es (told_by (place + 1) all)) (ap (filter (λ t. is_stalled t.event.what)) same ∙ stalled-came place all))

@@ -1,4 +1,4 @@
--- Who was the last to send on a port, and to receive from it.
+-- Who was the last to send on a port, and to receive from it; and beside it who has left.
 use Rattle.std.specs.Prelude.{◌≡◌, List, [], ◌∷◌, length, Option, None, Some, slice_index_or, slice_set}
 use Rattle.std.specs.List.{filter_map}
 use Rattle.hub_base.specs.declared.value.Port.{Port}
@@ -14,6 +14,7 @@ use Rattle.hub_story.specs.Passing.{moved_by, sends, receives}
 use Rattle.hub_story_text.specs.declared.last_moves.TheConstants.{PORT_NUMBERS}
 use Rattle.hub_story_text.specs.declared.last_moves.Mover.{Mover}
 use Rattle.hub_story_text.specs.declared.last_moves.LastMoves.{LastMoves}
+use Rattle.hub_story_text.specs.Leavers.{leavers}
 
 -- the process, and its step
 abbrev pub mover_of : Told → Mover
@@ -54,12 +55,13 @@ pub record IsWhole (moves : LastMoves) : Type 0 where
   pub sent : length moves.sent.items ≡ PORT_NUMBERS
   pub received : length moves.received.items ≡ PORT_NUMBERS
 
--- the tables tell them
+-- the tables tell them, and the list who has left
 pub record AreLast (es : List Entry) (all : List Told) (moves : LastMoves) : Type 0 where
   pub sent : (p : Port) → mover_at moves.sent.items p ≡ last_sender es all p
   pub received : (p : Port) → mover_at moves.received.items p ≡ last_receiver es all p
+  pub left : moves.left.items ≡ leavers es all
 
--- after one event more
+-- the tables after one event more
 pub record AreNext (es : List Entry) (t : Told) (old new : LastMoves) : Type 0 where
   pub sent : (p : Port) →
       mover_at new.sent.items p ≡ latest (mover_at old.sent.items p) (filter_map (moved_by (sent_on p) es) (t ∷ []))

@@ -10,6 +10,7 @@ use Rattle.hub_story.specs.Waiting.{stalled_by, still_waiting}
 use Rattle.hub_story_text.specs.declared.window.Window.{Window}
 use Rattle.hub_story_text.specs.Windows.{has}
 use Rattle.hub_story_text.specs.LastMoves.{last_sender, last_receiver}
+use Rattle.hub_story_text.specs.Leavers.{leavers}
 use Rattle.hub_story_text.specs.LineText.{line}
 use Rattle.hub_story_text.specs.Partners.{partner_of}
 use Rattle.hub_story_text.specs.PortText.{made_line}
@@ -20,9 +21,10 @@ use Rattle.hub_story_text.specs.Waits.{waits_text}
 abbrev pub came_by : ℕ → List Told → List Told
 came_by place all = filter (λ t. t.by == place) all
 
--- these calls below a heading, told after the first so many steps
-abbrev pub who_waits : List ℕ → List Entry → List Told → List Told → List ℕ
-who_waits heading es until waiters = waiters_words heading es (last_sender es until) (last_receiver es until) waiters
+-- who has left and who waits, of what is told until then
+abbrev pub who_waits : List ℕ → List ℕ → List Entry → List Told → List Told → List ℕ
+who_waits nobody heading es until waiters =
+    waiters_words nobody heading es (last_sender es until) (last_receiver es until) (leavers es until) waiters
 
 abbrev pub stall_heading : List ℕ
 stall_heading = codes "        stall: everyone who is left waits\n"
@@ -31,7 +33,7 @@ stall_heading = codes "        stall: everyone who is left waits\n"
 abbrev pub step_text : List Entry → List Told → ℕ → Entry → List ℕ
 step_text es all place e =
     line es place e (end_of all place) (partner_of es all place) (came_by place all)
-    ++ who_waits stall_heading es (told_by (place + 1) all) (stalled_by all place)
+    ++ who_waits [] stall_heading es (told_by (place + 1) all) (stalled_by all place)
 
 -- so of these entries, the first of which stands at this place, where the window has them
 abbrev pub steps_text : Window → List Entry → List Told → ℕ → List Entry → List ℕ
@@ -45,6 +47,9 @@ heading = codes "   step  who asks what                  answer            waite
 abbrev pub end_heading : List ℕ
 end_heading = codes "in the end these wait\n"
 
+abbrev pub end_nobody : List ℕ
+end_nobody = codes "in the end nobody waits\n"
+
 -- what the ports carried
 abbrev pub ports_text : List Entry → List Told → List ℕ
 ports_text es all = flat_map (λ t. made_line es all t t.event.what) all
@@ -53,4 +58,4 @@ ports_text es all = flat_map (λ t. made_line es all t t.event.what) all
 abbrev pub story_text : Window → List Entry → List Told → List ℕ
 story_text w es all =
     heading ++ steps_text w es all 0 es ++ ports_text es all ++ waits_text es all
-    ++ who_waits end_heading es (told_by (length es) all) (still_waiting all)
+    ++ who_waits end_nobody end_heading es (told_by (length es) all) (still_waiting all)

@@ -1,4 +1,4 @@
--- Who waits, since which step, and for what; and who was the last to send there, and to receive.
+-- Who has left, and who waits, since which step, and for what; and who was the last to send there, and to receive.
 use Rattle.std.specs.Prelude.{ℕ, ◌+◌, List, [], ◌∷◌, ◌++◌, codes, decimal, Option, None, Some}
 use Rattle.std.specs.List.{flat_map}
 use Rattle.hub_base.specs.declared.value.Port.{Port}
@@ -22,16 +22,20 @@ abbrev pub case_words : (Port → Option Mover) → (Port → Option Mover) → 
 case_words senders receivers (Send p v) = codes "            to send on port " ++ port_words senders receivers p
 case_words senders receivers (Recv p) = codes "            to receive from port " ++ port_words senders receivers p
 
--- who waits, and since which step
-abbrev pub since_words : Told → List ℕ
-since_words t = codes "          P" ++ decimal t.event.pid.0 ++ codes " waits since step " ++ decimal (t.asked + 1) ++ codes "\n"
+-- a process, and behind these words its step
+abbrev pub who_words : List ℕ → Told → List ℕ
+who_words words t = codes "          P" ++ decimal t.event.pid.0 ++ words ++ decimal (t.asked + 1) ++ codes "\n"
+
+abbrev pub left_words : List Told → List ℕ
+left_words left = flat_map (who_words (codes " left at step ")) left
 
 -- a call that waited, and its cases
 abbrev pub waiter_words : List Entry → (Port → Option Mover) → (Port → Option Mover) → Told → List ℕ
 waiter_words es senders receivers t =
-    since_words t ++ flat_map (case_words senders receivers) (cases_at es t.asked)
+    who_words (codes " waits since step ") t ++ flat_map (case_words senders receivers) (cases_at es t.asked)
 
--- these calls below a heading, if there are any
-abbrev pub waiters_words : List ℕ → List Entry → (Port → Option Mover) → (Port → Option Mover) → List Told → List ℕ
-waiters_words heading es senders receivers [] = []
-waiters_words heading es senders receivers (t ∷ ts) = heading ++ flat_map (waiter_words es senders receivers) (t ∷ ts)
+-- below a heading who has left, and these calls; if there are none, words for that
+abbrev pub waiters_words : List ℕ → List ℕ → List Entry → (Port → Option Mover) → (Port → Option Mover) → List Told → List Told → List ℕ
+waiters_words nobody heading es senders receivers left [] = nobody
+waiters_words nobody heading es senders receivers left (t ∷ ts) =
+    heading ++ left_words left ++ flat_map (waiter_words es senders receivers) (t ∷ ts)

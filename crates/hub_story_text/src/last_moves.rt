@@ -1,11 +1,13 @@
-//! Who was the last to send on a port, and to receive from it.
+//! Who was the last to send on a port, and to receive from it; and beside it who has left.
 
-ghost use Rattle.std.specs.Prelude.{◌≡◌, ◌<◌, ◌++◌, List, [], length, IfOk, IfSome};
+ghost use Rattle.std.specs.Prelude.{◌≡◌, ◌<◌, ◌∷◌, ◌++◌, List, [], filter, length, IfOk, IfSome, OnOk};
 ghost use Rattle.hub_base.specs.declared.entry.Entry.{Entry};
 ghost use Rattle.hub_story.specs.declared.told.Told.{Told};
 ghost use Rattle.hub_story_text.specs.LastMoves.{AreLast, AreNext, IsWhole, got_port, mover_at, sent_port, with_mover};
+ghost use Rattle.hub_story_text.specs.Leavers.{leaves};
 
 use crate::entries::cases_at;
+use crate::leavers::note_leaver;
 use hub_base::{Case, Entry, Outcome, Pid, Port, What};
 use hub_story::Told;
 use std::alloc::{AllocError, Global};
@@ -29,6 +31,8 @@ pub(crate) struct LastMoves {
     pub(crate) sent: Vec<Option<Mover>>,
     /// Who was the last to receive a value.
     pub(crate) received: Vec<Option<Mover>>,
+    /// The exits that were done, in order.
+    pub(crate) left: Vec<Told>,
 }
 
 /// On which port a case with this outcome sent a value.
@@ -72,13 +76,15 @@ impl LastMoves {
         Ok(LastMoves {
             sent: vec![in alloc; None; PORT_NUMBERS]?,
             received: vec![in alloc; None; PORT_NUMBERS]?,
+            left: Vec::new(alloc),
         })
     }
 
-    /// Takes in the next event of these entries.
-    fn note(&mut self, entries: &[Entry], told: &Told)
+    /// Takes in who moved a value by the next event of these entries.
+    fn note_mover(&mut self, entries: &[Entry], told: &Told)
         requires { IsWhole self.old }
         ensures next { AreNext entries.now told.now self.old self.new }
+        ensures left { self.new.left.items ≡ self.old.left.items }
         ensures whole { IsWhole self.new }
     {
         let What::Fired { case, outcome } = told.event.what else {
@@ -95,15 +101,29 @@ impl LastMoves {
         set_mover(&mut self.received, got_port(*case, outcome), mover);
     }
 
-    /// Takes in these events, in order, behind those so far.
-    pub(crate) fn note_all(&mut self, entries: &[Entry], told: &[Told])
+    /// Takes in the next event of these entries.
+    fn note(&mut self, entries: &[Entry], told: &Told) -> Result<(), AllocError>
         requires { IsWhole self.old }
-        ensures last { (before : List Told) → AreLast entries.now before self.old → AreLast entries.now (before ++ told.now) self.new }
+        ensures next { OnOk result (AreNext entries.now told.now self.old self.new) }
+        ensures left { OnOk result (
+            self.new.left.items ≡ self.old.left.items ++ filter (leaves entries.now) (told.now ∷ [])) }
+        ensures whole { IsWhole self.new }
+    {
+        self.note_mover(entries, told);
+        note_leaver(&mut self.left, entries, told)
+    }
+
+    /// Takes in these events, in order, behind those so far.
+    pub(crate) fn note_all(&mut self, entries: &[Entry], told: &[Told]) -> Result<(), AllocError>
+        requires { IsWhole self.old }
+        ensures last { OnOk result (
+            (before : List Told) → AreLast entries.now before self.old → AreLast entries.now (before ++ told.now) self.new) }
         ensures whole { IsWhole self.new }
     {
         for told in told {
-            self.note(entries, told);
+            self.note(entries, told)?;
         }
+        Ok(())
     }
 
     /// Who was the last to send on the port.

@@ -7,6 +7,7 @@ mod cells;
 mod ends;
 mod entries;
 mod last_moves;
+mod leavers;
 mod lines;
 mod numbers;
 mod partners;

@@ -66,11 +66,11 @@ fn put_stalled(
     came: &[Told],
 ) -> Result<(), NoMemory>
     ensures { OnOk result (out.new.items ≡ out.old.items
-        ++ waiters_words stall_heading entries.now (mover_at moves.now.sent.items) (mover_at moves.now.received.items)
-        (filter (λ t. is_stalled t.event.what) came.now)) }
+        ++ waiters_words [] stall_heading entries.now (mover_at moves.now.sent.items) (mover_at moves.now.received.items)
+        moves.now.left.items (filter (λ t. is_stalled t.event.what) came.now)) }
 {
     let stalled = stalled_of(*out.allocator(), came)?;
-    put_waiters(out, STALL_HEADING, entries, moves, &stalled)?;
+    put_waiters(out, b"", STALL_HEADING, entries, moves, &stalled)?;
     Ok(())
 }
 
@@ -124,7 +124,7 @@ pub(crate) fn put_steps(
     for (place, entry) in journal.entries().iter().enumerate() {
         let until = from + count_of(&story.told[from..], place as u32);
         let came = &story.told[from..until];
-        moves.note_all(journal.entries(), came);
+        moves.note_all(journal.entries(), came)?;
         if window.has(place) {
             put_step(out, journal, story, partners, moves, place, entry, came)?;
         }

@@ -24,6 +24,8 @@ const HEADING: &[u8] =
 
 const END_HEADING: &[u8] = b"in the end these wait\n";
 
+const END_NOBODY: &[u8] = b"in the end nobody waits\n";
+
 /// Appends the story of a journal, by what is known of its values; `last` comes to tell who moved one last.
 fn put_story(
     out: &mut Vec<u8>,
@@ -47,7 +49,14 @@ fn put_story(
     put_steps(out, last, journal, story, partners, window)?;
     put_ports(out, journal, story, moves)?;
     put_waits(out, journal, story, partners)?;
-    put_waiters(out, END_HEADING, journal.entries(), last, &story.waiting)?;
+    put_waiters(
+        out,
+        END_NOBODY,
+        END_HEADING,
+        journal.entries(),
+        last,
+        &story.waiting,
+    )?;
     Ok(())
 }
 

@@ -1,9 +1,9 @@
-//! Who waits, and for what.
+//! Who has left, and who waits, and for what.
 
 ghost use Rattle.std.specs.Prelude.{◌≡◌, ◌++◌, OnOk};
 ghost use Rattle.std.specs.List.{flat_map};
 ghost use Rattle.hub_story_text.specs.LastMoves.{mover_at};
-ghost use Rattle.hub_story_text.specs.WaiterText.{case_words, mover_words, port_words, since_words, waiter_words, waiters_words};
+ghost use Rattle.hub_story_text.specs.WaiterText.{case_words, left_words, mover_words, port_words, waiter_words, waiters_words, who_words};
 
 use crate::entries::cases_at;
 use crate::last_moves::{LastMoves, Mover};
@@ -66,13 +66,23 @@ fn put_cases(out: &mut Vec<u8>, moves: &LastMoves, cases: &[Case]) -> Result<(),
     Ok(())
 }
 
-/// Appends who waits, and since which step.
-fn put_since(out: &mut Vec<u8>, told: &Told) -> Result<(), AllocError>
-    ensures { OnOk result (out.new.items ≡ out.old.items ++ since_words told.now) }
+/// Appends a process, and behind these words its step.
+fn put_who(out: &mut Vec<u8>, words: &[u8], told: &Told) -> Result<(), AllocError>
+    ensures { OnOk result (out.new.items ≡ out.old.items ++ who_words words.now told.now) }
 {
     put_number(out, b"          P", told.event.pid.0.into())?;
-    put_number(out, b" waits since step ", number_of(told.asked))?;
+    put_number(out, words, number_of(told.asked))?;
     out.extend_from_slice(b"\n")?;
+    Ok(())
+}
+
+/// Appends who has left.
+fn put_left(out: &mut Vec<u8>, left: &[Told]) -> Result<(), AllocError>
+    ensures { OnOk result (out.new.items ≡ out.old.items ++ left_words left.now) }
+{
+    for told in left {
+        put_who(out, b" left at step ", told)?;
+    }
     Ok(())
 }
 
@@ -86,27 +96,42 @@ fn put_waiter(
     ensures { OnOk result (out.new.items ≡ out.old.items
         ++ waiter_words entries.now (mover_at moves.now.sent.items) (mover_at moves.now.received.items) told.now) }
 {
-    put_since(out, told)?;
+    put_who(out, b" waits since step ", told)?;
     put_cases(out, moves, cases_at(entries, told.asked))
 }
 
-/// Appends these calls below a heading, if there are any.
+/// Appends these calls.
+fn put_calls(
+    out: &mut Vec<u8>,
+    entries: &[Entry],
+    moves: &LastMoves,
+    waiters: &[Told],
+) -> Result<(), AllocError>
+    ensures { OnOk result (out.new.items ≡ out.old.items
+        ++ flat_map (waiter_words entries.now (mover_at moves.now.sent.items) (mover_at moves.now.received.items)) waiters.now) }
+{
+    for told in waiters {
+        put_waiter(out, entries, moves, told)?;
+    }
+    Ok(())
+}
+
+/// Appends below a heading who has left, and these calls; if there are none, words for that.
 pub(crate) fn put_waiters(
     out: &mut Vec<u8>,
+    nobody: &[u8],
     heading: &[u8],
     entries: &[Entry],
     moves: &LastMoves,
     waiters: &[Told],
 ) -> Result<(), AllocError>
-    ensures { OnOk result (out.new.items ≡ out.old.items ++ waiters_words heading.now entries.now
-        (mover_at moves.now.sent.items) (mover_at moves.now.received.items) waiters.now) }
+    ensures { OnOk result (out.new.items ≡ out.old.items ++ waiters_words nobody.now heading.now entries.now
+        (mover_at moves.now.sent.items) (mover_at moves.now.received.items) moves.now.left.items waiters.now) }
 {
     if waiters.is_empty() {
-        return Ok(());
+        return out.extend_from_slice(nobody);
     }
     out.extend_from_slice(heading)?;
-    for told in waiters {
-        put_waiter(out, entries, moves, told)?;
-    }
-    Ok(())
+    put_left(out, &moves.left)?;
+    put_calls(out, entries, moves, waiters)
 }

@@ -1,4 +1,4 @@
-use Rattle.std.proofs.Common.{◌∙◌, ◌++◌, ap, filter}
+use Rattle.std.proofs.Common.{◌∙◌, ◌++◌, [], ap, filter}
 use Rattle.hub_story.specs.declared.told.Told.{Told}
 use Rattle.hub_story.specs.Waiting.{is_stalled}
 use Rattle.hub_story_text.specs.LastMoves.{mover_at}
@@ -21,6 +21,6 @@ returns c =
     on-ok c.put_stalled.result
     (λ said. one-more c.args.out.now.items c.put_line.new.out.items c.put_stalled.new.out.items
     (line c.args.journal.now.entries c.args.place c.args.entry.now c.item_at-end.result c.item_at-partner.result c.args.came.now)
-    (waiters_words stall_heading c.args.journal.now.entries (mover_at c.args.moves.now.sent.items) (mover_at c.args.moves.now.received.items)
-    (filter (λ (t : Told). is_stalled t.event.what) c.args.came.now)) row said ∙ ap (λ l. c.args.out.now.items ++ l) is)
+    (waiters_words [] stall_heading c.args.journal.now.entries (mover_at c.args.moves.now.sent.items) (mover_at c.args.moves.now.received.items)
+    c.args.moves.now.left.items (filter (λ (t : Told). is_stalled t.event.what) c.args.came.now)) row said ∙ ap (λ l. c.args.out.now.items ++ l) is)
     stalled

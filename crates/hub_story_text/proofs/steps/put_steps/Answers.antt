@@ -14,7 +14,7 @@ put_step-requires c =
     let here = group c.loop-place.place c.loop-place.from c.count_of.result told c.deref.result.now c.deref.ensures.value so.cut
     c.count_of.ensures.came c.count_of.ensures.rest in
     let seen = c.deref-in-loop-place.ensures.value ∙ sym c.deref.ensures.value in
-    let noted = rw c.entries.ensures at c.note_all.ensures.last in
+    let noted = rw c.entries.ensures at c.in_ok-note_all.ensures.last in
     record {
       story = c.requires.story;
       few = c.requires.few;
@@ -35,7 +35,7 @@ loop-place-preserved c =
     let here = group c.loop-place.place c.loop-place.from c.count_of.result told c.deref.result.now c.deref.ensures.value so.cut
     c.count_of.ensures.came c.count_of.ensures.rest in
     let seen = c.deref-in-loop-place.ensures.value ∙ sym c.deref.ensures.value in
-    let noted = rw c.entries.ensures at c.note_all.ensures.last in
+    let noted = rw c.entries.ensures at c.in_ok-note_all.ensures.last in
     let below : c.loop-place.place < length c.args.journal.now.entries =
     omega (arith, c.loop-place-test.true, ap length c.entries-entry-items.ensures) in
     let last =

@@ -1,7 +1,7 @@
 use Rattle.std.proofs.Common.{◌∙◌, ◌++◌, ap, sym, arith, length}
 use Rattle.hub_story.specs.Levels.{told_by}
 use Rattle.hub_story.proofs.Filling.{told_by-all}
-use Rattle.hub_story_text.specs.StoryText.{heading, end_heading, ports_text, steps_text}
+use Rattle.hub_story_text.specs.StoryText.{heading, end_heading, end_nobody, ports_text, steps_text}
 use Rattle.hub_story_text.specs.Waits.{waits_text}
 use Rattle.hub_story_text.proofs.Chains.{five-behind}
 use Rattle.hub_story_text.proofs.StepTexts.{waiters-told}
@@ -21,4 +21,4 @@ returns c =
     rw (waits, c.in_ok-put_waits.ensures, c.in_ok-put_ports.ensures, c.in_ok-put_steps.ensures.text, c.in_ok-extend_from_slice.ensures.items)
     (five-behind c.args.out.now.items heading (steps_text c.args.window es told 0 es) (ports_text es told) (waits_text es told) _
     ∙ ap (λ l. c.args.out.now.items ++ (heading ++ steps_text c.args.window es told 0 es ++ ports_text es told ++ waits_text es told ++ l))
-    (waiters-told end_heading es (told_by (length es) told) c.put_steps.new.moves c.in_ok-put_steps.ensures.last _))
+    (waiters-told end_nobody end_heading es (told_by (length es) told) c.put_steps.new.moves c.in_ok-put_steps.ensures.last _))

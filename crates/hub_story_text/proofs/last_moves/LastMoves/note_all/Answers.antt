@@ -10,6 +10,7 @@ loop-told-preserved c =
       last = λ before was.
           subst (λ l. AreLast c.args.entries.now l c.note.new.self)
           (append_assoc before _ _ ∙ ap (λ l. before ++ l) (sym (taken-next c.args.told.now c.loop-told.told-index _ c.loop-told-test.true)))
-          (last-more c.args.entries.now _ _ c.loop-told.self c.note.new.self (c.loop-told.invariant.last before was) c.note.ensures.next);
+          (last-more c.args.entries.now _ _ c.loop-told.self c.note.new.self (c.loop-told.invariant.last before was) c.in_ok-note.ensures.next
+          c.in_ok-note.ensures.left);
       whole = c.note.ensures.whole;
     }

@@ -1,0 +1,9 @@
+use Rattle.hub_story_text.specs.LastMoves.{mover_at}
+use Rattle.hub_story_text.specs.WaiterText.{waiter_words}
+use Rattle.hub_story_text.proofs.Chains.{flat-next}
+use Rattle.hub_story_text.proofs.waiters.put_calls.Goals as goal
+
+pub loop-told-preserved : goal.loop-told-preserved
+loop-told-preserved c =
+    flat-next (waiter_words c.args.entries.now (mover_at c.args.moves.now.sent.items) (mover_at c.args.moves.now.received.items)) c.args.waiters.now
+    c.loop-told.told-index _ c.loop-told.out.items c.put_waiter.new.out.items _ c.loop-told-test.true c.loop-told.invariant c.in_ok-put_waiter.ensures

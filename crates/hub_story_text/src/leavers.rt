@@ -1,0 +1,33 @@
+//! Who has left.
+
+ghost use Rattle.std.specs.Prelude.{◌≡◌, ◌∷◌, ◌++◌, [], filter, OnOk};
+ghost use Rattle.hub_story_text.specs.Leavers.{leaves};
+
+use hub_base::{Entry, Step, What};
+use hub_story::Told;
+use std::alloc::AllocError;
+
+/// Whether the event says that an exit was done.
+fn leaves(entries: &[Entry], told: &Told) -> bool
+    ensures { result ≡ leaves entries.now told.now }
+{
+    matches!(told.event.what, What::Done)
+        && match entries.get(told.asked as usize) {
+            Some(entry) => matches!(entry.step, Step::Exit),
+            None => false,
+        }
+}
+
+/// Takes in who leaves by the next event, if anybody does.
+pub(crate) fn note_leaver(
+    left: &mut Vec<Told>,
+    entries: &[Entry],
+    told: &Told,
+) -> Result<(), AllocError>
+    ensures { OnOk result (left.new.items ≡ left.old.items ++ filter (leaves entries.now) (told.now ∷ [])) }
+{
+    if leaves(entries, told) {
+        left.push(*told)?;
+    }
+    Ok(())
+}

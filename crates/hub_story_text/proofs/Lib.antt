@@ -1,5 +1,6 @@
 pub mod Chains
 pub mod StepLines
+pub mod Closings
 pub mod Groups
 pub mod Movers
 pub mod Table

@@ -9,6 +9,7 @@ pub mod PortMoves
 pub mod EndsText
 pub mod LineText
 pub mod WaiterText
+pub mod Closers
 pub mod PortText
 pub mod Waits
 pub mod StoryText

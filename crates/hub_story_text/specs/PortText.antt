@@ -1,5 +1,5 @@
--- What each port that was made carried.
-use Rattle.std.specs.Prelude.{ℕ, ◌+◌, ◌-◌, List, [], ◌++◌, codes, decimal, length, slice_get}
+-- What each port that was made carried, and by whom it was made and closed.
+use Rattle.std.specs.Prelude.{ℕ, ◌+◌, ◌-◌, List, [], ◌++◌, Option, None, Some, codes, decimal, length, slice_get}
 use Rattle.std.specs.Option.{option_map_or}
 use Rattle.hub_base.specs.declared.value.Port.{Port}
 use Rattle.hub_base.specs.declared.entry.Entry.{Entry}
@@ -9,6 +9,7 @@ use Rattle.hub_base.specs.declared.event.What.{What}
 use Rattle.hub_base.specs.declared.event.What.TheVariants as what
 use Rattle.hub_story.specs.declared.told.Told.{Told}
 use Rattle.hub_story.specs.Levels.{sent_by, received_by}
+use Rattle.hub_story_text.specs.Closers.{closer_of}
 
 abbrev pub cap_words : Step → List ℕ
 cap_words (Make cap) = codes " cap " ++ decimal cap
@@ -19,15 +20,21 @@ abbrev pub counts_words : ℕ → ℕ → List ℕ
 counts_words sent received =
     codes " sent " ++ decimal sent ++ codes " received " ++ decimal received ++ codes " left " ++ decimal (sent - received)
 
--- by whom a port was made
-abbrev pub maker_words : Told → List ℕ
-maker_words t = codes " made by P" ++ decimal t.event.pid.0 ++ codes " at step " ++ decimal (t.asked + 1) ++ codes "\n"
+-- by whom, behind these words
+abbrev pub by_words : List ℕ → Told → List ℕ
+by_words words t = words ++ decimal t.event.pid.0 ++ codes " at step " ++ decimal (t.asked + 1)
+
+-- by whom a port was closed, if it was
+abbrev pub closer_words : Option Told → List ℕ
+closer_words None = []
+closer_words (Some t) = by_words (codes " closed by P") t
 
 -- of the port that this event says was made
 abbrev pub port_line : List Entry → List Told → Told → Port → List ℕ
 port_line es all t p =
     codes "port " ++ decimal p.0 ++ option_map_or (λ e. cap_words e.step) (slice_get es t.asked) []
-    ++ counts_words (sent_by es all p (length es)) (received_by es all p (length es)) ++ maker_words t
+    ++ counts_words (sent_by es all p (length es)) (received_by es all p (length es)) ++ by_words (codes " made by P") t
+    ++ closer_words (closer_of es all p) ++ codes "\n"
 
 -- nothing of any other event
 abbrev pub made_line : List Entry → List Told → Told → What → List ℕ

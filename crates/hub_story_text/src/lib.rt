@@ -4,6 +4,7 @@
 
 mod answers;
 mod cells;
+mod closers;
 mod ends;
 mod entries;
 mod last_moves;

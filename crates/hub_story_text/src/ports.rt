@@ -1,12 +1,14 @@
-//! What each port that was made carried.
+//! What each port that was made carried, and by whom it was made and closed.
 
-ghost use Rattle.std.specs.Prelude.{◌≡◌, ◌++◌, length, slice_get, OnOk, []};
+ghost use Rattle.std.specs.Prelude.{◌≡◌, ◌++◌, filter, length, slice_get, OnOk, []};
 ghost use Rattle.std.specs.List.{flat_map};
 ghost use Rattle.std.specs.Option.{option_map_or};
 ghost use Rattle.hub_story.specs.Levels.{told_by};
+ghost use Rattle.hub_story_text.specs.Closers.{is_close};
 ghost use Rattle.hub_story_text.specs.PortMoves.{AreMoves};
-ghost use Rattle.hub_story_text.specs.PortText.{cap_words, counts_words, made_line, maker_words, port_line};
+ghost use Rattle.hub_story_text.specs.PortText.{by_words, cap_words, closer_words, counts_words, made_line, port_line};
 
+use crate::closers::{closer_of, closes_of};
 use crate::numbers::{number_of, put_number};
 use crate::port_moves::PortMoves;
 use hub_base::{Journal, Port, Step, What};
@@ -40,13 +42,22 @@ fn put_counts(out: &mut Vec<u8>, level: Level) -> Result<(), AllocError>
     )
 }
 
-/// Appends by whom a port was made.
-fn put_maker(out: &mut Vec<u8>, told: &Told) -> Result<(), AllocError>
-    ensures { OnOk result (out.new.items ≡ out.old.items ++ maker_words told.now) }
+/// Appends by whom, behind these words.
+fn put_by(out: &mut Vec<u8>, words: &[u8], told: &Told) -> Result<(), AllocError>
+    ensures { OnOk result (out.new.items ≡ out.old.items ++ by_words words.now told.now) }
 {
-    put_number(out, b" made by P", told.event.pid.0.into())?;
-    put_number(out, b" at step ", number_of(told.asked))?;
-    out.extend_from_slice(b"\n")
+    put_number(out, words, told.event.pid.0.into())?;
+    put_number(out, b" at step ", number_of(told.asked))
+}
+
+/// Appends by whom a port was closed, if it was.
+fn put_closer(out: &mut Vec<u8>, closer: Option<Told>) -> Result<(), AllocError>
+    ensures { OnOk result (out.new.items ≡ out.old.items ++ closer_words closer) }
+{
+    match closer {
+        Some(told) => put_by(out, b" closed by P", &told),
+        None => Ok(()),
+    }
 }
 
 /// Appends what a port carried that this event says was made.
@@ -55,18 +66,23 @@ fn put_port(
     journal: &Journal,
     story: &Story,
     moves: &PortMoves,
+    closes: &[Told],
     told: &Told,
     port: Port,
 ) -> Result<(), AllocError>
     requires whole { told_by (length journal.now.entries) story.now.told.items ≡ story.now.told.items }
     requires moves { AreMoves journal.now.entries story.now.told.items moves.now }
+    requires closes { closes.now ≡ filter (is_close journal.now.entries) story.now.told.items }
     ensures { OnOk result (out.new.items ≡
         out.old.items ++ port_line journal.now.entries story.now.told.items told.now port) }
 {
     put_number(out, b"port ", port.0.into())?;
     put_cap(out, journal, told.asked)?;
     put_counts(out, moves.level(port))?;
-    put_maker(out, told)
+    put_by(out, b" made by P", told)?;
+    put_closer(out, closer_of(journal.entries(), closes, port))?;
+    out.extend_from_slice(b"\n")?;
+    Ok(())
 }
 
 /// Appends a line for each port, in the order in which they were made.
@@ -81,9 +97,10 @@ pub(crate) fn put_ports(
     ensures { OnOk result (out.new.items ≡ out.old.items
         ++ flat_map (λ t. made_line journal.now.entries story.now.told.items t t.event.what) story.now.told.items) }
 {
+    let closes = closes_of(*out.allocator(), journal.entries(), &story.told)?;
     for told in &story.told {
         if let What::Made(port) = told.event.what {
-            put_port(out, journal, story, moves, told, port)?;
+            put_port(out, journal, story, moves, &closes, told, port)?;
         }
     }
     Ok(())

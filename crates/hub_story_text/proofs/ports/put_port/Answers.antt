@@ -1,6 +1,39 @@
-use Rattle.std.proofs.Common.{arith}
-use Rattle.std.proofs.lemmas.Grind.{common_steps}
+use Rattle.std.proofs.Common.{◌≡◌, ◌∙◌, ◌++◌, ap, sym, codes, decimal, length, slice_get, []}
+use Rattle.std.specs.Option.{option_map_or}
+use Rattle.hub_base.specs.declared.entry.Entry.{Entry}
+use Rattle.hub_story.specs.Levels.{received_by, sent_by}
+use Rattle.hub_story.specs.Passing.{receives, sends}
+use Rattle.hub_story_text.specs.Closers.{closer_of}
+use Rattle.hub_story_text.specs.PortText.{by_words, cap_words, closer_words, counts_words}
+use Rattle.hub_story_text.proofs.Chains.{one-more, two}
+use Rattle.hub_story_text.proofs.Closings.{among-closes}
 use Rattle.hub_story_text.proofs.ports.put_port.Goals as goal
 
 pub returns : goal.returns
-returns c = grind (arith, common_steps)
+returns c =
+    let es = c.args.journal.now.entries in
+    let told = c.args.story.now.told.items in
+    let p = c.args.port in
+    let out = c.args.out.now.items in
+    let cap = option_map_or (λ (e : Entry). cap_words e.step) (slice_get es c.args.told.now.asked) [] in
+    let sent : c.level.result.sent ≡ sent_by es told p (length es) =
+    c.level.ensures.sent es told c.requires.moves ∙ ap (λ l. length (sends es l p)) (sym c.requires.whole) in
+    let received : c.level.result.received ≡ received_by es told p (length es) =
+    c.level.ensures.received es told c.requires.moves ∙ ap (λ l. length (receives es l p)) (sym c.requires.whole) in
+    let counts = counts_words (sent_by es told p (length es)) (received_by es told p (length es)) in
+    let closer : c.closer_of.result ≡ closer_of es told p =
+    c.closer_of.ensures ∙ ap (λ l. closer_of l c.args.closes.now p) c.entries.ensures ∙ ap (λ l. closer_of es l p) c.requires.closes
+    ∙ among-closes es p told in
+    let made = by_words (codes " made by P") c.args.told.now in
+    let before = codes "port " ++ decimal p.0 in
+    let at-number = two out c.put_number.new.out.items (codes "port ") (decimal p.0) (rw c.into.ensures at c.in_ok-put_number.ensures) in
+    let at-cap = one-more out c.put_number.new.out.items c.put_cap.new.out.items before cap at-number c.in_ok-put_cap.ensures in
+    let at-counts = one-more out c.put_cap.new.out.items c.put_counts.new.out.items (before ++ cap) counts at-cap
+    (c.in_ok-put_counts.ensures ∙ ap (λ n. c.put_cap.new.out.items ++ counts_words n c.level.result.received) sent
+    ∙ ap (λ n. c.put_cap.new.out.items ++ counts_words (sent_by es told p (length es)) n) received) in
+    let at-made = one-more out c.put_counts.new.out.items c.put_by.new.out.items (before ++ cap ++ counts) made at-counts c.in_ok-put_by.ensures in
+    let at-closer = one-more out c.put_by.new.out.items c.put_closer.new.out.items (before ++ cap ++ counts ++ made)
+    (closer_words (closer_of es told p)) at-made
+    (c.in_ok-put_closer.ensures ∙ ap (λ t. c.put_by.new.out.items ++ closer_words t) closer) in
+    one-more out c.put_closer.new.out.items c.extend_from_slice.new.self.items (before ++ cap ++ counts ++ made ++ closer_words (closer_of es told p))
+    (codes "\n") at-closer c.in_ok-extend_from_slice.ensures.items

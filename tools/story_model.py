@@ -15,9 +15,10 @@ import model
 FAULTS = ["no such process", "the process has exited", "the process still waits in a call", "too many cases", "no such port",
           "the capacity is too large", "too many ports", "close of the nil port", "close of a closed port",
           "the journal is full", "out of memory", "that process does not wait"]
-HEADING = "   step  who asks what                  answer            waited              value or fault        ends"
+HEADING = "   step  who asks what                  answer            waited              value or fault        what else it does"
 LONGEST = 5  # how many of the longest waits are told
-ASKS, ANSWER, WAITED, VALUE, ENDS = (HEADING.index(word) for word in ("who", "answer", "waited", "value", "ends"))
+ASKS, ANSWER, WAITED, VALUE, ENDS = (HEADING.index(word) for word in ("who", "answer", "waited", "value", "what else"))
+DOES = {"case": "frees", "cancelled": "cancels", "stalled": "stalls"}  # by the first word of the event that ends a call
 
 
 class Entry:
@@ -34,7 +35,7 @@ class Entry:
         self.end = None  # the words of the event that ended it
         self.until = None  # the place of the entry by which it ended
         self.partner = None  # the place at the other end of its value's way
-        self.ended = ()  # the places of the other entries that it ended
+        self.ended = {}  # the places of the other entries that it ended, by what it did to them
         self.below = ()  # lines on those whom it stalled
 
 
@@ -43,6 +44,7 @@ class Port:
 
     def __init__(self, maker):
         self.maker = maker
+        self.closer = None
         self.sent = self.received = 0
         self.sender = self.receiver = "nobody"
         # The places of values that only one of both ends is told of yet. A receiver may be told before its sender.
@@ -58,6 +60,7 @@ class Story:
         self.entries = [Entry(line) for line in lines]
         self.ports = []
         self.waiting = {}  # the place of each process's call that waits, by arrival
+        self.exits = []  # the places of the exits that were done
         hub = model.Hub(int(head.split()[2]), int(procs.split()[1]))
         for place, entry in enumerate(self.entries):
             hub.step(entry.pid, entry.word, entry.asked)
@@ -77,15 +80,19 @@ class Story:
             if words == "stalled":
                 stalled.append(place)
         if stalled:
-            self.entries[by].below = ("        stall: everyone who is left waits", *self.waiters(stalled))
+            self.entries[by].below = ("        stall: everyone who is left waits", *self.leavers(), *self.waiters(stalled))
 
     def finish(self, place, by, words):
         entry = self.entries[place]
         entry.end, entry.until = words, by
         if place != by:
-            self.entries[by].ended += (place,)
+            self.entries[by].ended.setdefault(DOES[words.split(" ")[0]], []).append(place)
         if words.startswith("made"):
             self.ports.append(Port(place))
+        elif words == "done" and entry.word == "exit":
+            self.exits.append(place)
+        elif words == "done" and entry.word == "close":
+            self.ports[entry.asked - 1].closer = place
         elif moves(entry):
             self.move(place)
 
@@ -105,6 +112,11 @@ class Story:
             self.entries[entry.partner].partner = place
         else:
             own.append(place)
+
+    def leavers(self):
+        """Lines on the processes that have exited so far."""
+        for place in self.exits:
+            yield f"          P{self.entries[place].pid} left at step {place + 1}"
 
     def waiters(self, places):
         """Lines on the calls at these places, and who moved a value where they wait."""
@@ -135,13 +147,17 @@ class Story:
         elif entry.until > place:
             line = cell(line, WAITED, f"{entry.until - place}, until {entry.until + 1}")
         line = cell(line, VALUE, self.value(entry))
-        return cell(line, ENDS, " ".join(["ends", *(str(ended + 1) for ended in entry.ended)]) if entry.ended else "")
+        for word in DOES.values():
+            if word in entry.ended:
+                line = cell(line, ENDS, " ".join([word, *(str(ended + 1) for ended in entry.ended[word])]))
+        return line
 
     def port_line(self, number):
         port = self.ports[number - 1]
         maker = self.entries[port.maker]
         counts = f"sent {port.sent} received {port.received} left {port.sent - port.received}"
-        return f"port {number} cap {maker.asked} {counts} made by P{maker.pid} at step {port.maker + 1}"
+        closed = "" if port.closer is None else f" closed by P{self.entries[port.closer].pid} at step {port.closer + 1}"
+        return f"port {number} cap {maker.asked} {counts} made by P{maker.pid} at step {port.maker + 1}{closed}"
 
     def waits(self):
         """How many of the calls waited, and the lines of those that waited longest, the older of equal ones first."""
@@ -162,7 +178,9 @@ class Story:
         lines += [self.port_line(number) for number in range(1, len(self.ports) + 1)]
         lines += self.waits()
         if self.waiting:
-            lines += ["in the end these wait", *self.waiters(self.waiting.values())]
+            lines += ["in the end these wait", *self.leavers(), *self.waiters(self.waiting.values())]
+        else:
+            lines.append("in the end nobody waits")
         return "".join(line + "\n" for line in lines).encode()
 
 

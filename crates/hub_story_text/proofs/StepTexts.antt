@@ -89,13 +89,15 @@ pub step-is : (es : List Entry) (all : List Told) (place : ℕ) (e : Entry) (end
     slice_get partners place ≡ Some partner → slice_get partners place ≡ Some (partner_of es all place) → came ≡ came_by place all →
     AreLast es (told_by (place + 1) all) moves →
     line es place e end partner came
-    ++ waiters_words [] stall_heading es (mover_at moves.sent.items) (mover_at moves.received.items) moves.left.items (filter (λ t. is_stalled t.event.what) came)
+    ++ waiters_words [] stall_heading es (mover_at moves.sent.items) (mover_at moves.received.items) moves.left.items
+    (filter (λ t. is_stalled t.event.what) came)
     ≡ step_text es all place e
 step-is es all place e ends partners end partner came moves has-end is-end has-partner is-partner same last =
     let end-is : end ≡ end_of all place = inside (sym has-end ∙ is-end) in
     let partner-is : partner ≡ partner_of es all place = inside (sym has-partner ∙ is-partner) in
     let below : List ℕ =
-    waiters_words [] stall_heading es (mover_at moves.sent.items) (mover_at moves.received.items) moves.left.items (filter (λ t. is_stalled t.event.what) came) in
+    waiters_words [] stall_heading es (mover_at moves.sent.items) (mover_at moves.received.items) moves.left.items
+    (filter (λ t. is_stalled t.event.what) came) in
     ap (λ o. line es place e o partner came ++ below) end-is ∙ ap (λ o. line es place e (end_of all place) o came ++ below) partner-is
     ∙ ap (λ l. line es place e (end_of all place) (partner_of es all place) l ++ below) same
     ∙ ap (λ l. line es place e (end_of all place) (partner_of es all place) (came_by place all) ++ l)

@@ -15,6 +15,6 @@ loop-told-preserved c =
           c.loop-told-test.true (sym c.ends_other.ensures ∙ w.if-ends_other.true) refl refl))
       | else-ends_other w ↦
           rw w.out-is (c.loop-told.invariant
-          ∙ ap (λ l. before ++ l) (ends-none c.args.ending (ends_other c.args.ending c.args.place) c.args.came.now c.loop-told.told-index _ _ c.loop-told-test.true
-          (sym c.ends_other.ensures ∙ w.if-ends_other.false) refl))
+          ∙ ap (λ l. before ++ l) (ends-none c.args.ending (ends_other c.args.ending c.args.place) c.args.came.now c.loop-told.told-index _ _
+          c.loop-told-test.true (sym c.ends_other.ensures ∙ w.if-ends_other.false) refl))
     ]

@@ -46,10 +46,17 @@ class Port:
         self.maker = maker
         self.closer = None
         self.sent = self.received = 0
+        self.most = 0  # how many values were in it at most after a step
+        self.fullest = None  # the place of the first entry after which they were
         self.sender = self.receiver = "nobody"
         # The places of values that only one of both ends is told of yet. A receiver may be told before its sender.
         self.not_received = collections.deque()
         self.not_sent = collections.deque()
+
+    def note_level(self, place):
+        """Takes in how many values are in it after the entry at this place."""
+        if self.sent - self.received > self.most:
+            self.most, self.fullest = self.sent - self.received, place
 
 
 class Story:
@@ -65,11 +72,12 @@ class Story:
         for place, entry in enumerate(self.entries):
             hub.step(entry.pid, entry.word, entry.asked)
             events, hub.events = hub.events, []
-            self.take(place, events)
+            for port in self.take(place, events):
+                port.note_level(place)
 
     def take(self, by, events):
-        """The first event answers the entry, and each other one ends a call that waits."""
-        stalled = []
+        """The first event answers the entry, and each other one ends a call that waits. The ports on which values moved."""
+        stalled, ports = [], []
         for number, event in enumerate(events):
             pid, words = event.split(" ", 1)
             place = self.waiting.pop(int(pid)) if number else by
@@ -77,10 +85,13 @@ class Story:
                 self.waiting[int(pid)] = place
             else:
                 self.finish(place, by, words)
+                if moves(self.entries[place]):
+                    ports.append(self.ports[fired(self.entries[place])[1] - 1])
             if words == "stalled":
                 stalled.append(place)
         if stalled:
             self.entries[by].below = ("        stall: everyone who is left waits", *self.leavers(), *self.waiters(stalled))
+        return ports
 
     def finish(self, place, by, words):
         entry = self.entries[place]
@@ -156,8 +167,9 @@ class Story:
         port = self.ports[number - 1]
         maker = self.entries[port.maker]
         counts = f"sent {port.sent} received {port.received} left {port.sent - port.received}"
+        most = f" most {port.most} at step {port.fullest + 1}" if port.most else ""
         closed = "" if port.closer is None else f" closed by P{self.entries[port.closer].pid} at step {port.closer + 1}"
-        return f"port {number} cap {maker.asked} {counts} made by P{maker.pid} at step {port.maker + 1}{closed}"
+        return f"port {number} cap {maker.asked} {counts}{most} made by P{maker.pid} at step {port.maker + 1}{closed}"
 
     def waits(self):
         """How many of the calls waited, and the lines of those that waited longest, the older of equal ones first."""

@@ -6,5 +6,6 @@ pub mod Movers
 pub mod Table
 pub mod StepTexts
 pub mod Written
+pub mod Levels
 pub mod Places
 pub mod Ranks

@@ -24,7 +24,8 @@ use Rattle.hub_story_text.specs.declared.port_moves.PortMove.{PortMove}
 use Rattle.hub_story_text.specs.declared.port_moves.PortMoves.{PortMoves}
 use Rattle.hub_story_text.specs.LastMoves.{got_port, sent_port}
 use Rattle.hub_story_text.specs.Partners.{both_ways, ways_of}
-use Rattle.hub_story_text.specs.PortMoves.{AreMore, AreMoves, move_at, move_of, paired, place_on, places_on, port_of}
+use Rattle.hub_story_text.specs.PortMoves.{AreMore, AreMoves, move_at, move_of, on_port, paired, places_on, port_of, steps_on}
+use Rattle.hub_story_text.proofs.Levels.{steps_of}
 use Rattle.hub_story_text.proofs.StepLines.{taken-next}
 
 -- ---- one event more
@@ -41,87 +42,111 @@ moves-next es told i d old new below was more = record {
       ∙ filter_map-append (move_of got_port es) (take i told) (get_or told i d ∷ []));
 }
 
--- ---- the places of a port's moves
+-- ---- what is read of a port's moves
 abbrev asked : Moved → ℕ
 asked m = m.told.asked
 
 abbrev moved : Told → Value → Moved
 moved t v = record { told = t; value = v }
 
+-- it is seen of their values
+abbrev IsSeen : (PortMove → ℕ) → (Moved → ℕ) → Type 0
+IsSeen read seen = (t : Told) (q : Port) (v : Value) → read (move_at t q) ≡ seen (moved t v)
+
 -- a move on the port is told with the value, and one on another with none
-one-port : (place : ℕ) (q p : Port) (v : Value) (t : Told) → place ≡ t.asked →
-    place_on p (move_at place q) ≡ option_map asked (option_map (moved t) (cond (q.0 == p.0) (Some v) None))
-one-port place q p v t at = by (q.0 == p.0)
+one-port : (read : PortMove → ℕ) (seen : Moved → ℕ) → IsSeen read seen → (q p : Port) (v : Value) (t : Told) →
+    on_port read p (move_at t q) ≡ option_map seen (option_map (moved t) (cond (q.0 == p.0) (Some v) None))
+one-port read seen same q p v t = by (q.0 == p.0)
   where
-    by : (b : Bool) → cond b (Some place) None ≡ option_map asked (option_map (moved t) (cond b (Some v) None))
-    by true = ap Some at
+    by : (b : Bool) → cond b (Some (read (move_at t q))) None ≡ option_map seen (option_map (moved t) (cond b (Some v) None))
+    by true = ap Some (same t q v)
     by false = refl
 
-sent-case : (p : Port) (t : Told) (c : Option Case) (o : Outcome) →
-    option_and_then (place_on p) (option_map (move_at t.asked) (port_of sent_port c o)) ≡ option_map asked (option_map (moved t) (sent_on p c o))
-sent-case p t None o = refl
-sent-case p t (Some (Recv q)) o = refl
-sent-case p t (Some (Send q v)) Sent = one-port t.asked q p v t refl
-sent-case p t (Some (Send q v)) (Got w) = refl
-sent-case p t (Some (Send q v)) Drained = refl
-sent-case p t (Some (Send q v)) Closed = refl
+sent-case : (read : PortMove → ℕ) (seen : Moved → ℕ) → IsSeen read seen → (p : Port) (t : Told) (c : Option Case) (o : Outcome) →
+    option_and_then (on_port read p) (option_map (move_at t) (port_of sent_port c o)) ≡ option_map seen (option_map (moved t) (sent_on p c o))
+sent-case read seen same p t None o = refl
+sent-case read seen same p t (Some (Recv q)) o = refl
+sent-case read seen same p t (Some (Send q v)) Sent = one-port read seen same q p v t
+sent-case read seen same p t (Some (Send q v)) (Got w) = refl
+sent-case read seen same p t (Some (Send q v)) Drained = refl
+sent-case read seen same p t (Some (Send q v)) Closed = refl
 
-got-case : (p : Port) (t : Told) (c : Option Case) (o : Outcome) →
-    option_and_then (place_on p) (option_map (move_at t.asked) (port_of got_port c o)) ≡ option_map asked (option_map (moved t) (got_on p c o))
-got-case p t None o = refl
-got-case p t (Some (Send q v)) o = refl
-got-case p t (Some (Recv q)) (Got w) = one-port t.asked q p w t refl
-got-case p t (Some (Recv q)) Sent = refl
-got-case p t (Some (Recv q)) Drained = refl
-got-case p t (Some (Recv q)) Closed = refl
+got-case : (read : PortMove → ℕ) (seen : Moved → ℕ) → IsSeen read seen → (p : Port) (t : Told) (c : Option Case) (o : Outcome) →
+    option_and_then (on_port read p) (option_map (move_at t) (port_of got_port c o)) ≡ option_map seen (option_map (moved t) (got_on p c o))
+got-case read seen same p t None o = refl
+got-case read seen same p t (Some (Send q v)) o = refl
+got-case read seen same p t (Some (Recv q)) (Got w) = one-port read seen same q p w t
+got-case read seen same p t (Some (Recv q)) Sent = refl
+got-case read seen same p t (Some (Recv q)) Drained = refl
+got-case read seen same p t (Some (Recv q)) Closed = refl
 
 -- what is picked of the case that fired is so of all that a process is told
-any-what : (port : Case → Outcome → Option Port) (value : Option Case → Outcome → Option Value) (p : Port) (t : Told) →
-    ((c : Option Case) (o : Outcome) →
-    option_and_then (place_on p) (option_map (move_at t.asked) (port_of port c o)) ≡ option_map asked (option_map (moved t) (value c o))) →
+any-what : (read : PortMove → ℕ) (seen : Moved → ℕ) (port : Case → Outcome → Option Port) (value : Option Case → Outcome → Option Value)
+    (p : Port) (t : Told) → ((c : Option Case) (o : Outcome) →
+    option_and_then (on_port read p) (option_map (move_at t) (port_of port c o)) ≡ option_map seen (option_map (moved t) (value c o))) →
     (cases : List Case) (w : What) →
-    option_and_then (place_on p) (option_map (move_at t.asked) (of_what (port_of port) cases w))
-    ≡ option_map asked (option_map (moved t) (of_what value cases w))
-any-what port value p t so cases (what.Fired i o) = so (slice_get cases i) o
-any-what port value p t so cases (what.Made q) = refl
-any-what port value p t so cases what.Default = refl
-any-what port value p t so cases what.Done = refl
-any-what port value p t so cases what.Parked = refl
-any-what port value p t so cases what.Stalled = refl
-any-what port value p t so cases (what.Fault f) = refl
-any-what port value p t so cases what.Cancelled = refl
+    option_and_then (on_port read p) (option_map (move_at t) (of_what (port_of port) cases w))
+    ≡ option_map seen (option_map (moved t) (of_what value cases w))
+any-what read seen port value p t so cases (what.Fired i o) = so (slice_get cases i) o
+any-what read seen port value p t so cases (what.Made q) = refl
+any-what read seen port value p t so cases what.Default = refl
+any-what read seen port value p t so cases what.Done = refl
+any-what read seen port value p t so cases what.Parked = refl
+any-what read seen port value p t so cases what.Stalled = refl
+any-what read seen port value p t so cases (what.Fault f) = refl
+any-what read seen port value p t so cases what.Cancelled = refl
 
 -- one move more, or none
-more-places : (p : Port) (o : Option PortMove) (q : Option Moved) (ms : List PortMove) (ns : List Moved) →
-    option_and_then (place_on p) o ≡ option_map asked q → places_on p ms ≡ map asked ns →
-    places_on p (cons_option o ms) ≡ map asked (cons_option q ns)
-more-places p None None ms ns is so = so
-more-places p None (Some n) ms ns is so = cc
-more-places p (Some m) q ms ns is so = ap (λ r. cons_option r (places_on p ms)) is ∙ by q
+more-read : (read : PortMove → ℕ) (seen : Moved → ℕ) (p : Port) (o : Option PortMove) (q : Option Moved) (ms : List PortMove) (ns : List Moved) →
+    option_and_then (on_port read p) o ≡ option_map seen q → filter_map (on_port read p) ms ≡ map seen ns →
+    filter_map (on_port read p) (cons_option o ms) ≡ map seen (cons_option q ns)
+more-read read seen p None None ms ns is so = so
+more-read read seen p None (Some n) ms ns is so = cc
+more-read read seen p (Some m) q ms ns is so = ap (λ r. cons_option r (filter_map (on_port read p) ms)) is ∙ by q
   where
-    by : (q : Option Moved) → cons_option (option_map asked q) (places_on p ms) ≡ map asked (cons_option q ns)
+    by : (q : Option Moved) → cons_option (option_map seen q) (filter_map (on_port read p) ms) ≡ map seen (cons_option q ns)
     by None = so
-    by (Some n) = ap (λ l. n.told.asked ∷ l) so
+    by (Some n) = ap (λ l. seen n ∷ l) so
 
-all-places : (port : Case → Outcome → Option Port) (value : Option Case → Outcome → Option Value) (es : List Entry) (p : Port) →
-    ((t : Told) → option_and_then (place_on p) (move_of port es t) ≡ option_map asked (moved_by value es t)) →
-    (ts : List Told) → places_on p (filter_map (move_of port es) ts) ≡ map asked (filter_map (moved_by value es) ts)
-all-places port value es p one [] = refl
-all-places port value es p one (t ∷ ts) =
-    more-places p (move_of port es t) (moved_by value es t) (filter_map (move_of port es) ts) (filter_map (moved_by value es) ts) (one t)
-    (all-places port value es p one ts)
+all-read : (read : PortMove → ℕ) (seen : Moved → ℕ) (port : Case → Outcome → Option Port) (value : Option Case → Outcome → Option Value)
+    (es : List Entry) (p : Port) → ((t : Told) → option_and_then (on_port read p) (move_of port es t) ≡ option_map seen (moved_by value es t)) →
+    (ts : List Told) → filter_map (on_port read p) (filter_map (move_of port es) ts) ≡ map seen (filter_map (moved_by value es) ts)
+all-read read seen port value es p one [] = refl
+all-read read seen port value es p one (t ∷ ts) =
+    more-read read seen p (move_of port es t) (moved_by value es t) (filter_map (move_of port es) ts) (filter_map (moved_by value es) ts) (one t)
+    (all-read read seen port value es p one ts)
 
+sent-read : (read : PortMove → ℕ) (seen : Moved → ℕ) → IsSeen read seen → (es : List Entry) (all : List Told) (moves : PortMoves) →
+    AreMoves es all moves → (p : Port) → filter_map (on_port read p) moves.sent.items ≡ map seen (sends es all p)
+sent-read read seen same es all moves so p =
+    ap (filter_map (on_port read p)) so.sent
+    ∙ all-read read seen sent_port (sent_on p) es p
+    (λ t. any-what read seen sent_port (sent_on p) p t (sent-case read seen same p t) (cases_at es t.asked) t.event.what) all
+
+received-read : (read : PortMove → ℕ) (seen : Moved → ℕ) → IsSeen read seen → (es : List Entry) (all : List Told) (moves : PortMoves) →
+    AreMoves es all moves → (p : Port) → filter_map (on_port read p) moves.received.items ≡ map seen (receives es all p)
+received-read read seen same es all moves so p =
+    ap (filter_map (on_port read p)) so.received
+    ∙ all-read read seen got_port (got_on p) es p
+    (λ t. any-what read seen got_port (got_on p) p t (got-case read seen same p t) (cases_at es t.asked) t.event.what) all
+
+-- their places
 sent-places : (es : List Entry) (all : List Told) (moves : PortMoves) → AreMoves es all moves → (p : Port) →
     places_on p moves.sent.items ≡ map asked (sends es all p)
-sent-places es all moves so p =
-    ap (places_on p) so.sent
-    ∙ all-places sent_port (sent_on p) es p (λ t. any-what sent_port (sent_on p) p t (sent-case p t) (cases_at es t.asked) t.event.what) all
+sent-places = sent-read (λ m. m.place) asked (λ t q v. refl)
 
 received-places : (es : List Entry) (all : List Told) (moves : PortMoves) → AreMoves es all moves → (p : Port) →
     places_on p moves.received.items ≡ map asked (receives es all p)
-received-places es all moves so p =
-    ap (places_on p) so.received
-    ∙ all-places got_port (got_on p) es p (λ t. any-what got_port (got_on p) p t (got-case p t) (cases_at es t.asked) t.event.what) all
+received-places = received-read (λ m. m.place) asked (λ t q v. refl)
+
+-- and their steps
+pub sent-steps : (es : List Entry) (all : List Told) (moves : PortMoves) → AreMoves es all moves → (p : Port) →
+    steps_on p moves.sent.items ≡ steps_of (sends es all p)
+sent-steps = sent-read (λ m. m.by) (λ m. m.told.by) (λ t q v. refl)
+
+pub received-steps : (es : List Entry) (all : List Told) (moves : PortMoves) → AreMoves es all moves → (p : Port) →
+    steps_on p moves.received.items ≡ steps_of (receives es all p)
+received-steps = received-read (λ m. m.by) (λ m. m.told.by) (λ t q v. refl)
 
 -- so they are as many
 pub sent-many : (es : List Entry) (all : List Told) (moves : PortMoves) → AreMoves es all moves → (p : Port) →
@@ -164,10 +189,10 @@ pairs-end (x ∷ xs) (y ∷ ys) (suc i) past = pairs-end xs ys i (omega (arith, 
 -- what one event more tells, where it says that a case fired
 pub fired-move : (pick : Case → Outcome → Option Port) (es : List Entry) (t : Told) (i : ℕ) (o : Outcome) (c : Option Case) → t.event.what ≡ what.Fired i o →
     slice_get (cases_at es t.asked) i ≡ c →
-    filter_map (move_of pick es) (t ∷ []) ≡ cons_option (option_map (move_at t.asked) (port_of pick c o)) []
+    filter_map (move_of pick es) (t ∷ []) ≡ cons_option (option_map (move_at t) (port_of pick c o)) []
 fired-move pick es t i o c fired is =
-    ap (λ w. cons_option (option_map (move_at t.asked) (of_what (port_of pick) (cases_at es t.asked) w)) []) fired
-    ∙ ap (λ c. cons_option (option_map (move_at t.asked) (port_of pick c o)) []) is
+    ap (λ w. cons_option (option_map (move_at t) (of_what (port_of pick) (cases_at es t.asked) w)) []) fired
+    ∙ ap (λ c. cons_option (option_map (move_at t) (port_of pick c o)) []) is
 
 -- no move more, and one
 pub no-move : (es : List Entry) (t : Told) (i : ℕ) (o : Outcome) (moves : PortMoves) → t.event.what ≡ what.Fired i o →
@@ -179,8 +204,8 @@ no-move es t i o moves fired is = record {
 
 pub one-move : (es : List Entry) (t : Told) (i : ℕ) (o : Outcome) (c : Case) (old new : PortMoves) → t.event.what ≡ what.Fired i o →
     slice_get (cases_at es t.asked) i ≡ Some c →
-    new.sent.items ≡ old.sent.items ++ cons_option (option_map (move_at t.asked) (sent_port c o)) [] →
-    new.received.items ≡ old.received.items ++ cons_option (option_map (move_at t.asked) (got_port c o)) [] → AreMore es t old new
+    new.sent.items ≡ old.sent.items ++ cons_option (option_map (move_at t) (sent_port c o)) [] →
+    new.received.items ≡ old.received.items ++ cons_option (option_map (move_at t) (got_port c o)) [] → AreMore es t old new
 one-move es t i o c old new fired is sent received = record {
   sent = sent ∙ ap (λ l. old.sent.items ++ l) (sym (fired-move sent_port es t i o (Some c) fired is));
   received = received ∙ ap (λ l. old.received.items ++ l) (sym (fired-move got_port es t i o (Some c) fired is));

@@ -13,10 +13,8 @@ use Rattle.hub_story_text.specs.declared.waits.TheConstants.{MOST_LONGEST}
 use Rattle.hub_story_text.specs.declared.waits.Wait.{Wait}
 use Rattle.hub_story_text.specs.declared.waits.Waits.{Waits}
 use Rattle.hub_story_text.specs.Waits.{AreWaits, longest, wait_of, waits_below, with_wait}
+use Rattle.hub_story_text.proofs.Levels.{not-below}
 use Rattle.hub_story_text.proofs.StepLines.{taken-next}
-
-not-below : (a b : ℕ) → b ≤ a → nat_lt a b ≡ false
-not-below a b h = grind arith
 
 -- ---- where a wait comes
 pub rank-next : (xs : List Wait) (i : ℕ) (d w : Wait) → i < length xs → w.steps ≤ (get_or xs i d).steps →

@@ -10,6 +10,7 @@ pub mod EndsText
 pub mod LineText
 pub mod WaiterText
 pub mod Closers
+pub mod Fullest
 pub mod PortText
 pub mod Waits
 pub mod StoryText

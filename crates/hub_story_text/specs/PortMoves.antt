@@ -18,13 +18,13 @@ abbrev pub port_of : (Case → Outcome → Option Port) → Option Case → Outc
 port_of pick None o = None
 port_of pick (Some c) o = pick c o
 
--- a call at this place moved a value through the port
-abbrev pub move_at : ℕ → Port → PortMove
-move_at place p = record { port = p; place = place }
+-- it tells that a call moved a value through the port
+abbrev pub move_at : Told → Port → PortMove
+move_at t p = record { port = p; place = t.asked; by = t.by }
 
 -- which call is told to have moved a value, where `pick` tells its port
 abbrev pub move_of : (Case → Outcome → Option Port) → List Entry → Told → Option PortMove
-move_of pick es t = option_map (move_at t.asked) (of_what (port_of pick) (cases_at es t.asked) t.event.what)
+move_of pick es t = option_map (move_at t) (of_what (port_of pick) (cases_at es t.asked) t.event.what)
 
 -- all that are told, in order
 pub record AreMoves (es : List Entry) (all : List Told) (moves : PortMoves) : Type 0 where
@@ -36,13 +36,17 @@ pub record AreMore (es : List Entry) (t : Told) (old new : PortMoves) : Type 0 w
   pub sent : new.sent.items ≡ old.sent.items ++ filter_map (move_of sent_port es) (t ∷ [])
   pub received : new.received.items ≡ old.received.items ++ filter_map (move_of got_port es) (t ∷ [])
 
--- the place of the call, where it moved its value through this port
-abbrev pub place_on : Port → PortMove → Option ℕ
-place_on p m = if m.port.0 == p.0 then Some m.place else None
+-- what is read of the call, where it moved its value through this port
+abbrev pub on_port : (PortMove → ℕ) → Port → PortMove → Option ℕ
+on_port read p m = if m.port.0 == p.0 then Some (read m) else None
 
 -- the places of those that did
 abbrev pub places_on : Port → List PortMove → List ℕ
-places_on p ms = filter_map (place_on p) ms
+places_on p ms = filter_map (on_port (λ m. m.place) p) ms
+
+-- the places of the steps by which they did
+abbrev pub steps_on : Port → List PortMove → List ℕ
+steps_on p ms = filter_map (on_port (λ m. m.by) p) ms
 
 -- each of the first places with the second that stands beside it, both ways
 abbrev pub paired : List ℕ → List ℕ → List (ℕ × ℕ)

@@ -1,5 +1,5 @@
 -- What each port that was made carried, and by whom it was made and closed.
-use Rattle.std.specs.Prelude.{ℕ, ◌+◌, ◌-◌, List, [], ◌++◌, Option, None, Some, codes, decimal, length, slice_get}
+use Rattle.std.specs.Prelude.{ℕ, ◌+◌, ◌-◌, ◌==◌, if◌then◌else◌, List, [], ◌++◌, Option, None, Some, codes, decimal, length, slice_get}
 use Rattle.std.specs.Option.{option_map_or}
 use Rattle.hub_base.specs.declared.value.Port.{Port}
 use Rattle.hub_base.specs.declared.entry.Entry.{Entry}
@@ -9,7 +9,9 @@ use Rattle.hub_base.specs.declared.event.What.{What}
 use Rattle.hub_base.specs.declared.event.What.TheVariants as what
 use Rattle.hub_story.specs.declared.told.Told.{Told}
 use Rattle.hub_story.specs.Levels.{sent_by, received_by}
+use Rattle.hub_story_text.specs.declared.fullest.Fullest.{Fullest}
 use Rattle.hub_story_text.specs.Closers.{closer_of}
+use Rattle.hub_story_text.specs.Fullest.{fullest}
 
 abbrev pub cap_words : Step → List ℕ
 cap_words (Make cap) = codes " cap " ++ decimal cap
@@ -19,6 +21,10 @@ cap_words other = []
 abbrev pub counts_words : ℕ → ℕ → List ℕ
 counts_words sent received =
     codes " sent " ++ decimal sent ++ codes " received " ++ decimal received ++ codes " left " ++ decimal (sent - received)
+
+-- how much a port held at most, if anything, and after which step first
+abbrev pub most_words : Fullest → List ℕ
+most_words full = if full.most == 0 then [] else codes " most " ++ decimal full.most ++ codes " at step " ++ decimal (full.place + 1)
 
 -- by whom, behind these words
 abbrev pub by_words : List ℕ → Told → List ℕ
@@ -33,8 +39,8 @@ closer_words (Some t) = by_words (codes " closed by P") t
 abbrev pub port_line : List Entry → List Told → Told → Port → List ℕ
 port_line es all t p =
     codes "port " ++ decimal p.0 ++ option_map_or (λ e. cap_words e.step) (slice_get es t.asked) []
-    ++ counts_words (sent_by es all p (length es)) (received_by es all p (length es)) ++ by_words (codes " made by P") t
-    ++ closer_words (closer_of es all p) ++ codes "\n"
+    ++ counts_words (sent_by es all p (length es)) (received_by es all p (length es)) ++ most_words (fullest es all p (length es))
+    ++ by_words (codes " made by P") t ++ closer_words (closer_of es all p) ++ codes "\n"
 
 -- nothing of any other event
 abbrev pub made_line : List Entry → List Told → Told → What → List ℕ

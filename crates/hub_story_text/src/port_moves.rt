@@ -1,4 +1,4 @@
-//! Which calls moved values, and through which ports: all of them in one pass over what is told, in 8 bytes each.
+//! Which calls moved values, and through which ports: all of them in one pass over what is told, in 12 bytes each.
 
 ghost use Rattle.std.specs.Prelude.{◌≡◌, ◌++◌, List, [], IfOk, OnOk, length};
 ghost use Rattle.std.specs.List.{cons_option};
@@ -6,9 +6,11 @@ ghost use Rattle.std.specs.Option.{option_map};
 ghost use Rattle.hub_base.specs.declared.entry.Entry.{Entry};
 ghost use Rattle.hub_story.specs.declared.told.Told.{Told};
 ghost use Rattle.hub_story.specs.Passing.{receives, sends};
-ghost use Rattle.hub_story_text.specs.PortMoves.{AreMore, AreMoves, move_at, places_on};
+ghost use Rattle.hub_story_text.specs.Fullest.{IsUp, fullest_of};
+ghost use Rattle.hub_story_text.specs.PortMoves.{AreMore, AreMoves, move_at, places_on, steps_on};
 
 use crate::entries::{case_of, cases_at};
+use crate::fullest::{Fullest, fullest_of};
 use crate::last_moves::{got_port, sent_port};
 use hub_base::{Entry, Port, What};
 use hub_story::{Level, Told};
@@ -21,6 +23,8 @@ pub(crate) struct PortMove {
     pub(crate) port: Port,
     /// The place of its entry.
     pub(crate) place: u32,
+    /// The place of the entry by whose step.
+    pub(crate) by: u32,
 }
 
 /// The calls that moved values, in the order in which the values moved.
@@ -32,12 +36,16 @@ pub(crate) struct PortMoves {
     pub(crate) received: Vec<PortMove>,
 }
 
-/// Takes in that a call at this place moved a value through the port, if there is one.
-fn push_move(moves: &mut Vec<PortMove>, port: Option<Port>, place: u32) -> Result<(), AllocError>
-    ensures { OnOk result (moves.new.items ≡ moves.old.items ++ cons_option (option_map (move_at place) port) []) }
+/// Takes in that a call is told to have moved a value through the port, if there is one.
+fn push_move(moves: &mut Vec<PortMove>, port: Option<Port>, told: &Told) -> Result<(), AllocError>
+    ensures { OnOk result (moves.new.items ≡ moves.old.items ++ cons_option (option_map (move_at told.now) port) []) }
 {
     if let Some(port) = port {
-        moves.push(PortMove { port, place })?;
+        moves.push(PortMove {
+            port,
+            place: told.asked,
+            by: told.by,
+        })?;
     }
     Ok(())
 }
@@ -53,8 +61,8 @@ impl PortMoves {
         let Some(case) = case_of(cases_at(entries, told.asked), case) else {
             return Ok(());
         };
-        push_move(&mut self.sent, sent_port(case, outcome), told.asked)?;
-        push_move(&mut self.received, got_port(case, outcome), told.asked)
+        push_move(&mut self.sent, sent_port(case, outcome), told)?;
+        push_move(&mut self.received, got_port(case, outcome), told)
     }
 
     /// All that are told of these entries.
@@ -87,6 +95,18 @@ impl PortMoves {
             received: count_on(&self.received, port),
         }
     }
+
+    /// What the port held at most, and after which step first.
+    pub(crate) fn fullest(&self, alloc: Global, port: Port) -> Result<Fullest, AllocError>
+        requires sent { IsUp 0 (steps_on port self.now.sent.items) }
+        requires received { IsUp 0 (steps_on port self.now.received.items) }
+        ensures { IfOk result (λ full.
+            full ≡ fullest_of (steps_on port self.now.sent.items) (steps_on port self.now.received.items)) }
+    {
+        let sent = steps_on(alloc, &self.sent, port)?;
+        let received = steps_on(alloc, &self.received, port)?;
+        Ok(fullest_of(&sent, &received))
+    }
 }
 
 /// The places of the calls that moved their values through this port, in order.
@@ -104,6 +124,19 @@ pub(crate) fn places_on(
         }
     }
     Ok(places)
+}
+
+/// The places of the steps by which the calls moved their values through this port, in order.
+fn steps_on(alloc: Global, moves: &[PortMove], port: Port) -> Result<Vec<u32>, AllocError>
+    ensures { IfOk result (λ steps. steps.items ≡ steps_on port moves.now) }
+{
+    let mut steps = Vec::new(alloc);
+    for moved in moves {
+        if moved.port.0 == port.0 {
+            steps.push(moved.by)?;
+        }
+    }
+    Ok(steps)
 }
 
 /// How many there are.

@@ -4,11 +4,13 @@ ghost use Rattle.std.specs.Prelude.{◌≡◌, ◌++◌, filter, length, slice_g
 ghost use Rattle.std.specs.List.{flat_map};
 ghost use Rattle.std.specs.Option.{option_map_or};
 ghost use Rattle.hub_story.specs.Levels.{told_by};
+ghost use Rattle.hub_story.specs.Stories.{IsFrom};
 ghost use Rattle.hub_story_text.specs.Closers.{is_close};
 ghost use Rattle.hub_story_text.specs.PortMoves.{AreMoves};
-ghost use Rattle.hub_story_text.specs.PortText.{by_words, cap_words, closer_words, counts_words, made_line, port_line};
+ghost use Rattle.hub_story_text.specs.PortText.{by_words, cap_words, closer_words, counts_words, made_line, most_words, port_line};
 
 use crate::closers::{closer_of, closes_of};
+use crate::fullest::Fullest;
 use crate::numbers::{number_of, put_number};
 use crate::port_moves::PortMoves;
 use hub_base::{Journal, Port, Step, What};
@@ -42,6 +44,17 @@ fn put_counts(out: &mut Vec<u8>, level: Level) -> Result<(), AllocError>
     )
 }
 
+/// Appends how much a port held at most, if anything, and after which step first.
+fn put_most(out: &mut Vec<u8>, full: Fullest) -> Result<(), AllocError>
+    ensures { OnOk result (out.new.items ≡ out.old.items ++ most_words full) }
+{
+    if full.most == 0 {
+        return Ok(());
+    }
+    put_number(out, b" most ", full.most as u64)?;
+    put_number(out, b" at step ", number_of(full.place))
+}
+
 /// Appends by whom, behind these words.
 fn put_by(out: &mut Vec<u8>, words: &[u8], told: &Told) -> Result<(), AllocError>
     ensures { OnOk result (out.new.items ≡ out.old.items ++ by_words words.now told.now) }
@@ -72,6 +85,7 @@ fn put_port(
 ) -> Result<(), AllocError>
     requires whole { told_by (length journal.now.entries) story.now.told.items ≡ story.now.told.items }
     requires moves { AreMoves journal.now.entries story.now.told.items moves.now }
+    requires order { IsFrom 0 story.now.told.items }
     requires closes { closes.now ≡ filter (is_close journal.now.entries) story.now.told.items }
     ensures { OnOk result (out.new.items ≡
         out.old.items ++ port_line journal.now.entries story.now.told.items told.now port) }
@@ -79,6 +93,7 @@ fn put_port(
     put_number(out, b"port ", port.0.into())?;
     put_cap(out, journal, told.asked)?;
     put_counts(out, moves.level(port))?;
+    put_most(out, moves.fullest(*out.allocator(), port)?)?;
     put_by(out, b" made by P", told)?;
     put_closer(out, closer_of(journal.entries(), closes, port))?;
     out.extend_from_slice(b"\n")?;
@@ -94,6 +109,7 @@ pub(crate) fn put_ports(
 ) -> Result<(), AllocError>
     requires whole { told_by (length journal.now.entries) story.now.told.items ≡ story.now.told.items }
     requires moves { AreMoves journal.now.entries story.now.told.items moves.now }
+    requires order { IsFrom 0 story.now.told.items }
     ensures { OnOk result (out.new.items ≡ out.old.items
         ++ flat_map (λ t. made_line journal.now.entries story.now.told.items t t.event.what) story.now.told.items) }
 {

@@ -1,13 +1,30 @@
-use Rattle.std.proofs.Common.{◌≡◌, ◌∙◌, ◌++◌, ap, sym, codes, decimal, length, slice_get, []}
+use Rattle.std.proofs.Common.{◌≡◌, ◌∙◌, ◌++◌, ap, subst, sym, codes, decimal, length, slice_get, []}
 use Rattle.std.specs.Option.{option_map_or}
 use Rattle.hub_base.specs.declared.entry.Entry.{Entry}
 use Rattle.hub_story.specs.Levels.{received_by, sent_by}
 use Rattle.hub_story.specs.Passing.{receives, sends}
 use Rattle.hub_story_text.specs.Closers.{closer_of}
-use Rattle.hub_story_text.specs.PortText.{by_words, cap_words, closer_words, counts_words}
+use Rattle.hub_story_text.specs.Fullest.{IsUp, fullest, fullest_of}
+use Rattle.hub_story_text.specs.PortMoves.{steps_on}
+use Rattle.hub_story_text.specs.PortText.{by_words, cap_words, closer_words, counts_words, most_words}
+use Rattle.hub_base.specs.Values.{got_on, sent_on}
 use Rattle.hub_story_text.proofs.Chains.{one-more, two}
 use Rattle.hub_story_text.proofs.Closings.{among-closes}
+use Rattle.hub_story_text.proofs.Levels.{fullest-is, steps_of, steps-up}
+use Rattle.hub_story_text.proofs.Places.{received-steps, sent-steps}
 use Rattle.hub_story_text.proofs.ports.put_port.Goals as goal
+
+pub fullest-requires-clause-sent : goal.fullest-requires-clause-sent
+fullest-requires-clause-sent c =
+    let es = c.args.journal.now.entries in
+    let told = c.args.story.now.told.items in
+    subst (IsUp 0) (sym (sent-steps es told c.args.moves.now c.requires.moves c.args.port)) (steps-up (sent_on c.args.port) es 0 told c.requires.order)
+
+pub fullest-requires-clause-received : goal.fullest-requires-clause-received
+fullest-requires-clause-received c =
+    let es = c.args.journal.now.entries in
+    let told = c.args.story.now.told.items in
+    subst (IsUp 0) (sym (received-steps es told c.args.moves.now c.requires.moves c.args.port)) (steps-up (got_on c.args.port) es 0 told c.requires.order)
 
 pub returns : goal.returns
 returns c =
@@ -21,6 +38,11 @@ returns c =
     let received : c.level.result.received ≡ received_by es told p (length es) =
     c.level.ensures.received es told c.requires.moves ∙ ap (λ l. length (receives es l p)) (sym c.requires.whole) in
     let counts = counts_words (sent_by es told p (length es)) (received_by es told p (length es)) in
+    let full = fullest es told p (length es) in
+    let is-full : c.in_ok-fullest.field-0 ≡ full =
+    c.in_ok-fullest.ensures ∙ ap (λ l. fullest_of l (steps_on p c.args.moves.now.received.items)) (sent-steps es told c.args.moves.now c.requires.moves p)
+    ∙ ap (fullest_of (steps_of (sends es told p))) (received-steps es told c.args.moves.now c.requires.moves p)
+    ∙ fullest-is es told p (length es) c.requires.order c.requires.whole in
     let closer : c.closer_of.result ≡ closer_of es told p =
     c.closer_of.ensures ∙ ap (λ l. closer_of l c.args.closes.now p) c.entries.ensures ∙ ap (λ l. closer_of es l p) c.requires.closes
     ∙ among-closes es p told in
@@ -31,9 +53,13 @@ returns c =
     let at-counts = one-more out c.put_cap.new.out.items c.put_counts.new.out.items (before ++ cap) counts at-cap
     (c.in_ok-put_counts.ensures ∙ ap (λ n. c.put_cap.new.out.items ++ counts_words n c.level.result.received) sent
     ∙ ap (λ n. c.put_cap.new.out.items ++ counts_words (sent_by es told p (length es)) n) received) in
-    let at-made = one-more out c.put_counts.new.out.items c.put_by.new.out.items (before ++ cap ++ counts) made at-counts c.in_ok-put_by.ensures in
-    let at-closer = one-more out c.put_by.new.out.items c.put_closer.new.out.items (before ++ cap ++ counts ++ made)
+    let at-most = one-more out c.put_counts.new.out.items c.put_most.new.out.items (before ++ cap ++ counts) (most_words full) at-counts
+    (c.in_ok-put_most.ensures ∙ ap (λ f. c.put_counts.new.out.items ++ most_words f) is-full) in
+    let at-made = one-more out c.put_most.new.out.items c.put_by.new.out.items (before ++ cap ++ counts ++ most_words full) made at-most
+    c.in_ok-put_by.ensures in
+    let at-closer = one-more out c.put_by.new.out.items c.put_closer.new.out.items (before ++ cap ++ counts ++ most_words full ++ made)
     (closer_words (closer_of es told p)) at-made
     (c.in_ok-put_closer.ensures ∙ ap (λ t. c.put_by.new.out.items ++ closer_words t) closer) in
-    one-more out c.put_closer.new.out.items c.extend_from_slice.new.self.items (before ++ cap ++ counts ++ made ++ closer_words (closer_of es told p))
+    one-more out c.put_closer.new.out.items c.extend_from_slice.new.self.items
+    (before ++ cap ++ counts ++ most_words full ++ made ++ closer_words (closer_of es told p))
     (codes "\n") at-closer c.in_ok-extend_from_slice.ensures.items

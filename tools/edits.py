@@ -74,7 +74,8 @@ class Edit:
 
 
 def function_at(file, before):
-    """The path below its crate of the function that a text ends in, or of its module where that is no plain function."""
+    """By what a check names the function that a text ends in: its path below the crate, or the end of that of a method, which
+    goes by the place of its type. Of what is no plain function, the module."""
     module = [it for it in file[len('src/'):-len('.rt')].split('/') if it not in ('lib', 'main')]
     functions = list(FUNCTION.finditer(before))
     if not functions:
@@ -86,7 +87,7 @@ def function_at(file, before):
     words = re.sub(r'<(?:[^<>]|<[^<>]*>)*>', '', block[len('impl'):]).split()
     if 'for' in words:
         return '::'.join(module)
-    return '::'.join(module + [words[0], name])
+    return words[0] + '::' + name
 
 
 def copy_of(crate, room, texts):

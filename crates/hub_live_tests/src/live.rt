@@ -1,67 +1,105 @@
-//! The live hub, in one thread and in several, and crews.
+//! The live hub, in one thread and in several, and crews: what is asked, and what is told, in the short words of the tables.
 
-use hub_base::{
-    Case, Cases, CasesExt, Counts, Entry, Event, Outcome, Pid, Port, Step, Value, What,
-};
+use crate::compare::same;
+use hub_base::{Counts, Event, Fault, Outcome, Pid, Port, Value, What};
+use std::process::Abort;
 
 mod locked;
 mod one_thread;
-pub(crate) mod opened;
 mod refusals;
-mod tasks;
-mod threads;
+pub(crate) mod rows;
+pub(crate) mod stories;
+pub(crate) mod tasks;
+pub(crate) mod threads;
+
+/// What a process asks for: of port 1, where nothing else is said.
+#[derive(Clone, Copy)]
+pub(crate) enum Ask {
+    /// A channel of this capacity.
+    Make(u32),
+    /// A send of this number.
+    Send(u64),
+    /// A receive.
+    Recv,
+    /// A receive from the nil port.
+    RecvNil,
+    /// A close.
+    Close,
+    /// The end of the open call of process 1.
+    Cancel,
+    /// Its exit.
+    Exit,
+}
+
+/// What a process is told.
+#[derive(Clone, Copy)]
+pub(crate) enum Told {
+    /// Its step is answered so.
+    Is(What),
+    /// It received this number.
+    Got(u64),
+    /// Its step is refused.
+    Refused(Fault),
+}
+
+pub(crate) const MADE: Told = Told::Is(What::Made(Port(1)));
+
+pub(crate) const SENT: Told = Told::Is(What::Fired {
+    case: 0,
+    outcome: Outcome::Sent,
+});
+
+pub(crate) const DRAINED: Told = Told::Is(What::Fired {
+    case: 0,
+    outcome: Outcome::Drained,
+});
+
+pub(crate) const DONE: Told = Told::Is(What::Done);
+
+pub(crate) const PARKED: Told = Told::Is(What::Parked);
+
+pub(crate) const STALLED: Told = Told::Is(What::Stalled);
 
 /// One value was sent, and waits in the buffer.
-const ONE_WAITS: Counts = Counts {
+pub(crate) const ONE_WAITS: Counts = Counts {
     len: 1,
     sent: 1,
     received: 0,
     closed: false,
 };
 
-fn entry(pid: u8, step: Step) -> Entry {
-    Entry {
-        pid: Pid(pid),
-        step,
+/// Nothing was sent.
+pub(crate) const UNUSED: Counts = Counts {
+    len: 0,
+    sent: 0,
+    received: 0,
+    closed: false,
+};
+
+/// Nothing was sent, and the port is closed.
+pub(crate) const SHUT: Counts = Counts {
+    len: 0,
+    sent: 0,
+    received: 0,
+    closed: true,
+};
+
+/// How the step of a process is answered that is told this.
+fn answer(pid: Pid, told: Told) -> Result<Event, Fault> {
+    match told {
+        Told::Is(what) => Ok(Event { pid, what }),
+        Told::Got(number) => Ok(Event {
+            pid,
+            what: What::Fired {
+                case: 0,
+                outcome: Outcome::Got(Value::num(number)),
+            },
+        }),
+        Told::Refused(fault) => Err(fault),
     }
 }
 
-/// Process 0 makes a channel.
-fn make(cap: u32) -> Entry {
-    entry(0, Step::Make(cap))
-}
-
-/// A call of one case.
-fn call(pid: u8, case: Case) -> Entry {
-    let step = Step::Call {
-        cases: Cases::one(case),
-        default: false,
-        word: 0,
-    };
-    entry(pid, step)
-}
-
-/// A send of 9 on port 1.
-fn send(pid: u8) -> Entry {
-    call(pid, Case::Send(Port(1), Value::num(9)))
-}
-
-/// A receive from port 1.
-fn recv(pid: u8) -> Entry {
-    call(pid, Case::Recv(Port(1)))
-}
-
-fn told(pid: u8, what: What) -> Event {
-    Event {
-        pid: Pid(pid),
-        what,
-    }
-}
-
-pub(crate) fn fired(pid: u8, outcome: Outcome) -> Event {
-    told(pid, What::Fired { case: 0, outcome })
-}
-
-pub(crate) fn got(pid: u8, number: u64) -> Event {
-    fired(pid, Outcome::Got(Value::num(number)))
+/// The step of this process is answered as it is told.
+fn compare(rt: &impl Abort, found: Result<Event, Fault>, pid: Pid, told: Told, place: usize) {
+    same(rt, found, answer(pid, told), place);
 }

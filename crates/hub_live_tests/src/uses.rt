@@ -1,61 +1,80 @@
 //! Each use of `hub_uses`, once.
 
 use crate::compare::same;
-use crate::live::opened::{Opened, Runtime, Story, make_first, tell};
-use crate::live::{fired, got};
-use hub_base::{Counts, Outcome, Pid, Port, Value};
+use crate::live::rows::Act;
+use crate::live::stories::{Runtime, Story, tell};
+use crate::live::tasks::Crew;
+use crate::live::threads::told_by;
+use crate::live::{Ask, DONE, MADE, SENT, SHUT};
+use hub_base::{Event, Fault, Pid, Port};
 use hub_crew::Member;
 use hub_live::{Chan, Held, HubName, LiveHub};
-use hub_uses::{Pool, Stopped, Work, hand_over, poll, share, waiting};
+use hub_uses::{Pool, Stopped, Work, hand_over};
 use std::process::Abort;
-use std::sync::Wait;
-use std::test::*;
+use std::test::Fail;
 
 #[test]
 fn value_is_handed_over(rt: HostRuntime) -> Result<(), Fail> {
-    tell(&rt, 2, 1000, Story::HandingOver)
+    let story = Story {
+        procs: 2,
+        limit: 1000,
+        rows: &[(0, Act::Makes(0, Ok(1)))],
+        crew: Crew::HandOver,
+        entries: Some(3),
+    };
+    tell(&rt, &story)
 }
 
-pub fn hand_nine_over<K: HubName + Send + Sync, R: Runtime>(
-    opened: Opened<K, R>,
-) -> Result<(), Fail> {
-    let Opened { rt, hub, mut seats } = opened;
-    let chan = make_first(rt, &hub, &mut seats, 0)?;
-    hand_over_by(rt, &hub, seats, chan)
-}
-
-fn hand_over_by<K: HubName + Send + Sync, R: Runtime>(
+/// The seats are not given back.
+pub(crate) fn hand_nine_over<K: HubName + Send + Sync, R: Runtime>(
     rt: &R,
     hub: &LiveHub<K>,
     seats: Vec<Held<K>>,
-    chan: Chan,
-) -> Result<(), Fail> {
-    let mut done = hand_over(rt, rt.alloc(), hub, seats, chan)?;
-    for answer in [got(1, 9), fired(0, Outcome::Sent)] {
-        let member = done.pop().ok_or("two threads")?;
-        same(rt, member.report, Ok(answer), "report");
+) -> Result<Vec<Held<K>>, Fail> {
+    let members = hand_over(rt, rt.alloc(), hub, seats, Chan::of(Port(1)))?;
+    each_has_its_answer(rt, &members);
+    Ok(Vec::new(rt.alloc()))
+}
+
+fn each_has_its_answer<K: HubName>(rt: &impl Abort, members: &[Member<K, Result<Event, Fault>>]) {
+    same(rt, members.len(), 2, "members");
+    for member in members {
+        let pid = member.seat.pid();
+        same(rt, Some(member.report), told_by(Crew::Pass, pid), pid);
     }
-    Ok(())
 }
 
 // Three workers and 20 jobs: whoever does them, they are 20, and their numbers' sum is 210.
 #[test]
 fn pool_does_each_job_once(rt: HostRuntime) -> Result<(), Fail> {
-    tell(&rt, 4, 1000, Story::WorkingOff)
+    let story = Story {
+        procs: 4,
+        limit: 1000,
+        rows: &[(0, Act::Makes(2, Ok(1)))],
+        crew: Crew::WorkOff,
+        entries: Some(45),
+    };
+    tell(&rt, &story)
 }
 
-pub fn work_off<K: HubName + Send + Sync, R: Runtime>(opened: Opened<K, R>) -> Result<(), Fail> {
-    let Opened { rt, hub, mut seats } = opened;
-    let chan = make_first(rt, &hub, &mut seats, 2)?;
-    let pool = Pool { chan, jobs: 20 };
-    add_jobs(rt, &pool.work_off(rt, rt.alloc(), &hub, seats)?);
-    Ok(())
+/// The seats are not given back.
+pub(crate) fn work_off<K: HubName + Send + Sync, R: Runtime>(
+    rt: &R,
+    hub: &LiveHub<K>,
+    seats: Vec<Held<K>>,
+) -> Result<Vec<Held<K>>, Fail> {
+    let pool = Pool {
+        chan: Chan::of(Port(1)),
+        jobs: 20,
+    };
+    add_jobs(rt, &pool.work_off(rt, rt.alloc(), hub, seats)?);
+    Ok(Vec::new(rt.alloc()))
 }
 
 fn add_jobs<K: HubName>(rt: &impl Abort, done: &[Member<K, Result<Work, Stopped>>]) {
     let (mut all, mut total) = (0u32, 0u64);
     for member in done {
-        let (jobs, sum) = jobs_and_sum(rt, member);
+        let (jobs, sum) = jobs_and_sum(rt, member.report, member.seat.pid());
         all = all.saturating_add(jobs);
         total = total.saturating_add(sum);
     }
@@ -63,13 +82,10 @@ fn add_jobs<K: HubName>(rt: &impl Abort, done: &[Member<K, Result<Work, Stopped>
 }
 
 /// What a member of the pool did. Only process 0 hands out.
-fn jobs_and_sum<K: HubName>(
-    rt: &impl Abort,
-    member: &Member<K, Result<Work, Stopped>>,
-) -> (u32, u64) {
-    match member.report {
+fn jobs_and_sum(rt: &impl Abort, report: Result<Work, Stopped>, pid: Pid) -> (u32, u64) {
+    match report {
         Ok(Work::HandedOut) => {
-            same(rt, member.seat.pid(), Pid(0), "who hands out");
+            same(rt, pid, Pid(0), "who hands out");
             (0, 0)
         }
         Ok(Work::Did { jobs, sum }) => (jobs, sum),
@@ -77,60 +93,46 @@ fn jobs_and_sum<K: HubName>(
     }
 }
 
+const POLLING: &[(u8, Act)] = &[
+    (0, Act::Makes(1, Ok(1))),
+    (0, Act::Makes(1, Ok(2))),
+    (0, Act::Polls(None)),
+    (0, Act::Asks(Ask::Send(5), SENT)),
+    (0, Act::Holds(2, 0)),
+    (0, Act::Holds(1, 1)),
+    (0, Act::Polls(Some(5))),
+    (0, Act::Holds(1, 0)),
+];
+
 // A poll finds nothing, and then the value of the channel that has one.
 #[test]
 fn poll_takes_what_is_there(rt: HostRuntime) -> Result<(), Fail> {
-    tell(&rt, 1, 1000, Story::Polling)
+    let story = Story {
+        procs: 1,
+        limit: 1000,
+        rows: POLLING,
+        crew: Crew::None,
+        entries: Some(5),
+    };
+    tell(&rt, &story)
 }
 
-pub fn poll_both<K: HubName, R: Runtime>(opened: Opened<K, R>) -> Result<(), Fail> {
-    let Opened { rt, hub, mut seats } = opened;
-    let one = make_first(rt, &hub, &mut seats, 1)?;
-    poll_twice(rt, &hub, seats.first_mut().ok_or("one seat")?, one)
-}
-
-fn poll_twice<K: HubName, R: Wait + Abort>(
-    rt: &R,
-    hub: &LiveHub<K>,
-    seat: &mut Held<K>,
-    one: Chan,
-) -> Result<(), Fail> {
-    let two = seat.make_chan(rt, hub, 1)?;
-    same(rt, poll(rt, hub, seat, one, two, 0)?, None, "nothing");
-    let five = Value::num(5);
-    seat.send(rt, hub, &two.sender(), five)?;
-    same(rt, waiting(hub, seat, one), 0, "first");
-    same(rt, waiting(hub, seat, two), 1, "second");
-    same(rt, poll(rt, hub, seat, one, two, 0)?, Some(five), "five");
-    same(rt, waiting(hub, seat, two), 0, "none left");
-    Ok(())
-}
+const SHARING: &[(u8, Act)] = &[
+    (0, Act::Asks(Ask::Make(0), MADE)),
+    (0, Act::Asks(Ask::Close, DONE)),
+    (0, Act::Shares),
+    (1, Act::Sees(1, Some(SHUT))),
+];
 
 // The second process knows of the close once both have met.
 #[test]
 fn meeting_passes_on_a_close(rt: HostRuntime) -> Result<(), Fail> {
-    tell(&rt, 2, 1000, Story::Sharing)
-}
-
-pub fn share_close<K: HubName, R: Runtime>(opened: Opened<K, R>) -> Result<(), Fail> {
-    let Opened { rt, hub, mut seats } = opened;
-    let chan = make_first(rt, &hub, &mut seats, 0)?;
-    let mut second = seats.pop().ok_or("two seats")?;
-    let first = seats.first_mut().ok_or("two seats")?;
-    close_and_share(rt, &hub, first, &mut second, chan)
-}
-
-fn close_and_share<K: HubName, R: Wait + Abort>(
-    rt: &R,
-    hub: &LiveHub<K>,
-    first: &mut Held<K>,
-    second: &mut Held<K>,
-    chan: Chan,
-) -> Result<(), Fail> {
-    first.close(rt, hub, &chan.sender())?;
-    share(hub, first, second);
-    let mut counts = Counts::default();
-    counts.closed = true;
-    same(rt, second.look(hub, Port(1)), Some(counts), "closed");
-    Ok(())
+    let story = Story {
+        procs: 2,
+        limit: 1000,
+        rows: SHARING,
+        crew: Crew::None,
+        entries: Some(2),
+    };
+    tell(&rt, &story)
 }

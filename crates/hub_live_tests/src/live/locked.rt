@@ -1,28 +1,55 @@
 //! Which answers wait for which process under the lock of a live hub.
 
-use super::{ONE_WAITS, call, entry, fired, got, make, recv, send, told};
+use super::{Ask, DONE, DRAINED, MADE, ONE_WAITS, PARKED, SENT, STALLED, Told, answer, compare};
 use crate::compare::same;
-use hub_base::{Case, Edition, Entry, Event, Fault, Look, Outcome, Pid, Port, Step, What};
+use hub_base::{
+    Case, Cases, CasesExt, Counts, Edition, Entry, Event, Fault, Look, Pid, Port, Step, Value, What,
+};
 use hub_core::Hub;
 use hub_live::under_lock::Locked;
 use std::alloc::Global;
 use std::process::Abort;
-use std::test::*;
+use std::test::Fail;
 
-/// A hub of so many processes and this limit, where these steps were made.
-fn locked_after(
-    rt: &impl Abort,
-    alloc: Global,
-    procs: u8,
-    limit: u32,
-    steps: &[Entry],
-) -> Result<Locked, Fail> {
-    let mut locked = Locked::of(Hub::open(alloc, procs, limit, Edition::Two)?);
-    assert!(rt; locked.head().edition == Edition::Two);
-    for entry in steps {
-        let _answer = make_step(rt, &mut locked, entry.copy())?;
+/// What happens under the lock.
+#[derive(Clone, Copy)]
+enum Row {
+    /// The process makes a step, and is told.
+    Asks(u8, Ask, Told),
+    /// This answer waits for the process, and is taken.
+    Takes(u8, Told),
+    /// No answer waits for it.
+    FindsNone(u8),
+    /// The step before ended the call of process 1 and no other, or none.
+    Ended(&'static [Pid]),
+    /// Port 1 has a place, and one value waits there.
+    OneWaits,
+}
+
+/// The step of a process, as an entry.
+fn entry_of(pid: u8, asked: Ask) -> Entry {
+    let step = match asked {
+        Ask::Make(cap) => Step::Make(cap),
+        Ask::Send(number) => call(Case::Send(Port(1), Value::num(number))),
+        Ask::Recv => call(Case::Recv(Port(1))),
+        Ask::RecvNil => call(Case::Recv(Port(0))),
+        Ask::Close => Step::Close(Port(1)),
+        Ask::Cancel => Step::Cancel(Pid(1)),
+        Ask::Exit => Step::Exit,
+    };
+    Entry {
+        pid: Pid(pid),
+        step,
     }
-    Ok(locked)
+}
+
+/// A call of one case.
+fn call(case: Case) -> Step {
+    Step::Call {
+        cases: Cases::one(case),
+        default: false,
+        word: 0,
+    }
 }
 
 /// Makes a step, which the hub's edition must have.
@@ -31,125 +58,162 @@ fn make_step(rt: &impl Abort, locked: &mut Locked, entry: Entry) -> Result<Event
     locked.step(entry)
 }
 
-/// Makes the step, and compares its answer or what refuses it.
-fn step(rt: &impl Abort, locked: &mut Locked, entry: Entry, answer: Result<Event, Fault>) {
-    same(rt, make_step(rt, locked, entry), answer, "answer");
+fn follow_row(rt: &impl Abort, locked: &mut Locked, row: Row, place: usize) {
+    match row {
+        Row::Asks(pid, asked, told) => {
+            let answer = make_step(rt, locked, entry_of(pid, asked));
+            compare(rt, answer, Pid(pid), told, place);
+        }
+        Row::Takes(pid, told) => {
+            let taken = locked.take(Pid(pid));
+            same(rt, taken.map(Ok), Some(answer(Pid(pid), told)), place);
+        }
+        Row::FindsNone(pid) => same(rt, locked.take(Pid(pid)), None, place),
+        Row::Ended(pids) => same(rt, locked.ended().as_slice(), pids, place),
+        Row::OneWaits => same(rt, locked.look(Port(1)), Some(ONE_VALUE), place),
+    }
 }
 
-/// Takes the answer that waits for the process, and compares it.
-fn take(rt: &impl Abort, locked: &mut Locked, pid: u8, answer: Option<Event>) {
-    same(rt, locked.take(Pid(pid)), answer, pid);
+const ONE_VALUE: Look = Look {
+    cap: 1,
+    counts: ONE_WAITS,
+};
+
+fn follow(rt: &impl Abort, locked: &mut Locked, rows: &[Row]) {
+    for (place, row) in rows.iter().enumerate() {
+        follow_row(rt, locked, *row, place);
+    }
+}
+
+/// A hub of so many processes and this limit, where this happens. In the end its journal has so many entries.
+fn tell(
+    rt: &impl Abort,
+    alloc: Global,
+    (procs, limit): (u8, u32),
+    rows: &[Row],
+    entries: usize,
+) -> Result<(), Fail> {
+    let mut locked = Locked::of(Hub::open(alloc, procs, limit, Edition::Two)?);
+    follow(rt, &mut locked, rows);
+    same(rt, locked.entries().len(), entries, "entries");
+    let journal = locked.into_journal();
+    let found = (journal.procs(), journal.entries().len());
+    same(rt, found, (procs, entries), "journal");
+    Ok(())
 }
 
 // A receiver parks, a sender's step ends its call, and the value waits for the receiver.
+const PASSING: &[Row] = &[
+    Row::Asks(0, Ask::Make(0), MADE),
+    Row::Asks(1, Ask::Recv, PARKED),
+    Row::FindsNone(1),
+    Row::Ended(&[]),
+    Row::Asks(0, Ask::Send(9), SENT),
+    Row::Ended(&[Pid(1)]),
+    Row::FindsNone(0),
+    Row::Takes(1, Told::Got(9)),
+    Row::FindsNone(1),
+];
+
 #[test]
 fn answer_waits_until_it_is_taken(rt: HostRuntime) -> Result<(), Fail> {
-    let mut locked = locked_after(&rt, rt.alloc(), 2, 10, &[])?;
-    step(&rt, &mut locked, make(0), Ok(told(0, What::Made(Port(1)))));
-    step(&rt, &mut locked, recv(1), Ok(told(1, What::Parked)));
-    take(&rt, &mut locked, 1, None);
-    same(&rt, locked.ended().as_slice(), &[], "ended");
-
-    step(&rt, &mut locked, send(0), Ok(fired(0, Outcome::Sent)));
-    same(&rt, locked.ended().as_slice(), &[Pid(1)], "ended");
-    take(&rt, &mut locked, 0, None);
-    take(&rt, &mut locked, 1, Some(got(1, 9)));
-    take(&rt, &mut locked, 1, None);
-    Ok(())
+    tell(&rt, rt.alloc(), (2, 10), PASSING, 3)
 }
 
 // What is looked at, and what is kept.
+const SENDING: &[Row] = &[
+    Row::Asks(0, Ask::Make(1), MADE),
+    Row::Asks(1, Ask::Send(9), SENT),
+    Row::OneWaits,
+];
+
 #[test]
 fn steps_are_kept(rt: HostRuntime) -> Result<(), Fail> {
-    let mut locked = locked_after(&rt, rt.alloc(), 2, 10, &[make(1), send(1)])?;
-    let look = Look {
-        cap: 1,
-        counts: ONE_WAITS,
-    };
-    same(&rt, locked.look(Port(1)), Some(look), "look");
-    same(&rt, locked.entries().len(), 2, "entries");
-    let journal = locked.into_journal();
-    same(&rt, journal.procs(), 2, "processes");
-    same(&rt, journal.entries().len(), 2, "entries of the journal");
-    Ok(())
+    tell(&rt, rt.alloc(), (2, 10), SENDING, 2)
 }
 
-// The call of the last parks and then stalls, in one step; that of an only process does so alone.
+// That of an only process does so alone.
+const ALONE: &[Row] = &[
+    Row::Asks(0, Ask::RecvNil, PARKED),
+    Row::Takes(0, STALLED),
+    Row::FindsNone(0),
+];
+
+// The call of the last parks and then stalls, in one step.
+const BOTH: &[Row] = &[
+    Row::Asks(0, Ask::RecvNil, PARKED),
+    Row::Asks(1, Ask::RecvNil, PARKED),
+    Row::Takes(0, STALLED),
+    Row::FindsNone(0),
+    Row::Takes(1, STALLED),
+    Row::FindsNone(1),
+];
+
 #[test]
 fn each_stalled_process_finds_its_answer(rt: HostRuntime) -> Result<(), Fail> {
-    for procs in 1..3 {
-        let mut locked = locked_after(&rt, rt.alloc(), procs, 10, &[])?;
-        stall_all(&rt, &mut locked, procs);
-    }
-    Ok(())
-}
-
-/// Each process waits for ever, and finds that it stalled.
-fn stall_all(rt: &impl Abort, locked: &mut Locked, procs: u8) {
-    for pid in 0..procs {
-        let nil = call(pid, Case::Recv(Port(0)));
-        step(rt, locked, nil, Ok(told(pid, What::Parked)));
-    }
-    for pid in 0..procs {
-        take(rt, locked, pid, Some(told(pid, What::Stalled)));
-        take(rt, locked, pid, None);
-    }
+    tell(&rt, rt.alloc(), (1, 10), ALONE, 1)?;
+    tell(&rt, rt.alloc(), (2, 10), BOTH, 2)
 }
 
 // Go: "Close". Both receivers learn of it, and the step's own answer waits for nobody.
+const CLOSING: &[Row] = &[
+    Row::Asks(0, Ask::Make(0), MADE),
+    Row::Asks(1, Ask::Recv, PARKED),
+    Row::Asks(2, Ask::Recv, PARKED),
+    Row::Asks(0, Ask::Close, DONE),
+    Row::FindsNone(0),
+    Row::Takes(1, DRAINED),
+    Row::Takes(2, DRAINED),
+];
+
 #[test]
 fn close_answers_each_receiver(rt: HostRuntime) -> Result<(), Fail> {
-    let mut locked = locked_after(&rt, rt.alloc(), 3, 10, &[make(0), recv(1), recv(2)])?;
-    let close = entry(0, Step::Close(Port(1)));
-    step(&rt, &mut locked, close, Ok(told(0, What::Done)));
-    take(&rt, &mut locked, 0, None);
-    for pid in 1..3 {
-        take(&rt, &mut locked, pid, Some(fired(pid, Outcome::Drained)));
-    }
-    Ok(())
-}
-
-/// Process 0 cancels the call of process 1.
-fn cancel() -> Entry {
-    entry(0, Step::Cancel(Pid(1)))
-}
-
-fn exit(pid: u8) -> Entry {
-    entry(pid, Step::Exit)
+    tell(&rt, rt.alloc(), (3, 10), CLOSING, 4)
 }
 
 // The call that is cancelled is answered by that alone, and its process makes its next step.
+const CANCELLING: &[Row] = &[
+    Row::Asks(0, Ask::Make(0), MADE),
+    Row::Asks(1, Ask::Recv, PARKED),
+    Row::Asks(0, Ask::Cancel, DONE),
+    Row::Ended(&[Pid(1)]),
+    Row::Takes(1, Told::Is(What::Cancelled)),
+    Row::Asks(0, Ask::Cancel, Told::Is(What::Fault(Fault::NotParked))),
+    Row::FindsNone(1),
+    Row::Asks(1, Ask::Recv, PARKED),
+];
+
 #[test]
 fn cancelled_call_finds_its_answer(rt: HostRuntime) -> Result<(), Fail> {
-    let mut locked = locked_after(&rt, rt.alloc(), 2, 10, &[make(0), recv(1)])?;
-    step(&rt, &mut locked, cancel(), Ok(told(0, What::Done)));
-    same(&rt, locked.ended().as_slice(), &[Pid(1)], "ended");
-    take(&rt, &mut locked, 1, Some(told(1, What::Cancelled)));
-    let nobody = told(0, What::Fault(Fault::NotParked));
-    step(&rt, &mut locked, cancel(), Ok(nobody));
-    take(&rt, &mut locked, 1, None);
-    step(&rt, &mut locked, recv(1), Ok(told(1, What::Parked)));
-    Ok(())
+    tell(&rt, rt.alloc(), (2, 10), CANCELLING, 5)
 }
+
+const REFUSING: &[Row] = &[
+    Row::Asks(0, Ask::Make(0), MADE),
+    Row::Asks(1, Ask::Recv, PARKED),
+    Row::Asks(7, Ask::Exit, Told::Refused(Fault::NoProcess)),
+    Row::Asks(1, Ask::Exit, Told::Refused(Fault::Busy)),
+    Row::Asks(0, Ask::Send(9), SENT),
+    Row::Asks(1, Ask::Recv, Told::Refused(Fault::JournalFull)),
+    Row::Takes(1, Told::Got(9)),
+];
 
 #[test]
 fn refusal_leaves_what_waits(rt: HostRuntime) -> Result<(), Fail> {
-    let mut locked = locked_after(&rt, rt.alloc(), 3, 3, &[make(0), recv(1)])?;
-    step(&rt, &mut locked, exit(7), Err(Fault::NoProcess));
-    step(&rt, &mut locked, exit(1), Err(Fault::Busy));
-    step(&rt, &mut locked, send(0), Ok(fired(0, Outcome::Sent)));
-    step(&rt, &mut locked, recv(1), Err(Fault::JournalFull));
-    same(&rt, locked.entries().len(), 3, "entries");
-    take(&rt, &mut locked, 1, Some(got(1, 9)));
-    Ok(())
+    tell(&rt, rt.alloc(), (3, 3), REFUSING, 3)
 }
 
 // The caller's next step, here an exit from a full journal, drops what waited for it.
+const DROPPING: &[Row] = &[
+    Row::Asks(0, Ask::Make(0), MADE),
+    Row::Asks(1, Ask::Recv, PARKED),
+    Row::Asks(0, Ask::Send(9), SENT),
+    Row::Asks(1, Ask::Exit, DONE),
+    Row::FindsNone(1),
+    Row::Asks(1, Ask::Exit, Told::Refused(Fault::Gone)),
+];
+
 #[test]
 fn next_step_drops_what_waits(rt: HostRuntime) -> Result<(), Fail> {
-    let mut locked = locked_after(&rt, rt.alloc(), 2, 3, &[make(0), recv(1), send(0)])?;
-    step(&rt, &mut locked, exit(1), Ok(told(1, What::Done)));
-    take(&rt, &mut locked, 1, None);
-    step(&rt, &mut locked, exit(1), Err(Fault::Gone));
-    Ok(())
+    tell(&rt, rt.alloc(), (2, 3), DROPPING, 4)
 }

@@ -2,18 +2,20 @@
 
 ghost use Rattle.std.specs.Prelude.{◌≡◌};
 
-use super::opened::{Opened, Runtime, Story, tell, tell_often};
-use super::{ONE_WAITS, fired, got, told};
+use super::rows::Act;
+use super::stories::{Story, tell, tell_often};
+use super::tasks::Crew;
+use super::{Ask, DONE, DRAINED, MADE, ONE_WAITS, SENT, SHUT, STALLED, Told, UNUSED, compare};
 use crate::compare::same;
-use hub_base::{Cases, CasesExt, Counts, Edition, Fault, Outcome, Pid, Port, Value, What};
+use hub_base::{Counts, Edition, Event, Fault, Outcome, Pid, Port, Value, What};
 use hub_core::OpenFault;
 use hub_live::{Blank, Chan, Held, HubName, LiveHub, Seat, mark_of};
 use std::process::Abort;
 use std::sync::Wait;
-use std::test::*;
+use std::test::Fail;
 
 /// One value was sent and received, and the port is closed.
-const DRAINED: Counts = Counts {
+const USED_UP: Counts = Counts {
     len: 0,
     sent: 1,
     received: 1,
@@ -21,57 +23,13 @@ const DRAINED: Counts = Counts {
 };
 
 #[test]
-fn mark_of_a_drained_port(rt: HostRuntime) -> Result<(), Fail> {
-    same(&rt, mark_of(&DRAINED), 13_835_058_057_429_647_361, "mark");
-    Ok(())
-}
-
-#[test]
-fn look_shows_a_drained_port(rt: HostRuntime) -> Result<(), Fail> {
-    tell(&rt, 1, 10, Story::Draining)
-}
-
-pub fn drain<K: HubName, R: Runtime>(opened: Opened<K, R>) -> Result<(), Fail> {
-    let Opened { rt, hub, mut seats } = opened;
-    let mut seat = seats.pop().ok_or("one seat")?.into_seat();
-    close_and_drain(rt, &hub, &mut seat)
-}
-
-/// A value goes through a channel that is then closed, and drained.
-fn close_and_drain<K: HubName, R: Wait + Abort>(
-    rt: &R,
-    hub: &LiveHub<K>,
-    seat: &mut Seat,
-) -> Result<(), Fail>
-    requires { seat.old.hub ≡ K.name }
-    ensures { seat.new.hub ≡ K.name }
-{
-    let chan = hub.make_chan(rt, seat, 2)?;
-    same(rt, chan, Chan::of(Port(1)), "channel");
-    let (sender, receiver) = (chan.sender(), chan.receiver());
-    let sent = hub.send(rt, seat, &sender, Value::num(7))?;
-    same(rt, sent, fired(0, Outcome::Sent), "sent");
-    hub.close(rt, seat, &sender)?;
-    same(rt, hub.recv(rt, seat, &receiver)?, got(0, 7), "received");
-    same(
-        rt,
-        hub.recv(rt, seat, &receiver)?,
-        fired(0, Outcome::Drained),
-        "drained",
-    );
-    same(rt, hub.look(seat, Port(1)), Some(DRAINED), "look");
-    same(
-        rt,
-        hub.make_chan(rt, seat, 1025),
-        Err(Fault::BadCap),
-        "capacity",
-    );
-    Ok(())
+fn mark_of_a_drained_port(rt: HostRuntime) {
+    same(&rt, mark_of(&USED_UP), 13_835_058_057_429_647_361, "mark");
 }
 
 // In the order of the tests: the processes, then the limit.
 #[test]
-fn openings_are_refused(rt: HostRuntime) -> Result<(), Fail> {
+fn openings_are_refused(rt: HostRuntime) {
     for (procs, limit, fault) in [
         (0, 1, OpenFault::BadProcs),
         (65, 0, OpenFault::BadProcs),
@@ -81,176 +39,180 @@ fn openings_are_refused(rt: HostRuntime) -> Result<(), Fail> {
         let refused = Blank::open(rt.alloc(), procs, limit, Edition::One).err();
         same(&rt, refused, Some(fault), (procs, limit));
     }
-    Ok(())
 }
+
+#[test]
+fn look_shows_a_drained_port(rt: HostRuntime) -> Result<(), Fail> {
+    let story = Story {
+        procs: 1,
+        limit: 10,
+        rows: &[],
+        crew: Crew::Plain,
+        entries: Some(7),
+    };
+    tell(&rt, &story)
+}
+
+/// A value goes through a channel that is then closed, and drained, by a seat whose hub no type says. It is not given
+/// back.
+pub(super) fn drain_plainly<K: HubName, R: AllocGlobal + Wait + Abort>(
+    rt: &R,
+    hub: &LiveHub<K>,
+    seats: Vec<Held<K>>,
+) -> Vec<Held<K>> {
+    let mut seats = seats;
+    if let Some(held) = seats.pop() {
+        drain(rt, hub, &mut held.into_seat());
+    }
+    seats
+}
+
+fn drain<K: HubName, R: Wait + Abort>(rt: &R, hub: &LiveHub<K>, seat: &mut Seat)
+    requires { seat.old.hub ≡ K.name }
+    ensures { seat.new.hub ≡ K.name }
+{
+    let chan = Ok(Chan::of(Port(1)));
+    same(rt, hub.make_chan(rt, seat, 2), chan, "channel");
+    for (place, (asked, told)) in DRAINING.iter().enumerate() {
+        compare(rt, ask(rt, hub, seat, *asked), Pid(0), *told, place);
+    }
+    same(rt, hub.look(seat, Port(1)), Some(USED_UP), "look");
+    let refused = Err(Fault::BadCap);
+    same(rt, hub.make_chan(rt, seat, 1025), refused, "capacity");
+    compare(rt, hub.exit(rt, seat), Pid(0), DONE, 0);
+}
+
+const DRAINING: [(Ask, Told); 4] = [
+    (Ask::Send(7), SENT),
+    (Ask::Close, DONE),
+    (Ask::Recv, Told::Got(7)),
+    (Ask::Recv, DRAINED),
+];
+
+/// Sends, closes, or else receives.
+fn ask<K: HubName, R: Wait>(
+    rt: &R,
+    hub: &LiveHub<K>,
+    seat: &mut Seat,
+    asked: Ask,
+) -> Result<Event, Fault>
+    requires { seat.old.hub ≡ K.name }
+    ensures { seat.new.hub ≡ K.name }
+{
+    let chan = Chan::of(Port(1));
+    match asked {
+        Ask::Send(number) => hub.send(rt, seat, &chan.sender(), Value::num(number)),
+        Ask::Close => hub.close(rt, seat, &chan.sender()),
+        _ => hub.recv(rt, seat, &chan.receiver()),
+    }
+}
+
+/// The value that waited was received.
+const RECEIVED: Counts = Counts {
+    len: 0,
+    sent: 1,
+    received: 1,
+    closed: false,
+};
+
+const LOOKING: &[(u8, Act)] = &[
+    (0, Act::Sees(1, None)),
+    (0, Act::Asks(Ask::Make(1), MADE)),
+    (0, Act::Asks(Ask::Send(4), SENT)),
+    (0, Act::Sees(1, Some(ONE_WAITS))),
+    (1, Act::Asks(Ask::Recv, Told::Got(4))),
+    (1, Act::Sees(1, Some(RECEIVED))),
+    (1, Act::Sees(0, None)),
+    (1, Act::Sees(2, None)),
+    (1, Act::Sees(65, None)),
+];
 
 // A seat that sent looks; a second seat that received the value looks at no less.
 #[test]
 fn looks_show_what_the_seat_knows(rt: HostRuntime) -> Result<(), Fail> {
-    tell(&rt, 2, 100, Story::Looking)
+    let story = Story {
+        procs: 2,
+        limit: 100,
+        rows: LOOKING,
+        crew: Crew::None,
+        entries: Some(3),
+    };
+    tell(&rt, &story)
 }
 
-pub fn look<K: HubName, R: Runtime>(opened: Opened<K, R>) -> Result<(), Fail> {
-    let Opened { rt, hub, mut seats } = opened;
-    let mut second = seats.pop().ok_or("two seats")?;
-    let first = seats.first_mut().ok_or("two seats")?;
-    same(rt, (first.pid(), second.pid()), (Pid(0), Pid(1)), "seats");
-    send_and_look(rt, &hub, first)?;
-    receive_and_look(rt, &hub, &mut second)?;
-
-    seats.push(second)?;
-    let journal = hub.finish_held(seats);
-    same(rt, journal.procs(), 2, "processes");
-    same(rt, journal.entries().len(), 3, "entries");
-    Ok(())
-}
-
-/// Process 0 makes port 1 and sends 4, and looks before and behind.
-fn send_and_look<K: HubName, R: Wait + Abort>(
-    rt: &R,
-    hub: &LiveHub<K>,
-    seat: &mut Held<K>,
-) -> Result<(), Fail> {
-    same(rt, seat.look(hub, Port(1)), None, "not made yet");
-    same(
-        rt,
-        seat.make(rt, hub, 1)?,
-        told(0, What::Made(Port(1))),
-        "made",
-    );
-    let sent = seat.send(rt, hub, &Chan::of(Port(1)).sender(), Value::num(4))?;
-    same(rt, sent, fired(0, Outcome::Sent), "sent");
-    same(rt, seat.look(hub, Port(1)), Some(ONE_WAITS), "one waits");
-    Ok(())
-}
-
-/// Process 1 receives the value, and looks at its port and at others.
-fn receive_and_look<K: HubName, R: Wait + Abort>(
-    rt: &R,
-    hub: &LiveHub<K>,
-    seat: &mut Held<K>,
-) -> Result<(), Fail> {
-    let received = seat.recv(rt, hub, &Chan::of(Port(1)).receiver())?;
-    same(rt, received, got(1, 4), "received");
-    let mut counts = ONE_WAITS;
-    counts.len = 0;
-    counts.received = 1;
-    same(rt, seat.look(hub, Port(1)), Some(counts), 1);
-    for port in [0, 2, 65] {
-        same(rt, seat.look(hub, Port(port)), None, port);
-    }
-    Ok(())
-}
+const MEETING: &[(u8, Act)] = &[
+    (0, Act::Makes(0, Ok(1))),
+    (1, Act::Sees(1, Some(UNUSED))),
+    (0, Act::Asks(Ask::Close, DONE)),
+    (0, Act::Meets),
+    (1, Act::Sees(1, Some(SHUT))),
+    (
+        1,
+        Act::Asks(Ask::Close, Told::Is(What::Fault(Fault::AlreadyClosed))),
+    ),
+];
 
 // A close is seen after a meeting, and a second close is told so.
 #[test]
 fn meeting_shows_a_close(rt: HostRuntime) -> Result<(), Fail> {
-    tell_often(&rt, Story::Meeting)
+    let story = Story {
+        procs: 2,
+        limit: 100,
+        rows: MEETING,
+        crew: Crew::None,
+        entries: Some(3),
+    };
+    tell_often(&rt, &story)
 }
 
-pub fn meet<K: HubName, R: Runtime>(opened: Opened<K, R>) -> Result<(), Fail> {
-    let Opened { rt, hub, mut seats } = opened;
-    let mut second = seats.pop().ok_or("two seats")?;
-    let first = seats.first_mut().ok_or("two seats")?;
-    close_and_meet(rt, &hub, first, &mut second)
-}
-
-/// The first seat makes and closes a port, and meets the second.
-fn close_and_meet<K: HubName, R: Wait + Abort>(
-    rt: &R,
-    hub: &LiveHub<K>,
-    first: &mut Held<K>,
-    second: &mut Held<K>,
-) -> Result<(), Fail> {
-    let sender = first.make_chan(rt, hub, 0)?.sender();
-    let mut counts = Counts::default();
-    same(rt, second.look(hub, Port(1)), Some(counts), "open");
-    same(
-        rt,
-        first.close(rt, hub, &sender)?,
-        told(0, What::Done),
-        "close",
-    );
-    first.meet(hub, second);
-    counts.closed = true;
-    same(rt, second.look(hub, Port(1)), Some(counts), "closed");
-    let again = told(1, What::Fault(Fault::AlreadyClosed));
-    same(rt, second.close(rt, hub, &sender)?, again, "closed again");
-    Ok(())
-}
+const STALLING: &[(u8, Act)] = &[
+    (0, Act::Asks(Ask::RecvNil, STALLED)),
+    (0, Act::Asks(Ask::RecvNil, STALLED)),
+    (
+        0,
+        Act::Asks(Ask::Make(0), Told::Refused(Fault::JournalFull)),
+    ),
+    (0, Act::Makes(0, Err(Fault::JournalFull))),
+    (0, Act::Asks(Ask::Exit, DONE)),
+    (0, Act::Asks(Ask::Exit, Told::Refused(Fault::Gone))),
+];
 
 // The only process waits for ever: its own step tells it so. Then the journal is full, and it exits.
 #[test]
 fn lone_process_stalls(rt: HostRuntime) -> Result<(), Fail> {
-    tell(&rt, 1, 2, Story::StallingAlone)
+    let story = Story {
+        procs: 1,
+        limit: 2,
+        rows: STALLING,
+        crew: Crew::None,
+        entries: Some(3),
+    };
+    tell(&rt, &story)
 }
 
-pub fn stall_alone<K: HubName, R: Runtime>(opened: Opened<K, R>) -> Result<(), Fail> {
-    let Opened { rt, hub, mut seats } = opened;
-    let mut held = seats.pop().ok_or("one seat")?;
-    stall_twice(rt, &hub, &mut held)?;
-    same(rt, held.exit(rt, &hub)?, told(0, What::Done), "exit");
-    let mut seat = held.into_seat();
-    same(rt, hub.exit(rt, &mut seat), Err(Fault::Gone), "exit again");
-    Ok(())
-}
-
-/// Two calls stall, and fill the journal.
-fn stall_twice<K: HubName, R: Wait + Abort>(
-    rt: &R,
-    hub: &LiveHub<K>,
-    seat: &mut Held<K>,
-) -> Result<(), Fail> {
-    let nil = Chan::of(Port(0)).receiver();
-    for _ in 0..2 {
-        let stalled = seat.call(rt, hub, Cases::one(nil.recv()), false, 0)?;
-        same(rt, stalled, told(0, What::Stalled), "stalled");
-    }
-    same(rt, seat.make(rt, hub, 0), Err(Fault::JournalFull), "make");
-    same(
-        rt,
-        seat.make_chan(rt, hub, 0),
-        Err(Fault::JournalFull),
-        "channel",
-    );
-    Ok(())
-}
+const SELECTING: &[(u8, Act)] = &[
+    (0, Act::Makes(0, Ok(1))),
+    (0, Act::Makes(1, Ok(2))),
+    (
+        0,
+        Act::Selects(Told::Is(What::Fired {
+            case: 1,
+            outcome: Outcome::Sent,
+        })),
+    ),
+    (0, Act::Selects(Told::Is(What::Default))),
+    (0, Act::Asks(Ask::Exit, DONE)),
+];
 
 // The select of two cases and a default: the case that can proceed is taken, then the default.
 #[test]
 fn select_takes_its_default(rt: HostRuntime) -> Result<(), Fail> {
-    tell(&rt, 1, 100, Story::Selecting)
-}
-
-pub fn select<K: HubName, R: Runtime>(opened: Opened<K, R>) -> Result<(), Fail> {
-    let Opened { rt, hub, mut seats } = opened;
-    select_twice(rt, &hub, seats.first_mut().ok_or("one seat")?)?;
-    same(rt, hub.finish_held(seats).entries().len(), 5, "entries");
-    Ok(())
-}
-
-fn select_twice<K: HubName, R: Wait + Abort>(
-    rt: &R,
-    hub: &LiveHub<K>,
-    seat: &mut Held<K>,
-) -> Result<(), Fail> {
-    let receiver = seat.make_chan(rt, hub, 0)?.receiver();
-    let sender = seat.make_chan(rt, hub, 1)?.sender();
-    let sent = What::Fired {
-        case: 1,
-        outcome: Outcome::Sent,
+    let story = Story {
+        procs: 1,
+        limit: 100,
+        rows: SELECTING,
+        crew: Crew::None,
+        entries: Some(5),
     };
-    for what in [sent, What::Default] {
-        let mut cases = Cases::new();
-        cases.push(receiver.recv());
-        cases.push(sender.send(Value::num(5)));
-        same(
-            rt,
-            seat.call(rt, hub, cases, true, 0)?,
-            told(0, what),
-            "select",
-        );
-    }
-    same(rt, seat.exit(rt, hub)?, told(0, What::Done), "exit");
-    Ok(())
+    tell(&rt, &story)
 }

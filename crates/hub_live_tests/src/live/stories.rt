@@ -1,0 +1,119 @@
+//! Stories of live hubs: what processes do with a new hub, first in one thread and then each in a thread of its own.
+
+ghost use Rattle.std.specs.Prelude.{◌≡◌, All};
+
+use super::one_thread::drain_plainly;
+use super::rows::{Act, follow};
+use super::tasks::Crew;
+use super::threads::{all_make_their_own, in_threads, is_passed};
+use crate::compare::same;
+use crate::uses;
+use hub_base::{Edition, Head, Journal};
+use hub_live::{Blank, Held, HubName, LiveHub, Seat, hold_all};
+use std::marker::Brand;
+use std::process::Abort;
+use std::sync::Wait;
+use std::test::Fail;
+use std::thread::Threads;
+
+/// What the tests ask of the runtime.
+pub(crate) trait Runtime: AllocGlobal + Threads + Wait + Abort + Sync {}
+
+impl<R: AllocGlobal + Threads + Wait + Abort + Sync> Runtime for R {}
+
+/// What is done with a new hub.
+#[derive(Clone, Copy)]
+pub(crate) struct Story<'a> {
+    pub procs: u8,
+    pub limit: u32,
+    /// What is done in one thread, and by whom.
+    pub rows: &'a [(u8, Act)],
+    /// What each process then does in a thread of its own.
+    pub crew: Crew,
+    /// How many entries the journal has in the end, where that is known.
+    pub entries: Option<usize>,
+}
+
+impl<'a> Story<'a> {
+    /// Only cancels need the second edition.
+    fn head(&self) -> Head {
+        let edition = match self.crew {
+            Crew::Cancel => Edition::Two,
+            _ => Edition::One,
+        };
+        Head {
+            edition,
+            procs: self.procs,
+        }
+    }
+}
+
+/// The seats, where they are given back, once all is done.
+fn tell_held<K: HubName + Send + Sync, R: Runtime>(
+    rt: &R,
+    hub: &LiveHub<K>,
+    seats: Vec<Held<K>>,
+    story: &Story,
+) -> Result<Vec<Held<K>>, Fail> {
+    let mut seats = seats;
+    follow(rt, hub, &mut seats, story.rows);
+    match story.crew {
+        Crew::None => Ok(seats),
+        Crew::Plain => Ok(drain_plainly(rt, hub, seats)),
+        Crew::HandOver => uses::hand_nine_over(rt, hub, seats),
+        Crew::WorkOff => uses::work_off(rt, hub, seats),
+        crew => in_threads(rt, hub, seats, crew),
+    }
+}
+
+/// A hub has a name only where a function is generic over it, so each story is told from here.
+fn tell_named<K: HubName + Send + Sync, R: Runtime>(
+    rt: &R,
+    blank: Blank,
+    seats: Vec<Seat>,
+    story: &Story,
+) -> Result<(), Fail>
+    requires named { blank.name ≡ K.name }
+    requires seats { All (λ s. s.hub ≡ K.name) seats.items }
+{
+    let hub = blank.named::<K>();
+    let held = hold_all::<K>(rt.alloc(), seats)?;
+    let held = tell_held(rt, &hub, held, story)?;
+    same(rt, hub.head(), story.head(), "head");
+    let journal = if held.is_empty() {
+        hub.finish(Vec::new(rt.alloc()))
+    } else {
+        hub.finish_held(held)
+    };
+    compare(rt, &journal, story);
+    Ok(())
+}
+
+/// The journal has so many entries, those of its crew.
+fn compare(rt: &impl Abort, journal: &Journal, story: &Story) {
+    let entries = journal.entries();
+    same(rt, journal.head(), story.head(), "head of the journal");
+    if let Some(count) = story.entries {
+        same(rt, entries.len(), count, "entries");
+    }
+    match story.crew {
+        Crew::Pass => same(rt, is_passed(entries), true, "journal"),
+        Crew::MakeOwn => all_make_their_own(rt, entries),
+        _ => {}
+    }
+}
+
+/// Opens a hub, and tells the story of it.
+pub(crate) fn tell<R: Runtime>(rt: &R, story: &Story) -> Result<(), Fail> {
+    let Head { edition, procs } = story.head();
+    let (blank, seats) = Blank::open(rt.alloc(), procs, story.limit, edition)?;
+    tell_named::<Brand, R>(rt, blank, seats, story)
+}
+
+/// The story a hundred times, each of a new hub: threads may come in any order.
+pub(super) fn tell_often<R: Runtime>(rt: &R, story: &Story) -> Result<(), Fail> {
+    for _ in 0..100u32 {
+        tell(rt, story)?;
+    }
+    Ok(())
+}

@@ -5,3 +5,4 @@ mod hubs;
 mod machines;
 mod openings;
 mod refusals;
+mod rows;

@@ -1,113 +1,170 @@
-//! Tests through the public calls. What is expected was worked out by hand from the rules.
+//! Worked journals, and their stories. What is expected was worked out by hand from the rules.
 
+use crate::compare::same;
 use hub_base::{Journal, Port, Value, read_journal};
 use hub_story::{Level, Passage, Story, Told, story_of};
 use std::alloc::Global;
 use std::process::Abort;
 use std::test::Fail;
 
-/// The journal of this text, and its story.
-fn explained(rt: &impl Abort, alloc: Global, text: &[u8]) -> Result<(Journal, Story), Fail> {
-    let journal = read_journal(alloc, text)?;
+/// A journal, and what is told of it.
+struct Row {
+    name: &'static str,
+    text: &'static [u8],
+    /// For each event the place of the entry that it answers or ends, and of the entry by whose step it came.
+    told: &'static [(u32, u32)],
+    /// By whose steps the entries ended, in order; nothing for one that waits.
+    ends: &'static [Option<u32>],
+    waiting: &'static [(u32, u32)],
+    /// Who was stalled by step 6.
+    stalled: &'static [(u32, u32)],
+    /// Between which entries the values of port 1 went, and the numbers among them.
+    passages: &'static [(u32, u32, Option<u64>)],
+    /// How many values were sent on port 1 and received from it by the first so many entries.
+    levels: &'static [(u32, usize, usize)],
+}
+
+const ROWS: [Row; 2] = [
+    // A receiver waits, and is served by the send of two bytes; another's call is cancelled; a sender waits in the end.
+    Row {
+        name: "cancelled_calls_and_bytes",
+        text: b"chanhub journal 2\nprocs 3\n0 make 0\n1 recv 1\n2 recv 1\n0 cancel 2\n0 send 1 #00ff\n2 send 1 7\n",
+        told: &[
+            (0, 0),
+            (1, 1),
+            (2, 2),
+            (3, 3),
+            (2, 3),
+            (4, 4),
+            (1, 4),
+            (5, 5),
+        ],
+        ends: &[Some(0), Some(4), Some(3), Some(3), Some(4), None],
+        waiting: &[(5, 5)],
+        stalled: &[],
+        passages: &[(4, 1, None)],
+        levels: &[],
+    },
+    // A value waits in the buffer, the next in its sender; an exit stalls the one who is left.
+    Row {
+        name: "buffered_values_and_stalls",
+        text: b"chanhub journal 1\nprocs 2\n0 make 1\n0 send 1 5\n0 send 1 6\n1 recv 1\n1 recv 1\n1 recv 1\n0 exit\n",
+        told: &[
+            (0, 0),
+            (1, 1),
+            (2, 2),
+            (3, 3),
+            (2, 3),
+            (4, 4),
+            (5, 5),
+            (6, 6),
+            (5, 6),
+        ],
+        ends: &[
+            Some(0),
+            Some(1),
+            Some(3),
+            Some(3),
+            Some(4),
+            Some(6),
+            Some(6),
+        ],
+        waiting: &[],
+        stalled: &[(5, 6)],
+        passages: &[(1, 3, Some(5)), (2, 4, Some(6))],
+        levels: &[(3, 1, 0), (4, 2, 1)],
+    },
+];
+
+#[test]
+fn worked_journals_have_their_stories(rt: HostRuntime) -> Result<(), Fail> {
+    for row in &ROWS {
+        has_story(&rt, rt.alloc(), row)?;
+    }
+    Ok(())
+}
+
+/// The journal of the row, and its story.
+fn has_story(rt: &impl Abort, alloc: Global, row: &Row) -> Result<(), Fail> {
+    let journal = read_journal(alloc, row.text)?;
     assert!(rt; journal.procs() >= 1 && journal.procs() <= 64);
     assert!(rt; journal.entries().len() <= 100);
     let story = story_of(alloc, &journal)?;
-    Ok((journal, story))
+    is_told(rt, &story, row);
+    have_levels(rt, &journal, &story, row);
+    are_stalled(rt, alloc, &story, row)?;
+    pass(rt, alloc, &journal, &story, row)
 }
 
-/// The places that these events name: of the entry that each answers or ends, and of the entry by whose step it came.
-fn places(alloc: Global, told: &[Told]) -> Result<Vec<(u32, u32)>, Fail> {
-    let mut places = Vec::new(alloc);
-    for told in told {
-        places.push((told.asked, told.by))?;
+fn is_told(rt: &impl Abort, story: &Story, row: &Row) {
+    are_at(rt, &story.told, row.told, row.name);
+    are_at(rt, &story.waiting, row.waiting, row.name);
+    have_ended(rt, &story.ends, row);
+}
+
+/// These events name those places.
+fn are_at(rt: &impl Abort, told: &[Told], places: &[(u32, u32)], name: &str) {
+    same(rt, told.len(), places.len(), name);
+    for (told, place) in told.iter().zip(places) {
+        same(rt, (told.asked, told.by), *place, name);
     }
-    Ok(places)
 }
 
-/// By whose steps the entries ended, in order; nothing for one that waits.
-fn ends(alloc: Global, story: &Story) -> Result<Vec<Option<u32>>, Fail> {
-    let mut ends = Vec::new(alloc);
-    for end in &story.ends {
-        ends.push(match end {
+fn have_ended(rt: &impl Abort, ends: &[Option<Told>], row: &Row) {
+    same(rt, ends.len(), row.ends.len(), row.name);
+    for (end, by) in ends.iter().zip(row.ends) {
+        let found = match end {
             Some(end) => Some(end.by),
             None => None,
-        })?;
+        };
+        same(rt, found, *by, row.name);
     }
-    Ok(ends)
 }
 
-/// Between which entries these values went, and the values.
-fn arrows(alloc: Global, passages: &[Passage]) -> Result<Vec<(u32, u32, Option<Value>)>, Fail> {
-    let mut arrows = Vec::new(alloc);
-    for passage in passages {
-        let (sent, received) = (passage.sent, passage.received);
-        arrows.push((sent.told.asked, received.told.asked, Some(received.value)))?;
+fn have_levels(rt: &impl Abort, journal: &Journal, story: &Story, row: &Row) {
+    for (count, sent, received) in row.levels {
+        let level = Level {
+            sent: *sent,
+            received: *received,
+        };
+        same(rt, story.level(journal, Port(1), *count), level, *count);
     }
-    Ok(arrows)
 }
 
-/// A receiver waits, and is served by the send of two bytes; another's call is cancelled; a sender waits in the end.
-#[test]
-fn cancelled_calls_and_bytes_are_told(rt: HostRuntime) -> Result<(), Fail> {
-    let text =
-        b"chanhub journal 2\nprocs 3\n0 make 0\n1 recv 1\n2 recv 1\n0 cancel 2\n0 send 1 #00ff\n2 send 1 7\n";
-    let (journal, story) = explained(&rt, rt.alloc(), text)?;
-    let told = places(rt.alloc(), &story.told)?;
-    let expected = [
-        (0, 0),
-        (1, 1),
-        (2, 2),
-        (3, 3),
-        (2, 3),
-        (4, 4),
-        (1, 4),
-        (5, 5),
-    ];
-    assert_eq!(rt; told.as_slice(), expected.as_slice());
-    let ends = ends(rt.alloc(), &story)?;
-    let expected = [Some(0), Some(4), Some(3), Some(3), Some(4), None];
-    assert_eq!(rt; ends.as_slice(), expected.as_slice());
-    let waiting = places(rt.alloc(), &story.waiting)?;
-    assert_eq!(rt; waiting.as_slice(), [(5, 5)].as_slice());
-    let arrows = arrows(rt.alloc(), &story.passages(rt.alloc(), &journal, Port(1))?)?;
-    let expected = [(4, 1, Value::bytes(b"\x00\xff"))];
-    assert_eq!(rt; arrows.as_slice(), expected.as_slice());
+fn are_stalled(rt: &impl Abort, alloc: Global, story: &Story, row: &Row) -> Result<(), Fail> {
+    are_at(rt, &story.stalled_by(alloc, 6)?, row.stalled, row.name);
     Ok(())
 }
 
-/// A value waits in the buffer, the next in its sender; an exit stalls the one who is left.
-#[test]
-fn buffered_values_and_stalls_are_told(rt: HostRuntime) -> Result<(), Fail> {
-    let text =
-        b"chanhub journal 1\nprocs 2\n0 make 1\n0 send 1 5\n0 send 1 6\n1 recv 1\n1 recv 1\n1 recv 1\n0 exit\n";
-    let (journal, story) = explained(&rt, rt.alloc(), text)?;
-    let ends = ends(rt.alloc(), &story)?;
-    let expected = [
-        Some(0),
-        Some(1),
-        Some(3),
-        Some(3),
-        Some(4),
-        Some(6),
-        Some(6),
-    ];
-    assert_eq!(rt; ends.as_slice(), expected.as_slice());
-    assert_eq!(rt; story.waiting.len(), 0);
-    let stalled = places(rt.alloc(), &story.stalled_by(rt.alloc(), 6)?)?;
-    assert_eq!(rt; stalled.as_slice(), [(5, 6)].as_slice());
-    let arrows = arrows(rt.alloc(), &story.passages(rt.alloc(), &journal, Port(1))?)?;
-    let expected = [(1, 3, Some(Value::num(5))), (2, 4, Some(Value::num(6)))];
-    assert_eq!(rt; arrows.as_slice(), expected.as_slice());
-    assert_eq!(rt; story.passages(rt.alloc(), &journal, Port(2))?.len(), 0);
-    let before = Level {
-        sent: 1,
-        received: 0,
-    };
-    assert_eq!(rt; story.level(&journal, Port(1), 3), before);
-    let after = Level {
-        sent: 2,
-        received: 1,
-    };
-    assert_eq!(rt; story.level(&journal, Port(1), 4), after);
+/// What passed through port 1, and that nothing passed through port 2.
+fn pass(
+    rt: &impl Abort,
+    alloc: Global,
+    journal: &Journal,
+    story: &Story,
+    row: &Row,
+) -> Result<(), Fail> {
+    let passages = story.passages(alloc, journal, Port(1))?;
+    have_passed(rt, &passages, row.passages, row.name);
+    let others = story.passages(alloc, journal, Port(2))?;
+    have_passed(rt, &others, &[], row.name);
     Ok(())
+}
+
+/// These values went between those entries.
+fn have_passed(rt: &impl Abort, all: &[Passage], places: &[(u32, u32, Option<u64>)], name: &str) {
+    same(rt, all.len(), places.len(), name);
+    for (passage, (sent, received, number)) in all.iter().zip(places) {
+        let (from, to) = (passage.sent.told.asked, passage.received.told.asked);
+        same(rt, (from, to), (*sent, *received), name);
+        same(rt, Some(passage.received.value), value_of(*number), name);
+    }
+}
+
+/// A number, or the two bytes.
+fn value_of(number: Option<u64>) -> Option<Value> {
+    match number {
+        Some(number) => Some(Value::num(number)),
+        None => Value::bytes(b"\x00\xff"),
+    }
 }

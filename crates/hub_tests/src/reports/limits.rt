@@ -2,30 +2,38 @@
 
 use super::journals::report_of;
 use crate::compare::same;
-use crate::steps::entries::{make, recv, send};
-use hub_base::Edition;
-use hub_core::Hub;
+use crate::steps::entries::{Ask, entry_of};
+use hub_base::Entry;
 use hub_report::{PortReport, Report, write_report};
+use std::alloc::Global;
 use std::process::Abort;
 use std::test::Fail;
 
 /// 64 ports are made, 9 goes through the last, and a further one is a fault.
 #[test]
 fn sixty_four_ports_are_told(rt: HostRuntime) -> Result<(), Fail> {
-    let mut entries = Vec::new(rt.alloc());
-    for cap in 1..=65 {
-        entries.push(make(0, cap))?;
-    }
-    entries.push(send(0, 64, 9))?;
-    entries.push(recv(0, 64))?;
-    let hub = Hub::open(rt.alloc(), 1, 1000, Edition::One)?;
-    let report = report_of(&rt, rt.alloc(), hub, &entries)?;
+    let entries = all_ports(rt.alloc())?;
+    let report = report_of(&rt, rt.alloc(), 1, &entries)?;
     tells_the_last_port(&rt, &report);
+    is_appended(&rt, rt.alloc(), &report)
+}
 
-    let mut out = Vec::from_slice(rt.alloc(), b"before\n")?;
-    write_report(&mut out, &report)?;
-    same(&rt, out.starts_with(FIRST_LINES), true, "first lines");
-    same(&rt, out.ends_with(LAST_LINES), true, "last lines");
+fn all_ports(alloc: Global) -> Result<Vec<Entry>, Fail> {
+    let mut entries = Vec::new(alloc);
+    for cap in 1..=65 {
+        entries.push(entry_of(0, Ask::Make(cap)))?;
+    }
+    entries.push(entry_of(0, Ask::Send(64, 9)))?;
+    entries.push(entry_of(0, Ask::Recv(64)))?;
+    Ok(entries)
+}
+
+/// The text of the report stands behind what was there before.
+fn is_appended(rt: &impl Abort, alloc: Global, report: &Report) -> Result<(), Fail> {
+    let mut out = Vec::from_slice(alloc, b"before\n")?;
+    write_report(&mut out, report)?;
+    same(rt, out.starts_with(FIRST_LINES), true, "first lines");
+    same(rt, out.ends_with(LAST_LINES), true, "last lines");
     Ok(())
 }
 
@@ -46,10 +54,6 @@ fn tells_the_last_port(rt: &impl Abort, report: &Report) {
         closed: false,
     };
     same(rt, report.ports.last(), Some(&last), "last port");
-    same(
-        rt,
-        (report.stalled, report.faults),
-        (0, 1),
-        "stalled and faults",
-    );
+    let rest = (report.stalled, report.faults);
+    same(rt, rest, (0, 1), "stalled and faults");
 }

@@ -1,76 +1,105 @@
 //! Entries and events in short.
 
-use hub_base::{Case, Cases, Entry, Event, Events, Fault, Outcome, Pid, Port, Step, Value, What};
+ghost use Rattle.std.specs.Prelude.{◌≡◌};
+ghost use Rattle.hub_base.specs.declared.head.Edition.TheVariants.{One};
+ghost use Rattle.hub_base.specs.Head.{head_of};
+
+use crate::compare::same;
+use hub_base::{
+    Case, Cases, CasesExt, Edition, Entry, Event, Events, Fault, Head, Outcome, Pid, Port, Step,
+    Value, What,
+};
 use hub_core::Hub;
 use std::process::Abort;
 
-pub(crate) fn by(pid: u8, step: Step) -> Entry {
+/// What a process asks for, by the numbers of ports.
+#[derive(Clone, Copy)]
+pub(crate) enum Ask {
+    /// A port of this capacity.
+    Make(u32),
+    /// A send of a number on a port.
+    Send(u16, u64),
+    Recv(u16),
+    /// A call that receives from either of two ports.
+    RecvEither(u16, u16),
+    Close(u16),
+    Cancel(u8),
+    Exit,
+}
+
+/// What a process is told.
+#[derive(Clone, Copy)]
+pub(crate) enum Told {
+    Is(What),
+    /// This case of its call received this number.
+    Got(u8, u64),
+}
+
+fn call(first: Case, second: Option<Case>) -> Step {
+    let mut cases = Cases::one(first);
+    if let Some(case) = second {
+        cases.push(case);
+    }
+    Step::Call {
+        cases,
+        default: false,
+        word: 0,
+    }
+}
+
+pub(crate) fn entry_of(pid: u8, asked: Ask) -> Entry {
+    let step = match asked {
+        Ask::Make(cap) => Step::Make(cap),
+        Ask::Send(port, number) => call(Case::Send(Port(port), Value::num(number)), None),
+        Ask::Recv(port) => call(Case::Recv(Port(port)), None),
+        Ask::RecvEither(first, second) => {
+            call(Case::Recv(Port(first)), Some(Case::Recv(Port(second))))
+        }
+        Ask::Close(port) => Step::Close(Port(port)),
+        Ask::Cancel(other) => Step::Cancel(Pid(other)),
+        Ask::Exit => Step::Exit,
+    };
     Entry {
         pid: Pid(pid),
         step,
     }
 }
 
-pub(crate) fn make(pid: u8, cap: u32) -> Entry {
-    by(pid, Step::Make(cap))
-}
-
-pub(crate) fn close(pid: u8, port: u16) -> Entry {
-    by(pid, Step::Close(Port(port)))
-}
-
-pub(crate) fn exit(pid: u8) -> Entry {
-    by(pid, Step::Exit)
-}
-
-pub(crate) fn cancel(pid: u8, other: u8) -> Entry {
-    by(pid, Step::Cancel(Pid(other)))
-}
-
-fn call_of(pid: u8, cases: Cases) -> Entry {
-    by(
-        pid,
-        Step::Call {
-            cases,
-            default: false,
-            word: 0,
+pub(crate) fn event_of(pid: u8, told: Told) -> Event {
+    let what = match told {
+        Told::Is(what) => what,
+        Told::Got(case, number) => What::Fired {
+            case,
+            outcome: Outcome::Got(Value::num(number)),
         },
-    )
+    };
+    Event {
+        pid: Pid(pid),
+        what,
+    }
 }
 
-fn call(pid: u8, case: Case) -> Entry {
-    let mut cases = Cases::new();
-    cases.push(case);
-    call_of(pid, cases)
-}
+pub(crate) const MADE: Told = Told::Is(What::Made(Port(1)));
 
-/// A call that receives from either of two ports.
-pub(crate) fn recv_either(pid: u8, first: u16, second: u16) -> Entry {
-    let mut cases = Cases::new();
-    cases.push(Case::Recv(Port(first)));
-    cases.push(Case::Recv(Port(second)));
-    call_of(pid, cases)
-}
+pub(crate) const MADE_SECOND: Told = Told::Is(What::Made(Port(2)));
 
-pub(crate) fn send(pid: u8, port: u16, number: u64) -> Entry {
-    call(pid, Case::Send(Port(port), Value::num(number)))
-}
+pub(crate) const SENT: Told = Told::Is(What::Fired {
+    case: 0,
+    outcome: Outcome::Sent,
+});
 
-pub(crate) fn recv(pid: u8, port: u16) -> Entry {
-    call(pid, Case::Recv(Port(port)))
-}
+pub(crate) const DONE: Told = Told::Is(What::Done);
 
-/// A value goes through port 1, which is closed and drained; then a send and a close come too late.
-pub(crate) fn used_up() -> [Entry; 7] {
-    [
-        make(0, 2),
-        send(0, 1, 7),
-        close(0, 1),
-        recv(0, 1),
-        recv(0, 1),
-        send(0, 1, 8),
-        close(0, 1),
-    ]
+pub(crate) const PARKED: Told = Told::Is(What::Parked);
+
+pub(crate) const STALLED: Told = Told::Is(What::Stalled);
+
+/// These are told, in order.
+pub(crate) fn are_told(rt: &impl Abort, events: &[Event], told: &[(u8, Told)]) {
+    same(rt, events.len(), told.len(), "how many are told");
+    for (event, (pid, told)) in events.iter().zip(told) {
+        same(rt, *event, event_of(*pid, *told), "event");
+    }
 }
 
 /// Makes a step, which the hub's edition must have.
@@ -79,18 +108,12 @@ pub(crate) fn make_step(rt: &impl Abort, hub: &mut Hub, entry: Entry) -> Result<
     hub.step(entry)
 }
 
-pub(crate) fn told(pid: u8, what: What) -> Event {
-    Event {
-        pid: Pid(pid),
-        what,
+/// The first edition, with so many processes.
+pub(crate) fn first(procs: u8) -> Head
+    ensures { result ≡ head_of One procs }
+{
+    Head {
+        edition: Edition::One,
+        procs,
     }
-}
-
-/// The only case of the call fired.
-pub(crate) fn fired(pid: u8, outcome: Outcome) -> Event {
-    told(pid, What::Fired { case: 0, outcome })
-}
-
-pub(crate) fn got(pid: u8, number: u64) -> Event {
-    fired(pid, Outcome::Got(Value::num(number)))
 }

@@ -1,40 +1,29 @@
 //! What stays of a hub where memory is refused. The gate has memory; `tools/hub_refusals.sh` runs these tests with
 //! their allocations refused that come after `begin`.
 
-use super::entries::{close, fired, got, make, make_step, recv, recv_either, send, told, used_up};
-use super::hubs::{pass_five, reserved_hub, step};
+use super::entries::{
+    Ask, DONE, MADE, MADE_SECOND, PARKED, SENT, STALLED, Told, are_told, entry_of, first, make_step,
+};
+use super::hubs::USED_UP;
+use super::rows::{Row, are_kept, begin, step, tell};
 use crate::compare::same;
-use hub_base::{Edition, Entry, Event, Fault, Look, NoMemory, Outcome, Port, Value, What};
+use hub_base::{Edition, Entry, Event, Fault, Look, NoMemory, Port, Value};
 use hub_core::{Hub, ListFault, OpenFault, run};
 use std::alloc::Global;
 use std::process::Abort;
 use std::test::Fail;
 
-/// How many bytes the allocation has by which the script knows where refusals begin.
-const MARK: usize = 7_777_777;
+/// What a hub shows of a port: its counts, and the two oldest values in its buffer.
+type Shown = (Option<Look>, Option<Value>, Option<Value>);
 
-/// Allocations are refused from here on.
-fn begin(alloc: Global) -> Result<(), Fail> {
-    let _mark: Vec<u8> = Vec::with_capacity(alloc, MARK)?;
-    Ok(())
-}
-
-/// What a hub shows of a port.
-#[derive(Clone, Copy, Debug, PartialEq, Eq)]
-struct Shown {
-    look: Option<Look>,
-    oldest: Option<Value>,
-    second: Option<Value>,
+fn shown_at(hub: &Hub, port: u16) -> Shown {
+    let port = Port(port);
+    (hub.look(port), hub.buffered(port, 0), hub.buffered(port, 1))
 }
 
 /// Of ports 0 to 2.
 fn look_at(hub: &Hub) -> [Shown; 3] {
-    let at = |port| Shown {
-        look: hub.look(Port(port)),
-        oldest: hub.buffered(Port(port), 0),
-        second: hub.buffered(Port(port), 1),
-    };
-    [at(0), at(1), at(2)]
+    [shown_at(hub, 0), shown_at(hub, 1), shown_at(hub, 2)]
 }
 
 /// Opens a hub and, where memory was refused, another.
@@ -45,112 +34,86 @@ fn open_again(alloc: Global, procs: u8) -> Result<Hub, OpenFault> {
     }
 }
 
-/// Makes a step behind these. Where memory was refused the hub is as before, and the step is made again.
+/// Makes a step behind those of these rows. Where memory was refused the hub is as before, and the step is made again.
 fn step_again(
     rt: &impl Abort,
     hub: &mut Hub,
-    before: &[Entry],
-    entry: &Entry,
-    wanted: &[Event],
-) -> Result<(), Fail> {
+    before: &[Row],
+    (pid, asked): (u8, Ask),
+    told: &[(u8, Told)],
+) {
     let looked = look_at(hub);
-    let events = match make_step(rt, hub, entry.copy()) {
-        Err(Fault::NoMemory) => {
-            same(rt, hub.entries(), before, "entries");
+    match make_step(rt, hub, entry_of(pid, asked)) {
+        Ok(events) => are_told(rt, events.as_slice(), told),
+        Err(fault) => {
+            same(rt, fault, Fault::NoMemory, "fault");
+            are_kept(rt, hub.entries(), before);
             same(rt, look_at(hub), looked, "looks");
-            make_step(rt, hub, entry.copy())?
+            step(rt, hub, entry_of(pid, asked), told);
         }
-        answer => answer?,
-    };
-    same(rt, events.as_slice(), wanted, "events");
-    Ok(())
+    }
 }
 
-/// Makes these steps in order, each again where memory was refused.
-fn steps_again(
-    rt: &impl Abort,
-    hub: &mut Hub,
-    entries: &[Entry],
-    wanted: &[&[Event]],
-) -> Result<(), Fail> {
-    for (i, (entry, events)) in entries.iter().zip(wanted).enumerate() {
-        let before = entries.get(..i).ok_or("entries before")?;
-        step_again(rt, hub, before, entry, events)?;
+/// Makes the steps of these rows in order, each again where memory was refused.
+fn steps_again(rt: &impl Abort, hub: &mut Hub, rows: &[Row]) {
+    for (i, row) in rows.iter().enumerate() {
+        if let Row::Steps(pid, asked, told) = row
+            && let Some(before) = rows.get(..i)
+        {
+            step_again(rt, hub, before, (*pid, *asked), told);
+        }
     }
-    same(rt, hub.entries(), entries, "entries");
-    Ok(())
+    are_kept(rt, hub.entries(), rows);
 }
 
 /// Opens a hub of so many processes and makes these steps, all of it where memory may be refused.
-fn hub_again(
-    rt: &impl Abort,
-    alloc: Global,
-    procs: u8,
-    entries: &[Entry],
-    wanted: &[&[Event]],
-) -> Result<(), Fail> {
-    begin(alloc)?;
+fn hub_again(rt: &impl Abort, alloc: Global, procs: u8, rows: &[Row]) -> Result<(), Fail> {
+    begin(alloc);
     let mut hub = open_again(alloc, procs)?;
-    steps_again(rt, &mut hub, entries, wanted)
+    steps_again(rt, &mut hub, rows);
+    Ok(())
 }
+
+const ON_TWO_PORTS: &[Row] = &[
+    Row::Steps(0, Ask::Make(0), &[(0, MADE)]),
+    Row::Steps(0, Ask::Make(0), &[(0, MADE_SECOND)]),
+    Row::Steps(1, Ask::RecvEither(1, 2), &[(1, PARKED)]),
+    Row::Steps(0, Ask::Send(2, 8), &[(0, SENT), (1, Told::Got(1, 8))]),
+    Row::Steps(0, Ask::Send(1, 9), &[(0, PARKED)]),
+    Row::Steps(1, Ask::Recv(1), &[(1, Told::Got(0, 9)), (0, SENT)]),
+];
 
 // A call that waits on two ports ends at the second, and then another on the first.
 #[test]
 fn refused_opening_and_steps_are_made_again(rt: HostRuntime) -> Result<(), Fail> {
-    let entries = [
-        make(0, 0),
-        make(0, 0),
-        recv_either(1, 1, 2),
-        send(0, 2, 8),
-        send(0, 1, 9),
-        recv(1, 1),
-    ];
-    let second_got = told(
-        1,
-        What::Fired {
-            case: 1,
-            outcome: Outcome::Got(Value::num(8)),
-        },
-    );
-    let sent = fired(0, Outcome::Sent);
-    hub_again(
-        &rt,
-        rt.alloc(),
-        3,
-        &entries,
-        &[
-            &[told(0, What::Made(Port(1)))],
-            &[told(0, What::Made(Port(2)))],
-            &[told(1, What::Parked)],
-            &[sent, second_got],
-            &[told(0, What::Parked)],
-            &[got(1, 9), sent],
-        ],
-    )
+    hub_again(&rt, rt.alloc(), 3, ON_TWO_PORTS)
 }
+
+const BUFFERED: &[Row] = &[
+    Row::Steps(0, Ask::Make(2), &[(0, MADE)]),
+    Row::Steps(0, Ask::Send(1, 5), &[(0, SENT)]),
+    Row::Steps(0, Ask::Send(1, 6), &[(0, SENT)]),
+    Row::Steps(0, Ask::Make(1), &[(0, MADE_SECOND)]),
+    Row::Steps(0, Ask::Recv(1), &[(0, Told::Got(0, 5))]),
+    Row::Steps(0, Ask::Close(1), &[(0, DONE)]),
+    Row::Steps(0, Ask::Recv(1), &[(0, Told::Got(0, 6))]),
+];
 
 // Values in a buffer stay where a step is refused.
 #[test]
 fn refused_steps_leave_the_buffer(rt: HostRuntime) -> Result<(), Fail> {
-    let entries = [
-        make(0, 2),
-        send(0, 1, 5),
-        send(0, 1, 6),
-        make(0, 1),
-        recv(0, 1),
-        close(0, 1),
-        recv(0, 1),
-    ];
-    let wanted: [&[Event]; 7] = [
-        &[told(0, What::Made(Port(1)))],
-        &[fired(0, Outcome::Sent)],
-        &[fired(0, Outcome::Sent)],
-        &[told(0, What::Made(Port(2)))],
-        &[got(0, 5)],
-        &[told(0, What::Done)],
-        &[got(0, 6)],
-    ];
-    hub_again(&rt, rt.alloc(), 1, &entries, &wanted)
+    hub_again(&rt, rt.alloc(), 1, BUFFERED)
+}
+
+/// The steps of these rows, as entries.
+fn entries_of(alloc: Global, rows: &[Row]) -> Result<Vec<Entry>, Fail> {
+    let mut entries = Vec::new(alloc);
+    for row in rows {
+        if let Row::Steps(pid, asked, _) = row {
+            entries.push(entry_of(*pid, *asked))?;
+        }
+    }
+    Ok(entries)
 }
 
 /// Runs these entries and, where memory was refused, once more.
@@ -174,52 +137,61 @@ fn run_again(
 
 #[test]
 fn refused_run_is_made_again(rt: HostRuntime) -> Result<(), Fail> {
-    let entries = used_up();
-    let wanted = [
-        told(0, What::Made(Port(1))),
-        fired(0, Outcome::Sent),
-        told(0, What::Done),
-        got(0, 7),
-        fired(0, Outcome::Drained),
-        fired(0, Outcome::Closed),
-        told(0, What::Fault(Fault::AlreadyClosed)),
-    ];
-    begin(rt.alloc())?;
+    let entries = entries_of(rt.alloc(), USED_UP)?;
+    begin(rt.alloc());
     let (hub, events) = run_again(&rt, rt.alloc(), &entries)?;
-    same(&rt, events.as_slice(), wanted.as_slice(), "events");
-    same(&rt, hub.entries(), entries.as_slice(), "entries");
+    are_kept(&rt, hub.entries(), USED_UP);
+    each_is_told(&rt, &events, USED_UP);
     Ok(())
 }
+
+/// An event is told of each step of these rows.
+fn each_is_told(rt: &impl Abort, events: &[Event], rows: &[Row]) {
+    same(rt, events.len(), 7, "events");
+    for (event, row) in events.chunks(1).zip(rows) {
+        if let Row::Steps(_, _, told) = row {
+            are_told(rt, event, told);
+        }
+    }
+}
+
+const RESERVED: &[Row] = &[
+    Row::Steps(0, Ask::Make(1), &[(0, MADE)]),
+    Row::Steps(0, Ask::Send(1, 5), &[(0, SENT)]),
+    Row::Steps(1, Ask::Recv(1), &[(1, Told::Got(0, 5))]),
+];
 
 #[test]
 fn refused_reservation_is_made_again(rt: HostRuntime) -> Result<(), Fail> {
     let mut hub = Hub::open(rt.alloc(), 3, 100, Edition::One)?;
-    let before = look_at(&hub);
-    begin(rt.alloc())?;
-    if hub.reserve(5) == Err(NoMemory) {
-        same(&rt, hub.entries().len(), 0, "entries");
-        same(&rt, look_at(&hub), before, "looks");
-        hub.reserve(5)?;
-    }
-    let entries = [make(0, 1), send(0, 1, 5), recv(1, 1)];
-    let made = told(0, What::Made(Port(1)));
-    let sent = fired(0, Outcome::Sent);
-    steps_again(&rt, &mut hub, &entries, &[&[made], &[sent], &[got(1, 5)]])
+    begin(rt.alloc());
+    reserve_again(&rt, &mut hub);
+    steps_again(&rt, &mut hub, RESERVED);
+    Ok(())
 }
+
+/// Reserves five steps. Where memory was refused the hub is as before, and they are reserved again.
+fn reserve_again(rt: &impl Abort, hub: &mut Hub) {
+    let before = look_at(hub);
+    if hub.reserve(5) == Err(NoMemory) {
+        same(rt, hub.entries().len(), 0, "entries");
+        same(rt, look_at(hub), before, "looks");
+        same(rt, hub.reserve(5).is_ok(), true, "reserved again");
+    }
+}
+
+const WITHOUT_MEMORY: &[Row] = &[
+    Row::Steps(0, Ask::Make(1), &[(0, MADE)]),
+    Row::Reserves(4),
+    Row::Begins,
+    Row::Steps(0, Ask::Send(1, 5), &[(0, SENT)]),
+    Row::Steps(0, Ask::Recv(1), &[(0, Told::Got(0, 5))]),
+    Row::Steps(1, Ask::Recv(1), &[(1, PARKED)]),
+    Row::Steps(0, Ask::Recv(1), &[(0, PARKED), (1, STALLED), (0, STALLED)]),
+];
 
 // A send, a receive, a park and a stall.
 #[test]
 fn reserved_steps_take_no_memory(rt: HostRuntime) -> Result<(), Fail> {
-    let mut hub = reserved_hub(&rt, rt.alloc(), 2, 4)?;
-    begin(rt.alloc())?;
-    // It shows the script that memory is refused by now.
-    let _refused: Result<Vec<u8>, _> = Vec::with_capacity(rt.alloc(), 1);
-    pass_five(&rt, &mut hub)?;
-    step(&rt, &mut hub, recv(1, 1), &[told(1, What::Parked)])?;
-    let stalled = [
-        told(0, What::Parked),
-        told(1, What::Stalled),
-        told(0, What::Stalled),
-    ];
-    step(&rt, &mut hub, recv(0, 1), &stalled)
+    tell(&rt, rt.alloc(), first(2), 100, WITHOUT_MEMORY)
 }

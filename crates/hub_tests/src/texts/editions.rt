@@ -1,9 +1,9 @@
 //! Both editions: their first lines, and how many cases a call may have in each.
 
 use crate::compare::same;
-use crate::steps::entries::{cancel, make, told};
+use crate::steps::entries::{Ask, Told, are_told, entry_of};
 use hub_base::{
-    Edition, Fault, Journal, Kind, Reader, TextFault, What, read_journal, write_journal,
+    Edition, Entry, Fault, Journal, Kind, Reader, TextFault, What, read_journal, write_journal,
 };
 use hub_core::run;
 use std::alloc::Global;
@@ -55,7 +55,7 @@ fn is_answered(rt: &impl Abort, alloc: Global, text: &[u8], answer: What) -> Res
     let journal = read_journal(alloc, text)?;
     let (edition, procs) = (journal.edition(), journal.procs());
     let (_hub, events) = run(alloc, procs, 10, edition, journal.entries())?;
-    same(rt, events.as_slice(), [told(1, answer)].as_slice(), edition);
+    are_told(rt, &events, &[(1, Told::Is(answer))]);
     Ok(())
 }
 
@@ -67,14 +67,23 @@ fn editions_have_their_most_cases(rt: HostRuntime) {
 
 #[test]
 fn second_edition_has_cancels(rt: HostRuntime) {
-    let entries = [make(0, 1), cancel(0, 1)];
+    let entries = [entry_of(0, Ask::Make(1)), entry_of(0, Ask::Cancel(1))];
     for (edition, has) in [(Edition::One, false), (Edition::Two, true)] {
-        same(&rt, edition.has_cancel(), has, edition);
-        same(&rt, entries[0].fits(edition), true, edition);
-        same(&rt, entries[1].fits(edition), has, edition);
-        same(&rt, edition.has_all(&entries[..1]), true, edition);
-        same(&rt, edition.has_all(&entries), has, edition);
+        have_cancels(&rt, edition, &entries, has);
+        let all = (edition.has_all(&entries[..1]), edition.has_all(&entries));
+        same(&rt, all, (true, has), edition);
     }
+}
+
+/// The edition has the make, and maybe the cancel that stands behind it.
+fn have_cancels(rt: &impl Abort, edition: Edition, entries: &[Entry; 2], has: bool) {
+    let [make, cancel] = entries;
+    let found = (
+        edition.has_cancel(),
+        make.fits(edition),
+        cancel.fits(edition),
+    );
+    same(rt, found, (has, true, has), edition);
 }
 
 // A cancel of the second edition is read and written; in the first it is no step.
@@ -82,10 +91,14 @@ fn second_edition_has_cancels(rt: HostRuntime) {
 fn cancels_are_read_and_written(rt: HostRuntime) -> Result<(), Fail> {
     let text = b"chanhub journal 2\nprocs 2\n0 cancel 1\n255 cancel 255\n";
     let journal = read_journal(rt.alloc(), text)?;
-    let cancels = [cancel(0, 1), cancel(255, 255)];
-    assert_eq!(rt; journal.entries(), cancels.as_slice());
+    are_cancels(&rt, journal.entries());
     is_written(&rt, rt.alloc(), &journal, text)?;
     is_no_step(&rt)
+}
+
+fn are_cancels(rt: &impl Abort, entries: &[Entry]) {
+    let cancels = [entry_of(0, Ask::Cancel(1)), entry_of(255, Ask::Cancel(255))];
+    same(rt, entries, cancels.as_slice(), "cancels");
 }
 
 /// A cancel behind the head lines of the first edition.

@@ -1,7 +1,7 @@
 //! Reading entry by entry.
 
 use crate::compare::same;
-use crate::steps::entries::make;
+use crate::steps::entries::{Ask, entry_of};
 use hub_base::{Kind, Reader, TextFault, write_entry};
 use std::test::Fail;
 
@@ -13,7 +13,7 @@ fn entries_are_read_into_one(rt: HostRuntime) -> Result<(), Fail> {
     let mut text = HEAD.to_vec(rt.alloc())?;
     text.extend_from_slice(lines)?;
     let mut reader = Reader::open(&text)?;
-    let mut entry = make(7, 7);
+    let mut entry = entry_of(7, Ask::Make(7));
     let mut written = Vec::new(rt.alloc());
     for place in 0..6 {
         same(&rt, reader.read_into(&mut entry)?, true, place);

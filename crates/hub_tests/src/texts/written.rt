@@ -1,10 +1,10 @@
 //! Texts that are written: journals, which are read again, and events.
 
 use crate::compare::same;
-use crate::steps::entries::told;
+use crate::steps::entries::{SENT, Told, event_of};
 use hub_base::{
-    Event, EventText, Fault, Journal, Outcome, Port, Value, What, read_journal, write_entry,
-    write_event, write_head, write_journal,
+    Event, EventText, Fault, Journal, Outcome, Port, What, read_journal, write_entry, write_event,
+    write_head, write_journal,
 };
 use std::alloc::Global;
 use std::process::Abort;
@@ -70,31 +70,42 @@ fn write_entries(rt: &impl Abort, out: &mut Vec<u8>, journal: &Journal) -> Resul
     Ok(())
 }
 
+const LINES: [(u8, Told, &str); 15] = [
+    (0, Told::Is(What::Made(Port(1))), "0 made 1\n"),
+    (255, Told::Is(What::Made(Port(65535))), "255 made 65535\n"),
+    (0, SENT, "0 case 0 sent\n"),
+    (1, Told::Got(7, 0), "1 case 7 got 0\n"),
+    (
+        2,
+        Told::Got(255, 18446744073709551615),
+        "2 case 255 got 18446744073709551615\n",
+    ),
+    (63, DRAINED_FIRST, "63 case 1 drained\n"),
+    (64, CLOSED_SECOND, "64 case 2 closed\n"),
+    (10, Told::Is(What::Default), "10 default\n"),
+    (20, Told::Is(What::Done), "20 done\n"),
+    (30, Told::Is(What::Parked), "30 parked\n"),
+    (40, Told::Is(What::Stalled), "40 stalled\n"),
+    (50, Told::Is(What::Fault(Fault::NoProcess)), "50 fault 1\n"),
+    (60, Told::Is(What::Fault(Fault::NoMemory)), "60 fault 11\n"),
+    (70, Told::Is(What::Fault(Fault::NotParked)), "70 fault 12\n"),
+    (80, Told::Is(What::Cancelled), "80 cancelled\n"),
+];
+
+const DRAINED_FIRST: Told = Told::Is(What::Fired {
+    case: 1,
+    outcome: Outcome::Drained,
+});
+
+const CLOSED_SECOND: Told = Told::Is(What::Fired {
+    case: 2,
+    outcome: Outcome::Closed,
+});
+
 #[test]
 fn each_event_has_its_line(rt: HostRuntime) -> Result<(), Fail> {
-    let fired = |case, outcome| What::Fired { case, outcome };
-    for (pid, what, line) in [
-        (0, What::Made(Port(1)), "0 made 1\n"),
-        (255, What::Made(Port(65535)), "255 made 65535\n"),
-        (0, fired(0, Outcome::Sent), "0 case 0 sent\n"),
-        (1, fired(7, Outcome::Got(Value::num(0))), "1 case 7 got 0\n"),
-        (
-            2,
-            fired(255, Outcome::Got(Value::num(u64::MAX))),
-            "2 case 255 got 18446744073709551615\n",
-        ),
-        (63, fired(1, Outcome::Drained), "63 case 1 drained\n"),
-        (64, fired(2, Outcome::Closed), "64 case 2 closed\n"),
-        (10, What::Default, "10 default\n"),
-        (20, What::Done, "20 done\n"),
-        (30, What::Parked, "30 parked\n"),
-        (40, What::Stalled, "40 stalled\n"),
-        (50, What::Fault(Fault::NoProcess), "50 fault 1\n"),
-        (60, What::Fault(Fault::NoMemory), "60 fault 11\n"),
-        (70, What::Fault(Fault::NotParked), "70 fault 12\n"),
-        (80, What::Cancelled, "80 cancelled\n"),
-    ] {
-        has_line(&rt, rt.alloc(), told(pid, what), line)?;
+    for (pid, told, line) in LINES {
+        has_line(&rt, rt.alloc(), event_of(pid, told), line)?;
     }
     Ok(())
 }
@@ -111,43 +122,47 @@ fn has_line(rt: &impl Abort, alloc: Global, event: Event, line: &str) -> Result<
 
 #[test]
 fn lines_of_events_join_into_one_text(rt: HostRuntime) -> Result<(), Fail> {
-    let got = |case, number| What::Fired {
-        case,
-        outcome: Outcome::Got(Value::num(number)),
-    };
     let mut text = EventText::new(rt.alloc());
-    same(&rt, text.text(), b"", "new");
-    text.write(&[told(9, What::Parked), told(10, got(99, 100))])?;
-    text.write(&[])?;
-    text.write(&[told(100, got(9, 9_999_999_999_999_999_999))])?;
-    let expected = "9 parked\n10 case 99 got 100\n100 case 9 got 9999999999999999999\n";
-    same(&rt, text.text(), expected.as_bytes(), "joined");
+    join(&rt, &mut text)?;
     text.clear();
-    same(&rt, text.text(), b"", "cleared");
-    text.write(&[told(0, What::Stalled)])?;
-    same(&rt, text.text(), b"0 stalled\n", "written anew");
+    write_anew(&rt, &mut text)
+}
+
+/// Three events behind a text without any.
+fn join(rt: &impl Abort, text: &mut EventText) -> Result<(), Fail> {
+    same(rt, text.text(), b"", "new");
+    let parked = event_of(9, Told::Is(What::Parked));
+    text.write(&[parked, event_of(10, Told::Got(99, 100))])?;
+    text.write(&[])?;
+    text.write(&[event_of(100, Told::Got(9, 9_999_999_999_999_999_999))])?;
+    let expected = "9 parked\n10 case 99 got 100\n100 case 9 got 9999999999999999999\n";
+    same(rt, text.text(), expected.as_bytes(), "joined");
+    Ok(())
+}
+
+/// An event in a text that was cleared.
+fn write_anew(rt: &impl Abort, text: &mut EventText) -> Result<(), Fail> {
+    same(rt, text.text(), b"", "cleared");
+    text.write(&[event_of(0, Told::Is(What::Stalled))])?;
+    same(rt, text.text(), b"0 stalled\n", "written anew");
     Ok(())
 }
 
 #[test]
 fn text_of_events_grows(rt: HostRuntime) -> Result<(), Fail> {
-    let most = What::Fired {
-        case: 255,
-        outcome: Outcome::Got(Value::num(u64::MAX)),
-    };
-    let longest = told(255, most);
+    let longest = event_of(255, Told::Got(255, 18446744073709551615));
     let mut text = EventText::new(rt.alloc());
     for _ in 0..2000 {
         text.write(&[longest, longest])?;
     }
-    let line = b"255 case 255 got 18446744073709551615\n";
-    same(&rt, text.text().len(), 4000 * line.len(), "length");
-    let mut lines = text.text().chunks(line.len());
-    same(
-        &rt,
-        lines.all(|found| found == line.as_slice()),
-        true,
-        "lines",
-    );
+    are_all(&rt, text.text(), b"255 case 255 got 18446744073709551615\n");
     Ok(())
+}
+
+/// The text is this line, 4,000 times.
+fn are_all(rt: &impl Abort, text: &[u8], line: &[u8; 38]) {
+    same(rt, text.len(), 4000 * line.len(), "length");
+    for found in text.chunks(line.len()) {
+        same(rt, found, line.as_slice(), "line");
+    }
 }

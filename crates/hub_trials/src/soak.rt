@@ -1,6 +1,7 @@
 //! Rounds of random calls in 64 threads, each compared with the replay of its journal.
 
 ghost use Rattle.std.specs.Prelude.{◌≡◌, All, IfOk, OnOk};
+ghost use Rattle.hub_base.specs.Head.{AreOf};
 ghost use Rattle.hub_trials.specs.Answers.{answers_to};
 
 use crate::answers::{first_wrong, saw_the_same};
@@ -8,7 +9,7 @@ use crate::beginning::hold_with_ports;
 use crate::chances::{Chances, PORTS};
 use crate::random_calls::{RandomTask, Until};
 use crate::trouble::Trouble;
-use hub_base::{Counts, Edition, Event, Pid, Port};
+use hub_base::{Counts, Edition, Event, Journal, Pid, Port};
 use hub_core::{Hub, run};
 use hub_crew::{Member, run_crew};
 use hub_live::{Blank, Held, HubName, LiveHub, Seat};
@@ -29,7 +30,7 @@ const CAPACITIES: [u32; PORTS as usize] = [
 ];
 
 /// How much was tried.
-#[derive(Clone, Copy, Debug, PartialEq, Eq)]
+#[derive(Clone, Copy)]
 pub struct Tally {
     pub rounds: u64,
     pub answers: u64,
@@ -66,24 +67,34 @@ fn shown_by(alloc: Global, hub: &Hub) -> Result<Vec<Option<Counts>>, AllocError>
     Ok(shown)
 }
 
-/// The seats and the answers of some processes, whose threads have ended.
-fn parted<K: HubName>(
+/// The answers of a process, whose thread has ended, and what its seat sees.
+fn called_of<K: HubName>(
+    alloc: Global,
+    hub: &LiveHub<K>,
+    seat: &mut Held<K>,
+    report: Result<Vec<Event>, Trouble>,
+) -> Result<Called, Trouble> {
+    let told = report?;
+    let pid = seat.pid();
+    let looks = looks_of(alloc, hub, seat)?;
+    Ok(Called { pid, told, looks })
+}
+
+/// That of all processes.
+fn all_called<K: HubName>(
     alloc: Global,
     hub: &LiveHub<K>,
     done: Vec<Member<K, Result<Vec<Event>, Trouble>>>,
-) -> Result<(Vec<Held<K>>, Vec<Called>), Trouble> {
-    let mut seats = Vec::new(alloc);
+) -> Result<Vec<Called>, Trouble> {
     let mut all = Vec::new(alloc);
     for member in done {
         let Member { mut seat, report } = member;
-        let told = report?;
-        let pid = seat.pid();
-        let looks = looks_of(alloc, hub, &mut seat)?;
-        seats.push(seat).map_err(AllocError::from)?;
-        all.push(Called { pid, told, looks })
-            .map_err(AllocError::from)?;
+        let called = called_of(alloc, hub, &mut seat, report)?;
+        let Ok(()) = all.push(called) else {
+            return Err(Trouble::NoMemory);
+        };
     }
-    Ok((seats, all))
+    Ok(all)
 }
 
 /// Whether each process was answered as these events say.
@@ -119,6 +130,48 @@ fn answers_of(all: &[Called]) -> u64 {
     answers
 }
 
+/// Whether each process was answered as the replay of the journal answers it, and saw in the end what that shows.
+fn compare_replay(alloc: Global, all: &[Called], journal: &Journal) -> Result<(), Trouble>
+    requires { AreOf journal.now.head.edition journal.now.entries }
+{
+    let (procs, edition) = (journal.procs(), journal.edition());
+    let Ok((replayed, events)) = run(alloc, procs, LIMIT, edition, journal.entries()) else {
+        return Err(Trouble::NoReplay);
+    };
+    compare(alloc, all, events.as_slice())?;
+    compare_shown(alloc, all, &replayed)
+}
+
+/// Whether each process saw in the end what the hub shows.
+fn compare_shown(alloc: Global, all: &[Called], hub: &Hub) -> Result<(), Trouble> {
+    let shown = shown_by(alloc, hub)?;
+    compare_looks(all, shown.as_slice())
+}
+
+/// Makes the ports, and then the random calls of each process in a thread of its own.
+fn in_threads<K: HubName + Send + Sync, R: Threads + Wait + Clock + Sync>(
+    rt: &R,
+    alloc: Global,
+    hub: &LiveHub<K>,
+    seats: Vec<Seat>,
+    seed: u64,
+    until: Until,
+) -> Result<Vec<Called>, Trouble>
+    requires { All (λ s. s.hub ≡ K.name) seats.items }
+{
+    let (seats, made) = hold_with_ports(rt, alloc, hub, seats, &CAPACITIES)?;
+    let task = RandomTask {
+        alloc,
+        seed,
+        until,
+        made: made.as_slice(),
+    };
+    match run_crew(rt, alloc, hub, seats, task) {
+        Ok(done) => all_called(alloc, hub, done),
+        Err(_) => Err(Trouble::NotStarted),
+    }
+}
+
 /// One hub with its threads, and the comparison. The number of answers.
 fn in_round<K: HubName + Send + Sync, R: Threads + Wait + Clock + Sync>(
     rt: &R,
@@ -132,28 +185,9 @@ fn in_round<K: HubName + Send + Sync, R: Threads + Wait + Clock + Sync>(
     requires seats { All (λ s. s.hub ≡ K.name) seats.items }
 {
     let hub = blank.named::<K>();
-    let (seats, made) = hold_with_ports(rt, alloc, &hub, seats, &CAPACITIES)?;
-    let task = RandomTask {
-        alloc,
-        seed,
-        until,
-        made: made.as_slice(),
-    };
-    let done = run_crew(rt, alloc, &hub, seats, task).map_err(|_| Trouble::NotStarted)?;
-    let (seats, all) = parted(alloc, &hub, done)?;
-    let journal = hub.finish_held(seats);
-    let Ok((replayed, events)) = run(
-        alloc,
-        journal.procs(),
-        LIMIT,
-        journal.edition(),
-        journal.entries(),
-    ) else {
-        return Err(Trouble::NoReplay);
-    };
-    compare(alloc, all.as_slice(), events.as_slice())?;
-    let shown = shown_by(alloc, &replayed)?;
-    compare_looks(all.as_slice(), shown.as_slice())?;
+    let all = in_threads(rt, alloc, &hub, seats, seed, until)?;
+    let journal = hub.finish(Vec::new(alloc));
+    compare_replay(alloc, all.as_slice(), &journal)?;
     Ok(answers_of(all.as_slice()))
 }
 

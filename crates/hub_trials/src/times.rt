@@ -9,7 +9,7 @@ use crate::beginning::hold_with_ports;
 use crate::trouble::Trouble;
 use crate::workload::{Role, Workload};
 use hub_base::{Cases, Edition, Event, Fault, Port, Value, What};
-use hub_crew::{Task, run_crew};
+use hub_crew::{Member, Task, run_crew};
 use hub_live::{Blank, Chan, Held, HubName, LiveHub, Seat};
 use std::alloc::{AllocError, Global};
 use std::marker::Brand;
@@ -18,14 +18,14 @@ use std::thread::Threads;
 use std::time::{Clock, Duration, Instant};
 
 /// Operations a second, over some runs.
-#[derive(Clone, Copy, Debug, PartialEq, Eq)]
+#[derive(Clone, Copy)]
 pub struct Rates {
     pub best: u64,
     pub median: u64,
 }
 
 /// A call was not answered as it is meant to be.
-#[derive(Clone, Copy, Debug, PartialEq, Eq)]
+#[derive(Clone, Copy)]
 struct Unanswered;
 
 /// From when to when.
@@ -164,14 +164,26 @@ fn run_named<K: HubName + Send + Sync, R: Threads + Wait + Clock + Sync>(
 {
     let hub = blank.named::<K>();
     let (seats, _) = hold_with_ports(rt, alloc, &hub, seats, turns.workload.capacities())?;
-    let done = run_crew(rt, alloc, &hub, seats, turns).map_err(|_| Trouble::NotStarted)?;
+    let Ok(done) = run_crew(rt, alloc, &hub, seats, turns) else {
+        return Err(Trouble::NotStarted);
+    };
+    time_of(done.as_slice())
+}
+
+/// From the earliest beginning to the latest end.
+fn time_of<K: HubName>(done: &[Member<K, Result<Span, Trouble>>]) -> Result<Duration, Trouble> {
     let mut whole: Option<Span> = None;
     for member in done {
         let span = member.report?;
-        whole = Some(whole.map_or(span, |before| before.with(span)));
+        whole = match whole {
+            Some(before) => Some(before.with(span)),
+            None => Some(span),
+        };
     }
-    let whole = whole.ok_or(Trouble::NotStarted)?;
-    Ok(whole.ended.saturating_duration_since(whole.began))
+    match whole {
+        Some(whole) => Ok(whole.ended.saturating_duration_since(whole.began)),
+        None => Err(Trouble::NotStarted),
+    }
 }
 
 /// The journal has just room for the calls and the ports.

@@ -7,7 +7,7 @@ use std::io;
 use thiserror::Error;
 
 /// Why a trial ended early.
-#[derive(Clone, Copy, Debug, PartialEq, Eq, Error)]
+#[derive(Clone, Copy, Debug, Error)]
 pub enum Trouble {
     #[error("the words are soak SECONDS SEED, or times [CALLS [RUNS]]")]
     BadWords,

@@ -5,7 +5,7 @@ ghost use Rattle.std.specs.Prelude.{◌≤◌, IsSome};
 use std::convert::AsStr;
 
 /// What the program is asked for.
-#[derive(Clone, Copy, Debug, PartialEq, Eq)]
+#[derive(Clone, Copy)]
 pub enum Trial {
     /// Rounds of random calls for so many seconds.
     Soak { seconds: u64, seed: u64 },

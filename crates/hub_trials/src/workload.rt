@@ -6,7 +6,7 @@ use hub_base::{Pid, Port};
 use std::fmt;
 
 /// What is timed.
-#[derive(Clone, Copy, Debug, PartialEq, Eq)]
+#[derive(Clone, Copy)]
 pub enum Workload {
     /// One thread sends and receives in turn.
     Alone,
@@ -41,7 +41,7 @@ pub const WORKLOADS: [Workload; 10] = [
 ];
 
 /// What a process does in each turn.
-#[derive(Clone, Copy, Debug, PartialEq, Eq)]
+#[derive(Clone, Copy)]
 pub enum Role {
     Send(Port),
     Receive(Port),
@@ -118,15 +118,15 @@ impl Workload {
     /// whole round, or 100 times as many looks each.
     pub fn turns(self, role: Role, calls: u32) -> u32 {
         let rounds = calls / self.round();
-        match self {
-            Workload::Alone | Workload::OneToOne => 4 * rounds,
-            Workload::PingPong => 2 * rounds,
-            Workload::FourToFour | Workload::Pipeline => rounds,
-            Workload::SelectOverFour if role == Role::SelectOverFour => 4 * rounds,
-            Workload::SelectOverFour => rounds,
-            Workload::Pool if role == Role::Send(Port(1)) => 3 * rounds,
-            Workload::Pool => 5 * rounds,
-            Workload::Looks(_) => LOOKS.saturating_mul(calls),
+        match (self, role) {
+            (Workload::Alone | Workload::OneToOne, _) => 4 * rounds,
+            (Workload::PingPong, _) => 2 * rounds,
+            (Workload::FourToFour | Workload::Pipeline, _) => rounds,
+            (Workload::SelectOverFour, Role::SelectOverFour) => 4 * rounds,
+            (Workload::SelectOverFour, _) => rounds,
+            (Workload::Pool, Role::Send(_)) => 3 * rounds,
+            (Workload::Pool, _) => 5 * rounds,
+            (Workload::Looks(_), _) => LOOKS.saturating_mul(calls),
         }
     }
 

@@ -4,7 +4,7 @@
 use crate::compare::same;
 use hub_base::{Port, read_journal};
 use hub_picture::{Arrow, Asked, Drawing, Held, Lane, Strip, Window, drawing_of, write_svg};
-use hub_story::{Told, story_of};
+use hub_story::{Passage, Told, story_of};
 use std::alloc::Global;
 use std::process::Abort;
 use std::test::Fail;
@@ -25,18 +25,26 @@ enum Part {
     Picture,
 }
 
-/// The drawing of the journal, from one step until before another, is as it should be. It is dropped here, so that what
-/// compares its parts holds nothing.
-fn is_drawn(rt: &impl Abort, alloc: Global, window: Window, part: Part) -> Result<(), Fail> {
+/// The drawing of the journal, from one step until before another.
+fn drawn(rt: &impl Abort, alloc: Global, window: Window) -> Result<Drawing, Fail> {
     let journal = read_journal(alloc, PIPE)?;
     assert!(rt; journal.procs() == 2 && journal.entries().len() <= 100);
     let story = story_of(alloc, &journal)?;
-    let drawing = drawing_of(alloc, &journal, &story, window)?;
+    Ok(drawing_of(alloc, &journal, &story, window)?)
+}
+
+/// That drawing is as it should be. It is dropped here, so that what compares its parts holds nothing.
+fn is_drawn(rt: &impl Abort, alloc: Global, window: Window, part: Part) -> Result<(), Fail> {
+    let drawing = drawn(rt, alloc, window)?;
+    has_part(rt, alloc, &drawing, part)
+}
+
+fn has_part(rt: &impl Abort, alloc: Global, drawing: &Drawing, part: Part) -> Result<(), Fail> {
     match part {
-        Part::Whole => is_whole(rt, &drawing),
-        Part::Lanes => has_lanes(rt, &drawing),
-        Part::Touched => has_what_touches(rt, &drawing),
-        Part::Picture => return has_picture(rt, alloc, &drawing),
+        Part::Whole => is_whole(rt, drawing),
+        Part::Lanes => has_lanes(rt, drawing),
+        Part::Touched => has_what_touches(rt, drawing),
+        Part::Picture => return has_picture(rt, alloc, drawing),
     }
     Ok(())
 }
@@ -51,37 +59,57 @@ fn is_whole(rt: &impl Abort, drawing: &Drawing) {
     let window = Window { first: 0, end: 7 };
     let found = (drawing.procs, drawing.boxes.len(), drawing.window);
     same(rt, found, (2, 7, window), "processes, boxes and window");
-    are_asked(rt, &drawing.bars, &[(2, Some(3)), (5, Some(6))]);
-    are_arrows(rt, &drawing.arrows, &[(1, 1, 3), (1, 3, 4)]);
-    are_stalls(rt, &drawing.stalls, &[(1, 6)]);
+    let bars = two_asked(&drawing.bars);
+    same(rt, bars, Some([(2, Some(3)), (5, Some(6))]), "bars");
+    let arrows = two_arrows(&drawing.arrows);
+    same(rt, arrows, Some([(1, 1, 3), (1, 3, 4)]), "arrows");
+    same(rt, only_stall(&drawing.stalls), Some((1, 6)), "stalls");
 }
 
-/// These entries were asked there, and ended by those steps.
-fn are_asked(rt: &impl Abort, all: &[Asked], places: &[(u32, Option<u32>)]) {
-    same(rt, all.len(), places.len(), "how many were asked");
-    for (asked, place) in all.iter().zip(places) {
-        let by = match asked.ended {
-            Some(end) => Some(end.by),
-            None => None,
-        };
-        same(rt, (asked.place, by), *place, "asked");
+/// Where an entry was asked, and by whose step it ended.
+type Place = (u32, Option<u32>);
+
+fn place_of(asked: &Asked) -> Place {
+    match asked.ended {
+        Some(end) => (asked.place, Some(end.by)),
+        None => (asked.place, None),
     }
 }
 
-/// The arrows have these ports, and go between those steps.
-fn are_arrows(rt: &impl Abort, all: &[Arrow], places: &[(u16, u32, u32)]) {
-    same(rt, all.len(), places.len(), "how many arrows");
-    for (arrow, place) in all.iter().zip(places) {
-        let (sent, received) = (arrow.passage.sent.told, arrow.passage.received.told);
-        same(rt, (arrow.port.0, sent.by, received.by), *place, "arrow");
+/// Where these two were asked.
+fn two_asked(all: &[Asked]) -> Option<[Place; 2]> {
+    match all {
+        [first, second] => Some([place_of(first), place_of(second)]),
+        _ => None,
     }
 }
 
-/// These were stalled, by those steps.
-fn are_stalls(rt: &impl Abort, all: &[Told], places: &[(u8, u32)]) {
-    same(rt, all.len(), places.len(), "how many stalls");
-    for (told, place) in all.iter().zip(places) {
-        same(rt, (told.event.pid.0, told.by), *place, "stall");
+/// Where the only one was asked.
+fn only_asked(all: &[Asked]) -> Option<Place> {
+    match all {
+        [only] => Some(place_of(only)),
+        _ => None,
+    }
+}
+
+/// The port of an arrow, and between which steps it goes.
+fn ends_of(arrow: &Arrow) -> (u16, u32, u32) {
+    let Passage { sent, received } = arrow.passage;
+    (arrow.port.0, sent.told.by, received.told.by)
+}
+
+fn two_arrows(all: &[Arrow]) -> Option<[(u16, u32, u32); 2]> {
+    match all {
+        [first, second] => Some([ends_of(first), ends_of(second)]),
+        _ => None,
+    }
+}
+
+/// Who alone was stalled, by which step.
+fn only_stall(all: &[Told]) -> Option<(u8, u32)> {
+    match all {
+        [only] => Some((only.event.pid.0, only.by)),
+        _ => None,
     }
 }
 
@@ -112,20 +140,23 @@ const STRIPS: &[Strip] = &[Strip {
 fn has_lanes(rt: &impl Abort, drawing: &Drawing) {
     same(rt, drawing.lanes.as_slice(), LANES, "lanes");
     same(rt, drawing.strips.as_slice(), STRIPS, "strips");
-    are_levels(
-        rt,
-        &drawing.levels,
-        &[(1, 1, Some(3), 1), (1, 3, Some(4), 1)],
-    );
+    let levels = two_levels(&drawing.levels);
+    let wanted = [(1, 1, Some(3), 1), (1, 3, Some(4), 1)];
+    same(rt, levels, Some(wanted), "levels");
 }
 
-/// The ports held so much, from one step until another.
-fn are_levels(rt: &impl Abort, all: &[Held], levels: &[(u16, u32, Option<u32>, usize)]) {
-    same(rt, all.len(), levels.len(), "how many levels");
-    for (held, level) in all.iter().zip(levels) {
-        let count = held.level.sent.saturating_sub(held.level.received);
-        let found = (held.strip.port.0, held.from, held.until, count);
-        same(rt, found, *level, "level");
+/// How much a port held, from one step until another.
+type Stay = (u16, u32, Option<u32>, usize);
+
+fn stay_of(held: &Held) -> Stay {
+    let count = held.level.sent.saturating_sub(held.level.received);
+    (held.strip.port.0, held.from, held.until, count)
+}
+
+fn two_levels(all: &[Held]) -> Option<[Stay; 2]> {
+    match all {
+        [first, second] => Some([stay_of(first), stay_of(second)]),
+        _ => None,
     }
 }
 
@@ -136,8 +167,10 @@ fn window_shows_what_touches_it(rt: HostRuntime) -> Result<(), Fail> {
 }
 
 fn has_what_touches(rt: &impl Abort, drawing: &Drawing) {
-    are_asked(rt, &drawing.boxes, &[(3, Some(3))]);
-    are_asked(rt, &drawing.bars, &[(2, Some(3))]);
+    let box_of = only_asked(&drawing.boxes);
+    same(rt, box_of, Some((3, Some(3))), "box");
+    let bar = only_asked(&drawing.bars);
+    same(rt, bar, Some((2, Some(3))), "bar");
     let counts = (drawing.arrows.len(), drawing.stalls.len());
     same(rt, counts, (2, 0), "arrows and stalls");
 }

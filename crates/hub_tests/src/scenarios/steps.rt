@@ -1,7 +1,6 @@
 //! Texts of steps.
 
 use crate::compare::same;
-use hub_base::Port;
 use hub_scenario::{ScenarioFault, ScriptStep, read_scenario};
 use std::alloc::Global;
 use std::test::Fail;
@@ -19,84 +18,63 @@ fn only_step(alloc: Global, quoted: &str) -> Result<ScriptStep, ScenarioFault> {
     }
 }
 
+/// A step's keyword, its port, the number that it sends, how many cases it selects from, and whether it has a default.
+type Shown = (&'static str, u16, Option<u64>, usize, bool);
+
+fn shown_by(step: &ScriptStep) -> Shown {
+    match step {
+        ScriptStep::Recv(port) => ("recv", port.0, None, 0, false),
+        ScriptStep::Close(port) => ("close", port.0, None, 0, false),
+        ScriptStep::Range(port) => ("range", port.0, None, 0, false),
+        ScriptStep::Send(port, value) => ("send", port.0, value.as_num(), 0, false),
+        ScriptStep::Select(cases, default) => ("select", 0, None, cases.len(), *default),
+    }
+}
+
+const STEPS: [(&str, Shown); 24] = [
+    ("'recv 0'", ("recv", 0, None, 0, false)),
+    ("'close 0'", ("close", 0, None, 0, false)),
+    ("'range 0'", ("range", 0, None, 0, false)),
+    ("'recv 1'", ("recv", 1, None, 0, false)),
+    ("'close 1'", ("close", 1, None, 0, false)),
+    ("'range 1'", ("range", 1, None, 0, false)),
+    ("'recv 64'", ("recv", 64, None, 0, false)),
+    ("'close 64'", ("close", 64, None, 0, false)),
+    ("'range 64'", ("range", 64, None, 0, false)),
+    ("'recv 65535'", ("recv", 65535, None, 0, false)),
+    ("'close 65535'", ("close", 65535, None, 0, false)),
+    ("'range 65535'", ("range", 65535, None, 0, false)),
+    ("'send 0 0'", ("send", 0, Some(0), 0, false)),
+    ("\"send 1 4\"", ("send", 1, Some(4), 0, false)),
+    ("'''send 1 4'''", ("send", 1, Some(4), 0, false)),
+    ("\"send\\u00201 4\"", ("send", 1, Some(4), 0, false)),
+    (
+        "'send 65535 18446744073709551615'",
+        ("send", 65535, Some(18446744073709551615), 0, false),
+    ),
+    ("'select'", ("select", 0, None, 0, false)),
+    ("'select default'", ("select", 0, None, 0, true)),
+    ("'select r1'", ("select", 0, None, 1, false)),
+    ("'select r1 default'", ("select", 0, None, 1, true)),
+    (
+        "'select s65535:18446744073709551615 r0 s0:0 default'",
+        ("select", 0, None, 3, true),
+    ),
+    (
+        "'select r1 r1 r1 r1 r1 r1 r1 r1 r1 r1 r1 r1 r1 r1 r1 r1'",
+        ("select", 0, None, 16, false),
+    ),
+    (
+        "'select r1 r1 r1 r1 r1 r1 r1 r1 r1 r1 r1 r1 r1 r1 r1 r1 default'",
+        ("select", 0, None, 16, true),
+    ),
+];
+
 #[test]
-fn steps_of_one_port_are_read(rt: HostRuntime) -> Result<(), Fail> {
-    for (text, number) in [("0", 0), ("1", 1), ("64", 64), ("65535", 65535)] {
-        for keyword in ["recv", "close", "range"] {
-            let quoted = format!(in rt.alloc(); "'{keyword} {text}'")?;
-            let found = keyword_and_port(&only_step(rt.alloc(), quoted.as_str())?);
-            same(&rt, found, (keyword, Port(number)), text);
-        }
+fn steps_are_read(rt: HostRuntime) -> Result<(), Fail> {
+    for (quoted, shown) in STEPS {
+        let found = shown_by(&only_step(rt.alloc(), quoted)?);
+        same(&rt, found, shown, quoted);
     }
     Ok(())
-}
-
-/// The keyword of a step of one port, and the port.
-fn keyword_and_port(step: &ScriptStep) -> (&'static str, Port) {
-    match step {
-        ScriptStep::Recv(port) => ("recv", *port),
-        ScriptStep::Close(port) => ("close", *port),
-        ScriptStep::Range(port) => ("range", *port),
-        _ => ("another", Port(0)),
-    }
-}
-
-#[test]
-fn sends_are_read(rt: HostRuntime) -> Result<(), Fail> {
-    for (quoted, to, number) in [
-        ("'send 0 0'", 0, 0),
-        ("\"send 1 4\"", 1, 4),
-        ("'''send 1 4'''", 1, 4),
-        ("\"send\\u00201 4\"", 1, 4),
-        ("'send 65535 18446744073709551615'", 65535, u64::MAX),
-    ] {
-        let sent = sent_by(&only_step(rt.alloc(), quoted)?);
-        same(&rt, sent, Some((Port(to), Some(number))), quoted);
-    }
-    Ok(())
-}
-
-/// Where a step sends, and which number.
-fn sent_by(step: &ScriptStep) -> Option<(Port, Option<u64>)> {
-    match step {
-        ScriptStep::Send(port, value) => Some((*port, value.as_num())),
-        _ => None,
-    }
-}
-
-#[test]
-fn selects_are_read(rt: HostRuntime) -> Result<(), Fail> {
-    for (quoted, count, has_default) in [
-        ("'select'", 0, false),
-        ("'select default'", 0, true),
-        ("'select r1'", 1, false),
-        ("'select r1 default'", 1, true),
-        (
-            "'select s65535:18446744073709551615 r0 s0:0 default'",
-            3,
-            true,
-        ),
-        (
-            "'select r1 r1 r1 r1 r1 r1 r1 r1 r1 r1 r1 r1 r1 r1 r1 r1'",
-            16,
-            false,
-        ),
-        (
-            "'select r1 r1 r1 r1 r1 r1 r1 r1 r1 r1 r1 r1 r1 r1 r1 r1 default'",
-            16,
-            true,
-        ),
-    ] {
-        let selected = selected_by(&only_step(rt.alloc(), quoted)?);
-        same(&rt, selected, Some((count, has_default)), quoted);
-    }
-    Ok(())
-}
-
-/// How many cases a step selects from, and whether it has a default.
-fn selected_by(step: &ScriptStep) -> Option<(usize, bool)> {
-    match step {
-        ScriptStep::Select(cases, default) => Some((cases.len(), *default)),
-        _ => None,
-    }
 }

@@ -1,10 +1,12 @@
 //! A hub, step by step: what it shows, full journals, and reservations.
 
-use super::entries::{Ask, DONE, MADE, MADE_SECOND, PARKED, SENT, STALLED, Told, entry_of, first};
-use super::rows::{Row, tell};
+use super::entries::{Ask, DONE, MADE, MADE_SECOND, PARKED, SENT, STALLED, Told, first};
+use super::rows::{Row, entries_of, tell};
 use crate::compare::same;
-use hub_base::{Counts, Edition, Fault, Head, Look, Outcome, What};
+use hub_base::{Counts, Edition, Entry, Fault, Head, Look, Outcome, What};
 use hub_core::{ListFault, run};
+use std::alloc::Global;
+use std::process::Abort;
 use std::test::Fail;
 
 /// A value goes through port 1, which is closed and drained; then a send and a close come too late.
@@ -124,26 +126,33 @@ fn full_journal_takes_exits_alone(rt: HostRuntime) -> Result<(), Fail> {
     tell(&rt, rt.alloc(), first(2), 1, FILLING)
 }
 
+// The second exit is refused, and not kept. What is told of these steps is not compared.
+const RUNNING: &[Row] = &[
+    Row::Steps(0, Ask::Make(0), &[]),
+    Row::Steps(1, Ask::Recv(1), &[]),
+    Row::Steps(0, Ask::Exit, &[]),
+    Row::Steps(0, Ask::Exit, &[]),
+    Row::Steps(2, Ask::Make(0), &[]),
+];
+
 #[test]
 fn run_ends_where_the_journal_is_full(rt: HostRuntime) -> Result<(), Fail> {
-    let entries = [
-        entry_of(0, Ask::Make(0)),
-        entry_of(1, Ask::Recv(1)),
-        entry_of(0, Ask::Exit),
-        entry_of(0, Ask::Exit),
-        entry_of(2, Ask::Make(0)),
-    ];
+    let entries = entries_of(rt.alloc(), RUNNING)?;
+    run_both(&rt, rt.alloc(), &entries)
+}
+
+/// With a limit of two steps the last is refused, and with three it is made.
+fn run_both(rt: &impl Abort, alloc: Global, entries: &[Entry]) -> Result<(), Fail> {
+    assert!(rt; Edition::One.has_all(entries));
     let full = ListFault::At {
         index: 4,
         fault: Fault::JournalFull,
     };
-    assert!(rt; Edition::One.has_all(&entries));
-    let stopped = run(rt.alloc(), 3, 2, Edition::One, &entries).err();
-    same(&rt, stopped, Some(full), "full");
-    let (hub, events) = run(rt.alloc(), 3, 3, Edition::One, &entries)?;
-    // The second exit is refused, and not kept.
+    let stopped = run(alloc, 3, 2, Edition::One, entries).err();
+    same(rt, stopped, Some(full), "full");
+    let (hub, events) = run(alloc, 3, 3, Edition::One, entries)?;
     let counts = (hub.entries().len(), events.len());
-    same(&rt, counts, (4, 5), "entries and events");
+    same(rt, counts, (4, 5), "entries and events");
     Ok(())
 }
 

@@ -5,18 +5,20 @@ use hub_base::{Edition, Fault};
 use hub_core::{Hub, ListFault, OpenFault, run};
 use std::test::Fail;
 
+const OPENINGS: [(u8, u32, Option<OpenFault>); 8] = [
+    (0, 1, Some(OpenFault::BadProcs)),
+    (65, 0, Some(OpenFault::BadProcs)),
+    (255, 1_000_001, Some(OpenFault::BadProcs)),
+    (1, 0, Some(OpenFault::BadLimit)),
+    (64, 1_000_001, Some(OpenFault::BadLimit)),
+    (1, 4294967295, Some(OpenFault::BadLimit)),
+    (1, 1, None),
+    (64, 1_000_000, None),
+];
+
 #[test]
 fn openings_have_bounds(rt: HostRuntime) {
-    for (procs, limit, fault) in [
-        (0, 1, Some(OpenFault::BadProcs)),
-        (65, 0, Some(OpenFault::BadProcs)),
-        (255, 1_000_001, Some(OpenFault::BadProcs)),
-        (1, 0, Some(OpenFault::BadLimit)),
-        (64, 1_000_001, Some(OpenFault::BadLimit)),
-        (1, u32::MAX, Some(OpenFault::BadLimit)),
-        (1, 1, None),
-        (64, 1_000_000, None),
-    ] {
+    for (procs, limit, fault) in OPENINGS {
         let opened = Hub::open(rt.alloc(), procs, limit, Edition::One).err();
         same(&rt, opened, fault, (procs, limit));
         let ran = run(rt.alloc(), procs, limit, Edition::One, &[]).err();
@@ -35,27 +37,30 @@ fn opening_faults_have_numbers(rt: HostRuntime) {
     }
 }
 
+const FULL: ListFault = ListFault::At {
+    index: 3,
+    fault: Fault::JournalFull,
+};
+
+const FAULTS: [(ListFault, &str); 4] = [
+    (
+        ListFault::Open(OpenFault::BadProcs),
+        "no hub: the number of processes is not 1 to 64",
+    ),
+    (
+        ListFault::Open(OpenFault::BadLimit),
+        "no hub: the limit is not 1 to 1000000",
+    ),
+    (
+        ListFault::Open(OpenFault::NoMemory),
+        "no hub: out of memory",
+    ),
+    (FULL, "entry 3: the journal is full"),
+];
+
 #[test]
 fn faults_have_texts(rt: HostRuntime) -> Result<(), Fail> {
-    let full = ListFault::At {
-        index: 3,
-        fault: Fault::JournalFull,
-    };
-    for (fault, text) in [
-        (
-            ListFault::Open(OpenFault::BadProcs),
-            "no hub: the number of processes is not 1 to 64",
-        ),
-        (
-            ListFault::Open(OpenFault::BadLimit),
-            "no hub: the limit is not 1 to 1000000",
-        ),
-        (
-            ListFault::Open(OpenFault::NoMemory),
-            "no hub: out of memory",
-        ),
-        (full, "entry 3: the journal is full"),
-    ] {
+    for (fault, text) in FAULTS {
         has_text(&rt, rt.alloc(), fault, text)?;
     }
     Ok(())

@@ -5,7 +5,7 @@ use super::entries::{
     Ask, DONE, MADE, MADE_SECOND, PARKED, SENT, STALLED, Told, are_told, entry_of, first, make_step,
 };
 use super::hubs::USED_UP;
-use super::rows::{Row, are_kept, begin, step, tell};
+use super::rows::{Row, are_kept, begin, entries_of, step, tell};
 use crate::compare::same;
 use hub_base::{Edition, Entry, Event, Fault, Look, NoMemory, Port, Value};
 use hub_core::{Hub, ListFault, OpenFault, run};
@@ -103,17 +103,6 @@ const BUFFERED: &[Row] = &[
 #[test]
 fn refused_steps_leave_the_buffer(rt: HostRuntime) -> Result<(), Fail> {
     hub_again(&rt, rt.alloc(), 1, BUFFERED)
-}
-
-/// The steps of these rows, as entries.
-fn entries_of(alloc: Global, rows: &[Row]) -> Result<Vec<Entry>, Fail> {
-    let mut entries = Vec::new(alloc);
-    for row in rows {
-        if let Row::Steps(pid, asked, _) = row {
-            entries.push(entry_of(*pid, *asked))?;
-        }
-    }
-    Ok(entries)
 }
 
 /// Runs these entries and, where memory was refused, once more.

@@ -77,6 +77,17 @@ fn follow(rt: &impl Abort, alloc: Global, hub: &mut Hub, rows: &[Row]) {
     }
 }
 
+/// The steps of these rows, as entries.
+pub(super) fn entries_of(alloc: Global, rows: &[Row]) -> Result<Vec<Entry>, Fail> {
+    let mut entries = Vec::new(alloc);
+    for row in rows {
+        if let Row::Steps(pid, asked, _) = row {
+            entries.push(entry_of(*pid, *asked))?;
+        }
+    }
+    Ok(entries)
+}
+
 /// The entries are the steps of these rows that were not refused, in order.
 pub(super) fn are_kept(rt: &impl Abort, entries: &[Entry], rows: &[Row]) {
     let mut place = 0usize;

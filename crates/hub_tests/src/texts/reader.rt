@@ -3,25 +3,33 @@
 use crate::compare::same;
 use crate::steps::entries::{Ask, entry_of};
 use hub_base::{Kind, Reader, TextFault, write_entry};
+use std::process::Abort;
 use std::test::Fail;
 
-const HEAD: &[u8] = b"chanhub journal 1\nprocs 64\n";
+const TEXT: &[u8] =
+    b"chanhub journal 1\nprocs 64\n0 select 9 s1:2 r3 default\n1 recv 4\n2 send 5 6\n3 exit\n4 recv 0\n5 close 1\n";
+
+const LINES: &[u8] =
+    b"0 select 9 s1:2 r3 default\n1 recv 4\n2 send 5 6\n3 exit\n4 recv 0\n5 close 1\n";
 
 #[test]
 fn entries_are_read_into_one(rt: HostRuntime) -> Result<(), Fail> {
-    let lines = b"0 select 9 s1:2 r3 default\n1 recv 4\n2 send 5 6\n3 exit\n4 recv 0\n5 close 1\n";
-    let mut text = HEAD.to_vec(rt.alloc())?;
-    text.extend_from_slice(lines)?;
-    let mut reader = Reader::open(&text)?;
-    let mut entry = entry_of(7, Ask::Make(7));
     let mut written = Vec::new(rt.alloc());
+    read_all(&rt, &mut written)?;
+    same(&rt, written.as_slice(), LINES, "lines");
+    Ok(())
+}
+
+/// Reads the entries into one, and writes each behind what was written.
+fn read_all(rt: &impl Abort, written: &mut Vec<u8>) -> Result<(), Fail> {
+    let mut reader = Reader::open(TEXT)?;
+    let mut entry = entry_of(7, Ask::Make(7));
     for place in 0..6 {
-        same(&rt, reader.read_into(&mut entry)?, true, place);
+        same(rt, reader.read_into(&mut entry)?, true, place);
         assert!(rt; entry.fits(reader.head().edition));
-        write_entry(&mut written, reader.head().edition, &entry)?;
+        write_entry(written, reader.head().edition, &entry)?;
     }
-    same(&rt, reader.read_into(&mut entry)?, false, "behind the last");
-    same(&rt, written.as_slice(), lines.as_slice(), "lines");
+    same(rt, reader.read_into(&mut entry)?, false, "behind the last");
     Ok(())
 }
 

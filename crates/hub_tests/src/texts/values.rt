@@ -61,39 +61,42 @@ fn cases_are_copied_in_order(rt: HostRuntime) {
     );
 }
 
+const FAULTS: [(Fault, u8, &str); 12] = [
+    (Fault::NoProcess, 1, "no such process"),
+    (Fault::Gone, 2, "the process has exited"),
+    (Fault::Busy, 3, "the process has an open call"),
+    (Fault::TooManyCases, 4, "too many cases"),
+    (Fault::NoPort, 5, "no such port"),
+    (Fault::BadCap, 6, "the capacity is too large"),
+    (Fault::TooManyPorts, 7, "too many ports"),
+    (Fault::NilClose, 8, "close of the nil port"),
+    (Fault::AlreadyClosed, 9, "close of a closed port"),
+    (Fault::JournalFull, 10, "the journal is full"),
+    (Fault::NoMemory, 11, "out of memory"),
+    (Fault::NotParked, 12, "no open call"),
+];
+
 #[test]
 fn faults_have_numbers_and_texts(rt: HostRuntime) -> Result<(), Fail> {
-    for (fault, number, text) in [
-        (Fault::NoProcess, 1, "no such process"),
-        (Fault::Gone, 2, "the process has exited"),
-        (Fault::Busy, 3, "the process has an open call"),
-        (Fault::TooManyCases, 4, "too many cases"),
-        (Fault::NoPort, 5, "no such port"),
-        (Fault::BadCap, 6, "the capacity is too large"),
-        (Fault::TooManyPorts, 7, "too many ports"),
-        (Fault::NilClose, 8, "close of the nil port"),
-        (Fault::AlreadyClosed, 9, "close of a closed port"),
-        (Fault::JournalFull, 10, "the journal is full"),
-        (Fault::NoMemory, 11, "out of memory"),
-        (Fault::NotParked, 12, "no open call"),
-    ] {
+    for (fault, number, text) in FAULTS {
         same(&rt, fault.number(), number, fault);
         has_text(&rt, rt.alloc(), fault, text)?;
     }
     Ok(())
 }
 
+const KINDS: [(Kind, u8, &str); 6] = [
+    (Kind::BadHeader, 1, "bad header"),
+    (Kind::BadProcs, 2, "bad procs"),
+    (Kind::BadStep, 3, "bad step"),
+    (Kind::BadNumber, 4, "bad number"),
+    (Kind::CutLine, 5, "cut line"),
+    (Kind::TooLong, 6, "too long"),
+];
+
 #[test]
 fn kinds_have_numbers_and_texts(rt: HostRuntime) {
-    for (kind, number, text) in [
-        (Kind::BadHeader, 1, "bad header"),
-        (Kind::BadProcs, 2, "bad procs"),
-        (Kind::BadStep, 3, "bad step"),
-        (Kind::BadNumber, 4, "bad number"),
-        (Kind::CutLine, 5, "cut line"),
-        (Kind::TooLong, 6, "too long"),
-    ] {
-        same(&rt, kind.number(), number, text);
-        same(&rt, kind.text(), text, text);
+    for (kind, number, text) in KINDS {
+        same(&rt, (kind.number(), kind.text()), (number, text), text);
     }
 }

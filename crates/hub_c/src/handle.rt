@@ -101,10 +101,10 @@ pub(crate) fn act(handle: &mut Handle, kind: u8, pid: u8, port: u16, value: u64)
     ensures { Does handle.old kind pid port value handle.new result }
 {
     let Some(kind) = kind_of(kind) else { return 0 };
-    if kind == Kind::Refusal {
+    if matches!(kind, Kind::Refusal) {
         return handle.refusal.into();
     }
-    if kind == Kind::End {
+    if matches!(kind, Kind::End) {
         handle.session = None;
     }
     match &mut handle.session {

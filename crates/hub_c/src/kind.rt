@@ -4,7 +4,7 @@ ghost use Rattle.std.specs.Prelude.{◌≡◌, slice_get};
 ghost use Rattle.hub_c.specs.Kinds.{kinds};
 
 /// A step of a process. What was given before it is forgotten with it.
-#[derive(Clone, Copy, Debug, PartialEq, Eq)]
+#[derive(Clone, Copy)]
 pub enum StepKind {
     /// Makes a channel of the capacity `value`.
     Make,
@@ -27,7 +27,7 @@ pub enum StepKind {
 }
 
 /// What is given for the next step.
-#[derive(Clone, Copy, Debug, PartialEq, Eq)]
+#[derive(Clone, Copy)]
 pub enum GiveKind {
     /// One byte more, `value`.
     Byte,
@@ -40,7 +40,7 @@ pub enum GiveKind {
 }
 
 /// What is read. Nothing changes.
-#[derive(Clone, Copy, Debug, PartialEq, Eq)]
+#[derive(Clone, Copy)]
 pub enum ReadKind {
     /// The number that was received.
     Number,
@@ -61,7 +61,7 @@ pub enum ReadKind {
 }
 
 /// What C asks for.
-#[derive(Clone, Copy, Debug, PartialEq, Eq)]
+#[derive(Clone, Copy)]
 pub enum Kind {
     /// A step.
     Step(StepKind),

@@ -15,7 +15,7 @@ use std::alloc::Global;
 pub type Bytes = ArrayVec<u8, MOST_VALUE_BYTES>;
 
 /// The numbers that come with what is asked for.
-#[derive(Clone, Copy, Debug)]
+#[derive(Clone, Copy)]
 pub struct Numbers {
     /// A process.
     pub pid: u8,

@@ -15,9 +15,9 @@ import model
 FAULTS = ["no such process", "the process has exited", "the process still waits in a call", "too many cases", "no such port",
           "the capacity is too large", "too many ports", "close of the nil port", "close of a closed port",
           "the journal is full", "out of memory", "that process does not wait"]
-HEADING = "   step  who asks what                  answer            waited              value or fault        what else it does"
+HEADING = "   step  who asks what                  answer            waited              partner or reason     what else it does"
 LONGEST = 5  # how many of the longest waits are told
-ASKS, ANSWER, WAITED, VALUE, ENDS = (HEADING.index(word) for word in ("who", "answer", "waited", "value", "what else"))
+ASKS, ANSWER, WAITED, VALUE, ENDS = (HEADING.index(word) for word in ("who", "answer", "waited", "partner", "what else"))
 DOES = {"case": "frees", "cancelled": "cancels", "stalled": "stalls"}  # by the first word of the event that ends a call
 
 
@@ -178,7 +178,7 @@ class Story:
             until = len(self.entries) - 1 if entry.end is None else entry.until
             if entry.end is None or until > place:
                 steps[place] = until - place
-        yield f"{len(steps)} of {sum(entry.word == 'call' for entry in self.entries)} calls waited, longest first"
+        yield f"{len(steps)} of {sum(entry.word == 'call' for entry in self.entries)} calls waited, the longest first, five at most"
         for place in sorted(steps, key=lambda place: (-steps[place], place))[:LONGEST]:
             yield self.line(place)
 
@@ -192,7 +192,7 @@ class Story:
         if self.waiting:
             lines += ["in the end these wait", *self.leavers(), *self.waiters(self.waiting.values())]
         else:
-            lines.append("in the end nobody waits")
+            lines.append("in the end no call waits")
         return "".join(line + "\n" for line in lines).encode()
 
 

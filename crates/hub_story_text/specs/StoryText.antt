@@ -42,13 +42,13 @@ steps_text w es all place (e ∷ rest) =
     (if has w place then step_text es all place e else []) ++ steps_text w es all (place + 1) rest
 
 abbrev pub heading : List ℕ
-heading = codes "   step  who asks what                  answer            waited              value or fault        what else it does\n"
+heading = codes "   step  who asks what                  answer            waited              partner or reason     what else it does\n"
 
 abbrev pub end_heading : List ℕ
 end_heading = codes "in the end these wait\n"
 
 abbrev pub end_nobody : List ℕ
-end_nobody = codes "in the end nobody waits\n"
+end_nobody = codes "in the end no call waits\n"
 
 -- what the ports carried
 abbrev pub ports_text : List Entry → List Told → List ℕ

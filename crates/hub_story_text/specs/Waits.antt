@@ -54,5 +54,5 @@ line_at es all w =
 -- how many of the calls waited, and the lines of those that waited longest
 abbrev pub waits_text : List Entry → List Told → List ℕ
 waits_text es all =
-    decimal (length (waits es all)) ++ codes " of " ++ decimal (count_by (λ e. is_call e.step) es) ++ codes " calls waited, longest first\n"
+    decimal (length (waits es all)) ++ codes " of " ++ decimal (count_by (λ e. is_call e.step) es) ++ codes " calls waited, the longest first, five at most\n"
     ++ flat_map (line_at es all) (longest (waits es all))

@@ -20,11 +20,11 @@ use hub_story::Story;
 use std::alloc::Global;
 
 const HEADING: &[u8] =
-    b"   step  who asks what                  answer            waited              value or fault        what else it does\n";
+    b"   step  who asks what                  answer            waited              partner or reason     what else it does\n";
 
 const END_HEADING: &[u8] = b"in the end these wait\n";
 
-const END_NOBODY: &[u8] = b"in the end nobody waits\n";
+const END_NOBODY: &[u8] = b"in the end no call waits\n";
 
 /// Appends the story of a journal, by what is known of its values; `last` comes to tell who moved one last.
 fn put_story(

@@ -179,6 +179,6 @@ pub(crate) fn put_waits(
     let waits = Waits::of(*out.allocator(), journal, story)?;
     put_number(out, b"", waits.count as u64)?;
     put_number(out, b" of ", calls_of(journal.entries()) as u64)?;
-    out.extend_from_slice(b" calls waited, longest first\n")?;
+    out.extend_from_slice(b" calls waited, the longest first, five at most\n")?;
     put_longest(out, journal, story, partners, &waits.longest)
 }

@@ -16,9 +16,10 @@ returns c =
     let first = two out c.put_number.new.out.items [] waited (rw c.in_ok-waits.ensures.count at c.in_ok-put_number.ensures) in
     let second = two-more out c.put_number.new.out.items c.put_number-2.new.out.items waited (codes " of ") calls first
     (rw counted at c.in_ok-put_number-2.ensures) in
+    let words = codes " calls waited, the longest first, five at most\n" in
     let heading = one-more out c.put_number-2.new.out.items c.extend_from_slice.new.self.items (waited ++ codes " of " ++ calls)
-    (codes " calls waited, longest first\n") second c.in_ok-extend_from_slice.ensures.items in
+    words second c.in_ok-extend_from_slice.ensures.items in
     on-ok c.put_longest.result
-    (one-more out c.extend_from_slice.new.self.items c.put_longest.new.out.items (waited ++ codes " of " ++ calls ++ codes " calls waited, longest first\n")
+    (one-more out c.extend_from_slice.new.self.items c.put_longest.new.out.items (waited ++ codes " of " ++ calls ++ words)
     (flat_map (line_at es told) (longest (waits es told))) heading)
     (rw (c.deref.ensures.value, c.in_ok-waits.ensures.longest) at c.put_longest.ensures)

@@ -181,18 +181,18 @@ def levels(journal, bands):
 # what the legend tells, and of which entries, by their lines and their ends
 MARKS = {
     "Box: an entry. Filled it sends, white it receives. Its colour is the port's. ": lambda line, cases, end: True,
-    "m1: makes port 1. ": lambda line, cases, end: end.startswith("made"),
-    "c1: closes port 1. ": lambda line, cases, end: line[1] == "close" and end == "done",
+    "m and a number: makes that port. ": lambda line, cases, end: end.startswith("made"),
+    "c and a number: closes that port. ": lambda line, cases, end: line[1] == "close" and end == "done",
     "?: a select of which no case fired. ": lambda line, cases, end: line[1] == "select"
     and len(cases) != 1
     and end.split(" ")[0] not in ("case", "default", "fault"),
     "def: took its default. ": lambda line, cases, end: end == "default",
-    "x1: cancels the call of process 1. ": lambda line, cases, end: line[1] == "cancel" and end == "done",
-    "f3, with a thick orange edge: refused by fault 3. ": lambda line, cases, end: end.startswith("fault"),
-    "Dashed edge: still waits. ": lambda line, cases, end: end == "",
+    "x and a number: cancels the call of that process. ": lambda line, cases, end: line[1] == "cancel" and end == "done",
+    "f and a number, with a thick dashed orange edge: refused by that fault. ": lambda line, cases, end: end.startswith("fault"),
+    "Thin dashed edge: still waits. ": lambda line, cases, end: end == "",
     "Dotted edge: the port was closed and empty. ": lambda line, cases, end: end.endswith("drained"),
     "Finely dotted edge: cancelled. ": lambda line, cases, end: end == "cancelled",
-    "Thick orange edge: stalled, or sent on a closed port. ": lambda line, cases, end: end == "stalled" or end.endswith("closed"),
+    "Thick dashed orange edge: stalled, or sent on a closed port. ": lambda line, cases, end: end == "stalled" or end.endswith("closed"),
 }
 
 
@@ -235,7 +235,7 @@ def legend(journal, bands):
     if any(stalls(journal, bands)):
         yield "Shaded: everyone who is left waits, and this step stalls them. "
     if any(levels(journal, bands)):
-        yield "Strip: how full a port is; at the upper line it is full. "
+        yield "Strip: how full a port is; at the upper line it is full. A port without a buffer has none. "
 
 
 def stalls(journal, bands):

@@ -96,20 +96,20 @@ occurs d m = list_any (has_mark m) d.boxes.items
 -- ---- the text
 abbrev pub mark_words : Mark → List ℕ
 mark_words Boxes = codes "Box: an entry. Filled it sends, white it receives. Its colour is the port's. "
-mark_words Makes = codes "m1: makes port 1. "
-mark_words Closes = codes "c1: closes port 1. "
+mark_words Makes = codes "m and a number: makes that port. "
+mark_words Closes = codes "c and a number: closes that port. "
 mark_words Selects = codes "?: a select of which no case fired. "
 mark_words Defaults = codes "def: took its default. "
-mark_words Cancels = codes "x1: cancels the call of process 1. "
-mark_words Refused = codes "f3, with a thick orange edge: refused by fault 3. "
-mark_words Open = codes "Dashed edge: still waits. "
+mark_words Cancels = codes "x and a number: cancels the call of that process. "
+mark_words Refused = codes "f and a number, with a thick dashed orange edge: refused by that fault. "
+mark_words Open = codes "Thin dashed edge: still waits. "
 mark_words Drained = codes "Dotted edge: the port was closed and empty. "
 mark_words Cancelled = codes "Finely dotted edge: cancelled. "
-mark_words Trouble = codes "Thick orange edge: stalled, or sent on a closed port. "
+mark_words Trouble = codes "Thick dashed orange edge: stalled, or sent on a closed port. "
 mark_words Bars = codes "Bar: the call waits, and ends at the knob. "
 mark_words Arrows = codes "Arrow: a value, from the dot to the tip. Straight down it was handed over, slanted it lay in the buffer. "
 mark_words Stalls = codes "Shaded: everyone who is left waits, and this step stalls them. "
-mark_words Levels = codes "Strip: how full a port is; at the upper line it is full. "
+mark_words Levels = codes "Strip: how full a port is; at the upper line it is full. A port without a buffer has none. "
 
 abbrev pub mark_text : Drawing → Mark → List ℕ
 mark_text d m = if occurs d m then mark_words m else []

@@ -129,21 +129,23 @@ fn words(mark: Mark) -> &'static [u8]
     match mark {
         Mark::Boxes =>
             b"Box: an entry. Filled it sends, white it receives. Its colour is the port's. ",
-        Mark::Makes => b"m1: makes port 1. ",
-        Mark::Closes => b"c1: closes port 1. ",
+        Mark::Makes => b"m and a number: makes that port. ",
+        Mark::Closes => b"c and a number: closes that port. ",
         Mark::Selects => b"?: a select of which no case fired. ",
         Mark::Defaults => b"def: took its default. ",
-        Mark::Cancels => b"x1: cancels the call of process 1. ",
-        Mark::Refused => b"f3, with a thick orange edge: refused by fault 3. ",
-        Mark::Open => b"Dashed edge: still waits. ",
+        Mark::Cancels => b"x and a number: cancels the call of that process. ",
+        Mark::Refused =>
+            b"f and a number, with a thick dashed orange edge: refused by that fault. ",
+        Mark::Open => b"Thin dashed edge: still waits. ",
         Mark::Drained => b"Dotted edge: the port was closed and empty. ",
         Mark::Cancelled => b"Finely dotted edge: cancelled. ",
-        Mark::Trouble => b"Thick orange edge: stalled, or sent on a closed port. ",
+        Mark::Trouble => b"Thick dashed orange edge: stalled, or sent on a closed port. ",
         Mark::Bars => b"Bar: the call waits, and ends at the knob. ",
         Mark::Arrows =>
             b"Arrow: a value, from the dot to the tip. Straight down it was handed over, slanted it lay in the buffer. ",
         Mark::Stalls => b"Shaded: everyone who is left waits, and this step stalls them. ",
-        Mark::Levels => b"Strip: how full a port is; at the upper line it is full. ",
+        Mark::Levels =>
+            b"Strip: how full a port is; at the upper line it is full. A port without a buffer has none. ",
     }
 }
 

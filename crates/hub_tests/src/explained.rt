@@ -1,4 +1,3 @@
-//! Tests of a journal explained: of its story, and of its picture.
+//! Tests of a journal explained: of its story.
 
-mod pictures;
 mod stories;

@@ -141,6 +141,30 @@ def faulty_journals(folder):
             yield repr(text) + ' compared', compare(folder, text, '') == refused(fault)
 
 
+def beginnings(_):
+    """Each beginning of a text, cut behind a line or within one; and lines up to the limit of bytes, and one past it."""
+    lines = ['chanhub journal 1', 'procs 3', '0 make 0', '0 make 0', '1 select 0 r1 r2', '0 send 2 8', '0 send 1 9', '1 recv 1']
+    text = ''.join(line + '\n' for line in lines).encode()
+    behind = {0: refused('line 1: bad header'), 1: refused('line 2: bad procs')}
+    for size in range(len(text) + 1):
+        whole = text[:size].count(b'\n')
+        answer = run(['replay'], text[:size])
+        if size > 0 and not text[:size].endswith(b'\n'):
+            is_well = answer == refused('line %d: cut line' % (whole + 1))
+        else:
+            is_well = answer == behind[whole] if whole in behind else (answer[0], answer[2]) == (0, b'')
+        yield 'beginning of %d bytes' % size, is_well
+    most = 67108864
+    head = b'chanhub journal 1\nprocs 1\n0 recv '
+    for name, size, end, kind in (
+        ('most_bytes', most, b'\n', 'bad number'),
+        ('one_too_many', most + 1, b'\n', 'too long'),
+        ('most_bytes_cut', most, b'0', 'cut line'),
+        ('one_too_many_cut', most + 1, b'0', 'too long'),
+    ):
+        yield name, run(['replay'], head + b'0' * (size - 1 - len(head)) + end) == refused('line 3: ' + kind)
+
+
 def comparisons(folder):
     for group in table('comparisons')['group']:
         for row in group['comparisons']:
@@ -185,10 +209,14 @@ def long_scenarios(_):
         text = 'ports = []\nprocess = [{steps = []}]\n#'
         return text + 'x' * (size - len(text))
 
-    port = 'port %d cap 0 sent 0 received 0 left 0 sum 0 open\n'
+    # There is no port 65.
+    last = "ports = %s\nprocess = [{steps = ['send 64 9', 'recv 64', 'send 65 1']}]\n" % list(range(1, 65))
+    port = 'port %d cap %d sent 0 received 0 left 0 sum 0 open\n'
+    told = ''.join(port % (number, number) for number in range(1, 64))
+    told += 'port 64 cap 64 sent 1 received 1 left 0 sum 9 open\nfaults 1\n'
     rows = {
         'no_port': (ports(0), ''),
-        'all_ports': (ports(64), ''.join(port % number for number in range(1, 65))),
+        'all_ports': (last, told),
         'all_processes': (processes(64), ''),
         'no_step': (steps(0), ''),
         # There is no port 1.
@@ -265,20 +293,54 @@ def run_limited(stream, room, words, text, folder):
         return status, other, file.read()
 
 
+JOURNAL = b'chanhub journal 1\nprocs 2\n0 make 2\n0 send 1 10\n0 send 1 11\n1 recv 1\n'
+EVENTS = b'0 made 1\n0 case 0 sent\n0 case 0 sent\n1 case 0 got 10\n'
+FAILED_WRITE = b'chanhub: write failed\n'
+
+
+def run_by_devices(library, at_most, text, **wrong):
+    """The status and what was written, of a replay of this text by devices that give and take so many bytes a call."""
+    how = {'LD_PRELOAD': library, 'AT_MOST': str(at_most), **{name: str(number) for name, number in wrong.items()}}
+    done = subprocess.run(
+        ['chanhub', 'replay'], executable=PROGRAM, input=text, capture_output=True, timeout=60, env={**os.environ, **how}
+    )
+    return done.returncode, done.stdout, done.stderr
+
+
+def small_devices(folder):
+    """Each read fails in turn, and each write fails, or takes nothing: the last calls that are made."""
+    library = os.path.join(folder, 'devices.so')
+    source = os.path.join(ROOT, 'tools', 'devices.c')
+    subprocess.run([os.environ.get('CC', 'cc'), '-O1', '-shared', '-fPIC', '-o', library, source], check=True)
+    for most in (1, 7, 1000):
+        yield '%d bytes a call' % most, run_by_devices(library, most, JOURNAL) == (0, EVENTS, b'')
+    # One more finds the end.
+    reads = -(-len(JOURNAL) // 7) + 1
+    for k in range(1, reads + 1):
+        told = run_by_devices(library, 7, JOURNAL, WRONG_READ=k)
+        yield 'read %d fails' % k, told == (1, b'', b'chanhub: read failed\n')
+    yield 'no read behind the end', run_by_devices(library, 7, JOURNAL, WRONG_READ=reads + 1) == (0, EVENTS, b'')
+    writes = -(-len(EVENTS) // 4)
+    for kind in ({}, {'TAKES_NOTHING': 1}):
+        for k in range(1, writes + 1):
+            told = run_by_devices(library, 4, JOURNAL, WRONG_WRITE=k, **kind)
+            yield 'write %d goes wrong' % k, told == (1, EVENTS[:4 * (k - 1)], FAILED_WRITE)
+        told = run_by_devices(library, 4, JOURNAL, WRONG_WRITE=writes + 1, **kind)
+        yield 'no write behind the last', told == (0, EVENTS, b'')
+
+
 def devices(folder):
-    journal = b'chanhub journal 1\nprocs 2\n0 make 2\n0 send 1 10\n0 send 1 11\n1 recv 1\n'
-    events = b'0 made 1\n0 case 0 sent\n0 case 0 sent\n1 case 0 got 10\n'
     stalls = b'ports = [0]\n[[process]]\nsteps = ["send 1 1"]\n[[process]]\nsteps = ["send 1 2"]\n'
-    failed_write, bad_header = b'chanhub: write failed\n', b'chanhub: line 1: bad header\n'
-    for room in range(len(events)):
-        told = run_limited('stdout', room, ['replay'], journal, folder)
-        yield 'an output with room for %d bytes' % room, told == (1, failed_write, events[:room])
+    bad_header = b'chanhub: line 1: bad header\n'
+    for room in range(len(EVENTS)):
+        told = run_limited('stdout', room, ['replay'], JOURNAL, folder)
+        yield 'an output with room for %d bytes' % room, told == (1, FAILED_WRITE, EVENTS[:room])
     for room in range(len(bad_header)):
         told = run_limited('stderr', room, ['replay'], b'', folder)
         yield 'standard error with room for %d bytes' % room, told == (2, b'', bad_header[:room])
     with open('/dev/full', 'wb') as full:
-        for words, text in ((['replay'], journal), (['run'], stalls), (['run', '--journal'], stalls)):
-            yield ' '.join(words) + ' to a full device', run_into('stdout', full, words, text) == (1, failed_write)
+        for words, text in ((['replay'], JOURNAL), (['run'], stalls), (['run', '--journal'], stalls)):
+            yield ' '.join(words) + ' to a full device', run_into('stdout', full, words, text) == (1, FAILED_WRITE)
         yield 'a fault line to a full device', run_into('stderr', full, ['replay'], b'') == (2, b'')
     for words in (['replay'], ['run']):
         unreadable = os.open(folder, os.O_RDONLY)
@@ -292,7 +354,8 @@ def main():
     passed, failed = 0, 0
     with tempfile.TemporaryDirectory() as folder:
         for rows in (
-            journals, long_journals, faulty_journals, comparisons, runs, scenarios, long_scenarios, arguments, devices,
+            journals, long_journals, faulty_journals, beginnings, comparisons, runs, scenarios, long_scenarios, arguments,
+            devices, small_devices,
         ):
             for name, is_well in rows(folder):
                 passed, failed = passed + is_well, failed + (not is_well)

@@ -1,13 +1,26 @@
 //! What a gate sees of a run: that threads run at the same time, and what is counted before each call.
 
 use crate::compare::same;
-use hub_report::PortReport;
+use crate::live::stories::Runtime;
+use hub_report::{PortReport, Report};
 use hub_runner::{Gate, run_scenario};
 use hub_scenario::read_scenario;
+use std::alloc::Global;
 use std::process::Abort;
 use std::sync::atomic::{AtomicBool, AtomicU32, Ordering};
 use std::test::Fail;
 use std::thread;
+
+/// The report of a run of the scenario with this text, each of whose calls passes the gate.
+fn run_by<G: Gate + Sync>(
+    rt: &impl Runtime,
+    alloc: Global,
+    text: &[u8],
+    gate: &G,
+) -> Result<Report, Fail> {
+    let scenario = read_scenario(alloc, text)?;
+    Ok(run_scenario(rt, alloc, &scenario, gate)?)
+}
 
 /// Holds the first call of each of two processes until the other has come to its own.
 #[derive(Drop)]
@@ -43,14 +56,13 @@ impl Gate for Meeting {
 #[test]
 fn processes_run_at_the_same_time(rt: HostRuntime) -> Result<(), Fail> {
     let text = b"ports = [1, 1]\nprocess = [{steps = ['send 1 1']}, {steps = ['send 2 2']}]\n";
-    let scenario = read_scenario(rt.alloc(), text)?;
     for _ in 0..100u32 {
         let gate = Meeting {
             first: AtomicBool::new(false),
             second: AtomicBool::new(false),
             missed: AtomicBool::new(false),
         };
-        let report = run_scenario(&rt, rt.alloc(), &scenario, &gate)?;
+        let report = run_by(&rt, rt.alloc(), text, &gate)?;
         same(&rt, gate.missed.load(Ordering::SeqCst), false, "missed");
         each_has_one(&rt, report.ports.as_slice());
     }
@@ -84,12 +96,11 @@ impl Gate for Counting {
 fn each_receive_of_a_range_passes_the_gate(rt: HostRuntime) -> Result<(), Fail> {
     let text =
         b"ports = [0]\nprocess = [{steps = ['send 1 4', 'send 1 5', 'close 1']}, {steps = ['range 1']}]\n";
-    let scenario = read_scenario(rt.alloc(), text)?;
     let gate = Counting {
         calls: AtomicU32::new(0),
         numbers: AtomicU32::new(0),
     };
-    let report = run_scenario(&rt, rt.alloc(), &scenario, &gate)?;
+    let report = run_by(&rt, rt.alloc(), text, &gate)?;
     same(&rt, gate.calls.load(Ordering::SeqCst), 6, "calls");
     same(&rt, gate.numbers.load(Ordering::SeqCst), 6, "numbers");
     same(&rt, report.journal.entries().len(), 9, "entries");

@@ -4,15 +4,7 @@
 #[cfg(test)]
 mod compare;
 #[cfg(test)]
-mod explained;
-#[cfg(test)]
 mod parts;
-#[cfg(test)]
-mod replays;
-#[cfg(test)]
-mod reports;
-#[cfg(test)]
-mod scenarios;
 #[cfg(test)]
 mod steps;
 #[cfg(test)]

@@ -1,10 +1,9 @@
 //! Queues: how long dead entries stay in one.
 
-ghost use Rattle.std.specs.Prelude.{◌≡◌};
+ghost use Rattle.std.specs.Prelude.{◌≡◌, ◌∷◌, []};
 
-use super::boards::cases_of;
 use crate::compare::same;
-use hub_base::{Case, Pid, Port};
+use hub_base::{Case, Cases, Pid, Port};
 use hub_parts::{Side, Tickets, WaitQueue, Waiter};
 use std::process::Abort;
 
@@ -17,6 +16,15 @@ fn entries_after(selects: u32) -> Option<u32> {
         101 => Some(3),
         _ => None,
     }
+}
+
+fn cases_of(first: Case, second: Case) -> Cases
+    ensures { result.items ≡ first ∷ second ∷ [] }
+{
+    let mut cases = Cases::new();
+    cases.push(first);
+    cases.push(second);
+    cases
 }
 
 /// The case of this number of the select under this ticket.

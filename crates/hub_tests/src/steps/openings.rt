@@ -3,9 +3,11 @@
 use crate::compare::{has_text, same};
 use hub_base::{Edition, Fault};
 use hub_core::{Hub, ListFault, OpenFault, run};
+use std::alloc::Global;
+use std::process::Abort;
 use std::test::Fail;
 
-const OPENINGS: [(u8, u32, Option<OpenFault>); 8] = [
+const OPENINGS: &[(u8, u32, Option<OpenFault>)] = &[
     (0, 1, Some(OpenFault::BadProcs)),
     (65, 0, Some(OpenFault::BadProcs)),
     (255, 1_000_001, Some(OpenFault::BadProcs)),
@@ -19,11 +21,16 @@ const OPENINGS: [(u8, u32, Option<OpenFault>); 8] = [
 #[test]
 fn openings_have_bounds(rt: HostRuntime) {
     for (procs, limit, fault) in OPENINGS {
-        let opened = Hub::open(rt.alloc(), procs, limit, Edition::One).err();
-        same(&rt, opened, fault, (procs, limit));
-        let ran = run(rt.alloc(), procs, limit, Edition::One, &[]).err();
-        same(&rt, ran, fault.map(ListFault::Open), (procs, limit));
+        opens(&rt, rt.alloc(), *procs, *limit, *fault);
     }
+}
+
+/// What opens a hub, or refuses it, does so to a run as well.
+fn opens(rt: &impl Abort, alloc: Global, procs: u8, limit: u32, fault: Option<OpenFault>) {
+    let opened = Hub::open(alloc, procs, limit, Edition::One).err();
+    same(rt, opened, fault, (procs, limit));
+    let ran = run(alloc, procs, limit, Edition::One, &[]).err();
+    same(rt, ran, fault.map(ListFault::Open), (procs, limit));
 }
 
 #[test]
@@ -42,7 +49,7 @@ const FULL: ListFault = ListFault::At {
     fault: Fault::JournalFull,
 };
 
-const FAULTS: [(ListFault, &str); 4] = [
+const FAULTS: &[(ListFault, &str)] = &[
     (
         ListFault::Open(OpenFault::BadProcs),
         "no hub: the number of processes is not 1 to 64",
@@ -61,7 +68,7 @@ const FAULTS: [(ListFault, &str); 4] = [
 #[test]
 fn faults_have_texts(rt: HostRuntime) -> Result<(), Fail> {
     for (fault, text) in FAULTS {
-        has_text(&rt, rt.alloc(), fault, text)?;
+        has_text(&rt, rt.alloc(), *fault, text)?;
     }
     Ok(())
 }

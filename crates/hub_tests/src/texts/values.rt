@@ -61,7 +61,7 @@ fn cases_are_copied_in_order(rt: HostRuntime) {
     );
 }
 
-const FAULTS: [(Fault, u8, &str); 12] = [
+const FAULTS: &[(Fault, u8, &str)] = &[
     (Fault::NoProcess, 1, "no such process"),
     (Fault::Gone, 2, "the process has exited"),
     (Fault::Busy, 3, "the process has an open call"),
@@ -79,13 +79,13 @@ const FAULTS: [(Fault, u8, &str); 12] = [
 #[test]
 fn faults_have_numbers_and_texts(rt: HostRuntime) -> Result<(), Fail> {
     for (fault, number, text) in FAULTS {
-        same(&rt, fault.number(), number, fault);
-        has_text(&rt, rt.alloc(), fault, text)?;
+        same(&rt, fault.number(), *number, *fault);
+        has_text(&rt, rt.alloc(), *fault, text)?;
     }
     Ok(())
 }
 
-const KINDS: [(Kind, u8, &str); 6] = [
+const KINDS: &[(Kind, u8, &str)] = &[
     (Kind::BadHeader, 1, "bad header"),
     (Kind::BadProcs, 2, "bad procs"),
     (Kind::BadStep, 3, "bad step"),
@@ -97,6 +97,6 @@ const KINDS: [(Kind, u8, &str); 6] = [
 #[test]
 fn kinds_have_numbers_and_texts(rt: HostRuntime) {
     for (kind, number, text) in KINDS {
-        same(&rt, (kind.number(), kind.text()), (number, text), text);
+        same(&rt, (kind.number(), kind.text()), (*number, *text), text);
     }
 }

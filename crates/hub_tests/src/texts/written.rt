@@ -31,12 +31,21 @@ const EVERY_LINE: &[u8] = b"chanhub journal 1\n\
     2 close 65535\n\
     3 exit\n";
 
+const SECOND_EDITION: &[u8] = b"chanhub journal 2\n\
+    procs 1\n\
+    0 send 1 #\n\
+    1 select 0 r0 s1:#00ff r0 r0 r0 r0 r0 r0 r0 default\n\
+    0 cancel 1\n\
+    255 cancel 255\n";
+
 #[test]
 fn what_is_read_is_written_again(rt: HostRuntime) -> Result<(), Fail> {
-    let journal = read_journal(rt.alloc(), EVERY_LINE)?;
-    same(&rt, journal.entries().len(), 18, "entries");
-    is_every_line(&rt, rt.alloc(), &journal)?;
-    is_every_line(&rt, rt.alloc(), &copy_of(rt.alloc(), &journal)?)
+    for text in [EVERY_LINE, SECOND_EDITION] {
+        let journal = read_journal(rt.alloc(), text)?;
+        is_text(&rt, rt.alloc(), &journal, text)?;
+        is_text(&rt, rt.alloc(), &copy_of(rt.alloc(), &journal)?, text)?;
+    }
+    Ok(())
 }
 
 /// A journal with copies of these entries.
@@ -49,16 +58,16 @@ fn copy_of(alloc: Global, journal: &Journal) -> Result<Journal, Fail> {
 }
 
 /// The journal is written so, line by line, and then as a whole behind that.
-fn is_every_line(rt: &impl Abort, alloc: Global, journal: &Journal) -> Result<(), Fail> {
+fn is_text(rt: &impl Abort, alloc: Global, journal: &Journal, text: &[u8]) -> Result<(), Fail> {
     let mut out = Vec::new(alloc);
     let procs = journal.procs();
     assert!(rt; 1 <= procs && procs <= 64);
     write_head(&mut out, journal.edition(), procs)?;
     write_entries(rt, &mut out, journal)?;
-    same(rt, out.as_slice(), EVERY_LINE, "line by line");
+    same(rt, out.as_slice(), text, "line by line");
     write_journal(&mut out, journal)?;
-    same(rt, out.len(), 2 * EVERY_LINE.len(), "length");
-    same(rt, out.ends_with(EVERY_LINE), true, "whole");
+    same(rt, out.len(), text.len().saturating_mul(2), "length");
+    same(rt, out.ends_with(text), true, "whole");
     Ok(())
 }
 
@@ -70,7 +79,7 @@ fn write_entries(rt: &impl Abort, out: &mut Vec<u8>, journal: &Journal) -> Resul
     Ok(())
 }
 
-const LINES: [(u8, Told, &str); 15] = [
+const LINES: &[(u8, Told, &str)] = &[
     (0, Told::Is(What::Made(Port(1))), "0 made 1\n"),
     (255, Told::Is(What::Made(Port(65535))), "255 made 65535\n"),
     (0, SENT, "0 case 0 sent\n"),
@@ -105,7 +114,7 @@ const CLOSED_SECOND: Told = Told::Is(What::Fired {
 #[test]
 fn each_event_has_its_line(rt: HostRuntime) -> Result<(), Fail> {
     for (pid, told, line) in LINES {
-        has_line(&rt, rt.alloc(), event_of(pid, told), line)?;
+        has_line(&rt, rt.alloc(), event_of(*pid, *told), line)?;
     }
     Ok(())
 }

@@ -1,3 +1,0 @@
-//! Tests of a journal explained: of its story.
-
-mod stories;

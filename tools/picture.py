@@ -1,5 +1,5 @@
 #!/usr/bin/env python3
-"""picture.py STORY: checks the pictures of the built chanhub_story (STORY), of the example journals, of 50 random ones and of
+"""picture.py STORY: checks the pictures of the built chanhub_story (STORY), of the example journals, of 200 random ones and of
 windows of each. What a picture has to show is worked out here, from the journal and from the events that tools/model.py tells
 of it, and never from a picture: the boxes are the entries, the bars the calls that waited, the arrows go from the k-th value
 that was sent on a port to the k-th that was received, the stalls are the calls that were told so, the levels are what ports hold
@@ -22,7 +22,9 @@ ROOT = pathlib.Path(__file__).resolve().parent.parent
 TOOLS = ROOT / "tools"
 SVG = "{http://www.w3.org/2000/svg}"
 WAIT = 60
-RANDOM = 50
+RANDOM = 200
+# of these by windows too
+WINDOWED = 50
 MOST_ALLOCATIONS = 1000
 LAYERS = ["lane", "stall", "strip", "level", "bar", "box", "arrow"]
 FULL = 12
@@ -491,13 +493,13 @@ class Count:
             print(f"{name}: {fault}")
 
 
-def check_journal(count, program, name, text):
+def check_journal(count, program, name, text, by_windows=True):
     """The whole picture, and two windows of it."""
     journal = Journal(text)
     steps = len(journal.lines)
     count.run(name, lambda: check_picture(output_of([program, "picture"], text), journal, 0, steps))
     below = random.Random(name).randrange
-    for _ in range(2 if steps else 0):
+    for _ in range(2 if steps and by_windows else 0):
         first = below(steps)
         end = first + 1 + below(steps - first)
         words = [program, "picture", str(first + 1), str(end)]
@@ -522,7 +524,7 @@ def main():
         check_journal(count, program, path.name, path.read_bytes())
     for seed in range(1, RANDOM + 1):
         text = output_of([sys.executable, str(TOOLS / "random_journal.py"), str(seed)])
-        check_journal(count, program, f"random journal {seed}", text)
+        check_journal(count, program, f"random journal {seed}", text, seed <= WINDOWED)
     for path in documents:
         check_document(count, program, path)
         check_journal(count, program, path.name, path.read_bytes())

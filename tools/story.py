@@ -15,7 +15,9 @@ sys.dont_write_bytecode = True
 from story_model import Story
 
 ROOT = pathlib.Path(__file__).resolve().parent.parent
-RANDOM_JOURNALS = 60
+RANDOM_JOURNALS = 200
+# of these by windows too
+WINDOWED = 50
 MINUTE = 60
 MOST_ALLOCATIONS = 1000
 
@@ -63,23 +65,23 @@ def table(name):
 
 
 def journals(work):
-    """Each example, and random journals of both editions."""
+    """Each example, and random journals of both editions; and whether they are told by windows too."""
     for path in sorted((ROOT / "examples" / "journals").iterdir()):
         if not path.suffix:
-            yield path.name, path.read_text()
+            yield path.name, path.read_text(), True
     subprocess.run([ROOT / "tools" / "random_journal.py", "1", str(RANDOM_JOURNALS), work], check=True)
     for seed in range(1, RANDOM_JOURNALS + 1):
-        yield f"random journal {seed}", (pathlib.Path(work) / f"journal_{seed}").read_text()
+        yield f"random journal {seed}", (pathlib.Path(work) / f"journal_{seed}").read_text(), seed <= WINDOWED
 
 
 def texts(program, work):
     draw = random.Random(1)
-    for name, journal in journals(work):
+    for name, journal, by_windows in journals(work):
         story = Story(journal)
         count = len(story.entries)
         one = draw.randint(1, count)
         yield name, program.tells(journal, story, None)
-        for window in ((1, count), (1, (count + 1) // 2), (one, one)):
+        for window in ((1, count), (1, (count + 1) // 2), (one, one)) if by_windows else ():
             yield f"{name}, steps {window[0]} to {window[1]}", program.tells(journal, story, window)
 
 

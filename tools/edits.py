@@ -86,6 +86,10 @@ class Edit:
         """The bare names of the functions that it changes."""
         return {it.rsplit('::', 1)[-1] for it in self.functions}
 
+    def owns(self, function):
+        """How much of the path of a function that a check names, and of those inside it, is that of one that this edit changes."""
+        return max((len(it) for it in self.functions if '::%s::' % it in '::%s::' % function), default=0)
+
     def name(self):
         return self.crate + '/' + os.path.basename(self.path)
 
@@ -207,11 +211,12 @@ def judge(batch, ran):
     refused = {}
     others = []
     for function, said in not_proved(crate, lines).items():
-        edit = next((it for it in batch.edits if any(place in function for place in it.places())), None)
-        if edit is None:
+        edit = max(batch.edits, key=lambda it: it.owns(function))
+        if not edit.owns(function):
             others.append(function)
+            continue
         told = [it for it in said if TOLD.match(it) and not LOST.match(it)]
-        if edit and told:
+        if told:
             refused.setdefault(edit.name(), told[0][:180])
     if others:
         raise BadEdit('what is not proved is another function: ' + ', '.join(others))

@@ -53,3 +53,8 @@ WhatFits what.Cancelled = Unit {0}
 pub record EventFits (e : Event) : Type 0 where
   pub pid : e.pid.0 ≤ GREATEST_PID
   pub what : WhatFits e.what
+
+-- the lines that were written, and for how many more there is room, each as long as a line can be
+pub record TextView : Type 0 where
+  pub lines : List ℕ
+  pub room : ℕ

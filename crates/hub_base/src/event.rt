@@ -1,5 +1,9 @@
 //! What processes are told.
 
+ghost use Rattle.std.specs.Prelude.{◌≡◌, ◌≤◌, ◌<◌, ◌+◌, ◌-◌, ◌∷◌, ◌++◌, [], List, ℕ, length};
+ghost use Rattle.std.proofs.Common.{rules};
+ghost use Rattle.hub_base.specs.declared.event.Event.{Event as Told};
+
 use crate::limits::MOST_EVENTS;
 use crate::{Fault, Pid, Port, Value};
 use arrayvec::ArrayVec;
@@ -65,3 +69,43 @@ impl Default for Event {
 /// The events of one step: the caller's answer, then the calls that ended with it in order of
 /// arrival. A park after which every process of the largest hub stalls gives `MOST_EVENTS`.
 pub type Events = ArrayVec<Event, MOST_EVENTS>;
+
+/// Whoever hears the events of steps, one after the other: a list of them, or a text that has a line for each.
+pub trait Hears {
+    /// That the first has heard these events, and is now the second.
+    ghost heard: { Self → List Told → Self → Type 0 };
+
+    /// How many events it has room for, at least.
+    ghost room: { Self → ℕ };
+
+    /// Hears an event more. There must be room.
+    fn hear(&mut self, event: Event)
+        requires { 0 < room self.old }
+        ensures heard { heard self.old (event ∷ []) self.new }
+        ensures room { room self.old ≤ room self.new + 1 };
+
+    ghost begins: { (a : Self) → heard a [] a };
+
+    ghost goes_on: { (a b c : Self) (xs ys : List Told) → heard a xs b → heard b ys c → heard a (xs ++ ys) c };
+}
+
+/// A list hears an event as its last.
+impl Hears for Events {
+    ghost use Rattle.std.proofs.Common.{sym};
+    ghost use Rattle.std.proofs.lemmas.List.{append-nil};
+    ghost use Rattle.std.proofs.lemmas.Grind.{common_steps};
+    ghost use Rattle.hub_base.specs.declared.limits.TheConstants.{MOST_EVENTS};
+
+    ghost heard = { λ old told new. new.items ≡ old.items ++ told };
+
+    ghost room = { λ events. MOST_EVENTS - length events.items };
+
+    ghost begins = { λ events. sym (append-nil events.items) };
+
+    ghost goes_on = { Prim.search (rules, common_steps) };
+
+    #[inline(always)]
+    fn hear(&mut self, event: Event) {
+        self.push(event);
+    }
+}

@@ -1,14 +1,12 @@
 -- Open calls that end one after the other: all on a port that closes, and all where everyone waits.
-use Rattle.std.proofs.Common.{◌≡◌, ℕ, ◌+◌, ◌++◌, append_assoc, ◌==◌, Bool, true, false, not, List, [], ◌∷◌, length}
+use Rattle.std.proofs.Common.{◌≡◌, ℕ, ◌+◌, ◌==◌, Bool, true, false, not, List, [], ◌∷◌, length}
 use Rattle.std.proofs.Common.{refl, ap, ◌∙◌, sym, subst, Option, Some, None, arith}
-use Rattle.std.proofs.lemmas.List.{append-nil}
 use Rattle.std.specs.Prelude.{is_some, slice_get}
 use Rattle.std.specs.List.{list_any, filter_map}
 use Rattle.std.specs.Option.{option_map}
 use Rattle.std.proofs.lemmas.Grind.{common_steps}
 use Rattle.hub_base.specs.declared.value.Pid.{Pid}
 use Rattle.hub_base.specs.declared.value.Port.{Port}
-use Rattle.hub_base.specs.declared.event.Event.{Event}
 use Rattle.hub_base.specs.declared.event.What.TheVariants as what
 use Rattle.hub_base.specs.Ready.{is_on, Ending, Placed, or_else, lowest, first_with, without}
 use Rattle.hub_base.specs.Steps.{tells, fired, closing_outcome, closing_event}
@@ -64,16 +62,6 @@ length-still_open pid (w ∷ ws) apart e = length_by pid w ws apart (w.call.pid.
   length_by pid w ws apart false is e ih =
       let later : is_among pid.0 (open_calls ws) ≡ true = (rw is at e) in
       omega (arith, ap length (passes_over pid w ws is), ih later)
-
--- what is told so far, with one event more, and what is left to tell
-pub told_one : (told more : List Event) (e : Event) (left rest whole : List Event) → more ≡ told ++ e ∷ [] → left ≡ e ∷ rest → told ++ left ≡ whole
-    → more ++ rest ≡ whole
-told_one told more e left rest whole added first all =
-    ap (λ es. es ++ rest) added ∙ append_assoc told (e ∷ []) rest ∙ ap (λ es. told ++ es) (sym first) ∙ all
-
--- nothing is left to tell
-pub told_all : (told left whole : List Event) → left ≡ [] → told ++ left ≡ whole → told ≡ whole
-told_all told left whole none all = sym (append-nil told) ∙ ap (λ es. told ++ es) (sym none) ∙ all
 
 -- ---- a close: what is left after the oldest call on the port has ended
 pub record ClosesOne (p : Port) (ws : List Ticketed) (e : Ending) : Type 0 where

@@ -16,7 +16,7 @@ use Rattle.hub_laws.specs.Sound.{IsSound, PortSound, some_call, CallFits}
 use Rattle.hub_laws.proofs.Fires.{some_first}
 use Rattle.hub_laws.proofs.Calls.{first-found}
 use Rattle.hub_parts.specs.Records.{PortLists}
-use Rattle.hub_parts.specs.Lists.{port_at, pushed, popped, still_open}
+use Rattle.hub_parts.specs.Lists.{port_at, pushed, popped, still_open, ended_by}
 use Rattle.hub_core.specs.declared.tally.Tally.{Tally}
 use Rattle.hub_core.specs.Records.{MachineLists, one_handed, sent_tally, received_tally, handed_tally}
 use Rattle.hub_core.specs.ListFirings.{send_on, send_to, recv_on, recv_from, oldest_on, take_value, let_in, fetch_on}
@@ -108,7 +108,7 @@ take_value-as s m p c (Some v) sound h e is = record {
 
 fetch_on-as : (s : State) (m : MachineLists) (p : Port) (c : Channel) (x : Ending) (u : Value) (o : Option Value) → PortSound p c s.parked
     → Matches s m → channel_at s p ≡ Some c → o ≡ next_value c → FiresAs (recv_takes (record s { parked = without x.pid s.parked }) p
-    (after_send u c) (fired x.pid x.at.index Sent ∷ []) (next_value (after_send u c))) m (fetch_on m.board m.counts p x u o)
+    (after_send u c) (fired x.pid x.at.index Sent ∷ []) (next_value (after_send u c))) m (fetch_on (ended_by x.pid m.board) m.counts p x u o)
 fetch_on-as s m p c x u None sound h e is =
     let empty : c.received ≡ length c.sent = next_none c (sym is) sound.received in
     rw (next-through u c empty) (record {
@@ -130,7 +130,7 @@ first_at s m p c h e = ap (λ (q : PortLists). slice_get q.buffer 0) (port-lists
 
 let_in-as : (s : State) (m : MachineLists) (p : Port) (c : Channel) (x : Ending) (k : Case) → is_send_on p k ≡ true → PortSound p c s.parked
     → Matches s m → channel_at s p ≡ Some c → FiresAs (recv_takes (record s { parked = without x.pid s.parked }) p (with_sent k c)
-    (fired x.pid x.at.index Sent ∷ []) (next_value (with_sent k c))) m (let_in m.board m.counts p x k)
+    (fired x.pid x.at.index Sent ∷ []) (next_value (with_sent k c))) m (let_in (ended_by x.pid m.board) m.counts p x k)
 let_in-as s m p c x (Send q u) is sound h e = fetch_on-as s m p c x u (oldest_on m.board p) sound h e (first_at s m p c h e)
 let_in-as s m p c x (Recv q) is sound h e = cc
 

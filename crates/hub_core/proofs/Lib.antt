@@ -1,4 +1,5 @@
 pub mod Boards
+pub mod Hearing
 pub mod Endings
 pub mod Choices
 pub mod Ports

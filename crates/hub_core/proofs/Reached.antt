@@ -1,6 +1,6 @@
 -- What is known of a machine that some run leads to.
 use Rattle.std.proofs.Common.{◌≡◌, ℕ, ◌+◌, ◌-◌, ◌==◌, ◌≤◌, ◌<◌, ◌^◌, Bool, true, false, cond, nat_lt}
-use Rattle.std.proofs.Common.{List, [], ◌∷◌, length, ap, ◌∙◌, sym, subst, Some, None, arith}
+use Rattle.std.proofs.Common.{List, [], ◌∷◌, length, length-append, ap, refl, ◌∙◌, sym, subst, Option, Some, None, arith}
 use Rattle.std.specs.List.{list_any}
 use Rattle.std.proofs.lemmas.Grind.{common_steps}
 use Rattle.std.proofs.lemmas.List.{length-map}
@@ -11,13 +11,15 @@ use Rattle.hub_base.specs.declared.case.Case.{Case}
 use Rattle.hub_base.specs.declared.entry.Step.{Step}
 use Rattle.hub_base.specs.declared.entry.Entry.{Entry}
 use Rattle.hub_base.specs.declared.event.Event.{Event}
+use Rattle.hub_base.specs.declared.event.What.TheVariants as what
+use Rattle.hub_base.specs.declared.fault.Fault.{Fault}
 use Rattle.hub_base.specs.declared.fault.Fault.TheVariants as fault
 use Rattle.hub_base.specs.declared.head.Edition.{Edition}
 use Rattle.hub_base.specs.declared.limits.TheConstants.{MOST_EVENTS, MOST_PROCS}
 use Rattle.hub_base.specs.Head.{most_cases}
 use Rattle.hub_base.specs.State.{State, Channel, channel_at}
 use Rattle.hub_base.specs.Ready.{port_of}
-use Rattle.hub_base.specs.Steps.{fault_of, effect}
+use Rattle.hub_base.specs.Steps.{fault_of, effect, tells}
 use Rattle.hub_base.specs.Runs.{state, kept}
 use Rattle.hub_base.specs.Text.{steps_of}
 use Rattle.hub_base.specs.Reading.{is_exit}
@@ -27,13 +29,13 @@ use Rattle.hub_laws.proofs.Counts.{counts-law}
 use Rattle.hub_laws.proofs.Rules.{state-sound, effect-sound}
 use Rattle.hub_laws.proofs.Ready.{Admitted, admitted, none_false}
 use Rattle.hub_laws.proofs.Sizes.{effect_size, room-law}
-use Rattle.hub_parts.specs.Records.{Lists}
+use Rattle.hub_parts.specs.Records.{Lists, Ticketed}
 use Rattle.hub_parts.specs.Lists.{open_calls, IsMade}
 use Rattle.hub_parts.specs.Keeps.{AllMade}
 use Rattle.hub_core.specs.Records.{MachineLists, tally_at}
 use Rattle.hub_core.specs.ListReady.{BufferFits}
 use Rattle.hub_core.specs.ListKeeps.{CanCount, PortsKeep}
-use Rattle.hub_core.specs.ListSteps.{effect_on, fault_on, call_fault_on, is_unmade_on, refusal_of}
+use Rattle.hub_core.specs.ListSteps.{ListChange, effect_on, fault_on, call_fault_on, is_unmade_on, refusal_of, all_wait_on, stalls_on, stalled_events, answers_on, turn_on}
 use Rattle.hub_core.specs.Follows.{tally_of, Matches, Follows, IsReached}
 use Rattle.hub_core.proofs.Ports.{port-lists_of, tally-tally_of}
 use Rattle.hub_core.proofs.Readiness.{count-ports, get_within, length-buffer_of}
@@ -125,6 +127,29 @@ pub before_stall_of : (m next : MachineLists) (pid : Pid) (step : Step) (told : 
     next ≡ (effect_on m pid step).machine → told ≡ (effect_on m pid step).events → BeforeStall next told
 before_stall_of m next pid step told r h fine few places machine events =
     rw (machine, events) (before_stall m pid step r h fine few places)
+
+-- with those that end in a stall
+stalls_few : (c : ListChange) → (waits : Bool) → waits ≡ all_wait_on c.machine.board c.machine.gone
+    → length c.events + length c.machine.board.waiting ≤ MOST_EVENTS → length (stalls_on c).events ≤ MOST_EVENTS
+stalls_few c true is room = rw (sym is) (omega (
+  arith,
+  room,
+  length-append c.events (stalled_events c.machine.board.waiting),
+  length-map c.machine.board.waiting (λ (w : Ticketed). tells w.call.pid what.Stalled),
+))
+stalls_few c false is room = rw (sym is) (omega (arith, room))
+
+answers_few : (m : MachineLists) (e : Entry) (o : Option Fault) → o ≡ fault_on m.edition m.board e.step → IsReached m
+    → refusal_of m.board m.gone e.pid ≡ None → m.board.procs ≤ MOST_PROCS → length m.gone ≡ MOST_PROCS
+    → length (answers_on m e o).events ≤ MOST_EVENTS
+answers_few m e None is r h few places =
+    stalls_few (effect_on m e.pid e.step) _ refl (before_stall m e.pid e.step r h (sym is) few places).room
+answers_few m e (Some f) is r h few places = omega arith
+
+-- an admitted step has no more events than a list of them holds
+pub turn_few : (m : MachineLists) (e : Entry) → IsReached m → refusal_of m.board m.gone e.pid ≡ None → m.board.procs ≤ MOST_PROCS
+    → length m.gone ≡ MOST_PROCS → length (turn_on m e).events ≤ MOST_EVENTS
+turn_few m e r h few places = answers_few m e (fault_on m.edition m.board e.step) refl r h few places
 
 -- ---- the ports of a call that has no fault
 named_by : (ports : ℕ) (cases : List Case) → list_any (λ c. nat_lt ports (port_of c).0) cases ≡ false → AllMade ports cases

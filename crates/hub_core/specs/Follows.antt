@@ -10,6 +10,7 @@ use Rattle.hub_base.specs.declared.head.Head.{Head}
 use Rattle.hub_base.specs.declared.event.Event.{Event}
 use Rattle.hub_base.specs.declared.fault.Fault.{Fault}
 use Rattle.hub_base.specs.declared.fault.Fault.TheVariants as fault
+use Rattle.hub_base.specs.declared.limits.TheConstants.{MOST_EVENTS}
 use Rattle.hub_base.specs.State.{State, Channel, OpenCall, buffer_of}
 use Rattle.hub_base.specs.Steps.{has_gone, refusal, fault_of}
 use Rattle.hub_base.specs.Runs.{state, kept, moves}
@@ -75,6 +76,13 @@ pub record Answers (h : Head) (es : List Entry) (e : Entry) (m : MachineLists) (
   pub events : told ≡ (moves (state h es) e).events
   pub follows : Follows h (es ++ e ∷ []) m
 
+-- what any entry leads to, and that its events were heard, which are no more than a step can have
+pub record Tells {S : Type 0} (h : Head) (es : List Entry) (e : Entry) (m : MachineLists) (Heard : List Event → S → Type 0) (now : S) : Type 0 where
+  pub told : List Event
+  pub heard : Heard told now
+  pub answers : Answers h es e m told
+  pub few : length told ≤ MOST_EVENTS
+
 -- the step is a make
 abbrev pub IsMake : Step → Type 0
 IsMake (Make cap) = Unit {0}
@@ -83,22 +91,19 @@ IsMake (Close p) = ⊥
 IsMake Exit = ⊥
 IsMake (Cancel q) = ⊥
 
--- a step may take effect: its process is admitted, it meets no fault, and nothing is told yet
-pub record MayTakeEffect (m : MachineLists) (pid : Pid) (step : Step) (told : List Event) : Type 0 where
+-- a step may take effect: its process is admitted, and it meets no fault
+pub record MayTakeEffect (m : MachineLists) (pid : Pid) (step : Step) : Type 0 where
   pub reached : IsReached m
   pub admitted : refusal_of m.board m.gone pid ≡ None
   pub fault : fault_on m.edition m.board step ≡ None
   pub steps : m.steps < 2 ^ 32 - 1
-  pub empty : told ≡ []
 
 -- it has taken effect, or was a make that was refused memory and has changed nothing
-pub record TakesEffect {E : Type 0} (old : MachineLists) (pid : Pid) (step : Step) (new : MachineLists) (told : List Event)
+pub record TakesEffect {E : Type 0} (old : MachineLists) (pid : Pid) (step : Step) (new : MachineLists)
     (result : Result (Unit {0}) E) : Type 0 where
   pub machine : OnOk result (new ≡ (effect_on old pid step).machine)
-  pub events : OnOk result (told ≡ (effect_on old pid step).events)
   pub make : OnErr result (IsMake step)
   pub unchanged : OnErr result (new ≡ old)
-  pub empty : OnErr result (told ≡ [])
 
 -- the step meets no fault, so a fault is not its answer
 abbrev pub IsFine : State → Entry → Type 0

@@ -1,4 +1,5 @@
 pub mod Records
+pub mod Hearing
 pub mod Carried
 pub mod ListReady
 pub mod ListKeeps

@@ -15,7 +15,6 @@ use Rattle.hub_base.specs.Steps.{fired}
 use Rattle.hub_parts.specs.Records.{Lists}
 use Rattle.hub_parts.specs.Lists.{port_at, with_port, pushed, popped, ended_by}
 use Rattle.hub_core.specs.declared.tally.Tally.{Tally}
-use Rattle.hub_core.specs.declared.firing.Caller.{Caller}
 use Rattle.hub_core.specs.Records.{one_sent, one_received, one_handed}
 use Rattle.hub_core.specs.ListReady.{receiver_on, sender_on}
 
@@ -77,32 +76,32 @@ take_value b ts p (Some v) =
 abbrev pub take_on : Lists → List Tally → Port → ListFiring
 take_on b ts p = take_value b ts p (oldest_on b p)
 
--- a receive of this oldest value, while the sender e waits with the value u
+-- a receive of this oldest value, where the call of the sender e has ended, whose value is u
 abbrev pub fetch_on : Lists → List Tally → Port → Ending → Value → Option Value → ListFiring
 fetch_on b ts p e u None =
     record {
       outcome = Got u;
-      board = with_port (ended_by e.pid b) p (popped (port_at b p));
+      board = with_port b p (popped (port_at b p));
       counts = one_handed p ts;
       ended = Some (fired e.pid e.at.index Sent);
     }
 fetch_on b ts p e u (Some v) =
     record {
       outcome = Got v;
-      board = with_port (ended_by e.pid b) p (pushed u (popped (port_at b p)));
+      board = with_port b p (pushed u (popped (port_at b p)));
       counts = one_handed p ts;
       ended = Some (fired e.pid e.at.index Sent);
     }
 
--- a receive, while e waits at this case
+-- a receive, where the call of e has ended, which waited at this case
 abbrev pub let_in : Lists → List Tally → Port → Ending → Case → ListFiring
 let_in b ts p e (Send q u) = fetch_on b ts p e u (oldest_on b p)
-let_in b ts p e (Recv q) = take_value (ended_by e.pid b) ts p (oldest_on b p)
+let_in b ts p e (Recv q) = take_value b ts p (oldest_on b p)
 
 -- a receive, with the oldest sender that waits, if any
 abbrev pub recv_from : Lists → List Tally → Port → Option Ending → ListFiring
 recv_from b ts p None = take_on b ts p
-recv_from b ts p (Some e) = let_in b ts p e e.at.case
+recv_from b ts p (Some e) = let_in (ended_by e.pid b) ts p e e.at.case
 
 -- a receive
 abbrev pub recv_on : Lists → List Tally → Port → ListFiring
@@ -117,8 +116,7 @@ fire_on b ts (Recv p) = recv_on b ts p
 abbrev pub firing_events : Pid → ℕ → ListFiring → List Event
 firing_events pid index f = fired pid index f.outcome ∷ option_to_list f.ended
 
--- what the code told, and the board and the counts that it left, are those of the lists
-pub record Fires (caller : Caller) (events : List Event) (b : Lists) (ts : List Tally) (g : ListFiring) : Type 0 where
-  pub told : events ≡ firing_events caller.pid caller.index g
+-- the board and the counts that the code left are those of the lists
+pub record Fires (b : Lists) (ts : List Tally) (g : ListFiring) : Type 0 where
   pub board : b ≡ g.board
   pub counts : ts ≡ g.counts

@@ -30,7 +30,7 @@ use Rattle.hub_core.specs.ListFirings.{ListFiring, fire_on, firing_events}
 -- ---- a call
 -- a chosen case with its number
 abbrev pub placed : Chosen → ℕ × Case
-placed chosen = (chosen.index, chosen.case)
+placed chosen = (chosen.index, chosen.case.now)
 
 -- what follows of board and counts, and what is told
 pub record ListCall : Type 0 where

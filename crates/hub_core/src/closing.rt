@@ -1,13 +1,13 @@
 //! A close: every open call with a case on the port ends. Go: "Close".
 
-ghost use Rattle.std.specs.Prelude.{◌≡◌, ◌≤◌, ◌<◌, ◌+◌, ◌++◌, length};
-ghost use Rattle.arrayvec.specs.ArrayVec.{array_vec_len};
+ghost use Rattle.std.specs.Prelude.{◌≡◌, ◌≤◌, length};
 ghost use Rattle.hub_base.specs.Steps.{fired, closing_outcome};
+ghost use Rattle.hub_core.specs.Hearing.{Heard};
 ghost use Rattle.hub_laws.specs.Sound.{Apart};
 ghost use Rattle.hub_parts.specs.Lists.{IsMade, open_calls};
 ghost use Rattle.hub_core.specs.ListSteps.{cleared, closed_on, closing_events};
 
-use hub_base::{Case, Event, Events, MOST_EVENTS, Outcome, Port, What};
+use hub_base::{Case, Event, Hears, Outcome, Port, What};
 use hub_parts::{Board, Ended, Side};
 
 /// What a waiting call is told whose port is closed.
@@ -28,25 +28,25 @@ fn closing_event(ended: &Ended) -> Event
 }
 
 /// Ends each open call with a case on the port, oldest first, at its lowest such case.
-fn end_calls(board: &mut Board, events: &mut Events, port: Port)
+fn end_calls<E: Hears>(board: &mut Board, events: &mut E, port: Port)
     requires made { IsMade board.old port }
     requires apart { Apart (open_calls board.old.waiting) }
-    requires room { array_vec_len events.old + length board.old.waiting ≤ MOST_EVENTS }
+    requires room { length board.old.waiting ≤ E.room events.old }
     ensures board { board.new ≡ cleared port board.old }
-    ensures events { events.new.items ≡ events.old.items ++ closing_events port board.old.waiting }
+    ensures told { Heard E.heard E.room events.old events.new (closing_events port board.old.waiting) }
 {
     while let Some(ended) = board.take(port, Side::Any) {
-        events.push(closing_event(&ended));
+        events.hear(closing_event(&ended));
     }
 }
 
 /// Closes a port, and ends the open calls with a case on it.
-pub(crate) fn close(board: &mut Board, events: &mut Events, port: Port)
+pub(crate) fn close<E: Hears>(board: &mut Board, events: &mut E, port: Port)
     requires made { IsMade board.old port }
     requires apart { Apart (open_calls board.old.waiting) }
-    requires room { array_vec_len events.old + length board.old.waiting ≤ MOST_EVENTS }
+    requires room { length board.old.waiting ≤ E.room events.old }
     ensures board { board.new ≡ closed_on board.old port }
-    ensures events { events.new.items ≡ events.old.items ++ closing_events port board.old.waiting }
+    ensures told { Heard E.heard E.room events.old events.new (closing_events port board.old.waiting) }
 {
     end_calls(board, events, port);
     board.shut(port);

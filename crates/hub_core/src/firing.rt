@@ -1,15 +1,16 @@
 //! How a case fires: the caller is told, and then the waiting call that ended with it. Go: "Send statements", "Receive operator".
 
-ghost use Rattle.std.specs.Prelude.{◌≡◌, ◌<◌, ◌∷◌, ◌++◌, [], true};
-ghost use Rattle.arrayvec.specs.ArrayVec.{array_vec_len};
-ghost use Rattle.hub_parts.specs.Lists.{IsMade};
+ghost use Rattle.std.specs.Prelude.{◌≡◌, ◌<◌, ◌∷◌, [], true};
+ghost use Rattle.hub_parts.specs.Lists.{IsMade, ending_of, passes};
+ghost use Rattle.hub_parts.specs.declared.side.Side.TheVariants as side;
 ghost use Rattle.hub_core.specs.ListReady.{SendFits, can_on};
 ghost use Rattle.hub_core.specs.ListKeeps.{PortsKeep, IsNamed};
 ghost use Rattle.hub_base.specs.Steps.{fired};
-ghost use Rattle.hub_core.specs.ListFirings.{Fires, send_on, take_on, recv_on, fire_on};
+ghost use Rattle.hub_core.specs.Hearing.{Heard};
+ghost use Rattle.hub_core.specs.ListFirings.{Fires, firing_events, send_on, take_on, let_in, recv_on, fire_on};
 
 use crate::tally::{Carried, Tallies};
-use hub_base::{Case, Event, Events, MOST_EVENTS, Outcome, Pid, Port, Value, What};
+use hub_base::{Case, Event, Hears, Outcome, Pid, Port, Value, What};
 use hub_parts::{Board, Ended, Side};
 
 /// Whose case fires.
@@ -23,11 +24,11 @@ pub(crate) struct Caller {
 
 /// Tells a process how its case ended.
 #[inline(always)]
-fn tell(events: &mut Events, pid: Pid, case: u8, outcome: Outcome)
-    requires { array_vec_len events.old < MOST_EVENTS }
-    ensures { events.new.items ≡ events.old.items ++ fired pid case outcome ∷ [] }
+fn tell<E: Hears>(events: &mut E, pid: Pid, case: u8, outcome: Outcome)
+    requires { 0 < E.room events.old }
+    ensures { Heard E.heard E.room events.old events.new (fired pid case outcome ∷ []) }
 {
-    events.push(Event {
+    events.hear(Event {
         pid,
         what: What::Fired { case, outcome },
     });
@@ -35,10 +36,16 @@ fn tell(events: &mut Events, pid: Pid, case: u8, outcome: Outcome)
 
 /// Tells the caller of a case that fired, and then the waiting call that ended with it.
 #[inline(always)]
-fn tell_both(events: &mut Events, caller: Caller, outcome: Outcome, ended: Ended, theirs: Outcome)
-    requires { events.old.items ≡ [] }
-    ensures { events.new.items
-        ≡ fired caller.pid caller.index outcome ∷ fired ended.pid ended.index theirs ∷ [] }
+fn tell_both<E: Hears>(
+    events: &mut E,
+    caller: Caller,
+    outcome: Outcome,
+    ended: &Ended,
+    theirs: Outcome,
+)
+    requires { 1 < E.room events.old }
+    ensures { Heard E.heard E.room events.old events.new
+        (fired caller.pid caller.index outcome ∷ fired ended.now.pid ended.now.index theirs ∷ []) }
 {
     tell(events, caller.pid, caller.index, outcome);
     tell(events, ended.pid, ended.index, theirs);
@@ -46,19 +53,20 @@ fn tell_both(events: &mut Events, caller: Caller, outcome: Outcome, ended: Ended
 
 /// A send that can proceed: to the oldest receiver that waits, or else into the buffer.
 #[inline]
-fn send(
+fn send<E: Hears>(
     board: &mut Board,
     tallies: &mut Tallies,
-    events: &mut Events,
+    events: &mut E,
     caller: Caller,
     port: Port,
-    value: Value,
+    value: &Value,
 )
     requires made { IsMade board.old port }
     requires keep { PortsKeep board.old tallies.old }
     requires can { SendFits board.old port }
-    requires empty { events.old.items ≡ [] }
-    ensures { Fires caller events.new.items board.new tallies.new (send_on board.old tallies.old port value) }
+    requires room { 1 < E.room events.old }
+    ensures fires { Fires board.new tallies.new (send_on board.old tallies.old port value.now) }
+    ensures told { Heard E.heard E.room events.old events.new (firing_events caller.pid caller.index (send_on board.old tallies.old port value.now)) }
 {
     if board.closed(port) {
         tell(events, caller.pid, caller.index, Outcome::Closed);
@@ -68,10 +76,10 @@ fn send(
     match board.take(port, Side::Recv) {
         Some(receiver) => {
             tallies.count(port, Carried::Handed);
-            tell_both(events, caller, Outcome::Sent, receiver, Outcome::Got(value));
+            tell_both(events, caller, Outcome::Sent, &receiver, Outcome::Got(*value));
         }
         None => {
-            board.push(port, value);
+            board.push(port, *value);
             tallies.count(port, Carried::Sent);
             tell(events, caller.pid, caller.index, Outcome::Sent);
         }
@@ -80,17 +88,18 @@ fn send(
 
 /// The oldest value of the buffer, where no sender waits.
 #[inline]
-fn take_value(
+fn take_value<E: Hears>(
     board: &mut Board,
     tallies: &mut Tallies,
-    events: &mut Events,
+    events: &mut E,
     caller: Caller,
     port: Port,
 )
     requires made { IsMade board.old port }
     requires keep { PortsKeep board.old tallies.old }
-    requires empty { events.old.items ≡ [] }
-    ensures { Fires caller events.new.items board.new tallies.new (take_on board.old tallies.old port) }
+    requires room { 1 < E.room events.old }
+    ensures fires { Fires board.new tallies.new (take_on board.old tallies.old port) }
+    ensures told { Heard E.heard E.room events.old events.new (firing_events caller.pid caller.index (take_on board.old tallies.old port)) }
 {
     match board.pop(port) {
         Some(value) => {
@@ -101,55 +110,78 @@ fn take_value(
     }
 }
 
-/// A receive. The value of a sender that waits comes in behind those in the buffer.
+/// A receive from a sender that waits, whose call has ended. Its value comes in behind those in the buffer.
 #[inline]
-fn receive(
+fn let_in<E: Hears>(
     board: &mut Board,
     tallies: &mut Tallies,
-    events: &mut Events,
+    events: &mut E,
     caller: Caller,
     port: Port,
+    sender: &Ended,
 )
     requires made { IsMade board.old port }
     requires keep { PortsKeep board.old tallies.old }
-    requires empty { events.old.items ≡ [] }
-    ensures { Fires caller events.new.items board.new tallies.new (recv_on board.old tallies.old port) }
+    requires sends { passes port side.Send sender.now.case ≡ true }
+    requires room { 1 < E.room events.old }
+    ensures fires { Fires board.new tallies.new (let_in board.old tallies.old port (ending_of sender.now) sender.now.case) }
+    ensures told { Heard E.heard E.room events.old events.new
+        (firing_events caller.pid caller.index (let_in board.old tallies.old port (ending_of sender.now) sender.now.case)) }
 {
-    let Some(sender) = board.take(port, Side::Send) else {
-        take_value(board, tallies, events, caller, port);
-        return;
-    };
-    let Case::Send(_port, sent) = sender.case else {
+    let Case::Send(_port, sent) = &sender.case else {
         unreachable!();
     };
     tallies.count(port, Carried::Handed);
     // A sender waits only where the buffer is full, or where there is none: its value takes the place of the oldest.
     match board.pop(port) {
         Some(oldest) => {
-            board.push(port, sent);
+            board.push(port, *sent);
             tell_both(events, caller, Outcome::Got(oldest), sender, Outcome::Sent);
         }
-        None => tell_both(events, caller, Outcome::Got(sent), sender, Outcome::Sent),
+        None => tell_both(events, caller, Outcome::Got(*sent), sender, Outcome::Sent),
+    }
+}
+
+/// A receive: from the oldest sender that waits, or else from the buffer.
+#[inline]
+fn receive<E: Hears>(
+    board: &mut Board,
+    tallies: &mut Tallies,
+    events: &mut E,
+    caller: Caller,
+    port: Port,
+)
+    requires made { IsMade board.old port }
+    requires keep { PortsKeep board.old tallies.old }
+    requires room { 1 < E.room events.old }
+    ensures fires { Fires board.new tallies.new (recv_on board.old tallies.old port) }
+    ensures told { Heard E.heard E.room events.old events.new
+        (firing_events caller.pid caller.index (recv_on board.old tallies.old port)) }
+{
+    match board.take(port, Side::Send) {
+        None => take_value(board, tallies, events, caller, port),
+        Some(sender) => let_in(board, tallies, events, caller, port, &sender),
     }
 }
 
 /// A case that can proceed fires: the caller is told, and then the waiting call that ended with it.
 #[inline]
-pub(crate) fn fire(
+pub(crate) fn fire<E: Hears>(
     board: &mut Board,
     tallies: &mut Tallies,
-    events: &mut Events,
+    events: &mut E,
     caller: Caller,
-    case: Case,
+    case: &Case,
 )
-    requires named { IsNamed board.old case }
+    requires named { IsNamed board.old case.now }
     requires keep { PortsKeep board.old tallies.old }
-    requires can { can_on board.old case ≡ true }
-    requires empty { events.old.items ≡ [] }
-    ensures { Fires caller events.new.items board.new tallies.new (fire_on board.old tallies.old case) }
+    requires can { can_on board.old case.now ≡ true }
+    requires room { 1 < E.room events.old }
+    ensures fires { Fires board.new tallies.new (fire_on board.old tallies.old case.now) }
+    ensures told { Heard E.heard E.room events.old events.new (firing_events caller.pid caller.index (fire_on board.old tallies.old case.now)) }
 {
     match case {
-        Case::Send(port, value) => send(board, tallies, events, caller, port, value),
-        Case::Recv(port) => receive(board, tallies, events, caller, port),
+        Case::Send(port, value) => send(board, tallies, events, caller, *port, value),
+        Case::Recv(port) => receive(board, tallies, events, caller, *port),
     }
 }

@@ -4,18 +4,20 @@
 //! order and each under the place of its entry among the admitted ones; its buffers are what was
 //! sent and not yet received; its tallies are how many values were sent and received.
 
-ghost use Rattle.std.specs.Prelude.{◌≡◌, ◌≤◌, ◌<◌, ◌+◌, ◌-◌, ◌^◌, ℕ, List, [], None, IfOk, IfErr, OnOk, OnErr, IsErrOf};
+ghost use Rattle.std.specs.Prelude.{◌≡◌, ◌≤◌, ◌<◌, ◌+◌, ◌-◌, ◌^◌, ℕ, List, [], None, length, IfOk, IfErr, OnOk, OnErr, IsErrOf};
 ghost use Rattle.hub_base.specs.declared.entry.Entry.{Entry};
 ghost use Rattle.hub_base.specs.declared.head.Head.{Head};
 ghost use Rattle.hub_base.specs.Head.{IsHead};
 ghost use Rattle.hub_base.specs.Steps.{refusal};
 ghost use Rattle.hub_base.specs.Runs.{state};
-ghost use Rattle.hub_core.specs.ListSteps.{refusal_of};
+ghost use Rattle.hub_core.specs.Hearing.{Heard};
+ghost use Rattle.hub_core.specs.ListSteps.{refusal_of, turn_on};
 ghost use Rattle.hub_core.specs.Looks.{look_at, value_at};
-ghost use Rattle.hub_core.specs.Follows.{Follows, Admits, Answers, IsMake, IsFine, RefusesFor, Turns, RefusesMake};
+ghost use Rattle.hub_core.specs.Follows.{Follows, Admits, Answers, Tells, IsMake, IsFine, RefusesFor, Turns, RefusesMake};
+ghost use Rattle.hub_base.specs.declared.limits.TheConstants.{MOST_EVENTS};
 
 use crate::machine_state::{MachineState, tells};
-use hub_base::{Entry, Events, Fault, Head, Look, NoMemory, Pid, Port, Value, What};
+use hub_base::{Entry, Events, Fault, Head, Hears, Look, NoMemory, Pid, Port, Value, What};
 use std::alloc::Global;
 use std::marker::Model;
 
@@ -105,11 +107,31 @@ impl Machine {
         ensures empty { OnErr result (events.new.items ≡ []) }
     {
         empty(events);
+        self.tell(entry, events)
+    }
+
+    /// As `answer`, to whoever hears the events behind those that it has heard before; there must be room for those
+    /// of any step. Where memory is refused nothing is told.
+    #[inline(always)]
+    pub fn tell<E: Hears>(&mut self, entry: &Entry, events: &mut E) -> Result<(), NoMemory>
+        requires steps { self.old.steps < 2 ^ 32 - 1 }
+        requires room { MOST_EVENTS ≤ E.room events.old }
+
+        ensures ok { OnOk result ((h : Head) (es : List Entry) → Follows h es self.old
+            → Tells h es entry.now self.new (E.heard events.old) events.new) }
+        ensures steps { OnOk result (self.new.steps ≤ self.old.steps + 1) }
+
+        ensures make { OnErr result (IsMake entry.now.step) }
+        ensures fine { OnErr result ((h : Head) (es : List Entry) → Follows h es self.old
+            → IsFine (state h es) entry.now) }
+        ensures unchanged { OnErr result (self.new ≡ self.old) }
+        ensures silent { OnErr result (events.new ≡ events.old) }
+    {
         if let Some(fault) = self.state.refusal(entry.pid) {
-            events.push(tells(entry.pid, What::Fault(fault)));
+            events.hear(tells(entry.pid, What::Fault(fault)));
             return Ok(());
         }
-        self.turn(entry, events)
+        self.tell_admitted(entry, events)
     }
 
     /// Makes an admitted step, where there are no events yet. After a refusal there are none either, and
@@ -120,6 +142,23 @@ impl Machine {
         requires empty { events.old.items ≡ [] }
         ensures ok { OnOk result (Turns self.old entry.now self.new events.new.items) }
         ensures err { OnErr result (RefusesMake self.old entry.now self.new events.new.items) }
+    {
+        self.tell_admitted(entry, events)
+    }
+
+    /// Makes an admitted step, and tells what follows. After a refusal nothing is told, and the machine is as
+    /// before.
+    fn tell_admitted<E: Hears>(&mut self, entry: &Entry, events: &mut E) -> Result<(), NoMemory>
+        requires steps { self.old.steps < 2 ^ 32 - 1 }
+        requires admitted { refusal_of self.old.board self.old.gone entry.now.pid ≡ None }
+        requires room { MOST_EVENTS ≤ E.room events.old }
+        ensures ok { OnOk result (
+            Turns self.old entry.now self.new (turn_on self.old entry.now).events) }
+        ensures told { OnOk result (
+            Heard E.heard E.room events.old events.new (turn_on self.old entry.now).events) }
+        ensures few { OnOk result (length (turn_on self.old entry.now).events ≤ MOST_EVENTS) }
+        ensures err { OnErr result (RefusesMake self.old entry.now self.new []) }
+        ensures silent { OnErr result (events.new ≡ events.old) }
     {
         self.state.turn(entry, events)?;
         Ok(())

@@ -1,14 +1,16 @@
 //! What a machine holds, also in the midst of a step, and what a step does to it.
 
-ghost use Rattle.std.specs.Prelude.{◌≡◌, ◌≤◌, ◌<◌, ◌-◌, ◌^◌, [], None, false, replicate, length, IfOk, OnOk, OnErr};
+ghost use Rattle.std.specs.Prelude.{◌≡◌, ◌≤◌, ◌<◌, ◌-◌, ◌^◌, None, false, replicate, length, IfOk, OnOk, OnErr};
 ghost use Rattle.hub_parts.specs.Keeps.{AllMade};
 ghost use Rattle.hub_base.specs.Steps.{tells};
-ghost use Rattle.hub_core.specs.ListSteps.{call_on, turn_on, refusal_of, fault_on, open_on};
+ghost use Rattle.hub_core.specs.ListSteps.{call_on, effect_on, turn_on, refusal_of, fault_on, open_on};
 ghost use Rattle.hub_laws.specs.Once.{is_call};
 ghost use Rattle.hub_core.specs.ListKeeps.{PortsKeep};
+ghost use Rattle.hub_core.specs.Hearing.{Heard};
 ghost use Rattle.hub_core.specs.Looks.{look_on, value_on};
 ghost use Rattle.hub_core.specs.Records.{opened_machine};
 ghost use Rattle.hub_core.specs.Follows.{IsMake, IsReached, MayTakeEffect, TakesEffect};
+ghost use Rattle.hub_base.specs.declared.limits.TheConstants.{MOST_EVENTS};
 
 use crate::closing::close;
 use crate::firing::{Caller, fire};
@@ -18,7 +20,7 @@ use crate::select::{choose, wait};
 use crate::stalling::{all_wait, stop_all};
 use crate::tally::Tallies;
 use hub_base::{
-    Cases, Entry, Event, Events, Fault, Head, Look, MOST_PROCS, NoMemory, Pid, Port, Step, Value,
+    Cases, Entry, Event, Fault, Head, Hears, Look, MOST_PROCS, NoMemory, Pid, Port, Step, Value,
     What,
 };
 use hub_parts::Board;
@@ -95,16 +97,23 @@ impl MachineState {
     }
 
     /// A call of a process that has none open, and what follows it.
-    fn call(&mut self, pid: Pid, cases: &Cases, default: bool, word: u64, events: &mut Events)
+    fn call<E: Hears>(
+        &mut self,
+        pid: Pid,
+        cases: &Cases,
+        default: bool,
+        word: u64,
+        events: &mut E,
+    )
         requires below { pid.0 < self.old.board.procs }
         requires free { open_on self.old.board.waiting pid.0 ≡ false }
         requires named { AllMade (length self.old.board.ports) cases.now.items }
         requires keep { PortsKeep self.old.board self.old.counts }
         requires later { self.old.board.next_ticket ≤ self.old.steps }
-        requires empty { events.old.items ≡ [] }
+        requires room { 1 < E.room events.old }
         ensures machine { self.new ≡ (call_on self.old pid cases.now.items default word).machine }
-        ensures events { events.new.items
-            ≡ (call_on self.old pid cases.now.items default word).events }
+        ensures told { Heard E.heard E.room events.old events.new
+            (call_on self.old pid cases.now.items default word).events }
     {
         match choose(&self.board, cases.as_slice(), word) {
             None => wait(&mut self.board, events, self.steps, pid, cases, default),
@@ -126,30 +135,39 @@ impl MachineState {
 
     /// What a step without a fault does that is no call. A make that is refused memory changes nothing.
     #[inline(never)]
-    fn rare_effect(&mut self, pid: Pid, step: &Step, events: &mut Events) -> Result<(), NoMemory>
+    fn rare_effect<E: Hears>(
+        &mut self,
+        pid: Pid,
+        step: &Step,
+        events: &mut E,
+    ) -> Result<(), NoMemory>
         requires rare { is_call step.now ≡ false }
-        requires may { MayTakeEffect self.old pid step.now events.old.items }
-        ensures { TakesEffect self.old pid step.now self.new events.new.items result }
+        requires may { MayTakeEffect self.old pid step.now }
+        requires room { MOST_EVENTS ≤ E.room events.old }
+        ensures effect { TakesEffect self.old pid step.now self.new result }
+        ensures told { OnOk result (
+            Heard E.heard E.room events.old events.new (effect_on self.old pid step.now).events) }
+        ensures silent { OnErr result (events.new ≡ events.old) }
     {
         match step {
             Step::Make(cap) => {
                 let port = self.board.make(*cap)?;
                 self.tallies.add();
-                events.push(tells(pid, What::Made(port)));
+                events.hear(tells(pid, What::Made(port)));
             }
             Step::Call { .. } => unreachable!(),
             Step::Close(port) => {
-                events.push(tells(pid, What::Done));
+                events.hear(tells(pid, What::Done));
                 close(&mut self.board, events, *port);
             }
             Step::Exit => {
                 self.gone[pid.0 as usize] = true;
-                events.push(tells(pid, What::Done));
+                events.hear(tells(pid, What::Done));
             }
             Step::Cancel(other) => {
                 self.board.withdraw(*other);
-                events.push(tells(pid, What::Done));
-                events.push(tells(*other, What::Cancelled));
+                events.hear(tells(pid, What::Done));
+                events.hear(tells(*other, What::Cancelled));
             }
         }
         Ok(())
@@ -157,9 +175,18 @@ impl MachineState {
 
     /// What a step without a fault does. A make that is refused memory changes nothing.
     #[inline(always)]
-    fn effect(&mut self, pid: Pid, step: &Step, events: &mut Events) -> Result<(), NoMemory>
-        requires { MayTakeEffect self.old pid step.now events.old.items }
-        ensures { TakesEffect self.old pid step.now self.new events.new.items result }
+    fn effect<E: Hears>(
+        &mut self,
+        pid: Pid,
+        step: &Step,
+        events: &mut E,
+    ) -> Result<(), NoMemory>
+        requires may { MayTakeEffect self.old pid step.now }
+        requires room { MOST_EVENTS ≤ E.room events.old }
+        ensures effect { TakesEffect self.old pid step.now self.new result }
+        ensures told { OnOk result (
+            Heard E.heard E.room events.old events.new (effect_on self.old pid step.now).events) }
+        ensures silent { OnErr result (events.new ≡ events.old) }
     {
         let Step::Call {
             cases,
@@ -174,22 +201,27 @@ impl MachineState {
     }
 
     /// An admitted step: its fault, or what it does and the stall rule behind it.
-    pub(crate) fn turn(&mut self, entry: &Entry, events: &mut Events) -> Result<(), NoMemory>
+    pub(crate) fn turn<E: Hears>(
+        &mut self,
+        entry: &Entry,
+        events: &mut E,
+    ) -> Result<(), NoMemory>
         requires reached { IsReached self.old }
         requires admitted { refusal_of self.old.board self.old.gone entry.now.pid ≡ None }
         requires steps { self.old.steps < 2 ^ 32 - 1 }
-        requires empty { events.old.items ≡ [] }
+        requires room { MOST_EVENTS ≤ E.room events.old }
         ensures machine { OnOk result (self.new ≡ (turn_on self.old entry.now).machine) }
-        ensures events { OnOk result (events.new.items ≡ (turn_on self.old entry.now).events) }
+        ensures told { OnOk result (
+            Heard E.heard E.room events.old events.new (turn_on self.old entry.now).events) }
         ensures make { OnErr result (IsMake entry.now.step) }
         ensures fine { OnErr result (fault_on self.old.edition self.old.board entry.now.step ≡ None) }
         ensures unchanged { OnErr result (self.new ≡ self.old) }
-        ensures empty { OnErr result (events.new.items ≡ []) }
+        ensures silent { OnErr result (events.new ≡ events.old) }
         ensures places { length self.old.gone ≡ MOST_PROCS }
         ensures few { self.old.board.procs ≤ MOST_PROCS }
     {
         if let Some(fault) = fault_of(self.head.edition, &self.board, &entry.step) {
-            events.push(tells(entry.pid, What::Fault(fault)));
+            events.hear(tells(entry.pid, What::Fault(fault)));
         } else {
             self.effect(entry.pid, &entry.step, events)?;
             if all_wait(&self.board, &self.gone, self.head.procs) {

@@ -42,10 +42,6 @@ fn is_unmade(board: &Board, port: Port) -> bool
 fn names_unmade(board: &Board, cases: &[Case]) -> bool
     ensures { result ≡ list_any (λ c. is_unmade_on board.now (port_of c)) cases.now }
 {
-    // Most calls have one case, which is looked at without a loop.
-    if cases.len() == 1 {
-        return is_unmade(board, cases[0].port());
-    }
     cases.iter().any(|case| is_unmade(board, case.port()))
 }
 
@@ -53,6 +49,14 @@ fn names_unmade(board: &Board, cases: &[Case]) -> bool
 fn call_fault(edition: Edition, board: &Board, cases: &[Case]) -> Option<Fault>
     ensures { result ≡ call_fault_on edition board.now cases.now }
 {
+    // Most calls have one case, which no edition refuses, and which is looked at without a loop.
+    if cases.len() == 1 {
+        return if is_unmade(board, cases[0].port()) {
+            Some(Fault::NoPort)
+        } else {
+            None
+        };
+    }
     if cases.len() > edition.most_cases() {
         Some(Fault::TooManyCases)
     } else if names_unmade(board, cases) {

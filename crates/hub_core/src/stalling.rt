@@ -1,13 +1,13 @@
 //! The stall rule: where every process that has not exited waits, no call could ever end, so all
 //! end. Go has no such rule for single processes; there the whole program ends.
 
-ghost use Rattle.std.specs.Prelude.{◌≡◌, ◌≤◌, ◌<◌, ◌+◌, ◌++◌, length};
-ghost use Rattle.arrayvec.specs.ArrayVec.{array_vec_len};
+ghost use Rattle.std.specs.Prelude.{◌≡◌, ◌≤◌, ◌<◌, length};
+ghost use Rattle.hub_core.specs.Hearing.{Heard};
 ghost use Rattle.hub_laws.specs.Sound.{Apart};
 ghost use Rattle.hub_parts.specs.Lists.{open_calls};
 ghost use Rattle.hub_core.specs.ListSteps.{gone_on, each_gone_or_open_on, all_wait_on, none_open, stalled_events};
 
-use hub_base::{Event, Events, MOST_EVENTS, MOST_PROCS, Pid, What};
+use hub_base::{Event, Hears, MOST_PROCS, Pid, What};
 use hub_parts::Board;
 
 /// Whether the process has exited.
@@ -36,14 +36,14 @@ pub(crate) fn all_wait(board: &Board, gone: &[bool; MOST_PROCS], procs: u8) -> b
 }
 
 /// Ends every open call, oldest first.
-pub(crate) fn stop_all(board: &mut Board, events: &mut Events)
+pub(crate) fn stop_all<E: Hears>(board: &mut Board, events: &mut E)
     requires apart { Apart (open_calls board.old.waiting) }
-    requires room { array_vec_len events.old + length board.old.waiting ≤ MOST_EVENTS }
+    requires room { length board.old.waiting ≤ E.room events.old }
     ensures board { board.new ≡ none_open board.old }
-    ensures events { events.new.items ≡ events.old.items ++ stalled_events board.old.waiting }
+    ensures told { Heard E.heard E.room events.old events.new (stalled_events board.old.waiting) }
 {
     while let Some(pid) = board.stop() {
-        events.push(Event {
+        events.hear(Event {
             pid,
             what: What::Stalled,
         });

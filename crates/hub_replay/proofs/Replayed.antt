@@ -1,5 +1,5 @@
 -- How one more entry goes on from what the entries before it have led to.
-use Rattle.std.proofs.Common.{◌≡◌, ℕ, ◌*◌, ◌≤◌, Bool, false, List, [], ◌∷◌, ◌++◌, length, refl, sym, ap}
+use Rattle.std.proofs.Common.{◌≡◌, ℕ, ◌*◌, ◌≤◌, Bool, true, false, List, [], ◌∷◌, ◌++◌, length, refl, sym, ap}
 use Rattle.std.proofs.Common.{subst, ◌∙◌, append_assoc, append-nil, arith, Some, length-append}
 use Rattle.std.proofs.lemmas.Grind.{flat_map-append}
 use Rattle.std.specs.List.{flat_map}
@@ -16,7 +16,7 @@ use Rattle.hub_base.specs.Text.{IsText}
 use Rattle.hub_core.specs.Follows.{Follows, Answers}
 use Rattle.hub_core.specs.Records.{MachineLists}
 use Rattle.hub_replay.specs.Replay.{event_lines}
-use Rattle.hub_replay.specs.Replayed.{Replayed, ReplayedWhole, GoesOn}
+use Rattle.hub_replay.specs.Replayed.{Replayed, ReplayedWhole, ReplayedMore, GoesOn}
 use Rattle.hub_replay.proofs.Newlines.{lines-few}
 
 behind-more : (es : List Entry) (e : Entry) (r : Reading) → behind es (with_entry e r) ≡ behind (es ++ e ∷ []) r
@@ -74,7 +74,12 @@ module _ {bytes text : List ℕ} {old : ReaderView} {machine : MachineLists} (so
         lines = lines-few so_far.told so_far.few spelled;
       }
 
--- there was no step more
-pub whole-replayed : {bytes text : List ℕ} (reader : ReaderView) (machine : MachineLists) (told : List Event) {more : Bool} → more ≡ false
-    → GoesOn bytes text reader machine told more → ReplayedWhole bytes text
-whole-replayed {bytes} {text} reader machine told none goes = subst (λ (b : Bool). GoesOn bytes text reader machine told b) none goes
+-- there was a step more
+pub replayed-more : {bytes text old new : List ℕ} (reader : ReaderView) (machine : MachineLists) {more : Bool} → more ≡ true
+    → GoesOn bytes text reader machine old new more → ReplayedMore bytes text reader machine old new
+replayed-more {bytes} {text} {old} {new} reader machine some goes = subst (λ (b : Bool). GoesOn bytes text reader machine old new b) some goes
+
+-- there was none
+pub whole-replayed : {bytes text old new : List ℕ} (reader : ReaderView) (machine : MachineLists) {more : Bool} → more ≡ false
+    → GoesOn bytes text reader machine old new more → ReplayedWhole bytes text × (new ≡ old)
+whole-replayed {bytes} {text} {old} {new} reader machine none goes = subst (λ (b : Bool). GoesOn bytes text reader machine old new b) none goes

@@ -26,7 +26,13 @@ pub record ReplayedWhole (bytes text : List ℕ) : Type 0 where
   pub is : IsEventText bytes text
   pub lines : newlines_in text < 2 ^ 32 - 1
 
--- one step more was made, which told these events; or there was none
-abbrev pub GoesOn : List ℕ → List ℕ → ReaderView → MachineLists → List Event → Bool → Type 0
-GoesOn bytes text reader machine told true = Replayed bytes (text ++ flat_map event_line told) reader machine
-GoesOn bytes text reader machine told false = ReplayedWhole bytes text
+-- one step more was made, and its events were written behind the lines that were there
+pub record ReplayedMore (bytes text : List ℕ) (reader : ReaderView) (machine : MachineLists) (old new : List ℕ) : Type 0 where
+  pub events : List Event
+  pub written : new ≡ old ++ flat_map event_line events
+  pub replayed : Replayed bytes (text ++ flat_map event_line events) reader machine
+
+-- one step more was made; or there was none, and nothing was written
+abbrev pub GoesOn : List ℕ → List ℕ → ReaderView → MachineLists → List ℕ → List ℕ → Bool → Type 0
+GoesOn bytes text reader machine old new true = ReplayedMore bytes text reader machine old new
+GoesOn bytes text reader machine old new false = ReplayedWhole bytes text × (new ≡ old)

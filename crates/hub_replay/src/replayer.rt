@@ -17,14 +17,12 @@ use std::alloc::Global;
 
 /// The event text of the journal that these bytes are the text of.
 fn event_text(alloc: Global, bytes: &[u8]) -> Result<EventText, ReplayFault>
-    ensures ok { IfOk result (λ text. IsEventText bytes.now text) }
+    ensures ok { IfOk result (λ text. IsEventText bytes.now text.lines) }
     ensures err { IfErr result (HasNone bytes.now) }
 {
     let mut steps = Steps::open(alloc, bytes)?;
     let mut text = EventText::new(alloc);
-    while steps.advance()? {
-        text.write(steps.events())?;
-    }
+    while steps.advance(&mut text)? {}
     Ok(text)
 }
 

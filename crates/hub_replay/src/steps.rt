@@ -1,7 +1,7 @@
 //! The steps of a journal, one after another.
 //!
-//! Both a replay and a comparison go through them. An entry is read, its step is made, and its events are
-//! there until the next one; no entry is kept.
+//! Both a replay and a comparison go through them. An entry is read, its step is made, and its events are written;
+//! none of them is kept.
 
 ghost use Rattle.std.specs.Prelude.{◌≡◌, ◌≤◌, ◌<◌, ◌+◌, ◌-◌, ◌^◌, ℕ, List, [], length, IfOk, IfErr};
 ghost use Rattle.std.specs.Bool.{OnTrue};
@@ -10,7 +10,7 @@ ghost use Rattle.hub_replay.specs.Replay.{HasNone};
 ghost use Rattle.hub_replay.specs.Replayed.{Replayed, GoesOn};
 
 use crate::ReplayFault;
-use hub_base::{Entry, Event, Events, MOST_BYTES, MOST_EVENTS, Pid, Reader, Step, one_reading};
+use hub_base::{Entry, EventText, MOST_BYTES, Pid, Reader, Step, one_reading};
 use hub_core::Machine;
 use std::alloc::Global;
 
@@ -29,8 +29,7 @@ fn deciding(bytes: &[u8]) -> &[u8]
 
 /// A journal that is being read, and the machine that makes its steps.
 ///
-/// The machine stands where the entries before led, and `events` are those of the last one. One entry is
-/// read into again and again, since it is large.
+/// The machine stands where the entries before led. One entry is read into again and again, since it is large.
 #[derive(Drop)]
 pub struct Steps<'a> {
     /// What is left of the journal.
@@ -39,8 +38,6 @@ pub struct Steps<'a> {
     machine: Machine,
     /// The last of them.
     entry: Entry,
-    /// Its events.
-    events: Events,
     ghost room: { machine.steps + reader.bytes < 2 ^ 32 - 1 },
 }
 
@@ -61,17 +58,16 @@ impl<'a> Steps<'a> {
                 pid: Pid(0),
                 step: Step::Exit,
             },
-            events: Events::new(),
         })
     }
 
-    /// Makes the next step; `false` at the end of the journal. An `Err` is the journal's first fault, or
-    /// memory.
+    /// Makes the next step, and writes its events behind these lines; `false` at the end of the journal. An `Err`
+    /// is the journal's first fault, or memory.
     #[inline(always)]
-    pub fn advance(&mut self) -> Result<bool, ReplayFault>
+    pub fn advance(&mut self, lines: &mut EventText) -> Result<bool, ReplayFault>
         ensures ok { IfOk result (λ more. (bytes text : List ℕ)
             → Replayed bytes text self.old.reader self.old.machine
-            → GoesOn bytes text self.new.reader self.new.machine self.new.events.items more) }
+            → GoesOn bytes text self.new.reader self.new.machine lines.old.lines lines.new.lines more) }
         ensures less { IfOk result (λ more. OnTrue more (self.new.reader.bytes < self.old.reader.bytes)) }
         ensures err { IfErr result (λ fault. (bytes text : List ℕ)
             → Replayed bytes text self.old.reader self.old.machine → HasNone bytes fault) }
@@ -81,16 +77,8 @@ impl<'a> Steps<'a> {
         if !self.reader.read_into(&mut self.entry)? {
             return Ok(false);
         }
-        self.machine.answer(&self.entry, &mut self.events)?;
-        // So few that the lines of all events can be counted in 32 bits.
-        prove!(self.events.len() <= MOST_EVENTS);
+        lines.make_step_room()?;
+        self.machine.tell(&self.entry, lines)?;
         Ok(true)
-    }
-
-    /// The events of the last step, at most `MOST_EVENTS`.
-    pub fn events(&self) -> &[Event]
-        ensures { result.now ≡ self.now.events.items }
-    {
-        self.events.as_slice()
     }
 }

@@ -35,10 +35,9 @@ pub fn verify(alloc: Global, journal: &[u8], events: &[u8]) -> Result<Compared, 
     let mut steps = Steps::open(alloc, journal)?;
     let mut comparison = Comparison::of(events);
     let mut lines = EventText::new(alloc);
-    while steps.advance()? {
-        lines.clear();
-        lines.write(steps.events())?;
+    while steps.advance(&mut lines)? {
         comparison.take(lines.text());
+        lines.clear();
     }
     Ok(comparison.end())
 }

@@ -9,7 +9,7 @@ ghost use Rattle.hub_serve.specs.Lines.{IsEntryLine};
 ghost use Rattle.hub_serve.specs.Running.{Goes, RunsTo, steps_after};
 
 use crate::lines::read_entry;
-use hub_base::{Entry, EventText, Events, Head, Kind, MOST_STEPS, NoMemory, Pid, Step};
+use hub_base::{Entry, EventText, Head, Kind, MOST_STEPS, NoMemory, Pid, Step};
 use hub_core::Machine;
 use std::alloc::Global;
 
@@ -25,8 +25,6 @@ pub(crate) struct Running {
     entry: Entry,
     /// A place for what is read behind it, where that is looked for.
     other: Entry,
-    /// The events of the last of them.
-    events: Events,
 }
 
 fn no_entry() -> Entry {
@@ -60,7 +58,6 @@ impl Running {
             steps: 0,
             entry: no_entry(),
             other: no_entry(),
-            events: Events::new(),
         })
     }
 
@@ -76,7 +73,7 @@ impl Running {
         ensures goes { IfOk result (λ fault. (head : Head) (entries : List Entry) (line body : List ℕ)
             → RunsTo head entries self.old.machine self.old.steps
             → IsEntryLine text.now head line body
-            → Goes head entries body self.new.machine self.new.steps answers.old answers.new fault) }
+            → Goes head entries body self.new.machine self.new.steps answers.old.lines answers.new.lines fault) }
         ensures steps { self.new.machine.steps ≤ self.old.machine.steps + 1 }
     {
         if let Err(kind) = read_entry(text, &mut self.entry, &mut self.other) {
@@ -85,8 +82,8 @@ impl Running {
         let Some(steps) = steps_after(&self.entry, self.steps) else {
             return Ok(Some(Kind::TooLong));
         };
-        self.machine.answer(&self.entry, &mut self.events)?;
-        answers.write(self.events.as_slice())?;
+        answers.make_step_room()?;
+        self.machine.tell(&self.entry, answers)?;
         self.steps = steps;
         Ok(None)
     }

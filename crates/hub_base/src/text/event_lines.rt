@@ -156,14 +156,18 @@ fn put_number(out: &mut [u8], at: usize, n: u64) -> usize
     }
 }
 
-/// Puts a number of 8 bits.
+/// Puts a number of 8 bits. Most have one digit, which is tried first.
 #[inline(always)]
-#[tactic(auto, using(crate::proofs::Decimals::three_digits))]
+#[tactic(auto, using(std::proofs::lemmas::Fmt::decimal_digit, crate::proofs::Decimals::three_digits))]
 fn put_small(out: &mut [u8], at: usize, n: u8) -> usize
     requires { at + MOST_SMALL ≤ length out.old }
     ensures { Puts out.old out.new at (decimal n) MOST_SMALL result }
 {
-    put_number(out, at, n.into())
+    if n < 10 {
+        put(out, at, &[b'0' + n])
+    } else {
+        put_number(out, at, n.into())
+    }
 }
 
 /// Puts a number of up to 64 bits.

@@ -1,15 +1,15 @@
 //! The text of events, which grows by pieces.
 //!
 //! The bytes behind the written ones are there already, so a line is put into them piece by piece, and whether
-//! there is room is asked once for all events of a step.
+//! there is room is asked once for all events of a step, before the step is made.
 
-ghost use Rattle.std.specs.Prelude.{◌≡◌, ◌+◌, ◌*◌, ◌≤◌, ◌++◌, [], List, ℕ, length, take, vec_len, IfSome, OnOk, OnErr};
+ghost use Rattle.std.specs.Prelude.{◌≡◌, ◌+◌, ◌-◌, ◌*◌, ◌/◌, ◌≤◌, ◌++◌, [], List, ℕ, length, take, vec_len, IfSome, OnOk, OnErr};
 ghost use Rattle.std.specs.List.{flat_map};
 ghost use Rattle.hub_base.specs.EventText.{event_line};
 
-use crate::limits::{MOST_LINE, TEXT_GROWTH};
-use crate::text::event_lines::put_events;
-use crate::{Event, NoMemory};
+use crate::limits::{MOST_EVENTS, MOST_LINE, TEXT_GROWTH};
+use crate::text::event_lines::{put_event, put_events};
+use crate::{Event, Hears, NoMemory};
 use std::alloc::{AllocError, Global};
 use std::marker::Model;
 
@@ -23,9 +23,13 @@ pub struct EventText {
 }
 
 impl Model for EventText {
-    ghost Value = { List ℕ };
+    ghost use Rattle.std.specs.Prelude.{◌-◌, ◌/◌, ◌≤◌, take, vec_len};
+    ghost use Rattle.hub_base.specs.EventText.{TextView};
+    ghost use Rattle.hub_base.specs.declared.limits.TheConstants.{MOST_LINE};
 
-    ghost view = { λ t. take t.len t.bytes.items };
+    ghost Value = { TextView };
+
+    ghost view = { λ t. record { lines = take t.len t.bytes.items; room = (vec_len t.bytes - t.len) / MOST_LINE } };
 
     ghost invariant = { λ t. t.len ≤ vec_len t.bytes };
 }
@@ -63,16 +67,17 @@ fn make_room(bytes: &mut Vec<u8>, at: usize, events: usize) -> Result<(), NoMemo
     let Some(most) = events.checked_mul(MOST_LINE) else {
         return Err(NoMemory);
     };
-    if most <= bytes.len() - at {
+    let room = bytes.len() - at;
+    if most <= room {
         return Ok(());
     }
-    grow(bytes, most)
+    grow(bytes, most - room)
 }
 
 impl EventText {
     /// The text of no event. It takes no memory.
     pub fn new(alloc: Global) -> EventText
-        ensures { result ≡ [] }
+        ensures { result.lines ≡ [] }
     {
         EventText {
             bytes: Vec::new(alloc),
@@ -82,16 +87,25 @@ impl EventText {
 
     /// The lines that were written.
     pub fn text(&self) -> &[u8]
-        ensures { result.now ≡ self.now }
+        ensures { result.now ≡ self.now.lines }
     {
         &self.bytes[..self.len]
+    }
+
+    /// Makes room for the events of a step; `Err` where a growth was refused. The lines stay as they are.
+    #[inline(always)]
+    pub fn make_step_room(&mut self) -> Result<(), NoMemory>
+        ensures ok { OnOk result (MOST_EVENTS ≤ self.new.room) }
+        ensures lines { self.new.lines ≡ self.old.lines }
+    {
+        make_room(&mut self.bytes, self.len, MOST_EVENTS)
     }
 
     /// Appends the line of each event; `Err` where a growth was refused, with nothing appended.
     #[inline(always)]
     pub fn write(&mut self, events: &[Event]) -> Result<(), NoMemory>
-        ensures ok { OnOk result (self.new ≡ self.old ++ flat_map event_line events.now) }
-        ensures err { OnErr result (self.new ≡ self.old) }
+        ensures ok { OnOk result (self.new.lines ≡ self.old.lines ++ flat_map event_line events.now) }
+        ensures err { OnErr result (self.new.lines ≡ self.old.lines) }
     {
         make_room(&mut self.bytes, self.len, events.len())?;
         self.len = put_events(&mut self.bytes, self.len, events);
@@ -100,8 +114,33 @@ impl EventText {
 
     /// Takes all lines back. What they took is kept for others.
     pub fn clear(&mut self)
-        ensures { self.new ≡ [] }
+        ensures { self.new.lines ≡ [] }
     {
         self.len = 0;
+    }
+}
+
+/// A text hears an event as its last line.
+impl Hears for EventText {
+    ghost use Rattle.std.specs.Prelude.{◌≡◌, ◌++◌};
+    ghost use Rattle.std.specs.List.{flat_map};
+    ghost use Rattle.std.proofs.Common.{◌∙◌, ap, sym, append_assoc};
+    ghost use Rattle.hub_base.specs.EventText.{event_line};
+    ghost use Rattle.std.proofs.lemmas.Grind.{flat_map-append};
+    ghost use Rattle.std.proofs.lemmas.List.{append-nil};
+
+    ghost heard = { λ old told new. new.lines ≡ old.lines ++ flat_map event_line told };
+
+    ghost room = { λ text. text.room };
+
+    ghost begins = { λ text. sym (append-nil text.lines) };
+
+    ghost goes_on = { λ a b c xs ys first then.
+        then ∙ ap (λ l. l ++ flat_map event_line ys) first ∙ append_assoc a.lines (flat_map event_line xs) (flat_map event_line ys)
+        ∙ ap (λ l. a.lines ++ l) (sym (flat_map-append event_line xs ys)) };
+
+    #[inline(always)]
+    fn hear(&mut self, event: Event) {
+        self.len = put_event(&mut self.bytes, self.len, &event);
     }
 }

@@ -85,7 +85,7 @@ impl Conversation {
         requires entries { IsSome self.old.running }
         ensures { IfOk result (λ fault. (lines line said body : List ℕ)
             → Stands lines line said self.old → IsLine line body
-            → Ends lines line said answers.old answers.new self.new fault) }
+            → Ends lines line said answers.old.lines answers.new.lines self.new fault) }
     {
         let line = self.line;
         self.place += self.text.len() - self.front;
@@ -110,7 +110,7 @@ impl Conversation {
         requires some { self.old.front < vec_len self.old.text }
         ensures { IfOk result (λ fault. (lines line said body : List ℕ)
             → Stands lines line said self.old → IsLine line body
-            → Ends lines line said answers.old answers.new self.new fault) }
+            → Ends lines line said answers.old.lines answers.new.lines self.new fault) }
     {
         if self.text.len() - self.front > MOST_BYTES - self.place {
             return Ok(Some(self.fault(Kind::TooLong)));
@@ -153,7 +153,7 @@ impl Conversation {
     ) -> Result<Option<TextFault>, NoMemory>
         ensures { IfOk result (λ fault. (lines rest said : List ℕ) → Stands lines rest said self.old
             → newlines_in rest ≡ 0
-            → Hears lines rest said piece.now answers.old answers.new self.new fault) }
+            → Hears lines rest said piece.now answers.old.lines answers.new.lines self.new fault) }
     {
         let mut left = piece;
         'lines: while let Some((line, behind)) = cut_line(left) {

@@ -4,8 +4,8 @@ use Rattle.hub_core.proofs.Kept.{fire_on-procs}
 use Rattle.hub_core.proofs.machine_state.MachineState.call.Goals as goal
 
 pub invariant_of-self-in-Some : goal.invariant_of-self-in-Some
-invariant_of-self-in-Some c = record {
-  procs = ap (λ (b : Lists). b.procs) c.fire.ensures.board
-      ∙ fire_on-procs c.self.inside.board c.self.inside.tallies c.in-Some.chosen.case ∙ c.self.invariant.procs;
+invariant_of-self-in-Some g c = record {
+  procs = ap (λ (b : Lists). b.procs) c.fire.ensures.fires.board
+      ∙ fire_on-procs c.self.inside.board c.self.inside.tallies c.in-Some.chosen.case.now ∙ c.self.invariant.procs;
   few = c.self.invariant.few;
 }

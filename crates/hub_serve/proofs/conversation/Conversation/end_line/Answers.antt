@@ -7,4 +7,4 @@ returns-then-len-self c = λ lines line said body stands at.
     (line-long _ lines line said stands body at (omega arith) _ c.fault.ensures.line c.fault.ensures.kind, refl)
 
 pub returns-then-self-eq1 : goal.returns-then-self-eq1
-returns-then-self-eq1 c = λ lines line said body. c.end_first_line.ensures lines line said body c.args.answers.now
+returns-then-self-eq1 c = λ lines line said body. c.end_first_line.ensures lines line said body c.args.answers.now.lines

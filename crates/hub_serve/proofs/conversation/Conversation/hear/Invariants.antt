@@ -6,7 +6,7 @@ use Rattle.hub_serve.proofs.conversation.Conversation.hear.Given as goal
 
 abbrev pub invariant-lines : goal.invariant-lines
 invariant-lines l = (lines rest said : List ℕ) → Stands lines rest said l.initial.self → newlines_in rest ≡ 0
-    → Going lines rest said l.piece l.left l.initial.answers l.answers l.self
+    → Going lines rest said l.piece l.left l.initial.answers.lines l.answers.lines l.self
 
 abbrev pub decreases-lines : goal.decreases-lines
 decreases-lines l = length l.left

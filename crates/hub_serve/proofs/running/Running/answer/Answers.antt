@@ -11,12 +11,12 @@ returns-in_default-steps_after-clause-goes c = λ head entries line body runs at
 pub returns-clause-goes : goal.returns-clause-goes
 returns-clause-goes c = λ head entries line body runs at_line.
     let count = entry-counts entries c.read_entry.new.entry _ c.in-Some.steps runs.counted (sym c.in-Some.ensures) in
-    let made = c.in_ok-answer.ensures.ok head entries runs.follows in
+    let tells = c.in_ok-tell.ensures.ok head entries runs.follows in
     record {
       entry = c.read_entry.new.entry;
       read = c.in_default.ensures head line body at_line;
       fits = count.fits;
-      runs = record { follows = made.follows; counted = count.counted };
-      said = c.in_ok-write.ensures.ok
-          ∙ ap (λ es. c.args.answers.now ++ flat_map event_line es) (c.as_slice.ensures.value ∙ made.events);
+      runs = record { follows = tells.answers.follows; counted = count.counted };
+      said = tells.heard ∙ ap (λ l. l ++ flat_map event_line tells.told) c.in_ok-make_step_room.ensures.lines
+          ∙ ap (λ es. c.args.answers.now.lines ++ flat_map event_line es) tells.answers.events;
     }

@@ -116,6 +116,18 @@ pub goes-on : (bs : List ℕ) (first start n at : ℕ) → EndsLine bs → GoesO
     → 0 < n → n * 10 + 9 < 2 ^ 64 → GoesOn bs first start (n * 10 + (get_or bs at 0 - 48)) (at + 1)
 goes-on bs first start n at ends so digit some small place here = stands-push bs place n at ends (so place here) digit some small
 
+-- and with two more
+pub goes-on-two : (bs : List ℕ) (first start n at : ℕ) → EndsLine bs → GoesOn bs first start n at → is_ascii_digit (get_or bs at 0) ≡ true
+    → is_ascii_digit (get_or bs (at + 1) 0) ≡ true → 0 < n → n * 100 + 99 < 2 ^ 64
+    → GoesOn bs first start ((n * 10 + (get_or bs at 0 - 48)) * 10 + (get_or bs (at + 1) 0 - 48)) (at + 2)
+goes-on-two bs first start n at ends so digit next some small =
+    let one : ℕ = n * 10 + (get_or bs at 0 - 48) in
+    let range = digit-range (get_or bs at 0) digit in
+    let behind : at + 1 + 1 ≡ at + 2 = omega arith in
+    subst (GoesOn bs first start (one * 10 + (get_or bs (at + 1) 0 - 48))) behind
+    (goes-on bs first start one (at + 1) ends (goes-on bs first start n at ends so digit some (omega (arith, small))) next (omega (arith, some))
+    (omega (arith, small, range)))
+
 twice : (n m : ℕ) (bs : List ℕ) → drop n (drop m bs) ≡ drop (n + m) bs
 twice n m bs = grind (arith, common_steps)
 

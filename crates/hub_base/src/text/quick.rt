@@ -3,7 +3,9 @@
 //! Whatever else a line is, the answer is `None`, which says nothing of it: it is left to the slow
 //! reading. The last byte of all is a newline, so no place is tested for the end of the bytes.
 
-ghost use Rattle.std.specs.Prelude.{◌≡◌, ◌≢◌, ◌≤◌, ◌<◌, ◌∷◌, ◌++◌, [], length, codes, decimal, get_or, false, IfSome};
+ghost use Rattle.std.specs.Prelude.{◌≡◌, ◌≢◌, ◌≤◌, ◌<◌, ◌-◌, ◌∷◌, ◌++◌, [], length, codes, decimal, get_or, true, false, IfSome};
+ghost use Rattle.std.specs.Char.{is_ascii_digit};
+ghost use Rattle.hub_base.specs.Head.{has_bytes};
 ghost use Rattle.hub_base.specs.Lines.{call_fields, case_field};
 ghost use Rattle.hub_base.specs.Quick.{EndsLine, Stands, GoesOn, ValueStands, BytesStand, SendStands, RecvStands, CaseStands, CasesStand, SelectStands, StepStands, Begins};
 ghost use Rattle.hub_base.specs.Writing.{spaced};
@@ -13,7 +15,17 @@ use crate::text::steps::set_call;
 use crate::text::values::byte_of;
 use crate::{Case, Cases, Edition, Entry, Pid, Port, Step, Value};
 
-/// The number at this place, and the place behind it. Most have three digits at most, so these are read one by one.
+/// The number that this digit is.
+#[inline(always)]
+fn digit(byte: u8) -> u64
+    requires { is_ascii_digit byte ≡ true }
+    ensures value { result ≡ byte - 48 }
+    ensures bound { result ≤ 9 }
+{
+    u64::from(byte - b'0')
+}
+
+/// The number at this place, and the place behind it. Most have few digits, so three are read without a loop.
 #[inline(always)]
 fn number_at(bytes: &[u8], start: usize) -> Option<(u64, usize)>
     requires line { EndsLine bytes.now }
@@ -23,22 +35,49 @@ fn number_at(bytes: &[u8], start: usize) -> Option<(u64, usize)>
     if !bytes[start].is_ascii_digit() {
         return None;
     }
-    let first = u64::from(bytes[start] - b'0');
-    // A zero leads no number.
-    if first == 0 || !bytes[start + 1].is_ascii_digit() {
+    let first = digit(bytes[start]);
+    if !bytes[start + 1].is_ascii_digit() {
         return Some((first, start + 1));
     }
-    let second = first * 10 + u64::from(bytes[start + 1] - b'0');
+    // A zero leads no number.
+    if first == 0 {
+        return None;
+    }
+    let second = first * 10 + digit(bytes[start + 1]);
     if !bytes[start + 2].is_ascii_digit() {
         return Some((second, start + 2));
     }
-    let third = second * 10 + u64::from(bytes[start + 2] - b'0');
-    longer_at(bytes, start + 3, third)
+    longer_at(bytes, start + 3, second * 10 + digit(bytes[start + 2]))
 }
 
-/// The number that goes on at this place, with the digits before it read as this number, and the place behind it.
-#[inline]
+/// The number that goes on at this place, where the digits before it are this number, and the place behind it.
+#[inline(always)]
 fn longer_at(bytes: &[u8], start: usize, first: u64) -> Option<(u64, usize)>
+    requires line { EndsLine bytes.now }
+    requires start { start < length bytes.now }
+    requires some { 0 < first }
+    ensures { IfSome result (λ x. GoesOn bytes.now first start x.0 x.1) }
+{
+    let mut value = first;
+    let mut end = start;
+    // Two digits more do not pass the greatest of all, so one test does for both.
+    while value < u64::MAX / 100 {
+        if !bytes[end].is_ascii_digit() {
+            return Some((value, end));
+        }
+        value = value * 10 + digit(bytes[end]);
+        if !bytes[end + 1].is_ascii_digit() {
+            return Some((value, end + 1));
+        }
+        value = value * 10 + digit(bytes[end + 1]);
+        end += 2;
+    }
+    longest_at(bytes, end, value)
+}
+
+/// The same, with a test for each digit.
+#[inline(always)]
+fn longest_at(bytes: &[u8], start: usize, first: u64) -> Option<(u64, usize)>
     requires line { EndsLine bytes.now }
     requires start { start < length bytes.now }
     requires some { 0 < first }
@@ -51,7 +90,7 @@ fn longer_at(bytes: &[u8], start: usize, first: u64) -> Option<(u64, usize)>
         if value >= u64::MAX / 10 {
             return None;
         }
-        value = value * 10 + u64::from(bytes[end] - b'0');
+        value = value * 10 + digit(bytes[end]);
         end += 1;
     }
     Some((value, end))
@@ -119,17 +158,15 @@ fn behind_words(bytes: &[u8], start: usize, first: &[u8; 4], second: &[u8; 4]) -
     behind_word(bytes, behind_word(bytes, start, first)?, second)
 }
 
-/// The value that is bytes and stands at this place, and the place behind it. Most are numbers.
-#[inline(never)]
-fn bytes_at(edition: Edition, bytes: &[u8], start: usize) -> Option<(Value, usize)>
+/// The value that is bytes and stands at this place, and the place behind it.
+#[inline(always)]
+fn bytes_at(bytes: &[u8], start: usize) -> (Value, usize)
     requires line { EndsLine bytes.now }
     requires start { start < length bytes.now }
     requires mark { get_or bytes.now start 0 ≡ 35 }
-    ensures { IfSome result (λ x. ValueStands edition bytes.now start x.0 x.1) }
+    ensures { (edition : Edition) → has_bytes edition ≡ true
+        → ValueStands edition bytes.now start result.0 result.1 }
 {
-    if !edition.has_bytes() {
-        return None;
-    }
     let mut places = [0; MOST_VALUE_BYTES];
     let mut len = 0;
     let mut end = start + 1;
@@ -143,7 +180,7 @@ fn bytes_at(edition: Edition, bytes: &[u8], start: usize) -> Option<(Value, usiz
         len += 1;
         end += 2;
     }
-    Some((Value::of_places(len, places), end))
+    (Value::of_places(len, places), end)
 }
 
 /// The value that is a number and stands at this place, and the place behind it.
@@ -170,23 +207,18 @@ fn port_at(bytes: &[u8], start: usize) -> Option<(Port, usize)>
 }
 
 /// Reads the case that sends on this port the bytes that stand at this place, and gives the place behind it. It
-/// stands apart, so that only who reads bytes fills their places with zeros first.
+/// stands apart, so that the places of the bytes are filled with zeros only where there are bytes.
 #[inline(never)]
-fn bytes_into(
-    edition: Edition,
-    bytes: &[u8],
-    start: usize,
-    port: Port,
-    case: &mut Case,
-) -> Option<usize>
+fn bytes_into(bytes: &[u8], start: usize, port: Port, case: &mut Case) -> usize
     requires line { EndsLine bytes.now }
     requires start { start < length bytes.now }
     requires mark { get_or bytes.now start 0 ≡ 35 }
-    ensures { IfSome result (λ end. BytesStand edition bytes.now start port case.new end) }
+    ensures { (edition : Edition) → has_bytes edition ≡ true
+        → BytesStand edition bytes.now start port case.new result }
 {
-    let (value, end) = bytes_at(edition, bytes, start)?;
+    let (value, end) = bytes_at(bytes, start);
     *case = Case::Send(port, value);
-    Some(end)
+    end
 }
 
 /// Reads the case that sends and whose port and value stand at this place with this mark between them, and gives
@@ -207,7 +239,10 @@ fn send_into(
     let (port, end) = port_at(bytes, start)?;
     let end = behind(bytes, end, mark)?;
     if bytes[end] == b'#' {
-        bytes_into(edition, bytes, end, port, case)
+        if !edition.has_bytes() {
+            return None;
+        }
+        Some(bytes_into(bytes, end, port, case))
     } else {
         let (value, end) = num_at(bytes, end)?;
         *case = Case::Send(port, value);

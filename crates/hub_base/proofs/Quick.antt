@@ -11,7 +11,7 @@ use Rattle.std.proofs.lemmas.Str.{digit_value_digit}
 use Rattle.std.specs.Fmt.{decimal}
 use Rattle.std.specs.Char.{is_ascii_digit}
 use Rattle.std.specs.Int.{IsInRange}
-use Rattle.std.specs.List.{AllByRecursion, list_all, flat_map}
+use Rattle.std.specs.List.{AllByRecursion, list_all, flat_map, refill}
 use Rattle.std.specs.Str.Parse.{digits_value}
 use Rattle.std.specs.Int.{from_le_bytes, w32}
 use Rattle.std.proofs.lemmas.Nat.{le_bytes_4}
@@ -28,7 +28,7 @@ use Rattle.hub_base.specs.declared.value.Value.{Value}
 use Rattle.hub_base.specs.declared.limits.TheConstants.{MOST_VALUE_BYTES}
 use Rattle.hub_base.specs.Value.{bytes_of, padded, value_field, IsContent, field_of}
 use Rattle.hub_base.specs.Value.Content.{Bytes}
-use Rattle.std.proofs.Common.{replicate, set, slice_index}
+use Rattle.std.proofs.Common.{replicate, set, slice_index, slice_set}
 use Rattle.std.proofs.lemmas.Grind.{take-set_at}
 use Rattle.std.proofs.lemmas.List.{drop-replicate, drop-set-lt, length-set}
 use Rattle.hex.specs.Hex.{IsBytes, encode_lower, encode_with, lower_digits}
@@ -36,7 +36,7 @@ use Rattle.hub_base.proofs.HexDigits.{bytes-push, digit-hex, encode-push}
 use Rattle.hub_base.proofs.Values.{content-saying, is-value, padded_is}
 use Rattle.hub_base.specs.Writing.{spaced, spaced_cases}
 use Rattle.hub_base.specs.Lines.{line, step_fields, case_field, call, call_fields, select_fields, default_field, spelled, is_hex}
-use Rattle.hub_base.specs.Quick.{EndsLine, Stands, ValueStands, SendStands, RecvStands, CaseStands, CasesStand, SelectStands, StepStands, Begins}
+use Rattle.hub_base.specs.Quick.{EndsLine, Stands, GoesOn, ValueStands, SendStands, RecvStands, CaseStands, CasesStand, SelectStands, StepStands, Begins}
 use Rattle.hub_base.specs.Reading.{Reading, Reads, Faulty, behind, is_exit, with_entry, entries_from, rows}
 use Rattle.hub_base.specs.Text.{CaseFits, StepFits, body, steps_of}
 use Rattle.hub_base.proofs.Bodies.{rows-entry}
@@ -63,7 +63,7 @@ decimal-push n c some digit small =
     sym (spelled-digits bs digits (omega (arith, whole)) (λ h. absurd (lead h)) (let r = digit-range c digit in omega (arith, value, r)) ∙ ap decimal value)
 
 -- behind a digit there is one byte more
-behind-digit : (bs : List ℕ) (i : ℕ) → EndsLine bs → i < length bs → is_ascii_digit (get_or bs i 0) ≡ true → i + 1 < length bs
+pub behind-digit : (bs : List ℕ) (i : ℕ) → EndsLine bs → i < length bs → is_ascii_digit (get_or bs i 0) ≡ true → i + 1 < length bs
 behind-digit bs i ends inside digit = ends i inside (λ newline. grind (arith, common_steps))
 
 -- a number is its first digit
@@ -87,6 +87,46 @@ stands-push bs start n at ends so digit some small = record {
       ∙ rw (add-one) (ap (λ t. t ++ drop (suc at) bs) (sym (decimal-push n (get_or bs at 0) some digit small)));
   inside = behind-digit bs at ends so.inside digit;
 }
+
+-- two digits, the first of which is not 0
+pub stands-two : (bs : List ℕ) (start : ℕ) → EndsLine bs → start < length bs → is_ascii_digit (get_or bs start 0) ≡ true
+    → 0 < get_or bs start 0 - 48 → is_ascii_digit (get_or bs (start + 1) 0) ≡ true
+    → Stands bs start (decimal ((get_or bs start 0 - 48) * 10 + (get_or bs (start + 1) 0 - 48))) (start + 2)
+stands-two bs start ends inside digit some next =
+    let first : ℕ = get_or bs start 0 - 48 in
+    let small = digit-range (get_or bs start 0) digit in
+    let at : start + 1 + 1 ≡ start + 2 = omega arith in
+    subst (λ e. Stands bs start (decimal (first * 10 + (get_or bs (start + 1) 0 - 48))) e) at
+    (stands-push bs start first (start + 1) ends (stands-digit bs start ends inside digit) next some (omega (arith, small)))
+
+-- and three
+pub stands-three : (bs : List ℕ) (start : ℕ) → EndsLine bs → start < length bs → is_ascii_digit (get_or bs start 0) ≡ true
+    → 0 < get_or bs start 0 - 48 → is_ascii_digit (get_or bs (start + 1) 0) ≡ true → is_ascii_digit (get_or bs (start + 2) 0) ≡ true
+    → Stands bs start (decimal (((get_or bs start 0 - 48) * 10 + (get_or bs (start + 1) 0 - 48)) * 10 + (get_or bs (start + 2) 0 - 48))) (start + 3)
+stands-three bs start ends inside digit some next last =
+    let second : ℕ = (get_or bs start 0 - 48) * 10 + (get_or bs (start + 1) 0 - 48) in
+    let small = digit-range (get_or bs start 0) digit in
+    let few = digit-range (get_or bs (start + 1) 0) next in
+    let at : start + 2 + 1 ≡ start + 3 = omega arith in
+    subst (λ e. Stands bs start (decimal (second * 10 + (get_or bs (start + 2) 0 - 48))) e) at
+    (stands-push bs start second (start + 2) ends (stands-two bs start ends inside digit some next) last (omega (arith, some)) (omega (arith, small, few)))
+
+-- a number that goes on does so with one digit more
+pub goes-on : (bs : List ℕ) (first start n at : ℕ) → EndsLine bs → GoesOn bs first start n at → is_ascii_digit (get_or bs at 0) ≡ true
+    → 0 < n → n * 10 + 9 < 2 ^ 64 → GoesOn bs first start (n * 10 + (get_or bs at 0 - 48)) (at + 1)
+goes-on bs first start n at ends so digit some small place here = stands-push bs place n at ends (so place here) digit some small
+
+-- and with two more
+pub goes-on-two : (bs : List ℕ) (first start n at : ℕ) → EndsLine bs → GoesOn bs first start n at → is_ascii_digit (get_or bs at 0) ≡ true
+    → is_ascii_digit (get_or bs (at + 1) 0) ≡ true → 0 < n → n * 100 + 99 < 2 ^ 64
+    → GoesOn bs first start ((n * 10 + (get_or bs at 0 - 48)) * 10 + (get_or bs (at + 1) 0 - 48)) (at + 2)
+goes-on-two bs first start n at ends so digit next some small =
+    let one : ℕ = n * 10 + (get_or bs at 0 - 48) in
+    let range = digit-range (get_or bs at 0) digit in
+    let behind : at + 1 + 1 ≡ at + 2 = omega arith in
+    subst (GoesOn bs first start (one * 10 + (get_or bs (at + 1) 0 - 48))) behind
+    (goes-on bs first start one (at + 1) ends (goes-on bs first start n at ends so digit some (omega (arith, small))) next (omega (arith, some))
+    (omega (arith, small, range)))
 
 twice : (n m : ℕ) (bs : List ℕ) → drop n (drop m bs) ≡ drop (n + m) bs
 twice n m bs = grind (arith, common_steps)
@@ -280,6 +320,16 @@ cases-push ed bs start cs at c end so one = record {
   fits = all-push cs c so.fits one.fits;
   of_edition = all-of-push ed cs c so.of_edition one.of_edition;
 }
+
+-- one case more, which is written over what stands in its place of a list
+pub cases-over : (ed : Edition) (bs : List ℕ) (start : ℕ) (before now places : List Case) (count at : ℕ) (c : Case) (end : ℕ)
+    → take count now ≡ take count before → count < length now → places ≡ now → CasesStand ed bs start (take count before) at
+    → CaseStands ed bs at (codes " " ++ case_field c) c end
+    → CasesStand ed bs start (take (count + 1) (refill (length now) now (slice_set places count c))) end
+cases-over ed bs start before now places count at c end kept room same so one =
+    let more : take (count + 1) (refill (length now) now (slice_set places count c)) ≡ take count before ++ c ∷ [] =
+    rw same (grind (arith, common_steps, kept)) in
+    subst (λ cs. CasesStand ed bs start cs end) (sym more) (cases-push ed bs start (take count before) at c end so one)
 
 -- nothing stands at each place behind which there is more
 pub stands-nothing : (bs : List ℕ) (at : ℕ) → at < length bs → Stands bs at [] at

@@ -24,11 +24,21 @@ pub record Stands (bytes : List ℕ) (start : ℕ) (spelling : List ℕ) (end : 
   pub spelled : drop start bytes ≡ spelling ++ drop end bytes
   pub inside : end < length bytes
 
+-- whatever place it is from which on the one number stands up to this place, the other stands from there up to the other
+abbrev pub GoesOn : List ℕ → ℕ → ℕ → ℕ → ℕ → Type 0
+GoesOn bytes n at m end = (place : ℕ) → Stands bytes place (decimal n) at → Stands bytes place (decimal m) end
+
 -- a value stands there that a journal of this edition can have
 pub record ValueStands (edition : Edition) (bytes : List ℕ) (start : ℕ) (v : Value) (end : ℕ) : Type 0 where
   pub stands : Stands bytes start (value_field v) end
   pub fits : IsValue v
   pub of_edition : has_value edition v ≡ true
+
+-- the case sends on this port a value that stands there
+pub record BytesStand (edition : Edition) (bytes : List ℕ) (start : ℕ) (port : Port) (c : Case) (end : ℕ) : Type 0 where
+  pub value : Value
+  pub is : c ≡ Send port value
+  pub there : ValueStands edition bytes start value end
 
 -- the port and the value of a case that sends stand there, with this mark between them
 pub record SendStands (edition : Edition) (bytes : List ℕ) (start mark : ℕ) (c : Case) (end : ℕ) : Type 0 where

@@ -3,9 +3,11 @@
 //! Whatever else a line is, the answer is `None`, which says nothing of it: it is left to the slow
 //! reading. The last byte of all is a newline, so no place is tested for the end of the bytes.
 
-ghost use Rattle.std.specs.Prelude.{◌≡◌, ◌≢◌, ◌≤◌, ◌<◌, ◌∷◌, ◌++◌, [], length, codes, decimal, get_or, false, IfSome};
+ghost use Rattle.std.specs.Prelude.{◌≡◌, ◌≢◌, ◌≤◌, ◌<◌, ◌-◌, ◌∷◌, ◌++◌, [], length, codes, decimal, get_or, true, false, IfSome};
+ghost use Rattle.std.specs.Char.{is_ascii_digit};
+ghost use Rattle.hub_base.specs.Head.{has_bytes};
 ghost use Rattle.hub_base.specs.Lines.{call_fields, case_field};
-ghost use Rattle.hub_base.specs.Quick.{EndsLine, Stands, ValueStands, SendStands, RecvStands, CaseStands, CasesStand, SelectStands, StepStands, Begins};
+ghost use Rattle.hub_base.specs.Quick.{EndsLine, Stands, GoesOn, ValueStands, BytesStand, SendStands, RecvStands, CaseStands, CasesStand, SelectStands, StepStands, Begins};
 ghost use Rattle.hub_base.specs.Writing.{spaced};
 
 use crate::limits::{GREATEST_PID, GREATEST_PORT, MOST_VALUE_BYTES};
@@ -13,8 +15,18 @@ use crate::text::steps::set_call;
 use crate::text::values::byte_of;
 use crate::{Case, Cases, Edition, Entry, Pid, Port, Step, Value};
 
-/// The number at this place, and the place behind it.
-#[inline]
+/// The number that this digit is.
+#[inline(always)]
+fn digit(byte: u8) -> u64
+    requires { is_ascii_digit byte ≡ true }
+    ensures value { result ≡ byte - 48 }
+    ensures bound { result ≤ 9 }
+{
+    u64::from(byte - b'0')
+}
+
+/// The number at this place, and the place behind it. Most have few digits, so three are read without a loop.
+#[inline(always)]
 fn number_at(bytes: &[u8], start: usize) -> Option<(u64, usize)>
     requires line { EndsLine bytes.now }
     requires start { start < length bytes.now }
@@ -23,25 +35,69 @@ fn number_at(bytes: &[u8], start: usize) -> Option<(u64, usize)>
     if !bytes[start].is_ascii_digit() {
         return None;
     }
-    let mut value = u64::from(bytes[start] - b'0');
-    let mut end = start + 1;
-    // A zero leads no number.
-    if value == 0 {
-        return Some((value, end));
+    let first = digit(bytes[start]);
+    if !bytes[start + 1].is_ascii_digit() {
+        return Some((first, start + 1));
     }
+    // A zero leads no number.
+    if first == 0 {
+        return None;
+    }
+    let second = first * 10 + digit(bytes[start + 1]);
+    if !bytes[start + 2].is_ascii_digit() {
+        return Some((second, start + 2));
+    }
+    longer_at(bytes, start + 3, second * 10 + digit(bytes[start + 2]))
+}
+
+/// The number that goes on at this place, where the digits before it are this number, and the place behind it.
+#[inline(always)]
+fn longer_at(bytes: &[u8], start: usize, first: u64) -> Option<(u64, usize)>
+    requires line { EndsLine bytes.now }
+    requires start { start < length bytes.now }
+    requires some { 0 < first }
+    ensures { IfSome result (λ x. GoesOn bytes.now first start x.0 x.1) }
+{
+    let mut value = first;
+    let mut end = start;
+    // Two digits more do not pass the greatest of all, so one test does for both.
+    while value < u64::MAX / 100 {
+        if !bytes[end].is_ascii_digit() {
+            return Some((value, end));
+        }
+        value = value * 10 + digit(bytes[end]);
+        if !bytes[end + 1].is_ascii_digit() {
+            return Some((value, end + 1));
+        }
+        value = value * 10 + digit(bytes[end + 1]);
+        end += 2;
+    }
+    longest_at(bytes, end, value)
+}
+
+/// The same, with a test for each digit.
+#[inline(always)]
+fn longest_at(bytes: &[u8], start: usize, first: u64) -> Option<(u64, usize)>
+    requires line { EndsLine bytes.now }
+    requires start { start < length bytes.now }
+    requires some { 0 < first }
+    ensures { IfSome result (λ x. GoesOn bytes.now first start x.0 x.1) }
+{
+    let mut value = first;
+    let mut end = start;
     while bytes[end].is_ascii_digit() {
         // What may pass the greatest of all is left to the slow reading.
         if value >= u64::MAX / 10 {
             return None;
         }
-        value = value * 10 + u64::from(bytes[end] - b'0');
+        value = value * 10 + digit(bytes[end]);
         end += 1;
     }
     Some((value, end))
 }
 
 /// The same of a number up to this.
-#[inline]
+#[inline(always)]
 fn number_up_to(most: u64, bytes: &[u8], start: usize) -> Option<(u64, usize)>
     requires line { EndsLine bytes.now }
     requires start { start < length bytes.now }
@@ -56,7 +112,7 @@ fn number_up_to(most: u64, bytes: &[u8], start: usize) -> Option<(u64, usize)>
 }
 
 /// The place behind this mark, where it stands at this place.
-#[inline]
+#[inline(always)]
 fn behind(bytes: &[u8], start: usize, mark: u8) -> Option<usize>
     requires line { EndsLine bytes.now }
     requires start { start < length bytes.now }
@@ -71,7 +127,7 @@ fn behind(bytes: &[u8], start: usize, mark: u8) -> Option<usize>
 }
 
 /// The place behind these four bytes, where they stand at this place.
-#[inline]
+#[inline(always)]
 fn behind_word(bytes: &[u8], start: usize, word: &[u8; 4]) -> Option<usize>
     requires start { start < length bytes.now }
     ensures { IfSome result (λ end. Stands bytes.now start word.now end) }
@@ -94,7 +150,7 @@ fn behind_word(bytes: &[u8], start: usize, word: &[u8; 4]) -> Option<usize>
 }
 
 /// The place behind these eight bytes, where they stand at this place.
-#[inline]
+#[inline(always)]
 fn behind_words(bytes: &[u8], start: usize, first: &[u8; 4], second: &[u8; 4]) -> Option<usize>
     requires { start < length bytes.now }
     ensures { IfSome result (λ end. Stands bytes.now start (first.now ++ second.now) end) }
@@ -102,17 +158,15 @@ fn behind_words(bytes: &[u8], start: usize, first: &[u8; 4], second: &[u8; 4]) -
     behind_word(bytes, behind_word(bytes, start, first)?, second)
 }
 
-/// The value that is bytes and stands at this place, and the place behind it. Most are numbers.
-#[inline(never)]
-fn bytes_at(edition: Edition, bytes: &[u8], start: usize) -> Option<(Value, usize)>
+/// The value that is bytes and stands at this place, and the place behind it.
+#[inline(always)]
+fn bytes_at(bytes: &[u8], start: usize) -> (Value, usize)
     requires line { EndsLine bytes.now }
     requires start { start < length bytes.now }
     requires mark { get_or bytes.now start 0 ≡ 35 }
-    ensures { IfSome result (λ x. ValueStands edition bytes.now start x.0 x.1) }
+    ensures { (edition : Edition) → has_bytes edition ≡ true
+        → ValueStands edition bytes.now start result.0 result.1 }
 {
-    if !edition.has_bytes() {
-        return None;
-    }
     let mut places = [0; MOST_VALUE_BYTES];
     let mut len = 0;
     let mut end = start + 1;
@@ -126,11 +180,11 @@ fn bytes_at(edition: Edition, bytes: &[u8], start: usize) -> Option<(Value, usiz
         len += 1;
         end += 2;
     }
-    Some((Value::of_places(len, places), end))
+    (Value::of_places(len, places), end)
 }
 
 /// The value that is a number and stands at this place, and the place behind it.
-#[inline]
+#[inline(always)]
 fn num_at(bytes: &[u8], start: usize) -> Option<(Value, usize)>
     requires line { EndsLine bytes.now }
     requires start { start < length bytes.now }
@@ -141,7 +195,7 @@ fn num_at(bytes: &[u8], start: usize) -> Option<(Value, usize)>
 }
 
 /// The port whose number stands at this place, and the place behind it.
-#[inline]
+#[inline(always)]
 fn port_at(bytes: &[u8], start: usize) -> Option<(Port, usize)>
     requires line { EndsLine bytes.now }
     requires start { start < length bytes.now }
@@ -152,9 +206,24 @@ fn port_at(bytes: &[u8], start: usize) -> Option<(Port, usize)>
     Some((Port(port as u16), end))
 }
 
+/// Reads the case that sends on this port the bytes that stand at this place, and gives the place behind it. It
+/// stands apart, so that the places of the bytes are filled with zeros only where there are bytes.
+#[inline(never)]
+fn bytes_into(bytes: &[u8], start: usize, port: Port, case: &mut Case) -> usize
+    requires line { EndsLine bytes.now }
+    requires start { start < length bytes.now }
+    requires mark { get_or bytes.now start 0 ≡ 35 }
+    ensures { (edition : Edition) → has_bytes edition ≡ true
+        → BytesStand edition bytes.now start port case.new result }
+{
+    let (value, end) = bytes_at(bytes, start);
+    *case = Case::Send(port, value);
+    end
+}
+
 /// Reads the case that sends and whose port and value stand at this place with this mark between them, and gives
 /// the place behind it. It is written once, since it is large.
-#[inline]
+#[inline(always)]
 fn send_into(
     edition: Edition,
     bytes: &[u8],
@@ -170,9 +239,10 @@ fn send_into(
     let (port, end) = port_at(bytes, start)?;
     let end = behind(bytes, end, mark)?;
     if bytes[end] == b'#' {
-        let (value, end) = bytes_at(edition, bytes, end)?;
-        *case = Case::Send(port, value);
-        Some(end)
+        if !edition.has_bytes() {
+            return None;
+        }
+        Some(bytes_into(bytes, end, port, case))
     } else {
         let (value, end) = num_at(bytes, end)?;
         *case = Case::Send(port, value);
@@ -193,7 +263,7 @@ fn recv_into(bytes: &[u8], start: usize, case: &mut Case) -> Option<usize>
 }
 
 /// Reads the case of a plain send or receive, from the space before the word on, and gives the place behind it.
-#[inline]
+#[inline(always)]
 fn plain_case_into(edition: Edition, bytes: &[u8], start: usize, case: &mut Case) -> Option<usize>
     requires line { EndsLine bytes.now }
     requires start { start < length bytes.now }
@@ -209,14 +279,14 @@ fn plain_case_into(edition: Edition, bytes: &[u8], start: usize, case: &mut Case
     }
 }
 
-/// Reads a plain send or receive, from the space before the word on, and gives the place behind it.
-#[inline]
+/// Reads a plain send or receive over the one case of a call that stands there already, from the space before the
+/// word on, and gives the place behind it. So it is moved nowhere.
+#[inline(always)]
 fn plain_into(edition: Edition, bytes: &[u8], start: usize, step: &mut Step) -> Option<usize>
     requires line { EndsLine bytes.now }
     requires start { start < length bytes.now }
     ensures { IfSome result (λ end. StepStands edition bytes.now start step.new end) }
 {
-    // Over the one case of a call that stands there already it is read in place, and moved nowhere.
     if let Step::Call {
         cases,
         default,
@@ -229,6 +299,16 @@ fn plain_into(edition: Edition, bytes: &[u8], start: usize, step: &mut Step) -> 
             return plain_case_into(edition, bytes, start, &mut cases[0]);
         }
     }
+    None
+}
+
+/// The same where no such call stands: it is made anew. Few are.
+#[inline(never)]
+fn plain_anew(edition: Edition, bytes: &[u8], start: usize, step: &mut Step) -> Option<usize>
+    requires line { EndsLine bytes.now }
+    requires start { start < length bytes.now }
+    ensures { IfSome result (λ end. StepStands edition bytes.now start step.new end) }
+{
     let mut case = Case::default();
     let end = plain_case_into(edition, bytes, start, &mut case)?;
     set_call(step, case);
@@ -236,7 +316,7 @@ fn plain_into(edition: Edition, bytes: &[u8], start: usize, step: &mut Step) -> 
 }
 
 /// Reads the case of a select, from the space before it on, and gives the place behind it.
-#[inline]
+#[inline(always)]
 fn case_into(edition: Edition, bytes: &[u8], start: usize, case: &mut Case) -> Option<usize>
     requires line { EndsLine bytes.now }
     requires start { start < length bytes.now }
@@ -250,23 +330,28 @@ fn case_into(edition: Edition, bytes: &[u8], start: usize, case: &mut Case) -> O
     }
 }
 
-/// Reads the cases of a select, from the space before the first on, and gives the place behind them.
-#[inline]
+/// Reads the cases of a select over those that stand there already, from the space before the first on, and gives the
+/// place behind them. None is moved, and what stands behind the last one is cut off.
+#[inline(always)]
 fn cases_into(edition: Edition, bytes: &[u8], start: usize, cases: &mut Cases) -> Option<usize>
     requires line { EndsLine bytes.now }
     requires start { start < length bytes.now }
     ensures { IfSome result (λ end. CasesStand edition bytes.now start cases.new.items end) }
 {
-    cases.clear();
-    let mut case = Case::default();
+    let mut count = 0;
     let mut end = start;
-    while let Some(next) = case_into(edition, bytes, end, &mut case) {
-        if cases.is_full() {
-            return None;
+    // What begins with this letter is `default`.
+    while bytes[end] == b' ' && bytes[end + 1] != b'd' {
+        if count == cases.len() {
+            if cases.is_full() {
+                return None;
+            }
+            cases.push(Case::default());
         }
-        cases.push(case);
-        end = next;
+        end = case_into(edition, bytes, end, &mut cases[count])?;
+        count += 1;
     }
+    cases.truncate(count);
     Some(end)
 }
 
@@ -303,7 +388,7 @@ fn select_into(edition: Edition, bytes: &[u8], start: usize, step: &mut Step) ->
 }
 
 /// Reads a call, from the space behind the process on, and gives the place behind it. Most are no selects.
-#[inline]
+#[inline(always)]
 fn call_into(edition: Edition, bytes: &[u8], start: usize, step: &mut Step) -> Option<usize>
     requires line { EndsLine bytes.now }
     requires start { start < length bytes.now }
@@ -312,8 +397,10 @@ fn call_into(edition: Edition, bytes: &[u8], start: usize, step: &mut Step) -> O
     if let Some(end) = plain_into(edition, bytes, start, step) {
         return Some(end);
     }
-    let word = behind_words(bytes, start, b" sel", b"ect ")?;
-    select_into(edition, bytes, word, step)
+    match behind_words(bytes, start, b" sel", b"ect ") {
+        Some(word) => select_into(edition, bytes, word, step),
+        None => plain_anew(edition, bytes, start, step),
+    }
 }
 
 /// Reads the first line into this entry, and gives the place behind it.

@@ -1,4 +1,4 @@
-use Rattle.std.proofs.Common.{◌≡◌, ◌<◌, ◌+◌, ◌*◌, ◌/◌, ◌%◌, ℕ, arith, set, subst, sym, ◌∙◌}
+use Rattle.std.proofs.Common.{◌≡◌, ◌<◌, ◌+◌, ◌*◌, ◌/◌, ◌%◌, ℕ, arith, set, subst}
 use Rattle.hub_base.specs.declared.limits.TheConstants.{MOST_VALUE_BYTES}
 use Rattle.hub_base.proofs.Quick.{Decoded, decoded-push, decoded-value, mark-stands}
 use Rattle.hub_base.proofs.text.quick.bytes_at.Goals as goal
@@ -24,6 +24,6 @@ loop-end-preserved c =
     }
 
 pub returns : goal.returns
-returns c =
-    decoded-value c.args.edition c.args.bytes.now c.args.start c.loop-end.len c.loop-end.places c.loop-end.end c.of_places.result
-    (sym c.has_bytes.ensures ∙ c.if-not-has_bytes.false) c.loop-end.invariant.so_far c.of_places.ensures
+returns c edition has =
+    decoded-value edition c.args.bytes.now c.args.start c.loop-end.len c.loop-end.places c.loop-end.end c.of_places.result has
+    c.loop-end.invariant.so_far c.of_places.ensures

@@ -1,12 +1,12 @@
-use Rattle.std.specs.Fmt.{decimal}
 use Rattle.std.proofs.Common.{◌-◌, ◌<◌, length}
-use Rattle.hub_base.specs.Quick.{Stands}
-use Rattle.hub_base.proofs.text.quick.number_at.Given as goal
+use Rattle.hub_base.specs.Quick.{GoesOn}
+use Rattle.hub_base.proofs.text.quick.longest_at.Given as goal
 
--- what was read so far stands before this place, and is not 0
+-- the number goes on up to this place, is not 0, and is not all
 abbrev pub invariant-loop-start : goal.invariant-loop-start
 invariant-loop-start l = record {
-  stands : Stands l.bytes l.start (decimal l.value) l.end;
+  stands : GoesOn l.bytes l.first l.start l.value l.end;
+  inside : l.end < length l.bytes;
   some : 0 < l.value;
 }
 

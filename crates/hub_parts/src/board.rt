@@ -190,7 +190,7 @@ impl Board {
     {
         let channel = &mut self.ports[port.0 as usize - 1];
         let waiter = channel.take(side, &self.calls)?;
-        let Some(case) = self.calls.case(waiter.ticket, waiter.case) else {
+        let Some(case) = self.calls.case(waiter) else {
             unreachable!();
         };
         self.calls.end(waiter.pid);

@@ -12,7 +12,7 @@ use Rattle.hub_parts.specs.declared.side.Side.{Side}
 use Rattle.hub_parts.specs.declared.side.Side.TheVariants as side
 use Rattle.hub_parts.specs.declared.wait_queue.Waiter.{Waiter}
 use Rattle.hub_parts.specs.Records.{Ticketed, Calls, ChannelLists}
-use Rattle.hub_parts.specs.Queues.{is_live, lives, live_of, waiters, waiters_of, waiters_from, waiter_at, case_at, is_before}
+use Rattle.hub_parts.specs.Queues.{is_live, lives, live_of, waiters, waiters_of, waiters_from, waiter_at, pid_at, case_at, is_before}
 use Rattle.hub_parts.specs.Lists.{open_calls, still_open, passes}
 use Rattle.hub_parts.specs.Channels.{queue_of, line_of, older}
 use Rattle.hub_parts.specs.Keeps.{QueueKeeps, joins, Ascending}
@@ -60,6 +60,7 @@ lowest_of test pid ticket i (c ∷ cases) = lowest_step test pid ticket i c case
 -- what the first entry of the calls tells
 pub record Found (test : Case → Bool) (ws : List Ticketed) (e : Waiter) : Type 0 where
   pub case : Case
+  pub owner : pid_at ws e.ticket ≡ Some e.pid
   pub at : case_at ws e.ticket e.case ≡ Some case
   pub passes : test case ≡ true
   pub first : first_with test (open_calls ws) ≡ Some (record { pid = e.pid; at = record { index = e.case; case = case } })
@@ -86,6 +87,7 @@ tells_later test w ws (Some e) above l t =
     let less : w.ticket < e.ticket = t.known w.ticket above in
     record {
       case = t.case;
+      owner = rw (later_other w.ticket e.ticket less) t.owner;
       at = rw (later_other w.ticket e.ticket less) t.at;
       passes = t.passes;
       first = rw l t.first;
@@ -98,6 +100,7 @@ tells_here : (test : Case → Bool) (w : Ticketed) (ws : List Ticketed) (at : Pl
     → Found test (w ∷ ws) (waiter_at w.call.pid w.ticket at.index)
 tells_here test w ws at above l s t = record {
   case = at.case;
+  owner = rw (eq-eqb w.ticket w.ticket refl) refl;
   at = rw (eq-eqb w.ticket w.ticket refl) s;
   passes = t;
   first = rw l refl;

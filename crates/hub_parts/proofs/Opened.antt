@@ -1,8 +1,7 @@
 -- The calls in their list and in their places, as contracts see them.
 use Rattle.std.proofs.Common.{◌≡◌, ◌≢◌, ℕ, ◌++◌, Bool, List, [], ◌∷◌, refl, Option, Some, None, arith, length, get_or, set, ◌<◌, not}
-use Rattle.std.proofs.Common.{◌==◌, ◌||◌, filter, slice_get, true, false, inl, inr, eq-eqb, replicate, find, cond, ap, sym, ◌∙◌}
+use Rattle.std.proofs.Common.{◌==◌, ◌||◌, filter, slice_get, true, false, inl, inr, eq-eqb, replicate, cond, ap, sym, ◌∙◌}
 use Rattle.std.specs.List.{AllByRecursion, list_any}
-use Rattle.std.specs.Option.{option_map}
 use Rattle.std.proofs.lemmas.Bool.{eqb-false, ne_eqb, cases_eq}
 use Rattle.std.proofs.lemmas.Bool.Decides.{nat_tests}
 use Rattle.std.proofs.lemmas.List.{get_or-set_same, get_or-set_other, map-append, get_or_default, length-set, get_or-replicate, length-replicate}
@@ -15,7 +14,7 @@ use Rattle.hub_parts.specs.declared.tickets.Opened.{Opened}
 use Rattle.hub_parts.specs.Records.{Ticketed}
 use Rattle.hub_parts.specs.Tickets.{IsMarked, calls_of, call_of, cases_of, pids}
 use Rattle.hub_parts.specs.Lists.{still_open, ticketed}
-use Rattle.hub_parts.specs.Queues.{case_at, is_live}
+use Rattle.hub_parts.specs.Queues.{case_at, pid_at, is_live}
 
 abbrev Places : Type 0
 Places = List (ArrayVec Case)
@@ -29,29 +28,29 @@ pub open_calls_of : (places : Places) (os : List Opened) (pid : Pid)
 open_calls_of places [] pid = refl
 open_calls_of places (o ∷ os) pid = ap (λ b. (o.pid.0 == pid.0) || b) (open_calls_of places os pid)
 
--- the case of this number in the place of the process that was found
+-- the case of this number in the place of the process
 abbrev pub case_in : Places → ℕ → Option Pid → Option Case
 case_in places index None = None
 case_in places index (Some pid) = slice_get (cases_of places pid) index
 
 pub case_told : (places : Places) (os : List Opened) (ticket index : ℕ)
-    → case_at (calls_of places os) ticket index ≡ case_in places index (option_map (λ o. o.pid) (find (λ o. o.ticket == ticket) os))
+    → case_at (calls_of places os) ticket index ≡ case_in places index (pid_at (calls_of places os) ticket)
 case_told places [] ticket index = refl
 case_told places (o ∷ os) ticket index =
     elim (o.ticket == ticket) as (λ b. cond b (slice_get (cases_of places o.pid) index) (case_at (calls_of places os) ticket index)
-    ≡ case_in places index (option_map (λ o. o.pid) (cond b (Some o) (find (λ o. o.ticket == ticket) os))))
+    ≡ case_in places index (cond b (Some o.pid) (pid_at (calls_of places os) ticket)))
     [ true ↦ refl | false ↦ case_told places os ticket index ]
 
 abbrev pub IsBelow : ℕ → Option Pid → Type 0
 IsBelow n None = Unit {0}
 IsBelow n (Some pid) = pid.0 < n
 
-pub found_below : (os : List Opened) (n : ℕ) (test : Opened → Bool) → AllByRecursion (λ q. q < n) (pids os)
-    → IsBelow n (option_map (λ o. o.pid) (find test os))
-found_below [] n test a = tt
-found_below (o ∷ os) n test a = elim (test o) as (λ b. IsBelow n (option_map (λ o. o.pid) (cond b (Some o) (find test os)))) [
+pub told_below : (places : Places) (os : List Opened) (n ticket : ℕ) → AllByRecursion (λ q. q < n) (pids os)
+    → IsBelow n (pid_at (calls_of places os) ticket)
+told_below places [] n ticket a = tt
+told_below places (o ∷ os) n ticket a = elim (o.ticket == ticket) as (λ b. IsBelow n (cond b (Some o.pid) (pid_at (calls_of places os) ticket))) [
   | true ↦ a.0
-  | false ↦ found_below os n test a.1
+  | false ↦ told_below places os n ticket a.1
 ]
 
 pub calls_of-filter : (places : Places) (pid : Pid) (os : List Opened)

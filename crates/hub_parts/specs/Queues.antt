@@ -1,6 +1,6 @@
 -- The entries of a queue: which are live, what a taking, a joining and a making of room leave, and which entries
 -- the open calls have.
-use Rattle.std.specs.Prelude.{ℕ, ◌==◌, ◌+◌, ◌-◌, nat_lt, ◌&&◌, ◌||◌, Bool, List, [], ◌∷◌, ◌++◌, if◌then◌else◌, filter, length, Option, None, slice_get}
+use Rattle.std.specs.Prelude.{ℕ, ◌==◌, ◌+◌, ◌-◌, nat_lt, ◌&&◌, ◌||◌, Bool, List, [], ◌∷◌, ◌++◌, if◌then◌else◌, filter, length, Option, None, Some, slice_get}
 use Rattle.std.specs.List.{list_any, flat_map}
 use Rattle.circular_buffer.specs.Buffer.{Buffer, buffer}
 use Rattle.hub_base.specs.declared.value.Pid.{Pid}
@@ -68,6 +68,11 @@ waiters_of test w = waiters_from test w.call.pid w.ticket 0 w.call.cases
 -- the entries of the open calls' cases that pass, oldest call first
 abbrev pub waiters : (Case → Bool) → List Ticketed → List Waiter
 waiters test ws = flat_map (waiters_of test) ws
+
+-- the process of the call under this ticket
+abbrev pub pid_at : List Ticketed → ℕ → Option Pid
+pid_at [] ticket = None
+pid_at (w ∷ ws) ticket = if w.ticket == ticket then Some w.call.pid else pid_at ws ticket
 
 -- the case of this number in the call under this ticket
 abbrev pub case_at : List Ticketed → ℕ → ℕ → Option Case

@@ -16,10 +16,11 @@ ghost use Rattle.hub_parts.specs.Keeps.{AllMade};
 mod parking;
 
 use crate::{Channel, Ended, Side, Tickets};
-use hub_base::{Cases, MOST_PORTS, NoMemory, Pid, Port, Value};
+use hub_base::{CASE_PLACES, Case, Cases, MOST_PORTS, NoMemory, Pid, Port, Value};
 use parking::{join, make_room};
 use std::alloc::Global;
 use std::marker::Model;
+use std::slice;
 
 /// The ports of a hub and its open calls.
 ///
@@ -86,9 +87,28 @@ impl Board {
         requires later { self.old.next_ticket ≤ ticket }
         ensures { self.new ≡ parked pid ticket cases.now.items self.old }
     {
-        make_room(&mut self.ports, &self.calls, cases.as_slice());
-        join(&mut self.ports, pid, ticket, cases.as_slice());
-        self.calls.open(pid, ticket, cases);
+        // Most calls have one case. Where the list is known to be of one, no loop over it is left in the program.
+        if cases.len() == 1 {
+            let case = cases[0];
+            self.park_on(pid, ticket, slice::from_ref(&case));
+        } else {
+            self.park_on(pid, ticket, cases.as_slice());
+        }
+    }
+
+    /// Opens a call, the newest, which waits on each of these cases.
+    #[inline(always)]
+    fn park_on(&mut self, pid: Pid, ticket: u32, cases: &[Case])
+        requires below { pid.0 < self.old.procs }
+        requires free { list_any (λ w. w.call.pid.0 == pid.0) self.old.waiting ≡ false }
+        requires few { length cases.now ≤ CASE_PLACES }
+        requires made { AllMade (length self.old.ports) cases.now }
+        requires later { self.old.next_ticket ≤ ticket }
+        ensures { self.new ≡ parked pid ticket cases.now self.old }
+    {
+        make_room(&mut self.ports, &self.calls, cases);
+        join(&mut self.ports, pid, ticket, cases);
+        self.calls.open_on(pid, ticket, cases);
     }
 
     /// Whether some open call has a case on this side of the port. It looks at no call and no queue.
@@ -170,7 +190,7 @@ impl Board {
     {
         let channel = &mut self.ports[port.0 as usize - 1];
         let waiter = channel.take(side, &self.calls)?;
-        let Some(case) = self.calls.case(waiter.ticket, waiter.case) else {
+        let Some(case) = self.calls.case(waiter) else {
             unreachable!();
         };
         self.calls.end(waiter.pid);

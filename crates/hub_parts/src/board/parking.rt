@@ -36,6 +36,7 @@ fn room_for(ports: &mut Vec<Channel>, tickets: &Tickets, case: Case)
 }
 
 /// Makes room in the queue of each case. Where two cases have one queue, the second time changes nothing.
+#[inline(always)]
 pub(crate) fn make_room(ports: &mut Vec<Channel>, tickets: &Tickets, cases: &[Case])
     requires { AllMade (length ports.old.items) cases.now }
     ensures { ports.new.items ≡ all_roomy tickets.now.waiting ports.old.items cases.now }
@@ -70,6 +71,7 @@ fn join_for(ports: &mut Vec<Channel>, case: Case, waiter: Waiter)
 }
 
 /// Adds an entry for each case to its queue, in case order.
+#[inline(always)]
 pub(crate) fn join(ports: &mut Vec<Channel>, pid: Pid, ticket: u32, cases: &[Case])
     requires few { length cases.now ≤ CASE_PLACES }
     requires fits { CanJoin pid ticket 0 ports.old.items cases.now }

@@ -75,6 +75,7 @@ impl CaseCounts {
     }
 
     /// Counts the cases of a call that opens.
+    #[inline(always)]
     pub(crate) fn add(&mut self, cases: &[Case])
         requires { CanRaise self.old cases.now }
         ensures { self.new ≡ with_raised self.old cases.now }

@@ -270,11 +270,12 @@ fn plain_case_into(edition: Edition, bytes: &[u8], start: usize, case: &mut Case
     ensures { IfSome result (λ end.
         CaseStands edition bytes.now start (spaced (call_fields (case.new ∷ []) false 0)) case.new end) }
 {
-    let start = behind(bytes, start, b' ')?;
-    if let Some(end) = behind_word(bytes, start, b"send") {
+    if let Some(end) = behind_word(bytes, start, b" sen") {
+        let end = behind(bytes, end, b'd')?;
         send_into(edition, bytes, behind(bytes, end, b' ')?, b' ', case)
     } else {
-        let end = behind_word(bytes, start, b"recv")?;
+        let end = behind_word(bytes, start, b" rec")?;
+        let end = behind(bytes, end, b'v')?;
         recv_into(bytes, behind(bytes, end, b' ')?, case)
     }
 }

@@ -76,7 +76,13 @@ fn send<E: Hears>(
     match board.take(port, Side::Recv) {
         Some(receiver) => {
             tallies.count(port, Carried::Handed);
-            tell_both(events, caller, Outcome::Sent, &receiver, Outcome::Got(*value));
+            tell_both(
+                events,
+                caller,
+                Outcome::Sent,
+                &receiver,
+                Outcome::Got(*value),
+            );
         }
         None => {
             board.push(port, *value);

@@ -97,14 +97,7 @@ impl MachineState {
     }
 
     /// A call of a process that has none open, and what follows it.
-    fn call<E: Hears>(
-        &mut self,
-        pid: Pid,
-        cases: &Cases,
-        default: bool,
-        word: u64,
-        events: &mut E,
-    )
+    fn call<E: Hears>(&mut self, pid: Pid, cases: &Cases, default: bool, word: u64, events: &mut E)
         requires below { pid.0 < self.old.board.procs }
         requires free { open_on self.old.board.waiting pid.0 ≡ false }
         requires named { AllMade (length self.old.board.ports) cases.now.items }
@@ -175,12 +168,7 @@ impl MachineState {
 
     /// What a step without a fault does. A make that is refused memory changes nothing.
     #[inline(always)]
-    fn effect<E: Hears>(
-        &mut self,
-        pid: Pid,
-        step: &Step,
-        events: &mut E,
-    ) -> Result<(), NoMemory>
+    fn effect<E: Hears>(&mut self, pid: Pid, step: &Step, events: &mut E) -> Result<(), NoMemory>
         requires may { MayTakeEffect self.old pid step.now }
         requires room { MOST_EVENTS ≤ E.room events.old }
         ensures effect { TakesEffect self.old pid step.now self.new result }
@@ -201,11 +189,7 @@ impl MachineState {
     }
 
     /// An admitted step: its fault, or what it does and the stall rule behind it.
-    pub(crate) fn turn<E: Hears>(
-        &mut self,
-        entry: &Entry,
-        events: &mut E,
-    ) -> Result<(), NoMemory>
+    pub(crate) fn turn<E: Hears>(&mut self, entry: &Entry, events: &mut E) -> Result<(), NoMemory>
         requires reached { IsReached self.old }
         requires admitted { refusal_of self.old.board self.old.gone entry.now.pid ≡ None }
         requires steps { self.old.steps < 2 ^ 32 - 1 }

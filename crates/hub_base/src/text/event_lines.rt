@@ -263,17 +263,3 @@ pub fn put_event(out: &mut [u8], at: usize, event: &Event) -> usize
     let what = put_what(out, pid, &event.what);
     put(out, what, b"\n")
 }
-
-/// Puts the line of each event.
-#[inline(always)]
-pub fn put_events(out: &mut [u8], at: usize, events: &[Event]) -> usize
-    requires { at + length events.now * MOST_LINE ≤ length out.old }
-    ensures text { take result out.new ≡ take at out.old ++ flat_map event_line events.now }
-    ensures fits { result ≤ length out.old }
-{
-    let mut end = at;
-    for event in events {
-        end = put_event(out, end, event);
-    }
-    end
-}

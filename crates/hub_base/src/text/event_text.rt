@@ -4,11 +4,9 @@
 //! there is room is asked once for all events of a step, before the step is made.
 
 ghost use Rattle.std.specs.Prelude.{◌≡◌, ◌+◌, ◌-◌, ◌*◌, ◌/◌, ◌≤◌, ◌++◌, [], List, ℕ, length, take, vec_len, IfSome, OnOk, OnErr};
-ghost use Rattle.std.specs.List.{flat_map};
-ghost use Rattle.hub_base.specs.EventText.{event_line};
 
 use crate::limits::{MOST_EVENTS, MOST_LINE, TEXT_GROWTH};
-use crate::text::event_lines::{put_event, put_events};
+use crate::text::event_lines::put_event;
 use crate::{Event, Hears, NoMemory};
 use std::alloc::{AllocError, Global};
 use std::marker::Model;
@@ -56,17 +54,15 @@ fn grow(bytes: &mut Vec<u8>, more: usize) -> Result<(), NoMemory>
     }
 }
 
-/// Makes room for the lines of so many events behind this place.
+/// Makes room for the lines of a step behind this place.
 #[inline(always)]
-fn make_room(bytes: &mut Vec<u8>, at: usize, events: usize) -> Result<(), NoMemory>
+fn make_room(bytes: &mut Vec<u8>, at: usize) -> Result<(), NoMemory>
     requires { at ≤ vec_len bytes.old }
-    ensures ok { OnOk result (at + events * MOST_LINE ≤ vec_len bytes.new) }
+    ensures ok { OnOk result (at + MOST_EVENTS * MOST_LINE ≤ vec_len bytes.new) }
     ensures longer { vec_len bytes.old ≤ vec_len bytes.new }
     ensures kept { take at bytes.new.items ≡ take at bytes.old.items }
 {
-    let Some(most) = events.checked_mul(MOST_LINE) else {
-        return Err(NoMemory);
-    };
+    let most = MOST_EVENTS * MOST_LINE;
     let room = bytes.len() - at;
     if most <= room {
         return Ok(());
@@ -98,18 +94,7 @@ impl EventText {
         ensures ok { OnOk result (MOST_EVENTS ≤ self.new.room) }
         ensures lines { self.new.lines ≡ self.old.lines }
     {
-        make_room(&mut self.bytes, self.len, MOST_EVENTS)
-    }
-
-    /// Appends the line of each event; `Err` where a growth was refused, with nothing appended.
-    #[inline(always)]
-    pub fn write(&mut self, events: &[Event]) -> Result<(), NoMemory>
-        ensures ok { OnOk result (self.new.lines ≡ self.old.lines ++ flat_map event_line events.now) }
-        ensures err { OnErr result (self.new.lines ≡ self.old.lines) }
-    {
-        make_room(&mut self.bytes, self.len, events.len())?;
-        self.len = put_events(&mut self.bytes, self.len, events);
-        Ok(())
+        make_room(&mut self.bytes, self.len)
     }
 
     /// Takes all lines back. What they took is kept for others.

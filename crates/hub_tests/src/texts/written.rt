@@ -3,7 +3,7 @@
 use crate::compare::same;
 use crate::steps::entries::{SENT, Told, event_of};
 use hub_base::{
-    Event, EventText, Fault, Journal, Outcome, Port, What, read_journal, write_entry, write_event,
+    Event, EventText, Fault, Hears, Journal, Outcome, Port, What, read_journal, write_entry, write_event,
     write_head, write_journal,
 };
 use std::alloc::Global;
@@ -141,9 +141,10 @@ fn lines_of_events_join_into_one_text(rt: HostRuntime) -> Result<(), Fail> {
 fn join(rt: &impl Abort, text: &mut EventText) -> Result<(), Fail> {
     same(rt, text.text(), b"", "new");
     let parked = event_of(9, Told::Is(What::Parked));
-    text.write(&[parked, event_of(10, Told::Got(99, 100))])?;
-    text.write(&[])?;
-    text.write(&[event_of(100, Told::Got(9, 9_999_999_999_999_999_999))])?;
+    text.make_step_room()?;
+    text.hear(parked);
+    text.hear(event_of(10, Told::Got(99, 100)));
+    text.hear(event_of(100, Told::Got(9, 9_999_999_999_999_999_999)));
     let expected = "9 parked\n10 case 99 got 100\n100 case 9 got 9999999999999999999\n";
     same(rt, text.text(), expected.as_bytes(), "joined");
     Ok(())
@@ -152,7 +153,8 @@ fn join(rt: &impl Abort, text: &mut EventText) -> Result<(), Fail> {
 /// An event in a text that was cleared.
 fn write_anew(rt: &impl Abort, text: &mut EventText) -> Result<(), Fail> {
     same(rt, text.text(), b"", "cleared");
-    text.write(&[event_of(0, Told::Is(What::Stalled))])?;
+    text.make_step_room()?;
+    text.hear(event_of(0, Told::Is(What::Stalled)));
     same(rt, text.text(), b"0 stalled\n", "written anew");
     Ok(())
 }
@@ -162,7 +164,9 @@ fn text_of_events_grows(rt: HostRuntime) -> Result<(), Fail> {
     let longest = event_of(255, Told::Got(255, 18446744073709551615));
     let mut text = EventText::new(rt.alloc());
     for _ in 0..2000 {
-        text.write(&[longest, longest])?;
+        text.make_step_room()?;
+        text.hear(longest);
+        text.hear(longest);
     }
     are_all(&rt, text.text(), b"255 case 255 got 18446744073709551615\n");
     Ok(())

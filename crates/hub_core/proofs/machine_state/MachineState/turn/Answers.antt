@@ -9,11 +9,18 @@ use Rattle.hub_core.proofs.machine_state.MachineState.turn.Goals as goal
 pub stop_all-requires : goal.stop_all-requires
 stop_all-requires g c =
     let here = c.self.view_is in
-    let before = before_stall_of c.args.self.now c.effect.new.self c.args.entry.now.pid c.args.entry.now.step (effect_on c.args.self.now c.args.entry.now.pid c.args.entry.now.step).events
+    let e = c.args.entry.now in
+    let before = before_stall_of c.args.self.now c.effect.new.self e.pid e.step (effect_on c.args.self.now e.pid e.step).events
     c.requires.reached c.requires.admitted (search rules)
     (omega (arith, ap (λ (m : MachineLists). m.board.procs) here, c.self.invariant.procs, c.self.invariant.few)) (search rules)
     c.in_ok-effect.ensures.effect.machine refl in
     record {
       apart = subst (λ (m : MachineLists). Apart (open_calls m.board.waiting)) (sym c.self-in_default.view_is) before.apart;
-      room = omega (arith, before.room, c.in_ok-effect.ensures.told.fits, c.requires.room, ap (λ (m : MachineLists). length m.board.waiting) c.self-in_default.view_is);
+      room = omega (
+        arith,
+        before.room,
+        c.in_ok-effect.ensures.told.fits,
+        c.requires.room,
+        ap (λ (m : MachineLists). length m.board.waiting) c.self-in_default.view_is,
+      );
     }

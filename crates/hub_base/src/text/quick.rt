@@ -132,7 +132,7 @@ fn behind_word(bytes: &[u8], start: usize, word: &[u8; 4]) -> Option<usize>
     requires start { start < length bytes.now }
     ensures { IfSome result (λ end. Stands bytes.now start word.now end) }
 {
-    if bytes.len() - start <= 4 {
+    if start + 4 >= bytes.len() {
         return None;
     }
     // As one number they are compared at once.

@@ -15,14 +15,12 @@ use crate::text::steps::set_call;
 use crate::text::values::byte_of;
 use crate::{Case, Cases, Edition, Entry, Pid, Port, Step, Value};
 
-/// The number that this digit is.
+/// The number that this digit is, and above 9 where it is none.
 #[inline(always)]
 fn digit(byte: u8) -> u64
-    requires { is_ascii_digit byte ≡ true }
-    ensures value { result ≡ byte - 48 }
-    ensures bound { result ≤ 9 }
+    ensures { result ≤ 9 → (is_ascii_digit byte ≡ true) × (result ≡ byte - 48) }
 {
-    u64::from(byte - b'0')
+    u64::from(byte).wrapping_sub(48)
 }
 
 /// The number at this place, and the place behind it. Most have few digits, so three are read without a loop.
@@ -32,22 +30,24 @@ fn number_at(bytes: &[u8], start: usize) -> Option<(u64, usize)>
     requires start { start < length bytes.now }
     ensures { IfSome result (λ x. Stands bytes.now start (decimal x.0) x.1) }
 {
-    if !bytes[start].is_ascii_digit() {
+    let first = digit(bytes[start]);
+    if first > 9 {
         return None;
     }
-    let first = digit(bytes[start]);
-    if !bytes[start + 1].is_ascii_digit() {
+    let next = digit(bytes[start + 1]);
+    if next > 9 {
         return Some((first, start + 1));
     }
     // A zero leads no number.
     if first == 0 {
         return None;
     }
-    let second = first * 10 + digit(bytes[start + 1]);
-    if !bytes[start + 2].is_ascii_digit() {
+    let second = first * 10 + next;
+    let last = digit(bytes[start + 2]);
+    if last > 9 {
         return Some((second, start + 2));
     }
-    longer_at(bytes, start + 3, second * 10 + digit(bytes[start + 2]))
+    longer_at(bytes, start + 3, second * 10 + last)
 }
 
 /// The number that goes on at this place, where the digits before it are this number, and the place behind it.
@@ -62,14 +62,16 @@ fn longer_at(bytes: &[u8], start: usize, first: u64) -> Option<(u64, usize)>
     let mut end = start;
     // Two digits more do not pass the greatest of all, so one test does for both.
     while value < u64::MAX / 100 {
-        if !bytes[end].is_ascii_digit() {
+        let next = digit(bytes[end]);
+        if next > 9 {
             return Some((value, end));
         }
-        value = value * 10 + digit(bytes[end]);
-        if !bytes[end + 1].is_ascii_digit() {
+        value = value * 10 + next;
+        let last = digit(bytes[end + 1]);
+        if last > 9 {
             return Some((value, end + 1));
         }
-        value = value * 10 + digit(bytes[end + 1]);
+        value = value * 10 + last;
         end += 2;
     }
     longest_at(bytes, end, value)
@@ -85,12 +87,13 @@ fn longest_at(bytes: &[u8], start: usize, first: u64) -> Option<(u64, usize)>
 {
     let mut value = first;
     let mut end = start;
-    while bytes[end].is_ascii_digit() {
-        // What may pass the greatest of all is left to the slow reading.
-        if value >= u64::MAX / 10 {
-            return None;
+    // What may pass the greatest of all is left to the slow reading: the caller finds a digit in place of a mark.
+    while value < u64::MAX / 10 {
+        let next = digit(bytes[end]);
+        if next > 9 {
+            return Some((value, end));
         }
-        value = value * 10 + digit(bytes[end]);
+        value = value * 10 + next;
         end += 1;
     }
     Some((value, end))
@@ -132,7 +135,7 @@ fn behind_word(bytes: &[u8], start: usize, word: &[u8; 4]) -> Option<usize>
     requires start { start < length bytes.now }
     ensures { IfSome result (λ end. Stands bytes.now start word.now end) }
 {
-    if bytes.len() - start <= 4 {
+    if start + 4 >= bytes.len() {
         return None;
     }
     // As one number they are compared at once.

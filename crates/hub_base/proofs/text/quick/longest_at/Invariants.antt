@@ -3,12 +3,12 @@ use Rattle.hub_base.specs.Quick.{GoesOn}
 use Rattle.hub_base.proofs.text.quick.longest_at.Given as goal
 
 -- the number goes on up to this place, is not 0, and is not all
-abbrev pub invariant-loop-start : goal.invariant-loop-start
-invariant-loop-start l = record {
+abbrev pub invariant-loop-value : goal.invariant-loop-value
+invariant-loop-value l = record {
   stands : GoesOn l.bytes l.first l.start l.value l.end;
   inside : l.end < length l.bytes;
   some : 0 < l.value;
 }
 
-abbrev pub decreases-loop-start : goal.decreases-loop-start
-decreases-loop-start l = length l.bytes - l.end
+abbrev pub decreases-loop-value : goal.decreases-loop-value
+decreases-loop-value l = length l.bytes - l.end

@@ -58,7 +58,8 @@ module _ (P : Ticketed → Type 0) (n : ℕ) where
   take_ended_leaves b ts p pid None = one_ended b _ pid refl refl refl
   take_ended_leaves b ts p pid (Some v) = one_ended b _ pid refl refl refl
 
-  fetch_on_leaves : (b : Lists) (ts : List Tally) (p : Port) (e : Ending) (u : Value) (o : Option Value) → Leaves b (fetch_on (ended_by e.pid b) ts p e u o).board
+  fetch_on_leaves : (b : Lists) (ts : List Tally) (p : Port) (e : Ending) (u : Value) (o : Option Value)
+      → Leaves b (fetch_on (ended_by e.pid b) ts p e u o).board
   fetch_on_leaves b ts p e u None = one_ended b _ e.pid refl refl refl
   fetch_on_leaves b ts p e u (Some v) = one_ended b _ e.pid refl refl refl
 

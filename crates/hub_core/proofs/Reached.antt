@@ -35,7 +35,8 @@ use Rattle.hub_parts.specs.Keeps.{AllMade}
 use Rattle.hub_core.specs.Records.{MachineLists, tally_at}
 use Rattle.hub_core.specs.ListReady.{BufferFits}
 use Rattle.hub_core.specs.ListKeeps.{CanCount, PortsKeep}
-use Rattle.hub_core.specs.ListSteps.{ListChange, effect_on, fault_on, call_fault_on, is_unmade_on, refusal_of, all_wait_on, stalls_on, stalled_events, answers_on, turn_on}
+use Rattle.hub_core.specs.ListSteps.{ListChange, effect_on, fault_on, call_fault_on, is_unmade_on, refusal_of}
+use Rattle.hub_core.specs.ListSteps.{all_wait_on, stalls_on, stalled_events, answers_on, turn_on}
 use Rattle.hub_core.specs.Follows.{tally_of, Matches, Follows, IsReached}
 use Rattle.hub_core.proofs.Ports.{port-lists_of, tally-tally_of}
 use Rattle.hub_core.proofs.Readiness.{count-ports, get_within, length-buffer_of}

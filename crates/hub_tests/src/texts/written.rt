@@ -3,8 +3,8 @@
 use crate::compare::same;
 use crate::steps::entries::{SENT, Told, event_of};
 use hub_base::{
-    Event, EventText, Fault, Hears, Journal, Outcome, Port, What, read_journal, write_entry, write_event,
-    write_head, write_journal,
+    Event, EventText, Fault, Hears, Journal, Outcome, Port, What, read_journal, write_entry,
+    write_event, write_head, write_journal,
 };
 use std::alloc::Global;
 use std::process::Abort;

@@ -8,8 +8,8 @@ use Rattle.hub_replay.proofs.steps.Steps.advance.Goals as goal
 pub returns-then-not-branch-clause-ok : goal.returns-then-not-branch-clause-ok
 returns-then-not-branch-clause-ok c = λ bytes text so_far. (
   all-replayed so_far (c.one_reading.ensures.reads bytes)
-  (subst (λ (b : Bool). FillsOn c.args.self.now.reader c.read_into.new.self c.read_into.new.entry (Ok b)) c.if-not-branch.true
-  c.in_ok-read_into.ensures.reads).0,
+      (subst (λ (b : Bool). FillsOn c.args.self.now.reader c.read_into.new.self c.read_into.new.entry (Ok b)) c.if-not-branch.true
+      c.in_ok-read_into.ensures.reads).0,
   refl,
 )
 

@@ -17,6 +17,7 @@ use Rattle.hub_base.specs.Runs.{state, kept, moves}
 use Rattle.hub_parts.specs.Records.{PortLists, Ticketed}
 use Rattle.hub_parts.specs.Lists.{open_calls}
 use Rattle.hub_core.specs.declared.tally.Tally.{Tally}
+use Rattle.hub_core.specs.Hearing.{Heard}
 use Rattle.hub_core.specs.Records.{MachineLists}
 use Rattle.hub_core.specs.ListSteps.{gone_on, refusal_of, fault_on, effect_on}
 
@@ -99,11 +100,13 @@ pub record MayTakeEffect (m : MachineLists) (pid : Pid) (step : Step) : Type 0 w
   pub steps : m.steps < 2 ^ 32 - 1
 
 -- it has taken effect, or was a make that was refused memory and has changed nothing
-pub record TakesEffect {E : Type 0} (old : MachineLists) (pid : Pid) (step : Step) (new : MachineLists)
-    (result : Result (Unit {0}) E) : Type 0 where
+pub record TakesEffect {E S : Type 0} (heard : S → List Event → S → Type 0) (room : S → ℕ) (old : MachineLists) (pid : Pid) (step : Step)
+    (new : MachineLists) (before after : S) (result : Result (Unit {0}) E) : Type 0 where
   pub machine : OnOk result (new ≡ (effect_on old pid step).machine)
+  pub told : OnOk result (Heard heard room before after (effect_on old pid step).events)
   pub make : OnErr result (IsMake step)
   pub unchanged : OnErr result (new ≡ old)
+  pub silent : OnErr result (after ≡ before)
 
 -- the step meets no fault, so a fault is not its answer
 abbrev pub IsFine : State → Entry → Type 0

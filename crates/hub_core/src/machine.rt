@@ -7,6 +7,7 @@
 ghost use Rattle.std.specs.Prelude.{◌≡◌, ◌≤◌, ◌<◌, ◌+◌, ◌-◌, ◌^◌, ℕ, List, [], None, length, IfOk, IfErr, OnOk, OnErr, IsErrOf};
 ghost use Rattle.hub_base.specs.declared.entry.Entry.{Entry};
 ghost use Rattle.hub_base.specs.declared.head.Head.{Head};
+ghost use Rattle.hub_base.specs.declared.limits.TheConstants.{MOST_EVENTS};
 ghost use Rattle.hub_base.specs.Head.{IsHead};
 ghost use Rattle.hub_base.specs.Steps.{refusal};
 ghost use Rattle.hub_base.specs.Runs.{state};
@@ -14,7 +15,6 @@ ghost use Rattle.hub_core.specs.Hearing.{Heard};
 ghost use Rattle.hub_core.specs.ListSteps.{refusal_of, turn_on};
 ghost use Rattle.hub_core.specs.Looks.{look_at, value_at};
 ghost use Rattle.hub_core.specs.Follows.{Follows, Admits, Answers, Tells, IsMake, IsFine, RefusesFor, Turns, RefusesMake};
-ghost use Rattle.hub_base.specs.declared.limits.TheConstants.{MOST_EVENTS};
 
 use crate::machine_state::{MachineState, tells};
 use hub_base::{Entry, Events, Fault, Head, Hears, Look, NoMemory, Pid, Port, Value, What};

@@ -137,10 +137,8 @@ impl MachineState {
         requires rare { is_call step.now ≡ false }
         requires may { MayTakeEffect self.old pid step.now }
         requires room { MOST_EVENTS ≤ E.room events.old }
-        ensures effect { TakesEffect self.old pid step.now self.new result }
-        ensures told { OnOk result (
-            Heard E.heard E.room events.old events.new (effect_on self.old pid step.now).events) }
-        ensures silent { OnErr result (events.new ≡ events.old) }
+        ensures { TakesEffect E.heard E.room self.old pid step.now
+            self.new events.old events.new result }
     {
         match step {
             Step::Make(cap) => {
@@ -171,10 +169,8 @@ impl MachineState {
     fn effect<E: Hears>(&mut self, pid: Pid, step: &Step, events: &mut E) -> Result<(), NoMemory>
         requires may { MayTakeEffect self.old pid step.now }
         requires room { MOST_EVENTS ≤ E.room events.old }
-        ensures effect { TakesEffect self.old pid step.now self.new result }
-        ensures told { OnOk result (
-            Heard E.heard E.room events.old events.new (effect_on self.old pid step.now).events) }
-        ensures silent { OnErr result (events.new ≡ events.old) }
+        ensures { TakesEffect E.heard E.room self.old pid step.now
+            self.new events.old events.new result }
     {
         let Step::Call {
             cases,

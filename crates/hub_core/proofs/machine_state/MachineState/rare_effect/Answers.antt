@@ -1,4 +1,4 @@
-use Rattle.std.proofs.Common.{◌∙◌, ◌∷◌, [], ap, sym, subst, arith, length}
+use Rattle.std.proofs.Common.{rules, ◌∙◌, ◌∷◌, [], ap, sym, subst, arith, length}
 use Rattle.hub_laws.specs.Sound.{Apart}
 use Rattle.hub_parts.specs.Lists.{open_calls}
 use Rattle.hub_core.specs.Records.{MachineLists}
@@ -23,17 +23,30 @@ close-requires-clause-room g c =
     (omega (arith, ap (λ (m : MachineLists). m.board.procs) is, c.self.invariant.procs, c.self.invariant.few)) in
     omega (arith, free, ap (λ (m : MachineLists). length m.board.waiting) is, c.hear-in-Close.ensures.room, c.requires.room)
 
-pub returns-in-Close-clause-told : goal.returns-in-Close-clause-told
-returns-in-Close-clause-told g c =
-    heard_as (heard_on g.met.E.Hears.goes_on (record { events = c.hear-in-Close.ensures.heard; fits = c.hear-in-Close.ensures.room }) c.close.ensures.told)
-    (ap (λ (e : Event). e ∷ closing_events c.in-Close.port c.self.inside.board.waiting) c.tells-in-Close.ensures
-    ∙ ap (λ (m : MachineLists). (effect_on m c.args.pid (Close c.in-Close.port)).events) c.self.view_is
-    ∙ ap (λ (s : Step). (effect_on c.args.self.now c.args.pid s).events) (sym c.in-Close.is))
+pub returns-in-Close : goal.returns-in-Close
+returns-in-Close g c = record {
+  machine = search rules;
+  told = 
+      heard_as (heard_on g.met.E.Hears.goes_on (record { events = c.hear-in-Close.ensures.heard; fits = c.hear-in-Close.ensures.room }) c.close.ensures.told)
+      (ap (λ (e : Event). e ∷ closing_events c.in-Close.port c.self.inside.board.waiting) c.tells-in-Close.ensures
+      ∙ ap (λ (m : MachineLists). (effect_on m c.args.pid (Close c.in-Close.port)).events) c.self.view_is
+      ∙ ap (λ (s : Step). (effect_on c.args.self.now c.args.pid s).events) (sym c.in-Close.is));
+  make = tt;
+  unchanged = tt;
+  silent = tt;
+}
 
-pub returns-in-Cancel-clause-told : goal.returns-in-Cancel-clause-told
-returns-in-Cancel-clause-told g c =
-    heard_as (heard_on g.met.E.Hears.goes_on (record { events = c.hear-in-Cancel.ensures.heard; fits = c.hear-in-Cancel.ensures.room })
-    (record { events = c.hear-in-Cancel-2.ensures.heard; fits = c.hear-in-Cancel-2.ensures.room }))
-    (ap (λ (e : Event). e ∷ c.tells-in-Cancel-2.result ∷ []) c.tells-in-Cancel.ensures
-    ∙ ap (λ (e : Event). tells c.args.pid what.Done ∷ e ∷ []) c.tells-in-Cancel-2.ensures
-    ∙ ap (λ (s : Step). (effect_on c.args.self.now c.args.pid s).events) (sym c.in-Cancel.is))
+
+pub returns-in-Cancel : goal.returns-in-Cancel
+returns-in-Cancel g c = record {
+  machine = search rules;
+  told = 
+      heard_as (heard_on g.met.E.Hears.goes_on (record { events = c.hear-in-Cancel.ensures.heard; fits = c.hear-in-Cancel.ensures.room })
+      (record { events = c.hear-in-Cancel-2.ensures.heard; fits = c.hear-in-Cancel-2.ensures.room }))
+      (ap (λ (e : Event). e ∷ c.tells-in-Cancel-2.result ∷ []) c.tells-in-Cancel.ensures
+      ∙ ap (λ (e : Event). tells c.args.pid what.Done ∷ e ∷ []) c.tells-in-Cancel-2.ensures
+      ∙ ap (λ (s : Step). (effect_on c.args.self.now c.args.pid s).events) (sym c.in-Cancel.is));
+  make = tt;
+  unchanged = tt;
+  silent = tt;
+}

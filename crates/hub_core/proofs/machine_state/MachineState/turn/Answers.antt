@@ -13,7 +13,7 @@ stop_all-requires g c =
     let before = before_stall_of c.args.self.now c.effect.new.self e.pid e.step (effect_on c.args.self.now e.pid e.step).events
     c.requires.reached c.requires.admitted (search rules)
     (omega (arith, ap (λ (m : MachineLists). m.board.procs) here, c.self.invariant.procs, c.self.invariant.few)) (search rules)
-    c.in_ok-effect.ensures.effect.machine refl in
+    c.in_ok-effect.ensures.machine refl in
     record {
       apart = subst (λ (m : MachineLists). Apart (open_calls m.board.waiting)) (sym c.self-in_default.view_is) before.apart;
       room = omega (

@@ -24,7 +24,7 @@ pub record Stands (bytes : List ℕ) (start : ℕ) (spelling : List ℕ) (end : 
   pub spelled : drop start bytes ≡ spelling ++ drop end bytes
   pub inside : end < length bytes
 
--- whatever place it is from which on the one number stands up to this place, the other stands from there up to the other
+-- wherever the first number begins that ends at the one place, the second begins there too, and ends at the other
 abbrev pub GoesOn : List ℕ → ℕ → ℕ → ℕ → ℕ → Type 0
 GoesOn bytes n at m end = (place : ℕ) → Stands bytes place (decimal n) at → Stands bytes place (decimal m) end
 

@@ -2,6 +2,8 @@
 //!
 //! Whatever else a line is, the answer is `None`, which says nothing of it: it is left to the slow
 //! reading. The last byte of all is a newline, so no place is tested for the end of the bytes.
+//!
+//! The small functions are inlined always: the compiler would make calls of some, which cost more than they do.
 
 ghost use Rattle.std.specs.Prelude.{◌≡◌, ◌≢◌, ◌≤◌, ◌<◌, ◌-◌, ◌∷◌, ◌++◌, [], length, codes, decimal, get_or, true, false, IfSome};
 ghost use Rattle.std.specs.Char.{is_ascii_digit};
@@ -284,7 +286,7 @@ fn plain_case_into(edition: Edition, bytes: &[u8], start: usize, case: &mut Case
 }
 
 /// Reads a plain send or receive over the one case of a call that stands there already, from the space before the
-/// word on, and gives the place behind it. So it is moved nowhere.
+/// word on, and gives the place behind it. The case is moved nowhere.
 #[inline(always)]
 fn plain_into(edition: Edition, bytes: &[u8], start: usize, step: &mut Step) -> Option<usize>
     requires line { EndsLine bytes.now }

@@ -2,7 +2,7 @@ use Rattle.std.proofs.Common.{◌-◌, ◌<◌, length}
 use Rattle.hub_base.specs.Quick.{GoesOn}
 use Rattle.hub_base.proofs.text.quick.longer_at.Given as goal
 
--- the number goes on up to this place, is not 0, and is not all
+-- the number goes on up to this place, behind which there is more, and is not 0
 abbrev pub invariant-loop-value : goal.invariant-loop-value
 invariant-loop-value l = record {
   stands : GoesOn l.bytes l.first l.start l.value l.end;

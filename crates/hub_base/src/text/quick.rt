@@ -76,29 +76,12 @@ fn longer_at(bytes: &[u8], start: usize, first: u64) -> Option<(u64, usize)>
         value = value * 10 + last;
         end += 2;
     }
-    longest_at(bytes, end, value)
-}
-
-/// The same, with a test for each digit.
-#[inline(always)]
-fn longest_at(bytes: &[u8], start: usize, first: u64) -> Option<(u64, usize)>
-    requires line { EndsLine bytes.now }
-    requires start { start < length bytes.now }
-    requires some { 0 < first }
-    ensures { IfSome result (λ x. GoesOn bytes.now first start x.0 x.1) }
-{
-    let mut value = first;
-    let mut end = start;
+    let next = digit(bytes[end]);
     // What may pass the greatest of all is left to the slow reading: the caller finds a digit in place of a mark.
-    while value < u64::MAX / 10 {
-        let next = digit(bytes[end]);
-        if next > 9 {
-            return Some((value, end));
-        }
-        value = value * 10 + next;
-        end += 1;
+    if next > 9 || value >= u64::MAX / 10 {
+        return Some((value, end));
     }
-    Some((value, end))
+    Some((value * 10 + next, end + 1))
 }
 
 /// The same of a number up to this.

@@ -26,3 +26,11 @@ loop-value-preserved c =
       inside = omega (arith, two);
       some = omega arith;
     }
+
+pub returns : goal.returns
+returns c =
+    let loop = c.loop-value in
+    let so = loop.invariant in
+    let next = c.digit-next-2.ensures (omega arith) in
+    let e = next.1 in
+    rw e (goes-on c.args.bytes.now c.args.first c.args.start loop.value loop.end c.requires.line so.stands next.0 so.some (omega arith))

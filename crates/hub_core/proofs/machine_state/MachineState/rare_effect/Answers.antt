@@ -26,7 +26,7 @@ close-requires-clause-room g c =
 pub returns-in-Close : goal.returns-in-Close
 returns-in-Close g c = record {
   machine = search rules;
-  told = 
+  told =
       heard_as (heard_on g.met.E.Hears.goes_on (record { events = c.hear-in-Close.ensures.heard; fits = c.hear-in-Close.ensures.room }) c.close.ensures.told)
       (ap (λ (e : Event). e ∷ closing_events c.in-Close.port c.self.inside.board.waiting) c.tells-in-Close.ensures
       ∙ ap (λ (m : MachineLists). (effect_on m c.args.pid (Close c.in-Close.port)).events) c.self.view_is
@@ -36,11 +36,10 @@ returns-in-Close g c = record {
   silent = tt;
 }
 
-
 pub returns-in-Cancel : goal.returns-in-Cancel
 returns-in-Cancel g c = record {
   machine = search rules;
-  told = 
+  told =
       heard_as (heard_on g.met.E.Hears.goes_on (record { events = c.hear-in-Cancel.ensures.heard; fits = c.hear-in-Cancel.ensures.room })
       (record { events = c.hear-in-Cancel-2.ensures.heard; fits = c.hear-in-Cancel-2.ensures.room }))
       (ap (λ (e : Event). e ∷ c.tells-in-Cancel-2.result ∷ []) c.tells-in-Cancel.ensures

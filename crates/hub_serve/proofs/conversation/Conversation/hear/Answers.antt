@@ -11,7 +11,8 @@ returns-in-Some-2 c = λ lines rest said stands none.
     let line = going.rest_now ++ c.in-Some.line.now in
     let came = c.in_ok-add.ensures.ok going.lines_now going.rest_now (said ++ going.more) going.stands in
     let ends = subst (λ (o : Option TextFault). Ends going.lines_now line (said ++ going.more) c.lines.answers.lines
-    c.end_line.new.answers.lines c.end_line.new.self o) c.in-Some-2.is (c.in_ok-fault.ensures going.lines_now line (said ++ going.more) (going.rest_now ++ cut.body) came (is-line going cut)) in
+    c.end_line.new.answers.lines c.end_line.new.self o) c.in-Some-2.is
+    (c.in_ok-fault.ensures going.lines_now line (said ++ going.more) (going.rest_now ++ cut.body) came (is-line going cut)) in
     line-faulty going cut c.in-Some-2.fault ends
 
 pub lines-preserved : goal.lines-preserved
@@ -21,7 +22,8 @@ lines-preserved c = λ lines rest said stands none.
     let line = going.rest_now ++ c.in-Some.line.now in
     let came = c.in_ok-add.ensures.ok going.lines_now going.rest_now (said ++ going.more) going.stands in
     let ends = subst (λ (o : Option TextFault). Ends going.lines_now line (said ++ going.more) c.lines.answers.lines
-    c.end_line.new.answers.lines c.end_line.new.self o) c.in_default-2.is (c.in_ok-fault.ensures going.lines_now line (said ++ going.more) (going.rest_now ++ cut.body) came (is-line going cut)) in
+    c.end_line.new.answers.lines c.end_line.new.self o) c.in_default-2.is
+    (c.in_ok-fault.ensures going.lines_now line (said ++ going.more) (going.rest_now ++ cut.body) came (is-line going cut)) in
     line-answered going cut ends
 
 pub returns-then-len-self : goal.returns-then-len-self

@@ -34,23 +34,6 @@ fn tell<E: Hears>(events: &mut E, pid: Pid, case: u8, outcome: Outcome)
     });
 }
 
-/// Tells the caller of a case that fired, and then the waiting call that ended with it.
-#[inline(always)]
-fn tell_both<E: Hears>(
-    events: &mut E,
-    caller: Caller,
-    outcome: Outcome,
-    ended: &Ended,
-    theirs: Outcome,
-)
-    requires { 1 < E.room events.old }
-    ensures { Heard E.heard E.room events.old events.new
-        (fired caller.pid caller.index outcome ∷ fired ended.now.pid ended.now.index theirs ∷ []) }
-{
-    tell(events, caller.pid, caller.index, outcome);
-    tell(events, ended.pid, ended.index, theirs);
-}
-
 /// A send that can proceed: to the oldest receiver that waits, or else into the buffer.
 #[inline]
 fn send<E: Hears>(
@@ -76,13 +59,8 @@ fn send<E: Hears>(
     match board.take(port, Side::Recv) {
         Some(receiver) => {
             tallies.count(port, Carried::Handed);
-            tell_both(
-                events,
-                caller,
-                Outcome::Sent,
-                &receiver,
-                Outcome::Got(*value),
-            );
+            tell(events, caller.pid, caller.index, Outcome::Sent);
+            tell(events, receiver.pid, receiver.index, Outcome::Got(*value));
         }
         None => {
             board.push(port, *value);
@@ -142,9 +120,13 @@ fn let_in<E: Hears>(
     match board.pop(port) {
         Some(oldest) => {
             board.push(port, *sent);
-            tell_both(events, caller, Outcome::Got(oldest), sender, Outcome::Sent);
+            tell(events, caller.pid, caller.index, Outcome::Got(oldest));
+            tell(events, sender.pid, sender.index, Outcome::Sent);
         }
-        None => tell_both(events, caller, Outcome::Got(*sent), sender, Outcome::Sent),
+        None => {
+            tell(events, caller.pid, caller.index, Outcome::Got(*sent));
+            tell(events, sender.pid, sender.index, Outcome::Sent);
+        }
     }
 }
 

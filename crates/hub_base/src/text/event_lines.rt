@@ -5,13 +5,14 @@
 
 ghost use Rattle.std.specs.Prelude.{◌≡◌, ◌+◌, ◌*◌, ◌≤◌, ◌<◌, ◌++◌, ◌∷◌, length, take, decimal};
 ghost use Rattle.std.specs.List.{flat_map};
+ghost use Rattle.hub_base.specs.declared.event.What.TheVariants as what;
 ghost use Rattle.hub_base.specs.EventText.{event_line, what_text, outcome_text};
 ghost use Rattle.hex.specs.Hex.{encode_lower};
 ghost use Rattle.hub_base.specs.Value.{bytes_in, content, value_field};
 ghost use Rattle.hub_base.specs.Writing.{Puts, pair, four, eight};
 
 use crate::limits::{MOST_LINE, MOST_VALUE_BYTES};
-use crate::{Event, Outcome, Value, What};
+use crate::{Event, Fault, Outcome, Port, Value, What};
 
 /// The most digits of a number of 8 bits.
 const MOST_SMALL: usize = 3;
@@ -143,10 +144,11 @@ fn put_long(out: &mut [u8], at: usize, n: u64) -> usize
     put_eight(out, end, n % 100_000_000)
 }
 
-/// Puts a number in decimal digits.
-#[inline(always)]
-fn put_number(out: &mut [u8], at: usize, n: u64) -> usize
-    requires { at + length (decimal n) ≤ length out.old }
+/// Puts a number of more than four digits.
+#[inline(never)]
+fn put_longer(out: &mut [u8], at: usize, n: u64) -> usize
+    requires above { 10000 ≤ n }
+    requires room { at + length (decimal n) ≤ length out.old }
     ensures { Puts out.old out.new at (decimal n) (length (decimal n)) result }
 {
     if n < 100_000_000 {
@@ -156,17 +158,42 @@ fn put_number(out: &mut [u8], at: usize, n: u64) -> usize
     }
 }
 
+/// Puts a number in decimal digits.
+#[inline(always)]
+fn put_number(out: &mut [u8], at: usize, n: u64) -> usize
+    requires { at + length (decimal n) ≤ length out.old }
+    ensures { Puts out.old out.new at (decimal n) (length (decimal n)) result }
+{
+    if n < 10_000 {
+        put_short(out, at, n)
+    } else {
+        put_longer(out, at, n)
+    }
+}
+
+/// Puts a number of 8 bits that has three digits. Few have.
+#[inline(never)]
+#[tactic(auto, using(crate::proofs::Decimals::three_digits))]
+fn put_hundreds(out: &mut [u8], at: usize, n: u8) -> usize
+    requires { at + MOST_SMALL ≤ length out.old }
+    ensures { Puts out.old out.new at (decimal n) MOST_SMALL result }
+{
+    put_short(out, at, n.into())
+}
+
 /// Puts a number of 8 bits. Most have one digit, which is tried first.
 #[inline(always)]
-#[tactic(auto, using(std::proofs::lemmas::Fmt::decimal_digit, crate::proofs::Decimals::three_digits))]
+#[tactic(auto, using(std::proofs::lemmas::Fmt::decimal_digit, itoa::proofs::Decimal::decimal_two))]
 fn put_small(out: &mut [u8], at: usize, n: u8) -> usize
     requires { at + MOST_SMALL ≤ length out.old }
     ensures { Puts out.old out.new at (decimal n) MOST_SMALL result }
 {
     if n < 10 {
         put(out, at, &[b'0' + n])
+    } else if n < 100 {
+        put_pair(out, at, n.into())
     } else {
-        put_number(out, at, n.into())
+        put_hundreds(out, at, n)
     }
 }
 
@@ -225,17 +252,35 @@ fn put_outcome(out: &mut [u8], at: usize, outcome: &Outcome) -> usize
     }
 }
 
-/// Puts what a process is told, behind a space.
+/// Puts that this port was made, behind a space.
+#[inline(never)]
+fn put_made(out: &mut [u8], at: usize, port: Port) -> usize
+    requires { at + MOST_WHAT ≤ length out.old }
+    ensures { Puts out.old out.new at (what_text (what.Made port)) MOST_WHAT result }
+{
+    let end = put(out, at, b" made ");
+    put_large(out, end, port.0.into())
+}
+
+/// Puts this fault, behind a space.
+#[inline(never)]
+fn put_fault(out: &mut [u8], at: usize, fault: Fault) -> usize
+    requires { at + MOST_WHAT ≤ length out.old }
+    ensures { Puts out.old out.new at (what_text (what.Fault fault)) MOST_WHAT result }
+{
+    let end = put(out, at, b" fault ");
+    put_small(out, end, fault.number())
+}
+
+/// Puts what a process is told, behind a space. What is rare stands apart, so that this can be written into each place
+/// where something is told: there most of it is known.
 #[inline(always)]
 fn put_what(out: &mut [u8], at: usize, what: &What) -> usize
     requires { at + MOST_WHAT ≤ length out.old }
     ensures { Puts out.old out.new at (what_text what.now) MOST_WHAT result }
 {
     match what {
-        What::Made(port) => {
-            let end = put(out, at, b" made ");
-            put_large(out, end, port.0.into())
-        }
+        What::Made(port) => put_made(out, at, *port),
         What::Fired { case, outcome } => {
             let word = put(out, at, b" case ");
             let end = put_small(out, word, *case);
@@ -245,10 +290,7 @@ fn put_what(out: &mut [u8], at: usize, what: &What) -> usize
         What::Done => put(out, at, b" done"),
         What::Parked => put(out, at, b" parked"),
         What::Stalled => put(out, at, b" stalled"),
-        What::Fault(fault) => {
-            let end = put(out, at, b" fault ");
-            put_small(out, end, fault.number())
-        }
+        What::Fault(fault) => put_fault(out, at, *fault),
         What::Cancelled => put(out, at, b" cancelled"),
     }
 }

@@ -1,5 +1,5 @@
 use Rattle.hub_picture.proofs.Appended.{refused, three}
-use Rattle.hub_picture.proofs.svg.strips.StripsPenStrip.put.Goals as goal
+use Rattle.hub_picture.proofs.svg.strips.FramePenStrip.put.Goals as goal
 
 pub returns-in_err-put_strip_title : goal.returns-in_err-put_strip_title
 returns-in_err-put_strip_title c =

@@ -6,7 +6,7 @@ use Rattle.hub_picture.specs.declared.frame.Frame.{Frame}
 use Rattle.hub_picture.specs.declared.svg.rect.Rect.{Rect}
 use Rattle.hub_picture.specs.Windows.{has}
 use Rattle.hub_picture.specs.Drawings.{ended_by}
-use Rattle.hub_picture.specs.Frames.{x_of, y_of, until, thick_of}
+use Rattle.hub_picture.specs.Frames.{x_of, y_of, until, sizes_of}
 use Rattle.hub_picture.specs.Pieces.{joined}
 use Rattle.hub_picture.specs.Svg.Rects.{rect_text}
 
@@ -15,7 +15,7 @@ knob_text f pid end =
     joined (
     codes "<circle cx=\"" ∷ decimal (x_of f end.by)
     ∷ codes "\" cy=\"" ∷ decimal (y_of f pid)
-    ∷ codes "\" r=\"" ∷ decimal (thick_of f.scale + 1)
+    ∷ codes "\" r=\"" ∷ decimal ((sizes_of f.scale).thick + 1)
     ∷ codes "\"/>"
     ∷ [])
 
@@ -28,9 +28,9 @@ knob_in f pid (Some end) = if has f.steps end.by then knob_text f pid end else [
 abbrev pub bar_rect : Frame → Asked → Rect
 bar_rect f a = record {
   x = x_of f a.place;
-  y = y_of f a.entry.pid.0 - thick_of f.scale;
+  y = y_of f a.entry.pid.0 - (sizes_of f.scale).thick;
   width = x_of f (until f (ended_by a.ended)) - x_of f a.place;
-  height = 2 * thick_of f.scale;
+  height = 2 * (sizes_of f.scale).thick;
 }
 
 -- the bar, its knob, and the end of the element

@@ -3,7 +3,7 @@ use Rattle.std.specs.Prelude.{ℕ, ◌+◌, ◌-◌, ◌*◌, ◌/◌, List, [],
 use Rattle.hub_picture.specs.declared.asked.Asked.{Asked}
 use Rattle.hub_picture.specs.declared.frame.Frame.{Frame}
 use Rattle.hub_picture.specs.declared.svg.rect.Rect.{Rect}
-use Rattle.hub_picture.specs.Frames.{x_of, y_of, half_of, size_of}
+use Rattle.hub_picture.specs.Frames.{x_of, y_of, sizes_of}
 use Rattle.hub_picture.specs.Labels.{label_of, label_text, shown_value, value_text}
 use Rattle.hub_picture.specs.Pieces.{joined}
 use Rattle.hub_picture.specs.Svg.Rects.{rect_text}
@@ -11,10 +11,10 @@ use Rattle.hub_picture.specs.Svg.Rects.{rect_text}
 -- in the middle of the step and of the lane
 abbrev pub box_rect : Frame → Asked → Rect
 box_rect f a = record {
-  x = x_of f a.place + 3 - half_of f.scale;
-  y = y_of f a.entry.pid.0 - size_of f.scale / 2;
-  width = 2 * half_of f.scale - 6;
-  height = size_of f.scale;
+  x = x_of f a.place + 3 - (sizes_of f.scale).half;
+  y = y_of f a.entry.pid.0 - (sizes_of f.scale).size / 2;
+  width = 2 * (sizes_of f.scale).half - 6;
+  height = (sizes_of f.scale).size;
 }
 
 -- what stands in it, and the end of the element

@@ -7,7 +7,7 @@ use Rattle.hub_picture.specs.declared.frame.Frame.{Frame}
 use Rattle.hub_picture.specs.declared.frame.Scale.{Scale}
 use Rattle.hub_picture.specs.declared.frame.Scale.TheVariants.{Wide, Middle, Dense}
 use Rattle.hub_picture.specs.declared.frame.TheConstants.{LEFT, TOP, LEGEND, ROW, MOST_ROWS}
-use Rattle.hub_picture.specs.Frames.{frame_of, half_of, height_of, ports_of, steps_of}
+use Rattle.hub_picture.specs.Frames.{frame_of, height_of, ports_of, sizes_of}
 use Rattle.hub_picture.specs.Svg.Arrows.{arrow_in}
 use Rattle.hub_picture.specs.Svg.Entries.{entry_in}
 use Rattle.hub_picture.specs.Svg.Legend.{legend_text}
@@ -29,10 +29,10 @@ abbrev pub scale_of : Drawing → Scale
 scale_of d = scale_for (shown_of d)
 
 abbrev pub bands_of : Drawing → ℕ
-bands_of d = (shown_of d + steps_of (scale_of d) - 1) / steps_of (scale_of d)
+bands_of d = (shown_of d + (sizes_of (scale_of d)).steps - 1) / (sizes_of (scale_of d)).steps
 
 abbrev pub width_of : Drawing → ℕ
-width_of d = LEFT + max 660 (2 * half_of (scale_of d) * min (shown_of d) (steps_of (scale_of d))) + 56
+width_of d = LEFT + max 660 (2 * (sizes_of (scale_of d)).half * min (shown_of d) (sizes_of (scale_of d)).steps) + 56
 
 -- where the bands end
 abbrev pub foot_of : Drawing → ℕ

@@ -4,7 +4,7 @@ use Rattle.hub_story.specs.declared.told.Told.{Told}
 use Rattle.hub_picture.specs.declared.frame.Frame.{Frame}
 use Rattle.hub_picture.specs.declared.svg.rect.Rect.{Rect}
 use Rattle.hub_picture.specs.Windows.{has}
-use Rattle.hub_picture.specs.Frames.{x_of, y_of, half_of, lane_of}
+use Rattle.hub_picture.specs.Frames.{x_of, y_of, sizes_of}
 use Rattle.hub_picture.specs.Pieces.{joined}
 use Rattle.hub_picture.specs.Svg.Rects.{rect_text}
 
@@ -21,10 +21,10 @@ stall_title t =
 -- as wide as the step, and as high as the lane
 abbrev pub stall_rect : Frame → Told → Rect
 stall_rect f t = record {
-  x = x_of f t.by - half_of f.scale;
-  y = y_of f t.event.pid.0 - lane_of f.scale / 2;
-  width = 2 * half_of f.scale;
-  height = lane_of f.scale;
+  x = x_of f t.by - (sizes_of f.scale).half;
+  y = y_of f t.event.pid.0 - (sizes_of f.scale).lane / 2;
+  width = 2 * (sizes_of f.scale).half;
+  height = (sizes_of f.scale).lane;
 }
 
 abbrev pub stall_body : Frame → Told → List ℕ

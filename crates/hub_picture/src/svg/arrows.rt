@@ -17,7 +17,7 @@ use std::alloc::AllocError;
 fn side(frame: Frame, pid: Pid, other: Pid) -> u64
     ensures { result ≡ side_of frame pid.0 other.0 }
 {
-    let (y, half) = (frame.y(pid.0), frame.scale.size() / 2);
+    let (y, half) = (frame.y(pid.0), frame.scale.sizes().size / 2);
     if other.0 < pid.0 {
         y - half
     } else if pid.0 < other.0 {

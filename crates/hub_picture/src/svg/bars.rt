@@ -20,7 +20,11 @@ fn put_knob(out: &mut Vec<u8>, frame: Frame, pid: Pid, end: &Told) -> Result<(),
     put_filled(
         out,
         &[b"<circle cx=\"", b"\" cy=\"", b"\" r=\"", b"\"/>"],
-        &[frame.x(end.by), frame.y(pid.0), frame.scale.thick() + 1],
+        &[
+            frame.x(end.by),
+            frame.y(pid.0),
+            frame.scale.sizes().thick + 1,
+        ],
     )
 }
 
@@ -45,7 +49,7 @@ fn rect_of(frame: Frame, asked: &Asked) -> Rect
 {
     let x = frame.x(asked.place);
     let end = frame.x(frame.until(ended_by(asked.ended)));
-    let thick = frame.scale.thick();
+    let thick = frame.scale.sizes().thick;
     Rect {
         x,
         y: frame.y(asked.entry.pid.0) - thick,

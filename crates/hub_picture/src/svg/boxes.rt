@@ -15,12 +15,12 @@ use std::alloc::AllocError;
 fn rect_of(frame: Frame, asked: &Asked) -> Rect
     ensures { result ≡ box_rect frame asked.now }
 {
-    let (half, size) = (frame.scale.half(), frame.scale.size());
+    let sizes = frame.scale.sizes();
     Rect {
-        x: frame.x(asked.place) + 3 - half,
-        y: frame.y(asked.entry.pid.0) - size / 2,
-        width: 2 * half - 6,
-        height: size,
+        x: frame.x(asked.place) + 3 - sizes.half,
+        y: frame.y(asked.entry.pid.0) - sizes.size / 2,
+        width: 2 * sizes.half - 6,
+        height: sizes.size,
     }
 }
 

@@ -55,7 +55,7 @@ fn put_tick(out: &mut Vec<u8>, frame: Frame, place: u32) -> Result<(), AllocErro
         ],
         &[
             frame.x(place),
-            frame.y(0) - frame.scale.size(),
+            frame.y(0) - frame.scale.sizes().size,
             number_of(place),
         ],
     )
@@ -65,7 +65,7 @@ fn put_tick(out: &mut Vec<u8>, frame: Frame, place: u32) -> Result<(), AllocErro
 fn put_tick_in(out: &mut Vec<u8>, frame: Frame, place: u32) -> Result<(), AllocError>
     ensures { Appends out.old out.new (tick_in frame place) result }
 {
-    if number_of(place) % u64::from(frame.scale.tick()) == 0 {
+    if number_of(place) % frame.scale.sizes().tick == 0 {
         put_tick(out, frame, place)
     } else {
         Ok(())

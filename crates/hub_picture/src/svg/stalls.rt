@@ -35,12 +35,12 @@ fn put_title(out: &mut Vec<u8>, told: &Told) -> Result<(), AllocError>
 fn rect_of(frame: Frame, told: &Told) -> Rect
     ensures { result ≡ stall_rect frame told.now }
 {
-    let (half, lane) = (frame.scale.half(), frame.scale.lane());
+    let sizes = frame.scale.sizes();
     Rect {
-        x: frame.x(told.by) - half,
-        y: frame.y(told.event.pid.0) - lane / 2,
-        width: 2 * half,
-        height: lane,
+        x: frame.x(told.by) - sizes.half,
+        y: frame.y(told.event.pid.0) - sizes.lane / 2,
+        width: 2 * sizes.half,
+        height: sizes.lane,
     }
 }
 

@@ -1,4 +1,5 @@
 //! The text of a drawing: SVG.
+#![tactic(auto, using(crate::proofs::Appended::refused, crate::proofs::Appended::three))]
 
 ghost use Rattle.std.specs.Prelude.{◌≡◌, ◌≤◌, ◌++◌, OnErr, OnOk};
 ghost use Rattle.hub_picture.specs.Frames.{frame_of};

@@ -29,7 +29,7 @@ use Rattle.hub_picture.specs.declared.label.Label.TheVariants as label
 use Rattle.hub_picture.specs.Labels.{label_text, number_text, value_text}
 use Rattle.hub_picture.specs.Pieces.{aim_text, end_text, mover_text, until_text}
 use Rattle.hub_picture.specs.Svg.Arrows.{moved_title, arrow_title}
-use Rattle.hub_picture.specs.Svg.Boxes.{asked_title}
+use Rattle.hub_picture.specs.Svg.Entries.{asked_title}
 use Rattle.hub_picture.specs.Svg.Legend.{mark_words}
 use Rattle.hub_picture.specs.Svg.Stalls.{stall_title}
 use Rattle.hub_picture.specs.Svg.Strips.{strip_title, level_title, count_of}

@@ -1,7 +1,9 @@
 -- The text of a drawing.
 pub mod Style
+pub mod Rects
 pub mod Boxes
 pub mod Bars
+pub mod Entries
 pub mod Arrows
 pub mod Stalls
 pub mod Lanes

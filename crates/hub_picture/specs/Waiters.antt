@@ -7,9 +7,12 @@ use Rattle.hub_base.specs.declared.value.Port.{Port}
 use Rattle.hub_base.specs.declared.case.Case.{Case}
 use Rattle.hub_base.specs.declared.case.Case.TheVariants.{Send, Recv}
 use Rattle.hub_base.specs.declared.entry.Entry.{Entry}
+use Rattle.hub_story.specs.declared.levels.Level.{Level}
 use Rattle.hub_story.specs.declared.told.Told.{Told}
 use Rattle.hub_story.specs.Passing.{cases_at}
 use Rattle.hub_picture.specs.declared.window.Window.{Window}
+use Rattle.hub_picture.specs.declared.waiters.Side.{Side}
+use Rattle.hub_picture.specs.declared.waiters.Side.TheVariants.{Sends, Receives}
 use Rattle.hub_picture.specs.declared.waiters.Waiter.{Waiter}
 use Rattle.hub_picture.specs.Levels.{after, empty}
 
@@ -17,12 +20,14 @@ abbrev pub port_of : Case → Port
 port_of (Send p v) = p
 port_of (Recv p) = p
 
--- by this step or an earlier one it was sent on the port, or received from it: an empty port counts one by it
-abbrev pub sent_until : List Entry → Port → ℕ → Told → Bool
-sent_until es p step t = nat_le t.by step && nat_lt 0 (after es p empty t).sent
+-- how many values passed this side of a port
+abbrev pub count_on : Side → Level → ℕ
+count_on Sends l = l.sent
+count_on Receives l = l.received
 
-abbrev pub received_until : List Entry → Port → ℕ → Told → Bool
-received_until es p step t = nat_le t.by step && nat_lt 0 (after es p empty t).received
+-- a value passed this side of the port by this step or an earlier one: an empty port counts one by it
+abbrev pub passed_until : Side → List Entry → Port → ℕ → Told → Bool
+passed_until side es p step t = nat_le t.by step && nat_lt 0 (count_on side (after es p empty t))
 
 -- this one, where that is so, or else the one before
 abbrev pub later : Bool → Told → Option Told → Option Told
@@ -33,13 +38,17 @@ abbrev pub last_that : (Told → Bool) → Option Told → List Told → Option 
 last_that P before [] = before
 last_that P before (t ∷ ts) = last_that P (later (P t) t before) ts
 
+-- the last who let a value pass
+abbrev pub last_on : Side → List Entry → List Told → Port → ℕ → Option Told
+last_on side es all p step = last_that (passed_until side es p step) None all
+
 -- what a call waits for by one of its cases, as it stands after this step
 abbrev pub waits_for : List Entry → List Told → ℕ → Told → Case → Waiter
 waits_for es all step t c = record {
   told = t;
   case = c;
-  sender = last_that (sent_until es (port_of c) step) None all;
-  receiver = last_that (received_until es (port_of c) step) None all;
+  sender = last_on Sends es all (port_of c) step;
+  receiver = last_on Receives es all (port_of c) step;
 }
 
 abbrev pub waiters_of : List Entry → List Told → ℕ → Told → List Waiter

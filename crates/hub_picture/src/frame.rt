@@ -1,8 +1,8 @@
 //! Where steps and processes stand on a page.
 
-ghost use Rattle.std.specs.Prelude.{◌≡◌, ◌≤◌, ◌+◌, ◌*◌, min};
-ghost use Rattle.hub_picture.specs.Frames.{floor_of, frame_of, half_of, height_of, lane_of, ports_of, size_of, steps_of};
-ghost use Rattle.hub_picture.specs.Frames.{thick_of, tick_of, top_of, until, x_of, y_of};
+ghost use Rattle.std.specs.Prelude.{◌≡◌, ◌≤◌, ◌+◌, ◌*◌, max, min};
+ghost use Rattle.hub_picture.specs.Frames.{AreBounded, by_scale, floor_of, frame_of, height_of, ports_of, sizes_of, top_of};
+ghost use Rattle.hub_picture.specs.Frames.{until, x_of, y_of};
 
 use crate::{Drawing, Window};
 use hub_base::{CASE_PLACES, MOST_PORTS, MOST_PROCS};
@@ -46,77 +46,49 @@ pub(crate) enum Scale {
     Dense,
 }
 
-impl Scale {
+/// How much room a scale gives.
+#[derive(Clone, Copy)]
+pub(crate) struct Sizes {
     /// Half of the room of a step.
-    pub fn half(self) -> u64
-        ensures value { result ≡ half_of self }
-        ensures least { 10 ≤ result }
-        ensures most { result ≤ 40 }
-    {
-        match self {
-            Scale::Wide => 40,
-            Scale::Middle => 16,
-            Scale::Dense => 10,
-        }
-    }
-
+    pub half: u64,
     /// The room of a process.
-    pub fn lane(self) -> u64
-        ensures value { result ≡ lane_of self }
-        ensures most { result ≤ 58 }
-    {
-        match self {
-            Scale::Wide => 58,
-            Scale::Middle => 42,
-            Scale::Dense => 30,
-        }
-    }
-
+    pub lane: u64,
     /// The height of a box.
-    pub fn size(self) -> u64
-        ensures value { result ≡ size_of self }
-        ensures most { result ≤ 30 }
-    {
-        match self {
-            Scale::Wide => 30,
-            Scale::Middle => 20,
-            Scale::Dense => 14,
-        }
-    }
-
+    pub size: u64,
     /// Half of the height of a bar.
-    pub fn thick(self) -> u64
-        ensures value { result ≡ thick_of self }
-        ensures most { result ≤ 5 }
-    {
-        match self {
-            Scale::Wide => 5,
-            Scale::Middle => 4,
-            Scale::Dense => 3,
-        }
-    }
-
+    pub thick: u64,
     /// The steps of a band.
-    pub fn steps(self) -> u32
-        ensures value { result ≡ steps_of self }
-        ensures least { 1 ≤ result }
-        ensures most { result ≤ 60 }
+    pub steps: u64,
+    /// Of how many steps the number of one is written.
+    pub tick: u64,
+}
+
+impl Scale {
+    /// One of three.
+    fn of(self, wide: u64, middle: u64, dense: u64) -> u64
+        ensures value { result ≡ by_scale self wide middle dense }
+        ensures least { min wide (min middle dense) ≤ result }
+        ensures most { result ≤ max wide (max middle dense) }
     {
         match self {
-            Scale::Wide => 14,
-            Scale::Middle => 36,
-            Scale::Dense => 60,
+            Scale::Wide => wide,
+            Scale::Middle => middle,
+            Scale::Dense => dense,
         }
     }
 
-    /// Of how many steps the number of one is written.
-    pub fn tick(self) -> u32
-        ensures value { result ≡ tick_of self }
-        ensures least { 1 ≤ result }
+    /// How much room it gives.
+    pub fn sizes(self) -> Sizes
+        ensures value { result ≡ sizes_of self }
+        ensures bounds { AreBounded result }
     {
-        match self {
-            Scale::Wide | Scale::Middle => 1,
-            Scale::Dense => 5,
+        Sizes {
+            half: self.of(40, 16, 10),
+            lane: self.of(58, 42, 30),
+            size: self.of(30, 20, 14),
+            thick: self.of(5, 4, 3),
+            steps: self.of(14, 36, 60),
+            tick: self.of(1, 1, 5),
         }
     }
 }
@@ -148,15 +120,15 @@ pub(crate) fn height_of(scale: Scale, procs: u8, ports: u8) -> u64
     ensures value { result ≡ height_of scale procs ports }
     ensures most { result ≤ 20000 }
 {
-    scale.lane() * (u64::from(procs) + 2) + STRIP * u64::from(ports)
+    scale.sizes().lane * (u64::from(procs) + 2) + STRIP * u64::from(ports)
 }
 
 /// The first step of a band, or the end of the window where that comes first.
 fn step_of(window: Window, scale: Scale, band: u64) -> u32
     requires few { band ≤ 4294967296 }
-    ensures { result ≡ min (window.first + band * steps_of scale) window.end }
+    ensures { result ≡ min (window.first + band * (sizes_of scale).steps) window.end }
 {
-    let step = u64::from(window.first) + band * u64::from(scale.steps());
+    let step = u64::from(window.first) + band * scale.sizes().steps;
     step.min(window.end.into()) as u32
 }
 
@@ -185,7 +157,7 @@ impl Frame {
     {
         let end = 2 * u64::from(self.steps.end);
         let within = (2 * u64::from(place) + 1).min(end);
-        LEFT + self.scale.half() * within.saturating_sub(2 * u64::from(self.steps.first))
+        LEFT + self.scale.sizes().half * within.saturating_sub(2 * u64::from(self.steps.first))
     }
 
     /// Where it begins.
@@ -203,7 +175,7 @@ impl Frame {
         ensures least { TOP ≤ result }
         ensures most { result ≤ 2251799813685248 }
     {
-        self.top() + self.scale.lane() * (1 + u64::from(pid.min(self.procs)))
+        self.top() + self.scale.sizes().lane * (1 + u64::from(pid.min(self.procs)))
     }
 
     /// The floor of the strip in this row.
@@ -212,7 +184,7 @@ impl Frame {
         ensures least { TOP ≤ result }
         ensures most { result ≤ 2251799813685248 }
     {
-        let lane = self.scale.lane();
+        let lane = self.scale.sizes().lane;
         let lanes = lane * (u64::from(self.procs) + 1) + lane / 2;
         self.top() + lanes + STRIP * (1 + row.min(self.ports.into()) as u64)
     }

@@ -1,4 +1,5 @@
 //! The text of a drawing: SVG.
+#![tactic(auto, using(crate::proofs::Appended::refused, crate::proofs::Appended::three))]
 
 ghost use Rattle.std.specs.Prelude.{◌≡◌, ◌≤◌, ◌++◌, OnErr, OnOk};
 ghost use Rattle.hub_picture.specs.Frames.{frame_of};
@@ -9,22 +10,21 @@ ghost use Rattle.hub_picture.specs.Svg.Page.{back_text, band_text, below_text, f
 mod arrows;
 mod bars;
 mod boxes;
+mod entries;
 mod lanes;
 mod legend;
 mod page;
+mod rect;
 mod stalls;
 mod strips;
 mod style;
 mod waiters;
 
-use self::arrows::Arrows;
-use self::bars::Bars;
-use self::boxes::Boxes;
-use self::lanes::{Lanes, put_ticks};
+use self::entries::Entries;
+use self::lanes::put_ticks;
 use self::page::{bands_of, put_foot, put_head, scale_of};
-use self::stalls::Stalls;
-use self::strips::{Levels, Strips};
 use crate::Drawing;
+use crate::asked::Shown;
 use crate::frame::{Frame, frame_of};
 use crate::pen::put_each;
 use hub_base::{NoMemory, undo_if_refused};
@@ -34,26 +34,26 @@ use std::alloc::AllocError;
 fn put_back(out: &mut Vec<u8>, frame: Frame, drawing: &Drawing) -> Result<(), AllocError>
     ensures { Appends out.old out.new (back_text frame drawing.now) result }
 {
-    put_each(out, &Lanes(frame), &drawing.lanes)?;
+    put_each(out, &frame, &drawing.lanes)?;
     put_ticks(out, frame)?;
-    put_each(out, &Stalls(frame), &drawing.stalls)
+    put_each(out, &frame, &drawing.stalls)
 }
 
 /// Appends what stands below.
 fn put_below(out: &mut Vec<u8>, frame: Frame, drawing: &Drawing) -> Result<(), AllocError>
     ensures { Appends out.old out.new (below_text frame drawing.now) result }
 {
-    put_each(out, &Strips(frame), &drawing.strips)?;
-    put_each(out, &Levels(frame), &drawing.levels)
+    put_each(out, &frame, &drawing.strips)?;
+    put_each(out, &frame, &drawing.levels)
 }
 
 /// Appends what stands before all.
 fn put_front(out: &mut Vec<u8>, frame: Frame, drawing: &Drawing) -> Result<(), AllocError>
     ensures { Appends out.old out.new (front_text frame drawing.now) result }
 {
-    put_each(out, &Bars(frame), &drawing.bars)?;
-    put_each(out, &Boxes(frame), &drawing.boxes)?;
-    put_each(out, &Arrows(frame), &drawing.arrows)
+    put_each(out, &Entries(Shown::Bars, frame), &drawing.bars)?;
+    put_each(out, &Entries(Shown::Boxes, frame), &drawing.boxes)?;
+    put_each(out, &frame, &drawing.arrows)
 }
 
 /// Appends a band.

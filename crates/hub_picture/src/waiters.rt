@@ -1,16 +1,16 @@
 //! Who waits in vain, and for what: the foot of a drawing.
 
-ghost use Rattle.std.specs.Prelude.{◌≡◌, ◌<◌, ◌-◌, ◌^◌, ◌++◌, None, [], filter, length, map, IfOk, OnOk};
+ghost use Rattle.std.specs.Prelude.{◌≡◌, ◌<◌, ◌-◌, ◌^◌, ◌++◌, [], filter, length, map, IfOk, OnOk};
 ghost use Rattle.std.specs.List.{flat_map};
 ghost use Rattle.hub_base.specs.Values.{cases_or};
 ghost use Rattle.hub_story.specs.Passing.{cases_at};
-ghost use Rattle.hub_picture.specs.Waiters.{all_waiters, is_by, last_step, last_that, later, open_in, port_of};
-ghost use Rattle.hub_picture.specs.Waiters.{received_until, sent_until, stalled_waiters, waiters_of, waits_for};
+ghost use Rattle.hub_picture.specs.Waiters.{all_waiters, count_on, is_by, last_on, last_step, later, open_in, passed_until};
+ghost use Rattle.hub_picture.specs.Waiters.{port_of, stalled_waiters, waiters_of, waits_for};
 
 use crate::Window;
 use crate::levels::{after, empty};
 use hub_base::{Case, Entry, Port, Step};
-use hub_story::Told;
+use hub_story::{Level, Told};
 use std::alloc::{AllocError, Global};
 
 /// A call that waits, one of its cases, and who was the last at its port.
@@ -36,18 +36,30 @@ fn port_of(case: Case) -> Port
     }
 }
 
-/// Whether it was sent on the port by this step or an earlier one.
-fn sent_until(entries: &[Entry], port: Port, step: u32, told: &Told) -> bool
-    ensures { result ≡ sent_until entries.now port step told.now }
-{
-    told.by <= step && after(entries, port, empty(), told).sent > 0
+/// A side of a port.
+#[derive(Clone, Copy)]
+enum Side {
+    /// Where values are sent.
+    Sends,
+    /// Where they are received.
+    Receives,
 }
 
-/// Whether it was received from the port by this step or an earlier one.
-fn received_until(entries: &[Entry], port: Port, step: u32, told: &Told) -> bool
-    ensures { result ≡ received_until entries.now port step told.now }
+/// How many values passed it.
+fn count_on(side: Side, level: Level) -> usize
+    ensures { result ≡ count_on side level }
 {
-    told.by <= step && after(entries, port, empty(), told).received > 0
+    match side {
+        Side::Sends => level.sent,
+        Side::Receives => level.received,
+    }
+}
+
+/// Whether a value passed it by this step or an earlier one.
+fn passed_until(side: Side, entries: &[Entry], port: Port, step: u32, told: &Told) -> bool
+    ensures { result ≡ passed_until side entries.now port step told.now }
+{
+    told.by <= step && count_on(side, after(entries, port, empty(), told)) > 0
 }
 
 /// This one, where that is so, or else the one before.
@@ -57,24 +69,13 @@ fn later(so: bool, told: &Told, before: Option<Told>) -> Option<Told>
     if so { Some(*told) } else { before }
 }
 
-/// The last send on a port by this step.
-fn last_sent(entries: &[Entry], told: &[Told], port: Port, step: u32) -> Option<Told>
-    ensures { result ≡ last_that (sent_until entries.now port step) None told.now }
+/// The last who let a value pass by this step.
+fn last_on(side: Side, entries: &[Entry], told: &[Told], port: Port, step: u32) -> Option<Told>
+    ensures { result ≡ last_on side entries.now told.now port step }
 {
     let mut last = None;
     for told in told {
-        last = later(sent_until(entries, port, step, told), told, last);
-    }
-    last
-}
-
-/// The last receive from a port by this step.
-fn last_received(entries: &[Entry], told: &[Told], port: Port, step: u32) -> Option<Told>
-    ensures { result ≡ last_that (received_until entries.now port step) None told.now }
-{
-    let mut last = None;
-    for told in told {
-        last = later(received_until(entries, port, step, told), told, last);
+        last = later(passed_until(side, entries, port, step, told), told, last);
     }
     last
 }
@@ -86,8 +87,8 @@ fn waits_for(entries: &[Entry], told: &[Told], step: u32, call: &Told, case: Cas
     Waiter {
         told: *call,
         case,
-        sender: last_sent(entries, told, port_of(case), step),
-        receiver: last_received(entries, told, port_of(case), step),
+        sender: last_on(Side::Sends, entries, told, port_of(case), step),
+        receiver: last_on(Side::Receives, entries, told, port_of(case), step),
     }
 }
 

@@ -6,7 +6,7 @@ use Rattle.hub_story.specs.declared.told.Told.{Told}
 use Rattle.hub_picture.specs.declared.arrows.Arrow.{Arrow}
 use Rattle.hub_picture.specs.declared.frame.Frame.{Frame}
 use Rattle.hub_picture.specs.Windows.{has}
-use Rattle.hub_picture.specs.Frames.{x_of, y_of, size_of}
+use Rattle.hub_picture.specs.Frames.{x_of, y_of, sizes_of}
 use Rattle.hub_picture.specs.Labels.{hue_of}
 use Rattle.hub_picture.specs.Pieces.{joined}
 
@@ -35,8 +35,8 @@ arrow_title sent received = moved_title sent ++ codes "to\n" ++ moved_title rece
 -- the side of a process' box that the other's faces; on the lane where both are one process
 abbrev pub side_of : Frame → ℕ → ℕ → ℕ
 side_of f pid other =
-    if nat_lt other pid then y_of f pid - size_of f.scale / 2
-    else if nat_lt pid other then y_of f pid + size_of f.scale / 2
+    if nat_lt other pid then y_of f pid - (sizes_of f.scale).size / 2
+    else if nat_lt pid other then y_of f pid + (sizes_of f.scale).size / 2
     else y_of f pid
 
 -- from the side of the sender's box to the side of the receiver's

@@ -1,50 +1,32 @@
--- The box of an entry: where it was asked, what, and how it ended.
-use Rattle.std.specs.Prelude.{ℕ, ◌+◌, ◌-◌, ◌*◌, ◌/◌, List, [], ◌∷◌, ◌++◌, codes, decimal, if◌then◌else◌}
-use Rattle.hub_base.specs.Lines.{line}
+-- The box of an entry, and its label.
+use Rattle.std.specs.Prelude.{ℕ, ◌+◌, ◌-◌, ◌*◌, ◌/◌, List, [], ◌∷◌, ◌++◌, codes, decimal}
 use Rattle.hub_picture.specs.declared.asked.Asked.{Asked}
 use Rattle.hub_picture.specs.declared.frame.Frame.{Frame}
-use Rattle.hub_picture.specs.Windows.{has}
-use Rattle.hub_picture.specs.Frames.{x_of, y_of, half_of, size_of}
-use Rattle.hub_picture.specs.Labels.{label_of, last_told, label_text, class_text, end_class, shown_value, value_text}
-use Rattle.hub_picture.specs.Pieces.{end_text, joined}
+use Rattle.hub_picture.specs.declared.svg.rect.Rect.{Rect}
+use Rattle.hub_picture.specs.Frames.{x_of, y_of, sizes_of}
+use Rattle.hub_picture.specs.Labels.{label_of, label_text, shown_value, value_text}
+use Rattle.hub_picture.specs.Pieces.{joined}
+use Rattle.hub_picture.specs.Svg.Rects.{rect_text}
 
--- the class of an entry's shapes: which they are, the colour of the port, and how it ended
-abbrev pub opening_text : List ℕ → Asked → List ℕ
-opening_text shape a =
-    joined (
-    codes "<g class=\"" ∷ shape
-    ∷ codes " " ∷ class_text (label_of a)
-    ∷ end_class (last_told a.ended)
-    ∷ codes "\"><title>"
-    ∷ [])
+-- in the middle of the step and of the lane
+abbrev pub box_rect : Frame → Asked → Rect
+box_rect f a = record {
+  x = x_of f a.place + 3 - (sizes_of f.scale).half;
+  y = y_of f a.entry.pid.0 - (sizes_of f.scale).size / 2;
+  width = 2 * (sizes_of f.scale).half - 6;
+  height = (sizes_of f.scale).size;
+}
 
--- what is told where one points at it: the step, its line in the journal, and how it ended
-abbrev pub asked_title : Asked → List ℕ
-asked_title a =
+-- what stands in it, and the end of the element
+abbrev pub box_label : Frame → Asked → List ℕ
+box_label f a =
     joined (
-    codes "step " ∷ decimal (a.place + 1)
-    ∷ codes "\n" ∷ line a.entry
-    ∷ end_text a.ended
-    ∷ codes "\n"
-    ∷ [])
-
-abbrev pub box_body : Frame → Asked → List ℕ
-box_body f a =
-    joined (
-    codes "</title><rect x=\"" ∷ decimal (x_of f a.place + 3 - half_of f.scale)
-    ∷ codes "\" y=\"" ∷ decimal (y_of f a.entry.pid.0 - size_of f.scale / 2)
-    ∷ codes "\" width=\"" ∷ decimal (2 * half_of f.scale - 6)
-    ∷ codes "\" height=\"" ∷ decimal (size_of f.scale)
-    ∷ codes "\"/><text x=\"" ∷ decimal (x_of f a.place)
+    codes "<text x=\"" ∷ decimal (x_of f a.place)
     ∷ codes "\" y=\"" ∷ decimal (y_of f a.entry.pid.0 + 4)
     ∷ codes "\">" ∷ label_text (label_of a)
     ∷ value_text (shown_value f.scale a)
     ∷ codes "</text></g>\n"
     ∷ [])
 
-abbrev pub box_text : Frame → Asked → List ℕ
-box_text f a = opening_text (codes "box") a ++ asked_title a ++ box_body f a
-
--- where the band has its step
-abbrev pub box_in : Frame → Asked → List ℕ
-box_in f a = if has f.steps a.place then box_text f a else []
+abbrev pub drawn_box : Frame → Asked → List ℕ
+drawn_box f a = rect_text (box_rect f a) ++ box_label f a

@@ -3,7 +3,7 @@ use Rattle.std.specs.Prelude.{ℕ, zero, suc, ◌+◌, ◌-◌, ◌%◌, ◌==�
 use Rattle.hub_picture.specs.declared.frame.Frame.{Frame}
 use Rattle.hub_picture.specs.declared.lanes.Lane.{Lane}
 use Rattle.hub_picture.specs.declared.frame.TheConstants.{LEFT}
-use Rattle.hub_picture.specs.Frames.{x_of, y_of, until, size_of, tick_of}
+use Rattle.hub_picture.specs.Frames.{x_of, y_of, until, sizes_of}
 use Rattle.hub_picture.specs.Pieces.{joined}
 
 -- the lane of a process until it exits, and its name before it
@@ -25,14 +25,14 @@ abbrev pub tick_text : Frame → ℕ → List ℕ
 tick_text f place =
     joined (
     codes "<text class=\"tick\" x=\"" ∷ decimal (x_of f place)
-    ∷ codes "\" y=\"" ∷ decimal (y_of f 0 - size_of f.scale)
+    ∷ codes "\" y=\"" ∷ decimal (y_of f 0 - (sizes_of f.scale).size)
     ∷ codes "\">" ∷ decimal (place + 1)
     ∷ codes "</text>\n"
     ∷ [])
 
 -- where it is one that is told
 abbrev pub tick_in : Frame → ℕ → List ℕ
-tick_in f place = if (place + 1) % tick_of f.scale == 0 then tick_text f place else []
+tick_in f place = if (place + 1) % (sizes_of f.scale).tick == 0 then tick_text f place else []
 
 -- those of the first so many steps of the band
 abbrev pub ticks_to : ℕ → Frame → List ℕ

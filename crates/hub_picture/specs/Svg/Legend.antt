@@ -1,11 +1,9 @@
 -- How to read a picture: what occurs in it, and nothing else.
 use Rattle.std.specs.Prelude.{ℕ, ◌==◌, Bool, true, false, ◌||◌, not, List, [], ◌∷◌, ◌++◌, codes, length, if◌then◌else◌}
 use Rattle.std.specs.List.{flat_map, list_any}
-use Rattle.hub_base.specs.declared.event.Outcome.{Outcome}
 use Rattle.hub_base.specs.declared.event.Outcome.TheVariants as outcome
 use Rattle.hub_base.specs.declared.event.What.{What}
 use Rattle.hub_base.specs.declared.event.What.TheVariants as what
-use Rattle.hub_story.specs.Waiting.{is_stalled}
 use Rattle.hub_picture.specs.declared.asked.Asked.{Asked}
 use Rattle.hub_picture.specs.declared.drawing.Drawing.{Drawing}
 use Rattle.hub_picture.specs.declared.label.Label.{Label}
@@ -15,75 +13,30 @@ use Rattle.hub_picture.specs.declared.svg.legend.Mark.TheVariants.{Boxes, Makes,
 use Rattle.hub_picture.specs.declared.svg.legend.Mark.TheVariants.{Drained, Cancelled, Trouble, Bars, Arrows, Stalls, Levels}
 use Rattle.hub_picture.specs.Labels.{label_of, last_told}
 
--- ---- what a label says
-abbrev pub is_make : Label → Bool
-is_make (label.Make p) = true
-is_make l = false
-
-abbrev pub is_close : Label → Bool
-is_close (label.Close p) = true
-is_close l = false
-
-abbrev pub is_select : Label → Bool
-is_select label.Select = true
-is_select l = false
-
-abbrev pub is_default : Label → Bool
-is_default label.Default = true
-is_default l = false
-
-abbrev pub is_cancel : Label → Bool
-is_cancel (label.Cancel q) = true
-is_cancel l = false
-
-abbrev pub is_refused : Label → Bool
-is_refused (label.Refused f) = true
-is_refused l = false
-
--- ---- and an end
-abbrev pub is_open : What → Bool
-is_open what.Parked = true
-is_open w = false
-
-abbrev pub is_cancelled : What → Bool
-is_cancelled what.Cancelled = true
-is_cancelled w = false
-
--- a case of this outcome found its port closed: it received nothing, or its value was refused
-abbrev pub is_drained_by : Outcome → Bool
-is_drained_by outcome.Drained = true
-is_drained_by o = false
-
-abbrev pub is_closed_by : Outcome → Bool
-is_closed_by outcome.Closed = true
-is_closed_by o = false
-
-abbrev pub is_drained : What → Bool
-is_drained (what.Fired i o) = is_drained_by o
-is_drained w = false
-
-abbrev pub is_closed : What → Bool
-is_closed (what.Fired i o) = is_closed_by o
-is_closed w = false
-
 -- ---- what occurs
--- an entry has the mark
+-- a label has the mark; each is in a box
+abbrev pub of_label : Mark → Label → Bool
+of_label Boxes l = true
+of_label Makes (label.Make p) = true
+of_label Closes (label.Close p) = true
+of_label Selects label.Select = true
+of_label Defaults label.Default = true
+of_label Cancels (label.Cancel q) = true
+of_label Refused (label.Refused f) = true
+of_label m l = false
+
+-- an end has it; a case that found its port closed received nothing, or its value was refused
+abbrev pub of_end : Mark → What → Bool
+of_end Open what.Parked = true
+of_end Drained (what.Fired i outcome.Drained) = true
+of_end Cancelled what.Cancelled = true
+of_end Trouble what.Stalled = true
+of_end Trouble (what.Fired i outcome.Closed) = true
+of_end m w = false
+
+-- an entry has it
 abbrev pub has_mark : Mark → Asked → Bool
-has_mark Boxes a = true
-has_mark Makes a = is_make (label_of a)
-has_mark Closes a = is_close (label_of a)
-has_mark Selects a = is_select (label_of a)
-has_mark Defaults a = is_default (label_of a)
-has_mark Cancels a = is_cancel (label_of a)
-has_mark Refused a = is_refused (label_of a)
-has_mark Open a = is_open (last_told a.ended)
-has_mark Drained a = is_drained (last_told a.ended)
-has_mark Cancelled a = is_cancelled (last_told a.ended)
-has_mark Trouble a = is_stalled (last_told a.ended) || is_closed (last_told a.ended)
-has_mark Bars a = false
-has_mark Arrows a = false
-has_mark Stalls a = false
-has_mark Levels a = false
+has_mark m a = of_label m (label_of a) || of_end m (last_told a.ended)
 
 -- the drawing has it: as a shape, or as a mark of a box
 abbrev pub occurs : Drawing → Mark → Bool

@@ -1,15 +1,15 @@
 -- The whole picture: a head, the bands of steps one below the other, and a foot that tells how to read it.
 use Rattle.std.specs.Prelude.{ℕ, zero, suc, ◌+◌, ◌-◌, ◌*◌, ◌/◌, nat_le, min, max, length, List, [], ◌∷◌, ◌++◌, codes, decimal, if◌then◌else◌}
 use Rattle.std.specs.List.{flat_map}
+use Rattle.hub_picture.specs.declared.asked.Shown.TheVariants.{Boxes, Bars}
 use Rattle.hub_picture.specs.declared.drawing.Drawing.{Drawing}
 use Rattle.hub_picture.specs.declared.frame.Frame.{Frame}
 use Rattle.hub_picture.specs.declared.frame.Scale.{Scale}
 use Rattle.hub_picture.specs.declared.frame.Scale.TheVariants.{Wide, Middle, Dense}
 use Rattle.hub_picture.specs.declared.frame.TheConstants.{LEFT, TOP, LEGEND, ROW, MOST_ROWS}
-use Rattle.hub_picture.specs.Frames.{frame_of, half_of, height_of, ports_of, steps_of}
+use Rattle.hub_picture.specs.Frames.{frame_of, height_of, ports_of, sizes_of}
 use Rattle.hub_picture.specs.Svg.Arrows.{arrow_in}
-use Rattle.hub_picture.specs.Svg.Bars.{bar_in}
-use Rattle.hub_picture.specs.Svg.Boxes.{box_in}
+use Rattle.hub_picture.specs.Svg.Entries.{entry_in}
 use Rattle.hub_picture.specs.Svg.Legend.{legend_text}
 use Rattle.hub_picture.specs.Svg.Lanes.{lane_text, ticks_to}
 use Rattle.hub_picture.specs.Svg.Stalls.{stall_in}
@@ -29,10 +29,10 @@ abbrev pub scale_of : Drawing → Scale
 scale_of d = scale_for (shown_of d)
 
 abbrev pub bands_of : Drawing → ℕ
-bands_of d = (shown_of d + steps_of (scale_of d) - 1) / steps_of (scale_of d)
+bands_of d = (shown_of d + (sizes_of (scale_of d)).steps - 1) / (sizes_of (scale_of d)).steps
 
 abbrev pub width_of : Drawing → ℕ
-width_of d = LEFT + max 660 (2 * half_of (scale_of d) * min (shown_of d) (steps_of (scale_of d))) + 56
+width_of d = LEFT + max 660 (2 * (sizes_of (scale_of d)).half * min (shown_of d) (sizes_of (scale_of d)).steps) + 56
 
 -- where the bands end
 abbrev pub foot_of : Drawing → ℕ
@@ -94,7 +94,7 @@ below_text f d = flat_map (strip_text f) d.strips.items ++ flat_map (level_in f)
 
 abbrev pub front_text : Frame → Drawing → List ℕ
 front_text f d =
-    flat_map (bar_in f) d.bars.items ++ flat_map (box_in f) d.boxes.items ++ flat_map (arrow_in f) d.arrows.items
+    flat_map (entry_in Bars f) d.bars.items ++ flat_map (entry_in Boxes f) d.boxes.items ++ flat_map (arrow_in f) d.arrows.items
 
 abbrev pub band_text : Frame → Drawing → List ℕ
 band_text f d = back_text f d ++ below_text f d ++ front_text f d

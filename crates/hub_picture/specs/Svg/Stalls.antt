@@ -2,9 +2,11 @@
 use Rattle.std.specs.Prelude.{ℕ, ◌+◌, ◌-◌, ◌*◌, ◌/◌, List, [], ◌∷◌, ◌++◌, codes, decimal, if◌then◌else◌}
 use Rattle.hub_story.specs.declared.told.Told.{Told}
 use Rattle.hub_picture.specs.declared.frame.Frame.{Frame}
+use Rattle.hub_picture.specs.declared.svg.rect.Rect.{Rect}
 use Rattle.hub_picture.specs.Windows.{has}
-use Rattle.hub_picture.specs.Frames.{x_of, y_of, half_of, lane_of}
+use Rattle.hub_picture.specs.Frames.{x_of, y_of, sizes_of}
 use Rattle.hub_picture.specs.Pieces.{joined}
+use Rattle.hub_picture.specs.Svg.Rects.{rect_text}
 
 -- what is told where one points at it
 abbrev pub stall_title : Told → List ℕ
@@ -16,15 +18,17 @@ stall_title t =
     ∷ codes "\n"
     ∷ [])
 
+-- as wide as the step, and as high as the lane
+abbrev pub stall_rect : Frame → Told → Rect
+stall_rect f t = record {
+  x = x_of f t.by - (sizes_of f.scale).half;
+  y = y_of f t.event.pid.0 - (sizes_of f.scale).lane / 2;
+  width = 2 * (sizes_of f.scale).half;
+  height = (sizes_of f.scale).lane;
+}
+
 abbrev pub stall_body : Frame → Told → List ℕ
-stall_body f t =
-    joined (
-    codes "</title><rect x=\"" ∷ decimal (x_of f t.by - half_of f.scale)
-    ∷ codes "\" y=\"" ∷ decimal (y_of f t.event.pid.0 - lane_of f.scale / 2)
-    ∷ codes "\" width=\"" ∷ decimal (2 * half_of f.scale)
-    ∷ codes "\" height=\"" ∷ decimal (lane_of f.scale)
-    ∷ codes "\"/></g>\n"
-    ∷ [])
+stall_body f t = rect_text (stall_rect f t) ++ codes "</g>\n"
 
 abbrev pub stall_text : Frame → Told → List ℕ
 stall_text f t = codes "<g class=\"stall\"><title>" ++ stall_title t ++ stall_body f t

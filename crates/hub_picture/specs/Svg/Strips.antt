@@ -7,10 +7,12 @@ use Rattle.hub_picture.specs.declared.frame.Frame.{Frame}
 use Rattle.hub_picture.specs.declared.frame.TheConstants.{LEFT, FULL}
 use Rattle.hub_picture.specs.declared.strips.Strip.{Strip}
 use Rattle.hub_picture.specs.declared.levels.Held.{Held}
+use Rattle.hub_picture.specs.declared.svg.rect.Rect.{Rect}
 use Rattle.hub_picture.specs.Frames.{x_of, floor_of, until}
 use Rattle.hub_picture.specs.Labels.{hue_of}
 use Rattle.hub_picture.specs.Levels.{shows_level}
 use Rattle.hub_picture.specs.Pieces.{until_text, joined}
+use Rattle.hub_picture.specs.Svg.Rects.{rect_text}
 
 -- how high so many values stand, of those that there is room for
 abbrev pub height : ℕ → ℕ → ℕ
@@ -57,15 +59,14 @@ level_title h =
 abbrev pub level_opening : Port → List ℕ
 level_opening p = joined (codes "<g class=\"level h" ∷ decimal (hue_of p) ∷ codes "\"><title>" ∷ [])
 
-abbrev pub level_body : Frame → Held → List ℕ
-level_body f h =
-    joined (
-    codes "</title><rect x=\"" ∷ decimal (x_of f h.from)
-    ∷ codes "\" y=\"" ∷ decimal (floor_of f h.strip.row - height h.strip.room (count_of h.level))
-    ∷ codes "\" width=\"" ∷ decimal (x_of f (until f h.until) - x_of f h.from)
-    ∷ codes "\" height=\"" ∷ decimal (height h.strip.room (count_of h.level))
-    ∷ codes "\"/>"
-    ∷ [])
+-- on the floor of the strip, from where it began to where it ended
+abbrev pub level_rect : Frame → Held → Rect
+level_rect f h = record {
+  x = x_of f h.from;
+  y = floor_of f h.strip.row - height h.strip.room (count_of h.level);
+  width = x_of f (until f h.until) - x_of f h.from;
+  height = height h.strip.room (count_of h.level);
+}
 
 -- behind a level that stays so how many values it is
 abbrev pub stay_text : Frame → Held → List ℕ
@@ -83,7 +84,7 @@ stay_in f h (Some until) = []
 
 -- the level, what stays, and the end of the element
 abbrev pub drawn_level : Frame → Held → List ℕ
-drawn_level f h = level_body f h ++ stay_in f h h.until ++ codes "</g>\n"
+drawn_level f h = rect_text (level_rect f h) ++ stay_in f h h.until ++ codes "</g>\n"
 
 abbrev pub level_text : Frame → Held → List ℕ
 level_text f h = level_opening h.strip.port ++ level_title h ++ drawn_level f h

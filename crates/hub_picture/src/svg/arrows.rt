@@ -17,7 +17,7 @@ use std::alloc::AllocError;
 fn side(frame: Frame, pid: Pid, other: Pid) -> u64
     ensures { result ≡ side_of frame pid.0 other.0 }
 {
-    let (y, half) = (frame.y(pid.0), frame.scale.size() / 2);
+    let (y, half) = (frame.y(pid.0), frame.scale.sizes().size / 2);
     if other.0 < pid.0 {
         y - half
     } else if pid.0 < other.0 {
@@ -101,16 +101,13 @@ fn ends_in(frame: Frame, arrow: &Arrow) -> bool
     frame.steps.has(arrow.passage.sent.told.by) || frame.steps.has(arrow.passage.received.told.by)
 }
 
-/// Arrows, where this band has an end of them.
-#[derive(Clone, Copy)]
-pub(crate) struct Arrows(pub Frame);
-
-impl Pen<Arrow> for Arrows {
-    ghost text = { λ pen. arrow_in pen.0 };
+/// Arrows, where the band has an end of them.
+impl Pen<Arrow> for Frame {
+    ghost text = { arrow_in };
 
     fn put(&self, out: &mut Vec<u8>, arrow: &Arrow) -> Result<(), AllocError> {
-        if ends_in(self.0, arrow) {
-            put_arrow(out, self.0, arrow)
+        if ends_in(*self, arrow) {
+            put_arrow(out, *self, arrow)
         } else {
             Ok(())
         }

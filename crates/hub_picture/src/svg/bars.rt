@@ -1,14 +1,14 @@
 //! The bars of calls that waited.
 
+ghost use Rattle.std.specs.Prelude.{◌≡◌};
 ghost use Rattle.hub_picture.specs.Pieces.{Appends};
-ghost use Rattle.hub_picture.specs.Svg.Bars.{bar_body, bar_in, bar_text, drawn_bar, knob_in, knob_text};
+ghost use Rattle.hub_picture.specs.Svg.Bars.{bar_rect, drawn_bar, knob_in, knob_text};
 
+use super::rect::{Rect, put_rect};
 use crate::Asked;
-use crate::asked::{Shown, ended_by, shows};
+use crate::asked::ended_by;
 use crate::frame::Frame;
-use crate::pen::Pen;
 use crate::piece::{put, put_filled};
-use crate::svg::boxes::{put_asked_title, put_opening};
 use hub_base::Pid;
 use hub_story::Told;
 use std::alloc::AllocError;
@@ -20,7 +20,11 @@ fn put_knob(out: &mut Vec<u8>, frame: Frame, pid: Pid, end: &Told) -> Result<(),
     put_filled(
         out,
         &[b"<circle cx=\"", b"\" cy=\"", b"\" r=\"", b"\"/>"],
-        &[frame.x(end.by), frame.y(pid.0), frame.scale.thick() + 1],
+        &[
+            frame.x(end.by),
+            frame.y(pid.0),
+            frame.scale.sizes().thick + 1,
+        ],
     )
 }
 
@@ -39,57 +43,26 @@ fn put_knob_in(
     }
 }
 
-/// Appends the bar itself.
-fn put_body(out: &mut Vec<u8>, frame: Frame, asked: &Asked) -> Result<(), AllocError>
-    ensures { Appends out.old out.new (bar_body frame asked.now) result }
+/// Where the bar stands.
+fn rect_of(frame: Frame, asked: &Asked) -> Rect
+    ensures { result ≡ bar_rect frame asked.now }
 {
     let x = frame.x(asked.place);
-    let y = frame.y(asked.entry.pid.0);
     let end = frame.x(frame.until(ended_by(asked.ended)));
-    let thick = frame.scale.thick();
-    put_filled(
-        out,
-        &[
-            b"</title><rect x=\"",
-            b"\" y=\"",
-            b"\" width=\"",
-            b"\" height=\"",
-            b"\"/>",
-        ],
-        &[x, y - thick, end.saturating_sub(x), 2 * thick],
-    )
+    let thick = frame.scale.sizes().thick;
+    Rect {
+        x,
+        y: frame.y(asked.entry.pid.0) - thick,
+        width: end.saturating_sub(x),
+        height: 2 * thick,
+    }
 }
 
-/// Appends the bar, its knob, and the end of the element.
-fn put_drawn(out: &mut Vec<u8>, frame: Frame, asked: &Asked) -> Result<(), AllocError>
+/// Appends the bar of a call, its knob, and the end of the element.
+pub(crate) fn put_bar(out: &mut Vec<u8>, frame: Frame, asked: &Asked) -> Result<(), AllocError>
     ensures { Appends out.old out.new (drawn_bar frame asked.now) result }
 {
-    put_body(out, frame, asked)?;
+    put_rect(out, rect_of(frame, asked))?;
     put_knob_in(out, frame, asked.entry.pid, asked.ended)?;
     put(out, b"</g>\n")
-}
-
-/// Appends the bar of a call.
-fn put_bar(out: &mut Vec<u8>, frame: Frame, asked: &Asked) -> Result<(), AllocError>
-    ensures { Appends out.old out.new (bar_text frame asked.now) result }
-{
-    put_opening(out, b"bar", asked)?;
-    put_asked_title(out, asked)?;
-    put_drawn(out, frame, asked)
-}
-
-/// Bars, where their calls wait in this band.
-#[derive(Clone, Copy)]
-pub(crate) struct Bars(pub Frame);
-
-impl Pen<Asked> for Bars {
-    ghost text = { λ pen. bar_in pen.0 };
-
-    fn put(&self, out: &mut Vec<u8>, asked: &Asked) -> Result<(), AllocError> {
-        if shows(Shown::Bars, self.0.steps, asked.place, asked.ended) {
-            put_bar(out, self.0, asked)
-        } else {
-            Ok(())
-        }
-    }
 }

@@ -10,15 +10,12 @@ use crate::pen::Pen;
 use crate::piece::put_filled;
 use std::alloc::AllocError;
 
-/// Lanes, in this band: each until its process exits.
-#[derive(Clone, Copy)]
-pub(crate) struct Lanes(pub Frame);
-
-impl Pen<Lane> for Lanes {
-    ghost text = { λ pen. lane_text pen.0 };
+/// Lanes, in the band: each until its process exits.
+impl Pen<Lane> for Frame {
+    ghost text = { lane_text };
 
     fn put(&self, out: &mut Vec<u8>, lane: &Lane) -> Result<(), AllocError> {
-        let y = self.0.y(lane.pid);
+        let y = self.y(lane.pid);
         put_filled(
             out,
             &[
@@ -34,7 +31,7 @@ impl Pen<Lane> for Lanes {
             &[
                 LEFT,
                 y,
-                self.0.x(self.0.until(lane.exited)),
+                self.x(self.until(lane.exited)),
                 y,
                 LEFT - 8,
                 y + 4,
@@ -58,7 +55,7 @@ fn put_tick(out: &mut Vec<u8>, frame: Frame, place: u32) -> Result<(), AllocErro
         ],
         &[
             frame.x(place),
-            frame.y(0) - frame.scale.size(),
+            frame.y(0) - frame.scale.sizes().size,
             number_of(place),
         ],
     )
@@ -68,7 +65,7 @@ fn put_tick(out: &mut Vec<u8>, frame: Frame, place: u32) -> Result<(), AllocErro
 fn put_tick_in(out: &mut Vec<u8>, frame: Frame, place: u32) -> Result<(), AllocError>
     ensures { Appends out.old out.new (tick_in frame place) result }
 {
-    if number_of(place) % u64::from(frame.scale.tick()) == 0 {
+    if number_of(place) % frame.scale.sizes().tick == 0 {
         put_tick(out, frame, place)
     } else {
         Ok(())

@@ -3,9 +3,8 @@
 ghost use Rattle.std.specs.Prelude.{◌≡◌};
 ghost use Rattle.std.specs.List.{list_any};
 ghost use Rattle.hub_picture.specs.Pieces.{Appends};
-ghost use Rattle.hub_picture.specs.Svg.Legend.{box_rows, edge_rows, has_mark, is_closed, is_drained, legend_text, mark_text};
-ghost use Rattle.hub_picture.specs.Svg.Legend.{mark_words, occurs, row_text, shape_rows};
-ghost use Rattle.hub_story.specs.Waiting.{is_stalled};
+ghost use Rattle.hub_picture.specs.Svg.Legend.{box_rows, edge_rows, has_mark, legend_text, mark_text, mark_words};
+ghost use Rattle.hub_picture.specs.Svg.Legend.{occurs, of_end, of_label, row_text, shape_rows};
 
 use crate::label::{Label, label_of, last_told};
 use crate::pen::{Pen, put_each};
@@ -49,38 +48,10 @@ pub(crate) enum Mark {
     Levels,
 }
 
-/// Whether a call found its port closed and drained.
-fn is_drained(what: What) -> bool
-    ensures { result ≡ is_drained what }
+/// Whether a label has the mark.
+fn of_label(mark: Mark, label: Label) -> bool
+    ensures { result ≡ of_label mark label }
 {
-    match what {
-        What::Fired { outcome, .. } => matches!(outcome, Outcome::Drained),
-        _ => false,
-    }
-}
-
-/// Whether it sent on a closed port.
-fn is_closed(what: What) -> bool
-    ensures { result ≡ is_closed what }
-{
-    match what {
-        What::Fired { outcome, .. } => matches!(outcome, Outcome::Closed),
-        _ => false,
-    }
-}
-
-/// Whether it was stalled.
-fn is_stalled(what: What) -> bool
-    ensures { result ≡ is_stalled what }
-{
-    matches!(what, What::Stalled)
-}
-
-/// Whether an entry has the mark.
-fn has_mark(mark: Mark, asked: &Asked) -> bool
-    ensures { result ≡ has_mark mark asked.now }
-{
-    let (label, what) = (label_of(asked), last_told(asked.ended));
     match mark {
         Mark::Boxes => true,
         Mark::Makes => matches!(label, Label::Make(_)),
@@ -89,12 +60,32 @@ fn has_mark(mark: Mark, asked: &Asked) -> bool
         Mark::Defaults => matches!(label, Label::Default),
         Mark::Cancels => matches!(label, Label::Cancel(_)),
         Mark::Refused => matches!(label, Label::Refused(_)),
-        Mark::Open => matches!(what, What::Parked),
-        Mark::Drained => is_drained(what),
-        Mark::Cancelled => matches!(what, What::Cancelled),
-        Mark::Trouble => is_stalled(what) || is_closed(what),
-        Mark::Bars | Mark::Arrows | Mark::Stalls | Mark::Levels => false,
+        _ => false,
     }
+}
+
+/// Whether an end has it.
+fn of_end(mark: Mark, what: What) -> bool
+    ensures { result ≡ of_end mark what }
+{
+    match what {
+        What::Parked => matches!(mark, Mark::Open),
+        What::Cancelled => matches!(mark, Mark::Cancelled),
+        What::Stalled => matches!(mark, Mark::Trouble),
+        What::Fired { outcome, .. } => match outcome {
+            Outcome::Drained => matches!(mark, Mark::Drained),
+            Outcome::Closed => matches!(mark, Mark::Trouble),
+            Outcome::Sent | Outcome::Got(_) => false,
+        },
+        _ => false,
+    }
+}
+
+/// Whether an entry has it.
+fn has_mark(mark: Mark, asked: &Asked) -> bool
+    ensures { result ≡ has_mark mark asked.now }
+{
+    of_label(mark, label_of(asked)) || of_end(mark, last_told(asked.ended))
 }
 
 /// Whether one of these boxes has the mark.

@@ -45,7 +45,7 @@ pub(crate) fn scale_of(drawing: &Drawing) -> Scale
 pub(crate) fn bands_of(drawing: &Drawing) -> u32
     ensures { result ≡ bands_of drawing.now }
 {
-    let steps = u64::from(scale_of(drawing).steps());
+    let steps = scale_of(drawing).sizes().steps;
     ((u64::from(shown_of(drawing)) + steps - 1) / steps) as u32
 }
 
@@ -53,9 +53,9 @@ pub(crate) fn bands_of(drawing: &Drawing) -> u32
 fn width_of(drawing: &Drawing) -> u64
     ensures { result ≡ width_of drawing.now }
 {
-    let scale = scale_of(drawing);
-    let steps = shown_of(drawing).min(scale.steps());
-    LEFT + (2 * scale.half() * u64::from(steps)).max(660) + 56
+    let sizes = scale_of(drawing).sizes();
+    let steps = u64::from(shown_of(drawing)).min(sizes.steps);
+    LEFT + (2 * sizes.half * steps).max(660) + 56
 }
 
 /// Where the bands end.

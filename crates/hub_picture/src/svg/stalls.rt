@@ -1,8 +1,10 @@
 //! The bands of those who were stalled.
 
+ghost use Rattle.std.specs.Prelude.{◌≡◌};
 ghost use Rattle.hub_picture.specs.Pieces.{Appends};
-ghost use Rattle.hub_picture.specs.Svg.Stalls.{stall_body, stall_in, stall_text, stall_title};
+ghost use Rattle.hub_picture.specs.Svg.Stalls.{stall_body, stall_in, stall_rect, stall_text, stall_title};
 
+use super::rect::{Rect, put_rect};
 use crate::frame::{Frame, number_of};
 use crate::pen::Pen;
 use crate::piece::{put, put_filled};
@@ -29,27 +31,25 @@ fn put_title(out: &mut Vec<u8>, told: &Told) -> Result<(), AllocError>
     )
 }
 
+/// Where the band stands.
+fn rect_of(frame: Frame, told: &Told) -> Rect
+    ensures { result ≡ stall_rect frame told.now }
+{
+    let sizes = frame.scale.sizes();
+    Rect {
+        x: frame.x(told.by) - sizes.half,
+        y: frame.y(told.event.pid.0) - sizes.lane / 2,
+        width: 2 * sizes.half,
+        height: sizes.lane,
+    }
+}
+
 /// Appends the band itself.
 fn put_body(out: &mut Vec<u8>, frame: Frame, told: &Told) -> Result<(), AllocError>
     ensures { Appends out.old out.new (stall_body frame told.now) result }
 {
-    let (half, lane) = (frame.scale.half(), frame.scale.lane());
-    put_filled(
-        out,
-        &[
-            b"</title><rect x=\"",
-            b"\" y=\"",
-            b"\" width=\"",
-            b"\" height=\"",
-            b"\"/></g>\n",
-        ],
-        &[
-            frame.x(told.by) - half,
-            frame.y(told.event.pid.0) - lane / 2,
-            2 * half,
-            lane,
-        ],
-    )
+    put_rect(out, rect_of(frame, told))?;
+    put(out, b"</g>\n")
 }
 
 /// Appends the band of a process that was stalled.
@@ -61,16 +61,13 @@ fn put_stall(out: &mut Vec<u8>, frame: Frame, told: &Told) -> Result<(), AllocEr
     put_body(out, frame, told)
 }
 
-/// Stalls, where this band has their step.
-#[derive(Clone, Copy)]
-pub(crate) struct Stalls(pub Frame);
-
-impl Pen<Told> for Stalls {
-    ghost text = { λ pen. stall_in pen.0 };
+/// Stalls, where the band has their step.
+impl Pen<Told> for Frame {
+    ghost text = { stall_in };
 
     fn put(&self, out: &mut Vec<u8>, told: &Told) -> Result<(), AllocError> {
-        if self.0.steps.has(told.by) {
-            put_stall(out, self.0, told)
+        if self.steps.has(told.by) {
+            put_stall(out, *self, told)
         } else {
             Ok(())
         }

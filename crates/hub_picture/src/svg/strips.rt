@@ -2,9 +2,10 @@
 
 ghost use Rattle.std.specs.Prelude.{◌≡◌, ◌≤◌};
 ghost use Rattle.hub_picture.specs.Pieces.{Appends};
-ghost use Rattle.hub_picture.specs.Svg.Strips.{count_of, drawn_level, height, level_body, level_in, level_opening, level_text};
+ghost use Rattle.hub_picture.specs.Svg.Strips.{count_of, drawn_level, height, level_in, level_opening, level_rect, level_text};
 ghost use Rattle.hub_picture.specs.Svg.Strips.{level_title, stay_in, stay_text, strip_body, strip_text, strip_title};
 
+use super::rect::{Rect, put_rect};
 use crate::frame::{FULL, Frame, LEFT, number_of};
 use crate::levels::shows_level;
 use crate::pen::Pen;
@@ -67,17 +68,14 @@ fn put_strip_body(out: &mut Vec<u8>, frame: Frame, strip: &Strip) -> Result<(), 
     )
 }
 
-/// Strips of ports, in this band.
-#[derive(Clone, Copy)]
-pub(crate) struct Strips(pub Frame);
-
-impl Pen<Strip> for Strips {
-    ghost text = { λ pen. strip_text pen.0 };
+/// Strips of ports, in the band.
+impl Pen<Strip> for Frame {
+    ghost text = { strip_text };
 
     fn put(&self, out: &mut Vec<u8>, strip: &Strip) -> Result<(), AllocError> {
         put(out, b"<g class=\"strip\"><title>")?;
         put_strip_title(out, strip)?;
-        put_strip_body(out, self.0, strip)
+        put_strip_body(out, *self, strip)
     }
 }
 
@@ -120,25 +118,19 @@ fn put_level_title(out: &mut Vec<u8>, held: &Held) -> Result<(), AllocError>
     )
 }
 
-/// Appends the level itself.
-fn put_level_body(out: &mut Vec<u8>, frame: Frame, held: &Held) -> Result<(), AllocError>
-    ensures { Appends out.old out.new (level_body frame held.now) result }
+/// Where the level stands.
+fn rect_of(frame: Frame, held: &Held) -> Rect
+    ensures { result ≡ level_rect frame held.now }
 {
     let x = frame.x(held.from);
     let end = frame.x(frame.until(held.until));
-    let floor = frame.floor(held.strip.row);
     let high = height(held.strip.room, count_of(held.level));
-    put_filled(
-        out,
-        &[
-            b"</title><rect x=\"",
-            b"\" y=\"",
-            b"\" width=\"",
-            b"\" height=\"",
-            b"\"/>",
-        ],
-        &[x, floor.saturating_sub(high), end.saturating_sub(x), high],
-    )
+    Rect {
+        x,
+        y: frame.floor(held.strip.row).saturating_sub(high),
+        width: end.saturating_sub(x),
+        height: high,
+    }
 }
 
 /// Appends how many values stay behind a level.
@@ -175,7 +167,7 @@ fn put_stay_in(out: &mut Vec<u8>, frame: Frame, held: &Held) -> Result<(), Alloc
 fn put_drawn(out: &mut Vec<u8>, frame: Frame, held: &Held) -> Result<(), AllocError>
     ensures { Appends out.old out.new (drawn_level frame held.now) result }
 {
-    put_level_body(out, frame, held)?;
+    put_rect(out, rect_of(frame, held))?;
     put_stay_in(out, frame, held)?;
     put(out, b"</g>\n")
 }
@@ -189,16 +181,13 @@ fn put_level(out: &mut Vec<u8>, frame: Frame, held: &Held) -> Result<(), AllocEr
     put_drawn(out, frame, held)
 }
 
-/// Levels, where this band shows them.
-#[derive(Clone, Copy)]
-pub(crate) struct Levels(pub Frame);
-
-impl Pen<Held> for Levels {
-    ghost text = { λ pen. level_in pen.0 };
+/// Levels, where the band shows them.
+impl Pen<Held> for Frame {
+    ghost text = { level_in };
 
     fn put(&self, out: &mut Vec<u8>, held: &Held) -> Result<(), AllocError> {
-        if shows_level(self.0.steps, held) {
-            put_level(out, self.0, held)
+        if shows_level(self.steps, held) {
+            put_level(out, *self, held)
         } else {
             Ok(())
         }

@@ -1,8 +1,5 @@
-use Rattle.hub_picture.proofs.Appended.{refused, three}
+use Rattle.hub_picture.proofs.Appended.{three}
 use Rattle.hub_picture.proofs.svg.arrows.put_arrow.Goals as goal
-
-pub returns-in_err-put_title : goal.returns-in_err-put_title
-returns-in_err-put_title c = refused c.from_residual-in_err-put_title.ensures.0 (_, c.in_ok-put_opening.ensures.ok) c.in_err-put_title.ensures.err
 
 pub returns : goal.returns
 returns c = three _ _ _ c.in_ok-put_opening.ensures.ok c.in_ok-put_title.ensures.ok c.put_body.ensures

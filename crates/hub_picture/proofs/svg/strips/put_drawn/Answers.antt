@@ -1,9 +1,5 @@
-use Rattle.hub_picture.proofs.Appended.{refused, three}
+use Rattle.hub_picture.proofs.Appended.{three}
 use Rattle.hub_picture.proofs.svg.strips.put_drawn.Goals as goal
 
-pub returns-in_err-put_stay_in : goal.returns-in_err-put_stay_in
-returns-in_err-put_stay_in c =
-    refused c.from_residual-in_err-put_stay_in.ensures.0 (_, c.in_ok-put_level_body.ensures.ok) c.in_err-put_stay_in.ensures.err
-
 pub returns : goal.returns
-returns c = three _ _ _ c.in_ok-put_level_body.ensures.ok c.in_ok-put_stay_in.ensures.ok c.put.ensures
+returns c = three _ _ _ (rw c.rect_of.ensures at c.in_ok-put_rect.ensures.ok) c.in_ok-put_stay_in.ensures.ok c.put.ensures

@@ -5,14 +5,15 @@ ghost use Rattle.hub_story.specs.Levels.{told_by};
 ghost use Rattle.hub_story.specs.Stories.{IsFrom};
 ghost use Rattle.hub_story.specs.Waiting.{is_stalled};
 ghost use Rattle.hub_story_text.specs.Explained.{IsExplained, entries_of, told_of};
-ghost use Rattle.hub_story_text.specs.LastMoves.{AreLast, IsWhole};
-ghost use Rattle.hub_story_text.specs.StoryText.{came_by, step_text, steps_text};
+ghost use Rattle.hub_story_text.specs.LastMoves.{AreLast, IsWhole, mover_at};
+ghost use Rattle.hub_story_text.specs.StoryText.{came_by, stall_heading, steps_text};
+ghost use Rattle.hub_story_text.specs.WaiterText.{waiters_words};
 
 use crate::Window;
 use crate::explained::{Explained, put_told_line};
 use crate::last_moves::LastMoves;
 use crate::waiters::put_waiters;
-use hub_base::{Entry, NoMemory, What};
+use hub_base::{NoMemory, What};
 use hub_story::Told;
 use std::alloc::{AllocError, Global};
 
@@ -49,30 +50,25 @@ fn stalled_of(alloc: Global, came: &[Told]) -> Result<Vec<Told>, AllocError>
     Ok(stalled)
 }
 
-/// Appends the line of the entry at this place, and those whom its step stalled.
-fn put_step(
+/// Appends those whom a step stalled.
+fn put_stalled(
     out: &mut Vec<u8>,
     explained: &Explained,
     moves: &LastMoves,
-    place: usize,
-    entry: &Entry,
     came: &[Told],
 ) -> Result<(), NoMemory>
-    requires explained { IsExplained explained.now }
-    requires within { place < length (entries_of explained.now) }
-    requires came { came.now ≡ came_by place (told_of explained.now) }
-    requires last { AreLast (entries_of explained.now) (told_by (place + 1) (told_of explained.now)) moves.now }
-    ensures { OnOk result (out.new.items ≡
-        out.old.items ++ step_text (entries_of explained.now) (told_of explained.now) place entry.now) }
+    ensures { OnOk result (out.new.items ≡ out.old.items
+        ++ waiters_words [] stall_heading (entries_of explained.now)
+        (mover_at moves.now.sent.items) (mover_at moves.now.received.items) moves.now.left.items
+        (filter (λ t. is_stalled t.event.what) came.now)) }
 {
-    put_told_line(out, explained, place as u32, entry, came)?;
     let stalled = stalled_of(*out.allocator(), came)?;
     let entries = explained.journal.entries();
     put_waiters(out, b"", STALL_HEADING, entries, moves, &stalled)?;
     Ok(())
 }
 
-/// Appends the lines of the steps that the window has, and takes in all that is told.
+/// Appends the lines of the steps that the window has, below each those whom it stalled, and takes in all that is told.
 pub(crate) fn put_steps(
     out: &mut Vec<u8>,
     moves: &mut LastMoves,
@@ -93,7 +89,8 @@ pub(crate) fn put_steps(
         let (came, later) = rest.split_at(count_of(rest, place as u32));
         moves.note_all(entries, came)?;
         if window.has(place) {
-            put_step(out, explained, moves, place, entry, came)?;
+            put_told_line(out, explained, place as u32, entry, came)?;
+            put_stalled(out, explained, moves, came)?;
         }
         rest = later;
     }

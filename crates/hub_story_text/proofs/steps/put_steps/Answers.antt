@@ -3,10 +3,11 @@ use Rattle.hub_story.specs.Levels.{told_by}
 use Rattle.hub_story_text.specs.Explained.{entries_of, told_of}
 use Rattle.hub_story_text.specs.LastMoves.{AreLast}
 use Rattle.hub_story_text.specs.StoryText.{step_text}
+use Rattle.hub_story_text.proofs.Chains.{one-more}
 use Rattle.hub_story_text.proofs.Groups.{first-cut, next-cut, none-before}
-use Rattle.hub_story_text.proofs.StepTexts.{step-shown, step-hidden}
+use Rattle.hub_story_text.proofs.StepTexts.{step-is, step-shown, step-hidden}
 use Rattle.hub_story_text.proofs.steps.put_steps.Goals as goal
-use Rattle.hub_story_text.proofs.steps.put_steps.Goals.{then-has+in_ok-put_step, else-has}
+use Rattle.hub_story_text.proofs.steps.put_steps.Goals.{then-has+in_ok-put_told_line+in_ok-put_stalled, else-has}
 
 pub loop-place-init : goal.loop-place-init
 loop-place-init c =
@@ -18,18 +19,6 @@ loop-place-init c =
       whole = c.requires.whole;
       text = refl;
     })
-
-pub put_step-requires-clause-came : goal.put_step-requires-clause-came
-put_step-requires-clause-came c =
-    (next-cut _ _ _ _ _ _ c.loop-place.invariant.cut c.count_of.ensures.came c.count_of.ensures.rest
-    c.split_at.ensures.front c.split_at.ensures.back).came
-
-pub put_step-requires-clause-last : goal.put_step-requires-clause-last
-put_step-requires-clause-last c =
-    let so = c.loop-place.invariant in
-    let next = next-cut _ _ _ _ _ _ so.cut c.count_of.ensures.came c.count_of.ensures.rest c.split_at.ensures.front c.split_at.ensures.back in
-    let noted = rw c.entries-entries.ensures at c.in_ok-note_all.ensures.last in
-    subst (λ l. AreLast (entries_of c.args.explained.now) l c.note_all.new.self) next.told (noted _ so.last)
 
 pub loop-place-preserved : goal.loop-place-preserved
 loop-place-preserved c =
@@ -43,15 +32,17 @@ loop-place-preserved c =
     let last = subst (λ l. AreLast es l c.note_all.new.self) next.told (noted _ so.last) in
     let below : place < length es = omega (arith, c.loop-place-test.true, ap length c.entries-entries.ensures) in
     elim c.if-has.branch [
-      | then-has+in_ok-put_step w ↦
+      | then-has+in_ok-put_told_line+in_ok-put_stalled w ↦
           rw (w.rest-is, w.out-is) (record {
             cut = next.cut;
             last = last;
             whole = c.note_all.ensures.whole;
             text =
-                step-shown c.args.window es told place c.index-entries-place.result out w.put_step.new.out.items _ below
+                step-shown c.args.window es told place c.index-entries-place.result out w.put_stalled.new.out.items _ below
                 (sym c.has.ensures ∙ w.if-has.true) so.text
-                (w.in_ok-put_step.ensures ∙ ap (λ e. out ++ step_text es told place e) (rw c.entries-entries.ensures at c.index-entries-place.is));
+                (one-more out w.put_told_line.new.out.items w.put_stalled.new.out.items _ _ w.in_ok-put_told_line.ensures w.in_ok-put_stalled.ensures
+                ∙ ap (λ l. out ++ l) (step-is es told place c.index-entries-place.result _ c.note_all.new.self next.came last)
+                ∙ ap (λ e. out ++ step_text es told place e) (rw c.entries-entries.ensures at c.index-entries-place.is));
           })
       | else-has w ↦
           rw (w.rest-is, w.out-is) (record {

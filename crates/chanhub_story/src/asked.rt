@@ -1,7 +1,7 @@
 //! What is asked of a journal.
 
-ghost use Rattle.std.specs.Prelude.{◌≡◌};
-ghost use Rattle.chanhub_story.specs.Windows.{too_long, window_of};
+ghost use Rattle.std.specs.Prelude.{◌≡◌, ◌≤◌, ◌<◌, ◌^◌};
+ghost use Rattle.chanhub_story.specs.Windows.{drawn, too_long, window_of};
 
 use crate::fault::StoryFault;
 use hub_story_text::Window;
@@ -67,5 +67,17 @@ pub(crate) fn window_of(asked: Asked, count: usize) -> Result<Window, StoryFault
             from: from as usize - 1,
             until: to as usize,
         }),
+    }
+}
+
+/// The same window for a picture.
+pub(crate) fn drawn(window: Window) -> hub_picture::Window
+    requires few { window.until < 2 ^ 32 }
+    requires forward { window.from ≤ window.until }
+    ensures { result ≡ drawn window }
+{
+    hub_picture::Window {
+        first: window.from as u32,
+        end: window.until as u32,
     }
 }

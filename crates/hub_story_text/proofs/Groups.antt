@@ -1,10 +1,10 @@
 -- Events that come in the order of their steps: those of one step stand together.
-use Rattle.std.proofs.Common.{◌≡◌, ◌≢◌, ◌≤◌, ◌<◌, ◌+◌, ◌==◌, ℕ, zero, suc, ◌-◌, zero-le}
+use Rattle.std.proofs.Common.{◌≡◌, ◌≢◌, ◌≤◌, ◌<◌, ◌+◌, ◌==◌, ℕ, suc}
 use Rattle.std.proofs.Common.{Bool, true, false, List, [], ◌∷◌, ◌++◌, length, take, drop, filter, nat_lt}
 use Rattle.std.proofs.Common.{refl, ap, ◌∙◌, sym, arith, append-nil, append_assoc, take-append-drop, subst, get_or}
 use Rattle.std.specs.List.{AllByRecursion}
 use Rattle.std.proofs.lemmas.Bool.{eq-eqb, eqb-true, lt-ltb, ltb-true}
-use Rattle.std.proofs.Math.Seq.{drop-cons, take-add}
+use Rattle.std.proofs.Math.Seq.{drop-cons}
 use Rattle.std.proofs.lemmas.List.{drop_all}
 use Rattle.std.proofs.lemmas.List.Elements.{filter-append}
 use Rattle.hub_story.specs.declared.told.Told.{Told}
@@ -12,7 +12,6 @@ use Rattle.hub_story.specs.Levels.{told_by}
 use Rattle.hub_story.specs.Stories.{IsFrom}
 use Rattle.hub_story.specs.Waiting.{is_stalled, stalled_by}
 use Rattle.hub_story_text.specs.StoryText.{came_by}
-use Rattle.hub_story_text.proofs.Chains.{rest-whole}
 
 -- those of later steps only
 later : (place step : ℕ) (ts : List Told) → place < step → IsFrom step ts → came_by place ts ≡ []
@@ -140,32 +139,22 @@ stalled-came place (t ∷ ts) = by (t.by == place) refl (is_stalled t.event.what
     by false e true f rest = rw (e, f) rest
     by false e false f rest = rw (e, f) rest
 
--- ---- the events of a step among all, which are seen as a part of a list
-drop-twice : (a b : ℕ) (xs : List Told) → drop (a + b) xs ≡ drop b (drop a xs)
-drop-twice zero b xs = let same : 0 + b ≡ b = omega arith in ap (λ k. drop k xs) same
-drop-twice (suc a) b [] = drop_all (suc a + b) [] zero-le ∙ sym (drop_all b [] zero-le)
-drop-twice (suc a) b (x ∷ xs) = let next : suc a + b ≡ suc (a + b) = omega arith in ap (λ k. drop k (x ∷ xs)) next ∙ drop-twice a b xs
+-- ---- the events that came by the step at this place, of those from it on, and the cut behind them
+pub record IsNext (place : ℕ) (all here later : List Told) : Type 0 where
+  pub came : here ≡ came_by place all
+  pub told : told_by place all ++ here ≡ told_by (place + 1) all
+  pub cut : IsCut (place + 1) all (told_by (place + 1) all) later
 
-pub record IsGroup (place from n : ℕ) (all seen : List Told) : Type 0 where
-  pub came : take (from + n - from) (drop from seen) ≡ came_by place all
-  pub next : IsCut (place + 1) all (take (from + n) all) (drop (from + n) all)
-  pub joined : take from all ++ take (from + n - from) (drop from seen) ≡ take (from + n) all
+pub first-cut : (all : List Told) → IsFrom 0 all → IsCut 0 all (told_by 0 all) all
+first-cut all so = rw (none-before 0 all so) (record { is = refl; before = tt; rest = so })
 
-pub group : (place from n : ℕ) (all seen : List Told) → seen ≡ all → IsCut place all (take from all) (drop from all) →
-    take n (take (length seen - from) (drop from seen)) ≡ came_by place (take (length seen - from) (drop from seen)) →
-    IsFrom (place + 1) (drop n (take (length seen - from) (drop from seen))) → IsGroup place from n all seen
-group place from n all seen same cut came so =
-    let part : take (length seen - from) (drop from seen) ≡ drop from all = rest-whole from seen all same in
-    let here : take n (drop from all) ≡ came_by place (drop from all) =
-    ap (take n) (sym part) ∙ came ∙ ap (came_by place) part in
-    let after : IsFrom (place + 1) (drop n (drop from all)) = subst (λ l. IsFrom (place + 1) (drop n l)) part so in
-    let size : from + n - from ≡ n = omega arith in
-    let seen-part : take (from + n - from) (drop from seen) ≡ take n (drop from all) =
-    ap (λ k. take k (drop from seen)) size ∙ ap (λ l. take n (drop from l)) same in
-    let next = cut-next place n all (take from all) (drop from all) cut here after in
-    record {
-      came = seen-part ∙ here ∙ sym (cut-came place all (take from all) (drop from all) cut);
-      next = subst (IsCut (place + 1) all (take (from + n) all)) (sym (drop-twice from n all))
-          (subst (λ l. IsCut (place + 1) all l (drop n (drop from all))) (sym (take-add from n all)) next);
-      joined = ap (λ l. take from all ++ l) seen-part ∙ sym (take-add from n all);
-    }
+pub next-cut : (place n : ℕ) (all rest here later : List Told) → IsCut place all (told_by place all) rest → take n rest ≡ came_by place rest →
+    IsFrom (place + 1) (drop n rest) → here ≡ take n rest → later ≡ drop n rest → IsNext place all here later
+next-cut place n all rest here later cut came so front back =
+    let next = cut-next place n all (told_by place all) rest cut came so in
+    let told = sym (cut-told (place + 1) all (told_by place all ++ take n rest) (drop n rest) next) in
+    rw (front, back) (record {
+      came = came ∙ sym (cut-came place all (told_by place all) rest cut);
+      told = told;
+      cut = subst (λ l. IsCut (place + 1) all l (drop n rest)) told next;
+    })

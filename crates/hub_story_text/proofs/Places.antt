@@ -116,19 +116,24 @@ all-read read seen port value es p one (t ∷ ts) =
     more-read read seen p (move_of port es t) (moved_by value es t) (filter_map (move_of port es) ts) (filter_map (moved_by value es) ts) (one t)
     (all-read read seen port value es p one ts)
 
+-- of one side: what is read of the moves is what is seen of their values
+side-read : (read : PortMove → ℕ) (seen : Moved → ℕ) (port : Case → Outcome → Option Port) (value : Option Case → Outcome → Option Value)
+    (es : List Entry) (all : List Told) (p : Port) (ms : List PortMove) → ((t : Told) (c : Option Case) (o : Outcome) →
+    option_and_then (on_port read p) (option_map (move_at t) (port_of port c o)) ≡ option_map seen (option_map (moved t) (value c o))) →
+    ms ≡ filter_map (move_of port es) all → filter_map (on_port read p) ms ≡ map seen (filter_map (moved_by value es) all)
+side-read read seen port value es all p ms one is =
+    ap (filter_map (on_port read p)) is
+    ∙ all-read read seen port value es p (λ t. any-what read seen port value p t (one t) (cases_at es t.asked) t.event.what) all
+
 sent-read : (read : PortMove → ℕ) (seen : Moved → ℕ) → IsSeen read seen → (es : List Entry) (all : List Told) (moves : PortMoves) →
     AreMoves es all moves → (p : Port) → filter_map (on_port read p) moves.sent.items ≡ map seen (sends es all p)
 sent-read read seen same es all moves so p =
-    ap (filter_map (on_port read p)) so.sent
-    ∙ all-read read seen sent_port (sent_on p) es p
-    (λ t. any-what read seen sent_port (sent_on p) p t (sent-case read seen same p t) (cases_at es t.asked) t.event.what) all
+    side-read read seen sent_port (sent_on p) es all p moves.sent.items (sent-case read seen same p) so.sent
 
 received-read : (read : PortMove → ℕ) (seen : Moved → ℕ) → IsSeen read seen → (es : List Entry) (all : List Told) (moves : PortMoves) →
     AreMoves es all moves → (p : Port) → filter_map (on_port read p) moves.received.items ≡ map seen (receives es all p)
 received-read read seen same es all moves so p =
-    ap (filter_map (on_port read p)) so.received
-    ∙ all-read read seen got_port (got_on p) es p
-    (λ t. any-what read seen got_port (got_on p) p t (got-case read seen same p t) (cases_at es t.asked) t.event.what) all
+    side-read read seen got_port (got_on p) es all p moves.received.items (got-case read seen same p) so.received
 
 -- their places
 sent-places : (es : List Entry) (all : List Told) (moves : PortMoves) → AreMoves es all moves → (p : Port) →

@@ -1,7 +1,7 @@
 -- The text of the steps, one by one.
 use Rattle.std.proofs.Common.{◌≡◌, ◌<◌, ◌+◌, ℕ, true, false, List, [], ◌∷◌}
 use Rattle.std.proofs.Common.{◌++◌, length, drop, filter, refl, ap, ◌∙◌, sym, append_assoc, get_or, codes}
-use Rattle.std.proofs.Common.{Option, Some, if◌then◌else◌, add-one, slice_get}
+use Rattle.std.proofs.Common.{Option, Some, if◌then◌else◌, add-one}
 use Rattle.std.specs.List.{flat_map}
 use Rattle.std.proofs.Math.Seq.{drop-cons}
 use Rattle.hub_base.specs.declared.value.Port.{Port}
@@ -9,7 +9,6 @@ use Rattle.hub_base.specs.declared.case.Case.{Case}
 use Rattle.hub_base.specs.declared.case.Case.TheVariants.{Send, Recv}
 use Rattle.hub_base.specs.declared.entry.Entry.{Entry}
 use Rattle.hub_story.specs.declared.told.Told.{Told}
-use Rattle.hub_story.specs.Told.{end_of}
 use Rattle.hub_story.specs.Levels.{told_by}
 use Rattle.hub_story.specs.Waiting.{is_stalled}
 use Rattle.hub_story.specs.Passing.{cases_at}
@@ -19,8 +18,7 @@ use Rattle.hub_story_text.specs.declared.window.Window.{Window}
 use Rattle.hub_story_text.specs.LastMoves.{AreLast, last_sender, last_receiver, mover_at}
 use Rattle.hub_story_text.specs.Leavers.{leavers}
 use Rattle.hub_story_text.specs.StoryText.{came_by, stall_heading, steps_text, step_text, who_waits}
-use Rattle.hub_story_text.specs.LineText.{line}
-use Rattle.hub_story_text.specs.Partners.{partner_of}
+use Rattle.hub_story_text.specs.LineText.{told_line}
 use Rattle.hub_story_text.specs.WaiterText.{case_words, left_words, port_words, waiter_words, waiters_words, who_words}
 use Rattle.hub_story_text.specs.Windows.{has}
 use Rattle.hub_story_text.proofs.Groups.{stalled-came}
@@ -84,22 +82,16 @@ step-hidden w es all place d was text below hidden so =
 pub inside : {A : Type 0} {x y : A} → Some x ≡ Some y → x ≡ y
 inside h = cc
 
-pub step-is : (es : List Entry) (all : List Told) (place : ℕ) (e : Entry) (ends : List (Option Told)) (partners : List (Option ℕ)) (end : Option Told)
-    (partner : Option ℕ) (came : List Told) (moves : LastMoves) → slice_get ends place ≡ Some end → slice_get ends place ≡ Some (end_of all place) →
-    slice_get partners place ≡ Some partner → slice_get partners place ≡ Some (partner_of es all place) → came ≡ came_by place all →
+pub step-is : (es : List Entry) (all : List Told) (place : ℕ) (e : Entry) (came : List Told) (moves : LastMoves) → came ≡ came_by place all →
     AreLast es (told_by (place + 1) all) moves →
-    line es place e end partner came
+    told_line es all place e came
     ++ waiters_words [] stall_heading es (mover_at moves.sent.items) (mover_at moves.received.items) moves.left.items
     (filter (λ t. is_stalled t.event.what) came)
     ≡ step_text es all place e
-step-is es all place e ends partners end partner came moves has-end is-end has-partner is-partner same last =
-    let end-is : end ≡ end_of all place = inside (sym has-end ∙ is-end) in
-    let partner-is : partner ≡ partner_of es all place = inside (sym has-partner ∙ is-partner) in
-    let below : List ℕ =
-    waiters_words [] stall_heading es (mover_at moves.sent.items) (mover_at moves.received.items) moves.left.items
-    (filter (λ t. is_stalled t.event.what) came) in
-    ap (λ o. line es place e o partner came ++ below) end-is ∙ ap (λ o. line es place e (end_of all place) o came ++ below) partner-is
-    ∙ ap (λ l. line es place e (end_of all place) (partner_of es all place) l ++ below) same
-    ∙ ap (λ l. line es place e (end_of all place) (partner_of es all place) (came_by place all) ++ l)
-    (waiters-told [] stall_heading es (told_by (place + 1) all) moves last (filter (λ t. is_stalled t.event.what) came)
-    ∙ ap (who_waits [] stall_heading es (told_by (place + 1) all)) (ap (filter (λ t. is_stalled t.event.what)) same ∙ stalled-came place all))
+step-is es all place e came moves same last =
+    ap (λ l. told_line es all place e l
+    ++ waiters_words [] stall_heading es (mover_at moves.sent.items) (mover_at moves.received.items) moves.left.items
+    (filter (λ t. is_stalled t.event.what) l)) same
+    ∙ ap (λ l. told_line es all place e (came_by place all) ++ l)
+    (waiters-told [] stall_heading es (told_by (place + 1) all) moves last (filter (λ t. is_stalled t.event.what) (came_by place all))
+    ∙ ap (who_waits [] stall_heading es (told_by (place + 1) all)) (stalled-came place all))

@@ -3,6 +3,7 @@ pub mod Cells
 pub mod Writing
 pub mod AnswerText
 pub mod Partners
+pub mod Explained
 pub mod Leavers
 pub mod LastMoves
 pub mod PortMoves

@@ -15,11 +15,13 @@ use Rattle.hub_base.specs.declared.event.What.TheVariants as what
 use Rattle.hub_base.specs.Lines.{step_fields}
 use Rattle.hub_base.specs.Values.{cases_or}
 use Rattle.hub_story.specs.declared.told.Told.{Told}
+use Rattle.hub_story.specs.Told.{end_of}
 use Rattle.hub_story_text.specs.declared.cells.TheConstants.{STEP_WIDTH, ASKS, ANSWER, WAITED, VALUE}
 use Rattle.hub_story_text.specs.declared.ends.Ending.TheVariants.{Frees, Cancels, Stalls}
 use Rattle.hub_story_text.specs.Cells.{right, with_cell}
 use Rattle.hub_story_text.specs.AnswerText.{answer_words, fault_words}
 use Rattle.hub_story_text.specs.EndsText.{with_ends}
+use Rattle.hub_story_text.specs.Partners.{partner_of}
 
 -- the entry's line in the journal, without its newline
 abbrev pub asks : Entry → List ℕ
@@ -73,3 +75,7 @@ line es place e end partner came =
     (with_ends Cancels place came
     (with_ends Frees place came (with_end es place e partner (with_cell ASKS (right STEP_WIDTH (place + 1)) (asks e)) end)))
     ++ codes "\n"
+
+-- so by all that is told
+abbrev pub told_line : List Entry → List Told → ℕ → Entry → List Told → List ℕ
+told_line es all place e came = line es place e (end_of all place) (partner_of es all place) came

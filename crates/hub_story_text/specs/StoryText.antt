@@ -4,15 +4,13 @@ use Rattle.std.specs.Prelude.{ℕ, ◌+◌, ◌==◌, List, [], ◌∷◌, ◌++
 use Rattle.std.specs.List.{flat_map}
 use Rattle.hub_base.specs.declared.entry.Entry.{Entry}
 use Rattle.hub_story.specs.declared.told.Told.{Told}
-use Rattle.hub_story.specs.Told.{end_of}
 use Rattle.hub_story.specs.Levels.{told_by}
 use Rattle.hub_story.specs.Waiting.{stalled_by, still_waiting}
 use Rattle.hub_story_text.specs.declared.window.Window.{Window}
 use Rattle.hub_story_text.specs.Windows.{has}
 use Rattle.hub_story_text.specs.LastMoves.{last_sender, last_receiver}
 use Rattle.hub_story_text.specs.Leavers.{leavers}
-use Rattle.hub_story_text.specs.LineText.{line}
-use Rattle.hub_story_text.specs.Partners.{partner_of}
+use Rattle.hub_story_text.specs.LineText.{told_line}
 use Rattle.hub_story_text.specs.PortText.{made_line}
 use Rattle.hub_story_text.specs.WaiterText.{waiters_words}
 use Rattle.hub_story_text.specs.Waits.{waits_text}
@@ -32,7 +30,7 @@ stall_heading = codes "        stall: everyone who is left waits\n"
 -- the line of a step, and those whom it stalled
 abbrev pub step_text : List Entry → List Told → ℕ → Entry → List ℕ
 step_text es all place e =
-    line es place e (end_of all place) (partner_of es all place) (came_by place all)
+    told_line es all place e (came_by place all)
     ++ who_waits [] stall_heading es (told_by (place + 1) all) (stalled_by all place)
 
 -- so of these entries, the first of which stands at this place, where the window has them

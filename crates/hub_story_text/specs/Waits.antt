@@ -11,8 +11,7 @@ use Rattle.hub_story.specs.Told.{end_of}
 use Rattle.hub_story_text.specs.declared.waits.TheConstants.{MOST_LONGEST}
 use Rattle.hub_story_text.specs.declared.waits.Wait.{Wait}
 use Rattle.hub_story_text.specs.declared.waits.Waits.{Waits}
-use Rattle.hub_story_text.specs.LineText.{line}
-use Rattle.hub_story_text.specs.Partners.{partner_of}
+use Rattle.hub_story_text.specs.LineText.{told_line}
 
 abbrev pub is_call : Step → Bool
 is_call (Call cases default word) = true
@@ -48,8 +47,7 @@ pub record AreWaits (ws : List Wait) (told : Waits) : Type 0 where
 
 -- the line of the step at this place, again
 abbrev pub line_at : List Entry → List Told → Wait → List ℕ
-line_at es all w =
-    option_map_or (λ e. line es w.place e (end_of all w.place) (partner_of es all w.place) []) (slice_get es w.place) []
+line_at es all w = option_map_or (λ e. told_line es all w.place e []) (slice_get es w.place) []
 
 -- how many of the calls waited, and the lines of those that waited longest
 abbrev pub waits_text : List Entry → List Told → List ℕ

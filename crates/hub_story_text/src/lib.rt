@@ -7,6 +7,7 @@ mod cells;
 mod closers;
 mod ends;
 mod entries;
+mod explained;
 mod fullest;
 mod last_moves;
 mod leavers;

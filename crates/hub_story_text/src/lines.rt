@@ -1,6 +1,6 @@
 //! The line of a step.
 
-ghost use Rattle.std.specs.Prelude.{◌≡◌, ◌+◌, ◌-◌, ◌++◌, codes, decimal, OnOk, Some};
+ghost use Rattle.std.specs.Prelude.{◌≡◌, ◌+◌, ◌-◌, ◌++◌, codes, decimal, OnOk};
 ghost use Rattle.hub_story_text.specs.AnswerText.{answer_words};
 ghost use Rattle.hub_story_text.specs.Cells.{with_cell};
 ghost use Rattle.hub_story_text.specs.Writing.{LineBecomes};
@@ -182,26 +182,6 @@ fn value_cell(
     Ok(())
 }
 
-/// What a step was told in the end, how long it waited, and what is known of its value.
-fn put_told(
-    out: &mut Vec<u8>,
-    start: usize,
-    entries: &[Entry],
-    place: u32,
-    entry: &Entry,
-    partner: Option<u32>,
-    end: &Told,
-) -> Result<(), NoMemory>
-    ensures { OnOk result (LineBecomes start out.old.items out.new.items
-        (λ line. with_end entries.now place entry.now partner line (Some end.now))) }
-{
-    let cases = cases_of(&entry.step);
-    answer_cell(out, start, cases, end.event.what)?;
-    waited_cell(out, start, place, end)?;
-    value_cell(out, start, entries, cases, partner, end.event.what)?;
-    Ok(())
-}
-
 /// That it waits, and how long by the last of so many steps.
 fn put_waits(out: &mut Vec<u8>, start: usize, place: u32, count: usize) -> Result<(), NoMemory>
     ensures { OnOk result (LineBecomes start out.old.items out.new.items
@@ -212,7 +192,7 @@ fn put_waits(out: &mut Vec<u8>, start: usize, place: u32, count: usize) -> Resul
     Ok(())
 }
 
-/// What became of a step.
+/// What became of a step: what it was told in the end, how long it waited, and what is known of its value; or that it waits.
 fn put_end(
     out: &mut Vec<u8>,
     start: usize,
@@ -225,10 +205,14 @@ fn put_end(
     ensures { OnOk result (LineBecomes start out.old.items out.new.items
         (λ line. with_end entries.now place entry.now partner line end)) }
 {
-    match end {
-        Some(end) => put_told(out, start, entries, place, entry, partner, &end),
-        None => put_waits(out, start, place, entries.len()),
-    }
+    let Some(end) = end else {
+        return put_waits(out, start, place, entries.len());
+    };
+    let cases = cases_of(&entry.step);
+    answer_cell(out, start, cases, end.event.what)?;
+    waited_cell(out, start, place, &end)?;
+    value_cell(out, start, entries, cases, partner, end.event.what)?;
+    Ok(())
 }
 
 /// Appends the line of the entry at this place.

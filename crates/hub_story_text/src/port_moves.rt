@@ -117,26 +117,20 @@ pub(crate) fn places_on(
 ) -> Result<Vec<u32>, AllocError>
     ensures { IfOk result (λ places. places.items ≡ places_on port moves.now) }
 {
-    let mut places = Vec::new(alloc);
-    for moved in moves {
-        if moved.port.0 == port.0 {
-            places.push(moved.place)?;
-        }
-    }
-    Ok(places)
+    moves
+        .iter()
+        .filter_map(|moved| (moved.port.0 == port.0).then_some(moved.place))
+        .collect(alloc)
 }
 
 /// The places of the steps by which the calls moved their values through this port, in order.
 fn steps_on(alloc: Global, moves: &[PortMove], port: Port) -> Result<Vec<u32>, AllocError>
     ensures { IfOk result (λ steps. steps.items ≡ steps_on port moves.now) }
 {
-    let mut steps = Vec::new(alloc);
-    for moved in moves {
-        if moved.port.0 == port.0 {
-            steps.push(moved.by)?;
-        }
-    }
-    Ok(steps)
+    moves
+        .iter()
+        .filter_map(|moved| (moved.port.0 == port.0).then_some(moved.by))
+        .collect(alloc)
 }
 
 /// How many there are.

@@ -1,20 +1,20 @@
 //! The lines of the steps.
 
-ghost use Rattle.std.specs.Prelude.{◌≡◌, ◌≤◌, ◌<◌, ◌+◌, ◌-◌, ◌^◌, ◌++◌, [], drop, filter, length, slice_get, take, IfOk, OnOk, Some};
-ghost use Rattle.hub_story_text.specs.WaiterText.{waiters_words};
+ghost use Rattle.std.specs.Prelude.{◌≡◌, ◌≤◌, ◌<◌, ◌+◌, ◌++◌, [], drop, filter, length, take, IfOk, OnOk};
 ghost use Rattle.hub_story.specs.Levels.{told_by};
-ghost use Rattle.hub_story.specs.Stories.{IsFrom, IsStoryOf};
+ghost use Rattle.hub_story.specs.Stories.{IsFrom};
 ghost use Rattle.hub_story.specs.Waiting.{is_stalled};
+ghost use Rattle.hub_story_text.specs.Explained.{IsExplained, entries_of, told_of};
 ghost use Rattle.hub_story_text.specs.LastMoves.{AreLast, IsWhole, mover_at};
-ghost use Rattle.hub_story_text.specs.Partners.{AreIn, ways};
-ghost use Rattle.hub_story_text.specs.StoryText.{came_by, stall_heading, step_text, steps_text};
+ghost use Rattle.hub_story_text.specs.StoryText.{came_by, stall_heading, steps_text};
+ghost use Rattle.hub_story_text.specs.WaiterText.{waiters_words};
 
 use crate::Window;
+use crate::explained::{Explained, put_told_line};
 use crate::last_moves::LastMoves;
-use crate::lines::put_line;
 use crate::waiters::put_waiters;
-use hub_base::{Entry, Journal, NoMemory, What};
-use hub_story::{Story, Told};
+use hub_base::{NoMemory, What};
+use hub_story::Told;
 use std::alloc::{AllocError, Global};
 
 /// What stands above those whom a step stalled.
@@ -50,85 +50,49 @@ fn stalled_of(alloc: Global, came: &[Told]) -> Result<Vec<Told>, AllocError>
     Ok(stalled)
 }
 
-/// What stands at this place.
-pub(crate) fn item_at<T: Copy>(items: &[T], place: usize) -> T
-    requires { place < length items.now }
-    ensures { slice_get items.now place ≡ Some result }
-{
-    items[place]
-}
-
 /// Appends those whom a step stalled.
 fn put_stalled(
     out: &mut Vec<u8>,
-    entries: &[Entry],
+    explained: &Explained,
     moves: &LastMoves,
     came: &[Told],
 ) -> Result<(), NoMemory>
     ensures { OnOk result (out.new.items ≡ out.old.items
-        ++ waiters_words [] stall_heading entries.now (mover_at moves.now.sent.items) (mover_at moves.now.received.items)
-        moves.now.left.items (filter (λ t. is_stalled t.event.what) came.now)) }
+        ++ waiters_words [] stall_heading (entries_of explained.now)
+        (mover_at moves.now.sent.items) (mover_at moves.now.received.items) moves.now.left.items
+        (filter (λ t. is_stalled t.event.what) came.now)) }
 {
     let stalled = stalled_of(*out.allocator(), came)?;
+    let entries = explained.journal.entries();
     put_waiters(out, b"", STALL_HEADING, entries, moves, &stalled)?;
     Ok(())
 }
 
-/// Appends the line of the entry at this place, and those whom its step stalled.
-fn put_step(
-    out: &mut Vec<u8>,
-    journal: &Journal,
-    story: &Story,
-    partners: &[Option<u32>],
-    moves: &LastMoves,
-    place: usize,
-    entry: &Entry,
-    came: &[Told],
-) -> Result<(), NoMemory>
-    requires story { IsStoryOf journal.now story.now }
-    requires few { length journal.now.entries < 2 ^ 32 - 1 }
-    requires partners { AreIn (ways journal.now.entries story.now.told.items) (length journal.now.entries) partners.now }
-    requires within { place < length journal.now.entries }
-    requires came { came.now ≡ came_by place story.now.told.items }
-    requires last { AreLast journal.now.entries (told_by (place + 1) story.now.told.items) moves.now }
-    ensures { OnOk result (out.new.items ≡
-        out.old.items ++ step_text journal.now.entries story.now.told.items place entry.now) }
-{
-    let entries = journal.entries();
-    let partner = item_at(partners, place);
-    let end = item_at(&story.ends, place);
-    put_line(out, entries, place as u32, entry, partner, end, came)?;
-    put_stalled(out, entries, moves, came)
-}
-
-/// Appends the lines of the steps that the window has, and takes in all that is told.
+/// Appends the lines of the steps that the window has, below each those whom it stalled, and takes in all that is told.
 pub(crate) fn put_steps(
     out: &mut Vec<u8>,
     moves: &mut LastMoves,
-    journal: &Journal,
-    story: &Story,
-    partners: &[Option<u32>],
+    explained: &Explained,
     window: Window,
 ) -> Result<(), NoMemory>
-    requires story { IsStoryOf journal.now story.now }
-    requires few { length journal.now.entries < 2 ^ 32 - 1 }
-    requires partners { AreIn (ways journal.now.entries story.now.told.items) (length journal.now.entries) partners.now }
-    requires none { AreLast journal.now.entries [] moves.old }
+    requires explained { IsExplained explained.now }
+    requires none { AreLast (entries_of explained.now) [] moves.old }
     requires whole { IsWhole moves.old }
-    ensures text { OnOk result (out.new.items ≡
-        out.old.items ++ steps_text window journal.now.entries story.now.told.items 0 journal.now.entries) }
-    ensures last { OnOk result (AreLast journal.now.entries
-        (told_by (length journal.now.entries) story.now.told.items) moves.new) }
+    ensures text { OnOk result (out.new.items ≡ out.old.items
+        ++ steps_text window (entries_of explained.now) (told_of explained.now) 0 (entries_of explained.now)) }
+    ensures last { OnOk result (AreLast (entries_of explained.now)
+        (told_by (length (entries_of explained.now)) (told_of explained.now)) moves.new) }
 {
-    let mut from = 0;
-    for (place, entry) in journal.entries().iter().enumerate() {
-        let until = from + count_of(&story.told[from..], place as u32);
-        let came = &story.told[from..until];
-        moves.note_all(journal.entries(), came)?;
+    let entries = explained.journal.entries();
+    let mut rest: &[Told] = &explained.story.told;
+    for (place, entry) in entries.iter().enumerate() {
+        let (came, later) = rest.split_at(count_of(rest, place as u32));
+        moves.note_all(entries, came)?;
         if window.has(place) {
-            put_step(out, journal, story, partners, moves, place, entry, came)?;
+            put_told_line(out, explained, place as u32, entry, came)?;
+            put_stalled(out, explained, moves, came)?;
         }
-        from = until;
+        rest = later;
     }
     Ok(())
 }

@@ -2,12 +2,13 @@
 
 ghost use Rattle.std.specs.Prelude.{◌≡◌, ◌<◌, ◌-◌, ◌^◌, ◌++◌, [], length, IfOk, OnOk};
 ghost use Rattle.hub_story.specs.Stories.{IsStoryOf};
+ghost use Rattle.hub_story_text.specs.Explained.{IsExplained, entries_of, told_of};
 ghost use Rattle.hub_story_text.specs.LastMoves.{AreLast, IsWhole};
-ghost use Rattle.hub_story_text.specs.Partners.{AreIn, ways};
 ghost use Rattle.hub_story_text.specs.PortMoves.{AreMoves};
 ghost use Rattle.hub_story_text.specs.StoryText.{story_text};
 
 use crate::Window;
+use crate::explained::Explained;
 use crate::last_moves::LastMoves;
 use crate::partners::partners_of;
 use crate::port_moves::PortMoves;
@@ -30,32 +31,28 @@ const END_NOBODY: &[u8] = b"in the end no call waits\n";
 fn put_story(
     out: &mut Vec<u8>,
     last: &mut LastMoves,
-    journal: &Journal,
-    story: &Story,
+    explained: &Explained,
     moves: &PortMoves,
-    partners: &[Option<u32>],
     window: Window,
 ) -> Result<(), NoMemory>
-    requires story { IsStoryOf journal.now story.now }
-    requires few { length journal.now.entries < 2 ^ 32 - 1 }
-    requires moves { AreMoves journal.now.entries story.now.told.items moves.now }
-    requires partners { AreIn (ways journal.now.entries story.now.told.items) (length journal.now.entries) partners.now }
-    requires none { AreLast journal.now.entries [] last.old }
+    requires explained { IsExplained explained.now }
+    requires moves { AreMoves (entries_of explained.now) (told_of explained.now) moves.now }
+    requires none { AreLast (entries_of explained.now) [] last.old }
     requires whole { IsWhole last.old }
     ensures { OnOk result (out.new.items ≡
-        out.old.items ++ story_text window journal.now.entries story.now.told.items) }
+        out.old.items ++ story_text window (entries_of explained.now) (told_of explained.now)) }
 {
     out.extend_from_slice(HEADING)?;
-    put_steps(out, last, journal, story, partners, window)?;
-    put_ports(out, journal, story, moves)?;
-    put_waits(out, journal, story, partners)?;
+    put_steps(out, last, explained, window)?;
+    put_ports(out, explained.journal, explained.story, moves)?;
+    put_waits(out, explained)?;
     put_waiters(
         out,
         END_NOBODY,
         END_HEADING,
-        journal.entries(),
+        explained.journal.entries(),
         last,
-        &story.waiting,
+        &explained.story.waiting,
     )?;
     Ok(())
 }
@@ -75,10 +72,13 @@ pub fn story_text(
 {
     let moves = PortMoves::of(alloc, journal.entries(), &story.told)?;
     let partners = partners_of(alloc, journal, story, &moves)?;
+    let explained = Explained {
+        journal,
+        story,
+        partners: &partners,
+    };
     let mut last = LastMoves::new(alloc)?;
     let mut out = Vec::new(alloc);
-    put_story(
-        &mut out, &mut last, journal, story, &moves, &partners, window,
-    )?;
+    put_story(&mut out, &mut last, &explained, &moves, window)?;
     Ok(out)
 }

@@ -2,16 +2,14 @@
 
 ghost use Rattle.std.specs.Prelude.{◌≡◌, ◌≤◌, ◌<◌, ◌+◌, ◌-◌, ◌^◌, ◌++◌, List, [], count_by, insert, length, take, IfOk, OnOk};
 ghost use Rattle.std.specs.List.{cons_option, flat_map};
-ghost use Rattle.hub_story.specs.Stories.{IsStoryOf};
 ghost use Rattle.hub_story_text.specs.declared.waits.Wait.{Wait};
-ghost use Rattle.hub_story_text.specs.Partners.{AreIn, ways};
+ghost use Rattle.hub_story_text.specs.Explained.{IsExplained, entries_of, told_of};
 ghost use Rattle.hub_story_text.specs.Waits.{AreWaits, is_call, line_at, wait_of, waits, waits_text, with_wait};
 
-use crate::lines::put_line;
+use crate::explained::{Explained, put_told_line};
 use crate::numbers::put_number;
-use crate::steps::item_at;
-use hub_base::{Entry, Journal, NoMemory, Step};
-use hub_story::{Story, Told};
+use hub_base::{Entry, NoMemory, Step};
+use hub_story::Told;
 use std::alloc::{AllocError, Global};
 
 /// How many of the longest waits are told.
@@ -94,19 +92,17 @@ impl Waits {
     }
 
     /// All of a journal.
-    fn of(alloc: Global, journal: &Journal, story: &Story) -> Result<Waits, AllocError>
-        requires story { IsStoryOf journal.now story.now }
-        requires few { length journal.now.entries < 2 ^ 32 - 1 }
-        ensures { IfOk result (AreWaits (waits journal.now.entries story.now.told.items)) }
+    fn of(alloc: Global, explained: &Explained) -> Result<Waits, AllocError>
+        requires explained { IsExplained explained.now }
+        ensures { IfOk result (AreWaits (waits (entries_of explained.now) (told_of explained.now))) }
     {
-        let count = journal.entries().len();
+        let count = explained.journal.entries().len();
         let mut waits = Waits {
             count: 0,
             longest: Vec::new(alloc),
         };
         for place in 0..count {
-            let end = item_at(&story.ends, place);
-            waits.note(wait_of(count, place, end))?;
+            waits.note(wait_of(count, place, explained.end(place)))?;
         }
         Ok(waits)
     }
@@ -124,61 +120,38 @@ fn calls_of(entries: &[Entry]) -> usize
 }
 
 /// Appends the line of the step whose call waited so.
-fn put_wait(
-    out: &mut Vec<u8>,
-    journal: &Journal,
-    story: &Story,
-    partners: &[Option<u32>],
-    wait: Wait,
-) -> Result<(), NoMemory>
-    requires story { IsStoryOf journal.now story.now }
-    requires partners { AreIn (ways journal.now.entries story.now.told.items) (length journal.now.entries) partners.now }
-    ensures { OnOk result (out.new.items ≡ out.old.items ++ line_at journal.now.entries story.now.told.items wait) }
+fn put_wait(out: &mut Vec<u8>, explained: &Explained, wait: Wait) -> Result<(), NoMemory>
+    requires explained { IsExplained explained.now }
+    ensures { OnOk result (out.new.items ≡
+        out.old.items ++ line_at (entries_of explained.now) (told_of explained.now) wait) }
 {
-    let place = wait.place as usize;
-    let entries = journal.entries();
-    let Some(entry) = entries.get(place) else {
+    let Some(entry) = explained.journal.entries().get(wait.place as usize) else {
         return Ok(());
     };
-    let partner = item_at(partners, place);
-    let end = item_at(&story.ends, place);
-    put_line(out, entries, wait.place, entry, partner, end, &[])
+    put_told_line(out, explained, wait.place, entry, &[])
 }
 
 /// Appends the lines of these.
-fn put_longest(
-    out: &mut Vec<u8>,
-    journal: &Journal,
-    story: &Story,
-    partners: &[Option<u32>],
-    longest: &[Wait],
-) -> Result<(), NoMemory>
-    requires story { IsStoryOf journal.now story.now }
-    requires partners { AreIn (ways journal.now.entries story.now.told.items) (length journal.now.entries) partners.now }
+fn put_longest(out: &mut Vec<u8>, explained: &Explained, longest: &[Wait]) -> Result<(), NoMemory>
+    requires explained { IsExplained explained.now }
     ensures { OnOk result (out.new.items ≡
-        out.old.items ++ flat_map (line_at journal.now.entries story.now.told.items) longest.now) }
+        out.old.items ++ flat_map (line_at (entries_of explained.now) (told_of explained.now)) longest.now) }
 {
     for wait in longest {
-        put_wait(out, journal, story, partners, *wait)?;
+        put_wait(out, explained, *wait)?;
     }
     Ok(())
 }
 
 /// Appends how many calls waited, and the lines of those that waited longest.
-pub(crate) fn put_waits(
-    out: &mut Vec<u8>,
-    journal: &Journal,
-    story: &Story,
-    partners: &[Option<u32>],
-) -> Result<(), NoMemory>
-    requires story { IsStoryOf journal.now story.now }
-    requires few { length journal.now.entries < 2 ^ 32 - 1 }
-    requires partners { AreIn (ways journal.now.entries story.now.told.items) (length journal.now.entries) partners.now }
-    ensures { OnOk result (out.new.items ≡ out.old.items ++ waits_text journal.now.entries story.now.told.items) }
+pub(crate) fn put_waits(out: &mut Vec<u8>, explained: &Explained) -> Result<(), NoMemory>
+    requires explained { IsExplained explained.now }
+    ensures { OnOk result (out.new.items ≡
+        out.old.items ++ waits_text (entries_of explained.now) (told_of explained.now)) }
 {
-    let waits = Waits::of(*out.allocator(), journal, story)?;
+    let waits = Waits::of(*out.allocator(), explained)?;
     put_number(out, b"", waits.count as u64)?;
-    put_number(out, b" of ", calls_of(journal.entries()) as u64)?;
+    put_number(out, b" of ", calls_of(explained.journal.entries()) as u64)?;
     out.extend_from_slice(b" calls waited, the longest first, five at most\n")?;
-    put_longest(out, journal, story, partners, &waits.longest)
+    put_longest(out, explained, &waits.longest)
 }

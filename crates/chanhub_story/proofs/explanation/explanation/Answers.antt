@@ -1,3 +1,4 @@
+use Rattle.std.proofs.Common.{sym}
 use Rattle.chanhub_story.proofs.Sizes.{few-entries}
 use Rattle.chanhub_story.proofs.explanation.explanation.Goals as goal
 
@@ -7,5 +8,22 @@ story_of-requires-clause-few c = few-entries _ _ _ c.in_ok-journal.ensures.found
 pub story_text-requires-clause-few : goal.story_text-requires-clause-few
 story_text-requires-clause-few c = few-entries _ _ _ c.in_ok-journal.ensures.found
 
-pub picture-requires-clause-few : goal.picture-requires-clause-few
-picture-requires-clause-few c = few-entries _ _ _ c.in_ok-journal.ensures.found
+pub drawing_of-requires : goal.drawing_of-requires
+drawing_of-requires c = record { few = few-entries _ _ _ c.in_ok-journal.ensures.found }
+
+pub returns-clause-ok : goal.returns-clause-ok
+returns-clause-ok c =
+    record {
+      head = c.in_ok-journal.journal.head;
+      entries = c.in_ok-journal.journal.entries;
+      window = c.in_ok-window.window;
+      spelled = c.in_ok-journal.ensures.found;
+      shown = sym (rw c.entries.ensures at c.in_ok-window.ensures);
+      is = rw c.in-Picture.is (record {
+        story = c.in_ok-story.story;
+        drawing = c.in_ok-drawing-in-Picture.drawing;
+        told = c.in_ok-story.ensures;
+        draws = rw c.drawn.ensures at c.in_ok-drawing-in-Picture.ensures;
+        is = c.in_ok-svg_of-in-Picture.ensures;
+      });
+    }

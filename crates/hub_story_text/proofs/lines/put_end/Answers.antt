@@ -1,7 +1,10 @@
 use Rattle.hub_story_text.proofs.lines.put_end.Goals as goal
 
-pub returns-in-Some : goal.returns-in-Some
-returns-in-Some c = rw c.in-Some.is c.put_told.ensures
+pub returns : goal.returns
+returns c =
+    let answer = rw c.cases_of-cases.ensures at c.in_ok-answer_cell.ensures in
+    let value = rw c.cases_of-cases.ensures at c.in_ok-value_cell.ensures in
+    rw c.in-Some.is (λ before line at is. value before _ at (c.in_ok-waited_cell.ensures before _ at (answer before line at is)))
 
-pub returns-in-None : goal.returns-in-None
-returns-in-None c = rw c.in-None.is c.put_waits.ensures
+pub returns-in_default : goal.returns-in_default
+returns-in_default c = rw c.in_default.is c.put_waits.ensures

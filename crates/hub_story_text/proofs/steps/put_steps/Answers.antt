@@ -1,79 +1,61 @@
-use Rattle.std.proofs.Common.{◌∙◌, ◌++◌, ◌≡◌, ◌≤◌, ◌<◌, ◌+◌, ◌-◌, ap, sym, subst, arith, take, drop, length}
+use Rattle.std.proofs.Common.{refl, ◌∙◌, ◌++◌, ◌≡◌, ◌<◌, ap, sym, subst, arith, length}
 use Rattle.hub_story.specs.Levels.{told_by}
+use Rattle.hub_story_text.specs.Explained.{entries_of, told_of}
 use Rattle.hub_story_text.specs.LastMoves.{AreLast}
 use Rattle.hub_story_text.specs.StoryText.{step_text}
-use Rattle.hub_story_text.proofs.Groups.{cut-told, group}
-use Rattle.hub_story_text.proofs.StepTexts.{step-shown, step-hidden}
+use Rattle.hub_story_text.proofs.Chains.{one-more}
+use Rattle.hub_story_text.proofs.Groups.{first-cut, next-cut, none-before}
+use Rattle.hub_story_text.proofs.StepTexts.{step-is, step-shown, step-hidden}
 use Rattle.hub_story_text.proofs.steps.put_steps.Goals as goal
-use Rattle.hub_story_text.proofs.steps.put_steps.Goals.{then-has+in_ok-put_step, else-has}
+use Rattle.hub_story_text.proofs.steps.put_steps.Goals.{then-has+in_ok-put_told_line+in_ok-put_stalled, else-has}
 
-pub put_step-requires : goal.put_step-requires
-put_step-requires c =
-    let so = c.loop-place.invariant in
-    let told = c.args.story.now.told.items in
-    let here = group c.loop-place.place c.loop-place.from c.count_of.result told c.deref.result.now c.deref.ensures.value so.cut
-    c.count_of.ensures.came c.count_of.ensures.rest in
-    let seen = c.deref-in-loop-place.ensures.value ∙ sym c.deref.ensures.value in
-    let noted = rw c.entries.ensures at c.in_ok-note_all.ensures.last in
-    record {
-      story = c.requires.story;
-      few = c.requires.few;
-      partners = c.requires.partners;
-      within = omega (arith, c.loop-place-test.true, ap length c.entries-entry-items.ensures);
-      came = ap (λ l. take (c.loop-place.from + c.count_of.result - c.loop-place.from) (drop c.loop-place.from l)) seen ∙ here.came;
-      last =
-          subst (λ l. AreLast c.args.journal.now.entries l c.note_all.new.self)
-          (ap (λ l. take c.loop-place.from told ++ take (c.loop-place.from + c.count_of.result - c.loop-place.from) (drop c.loop-place.from l)) seen
-          ∙ here.joined ∙ sym (cut-told (c.loop-place.place + 1) told _ _ here.next))
-          (noted (take c.loop-place.from told) so.last);
-    }
+pub loop-place-init : goal.loop-place-init
+loop-place-init c =
+    let told = told_of c.args.explained.now in
+    let order = c.requires.explained.story.in_order in
+    rw c.deref-rest.ensures.value (record {
+      cut = first-cut told order;
+      last = rw (none-before 0 told order) c.requires.none;
+      whole = c.requires.whole;
+      text = refl;
+    })
 
 pub loop-place-preserved : goal.loop-place-preserved
 loop-place-preserved c =
     let so = c.loop-place.invariant in
-    let told = c.args.story.now.told.items in
-    let here = group c.loop-place.place c.loop-place.from c.count_of.result told c.deref.result.now c.deref.ensures.value so.cut
-    c.count_of.ensures.came c.count_of.ensures.rest in
-    let seen = c.deref-in-loop-place.ensures.value ∙ sym c.deref.ensures.value in
-    let noted = rw c.entries.ensures at c.in_ok-note_all.ensures.last in
-    let below : c.loop-place.place < length c.args.journal.now.entries =
-    omega (arith, c.loop-place-test.true, ap length c.entries-entry-items.ensures) in
-    let last =
-    subst (λ l. AreLast c.args.journal.now.entries l c.note_all.new.self)
-    (ap (λ l. take c.loop-place.from told ++ take (c.loop-place.from + c.count_of.result - c.loop-place.from) (drop c.loop-place.from l)) seen
-    ∙ here.joined)
-    (noted (take c.loop-place.from told) so.last) in
-    let within : c.loop-place.from + c.count_of.result ≤ length told =
-    omega (arith, so.within, c.count_of.ensures.within, c.deref.ensures.value) in
+    let es = entries_of c.args.explained.now in
+    let told = told_of c.args.explained.now in
+    let place = c.loop-place.place in
+    let out = c.loop-place.out.items in
+    let next = next-cut _ _ _ _ _ _ so.cut c.count_of.ensures.came c.count_of.ensures.rest c.split_at.ensures.front c.split_at.ensures.back in
+    let noted = rw c.entries-entries.ensures at c.in_ok-note_all.ensures.last in
+    let last = subst (λ l. AreLast es l c.note_all.new.self) next.told (noted _ so.last) in
+    let below : place < length es = omega (arith, c.loop-place-test.true, ap length c.entries-entries.ensures) in
     elim c.if-has.branch [
-      | then-has+in_ok-put_step w ↦
-          rw (w.from-is, w.out-is) (record {
-            within = within;
-            cut = here.next;
+      | then-has+in_ok-put_told_line+in_ok-put_stalled w ↦
+          rw (w.rest-is, w.out-is) (record {
+            cut = next.cut;
             last = last;
             whole = c.note_all.ensures.whole;
             text =
-                step-shown c.args.window c.args.journal.now.entries told c.loop-place.place c.entry-item.result c.loop-place.out.items
-                w.put_step.new.out.items _ below
+                step-shown c.args.window es told place c.index-entries-place.result out w.put_stalled.new.out.items _ below
                 (sym c.has.ensures ∙ w.if-has.true) so.text
-                (w.in_ok-put_step.ensures ∙ ap (λ e. c.loop-place.out.items ++ step_text c.args.journal.now.entries told c.loop-place.place e)
-                (rw c.entries-entry-items.ensures at c.entry-item.is));
+                (one-more out w.put_told_line.new.out.items w.put_stalled.new.out.items _ _ w.in_ok-put_told_line.ensures w.in_ok-put_stalled.ensures
+                ∙ ap (λ l. out ++ l) (step-is es told place c.index-entries-place.result _ c.note_all.new.self next.came last)
+                ∙ ap (λ e. out ++ step_text es told place e) (rw c.entries-entries.ensures at c.index-entries-place.is));
           })
       | else-has w ↦
-          rw (w.from-is, w.out-is) (record {
-            within = within;
-            cut = here.next;
+          rw (w.rest-is, w.out-is) (record {
+            cut = next.cut;
             last = last;
             whole = c.note_all.ensures.whole;
-            text = step-hidden c.args.window c.args.journal.now.entries told c.loop-place.place c.entry-item.result c.loop-place.out.items _ below
-                (sym c.has.ensures ∙ w.if-has.false) so.text;
+            text = step-hidden c.args.window es told place c.index-entries-place.result out _ below (sym c.has.ensures ∙ w.if-has.false) so.text;
           })
     ]
 
 pub returns-clause-last : goal.returns-clause-last
 returns-clause-last c =
-    let so = c.loop-place.invariant in
-    let last : c.loop-place.place ≡ length c.args.journal.now.entries =
-    omega (arith, c.loop-place.auto.place-end, c.loop-place-test.false, ap length c.entries-entry-items.ensures) in
-    subst (λ l. AreLast c.args.journal.now.entries l c.loop-place.moves)
-    (sym (cut-told c.loop-place.place c.args.story.now.told.items _ _ so.cut) ∙ ap (λ k. told_by k c.args.story.now.told.items) last) so.last
+    let es = entries_of c.args.explained.now in
+    let last : c.loop-place.place ≡ length es =
+    omega (arith, c.loop-place.auto.place-end, c.loop-place-test.false, ap length c.entries-entries.ensures) in
+    subst (λ k. AreLast es (told_by k (told_of c.args.explained.now)) c.loop-place.moves) last c.loop-place.invariant.last

@@ -1,6 +1,7 @@
 use Rattle.std.proofs.Common.{◌∙◌, ◌++◌, ap, sym, arith, length}
 use Rattle.hub_story.specs.Levels.{told_by}
 use Rattle.hub_story.proofs.Filling.{told_by-all}
+use Rattle.hub_story_text.specs.Explained.{entries_of, told_of}
 use Rattle.hub_story_text.specs.StoryText.{heading, end_heading, end_nobody, ports_text, steps_text}
 use Rattle.hub_story_text.specs.Waits.{waits_text}
 use Rattle.hub_story_text.proofs.Chains.{five-behind}
@@ -9,15 +10,15 @@ use Rattle.hub_story_text.proofs.text.put_story.Goals as goal
 
 pub put_ports-requires-clause-whole : goal.put_ports-requires-clause-whole
 put_ports-requires-clause-whole c =
-    let es = c.args.journal.now.entries in
-    let told = c.requires.story.told in
-    ap (told_by (length es)) told ∙ told_by-all c.args.journal.now.head es (length es) (omega arith) ∙ sym told
+    let es = entries_of c.args.explained.now in
+    let told = c.requires.explained.story.told in
+    ap (told_by (length es)) told ∙ told_by-all c.args.explained.now.journal.now.head es (length es) (omega arith) ∙ sym told
 
 pub returns : goal.returns
 returns c =
-    let es = c.args.journal.now.entries in
-    let told = c.args.story.now.told.items in
-    let waits = rw (c.entries.ensures, c.deref.ensures.value, c.requires.story.waiting) at c.in_ok-put_waiters.ensures in
+    let es = entries_of c.args.explained.now in
+    let told = told_of c.args.explained.now in
+    let waits = rw (c.entries.ensures, c.deref.ensures.value, c.requires.explained.story.waiting) at c.in_ok-put_waiters.ensures in
     rw (waits, c.in_ok-put_waits.ensures, c.in_ok-put_ports.ensures, c.in_ok-put_steps.ensures.text, c.in_ok-extend_from_slice.ensures.items)
     (five-behind c.args.out.now.items heading (steps_text c.args.window es told 0 es) (ports_text es told) (waits_text es told) _
     ∙ ap (λ l. c.args.out.now.items ++ (heading ++ steps_text c.args.window es told 0 es ++ ports_text es told ++ waits_text es told ++ l))

@@ -1,14 +1,15 @@
 use Rattle.std.proofs.Common.{◌++◌, [], codes, count_by, decimal, length}
 use Rattle.std.specs.List.{flat_map}
 use Rattle.hub_base.specs.declared.entry.Entry.{Entry}
+use Rattle.hub_story_text.specs.Explained.{entries_of, told_of}
 use Rattle.hub_story_text.specs.Waits.{is_call, line_at, longest, waits}
 use Rattle.hub_story_text.proofs.Chains.{on-ok, two, one-more, two-more}
 use Rattle.hub_story_text.proofs.waits.put_waits.Goals as goal
 
 pub returns : goal.returns
 returns c =
-    let es = c.args.journal.now.entries in
-    let told = c.args.story.now.told.items in
+    let es = entries_of c.args.explained.now in
+    let told = told_of c.args.explained.now in
     let out = c.args.out.now.items in
     let waited = decimal (length (waits es told)) in
     let calls = decimal (count_by (λ (e : Entry). is_call e.step) es) in

@@ -1,0 +1,76 @@
+//! A journal with what is known of its entries: how each ended, and to which other one its value went, or from which it came.
+
+ghost use Rattle.std.specs.Prelude.{◌≡◌, ◌<◌, ◌++◌, length, slice_get, OnOk, Some};
+ghost use Rattle.hub_story.specs.Told.{end_of};
+ghost use Rattle.hub_story_text.specs.Explained.{IsExplained, entries_of, told_of};
+ghost use Rattle.hub_story_text.specs.LineText.{told_line};
+ghost use Rattle.hub_story_text.specs.Partners.{partner_of};
+
+use crate::lines::put_line;
+use hub_base::{Entry, Journal, NoMemory};
+use hub_story::{Story, Told};
+
+/// A journal, its story, and for each entry the other one of the passage in which it stands.
+#[derive(Clone, Copy)]
+pub(crate) struct Explained<'a> {
+    /// The journal.
+    pub(crate) journal: &'a Journal,
+    /// Its story.
+    pub(crate) story: &'a Story,
+    /// The other entries.
+    pub(crate) partners: &'a [Option<u32>],
+}
+
+/// What stands at this place.
+fn item_at<T: Copy>(items: &[T], place: usize) -> T
+    requires { place < length items.now }
+    ensures { slice_get items.now place ≡ Some result }
+{
+    items[place]
+}
+
+impl<'a> Explained<'a> {
+    /// How the entry at this place ended, and by whose step; nothing while it waits.
+    pub(crate) fn end(&self, place: usize) -> Option<Told>
+        requires explained { IsExplained self.now }
+        requires within { place < length (entries_of self.now) }
+        ensures { result ≡ end_of (told_of self.now) place }
+    {
+        item_at(&self.story.ends, place)
+    }
+
+    /// The other entry of the passage in which it stands.
+    fn partner(&self, place: usize) -> Option<u32>
+        requires explained { IsExplained self.now }
+        requires within { place < length (entries_of self.now) }
+        ensures { result ≡ partner_of (entries_of self.now) (told_of self.now) place }
+    {
+        item_at(self.partners, place)
+    }
+}
+
+/// Appends the line of the entry at this place, and in it what came by its step.
+pub(crate) fn put_told_line(
+    out: &mut Vec<u8>,
+    explained: &Explained,
+    place: u32,
+    entry: &Entry,
+    came: &[Told],
+) -> Result<(), NoMemory>
+    requires explained { IsExplained explained.now }
+    requires within { place < length (entries_of explained.now) }
+    ensures { OnOk result (out.new.items ≡
+        out.old.items ++ told_line (entries_of explained.now) (told_of explained.now) place entry.now came.now) }
+{
+    let partner = explained.partner(place as usize);
+    let end = explained.end(place as usize);
+    put_line(
+        out,
+        explained.journal.entries(),
+        place,
+        entry,
+        partner,
+        end,
+        came,
+    )
+}

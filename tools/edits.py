@@ -87,8 +87,11 @@ class Edit:
         return {it.rsplit('::', 1)[-1] for it in self.functions}
 
     def owns(self, function):
-        """How much of the path of a function that a check names, and of those inside it, is that of one that this edit changes."""
-        return max((len(it) for it in self.functions if '::%s::' % it in '::%s::' % function), default=0)
+        """How much of the path of a function that a check names, and of those inside it, is that of one that this edit changes; a
+        module is worth less than any function in it."""
+        parts = [(len(it), it) for it in self.functions if not it.endswith('::*')]
+        parts += [(1, it[:-len('::*')]) for it in self.functions if it.endswith('::*')]
+        return max((worth for worth, it in parts if '::%s::' % it in '::%s::' % function), default=0)
 
     def name(self):
         return self.crate + '/' + os.path.basename(self.path)
@@ -123,18 +126,18 @@ def batches_of(edits):
 
 def function_at(file, before):
     """By what a check names the function that a text ends in: its path below the crate, or the end of that of a method, which
-    goes by the place of its type. Of what is no plain function, the module."""
+    goes by the place of its type. Of what is no plain function, its module, and then `::*`."""
     module = [it for it in file[len('src/'):-len('.rt')].split('/') if it not in ('lib', 'main')]
     functions = list(FUNCTION.finditer(before))
     if not functions:
-        return '::'.join(module)
+        return '::'.join(module + ['*'])
     indented, name = functions[-1].groups()
     if not indented:
         return '::'.join(module + [name])
     block = list(BLOCK.finditer(before))[-1].group()
     words = re.sub(r'<(?:[^<>]|<[^<>]*>)*>', '', block[len('impl'):]).split()
     if 'for' in words:
-        return '::'.join(module)
+        return '::'.join(module + ['*'])
     return words[0] + '::' + name
 
 
@@ -155,7 +158,7 @@ def check(crate, texts, edits, kept):
     with turns, tempfile.TemporaryDirectory() as room:
         copy_of(crate, room, texts)
         over = ['--incremental', kept] if kept else []
-        words = words_of(crate, 'check') + ['--jobs', '1'] + over + [word for it in functions for word in ('--only', it)]
+        words = words_of(crate, 'check') + ['--jobs', '1'] + over + [word for it in functions for word in ('--only', it.removesuffix('::*'))]
         began = time.monotonic()
         ran = subprocess.run(words, cwd=room, stdin=subprocess.DEVNULL, stdout=subprocess.PIPE, stderr=subprocess.STDOUT, text=True)
         ran.seconds = time.monotonic() - began

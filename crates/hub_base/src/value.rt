@@ -24,7 +24,7 @@ pub struct Value {
 
 impl Value {
     /// The value that is this number.
-    #[inline]
+    #[inline(always)]
     pub fn num(number: u64) -> Value
         ensures is { result ≡ value_of number }
         ensures says { content result ≡ Num number }

@@ -42,6 +42,10 @@ def below(crate, crates):
     return found
 
 
+def is_program(crate):
+    return os.path.exists(os.path.join(folder(ROOT, crate), 'src', 'main.rt'))
+
+
 def rlib(crate):
     return os.path.join(folder(ROOT, crate), 'out', 'rlib', crate + '.rlib')
 
@@ -58,7 +62,6 @@ def words_of(crate, verb):
     of_kit = ['std'] + [it for it in read_lines()[crate] if it not in crates]
     given = [f'{it}={at}/rlibs/{it}.rlib' for it in of_kit] + [f'{it}={rlib(it)}' for it in crates[crate]]
     places = [f'{at}/rlibs'] + [os.path.dirname(rlib(it)) for it in sorted(below(crate, crates))]
-    is_program = os.path.exists(os.path.join(folder(ROOT, crate), 'src', 'main.rt'))
-    return [f'{at}/bin/rattle', verb, '--crate-name', crate, 'src/main.rt' if is_program else 'src/lib.rt',
+    return [f'{at}/bin/rattle', verb, '--crate-name', crate, 'src/main.rt' if is_program(crate) else 'src/lib.rt',
             *(word for it in given for word in ('--extern', it)), *(word for it in places for word in ('-L', f'dependency={it}')),
             '--antt-project', f'{at}/rattle/logic/antt-project.json', '--logic-built', f'{at}/logic_built', *kind_of(crate)]

@@ -9,9 +9,7 @@ story=${STORY:-$root/crates/chanhub_story/out/chanhub_story}
 case $# in 1 | 3) ;; *) echo "usage: explain.sh SCENARIO [FROM TO]" >&2; exit 2 ;; esac
 scenario=$1
 shift
-if [ ! -x "$story" ]; then
-    (cd "$root/crates/chanhub_story" && rt run -- --help) >&2
-fi
+[ -n "${STORY:-}" ] || "$root/tools/build.py" chanhub_story
 
 folder=$(mktemp -d)
 status=0

@@ -64,7 +64,7 @@ impl<'a> Fields<'a> {
     }
 
     /// The next field of a step that has one more.
-    pub fn expect_field(&mut self) -> Result<&'a [u8], Kind>
+    pub(crate) fn expect_field(&mut self) -> Result<&'a [u8], Kind>
         ensures { MatchResult result
             (λ field. self.old ≡ field.now ∷ self.new)
             (λ kind. (kind ≡ BadStep) × (self.old ≡ [])) }
@@ -73,7 +73,7 @@ impl<'a> Fields<'a> {
     }
 
     /// The end of a step that has no field more.
-    pub fn expect_end(&mut self) -> Result<(), Kind>
+    pub(crate) fn expect_end(&mut self) -> Result<(), Kind>
         ensures { MatchResult result
             (λ done. self.old ≡ [])
             (λ kind. (kind ≡ BadStep) × ((field : List ℕ) × (self.old ≡ field ∷ self.new))) }

@@ -1,13 +1,13 @@
 -- Digits in lower case spell the bytes that they are decoded to.
-use Rattle.std.proofs.Common.{◌≡◌, ℕ, zero, suc, ◌+◌, ◌-◌, ◌*◌, ◌/◌, ◌%◌, ◌<◌, ◌≤◌, Bool, true, false, ◌&&◌, List, [], ◌∷◌, slice_index, Some, Result, Ok}
+use Rattle.std.proofs.Common.{◌≡◌, ℕ, zero, suc, ◌+◌, ◌-◌, ◌*◌, ◌/◌, ◌%◌, ◌<◌, Bool, true, false, ◌&&◌, List, [], ◌∷◌, slice_index, Some, Result, Ok}
 use Rattle.std.proofs.Common.{Err, inl, inr}
 use Rattle.std.proofs.Common.{refl, sym, ap, ◌∙◌, arith}
 use Rattle.std.proofs.lemmas.Bool.{and_parts, cases_lt}
 use Rattle.std.proofs.lemmas.Grind.{common_steps}
-use Rattle.std.specs.Prelude.{nat_le}
+use Rattle.std.specs.Prelude.{nat_le, nat_lt, ◌⊎◌}
 use Rattle.std.specs.List.{list_all}
 use Rattle.std.proofs.Common.{◌++◌, get_or, ◌||◌, ◌==◌}
-use Rattle.hub_base.specs.declared.text.values.TheConstants.{HIGHS, LOWS}
+use Rattle.hub_base.specs.declared.text.values.TheConstants.{DIGITS}
 use Rattle.hex.specs.declared.error.FromHexError.{FromHexError}
 use Rattle.hex.specs.Hex.{IsBytes, decode_of, decode_pairs, digit_or_error, encode_lower, encode_with, hex_digit_value, lower_digits, pair_value}
 use Rattle.hex.specs.Hex.{value_at, ◌>>=◌}
@@ -102,59 +102,32 @@ hex-spells digits bs h e =
     let ok = decode_of-ok digits bs e in
     pairs-spell 0 digits bs h (sym (decode_of-even digits ok.0) ∙ e)
 
--- what the first table has for a byte: 16 times what it is worth as a digit, or 256
-abbrev is_high : ℕ → ℕ → Bool
-is_high c v = (v == 256) || (nat_le v 240 && ((v % 16 == 0) && (slice_index lower_digits (v / 16) == c)))
-
--- what the second has: what it is worth, or 256
-abbrev is_low : ℕ → ℕ → Bool
-is_low c v = (v == 256) || (nat_le v 15 && (slice_index lower_digits v == c))
+-- what the table has for a byte: what it is worth as a digit, or 256
+abbrev is_worth : ℕ → ℕ → Bool
+is_worth c v = (v == 256) || (nat_lt v 16 && (slice_index lower_digits v == c))
 
 abbrev worths_are : ℕ → Bool
 worths_are zero = true
-worths_are (suc n) = is_high n (get_or HIGHS n 0) && (is_low n (get_or LOWS n 0) && worths_are n)
+worths_are (suc n) = is_worth n (get_or DIGITS n 0) && worths_are n
 
-worths-below : (n c : ℕ) → worths_are n ≡ true → c < n → (is_high c (get_or HIGHS c 0) ≡ true) × (is_low c (get_or LOWS c 0) ≡ true)
-worths-below zero c h lt = absurd (omega arith)
-worths-below (suc n) c h lt =
-    let first = and_parts (is_high n (get_or HIGHS n 0)) (is_low n (get_or LOWS n 0) && worths_are n) h in
-    let second = and_parts (is_low n (get_or LOWS n 0)) (worths_are n) first.1 in
+worth-below : (n c : ℕ) → worths_are n ≡ true → c < n → is_worth c (get_or DIGITS c 0) ≡ true
+worth-below zero c h lt = absurd (omega arith)
+worth-below (suc n) c h lt =
+    let parts = and_parts (is_worth n (get_or DIGITS n 0)) (worths_are n) h in
     elim (cases_lt c n) [
-      | inl below ↦ worths-below n c second.1 below
-      | inr top ↦ (let e : c ≡ n = omega arith in rw e (first.0, second.0))
+      | inl below ↦ worth-below n c parts.1 below
+      | inr top ↦ (let e : c ≡ n = omega arith in rw e parts.0)
     ]
 
-high-most : (c v : ℕ) → is_high c v ≡ true → v ≤ 256
-high-most c v h = grind (arith, common_steps)
+pub worth_in_table : (c : ℕ) → c < 256 → (get_or DIGITS c 0 ≡ 256) ⊎ ((get_or DIGITS c 0 < 16) × (slice_index lower_digits (get_or DIGITS c 0) ≡ c))
+worth_in_table c lt = let h = worth-below 256 c refl lt in grind (arith, common_steps)
 
-low-most : (c v : ℕ) → is_low c v ≡ true → v ≤ 256
-low-most c v h = grind (arith, common_steps)
+-- the two digits of a byte
+pub high_digit : (v w : ℕ) → w < 16 → (v * 16 + w) / 16 ≡ v
+high_digit v w lt = omega arith
 
-high-digit : (c v : ℕ) → is_high c v ≡ true → v < 256 → (slice_index lower_digits (v / 16) ≡ c) × (v % 16 ≡ 0)
-high-digit c v h lt = (grind (arith, common_steps), grind (arith, common_steps))
-
-low-digit : (c v : ℕ) → is_low c v ≡ true → v < 256 → (slice_index lower_digits v ≡ c) × (v < 16)
-low-digit c v h lt = (grind (arith, common_steps), grind (arith, common_steps))
-
--- what the tables have fits beside one another
-pub worths-most : (high low : ℕ) → high < 256 → low < 256 → get_or HIGHS high 0 + get_or LOWS low 0 ≤ 512
-worths-most high low high-lt low-lt =
-    let first = high-most high (get_or HIGHS high 0) (worths-below 256 high refl high-lt).0 in
-    let second = low-most low (get_or LOWS low 0) (worths-below 256 low refl low-lt).1 in
-    omega (arith, first, second)
-
--- two digits are those of the byte that the tables make of them
-pub byte-digits : (high low : ℕ) → high < 256 → low < 256 → get_or HIGHS high 0 + get_or LOWS low 0 < 256
-    → (slice_index lower_digits ((get_or HIGHS high 0 + get_or LOWS low 0) / 16) ≡ high)
-    × (slice_index lower_digits ((get_or HIGHS high 0 + get_or LOWS low 0) % 16) ≡ low)
-byte-digits high low high-lt low-lt small =
-    let v = get_or HIGHS high 0 in
-    let w = get_or LOWS low 0 in
-    let first = high-digit high v (worths-below 256 high refl high-lt).0 (omega arith) in
-    let second = low-digit low w (worths-below 256 low refl low-lt).1 (omega arith) in
-    let up : (v + w) / 16 ≡ v / 16 = omega (arith, first.1, second.1) in
-    let down : (v + w) % 16 ≡ w = omega (arith, first.1, second.1) in
-    (ap (slice_index lower_digits) up ∙ first.0, ap (slice_index lower_digits) down ∙ second.0)
+pub low_digit : (v w : ℕ) → w < 16 → (v * 16 + w) % 16 ≡ w
+low_digit v w lt = omega arith
 
 -- one byte more is two digits more
 pub encode-push : (bs : List ℕ) (high low : ℕ) → low < 16

@@ -6,10 +6,14 @@ use Rattle.hub_base.specs.declared.text.steps.OneNumber.{OneNumber}
 use Rattle.hub_base.specs.declared.text.steps.OneNumber.TheVariants.{Make, Recv, Close, Cancel}
 use Rattle.hub_base.specs.Lines.{read_make, read_recv, read_close, read_cancel}
 
--- on Ok the entry is what was said; on Err that is why nothing was, and the entry may be any
+-- what a result and an entry tell: the entry, or why there is none, and then the entry may be any
+abbrev pub filled : Result (Unit {0}) Kind → Entry → Result Entry Kind
+filled (Ok done) entry = Ok entry
+filled (Err kind) entry = Err kind
+
+-- they tell what was said
 abbrev pub Fills : Result (Unit {0}) Kind → Entry → Result Entry Kind → Type 0
-Fills (Ok done) entry said = said ≡ Ok entry
-Fills (Err kind) entry said = said ≡ Err kind
+Fills result entry said = said ≡ filled result entry
 
 -- what is said behind a word with one number
 abbrev pub read_one_number : OneNumber → List ℕ → List (List ℕ) → Result Entry Kind

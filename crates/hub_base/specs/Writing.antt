@@ -34,10 +34,6 @@ pair n = (48 + n / 10) ∷ (48 + n % 10) ∷ []
 abbrev pub four : ℕ → List ℕ
 four n = pair (n / 100) ++ pair (n % 100)
 
--- the eight digits of a number below 100,000,000
-abbrev pub eight : ℕ → List ℕ
-eight n = four (n / 10000) ++ four (n % 10000)
-
 -- the text is put at this place, behind the bytes before it, and ends so many bytes on, or fewer
 pub record Puts (old new : List ℕ) (at : ℕ) (text : List ℕ) (most end : ℕ) : Type 0 where
   pub put : take end new ≡ take at old ++ text

@@ -9,7 +9,7 @@ ghost use Rattle.hub_base.specs.declared.event.What.TheVariants as what;
 ghost use Rattle.hub_base.specs.EventText.{event_line, what_text, outcome_text};
 ghost use Rattle.hex.specs.Hex.{encode_lower};
 ghost use Rattle.hub_base.specs.Value.{bytes_in, content, value_field};
-ghost use Rattle.hub_base.specs.Writing.{Puts, pair, four, eight};
+ghost use Rattle.hub_base.specs.Writing.{Puts, pair, four};
 
 use crate::limits::{MOST_LINE, MOST_VALUE_BYTES};
 use crate::{Event, Fault, Outcome, Port, Value, What};
@@ -18,7 +18,7 @@ use crate::{Event, Fault, Outcome, Port, Value, What};
 const MOST_SMALL: usize = 3;
 
 /// The most digits of a number of 64 bits.
-const MOST_DIGITS: usize = 20;
+pub const MOST_DIGITS: usize = 20;
 
 /// The most bytes of a value: `#`, and two digits for each byte that it is.
 pub const MOST_VALUE: usize = 1 + 2 * MOST_VALUE_BYTES;
@@ -62,8 +62,8 @@ fn put_pair(out: &mut [u8], at: usize, n: u64) -> usize
 #[tactic(auto, using(std::proofs::lemmas::Fmt::decimal_digit, itoa::proofs::Decimal::decimal_two))]
 fn put_first(out: &mut [u8], at: usize, n: u64) -> usize
     requires below { n < 100 }
-    requires room { at + length (decimal n) ≤ length out.old }
-    ensures { Puts out.old out.new at (decimal n) (length (decimal n)) result }
+    requires room { at + 2 ≤ length out.old }
+    ensures { Puts out.old out.new at (decimal n) 2 result }
 {
     if n < 10 {
         put(out, at, &[b'0' + n as u8])
@@ -74,11 +74,10 @@ fn put_first(out: &mut [u8], at: usize, n: u64) -> usize
 
 /// Puts a number of up to four digits.
 #[inline(always)]
-#[tactic(auto, using(itoa::proofs::Decimal::decimal_pair, itoa::proofs::Decimal::length_pair, crate::proofs::Puts::puts_digits))]
 fn put_short(out: &mut [u8], at: usize, n: u64) -> usize
     requires below { n < 10000 }
-    requires room { at + length (decimal n) ≤ length out.old }
-    ensures { Puts out.old out.new at (decimal n) (length (decimal n)) result }
+    requires room { at + 4 ≤ length out.old }
+    ensures { Puts out.old out.new at (decimal n) 4 result }
 {
     if n < 100 {
         put_first(out, at, n)
@@ -99,70 +98,51 @@ fn put_four(out: &mut [u8], at: usize, n: u64) -> usize
     put_pair(out, end, n % 100)
 }
 
-/// Puts eight digits.
-#[inline(always)]
-fn put_eight(out: &mut [u8], at: usize, n: u64) -> usize
-    requires below { n < 100000000 }
-    requires room { at + 8 ≤ length out.old }
-    ensures { Puts out.old out.new at (eight n) 8 result }
-{
-    let end = put_four(out, at, n / 10_000);
-    put_four(out, end, n % 10_000)
-}
-
-/// Puts a number of up to eight digits.
-#[inline(always)]
-#[tactic(auto, using(itoa::proofs::Decimal::decimal_four, itoa::proofs::Decimal::length_four, crate::proofs::Puts::puts_digits))]
-fn put_middle(out: &mut [u8], at: usize, n: u64) -> usize
-    requires below { n < 100000000 }
-    requires room { at + length (decimal n) ≤ length out.old }
-    ensures { Puts out.old out.new at (decimal n) (length (decimal n)) result }
-{
-    if n < 10_000 {
-        put_short(out, at, n)
-    } else {
-        let end = put_short(out, at, n / 10_000);
-        put_four(out, end, n % 10_000)
-    }
-}
-
-/// Puts a number of more than eight digits.
-#[inline(never)]
-#[tactic(auto, using(crate::proofs::Decimals::decimal_eight, crate::proofs::Decimals::length_eight, crate::proofs::Puts::puts_digits))]
-fn put_long(out: &mut [u8], at: usize, n: u64) -> usize
-    requires above { 100000000 ≤ n }
-    requires room { at + length (decimal n) ≤ length out.old }
-    ensures { Puts out.old out.new at (decimal n) (length (decimal n)) result }
-{
-    let first = n / 100_000_000;
-    let end = if first < 100_000_000 {
-        put_middle(out, at, first)
-    } else {
-        let end = put_middle(out, at, first / 100_000_000);
-        put_eight(out, end, first % 100_000_000)
-    };
-    put_eight(out, end, n % 100_000_000)
-}
-
 /// Puts a number of more than four digits.
 #[inline(never)]
 fn put_longer(out: &mut [u8], at: usize, n: u64) -> usize
     requires above { 10000 ≤ n }
-    requires room { at + length (decimal n) ≤ length out.old }
-    ensures { Puts out.old out.new at (decimal n) (length (decimal n)) result }
+    requires room { at + MOST_DIGITS ≤ length out.old }
+    ensures { Puts out.old out.new at (decimal n) MOST_DIGITS result }
 {
     if n < 100_000_000 {
-        put_middle(out, at, n)
+        let end = put_short(out, at, n / 10_000);
+        put_four(out, end, n % 10_000)
     } else {
         put_long(out, at, n)
     }
 }
 
-/// Puts a number in decimal digits.
+/// Puts a number of more than eight digits.
+#[inline(never)]
+fn put_long(out: &mut [u8], at: usize, n: u64) -> usize
+    requires above { 100000000 ≤ n }
+    requires room { at + MOST_DIGITS ≤ length out.old }
+    ensures { Puts out.old out.new at (decimal n) MOST_DIGITS result }
+{
+    let first = n / 100_000_000;
+    // Values of 64 bits have mostly more than sixteen digits, so that is asked first.
+    let end = if first >= 100_000_000 {
+        let end = put_short(out, at, first / 100_000_000);
+        let middle = first % 100_000_000;
+        let end = put_four(out, end, middle / 10_000);
+        put_four(out, end, middle % 10_000)
+    } else if first >= 10_000 {
+        let end = put_short(out, at, first / 10_000);
+        put_four(out, end, first % 10_000)
+    } else {
+        put_short(out, at, first)
+    };
+    let last = n % 100_000_000;
+    let end = put_four(out, end, last / 10_000);
+    put_four(out, end, last % 10_000)
+}
+
+/// Puts a number of up to 64 bits.
 #[inline(always)]
-fn put_number(out: &mut [u8], at: usize, n: u64) -> usize
-    requires { at + length (decimal n) ≤ length out.old }
-    ensures { Puts out.old out.new at (decimal n) (length (decimal n)) result }
+pub fn put_large(out: &mut [u8], at: usize, n: u64) -> usize
+    requires { at + MOST_DIGITS ≤ length out.old }
+    ensures { Puts out.old out.new at (decimal n) MOST_DIGITS result }
 {
     if n < 10_000 {
         put_short(out, at, n)
@@ -173,12 +153,14 @@ fn put_number(out: &mut [u8], at: usize, n: u64) -> usize
 
 /// Puts a number of 8 bits that has three digits. Few have.
 #[inline(never)]
-#[tactic(auto, using(crate::proofs::Decimals::three_digits))]
+#[tactic(auto, using(crate::proofs::Puts::puts_hundreds))]
 fn put_hundreds(out: &mut [u8], at: usize, n: u8) -> usize
-    requires { at + MOST_SMALL ≤ length out.old }
+    requires above { 100 ≤ n }
+    requires room { at + MOST_SMALL ≤ length out.old }
     ensures { Puts out.old out.new at (decimal n) MOST_SMALL result }
 {
-    put_short(out, at, n.into())
+    let end = put(out, at, &[b'0' + n / 100]);
+    put_pair(out, end, (n % 100).into())
 }
 
 /// Puts a number of 8 bits. Most have one digit, which is tried first.
@@ -195,16 +177,6 @@ fn put_small(out: &mut [u8], at: usize, n: u8) -> usize
     } else {
         put_hundreds(out, at, n)
     }
-}
-
-/// Puts a number of up to 64 bits.
-#[inline(always)]
-#[tactic(auto, using(crate::proofs::Decimals::twenty_digits))]
-fn put_large(out: &mut [u8], at: usize, n: u64) -> usize
-    requires { at + MOST_DIGITS ≤ length out.old }
-    ensures { Puts out.old out.new at (decimal n) MOST_DIGITS result }
-{
-    put_number(out, at, n)
 }
 
 /// Puts a value that is bytes. Most are numbers.
@@ -224,7 +196,7 @@ pub fn put_bytes(out: &mut [u8], at: usize, value: &Value) -> usize
 
 /// Puts a value.
 #[inline(always)]
-#[tactic(auto, using(crate::proofs::Decimals::twenty_digits, crate::proofs::Values::field_number, crate::proofs::Values::field_bytes))]
+#[tactic(auto, using(crate::proofs::Values::field_number, crate::proofs::Values::field_bytes))]
 fn put_value(out: &mut [u8], at: usize, value: &Value) -> usize
     requires { at + MOST_VALUE ≤ length out.old }
     ensures { Puts out.old out.new at (value_field value.now) MOST_VALUE result }

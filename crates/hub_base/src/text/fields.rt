@@ -1,9 +1,11 @@
 //! The fields of a line, or the parts of a case: the pieces between single marks, one after the
 //! other.
 
-ghost use Rattle.std.specs.Prelude.{◌≡◌, ◌∷◌, [], MatchOption, List, ℕ, ◌↔◌, IsTrue};
+ghost use Rattle.std.specs.Prelude.{◌≡◌, ◌∷◌, [], MatchOption, MatchResult, List, ℕ, ◌↔◌, IsTrue};
 ghost use Rattle.hub_base.specs.Lines.{pieces};
+ghost use Rattle.hub_base.specs.declared.text.faults.Kind.TheVariants.{BadStep};
 
+use crate::Kind;
 use std::marker::Model;
 
 /// The fields that are left to be read. There is at least one at first, and a field may be empty.
@@ -59,6 +61,27 @@ impl<'a> Fields<'a> {
         let (field, left) = cut(rest, self.mark);
         self.rest = left;
         Some(field)
+    }
+
+    /// The next field of a step that has one more.
+    pub(crate) fn expect_field(&mut self) -> Result<&'a [u8], Kind>
+        ensures { MatchResult result
+            (λ field. self.old ≡ field.now ∷ self.new)
+            (λ kind. (kind ≡ BadStep) × (self.old ≡ [])) }
+    {
+        self.next_field().ok_or(Kind::BadStep)
+    }
+
+    /// The end of a step that has no field more.
+    pub(crate) fn expect_end(&mut self) -> Result<(), Kind>
+        ensures { MatchResult result
+            (λ done. self.old ≡ [])
+            (λ kind. (kind ≡ BadStep) × ((field : List ℕ) × (self.old ≡ field ∷ self.new))) }
+    {
+        match self.next_field() {
+            None => Ok(()),
+            Some(_field) => Err(Kind::BadStep),
+        }
     }
 
     /// Whether no field is left.

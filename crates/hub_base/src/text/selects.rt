@@ -10,7 +10,7 @@ ghost use Rattle.hub_base.specs.declared.text.faults.Kind.TheVariants.{BadNumber
 
 use crate::limits::{CASE_PLACES, GREATEST_WORD};
 use crate::text::fields::Fields;
-use crate::text::steps::{numeral, process, recv_of, same_text, send_of};
+use crate::text::steps::{Line, numeral, process, recv_of, same_text, send_of};
 use crate::{Case, Cases, Edition, Entry, Kind, Pid, Step};
 
 /// What a case field says in a journal of this edition: a fault of its shape, or else a case or a fault of its parts.
@@ -21,21 +21,13 @@ pub fn read_case(edition: Edition, field: &[u8]) -> Result<Result<Case, Kind>, K
         return Err(Kind::BadStep);
     };
     let mut parts = Fields::of(parts, b':');
-    let Some(port) = parts.next_field() else {
-        return Err(Kind::BadStep);
-    };
+    let port = parts.expect_field()?;
     if *letter == b's' {
-        let Some(value) = parts.next_field() else {
-            return Err(Kind::BadStep);
-        };
-        if parts.next_field().is_some() {
-            return Err(Kind::BadStep);
-        }
+        let value = parts.expect_field()?;
+        parts.expect_end()?;
         Ok(send_of(edition, port, value))
     } else if *letter == b'r' {
-        if parts.next_field().is_some() {
-            return Err(Kind::BadStep);
-        }
+        parts.expect_end()?;
         Ok(recv_of(port))
     } else {
         Err(Kind::BadStep)
@@ -80,22 +72,20 @@ fn choose(
 }
 
 /// What `P select W CASE.. [default]` says, from the field of the word on.
-pub fn read_select(
-    edition: Edition,
-    pid: &[u8],
-    fields: &mut Fields,
-    entry: &mut Entry,
-) -> Result<(), Kind>
-    ensures { Fills result entry.new (read_choice edition pid.now fields.old) }
+pub fn read_select(line: Line, entry: &mut Entry) -> Result<(), Kind>
+    ensures { Fills result entry.new (read_choice line.entry.edition line.entry.pid.now line.entry.fields) }
 {
-    let Some(word) = fields.next_field() else {
-        return Err(Kind::BadStep);
-    };
+    let Line {
+        edition,
+        pid,
+        mut fields,
+    } = line;
+    let word = fields.expect_field()?;
     let mut cases = Cases::new();
     let mut fine = true;
     let mut count = 0;
     while let Some(field) = fields.next_field() {
-        if is_last_default(field, fields) {
+        if is_last_default(field, &fields) {
             return choose(pid, word, cases, fine, true, entry);
         }
         let case = read_case(edition, field)?;

@@ -113,6 +113,17 @@ fn some_call() -> Step
     }
 }
 
+/// A line of a journal of this edition, whose word was read.
+#[derive(Drop)]
+pub struct Line<'a> {
+    /// The edition.
+    pub edition: Edition,
+    /// The field before the word, of the process.
+    pub pid: &'a [u8],
+    /// The fields behind the word.
+    pub fields: Fields<'a>,
+}
+
 /// A word with one number behind it.
 #[derive(Clone, Copy)]
 enum OneNumber {
@@ -123,21 +134,12 @@ enum OneNumber {
 }
 
 /// What `P make C`, `P recv PORT`, `P close PORT` or `P cancel Q` says, from the field behind the word on.
-fn read_one_number(
-    pid: &[u8],
-    word: OneNumber,
-    fields: &mut Fields,
-    entry: &mut Entry,
-) -> Result<(), Kind>
-    ensures { Fills result entry.new (read_one_number word pid.now fields.old) }
+fn read_one_number(word: OneNumber, mut line: Line, entry: &mut Entry) -> Result<(), Kind>
+    ensures { Fills result entry.new (read_one_number word line.entry.pid.now line.entry.fields) }
 {
-    let Some(number) = fields.next_field() else {
-        return Err(Kind::BadStep);
-    };
-    if fields.next_field().is_some() {
-        return Err(Kind::BadStep);
-    }
-    entry.pid = Pid(process(pid)?);
+    let number = line.fields.expect_field()?;
+    line.fields.expect_end()?;
+    entry.pid = Pid(process(line.pid)?);
     match word {
         OneNumber::Make => entry.step = Step::Make(capacity(number)?),
         OneNumber::Recv => set_call(&mut entry.step, Case::Recv(Port(port_number(number)?))),
@@ -148,67 +150,49 @@ fn read_one_number(
 }
 
 /// What `P send PORT V` says, from the field behind the word on.
-fn read_send(
-    edition: Edition,
-    pid: &[u8],
-    fields: &mut Fields,
-    entry: &mut Entry,
-) -> Result<(), Kind>
-    ensures { Fills result entry.new (read_send edition pid.now fields.old) }
+fn read_send(mut line: Line, entry: &mut Entry) -> Result<(), Kind>
+    ensures { Fills result entry.new (read_send line.entry.edition line.entry.pid.now line.entry.fields) }
 {
-    let Some(port) = fields.next_field() else {
-        return Err(Kind::BadStep);
-    };
-    let Some(value) = fields.next_field() else {
-        return Err(Kind::BadStep);
-    };
-    if fields.next_field().is_some() {
-        return Err(Kind::BadStep);
-    }
-    let pid = process(pid)?;
-    let case = send_of(edition, port, value)?;
+    let port = line.fields.expect_field()?;
+    let value = line.fields.expect_field()?;
+    line.fields.expect_end()?;
+    let pid = process(line.pid)?;
+    let case = send_of(line.edition, port, value)?;
     entry.pid = Pid(pid);
     set_call(&mut entry.step, case);
     Ok(())
 }
 
 /// What `P exit` says, from the field behind the word on.
-fn read_exit(pid: &[u8], fields: &mut Fields, entry: &mut Entry) -> Result<(), Kind>
-    ensures { Fills result entry.new (read_exit pid.now fields.old) }
+fn read_exit(mut line: Line, entry: &mut Entry) -> Result<(), Kind>
+    ensures { Fills result entry.new (read_exit line.entry.pid.now line.entry.fields) }
 {
-    if fields.next_field().is_some() {
-        return Err(Kind::BadStep);
-    }
-    let pid = process(pid)?;
+    line.fields.expect_end()?;
+    let pid = process(line.pid)?;
     entry.pid = Pid(pid);
     entry.step = Step::Exit;
     Ok(())
 }
 
 /// What a line says, by its second field.
-fn read_step(
-    edition: Edition,
-    pid: &[u8],
-    word: &[u8],
-    fields: &mut Fields,
-    entry: &mut Entry,
-) -> Result<(), Kind>
-    ensures { Fills result entry.new (read_step edition pid.now word.now fields.old) }
+fn read_step(word: &[u8], line: Line, entry: &mut Entry) -> Result<(), Kind>
+    ensures { Fills result entry.new
+        (read_step line.entry.edition line.entry.pid.now word.now line.entry.fields) }
 {
     if same_text(word, b"make") {
-        read_one_number(pid, OneNumber::Make, fields, entry)
+        read_one_number(OneNumber::Make, line, entry)
     } else if same_text(word, b"send") {
-        read_send(edition, pid, fields, entry)
+        read_send(line, entry)
     } else if same_text(word, b"recv") {
-        read_one_number(pid, OneNumber::Recv, fields, entry)
+        read_one_number(OneNumber::Recv, line, entry)
     } else if same_text(word, b"select") {
-        read_select(edition, pid, fields, entry)
+        read_select(line, entry)
     } else if same_text(word, b"close") {
-        read_one_number(pid, OneNumber::Close, fields, entry)
+        read_one_number(OneNumber::Close, line, entry)
     } else if same_text(word, b"exit") {
-        read_exit(pid, fields, entry)
-    } else if edition.has_cancel() && same_text(word, b"cancel") {
-        read_one_number(pid, OneNumber::Cancel, fields, entry)
+        read_exit(line, entry)
+    } else if line.edition.has_cancel() && same_text(word, b"cancel") {
+        read_one_number(OneNumber::Cancel, line, entry)
     } else {
         Err(Kind::BadStep)
     }
@@ -219,11 +203,12 @@ pub fn read_line(edition: Edition, line: &[u8], entry: &mut Entry) -> Result<(),
     ensures { Fills result entry.new (read_fields edition (pieces 32 line.now)) }
 {
     let mut fields = Fields::of(line, b' ');
-    let Some(pid) = fields.next_field() else {
-        return Err(Kind::BadStep);
+    let pid = fields.expect_field()?;
+    let word = fields.expect_field()?;
+    let line = Line {
+        edition,
+        pid,
+        fields,
     };
-    let Some(word) = fields.next_field() else {
-        return Err(Kind::BadStep);
-    };
-    read_step(edition, pid, word, &mut fields, entry)
+    read_step(word, line, entry)
 }

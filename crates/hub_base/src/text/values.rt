@@ -1,6 +1,6 @@
 //! Values that are read: a number, or behind the mark `#` the hexadecimal digits of bytes.
 
-ghost use Rattle.std.specs.Prelude.{◌≡◌, ◌/◌, ◌%◌, ◌||◌, ◌&&◌, nat_le, true, slice_index, IfSome};
+ghost use Rattle.std.specs.Prelude.{◌≡◌, ◌<◌, ◌⊎◌, ◌/◌, ◌%◌, ◌||◌, ◌&&◌, nat_le, true, slice_index, IfSome};
 ghost use Rattle.hex.specs.Hex.{lower_digits};
 ghost use Rattle.std.specs.List.{list_all};
 ghost use Rattle.std.specs.Option.{option_map};
@@ -11,26 +11,9 @@ use crate::limits::{GREATEST_VALUE, MOST_VALUE_BYTES};
 use crate::text::numbers::number;
 use crate::{Edition, Kind, Value};
 
-/// What each byte is as the first of two hexadecimal digits in lower case; 256 for one that is no digit.
-static HIGHS: [u32; 256] = [
-    256, 256, 256, 256, 256, 256, 256, 256, 256, 256, 256, 256, 256, 256, 256, 256, 256, 256, 256,
-    256, 256, 256, 256, 256, 256, 256, 256, 256, 256, 256, 256, 256, 256, 256, 256, 256, 256, 256,
-    256, 256, 256, 256, 256, 256, 256, 256, 256, 256, 0x00, 0x10, 0x20, 0x30, 0x40, 0x50, 0x60,
-    0x70, 0x80, 0x90, 256, 256, 256, 256, 256, 256, 256, 256, 256, 256, 256, 256, 256, 256, 256,
-    256, 256, 256, 256, 256, 256, 256, 256, 256, 256, 256, 256, 256, 256, 256, 256, 256, 256, 256,
-    256, 256, 256, 256, 256, 0xa0, 0xb0, 0xc0, 0xd0, 0xe0, 0xf0, 256, 256, 256, 256, 256, 256, 256,
-    256, 256, 256, 256, 256, 256, 256, 256, 256, 256, 256, 256, 256, 256, 256, 256, 256, 256, 256,
-    256, 256, 256, 256, 256, 256, 256, 256, 256, 256, 256, 256, 256, 256, 256, 256, 256, 256, 256,
-    256, 256, 256, 256, 256, 256, 256, 256, 256, 256, 256, 256, 256, 256, 256, 256, 256, 256, 256,
-    256, 256, 256, 256, 256, 256, 256, 256, 256, 256, 256, 256, 256, 256, 256, 256, 256, 256, 256,
-    256, 256, 256, 256, 256, 256, 256, 256, 256, 256, 256, 256, 256, 256, 256, 256, 256, 256, 256,
-    256, 256, 256, 256, 256, 256, 256, 256, 256, 256, 256, 256, 256, 256, 256, 256, 256, 256, 256,
-    256, 256, 256, 256, 256, 256, 256, 256, 256, 256, 256, 256, 256, 256, 256, 256, 256, 256, 256,
-    256, 256, 256, 256, 256, 256, 256, 256, 256, 256, 256, 256, 256,
-];
-
-/// The same as the second of two.
-static LOWS: [u32; 256] = [
+/// What each byte is worth as a hexadecimal digit in lower case. One that is no digit is worth 256, too much for
+/// either digit of a byte.
+static DIGITS: [u32; 256] = [
     256, 256, 256, 256, 256, 256, 256, 256, 256, 256, 256, 256, 256, 256, 256, 256, 256, 256, 256,
     256, 256, 256, 256, 256, 256, 256, 256, 256, 256, 256, 256, 256, 256, 256, 256, 256, 256, 256,
     256, 256, 256, 256, 256, 256, 256, 256, 256, 256, 0, 1, 2, 3, 4, 5, 6, 7, 8, 9, 256, 256, 256,
@@ -47,15 +30,22 @@ static LOWS: [u32; 256] = [
     256, 256, 256, 256,
 ];
 
+/// What this byte is worth as such a digit.
+#[inline(always)]
+fn worth_of(byte: u8) -> u32
+    ensures { (result ≡ 256) ⊎ ((result < 16) × (slice_index lower_digits result ≡ byte)) }
+{
+    DIGITS[usize::from(byte)]
+}
+
 /// The byte whose two digits these are.
 #[inline(always)]
+#[tactic(auto, using(crate::proofs::HexDigits::high_digit, crate::proofs::HexDigits::low_digit))]
 pub fn byte_of(high: u8, low: u8) -> Option<u8>
     ensures { IfSome result (λ b.
         (slice_index lower_digits (b / 16) ≡ high) × (slice_index lower_digits (b % 16) ≡ low)) }
 {
-    let first = HIGHS[usize::from(high)];
-    let second = LOWS[usize::from(low)];
-    let byte = first + second;
+    let byte = worth_of(high) * 16 + worth_of(low);
     if byte < 256 { Some(byte as u8) } else { None }
 }
 

@@ -13,6 +13,7 @@ mod passing;
 mod story;
 mod telling;
 mod told;
+mod window;
 
 pub use laws::{
     entries_end_once, events_are_told, levels_are_told, passages_are_in_time, passages_are_told,
@@ -22,3 +23,4 @@ pub use levels::Level;
 pub use moved::{Moved, Passage};
 pub use story::{Story, story_of};
 pub use told::Told;
+pub use window::Window;

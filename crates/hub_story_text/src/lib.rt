@@ -20,7 +20,6 @@ mod steps;
 mod text;
 mod waiters;
 mod waits;
-mod window;
 
+pub use hub_story::Window;
 pub use text::story_text;
-pub use window::Window;

@@ -1,10 +1,8 @@
 //! Which values went through a port, from which call to which.
 
 ghost use Rattle.std.specs.Prelude.{◌≡◌, Some, IfOk};
-ghost use Rattle.std.specs.List.{filter_map};
-ghost use Rattle.hub_base.specs.Values.{sent_on, got_on};
 ghost use Rattle.hub_story.specs.Passing.{beside, moved_by, passages};
-ghost use Rattle.hub_story.specs.Sides.{value_on};
+ghost use Rattle.hub_story.specs.Sides.{moves_on, value_on};
 
 use crate::{Moved, Passage, Told};
 use hub_base::{Case, Entry, Outcome, Port, Step, Value, What};
@@ -54,8 +52,7 @@ fn moves(
     entries: &[Entry],
     told: &[Told],
 ) -> Result<Vec<Moved>, AllocError>
-    ensures { IfOk result (λ moves.
-        moves.items ≡ filter_map (moved_by (value_on side port) entries.now) told.now) }
+    ensures { IfOk result (λ moves. moves.items ≡ moves_on side port entries.now told.now) }
 {
     let mut moves = Vec::new(alloc);
     for told in told {

@@ -1,15 +1,13 @@
 //! Who waits in vain, and for what: the foot of a drawing.
 
-ghost use Rattle.std.specs.Prelude.{◌≡◌, ◌<◌, ◌-◌, ◌^◌, ◌++◌, [], length, map, IfOk, OnOk};
-ghost use Rattle.hub_base.specs.Values.{cases_or};
-ghost use Rattle.hub_story.specs.Passing.{cases_at};
+ghost use Rattle.std.specs.Prelude.{◌≡◌, ◌<◌, ◌-◌, ◌^◌, ◌++◌, length, map, IfOk, OnOk};
 ghost use Rattle.hub_picture.specs.Waiters.{all_waiters, count_on, last_on, last_step, later, open_in, passed_until};
 ghost use Rattle.hub_picture.specs.Waiters.{port_of, waiters_of, waits_for};
 
 use crate::Window;
 use crate::levels::{after, empty};
-use hub_base::{Case, Entry, Port, Step};
-use hub_story::{Level, Told};
+use hub_base::{Case, Entry, Port};
+use hub_story::{Level, Told, cases_at};
 use std::alloc::{AllocError, Global};
 
 /// A call that waits, one of its cases, and who was the last at its port.
@@ -88,26 +86,6 @@ fn waits_for(entries: &[Entry], told: &[Told], step: u32, call: &Told, case: Cas
         case,
         sender: last_on(Side::Sends, entries, told, port_of(case), step),
         receiver: last_on(Side::Receives, entries, told, port_of(case), step),
-    }
-}
-
-/// The cases of a step; none where it is no call.
-fn cases_of(step: &Step) -> &[Case]
-    ensures { result.now ≡ cases_or step.now [] }
-{
-    match step {
-        Step::Call { cases, .. } => cases.as_slice(),
-        _ => &[],
-    }
-}
-
-/// The cases of the entry at this place.
-fn cases_at(entries: &[Entry], place: u32) -> &[Case]
-    ensures { result.now ≡ cases_at entries.now place }
-{
-    match entries.get(place as usize) {
-        Some(entry) => cases_of(&entry.step),
-        None => &[],
     }
 }
 

@@ -4,8 +4,9 @@ ghost use Rattle.std.specs.Prelude.{◌≡◌, Some, IfOk};
 ghost use Rattle.hub_story.specs.Passing.{beside, moved_by, passages};
 ghost use Rattle.hub_story.specs.Sides.{moves_on, value_on};
 
+use crate::cases::case_at;
 use crate::{Moved, Passage, Told};
-use hub_base::{Case, Entry, Outcome, Port, Step, Value, What};
+use hub_base::{Case, Entry, Outcome, Port, Value, What};
 use std::alloc::{AllocError, Global};
 
 /// The sends on a port, or the receives from it.
@@ -35,12 +36,8 @@ pub(crate) fn moved_by(side: Side, port: Port, entries: &[Entry], told: &Told) -
     let What::Fired { case, outcome } = told.event.what else {
         return None;
     };
-    let entry = entries.get(told.asked as usize)?;
-    let Step::Call { ref cases, .. } = entry.step else {
-        return None;
-    };
-    let case = cases.as_slice().get(usize::from(case))?;
-    let value = value_on(side, port, *case, outcome)?;
+    let case = case_at(entries, told.asked, case)?;
+    let value = value_on(side, port, case, outcome)?;
     Some(Moved { told: *told, value })
 }
 

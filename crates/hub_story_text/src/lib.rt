@@ -6,7 +6,6 @@ mod answers;
 mod cells;
 mod closers;
 mod ends;
-mod entries;
 mod explained;
 mod fullest;
 mod last_moves;

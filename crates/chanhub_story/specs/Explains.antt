@@ -9,7 +9,7 @@ use Rattle.hub_replay.specs.Replay.{ReadsWhole}
 use Rattle.hub_story.specs.declared.story.Story.{Story}
 use Rattle.hub_story.specs.Stories.{IsStoryOf}
 use Rattle.hub_story.specs.Told.{told}
-use Rattle.hub_story_text.specs.declared.window.Window.{Window}
+use Rattle.hub_story.specs.declared.window.Window.{Window}
 use Rattle.hub_story_text.specs.StoryText.{story_text}
 use Rattle.hub_picture.specs.declared.drawing.Drawing.{Drawing}
 use Rattle.hub_picture.specs.Drawings.{IsDrawingOf}
@@ -19,14 +19,14 @@ use Rattle.chanhub_story.specs.declared.asked.Form.{Form}
 use Rattle.chanhub_story.specs.declared.asked.Form.TheVariants as form
 use Rattle.chanhub_story.specs.declared.fault.StoryFault.{StoryFault}
 use Rattle.chanhub_story.specs.declared.fault.StoryFault.TheVariants as fault
-use Rattle.chanhub_story.specs.Windows.{drawn, window_of}
+use Rattle.chanhub_story.specs.Windows.{window_of}
 
 -- the bytes are a picture of these steps, drawn from the journal's story
 pub record IsPicture (w : Window) (given : JournalView) (text : List ℕ) : Type 0 where
   pub story : Story
   pub drawing : Drawing
   pub told : IsStoryOf given story
-  pub draws : IsDrawingOf given story (drawn w) drawing
+  pub draws : IsDrawingOf given story w drawing
   pub is : text ≡ svg_text drawing
 
 -- the bytes are these steps in that form

@@ -1,7 +1,6 @@
 -- Which steps of a journal are shown, by what is asked.
 use Rattle.std.specs.Prelude.{ℕ, ◌-◌, ◌==◌, ◌||◌, nat_lt, Bool, false, Result, Ok, Err, if◌then◌else◌}
-use Rattle.hub_story_text.specs.declared.window.Window.{Window}
-use Rattle.hub_picture.specs.declared.window.Window as picture
+use Rattle.hub_story.specs.declared.window.Window.{Window}
 use Rattle.chanhub_story.specs.declared.asked.TheConstants.{MOST_DRAWN}
 use Rattle.chanhub_story.specs.declared.asked.Asked.{Asked}
 use Rattle.chanhub_story.specs.declared.asked.Form.{Form}
@@ -18,15 +17,11 @@ too_long Picture count = nat_lt MOST_DRAWN count
 
 -- the places of these steps, which are counted from 1, in a journal of so many
 abbrev pub shown_of : Form → Shown → ℕ → Result Window StoryFault
-shown_of form All count = if too_long form count then Err TooLong else Ok (record { from = 0; until = count })
+shown_of form All count = if too_long form count then Err TooLong else Ok (record { first = 0; end = count })
 shown_of form (Steps from to) count =
     if nat_lt to from then Err Backward
     else if (from == 0) || nat_lt count to then Err Outside
-    else Ok (record { from = from - 1; until = to })
+    else Ok (record { first = from - 1; end = to })
 
 abbrev pub window_of : Asked → ℕ → Result Window StoryFault
 window_of asked count = shown_of asked.form asked.shown count
-
--- the same window for a picture
-abbrev pub drawn : Window → picture.Window
-drawn w = record { first = w.from; end = w.until }

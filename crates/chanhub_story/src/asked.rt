@@ -1,10 +1,10 @@
 //! What is asked of a journal.
 
-ghost use Rattle.std.specs.Prelude.{◌≡◌, ◌≤◌, ◌<◌, ◌^◌};
-ghost use Rattle.chanhub_story.specs.Windows.{drawn, too_long, window_of};
+ghost use Rattle.std.specs.Prelude.{◌≡◌, ◌<◌, ◌^◌};
+ghost use Rattle.chanhub_story.specs.Windows.{too_long, window_of};
 
 use crate::fault::StoryFault;
-use hub_story_text::Window;
+use hub_story::Window;
 
 /// In which form a journal is explained.
 #[derive(Clone, Copy)]
@@ -53,31 +53,20 @@ fn too_long(form: Form, count: usize) -> bool
 
 /// The places of the steps that are asked for, in a journal of so many.
 pub(crate) fn window_of(asked: Asked, count: usize) -> Result<Window, StoryFault>
+    requires few { count < 2 ^ 32 }
     ensures { result ≡ window_of asked count }
 {
     match asked.shown {
         Shown::All if too_long(asked.form, count) => Err(StoryFault::TooLong),
         Shown::All => Ok(Window {
-            from: 0,
-            until: count,
+            first: 0,
+            end: count as u32,
         }),
         Shown::Steps { from, to } if to < from => Err(StoryFault::Backward),
         Shown::Steps { from, to } if from == 0 || to as usize > count => Err(StoryFault::Outside),
         Shown::Steps { from, to } => Ok(Window {
-            from: from as usize - 1,
-            until: to as usize,
+            first: from - 1,
+            end: to,
         }),
-    }
-}
-
-/// The same window for a picture.
-pub(crate) fn drawn(window: Window) -> hub_picture::Window
-    requires few { window.until < 2 ^ 32 }
-    requires forward { window.from ≤ window.until }
-    ensures { result ≡ drawn window }
-{
-    hub_picture::Window {
-        first: window.from as u32,
-        end: window.until as u32,
     }
 }

@@ -7,7 +7,7 @@ ghost use Rattle.hub_replay.specs.Devices.{AppendsBeginning, Failed};
 ghost use Rattle.chanhub_story.specs.Explains.{Explains, HasNone, IsExplanation};
 ghost use Rattle.chanhub_story.specs.Promises.{HasRefused};
 
-use crate::asked::{Asked, Form, drawn, window_of};
+use crate::asked::{Asked, Form, window_of};
 use crate::fault::StoryFault;
 use hub_base::{MOST_BYTES, NoMemory, read_journal};
 use hub_picture::{Drawing, drawing_of, write_svg};
@@ -36,7 +36,7 @@ fn explanation(alloc: Global, asked: Asked, bytes: &[u8]) -> Result<Vec<u8>, Sto
     match asked.form {
         Form::Text => Ok(story_text(alloc, &journal, &story, window)?),
         Form::Picture => {
-            let drawing = drawing_of(alloc, &journal, &story, drawn(window))?;
+            let drawing = drawing_of(alloc, &journal, &story, window)?;
             Ok(svg_of(alloc, &drawing)?)
         }
     }

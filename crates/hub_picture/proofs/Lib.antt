@@ -1,5 +1,4 @@
 mod Appended
-mod Editions
 pub mod Plain
 mod Ports
 pub mod Titles

@@ -2,7 +2,7 @@
 use Rattle.std.proofs.Common.{◌≡◌, ◌≤◌, ◌∙◌, ℕ, List, ap, arith}
 use Rattle.hub_base.specs.declared.entry.Entry.{Entry}
 use Rattle.hub_story.specs.declared.told.Told.{Told}
-use Rattle.hub_picture.specs.declared.window.Window.{Window}
+use Rattle.hub_story.specs.declared.window.Window.{Window}
 use Rattle.hub_picture.specs.declared.arrows.Arrow.{Arrow}
 use Rattle.hub_picture.specs.Drawings.{arrows_to}
 

@@ -12,7 +12,7 @@ use Rattle.hub_story.specs.declared.moved.Passage.{Passage}
 use Rattle.hub_story.specs.declared.story.Story.{Story}
 use Rattle.hub_story.specs.Passing.{passages}
 use Rattle.hub_story.specs.Waiting.{is_stalled}
-use Rattle.hub_picture.specs.declared.window.Window.{Window}
+use Rattle.hub_story.specs.declared.window.Window.{Window}
 use Rattle.hub_picture.specs.declared.asked.Asked.{Asked}
 use Rattle.hub_picture.specs.declared.asked.Shown.{Shown}
 use Rattle.hub_picture.specs.declared.asked.Shown.TheVariants.{Boxes, Bars}
@@ -21,7 +21,7 @@ use Rattle.hub_picture.specs.Lanes.{lanes_of}
 use Rattle.hub_picture.specs.Levels.{all_strips, all_levels}
 use Rattle.hub_picture.specs.Waiters.{all_waiters}
 use Rattle.hub_picture.specs.declared.drawing.Drawing.{Drawing}
-use Rattle.hub_picture.specs.Windows.{goes_on, has, touches, within}
+use Rattle.hub_story.specs.Windows.{goes_on, has, touches, within}
 
 -- ---- what was asked
 -- these entries, the first of which stands at this place, and how each ended

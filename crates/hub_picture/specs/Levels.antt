@@ -16,10 +16,10 @@ use Rattle.hub_base.specs.Values.{of_what, sent_on, got_on}
 use Rattle.hub_story.specs.declared.levels.Level.{Level}
 use Rattle.hub_story.specs.declared.told.Told.{Told}
 use Rattle.hub_story.specs.Passing.{cases_at}
-use Rattle.hub_picture.specs.declared.window.Window.{Window}
+use Rattle.hub_story.specs.declared.window.Window.{Window}
 use Rattle.hub_picture.specs.declared.strips.Strip.{Strip}
 use Rattle.hub_picture.specs.declared.levels.Held.{Held}
-use Rattle.hub_picture.specs.Windows.{goes_on}
+use Rattle.hub_story.specs.Windows.{goes_on}
 
 -- ---- the ports
 -- how many values the port has room for that this step makes

@@ -1,4 +1,3 @@
-pub mod Windows
 pub mod Lanes
 pub mod Levels
 pub mod Waiters

@@ -6,12 +6,12 @@ use Rattle.hub_base.specs.declared.entry.Entry.{Entry}
 use Rattle.hub_base.specs.Notation.{procs, port, make, send, recv, exit}
 use Rattle.hub_story.specs.declared.told.Told.{Told}
 use Rattle.hub_story.specs.Told.{told, end_of}
-use Rattle.hub_picture.specs.declared.window.Window.{Window}
+use Rattle.hub_story.specs.declared.window.Window.{Window}
 use Rattle.hub_picture.specs.declared.arrows.Arrow.{Arrow}
 use Rattle.hub_picture.specs.declared.frame.Frame.{Frame}
 use Rattle.hub_picture.specs.declared.frame.Scale.TheVariants.{Wide, Dense}
 use Rattle.hub_picture.specs.declared.label.Label.TheVariants.{Send}
-use Rattle.hub_picture.specs.Windows.{within}
+use Rattle.hub_story.specs.Windows.{within}
 use Rattle.hub_picture.specs.Drawings.{waits_in, all_arrows, stalls_in}
 use Rattle.hub_picture.specs.Frames.{x_of, y_of}
 use Rattle.hub_picture.specs.Labels.{label_text, class_text}

@@ -10,7 +10,7 @@ use Rattle.hub_base.specs.declared.entry.Entry.{Entry}
 use Rattle.hub_story.specs.declared.levels.Level.{Level}
 use Rattle.hub_story.specs.declared.told.Told.{Told}
 use Rattle.hub_story.specs.Passing.{cases_at}
-use Rattle.hub_picture.specs.declared.window.Window.{Window}
+use Rattle.hub_story.specs.declared.window.Window.{Window}
 use Rattle.hub_picture.specs.declared.waiters.Side.{Side}
 use Rattle.hub_picture.specs.declared.waiters.Side.TheVariants.{Sends, Receives}
 use Rattle.hub_picture.specs.declared.waiters.Waiter.{Waiter}
@@ -54,10 +54,6 @@ waits_for es all step t c = record {
 abbrev pub waiters_of : List Entry → List Told → ℕ → Told → List Waiter
 waiters_of es all step t = map (waits_for es all step t) (cases_at es t.asked)
 
--- of one who was stalled, as it stands after the step that stalled it
-abbrev pub stalled_waiters : List Entry → List Told → Told → List Waiter
-stalled_waiters es all t = waiters_of es all t.by t
-
 -- the step of the last of these, or else that
 abbrev pub last_step : ℕ → List Told → ℕ
 last_step before [] = before
@@ -66,9 +62,9 @@ last_step before (t ∷ ts) = last_step t.by ts
 abbrev pub is_by : ℕ → Told → Bool
 is_by step t = t.by == step
 
--- those of these that came last
-abbrev pub last_of : List Told → List Told
-last_of ts = filter (is_by (last_step zero ts)) ts
+-- what these wait for, of calls that this step stalled
+abbrev pub stalled_by : List Entry → List Told → ℕ → List Told → List Waiter
+stalled_by es all step stalls = flat_map (waiters_of es all step) (filter (is_by step) stalls)
 
 -- the calls that wait in the end, where the window goes so far
 abbrev pub open_in : Window → ℕ → List Told → List Told
@@ -76,5 +72,5 @@ open_in w count waiting = if nat_le count w.end then waiting else []
 
 abbrev pub all_waiters : Window → List Entry → List Told → List Told → List Told → List Waiter
 all_waiters w es all stalls waiting =
-    flat_map (stalled_waiters es all) (last_of stalls)
+    stalled_by es all (last_step zero stalls) stalls
     ++ flat_map (waiters_of es all (length es)) (open_in w (length es) waiting)

@@ -19,10 +19,10 @@ pub(crate) const STRIP: u64 = 18;
 /// The height of a strip whose port is full.
 pub(crate) const FULL: u64 = 12;
 
-/// The height of a picture's legend.
-pub(crate) const LEGEND: u64 = 142;
+/// The height of a picture's legend: that of its rows, with the room above them.
+pub(crate) const LEGEND: u64 = 16 + 7 * ROW;
 
-/// The height of a row of those who wait.
+/// The height of a row of those who wait, or of the legend.
 pub(crate) const ROW: u64 = 18;
 
 /// The most such rows for which a page has room: for two lists of all processes, each with the most cases.

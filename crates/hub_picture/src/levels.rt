@@ -5,8 +5,8 @@ ghost use Rattle.std.specs.List.{flat_map};
 ghost use Rattle.hub_picture.specs.Levels.{after, empty, is_same, levels_on, shows_level, with_case};
 
 use crate::{Strip, Window};
-use hub_base::{Case, Entry, Outcome, Port, Step, What};
-use hub_story::{Level, Told};
+use hub_base::{Case, Entry, Outcome, Port, What};
+use hub_story::{Level, Told, case_at};
 use std::alloc::{AllocError, Global};
 
 /// How full a port was from one step until another.
@@ -52,14 +52,8 @@ pub(crate) fn after(entries: &[Entry], port: Port, level: Level, told: &Told) ->
     let What::Fired { case, outcome } = told.event.what else {
         return level;
     };
-    let Some(entry) = entries.get(told.asked as usize) else {
-        return level;
-    };
-    let Step::Call { ref cases, .. } = entry.step else {
-        return level;
-    };
-    match cases.as_slice().get(usize::from(case)) {
-        Some(case) => with_case(port, level, *case, outcome),
+    match case_at(entries, told.asked, case) {
+        Some(case) => with_case(port, level, case, outcome),
         None => level,
     }
 }

@@ -18,15 +18,14 @@ mod stalls;
 mod strips;
 mod svg;
 mod waiters;
-mod window;
 
 pub use arrows::Arrow;
 pub use asked::Asked;
 pub use drawing::{Drawing, drawing_of};
+pub use hub_story::Window;
 pub use lanes::Lane;
 pub use laws::{ends_are_told, texts_are_plain};
 pub use levels::Held;
 pub use strips::Strip;
 pub use svg::write_svg;
 pub use waiters::Waiter;
-pub use window::Window;

@@ -61,12 +61,22 @@ fn put_number(out: &mut Vec<u8>, number: u64) -> Result<(), AllocError>
     put(out, buffer.format(number).as_bytes())
 }
 
+/// Appends a word, and the number behind it, if there is one.
+fn put_word(out: &mut Vec<u8>, word: &[u8], number: Option<u64>) -> Result<(), AllocError>
+    ensures { Appends out.old out.new (word.now ++ behind_text number) result }
+{
+    put(out, word)?;
+    match number {
+        Some(number) => put_number(out, number),
+        None => Ok(()),
+    }
+}
+
 /// Appends a word and a number.
 fn put_numbered(out: &mut Vec<u8>, word: &[u8], number: u64) -> Result<(), AllocError>
     ensures { Appends out.old out.new (word.now ++ decimal number) result }
 {
-    put(out, word)?;
-    put_number(out, number)
+    put_word(out, word, Some(number))
 }
 
 /// Appends the line of an entry. The second edition has every entry.
@@ -215,17 +225,6 @@ pub(crate) fn put_pieces(out: &mut Vec<u8>, pieces: &[Piece<'_>]) -> Result<(), 
     ensures { Appends out.old out.new (flat_map piece_text pieces.now) result }
 {
     put_each(out, &Pieces, pieces)
-}
-
-/// Appends a word, and the number behind it, if there is one.
-fn put_word(out: &mut Vec<u8>, word: &[u8], number: Option<u64>) -> Result<(), AllocError>
-    ensures { Appends out.old out.new (word.now ++ behind_text number) result }
-{
-    put(out, word)?;
-    match number {
-        Some(number) => put_number(out, number),
-        None => Ok(()),
-    }
 }
 
 /// Appends words, and behind each the number in its place, while there is one.

@@ -1,16 +1,13 @@
 //! Who waits in vain, and for what: the foot of a drawing.
 
-ghost use Rattle.std.specs.Prelude.{◌≡◌, ◌<◌, ◌-◌, ◌^◌, ◌++◌, [], filter, length, map, IfOk, OnOk};
-ghost use Rattle.std.specs.List.{flat_map};
-ghost use Rattle.hub_base.specs.Values.{cases_or};
-ghost use Rattle.hub_story.specs.Passing.{cases_at};
-ghost use Rattle.hub_picture.specs.Waiters.{all_waiters, count_on, is_by, last_on, last_step, later, open_in, passed_until};
-ghost use Rattle.hub_picture.specs.Waiters.{port_of, stalled_waiters, waiters_of, waits_for};
+ghost use Rattle.std.specs.Prelude.{◌≡◌, ◌<◌, ◌-◌, ◌^◌, ◌++◌, length, map, IfOk, OnOk};
+ghost use Rattle.hub_picture.specs.Waiters.{all_waiters, count_on, last_on, last_step, later, open_in, passed_until};
+ghost use Rattle.hub_picture.specs.Waiters.{port_of, waiters_of, waits_for};
 
 use crate::Window;
 use crate::levels::{after, empty};
-use hub_base::{Case, Entry, Port, Step};
-use hub_story::{Level, Told};
+use hub_base::{Case, Entry, Port};
+use hub_story::{Level, Told, cases_at};
 use std::alloc::{AllocError, Global};
 
 /// A call that waits, one of its cases, and who was the last at its port.
@@ -92,26 +89,6 @@ fn waits_for(entries: &[Entry], told: &[Told], step: u32, call: &Told, case: Cas
     }
 }
 
-/// The cases of a step; none where it is no call.
-fn cases_of(step: &Step) -> &[Case]
-    ensures { result.now ≡ cases_or step.now [] }
-{
-    match step {
-        Step::Call { cases, .. } => cases.as_slice(),
-        _ => &[],
-    }
-}
-
-/// The cases of the entry at this place.
-fn cases_at(entries: &[Entry], place: u32) -> &[Case]
-    ensures { result.now ≡ cases_at entries.now place }
-{
-    match entries.get(place as usize) {
-        Some(entry) => cases_of(&entry.step),
-        None => &[],
-    }
-}
-
 /// Adds what a call waits for by each of these cases.
 fn add_cases(
     all: &mut Vec<Waiter>,
@@ -162,42 +139,6 @@ fn last_step(told: &[Told]) -> u32
     step
 }
 
-/// Adds what they wait for whom this step stalled.
-fn add_stalled(
-    all: &mut Vec<Waiter>,
-    entries: &[Entry],
-    told: &[Told],
-    step: u32,
-    stalls: &[Told],
-) -> Result<(), AllocError>
-    ensures { OnOk result (all.new.items ≡ all.old.items
-        ++ flat_map (stalled_waiters entries.now told.now) (filter (is_by step) stalls.now)) }
-{
-    for call in stalls {
-        if call.by == step {
-            add_waiters(all, entries, told, call.by, call)?;
-        }
-    }
-    Ok(())
-}
-
-/// Adds what these calls wait for in the end.
-fn add_open(
-    all: &mut Vec<Waiter>,
-    entries: &[Entry],
-    told: &[Told],
-    step: u32,
-    waiting: &[Told],
-) -> Result<(), AllocError>
-    ensures { OnOk result (all.new.items ≡ all.old.items
-        ++ flat_map (waiters_of entries.now told.now step) waiting.now) }
-{
-    for call in waiting {
-        add_waiters(all, entries, told, step, call)?;
-    }
-    Ok(())
-}
-
 /// The calls that wait in the end, where the window goes so far.
 fn open_in(window: Window, count: u32, waiting: &[Told]) -> &[Told]
     ensures { result.now ≡ open_in window count waiting.now }
@@ -219,14 +160,15 @@ pub(crate) fn waiters_in(
         all.items ≡ all_waiters window entries.now told.now stalls.now waiting.now) }
 {
     let count = entries.len() as u32;
+    let stall = last_step(stalls);
     let mut all = Vec::new(alloc);
-    add_stalled(&mut all, entries, told, last_step(stalls), stalls)?;
-    add_open(
-        &mut all,
-        entries,
-        told,
-        count,
-        open_in(window, count, waiting),
-    )?;
+    for call in stalls {
+        if call.by == stall {
+            add_waiters(&mut all, entries, told, stall, call)?;
+        }
+    }
+    for call in open_in(window, count, waiting) {
+        add_waiters(&mut all, entries, told, count, call)?;
+    }
     Ok(all)
 }

@@ -10,3 +10,4 @@ pub mod Steps
 pub mod Once
 pub mod Waits
 pub mod Filling
+pub mod Editions

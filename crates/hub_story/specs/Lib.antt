@@ -5,6 +5,7 @@ pub mod Waiting
 pub mod Levels
 pub mod Ends
 pub mod Sides
+pub mod Windows
 pub mod Stories
 pub mod Laws
 pub mod StoryRows

@@ -1,10 +1,8 @@
 //! How full a port is after a step.
 
 ghost use Rattle.std.specs.Prelude.{◌≡◌, ◌≤◌, ◌∷◌, [], length};
-ghost use Rattle.std.specs.List.{filter_map};
 ghost use Rattle.hub_story.specs.Levels.{received_by, sent_by, told_by};
-ghost use Rattle.hub_story.specs.Passing.{moved_by};
-ghost use Rattle.hub_story.specs.Sides.{value_on};
+ghost use Rattle.hub_story.specs.Sides.{moves_on};
 
 use crate::Told;
 use crate::passing::{Side, moved_by};
@@ -21,8 +19,7 @@ pub struct Level {
 
 /// 1 where a value moved on this side of the port by one of the first so many entries, and else 0.
 fn count_of(side: Side, port: Port, entries: &[Entry], told: &Told, count: u32) -> usize
-    ensures value { result ≡ length (filter_map (moved_by (value_on side port) entries.now)
-        (told_by count (told.now ∷ []))) }
+    ensures value { result ≡ length (moves_on side port entries.now (told_by count (told.now ∷ []))) }
     ensures most { result ≤ 1 }
 {
     if told.by >= count {

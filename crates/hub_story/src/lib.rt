@@ -4,6 +4,7 @@
 //! with the entry by whose step it came; all else is a filter of that list.
 #![tactic(auto)]
 
+mod cases;
 mod ends;
 mod last_calls;
 mod laws;
@@ -13,7 +14,9 @@ mod passing;
 mod story;
 mod telling;
 mod told;
+mod window;
 
+pub use cases::{case_at, cases_at, cases_of};
 pub use laws::{
     entries_end_once, events_are_told, levels_are_told, passages_are_in_time, passages_are_told,
     sends_are_told, waiting_is_told,
@@ -22,3 +25,4 @@ pub use levels::Level;
 pub use moved::{Moved, Passage};
 pub use story::{Story, story_of};
 pub use told::Told;
+pub use window::Window;

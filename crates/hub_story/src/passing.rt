@@ -1,13 +1,12 @@
 //! Which values went through a port, from which call to which.
 
 ghost use Rattle.std.specs.Prelude.{◌≡◌, Some, IfOk};
-ghost use Rattle.std.specs.List.{filter_map};
-ghost use Rattle.hub_base.specs.Values.{sent_on, got_on};
 ghost use Rattle.hub_story.specs.Passing.{beside, moved_by, passages};
-ghost use Rattle.hub_story.specs.Sides.{value_on};
+ghost use Rattle.hub_story.specs.Sides.{moves_on, value_on};
 
+use crate::cases::case_at;
 use crate::{Moved, Passage, Told};
-use hub_base::{Case, Entry, Outcome, Port, Step, Value, What};
+use hub_base::{Case, Entry, Outcome, Port, Value, What};
 use std::alloc::{AllocError, Global};
 
 /// The sends on a port, or the receives from it.
@@ -37,12 +36,8 @@ pub(crate) fn moved_by(side: Side, port: Port, entries: &[Entry], told: &Told) -
     let What::Fired { case, outcome } = told.event.what else {
         return None;
     };
-    let entry = entries.get(told.asked as usize)?;
-    let Step::Call { ref cases, .. } = entry.step else {
-        return None;
-    };
-    let case = cases.as_slice().get(usize::from(case))?;
-    let value = value_on(side, port, *case, outcome)?;
+    let case = case_at(entries, told.asked, case)?;
+    let value = value_on(side, port, case, outcome)?;
     Some(Moved { told: *told, value })
 }
 
@@ -54,8 +49,7 @@ fn moves(
     entries: &[Entry],
     told: &[Told],
 ) -> Result<Vec<Moved>, AllocError>
-    ensures { IfOk result (λ moves.
-        moves.items ≡ filter_map (moved_by (value_on side port) entries.now) told.now) }
+    ensures { IfOk result (λ moves. moves.items ≡ moves_on side port entries.now told.now) }
 {
     let mut moves = Vec::new(alloc);
     for told in told {

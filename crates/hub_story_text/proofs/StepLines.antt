@@ -2,18 +2,11 @@
 use Rattle.std.proofs.Common.{◌≡◌, ◌<◌, ◌+◌, ℕ, Bool, true, false, List, [], ◌∷◌, ◌++◌}
 use Rattle.std.proofs.Common.{length, take, filter, refl, ap, ◌∙◌, sym, append-nil, get_or, add-one, codes}
 use Rattle.std.proofs.Common.{◌≢◌, ◌-◌, ◌≤◌, Option, drop, length-append, arith}
-use Rattle.std.specs.List.{flat_map, list_all}
+use Rattle.std.specs.List.{flat_map}
 use Rattle.std.proofs.Math.Seq.{take-suc, take-append_seam}
 use Rattle.std.proofs.lemmas.Fmt.{decimal_digit}
 use Rattle.std.proofs.lemmas.List.{append_cancel_right}
-use Rattle.std.proofs.lemmas.List.Elements.{filter-append}
 use Rattle.std.proofs.lemmas.Grind.{flat_map-append}
-use Rattle.hub_base.specs.declared.case.Case.{Case}
-use Rattle.hub_base.specs.declared.case.Case.TheVariants.{Send, Recv}
-use Rattle.hub_base.specs.declared.entry.Step.{Step}
-use Rattle.hub_base.specs.declared.entry.Step.TheVariants.{Make, Call, Close, Exit, Cancel}
-use Rattle.hub_base.specs.declared.head.Edition.TheVariants.{Two}
-use Rattle.hub_base.specs.Head.{is_of, has_case, has_content}
 use Rattle.hub_base.specs.declared.event.Outcome.TheVariants.{Got}
 use Rattle.hub_base.specs.declared.event.What.{What}
 use Rattle.hub_base.specs.declared.event.What.TheVariants.{Made, Fired, Default, Done, Parked, Stalled, Fault, Cancelled}
@@ -21,8 +14,7 @@ use Rattle.hub_base.specs.declared.value.Port.{Port}
 use Rattle.hub_base.specs.declared.value.Value.{Value}
 use Rattle.hub_base.specs.declared.entry.Entry.{Entry}
 use Rattle.hub_base.specs.EventText.{event_line}
-use Rattle.hub_base.specs.Value.{Content, content, value_field}
-use Rattle.hub_base.specs.Value.Content.{Num, Bytes}
+use Rattle.hub_base.specs.Value.{value_field}
 use Rattle.hub_story.specs.declared.told.Told.{Told}
 use Rattle.hub_story_text.specs.declared.last_moves.Mover.{Mover}
 use Rattle.hub_story_text.specs.declared.ends.Ending.{Ending}
@@ -30,27 +22,8 @@ use Rattle.hub_story_text.specs.declared.ends.Ending.TheVariants.{Frees, Cancels
 use Rattle.hub_story_text.specs.EndsText.{ending_word, ends_words, step_number, with_ended}
 use Rattle.hub_story_text.specs.PortText.{made_line, port_line}
 use Rattle.hub_story_text.specs.WaiterText.{left_words, waiter_words, waiters_words}
+use Rattle.hub_story.proofs.Filters.{filter-take}
 use Rattle.hub_story_text.proofs.Chains.{flat-next}
-
--- the second edition has each step
-any-content : (c : Content) → has_content Two c ≡ true
-any-content (Num n) = refl
-any-content (Bytes bs) = refl
-
-any-case : (c : Case) → has_case Two c ≡ true
-any-case (Send p v) = any-content (content v)
-any-case (Recv p) = refl
-
-any-cases : (cs : List Case) → list_all (has_case Two) cs ≡ true
-any-cases [] = refl
-any-cases (c ∷ cs) = rw (any-case c, any-cases cs) refl
-
-pub any-step : (s : Step) → is_of Two s ≡ true
-any-step (Make cap) = refl
-any-step (Call cases default word) = any-cases cases.items
-any-step (Close p) = refl
-any-step Exit = refl
-any-step (Cancel q) = refl
 
 -- one more that was ended
 step-more : (word : List ℕ) (ts : List Told) (t : Told) → word ++ (flat_map step_number ts ++ step_number t) ≡ word ++ flat_map step_number (ts ++ t ∷ [])
@@ -68,15 +41,11 @@ ended-more Stalls (x ∷ xs) t = step-more (ending_word Stalls) (x ∷ xs) t
 pub taken-next : {X : Type 0} (xs : List X) (i : ℕ) (d : X) → i < length xs → take (i + 1) xs ≡ take i xs ++ get_or xs i d ∷ []
 taken-next xs i d below = rw add-one (take-suc xs i d below)
 
-kept : (p : Told → Bool) (xs : List Told) (i : ℕ) (d : Told) → i < length xs →
-    filter p (take (i + 1) xs) ≡ filter p (take i xs) ++ filter p (get_or xs i d ∷ [])
-kept p xs i d below = ap (filter p) (taken-next xs i d below) ∙ filter-append p (take i xs) (get_or xs i d ∷ [])
-
 pub ends-one : (ending : Ending) (p : Told → Bool) (xs : List Told) (i : ℕ) (d : Told) (was now : List ℕ) → i < length xs → p (get_or xs i d) ≡ true →
     was ≡ ends_words ending (filter p (take i xs)) → now ≡ with_ended ending was (get_or xs i d) → now ≡ ends_words ending (filter p (take (i + 1) xs))
 ends-one ending p xs i d was now below hit so is =
     is ∙ ap (λ bs. with_ended ending bs (get_or xs i d)) so ∙ ended-more ending (filter p (take i xs)) (get_or xs i d)
-    ∙ ap (λ ts. ends_words ending (filter p (take i xs) ++ ts)) (sym (one p (get_or xs i d) hit)) ∙ ap (ends_words ending) (sym (kept p xs i d below))
+    ∙ ap (λ ts. ends_words ending (filter p (take i xs) ++ ts)) (sym (one p (get_or xs i d) hit)) ∙ ap (ends_words ending) (sym (filter-take p xs i d below))
   where
     one : (p : Told → Bool) (t : Told) → p t ≡ true → filter p (t ∷ []) ≡ t ∷ []
     one p t h = rw h refl
@@ -85,7 +54,7 @@ pub ends-none : (ending : Ending) (p : Told → Bool) (xs : List Told) (i : ℕ)
     was ≡ ends_words ending (filter p (take i xs)) → was ≡ ends_words ending (filter p (take (i + 1) xs))
 ends-none ending p xs i d was below miss so =
     so ∙ ap (ends_words ending) (sym (append-nil (filter p (take i xs))) ∙ ap (λ ts. filter p (take i xs) ++ ts) (sym (none p (get_or xs i d) miss))
-    ∙ sym (kept p xs i d below))
+    ∙ sym (filter-take p xs i d below))
   where
     none : (p : Told → Bool) (t : Told) → p t ≡ false → filter p (t ∷ []) ≡ []
     none p t h = rw h refl

@@ -14,13 +14,13 @@ use Rattle.hub_story.specs.Waiting.{is_stalled}
 use Rattle.hub_story.specs.Passing.{cases_at}
 use Rattle.hub_story_text.specs.declared.last_moves.Mover.{Mover}
 use Rattle.hub_story_text.specs.declared.last_moves.LastMoves.{LastMoves}
-use Rattle.hub_story_text.specs.declared.window.Window.{Window}
+use Rattle.hub_story.specs.declared.window.Window.{Window}
 use Rattle.hub_story_text.specs.LastMoves.{AreLast, last_sender, last_receiver, mover_at}
 use Rattle.hub_story_text.specs.Leavers.{leavers}
 use Rattle.hub_story_text.specs.StoryText.{came_by, stall_heading, steps_text, step_text, who_waits}
 use Rattle.hub_story_text.specs.LineText.{told_line}
 use Rattle.hub_story_text.specs.WaiterText.{case_words, left_words, port_words, waiter_words, waiters_words, who_words}
-use Rattle.hub_story_text.specs.Windows.{has}
+use Rattle.hub_story.specs.Windows.{has}
 use Rattle.hub_story_text.proofs.Groups.{stalled-came}
 
 -- ---- the same movers give the same words

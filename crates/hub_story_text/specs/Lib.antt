@@ -1,4 +1,3 @@
-pub mod Windows
 pub mod Cells
 pub mod Writing
 pub mod AnswerText

@@ -6,8 +6,8 @@ use Rattle.hub_base.specs.declared.entry.Entry.{Entry}
 use Rattle.hub_story.specs.declared.told.Told.{Told}
 use Rattle.hub_story.specs.Levels.{told_by}
 use Rattle.hub_story.specs.Waiting.{stalled_by, still_waiting}
-use Rattle.hub_story_text.specs.declared.window.Window.{Window}
-use Rattle.hub_story_text.specs.Windows.{has}
+use Rattle.hub_story.specs.declared.window.Window.{Window}
+use Rattle.hub_story.specs.Windows.{has}
 use Rattle.hub_story_text.specs.LastMoves.{last_sender, last_receiver}
 use Rattle.hub_story_text.specs.Leavers.{leavers}
 use Rattle.hub_story_text.specs.LineText.{told_line}

@@ -6,10 +6,9 @@ ghost use Rattle.hub_story.specs.declared.told.Told.{Told};
 ghost use Rattle.hub_story_text.specs.LastMoves.{AreLast, AreNext, IsWhole, got_port, mover_at, sent_port, with_mover};
 ghost use Rattle.hub_story_text.specs.Leavers.{leaves};
 
-use crate::entries::cases_at;
 use crate::leavers::note_leaver;
 use hub_base::{Case, Entry, Outcome, Pid, Port, What};
-use hub_story::Told;
+use hub_story::{Told, case_at};
 use std::alloc::{AllocError, Global};
 
 /// How many numbers a case can give a port.
@@ -90,15 +89,15 @@ impl LastMoves {
         let What::Fired { case, outcome } = told.event.what else {
             return;
         };
-        let Some(case) = cases_at(entries, told.asked).get(usize::from(case)) else {
+        let Some(case) = case_at(entries, told.asked, case) else {
             return;
         };
         let mover = Mover {
             pid: told.event.pid,
             step: told.asked,
         };
-        set_mover(&mut self.sent, sent_port(*case, outcome), mover);
-        set_mover(&mut self.received, got_port(*case, outcome), mover);
+        set_mover(&mut self.sent, sent_port(case, outcome), mover);
+        set_mover(&mut self.received, got_port(case, outcome), mover);
     }
 
     /// Takes in the next event of these entries.

@@ -6,7 +6,6 @@ mod answers;
 mod cells;
 mod closers;
 mod ends;
-mod entries;
 mod explained;
 mod fullest;
 mod last_moves;
@@ -20,7 +19,6 @@ mod steps;
 mod text;
 mod waiters;
 mod waits;
-mod window;
 
+pub use hub_story::Window;
 pub use text::story_text;
-pub use window::Window;

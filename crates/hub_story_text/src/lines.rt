@@ -10,10 +10,9 @@ ghost use Rattle.hub_story_text.specs.LineText.{step_words, value_words, waited_
 use crate::answers::{fault_words, put_answer};
 use crate::cells::{ANSWER, ASKS, VALUE, WAITED, close_cell, open_cell, put_right};
 use crate::ends::{Ending, ends_cell};
-use crate::entries::cases_of;
 use crate::numbers::{number_of, put_number};
 use hub_base::{Case, Edition, Entry, NoMemory, Outcome, Port, What, write_entry};
-use hub_story::Told;
+use hub_story::{Told, cases_of};
 use std::alloc::AllocError;
 
 /// Appends who asks what.

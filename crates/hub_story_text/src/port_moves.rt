@@ -9,11 +9,10 @@ ghost use Rattle.hub_story.specs.Passing.{receives, sends};
 ghost use Rattle.hub_story_text.specs.Fullest.{IsUp, fullest_of};
 ghost use Rattle.hub_story_text.specs.PortMoves.{AreMore, AreMoves, move_at, places_on, steps_on};
 
-use crate::entries::{case_of, cases_at};
 use crate::fullest::{Fullest, fullest_of};
 use crate::last_moves::{got_port, sent_port};
 use hub_base::{Entry, Port, What};
-use hub_story::{Level, Told};
+use hub_story::{Level, Told, case_at};
 use std::alloc::{AllocError, Global};
 
 /// A call that moved a value.
@@ -58,7 +57,7 @@ impl PortMoves {
         let What::Fired { case, outcome } = told.event.what else {
             return Ok(());
         };
-        let Some(case) = case_of(cases_at(entries, told.asked), case) else {
+        let Some(case) = case_at(entries, told.asked, case) else {
             return Ok(());
         };
         push_move(&mut self.sent, sent_port(case, outcome), told)?;

@@ -88,7 +88,7 @@ pub(crate) fn put_steps(
     for (place, entry) in entries.iter().enumerate() {
         let (came, later) = rest.split_at(count_of(rest, place as u32));
         moves.note_all(entries, came)?;
-        if window.has(place) {
+        if window.has(place as u32) {
             put_told_line(out, explained, place as u32, entry, came)?;
             put_stalled(out, explained, moves, came)?;
         }

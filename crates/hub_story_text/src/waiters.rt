@@ -5,11 +5,10 @@ ghost use Rattle.std.specs.List.{flat_map};
 ghost use Rattle.hub_story_text.specs.LastMoves.{mover_at};
 ghost use Rattle.hub_story_text.specs.WaiterText.{case_words, left_words, mover_words, port_words, waiter_words, waiters_words, who_words};
 
-use crate::entries::cases_at;
 use crate::last_moves::{LastMoves, Mover};
 use crate::numbers::{number_of, put_number};
 use hub_base::{Case, Entry, Port};
-use hub_story::Told;
+use hub_story::{Told, cases_at};
 use std::alloc::AllocError;
 
 /// Appends a process and a step, behind these words.

@@ -17,20 +17,20 @@ pub(crate) const MOST_LONGEST: usize = 5;
 
 /// The wait of a call.
 #[derive(Clone, Copy, Debug, PartialEq, Eq)]
-pub(crate) struct Wait {
+struct Wait {
     /// The place of its entry.
-    pub(crate) place: u32,
+    place: u32,
     /// How many steps it waited.
-    pub(crate) steps: u32,
+    steps: u32,
 }
 
 /// The waits of some calls.
 #[derive(Drop)]
-pub(crate) struct Waits {
+struct Waits {
     /// How many there are.
-    pub(crate) count: usize,
+    count: usize,
     /// The longest few, longest first.
-    pub(crate) longest: Vec<Wait>,
+    longest: Vec<Wait>,
 }
 
 /// The wait of the call at this place, one of so many, that ended so.

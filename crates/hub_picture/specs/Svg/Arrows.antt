@@ -5,7 +5,7 @@ use Rattle.hub_base.specs.declared.value.Port.{Port}
 use Rattle.hub_story.specs.declared.told.Told.{Told}
 use Rattle.hub_picture.specs.declared.arrows.Arrow.{Arrow}
 use Rattle.hub_picture.specs.declared.frame.Frame.{Frame}
-use Rattle.hub_picture.specs.Windows.{has}
+use Rattle.hub_story.specs.Windows.{has}
 use Rattle.hub_picture.specs.Frames.{x_of, y_of, sizes_of}
 use Rattle.hub_picture.specs.Labels.{hue_of}
 use Rattle.hub_picture.specs.Pieces.{joined}

@@ -4,7 +4,7 @@ use Rattle.hub_story.specs.declared.told.Told.{Told}
 use Rattle.hub_picture.specs.declared.asked.Asked.{Asked}
 use Rattle.hub_picture.specs.declared.frame.Frame.{Frame}
 use Rattle.hub_picture.specs.declared.svg.rect.Rect.{Rect}
-use Rattle.hub_picture.specs.Windows.{has}
+use Rattle.hub_story.specs.Windows.{has}
 use Rattle.hub_picture.specs.Drawings.{ended_by}
 use Rattle.hub_picture.specs.Frames.{x_of, y_of, until, sizes_of}
 use Rattle.hub_picture.specs.Pieces.{joined}

@@ -55,30 +55,35 @@ dot_text =
     codes "<marker id=\"dot\" viewBox=\"0 0 8 8\" refX=\"4\" refY=\"4\" markerWidth=\"3\" markerHeight=\"3\">"
     ++ codes "<circle class=\"tip\" cx=\"4\" cy=\"4\" r=\"4\"/></marker>"
 
+-- how wide and how high the picture is
+abbrev pub size_text : Drawing → List ℕ
+size_text d = joined (codes " width=\"" ∷ decimal (width_of d) ∷ codes "\" height=\"" ∷ decimal (height_of_page d) ∷ codes "\"" ∷ [])
+
+-- all of it is seen
+abbrev pub view_text : Drawing → List ℕ
+view_text d =
+    joined (codes " viewBox=\"0 0 " ∷ decimal (width_of d) ∷ codes " " ∷ decimal (height_of_page d) ∷ codes "\" role=\"img\">\n<title>" ∷ [])
+
+-- which steps it shows
+abbrev pub steps_text : Drawing → List ℕ
+steps_text d = joined (codes "Steps " ∷ decimal (d.window.first + 1) ∷ codes " to " ∷ decimal d.window.end ∷ [])
+
+abbrev pub tags_text : Drawing → List ℕ
+tags_text d = codes "<svg xmlns=\"http://www.w3.org/2000/svg\"" ++ size_text d ++ view_text d
+
 abbrev pub page_opening : Drawing → List ℕ
-page_opening d =
-    joined (
-    codes "<svg xmlns=\"http://www.w3.org/2000/svg\" width=\"" ∷ decimal (width_of d)
-    ∷ codes "\" height=\"" ∷ decimal (height_of_page d)
-    ∷ codes "\" viewBox=\"0 0 " ∷ decimal (width_of d)
-    ∷ codes " " ∷ decimal (height_of_page d)
-    ∷ codes "\" role=\"img\">\n<title>Steps " ∷ decimal (d.window.first + 1)
-    ∷ codes " to " ∷ decimal d.window.end
-    ∷ codes "</title>\n<style>"
-    ∷ [])
+page_opening d = tags_text d ++ steps_text d ++ codes "</title>\n<style>"
+
+-- the paper
+abbrev pub sheet_text : Drawing → List ℕ
+sheet_text d = codes "</style>\n<rect class=\"paper\"" ++ size_text d ++ codes "/>\n<text class=\"note\" x=\"12\" y=\"20\">"
+
+-- of how many processes it is, and the ends of arrows
+abbrev pub procs_text : ℕ → List ℕ
+procs_text procs = joined (codes " of " ∷ decimal procs ∷ codes " processes</text>\n<defs>" ∷ tip_text ∷ dot_text ∷ codes "</defs>\n" ∷ [])
 
 abbrev pub paper_text : Drawing → List ℕ
-paper_text d =
-    joined (
-    codes "</style>\n<rect class=\"paper\" width=\"" ∷ decimal (width_of d)
-    ∷ codes "\" height=\"" ∷ decimal (height_of_page d)
-    ∷ codes "\"/>\n<text class=\"note\" x=\"12\" y=\"20\">Steps " ∷ decimal (d.window.first + 1)
-    ∷ codes " to " ∷ decimal d.window.end
-    ∷ codes " of " ∷ decimal d.procs
-    ∷ codes " processes</text>\n<defs>" ∷ tip_text
-    ∷ dot_text
-    ∷ codes "</defs>\n"
-    ∷ [])
+paper_text d = sheet_text d ++ steps_text d ++ procs_text d.procs
 
 abbrev pub head_text : Drawing → List ℕ
 head_text d = page_opening d ++ style ++ paper_text d

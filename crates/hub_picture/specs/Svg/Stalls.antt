@@ -3,7 +3,7 @@ use Rattle.std.specs.Prelude.{ℕ, ◌+◌, ◌-◌, ◌*◌, ◌/◌, List, [],
 use Rattle.hub_story.specs.declared.told.Told.{Told}
 use Rattle.hub_picture.specs.declared.frame.Frame.{Frame}
 use Rattle.hub_picture.specs.declared.svg.rect.Rect.{Rect}
-use Rattle.hub_picture.specs.Windows.{has}
+use Rattle.hub_story.specs.Windows.{has}
 use Rattle.hub_picture.specs.Frames.{x_of, y_of, sizes_of}
 use Rattle.hub_picture.specs.Pieces.{joined}
 use Rattle.hub_picture.specs.Svg.Rects.{rect_text}

@@ -1,9 +1,10 @@
 //! The page around the bands: its size, its head and its foot.
 
-ghost use Rattle.std.specs.Prelude.{◌≡◌, ◌≤◌, ◌+◌};
-ghost use Rattle.hub_picture.specs.Pieces.{Appends};
+ghost use Rattle.std.specs.Prelude.{◌≡◌, ◌≤◌, ◌+◌, ◌∷◌, []};
+ghost use Rattle.hub_picture.specs.Pieces.{Appends, filled};
 ghost use Rattle.hub_picture.specs.Svg.Page.{bands_of, foot_of, height_of_page, scale_for, scale_of, shown_of, width_of};
-ghost use Rattle.hub_picture.specs.Svg.Page.{foot_opening, foot_text, head_text, page_opening, paper_text, rows_text};
+ghost use Rattle.hub_picture.specs.Svg.Page.{foot_opening, foot_text, head_text, page_opening, paper_text, procs_text};
+ghost use Rattle.hub_picture.specs.Svg.Page.{rows_text, sheet_text, size_text, steps_text, tags_text};
 
 use super::legend::put_legend;
 use super::style::put_style;
@@ -75,44 +76,70 @@ fn height_of_page(drawing: &Drawing) -> u64
     foot_of(drawing) + LEGEND + ROW * rows
 }
 
-/// Appends the first words of a picture of this size.
-fn put_opening(out: &mut Vec<u8>, drawing: &Drawing) -> Result<(), AllocError>
-    ensures { Appends out.old out.new (page_opening drawing.now) result }
+/// Appends these words, and behind the first two how wide and how high the picture is.
+fn put_sides(out: &mut Vec<u8>, drawing: &Drawing, words: &[&[u8]]) -> Result<(), AllocError>
+    ensures { Appends out.old out.new (filled words.now (width_of drawing.now ∷ height_of_page drawing.now ∷ [])) result }
 {
-    let (width, height) = (width_of(drawing), height_of_page(drawing));
+    put_filled(out, words, &[width_of(drawing), height_of_page(drawing)])
+}
+
+/// Appends its size.
+fn put_size(out: &mut Vec<u8>, drawing: &Drawing) -> Result<(), AllocError>
+    ensures { Appends out.old out.new (size_text drawing.now) result }
+{
+    put_sides(out, drawing, &[b" width=\"", b"\" height=\"", b"\""])
+}
+
+/// Appends which steps it shows.
+fn put_steps(out: &mut Vec<u8>, drawing: &Drawing) -> Result<(), AllocError>
+    ensures { Appends out.old out.new (steps_text drawing.now) result }
+{
+    let window = drawing.window;
     put_filled(
         out,
-        &[
-            b"<svg xmlns=\"http://www.w3.org/2000/svg\" width=\"",
-            b"\" height=\"",
-            b"\" viewBox=\"0 0 ",
-            b" ",
-            b"\" role=\"img\">\n<title>Steps ",
-            b" to ",
-            b"</title>\n<style>",
-        ],
-        &[
-            width,
-            height,
-            width,
-            height,
-            number_of(drawing.window.first),
-            drawing.window.end.into(),
-        ],
+        &[b"Steps ", b" to "],
+        &[number_of(window.first), window.end.into()],
     )
 }
 
-/// Appends the paper, and what it shows.
-fn put_paper(out: &mut Vec<u8>, drawing: &Drawing) -> Result<(), AllocError>
-    ensures { Appends out.old out.new (paper_text drawing.now) result }
+/// Appends its first tags.
+fn put_tags(out: &mut Vec<u8>, drawing: &Drawing) -> Result<(), AllocError>
+    ensures { Appends out.old out.new (tags_text drawing.now) result }
+{
+    put(out, b"<svg xmlns=\"http://www.w3.org/2000/svg\"")?;
+    put_size(out, drawing)?;
+    put_sides(
+        out,
+        drawing,
+        &[b" viewBox=\"0 0 ", b" ", b"\" role=\"img\">\n<title>"],
+    )
+}
+
+/// Appends them and its title.
+fn put_opening(out: &mut Vec<u8>, drawing: &Drawing) -> Result<(), AllocError>
+    ensures { Appends out.old out.new (page_opening drawing.now) result }
+{
+    put_tags(out, drawing)?;
+    put_steps(out, drawing)?;
+    put(out, b"</title>\n<style>")
+}
+
+/// Appends the paper.
+fn put_sheet(out: &mut Vec<u8>, drawing: &Drawing) -> Result<(), AllocError>
+    ensures { Appends out.old out.new (sheet_text drawing.now) result }
+{
+    put(out, b"</style>\n<rect class=\"paper\"")?;
+    put_size(out, drawing)?;
+    put(out, b"/>\n<text class=\"note\" x=\"12\" y=\"20\">")
+}
+
+/// Appends of how many processes it is, and the ends of arrows.
+fn put_procs(out: &mut Vec<u8>, procs: u8) -> Result<(), AllocError>
+    ensures { Appends out.old out.new (procs_text procs) result }
 {
     put_filled(
         out,
         &[
-            b"</style>\n<rect class=\"paper\" width=\"",
-            b"\" height=\"",
-            b"\"/>\n<text class=\"note\" x=\"12\" y=\"20\">Steps ",
-            b" to ",
             b" of ",
             b" processes</text>\n<defs>\
 <marker id=\"tip\" viewBox=\"0 0 8 8\" refX=\"7\" refY=\"4\" markerWidth=\"5\" markerHeight=\"5\" orient=\"auto\">\
@@ -121,14 +148,17 @@ fn put_paper(out: &mut Vec<u8>, drawing: &Drawing) -> Result<(), AllocError>
 <circle class=\"tip\" cx=\"4\" cy=\"4\" r=\"4\"/></marker>\
 </defs>\n",
         ],
-        &[
-            width_of(drawing),
-            height_of_page(drawing),
-            number_of(drawing.window.first),
-            drawing.window.end.into(),
-            drawing.procs.into(),
-        ],
+        &[procs.into()],
     )
+}
+
+/// Appends the paper, and what it shows.
+fn put_paper(out: &mut Vec<u8>, drawing: &Drawing) -> Result<(), AllocError>
+    ensures { Appends out.old out.new (paper_text drawing.now) result }
+{
+    put_sheet(out, drawing)?;
+    put_steps(out, drawing)?;
+    put_procs(out, drawing.procs)
 }
 
 /// Appends the head of a picture.

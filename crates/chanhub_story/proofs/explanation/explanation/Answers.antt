@@ -1,6 +1,9 @@
-use Rattle.std.proofs.Common.{sym}
+use Rattle.std.proofs.Common.{sym, arith}
 use Rattle.chanhub_story.proofs.Sizes.{few-entries}
 use Rattle.chanhub_story.proofs.explanation.explanation.Goals as goal
+
+pub window_of-requires : goal.window_of-requires
+window_of-requires c = rw c.entries.ensures (record { few = omega (arith, few-entries _ _ _ c.in_ok-journal.ensures.found) })
 
 pub story_of-requires-clause-few : goal.story_of-requires-clause-few
 story_of-requires-clause-few c = few-entries _ _ _ c.in_ok-journal.ensures.found
@@ -23,7 +26,7 @@ returns-clause-ok c =
         story = c.in_ok-story.story;
         drawing = c.in_ok-drawing-in-Picture.drawing;
         told = c.in_ok-story.ensures;
-        draws = rw c.drawn.ensures at c.in_ok-drawing-in-Picture.ensures;
+        draws = c.in_ok-drawing-in-Picture.ensures;
         is = c.in_ok-svg_of-in-Picture.ensures;
       });
     }

@@ -1,4 +1,4 @@
-use Rattle.hub_picture.proofs.Editions.{two-has}
+use Rattle.hub_story.proofs.Editions.{two-has}
 use Rattle.hub_picture.proofs.piece.put_entry.Goals as goal
 
 pub write_entry-requires : goal.write_entry-requires

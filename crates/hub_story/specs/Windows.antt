@@ -1,6 +1,6 @@
--- Which steps of a journal a picture shows. Steps are counted from 0.
+-- Which steps of a journal a window has. Steps are counted from 0.
 use Rattle.std.specs.Prelude.{ℕ, Bool, ◌&&◌, nat_le, nat_lt, min, Option, None, Some}
-use Rattle.hub_picture.specs.declared.window.Window.{Window}
+use Rattle.hub_story.specs.declared.window.Window.{Window}
 
 -- the step at this place is one of them
 abbrev pub has : Window → ℕ → Bool

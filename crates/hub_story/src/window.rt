@@ -1,7 +1,7 @@
 //! Which steps of a journal are shown.
 
 ghost use Rattle.std.specs.Prelude.{◌≡◌};
-ghost use Rattle.hub_picture.specs.Windows.{goes_on, has, touches, within};
+ghost use Rattle.hub_story.specs.Windows.{goes_on, has, touches, within};
 
 /// Steps of a journal, counted from 0.
 #[derive(Clone, Copy, Debug, PartialEq, Eq)]
@@ -28,7 +28,7 @@ impl Window {
     }
 
     /// Whether it shows what goes on from one place until another, or still.
-    pub(crate) fn shows(self, from: u32, until: Option<u32>) -> bool
+    pub fn shows(self, from: u32, until: Option<u32>) -> bool
         ensures { result ≡ goes_on self from until }
     {
         match until {

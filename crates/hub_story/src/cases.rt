@@ -1,4 +1,4 @@
-//! What is read of the entries of a journal.
+//! What the calls of a journal ask.
 
 ghost use Rattle.std.specs.Prelude.{◌≡◌, [], slice_get};
 ghost use Rattle.hub_base.specs.Values.{cases_or};
@@ -7,7 +7,7 @@ ghost use Rattle.hub_story.specs.Passing.{cases_at};
 use hub_base::{Case, Entry, Step};
 
 /// The cases of a step; none where it is no call.
-pub(crate) fn cases_of(step: &Step) -> &[Case]
+pub fn cases_of(step: &Step) -> &[Case]
     ensures { result.now ≡ cases_or step.now [] }
 {
     match step {
@@ -17,7 +17,7 @@ pub(crate) fn cases_of(step: &Step) -> &[Case]
 }
 
 /// The cases of the entry at this place; none where it is no call.
-pub(crate) fn cases_at(entries: &[Entry], place: u32) -> &[Case]
+pub fn cases_at(entries: &[Entry], place: u32) -> &[Case]
     ensures { result.now ≡ cases_at entries.now place }
 {
     match entries.get(place as usize) {
@@ -26,9 +26,9 @@ pub(crate) fn cases_at(entries: &[Entry], place: u32) -> &[Case]
     }
 }
 
-/// The case of this number, if there is one.
-pub(crate) fn case_of(cases: &[Case], number: u8) -> Option<Case>
-    ensures { result ≡ slice_get cases.now number }
+/// The case of this number of the entry at this place, if there is one.
+pub fn case_at(entries: &[Entry], place: u32, number: u8) -> Option<Case>
+    ensures { result ≡ slice_get (cases_at entries.now place) number }
 {
-    cases.get(usize::from(number)).copied()
+    cases_at(entries, place).get(usize::from(number)).copied()
 }

@@ -1,9 +1,0 @@
-use Rattle.std.proofs.Common.{◌≡◌, ◌++◌, drop}
-use Rattle.std.specs.List.{flat_map}
-use Rattle.hub_picture.specs.Waiters.{waiters_of}
-use Rattle.hub_picture.proofs.waiters.add_open.Given as goal
-
-abbrev pub invariant-loop-call : goal.invariant-loop-call
-invariant-loop-call l =
-    l.all.items ++ flat_map (waiters_of l.entries l.told l.step) (drop l.call-index l.waiting)
-    ≡ l.fn.all.items ++ flat_map (waiters_of l.entries l.told l.step) l.waiting

@@ -170,16 +170,17 @@ impl MachineState {
         ensures { TakesEffect E.heard E.room self.old pid step.now
             self.new events.old events.new result }
     {
-        let Step::Call {
-            cases,
-            default,
-            word,
-        } = step
-        else {
-            return self.rare_effect(pid, step, events);
-        };
-        self.call(pid, cases, *default, *word, events);
-        Ok(())
+        match step {
+            Step::Call {
+                cases,
+                default,
+                word,
+            } => {
+                self.call(pid, cases, *default, *word, events);
+                Ok(())
+            }
+            _ => self.rare_effect(pid, step, events),
+        }
     }
 
     /// An admitted step: its fault, or what it does and the stall rule behind it.

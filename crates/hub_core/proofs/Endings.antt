@@ -7,6 +7,7 @@ use Rattle.std.specs.Option.{option_map}
 use Rattle.std.proofs.lemmas.Grind.{common_steps}
 use Rattle.hub_base.specs.declared.value.Pid.{Pid}
 use Rattle.hub_base.specs.declared.value.Port.{Port}
+use Rattle.hub_base.specs.declared.event.Event.{Event}
 use Rattle.hub_base.specs.declared.event.What.TheVariants as what
 use Rattle.hub_base.specs.Ready.{is_on, Ending, Placed, or_else, lowest, first_with, without}
 use Rattle.hub_base.specs.Steps.{tells, fired, closing_outcome, closing_event}
@@ -14,9 +15,9 @@ use Rattle.hub_laws.specs.Sound.{is_among, Apart}
 use Rattle.hub_laws.proofs.Calls.{lowest-some, same_number, fewer-filter}
 use Rattle.std.proofs.lemmas.Bool.{or_parts, false_from_ne_true, eqb-true}
 use Rattle.hub_laws.proofs.Closing.{closes-next}
-use Rattle.hub_parts.specs.Records.{Ticketed}
-use Rattle.hub_parts.specs.Lists.{open_calls, still_open}
-use Rattle.hub_core.specs.ListSteps.{off_port, closing_events, stalled_events}
+use Rattle.hub_parts.specs.Records.{Lists, Ticketed}
+use Rattle.hub_parts.specs.Lists.{open_calls, still_open, ended_by}
+use Rattle.hub_core.specs.ListSteps.{off_port, cleared, none_open, closing_events, stalled_events}
 
 pub open_calls-still_open : (pid : Pid) (ws : List Ticketed) → open_calls (still_open pid ws) ≡ without pid (open_calls ws)
 open_calls-still_open pid [] = refl
@@ -63,13 +64,20 @@ length-still_open pid (w ∷ ws) apart e = length_by pid w ws apart (w.call.pid.
       let later : is_among pid.0 (open_calls ws) ≡ true = (rw is at e) in
       omega (arith, ap length (passes_over pid w ws is), ih later)
 
--- ---- a close: what is left after the oldest call on the port has ended
-pub record ClosesOne (p : Port) (ws : List Ticketed) (e : Ending) : Type 0 where
-  pub events : closing_events p ws ≡ fired e.pid e.at.index (closing_outcome e.at.case) ∷ closing_events p (still_open e.pid ws)
-  pub kept : off_port p (still_open e.pid ws) ≡ off_port p ws
-  pub apart : Apart (open_calls (still_open e.pid ws))
-  pub fewer : length (still_open e.pid ws) + 1 ≡ length ws
+-- ---- calls that end one by one, where `told` is what the calls that wait are told, and `left` the board once they have ended
+-- the call of this process has ended, and was told this event
+pub record EndsOne (told : List Ticketed → List Event) (left : Lists → Lists) (b : Lists) (pid : Pid) (e : Event) : Type 0 where
+  pub events : told b.waiting ≡ e ∷ told (still_open pid b.waiting)
+  pub kept : left (ended_by pid b) ≡ left b
+  pub apart : Apart (open_calls (still_open pid b.waiting))
+  pub fewer : length (still_open pid b.waiting) + 1 ≡ length b.waiting
 
+-- none is left to end
+pub record EndsNone (told : List Ticketed → List Event) (left : Lists → Lists) (b : Lists) : Type 0 where
+  pub events : told b.waiting ≡ []
+  pub kept : left b ≡ b
+
+-- ---- a close: the oldest call on the port has ended
 off_by : (p : Port) (w : Ticketed) (ws : List Ticketed) (e : Ending) (o : Option Placed) (b : Bool) → b ≡ list_any (is_on p) w.call.cases → b ≡ is_some o
     → is_among w.call.pid.0 (open_calls ws) ≡ false → (first_with (is_on p) (open_calls ws) ≡ Some e → off_port p (still_open e.pid ws) ≡ off_port p ws)
     → (first_with (is_on p) (open_calls ws) ≡ Some e → is_among e.pid.0 (open_calls ws) ≡ true)
@@ -96,21 +104,22 @@ off-still_open p (w ∷ ws) e apart h =
     off_by p w ws e (lowest (is_on p) w.call.cases) (list_any (is_on p) w.call.cases) refl (sym (lowest-some 0 (is_on p) w.call.cases)) apart.0
     (λ f. off-still_open p ws e apart.1 f) (λ f. among_first p ws e apart.1 f) h
 
-pub closes_one : (p : Port) (ws : List Ticketed) (e : Ending) → Apart (open_calls ws) → first_with (is_on p) (open_calls ws) ≡ Some e → ClosesOne p ws e
-closes_one p ws e apart h =
-    let next = (closes-next p (open_calls ws) apart).next e h in
+pub closes_one : (p : Port) (b : Lists) (e : Ending) → Apart (open_calls b.waiting) → first_with (is_on p) (open_calls b.waiting) ≡ Some e
+    → EndsOne (closing_events p) (cleared p) b e.pid (fired e.pid e.at.index (closing_outcome e.at.case))
+closes_one p b e apart h =
+    let next = (closes-next p (open_calls b.waiting) apart).next e h in
     record {
       events = next.0 ∙ ap (λ calls. fired e.pid e.at.index (closing_outcome e.at.case) ∷ filter_map (closing_event p) calls)
-          (sym (open_calls-still_open e.pid ws));
-      kept = off-still_open p ws e apart h;
-      apart = apart-still_open e.pid ws apart;
-      fewer = length-still_open e.pid ws apart next.2;
+          (sym (open_calls-still_open e.pid b.waiting));
+      kept = ap (λ (ws : List Ticketed). record b { waiting = ws }) (off-still_open p b.waiting e apart h);
+      apart = apart-still_open e.pid b.waiting apart;
+      fewer = length-still_open e.pid b.waiting apart next.2;
     }
 
--- where no call is on the port nothing is left to end
-pub record ClosesNone (p : Port) (ws : List Ticketed) : Type 0 where
-  pub events : closing_events p ws ≡ []
-  pub kept : off_port p ws ≡ ws
+-- no call is on the port
+record ClosesNone (p : Port) (ws : List Ticketed) : Type 0 where
+  events : closing_events p ws ≡ []
+  kept : off_port p ws ≡ ws
 
 none_by : (p : Port) (w : Ticketed) (ws : List Ticketed) (o : Option Placed) (b : Bool) → o ≡ lowest (is_on p) w.call.cases
     → b ≡ list_any (is_on p) w.call.cases → b ≡ is_some o → (first_with (is_on p) (open_calls ws) ≡ None → ClosesNone p ws)
@@ -122,29 +131,39 @@ none_by p w ws None false at on some rest h =
 none_by p w ws None true at on some rest h = cc
 none_by p w ws (Some a) b at on some rest h = cc
 
-pub closes_none : (p : Port) (ws : List Ticketed) → first_with (is_on p) (open_calls ws) ≡ None → ClosesNone p ws
-closes_none p [] h = record { events = refl; kept = refl }
-closes_none p (w ∷ ws) h =
+none_on : (p : Port) (ws : List Ticketed) → first_with (is_on p) (open_calls ws) ≡ None → ClosesNone p ws
+none_on p [] h = record { events = refl; kept = refl }
+none_on p (w ∷ ws) h =
     none_by p w ws (lowest (is_on p) w.call.cases) (list_any (is_on p) w.call.cases) refl refl
-    (sym (lowest-some 0 (is_on p) w.call.cases)) (λ f. closes_none p ws f) h
+    (sym (lowest-some 0 (is_on p) w.call.cases)) (λ f. none_on p ws f) h
 
--- ---- a stall: what is left after the oldest call has ended
-pub record StopsOne (ws : List Ticketed) (pid : Pid) : Type 0 where
-  pub events : stalled_events ws ≡ tells pid what.Stalled ∷ stalled_events (still_open pid ws)
-  pub apart : Apart (open_calls (still_open pid ws))
-  pub fewer : length (still_open pid ws) + 1 ≡ length ws
+pub closes_none : (p : Port) (b : Lists) → first_with (is_on p) (open_calls b.waiting) ≡ None → EndsNone (closing_events p) (cleared p) b
+closes_none p b h =
+    let none = none_on p b.waiting h in
+    record { events = none.events; kept = ap (λ (ws : List Ticketed). record b { waiting = ws }) none.kept }
 
-pub stops_one : (ws : List Ticketed) (pid : Pid) → Apart (open_calls ws) → Some pid ≡ option_map (λ w. w.call.pid) (slice_get ws 0) → StopsOne ws pid
-stops_one [] pid apart h = cc
-stops_one (w ∷ ws) pid apart h =
-    let same : w.call.pid ≡ pid = cc in
-    let left : still_open pid (w ∷ ws) ≡ ws = ap (λ (q : Pid). still_open q (w ∷ ws)) (sym same) ∙ still_open-first w ws apart.0 in
-    record {
-      events = ap (λ (q : Pid). tells q what.Stalled ∷ stalled_events ws) same ∙ ap (λ vs. tells pid what.Stalled ∷ stalled_events vs) (sym left);
-      apart = subst (λ (vs : List Ticketed). Apart (open_calls vs)) (sym left) apart.1;
-      fewer = omega (arith, ap length left);
-    }
+-- ---- a stall: the oldest call has ended
+pub stops_one : (b : Lists) (pid : Pid) → Apart (open_calls b.waiting) → Some pid ≡ option_map (λ w. w.call.pid) (slice_get b.waiting 0)
+    → EndsOne stalled_events none_open b pid (tells pid what.Stalled)
+stops_one b pid apart h = first_stops b.waiting apart h where
+  first_stops : (ws : List Ticketed) → Apart (open_calls ws) → Some pid ≡ option_map (λ w. w.call.pid) (slice_get ws 0)
+      → EndsOne stalled_events none_open (record b { waiting = ws }) pid (tells pid what.Stalled)
+  first_stops [] apart h = cc
+  first_stops (w ∷ ws) apart h =
+      let same : w.call.pid ≡ pid = cc in
+      let left : still_open pid (w ∷ ws) ≡ ws = ap (λ (q : Pid). still_open q (w ∷ ws)) (sym same) ∙ still_open-first w ws apart.0 in
+      record {
+        events = ap (λ (q : Pid). tells q what.Stalled ∷ stalled_events ws) same ∙ ap (λ vs. tells pid what.Stalled ∷ stalled_events vs) (sym left);
+        kept = refl;
+        apart = subst (λ (vs : List Ticketed). Apart (open_calls vs)) (sym left) apart.1;
+        fewer = omega (arith, ap length left);
+      }
 
-pub stops_none : (ws : List Ticketed) → None ≡ option_map (λ w. w.call.pid) (slice_get ws 0) → ws ≡ []
-stops_none [] h = refl
-stops_none (w ∷ ws) h = cc
+no_first : (ws : List Ticketed) → None ≡ option_map (λ w. w.call.pid) (slice_get ws 0) → ws ≡ []
+no_first [] h = refl
+no_first (w ∷ ws) h = cc
+
+pub stops_none : (b : Lists) → None ≡ option_map (λ w. w.call.pid) (slice_get b.waiting 0) → EndsNone stalled_events none_open b
+stops_none b h =
+    let none = no_first b.waiting h in
+    record { events = ap stalled_events none; kept = ap (λ (ws : List Ticketed). record b { waiting = ws }) (sym none) }

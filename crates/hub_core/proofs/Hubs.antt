@@ -29,7 +29,7 @@ use Rattle.hub_core.specs.declared.hub.Hub.TheInside.{Inside}
 use Rattle.hub_core.specs.Follows.{Follows, IsFine, IsMake, RefusesMake, Turns}
 use Rattle.hub_core.specs.ListSteps.{refusal_of}
 use Rattle.hub_core.specs.HubView.{HubInMemory, HubView, Grows, Refuses, Steps, StepRules, call_of, places_after, state_of, with_entry}
-use Rattle.hub_core.specs.HubKeeps.{HubKeeps, IsSuch, Takes, count_after}
+use Rattle.hub_core.specs.HubKeeps.{HubKeeps, IsSuch, Takes, count_after, shown}
 use Rattle.hub_core.proofs.Following.{kept-admitted}
 use Rattle.hub_core.proofs.Reached.{steps-length}
 use Rattle.hub_core.proofs.Stalls.{refusal_of-as}
@@ -90,10 +90,6 @@ entry_fits head journal e count places capacity legal adm is room =
     omega (arith, short, count-snoc journal e count is, length-append journal (e ∷ []))
 
 -- ---- a step of a hub
-
--- what contracts see of a hub
-abbrev pub shown : Inside → HubInMemory
-shown h = record { hub = record { terms = h.terms; journal = h.entries.items; places = h.places }; capacity = vec_capacity h.entries }
 
 pub turn_steps : (h : Inside) → HubKeeps h → h.machine.steps < 2 ^ 32 - 1
 turn_steps h k =

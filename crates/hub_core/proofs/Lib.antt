@@ -1,6 +1,7 @@
 pub mod Boards
 pub mod Hearing
 pub mod Endings
+pub mod EndLoops
 pub mod Choices
 pub mod Ports
 pub mod Firings

@@ -14,6 +14,14 @@ use Rattle.hub_core.specs.declared.hub.Hub.TheInside.{Inside}
 use Rattle.hub_core.specs.Follows.{Follows}
 use Rattle.hub_core.specs.HubView.{HubInMemory, HubView, Grows, HasRoom, HasSpare, IsLimit, state_of}
 
+-- what contracts see of a hub
+abbrev pub shown : Inside → HubInMemory
+shown h =
+    record {
+      hub = record { terms = h.terms; journal = h.entries.items; places = h.places };
+      capacity = vec_capacity h.entries;
+    }
+
 -- an exit is not counted
 abbrev pub count_after : Step → ℕ → ℕ
 count_after step count = if is_exit step then count else count + 1

@@ -15,6 +15,8 @@ use Rattle.hub_base.specs.Steps.{fired}
 use Rattle.hub_parts.specs.Records.{Lists}
 use Rattle.hub_parts.specs.Lists.{port_at, with_port, pushed, popped, ended_by}
 use Rattle.hub_core.specs.declared.tally.Tally.{Tally}
+use Rattle.hub_core.specs.declared.firing.Caller.{Caller}
+use Rattle.hub_core.specs.Hearing.{Heard}
 use Rattle.hub_core.specs.Records.{one_sent, one_received, one_handed}
 use Rattle.hub_core.specs.ListReady.{receiver_on, sender_on}
 
@@ -115,6 +117,10 @@ fire_on b ts (Recv p) = recv_on b ts p
 -- the caller is told of the case that fired, and then the call that ended with it
 abbrev pub firing_events : Pid → ℕ → ListFiring → List Event
 firing_events pid index f = fired pid index f.outcome ∷ option_to_list f.ended
+
+-- whoever was the first has heard them and is the second
+abbrev pub HearsFiring : {S : Type 0} → (S → List Event → S → Type 0) → (S → ℕ) → S → S → Caller → ListFiring → Type 0
+HearsFiring heard room old new caller f = Heard heard room old new (firing_events caller.pid caller.index f)
 
 -- the board and the counts that the code left are those of the lists
 pub record Fires (b : Lists) (ts : List Tally) (g : ListFiring) : Type 0 where

@@ -1,5 +1,5 @@
 -- What the parts of a step ask of a machine's lists.
-use Rattle.std.specs.Prelude.{◌≤◌, ◌<◌, ◌-◌, ◌^◌, ◌≡◌, List, length}
+use Rattle.std.specs.Prelude.{◌≤◌, ◌<◌, ◌-◌, ◌^◌, ◌≡◌, ℕ, List, length}
 use Rattle.hub_base.specs.declared.value.Port.{Port}
 use Rattle.hub_base.specs.declared.case.Case.{Case}
 use Rattle.hub_base.specs.Ready.{port_of}
@@ -23,3 +23,9 @@ pub record PortsKeep (b : Lists) (ts : List Tally) : Type 0 where
   pub count : length ts ≡ length b.ports
   pub fits : (p : Port) → IsMade b p → BufferFits b p
   pub counts : (p : Port) → IsMade b p → CanCount ts p
+
+-- a case can fire on the port, with places for so many events
+pub record MayFire (b : Lists) (ts : List Tally) (p : Port) (places : ℕ) : Type 0 where
+  pub made : IsMade b p
+  pub keep : PortsKeep b ts
+  pub room : 1 < places

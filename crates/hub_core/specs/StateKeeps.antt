@@ -4,5 +4,5 @@ use Rattle.hub_base.specs.declared.limits.TheConstants.{MOST_PROCS}
 use Rattle.hub_core.specs.declared.machine_state.MachineState.TheInside.{Inside}
 
 pub record StateKeeps (s : Inside) : Type 0 where
-  pub procs : s.board.procs ≡ s.head.procs
+  pub procs : s.counted.board.procs ≡ s.head.procs
   pub few : s.head.procs ≤ MOST_PROCS

@@ -1,10 +1,8 @@
 //! A close: every open call with a case on the port ends. Go: "Close".
 
 ghost use Rattle.std.specs.Prelude.{◌≡◌, ◌≤◌, length};
-ghost use Rattle.hub_base.specs.Steps.{fired, closing_outcome};
+ghost use Rattle.hub_core.specs.Prelude.{Apart, IsMade, closing_outcome, fired, open_calls};
 ghost use Rattle.hub_core.specs.Hearing.{Heard};
-ghost use Rattle.hub_laws.specs.Sound.{Apart};
-ghost use Rattle.hub_parts.specs.Lists.{IsMade, open_calls};
 ghost use Rattle.hub_core.specs.ListSteps.{cleared, closed_on, closing_events};
 
 use hub_base::{Case, Event, Hears, Outcome, Port, What};

@@ -1,13 +1,12 @@
 //! How a case fires: the caller is told, and then the waiting call that ended with it. Go: "Send statements", "Receive operator".
 
 ghost use Rattle.std.specs.Prelude.{◌≡◌, ◌<◌, ◌∷◌, [], true};
-ghost use Rattle.hub_parts.specs.Lists.{IsMade, ending_of, passes};
 ghost use Rattle.hub_parts.specs.declared.side.Side.TheVariants as side;
+ghost use Rattle.hub_core.specs.Prelude.{ending_of, fired, passes};
 ghost use Rattle.hub_core.specs.ListReady.{SendFits, can_on};
-ghost use Rattle.hub_core.specs.ListKeeps.{PortsKeep, IsNamed};
-ghost use Rattle.hub_base.specs.Steps.{fired};
+ghost use Rattle.hub_core.specs.ListKeeps.{PortsKeep, MayFire, IsNamed};
 ghost use Rattle.hub_core.specs.Hearing.{Heard};
-ghost use Rattle.hub_core.specs.ListFirings.{Fires, firing_events, send_on, take_on, let_in, recv_on, fire_on};
+ghost use Rattle.hub_core.specs.ListFirings.{Fires, HearsFiring, send_on, take_on, let_in, recv_on, fire_on};
 
 use crate::tally::{Carried, Tallies};
 use hub_base::{Case, Event, Hears, Outcome, Pid, Port, Value, What};
@@ -34,142 +33,113 @@ fn tell<E: Hears>(events: &mut E, pid: Pid, case: u8, outcome: Outcome)
     });
 }
 
-/// A send that can proceed: to the oldest receiver that waits, or else into the buffer.
-#[inline]
-fn send<E: Hears>(
-    board: &mut Board,
-    tallies: &mut Tallies,
-    events: &mut E,
-    caller: Caller,
-    port: Port,
-    value: &Value,
-)
-    requires made { IsMade board.old port }
-    requires keep { PortsKeep board.old tallies.old }
-    requires can { SendFits board.old port }
-    requires room { 1 < E.room events.old }
-    ensures fires { Fires board.new tallies.new (send_on board.old tallies.old port value.now) }
-    ensures told { Heard E.heard E.room events.old events.new (firing_events caller.pid caller.index (send_on board.old tallies.old port value.now)) }
-{
-    if board.closed(port) {
-        tell(events, caller.pid, caller.index, Outcome::Closed);
-        return;
-    }
-    // A receiver waits only where nothing is buffered, so no older value is passed over.
-    match board.take(port, Side::Recv) {
-        Some(receiver) => {
-            tallies.count(port, Carried::Handed);
-            tell(events, caller.pid, caller.index, Outcome::Sent);
-            tell(events, receiver.pid, receiver.index, Outcome::Got(*value));
-        }
-        None => {
-            board.push(port, *value);
-            tallies.count(port, Carried::Sent);
-            tell(events, caller.pid, caller.index, Outcome::Sent);
-        }
-    }
+/// A board whose ports count their values.
+#[derive(Drop)]
+pub(crate) struct CountedBoard {
+    /// The buffers, and the calls that wait.
+    pub(crate) board: Board,
+    /// How many values were sent and received on each port.
+    pub(crate) tallies: Tallies,
 }
 
-/// The oldest value of the buffer, where no sender waits.
-#[inline]
-fn take_value<E: Hears>(
-    board: &mut Board,
-    tallies: &mut Tallies,
-    events: &mut E,
-    caller: Caller,
-    port: Port,
-)
-    requires made { IsMade board.old port }
-    requires keep { PortsKeep board.old tallies.old }
-    requires room { 1 < E.room events.old }
-    ensures fires { Fires board.new tallies.new (take_on board.old tallies.old port) }
-    ensures told { Heard E.heard E.room events.old events.new (firing_events caller.pid caller.index (take_on board.old tallies.old port)) }
-{
-    match board.pop(port) {
-        Some(value) => {
-            tallies.count(port, Carried::Received);
-            tell(events, caller.pid, caller.index, Outcome::Got(value));
+impl CountedBoard {
+    /// A send that can proceed: to the oldest receiver that waits, or else into the buffer.
+    #[inline]
+    fn send<E: Hears>(&mut self, events: &mut E, caller: Caller, port: Port, value: &Value)
+        requires may { MayFire self.old.board self.old.tallies port (E.room events.old) }
+        requires can { SendFits self.old.board port }
+        ensures fires { Fires self.new.board self.new.tallies (send_on self.old.board self.old.tallies port value.now) }
+        ensures told { HearsFiring E.heard E.room events.old events.new caller (send_on self.old.board self.old.tallies port value.now) }
+    {
+        if self.board.closed(port) {
+            tell(events, caller.pid, caller.index, Outcome::Closed);
+            return;
         }
-        None => tell(events, caller.pid, caller.index, Outcome::Drained),
-    }
-}
-
-/// A receive from a sender that waits, whose call has ended. Its value comes in behind those in the buffer.
-#[inline]
-fn let_in<E: Hears>(
-    board: &mut Board,
-    tallies: &mut Tallies,
-    events: &mut E,
-    caller: Caller,
-    port: Port,
-    sender: &Ended,
-)
-    requires made { IsMade board.old port }
-    requires keep { PortsKeep board.old tallies.old }
-    requires sends { passes port side.Send sender.now.case ≡ true }
-    requires room { 1 < E.room events.old }
-    ensures fires { Fires board.new tallies.new (let_in board.old tallies.old port (ending_of sender.now) sender.now.case) }
-    ensures told { Heard E.heard E.room events.old events.new
-        (firing_events caller.pid caller.index (let_in board.old tallies.old port (ending_of sender.now) sender.now.case)) }
-{
-    let Case::Send(_port, sent) = &sender.case else {
-        unreachable!();
-    };
-    tallies.count(port, Carried::Handed);
-    // A sender waits only where the buffer is full, or where there is none: its value takes the place of the oldest.
-    match board.pop(port) {
-        Some(oldest) => {
-            board.push(port, *sent);
-            tell(events, caller.pid, caller.index, Outcome::Got(oldest));
-            tell(events, sender.pid, sender.index, Outcome::Sent);
-        }
-        None => {
-            tell(events, caller.pid, caller.index, Outcome::Got(*sent));
-            tell(events, sender.pid, sender.index, Outcome::Sent);
+        // A receiver waits only where nothing is buffered, so no older value is passed over.
+        match self.board.take(port, Side::Recv) {
+            Some(receiver) => {
+                self.tallies.count(port, Carried::Handed);
+                tell(events, caller.pid, caller.index, Outcome::Sent);
+                tell(events, receiver.pid, receiver.index, Outcome::Got(*value));
+            }
+            None => {
+                self.board.push(port, *value);
+                self.tallies.count(port, Carried::Sent);
+                tell(events, caller.pid, caller.index, Outcome::Sent);
+            }
         }
     }
-}
 
-/// A receive: from the oldest sender that waits, or else from the buffer.
-#[inline]
-fn receive<E: Hears>(
-    board: &mut Board,
-    tallies: &mut Tallies,
-    events: &mut E,
-    caller: Caller,
-    port: Port,
-)
-    requires made { IsMade board.old port }
-    requires keep { PortsKeep board.old tallies.old }
-    requires room { 1 < E.room events.old }
-    ensures fires { Fires board.new tallies.new (recv_on board.old tallies.old port) }
-    ensures told { Heard E.heard E.room events.old events.new
-        (firing_events caller.pid caller.index (recv_on board.old tallies.old port)) }
-{
-    match board.take(port, Side::Send) {
-        None => take_value(board, tallies, events, caller, port),
-        Some(sender) => let_in(board, tallies, events, caller, port, &sender),
+    /// A receive from a sender that waits, whose call has ended. Its value comes in behind those in the buffer.
+    #[inline]
+    fn let_in<E: Hears>(&mut self, events: &mut E, caller: Caller, port: Port, sender: &Ended)
+        requires may { MayFire self.old.board self.old.tallies port (E.room events.old) }
+        requires sends { passes port side.Send sender.now.case ≡ true }
+        ensures fires { Fires self.new.board self.new.tallies
+            (let_in self.old.board self.old.tallies port (ending_of sender.now) sender.now.case) }
+        ensures told { HearsFiring E.heard E.room events.old events.new caller
+            (let_in self.old.board self.old.tallies port (ending_of sender.now) sender.now.case) }
+    {
+        let Case::Send(_port, sent) = &sender.case else {
+            unreachable!();
+        };
+        self.tallies.count(port, Carried::Handed);
+        // A sender waits only where the buffer is full, or where there is none: its value takes the place of the oldest.
+        match self.board.pop(port) {
+            Some(oldest) => {
+                self.board.push(port, *sent);
+                tell(events, caller.pid, caller.index, Outcome::Got(oldest));
+                tell(events, sender.pid, sender.index, Outcome::Sent);
+            }
+            None => {
+                tell(events, caller.pid, caller.index, Outcome::Got(*sent));
+                tell(events, sender.pid, sender.index, Outcome::Sent);
+            }
+        }
     }
-}
 
-/// A case that can proceed fires: the caller is told, and then the waiting call that ended with it.
-#[inline]
-pub(crate) fn fire<E: Hears>(
-    board: &mut Board,
-    tallies: &mut Tallies,
-    events: &mut E,
-    caller: Caller,
-    case: &Case,
-)
-    requires named { IsNamed board.old case.now }
-    requires keep { PortsKeep board.old tallies.old }
-    requires can { can_on board.old case.now ≡ true }
-    requires room { 1 < E.room events.old }
-    ensures fires { Fires board.new tallies.new (fire_on board.old tallies.old case.now) }
-    ensures told { Heard E.heard E.room events.old events.new (firing_events caller.pid caller.index (fire_on board.old tallies.old case.now)) }
-{
-    match case {
-        Case::Send(port, value) => send(board, tallies, events, caller, *port, value),
-        Case::Recv(port) => receive(board, tallies, events, caller, *port),
+    /// The oldest value of the buffer, where no sender waits.
+    #[inline]
+    fn take_value<E: Hears>(&mut self, events: &mut E, caller: Caller, port: Port)
+        requires { MayFire self.old.board self.old.tallies port (E.room events.old) }
+        ensures fires { Fires self.new.board self.new.tallies (take_on self.old.board self.old.tallies port) }
+        ensures told { HearsFiring E.heard E.room events.old events.new caller (take_on self.old.board self.old.tallies port) }
+    {
+        match self.board.pop(port) {
+            Some(value) => {
+                self.tallies.count(port, Carried::Received);
+                tell(events, caller.pid, caller.index, Outcome::Got(value));
+            }
+            None => tell(events, caller.pid, caller.index, Outcome::Drained),
+        }
+    }
+
+    /// A receive: from the oldest sender that waits, or else from the buffer.
+    #[inline]
+    fn receive<E: Hears>(&mut self, events: &mut E, caller: Caller, port: Port)
+        requires { MayFire self.old.board self.old.tallies port (E.room events.old) }
+        ensures fires { Fires self.new.board self.new.tallies (recv_on self.old.board self.old.tallies port) }
+        ensures told { HearsFiring E.heard E.room events.old events.new caller (recv_on self.old.board self.old.tallies port) }
+    {
+        match self.board.take(port, Side::Send) {
+            None => self.take_value(events, caller, port),
+            Some(sender) => self.let_in(events, caller, port, &sender),
+        }
+    }
+
+    /// A case that can proceed fires: the caller is told, and then the waiting call that ended with it.
+    #[inline]
+    pub(crate) fn fire<E: Hears>(&mut self, events: &mut E, caller: Caller, case: &Case)
+        requires named { IsNamed self.old.board case.now }
+        requires keep { PortsKeep self.old.board self.old.tallies }
+        requires can { can_on self.old.board case.now ≡ true }
+        requires room { 1 < E.room events.old }
+        ensures fires { Fires self.new.board self.new.tallies (fire_on self.old.board self.old.tallies case.now) }
+        ensures told { HearsFiring E.heard E.room events.old events.new caller (fire_on self.old.board self.old.tallies case.now) }
+    {
+        match case {
+            Case::Send(port, value) => self.send(events, caller, *port, value),
+            Case::Recv(port) => self.receive(events, caller, *port),
+        }
     }
 }

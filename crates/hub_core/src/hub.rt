@@ -39,22 +39,13 @@ pub struct Hub {
 }
 
 impl Model for Hub {
-    ghost use Rattle.std.specs.Vec.{vec_capacity};
     ghost use Rattle.hub_core.specs.HubView.{HubInMemory};
 
     ghost Value = { HubInMemory };
 
-    ghost use Rattle.hub_core.specs.HubKeeps.{HubKeeps};
+    ghost use Rattle.hub_core.specs.HubKeeps.{HubKeeps, shown};
 
-    ghost view = { λ h.
-        record {
-          hub = record {
-            terms = h.terms;
-            journal = h.entries.items;
-            places = h.places;
-          };
-          capacity = vec_capacity h.entries;
-        } };
+    ghost view = { λ h. shown h };
 
     ghost invariant = { λ h. HubKeeps h };
 }

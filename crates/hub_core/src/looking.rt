@@ -2,7 +2,7 @@
 //! Go: "Length and capacity".
 
 ghost use Rattle.std.specs.Prelude.{◌≡◌, ◌≤◌, length};
-ghost use Rattle.hub_parts.specs.Lists.{IsMade};
+ghost use Rattle.hub_core.specs.Prelude.{IsMade};
 ghost use Rattle.hub_core.specs.Looks.{look_on, value_on};
 
 use crate::tally::Tallies;

@@ -5,12 +5,7 @@
 //! sent and not yet received; its tallies are how many values were sent and received.
 
 ghost use Rattle.std.specs.Prelude.{◌≡◌, ◌≤◌, ◌<◌, ◌+◌, ◌-◌, ◌^◌, ℕ, List, [], None, length, IfOk, IfErr, OnOk, OnErr, IsErrOf};
-ghost use Rattle.hub_base.specs.declared.entry.Entry.{Entry};
-ghost use Rattle.hub_base.specs.declared.head.Head.{Head};
-ghost use Rattle.hub_base.specs.declared.limits.TheConstants.{MOST_EVENTS};
-ghost use Rattle.hub_base.specs.Head.{IsHead};
-ghost use Rattle.hub_base.specs.Steps.{refusal};
-ghost use Rattle.hub_base.specs.Runs.{state};
+ghost use Rattle.hub_core.specs.Prelude.{Entry, Head, IsHead, MOST_EVENTS, refusal, state};
 ghost use Rattle.hub_core.specs.Hearing.{Heard};
 ghost use Rattle.hub_core.specs.ListSteps.{refusal_of, turn_on};
 ghost use Rattle.hub_core.specs.Looks.{look_at, value_at};

@@ -1,19 +1,16 @@
 //! What a machine holds, also in the midst of a step, and what a step does to it.
 
 ghost use Rattle.std.specs.Prelude.{◌≡◌, ◌≤◌, ◌<◌, ◌-◌, ◌^◌, None, false, replicate, length, IfOk, OnOk, OnErr};
-ghost use Rattle.hub_parts.specs.Keeps.{AllMade};
-ghost use Rattle.hub_base.specs.Steps.{tells};
+ghost use Rattle.hub_core.specs.Prelude.{AllMade, MOST_EVENTS, is_call, tells};
 ghost use Rattle.hub_core.specs.ListSteps.{call_on, effect_on, turn_on, refusal_of, fault_on, open_on};
-ghost use Rattle.hub_laws.specs.Once.{is_call};
 ghost use Rattle.hub_core.specs.ListKeeps.{PortsKeep};
 ghost use Rattle.hub_core.specs.Hearing.{Heard};
 ghost use Rattle.hub_core.specs.Looks.{look_on, value_on};
 ghost use Rattle.hub_core.specs.Records.{opened_machine};
 ghost use Rattle.hub_core.specs.Follows.{IsMake, IsReached, MayTakeEffect, TakesEffect};
-ghost use Rattle.hub_base.specs.declared.limits.TheConstants.{MOST_EVENTS};
 
 use crate::closing::close;
-use crate::firing::{Caller, fire};
+use crate::firing::{Caller, CountedBoard};
 use crate::looking::{buffered, look};
 use crate::refusals::{fault_of, refusal};
 use crate::select::{choose, wait};
@@ -32,12 +29,10 @@ use std::marker::Model;
 pub(crate) struct MachineState {
     /// What the journal's head says.
     head: Head,
-    /// The buffers, and the calls that wait.
-    board: Board,
+    /// The buffers, the calls that wait, and what each port has carried.
+    counted: CountedBoard,
     /// Whether each process has exited, by its number.
     gone: [bool; MOST_PROCS],
-    /// How many values were sent and received on each port.
-    tallies: Tallies,
     /// How many entries came, from which each call has its ticket.
     steps: u32,
 }
@@ -52,9 +47,9 @@ impl Model for MachineState {
     ghost view = { λ s.
         record {
           edition = s.head.edition;
-          board = s.board;
+          board = s.counted.board;
           gone = s.gone;
-          counts = s.tallies;
+          counts = s.counted.tallies;
           steps = s.steps;
         } };
 
@@ -82,9 +77,11 @@ impl MachineState {
     {
         Ok(MachineState {
             head,
-            board: Board::new(alloc, head.procs)?,
+            counted: CountedBoard {
+                board: Board::new(alloc, head.procs)?,
+                tallies: Tallies::new(),
+            },
             gone: none_gone(),
-            tallies: Tallies::new(),
             steps: 0,
         })
     }
@@ -93,7 +90,7 @@ impl MachineState {
     pub(crate) fn refusal(&self, pid: Pid) -> Option<Fault>
         ensures { result ≡ refusal_of self.now.board self.now.gone pid }
     {
-        refusal(&self.board, &self.gone, self.head.procs, pid)
+        refusal(&self.counted.board, &self.gone, self.head.procs, pid)
     }
 
     /// A call of a process that has none open, and what follows it.
@@ -108,20 +105,21 @@ impl MachineState {
         ensures told { Heard E.heard E.room events.old events.new
             (call_on self.old pid cases.now.items default word).events }
     {
-        match choose(&self.board, cases.as_slice(), word) {
-            None => wait(&mut self.board, events, self.steps, pid, cases, default),
+        match choose(&self.counted.board, cases.as_slice(), word) {
+            None => wait(
+                &mut self.counted.board,
+                events,
+                self.steps,
+                pid,
+                cases,
+                default,
+            ),
             Some(chosen) => {
                 let caller = Caller {
                     pid,
                     index: chosen.index,
                 };
-                fire(
-                    &mut self.board,
-                    &mut self.tallies,
-                    events,
-                    caller,
-                    chosen.case,
-                );
+                self.counted.fire(events, caller, chosen.case);
             }
         }
     }
@@ -142,21 +140,21 @@ impl MachineState {
     {
         match step {
             Step::Make(cap) => {
-                let port = self.board.make(*cap)?;
-                self.tallies.add();
+                let port = self.counted.board.make(*cap)?;
+                self.counted.tallies.add();
                 events.hear(tells(pid, What::Made(port)));
             }
             Step::Call { .. } => unreachable!(),
             Step::Close(port) => {
                 events.hear(tells(pid, What::Done));
-                close(&mut self.board, events, *port);
+                close(&mut self.counted.board, events, *port);
             }
             Step::Exit => {
                 self.gone[pid.0 as usize] = true;
                 events.hear(tells(pid, What::Done));
             }
             Step::Cancel(other) => {
-                self.board.withdraw(*other);
+                self.counted.board.withdraw(*other);
                 events.hear(tells(pid, What::Done));
                 events.hear(tells(*other, What::Cancelled));
             }
@@ -172,16 +170,17 @@ impl MachineState {
         ensures { TakesEffect E.heard E.room self.old pid step.now
             self.new events.old events.new result }
     {
-        let Step::Call {
-            cases,
-            default,
-            word,
-        } = step
-        else {
-            return self.rare_effect(pid, step, events);
-        };
-        self.call(pid, cases, *default, *word, events);
-        Ok(())
+        match step {
+            Step::Call {
+                cases,
+                default,
+                word,
+            } => {
+                self.call(pid, cases, *default, *word, events);
+                Ok(())
+            }
+            _ => self.rare_effect(pid, step, events),
+        }
     }
 
     /// An admitted step: its fault, or what it does and the stall rule behind it.
@@ -200,12 +199,12 @@ impl MachineState {
         ensures places { length self.old.gone ≡ MOST_PROCS }
         ensures few { self.old.board.procs ≤ MOST_PROCS }
     {
-        if let Some(fault) = fault_of(self.head.edition, &self.board, &entry.step) {
+        if let Some(fault) = fault_of(self.head.edition, &self.counted.board, &entry.step) {
             events.hear(tells(entry.pid, What::Fault(fault)));
         } else {
             self.effect(entry.pid, &entry.step, events)?;
-            if all_wait(&self.board, &self.gone, self.head.procs) {
-                stop_all(&mut self.board, events);
+            if all_wait(&self.counted.board, &self.gone, self.head.procs) {
+                stop_all(&mut self.counted.board, events);
             }
         }
         self.steps += 1;
@@ -217,13 +216,13 @@ impl MachineState {
         requires { length self.now.counts ≡ length self.now.board.ports }
         ensures { result ≡ look_on self.now.board self.now.counts port }
     {
-        look(&self.board, &self.tallies, port)
+        look(&self.counted.board, &self.counted.tallies, port)
     }
 
     /// The value at a place of a port's buffer.
     pub(crate) fn buffered(&self, port: Port, place: u32) -> Option<Value>
         ensures { result ≡ value_on self.now.board port place }
     {
-        buffered(&self.board, port, place)
+        buffered(&self.counted.board, port, place)
     }
 }

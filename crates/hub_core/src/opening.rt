@@ -1,6 +1,7 @@
 //! Why a hub was not opened.
 
 ghost use Rattle.std.specs.Prelude.{◌≡◌};
+ghost use Rattle.hub_core.specs.HubView.{open_fault_number};
 ghost use Rattle.hub_core.specs.declared.opening.OpenFault.TheVariants as open_fault;
 
 use hub_base::NoMemory;
@@ -22,8 +23,6 @@ pub enum OpenFault {
 }
 
 impl OpenFault {
-    ghost use Rattle.hub_core.specs.HubView.{open_fault_number};
-
     /// The fault's number, 1 to 3.
     pub fn number(self) -> u8
         ensures { result ≡ open_fault_number self }

@@ -2,9 +2,7 @@
 
 ghost use Rattle.std.specs.Prelude.{◌≡◌, ◌≤◌, ◌<◌, false};
 ghost use Rattle.std.specs.List.{list_any};
-ghost use Rattle.hub_base.specs.Ready.{port_of};
-ghost use Rattle.hub_base.specs.declared.head.Edition.{Edition};
-ghost use Rattle.hub_laws.specs.Once.{is_call};
+ghost use Rattle.hub_core.specs.Prelude.{Edition, is_call, port_of};
 ghost use Rattle.hub_core.specs.ListSteps.{refusal_of, fault_on, call_fault_on, is_unmade_on};
 
 use crate::stalling::has_gone;

@@ -1,8 +1,7 @@
 //! Runs: a hub is opened, and makes the steps of a list in order.
 
 ghost use Rattle.std.specs.Prelude.{◌≡◌, ℕ, true, IfOk, IfErr, OnOk};
-ghost use Rattle.hub_base.specs.Head.{AreOf, head_of, is_of};
-ghost use Rattle.hub_laws.specs.Once.{OnceLaw};
+ghost use Rattle.hub_core.specs.Prelude.{AreOf, OnceLaw, head_of, is_of};
 ghost use Rattle.hub_core.specs.HubView.{terms_of};
 ghost use Rattle.hub_core.specs.RunsTo.{RunsTo, TellsOn, StopsAt, KeepsValues, ClosesForGood, RefusesRun, IsFullAt};
 

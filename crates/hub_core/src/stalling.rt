@@ -2,9 +2,8 @@
 //! end. Go has no such rule for single processes; there the whole program ends.
 
 ghost use Rattle.std.specs.Prelude.{◌≡◌, ◌≤◌, ◌<◌, length};
+ghost use Rattle.hub_core.specs.Prelude.{Apart, open_calls};
 ghost use Rattle.hub_core.specs.Hearing.{Heard};
-ghost use Rattle.hub_laws.specs.Sound.{Apart};
-ghost use Rattle.hub_parts.specs.Lists.{open_calls};
 ghost use Rattle.hub_core.specs.ListSteps.{gone_on, each_gone_or_open_on, all_wait_on, none_open, stalled_events};
 
 use hub_base::{Event, Hears, MOST_PROCS, Pid, What};

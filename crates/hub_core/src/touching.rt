@@ -1,7 +1,7 @@
 //! Which port a step may have changed.
 
 ghost use Rattle.std.specs.Prelude.{◌≡◌};
-ghost use Rattle.hub_laws.specs.OnePort.{port_touched_by, port_changed_by, found_closed};
+ghost use Rattle.hub_core.specs.Prelude.{found_closed, port_changed_by, port_touched_by};
 
 use hub_base::{Outcome, Port, Step, What};
 

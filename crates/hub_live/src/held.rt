@@ -6,13 +6,14 @@ ghost use Rattle.hub_base.specs.declared.event.What.TheVariants as what;
 ghost use Rattle.hub_live.specs.Prelude.{Send, Recv, Make, Call, Close, Exit, Cancel, Two, is_of, has_value, call, counts_at, IsIdle, state_seen, Later};
 ghost use Rattle.hub_live.specs.Prelude.{Made, Refused, Answers, AskedNothing, StandsIn, Told, EndsIn};
 
+use crate::answer::Answer;
 use crate::desk::Desk;
 use crate::ends::{Chan, RecvPort, SendPort};
 use crate::live_hub::LiveHub;
 use crate::name::HubName;
 use crate::seat::Seat;
 use crate::words::Words;
-use hub_base::{Cases, Counts, Event, Fault, Journal, Pid, Port, Value};
+use hub_base::{Cases, Counts, Fault, Journal, Pid, Port, Value};
 use std::alloc::{AllocError, Global};
 use std::marker::{Model, PhantomData};
 use std::sync::Wait;
@@ -78,7 +79,7 @@ impl<K: HubName> Held<K> {
         cases: Cases,
         default: bool,
         word: u64,
-    ) -> Result<Event, Fault>
+    ) -> Answer
         requires { is_of K.name.terms.head.edition (Call cases default word) ≡ true }
         ensures later { Later self.old self.new }
         ensures ok { IfOk result (λ x. Made self.old self.new (Call cases default word) x) }
@@ -94,7 +95,7 @@ impl<K: HubName> Held<K> {
         hub: &LiveHub<K>,
         sender: &SendPort,
         value: Value,
-    ) -> Result<Event, Fault>
+    ) -> Answer
         requires { has_value K.name.terms.head.edition value ≡ true }
         ensures later { Later self.old self.new }
         ensures ok { IfOk result (λ x.
@@ -106,12 +107,7 @@ impl<K: HubName> Held<K> {
     }
 
     /// Receives a value, and waits until one comes. Answers and refusals: `LiveHub::recv`.
-    pub fn recv<R: Wait>(
-        &mut self,
-        rt: &R,
-        hub: &LiveHub<K>,
-        receiver: &RecvPort,
-    ) -> Result<Event, Fault>
+    pub fn recv<R: Wait>(&mut self, rt: &R, hub: &LiveHub<K>, receiver: &RecvPort) -> Answer
         ensures later { Later self.old self.new }
         ensures ok { IfOk result (λ x.
             Made self.old self.new (call (Recv receiver.now ∷ []) false 0) x) }
@@ -122,7 +118,7 @@ impl<K: HubName> Held<K> {
     }
 
     /// Makes a channel with a buffer of `cap` values. Answers and refusals: `LiveHub::make`.
-    pub fn make<R: Wait>(&mut self, rt: &R, hub: &LiveHub<K>, cap: u32) -> Result<Event, Fault>
+    pub fn make<R: Wait>(&mut self, rt: &R, hub: &LiveHub<K>, cap: u32) -> Answer
         ensures later { Later self.old self.new }
         ensures ok { IfOk result (λ x. Made self.old self.new (Make cap) x) }
         ensures answer { IfOk result (λ x. Answers self.old.pid (Make cap) x) }
@@ -143,12 +139,7 @@ impl<K: HubName> Held<K> {
     }
 
     /// Closes a port, by its end that sends. Answers and refusals: `LiveHub::close`.
-    pub fn close<R: Wait>(
-        &mut self,
-        rt: &R,
-        hub: &LiveHub<K>,
-        sender: &SendPort,
-    ) -> Result<Event, Fault>
+    pub fn close<R: Wait>(&mut self, rt: &R, hub: &LiveHub<K>, sender: &SendPort) -> Answer
         ensures later { Later self.old self.new }
         ensures ok { IfOk result (λ x. Made self.old self.new (Close sender.now) x) }
         ensures answer { IfOk result (λ x. Answers self.old.pid (Close sender.now) x) }
@@ -158,7 +149,7 @@ impl<K: HubName> Held<K> {
     }
 
     /// Ends the process: `LiveHub::exit`. A thread that others may wait for does so before it ends.
-    pub fn exit<R: Wait>(&mut self, rt: &R, hub: &LiveHub<K>) -> Result<Event, Fault>
+    pub fn exit<R: Wait>(&mut self, rt: &R, hub: &LiveHub<K>) -> Answer
         ensures later { Later self.old self.new }
         ensures ok { IfOk result (λ x. Made self.old self.new Exit x) }
         ensures answer { IfOk result (λ x. Answers self.old.pid Exit x) }
@@ -169,7 +160,7 @@ impl<K: HubName> Held<K> {
 
     /// Cancels the open call of another process. Answers and refusals: `LiveHub::cancel`. Only hubs of the second
     /// edition have it.
-    pub fn cancel<R: Wait>(&mut self, rt: &R, hub: &LiveHub<K>, pid: Pid) -> Result<Event, Fault>
+    pub fn cancel<R: Wait>(&mut self, rt: &R, hub: &LiveHub<K>, pid: Pid) -> Answer
         requires { K.name.terms.head.edition ≡ Two }
         ensures later { Later self.old self.new }
         ensures ok { IfOk result (λ x. Made self.old self.new (Cancel pid) x) }

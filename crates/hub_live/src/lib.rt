@@ -1,6 +1,7 @@
 //! A hub of channels that threads share: steps under a lock, and looks without it.
 #![tactic(auto)]
 
+mod answer;
 mod blank;
 mod desk;
 mod ends;
@@ -16,6 +17,7 @@ mod seat;
 pub mod under_lock;
 mod words;
 
+pub use answer::Answer;
 pub use blank::Blank;
 pub use ends::{Chan, RecvPort, SendPort};
 pub use held::{Held, hold_all};

@@ -33,20 +33,20 @@ impl Request<'_> {
     pub(crate) fn of(step: &Step) -> Request<'_>
         ensures { step_of result ≡ step.now }
     {
-        match step {
-            Step::Make(cap) => Request::Make(*cap),
+        match *step {
+            Step::Make(cap) => Request::Make(cap),
             Step::Call {
-                cases,
+                ref cases,
                 default,
                 word,
             } => Request::Call {
                 cases,
-                default: *default,
-                word: *word,
+                default,
+                word,
             },
-            Step::Close(port) => Request::Close(*port),
+            Step::Close(port) => Request::Close(port),
             Step::Exit => Request::Exit,
-            Step::Cancel(pid) => Request::Cancel(*pid),
+            Step::Cancel(pid) => Request::Cancel(pid),
         }
     }
 

@@ -1,10 +1,10 @@
 use Rattle.std.proofs.Common.{arith, ◌≡◌, ◌∙◌, Ok, ap, refl, subst, sym, true}
 use Rattle.hub_base.specs.declared.entry.Entry.{Entry}
 use Rattle.hub_core.specs.Follows.{Turns}
-use Rattle.hub_core.specs.HubKeeps.{Takes}
+use Rattle.hub_core.specs.HubKeeps.{Takes, shown}
 use Rattle.hub_base.specs.Head.{is_of}
 use Rattle.hub_core.specs.HubView.{HubView, HubInMemory, StepRules, call_of}
-use Rattle.hub_core.proofs.Hubs.{has_place, keeps_made, last_at, refused_so, rules_made, shown, steps_made, such_call, taken_call, turn_admitted, turn_steps}
+use Rattle.hub_core.proofs.Hubs.{has_place, keeps_made, last_at, refused_so, rules_made, steps_made, such_call, taken_call, turn_admitted, turn_steps}
 use Rattle.hub_core.proofs.hub.Hub.call_into.Goals as goal
 use Rattle.hub_core.proofs.hub.Hub.call_into.Goals.{After-index}
 

@@ -1,8 +1,8 @@
 use Rattle.std.proofs.Common.{arith, ◌≡◌, ◌∙◌, ap, sym, subst, true}
 use Rattle.hub_base.specs.Head.{is_of}
-use Rattle.hub_core.specs.HubKeeps.{Takes}
+use Rattle.hub_core.specs.HubKeeps.{Takes, shown}
 use Rattle.hub_core.specs.HubView.{HubInMemory, HubView}
-use Rattle.hub_core.proofs.Hubs.{has_place, keeps_made, shown, taken, turn_admitted, turn_steps, such, refused_so, rules_made, rules_refused, steps_made}
+use Rattle.hub_core.proofs.Hubs.{has_place, keeps_made, taken, turn_admitted, turn_steps, such, refused_so, rules_made, rules_refused, steps_made}
 use Rattle.hub_core.proofs.hub.Hub.step_into.Goals as goal
 use Rattle.hub_core.proofs.hub.Hub.step_into.Goals.{After-places_after-self-inside}
 

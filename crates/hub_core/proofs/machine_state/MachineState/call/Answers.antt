@@ -6,6 +6,6 @@ use Rattle.hub_core.proofs.machine_state.MachineState.call.Goals as goal
 pub invariant_of-self-in-Some : goal.invariant_of-self-in-Some
 invariant_of-self-in-Some g c = record {
   procs = ap (λ (b : Lists). b.procs) c.fire.ensures.fires.board
-      ∙ fire_on-procs c.self.inside.board c.self.inside.tallies c.in-Some.chosen.case.now ∙ c.self.invariant.procs;
+      ∙ fire_on-procs c.self.inside.counted.board c.self.inside.counted.tallies c.in-Some.chosen.case.now ∙ c.self.invariant.procs;
   few = c.self.invariant.few;
 }

@@ -28,7 +28,7 @@ returns-in-Close g c = record {
   machine = search rules;
   told =
       heard_as (heard_on g.met.E.Hears.goes_on (record { events = c.hear-in-Close.ensures.heard; fits = c.hear-in-Close.ensures.room }) c.close.ensures.told)
-      (ap (λ (e : Event). e ∷ closing_events c.in-Close.port c.self.inside.board.waiting) c.tells-in-Close.ensures
+      (ap (λ (e : Event). e ∷ closing_events c.in-Close.port c.self.inside.counted.board.waiting) c.tells-in-Close.ensures
       ∙ ap (λ (m : MachineLists). (effect_on m c.args.pid (Close c.in-Close.port)).events) c.self.view_is
       ∙ ap (λ (s : Step). (effect_on c.args.self.now c.args.pid s).events) (sym c.in-Close.is));
   make = tt;

@@ -18,7 +18,7 @@ use crate::{Event, Fault, Outcome, Port, Value, What};
 const MOST_SMALL: usize = 3;
 
 /// The most digits of a number of 64 bits.
-pub const MOST_DIGITS: usize = 20;
+const MOST_DIGITS: usize = 20;
 
 /// The most bytes of a value: `#`, and two digits for each byte that it is.
 pub const MOST_VALUE: usize = 1 + 2 * MOST_VALUE_BYTES;
@@ -140,7 +140,7 @@ fn put_long(out: &mut [u8], at: usize, n: u64) -> usize
 
 /// Puts a number of up to 64 bits.
 #[inline(always)]
-pub fn put_large(out: &mut [u8], at: usize, n: u64) -> usize
+fn put_large(out: &mut [u8], at: usize, n: u64) -> usize
     requires { at + MOST_DIGITS ≤ length out.old }
     ensures { Puts out.old out.new at (decimal n) MOST_DIGITS result }
 {

@@ -12,8 +12,9 @@ ghost use Rattle.hub_base.specs.Writing.{Appends, spaced, spaced_cases, HasRoomF
 ghost use Rattle.hub_base.specs.Value.{value_field};
 
 use crate::limits::{MOST_LINE, MOST_PROCS};
-use crate::text::event_lines::{MOST_DIGITS, MOST_VALUE, put_bytes, put_event, put_large};
+use crate::text::event_lines::{MOST_VALUE, put_bytes, put_event};
 use crate::{Case, Edition, Entry, Event, Head, Journal, NoMemory, Port, Step, Value};
+use itoa::Buffer;
 use std::alloc::AllocError;
 
 /// Appends these bytes.
@@ -32,9 +33,8 @@ fn put_number(out: &mut Vec<u8>, n: u64) -> Result<(), AllocError>
     if n < 10 {
         return put(out, &[b'0' + n as u8]);
     }
-    let mut digits = [0; MOST_DIGITS];
-    let end = put_large(&mut digits, 0, n);
-    put(out, &digits[..end])
+    let mut buffer = Buffer::new();
+    put(out, buffer.format(n).as_bytes())
 }
 
 /// Appends a word, or what else stands before a number, and the number.

@@ -3,6 +3,7 @@
 
 ghost use Rattle.std.specs.Prelude.{◌≡◌, ◌∷◌, [], false, length, min, true};
 ghost use Rattle.hub_base.specs.Head.{has_case, is_of};
+ghost use Rattle.hub_base.specs.Lines.{by};
 ghost use Rattle.hub_base.specs.Notation.{cancel, close, exit, make, recv, select, send};
 ghost use Rattle.hub_base.specs.declared.limits.TheConstants.{GREATEST_CAP, GREATEST_PID};
 ghost use Rattle.hub_c.specs.Stepping.{Forgets, Stepped, Took, entry_asked, send_bytes};
@@ -29,6 +30,17 @@ fn process(value: u64) -> Pid
     match u8::try_from(value) {
         Ok(pid) => Pid(pid),
         Err(_) => Pid(u8::MAX),
+    }
+}
+
+/// The entry of a process that makes this step. It is inlined, so that a step of many places is not copied.
+#[inline(always)]
+fn entry_by(pid: u8, step: Step) -> Entry
+    ensures { result ≡ by pid step }
+{
+    Entry {
+        pid: Pid(pid),
+        step,
     }
 }
 
@@ -85,10 +97,7 @@ impl Session {
             default: false,
             word: 0,
         };
-        self.step_of_edition(Entry {
-            pid: Pid(pid),
-            step,
-        })
+        self.step_of_edition(entry_by(pid, step))
     }
 
     /// The same, of a call.
@@ -100,21 +109,14 @@ impl Session {
             default,
             word,
         };
-        self.step(Entry {
-            pid: Pid(pid),
-            step,
-        })
+        self.step(entry_by(pid, step))
     }
 
     #[inline(never)]
     fn make(&mut self, numbers: Numbers) -> u64
         ensures { Stepped self.old (make numbers.pid (min numbers.value GREATEST_CAP)) self.new result }
     {
-        let step = Step::Make(capacity(numbers.value));
-        self.step(Entry {
-            pid: Pid(numbers.pid),
-            step,
-        })
+        self.step(entry_by(numbers.pid, Step::Make(capacity(numbers.value))))
     }
 
     #[inline(never)]
@@ -145,31 +147,21 @@ impl Session {
     fn close(&mut self, numbers: Numbers) -> u64
         ensures { Stepped self.old (close numbers.pid numbers.port) self.new result }
     {
-        self.step(Entry {
-            pid: Pid(numbers.pid),
-            step: Step::Close(Port(numbers.port)),
-        })
+        self.step(entry_by(numbers.pid, Step::Close(Port(numbers.port))))
     }
 
     #[inline(never)]
     fn exit(&mut self, numbers: Numbers) -> u64
         ensures { Stepped self.old (exit numbers.pid) self.new result }
     {
-        self.step(Entry {
-            pid: Pid(numbers.pid),
-            step: Step::Exit,
-        })
+        self.step(entry_by(numbers.pid, Step::Exit))
     }
 
     #[inline(never)]
     fn cancel(&mut self, numbers: Numbers) -> u64
         ensures { Stepped self.old (cancel numbers.pid (min numbers.value GREATEST_PID)) self.new result }
     {
-        let step = Step::Cancel(process(numbers.value));
-        self.step(Entry {
-            pid: Pid(numbers.pid),
-            step,
-        })
+        self.step(entry_by(numbers.pid, Step::Cancel(process(numbers.value))))
     }
 
     #[inline(never)]

@@ -1,7 +1,10 @@
 //! The live hub, in one thread and in several, and crews: what is asked, and what is told, in the short words of the tables.
 
 use crate::compare::same;
-use hub_base::{Counts, Event, Fault, Outcome, Pid, Port, Value, What};
+use hub_base::{
+    Case, Cases, CasesExt, Counts, Entry, Event, Fault, Outcome, Pid, Port, Step, Value, What,
+};
+use std::fmt::Debug;
 use std::process::Abort;
 
 mod locked;
@@ -9,6 +12,7 @@ mod one_thread;
 mod refusals;
 pub(crate) mod rows;
 pub(crate) mod stories;
+mod table;
 pub(crate) mod tasks;
 pub(crate) mod threads;
 
@@ -36,6 +40,8 @@ pub(crate) enum Ask {
 pub(crate) enum Told {
     /// Its step is answered so.
     Is(What),
+    /// This case of its call came to this.
+    Fired(u8, Outcome),
     /// It received this number.
     Got(u64),
     /// Its step is refused.
@@ -44,15 +50,9 @@ pub(crate) enum Told {
 
 pub(crate) const MADE: Told = Told::Is(What::Made(Port(1)));
 
-pub(crate) const SENT: Told = Told::Is(What::Fired {
-    case: 0,
-    outcome: Outcome::Sent,
-});
+pub(crate) const SENT: Told = Told::Fired(0, Outcome::Sent);
 
-pub(crate) const DRAINED: Told = Told::Is(What::Fired {
-    case: 0,
-    outcome: Outcome::Drained,
-});
+pub(crate) const DRAINED: Told = Told::Fired(0, Outcome::Drained);
 
 pub(crate) const DONE: Told = Told::Is(What::Done);
 
@@ -84,22 +84,53 @@ pub(crate) const SHUT: Counts = Counts {
     closed: true,
 };
 
-/// How the step of a process is answered that is told this.
-fn answer(pid: Pid, told: Told) -> Result<Event, Fault> {
-    match told {
-        Told::Is(what) => Ok(Event { pid, what }),
-        Told::Got(number) => Ok(Event {
-            pid,
-            what: What::Fired {
-                case: 0,
-                outcome: Outcome::Got(Value::num(number)),
-            },
-        }),
-        Told::Refused(fault) => Err(fault),
+/// The step of a process, as an entry.
+fn entry_of(pid: u8, asked: Ask) -> Entry {
+    let step = match asked {
+        Ask::Make(cap) => Step::Make(cap),
+        Ask::Send(number) => call(Case::Send(Port(1), Value::num(number))),
+        Ask::Recv => call(Case::Recv(Port(1))),
+        Ask::RecvNil => call(Case::Recv(Port(0))),
+        Ask::Close => Step::Close(Port(1)),
+        Ask::Cancel => Step::Cancel(Pid(1)),
+        Ask::Exit => Step::Exit,
+    };
+    Entry {
+        pid: Pid(pid),
+        step,
     }
 }
 
+/// A call of one case.
+fn call(case: Case) -> Step {
+    Step::Call {
+        cases: Cases::one(case),
+        default: false,
+        word: 0,
+    }
+}
+
+/// How the step of a process is answered that is told this.
+fn answer(pid: Pid, told: Told) -> Result<Event, Fault> {
+    let what = match told {
+        Told::Is(what) => what,
+        Told::Fired(case, outcome) => What::Fired { case, outcome },
+        Told::Got(number) => What::Fired {
+            case: 0,
+            outcome: Outcome::Got(Value::num(number)),
+        },
+        Told::Refused(fault) => return Err(fault),
+    };
+    Ok(Event { pid, what })
+}
+
 /// The step of this process is answered as it is told.
-fn compare(rt: &impl Abort, found: Result<Event, Fault>, pid: Pid, told: Told, place: usize) {
+fn compare(
+    rt: &impl Abort,
+    found: Result<Event, Fault>,
+    pid: Pid,
+    told: Told,
+    place: impl Copy + Debug,
+) {
     same(rt, found, answer(pid, told), place);
 }

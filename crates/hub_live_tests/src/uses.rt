@@ -2,7 +2,7 @@
 
 use crate::compare::same;
 use crate::live::rows::Act;
-use crate::live::stories::{Runtime, Story, tell};
+use crate::live::stories::Runtime;
 use crate::live::tasks::Crew;
 use crate::live::threads::told_by;
 use crate::live::{Ask, DONE, MADE, SENT, SHUT};
@@ -12,18 +12,6 @@ use hub_live::{Chan, Held, HubName, LiveHub};
 use hub_uses::{Pool, Stopped, Work, hand_over};
 use std::process::Abort;
 use std::test::Fail;
-
-#[test]
-fn value_is_handed_over(rt: HostRuntime) -> Result<(), Fail> {
-    let story = Story {
-        procs: 2,
-        limit: 1000,
-        rows: &[(0, Act::Makes(0, Ok(1)))],
-        crew: Crew::HandOver,
-        entries: Some(3),
-    };
-    tell(&rt, &story)
-}
 
 /// The seats are not given back.
 pub(crate) fn hand_nine_over<K: HubName + Send + Sync, R: Runtime>(
@@ -40,21 +28,13 @@ fn each_has_its_answer<K: HubName>(rt: &impl Abort, members: &[Member<K, Result<
     same(rt, members.len(), 2, "members");
     for member in members {
         let pid = member.seat.pid();
-        same(rt, Some(member.report), told_by(Crew::Pass, pid), pid);
+        same(
+            rt,
+            Some(member.report),
+            told_by(Crew::Pass, pid),
+            ("told", pid),
+        );
     }
-}
-
-// Three workers and 20 jobs: whoever does them, they are 20, and their numbers' sum is 210.
-#[test]
-fn pool_does_each_job_once(rt: HostRuntime) -> Result<(), Fail> {
-    let story = Story {
-        procs: 4,
-        limit: 1000,
-        rows: &[(0, Act::Makes(2, Ok(1)))],
-        crew: Crew::WorkOff,
-        entries: Some(45),
-    };
-    tell(&rt, &story)
 }
 
 /// The seats are not given back.
@@ -93,7 +73,7 @@ fn jobs_and_sum(rt: &impl Abort, report: Result<Work, Stopped>, pid: Pid) -> (u3
     }
 }
 
-const POLLING: &[(u8, Act)] = &[
+pub(crate) const POLLING: &[(u8, Act)] = &[
     (0, Act::Makes(1, Ok(1))),
     (0, Act::Makes(1, Ok(2))),
     (0, Act::Polls(None)),
@@ -104,35 +84,9 @@ const POLLING: &[(u8, Act)] = &[
     (0, Act::Holds(1, 0)),
 ];
 
-// A poll finds nothing, and then the value of the channel that has one.
-#[test]
-fn poll_takes_what_is_there(rt: HostRuntime) -> Result<(), Fail> {
-    let story = Story {
-        procs: 1,
-        limit: 1000,
-        rows: POLLING,
-        crew: Crew::None,
-        entries: Some(5),
-    };
-    tell(&rt, &story)
-}
-
-const SHARING: &[(u8, Act)] = &[
+pub(crate) const SHARING: &[(u8, Act)] = &[
     (0, Act::Asks(Ask::Make(0), MADE)),
     (0, Act::Asks(Ask::Close, DONE)),
     (0, Act::Shares),
     (1, Act::Sees(1, Some(SHUT))),
 ];
-
-// The second process knows of the close once both have met.
-#[test]
-fn meeting_passes_on_a_close(rt: HostRuntime) -> Result<(), Fail> {
-    let story = Story {
-        procs: 2,
-        limit: 1000,
-        rows: SHARING,
-        crew: Crew::None,
-        entries: Some(2),
-    };
-    tell(&rt, &story)
-}

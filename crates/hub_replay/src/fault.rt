@@ -78,8 +78,8 @@ impl From<ReadFault> for ReplayFault {
 
     fn from(fault: ReadFault) -> ReplayFault {
         match fault {
-            ReadFault::Text(fault) => ReplayFault::Text(fault),
-            ReadFault::NoMemory => ReplayFault::NoMemory,
+            ReadFault::Text(fault) => fault.into(),
+            ReadFault::NoMemory => NoMemory.into(),
         }
     }
 }
@@ -92,10 +92,11 @@ impl From<WriteFailed> for ReplayFault {
     }
 }
 
+/// As a source tells it.
 impl From<NoMemory> for ReplayFault {
-    ghost from_gives = { λ _ fault. fault ≡ replay.NoMemory };
+    ghost from_gives = { λ _ fault. fault ≡ replay_fault source.NoMemory };
 
     fn from(_: NoMemory) -> ReplayFault {
-        ReplayFault::NoMemory
+        SourceFault::NoMemory.into()
     }
 }

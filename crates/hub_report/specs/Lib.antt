@@ -3,3 +3,4 @@ pub mod ReportRows
 pub mod ReportText
 pub mod TextRows
 pub mod Replays
+pub mod Prelude

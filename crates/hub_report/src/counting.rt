@@ -3,10 +3,7 @@
 
 ghost use Rattle.std.specs.Prelude.{◌≡◌, ◌≤◌, length};
 ghost use Rattle.std.specs.List.{sum_by};
-ghost use Rattle.hub_base.specs.Values.{is_fault};
-ghost use Rattle.hub_laws.specs.OnePort.{port_touched};
-ghost use Rattle.hub_report.specs.Reports.{how_many, is_stalled};
-ghost use Rattle.hub_report.specs.Replays.{most_got, number_told};
+ghost use Rattle.hub_report.specs.Prelude.{how_many, is_fault, is_stalled, most_got, number_told, port_touched};
 
 use hub_base::{Event, MOST_EVENTS, Outcome, Port, Step, What};
 use hub_core::port_touched;

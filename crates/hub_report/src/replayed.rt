@@ -4,15 +4,8 @@
 ghost use Rattle.std.specs.Prelude.{◌≡◌, ◌≤◌, ◌<◌, ◌+◌, ◌^◌, ℕ, [], length, replicate, Some, IfOk, slice_index_or};
 ghost use Rattle.std.specs.List.{sum_by};
 ghost use Rattle.std.specs.Option.{option_map};
-ghost use Rattle.hub_base.specs.declared.value.Port.{Port};
-ghost use Rattle.hub_base.specs.Head.{IsHead};
-ghost use Rattle.hub_base.specs.Runs.{state};
-ghost use Rattle.hub_base.specs.State.{channel_at};
-ghost use Rattle.hub_base.specs.Text.{steps_of};
-ghost use Rattle.hub_laws.specs.Journals.{IsLegal};
-ghost use Rattle.hub_laws.specs.OnePort.{IsMade, port_touched};
-ghost use Rattle.hub_report.specs.Reports.{ports_told, told_of};
-ghost use Rattle.hub_report.specs.Replays.{HasRoom, OfTold, Tells, Within, most_got, number_told, with_sum, with_told};
+ghost use Rattle.hub_report.specs.Prelude.{Port, IsHead, state, channel_at, steps_of, IsLegal, IsMade, port_touched, ports_told, told_of};
+ghost use Rattle.hub_report.specs.Prelude.{HasRoom, OfTold, Tells, Within, most_got, number_told, with_sum, with_told};
 
 use crate::PortReport;
 use crate::counting::{port_named, tell};

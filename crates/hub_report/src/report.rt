@@ -2,10 +2,7 @@
 //! were told.
 
 ghost use Rattle.std.specs.Prelude.{◌≡◌, ◌≤◌, IfOk};
-ghost use Rattle.hub_base.specs.Head.{IsHead};
-ghost use Rattle.hub_base.specs.Text.{steps_of};
-ghost use Rattle.hub_laws.specs.Journals.{IsLegal};
-ghost use Rattle.hub_report.specs.Reports.{IsReportOf};
+ghost use Rattle.hub_report.specs.Prelude.{IsHead, IsLegal, IsReportOf, steps_of};
 
 use crate::replayed::replay;
 use hub_base::{Journal, MOST_STEPS, NoMemory};

@@ -63,22 +63,29 @@ fn word_for(step: &ScriptStep, words: &mut ChoiceWords) -> u64
     }
 }
 
+/// A step of a script, and the choice word that it has.
+#[derive(Clone, Copy)]
+struct Turn<'a> {
+    step: &'a ScriptStep,
+    word: u64,
+}
+
 /// Makes the entry that a step of a script asks for.
 fn ask<K: HubName, R: Wait>(
     rt: &R,
     hub: &LiveHub<K>,
     seat: &mut Held<K>,
-    step: &ScriptStep,
-    word: u64,
+    turn: Turn,
 ) -> Result<Event, Fault>
-    requires { has_step K.name.terms.head.edition step.now ≡ true }
+    requires { has_step K.name.terms.head.edition turn.step.now ≡ true }
     ensures later { Later seat.old seat.new }
     ensures ok { IfOk result (λ x.
         asked_of seat.new
-        ≡ asked_of seat.old ++ record { step = asks step.now word; reply = Some x } ∷ []) }
+        ≡ asked_of seat.old ++ record { step = asks turn.entry.step.now turn.entry.word; reply = Some x } ∷ []) }
 {
     // Its contract says that the process has no open call.
     let _pid = seat.pid();
+    let Turn { step, word } = turn;
     match step {
         ScriptStep::Send(port, value) => seat.send(rt, hub, &Chan::of(*port).sender(), *value),
         ScriptStep::Recv(port) | ScriptStep::Range(port) => {
@@ -98,23 +105,22 @@ fn take_step<K: HubName, R: Wait, G: Gate>(
     hub: &LiveHub<K>,
     passes: &mut Passes<G>,
     seat: &mut Held<K>,
-    step: &ScriptStep,
-    word: u64,
+    turn: Turn,
 ) -> Result<bool, Fault>
-    requires { has_step K.name.terms.head.edition step.now ≡ true }
+    requires { has_step K.name.terms.head.edition turn.step.now ≡ true }
     ensures later { Later seat.old seat.new }
     ensures ok { IfOk result (λ goes_on. (words : ℕ → ℕ) (rest : List ScriptStep) (j : ℕ) →
-        asks step.now word ≡ asks step.now (words j) →
-        Leads (asked_of seat.old) (asked_of seat.new) words (step.now ∷ rest) j
-        (goes_on_with goes_on rest) (taken_after step.now j)) }
+        asks turn.entry.step.now turn.entry.word ≡ asks turn.entry.step.now (words j) →
+        Leads (asked_of seat.old) (asked_of seat.new) words (turn.entry.step.now ∷ rest) j
+        (goes_on_with goes_on rest) (taken_after turn.entry.step.now j)) }
 {
     for _ in rt.forever() {
         passes.pass();
-        let event = ask(rt, hub, seat, step, word)?;
+        let event = ask(rt, hub, seat, turn)?;
         if is_stalled(event.what) {
             return Ok(false);
         }
-        if !repeats(step, event.what) {
+        if !repeats(turn.step, event.what) {
             return Ok(true);
         }
     }
@@ -139,7 +145,7 @@ fn follow_steps<K: HubName, R: Wait, G: Gate>(
 {
     for step in script {
         let word = word_for(step, words);
-        if !take_step(rt, hub, passes, seat, step, word)? {
+        if !take_step(rt, hub, passes, seat, Turn { step, word })? {
             return Ok(());
         }
     }

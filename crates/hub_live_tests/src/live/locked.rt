@@ -1,10 +1,10 @@
 //! Which answers wait for which process under the lock of a live hub.
 
-use super::{Ask, DONE, DRAINED, MADE, ONE_WAITS, PARKED, SENT, STALLED, Told, answer, compare};
-use crate::compare::same;
-use hub_base::{
-    Case, Cases, CasesExt, Counts, Edition, Entry, Event, Fault, Look, Pid, Port, Step, Value, What,
+use super::{
+    Ask, DONE, DRAINED, MADE, ONE_WAITS, PARKED, SENT, STALLED, Told, answer, compare, entry_of,
 };
+use crate::compare::same;
+use hub_base::{Edition, Entry, Event, Fault, Look, Pid, Port, What};
 use hub_core::Hub;
 use hub_live::under_lock::Locked;
 use std::alloc::Global;
@@ -26,39 +26,13 @@ enum Row {
     OneWaits,
 }
 
-/// The step of a process, as an entry.
-fn entry_of(pid: u8, asked: Ask) -> Entry {
-    let step = match asked {
-        Ask::Make(cap) => Step::Make(cap),
-        Ask::Send(number) => call(Case::Send(Port(1), Value::num(number))),
-        Ask::Recv => call(Case::Recv(Port(1))),
-        Ask::RecvNil => call(Case::Recv(Port(0))),
-        Ask::Close => Step::Close(Port(1)),
-        Ask::Cancel => Step::Cancel(Pid(1)),
-        Ask::Exit => Step::Exit,
-    };
-    Entry {
-        pid: Pid(pid),
-        step,
-    }
-}
-
-/// A call of one case.
-fn call(case: Case) -> Step {
-    Step::Call {
-        cases: Cases::one(case),
-        default: false,
-        word: 0,
-    }
-}
-
 /// Makes a step, which the hub's edition must have.
 fn make_step(rt: &impl Abort, locked: &mut Locked, entry: Entry) -> Result<Event, Fault> {
     assert!(rt; entry.fits(locked.head().edition));
     locked.step(entry)
 }
 
-fn follow_row(rt: &impl Abort, locked: &mut Locked, row: Row, place: usize) {
+fn follow_row(rt: &impl Abort, locked: &mut Locked, row: Row, place: (&str, usize)) {
     match row {
         Row::Asks(pid, asked, told) => {
             let answer = make_step(rt, locked, entry_of(pid, asked));
@@ -79,26 +53,43 @@ const ONE_VALUE: Look = Look {
     counts: ONE_WAITS,
 };
 
-fn follow(rt: &impl Abort, locked: &mut Locked, rows: &[Row]) {
+fn follow(rt: &impl Abort, locked: &mut Locked, name: &str, rows: &[Row]) {
     for (place, row) in rows.iter().enumerate() {
-        follow_row(rt, locked, *row, place);
+        follow_row(rt, locked, *row, (name, place));
     }
 }
 
-/// A hub of so many processes and this limit, where this happens. In the end its journal has so many entries.
-fn tell(
-    rt: &impl Abort,
-    alloc: Global,
-    (procs, limit): (u8, u32),
-    rows: &[Row],
-    entries: usize,
-) -> Result<(), Fail> {
+/// What happens under the lock of a hub: its name, how many processes the hub has, its limit, what happens, and how many
+/// entries its journal has in the end.
+type Story<'a> = (&'a str, u8, u32, &'a [Row], usize);
+
+fn tell(rt: &impl Abort, alloc: Global, story: &Story) -> Result<(), Fail> {
+    let (name, procs, limit, rows, entries) = *story;
     let mut locked = Locked::of(Hub::open(alloc, procs, limit, Edition::Two)?);
-    follow(rt, &mut locked, rows);
-    same(rt, locked.entries().len(), entries, "entries");
+    follow(rt, &mut locked, name, rows);
+    same(rt, locked.entries().len(), entries, (name, "entries"));
     let journal = locked.into_journal();
     let found = (journal.procs(), journal.entries().len());
-    same(rt, found, (procs, entries), "journal");
+    same(rt, found, (procs, entries), (name, "journal"));
+    Ok(())
+}
+
+const STORIES: &[Story] = &[
+    ("answer_waits_until_it_is_taken", 2, 10, PASSING, 3),
+    ("steps_are_kept", 2, 10, SENDING, 2),
+    ("only_process_stalls_and_finds_its_answer", 1, 10, ALONE, 1),
+    ("each_stalled_process_finds_its_answer", 2, 10, BOTH, 2),
+    ("close_answers_each_receiver", 3, 10, CLOSING, 4),
+    ("cancelled_call_finds_its_answer", 2, 10, CANCELLING, 5),
+    ("refusal_leaves_what_waits", 3, 3, REFUSING, 3),
+    ("next_step_drops_what_waits", 2, 3, DROPPING, 4),
+];
+
+#[test]
+fn each_story_is_told(rt: HostRuntime) -> Result<(), Fail> {
+    for story in STORIES {
+        tell(&rt, rt.alloc(), story)?;
+    }
     Ok(())
 }
 
@@ -115,11 +106,6 @@ const PASSING: &[Row] = &[
     Row::FindsNone(1),
 ];
 
-#[test]
-fn answer_waits_until_it_is_taken(rt: HostRuntime) -> Result<(), Fail> {
-    tell(&rt, rt.alloc(), (2, 10), PASSING, 3)
-}
-
 // What is looked at, and what is kept.
 const SENDING: &[Row] = &[
     Row::Asks(0, Ask::Make(1), MADE),
@@ -127,12 +113,7 @@ const SENDING: &[Row] = &[
     Row::OneWaits,
 ];
 
-#[test]
-fn steps_are_kept(rt: HostRuntime) -> Result<(), Fail> {
-    tell(&rt, rt.alloc(), (2, 10), SENDING, 2)
-}
-
-// That of an only process does so alone.
+// The call of an only process parks and stalls, alone.
 const ALONE: &[Row] = &[
     Row::Asks(0, Ask::RecvNil, PARKED),
     Row::Takes(0, STALLED),
@@ -149,12 +130,6 @@ const BOTH: &[Row] = &[
     Row::FindsNone(1),
 ];
 
-#[test]
-fn each_stalled_process_finds_its_answer(rt: HostRuntime) -> Result<(), Fail> {
-    tell(&rt, rt.alloc(), (1, 10), ALONE, 1)?;
-    tell(&rt, rt.alloc(), (2, 10), BOTH, 2)
-}
-
 // Go: "Close". Both receivers learn of it, and the step's own answer waits for nobody.
 const CLOSING: &[Row] = &[
     Row::Asks(0, Ask::Make(0), MADE),
@@ -165,11 +140,6 @@ const CLOSING: &[Row] = &[
     Row::Takes(1, DRAINED),
     Row::Takes(2, DRAINED),
 ];
-
-#[test]
-fn close_answers_each_receiver(rt: HostRuntime) -> Result<(), Fail> {
-    tell(&rt, rt.alloc(), (3, 10), CLOSING, 4)
-}
 
 // The call that is cancelled is answered by that alone, and its process makes its next step.
 const CANCELLING: &[Row] = &[
@@ -183,11 +153,6 @@ const CANCELLING: &[Row] = &[
     Row::Asks(1, Ask::Recv, PARKED),
 ];
 
-#[test]
-fn cancelled_call_finds_its_answer(rt: HostRuntime) -> Result<(), Fail> {
-    tell(&rt, rt.alloc(), (2, 10), CANCELLING, 5)
-}
-
 const REFUSING: &[Row] = &[
     Row::Asks(0, Ask::Make(0), MADE),
     Row::Asks(1, Ask::Recv, PARKED),
@@ -198,11 +163,6 @@ const REFUSING: &[Row] = &[
     Row::Takes(1, Told::Got(9)),
 ];
 
-#[test]
-fn refusal_leaves_what_waits(rt: HostRuntime) -> Result<(), Fail> {
-    tell(&rt, rt.alloc(), (3, 3), REFUSING, 3)
-}
-
 // The caller's next step, here an exit from a full journal, drops what waited for it.
 const DROPPING: &[Row] = &[
     Row::Asks(0, Ask::Make(0), MADE),
@@ -212,8 +172,3 @@ const DROPPING: &[Row] = &[
     Row::FindsNone(1),
     Row::Asks(1, Ask::Exit, Told::Refused(Fault::Gone)),
 ];
-
-#[test]
-fn next_step_drops_what_waits(rt: HostRuntime) -> Result<(), Fail> {
-    tell(&rt, rt.alloc(), (2, 3), DROPPING, 4)
-}

@@ -3,8 +3,6 @@
 ghost use Rattle.std.specs.Prelude.{◌≡◌};
 
 use super::rows::Act;
-use super::stories::{Story, tell, tell_often};
-use super::tasks::Crew;
 use super::{Ask, DONE, DRAINED, MADE, ONE_WAITS, SENT, SHUT, STALLED, Told, UNUSED, compare};
 use crate::compare::same;
 use hub_base::{Counts, Edition, Event, Fault, Outcome, Pid, Port, Value, What};
@@ -12,7 +10,6 @@ use hub_core::OpenFault;
 use hub_live::{Blank, Chan, Held, HubName, LiveHub, Seat, mark_of};
 use std::process::Abort;
 use std::sync::Wait;
-use std::test::Fail;
 
 /// One value was sent and received, and the port is closed.
 const USED_UP: Counts = Counts {
@@ -41,18 +38,6 @@ fn openings_are_refused(rt: HostRuntime) {
     }
 }
 
-#[test]
-fn look_shows_a_drained_port(rt: HostRuntime) -> Result<(), Fail> {
-    let story = Story {
-        procs: 1,
-        limit: 10,
-        rows: &[],
-        crew: Crew::Plain,
-        entries: Some(7),
-    };
-    tell(&rt, &story)
-}
-
 /// A value goes through a channel that is then closed, and drained, by a seat whose hub no type says. It is not given
 /// back.
 pub(super) fn drain_plainly<K: HubName, R: AllocGlobal + Wait + Abort>(
@@ -74,12 +59,13 @@ fn drain<K: HubName, R: Wait + Abort>(rt: &R, hub: &LiveHub<K>, seat: &mut Seat)
     let chan = Ok(Chan::of(Port(1)));
     same(rt, hub.make_chan(rt, seat, 2), chan, "channel");
     for (place, (asked, told)) in DRAINING.iter().enumerate() {
-        compare(rt, ask(rt, hub, seat, *asked), Pid(0), *told, place);
+        let answer = ask(rt, hub, seat, *asked);
+        compare(rt, answer, Pid(0), *told, ("draining", place));
     }
     same(rt, hub.look(seat, Port(1)), Some(USED_UP), "look");
     let refused = Err(Fault::BadCap);
     same(rt, hub.make_chan(rt, seat, 1025), refused, "capacity");
-    compare(rt, hub.exit(rt, seat), Pid(0), DONE, 0);
+    compare(rt, hub.exit(rt, seat), Pid(0), DONE, "exit");
 }
 
 const DRAINING: [(Ask, Told); 4] = [
@@ -115,7 +101,7 @@ const RECEIVED: Counts = Counts {
     closed: false,
 };
 
-const LOOKING: &[(u8, Act)] = &[
+pub(super) const LOOKING: &[(u8, Act)] = &[
     (0, Act::Sees(1, None)),
     (0, Act::Asks(Ask::Make(1), MADE)),
     (0, Act::Asks(Ask::Send(4), SENT)),
@@ -127,20 +113,7 @@ const LOOKING: &[(u8, Act)] = &[
     (1, Act::Sees(65, None)),
 ];
 
-// A seat that sent looks; a second seat that received the value looks at no less.
-#[test]
-fn looks_show_what_the_seat_knows(rt: HostRuntime) -> Result<(), Fail> {
-    let story = Story {
-        procs: 2,
-        limit: 100,
-        rows: LOOKING,
-        crew: Crew::None,
-        entries: Some(3),
-    };
-    tell(&rt, &story)
-}
-
-const MEETING: &[(u8, Act)] = &[
+pub(super) const MEETING: &[(u8, Act)] = &[
     (0, Act::Makes(0, Ok(1))),
     (1, Act::Sees(1, Some(UNUSED))),
     (0, Act::Asks(Ask::Close, DONE)),
@@ -152,20 +125,7 @@ const MEETING: &[(u8, Act)] = &[
     ),
 ];
 
-// A close is seen after a meeting, and a second close is told so.
-#[test]
-fn meeting_shows_a_close(rt: HostRuntime) -> Result<(), Fail> {
-    let story = Story {
-        procs: 2,
-        limit: 100,
-        rows: MEETING,
-        crew: Crew::None,
-        entries: Some(3),
-    };
-    tell_often(&rt, &story)
-}
-
-const STALLING: &[(u8, Act)] = &[
+pub(super) const STALLING: &[(u8, Act)] = &[
     (0, Act::Asks(Ask::RecvNil, STALLED)),
     (0, Act::Asks(Ask::RecvNil, STALLED)),
     (
@@ -177,42 +137,10 @@ const STALLING: &[(u8, Act)] = &[
     (0, Act::Asks(Ask::Exit, Told::Refused(Fault::Gone))),
 ];
 
-// The only process waits for ever: its own step tells it so. Then the journal is full, and it exits.
-#[test]
-fn lone_process_stalls(rt: HostRuntime) -> Result<(), Fail> {
-    let story = Story {
-        procs: 1,
-        limit: 2,
-        rows: STALLING,
-        crew: Crew::None,
-        entries: Some(3),
-    };
-    tell(&rt, &story)
-}
-
-const SELECTING: &[(u8, Act)] = &[
+pub(super) const SELECTING: &[(u8, Act)] = &[
     (0, Act::Makes(0, Ok(1))),
     (0, Act::Makes(1, Ok(2))),
-    (
-        0,
-        Act::Selects(Told::Is(What::Fired {
-            case: 1,
-            outcome: Outcome::Sent,
-        })),
-    ),
+    (0, Act::Selects(Told::Fired(1, Outcome::Sent))),
     (0, Act::Selects(Told::Is(What::Default))),
     (0, Act::Asks(Ask::Exit, DONE)),
 ];
-
-// The select of two cases and a default: the case that can proceed is taken, then the default.
-#[test]
-fn select_takes_its_default(rt: HostRuntime) -> Result<(), Fail> {
-    let story = Story {
-        procs: 1,
-        limit: 100,
-        rows: SELECTING,
-        crew: Crew::None,
-        entries: Some(5),
-    };
-    tell(&rt, &story)
-}

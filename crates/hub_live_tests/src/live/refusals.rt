@@ -2,11 +2,11 @@
 //! their allocations refused that comes after `begin`.
 
 use super::rows::{Act, ask};
-use super::stories::{Story, tell};
+use super::stories::tell_row;
 use super::tasks::Crew;
 use super::{Ask, DONE, MADE, ONE_WAITS, SENT, Told, compare};
 use crate::compare::same;
-use hub_base::{Edition, Event, Fault};
+use hub_base::{Edition, Fault};
 use hub_core::OpenFault;
 use hub_live::{Blank, Held, HubName, LiveHub};
 use std::alloc::Global;
@@ -39,14 +39,8 @@ fn opening_is_whole_or_refused(rt: HostRuntime) {
 // A step that was refused memory left no entry, and is answered where it is made again.
 #[test]
 fn refused_step_is_made_again(rt: HostRuntime) -> Result<(), Fail> {
-    let story = Story {
-        procs: 1,
-        limit: 100,
-        rows: &[(0, Act::Begins), (0, Act::PassesAgain)],
-        crew: Crew::None,
-        entries: Some(41),
-    };
-    tell(&rt, &story)
+    let rows = &[(0, Act::Begins), (0, Act::PassesAgain)];
+    tell_row(&rt, &("again", 1, (1, 100), rows, Crew::None, Some(41)))
 }
 
 /// Makes a channel and passes twenty values through it; each call is made again where memory was refused.
@@ -74,7 +68,7 @@ fn again<K: HubName, R: Wait + Abort>(
     if answer == Err(Fault::NoMemory) {
         answer = ask(rt, hub, seat, asked);
     }
-    compare(rt, answer, seat.pid(), told, 0);
+    compare(rt, answer, seat.pid(), told, "again");
 }
 
 const ENDING: &[(u8, Act)] = &[
@@ -92,12 +86,5 @@ const ENDING: &[(u8, Act)] = &[
 // Looks, meetings, exits and the end take no memory.
 #[test]
 fn last_calls_take_no_memory(rt: HostRuntime) -> Result<(), Fail> {
-    let story = Story {
-        procs: 2,
-        limit: 100,
-        rows: ENDING,
-        crew: Crew::None,
-        entries: Some(4),
-    };
-    tell(&rt, &story)
+    tell_row(&rt, &("last", 1, (2, 100), ENDING, Crew::None, Some(4)))
 }

@@ -3,6 +3,7 @@
 ghost use Rattle.std.specs.Prelude.{◌≡◌};
 
 use super::refusals::{allocate, begin, pass_again};
+use super::stories::Story;
 use super::{Ask, Told, compare};
 use crate::compare::same;
 use hub_base::{Cases, CasesExt, Counts, Edition, Event, Fault, Pid, Port, Value};
@@ -97,13 +98,16 @@ fn poll_both<K: HubName, R: Wait>(
     Ok(found.and_then(Value::as_num))
 }
 
+/// The name of a story, and the place of a row of it.
+type Place<'a> = (&'a str, usize);
+
 /// What a process does by itself.
 fn act_alone<K: HubName, R: AllocGlobal + Wait + Abort>(
     rt: &R,
     hub: &LiveHub<K>,
     seat: &mut Held<K>,
     act: Act,
-    place: usize,
+    place: Place,
 ) {
     let pid = seat.pid();
     match act {
@@ -138,7 +142,7 @@ fn act_by<K: HubName, R: AllocGlobal + Wait + Abort>(
     seats: &mut [Held<K>],
     pid: u8,
     act: Act,
-    place: usize,
+    place: Place,
 ) {
     match seats.get_mut(usize::from(pid)) {
         Some(seat) => {
@@ -149,17 +153,17 @@ fn act_by<K: HubName, R: AllocGlobal + Wait + Abort>(
     }
 }
 
-/// Does what the rows say, in order.
+/// Does what the rows of a story say, in order.
 pub(super) fn follow<K: HubName, R: AllocGlobal + Wait + Abort>(
     rt: &R,
     hub: &LiveHub<K>,
     seats: &mut [Held<K>],
-    rows: &[(u8, Act)],
+    story: &Story,
 ) {
-    for (place, (pid, act)) in rows.iter().enumerate() {
+    for (place, (pid, act)) in story.rows.iter().enumerate() {
         match *act {
             Act::Meets | Act::Shares => meet(rt, hub, seats, *act),
-            act => act_by(rt, hub, seats, *pid, act, place),
+            act => act_by(rt, hub, seats, *pid, act, (story.name, place)),
         }
     }
 }

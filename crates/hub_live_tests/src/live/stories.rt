@@ -23,7 +23,8 @@ impl<R: AllocGlobal + Threads + Wait + Abort + Sync> Runtime for R {}
 
 /// What is done with a new hub.
 #[derive(Clone, Copy)]
-pub(crate) struct Story<'a> {
+pub(super) struct Story<'a> {
+    pub name: &'a str,
     pub procs: u8,
     pub limit: u32,
     /// What is done in one thread, and by whom.
@@ -56,7 +57,7 @@ fn tell_held<K: HubName + Send + Sync, R: Runtime>(
     story: &Story,
 ) -> Result<Vec<Held<K>>, Fail> {
     let mut seats = seats;
-    follow(rt, hub, &mut seats, story.rows);
+    follow(rt, hub, &mut seats, story);
     match story.crew {
         Crew::None => Ok(seats),
         Crew::Plain => Ok(drain_plainly(rt, hub, seats)),
@@ -79,7 +80,7 @@ fn tell_named<K: HubName + Send + Sync, R: Runtime>(
     let hub = blank.named::<K>();
     let held = hold_all::<K>(rt.alloc(), seats)?;
     let held = tell_held(rt, &hub, held, story)?;
-    same(rt, hub.head(), story.head(), "head");
+    same(rt, hub.head(), story.head(), (story.name, "head"));
     let journal = if held.is_empty() {
         hub.finish(Vec::new(rt.alloc()))
     } else {
@@ -92,28 +93,50 @@ fn tell_named<K: HubName + Send + Sync, R: Runtime>(
 /// The journal has so many entries, those of its crew.
 fn compare(rt: &impl Abort, journal: &Journal, story: &Story) {
     let entries = journal.entries();
-    same(rt, journal.head(), story.head(), "head of the journal");
+    let place = (story.name, "journal");
+    same(rt, journal.head(), story.head(), place);
     if let Some(count) = story.entries {
-        same(rt, entries.len(), count, "entries");
+        same(rt, entries.len(), count, place);
     }
     match story.crew {
-        Crew::Pass => same(rt, is_passed(entries), true, "journal"),
+        Crew::Pass => same(rt, is_passed(entries), true, place),
         Crew::MakeOwn => all_make_their_own(rt, entries),
         _ => {}
     }
 }
 
 /// Opens a hub, and tells the story of it.
-pub(crate) fn tell<R: Runtime>(rt: &R, story: &Story) -> Result<(), Fail> {
+fn tell<R: Runtime>(rt: &R, story: &Story) -> Result<(), Fail> {
     let Head { edition, procs } = story.head();
     let (blank, seats) = Blank::open(rt.alloc(), procs, story.limit, edition)?;
     tell_named::<Brand, R>(rt, blank, seats, story)
 }
 
-/// The story a hundred times, each of a new hub: threads may come in any order.
-pub(super) fn tell_often<R: Runtime>(rt: &R, story: &Story) -> Result<(), Fail> {
-    for _ in 0..100u32 {
-        tell(rt, story)?;
+/// A story as a row of a table: its name; how often it is told; how many processes the hub has, and its limit; what is
+/// done in one thread, and by whom; what each process then does in a thread of its own; and how many entries the journal
+/// has in the end, where that is known.
+pub(super) type Row<'a> = (
+    &'a str,
+    u32,
+    (u8, u32),
+    &'a [(u8, Act)],
+    Crew,
+    Option<usize>,
+);
+
+/// Tells the story of a row as often as it says, each time of a new hub: threads may come in any order.
+pub(super) fn tell_row<R: Runtime>(rt: &R, row: &Row) -> Result<(), Fail> {
+    let (name, times, (procs, limit), rows, crew, entries) = *row;
+    let story = Story {
+        name,
+        procs,
+        limit,
+        rows,
+        crew,
+        entries,
+    };
+    for _ in 0..times {
+        tell(rt, &story)?;
     }
     Ok(())
 }

@@ -13,7 +13,7 @@ use std::sync::atomic::{AtomicBool, Ordering};
 use std::thread;
 
 /// What is done with the seats of a story once its rows are.
-#[derive(Clone, Copy)]
+#[derive(Clone, Copy, Debug)]
 pub(crate) enum Crew {
     /// Nothing more.
     None,
@@ -60,24 +60,25 @@ fn wait_for(begins: &AtomicBool) {
     }
 }
 
-/// Cancels the call of process 1 until that was open; then exits, so that nobody waits for ever. The last answer to a
-/// cancel.
-fn cancel_often<K: HubName, R: Wait>(
+/// Asks for the same so often, or until it is done; between two askings the processor goes to whoever wants it. The last
+/// answer.
+fn ask_often<K: HubName, R: Wait>(
     rt: &R,
     hub: &LiveHub<K>,
     seat: &mut Held<K>,
+    asked: Ask,
+    times: u32,
 ) -> Result<Event, Fault>
     ensures { seat.new.pid ≡ seat.old.pid }
 {
     let mut last = Err(Fault::NotParked);
-    for _ in 0..100_000u32 {
-        last = ask(rt, hub, seat, Ask::Cancel);
+    for _ in 0..times {
+        last = ask(rt, hub, seat, asked);
         if is_done(last) {
             break;
         }
         thread::yield_now();
     }
-    let _exit = seat.exit(rt, hub);
     last
 }
 
@@ -93,21 +94,6 @@ fn is_done(answer: Result<Event, Fault>) -> bool {
 
 /// How many values are sent, and how often each other looks.
 const TIMES: u32 = 1000;
-
-/// Makes port 1 and sends so many values on it. The last answer.
-fn send_often<K: HubName, R: Wait>(
-    rt: &R,
-    hub: &LiveHub<K>,
-    seat: &mut Held<K>,
-) -> Result<Event, Fault>
-    ensures { seat.new.pid ≡ seat.old.pid }
-{
-    let mut last = ask(rt, hub, seat, Ask::Make(1024));
-    for number in 0..TIMES {
-        last = ask(rt, hub, seat, Ask::Send(u64::from(number)));
-    }
-    last
-}
 
 /// Looks at port 1 so often. At no look fewer values were sent than at the one before.
 fn look_often<K: HubName>(rt: &impl Abort, hub: &LiveHub<K>, seat: &mut Held<K>)
@@ -150,13 +136,20 @@ impl<'a, K: HubName, R: Wait + Abort> Task<K, R> for Job<'a> {
         match (self.crew, pid) {
             (Crew::Cancel, Pid(0)) => {
                 wait_for(self.begins);
-                Some(cancel_often(rt, hub, seat))
+                // It may come before the call is open.
+                let last = ask_often(rt, hub, seat, Ask::Cancel, 100_000);
+                // So that nobody waits for ever.
+                let _exit = seat.exit(rt, hub);
+                Some(last)
             }
             (Crew::Cancel, _) => {
                 self.begins.store(true, Ordering::SeqCst);
                 Some(ask(rt, hub, seat, Ask::Recv))
             }
-            (Crew::Watch, Pid(0)) => Some(send_often(rt, hub, seat)),
+            (Crew::Watch, Pid(0)) => {
+                let _made = ask(rt, hub, seat, Ask::Make(1024));
+                Some(ask_often(rt, hub, seat, Ask::Send(7), TIMES))
+            }
             (Crew::Watch, _) => {
                 look_often(rt, hub, seat);
                 None

@@ -1,11 +1,11 @@
 //! What threads that share a hub are told, each time with a new hub.
 
 use super::rows::Act;
-use super::stories::{Runtime, Story, tell, tell_often};
+use super::stories::Runtime;
 use super::tasks::{CAPACITIES, Crew, Job};
-use super::{Ask, DONE, MADE, SENT, SHUT, STALLED, Told, UNUSED, answer};
+use super::{Ask, DONE, MADE, SENT, SHUT, STALLED, Told, UNUSED, answer, entry_of};
 use crate::compare::same;
-use hub_base::{Case, Cases, CasesExt, Counts, Entry, Event, Fault, Pid, Port, Step, Value, What};
+use hub_base::{Counts, Entry, Event, Fault, Pid, Port, Step, What};
 use hub_crew::{Member, run_crew};
 use hub_live::{Held, HubName, LiveHub};
 use std::process::Abort;
@@ -13,92 +13,13 @@ use std::sync::atomic::AtomicBool;
 use std::test::Fail;
 
 /// Process 0 makes an unbuffered port.
-const MAKE: &[(u8, Act)] = &[(0, Act::Asks(Ask::Make(0), MADE))];
-
-// A value goes from one thread to the other, whichever comes first.
-#[test]
-fn value_passes_between_threads(rt: HostRuntime) -> Result<(), Fail> {
-    let story = Story {
-        procs: 2,
-        limit: 100,
-        rows: MAKE,
-        crew: Crew::Pass,
-        entries: Some(3),
-    };
-    tell_often(&rt, &story)
-}
-
-// Both wait for ever, and the step of the second tells both.
-#[test]
-fn two_processes_stall(rt: HostRuntime) -> Result<(), Fail> {
-    let story = Story {
-        procs: 2,
-        limit: 100,
-        rows: &[],
-        crew: Crew::Stall,
-        entries: Some(2),
-    };
-    tell_often(&rt, &story)
-}
-
-// Process 1 waits for a value that never comes, until its call is cancelled. Most of the cancels may come too early.
-#[test]
-fn waiting_call_is_cancelled(rt: HostRuntime) -> Result<(), Fail> {
-    let story = Story {
-        procs: 2,
-        limit: 1_000_000,
-        rows: MAKE,
-        crew: Crew::Cancel,
-        entries: None,
-    };
-    tell(&rt, &story)
-}
+pub(super) const MAKE: &[(u8, Act)] = &[(0, Act::Asks(Ask::Make(0), MADE))];
 
 /// Process 1 sees that port 1 is open.
-const MAKE_AND_LOOK: &[(u8, Act)] = &[
+pub(super) const SEEN: &[(u8, Act)] = &[
     (0, Act::Asks(Ask::Make(0), MADE)),
     (1, Act::Sees(1, Some(UNUSED))),
 ];
-
-// A look shows what a thread did that has been joined, though its seat made no call since.
-#[test]
-fn look_shows_a_close_of_a_joined_thread(rt: HostRuntime) -> Result<(), Fail> {
-    let story = Story {
-        procs: 2,
-        limit: 100,
-        rows: MAKE_AND_LOOK,
-        crew: Crew::Close,
-        entries: Some(2),
-    };
-    tell_often(&rt, &story)
-}
-
-// One thread sends and 63 look meanwhile. The values sent never become fewer, and in the end each
-// seat finds them all.
-#[test]
-fn looks_never_fall_back(rt: HostRuntime) -> Result<(), Fail> {
-    let story = Story {
-        procs: 64,
-        limit: 10_000,
-        rows: &[],
-        crew: Crew::Watch,
-        entries: Some(1001),
-    };
-    tell(&rt, &story)
-}
-
-// A task that holds a reference: each makes a channel of its own capacity.
-#[test]
-fn each_makes_its_own_channel(rt: HostRuntime) -> Result<(), Fail> {
-    let story = Story {
-        procs: 3,
-        limit: 100,
-        rows: &[],
-        crew: Crew::MakeOwn,
-        entries: Some(3),
-    };
-    tell(&rt, &story)
-}
 
 /// Each process does its part in a thread of its own, and is told what it should be. The seats.
 pub(super) fn in_threads<K: HubName + Send + Sync, R: Runtime>(
@@ -133,11 +54,11 @@ fn compare<K: HubName>(
     let pid = seat.pid();
     match crew {
         // Whose channel is which depends on the order of the threads.
-        Crew::MakeOwn => same(rt, is_made(report), true, pid),
-        _ => same(rt, report, told_by(crew, pid), pid),
+        Crew::MakeOwn => same(rt, is_made(report), true, (crew, pid)),
+        _ => same(rt, report, told_by(crew, pid), (crew, pid)),
     }
     if let Some(counts) = seen_by(crew, pid) {
-        same(rt, seat.look(hub, Port(1)), Some(counts), pid);
+        same(rt, seat.look(hub, Port(1)), Some(counts), (crew, pid));
     }
 }
 
@@ -181,28 +102,11 @@ fn seen_by(crew: Crew, pid: Pid) -> Option<Counts> {
     }
 }
 
-fn entry(pid: u8, step: Step) -> Entry {
-    Entry {
-        pid: Pid(pid),
-        step,
-    }
-}
-
-/// A call of one case.
-fn call(pid: u8, case: Case) -> Entry {
-    let step = Step::Call {
-        cases: Cases::one(case),
-        default: false,
-        word: 0,
-    };
-    entry(pid, step)
-}
-
 /// The make stands first, and the two calls in either order.
 pub(super) fn is_passed(entries: &[Entry]) -> bool {
-    let make = entry(0, Step::Make(0));
-    let send = call(0, Case::Send(Port(1), Value::num(9)));
-    let recv = call(1, Case::Recv(Port(1)));
+    let make = entry_of(0, Ask::Make(0));
+    let send = entry_of(0, Ask::Send(9));
+    let recv = entry_of(1, Ask::Recv);
     match entries {
         [first, second, third] => {
             *first == make

@@ -31,6 +31,8 @@ pub(crate) enum Ask {
 #[derive(Clone, Copy)]
 pub(crate) enum Told {
     Is(What),
+    /// This case of its call came to this.
+    Fired(u8, Outcome),
     /// This case of its call received this number.
     Got(u8, u64),
 }
@@ -68,6 +70,7 @@ pub(crate) fn entry_of(pid: u8, asked: Ask) -> Entry {
 pub(crate) fn event_of(pid: u8, told: Told) -> Event {
     let what = match told {
         Told::Is(what) => what,
+        Told::Fired(case, outcome) => What::Fired { case, outcome },
         Told::Got(case, number) => What::Fired {
             case,
             outcome: Outcome::Got(Value::num(number)),
@@ -83,10 +86,7 @@ pub(crate) const MADE: Told = Told::Is(What::Made(Port(1)));
 
 pub(crate) const MADE_SECOND: Told = Told::Is(What::Made(Port(2)));
 
-pub(crate) const SENT: Told = Told::Is(What::Fired {
-    case: 0,
-    outcome: Outcome::Sent,
-});
+pub(crate) const SENT: Told = Told::Fired(0, Outcome::Sent);
 
 pub(crate) const DONE: Told = Told::Is(What::Done);
 

@@ -36,15 +36,9 @@ const USED: Look = Look {
     },
 };
 
-const DRAINED: Told = Told::Is(What::Fired {
-    case: 0,
-    outcome: Outcome::Drained,
-});
+const DRAINED: Told = Told::Fired(0, Outcome::Drained);
 
-const CLOSED: Told = Told::Is(What::Fired {
-    case: 0,
-    outcome: Outcome::Closed,
-});
+const CLOSED: Told = Told::Fired(0, Outcome::Closed);
 
 const CLOSED_BEFORE: Told = Told::Is(What::Fault(Fault::AlreadyClosed));
 

@@ -2,6 +2,7 @@
 
 use crate::compare::{has_text, same};
 use hub_base::{Case, Cases, Edition, Fault, Kind, Port, Value, copy_cases};
+use std::alloc::Global;
 use std::process::Abort;
 use std::test::Fail;
 
@@ -61,42 +62,59 @@ fn cases_are_copied_in_order(rt: HostRuntime) {
     );
 }
 
-const FAULTS: &[(Fault, u8, &str)] = &[
-    (Fault::NoProcess, 1, "no such process"),
-    (Fault::Gone, 2, "the process has exited"),
-    (Fault::Busy, 3, "the process has an open call"),
-    (Fault::TooManyCases, 4, "too many cases"),
-    (Fault::NoPort, 5, "no such port"),
-    (Fault::BadCap, 6, "the capacity is too large"),
-    (Fault::TooManyPorts, 7, "too many ports"),
-    (Fault::NilClose, 8, "close of the nil port"),
-    (Fault::AlreadyClosed, 9, "close of a closed port"),
-    (Fault::JournalFull, 10, "the journal is full"),
-    (Fault::NoMemory, 11, "out of memory"),
-    (Fault::NotParked, 12, "no open call"),
+/// What has a number and a text.
+#[derive(Clone, Copy)]
+enum Bad {
+    /// A step that has no effect.
+    Step(Fault),
+    /// A line of a journal that is not read.
+    Line(Kind),
+}
+
+const BAD: &[(Bad, u8, &str)] = &[
+    (Bad::Step(Fault::NoProcess), 1, "no such process"),
+    (Bad::Step(Fault::Gone), 2, "the process has exited"),
+    (Bad::Step(Fault::Busy), 3, "the process has an open call"),
+    (Bad::Step(Fault::TooManyCases), 4, "too many cases"),
+    (Bad::Step(Fault::NoPort), 5, "no such port"),
+    (Bad::Step(Fault::BadCap), 6, "the capacity is too large"),
+    (Bad::Step(Fault::TooManyPorts), 7, "too many ports"),
+    (Bad::Step(Fault::NilClose), 8, "close of the nil port"),
+    (Bad::Step(Fault::AlreadyClosed), 9, "close of a closed port"),
+    (Bad::Step(Fault::JournalFull), 10, "the journal is full"),
+    (Bad::Step(Fault::NoMemory), 11, "out of memory"),
+    (Bad::Step(Fault::NotParked), 12, "no open call"),
+    (Bad::Line(Kind::BadHeader), 1, "bad header"),
+    (Bad::Line(Kind::BadProcs), 2, "bad procs"),
+    (Bad::Line(Kind::BadStep), 3, "bad step"),
+    (Bad::Line(Kind::BadNumber), 4, "bad number"),
+    (Bad::Line(Kind::CutLine), 5, "cut line"),
+    (Bad::Line(Kind::TooLong), 6, "too long"),
 ];
 
 #[test]
-fn faults_have_numbers_and_texts(rt: HostRuntime) -> Result<(), Fail> {
-    for (fault, number, text) in FAULTS {
-        same(&rt, fault.number(), *number, *fault);
-        has_text(&rt, rt.alloc(), *fault, text)?;
+fn what_is_wrong_has_its_number_and_text(rt: HostRuntime) -> Result<(), Fail> {
+    for (bad, number, text) in BAD {
+        is_told_so(&rt, rt.alloc(), *bad, *number, text)?;
     }
     Ok(())
 }
 
-const KINDS: &[(Kind, u8, &str)] = &[
-    (Kind::BadHeader, 1, "bad header"),
-    (Kind::BadProcs, 2, "bad procs"),
-    (Kind::BadStep, 3, "bad step"),
-    (Kind::BadNumber, 4, "bad number"),
-    (Kind::CutLine, 5, "cut line"),
-    (Kind::TooLong, 6, "too long"),
-];
-
-#[test]
-fn kinds_have_numbers_and_texts(rt: HostRuntime) {
-    for (kind, number, text) in KINDS {
-        same(&rt, (kind.number(), kind.text()), (*number, *text), text);
+fn is_told_so(
+    rt: &impl Abort,
+    alloc: Global,
+    bad: Bad,
+    number: u8,
+    text: &str,
+) -> Result<(), Fail> {
+    match bad {
+        Bad::Step(fault) => {
+            same(rt, fault.number(), number, text);
+            has_text(rt, alloc, fault, text)
+        }
+        Bad::Line(kind) => {
+            same(rt, (kind.number(), kind.text()), (number, text), text);
+            Ok(())
+        }
     }
 }

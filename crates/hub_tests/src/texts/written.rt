@@ -89,8 +89,8 @@ const LINES: &[(u8, Told, &str)] = &[
         Told::Got(255, 18446744073709551615),
         "2 case 255 got 18446744073709551615\n",
     ),
-    (63, DRAINED_FIRST, "63 case 1 drained\n"),
-    (64, CLOSED_SECOND, "64 case 2 closed\n"),
+    (63, Told::Fired(1, Outcome::Drained), "63 case 1 drained\n"),
+    (64, Told::Fired(2, Outcome::Closed), "64 case 2 closed\n"),
     (10, Told::Is(What::Default), "10 default\n"),
     (20, Told::Is(What::Done), "20 done\n"),
     (30, Told::Is(What::Parked), "30 parked\n"),
@@ -100,16 +100,6 @@ const LINES: &[(u8, Told, &str)] = &[
     (70, Told::Is(What::Fault(Fault::NotParked)), "70 fault 12\n"),
     (80, Told::Is(What::Cancelled), "80 cancelled\n"),
 ];
-
-const DRAINED_FIRST: Told = Told::Is(What::Fired {
-    case: 1,
-    outcome: Outcome::Drained,
-});
-
-const CLOSED_SECOND: Told = Told::Is(What::Fired {
-    case: 2,
-    outcome: Outcome::Closed,
-});
 
 #[test]
 fn each_event_has_its_line(rt: HostRuntime) -> Result<(), Fail> {

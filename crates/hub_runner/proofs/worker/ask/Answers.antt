@@ -10,26 +10,28 @@ use Rattle.hub_runner.proofs.worker.ask.Goals as goal
 
 pub returns-in-Send-clause-ok : goal.returns-in-Send-clause-ok
 returns-in-Send-clause-ok g c =
-    made_ok c.args.seat.now c.send.new.self (call (case.Send c.sender.result c.in-Send.value ∷ []) false 0) (asks c.args.step.now c.args.word) c.send.result
+    made_ok c.args.seat.now c.send.new.self (call (case.Send c.sender.result c.in-Send.value ∷ []) false 0)
+    (asks c.args.turn.step.now c.args.turn.word) c.send.result
     (ap (λ (p : Port). call (case.Send p c.in-Send.value ∷ []) false 0) (c.sender.ensures ∙ c.of.ensures)
-    ∙ ap (λ (s : ScriptStep). asks s c.args.word) (sym c.in-Send.is))
+    ∙ ap (λ (s : ScriptStep). asks s c.args.turn.word) (sym c.in-Send.is))
     c.pid-pid.ensures.idle.free c.send.ensures.later c.send.ensures.ok
 
 pub returns-in-Select-clause-ok : goal.returns-in-Select-clause-ok
 returns-in-Select-clause-ok g c =
-    made_ok c.args.seat.now c.call.new.self (step.Call c.copy_cases.result c.in-Select.default c.args.word) (asks c.args.step.now c.args.word) c.call.result
-    ((λ i. step.Call (c.copy_cases.ensures i) c.in-Select.default c.args.word) ∙ ap (λ (s : ScriptStep). asks s c.args.word) (sym c.in-Select.is))
+    made_ok c.args.seat.now c.call.new.self (step.Call c.copy_cases.result c.in-Select.default c.args.turn.word)
+    (asks c.args.turn.step.now c.args.turn.word) c.call.result
+    ((λ i. step.Call (c.copy_cases.ensures i) c.in-Select.default c.args.turn.word) ∙ ap (λ (s : ScriptStep). asks s c.args.turn.word) (sym c.in-Select.is))
     c.pid-pid.ensures.idle.free c.call.ensures.later c.call.ensures.ok
 
 pub returns-in-Close-clause-ok : goal.returns-in-Close-clause-ok
 returns-in-Close-clause-ok g c =
-    made_ok c.args.seat.now c.close.new.self (step.Close c.sender-in-Close.result) (asks c.args.step.now c.args.word) c.close.result
-    (ap step.Close (c.sender-in-Close.ensures ∙ c.of-in-Close.ensures) ∙ ap (λ (s : ScriptStep). asks s c.args.word) (sym c.in-Close.is))
+    made_ok c.args.seat.now c.close.new.self (step.Close c.sender-in-Close.result) (asks c.args.turn.step.now c.args.turn.word) c.close.result
+    (ap step.Close (c.sender-in-Close.ensures ∙ c.of-in-Close.ensures) ∙ ap (λ (s : ScriptStep). asks s c.args.turn.word) (sym c.in-Close.is))
     c.pid-pid.ensures.idle.free c.close.ensures.later c.close.ensures.ok
 
 pub returns-in-Recv-clause-ok : goal.returns-in-Recv-clause-ok
 returns-in-Recv-clause-ok g c =
-    made_ok c.args.seat.now c.recv.new.self (call (case.Recv c.receiver.result ∷ []) false 0) (asks c.args.step.now c.args.word) c.recv.result
+    made_ok c.args.seat.now c.recv.new.self (call (case.Recv c.receiver.result ∷ []) false 0) (asks c.args.turn.step.now c.args.turn.word) c.recv.result
     (ap (λ (p : Port). call (case.Recv p ∷ []) false 0) (c.receiver.ensures ∙ c.of-in-Recv.ensures)
-    ∙ recv_asks c.args.step.now c.in-Recv.port c.args.word c.in-Recv.is)
+    ∙ recv_asks c.args.turn.step.now c.in-Recv.port c.args.turn.word c.in-Recv.is)
     c.pid-pid.ensures.idle.free c.recv.ensures.later c.recv.ensures.ok

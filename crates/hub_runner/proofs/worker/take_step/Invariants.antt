@@ -8,5 +8,5 @@ abbrev pub invariant-loop : goal.invariant-loop
 invariant-loop g l =
     (goal.iterator-loop g).can_next l.iterator' × (goal.iterator-loop g).is_finite l.iterator'
     × Onward l.initial.seat l.seat
-    × ((words : ℕ → ℕ) (rest : List ScriptStep) (j : ℕ) → asks l.step l.word ≡ asks l.step (words j)
-    → Leads (asked_of l.initial.seat) (asked_of l.seat) words (l.step ∷ rest) j (l.step ∷ rest) j)
+    × ((words : ℕ → ℕ) (rest : List ScriptStep) (j : ℕ) → asks l.turn.step.now l.turn.word ≡ asks l.turn.step.now (words j)
+    → Leads (asked_of l.initial.seat) (asked_of l.seat) words (l.turn.step.now ∷ rest) j (l.turn.step.now ∷ rest) j)

@@ -13,7 +13,7 @@ loop-value-preserved c =
     let all = c.args.steps.now.items in
     let v = c.value-item.result in
     let rest = items_view (drop (k + 1) all) in
-    let pushed : c.push.new.self.items ≡ done ++ c.in-Some.read ∷ [] = search rules in
+    let pushed : c.push.new.list.items ≡ done ++ c.in-Some.read ∷ [] = search rules in
     let cut = cut_at all c.deref-value-items.result.now k v c.deref-value-items.ensures.value c.loop-value-test.true c.value-item.is in
     let said = step-within c.args.edition i (view v) (omega arith) ∙ sym c.step_in.ensures ∙ c.in-Some.is in
     record {

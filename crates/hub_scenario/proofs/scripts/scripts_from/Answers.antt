@@ -18,7 +18,7 @@ loop-steps-preserved c =
     let all = c.args.processes.now in
     let script = c.in_ok-script.script in
     let rest = map seen (drop (i + 1) all) in
-    let pushed : c.push.new.self.items ≡ done ++ script ∷ [] = search rules in
+    let pushed : c.push.new.list.items ≡ done ++ script ∷ [] = search rules in
     let cut : drop i all ≡ c.steps-item.result ∷ drop (i + 1) all =
     drop_more all i c.steps-item.result c.loop-steps-test.true ∙ ap (λ x. x ∷ drop (i + 1) all) (sym c.steps-item.is) in
     record {

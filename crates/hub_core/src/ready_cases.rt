@@ -37,9 +37,7 @@ pub(crate) fn find_ready(board: &Board, cases: &[Case], ready: &mut [u8; CASE_PL
     let mut count = 0;
     for (i, case) in cases.iter().enumerate() {
         ready[count] = i as u8;
-        if can_proceed(board, case) {
-            count += 1;
-        }
+        count += usize::from(can_proceed(board, case));
     }
     count
 }

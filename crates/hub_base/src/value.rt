@@ -30,9 +30,16 @@ impl Value {
         ensures says { content result ≡ Num number }
         ensures fits { (edition : Edition) → has_value edition result ≡ true }
     {
-        let mut bytes = [0; MOST_VALUE_BYTES];
-        bytes[..8].copy_from_slice(&number.to_le_bytes());
-        Value { form: 0, bytes }
+        // Written out, the bytes are a few stores to where the value goes. A copy into an array would be moved there, and
+        // the processor would wait for it.
+        let b = number.to_le_bytes();
+        Value {
+            form: 0,
+            bytes: [
+                b[0], b[1], b[2], b[3], b[4], b[5], b[6], b[7], 0, 0, 0, 0, 0, 0, 0, 0, 0, 0, 0, 0,
+                0, 0, 0, 0, 0, 0, 0, 0, 0, 0, 0, 0,
+            ],
+        }
     }
 
     /// The value that is these bytes; `None` where they are more than `MOST_VALUE_BYTES`.

@@ -1,46 +1,43 @@
 //! Which cases of a call can proceed.
 //! Go: "Send statements", "Receive operator", "Select statements".
 
-ghost use Rattle.std.specs.Prelude.{◌≡◌, ◌≤◌, [], length, map};
+ghost use Rattle.std.specs.Prelude.{◌≡◌, ◌≤◌, length, map, take};
 ghost use Rattle.hub_parts.specs.Keeps.{AllMade};
 ghost use Rattle.hub_core.specs.ListReady.{can_on, ready_on, number_of};
 ghost use Rattle.hub_core.specs.ListKeeps.{IsNamed};
 
-use arrayvec::ArrayVec;
 use hub_base::{CASE_PLACES, Case};
 use hub_parts::{Board, Side};
 
-/// Whether a case can proceed. Each question is asked, which costs less than a branch on the one before.
+/// Whether a case can proceed. Each question is asked, also those of the other side, which costs less than a branch.
 #[inline]
-pub(crate) fn can_proceed(board: &Board, case: Case) -> bool
-    requires { IsNamed board.now case }
-    ensures { result ≡ can_on board.now case }
+pub(crate) fn can_proceed(board: &Board, case: &Case) -> bool
+    requires { IsNamed board.now case.now }
+    ensures { result ≡ can_on board.now case.now }
 {
-    match case {
-        Case::Send(port, _value) => {
-            port.0 != 0
-                && (board.closed(port)
-                    | board.waiting(port, Side::Recv)
-                    | (board.len(port) < board.cap(port) as usize))
-        }
-        Case::Recv(port) => {
-            port.0 != 0
-                && (board.waiting(port, Side::Send) | (board.len(port) > 0) | board.closed(port))
-        }
+    let port = case.port();
+    if port.0 == 0 {
+        return false;
     }
+    let sends = matches!(case, Case::Send(_, _));
+    let len = board.len(port);
+    let can_send = board.waiting(port, Side::Recv) | (len < board.cap(port) as usize);
+    let can_recv = board.waiting(port, Side::Send) | (len > 0);
+    board.closed(port) | (sends & can_send) | (!sends & can_recv)
 }
 
-/// Adds the numbers of the cases that can proceed, in order. The list that it adds to is not moved, since it
-/// is read at once.
-pub(crate) fn find_ready(board: &Board, cases: &[Case], ready: &mut ArrayVec<u8, CASE_PLACES>)
+/// Puts the numbers of the cases that can proceed, in order, and tells how many they are. Each case puts its number,
+/// and only one that can proceed counts it, which leaves no branch.
+pub(crate) fn find_ready(board: &Board, cases: &[Case], ready: &mut [u8; CASE_PLACES]) -> usize
     requires few { length cases.now ≤ CASE_PLACES }
     requires named { AllMade (length board.now.ports) cases.now }
-    requires empty { ready.old.items ≡ [] }
-    ensures { ready.new.items ≡ map number_of (ready_on board.now cases.now) }
+    ensures numbers { take result ready.new ≡ map number_of (ready_on board.now cases.now) }
+    ensures few { result ≤ CASE_PLACES }
 {
+    let mut count = 0;
     for (i, case) in cases.iter().enumerate() {
-        if can_proceed(board, *case) {
-            ready.push(i as u8);
-        }
+        ready[count] = i as u8;
+        count += usize::from(can_proceed(board, case));
     }
+    count
 }

@@ -11,7 +11,6 @@ ghost use Rattle.hub_core.specs.Hearing.{Heard};
 ghost use Rattle.hub_core.specs.ListSteps.{wait_on, told_to_wait, open_on, placed};
 
 use crate::ready_cases::{can_proceed, find_ready};
-use arrayvec::ArrayVec;
 use hub_base::{CASE_PLACES, Case, Cases, Event, Hears, Pid, What};
 use hub_parts::Board;
 
@@ -43,7 +42,7 @@ fn choose_only<'a>(board: &Board, case: &'a Case) -> Option<Chosen<'a>>
     ensures case { IfSome result (λ chosen. chosen.case.now ≡ case.now) }
     ensures can { IfSome result (λ chosen. can_on board.now chosen.case.now ≡ true) }
 {
-    if can_proceed(board, *case) {
+    if can_proceed(board, case) {
         Some(Chosen { index: 0, case })
     } else {
         None
@@ -62,9 +61,9 @@ pub(crate) fn choose<'a>(board: &Board, cases: &'a [Case], word: u64) -> Option<
     if cases.len() == 1 {
         return choose_only(board, &cases[0]);
     }
-    let mut ready = ArrayVec::new();
-    find_ready(board, cases, &mut ready);
-    let index = nth_ready(ready.as_slice(), word)?;
+    let mut ready = [0; CASE_PLACES];
+    let count = find_ready(board, cases, &mut ready);
+    let index = nth_ready(&ready[..count], word)?;
     Some(Chosen {
         index,
         case: &cases[index as usize],

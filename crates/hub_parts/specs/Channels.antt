@@ -11,15 +11,9 @@ use Rattle.hub_parts.specs.Records.{Ticketed, ChannelLists}
 use Rattle.hub_parts.specs.Queues.{lives, is_before, taken}
 use Rattle.hub_parts.specs.Lists.{no_port, new_port}
 
--- what is buffered; a channel of capacity 0 has no ring
-abbrev pub ring_items : Option (Buffer Value) → List Value
-ring_items None = []
-ring_items (Some r) = r.items
-
--- a ring has the channel's capacity, and holds no more values
-abbrev pub RingFits : ℕ → Option (Buffer Value) → Type 0
-RingFits cap None = cap ≡ 0
-RingFits cap (Some r) = (r.capacity ≡ cap) × (length r.items ≤ cap)
+-- the ring has the channel's capacity, and holds no more values
+abbrev pub RingFits : ℕ → Buffer Value → Type 0
+RingFits cap r = (r.capacity ≡ cap) × (length r.items ≤ cap)
 
 -- which queue has the older of two first entries, where there is one
 abbrev pub older : Option Waiter → Option Waiter → Side

@@ -31,7 +31,6 @@ impl Model for Ring {
 impl Ring {
     /// An empty ring. It takes the memory for all of its values.
     pub fn new(alloc: Global, cap: u32) -> Result<Ring, AllocError>
-        requires { 1 ≤ cap }
         ensures { IfOk result (λ r. r ≡ buffer [] cap) }
     {
         Ok(Ring {

@@ -1,4 +1,4 @@
-use Rattle.std.proofs.Common.{◌≡◌, ◌∙◌, ap, sym, subst, Some, true, arith}
+use Rattle.std.proofs.Common.{◌≡◌, ◌∙◌, ap, sym, subst, Some, true, take, arith}
 use Rattle.std.proofs.lemmas.Grind.{common_steps}
 use Rattle.std.proofs.lemmas.Option.{slice_get_within, get_or_from_slice_get}
 use Rattle.hub_base.specs.declared.case.Case.{Case}
@@ -8,14 +8,14 @@ use Rattle.hub_core.proofs.select.choose.Goals as goal
 
 pub bounds-cases-index : goal.bounds-cases-index
 bounds-cases-index c =
-    let found = chosen_at c.args.board.now c.args.cases.now c.args.word c.in_ok-index.index c.as_slice.result.now
-    (c.as_slice.ensures.value ∙ c.find_ready.ensures) c.in_ok-index.ensures in
+    let found = chosen_at c.args.board.now c.args.cases.now c.args.word c.in_ok-index.index
+    (take c.find_ready-count.result c.find_ready-count.new.ready) c.find_ready-count.ensures.numbers c.in_ok-index.ensures in
     slice_get_within c.args.cases.now c.in_ok-index.index found.case found.stands
 
 pub returns : goal.returns
 returns c =
-    let found = chosen_at c.args.board.now c.args.cases.now c.args.word c.in_ok-index.index c.as_slice.result.now
-    (c.as_slice.ensures.value ∙ c.find_ready.ensures) c.in_ok-index.ensures in
+    let found = chosen_at c.args.board.now c.args.cases.now c.args.word c.in_ok-index.index
+    (take c.find_ready-count.result c.find_ready-count.new.ready) c.find_ready-count.ensures.numbers c.in_ok-index.ensures in
     let read = get_or_from_slice_get c.args.cases.now c.in_ok-index.index found.case _ found.stands in
     record {
       chosen = ap (λ (k : Case). Some (c.in_ok-index.index, k)) read ∙ sym found.is;

@@ -15,6 +15,7 @@ ghost use Rattle.hub_core.specs.Looks.{look_at, value_at};
 ghost use Rattle.hub_core.specs.HubView.{HubInMemory, Steps, StepRules, Grows, RefusesOpening, call_of, opened_hub, places_after, state_of, terms_of, IsLimit};
 ghost use Rattle.hub_core.specs.HubKeeps.{count_after, IsSuch, Takes};
 
+use crate::machine::empty;
 use crate::{Machine, OpenFault, Terms};
 use hub_base::{
     Cases, Edition, Entry, Events, Fault, Head, Journal, Look, MOST_PROCS, MOST_STEPS, NoMemory,
@@ -189,7 +190,7 @@ impl Hub {
     {
         let (exit, grows) = (is_exit(&entry.step), grows(&entry.step, self.places));
         self.admit(entry.pid, exit, grows)?;
-        events.clear();
+        empty(events);
         let Ok(()) = self.machine.turn(&entry, events) else {
             return Err(Fault::NoMemory);
         };
@@ -216,7 +217,7 @@ impl Hub {
         self.admit(pid, false, self.places == 0)?;
         let place = self.entries.len();
         push_call(&mut self.entries, pid, cases, default, word);
-        events.clear();
+        empty(events);
         let Ok(()) = self.machine.turn(&self.entries[place], events) else {
             unreachable!()
         };
@@ -227,6 +228,7 @@ impl Hub {
 
     /// Looks whether the journal takes an entry of this process, an exit or not, and makes room for it where the
     /// journal may have to grow. The tests stand in the order of the refusals.
+    #[inline(always)]
     fn admit(&mut self, pid: Pid, exit: bool, grows: bool) -> Result<(), Fault>
         ensures same { self.new.hub ≡ self.old.hub }
         ensures ok { OnOk result ((e : Entry) → IsSuch self.old.hub pid exit grows e → Takes self.new e) }

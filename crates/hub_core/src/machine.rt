@@ -36,7 +36,7 @@ impl Model for Machine {
 
 /// Takes the events away one by one. They are few, and to clear the list would cost more.
 #[inline]
-fn empty(events: &mut Events)
+pub(crate) fn empty(events: &mut Events)
     ensures { events.new.items ≡ [] }
 {
     while let Some(_event) = events.pop() {}

@@ -1,13 +1,10 @@
 -- What contracts see of a locked hub: a hub, and for each process an answer that may wait to be picked
 -- up. Where a step ends the call of another process, the answer waits until that process takes it.
-use Rattle.std.specs.Prelude.{◌≡◌, ◌<◌, ◌==◌, ℕ, nat_lt, Bool, false, List, [], ◌∷◌, length, map, replicate, filter}
-use Rattle.std.specs.Option.{option_map_or}
+use Rattle.std.specs.Prelude.{◌≡◌, ◌<◌, ◌==◌, ℕ, false, List, [], ◌∷◌, length, map, replicate, filter}
 use Rattle.std.specs.Prelude.{Option, None, Some, IfSome, slice_index_or, slice_set, if◌then◌else◌}
 use Rattle.std.specs.Prelude.{Result, IfOk, IfErr, OnOk, OnErr}
 use Rattle.hub_base.specs.declared.head.Head.{Head}
 use Rattle.hub_base.specs.declared.value.Pid.{Pid}
-use Rattle.hub_base.specs.declared.value.Port.{Port}
-use Rattle.hub_base.specs.State.{State, channel_at}
 use Rattle.hub_base.specs.declared.entry.Entry.{Entry}
 use Rattle.hub_base.specs.declared.event.Event.{Event}
 use Rattle.hub_base.specs.declared.fault.Fault.{Fault}
@@ -88,12 +85,6 @@ pub record ServesStep (old : LockedView) (e : Entry) (new : LockedView) (result 
       IsReplyTo new.hub.terms.head e.pid.0 new.hub.journal answer)
   pub refused : IfErr result (λ f. Refuses old.hub e f)
   pub unchanged : OnErr result (new ≡ old)
-
--- ---- a wait
-
--- the port is made, and has a buffer
-abbrev pub has_buffer : State → Port → Bool
-has_buffer s p = option_map_or (λ c. nat_lt 0 c.cap) (channel_at s p) false
 
 -- ---- an answer is taken
 

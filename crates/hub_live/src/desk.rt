@@ -5,9 +5,6 @@
 //! since a store is judged by what the seat that stores knows.
 
 ghost use Rattle.std.specs.Prelude.{◌≡◌, ◌≤◌, ◌<◌, ◌+◌, ◌↔◌, IsTrue, ◌++◌, ◌∷◌, [], List, length, Some, None, true, false, IfSome, IfNone, OnSome, All};
-ghost use Rattle.std.specs.List.{list_any};
-ghost use Rattle.hub_base.specs.Ready.{port_of};
-ghost use Rattle.hub_live.specs.Locked.{has_buffer};
 ghost use Rattle.hub_live.specs.Request.{step_of};
 ghost use Rattle.hub_live.specs.Prelude.{AreOf, is_of, IsPrefix, Entry, steps_of, IsLegal, number_of, port_changed_by, state_of, mark_at};
 ghost use Rattle.hub_live.specs.Prelude.{answer_for, without_answer, IsReplyTo, IsHistory, IsFree, own_of, IsDesk};
@@ -20,7 +17,7 @@ use crate::request::Request;
 use crate::rule::Token;
 use crate::seat::{InnerSeat, Seat};
 use crate::words::Words;
-use hub_base::{Case, Entry, Event, Fault, Journal, MOST_STEPS, Pid, Port, Step, What};
+use hub_base::{Entry, Event, Fault, Journal, MOST_STEPS, Pid, Port, Step, What};
 use hub_core::port_changed;
 use std::marker::{Model, PhantomData};
 
@@ -63,19 +60,6 @@ fn mark_at(locked: &Locked, port: Port) -> u64
         Some(look) => mark_of(&look.counts),
         None => 0,
     }
-}
-
-fn has_buffer(locked: &Locked, port: Port) -> bool
-    ensures { result ≡ has_buffer (state_of locked.now.hub) port }
-{
-    locked.look(port).is_some_and(|look| look.cap > 0)
-}
-
-/// Whether a port of these cases has a buffer.
-fn names_buffered(locked: &Locked, cases: &[Case]) -> bool
-    ensures { result ≡ list_any (λ c. has_buffer (state_of locked.now.hub) (port_of c)) cases.now }
-{
-    cases.iter().any(|case| has_buffer(locked, case.port()))
 }
 
 /// The newest entry of the journal.
@@ -174,19 +158,6 @@ impl<K: HubName> Desk<K> {
         };
         seat.token = Some(words.meet(&mut self.token, mine));
         Some(answer)
-    }
-
-    /// Whether the newest entry is a call, of whose ports none has a buffer.
-    pub(crate) fn is_unbuffered(&self) -> bool {
-        match self.locked.entries().last() {
-            Some(
-                Entry {
-                    step: Step::Call { cases, .. },
-                    ..
-                },
-            ) => !names_buffered(&self.locked, cases.as_slice()),
-            _ => false,
-        }
     }
 
     /// Whether the last step that was made ended any call.

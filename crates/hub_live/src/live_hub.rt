@@ -20,8 +20,15 @@ use hub_base::{
 };
 use std::sync::{Mutex, MutexGuard, Wait};
 
-/// How often a thread tries to take the lock before it may sleep: for about a microsecond.
-const TRIES: u32 = 10;
+/// How many loads a thread lets pass before it tries again for a lock that another holds: less than a step takes.
+const FIRST_PAUSE: u32 = 100;
+
+/// Each pause is twice the one before, up to so many loads, so that whoever holds the lock can make some steps with the
+/// hub in its own cache.
+const LONGEST_PAUSE: u32 = 3_200;
+
+/// How often a thread tries again before it sleeps: for some 40 microseconds.
+const TRIES: u32 = 30;
 
 /// A hub that threads share. Each seat that is passed to it must come from its own `Blank::open`.
 #[derive(Drop)]
@@ -122,18 +129,31 @@ impl<K: HubName> LiveHub<K> {
         self.wake(&ended);
     }
 
-    /// Takes the lock. Whoever holds it mostly lets it go before a thread could sleep, so it tries for a while first.
+    /// Takes the lock.
+    #[inline(always)]
     fn lock<'a, R: Wait>(&'a self, rt: &R, waker: &Parker) -> MutexGuard<'a, Desk<K>> {
+        match self.desk.try_lock() {
+            Some(desk) => desk,
+            None => self.wait_for_lock(rt, waker),
+        }
+    }
+
+    /// Takes the lock that another holds. It is mostly let go before a thread could sleep, so it tries for a while first.
+    #[inline(never)]
+    fn wait_for_lock<'a, R: Wait>(&'a self, rt: &R, waker: &Parker) -> MutexGuard<'a, Desk<K>> {
+        let mut loads = FIRST_PAUSE;
         for _ in 0..TRIES {
+            waker.pause(loads);
             if let Some(desk) = self.desk.try_lock() {
                 return desk;
             }
-            waker.pause();
+            loads = loads.saturating_mul(2).min(LONGEST_PAUSE);
         }
         self.desk.lock(rt)
     }
 
     /// Waits until an answer waits for the seat's process, and takes it; others may take the lock meanwhile.
+    #[inline(never)]
     fn wait_for_answer<'a, R: Wait>(
         &'a self,
         rt: &R,
@@ -144,8 +164,6 @@ impl<K: HubName> LiveHub<K> {
         ensures { HasEnded K.name seat.old seat.new result }
     {
         let waker = &self.wakers[usize::from(seat.pid().0)];
-        // With a buffer it is quicker to sleep, and to let the other side fill or empty it in one go.
-        let patient = desk.is_unbuffered();
         let mut desk = desk;
         for _ in rt.forever() {
             // A `Stalled` of its own may lie there already.
@@ -155,7 +173,7 @@ impl<K: HubName> LiveHub<K> {
             // Still under the lock: whoever brings the answer has it later, and tells after that.
             waker.clear();
             drop(desk);
-            waker.wait(rt, patient);
+            waker.wait(rt);
             desk = self.lock(rt, waker);
         }
         unreachable!()

@@ -9,12 +9,9 @@ use std::sync::Wait;
 use std::sync::atomic::{AtomicBool, Ordering};
 use std::thread;
 
-/// How often a thread looks before it sleeps: for some 10 microseconds, about what a sleep and a wake take. It is a
+/// How often a thread looks before it sleeps: for some 3 microseconds, a part of what a sleep and a wake take. It is a
 /// number of loads, since std's `spin_loop` emits no instruction: a loop of those takes no time.
-const LOOKS: u32 = 20_000;
-
-/// How many loads a pause takes: about as long as a step under the lock.
-const LOADS_OF_A_PAUSE: u32 = 200;
+const LOOKS: u32 = 5_000;
 
 /// Where one thread waits.
 #[derive(Drop)]
@@ -48,12 +45,11 @@ impl Parker {
         self.sleeper.unpark();
     }
 
-    /// Waits until it is told, where `patient` by looks at first. It may return for nothing.
-    pub(crate) fn wait<R: Wait>(&self, rt: &R, patient: bool) {
-        if patient && self.was_told() {
-            return;
+    /// Waits until it is told, by looks at first. It may return for nothing.
+    pub(crate) fn wait<R: Wait>(&self, rt: &R) {
+        if !self.was_told() {
+            self.sleeper.park(rt);
         }
-        self.sleeper.park(rt);
     }
 
     /// Looks for a while whether it was told.
@@ -66,9 +62,9 @@ impl Parker {
         false
     }
 
-    /// Lets some hundred nanoseconds pass. What it loads is of no use to it.
-    pub(crate) fn pause(&self) {
-        for _ in 0..LOADS_OF_A_PAUSE {
+    /// Lets the time of so many loads pass, some half nanosecond each. What it loads is of no use to it.
+    pub(crate) fn pause(&self, loads: u32) {
+        for _ in 0..loads {
             let _told = self.told.load(Ordering::SeqCst);
         }
     }

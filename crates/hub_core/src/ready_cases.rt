@@ -26,8 +26,8 @@ pub(crate) fn can_proceed(board: &Board, case: &Case) -> bool
     board.closed(port) | (sends & can_send) | (!sends & can_recv)
 }
 
-/// Puts the numbers of the cases that can proceed, in order, and tells how many they are. Each case puts its number,
-/// and only one that can proceed counts it, which leaves no branch.
+/// Puts the numbers of the cases that can proceed, in order, and tells how many they are. Each case's number is put,
+/// and counted only where the case can proceed: so there is no branch on it, which the processor would often miss.
 pub(crate) fn find_ready(board: &Board, cases: &[Case], ready: &mut [u8; CASE_PLACES]) -> usize
     requires few { length cases.now ≤ CASE_PLACES }
     requires named { AllMade (length board.now.ports) cases.now }

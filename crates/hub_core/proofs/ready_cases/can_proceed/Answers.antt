@@ -14,15 +14,18 @@ use Rattle.hub_core.specs.ListReady.{can_on, receiver_on, sender_on, len_on}
 use Rattle.hub_core.proofs.ready_cases.can_proceed.Goals.{in-Send, in_default}
 use Rattle.hub_core.proofs.ready_cases.can_proceed.Goals as goal
 
+-- what the code computes
 abbrev asked : Bool → Bool → Bool → Bool → Bool → Bool → Bool
 asked sends closed receiver room sender some = closed || (sends && (receiver || room)) || (not sends && (sender || some))
 
+-- of a case that sends it is what a send asks
 send_asked : (b : Lists) (k : Case) (p : Port) (v : Value) (sends closed receiver room sender some : Bool) → k ≡ Send p v → sends ≡ true
     → (p.0 == 0) ≡ false → closed ≡ (port_at b p).closed → receiver ≡ is_some (receiver_on b p) → room ≡ nat_lt (len_on b p) (port_at b p).cap
     → asked sends closed receiver room sender some ≡ can_on b k
 send_asked b k p v sends closed receiver room sender some is sending made c r m =
     rw (is, sending, made, ← c, ← r, ← m) (or-false (closed || (receiver || room)) ∙ sym (or_assoc closed receiver room))
 
+-- of one that receives, what a receive asks
 recv_asked : (b : Lists) (k : Case) (p : Port) (sends closed receiver room sender some : Bool) → k ≡ Recv p → sends ≡ false
     → (p.0 == 0) ≡ false → closed ≡ (port_at b p).closed → sender ≡ is_some (sender_on b p) → some ≡ nat_lt 0 (len_on b p)
     → asked sends closed receiver room sender some ≡ can_on b k
@@ -40,8 +43,9 @@ returns c =
           let here : p ≡ w.in-Send.field-0 = c.port-port.ensures ∙ ap port_of w.in-Send.is in
           let room : nat_lt c.len-len.result c.cap.result ≡ nat_lt (len_on b p) (port_at b p).cap =
           ap (λ n. nat_lt n c.cap.result) len ∙ ap (nat_lt (len_on b p)) c.cap.ensures in
-          send_asked b c.args.case.now p w.in-Send.field-1 _ _ _ _ c.waiting-2.result (nat_lt 0 c.len-len.result) (w.in-Send.is ∙ ap (λ q. Send q w.in-Send.field-1) (sym here))
-          w.matches-is made c.closed.ensures c.waiting.ensures room
+          let is : c.args.case.now ≡ Send p w.in-Send.field-1 = w.in-Send.is ∙ ap (λ q. Send q w.in-Send.field-1) (sym here) in
+          send_asked b c.args.case.now p w.in-Send.field-1 _ _ _ _ c.waiting-2.result (nat_lt 0 c.len-len.result) is w.matches-is made
+          c.closed.ensures c.waiting.ensures room
       | in_default w ↦
           let here : p ≡ w.in_default.field-0 = c.port-port.ensures ∙ ap port_of w.in_default.is in
           recv_asked b c.args.case.now p _ _ c.waiting.result (nat_lt c.len-len.result c.cap.result) _ _ (w.in_default.is ∙ ap Recv (sym here))

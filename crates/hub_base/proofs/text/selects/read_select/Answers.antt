@@ -26,8 +26,8 @@ loop-field-preserved-then-fine c = record {
 pub loop-field-preserved-else-fine : goal.loop-field-preserved-else-fine
 loop-field-preserved-else-fine c = record {
   same = goes-late c.args.line.edition c.args.line.pid.now c.in_ok-word.word.now c.in-Some.field.now c.loop-field.fields c.next_field.new.self
-      c.loop-field.count c.loop-field.fine c.loop-field.cases.items (read_choice c.args.line.edition c.args.line.pid.now (c.in_ok-word.word.now ∷ c.expect_field.new.self))
-      c.in_ok-case.case c.in-Ok.case c.loop-field.invariant.same c.in-Some.ensures
+      c.loop-field.count c.loop-field.fine c.loop-field.cases.items (read_choice c.args.line.edition c.args.line.pid.now
+      (c.in_ok-word.word.now ∷ c.expect_field.new.self)) c.in_ok-case.case c.in-Ok.case c.loop-field.invariant.same c.in-Some.ensures
       (sym c.is_last_default.ensures ∙ c.if-is_last_default.false) (sym c.in_ok-case.was ∙ c.read_case.ensures) c.in-Ok.is c.if-fine.false;
   room = omega arith;
   few = omega arith;
@@ -36,8 +36,8 @@ loop-field-preserved-else-fine c = record {
 pub loop-field-preserved : goal.loop-field-preserved
 loop-field-preserved c = record {
   same = goes-err c.args.line.edition c.args.line.pid.now c.in_ok-word.word.now c.in-Some.field.now c.loop-field.fields c.next_field.new.self
-      c.loop-field.count c.loop-field.fine c.loop-field.cases.items (read_choice c.args.line.edition c.args.line.pid.now (c.in_ok-word.word.now ∷ c.expect_field.new.self))
-      c.in_ok-case.case c.in-Err._number c.loop-field.invariant.same c.in-Some.ensures
+      c.loop-field.count c.loop-field.fine c.loop-field.cases.items (read_choice c.args.line.edition c.args.line.pid.now
+      (c.in_ok-word.word.now ∷ c.expect_field.new.self)) c.in_ok-case.case c.in-Err._number c.loop-field.invariant.same c.in-Some.ensures
       (sym c.is_last_default.ensures ∙ c.if-is_last_default.false) (sym c.in_ok-case.was ∙ c.read_case.ensures) c.in-Err.is;
   room = omega arith;
   few = omega arith;

@@ -1,4 +1,5 @@
 """The crates of crates.txt and where they lie, for the scripts here that build them."""
+import functools
 import os
 import subprocess
 
@@ -50,6 +51,7 @@ def rlib(crate):
     return os.path.join(folder(ROOT, crate), 'out', 'rlib', crate + '.rlib')
 
 
+@functools.lru_cache
 def kit():
     """The folder of the toolchain."""
     return os.path.dirname(subprocess.run(['rt', 'doc'], stdout=subprocess.PIPE, text=True, check=True).stdout.strip())

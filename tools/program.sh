@@ -182,6 +182,13 @@ count $? "lines of definitions and proofs that are too wide"
 "$root/tools/check_quotes.py"
 count $? "what README.md quotes"
 
+# What is built and current is not built once more.
+if [ "$program" = "$root/crates/chanhub/out/chanhub" ]; then
+    [ "$("$root/chanhub" verify "$root/examples/journals/hand_over" "$root/examples/journals/hand_over.stdout" 2>&1)" = same ] &&
+        [ -z "$("$root/tools/build.py" chanhub 2>&1)" ]
+    count $? "the program is taken as it is built"
+fi
+
 CHANHUB=$program STORY=$story OPENER=cat TMPDIR=$work "$root/tools/explain.sh" "$root/examples/scenarios/hand_over" > "$work/told" 2> "$work/errors" &&
     grep -q '^</svg>$' "$work/told" && [ ! -s "$work/errors" ]
 count $? "a scenario explained"

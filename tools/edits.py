@@ -323,6 +323,8 @@ def main():
     bad = []
     where = 'further-edits' if words.further else 'edits'
     found = {crate: read_edits(crate, where, words.asked, bad) for crate in read_crates()}
+    there = {name for crate, edits in found.items() for name in (crate, *(it.name().removesuffix('.edit') for it in edits))}
+    bad += ['%s: there is no such crate or edit' % it for it in words.asked if it not in there]
     refused = try_all({crate: edits for crate, edits in found.items() if edits}, words.proved_in, bad)
     print(''.join(it + '\n' for it in bad), end='')
     print('%d passed, %d failed' % (refused, len(bad)))

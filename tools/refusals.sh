@@ -74,9 +74,13 @@ else
     for args in "$root"/examples/journals/*.args; do
         replay_refused "${args%.args}"
     done
-    journal=$root/examples/journals/waiting_on_several_ports
+    # The same with a third process, which does nothing.
+    events=$root/examples/journals/waiting_on_several_ports.stdout
+    journal=$work/among_three
+    sed 's/^procs 2$/procs 3/' "${events%.stdout}" > "$journal"
+    each_refused REFUSE "replay among three" "$journal" "$events" replay
     echo same > "$work/same"
-    each_refused REFUSE "verify" /dev/null "$work/same" verify "$journal" "$journal.stdout"
+    each_refused REFUSE "verify" /dev/null "$work/same" verify "$journal" "$events"
     # Each prints the same under every schedule.
     for scenario in hand_over two_senders; do
         scenario=$root/examples/scenarios/$scenario

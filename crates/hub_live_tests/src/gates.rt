@@ -71,9 +71,17 @@ fn processes_run_at_the_same_time(rt: HostRuntime) -> Result<(), Fail> {
 
 /// Both ports hold the value that was sent there.
 fn each_has_one(rt: &impl Abort, ports: &[PortReport]) {
+    let wanted = PortReport {
+        cap: 1,
+        sent: 1,
+        received: 0,
+        left: 1,
+        sum: 0,
+        closed: false,
+    };
     same(rt, ports.len(), 2, "ports");
     for port in ports {
-        same(rt, (port.sent, port.received, port.left), (1, 0, 1), "port");
+        same(rt, *port, wanted, "port");
     }
 }
 

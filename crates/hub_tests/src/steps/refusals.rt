@@ -171,16 +171,21 @@ fn reserve_again(rt: &impl Abort, hub: &mut Hub) {
 
 const WITHOUT_MEMORY: &[Row] = &[
     Row::Steps(0, Ask::Make(1), &[(0, MADE)]),
-    Row::Reserves(4),
+    Row::Reserves(100_000),
     Row::Begins,
+    Row::Steps(2, Ask::Recv(0), &[(2, PARKED)]),
     Row::Steps(0, Ask::Send(1, 5), &[(0, SENT)]),
     Row::Steps(0, Ask::Recv(1), &[(0, Told::Got(0, 5))]),
     Row::Steps(1, Ask::Recv(1), &[(1, PARKED)]),
-    Row::Steps(0, Ask::Recv(1), &[(0, PARKED), (1, STALLED), (0, STALLED)]),
+    Row::Steps(
+        0,
+        Ask::Recv(1),
+        &[(0, PARKED), (2, STALLED), (1, STALLED), (0, STALLED)],
+    ),
 ];
 
-// A send, a receive, a park and a stall.
+// A wait on the nil channel, a send, a receive, a wait on a port and a stall.
 #[test]
 fn reserved_steps_take_no_memory(rt: HostRuntime) -> Result<(), Fail> {
-    tell(&rt, rt.alloc(), first(2), 100, WITHOUT_MEMORY)
+    tell(&rt, rt.alloc(), first(3), 1_000_000, WITHOUT_MEMORY)
 }

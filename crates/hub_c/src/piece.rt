@@ -34,8 +34,8 @@ impl Session {
         let Some(place) = number.checked_sub(1) else {
             return write_first(&mut self.piece, edition, procs);
         };
-        match self.locked.entries().get(place as usize) {
-            Some(entry) => write_entry(&mut self.piece, edition, entry),
+        match self.locked.entry(place as usize) {
+            Some(entry) => write_entry(&mut self.piece, edition, &entry),
             None => Ok(()),
         }
     }

@@ -101,7 +101,7 @@ impl Session {
             ReadKind::EndedPid => self.ended_at(numbers.value),
             ReadKind::Port => port_number(self.locked.look(Port(numbers.port))),
             ReadKind::Counts => counts_number(self.locked.look(Port(numbers.port))),
-            ReadKind::Entries => self.locked.entries().len() as u64,
+            ReadKind::Entries => self.locked.len() as u64,
             ReadKind::Word => word_at(&self.piece, numbers.value),
         }
     }

@@ -14,3 +14,4 @@ pub mod Following
 pub mod Reached
 pub mod Hubs
 pub mod Journeys
+pub mod Logs

@@ -1,7 +1,6 @@
 -- What every hub keeps: its journal is legal, its machine follows the journal, and there is room in
 -- the journal for its places and for the exit of each process.
-use Rattle.std.specs.Prelude.{◌≡◌, ◌≤◌, ◌+◌, ◌↔◌, ℕ, Bool, IsTrue, None, if◌then◌else◌}
-use Rattle.std.specs.Vec.{vec_capacity}
+use Rattle.std.specs.Prelude.{◌≡◌, ◌≤◌, ◌+◌, ◌++◌, ◌∷◌, ◌↔◌, [], ℕ, Bool, IsTrue, List, None, if◌then◌else◌}
 use Rattle.hub_base.specs.declared.value.Pid.{Pid}
 use Rattle.hub_base.specs.declared.entry.Step.{Step}
 use Rattle.hub_base.specs.declared.entry.Entry.{Entry}
@@ -10,17 +9,21 @@ use Rattle.hub_base.specs.Head.{IsHead, AreOf}
 use Rattle.hub_base.specs.Reading.{is_exit}
 use Rattle.hub_base.specs.Runs.{kept}
 use Rattle.hub_base.specs.Text.{steps_of}
-use Rattle.hub_core.specs.declared.hub.Hub.TheInside.{Inside}
+use Rattle.hub_core.specs.declared.short_hub.ShortHub.TheInside.{Inside}
 use Rattle.hub_core.specs.Follows.{Follows}
-use Rattle.hub_core.specs.HubView.{HubInMemory, HubView, Grows, HasRoom, HasSpare, IsLimit, state_of}
+use Rattle.hub_core.specs.HubView.{HubInMemory, HubView, ShortInMemory, Grows, HasRoom, HasSpare, IsLimit, state_of}
 
 -- what contracts see of a hub
 abbrev pub shown : Inside → HubInMemory
 shown h =
     record {
       hub = record { terms = h.terms; journal = h.entries.items; places = h.places };
-      capacity = vec_capacity h.entries;
+      capacity = h.entries.capacity;
     }
+
+-- the same, and how many entries are kept short
+abbrev pub shown_short : Inside → ShortInMemory
+shown_short h = record { memory = shown h; short = h.entries.short }
 
 -- an exit is not counted
 abbrev pub count_after : Step → ℕ → ℕ
@@ -38,7 +41,9 @@ pub record HubKeeps (h : Inside) : Type 0 where
   pub count : h.count ≡ steps_of h.entries.items
   pub within : h.count ≤ h.terms.limit
   -- the entries that are no exits, the places, and an exit of each process
-  pub room : h.count + h.places + h.terms.head.procs ≤ vec_capacity h.entries
+  pub room : h.count + h.places + h.terms.head.procs ≤ h.entries.capacity
+  -- where entries are kept short, the newest stands beside them as it is
+  pub newest : ¬ h.entries.short ≡ 0 → (es : List Entry) (e : Entry) → h.entries.items ≡ es ++ e ∷ [] → h.newest ≡ e
 
 -- ---- a step is admitted
 

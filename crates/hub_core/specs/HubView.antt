@@ -38,6 +38,12 @@ pub record HubInMemory : Type 0 where
   -- how many entries the journal can hold before it has to grow
   pub capacity : ℕ
 
+-- a hub whose newest entries may be kept short, as it lies in memory
+pub record ShortInMemory : Type 0 where
+  pub memory : HubInMemory
+  -- how many of its entries are kept short
+  pub short : ℕ
+
 -- the entry of a call of this process
 abbrev pub call_of : Pid → List Case → Bool → ℕ → Entry
 call_of pid cases default word = record { pid = pid; step = call cases default word }

@@ -10,6 +10,8 @@ pub mod Follows
 pub mod Agrees
 pub mod Looks
 pub mod StateKeeps
+pub mod LogView
+pub mod LogKeeps
 pub mod HubView
 pub mod HubKeeps
 pub mod RunsTo

@@ -62,16 +62,6 @@ fn mark_at(locked: &Locked, port: Port) -> u64
     }
 }
 
-/// The newest entry of the journal.
-fn newest(locked: &Locked) -> &Entry
-    requires { 0 < length locked.now.hub.journal }
-    ensures { (es : List Entry) (e : Entry) → locked.now.hub.journal ≡ es ++ e ∷ []
-        → result.now ≡ e }
-{
-    let entries = locked.entries();
-    &entries[entries.len() - 1]
-}
-
 impl<K: HubName> Desk<K> {
     pub(crate) fn of(locked: Locked, token: Token) -> Desk<K>
         requires { IsDesk K.name locked token }
@@ -121,7 +111,7 @@ impl<K: HubName> Desk<K> {
         words.join(&mut self.token, mine);
         match self.locked.serve(seat.pid, request) {
             Ok(answer) => {
-                let made = newest(&self.locked);
+                let made = self.locked.newest();
                 let port = changed(&made.step, answer.what);
                 let mark = mark_at(&self.locked, port);
                 words.publish(&mut self.token, usize::from(port.0), mark, made);

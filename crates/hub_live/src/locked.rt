@@ -5,7 +5,7 @@
 //! no answer waiting, and an answer that waits is its process's reply. That the hub is what its journal
 //! leads to is kept by the hub's own type.
 
-ghost use Rattle.std.specs.Prelude.{◌≡◌, ◌≤◌, ◌<◌, ◌↔◌, ℕ, IsTrue, Some, true, length, slice_set, IfSome, IfNone};
+ghost use Rattle.std.specs.Prelude.{◌≡◌, ◌≤◌, ◌<◌, ◌++◌, ◌∷◌, ◌↔◌, [], ℕ, List, IsTrue, Some, true, length, slice_get, slice_set, IfSome, IfNone};
 ghost use Rattle.hub_core.specs.Looks.{look_at};
 ghost use Rattle.hub_live.specs.Locked.{none_waits, last_told};
 ghost use Rattle.hub_live.specs.Request.{step_of};
@@ -14,7 +14,7 @@ ghost use Rattle.hub_live.specs.Prelude.{AreOf, is_of, IsLegal, state_of, answer
 use crate::request::Request;
 use arrayvec::ArrayVec;
 use hub_base::{Entry, Event, Events, Fault, Head, Journal, Look, MOST_PROCS, Pid, Port};
-use hub_core::Hub;
+use hub_core::{Hub, ShortHub};
 use std::marker::Model;
 
 /// Processes of a hub.
@@ -23,8 +23,8 @@ pub type Pids = ArrayVec<Pid, MOST_PROCS>;
 /// A hub, and for each process an answer that may wait to be picked up.
 #[derive(Drop)]
 pub struct Locked {
-    /// The hub.
-    hub: Hub,
+    /// The hub, whose journal is kept short until it is asked for.
+    hub: ShortHub,
     /// The answer that waits for each process, by its number.
     answers: [Option<Event>; MOST_PROCS],
     /// Whose calls the last step that was made ended.
@@ -39,15 +39,20 @@ impl Model for Locked {
     ghost Value = { LockedView };
 
     ghost view = { λ l.
-        record { hub = l.hub.hub; answers = l.answers; ended = l.ended.items } };
+        record { hub = l.hub.memory.hub; answers = l.answers; ended = l.ended.items } };
 
-    ghost invariant = { λ l. IsLawful l.hub.hub l.answers };
+    ghost invariant = { λ l. IsLawful l.hub.memory.hub l.answers };
 }
 
 /// Makes the step that the process asks for.
-fn make_step(hub: &mut Hub, pid: Pid, asked: &Request<'_>, events: &mut Events) -> Result<(), Fault>
-    requires fits { is_of hub.old.hub.terms.head.edition (step_of asked.now) ≡ true }
-    ensures { MakesStep hub.old.hub (entry_by pid asked.now) hub.new.hub events.new.items result }
+fn make_step(
+    hub: &mut ShortHub,
+    pid: Pid,
+    asked: &Request<'_>,
+    events: &mut Events,
+) -> Result<(), Fault>
+    requires fits { is_of hub.old.memory.hub.terms.head.edition (step_of asked.now) ≡ true }
+    ensures { MakesStep hub.old.memory.hub (entry_by pid asked.now) hub.new.memory.hub events.new.items result }
 {
     match *asked {
         Request::Call {
@@ -63,13 +68,13 @@ fn make_step(hub: &mut Hub, pid: Pid, asked: &Request<'_>, events: &mut Events) 
 /// such an entry on its stack.
 #[inline(never)]
 fn make_rare_step(
-    hub: &mut Hub,
+    hub: &mut ShortHub,
     pid: Pid,
     asked: &Request<'_>,
     events: &mut Events,
 ) -> Result<(), Fault>
-    requires fits { is_of hub.old.hub.terms.head.edition (step_of asked.now) ≡ true }
-    ensures { MakesStep hub.old.hub (entry_by pid asked.now) hub.new.hub events.new.items result }
+    requires fits { is_of hub.old.memory.hub.terms.head.edition (step_of asked.now) ≡ true }
+    ensures { MakesStep hub.old.memory.hub (entry_by pid asked.now) hub.new.memory.hub events.new.items result }
 {
     let step = asked.step();
     hub.step_into(Entry { pid, step }, events)
@@ -116,7 +121,7 @@ impl Locked {
         // That its journal is legal is told where the journal is shown.
         let _journal = hub.entries();
         Locked {
-            hub,
+            hub: hub.shortened(),
             answers: [None; MOST_PROCS],
             ended: Pids::new(),
             events: Events::new(),
@@ -201,14 +206,31 @@ impl Locked {
         self.hub.head()
     }
 
-    /// The journal so far. It is legal: each of its entries was admitted when it came, and is one that the
-    /// edition has.
-    pub fn entries(&self) -> &[Entry]
-        ensures journal { result.now ≡ self.now.hub.journal }
-        ensures legal { IsLegal self.now.hub.terms.head self.now.hub.journal }
-        ensures fits { AreOf self.now.hub.terms.head.edition self.now.hub.journal }
+    /// How many entries the journal has.
+    pub fn len(&self) -> usize
+        ensures { result ≡ length self.now.hub.journal }
     {
-        self.hub.entries()
+        self.hub.len()
+    }
+
+    /// The journal's entry at this place, counted from 0; `None` behind the last. The journal is legal: each of its entries
+    /// was admitted when it came, and is one that the edition has. It is kept short while steps are made, and written out
+    /// here, which takes no memory, but time where many steps were made since.
+    pub fn entry(&mut self, place: usize) -> Option<Entry>
+        ensures entry { result ≡ slice_get self.old.hub.journal place }
+        ensures same { self.new ≡ self.old }
+        ensures legal { IsLegal self.old.hub.terms.head self.old.hub.journal }
+        ensures fits { AreOf self.old.hub.terms.head.edition self.old.hub.journal }
+    {
+        self.hub.entry(place)
+    }
+
+    /// The newest entry of the journal, which has one.
+    pub(crate) fn newest(&self) -> &Entry
+        requires { 0 < length self.now.hub.journal }
+        ensures { (es : List Entry) (e : Entry) → self.now.hub.journal ≡ es ++ e ∷ [] → result.now ≡ e }
+    {
+        self.hub.newest()
     }
 
     /// The journal. Answers that wait are dropped.

@@ -24,6 +24,8 @@ enum Row {
     Ended(&'static [Pid]),
     /// Port 1 has a place, and one value waits there.
     OneWaits,
+    /// The entry at this place of the journal: what this process asked for, or none.
+    HasEntry(usize, Option<(u8, Ask)>),
 }
 
 /// Makes a step, which the hub's edition must have.
@@ -45,6 +47,10 @@ fn follow_row(rt: &impl Abort, locked: &mut Locked, row: Row, place: (&str, usiz
         Row::FindsNone(pid) => same(rt, locked.take(Pid(pid)), None, place),
         Row::Ended(pids) => same(rt, locked.ended().as_slice(), pids, place),
         Row::OneWaits => same(rt, locked.look(Port(1)), Some(ONE_VALUE), place),
+        Row::HasEntry(at, asked) => {
+            let wanted = asked.map(|(pid, asked)| entry_of(pid, asked));
+            same(rt, locked.entry(at) == wanted, true, place);
+        }
     }
 }
 
@@ -67,7 +73,7 @@ fn tell(rt: &impl Abort, alloc: Global, story: &Story) -> Result<(), Fail> {
     let (name, procs, limit, rows, entries) = *story;
     let mut locked = Locked::of(Hub::open(alloc, procs, limit, Edition::Two)?);
     follow(rt, &mut locked, name, rows);
-    same(rt, locked.entries().len(), entries, (name, "entries"));
+    same(rt, locked.len(), entries, (name, "entries"));
     let journal = locked.into_journal();
     let found = (journal.procs(), journal.entries().len());
     same(rt, found, (procs, entries), (name, "journal"));
@@ -77,6 +83,7 @@ fn tell(rt: &impl Abort, alloc: Global, story: &Story) -> Result<(), Fail> {
 const STORIES: &[Story] = &[
     ("answer_waits_until_it_is_taken", 2, 10, PASSING, 3),
     ("steps_are_kept", 2, 10, SENDING, 2),
+    ("entries_are_shown_between_steps", 2, 10, SHOWING, 5),
     ("only_process_stalls_and_finds_its_answer", 1, 10, ALONE, 1),
     ("each_stalled_process_finds_its_answer", 2, 10, BOTH, 2),
     ("close_answers_each_receiver", 3, 10, CLOSING, 4),
@@ -104,6 +111,23 @@ const PASSING: &[Row] = &[
     Row::FindsNone(0),
     Row::Takes(1, Told::Got(9)),
     Row::FindsNone(1),
+];
+
+// Each time an entry is shown the journal is written out, and the steps behind it are kept short again.
+const SHOWING: &[Row] = &[
+    Row::HasEntry(0, None),
+    Row::Asks(0, Ask::Make(1), MADE),
+    Row::HasEntry(0, Some((0, Ask::Make(1)))),
+    Row::Asks(0, Ask::Send(9), SENT),
+    Row::Asks(1, Ask::Recv, Told::Got(9)),
+    Row::HasEntry(2, Some((1, Ask::Recv))),
+    Row::HasEntry(1, Some((0, Ask::Send(9)))),
+    Row::HasEntry(3, None),
+    Row::Asks(1, Ask::Exit, DONE),
+    Row::Asks(0, Ask::Close, DONE),
+    Row::HasEntry(4, Some((0, Ask::Close))),
+    Row::HasEntry(3, Some((1, Ask::Exit))),
+    Row::HasEntry(0, Some((0, Ask::Make(1)))),
 ];
 
 // What is looked at, and what is kept.

@@ -8,21 +8,21 @@ use Rattle.hub_live.proofs.locked.Locked.serve.Goals.{After-put_pids}
 
 pub unreachable-requires : goal.unreachable-requires
 unreachable-requires c =
-    told_some c.self.inside.hub.hub c.make_step.new.hub.hub (entry_by c.args.pid c.args.request.now) c.make_step.new.events.items c.in_ok-make_step.ensures.ok
-    (ap length (sym c.as_slice.ensures.value) ∙ c.in_default.ensures.cases)
+    told_some c.self.inside.hub.memory.hub c.make_step.new.hub.memory.hub (entry_by c.args.pid c.args.request.now)
+    c.make_step.new.events.items c.in_ok-make_step.ensures.ok (ap length (sym c.as_slice.ensures.value) ∙ c.in_default.ensures.cases)
 
 abbrev asked : After-put_pids → Entry
 asked c = entry_by c.args.pid c.args.request.now
 
 abbrev before : After-put_pids → LockedView
-before c = record { hub = c.self.inside.hub.hub; answers = c.self.inside.answers; ended = c.self.inside.ended.items }
+before c = record { hub = c.self.inside.hub.memory.hub; answers = c.self.inside.answers; ended = c.self.inside.ended.items }
 
 abbrev after : After-put_pids → LockedView
-after c = record { hub = c.make_step.new.hub.hub; answers = c.put_all.new.answers; ended = c.put_pids.new.pids.items }
+after c = record { hub = c.make_step.new.hub.memory.hub; answers = c.put_all.new.answers; ended = c.put_pids.new.pids.items }
 
 served : (c : After-put_pids) → Serves (before c) (asked c) (after c) c.in-Some.first.now
 served c =
-    serves (before c) (asked c) c.make_step.new.hub.hub c.make_step.new.events.items c.in-Some.first.now c.in-Some.ended.now c.put.new.answers
+    serves (before c) (asked c) c.make_step.new.hub.memory.hub c.make_step.new.events.items c.in-Some.first.now c.in-Some.ended.now c.put.new.answers
     c.put_all.new.answers c.put_pids.new.pids.items c.self.invariant.places c.in_ok-make_step.ensures.ok
     (sym c.as_slice.ensures.value ∙ c.in-Some.ensures.cases.0) c.put.ensures (omega arith) c.put_all.ensures c.put_pids.ensures
 
@@ -32,7 +32,7 @@ invariant_of-self-2 c = lawful_served (before c) (after c) (asked c) c.in-Some.f
 pub returns : goal.returns
 returns c = record {
   ok = subst (λ (l : LockedView). Serves l (asked c) (after c) c.in-Some.first.now) c.self.view_is (served c);
-  reply = answer_replies c.self.inside.hub.hub c.make_step.new.hub.hub (asked c) c.in-Some.first.now (served c).ended (served c).step;
+  reply = answer_replies c.self.inside.hub.memory.hub c.make_step.new.hub.memory.hub (asked c) c.in-Some.first.now (served c).ended (served c).step;
   refused = tt;
   unchanged = tt;
 }

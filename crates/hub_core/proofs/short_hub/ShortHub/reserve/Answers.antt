@@ -5,7 +5,7 @@ use Rattle.hub_base.specs.Runs.{kept}
 use Rattle.hub_base.specs.Text.{steps_of}
 use Rattle.hub_core.specs.Follows.{Follows}
 use Rattle.hub_core.proofs.Reached.{steps-length}
-use Rattle.hub_core.proofs.hub.Hub.reserve.Goals as goal
+use Rattle.hub_core.proofs.short_hub.ShortHub.reserve.Goals as goal
 
 pub invariant_of-self-then-k-self : goal.invariant_of-self-then-k-self
 invariant_of-self-then-k-self c =
@@ -19,5 +19,6 @@ invariant_of-self-then-k-self c =
       follows = subst (λ (es : List Entry). Follows c.self.inside.terms.head es c.self.inside.machine) (sym same) c.self.invariant.follows;
       count = c.self.invariant.count ∙ ap steps_of (sym same);
       within = c.self.invariant.within;
-      room = omega (arith, few, c.in_ok-reserve_more.ensures.ok, ap (λ (es : List Entry). length es) same, c.self.invariant.count, c.self.inside.entries.ok);
+      room = omega (arith, few, c.in_ok-reserve_more.ensures.ok, ap (λ (es : List Entry). length es) same, c.self.invariant.count);
+      newest = λ short es e is. c.self.invariant.newest (λ none. short (c.in_ok-reserve_more.ensures.short ∙ none)) es e (sym same ∙ is);
     }

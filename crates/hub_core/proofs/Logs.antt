@@ -1,0 +1,145 @@
+-- Entries that are kept short, and how they are written out.
+use Rattle.std.proofs.Common.{◌≡◌, ◌∙◌, ◌++◌, ◌≤◌, ◌<◌, ◌+◌, ◌∷◌, [], ℕ, suc, List, length, take, drop}
+use Rattle.std.proofs.Common.{ap, sym, subst, refl, arith, append-nil, append_assoc, length-append}
+use Rattle.std.specs.Prelude.{slice_index_or}
+use Rattle.std.proofs.lemmas.List.{take-append-le, drop-append-le}
+use Rattle.std.proofs.Math.Seq.{take-length, drop-length, drop-cons}
+use Rattle.hub_base.specs.declared.case.Case.{Case}
+use Rattle.hub_base.specs.declared.entry.Step.{Step}
+use Rattle.hub_base.specs.declared.entry.Step.TheVariants.{Make, Call, Close, Exit, Cancel}
+use Rattle.hub_base.specs.declared.entry.Entry.{Entry}
+use Rattle.hub_base.specs.declared.limits.TheConstants.{CASE_PLACES}
+use Rattle.hub_core.specs.declared.log.Brief.{Brief}
+use Rattle.hub_core.specs.LogView.{AreBriefs, brief_of, brief_step, case_count, cases_of, cases_of_step, count_of_step, entry_of, step_of_brief, written}
+
+step_again : (s : Step) → step_of_brief (brief_step s) (cases_of_step s) ≡ s
+step_again (Make cap) = refl
+step_again (Call cases default word) = refl
+step_again (Close p) = refl
+step_again Exit = refl
+step_again (Cancel q) = refl
+
+-- an entry is what is kept of it, with its cases
+pub entry_again : (e : Entry) → entry_of (brief_of e) (cases_of e) ≡ e
+entry_again e = ap (λ (s : Step). record { pid = e.pid; step = s }) (step_again e.step)
+
+counted_step : (s : Step) → count_of_step (brief_step s) ≡ length (cases_of_step s)
+counted_step (Make cap) = refl
+counted_step (Call cases default word) = refl
+counted_step (Close p) = refl
+counted_step Exit = refl
+counted_step (Cancel q) = refl
+
+-- as many as it counts
+pub counted : (e : Entry) → case_count (brief_of e) ≡ length (cases_of e)
+counted e = counted_step e.step
+
+take_all : (n : ℕ) (cs ds : List Case) → cs ≡ [] → n ≡ length ds → take n (cs ++ ds) ≡ ds
+take_all n cs ds none is = (λ i. take (is i) (none i ++ ds)) ∙ take-length ds
+
+drop_all : (n : ℕ) (cs ds : List Case) → cs ≡ [] → n ≡ length ds → drop n (cs ++ ds) ≡ []
+drop_all n cs ds none is = (λ i. drop (is i) (none i ++ ds)) ∙ drop-length ds
+
+-- one more, with its cases behind the others'
+pub written_more : (bs : List Brief) (cs : List Case) (b : Brief) (ds : List Case) → AreBriefs bs cs → case_count b ≡ length ds
+    → written (bs ++ b ∷ []) (cs ++ ds) ≡ written bs cs ++ entry_of b ds ∷ []
+unfolding AreBriefs written
+written_more [] cs b ds none is = ap (λ (xs : List Case). entry_of b xs ∷ []) (take_all (case_count b) cs ds none is)
+written_more (x ∷ bs) cs b ds (few, within, rest) is =
+    let n = case_count x in
+    (λ i. entry_of x (take-append-le n cs ds within i) ∷ written (bs ++ b ∷ []) (drop-append-le n cs ds within i))
+    ∙ ap (λ (es : List Entry). entry_of x (take n cs) ∷ es) (written_more bs (drop n cs) b ds rest is)
+
+pub briefs_more : (bs : List Brief) (cs : List Case) (b : Brief) (ds : List Case) → AreBriefs bs cs → case_count b ≡ length ds
+    → length ds ≤ CASE_PLACES → AreBriefs (bs ++ b ∷ []) (cs ++ ds)
+unfolding AreBriefs written
+briefs_more [] cs b ds none is few =
+    (omega (arith, is, few), omega (arith, is, length-append cs ds), drop_all (case_count b) cs ds none is)
+briefs_more (x ∷ bs) cs b ds (some, within, rest) is few =
+    let n = case_count x in (
+      some,
+      omega (arith, within, length-append cs ds),
+      subst (AreBriefs (bs ++ b ∷ [])) (sym (drop-append-le n cs ds within)) (briefs_more bs (drop n cs) b ds rest is few),
+    )
+
+pub written_length : (bs : List Brief) (cs : List Case) → length (written bs cs) ≡ length bs
+unfolding AreBriefs written
+written_length [] cs = refl
+written_length (b ∷ bs) cs = ap suc (written_length bs (drop (case_count b) cs))
+
+-- so many entries there are in all
+pub all_length : (whole : List Entry) (bs : List Brief) (cs : List Case) → length (whole ++ written bs cs) ≡ length whole + length bs
+all_length whole bs cs = length-append whole (written bs cs) ∙ ap (λ n. length whole + n) (written_length bs cs)
+
+no_brief : (bs : List Brief) → length bs ≡ 0 → bs ≡ []
+no_brief [] none = refl
+no_brief (b ∷ bs) none = absurd (omega (arith, none))
+
+-- where none is kept short, all are written out
+pub all_whole : (whole : List Entry) (bs : List Brief) (cs : List Case) → length bs ≡ 0 → whole ++ written bs cs ≡ whole
+unfolding AreBriefs written
+all_whole whole bs cs none = ap (λ (xs : List Brief). whole ++ written xs cs) (no_brief bs none) ∙ append-nil whole
+
+pub none_short : (bs : List Brief) (cs : List Case) → bs ≡ [] → cs ≡ [] → AreBriefs bs cs
+unfolding AreBriefs written
+none_short bs cs none empty = subst (λ (xs : List Brief). AreBriefs xs cs) (sym none) empty
+
+-- ---- an entry more is kept short
+
+pub record Gains (bs more : List Brief) (cs cs' : List Case) (e : Entry) : Type 0 where
+  pub briefs : AreBriefs more cs'
+  pub one : length more ≡ length bs + 1
+  pub items : (whole : List Entry) → whole ++ written more cs' ≡ (whole ++ written bs cs) ++ e ∷ []
+
+pub gains : {bs more grown : List Brief} {cs cs' ds : List Case} {b : Brief} (e : Entry) → AreBriefs bs cs → grown ≡ bs ++ b ∷ [] → b ≡ brief_of e
+    → more ≡ grown → ds ≡ cases_of e → length ds ≤ CASE_PLACES → cs' ≡ cs ++ ds → Gains bs more cs cs' e
+gains {bs} {more} {grown} {cs} {cs'} {ds} {b} e are grown_is kept more_is own few longer =
+    let count : case_count b ≡ length ds = ap case_count kept ∙ counted e ∙ ap length (sym own) in
+    let all : more ≡ bs ++ b ∷ [] = more_is ∙ grown_is in
+    let again : entry_of b ds ≡ e = (λ i. entry_of (kept i) (own i)) ∙ entry_again e in
+    let spelled : written more cs' ≡ written bs cs ++ e ∷ [] =
+    (λ i. written (all i) (longer i)) ∙ written_more bs cs b ds are count ∙ ap (λ x. written bs cs ++ x ∷ []) again in
+    record {
+      briefs = subst (λ (x : List Brief × List Case). AreBriefs x.0 x.1) (λ i. (sym all i, sym longer i)) (briefs_more bs cs b ds are count few);
+      one = ap length all ∙ length-append bs (b ∷ []);
+      items = λ whole. ap (λ (es : List Entry). whole ++ es) spelled ∙ sym (append_assoc whole (written bs cs) (e ∷ []));
+    }
+
+-- ---- the loop that writes them out
+
+-- the briefs and cases that are left at a place
+pub record Left (bs : List Brief) (cs : List Case) (i : ℕ) (d : Brief) : Type 0 where
+  pub few : case_count (slice_index_or bs i d) ≤ CASE_PLACES
+  pub within : case_count (slice_index_or bs i d) ≤ length cs
+  pub rest : AreBriefs (drop (i + 1) bs) (drop (case_count (slice_index_or bs i d)) cs)
+  pub one : length (drop i bs) ≡ length (drop (i + 1) bs) + 1
+  pub written : written (drop i bs) cs
+      ≡ entry_of (slice_index_or bs i d) (take (case_count (slice_index_or bs i d)) cs)
+      ∷ written (drop (i + 1) bs) (drop (case_count (slice_index_or bs i d)) cs)
+
+pub next_left : (bs : List Brief) (cs : List Case) (i : ℕ) (d : Brief) → i < length bs → AreBriefs (drop i bs) cs → Left bs cs i d
+unfolding AreBriefs written
+next_left bs cs i d below are =
+    let next : suc i ≡ i + 1 = omega arith in
+    let is : drop i bs ≡ slice_index_or bs i d ∷ drop (i + 1) bs = drop-cons bs i d below ∙ ap (λ k. slice_index_or bs i d ∷ drop k bs) next in
+    let all = subst (λ (xs : List Brief). AreBriefs xs cs) is are in record {
+      few = all.0;
+      within = all.1;
+      rest = all.2;
+      one = ap length is ∙ (let z : suc (length (drop (i + 1) bs)) ≡ length (drop (i + 1) bs) + 1 = omega arith in z);
+      written = ap (λ (xs : List Brief). written xs cs) is;
+    }
+
+-- one entry more is written out
+pub one_out : (whole : List Entry) {more all : List Entry} {bs : List Brief} {cs own others : List Case} {i n : ℕ} {d : Brief} {e : Entry} → Left bs cs i d
+    → n ≡ case_count (slice_index_or bs i d) → own ≡ take n cs → others ≡ drop n cs → e ≡ entry_of (slice_index_or bs i d) own
+    → more ≡ whole ++ e ∷ [] → whole ++ written (drop i bs) cs ≡ all
+    → AreBriefs (drop (i + 1) bs) others × (more ++ written (drop (i + 1) bs) others ≡ all)
+one_out whole {more} {all} {bs} {cs} {own} {others} {i} {n} {d} {e} left count own_is others_is entry grown so_far =
+    let b = slice_index_or bs i d in
+    let left_is : others ≡ drop (case_count b) cs = others_is ∙ ap (λ k. drop k cs) count in
+    let entry_is : e ≡ entry_of b (take (case_count b) cs) = entry ∙ ap (λ (xs : List Case). entry_of b xs) (own_is ∙ ap (λ k. take k cs) count) in (
+      subst (AreBriefs (drop (i + 1) bs)) (sym left_is) left.rest,
+      ap (λ (es : List Entry). es ++ written (drop (i + 1) bs) others) grown ∙ append_assoc whole (e ∷ []) (written (drop (i + 1) bs) others)
+          ∙ ap (λ (es : List Entry). whole ++ es) ((λ k. entry_is k ∷ written (drop (i + 1) bs) (left_is k)) ∙ sym left.written) ∙ so_far,
+    )

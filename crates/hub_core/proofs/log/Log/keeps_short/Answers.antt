@@ -1,0 +1,29 @@
+use Rattle.std.proofs.Common.{◌∙◌, ◌++◌, ◌∷◌, [], List, ap, length, arith}
+use Rattle.hub_base.specs.declared.entry.Entry.{Entry}
+use Rattle.hub_core.specs.LogView.{LogView}
+use Rattle.hub_core.proofs.Logs.{all_length, gains}
+use Rattle.hub_core.proofs.log.Log.keeps_short.Goals as goal
+
+pub invariant_of-self-2 : goal.invariant_of-self-2
+invariant_of-self-2 c =
+    let v = c.self.view_is in
+    let more = gains c.args.entry.now c.self.invariant.briefs (ap (λ bs. bs ++ c.brief_of.result ∷ []) c.has_room.ensures.same) c.brief_of.ensures
+    c.push_reserved.ensures.items c.cases_of-cases.ensures.cases c.cases_of-cases.ensures.few c.in-Ok.ensures.items in
+    record {
+      briefs = more.briefs;
+      room = omega (
+        arith,
+        more.one,
+        c.requires.room,
+        ap (λ (v : LogView). length v.items) v,
+        ap (λ (v : LogView). v.capacity) v,
+        c.self.inside.whole.ok,
+        all_length c.self.inside.whole.items c.self.inside.briefs.items c.self.inside.cases.items,
+      );
+    }
+
+pub returns-clause-items : goal.returns-clause-items
+returns-clause-items c = λ yes.
+    let more = gains c.args.entry.now c.self.invariant.briefs (ap (λ bs. bs ++ c.brief_of.result ∷ []) c.has_room.ensures.same) c.brief_of.ensures
+    c.push_reserved.ensures.items c.cases_of-cases.ensures.cases c.cases_of-cases.ensures.few c.in-Ok.ensures.items in
+    more.items c.self.inside.whole.items ∙ ap (λ (es : List Entry). es ++ c.args.entry.now ∷ []) (ap (λ (v : LogView). v.items) c.self.view_is)

@@ -1,0 +1,370 @@
+//! A machine and its journal, whose newest entries may be kept short.
+//!
+//! The journal holds the admitted entries, and the machine is what they lead to. It has room for the
+//! exit of each process from the opening on, and for the steps that were reserved; so neither an
+//! exit nor a reserved step asks for memory.
+
+ghost use Rattle.std.specs.Prelude.{◌≡◌, ◌≤◌, ◌<◌, ◌+◌, ◌-◌, ◌^◌, ◌↔◌, ◌++◌, ◌∷◌, ℕ, Bool, List, [], IsTrue, IfOk, IfErr, OnOk, OnErr, length, max, slice_get, true};
+ghost use Rattle.hub_base.specs.declared.entry.Entry.{Entry};
+ghost use Rattle.hub_base.specs.declared.value.Pid.{Pid};
+ghost use Rattle.hub_base.specs.Head.{IsHead, AreOf, head_of, is_of};
+ghost use Rattle.hub_base.specs.Reading.{is_exit};
+ghost use Rattle.hub_base.specs.Runs.{kept};
+ghost use Rattle.hub_core.specs.Looks.{look_at, value_at};
+ghost use Rattle.hub_core.specs.HubView.{HubInMemory, ShortInMemory, Steps, StepRules, Grows, RefusesOpening, call_of, opened_hub, places_after, state_of, terms_of, IsLimit};
+ghost use Rattle.hub_core.specs.HubKeeps.{count_after, IsSuch, Takes};
+ghost use Rattle.hub_core.specs.declared.short_hub.Form.TheVariants.{Whole};
+
+use crate::log::Log;
+use crate::machine::empty;
+use crate::{Machine, OpenFault, Terms};
+use hub_base::{
+    Cases, Edition, Entry, Events, Fault, Head, Journal, Look, MOST_PROCS, MOST_STEPS, NoMemory,
+    Pid, Port, Step, Value, copy_cases,
+};
+use std::alloc::Global;
+use std::marker::Model;
+
+/// How an entry is kept.
+#[derive(Clone, Copy)]
+pub(crate) enum Form {
+    /// Written out, as all before it are.
+    Whole,
+    /// Short, where there is memory for that.
+    Short,
+}
+
+/// A hub whose journal is kept short until it is asked for: some 60 bytes for a call of one case, in place of those of an
+/// `Entry`. All else is as of a `Hub`.
+#[derive(Drop)]
+pub struct ShortHub {
+    /// What it was opened with.
+    terms: Terms,
+    /// How many steps other than makes take no memory.
+    places: u32,
+    /// How many entries of the journal are no exits.
+    count: u32,
+    /// What the journal has led to.
+    machine: Machine,
+    /// The journal: the admitted entries, in order.
+    entries: Log,
+    /// The newest entry, where entries are kept short.
+    newest: Entry,
+}
+
+impl Model for ShortHub {
+    ghost use Rattle.hub_core.specs.HubView.{ShortInMemory};
+
+    ghost Value = { ShortInMemory };
+
+    ghost use Rattle.hub_core.specs.HubKeeps.{HubKeeps, shown_short};
+
+    ghost view = { λ h. shown_short h };
+
+    ghost invariant = { λ h. HubKeeps h };
+}
+
+fn is_exit(step: &Step) -> bool
+    ensures { result ≡ is_exit step.now }
+{
+    matches!(step, Step::Exit)
+}
+
+/// How many entries are no exits, after this one.
+fn count_after(step: &Step, count: u32) -> u32
+    requires { count < 2 ^ 32 - 1 }
+    ensures { result ≡ count_after step.now count }
+{
+    if is_exit(step) { count } else { count + 1 }
+}
+
+/// How many steps other than makes take no memory after this one.
+fn places_after(step: &Step, places: u32) -> u32
+    ensures { result ≡ places_after step.now places }
+{
+    match step {
+        Step::Make(_) | Step::Exit => places,
+        Step::Call { .. } | Step::Close(_) | Step::Cancel(_) => places.saturating_sub(1),
+    }
+}
+
+/// Whether the journal may have to grow for the step.
+fn grows(step: &Step, places: u32) -> bool
+    ensures { IsTrue result ↔ Grows step.now places }
+{
+    match step {
+        Step::Make(_) => true,
+        Step::Call { .. } | Step::Close(_) | Step::Cancel(_) => places == 0,
+        Step::Exit => false,
+    }
+}
+
+/// Writes a call in place of an entry. Only the cases that it has are written, where that was a call too.
+fn write_call(entry: &mut Entry, pid: Pid, cases: &Cases, default: bool, word: u64)
+    ensures { entry.new ≡ call_of pid cases.now.items default word }
+{
+    entry.pid = pid;
+    match &mut entry.step {
+        Step::Call {
+            cases: places,
+            default: has_default,
+            word: choice,
+        } => {
+            places.clear();
+            let _full = places.try_extend_from_slice(cases.as_slice());
+            *has_default = default;
+            *choice = word;
+        }
+        other => {
+            *other = Step::Call {
+                cases: copy_cases(cases),
+                default,
+                word,
+            }
+        }
+    }
+}
+
+/// Appends an entry in this form. Where entries are then kept short, it is the newest that stands beside them.
+fn append(entries: &mut Log, newest: &mut Entry, entry: Entry, form: Form)
+    requires whole { form ≡ Whole → entries.old.short ≡ 0 }
+    requires room { length entries.old.items < entries.old.capacity }
+    ensures items { entries.new.items ≡ entries.old.items ++ entry ∷ [] }
+    ensures capacity { entries.new.capacity ≡ entries.old.capacity }
+    ensures whole { form ≡ Whole → entries.new.short ≡ 0 }
+    ensures newest { ¬ entries.new.short ≡ 0 → newest.new ≡ entry }
+{
+    match form {
+        Form::Whole => entries.push(entry),
+        Form::Short => {
+            entries.push_short(&entry);
+            *newest = entry;
+        }
+    }
+}
+
+impl ShortHub {
+    /// A hub of this edition, of 1 to `MOST_PROCS` processes, whose journal may hold `limit` entries that are no exits, 1
+    /// to `MOST_STEPS`. It takes the memory of all open calls, and of an exit of each process in the journal.
+    ///
+    /// Err, tested in this order, with nothing kept: `BadProcs`, `BadLimit`, `NoMemory`.
+    pub(crate) fn open(
+        alloc: Global,
+        procs: u8,
+        limit: u32,
+        edition: Edition,
+    ) -> Result<ShortHub, OpenFault>
+        ensures ok { IfOk result (λ h. h.memory.hub ≡ opened_hub (terms_of edition procs limit)) }
+        ensures exact { IfOk result (λ h. h.memory.capacity ≡ procs) }
+        ensures whole { IfOk result (λ h. h.short ≡ 0) }
+        ensures bounds { OnOk result (IsHead (head_of edition procs) × IsLimit limit) }
+        ensures err { IfErr result (λ f. RefusesOpening (terms_of edition procs limit) f) }
+    {
+        if procs == 0 || procs as usize > MOST_PROCS {
+            return Err(OpenFault::BadProcs);
+        }
+        if limit == 0 || limit > MOST_STEPS {
+            return Err(OpenFault::BadLimit);
+        }
+        let terms = Terms {
+            head: Head { edition, procs },
+            limit,
+        };
+        let machine = Machine::new(alloc, terms.head)?;
+        let entries = Log::with_capacity(alloc, procs.into())?;
+        let newest = Entry {
+            pid: Pid(0),
+            step: Step::Exit,
+        };
+        Ok(ShortHub {
+            terms,
+            places: 0,
+            count: 0,
+            machine,
+            entries,
+            newest,
+        })
+    }
+
+    /// Makes a step as `Hub::step` does, and leaves its events in place of those that were there. After a
+    /// refusal these may be any.
+    pub fn step_into(&mut self, entry: Entry, events: &mut Events) -> Result<(), Fault>
+        requires fits { is_of self.old.memory.hub.terms.head.edition entry.step ≡ true }
+        ensures ok { OnOk result (Steps self.old.memory.hub entry self.new.memory.hub events.new.items) }
+        ensures rules { StepRules self.old.memory entry self.new.memory result }
+    {
+        self.make(entry, Form::Short, events)
+    }
+
+    /// The same, and keeps its entry in this form.
+    pub(crate) fn make(
+        &mut self,
+        entry: Entry,
+        form: Form,
+        events: &mut Events,
+    ) -> Result<(), Fault>
+        requires fits { is_of self.old.memory.hub.terms.head.edition entry.step ≡ true }
+        requires whole { form ≡ Whole → self.old.short ≡ 0 }
+        ensures ok { OnOk result (Steps self.old.memory.hub entry self.new.memory.hub events.new.items) }
+        ensures rules { StepRules self.old.memory entry self.new.memory result }
+        ensures whole { form ≡ Whole → self.new.short ≡ 0 }
+    {
+        let (exit, grows) = (is_exit(&entry.step), grows(&entry.step, self.places));
+        self.admit(entry.pid, exit, grows)?;
+        empty(events);
+        let Ok(()) = self.machine.turn(&entry, events) else {
+            return Err(Fault::NoMemory);
+        };
+        self.count = count_after(&entry.step, self.count);
+        self.places = places_after(&entry.step, self.places);
+        append(&mut self.entries, &mut self.newest, entry, form);
+        Ok(())
+    }
+
+    /// Makes a call as `step_into` makes its entry, of which only the cases are written that it has.
+    pub fn call_into(
+        &mut self,
+        pid: Pid,
+        cases: &Cases,
+        default: bool,
+        word: u64,
+        events: &mut Events,
+    ) -> Result<(), Fault>
+        requires fits { is_of self.old.memory.hub.terms.head.edition (call_of pid cases.now.items default word).step ≡ true }
+        ensures ok { OnOk result (
+            Steps self.old.memory.hub (call_of pid cases.now.items default word) self.new.memory.hub events.new.items) }
+        ensures rules { StepRules self.old.memory (call_of pid cases.now.items default word) self.new.memory result }
+    {
+        self.admit(pid, false, self.places == 0)?;
+        write_call(&mut self.newest, pid, cases, default, word);
+        self.entries.push_short(&self.newest);
+        empty(events);
+        let Ok(()) = self.machine.turn(&self.newest, events) else {
+            unreachable!()
+        };
+        self.count += 1;
+        self.places = self.places.saturating_sub(1);
+        Ok(())
+    }
+
+    /// Looks whether the journal takes an entry of this process, an exit or not, and makes room for it where the
+    /// journal may have to grow. The tests stand in the order of the refusals.
+    #[inline(always)]
+    fn admit(&mut self, pid: Pid, exit: bool, grows: bool) -> Result<(), Fault>
+        ensures same { self.new.memory.hub ≡ self.old.memory.hub }
+        ensures ok { OnOk result ((e : Entry) → IsSuch self.old.memory.hub pid exit grows e → Takes self.new.memory e) }
+        ensures rules { (e : Entry) → IsSuch self.old.memory.hub pid exit grows e → StepRules self.old.memory e self.new.memory result }
+        ensures short { self.new.short ≡ self.old.short }
+    {
+        if !exit && self.count >= self.terms.limit {
+            return Err(Fault::JournalFull);
+        }
+        if let Some(fault) = self.machine.refusal(pid) {
+            return Err(fault);
+        }
+        if grows {
+            let more = self.places as usize + self.terms.head.procs as usize + 1;
+            let Ok(()) = self.entries.reserve_more(more) else {
+                return Err(Fault::NoMemory);
+            };
+        }
+        Ok(())
+    }
+
+    /// Makes room in the journal: after `Ok` the next `k` steps other than makes take no memory. After
+    /// a refusal the hub is as before.
+    pub(crate) fn reserve(&mut self, k: u32) -> Result<(), NoMemory>
+        ensures ok { OnOk result (
+            self.new.memory.hub ≡ record self.old.memory.hub { places = max self.old.memory.hub.places k }) }
+        ensures more { OnErr result (self.old.memory.hub.places < k) }
+        ensures full { OnErr result (
+            self.old.memory.capacity < length self.old.memory.hub.journal + k + self.old.memory.hub.terms.head.procs) }
+        ensures unchanged { OnErr result (self.new ≡ self.old) }
+        ensures spare { length self.old.memory.hub.journal + k + self.old.memory.hub.terms.head.procs ≤ self.old.memory.capacity
+            → self.new.memory.capacity ≡ self.old.memory.capacity }
+        ensures kept { k ≤ self.old.memory.hub.places → self.new.memory.capacity ≡ self.old.memory.capacity }
+        ensures capacity { self.old.memory.capacity ≤ self.new.memory.capacity }
+        ensures short { self.new.short ≡ self.old.short }
+    {
+        if k > self.places {
+            self.entries
+                .reserve_more(k as usize + self.terms.head.procs as usize)?;
+            self.places = k;
+        }
+        Ok(())
+    }
+
+    /// The capacity and the counts of a port, or `None` for port 0 and for a port that was not made.
+    pub fn look(&self, port: Port) -> Option<Look>
+        ensures { result ≡ look_at (state_of self.now.memory.hub) port }
+    {
+        self.machine.look(port)
+    }
+
+    /// The value at a place of a port's buffer, 0 the oldest. `None` past its end, for port 0 and for
+    /// a port that was not made.
+    pub(crate) fn buffered(&self, port: Port, place: u32) -> Option<Value>
+        ensures { result ≡ value_at (state_of self.now.memory.hub) port place }
+    {
+        self.machine.buffered(port, place)
+    }
+
+    /// What its journal's head lines say: its edition, and its number of processes.
+    pub fn head(&self) -> Head
+        ensures value { result ≡ self.now.memory.hub.terms.head }
+        ensures range { IsHead result }
+    {
+        self.terms.head
+    }
+
+    /// The newest entry of the journal, which has one.
+    pub fn newest(&self) -> &Entry
+        requires { 0 < length self.now.memory.hub.journal }
+        ensures { (es : List Entry) (e : Entry) → self.now.memory.hub.journal ≡ es ++ e ∷ [] → result.now ≡ e }
+    {
+        if !self.entries.is_whole() {
+            return &self.newest;
+        }
+        let entries = self.entries.as_slice();
+        &entries[entries.len() - 1]
+    }
+
+    /// How many entries the journal has.
+    pub fn len(&self) -> usize
+        ensures { result ≡ length self.now.memory.hub.journal }
+    {
+        self.entries.len()
+    }
+
+    /// The journal's entry at this place, counted from 0; `None` behind the last. The journal is written out, which takes
+    /// no memory. Each entry was admitted when it came, and is one that the edition has.
+    pub fn entry(&mut self, place: usize) -> Option<Entry>
+        ensures entry { result ≡ slice_get self.old.memory.hub.journal place }
+        ensures same { self.new.memory ≡ self.old.memory }
+        ensures legal { kept self.old.memory.hub.terms.head self.old.memory.hub.journal ≡ self.old.memory.hub.journal }
+        ensures fits { AreOf self.old.memory.hub.terms.head.edition self.old.memory.hub.journal }
+    {
+        self.entries.write_out();
+        self.entries.as_slice().get(place).map(Entry::copy)
+    }
+
+    /// The journal so far, where all of it is written out.
+    pub(crate) fn whole(&self) -> &[Entry]
+        requires { self.now.short ≡ 0 }
+        ensures journal { result.now ≡ self.now.memory.hub.journal }
+        ensures legal { kept self.now.memory.hub.terms.head self.now.memory.hub.journal ≡ self.now.memory.hub.journal }
+        ensures fits { AreOf self.now.memory.hub.terms.head.edition self.now.memory.hub.journal }
+    {
+        self.entries.as_slice()
+    }
+
+    /// The journal of the hub, which ends. It takes no memory.
+    pub fn into_journal(self) -> Journal
+        ensures journal { result ≡ record { head = self.memory.hub.terms.head; entries = self.memory.hub.journal } }
+        ensures legal { kept self.memory.hub.terms.head self.memory.hub.journal ≡ self.memory.hub.journal }
+        ensures fits { AreOf self.memory.hub.terms.head.edition self.memory.hub.journal }
+    {
+        let Head { edition, procs } = self.terms.head;
+        Journal::of(edition, procs, self.entries.into_vec())
+    }
+}

@@ -169,9 +169,6 @@ def longest_journals(folder):
     """Journals of the most bytes and of the most steps, and of one more: replayed, and compared with events."""
     most_bytes, most_steps = 67108864, 1000000
 
-    def is_refused(journal, events, fault):
-        return run(['replay'], journal.encode()) == compare(folder, journal, events) == refused(fault)
-
     # Port 9 is not made, so each call is fault 5.
     head = 'chanhub journal 1\nprocs 1\n'
     line = '0 select 0' + 3 * ' s9:18446744073709551615' + '\n'
@@ -189,10 +186,11 @@ def longest_journals(folder):
         ('an event more', events + '0 fault 5\n', times + 2),
     ):
         yield 'most bytes: ' + name, compare(folder, journal, wrong) == (3, b'differs at line %d\n' % differs, b'')
-    # The two head lines come before the lines of the steps.
-    yield 'a longer last line', is_refused(text + '1\n', events, 'line %d: too long' % (times + 3))
-    yield 'a byte more', is_refused(journal + '0', events, 'line %d: too long' % (times + 4))
-    yield 'a byte more, without events', is_refused(journal + '0', '', 'line %d: too long' % (times + 4))
+    # The two head lines come before the lines of the steps. A fault of the journal decides, whatever the events are.
+    for name, longer, place in (('a longer last line', text + '1\n', times + 3), ('a byte more', journal + '0', times + 4)):
+        fault = refused('line %d: too long' % place)
+        yield name, run(['replay'], longer.encode()) == compare(folder, longer, events) == fault
+        yield name + ', without events', compare(folder, longer, '') == fault
 
     # Exits are not counted, and the second is fault 2.
     journal = head + most_steps * '0 make 1025\n'
@@ -204,8 +202,9 @@ def longest_journals(folder):
         yield 'most steps: same' + name, compare(folder, text, told) == (0, b'same\n', b'')
         wrong = events[:-2] + '5\n' + answers
         yield 'most steps: last' + name, compare(folder, text, wrong) == (3, b'differs at line %d\n' % most_steps, b'')
-        yield 'a step more' + name, is_refused(text + '0 make 1025\n', told, 'line %d: too long' % (lines + 1))
-        yield 'a step more, without events' + name, is_refused(text + '0 make 1025\n', '', 'line %d: too long' % (lines + 1))
+        longer, fault = text + '0 make 1025\n', refused('line %d: too long' % (lines + 1))
+        yield 'a step more' + name, run(['replay'], longer.encode()) == compare(folder, longer, told) == fault
+        yield 'a step more, without events' + name, compare(folder, longer, '') == fault
 
 
 def comparisons(folder):

@@ -1,12 +1,12 @@
 #!/bin/sh
 # program.sh [PROGRAM [SERVE [STORY]]]: runs the built program on the examples, journals and scenarios; on the rows of tests/; on
-# random journals beside the events that model.py makes of them; on the longest journal and one entry more; and with each of its
-# allocations refused. Runs a hub's tests and the live hub's, which `./test` has built, with theirs refused; compares
-# model.py, CLAIMS and the quotations of README with what they speak of; looks for limits that are written as numbers, and
-# for definitions and proofs that are too wide; counts the instructions of replays, where valgrind is there; tries a
-# close by an end that receives; converses with the built chanhub_serve; compares the stories and pictures of the built
-# chanhub_story with second readings; and builds and tries the C library. The last line counts: 'N passed, M failed', and how
-# many were skipped, if any, for what the machine lacks.
+# random journals beside the events that model.py makes of them; and with each of its allocations refused. Runs a hub's
+# tests and the live hub's, which `./test` has built, with theirs refused; compares model.py, CLAIMS and the quotations of
+# README with what they speak of; looks for limits that are written as numbers, and for definitions and proofs that are too
+# wide; counts the instructions of replays, where valgrind is there; tries a close by an end that receives; converses with
+# the built chanhub_serve; compares the stories and pictures of the built chanhub_story with second readings; and builds and
+# tries the C library. The last line counts: 'N passed, M failed', and how many were skipped, if any, for what the machine
+# lacks.
 set -u
 root=$(cd "$(dirname "$0")/.." && pwd)
 program=${1:-$root/crates/chanhub/out/chanhub}
@@ -149,20 +149,6 @@ for seed in $(seq "$random_journals"); do
     [ -s "$work/wanted" ] && replays "$work/journal_$seed" "$work/wanted"
     count $? "random journal of seed $seed"
 done
-
-# A journal has at most 1,000,000 entries that are no exits, and any exits beside them.
-awk 'BEGIN {
-    print "chanhub journal 1\nprocs 1"
-    for (i = 0; i < 1000000; i++) print "0 make 1025"
-    print "0 exit"
-}' > "$work/longest"
-awk 'BEGIN { for (i = 0; i < 1000000; i++) print "0 fault 6"; print "0 done" }' > "$work/wanted"
-replays "$work/longest" "$work/wanted"
-count $? "the longest journal"
-{ cat "$work/longest"; echo "0 make 1025"; } > "$work/too_long"
-"$program" replay < "$work/too_long" > "$work/events" 2> "$work/errors"
-[ $? -eq 2 ] && [ ! -s "$work/events" ] && echo "chanhub: line 1000004: too long" | cmp -s - "$work/errors"
-count $? "one entry more than the longest journal has"
 
 "$root/tools/converse.py" "$program" "$serve" > "$work/conversations" 2>&1
 count $? "conversations: $(cat "$work/conversations")"

@@ -1,8 +1,8 @@
 /*
  * Stands before the C library's allocator, which it calls by the names that glibc gives it beside the usual ones, and
  * before its start of a thread, and refuses allocations or starts. The environment says which, counted from the
- * constructor below on, so that the loader's work is left alone, or, with REFUSE_AFTER, allocations from the first one
- * of just so many bytes on:
+ * constructor below on, so that the loader's work is left alone, or, with REFUSE_AFTER, from the first allocation of just
+ * so many bytes on:
  *
  *   REFUSE        the number of the allocation to be refused, or `all`; none where it is not set
  *   REFUSE_AFTER  how many bytes the allocation asks for after which the counting begins
@@ -44,7 +44,7 @@ __attribute__((constructor)) static void begin(void) {
     number = which != NULL && !all ? strtoul(which, NULL, 10) : 0;
     mark = after != NULL ? strtoul(after, NULL, 10) : 0;
     counted = 0;
-    counts = (all || number > 0) && mark == 0;
+    counts = mark == 0;
 }
 
 static void leave_trace(void) {
@@ -56,8 +56,7 @@ static void leave_trace(void) {
 
 static int refuses(size_t size) {
     if (!counts) {
-        if ((all || number > 0) && mark > 0 && size == mark)
-            counts = 1;
+        counts = mark > 0 && size == mark;
         return 0;
     }
     if (!all && __atomic_add_fetch(&counted, 1, __ATOMIC_SEQ_CST) != number)
@@ -107,7 +106,7 @@ int posix_memalign(void **out, size_t alignment, size_t size) {
 }
 
 int pthread_create(pthread_t *thread, const pthread_attr_t *attributes, void *(*run)(void *), void *argument) {
-    if (start_number > 0 && __atomic_add_fetch(&started, 1, __ATOMIC_SEQ_CST) == start_number) {
+    if (counts && start_number > 0 && __atomic_add_fetch(&started, 1, __ATOMIC_SEQ_CST) == start_number) {
         leave_trace();
         return EAGAIN;
     }

@@ -165,6 +165,48 @@ def beginnings(_):
         yield name, run(['replay'], head + b'0' * (size - 1 - len(head)) + end) == refused('line 3: ' + kind)
 
 
+def longest_journals(folder):
+    """Journals of the most bytes and of the most steps, and of one more: replayed, and compared with events."""
+    most_bytes, most_steps = 67108864, 1000000
+
+    # Port 9 is not made, so each call is fault 5.
+    head = 'chanhub journal 1\nprocs 1\n'
+    line = '0 select 0' + 3 * ' s9:18446744073709551615' + '\n'
+    times, rest = divmod(most_bytes - len(head), len(line))
+    last = '0 send 9 '.ljust(rest - 1, '1')
+    text = head + times * line + last
+    journal = text + '\n'
+    events = (times + 1) * '0 fault 5\n'
+    yield 'most bytes: the rest is a line', len(journal) == most_bytes and len(last) > len('0 send 9 ')
+    yield 'most bytes', run(['replay'], journal.encode()) == (0, events.encode(), b'')
+    yield 'most bytes: same', compare(folder, journal, events) == (0, b'same\n', b'')
+    for name, wrong, differs in (
+        ('last event', events[:-2] + '6\n', times + 1),
+        ('no last byte', events[:-1], times + 1),
+        ('an event more', events + '0 fault 5\n', times + 2),
+    ):
+        yield 'most bytes: ' + name, compare(folder, journal, wrong) == (3, b'differs at line %d\n' % differs, b'')
+    # The two head lines come before the lines of the steps. A fault of the journal decides, whatever the events are.
+    for name, longer, place in (('a longer last line', text + '1\n', times + 3), ('a byte more', journal + '0', times + 4)):
+        fault = refused('line %d: too long' % place)
+        yield name, run(['replay'], longer.encode()) == compare(folder, longer, events) == fault
+        yield name + ', without events', compare(folder, longer, '') == fault
+
+    # Exits are not counted, and the second is fault 2.
+    journal = head + most_steps * '0 make 1025\n'
+    events = most_steps * '0 fault 6\n'
+    for name, exits, answers in (('', '', ''), (', exits', 2 * '0 exit\n', '0 done\n0 fault 2\n')):
+        text, told = journal + exits, events + answers
+        lines = 2 + most_steps + exits.count('\n')
+        yield 'most steps' + name, run(['replay'], text.encode()) == (0, told.encode(), b'')
+        yield 'most steps: same' + name, compare(folder, text, told) == (0, b'same\n', b'')
+        wrong = events[:-2] + '5\n' + answers
+        yield 'most steps: last' + name, compare(folder, text, wrong) == (3, b'differs at line %d\n' % most_steps, b'')
+        longer, fault = text + '0 make 1025\n', refused('line %d: too long' % (lines + 1))
+        yield 'a step more' + name, run(['replay'], longer.encode()) == compare(folder, longer, told) == fault
+        yield 'a step more, without events' + name, compare(folder, longer, '') == fault
+
+
 def comparisons(folder):
     for group in table('comparisons')['group']:
         for row in group['comparisons']:
@@ -354,8 +396,8 @@ def main():
     passed, failed = 0, 0
     with tempfile.TemporaryDirectory() as folder:
         for rows in (
-            journals, long_journals, faulty_journals, beginnings, comparisons, runs, scenarios, long_scenarios, arguments,
-            devices, small_devices,
+            journals, long_journals, longest_journals, faulty_journals, beginnings, comparisons, runs, scenarios,
+            long_scenarios, arguments, devices, small_devices,
         ):
             for name, is_well in rows(folder):
                 passed, failed = passed + is_well, failed + (not is_well)

@@ -62,7 +62,7 @@ fn compare<K: HubName>(
     }
 }
 
-fn is_made(report: Option<Result<Event, Fault>>) -> bool {
+pub(super) fn is_made(report: Option<Result<Event, Fault>>) -> bool {
     matches!(
         report,
         Some(Ok(Event {

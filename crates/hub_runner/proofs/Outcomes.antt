@@ -1,39 +1,35 @@
 -- What the threads of a run told, and where all its processes came to.
 use Rattle.std.proofs.Common.{◌≡◌, ◌≢◌, ℕ, ◌+◌, ◌<◌, ◌⊎◌, inl, inr, List, [], ◌∷◌, ◌++◌, length, get_or, map, refl, ap, ◌∙◌, sym, subst}
 use Rattle.std.proofs.Common.{Option, None, Some, Result, Ok, Err, IfErr, OnOk, append_assoc, take, drop, arith}
-use Rattle.std.specs.Prelude.{slice_get, slice_set, IsOk, Any}
-use Rattle.std.proofs.lemmas.List.{map-append, length-map, take-append-drop}
+use Rattle.std.specs.Prelude.{slice_get, slice_set, IsOk, IsErr, Any}
+use Rattle.std.proofs.lemmas.List.{map-append, take-append-drop}
 use Rattle.std.proofs.lemmas.List.Quantifiers.{Any-push, any-set}
-use Rattle.std.proofs.lemmas.Option.{slice_get-get_or}
 use Rattle.std.proofs.lemmas.Grind.{common_steps}
-use Rattle.hub_base.specs.declared.head.Head.{Head}
 use Rattle.hub_base.specs.declared.value.Pid.{Pid}
 use Rattle.hub_base.specs.declared.entry.Entry.{Entry}
 use Rattle.hub_base.specs.declared.entry.Step.{Step}
 use Rattle.hub_base.specs.declared.entry.Step.TheVariants as step
 use Rattle.hub_base.specs.declared.fault.Fault.{Fault}
 use Rattle.hub_base.specs.declared.fault.Fault.TheVariants as fault
-use Rattle.hub_base.specs.Journal.{JournalView}
-use Rattle.hub_laws.specs.Journals.{IsLegal}
 use Rattle.hub_live.specs.Name.{Name}
 use Rattle.hub_live.specs.SeatView.{SeatView}
-use Rattle.hub_live.specs.Calls.{Later, Refused, Shows, AreSeats, StandsIn, EndsIn}
+use Rattle.hub_live.specs.Calls.{Later, Refused, Shows, AreSeats}
 use Rattle.hub_live.proofs.Prefixes.{prefix_self}
 use Rattle.hub_live.proofs.Loops.{all_snoc}
 use Rattle.hub_scenario.specs.declared.script.ScriptStep.{ScriptStep}
-use Rattle.hub_scenario.specs.Scenario.{ScenarioData, run_head}
+use Rattle.hub_scenario.specs.Scenario.{ScenarioData}
 use Rattle.hub_scenario.specs.ChoiceWords.{choice_word, words_of_process}
 use Rattle.hub_runner.specs.declared.fault.RunFault.{RunFault}
 use Rattle.hub_runner.specs.declared.fault.RunFault.TheVariants as run
 use Rattle.hub_runner.specs.Asked.{Asked}
 use Rattle.hub_runner.specs.Scripts.{MakesThenFollows, FollowsScript, made_by}
-use Rattle.hub_runner.specs.CutShort.{steps_asked, ComesTo, OneGoesOn, IsCutShort}
+use Rattle.hub_runner.specs.CutShort.{steps_asked, ComesTo}
 use Rattle.hub_runner.specs.Running.{AreMakes, MakesStopped, IsReady, HasFollowed, HasCome, MeetsLimit, IsOutcome, HaveEnded}
 use Rattle.hub_runner.specs.Working.{asked_of, Onward, Followed, next_of, WasStopped}
 use Rattle.hub_runner.proofs.Askings.{answered}
 use Rattle.hub_runner.proofs.Workers.{at_place}
-use Rattle.hub_runner.proofs.Stops.{can_follow, can_make, makes_on, followed_comes, refused_asks, StopsAt, stop_comes, stop_shows, steps_grow}
-use Rattle.hub_runner.proofs.Runs.{makes_then, one_script, has_followed, from_ok, in_journal, pid_at, all_in_journal}
+use Rattle.hub_runner.proofs.Stops.{can_follow, can_make, makes_on, followed_comes, refused_asks, StopsAt, stop_no_exit, own_no_exit, stop_comes, stop_shows}
+use Rattle.hub_runner.proofs.Runs.{makes_then, one_script, has_followed, from_ok}
 use Rattle.hub_runner.proofs.Runs.{blank_seat, asked-nil, all_but_first, first_kept}
 
 -- ---- one thread
@@ -69,18 +65,16 @@ outcome_by : (r : Result (Unit {0}) Fault) (sc : ScenarioData) (s t : SeatView) 
     → slice_get sc.scripts s.pid.0 ≡ Some script → OnOk r (Followed (asked_of s) (asked_of t) (words_of_process sc.seed s.pid.0) script)
     → IfErr r (λ f. WasStopped (asked_of s) t (words_of_process sc.seed s.pid.0) script f) → IsOutcome sc t r
 outcome_by (Ok x) sc s t script ready on at ok err =
-    let all : HasFollowed sc t = has_followed {E = Fault} (Ok x) sc s t script ready on at ok in
-    record { ok = all; come = λ other is. (step.Exit, followed_comes sc t.pid.0 other (asked_of t) (all other is)); err = tt }
+    record { ok = has_followed {E = Fault} (Ok x) sc s t script ready on at ok; err = tt }
 outcome_by (Err f) sc s t script ready on at ok w =
     let next = next_of w.stopped.rest (words_of_process sc.seed s.pid.0) w.stopped.k in
     let st = stopped_at sc s t script f ready w in
     let come = has_come sc s t script next on.pid at (stop_comes sc s.pid.0 script w.at t next f st w.same) in
     record {
       ok = tt;
-      come = λ other is. (next, come other is);
       err = elim (stop_shows sc s.pid.0 script w.at t next f st w.onward) [
         | inl memory ↦ inl memory
-        | inr h ↦ inr (record { full = h.1; goes_on = λ other is. (next, come other is, h.0) })
+        | inr h ↦ inr (record { saw = h.1; goes_on = λ other is. (next, come other is, h.0) })
       ];
     }
 
@@ -138,6 +132,7 @@ blank_comes sc name k script at =
         follows =
             subst (λ (zs : List Asked). FollowsScript sc k script (steps_asked zs ++ answered end.0 None ∷ end.1)) (sym (asked-nil k name.terms.head)) end.2;
       },
+      λ is_step. inl refl,
     )
 
 same_pids : (ss : List SeatView) (d t : SeatView) → t.pid ≡ (get_or ss 0 d).pid → map (λ s. s.pid) (slice_set ss 0 t) ≡ map (λ s. s.pid) ss
@@ -146,22 +141,25 @@ same_pids (s ∷ ss) d t pid = (λ i. pid i ∷ map (λ s. s.pid) ss)
 
 -- a run that ends where a make was refused
 pub makes_end : (name : Name) (sc : ScenarioData) (ss : List SeatView) (d t : SeatView) (f : Fault) (told : RunFault) → AreSeats name 0 ss → 0 < length ss
-    → Onward (get_or ss 0 d) t → MakesStopped sc.ports t f → (told ≡ run.JournalFull → f ≢ fault.NoMemory)
+    → Onward (get_or ss 0 d) t → MakesStopped sc.ports t f → (f ≡ fault.NoMemory → told ≡ run.NoMemory)
     → HaveEnded sc name (map (λ s. s.pid) ss) (slice_set ss 0 t) (Some told)
-makes_end name sc ss d t f told h some on m full =
+makes_end name sc ss d t f told h some on m memory_told =
     let kept = first_kept name ss d t h some on in
     let make = step.Make m.cap in
+    let stop = λ (script : List ScriptStep). makes_stop_at sc t script f kept.1 m in
     let come : (script : List ScriptStep) → ComesTo sc t.pid.0 script (asked_of t) make =
-    λ script. stop_comes sc t.pid.0 script t t make f (makes_stop_at sc t script f kept.1 m) refl in
+    λ script. stop_comes sc t.pid.0 script t t make f (stop script) refl in
+    let stays = own_no_exit t (stop_no_exit sc t.pid.0 [] t make f (stop [])) in
     record {
       pids = same_pids ss d t on.pid;
       hubs = all_but_first (λ s. s.hub ≡ name) name ss t h some kept.0 (λ k. refl);
       none = λ e. absurd (let g : ⊥ = cc in g);
-      come = all_but_first (HasCome sc) name ss t h some (λ script is. (make, come script)) (λ k. blank_comes sc name (1 + k));
-      full = λ e. any-set (MeetsLimit sc) ss 0 t some (elim (stop_shows sc t.pid.0 [] t t make f (makes_stop_at sc t [] f kept.1 m)
+      come = λ no_memory.
+          all_but_first (HasCome sc) name ss t h some (λ script is. (make, come script, λ is_step. inl stays)) (λ k. blank_comes sc name (1 + k));
+      full = λ e. any-set (MeetsLimit sc) ss 0 t some (elim (stop_shows sc t.pid.0 [] t t make f (stop [])
           (record { hub = refl; pid = refl; begins = prefix_self t.seen })) [
-            | inl memory ↦ absurd (full (let z : told ≡ run.JournalFull = cc in z) memory)
-            | inr shown ↦ record { full = shown.1; goes_on = λ script is. (make, come script, shown.0) }
+            | inl memory ↦ absurd (let other = memory_told memory in let g : ⊥ = cc (e, other) in g)
+            | inr shown ↦ record { saw = shown.1; goes_on = λ script is. (make, come script, shown.0) }
           ]);
     }
 
@@ -171,68 +169,44 @@ any_more : {A : Type 0} (P : A → Type 0) (xs grown : List A) (y : A) → grown
 any_more P xs grown y is h =
     subst (λ zs. Any P zs) (sym is) (h.0, h.1, grind (arith, common_steps, h.2), grind (arith, common_steps, h.2, h.3), h.4)
 
--- the last process met the limit, where the run's fault is told for its sake
-met : (sc : ScenarioData) (s : SeatView) (told : Result (Unit {0}) Fault) (f : Fault) → IsOutcome sc s told → told ≡ Err f → f ≢ fault.NoMemory
+-- a process that was not stopped by want of memory: if it was stopped, then by the limit
+met : (sc : ScenarioData) (s : SeatView) (told : Result (Unit {0}) Fault) → IsOutcome sc s told → told ≢ Err fault.NoMemory → IsErr told
     → MeetsLimit sc s
-met sc s told f out is no_memory =
-    elim (subst (λ (r : Result (Unit {0}) Fault). IfErr r (λ f. (f ≡ fault.NoMemory) ⊎ MeetsLimit sc s)) is out.err) [
-      | inl memory ↦ absurd (no_memory memory)
-      | inr m ↦ m
-    ]
+met sc s (Ok x) out no_memory is = absurd (let g : ⊥ = cc in g)
+met sc s (Err f) out no_memory is = elim out.err [
+  | inl memory ↦ absurd (no_memory (ap Err memory))
+  | inr m ↦ m
+]
+
+met_comes : (sc : ScenarioData) (s : SeatView) → MeetsLimit sc s → HasCome sc s
+met_comes sc s m script at = let here = m.goes_on script at in (here.0, here.1, λ is_step. inr m.saw)
+
+follows_comes : (sc : ScenarioData) (s : SeatView) → HasFollowed sc s → HasCome sc s
+follows_comes sc s f script at =
+    (step.Exit, followed_comes sc s.pid.0 script (asked_of s) (f script at), λ is_step. absurd (let g : ⊥ = cc in g))
+
+-- and it has come some way in any case
+comes : (sc : ScenarioData) (s : SeatView) (told : Result (Unit {0}) Fault) → IsOutcome sc s told → told ≢ Err fault.NoMemory → HasCome sc s
+comes sc s (Ok x) out no_memory = follows_comes sc s out.ok
+comes sc s (Err f) out no_memory = met_comes sc s (met sc s (Err f) out no_memory refl)
 
 -- one member more
 pub ended_more : (sc : ScenarioData) (name : Name) (pids : List Pid) (seats grown : List SeatView) (s : SeatView) (before after : Option RunFault)
     (told : Result (Unit {0}) Fault) → grown ≡ seats ++ s ∷ [] → HaveEnded sc name pids seats before → s.hub ≡ name → IsOutcome sc s told
     → (after ≡ None → (before ≡ None) × IsOk told)
-    → (after ≡ Some run.JournalFull → (before ≡ Some run.JournalFull) ⊎ ((f : Fault) × (told ≡ Err f) × (f ≢ fault.NoMemory)))
+    → ((before ≡ Some run.NoMemory) ⊎ (told ≡ Err fault.NoMemory) → after ≡ Some run.NoMemory)
+    → (after ≡ Some run.JournalFull → (before ≡ Some run.JournalFull) ⊎ IsErr told)
     → HaveEnded sc name (pids ++ s.pid ∷ []) grown after
-ended_more sc name pids seats grown s before after told is h hub out none full = record {
-  pids = ap (map (λ s. s.pid)) is ∙ map-append (λ (s : SeatView). s.pid) seats (s ∷ []) ∙ ap (λ (ps : List Pid). ps ++ s.pid ∷ []) h.pids;
-  hubs = all_snoc seats grown s (λ s. s.hub ≡ name) is h.hubs hub;
-  none = λ e. all_snoc seats grown s (HasFollowed sc) is (h.none (none e).0) (from_ok told (HasFollowed sc s) (none e).1 out.ok);
-  come = all_snoc seats grown s (HasCome sc) is h.come out.come;
-  full = λ e. elim (full e) [
-    | inl still ↦ any_more (MeetsLimit sc) seats grown s is (h.full still)
-    | inr w ↦ subst (λ zs. Any (MeetsLimit sc) zs) (sym is) (Any-push (MeetsLimit sc) seats s (met sc s told w.0 out w.1 w.2))
-  ];
-}
-
--- ---- the journal
-
--- one process met the limit: in the journal it has come to a step
-one_goes_on : (sc : ScenarioData) (s : SeatView) (journal : List Entry) → s.hub.terms.head ≡ run_head sc → s.pid.0 < length sc.scripts
-    → MeetsLimit sc s → StandsIn s journal → OneGoesOn sc journal
-one_goes_on sc s journal head low m st =
-    let at = slice_get-get_or sc.scripts s.pid.0 [] low in
-    let script = get_or sc.scripts s.pid.0 [] in
-    let here = m.goes_on script at in
+ended_more sc name pids seats grown s before after told is h hub out none memory full =
+    let no_memory : after ≡ Some run.JournalFull → told ≢ Err fault.NoMemory =
+    λ e refused. let other = memory (inr refused) in let g : ⊥ = cc (e, other) in g in
     record {
-      q = s.pid.0;
-      script = script;
-      of = at;
-      next = here.0;
-      comes = in_journal (λ all. ComesTo sc s.pid.0 script all here.0) sc s journal head st here.1;
-      is_step = here.2;
-    }
-
--- the limit cut the run short, where the seats of all its processes say so
-pub cut_short : (name : Name) (sc : ScenarioData) (before done : List SeatView) (journal : JournalView) (told : Option RunFault)
-    → name.terms.head ≡ run_head sc → name.terms.limit ≡ sc.limit → length before ≡ length sc.scripts → AreSeats name 0 before
-    → HaveEnded sc name (map (λ s. s.pid) before) done told → EndsIn name done journal → told ≡ Some run.JournalFull → IsCutShort sc journal.entries
-cut_short name sc before done journal told head limit many seats h ends full =
-    let met = h.full full in
-    let s = met.1 in
-    let of_place : get_or done met.0 s ≡ s = met.3 in
-    let st : StandsIn s journal.entries = subst (λ (z : SeatView). StandsIn z journal.entries) of_place (ends.seats met.0 s met.2) in
-    let hub : s.hub ≡ name = subst (λ (z : SeatView). z.hub ≡ name) of_place (h.hubs met.0 s met.2) in
-    let pid : s.pid.0 ≡ met.0 = subst (λ (z : SeatView). z.pid.0 ≡ met.0) of_place (pid_at name before done met.0 s seats h.pids met.2) in
-    let low : s.pid.0 < length sc.scripts =
-    omega (arith, length-map done (λ (s : SeatView). s.pid), ap length h.pids, length-map before (λ (s : SeatView). s.pid)) in
-    let same_head : s.hub.terms.head ≡ run_head sc = ap (λ (m : Name). m.terms.head) hub ∙ head in
-    record {
-      legal = subst (λ (hd : Head). IsLegal hd journal.entries) (ends.head ∙ head) ends.legal;
-      full = omega (arith, ends.few, limit, met.4.full, ap (λ (m : Name). m.terms.limit) hub, steps_grow s.seen journal.entries st.begins);
-      each = all_in_journal (λ q script all. (next : Step) × ComesTo sc q script all next) name sc before done journal.entries
-          head many seats h.pids h.hubs h.come ends.seats;
-      one = one_goes_on sc s journal.entries same_head low met.4 st;
+      pids = ap (map (λ s. s.pid)) is ∙ map-append (λ (s : SeatView). s.pid) seats (s ∷ []) ∙ ap (λ (ps : List Pid). ps ++ s.pid ∷ []) h.pids;
+      hubs = all_snoc seats grown s (λ s. s.hub ≡ name) is h.hubs hub;
+      none = λ e. all_snoc seats grown s (HasFollowed sc) is (h.none (none e).0) (from_ok told (HasFollowed sc s) (none e).1 out.ok);
+      come = λ other. all_snoc seats grown s (HasCome sc) is (h.come (λ e. other (memory (inl e)))) (comes sc s told out (λ e. other (memory (inr e))));
+      full = λ e. elim (full e) [
+        | inl still ↦ any_more (MeetsLimit sc) seats grown s is (h.full still)
+        | inr err ↦ subst (λ zs. Any (MeetsLimit sc) zs) (sym is) (Any-push (MeetsLimit sc) seats s (met sc s told out (no_memory e) err))
+      ];
     }

@@ -24,7 +24,7 @@ use Rattle.hub_scenario.specs.Scripts.{AreOf}
 use Rattle.hub_scenario.specs.Steps.{has_step}
 use Rattle.hub_scenario.specs.ChoiceWords.{words_of_process}
 use Rattle.hub_runner.specs.Asked.{Asked, asked}
-use Rattle.hub_runner.specs.Scripts.{Follows, MakesThenFollows, FollowsScript, made_by}
+use Rattle.hub_runner.specs.Scripts.{Follows, MakesThenFollows, FollowsScript, made_by, AllFollow}
 use Rattle.hub_runner.specs.Running.{AreMakes, IsReady, HasFollowed}
 use Rattle.hub_runner.specs.Working.{asked_of, Onward, Followed}
 use Rattle.hub_runner.proofs.Workers.{made_asks}
@@ -133,23 +133,30 @@ pid_at name before done k d seats pids here =
     ∙ get_or-map (λ (s : SeatView). s.pid) before k d d.pid there)
     ∙ ap (λ (s : SeatView). s.pid.0) (blank_at name 0 before k d seats there) ∙ (let z : 0 + k ≡ k = omega arith in z)
 
--- and so of all processes
-pub all_in_journal : (P : ℕ → List ScriptStep → List Asked → Type 0) (name : Name) (sc : ScenarioData) (before done : List SeatView) (journal : List Entry)
-    → name.terms.head ≡ run_head sc → length before ≡ length sc.scripts → AreSeats name 0 before → map (λ s. s.pid) done ≡ map (λ s. s.pid) before
-    → All (λ s. s.hub ≡ name) done
-    → All (λ s. (script : List ScriptStep) → slice_get sc.scripts s.pid.0 ≡ Some script → P s.pid.0 script (asked_of s)) done
-    → All (λ s. StandsIn s journal) done
-    → (q : ℕ) (script : List ScriptStep) → slice_get sc.scripts q ≡ Some script → P q script (asked q (run_head sc) journal)
-all_in_journal P name sc before done journal head many seats pids hubs each stands q script at =
+-- what is known of each process from its seat, as soon as the journal is known to begin with what the seat has seen
+pub all_processes : (Q : SeatView → List ScriptStep → Type 0) (R : ℕ → List ScriptStep → Type 0) (name : Name) (sc : ScenarioData)
+    (before done : List SeatView) (journal : List Entry) → length before ≡ length sc.scripts → AreSeats name 0 before
+    → map (λ s. s.pid) done ≡ map (λ s. s.pid) before → All (λ s. s.hub ≡ name) done → All (λ s. StandsIn s journal) done
+    → All (λ s. (script : List ScriptStep) → slice_get sc.scripts s.pid.0 ≡ Some script → Q s script) done
+    → ((s : SeatView) (script : List ScriptStep) → s.hub ≡ name → StandsIn s journal → Q s script → R s.pid.0 script)
+    → (q : ℕ) (script : List ScriptStep) → slice_get sc.scripts q ≡ Some script → R q script
+all_processes Q R name sc before done journal many seats pids hubs stands each known q script at =
     let d : SeatView = record { hub = name; pid = record { 0 = q }; seen = [] } in
     let low : q < length sc.scripts = slice_get_within sc.scripts q script at in
     let here : q < length done =
     omega (arith, length-map done (λ (s : SeatView). s.pid), ap length pids, length-map before (λ (s : SeatView). s.pid)) in
     let s = get_or done q d in
     let pid : s.pid.0 ≡ q = pid_at name before done q d seats pids here in
-    let same_head : s.hub.terms.head ≡ run_head sc = ap (λ (m : Name). m.terms.head) (hubs q d here) ∙ head in
-    subst (λ (p : ℕ). P p script (asked p (run_head sc) journal)) pid
-    (in_journal (P s.pid.0 script) sc s journal same_head (stands q d here) (each q d here script (ap (slice_get sc.scripts) pid ∙ at)))
+    subst (λ (p : ℕ). R p script) pid
+    (known s script (hubs q d here) (stands q d here) (each q d here script (ap (slice_get sc.scripts) pid ∙ at)))
+
+pub all_follow : (name : Name) (sc : ScenarioData) (before done : List SeatView) (journal : List Entry)
+    → name.terms.head ≡ run_head sc → length before ≡ length sc.scripts → AreSeats name 0 before → map (λ s. s.pid) done ≡ map (λ s. s.pid) before
+    → All (λ s. s.hub ≡ name) done → All (HasFollowed sc) done → All (λ s. StandsIn s journal) done → AllFollow sc journal
+all_follow name sc before done journal head many seats pids hubs followed stands =
+    all_processes (λ s script. FollowsScript sc s.pid.0 script (asked_of s)) (λ q script. FollowsScript sc q script (asked q (run_head sc) journal))
+    name sc before done journal many seats pids hubs stands followed
+    (λ s script hub st f. in_journal (FollowsScript sc s.pid.0 script) sc s journal (ap (λ (m : Name). m.terms.head) hub ∙ head) st f)
 
 -- ---- results
 

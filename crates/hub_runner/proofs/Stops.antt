@@ -7,6 +7,7 @@ use Rattle.std.proofs.lemmas.Bool.{or_parts, or_from}
 use Rattle.std.proofs.lemmas.List.Elements.{filter-append}
 use Rattle.std.proofs.lemmas.List.{length-append}
 use mathlib.Core.List.{IsPrefix}
+use Rattle.hub_base.specs.declared.value.Pid.{Pid}
 use Rattle.hub_base.specs.declared.entry.Step.{Step}
 use Rattle.hub_base.specs.declared.entry.Step.TheVariants as step
 use Rattle.hub_base.specs.declared.entry.Entry.{Entry}
@@ -25,7 +26,7 @@ use Rattle.hub_scenario.specs.ChoiceWords.{choice_word, words_of_process}
 use Rattle.hub_runner.specs.Asked.{Asked, asked}
 use Rattle.hub_runner.specs.Scripts.{asks, taken_after, left, Follows, MakesThenFollows, FollowsScript, made_by}
 use Rattle.hub_runner.specs.CutShort.{steps_asked, ComesTo}
-use Rattle.hub_runner.specs.Running.{AreMakes}
+use Rattle.hub_runner.specs.Running.{AreMakes, has_exited, SawFull}
 use Rattle.hub_runner.specs.Working.{asked_of, Onward, Leads, next_of, Stopped, WasStopped}
 use Rattle.hub_runner.proofs.Askings.{answered, asked-same, asked-steps}
 use Rattle.hub_runner.proofs.Workers.{leads_trans}
@@ -33,7 +34,7 @@ use Rattle.hub_runner.proofs.Workers.{leads_trans}
 -- ---- exits
 
 -- none of these is an exit
-abbrev NoExit : List Asked → Type 0
+abbrev pub NoExit : List Asked → Type 0
 NoExit xs = list_any (λ a. is_exit a.step) xs ≡ false
 
 asks_a_step : (s : ScriptStep) (word : ℕ) → is_exit (asks s word) ≡ false
@@ -217,7 +218,7 @@ pub record StopsAt (sc : ScenarioData) (q : ℕ) (script : List ScriptStep) (s :
   pub follows : FollowsScript sc q script (asked_of s ++ answered next None ∷ more)
   pub shows : Shows s.hub.terms (entry_of s next) s.seen f
 
-stop_no_exit : (sc : ScenarioData) (q : ℕ) (script : List ScriptStep) (s : SeatView) (next : Step) (f : Fault) → StopsAt sc q script s next f
+pub stop_no_exit : (sc : ScenarioData) (q : ℕ) (script : List ScriptStep) (s : SeatView) (next : Step) (f : Fault) → StopsAt sc q script s next f
     → NoExit (asked_of s)
 stop_no_exit sc q script s next f st =
     makes_first (made_by q sc.ports) script (words_of_process sc.seed q) (asked_of s) (answered next None) st.more st.follows
@@ -245,10 +246,10 @@ any_step test xs es same =
     sym (list_any-map test (λ (a : Asked). a.step) xs) ∙ ap (list_any test) same ∙ list_any-map test (λ (e : Entry). e.step) es
 
 -- it had not exited
-own_no_exit : (s : SeatView) → NoExit (asked_of s) → list_any (λ e. is_exit e.step) (own_of s) ≡ false
+pub own_no_exit : (s : SeatView) → NoExit (asked_of s) → has_exited s.pid.0 s.seen ≡ false
 own_no_exit s h = sym (any_step is_exit (asked_of s) (own_of s) (asked-steps s.pid.0 s.hub.terms.head s.seen)) ∙ h
 
-steps_of-append : (xs ys : List Entry) → steps_of (xs ++ ys) ≡ steps_of xs + steps_of ys
+pub steps_of-append : (xs ys : List Entry) → steps_of (xs ++ ys) ≡ steps_of xs + steps_of ys
 steps_of-append [] ys = omega arith
 steps_of-append (x ∷ xs) ys = omega (arith, steps_of-append xs ys)
 
@@ -257,10 +258,19 @@ steps_grow xs ys begins = omega (arith, steps_of-append xs begins.0, ap steps_of
 
 -- memory was refused, or a step was and the journal is full
 pub stop_shows : (sc : ScenarioData) (q : ℕ) (script : List ScriptStep) (s t : SeatView) (next : Step) (f : Fault) → StopsAt sc q script s next f
-    → Onward s t → (f ≡ fault.NoMemory) ⊎ ((is_exit next ≡ false) × (t.hub.terms.limit ≤ steps_of t.seen))
+    → Onward s t → (f ≡ fault.NoMemory) ⊎ ((is_exit next ≡ false) × SawFull t)
 stop_shows sc q script s t next fault.NoMemory st on = inl refl
-stop_shows sc q script s t next fault.JournalFull st on =
-    inr (st.shows.0, omega (arith, st.shows.1, ap (λ n. n.terms.limit) on.hub, steps_grow s.seen t.seen on.begins))
+stop_shows sc q script s t next fault.JournalFull st on = inr (
+  st.shows.0,
+  record {
+    early = s.seen;
+    begins = on.begins;
+    full = omega (arith, st.shows.1, ap (λ n. n.terms.limit) on.hub);
+    stays =
+        subst (λ (p : Pid). has_exited p.0 s.seen ≡ false) (sym on.pid)
+        (own_no_exit s (stop_no_exit sc q script s next fault.JournalFull st));
+  },
+)
 stop_shows sc q script s t next fault.Gone st on =
     let none = own_no_exit s (stop_no_exit sc q script s next fault.Gone st) in absurd (let g : ⊥ = cc (st.shows.1, none) in g)
 stop_shows sc q script s t next other st on = absurd st.shows

@@ -2,7 +2,7 @@
 --
 -- An exit is no step. In a legal journal it is the last entry of its process, so that what a process asked, exits
 -- left aside, is all that it asked before its exit.
-use Rattle.std.specs.Prelude.{◌≡◌, ℕ, false, not, List, ◌∷◌, ◌++◌, Option, Some, filter, slice_get}
+use Rattle.std.specs.Prelude.{◌≡◌, ℕ, true, false, not, List, ◌∷◌, ◌++◌, Option, Some, filter, slice_get}
 use Rattle.hub_base.specs.declared.entry.Step.{Step}
 use Rattle.hub_base.specs.declared.entry.Entry.{Entry}
 use Rattle.hub_base.specs.declared.event.Event.{Event}
@@ -27,13 +27,21 @@ pub record ComesTo (s : ScenarioData) (q : ℕ) (script : List ScriptStep) (all 
   pub more : List Asked
   pub follows : FollowsScript s q script (steps_asked all ++ record { step = next; reply = reply } ∷ more)
 
+-- no step stands behind an exit of process q
+abbrev pub LeavesLast : ℕ → List Entry → Type 0
+LeavesLast q journal =
+    (before : List Entry) (e : Entry) (after : List Entry) → journal ≡ before ++ e ∷ after →
+    e.pid.0 ≡ q → is_exit e.step ≡ true → steps_of after ≡ 0
+
 -- ---- all processes
 
--- in the journal each process has come to some place of its script
+-- in the journal each process has come to some place of its script. Where a step is next there, it exits no
+-- earlier than all steps are made
 abbrev pub AllCome : ScenarioData → List Entry → Type 0
 AllCome s journal =
     (q : ℕ) (script : List ScriptStep) → slice_get s.scripts q ≡ Some script →
     (next : Step) × ComesTo s q script (asked q (run_head s) journal) next
+    × (is_exit next ≡ false → LeavesLast q journal)
 
 -- in the journal a process has come to a place of its script where a step is next, and no exit
 pub record OneGoesOn (s : ScenarioData) (journal : List Entry) : Type 0 where

@@ -16,7 +16,7 @@ loop-member-preserved g c =
     (λ m. IsOutcome sc m.seat m.report) c.in-Some.ensures.steps.0 i.1 c.requires in
     let more = ended_more sc g.K.HubName.name (map (λ m. m.seat.pid) c.loop-member.yielded) c.loop-member.seats.items c.push.new.self.items m.seat
     c.loop-member.fault c.with_outcome-fault.result m.report c.in-Ok.ensures.items i.0 c.pid-pid.ensures.hub out
-    c.with_outcome-fault.ensures.none c.with_outcome-fault.ensures.full in (
+    c.with_outcome-fault.ensures.none c.with_outcome-fault.ensures.memory c.with_outcome-fault.ensures.full in (
       subst (λ (pids : List Pid). HaveEnded sc g.K.HubName.name pids c.push.new.self.items c.with_outcome-fault.result)
           (sym (map-append (λ m. m.seat.pid) c.loop-member.yielded (m ∷ []))) more,
       one_further c.loop-member.yielded c.loop-member.member-iterator.rest.items c.next.new.self.rest.items c.args.members.items m

@@ -1,9 +1,8 @@
 use Rattle.std.proofs.Common.{◌≡◌, Some, length, arith}
 use Rattle.hub_scenario.specs.Scenario.{scenario_view}
 use Rattle.hub_runner.specs.declared.fault.RunFault.TheVariants.{JournalFull}
-use Rattle.hub_runner.specs.Scripts.{FollowsScript}
-use Rattle.hub_runner.proofs.Runs.{all_in_journal, count_scripts}
-use Rattle.hub_runner.proofs.Outcomes.{cut_short}
+use Rattle.hub_runner.proofs.Runs.{all_follow, count_scripts}
+use Rattle.hub_runner.proofs.Limits.{cut_short}
 use Rattle.hub_runner.proofs.runner.run_named.Goals as goal
 
 pub returns-in-None-clause-follows : goal.returns-in-None-clause-follows
@@ -12,7 +11,7 @@ returns-in-None-clause-follows g c =
     let ended = c.in_ok-seats.ensures in
     let many : length c.args.seats.items ≡ length sc.scripts =
     omega (arith, c.requires.count, c.args.seats.ok.0, count_scripts c.args.scenario.now) in
-    all_in_journal (FollowsScript sc) g.K.HubName.name sc c.args.seats.items c.in_ok-seats.field-0.seats.items c.finish_held-journal.result.entries
+    all_follow g.K.HubName.name sc c.args.seats.items c.in_ok-seats.field-0.seats.items c.finish_held-journal.result.entries
     c.requires.head many c.requires.seats ended.pids ended.hubs (ended.none c.in-None.is) c.finish_held-journal.ensures.rules.seats
 
 pub returns-in-Some-clause-full : goal.returns-in-Some-clause-full

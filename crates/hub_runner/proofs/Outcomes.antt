@@ -27,8 +27,8 @@ use Rattle.hub_runner.specs.CutShort.{steps_asked, ComesTo}
 use Rattle.hub_runner.specs.Running.{AreMakes, MakesStopped, IsReady, HasFollowed, HasCome, MeetsLimit, IsOutcome, HaveEnded}
 use Rattle.hub_runner.specs.Working.{asked_of, Onward, Followed, next_of, WasStopped}
 use Rattle.hub_runner.proofs.Askings.{answered}
-use Rattle.hub_runner.proofs.Workers.{at_place}
-use Rattle.hub_runner.proofs.Stops.{can_follow, can_make, makes_on, followed_comes, refused_asks, StopsAt, stop_no_exit, own_no_exit, stop_comes, stop_shows}
+use Rattle.hub_runner.proofs.Workers.{at_place, refused_asks}
+use Rattle.hub_runner.proofs.Stops.{can_follow, can_make, makes_on, followed_comes, StopsAt, stop_no_exit, own_no_exit, stop_comes, stop_shows}
 use Rattle.hub_runner.proofs.Runs.{makes_then, one_script, has_followed, from_ok}
 use Rattle.hub_runner.proofs.Runs.{blank_seat, asked-nil, all_but_first, first_kept}
 

@@ -1,7 +1,6 @@
 use Rattle.std.proofs.Common.{rules, arith}
-use Rattle.hub_runner.proofs.Workers.{still_onward}
+use Rattle.hub_runner.proofs.Workers.{still_onward, handed_on}
 use Rattle.hub_runner.proofs.Runs.{made_more}
-use Rattle.hub_runner.proofs.Stops.{handed_on}
 use Rattle.hub_runner.proofs.Outcomes.{makes_stop}
 use Rattle.hub_runner.proofs.runner.make_ports.Goals as goal
 

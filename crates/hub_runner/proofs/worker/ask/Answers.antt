@@ -5,8 +5,7 @@ use Rattle.hub_base.specs.declared.entry.Step.TheVariants as step
 use Rattle.hub_base.specs.Lines.{call}
 use Rattle.hub_scenario.specs.declared.script.ScriptStep.{ScriptStep}
 use Rattle.hub_runner.specs.Scripts.{asks}
-use Rattle.hub_runner.proofs.Workers.{made_ok, recv_asks}
-use Rattle.hub_runner.proofs.Stops.{refused_as}
+use Rattle.hub_runner.proofs.Workers.{made_ok, recv_asks, refused_as}
 use Rattle.hub_runner.proofs.worker.ask.Goals as goal
 
 pub returns-in-Send-clause-ok : goal.returns-in-Send-clause-ok

@@ -1,7 +1,6 @@
 use Rattle.hub_scenario.specs.ChoiceWords.{choice_word}
 use Rattle.hub_runner.specs.Working.{asked_of}
-use Rattle.hub_runner.proofs.Workers.{followed, still_onward}
-use Rattle.hub_runner.proofs.Stops.{handed_on, stopped_leaves, stopped_at_exit}
+use Rattle.hub_runner.proofs.Workers.{followed, still_onward, handed_on, stopped_leaves, stopped_at_exit}
 use Rattle.hub_runner.proofs.worker.follow.Goals as goal
 
 pub returns-in_ok-leave-in-Ok-clause-ok : goal.returns-in_ok-leave-in-Ok-clause-ok

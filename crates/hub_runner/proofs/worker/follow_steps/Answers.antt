@@ -4,8 +4,7 @@ use Rattle.hub_scenario.specs.declared.script.ScriptStep.{ScriptStep}
 use Rattle.hub_scenario.specs.ChoiceWords.{choice_word}
 use Rattle.hub_runner.specs.Scripts.{taken_after}
 use Rattle.hub_runner.specs.Working.{asked_of, Leads}
-use Rattle.hub_runner.proofs.Workers.{leads_next, still_onward, taken_low, at_place}
-use Rattle.hub_runner.proofs.Stops.{handed_on, stopped_next}
+use Rattle.hub_runner.proofs.Workers.{leads_next, still_onward, taken_low, at_place, handed_on, stopped_next}
 use Rattle.hub_runner.proofs.worker.follow_steps.Goals as goal
 
 pub returns-then-not-branch-clause-ok : goal.returns-then-not-branch-clause-ok

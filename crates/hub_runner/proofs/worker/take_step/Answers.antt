@@ -1,9 +1,6 @@
-use Rattle.std.proofs.Common.{◌∷◌, false, true, sym, ◌∙◌}
-use Rattle.hub_scenario.specs.declared.script.ScriptStep.{ScriptStep}
-use Rattle.hub_runner.specs.Scripts.{asks}
+use Rattle.std.proofs.Common.{false, true, sym, ◌∙◌}
 use Rattle.hub_runner.specs.Working.{asked_of}
-use Rattle.hub_runner.proofs.Workers.{leads_end, leads_again, left_stalled, left_done, still_onward, still_later}
-use Rattle.hub_runner.proofs.Stops.{handed_on, stopped_here}
+use Rattle.hub_runner.proofs.Workers.{leads_end, leads_again, left_stalled, left_done, still_onward, still_later, stopped_in_step}
 use Rattle.hub_runner.proofs.worker.take_step.Goals as goal
 
 pub returns-then-is_stalled-clause-ok : goal.returns-then-is_stalled-clause-ok
@@ -44,8 +41,5 @@ loop-preserved g c = (
 
 pub returns-in_err-event-clause-err : goal.returns-in_err-event-clause-err
 returns-in_err-event-clause-err g c =
-    let s : ScriptStep = c.args.turn.step.now in
-    let f = c.in_err-event.field-0.0 in
-    handed_on _ c.from_residual.result f c.from_residual.ensures.1 (λ words rest j chosen.
-    stopped_here (asked_of c.args.seat.now) c.loop.seat c.ask.new.seat words (s ∷ rest) (s ∷ rest) j j (asks s c.args.turn.word) f
-    (c.loop.invariant.3 words rest j chosen) chosen c.ask.ensures.later c.in_err-event.ensures.err)
+    stopped_in_step (asked_of c.args.seat.now) c.loop.seat c.ask.new.seat c.args.turn.step.now c.args.turn.word c.from_residual.result
+    c.in_err-event.field-0.0 c.from_residual.ensures.1 c.loop.invariant.3 c.ask.ensures.later c.in_err-event.ensures.err

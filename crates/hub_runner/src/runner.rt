@@ -184,9 +184,10 @@ fn run_journal<R: Threads + Wait + Sync, G: Gate + Sync>(
 /// Runs a scenario: process 0 makes the ports, and then each process follows its script in a thread
 /// of its own. None begins before all are started. The report says what happened.
 ///
-/// In its journal every process has followed its script. Refused by `JournalFull` where a process
-/// asked for more steps than the limit allows, and by `NoMemory` where an allocation or the start of a
-/// thread was refused. It returns once all threads have ended; that they do end is not promised.
+/// In its journal every process has followed its script. Refused by `JournalFull` where the limit cut
+/// the run short: the processes made as many steps as it allows, as their scripts say, and one asked for a
+/// step more. Refused by `NoMemory` where an allocation or the start of a thread was refused. It returns
+/// once all threads have ended; that they do end is not promised.
 pub fn run_scenario<R: Threads + Wait + Sync, G: Gate + Sync>(
     rt: &R,
     alloc: Global,

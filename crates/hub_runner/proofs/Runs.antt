@@ -24,7 +24,7 @@ use Rattle.hub_scenario.specs.Scripts.{AreOf}
 use Rattle.hub_scenario.specs.Steps.{has_step}
 use Rattle.hub_scenario.specs.ChoiceWords.{words_of_process}
 use Rattle.hub_runner.specs.Asked.{Asked, asked}
-use Rattle.hub_runner.specs.Scripts.{Follows, MakesThenFollows, FollowsScript, AllFollow, made_by}
+use Rattle.hub_runner.specs.Scripts.{Follows, MakesThenFollows, FollowsScript, made_by, AllFollow}
 use Rattle.hub_runner.specs.Running.{AreMakes, IsReady, HasFollowed}
 use Rattle.hub_runner.specs.Working.{asked_of, Onward, Followed}
 use Rattle.hub_runner.proofs.Workers.{made_asks}
@@ -68,7 +68,7 @@ makes_more (d ∷ cs) [] c x h = absurd h
 makes_more (d ∷ cs) (a ∷ more) c x h = (h.0, makes_more cs more c x h.1)
 
 -- the makes, and then a script's entries
-makes_then : (cs : List ℕ) (xs more : List Asked) (words : ℕ → ℕ) (script : List ScriptStep) → AreMakes cs xs → Follows script words 0 more
+pub makes_then : (cs : List ℕ) (xs more : List Asked) (words : ℕ → ℕ) (script : List ScriptStep) → AreMakes cs xs → Follows script words 0 more
     → MakesThenFollows cs script words (xs ++ more)
 makes_then [] [] more words script h f = f
 makes_then [] (a ∷ xs) more words script h f = absurd h
@@ -84,14 +84,19 @@ made_more s t caps i cap x free later made low is h =
 
 -- ---- one process
 
+-- it has one script
+pub one_script : (sc : ScenarioData) (s t : SeatView) (script other : List ScriptStep) → t.pid ≡ s.pid
+    → slice_get sc.scripts s.pid.0 ≡ Some script → slice_get sc.scripts t.pid.0 ≡ Some other → script ≡ other
+one_script sc s t script other pid at is =
+    let place : slice_get sc.scripts s.pid.0 ≡ Some other = ap (λ (p : Pid). slice_get sc.scripts p.0) (sym pid) ∙ is in cc
+
 -- a ready seat whose process then followed its script has followed it
 pub has_followed : {T E : Type 0} (r : Result T E) (sc : ScenarioData) (s t : SeatView) (script : List ScriptStep) → IsReady sc s → Onward s t
     → slice_get sc.scripts s.pid.0 ≡ Some script → OnOk r (Followed (asked_of s) (asked_of t) (words_of_process sc.seed s.pid.0) script)
     → OnOk r (HasFollowed sc t)
 has_followed (Err e) sc s t script ready on at f = tt
 has_followed (Ok x) sc s t script ready on at f = λ other is.
-    let place : slice_get sc.scripts s.pid.0 ≡ Some other = ap (λ (p : Pid). slice_get sc.scripts p.0) (sym on.pid) ∙ is in
-    let same : script ≡ other = cc in
+    let same = one_script sc s t script other on.pid at is in
     let here : FollowsScript sc s.pid.0 script (asked_of t) =
     subst (λ (zs : List Asked). FollowsScript sc s.pid.0 script zs) (sym f.now_is)
     (makes_then (made_by s.pid.0 sc.ports) (asked_of s) f.made (words_of_process sc.seed s.pid.0) script ready.makes f.follows) in
@@ -101,7 +106,7 @@ has_followed (Ok x) sc s t script ready on at f = λ other is.
 -- ---- all seats
 
 -- the seat at place k is blank, and of process `first + k`
-blank_at : (name : Name) (first : ℕ) (ss : List SeatView) (k : ℕ) (d : SeatView) → AreSeats name first ss → k < length ss
+pub blank_at : (name : Name) (first : ℕ) (ss : List SeatView) (k : ℕ) (d : SeatView) → AreSeats name first ss → k < length ss
     → get_or ss k d ≡ record { hub = name; pid = record { 0 = first + k }; seen = [] }
 blank_at name first [] k d h low = absurd (omega arith)
 blank_at name first (s ∷ ss) zero d h low =
@@ -113,29 +118,45 @@ blank_at name first (s ∷ ss) (suc k) d h low = blank_at name (first + 1) ss k 
 stands_asked : (s : SeatView) (journal : List Entry) → StandsIn s journal → asked s.pid.0 s.hub.terms.head journal ≡ asked_of s
 stands_asked s journal st = asked-same s.pid.0 s.hub.terms.head s.seen journal st.begins st.same.own st.same.reply
 
-one_follows : (sc : ScenarioData) (s : SeatView) (journal : List Entry) (q : ℕ) (script : List ScriptStep)
-    → s.hub.terms.head ≡ run_head sc → s.pid.0 ≡ q → HasFollowed sc s → StandsIn s journal → slice_get sc.scripts q ≡ Some script
-    → FollowsScript sc q script (asked q (run_head sc) journal)
-one_follows sc s journal q script head pid f st at =
-    let seen = f script (ap (slice_get sc.scripts) pid ∙ at) in
-    let all : asked_of s ≡ asked q (run_head sc) journal = sym (stands_asked s journal st) ∙ (λ i. asked (pid i) (head i) journal) in
-    subst (λ (zs : List Asked). FollowsScript sc q script zs) all (subst (λ (p : ℕ). FollowsScript sc p script (asked_of s)) pid seen)
+-- what holds of what a process asked, as its seat has seen it, holds of what it asked in the journal
+pub in_journal : (P : List Asked → Type 0) (sc : ScenarioData) (s : SeatView) (journal : List Entry) → s.hub.terms.head ≡ run_head sc
+    → StandsIn s journal → P (asked_of s) → P (asked s.pid.0 (run_head sc) journal)
+in_journal P sc s journal head st h = subst P (sym (stands_asked s journal st) ∙ ap (λ (hd : Head). asked s.pid.0 hd journal) head) h
+
+-- the seat in place k is that of process k
+pub pid_at : (name : Name) (before done : List SeatView) (k : ℕ) (d : SeatView) → AreSeats name 0 before
+    → map (λ s. s.pid) done ≡ map (λ s. s.pid) before → k < length done → (get_or done k d).pid.0 ≡ k
+pid_at name before done k d seats pids here =
+    let there : k < length before =
+    omega (arith, length-map done (λ (s : SeatView). s.pid), ap length pids, length-map before (λ (s : SeatView). s.pid)) in
+    ap (λ (p : Pid). p.0) (sym (get_or-map (λ (s : SeatView). s.pid) done k d d.pid here) ∙ ap (λ (ps : List Pid). get_or ps k d.pid) pids
+    ∙ get_or-map (λ (s : SeatView). s.pid) before k d d.pid there)
+    ∙ ap (λ (s : SeatView). s.pid.0) (blank_at name 0 before k d seats there) ∙ (let z : 0 + k ≡ k = omega arith in z)
+
+-- what is known of each process from its seat, as soon as the journal is known to begin with what the seat has seen
+pub all_processes : (Q : SeatView → List ScriptStep → Type 0) (R : ℕ → List ScriptStep → Type 0) (name : Name) (sc : ScenarioData)
+    (before done : List SeatView) (journal : List Entry) → length before ≡ length sc.scripts → AreSeats name 0 before
+    → map (λ s. s.pid) done ≡ map (λ s. s.pid) before → All (λ s. s.hub ≡ name) done → All (λ s. StandsIn s journal) done
+    → All (λ s. (script : List ScriptStep) → slice_get sc.scripts s.pid.0 ≡ Some script → Q s script) done
+    → ((s : SeatView) (script : List ScriptStep) → s.hub ≡ name → StandsIn s journal → Q s script → R s.pid.0 script)
+    → (q : ℕ) (script : List ScriptStep) → slice_get sc.scripts q ≡ Some script → R q script
+all_processes Q R name sc before done journal many seats pids hubs stands each known q script at =
+    let d : SeatView = record { hub = name; pid = record { 0 = q }; seen = [] } in
+    let low : q < length sc.scripts = slice_get_within sc.scripts q script at in
+    let here : q < length done =
+    omega (arith, length-map done (λ (s : SeatView). s.pid), ap length pids, length-map before (λ (s : SeatView). s.pid)) in
+    let s = get_or done q d in
+    let pid : s.pid.0 ≡ q = pid_at name before done q d seats pids here in
+    subst (λ (p : ℕ). R p script) pid
+    (known s script (hubs q d here) (stands q d here) (each q d here script (ap (slice_get sc.scripts) pid ∙ at)))
 
 pub all_follow : (name : Name) (sc : ScenarioData) (before done : List SeatView) (journal : List Entry)
     → name.terms.head ≡ run_head sc → length before ≡ length sc.scripts → AreSeats name 0 before → map (λ s. s.pid) done ≡ map (λ s. s.pid) before
     → All (λ s. s.hub ≡ name) done → All (HasFollowed sc) done → All (λ s. StandsIn s journal) done → AllFollow sc journal
-all_follow name sc before done journal head many seats pids hubs followed stands q script at =
-    let d : SeatView = record { hub = name; pid = record { 0 = q }; seen = [] } in
-    let low : q < length sc.scripts = slice_get_within sc.scripts q script at in
-    let same : length done ≡ length before = sym (length-map done (λ (s : SeatView). s.pid)) ∙ ap length pids ∙ length-map before (λ (s : SeatView). s.pid) in
-    let here : q < length done = omega arith in
-    let there : q < length before = omega arith in
-    let pid : (get_or done q d).pid.0 ≡ q =
-    ap (λ (p : Pid). p.0) (sym (get_or-map (λ (s : SeatView). s.pid) done q d d.pid here) ∙ ap (λ (ps : List Pid). get_or ps q d.pid) pids
-    ∙ get_or-map (λ (s : SeatView). s.pid) before q d d.pid there)
-    ∙ ap (λ (s : SeatView). s.pid.0) (blank_at name 0 before q d seats there) ∙ (let z : 0 + q ≡ q = omega arith in z) in
-    let same_head : (get_or done q d).hub.terms.head ≡ run_head sc = ap (λ (m : Name). m.terms.head) (hubs q d here) ∙ head in
-    one_follows sc (get_or done q d) journal q script same_head pid (followed q d here) (stands q d here) at
+all_follow name sc before done journal head many seats pids hubs followed stands =
+    all_processes (λ s script. FollowsScript sc s.pid.0 script (asked_of s)) (λ q script. FollowsScript sc q script (asked q (run_head sc) journal))
+    name sc before done journal many seats pids hubs stands followed
+    (λ s script hub st f. in_journal (FollowsScript sc s.pid.0 script) sc s journal (ap (λ (m : Name). m.terms.head) hub ∙ head) st f)
 
 -- ---- results
 
@@ -145,34 +166,51 @@ from_ok (Err e) P ok h = absurd (let g : ⊥ = cc in g)
 
 -- ---- the seats once the ports are made
 
-asked-nil : (q : ℕ) (head : Head) → asked q head [] ≡ []
+pub asked-nil : (q : ℕ) (head : Head) → asked q head [] ≡ []
 unfolding asked
 asked-nil q head = refl
 
 pub asked_blank : (name : Name) (ss : List SeatView) (k : ℕ) (d : SeatView) → AreSeats name 0 ss → k < length ss → asked_of (get_or ss k d) ≡ []
 asked_blank name ss k d h low = ap asked_of (blank_at name 0 ss k d h low) ∙ asked-nil (0 + k) name.terms.head
 
-ready_later : (name : Name) (sc : ScenarioData) (k : ℕ) (s : SeatView) → name.terms.head ≡ run_head sc
-    → s ≡ record { hub = name; pid = record { 0 = 1 + k }; seen = [] } → IsReady sc s
-ready_later name sc k s head is = subst (λ (t : SeatView). IsReady sc t) (sym is) (record {
+-- a seat that has seen nothing
+abbrev pub blank_seat : Name → ℕ → SeatView
+blank_seat name k = record { hub = name; pid = record { 0 = k }; seen = [] }
+
+first_or_later : (P : SeatView → Type 0) (name : Name) (s : SeatView) (ss : List SeatView) (t : SeatView) (k : ℕ) (e : SeatView) → AreSeats name 0 (s ∷ ss)
+    → P t → ((i : ℕ) → P (blank_seat name (1 + i))) → k < length (t ∷ ss) → P (get_or (t ∷ ss) k e)
+first_or_later P name s ss t zero e h here later low = here
+first_or_later P name s ss t (suc k) e h here later low = subst P (sym (blank_at name 1 ss k e h.1 (omega arith))) (later k)
+
+-- where the first of the seats is another one now: what holds of it and of blank seats holds of all
+pub all_but_first : (P : SeatView → Type 0) (name : Name) (ss : List SeatView) (t : SeatView) → AreSeats name 0 ss → 0 < length ss
+    → P t → ((i : ℕ) → P (blank_seat name (1 + i))) → All P (slice_set ss 0 t)
+all_but_first P name [] t h some here later = absurd (omega arith)
+all_but_first P name (s ∷ ss) t h some here later = λ k e low. first_or_later P name s ss t k e h here later low
+
+-- the first seat is still one of this hub, and of process 0
+pub first_kept : (name : Name) (ss : List SeatView) (d t : SeatView) → AreSeats name 0 ss → 0 < length ss → Onward (get_or ss 0 d) t
+    → (t.hub ≡ name) × (t.pid.0 ≡ 0)
+first_kept name ss d t h some on =
+    let blank = blank_at name 0 ss 0 d h some in
+    (on.hub ∙ ap (λ (s : SeatView). s.hub) blank, ap (λ (p : Pid). p.0) on.pid ∙ ap (λ (s : SeatView). s.pid.0) blank)
+
+ready_later : (name : Name) (sc : ScenarioData) (k : ℕ) → name.terms.head ≡ run_head sc → IsReady sc (blank_seat name (1 + k))
+ready_later name sc k head = record {
   head = head;
   makes =
       let z : ((1 + k) == 0) ≡ false = grind (arith, common_steps) in
       subst (λ (zs : List Asked). AreMakes (made_by (1 + k) sc.ports) zs) (sym (asked-nil (1 + k) name.terms.head))
       (subst (λ (b : Bool). AreMakes (cond b sc.ports []) []) (sym z) tt);
-})
-
-ready_at : (name : Name) (sc : ScenarioData) (s : SeatView) (ss : List SeatView) (t : SeatView) (k : ℕ) (e : SeatView) → name.terms.head ≡ run_head sc
-    → AreSeats name 0 (s ∷ ss) → Onward s t → AreMakes sc.ports (asked_of t) → k < length (t ∷ ss) → IsReady sc (get_or (t ∷ ss) k e)
-ready_at name sc s ss t zero e head h on made low = record {
-  head = ap (λ (m : Name). m.terms.head) (on.hub ∙ ap (λ (z : SeatView). z.hub) h.0) ∙ head;
-  makes =
-      let pid : 0 ≡ t.pid.0 = sym (ap (λ (p : Pid). p.0) on.pid ∙ ap (λ (z : SeatView). z.pid.0) h.0) in
-      subst (λ (n : ℕ). AreMakes (made_by n sc.ports) (asked_of t)) pid made;
 }
-ready_at name sc s ss t (suc k) e head h on made low = ready_later name sc k (get_or ss k e) head (blank_at name 1 ss k e h.1 (omega arith))
 
 pub all_ready : (name : Name) (sc : ScenarioData) (ss : List SeatView) (d t : SeatView) → name.terms.head ≡ run_head sc → AreSeats name 0 ss
     → 0 < length ss → Onward (get_or ss 0 d) t → AreMakes sc.ports (asked_of t) → All (IsReady sc) (slice_set ss 0 t)
-all_ready name sc [] d t head h some on made = absurd (omega arith)
-all_ready name sc (s ∷ ss) d t head h some on made = λ k e low. ready_at name sc s ss t k e head h on made low
+all_ready name sc ss d t head h some on made =
+    let kept = first_kept name ss d t h some on in
+    all_but_first (IsReady sc) name ss t h some
+    (record {
+      head = ap (λ (m : Name). m.terms.head) kept.0 ∙ head;
+      makes = subst (λ (n : ℕ). AreMakes (made_by n sc.ports) (asked_of t)) (sym kept.1) made;
+    })
+    (λ k. ready_later name sc k head)

@@ -1,11 +1,13 @@
 -- One process and its script.
 use Rattle.std.proofs.Common.{◌≡◌, ℕ, ◌&&◌, ◌⊎◌, inl, inr, Bool, true, false, List, [], ◌∷◌, ◌++◌, refl, ap, ◌∙◌, sym, subst}
-use Rattle.std.proofs.Common.{Some, Result, Ok, Err, IfOk, append_assoc, drop, ◌+◌, ◌≤◌, ◌<◌, length, get_or, add-one, arith}
+use Rattle.std.proofs.Common.{Some, Result, Ok, Err, IfOk, IfErr, append_assoc, drop, ◌+◌, ◌≤◌, ◌<◌, length, get_or, add-one, arith}
+use Rattle.std.specs.Prelude.{IsErrAnd}
 use Rattle.std.proofs.Math.Seq.{drop-cons}
 use Rattle.std.proofs.lemmas.Bool.{and_parts}
 use Rattle.hub_base.specs.declared.value.Pid.{Pid}
 use Rattle.hub_base.specs.declared.value.Port.{Port}
 use Rattle.hub_base.specs.declared.case.Case.TheVariants as case
+use Rattle.hub_base.specs.declared.entry.Entry.{Entry}
 use Rattle.hub_base.specs.declared.entry.Step.{Step}
 use Rattle.hub_base.specs.declared.entry.Step.TheVariants as step
 use Rattle.hub_base.specs.declared.event.Event.{Event}
@@ -13,16 +15,18 @@ use Rattle.hub_base.specs.declared.fault.Fault.{Fault}
 use Rattle.hub_base.specs.Lines.{call}
 use Rattle.hub_laws.specs.Replies.{own, reply}
 use Rattle.hub_live.specs.SeatView.{SeatView, IsFree}
-use Rattle.hub_live.specs.Calls.{Later, Made, entry_of}
-use Rattle.hub_live.proofs.Prefixes.{prefix_trans}
+use Rattle.hub_live.specs.Calls.{Later, Made, Refused, Shows, entry_of}
+use Rattle.hub_live.proofs.Prefixes.{prefix_self, prefix_trans}
 use Rattle.hub_scenario.specs.declared.script.ScriptStep.{ScriptStep}
 use Rattle.hub_scenario.specs.declared.script.ScriptStep.TheVariants.{Send, Recv, Select, Close, Range}
 use Rattle.hub_scenario.specs.ChoiceWords.{choice_word}
 use Rattle.hub_report.specs.Reports.{is_stalled}
 use Rattle.hub_runner.specs.Asked.{Asked, asked}
 use Rattle.hub_runner.specs.Scripts.{asks, gets, is_range, taken_after, left, Follows}
-use Rattle.hub_runner.specs.Working.{asked_of, Onward, Leads, Followed, goes_on_with}
-use Rattle.hub_runner.proofs.Askings.{answered, asked-gains}
+use Rattle.hub_runner.specs.CutShort.{steps_asked}
+use Rattle.hub_runner.specs.Working.{asked_of, Onward, Leads, Followed, goes_on_with, next_of, Stopped, WasStopped}
+use Rattle.hub_runner.proofs.Askings.{answered, asked-gains, asked-same}
+use Rattle.hub_runner.proofs.Stops.{exit_is_no_step}
 
 -- ---- one entry
 
@@ -147,3 +151,91 @@ taken_low s j i k is h = subst (λ (n : ℕ). n ≤ i + 1) (sym is) (one_word s 
 
 pub at_place : {A : Type 0} (xs : List A) (i : ℕ) (x : A) → i < length xs → x ≡ get_or xs i x → drop i xs ≡ x ∷ drop (i + 1) xs
 at_place xs i x low is = drop-cons xs i x low ∙ (λ k. sym is k ∷ drop (sym (add-one i) k) xs)
+
+-- ---- refused entries of a seat
+
+-- what the process asked stays as it was
+pub refused_asks : (s t : SeatView) (asking : Step) (f : Fault) → Later s t → Refused s t asking f → asked_of t ≡ asked_of s
+refused_asks s t asking f later refused =
+    (λ i. asked (later.pid i).0 (later.hub i).terms.head t.seen)
+    ∙ asked-same s.pid.0 s.hub.terms.head s.seen t.seen later.begins refused.same.own refused.same.reply
+
+-- the same refusal, by what the script's step asks
+pub refused_as : (s t : SeatView) (asking wanted : Step) (r : Result Event Fault) → asking ≡ wanted → IfErr r (λ f. Refused s t asking f)
+    → IfErr r (λ f. Refused s t wanted f)
+refused_as s t asking wanted r is refused = subst (λ (w : Step). IfErr r (λ f. Refused s t w f)) is refused
+
+-- what is said of a fault is said of the answer that hands it on
+pub handed_on : {A : Type 0} (P : Fault → Type 0) (r : Result A Fault) (f : Fault) → IsErrAnd r (λ given. given ≡ f) → P f → IfErr r P
+handed_on P (Ok x) f given h = absurd given
+handed_on P (Err g) f given h = subst P (sym given) h
+
+-- where the process came some way in the script, and then what comes next was refused
+pub stopped_here : (a : List Asked) (s t : SeatView) (words : ℕ → ℕ) (script rest : List ScriptStep) (j k : ℕ) (asking : Step) (f : Fault)
+    → Leads a (asked_of s) words script j rest k → asking ≡ next_of rest words k → Later s t → Refused s t asking f → Stopped a t words script j f
+stopped_here a s t words script rest j k asking f p is later refused = record {
+  rest = rest;
+  k = k;
+  leads = subst (λ (zs : List Asked). Leads a zs words script j rest k) (sym (refused_asks s t asking f later refused)) p;
+  shows = subst (λ (e : Entry). Shows t.hub.terms e t.seen f) (λ i. record { pid = sym later.pid i; step = is i }) refused.shows;
+}
+
+-- the same in a loop that makes one step of a script again and again, where the refusal is handed on
+pub stopped_in_step : {A : Type 0} (a : List Asked) (s t : SeatView) (st : ScriptStep) (word : ℕ) (r : Result A Fault) (f : Fault)
+    → IsErrAnd r (λ given. given ≡ f)
+    → ((words : ℕ → ℕ) (rest : List ScriptStep) (j : ℕ) → asks st word ≡ asks st (words j) → Leads a (asked_of s) words (st ∷ rest) j (st ∷ rest) j)
+    → Later s t → Refused s t (asks st word) f
+    → IfErr r (λ f. (words : ℕ → ℕ) (rest : List ScriptStep) (j : ℕ) → asks st word ≡ asks st (words j) → Stopped a t words (st ∷ rest) j f)
+stopped_in_step a s t st word r f given so_far later refused =
+    handed_on (λ f. (words : ℕ → ℕ) (rest : List ScriptStep) (j : ℕ) → asks st word ≡ asks st (words j) → Stopped a t words (st ∷ rest) j f) r f given
+    (λ words rest j chosen.
+    stopped_here a s t words (st ∷ rest) (st ∷ rest) j j (asks st word) f (so_far words rest j chosen) chosen later refused)
+
+-- where it came some way before
+pub stopped_later : (a b : List Asked) (t : SeatView) (words : ℕ → ℕ) (script rest : List ScriptStep) (i j : ℕ) (f : Fault)
+    → Leads a b words script i rest j → Stopped b t words rest j f → Stopped a t words script i f
+stopped_later a b t words script rest i j f p q = record {
+  rest = q.rest;
+  k = q.k;
+  leads = leads_trans a b (asked_of t) words script rest q.rest i j q.k p q.leads;
+  shows = q.shows;
+}
+
+-- at a step of a script, whose choice word comes from where the steps before left them
+pub stopped_next : (a b : List Asked) (t : SeatView) (seed given : ℕ) (script : List ScriptStep) (i used word : ℕ) (s : ScriptStep) (f : Fault)
+    → given ≡ seed → drop i script ≡ s ∷ drop (i + 1) script → Leads a b (choice_word seed) script 0 (drop i script) used
+    → asks s word ≡ asks s (choice_word given used)
+    → ((words : ℕ → ℕ) (rest : List ScriptStep) (j : ℕ) → asks s word ≡ asks s (words j) → Stopped b t words (s ∷ rest) j f)
+    → Stopped a t (choice_word seed) script 0 f
+stopped_next a b t seed given script i used word s f same cut p chosen stops =
+    let words = choice_word seed in
+    let rest = drop (i + 1) script in
+    let here = stops words rest used (chosen ∙ ap (λ (n : ℕ). asks s (choice_word n used)) same) in
+    stopped_later a b t words script (s ∷ rest) 0 used f (subst (λ (z : List ScriptStep). Leads a b words script 0 z used) cut p) here
+
+-- the exit that was made then, or was refused, is no step
+left_no_step : (s t : SeatView) (r : Result Event Fault) → Later s t → IfOk r (λ x. asked_of t ≡ asked_of s ++ answered step.Exit (Some x) ∷ [])
+    → IfErr r (λ f. Refused s t step.Exit f) → steps_asked (asked_of t) ≡ steps_asked (asked_of s)
+left_no_step s t (Ok x) later made refused = ap steps_asked made ∙ exit_is_no_step (asked_of s) (Some x)
+left_no_step s t (Err f) later made refused = ap steps_asked (refused_asks s t step.Exit f later refused)
+
+-- a step was refused, and then the process left
+pub stopped_leaves : (a : List Asked) (s t : SeatView) (words : ℕ → ℕ) (script : List ScriptStep) (f : Fault) (r : Result Event Fault)
+    → Stopped a s words script 0 f → Later s t → IfOk r (λ x. asked_of t ≡ asked_of s ++ answered step.Exit (Some x) ∷ [])
+    → IfErr r (λ g. Refused s t step.Exit g) → WasStopped a t words script f
+stopped_leaves a s t words script f r stopped later made refused = record {
+  at = s;
+  stopped = stopped;
+  onward = record { hub = later.hub; pid = later.pid; begins = later.begins };
+  same = left_no_step s t r later made refused;
+}
+
+-- the exit behind the script was refused
+pub stopped_at_exit : (a : List Asked) (s t : SeatView) (words : ℕ → ℕ) (script : List ScriptStep) (k : ℕ) (f : Fault)
+    → Leads a (asked_of s) words script 0 [] k → Later s t → Refused s t step.Exit f → WasStopped a t words script f
+stopped_at_exit a s t words script k f p later refused = record {
+  at = t;
+  stopped = stopped_here a s t words script [] 0 k step.Exit f p refl later refused;
+  onward = record { hub = refl; pid = refl; begins = prefix_self t.seen };
+  same = refl;
+}

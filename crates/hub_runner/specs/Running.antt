@@ -1,10 +1,26 @@
 -- The seats of a run, before their processes begin and after they have ended.
-use Rattle.std.specs.Prelude.{◌≡◌, ℕ, List, [], ◌∷◌, Some, slice_get}
+use Rattle.std.specs.Prelude.{◌≡◌, ◌≢◌, ◌≤◌, ◌⊎◌, ℕ, Bool, false, List, [], ◌∷◌, ◌++◌, Option, None, Some, Result}
+use Rattle.std.specs.Prelude.{IfErr, OnOk, All, Any, map, slice_get}
+use Rattle.std.specs.List.{list_any}
+use mathlib.Core.List.{IsPrefix}
+use Rattle.hub_base.specs.declared.value.Pid.{Pid}
+use Rattle.hub_base.specs.declared.entry.Entry.{Entry}
+use Rattle.hub_base.specs.declared.entry.Step.{Step}
 use Rattle.hub_base.specs.declared.entry.Step.TheVariants as step
+use Rattle.hub_base.specs.declared.fault.Fault.{Fault}
+use Rattle.hub_base.specs.declared.fault.Fault.TheVariants as fault
+use Rattle.hub_base.specs.Reading.{is_exit}
+use Rattle.hub_base.specs.Text.{steps_of}
+use Rattle.hub_laws.specs.Replies.{own}
+use Rattle.hub_live.specs.Name.{Name}
 use Rattle.hub_live.specs.SeatView.{SeatView}
+use Rattle.hub_live.specs.Calls.{Shows, entry_of}
 use Rattle.hub_scenario.specs.declared.script.ScriptStep.{ScriptStep}
 use Rattle.hub_scenario.specs.Scenario.{ScenarioData, run_head}
+use Rattle.hub_runner.specs.declared.fault.RunFault.{RunFault}
+use Rattle.hub_runner.specs.declared.fault.RunFault.TheVariants as run
 use Rattle.hub_runner.specs.Asked.{Asked}
+use Rattle.hub_runner.specs.CutShort.{ComesTo}
 use Rattle.hub_runner.specs.Scripts.{FollowsScript, made_by}
 use Rattle.hub_runner.specs.Working.{asked_of}
 
@@ -26,3 +42,56 @@ abbrev pub HasFollowed : ScenarioData → SeatView → Type 0
 HasFollowed scenario s =
     (script : List ScriptStep) → slice_get scenario.scripts s.pid.0 ≡ Some script →
     FollowsScript scenario s.pid.0 script (asked_of s)
+
+-- ---- where a step was refused
+
+-- the process of a seat made the ports of the first of these capacities and no others, and the make of the next
+-- was refused by this fault, as the seat shows
+pub record MakesStopped (caps : List ℕ) (s : SeatView) (f : Fault) : Type 0 where
+  pub made : List ℕ
+  pub cap : ℕ
+  pub more : List ℕ
+  pub whole : caps ≡ made ++ cap ∷ more
+  pub makes : AreMakes made (asked_of s)
+  pub shows : Shows s.hub.terms (entry_of s (step.Make cap)) s.seen f
+
+-- process q has exited among these entries
+abbrev pub has_exited : ℕ → List Entry → Bool
+has_exited q es = list_any (λ e. is_exit e.step) (own q es)
+
+-- the seat has seen a beginning of the journal that is full, and its process had not exited there
+pub record SawFull (s : SeatView) : Type 0 where
+  pub early : List Entry
+  pub begins : IsPrefix early s.seen
+  pub full : s.hub.terms.limit ≤ steps_of early
+  pub stays : has_exited s.pid.0 early ≡ false
+
+-- a seat whose process has come to some place of its script. Where a step is next there, it has not exited, or
+-- not before the journal was full
+abbrev pub HasCome : ScenarioData → SeatView → Type 0
+HasCome scenario s =
+    (script : List ScriptStep) → slice_get scenario.scripts s.pid.0 ≡ Some script →
+    (next : Step) × ComesTo scenario s.pid.0 script (asked_of s) next
+    × (is_exit next ≡ false → (has_exited s.pid.0 s.seen ≡ false) ⊎ SawFull s)
+
+-- a seat that has seen the journal full, whose process has come to a step
+pub record MeetsLimit (scenario : ScenarioData) (s : SeatView) : Type 0 where
+  pub saw : SawFull s
+  pub goes_on : (script : List ScriptStep) → slice_get scenario.scripts s.pid.0 ≡ Some script →
+      (next : Step) × ComesTo scenario s.pid.0 script (asked_of s) next × (is_exit next ≡ false)
+
+-- what a thread told in the end, and its seat: the process has followed its script, or was stopped on the way, by
+-- want of memory or by the limit
+pub record IsOutcome (scenario : ScenarioData) (s : SeatView) (told : Result (Unit {0}) Fault) : Type 0 where
+  pub ok : OnOk told (HasFollowed scenario s)
+  pub err : IfErr told (λ f. (f ≡ fault.NoMemory) ⊎ MeetsLimit scenario s)
+
+-- the seats of a run that has ended, and the fault that it has then, if it has one: the seats are of these
+-- processes, in order, and of the hub of this name
+pub record HaveEnded
+    (scenario : ScenarioData) (name : Name) (processes : List Pid) (seats : List SeatView) (told : Option RunFault) : Type 0 where
+  pub pids : map (λ s. s.pid) seats ≡ processes
+  pub hubs : All (λ s. s.hub ≡ name) seats
+  pub none : told ≡ None → All (HasFollowed scenario) seats
+  pub come : told ≢ Some run.NoMemory → All (HasCome scenario) seats
+  pub full : told ≡ Some run.JournalFull → Any (MeetsLimit scenario) seats

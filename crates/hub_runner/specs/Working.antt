@@ -1,10 +1,15 @@
 -- How far a process has come in its script, said of what its seat has seen.
-use Rattle.std.specs.Prelude.{◌≡◌, ℕ, Bool, List, [], ◌++◌, if◌then◌else◌}
+use Rattle.std.specs.Prelude.{◌≡◌, ℕ, Bool, List, [], ◌∷◌, ◌++◌, if◌then◌else◌}
 use mathlib.Core.List.{IsPrefix}
+use Rattle.hub_base.specs.declared.entry.Step.{Step}
+use Rattle.hub_base.specs.declared.entry.Step.TheVariants.{Exit}
+use Rattle.hub_base.specs.declared.fault.Fault.{Fault}
 use Rattle.hub_live.specs.SeatView.{SeatView}
+use Rattle.hub_live.specs.Calls.{Shows, entry_of}
 use Rattle.hub_scenario.specs.declared.script.ScriptStep.{ScriptStep}
 use Rattle.hub_runner.specs.Asked.{Asked, asked}
-use Rattle.hub_runner.specs.Scripts.{Follows}
+use Rattle.hub_runner.specs.Scripts.{Follows, asks}
+use Rattle.hub_runner.specs.CutShort.{steps_asked}
 
 -- what the process of a seat asked, in what the seat has seen
 abbrev pub asked_of : SeatView → List Asked
@@ -33,3 +38,24 @@ pub record Followed (before now : List Asked) (words : ℕ → ℕ) (script : Li
 -- what is left of a script that goes on, or not
 abbrev pub goes_on_with : Bool → List ScriptStep → List ScriptStep
 goes_on_with goes_on rest = if goes_on then rest else []
+
+-- ---- a process that is stopped
+
+-- what comes next where this is left of a script (k choice words being taken): its first step, or the exit
+abbrev pub next_of : List ScriptStep → (ℕ → ℕ) → ℕ → Step
+next_of [] words k = Exit
+next_of (s ∷ rest) words k = asks s (words k)
+
+-- the process came some way in the script, and what comes next was refused by this fault, as its seat shows
+pub record Stopped (before : List Asked) (s : SeatView) (words : ℕ → ℕ) (script : List ScriptStep) (j : ℕ) (f : Fault) : Type 0 where
+  pub rest : List ScriptStep
+  pub k : ℕ
+  pub leads : Leads before (asked_of s) words script j rest k
+  pub shows : Shows s.hub.terms (entry_of s (next_of rest words k)) s.seen f
+
+-- so it was when its seat was `at`, and since then the process asked no step
+pub record WasStopped (before : List Asked) (s : SeatView) (words : ℕ → ℕ) (script : List ScriptStep) (f : Fault) : Type 0 where
+  pub at : SeatView
+  pub stopped : Stopped before at words script 0 f
+  pub onward : Onward at s
+  pub same : steps_asked (asked_of s) ≡ steps_asked (asked_of at)

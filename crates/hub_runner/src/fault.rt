@@ -1,6 +1,8 @@
 //! Why a run has no report.
 
-ghost use Rattle.std.specs.Prelude.{◌≡◌, None, IsOk};
+ghost use Rattle.std.specs.Prelude.{◌≡◌, ◌⊎◌, None, Some, Err, IsOk, IsErr};
+ghost use Rattle.hub_base.specs.declared.fault.Fault.TheVariants as why;
+ghost use Rattle.hub_runner.specs.declared.fault.RunFault.TheVariants as run;
 
 use hub_base::{Fault, NoMemory};
 use std::alloc::AllocError;
@@ -20,6 +22,8 @@ pub enum RunFault {
 }
 
 impl From<Fault> for RunFault {
+    ghost from_gives = { λ fault given. fault ≡ why.NoMemory → given ≡ run.NoMemory };
+
     fn from(fault: Fault) -> RunFault {
         match fault {
             Fault::NoMemory => RunFault::NoMemory,
@@ -30,12 +34,16 @@ impl From<Fault> for RunFault {
 }
 
 impl From<NoMemory> for RunFault {
+    ghost from_gives = { λ _ given. given ≡ run.NoMemory };
+
     fn from(_: NoMemory) -> RunFault {
         RunFault::NoMemory
     }
 }
 
 impl From<AllocError> for RunFault {
+    ghost from_gives = { λ _ given. given ≡ run.NoMemory };
+
     fn from(_: AllocError) -> RunFault {
         RunFault::NoMemory
     }
@@ -43,7 +51,10 @@ impl From<AllocError> for RunFault {
 
 /// The fault of a run after the outcome of one more process.
 pub fn with_outcome(before: Option<RunFault>, outcome: Result<(), Fault>) -> Option<RunFault>
-    ensures { result ≡ None → (before ≡ None) × IsOk outcome }
+    ensures none { result ≡ None → (before ≡ None) × IsOk outcome }
+    ensures memory { (before ≡ Some run.NoMemory) ⊎ (outcome ≡ Err why.NoMemory)
+        → result ≡ Some run.NoMemory }
+    ensures full { result ≡ Some run.JournalFull → (before ≡ Some run.JournalFull) ⊎ IsErr outcome }
 {
     match (before, outcome) {
         (before, Ok(())) => before,

@@ -20,16 +20,15 @@ pub struct Following<'a, G> {
 }
 
 impl<'a, K: HubName, R: Wait, G: Gate + Sync> Task<K, R> for Following<'a, G> {
-    ghost use Rattle.std.specs.Prelude.{OnOk};
     ghost use Rattle.hub_scenario.specs.Scenario.{scenario_view};
-    ghost use Rattle.hub_runner.specs.Running.{IsReady, HasFollowed};
+    ghost use Rattle.hub_runner.specs.Running.{IsReady, IsOutcome};
 
     /// Why a step of the process was refused, if one was.
     type Report = Result<(), Fault>;
 
     ghost begins = { λ t s. IsReady (scenario_view t.scenario.now) s };
 
-    ghost ends = { λ t s r. OnOk r (HasFollowed (scenario_view t.scenario.now) s) };
+    ghost ends = { λ t s r. IsOutcome (scenario_view t.scenario.now) s r };
 
     fn perform(self, rt: &R, hub: &LiveHub<K>, seat: &mut Held<K>) -> Result<(), Fault> {
         let pid = seat.pid();

@@ -1,12 +1,14 @@
 //! Runs of scenarios.
 
-ghost use Rattle.std.specs.Prelude.{◌≡◌, ◌≤◌, ◌<◌, [], IfOk, OnOk, All, length, map, vec_len};
+ghost use Rattle.std.specs.Prelude.{◌≡◌, ◌≤◌, ◌<◌, [], List, IfOk, IfErr, IsErrOf, OnOk, All, length, map, vec_len};
+ghost use Rattle.hub_base.specs.declared.entry.Entry.{Entry};
 ghost use Rattle.hub_base.specs.Text.{steps_of};
 ghost use Rattle.hub_laws.specs.Journals.{IsLegal};
 ghost use Rattle.hub_live.specs.Calls.{AreSeats};
 ghost use Rattle.hub_scenario.specs.Scenario.{scenario_view, run_head};
 ghost use Rattle.hub_report.specs.Reports.{IsReportOf};
-ghost use Rattle.hub_runner.specs.Running.{AreMakes, IsReady, HasFollowed};
+ghost use Rattle.hub_runner.specs.CutShort.{IsCutShort};
+ghost use Rattle.hub_runner.specs.Running.{AreMakes, MakesStopped, IsReady, IsOutcome, HaveEnded};
 ghost use Rattle.hub_runner.specs.Scripts.{AllFollow};
 ghost use Rattle.hub_runner.specs.Working.{asked_of, Onward};
 
@@ -18,10 +20,17 @@ use hub_crew::{Member, run_crew};
 use hub_live::{Blank, Held, HubName, LiveHub, Seat, hold_all};
 use hub_report::Report;
 use hub_scenario::Scenario;
-use std::alloc::Global;
+use std::alloc::{AllocError, Global};
 use std::marker::Brand;
 use std::sync::Wait;
 use std::thread::Threads;
+
+/// The seats of processes that make no more steps, and why one of these was refused, if one was.
+#[derive(Drop)]
+struct Halted<K: HubName> {
+    seats: Vec<Held<K>>,
+    fault: Option<RunFault>,
+}
 
 /// Makes the ports, in order.
 fn make_ports<K: HubName, R: Wait>(
@@ -33,6 +42,7 @@ fn make_ports<K: HubName, R: Wait>(
     requires { asked_of seat.old ≡ [] }
     ensures onward { Onward seat.old seat.new }
     ensures ok { OnOk result (AreMakes ports.now (asked_of seat.new)) }
+    ensures err { IfErr result (λ f. MakesStopped ports.now seat.new f) }
 {
     for cap in ports {
         // Its contract says that the process has no open call.
@@ -42,35 +52,40 @@ fn make_ports<K: HubName, R: Wait>(
     Ok(())
 }
 
-/// The seats, once process 0 has made the ports.
+/// The seats, once process 0 has made the ports; or as they are where a make was refused.
 fn make_ready<K: HubName, R: Wait>(
     rt: &R,
     hub: &LiveHub<K>,
     seats: Vec<Held<K>>,
     scenario: &Scenario,
-) -> Result<Vec<Held<K>>, Fault>
+) -> Result<Vec<Held<K>>, Halted<K>>
     requires head { K.name.terms.head ≡ run_head (scenario_view scenario.now) }
     requires some { 0 < vec_len seats }
     requires seats { AreSeats K.name 0 seats.items }
     ensures pids { IfOk result (λ r. map (λ s. s.pid) r.items ≡ map (λ s. s.pid) seats.items) }
     ensures ready { IfOk result (λ r. All (IsReady (scenario_view scenario.now)) r.items) }
+    ensures err { IfErr result (λ h. HaveEnded (scenario_view scenario.now) K.name
+        (map (λ s. s.pid) seats.items) h.seats.items h.fault) }
 {
     let mut seats = seats;
-    make_ports(rt, hub, &mut seats[0], &scenario.ports)?;
-    Ok(seats)
+    match make_ports(rt, hub, &mut seats[0], &scenario.ports) {
+        Ok(()) => Ok(seats),
+        Err(fault) => Err(Halted {
+            seats,
+            fault: Some(RunFault::from(fault)),
+        }),
+    }
 }
 
-/// The seats of processes whose threads have ended, where no step was refused; else why one was.
+/// The seats of processes whose threads have ended, and why a step was refused, if one was.
 fn part<K: HubName>(
     alloc: Global,
     scenario: &Scenario,
     members: Vec<Member<K, Result<(), Fault>>>,
-) -> Result<Vec<Held<K>>, RunFault>
-    requires { All (λ m. OnOk m.report (HasFollowed (scenario_view scenario.now) m.seat)) members.items }
-    ensures pids { IfOk result (λ held.
-        map (λ s. s.pid) held.items ≡ map (λ m. m.seat.pid) members.items) }
-    ensures hubs { IfOk result (λ held. All (λ s. s.hub ≡ K.name) held.items) }
-    ensures followed { IfOk result (λ held. All (HasFollowed (scenario_view scenario.now)) held.items) }
+) -> Result<Halted<K>, AllocError>
+    requires { All (λ m. IsOutcome (scenario_view scenario.now) m.seat m.report) members.items }
+    ensures { IfOk result (λ h. HaveEnded (scenario_view scenario.now) K.name
+        (map (λ m. m.seat.pid) members.items) h.seats.items h.fault) }
 {
     let mut seats = Vec::new(alloc);
     let mut fault = None;
@@ -80,16 +95,14 @@ fn part<K: HubName>(
         let _pid = seat.pid();
         fault = with_outcome(fault, report);
         let Ok(()) = seats.push(seat) else {
-            return Err(RunFault::NoMemory);
+            return Err(AllocError);
         };
     }
-    match fault {
-        Some(fault) => Err(fault),
-        None => Ok(seats),
-    }
+    Ok(Halted { seats, fault })
 }
 
-/// The seats, once the ports are made and each process has followed its script.
+/// The seats, once the ports are made and each process has followed its script; or as they are where a
+/// step was refused.
 fn follow_all<K: HubName + Send + Sync, R: Threads + Wait + Sync, G: Gate + Sync>(
     rt: &R,
     alloc: Global,
@@ -97,19 +110,22 @@ fn follow_all<K: HubName + Send + Sync, R: Threads + Wait + Sync, G: Gate + Sync
     seats: Vec<Seat>,
     scenario: &Scenario,
     gate: &G,
-) -> Result<Vec<Held<K>>, RunFault>
+) -> Result<Halted<K>, AllocError>
     requires head { K.name.terms.head ≡ run_head (scenario_view scenario.now) }
     requires some { 0 < vec_len seats }
     requires seats { AreSeats K.name 0 seats.items }
     requires hubs { All (λ s. s.hub ≡ K.name) seats.items }
-    ensures pids { IfOk result (λ held. map (λ s. s.pid) held.items ≡ map (λ s. s.pid) seats.items) }
-    ensures hubs { IfOk result (λ held. All (λ s. s.hub ≡ K.name) held.items) }
-    ensures followed { IfOk result (λ held. All (HasFollowed (scenario_view scenario.now)) held.items) }
+    ensures { IfOk result (λ h. HaveEnded (scenario_view scenario.now) K.name
+        (map (λ s. s.pid) seats.items) h.seats.items h.fault) }
 {
     let held = hold_all(alloc, seats)?;
-    let ready = make_ready(rt, hub, held, scenario)?;
-    let members = run_crew(rt, alloc, hub, ready, Following { scenario, gate })?;
-    part(alloc, scenario, members)
+    match make_ready(rt, hub, held, scenario) {
+        Ok(ready) => {
+            let members = run_crew(rt, alloc, hub, ready, Following { scenario, gate })?;
+            part(alloc, scenario, members)
+        }
+        Err(halted) => Ok(halted),
+    }
 }
 
 /// The journal of a run over a hub that has a name.
@@ -123,6 +139,7 @@ fn run_named<K: HubName + Send + Sync, R: Threads + Wait + Sync, G: Gate + Sync>
 ) -> Result<Journal, RunFault>
     requires named { blank.name ≡ K.name }
     requires head { K.name.terms.head ≡ run_head (scenario_view scenario.now) }
+    requires limit { K.name.terms.limit ≡ scenario.now.limit }
     requires count { vec_len seats ≡ vec_len scenario.now.scripts }
     requires seats { AreSeats K.name 0 seats.items }
     requires hubs { All (λ s. s.hub ≡ K.name) seats.items }
@@ -130,10 +147,17 @@ fn run_named<K: HubName + Send + Sync, R: Threads + Wait + Sync, G: Gate + Sync>
     ensures legal { IfOk result (λ j. IsLegal j.head j.entries) }
     ensures few { IfOk result (λ j. steps_of j.entries ≤ K.name.terms.limit) }
     ensures follows { IfOk result (λ j. AllFollow (scenario_view scenario.now) j.entries) }
+    ensures full { IsErrOf result RunFault.JournalFull
+        → (journal : List Entry) × IsCutShort (scenario_view scenario.now) journal }
 {
     let hub = blank.named::<K>();
-    let seats = follow_all(rt, alloc, &hub, seats, scenario, gate)?;
-    Ok(hub.finish_held(seats))
+    let Halted { seats, fault } = follow_all(rt, alloc, &hub, seats, scenario, gate)?;
+    // Also where a step was refused, since only the whole journal shows where each process had come to.
+    let journal = hub.finish_held(seats);
+    match fault {
+        None => Ok(journal),
+        Some(fault) => Err(fault),
+    }
 }
 
 /// The journal of a run.
@@ -147,6 +171,8 @@ fn run_journal<R: Threads + Wait + Sync, G: Gate + Sync>(
     ensures legal { IfOk result (λ j. IsLegal j.head j.entries) }
     ensures few { IfOk result (λ j. steps_of j.entries ≤ MOST_STEPS) }
     ensures follows { IfOk result (λ j. AllFollow (scenario_view scenario.now) j.entries) }
+    ensures full { IsErrOf result RunFault.JournalFull
+        → (journal : List Entry) × IsCutShort (scenario_view scenario.now) journal }
 {
     let procs = scenario.scripts.len() as u8;
     let Ok((blank, seats)) = Blank::open(alloc, procs, scenario.limit, scenario.edition) else {
@@ -158,9 +184,10 @@ fn run_journal<R: Threads + Wait + Sync, G: Gate + Sync>(
 /// Runs a scenario: process 0 makes the ports, and then each process follows its script in a thread
 /// of its own. None begins before all are started. The report says what happened.
 ///
-/// In its journal every process has followed its script. Refused by `JournalFull` where a process
-/// asked for more steps than the limit allows, and by `NoMemory` where an allocation or the start of a
-/// thread was refused. It returns once all threads have ended; that they do end is not promised.
+/// In its journal every process has followed its script. Refused by `JournalFull` where the limit cut
+/// the run short: the processes made as many steps as it allows, as their scripts say, and one asked for a
+/// step more. Refused by `NoMemory` where an allocation or the start of a thread was refused. It returns
+/// once all threads have ended; that they do end is not promised.
 pub fn run_scenario<R: Threads + Wait + Sync, G: Gate + Sync>(
     rt: &R,
     alloc: Global,
@@ -171,6 +198,8 @@ pub fn run_scenario<R: Threads + Wait + Sync, G: Gate + Sync>(
     ensures legal { IfOk result (λ r. IsLegal r.journal.head r.journal.entries) }
     ensures follows { IfOk result (λ r. AllFollow (scenario_view scenario.now) r.journal.entries) }
     ensures report { IfOk result (λ r. IsReportOf r.journal r) }
+    ensures full { IsErrOf result RunFault.JournalFull
+        → (journal : List Entry) × IsCutShort (scenario_view scenario.now) journal }
 {
     let journal = run_journal(rt, alloc, scenario, gate)?;
     Ok(Report::of(alloc, journal)?)

@@ -1,15 +1,16 @@
 //! One process: it makes the steps of its script in order, and exits.
 
-ghost use Rattle.std.specs.Prelude.{◌≡◌, ◌<◌, ◌-◌, ◌^◌, ◌+◌, ◌&&◌, ◌++◌, ◌∷◌, [], List, ℕ, Some, true, IfOk, OnOk};
+ghost use Rattle.std.specs.Prelude.{◌≡◌, ◌<◌, ◌-◌, ◌^◌, ◌+◌, ◌&&◌, ◌++◌, ◌∷◌, [], List, ℕ, Some, true, IfOk, IfErr, OnOk};
 ghost use Rattle.std.specs.List.{list_all};
 ghost use Rattle.hub_base.specs.declared.entry.Step.TheVariants.{Exit};
-ghost use Rattle.hub_live.specs.Calls.{Later};
+ghost use Rattle.hub_live.specs.Calls.{Later, Refused};
 ghost use Rattle.hub_report.specs.Reports.{is_stalled};
 ghost use Rattle.hub_scenario.specs.declared.script.ScriptStep.{ScriptStep};
 ghost use Rattle.hub_scenario.specs.ChoiceWords.{choice_word};
 ghost use Rattle.hub_scenario.specs.Steps.{has_step};
 ghost use Rattle.hub_runner.specs.Scripts.{asks, gets, is_range, taken_after};
 ghost use Rattle.hub_runner.specs.Working.{asked_of, Onward, Leads, Followed, goes_on_with};
+ghost use Rattle.hub_runner.specs.Working.{Stopped, WasStopped};
 
 use crate::gate::{Gate, Passes};
 use hub_base::{Event, Fault, Outcome, What, copy_cases};
@@ -82,6 +83,8 @@ fn ask<K: HubName, R: Wait>(
     ensures ok { IfOk result (λ x.
         asked_of seat.new
         ≡ asked_of seat.old ++ record { step = asks turn.entry.step.now turn.entry.word; reply = Some x } ∷ []) }
+    ensures err { IfErr result (λ f.
+        Refused seat.old seat.new (asks turn.entry.step.now turn.entry.word) f) }
 {
     // Its contract says that the process has no open call.
     let _pid = seat.pid();
@@ -113,6 +116,9 @@ fn take_step<K: HubName, R: Wait, G: Gate>(
         asks turn.entry.step.now turn.entry.word ≡ asks turn.entry.step.now (words j) →
         Leads (asked_of seat.old) (asked_of seat.new) words (turn.entry.step.now ∷ rest) j
         (goes_on_with goes_on rest) (taken_after turn.entry.step.now j)) }
+    ensures err { IfErr result (λ f. (words : ℕ → ℕ) (rest : List ScriptStep) (j : ℕ) →
+        asks turn.entry.step.now turn.entry.word ≡ asks turn.entry.step.now (words j) →
+        Stopped (asked_of seat.old) seat.new words (turn.entry.step.now ∷ rest) j f) }
 {
     for _ in rt.forever() {
         passes.pass();
@@ -142,6 +148,8 @@ fn follow_steps<K: HubName, R: Wait, G: Gate>(
     ensures ok { OnOk result ((k : ℕ)
         × Leads (asked_of seat.old) (asked_of seat.new) (choice_word words.old.seed)
         script.now 0 [] k) }
+    ensures err { IfErr result (λ f.
+        Stopped (asked_of seat.old) seat.new (choice_word words.old.seed) script.now 0 f) }
 {
     for step in script {
         let word = word_for(step, words);
@@ -158,6 +166,7 @@ fn leave<K: HubName, R: Wait>(rt: &R, hub: &LiveHub<K>, seat: &mut Held<K>) -> R
     ensures later { Later seat.old seat.new }
     ensures ok { IfOk result (λ x.
         asked_of seat.new ≡ asked_of seat.old ++ record { step = Exit; reply = Some x } ∷ []) }
+    ensures err { IfErr result (λ f. Refused seat.old seat.new Exit f) }
 {
     // Its contract says that the process has no open call.
     let _pid = seat.pid();
@@ -178,6 +187,8 @@ pub fn follow<K: HubName, R: Wait, G: Gate>(
     ensures onward { Onward seat.old seat.new }
     ensures ok { OnOk result (
         Followed (asked_of seat.old) (asked_of seat.new) (choice_word words.seed) script.now) }
+    ensures err { IfErr result (λ f.
+        WasStopped (asked_of seat.old) seat.new (choice_word words.seed) script.now f) }
 {
     let mut words = words;
     let mut passes = Passes::new(gate, seat.pid());

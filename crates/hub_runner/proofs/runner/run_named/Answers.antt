@@ -1,16 +1,26 @@
-use Rattle.std.proofs.Common.{◌≡◌, ◌∙◌, length, arith, vec_len}
-use Rattle.hub_scenario.specs.Scenario.{scenario_view, run_head}
+use Rattle.std.proofs.Common.{◌≡◌, Some, length, arith}
+use Rattle.hub_scenario.specs.Scenario.{scenario_view}
+use Rattle.hub_runner.specs.declared.fault.RunFault.TheVariants.{JournalFull}
 use Rattle.hub_runner.proofs.Runs.{all_follow, count_scripts}
+use Rattle.hub_runner.proofs.Limits.{cut_short}
 use Rattle.hub_runner.proofs.runner.run_named.Goals as goal
 
-pub returns-clause-follows : goal.returns-clause-follows
-returns-clause-follows g c =
+pub returns-in-None-clause-follows : goal.returns-in-None-clause-follows
+returns-in-None-clause-follows g c =
     let sc = scenario_view c.args.scenario.now in
-    let name = g.K.HubName.name in
-    let head : name.terms.head ≡ run_head sc = c.requires.head in
+    let ended = c.in_ok-seats.ensures in
     let many : length c.args.seats.items ≡ length sc.scripts =
-    (let e : length c.args.seats.items ≡ vec_len c.args.scenario.now.scripts = omega (arith, c.requires.count, c.args.seats.ok.0) in e)
-    ∙ count_scripts c.args.scenario.now in
-    let back = c.in_ok-seats.ensures in
-    all_follow name sc c.args.seats.items c.in_ok-seats.seats.items c.finish_held.result.entries head many c.requires.seats
-    back.pids back.hubs back.followed c.finish_held.ensures.rules.seats
+    omega (arith, c.requires.count, c.args.seats.ok.0, count_scripts c.args.scenario.now) in
+    all_follow g.K.HubName.name sc c.args.seats.items c.in_ok-seats.field-0.seats.items c.finish_held-journal.result.entries
+    c.requires.head many c.requires.seats ended.pids ended.hubs (ended.none c.in-None.is) c.finish_held-journal.ensures.rules.seats
+
+pub returns-in-Some-clause-full : goal.returns-in-Some-clause-full
+returns-in-Some-clause-full g c = λ full.
+    let sc = scenario_view c.args.scenario.now in
+    let many : length c.args.seats.items ≡ length sc.scripts =
+    omega (arith, c.requires.count, c.args.seats.ok.0, count_scripts c.args.scenario.now) in
+    let told : c.in_ok-seats.field-0.fault ≡ Some JournalFull = cc (full, c.in-Some.is) in (
+      c.finish_held-journal.result.entries,
+      cut_short g.K.HubName.name sc c.args.seats.items c.in_ok-seats.field-0.seats.items c.finish_held-journal.result c.in_ok-seats.field-0.fault
+          c.requires.head c.requires.limit many c.requires.seats c.in_ok-seats.ensures c.finish_held-journal.ensures.rules told,
+    )

@@ -4,7 +4,7 @@ use Rattle.hub_scenario.specs.declared.script.ScriptStep.{ScriptStep}
 use Rattle.hub_scenario.specs.ChoiceWords.{choice_word}
 use Rattle.hub_runner.specs.Scripts.{taken_after}
 use Rattle.hub_runner.specs.Working.{asked_of, Leads}
-use Rattle.hub_runner.proofs.Workers.{leads_next, still_onward, taken_low, at_place}
+use Rattle.hub_runner.proofs.Workers.{leads_next, still_onward, taken_low, at_place, handed_on, stopped_next}
 use Rattle.hub_runner.proofs.worker.follow_steps.Goals as goal
 
 pub returns-then-not-branch-clause-ok : goal.returns-then-not-branch-clause-ok
@@ -45,3 +45,13 @@ returns-clause-ok g c =
       subst (λ (rest : List ScriptStep). Leads (asked_of c.args.seat.now) (asked_of c.loop-step.seat)
           (choice_word c.args.words.now.seed) c.args.script.now 0 rest c.loop-step.words.drawn) none c.loop-step.invariant.3,
     )
+
+pub returns-in_err-take_step-clause-err : goal.returns-in_err-take_step-clause-err
+returns-in_err-take_step-clause-err g c =
+    let i = c.loop-step.step-index in
+    let s : ScriptStep = c.step-item.result in
+    let f = c.in_err-take_step.field-0.0 in
+    handed_on _ c.from_residual.result f c.from_residual.ensures.1
+    (stopped_next (asked_of c.args.seat.now) (asked_of c.loop-step.seat) c.take_step.new.seat _ _ c.args.script.now i _ _ s f
+    c.loop-step.invariant.1 (at_place c.args.script.now i s (omega arith) (search rules)) c.loop-step.invariant.3
+    c.word_for-word.ensures.chosen c.in_err-take_step.ensures.err)

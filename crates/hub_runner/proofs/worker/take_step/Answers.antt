@@ -1,6 +1,6 @@
 use Rattle.std.proofs.Common.{false, true, sym, ◌∙◌}
 use Rattle.hub_runner.specs.Working.{asked_of}
-use Rattle.hub_runner.proofs.Workers.{leads_end, leads_again, left_stalled, left_done, still_onward, still_later}
+use Rattle.hub_runner.proofs.Workers.{leads_end, leads_again, left_stalled, left_done, still_onward, still_later, stopped_in_step}
 use Rattle.hub_runner.proofs.worker.take_step.Goals as goal
 
 pub returns-then-is_stalled-clause-ok : goal.returns-then-is_stalled-clause-ok
@@ -38,3 +38,8 @@ loop-preserved g c = (
       (c.loop.invariant.3 words rest j chosen) c.in_ok-event.ensures.ok chosen (sym c.is_stalled.ensures ∙ c.if-is_stalled.false)
       (sym c.repeats.ensures ∙ c.if-not-repeats.false),
 )
+
+pub returns-in_err-event-clause-err : goal.returns-in_err-event-clause-err
+returns-in_err-event-clause-err g c =
+    stopped_in_step (asked_of c.args.seat.now) c.loop.seat c.ask.new.seat c.args.turn.step.now c.args.turn.word c.from_residual.result
+    c.in_err-event.field-0.0 c.from_residual.ensures.1 c.loop.invariant.3 c.ask.ensures.later c.in_err-event.ensures.err

@@ -1,4 +1,4 @@
-use Rattle.std.proofs.Common.{◌≡◌, ℕ, ◌+◌, ◌∙◌, ap, refl, sym, subst, length, map, List, Some, true, OnOk}
+use Rattle.std.proofs.Common.{◌≡◌, ℕ, ◌+◌, ◌∙◌, ap, refl, sym, subst, length, map, List, Some, true}
 use Rattle.std.specs.Prelude.{slice_get, vec_items}
 use Rattle.std.proofs.lemmas.Option.{slice_get_read}
 use Rattle.std.specs.List.{list_all}
@@ -7,11 +7,11 @@ use Rattle.hub_base.specs.declared.head.Head.{Head}
 use Rattle.hub_base.specs.declared.value.Pid.{Pid}
 use Rattle.hub_scenario.specs.Scenario.{scenario_view}
 use Rattle.hub_scenario.specs.declared.script.ScriptStep.{ScriptStep}
-use Rattle.hub_scenario.specs.ChoiceWords.{WordsDrawn, choice_word}
-use Rattle.hub_runner.specs.Working.{asked_of, Followed}
+use Rattle.hub_scenario.specs.ChoiceWords.{WordsDrawn}
 use Rattle.hub_live.specs.Name.{Name}
 use Rattle.hub_scenario.specs.Steps.{has_step}
-use Rattle.hub_runner.proofs.Runs.{has_followed, place_of, script_at, script_fits}
+use Rattle.hub_runner.proofs.Runs.{place_of, script_at, script_fits}
+use Rattle.hub_runner.proofs.Outcomes.{is_outcome}
 use Rattle.hub_runner.proofs.following.FollowingTask.perform.Goals as goal
 
 pub follow-requires-clause-fits : goal.follow-requires-clause-fits
@@ -38,13 +38,7 @@ returns-clause-ends g c =
     let here = place_of sc seat c.pid-pid.result c.from.result c.requires c.pid-pid.ensures.pid c.pid-pid.ensures.below c.from.ensures in
     let seed : c.of-words.result.seed ≡ sc.seed + seat.pid.0 =
     ap (λ (w : WordsDrawn). w.seed) c.of-words.ensures ∙ ap (λ (p : Pid). sc.seed + p.0) c.pid-pid.ensures.pid in
-    let followed : OnOk c.follow.result
-    (Followed (asked_of seat) (asked_of c.follow.new.seat) (choice_word (sc.seed + seat.pid.0)) c.index-script.result.now.items) =
-    subst (λ (steps : List ScriptStep).
-    OnOk c.follow.result (Followed (asked_of seat) (asked_of c.follow.new.seat) (choice_word (sc.seed + seat.pid.0)) steps)) c.deref.ensures.value
-    (subst (λ (n : ℕ). OnOk c.follow.result (Followed (asked_of seat) (asked_of c.follow.new.seat) (choice_word n) c.deref.result.now))
-    seed c.follow.ensures.ok) in
-    has_followed c.follow.result (scenario_view sc) seat c.follow.new.seat script.items c.requires c.follow.ensures.onward
-    (script_at sc seat.pid.0 script (subst (λ (i : ℕ). slice_get scripts i ≡ Some script) here.0
-    (slice_get_read scripts (length scripts) c.from.result script refl here.1 c.index-script.ensures)))
-    followed
+    let at = script_at sc seat.pid.0 script (subst (λ (i : ℕ). slice_get scripts i ≡ Some script) here.0
+    (slice_get_read scripts (length scripts) c.from.result script refl here.1 c.index-script.ensures)) in
+    is_outcome c.follow.result (scenario_view sc) seat c.follow.new.seat script.items c.deref.result.now c.of-words.result.seed
+    c.requires c.follow.ensures.onward at c.deref.ensures.value seed c.follow.ensures.ok c.follow.ensures.err

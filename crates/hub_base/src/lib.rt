@@ -12,6 +12,7 @@ mod counts;
 mod entry;
 mod event;
 mod fault;
+mod has_pid;
 mod head;
 mod journal;
 mod limits;
@@ -23,6 +24,7 @@ pub use counts::{Counts, Look};
 pub use entry::{Entry, Step, copy_cases};
 pub use event::{Event, Events, Hears, Outcome, What};
 pub use fault::Fault;
+pub use has_pid::HasPid;
 pub use head::{Edition, Head};
 pub use journal::Journal;
 pub use limits::{

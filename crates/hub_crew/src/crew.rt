@@ -4,8 +4,7 @@ ghost use Rattle.std.specs.Prelude.{◌≡◌, ◌≤◌, [], true, IfOk, OnOk, 
 
 use crate::start::Start;
 use crate::task::{Member, Task};
-use hub_base::Pid;
-use hub_live::{Held, HubName, LiveHub};
+use hub_base::{HasPid, Pid};
 use std::alloc::{AllocError, Global};
 use std::marker::PhantomData;
 use std::sync::Wait;
@@ -14,34 +13,38 @@ use std::thread::{Promise, PromisedHandle, Scope, Threads};
 
 /// What a thread owes: the seat of its process, and where it began, what its task promises of it.
 #[derive(Drop)]
-struct Owed<K, R, T> {
+struct Owed<H, S, R, T> {
     /// The number of the process.
     pid: Pid,
     /// What its thread is to do.
     task: T,
-    /// Which hub, and which run time.
-    of: PhantomData<(K, R)>,
+    /// What the threads share, their seats, and which run time.
+    of: PhantomData<(H, S, R)>,
 }
 
-impl<K: HubName, R, T: Task<K, R>> Promise<Option<Member<K, T::Report>>> for Owed<K, R, T> {
+impl<H, S: HasPid + Drop, R, T: Task<H, S, R>> Promise<Option<Member<S, T::Report>>>
+    for Owed<H, S, R, T> {
     ghost use Rattle.std.specs.Prelude.{◌≡◌, IfSome};
 
-    ghost kept_by = { λ p r. IfSome r (λ m. (m.seat.pid ≡ p.pid) × T.ends p.task m.seat m.report) };
+    ghost kept_by = { λ p r. IfSome r (λ m. (S.pid_of m.seat ≡ p.pid) × T.ends p.task m.seat m.report) };
 }
 
 /// A thread that was started. It gives no member where it was told not to begin.
-type Started<K, R, T> = PromisedHandle<Option<Member<K, <T as Task<K, R>>::Report>>, Owed<K, R, T>>;
+type Started<H, S, R, T> = PromisedHandle<
+    Option<Member<S, <T as Task<H, S, R>>::Report>>,
+    Owed<H, S, R, T>,
+>;
 
 /// Waits for the start, and then performs the task.
-fn work<K: HubName, R: Wait, T: Task<K, R>>(
+fn work<H, S: HasPid + Drop, R: Wait, T: Task<H, S, R>>(
     rt: &R,
-    hub: &LiveHub<K>,
+    hub: &H,
     start: &Start,
-    seat: Held<K>,
+    seat: S,
     task: T,
-) -> Option<Member<K, T::Report>>
+) -> Option<Member<S, T::Report>>
     requires { T.begins task seat }
-    ensures pid { IfSome result (λ m. m.seat.pid ≡ seat.pid) }
+    ensures pid { IfSome result (λ m. S.pid_of m.seat ≡ S.pid_of seat) }
     ensures ends { IfSome result (λ m. T.ends task m.seat m.report) }
 {
     let mut seat = seat;
@@ -53,43 +56,50 @@ fn work<K: HubName, R: Wait, T: Task<K, R>>(
 }
 
 /// Starts the thread of one seat. `None` where it can't be started.
-fn spawn<'s, E, K: HubName + Send + Sync + 's, R: Wait + Sync + 's, T: Task<K, R> + 's>(
+fn spawn<
+    's,
+    E,
+    H: Sync + 's,
+    S: HasPid + Drop + Send + 's,
+    R: Wait + Sync + 's,
+    T: Task<H, S, R> + 's,
+>(
     scope: &Scope<'s, E>,
     rt: &'s R,
-    hub: &'s LiveHub<K>,
+    hub: &'s H,
     start: &'s Start,
-    seat: Held<K>,
+    seat: S,
     task: T,
-) -> Option<Started<K, R, T>>
+) -> Option<Started<H, S, R, T>>
     requires { T.begins task seat }
-    ensures { IfSome result (λ h. (h.promise.pid ≡ seat.pid) × (h.promise.task ≡ task)) }
+    ensures { IfSome result (λ h. (h.promise.pid ≡ S.pid_of seat) × (h.promise.task ≡ task)) }
 {
     let owed = Owed {
         pid: seat.pid(),
         task,
         of: PhantomData,
     };
-    let job = move || -> Option<Member<K, T::Report>>
+    let job = move || -> Option<Member<S, T::Report>>
         requires { T.begins task seat }
-        ensures { IfSome result (λ m. (m.seat.pid ≡ seat.pid) × T.ends task m.seat m.report) }
+        ensures { IfSome result (λ m. (S.pid_of m.seat ≡ S.pid_of seat) × T.ends task m.seat m.report) }
     { work(rt, hub, start, seat, task) };
     scope.spawn_with(owed, job).ok()
 }
 
 /// Starts a thread for each seat, and lets all begin once all are started. Whether they were; else none
 /// begins.
-fn start_all<K: HubName + Send + Sync, R: Threads + Wait + Sync, T: Task<K, R>>(
+fn start_all<H: Sync, S: HasPid + Drop + Send, R: Threads + Wait + Sync, T: Task<H, S, R>>(
     rt: &R,
-    hub: &LiveHub<K>,
-    seats: Vec<Held<K>>,
+    hub: &H,
+    seats: Vec<S>,
     task: T,
-    room: Vec<Started<K, R, T>>,
-) -> (Vec<Started<K, R, T>>, bool)
+    room: Vec<Started<H, S, R, T>>,
+) -> (Vec<Started<H, S, R, T>>, bool)
     requires begins { All (T.begins task) seats.items }
     requires empty { room.items ≡ [] }
     requires room { vec_len seats ≤ vec_capacity room }
     ensures pids { result.1 ≡ true →
-        map (λ h. h.promise.pid) result.0.items ≡ map (λ s. s.pid) seats.items }
+        map (λ h. h.promise.pid) result.0.items ≡ map S.pid_of seats.items }
     ensures tasks { All (λ h. h.promise.task ≡ task) result.0.items }
     ensures fewer { vec_len result.0 ≤ vec_len seats }
 {
@@ -98,10 +108,10 @@ fn start_all<K: HubName + Send + Sync, R: Threads + Wait + Sync, T: Task<K, R>>(
     thread::scope(
         thread::scope_env(),
         rt,
-        |scope| -> (Vec<Started<K, R, T>>, bool)
+        |scope| -> (Vec<Started<H, S, R, T>>, bool)
             requires { All (T.begins task) seats.items
                 × (room.items ≡ []) × (vec_len seats ≤ vec_capacity room) }
-            ensures { (result.1 ≡ true → map (λ h. h.promise.pid) result.0.items ≡ map (λ s. s.pid) seats.items)
+            ensures { (result.1 ≡ true → map (λ h. h.promise.pid) result.0.items ≡ map S.pid_of seats.items)
                 × All (λ h. h.promise.task ≡ task) result.0.items
                 × (vec_len result.0 ≤ vec_len seats) }
         {
@@ -122,19 +132,19 @@ fn start_all<K: HubName + Send + Sync, R: Threads + Wait + Sync, T: Task<K, R>>(
 }
 
 /// The members whose threads have ended. Err where they were not started or one did not begin, once all have ended.
-fn join_all<K: HubName, R: Threads, T: Task<K, R>>(
+fn join_all<H, S: HasPid + Drop, R: Threads, T: Task<H, S, R>>(
     rt: &R,
-    handles: Vec<Started<K, R, T>>,
+    handles: Vec<Started<H, S, R, T>>,
     started: bool,
-    room: Vec<Member<K, T::Report>>,
+    room: Vec<Member<S, T::Report>>,
     task: T,
-) -> Result<Vec<Member<K, T::Report>>, AllocError>
+) -> Result<Vec<Member<S, T::Report>>, AllocError>
     requires tasks { All (λ h. h.promise.task ≡ task) handles.items }
     requires empty { room.items ≡ [] }
     requires room { vec_len handles ≤ vec_capacity room }
     ensures started { OnOk result (started ≡ true) }
     ensures pids { IfOk result (λ done.
-        map (λ m. m.seat.pid) done.items ≡ map (λ h. h.promise.pid) handles.items) }
+        map (λ m. S.pid_of m.seat) done.items ≡ map (λ h. h.promise.pid) handles.items) }
     ensures ends { IfOk result (λ done. All (λ m. T.ends task m.seat m.report) done.items) }
 {
     let mut done = room;
@@ -149,10 +159,10 @@ fn join_all<K: HubName, R: Threads, T: Task<K, R>>(
 }
 
 /// Room for the handles and the members of so many threads.
-fn room_for<K: HubName, R, T: Task<K, R>>(
+fn room_for<H, S: HasPid + Drop, R, T: Task<H, S, R>>(
     alloc: Global,
     count: usize,
-) -> Result<(Vec<Started<K, R, T>>, Vec<Member<K, T::Report>>), AllocError>
+) -> Result<(Vec<Started<H, S, R, T>>, Vec<Member<S, T::Report>>), AllocError>
     ensures empty { IfOk result (λ r. (r.0.items ≡ []) × (r.1.items ≡ [])) }
     ensures room { IfOk result (λ r. (count ≤ vec_capacity r.0) × (count ≤ vec_capacity r.1)) }
 {
@@ -166,17 +176,17 @@ fn room_for<K: HubName, R, T: Task<K, R>>(
 /// which others may wait makes its own before it ends.
 ///
 /// Err where a thread or memory was refused: then none has begun, no step was made, and the seats are
-/// dropped. The hub has no seats then, and can only be finished.
-pub fn run_crew<K: HubName + Send + Sync, R: Threads + Wait + Sync, T: Task<K, R>>(
+/// dropped. A hub whose seats they were has none then, and can only be finished.
+pub fn run_crew<H: Sync, S: HasPid + Drop + Send, R: Threads + Wait + Sync, T: Task<H, S, R>>(
     rt: &R,
     alloc: Global,
-    hub: &LiveHub<K>,
-    seats: Vec<Held<K>>,
+    hub: &H,
+    seats: Vec<S>,
     task: T,
-) -> Result<Vec<Member<K, T::Report>>, AllocError>
+) -> Result<Vec<Member<S, T::Report>>, AllocError>
     requires { All (T.begins task) seats.items }
     ensures pids { IfOk result (λ done.
-        map (λ m. m.seat.pid) done.items ≡ map (λ s. s.pid) seats.items) }
+        map (λ m. S.pid_of m.seat) done.items ≡ map S.pid_of seats.items) }
     ensures ends { IfOk result (λ done. All (λ m. T.ends task m.seat m.report) done.items) }
 {
     // All memory comes first, so that no thread is left waiting and no handle is lost.

@@ -1,4 +1,4 @@
-//! A crew of threads: one for each of some seats of a live hub, all doing the same task.
+//! A crew of threads: one for each of some seats, as those of a live hub, all doing the same task.
 //!
 //! None begins before all are started, and where a thread or memory is refused none begins at all.
 #![tactic(auto)]

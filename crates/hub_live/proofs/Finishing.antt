@@ -3,7 +3,7 @@ use Rattle.std.proofs.Common.{◌≡◌, ◌≤◌, List, [], ◌∷◌, ◌++�
 use Rattle.std.specs.Prelude.{All}
 use Rattle.std.proofs.lemmas.List.{append-nil}
 use Rattle.hub_live.specs.Prelude.{AreOf, EndsIn, IsLegal, JournalView, LockedView, Name, SeatView, StandsIn, steps_of}
-use Rattle.hub_live.proofs.Loops.{all_snoc, one_further}
+use Rattle.hub_base.proofs.Loops.{all_snoc, one_further}
 
 -- the hub is as at the start, and the seats that were compared, which with those that are left are all, stand in its journal
 pub record Compared (start now : LockedView) (done rest all : List SeatView) : Type 0 where

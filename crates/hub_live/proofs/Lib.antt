@@ -8,5 +8,4 @@ pub mod Seats
 pub mod Desks
 pub mod Refusals
 pub mod Laters
-pub mod Loops
 pub mod Finishing

@@ -13,7 +13,7 @@ use crate::live_hub::LiveHub;
 use crate::name::HubName;
 use crate::seat::Seat;
 use crate::words::Words;
-use hub_base::{Cases, Counts, Fault, Journal, Pid, Port, Value};
+use hub_base::{Cases, Counts, Fault, HasPid, Journal, Pid, Port, Value};
 use std::alloc::{AllocError, Global};
 use std::marker::{Model, PhantomData};
 use std::sync::Wait;
@@ -36,6 +36,14 @@ impl<K: HubName> Model for Held<K> {
     ghost view = { λ h. h.seat };
 
     ghost invariant = { λ h. h.seat.hub ≡ K.name };
+}
+
+impl<K: HubName> HasPid for Held<K> {
+    ghost pid_of = { λ held. held.pid };
+
+    fn pid(&self) -> Pid {
+        Held::pid(self)
+    }
 }
 
 impl<K: HubName> Held<K> {

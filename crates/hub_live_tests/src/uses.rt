@@ -24,7 +24,10 @@ pub(crate) fn hand_nine_over<K: HubName + Send + Sync, R: Runtime>(
     Ok(Vec::new(rt.alloc()))
 }
 
-fn each_has_its_answer<K: HubName>(rt: &impl Abort, members: &[Member<K, Result<Event, Fault>>]) {
+fn each_has_its_answer<K: HubName>(
+    rt: &impl Abort,
+    members: &[Member<Held<K>, Result<Event, Fault>>],
+) {
     same(rt, members.len(), 2, "members");
     for member in members {
         let pid = member.seat.pid();
@@ -51,7 +54,7 @@ pub(crate) fn work_off<K: HubName + Send + Sync, R: Runtime>(
     Ok(Vec::new(rt.alloc()))
 }
 
-fn add_jobs<K: HubName>(rt: &impl Abort, done: &[Member<K, Result<Work, Stopped>>]) {
+fn add_jobs<K: HubName>(rt: &impl Abort, done: &[Member<Held<K>, Result<Work, Stopped>>]) {
     let (mut all, mut total) = (0u32, 0u64);
     for member in done {
         let (jobs, sum) = jobs_and_sum(rt, member.report, member.seat.pid());

@@ -15,7 +15,7 @@ use Rattle.hub_live.specs.Name.{Name}
 use Rattle.hub_live.specs.SeatView.{SeatView}
 use Rattle.hub_live.specs.Calls.{Later, Refused, Shows, AreSeats}
 use Rattle.hub_live.proofs.Prefixes.{prefix_self}
-use Rattle.hub_live.proofs.Loops.{all_snoc}
+use Rattle.hub_base.proofs.Loops.{all_snoc}
 use Rattle.hub_scenario.specs.declared.script.ScriptStep.{ScriptStep}
 use Rattle.hub_scenario.specs.Scenario.{ScenarioData}
 use Rattle.hub_scenario.specs.ChoiceWords.{choice_word, words_of_process}

@@ -19,7 +19,7 @@ pub struct Following<'a, G> {
     pub gate: &'a G,
 }
 
-impl<'a, K: HubName, R: Wait, G: Gate + Sync> Task<K, R> for Following<'a, G> {
+impl<'a, K: HubName, R: Wait, G: Gate + Sync> Task<LiveHub<K>, Held<K>, R> for Following<'a, G> {
     ghost use Rattle.hub_scenario.specs.Scenario.{scenario_view};
     ghost use Rattle.hub_runner.specs.Running.{IsReady, IsOutcome};
 

@@ -81,7 +81,7 @@ fn make_ready<K: HubName, R: Wait>(
 fn part<K: HubName>(
     alloc: Global,
     scenario: &Scenario,
-    members: Vec<Member<K, Result<(), Fault>>>,
+    members: Vec<Member<Held<K>, Result<(), Fault>>>,
 ) -> Result<Halted<K>, AllocError>
     requires { All (λ m. IsOutcome (scenario_view scenario.now) m.seat m.report) members.items }
     ensures { IfOk result (λ h. HaveEnded (scenario_view scenario.now) K.name

@@ -176,7 +176,7 @@ impl<'a> RandomTask<'a> {
 
 /// Gives each answer that the process received, in order, where its calls were made until the time was
 /// up or the journal full.
-impl<'a, K: HubName, R: Wait + Clock> Task<K, R> for RandomTask<'a> {
+impl<'a, K: HubName, R: Wait + Clock> Task<LiveHub<K>, Held<K>, R> for RandomTask<'a> {
     type Report = Result<Vec<Event>, Trouble>;
 
     fn perform(self, rt: &R, hub: &LiveHub<K>, seat: &mut Held<K>) -> Result<Vec<Event>, Trouble> {

@@ -84,7 +84,7 @@ fn called_of<K: HubName>(
 fn all_called<K: HubName>(
     alloc: Global,
     hub: &LiveHub<K>,
-    done: Vec<Member<K, Result<Vec<Event>, Trouble>>>,
+    done: Vec<Member<Held<K>, Result<Vec<Event>, Trouble>>>,
 ) -> Result<Vec<Called>, Trouble> {
     let mut all = Vec::new(alloc);
     for member in done {

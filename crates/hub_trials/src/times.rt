@@ -133,7 +133,7 @@ impl<'a, K: HubName, R: Wait> Caller<'a, K, R> {
 }
 
 /// Gives when it made its turns.
-impl<K: HubName, R: Wait + Clock> Task<K, R> for Turns {
+impl<K: HubName, R: Wait + Clock> Task<LiveHub<K>, Held<K>, R> for Turns {
     type Report = Result<Span, Trouble>;
 
     fn perform(self, rt: &R, hub: &LiveHub<K>, seat: &mut Held<K>) -> Result<Span, Trouble> {
@@ -171,7 +171,9 @@ fn run_named<K: HubName + Send + Sync, R: Threads + Wait + Clock + Sync>(
 }
 
 /// From the earliest beginning to the latest end.
-fn time_of<K: HubName>(done: &[Member<K, Result<Span, Trouble>>]) -> Result<Duration, Trouble> {
+fn time_of<K: HubName>(
+    done: &[Member<Held<K>, Result<Span, Trouble>>],
+) -> Result<Duration, Trouble> {
     let mut whole: Option<Span> = None;
     for member in done {
         let span = member.report?;

@@ -13,7 +13,7 @@ use std::thread::Threads;
 #[derive(Clone, Copy)]
 struct HandOver(Chan);
 
-impl<K: HubName, R: Wait> Task<K, R> for HandOver {
+impl<K: HubName, R: Wait> Task<LiveHub<K>, Held<K>, R> for HandOver {
     type Report = Result<Event, Fault>;
 
     ghost ends = { λ task seat told. IfOk told (λ x. reply_to seat ≡ Some x) };
@@ -33,7 +33,7 @@ pub fn hand_over<K: HubName + Send + Sync, R: Threads + Wait + Sync>(
     hub: &LiveHub<K>,
     seats: Vec<Held<K>>,
     chan: Chan,
-) -> Result<Vec<Member<K, Result<Event, Fault>>>, AllocError>
+) -> Result<Vec<Member<Held<K>, Result<Event, Fault>>>, AllocError>
     ensures told { IfOk result (λ done.
         All (λ m. IfOk m.report (λ x. reply_to m.seat ≡ Some x)) done.items) }
 {

@@ -108,7 +108,7 @@ impl Pool {
         alloc: Global,
         hub: &LiveHub<K>,
         seats: Vec<Held<K>>,
-    ) -> Result<Vec<Member<K, Result<Work, Stopped>>>, AllocError>
+    ) -> Result<Vec<Member<Held<K>, Result<Work, Stopped>>>, AllocError>
         ensures told { IfOk result (λ done.
             All (λ m. IfOk m.report (λ w. last_answer m.seat ≡ Some (ended_by w))) done.items) }
     {
@@ -116,7 +116,7 @@ impl Pool {
     }
 }
 
-impl<K: HubName, R: Wait> Task<K, R> for Pool {
+impl<K: HubName, R: Wait> Task<LiveHub<K>, Held<K>, R> for Pool {
     type Report = Result<Work, Stopped>;
 
     ghost ends = { λ task seat told. IfOk told (λ w. last_answer seat ≡ Some (ended_by w)) };

@@ -93,7 +93,7 @@ fn ask_again<K: HubName, R: Wait>(
 #[derive(Clone, Copy)]
 struct MakeOwn;
 
-impl<K: HubName, R: Wait> Task<K, R> for MakeOwn {
+impl<K: HubName, R: Wait> Task<LiveHub<K>, Held<K>, R> for MakeOwn {
     type Report = Result<Event, Fault>;
 
     fn perform(self, rt: &R, hub: &LiveHub<K>, seat: &mut Held<K>) -> Result<Event, Fault> {
@@ -105,7 +105,7 @@ impl<K: HubName, R: Wait> Task<K, R> for MakeOwn {
 /// How many channels a crew of three made: one each, or none where it was refused.
 fn made_by<K: HubName>(
     rt: &impl Abort,
-    crew: Result<Vec<Member<K, Result<Event, Fault>>>, AllocError>,
+    crew: Result<Vec<Member<Held<K>, Result<Event, Fault>>>, AllocError>,
 ) -> usize {
     let Ok(members) = crew else {
         return 0;

@@ -125,7 +125,7 @@ impl<'a> Job<'a> {
 }
 
 /// Gives the answer to what its process asked for last; none, where it asked for nothing.
-impl<'a, K: HubName, R: Wait + Abort> Task<K, R> for Job<'a> {
+impl<'a, K: HubName, R: Wait + Abort> Task<LiveHub<K>, Held<K>, R> for Job<'a> {
     type Report = Option<Result<Event, Fault>>;
 
     fn perform(self, rt: &R, hub: &LiveHub<K>, seat: &mut Held<K>) -> Option<Result<Event, Fault>> {

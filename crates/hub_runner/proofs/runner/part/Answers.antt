@@ -3,7 +3,7 @@ use Rattle.std.proofs.lemmas.List.{map-append}
 use Rattle.hub_base.specs.declared.value.Pid.{Pid}
 use Rattle.hub_scenario.specs.Scenario.{scenario_view}
 use Rattle.hub_runner.specs.Running.{IsOutcome, HaveEnded}
-use Rattle.hub_live.proofs.Loops.{one_further, all_next}
+use Rattle.hub_base.proofs.Loops.{one_further, all_next}
 use Rattle.hub_runner.proofs.Outcomes.{ended_more}
 use Rattle.hub_runner.proofs.runner.part.Goals as goal
 

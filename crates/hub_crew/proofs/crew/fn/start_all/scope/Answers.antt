@@ -1,5 +1,5 @@
-use Rattle.std.proofs.Common.{◌≡◌, ◌∙◌, arith}
-use Rattle.hub_live.proofs.Loops.{map_snoc, all_snoc, one_further}
+use Rattle.std.proofs.Common.{◌≡◌, arith}
+use Rattle.hub_base.proofs.Loops.{map_snoc, all_snoc, one_further}
 use Rattle.hub_crew.proofs.crew.fn.start_all.scope.Goals as goal
 
 pub loop-seat-preserved : goal.loop-seat-preserved
@@ -9,7 +9,7 @@ loop-seat-preserved g c =
     let started = c.in-Some-spawn.ensures in
     let step = c.in-Some.ensures.steps in record {
       pids = map_snoc c.loop-seat.handles.items c.push_reserved.new.self.items c.loop-seat.yielded c.in-Some-spawn.handle c.in-Some.seat
-          (λ h. h.promise.pid) (λ s. s.pid) more.items i.pids started.0;
+          (λ h. h.promise.pid) g.S.HasPid.pid_of more.items i.pids started.0;
       tasks = all_snoc c.loop-seat.handles.items c.push_reserved.new.self.items c.in-Some-spawn.handle
           (λ h. h.promise.task ≡ c.captures.task) more.items i.tasks started.1;
       split = one_further c.loop-seat.yielded c.loop-seat.seat-iterator.rest.items c.next.new.self.rest.items

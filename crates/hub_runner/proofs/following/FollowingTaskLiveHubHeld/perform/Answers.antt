@@ -12,7 +12,7 @@ use Rattle.hub_live.specs.Name.{Name}
 use Rattle.hub_scenario.specs.Steps.{has_step}
 use Rattle.hub_runner.proofs.Runs.{place_of, script_at, script_fits}
 use Rattle.hub_runner.proofs.Outcomes.{is_outcome}
-use Rattle.hub_runner.proofs.following.FollowingTask.perform.Goals as goal
+use Rattle.hub_runner.proofs.following.FollowingTaskLiveHubHeld.perform.Goals as goal
 
 pub follow-requires-clause-fits : goal.follow-requires-clause-fits
 follow-requires-clause-fits g c =

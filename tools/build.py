@@ -125,15 +125,16 @@ def build_all(wanted, crates):
     with ThreadPoolExecutor(processors) as pool:
         while left or running:
             waiting = {*left, *(it for it, _ in running.values())}
+            longest = max(behind[it] for it in waiting)
             for crate in [it for it in left if not below(it, crates) & waiting]:
                 free = memory - sum(jobs for _, jobs in running.values())
                 if len(running) == processors or running and free < 1:
                     break
-                # What has nearly the longest chain behind it is not to wait for what has a short one.
-                first = all(behind[it] <= 1.2 * behind[crate] for it in waiting)
-                jobs = max(1, min(free, processors if first else max(2, processors // 2)))
+                # The shorter the chain behind a crate, the more of a processor it leaves to the others.
+                share = behind[crate] / longest
+                jobs = max(1, min(free, processors if share > 0.8 else max(2, processors // 2)))
                 left.remove(crate)
-                running[pool.submit(build, crate, jobs, 0 if first else 19)] = crate, jobs
+                running[pool.submit(build, crate, jobs, round(19 - 19 * share))] = crate, jobs
             for done in wait(running, return_when=FIRST_COMPLETED).done:
                 crate, _ = running.pop(done)
                 if not done.result():

@@ -1,8 +1,9 @@
 -- Entries that are kept short, and how they are written out.
-use Rattle.std.proofs.Common.{◌≡◌, ◌∙◌, ◌++◌, ◌≤◌, ◌<◌, ◌+◌, ◌∷◌, [], ℕ, suc, List, length, take, drop}
+use Rattle.std.proofs.Common.{◌≡◌, ◌∙◌, ◌++◌, ◌≤◌, ◌<◌, ◌+◌, ◌∷◌, [], ℕ, zero, suc, List, Some, None, length, take, drop}
 use Rattle.std.proofs.Common.{ap, sym, subst, refl, arith, append-nil, append_assoc, length-append}
-use Rattle.std.specs.Prelude.{slice_index_or}
-use Rattle.std.proofs.lemmas.List.{take-append-le, drop-append-le}
+use Rattle.std.specs.Prelude.{get_or, slice_get, slice_index_or}
+use Rattle.std.proofs.lemmas.List.{take-append-le, drop-append-le, drop-drop, length-drop}
+use Rattle.std.proofs.lemmas.Option.{none-some, same_Some, slice_get_past, slice_get_read}
 use Rattle.std.proofs.Math.Seq.{take-length, drop-length, drop-cons}
 use Rattle.hub_base.specs.declared.case.Case.{Case}
 use Rattle.hub_base.specs.declared.entry.Step.{Step}
@@ -10,7 +11,8 @@ use Rattle.hub_base.specs.declared.entry.Step.TheVariants.{Make, Call, Close, Ex
 use Rattle.hub_base.specs.declared.entry.Entry.{Entry}
 use Rattle.hub_base.specs.declared.limits.TheConstants.{CASE_PLACES}
 use Rattle.hub_core.specs.declared.log.Brief.{Brief}
-use Rattle.hub_core.specs.LogView.{AreBriefs, brief_of, brief_step, case_count, cases_of, cases_of_step, count_of_step, entry_of, step_of_brief, written}
+use Rattle.hub_core.specs.LogView.{AreBriefs, StandFrom, brief_of, brief_step, case_count, cases_of, cases_of_step, count_of_step}
+use Rattle.hub_core.specs.LogView.{entry_of, step_of_brief, written}
 
 step_again : (s : Step) → step_of_brief (brief_step s) (cases_of_step s) ≡ s
 step_again (Make cap) = refl
@@ -20,8 +22,8 @@ step_again Exit = refl
 step_again (Cancel q) = refl
 
 -- an entry is what is kept of it, with its cases
-pub entry_again : (e : Entry) → entry_of (brief_of e) (cases_of e) ≡ e
-entry_again e = ap (λ (s : Step). record { pid = e.pid; step = s }) (step_again e.step)
+pub entry_again : (e : Entry) (first : ℕ) → entry_of (brief_of e first) (cases_of e) ≡ e
+entry_again e first = ap (λ (s : Step). record { pid = e.pid; step = s }) (step_again e.step)
 
 counted_step : (s : Step) → count_of_step (brief_step s) ≡ length (cases_of_step s)
 counted_step (Make cap) = refl
@@ -31,8 +33,8 @@ counted_step Exit = refl
 counted_step (Cancel q) = refl
 
 -- as many as it counts
-pub counted : (e : Entry) → case_count (brief_of e) ≡ length (cases_of e)
-counted e = counted_step e.step
+pub counted : (e : Entry) (first : ℕ) → case_count (brief_of e first) ≡ length (cases_of e)
+counted e first = counted_step e.step
 
 take_all : (n : ℕ) (cs ds : List Case) → cs ≡ [] → n ≡ length ds → take n (cs ++ ds) ≡ ds
 take_all n cs ds none is = (λ i. take (is i) (none i ++ ds)) ∙ take-length ds
@@ -84,23 +86,39 @@ pub none_short : (bs : List Brief) (cs : List Case) → bs ≡ [] → cs ≡ [] 
 unfolding AreBriefs written
 none_short bs cs none empty = subst (λ (xs : List Brief). AreBriefs xs cs) (sym none) empty
 
+pub none_begins : (bs : List Brief) → bs ≡ [] → StandFrom 0 bs
+unfolding StandFrom
+none_begins bs none = subst (StandFrom 0) (sym none) tt
+
+-- one more, whose cases begin behind the others'
+begin_more : (n : ℕ) (bs : List Brief) (cs : List Case) (b : Brief) → AreBriefs bs cs → StandFrom n bs → b.first ≡ n + length cs → StandFrom n (bs ++ b ∷ [])
+unfolding AreBriefs StandFrom
+begin_more n [] cs b none stand is = (is ∙ (let z : n + length cs ≡ n = omega (arith, ap length none) in z), tt)
+begin_more n (x ∷ bs) cs b (few, within, rest) (first, stand) is =
+    let k = case_count x in
+    (first, begin_more (n + k) bs (drop k cs) b rest stand (omega (arith, is, within, length-drop k cs)))
+
 -- ---- an entry more is kept short
 
 pub record Gains (bs more : List Brief) (cs cs' : List Case) (e : Entry) : Type 0 where
   pub briefs : AreBriefs more cs'
+  pub begin : StandFrom 0 bs → StandFrom 0 more
   pub one : length more ≡ length bs + 1
   pub items : (whole : List Entry) → whole ++ written more cs' ≡ (whole ++ written bs cs) ++ e ∷ []
 
-pub gains : {bs more grown : List Brief} {cs cs' ds : List Case} {b : Brief} (e : Entry) → AreBriefs bs cs → grown ≡ bs ++ b ∷ [] → b ≡ brief_of e
-    → more ≡ grown → ds ≡ cases_of e → length ds ≤ CASE_PLACES → cs' ≡ cs ++ ds → Gains bs more cs cs' e
-gains {bs} {more} {grown} {cs} {cs'} {ds} {b} e are grown_is kept more_is own few longer =
-    let count : case_count b ≡ length ds = ap case_count kept ∙ counted e ∙ ap length (sym own) in
+pub gains : {bs more grown : List Brief} {cs cs' ds : List Case} {b : Brief} {first : ℕ} (e : Entry) → AreBriefs bs cs → grown ≡ bs ++ b ∷ []
+    → b ≡ brief_of e first → first ≡ length cs → more ≡ grown → ds ≡ cases_of e → length ds ≤ CASE_PLACES → cs' ≡ cs ++ ds → Gains bs more cs cs' e
+gains {bs} {more} {grown} {cs} {cs'} {ds} {b} {first} e are grown_is kept behind more_is own few longer =
+    let count : case_count b ≡ length ds = ap case_count kept ∙ counted e first ∙ ap length (sym own) in
     let all : more ≡ bs ++ b ∷ [] = more_is ∙ grown_is in
-    let again : entry_of b ds ≡ e = (λ i. entry_of (kept i) (own i)) ∙ entry_again e in
+    let again : entry_of b ds ≡ e = (λ i. entry_of (kept i) (own i)) ∙ entry_again e first in
     let spelled : written more cs' ≡ written bs cs ++ e ∷ [] =
     (λ i. written (all i) (longer i)) ∙ written_more bs cs b ds are count ∙ ap (λ x. written bs cs ++ x ∷ []) again in
     record {
       briefs = subst (λ (x : List Brief × List Case). AreBriefs x.0 x.1) (λ i. (sym all i, sym longer i)) (briefs_more bs cs b ds are count few);
+      begin = λ stand.
+          let start : b.first ≡ 0 + length cs = omega (arith, ap (λ (x : Brief). x.first) kept, behind) in
+          subst (StandFrom 0) (sym all) (begin_more 0 bs cs b are stand start);
       one = ap length all ∙ length-append bs (b ∷ []);
       items = λ whole. ap (λ (es : List Entry). whole ++ es) spelled ∙ sym (append_assoc whole (written bs cs) (e ∷ []));
     }
@@ -143,3 +161,42 @@ one_out whole {more} {all} {bs} {cs} {own} {others} {i} {n} {d} {e} left count o
       ap (λ (es : List Entry). es ++ written (drop (i + 1) bs) others) grown ∙ append_assoc whole (e ∷ []) (written (drop (i + 1) bs) others)
           ∙ ap (λ (es : List Entry). whole ++ es) ((λ k. entry_is k ∷ written (drop (i + 1) bs) (left_is k)) ∙ sym left.written) ∙ so_far,
     )
+
+-- ---- one of them alone
+
+pub none_written : (bs : List Brief) (cs : List Case) (i : ℕ) → length bs ≤ i → slice_get (written bs cs) i ≡ None
+none_written bs cs i past = slice_get_past (written bs cs) i (omega (arith, past, written_length bs cs))
+
+-- a brief with its cases
+pub record Stands (bs : List Brief) (left all : List Case) (i : ℕ) (b : Brief) : Type 0 where
+  pub few : case_count b ≤ CASE_PLACES
+  pub within : b.first + case_count b ≤ length all
+  pub is : slice_get (written bs left) i ≡ Some (entry_of b (take (case_count b) (drop b.first all)))
+
+stands_behind : (n : ℕ) (bs : List Brief) (all : List Case) (i : ℕ) (b : Brief) → n ≤ length all → AreBriefs bs (drop n all) → StandFrom n bs
+    → slice_get bs i ≡ Some b → Stands bs (drop n all) all i b
+unfolding AreBriefs StandFrom written
+stands_behind n [] all i b low are stand at = absurd (none-some b at)
+stands_behind n (x ∷ bs) all zero b low (few, within, rest) (first, stand) at =
+    let same : x ≡ b = same_Some x b at in
+    let begins : b.first ≡ n = ap (λ (y : Brief). y.first) (sym same) ∙ first in
+    record {
+      few = subst (λ (y : Brief). case_count y ≤ CASE_PLACES) same few;
+      within = omega (arith, low, begins, ap case_count same, within, length-drop n all);
+      is = ap (λ (y : Brief). Some (entry_of y (take (case_count y) (drop n all)))) same
+          ∙ ap (λ k. Some (entry_of b (take (case_count b) (drop k all)))) (sym begins);
+    }
+stands_behind n (x ∷ bs) all (suc i) b low (few, within, rest) (first, stand) at =
+    let k = case_count x in
+    let left : drop k (drop n all) ≡ drop (n + k) all = drop-drop k n all in
+    let next = stands_behind (n + k) bs all i b (omega (arith, low, within, length-drop n all)) (subst (AreBriefs bs) left rest) stand at in
+    record {
+      few = next.few;
+      within = next.within;
+      is = ap (λ (cs : List Case). slice_get (written bs cs) i) left ∙ next.is;
+    }
+
+pub stands_at : (bs : List Brief) (all : List Case) (i : ℕ) (b : Brief) → AreBriefs bs all → StandFrom 0 bs
+    → (i < length bs) × ((d : Brief) → b ≡ get_or bs i d) → Stands bs all all i b
+stands_at bs all i b are stand (low, at) =
+    stands_behind 0 bs all i b (omega arith) are stand (slice_get_read bs (length bs) i b refl low (at b))

@@ -2,7 +2,7 @@
 use Rattle.std.specs.Prelude.{◌≤◌, ◌+◌, ◌++◌, length, vec_len}
 use Rattle.std.specs.Vec.{vec_capacity}
 use Rattle.hub_core.specs.declared.log.Log.TheInside.{Inside}
-use Rattle.hub_core.specs.LogView.{LogView, AreBriefs, written}
+use Rattle.hub_core.specs.LogView.{LogView, AreBriefs, StandFrom, written}
 
 -- what contracts see of a journal
 abbrev pub log_shown : Inside → LogView
@@ -15,4 +15,5 @@ log_shown l =
 
 pub record LogKeeps (l : Inside) : Type 0 where
   pub briefs : AreBriefs l.briefs.items l.cases.items
+  pub begin : StandFrom 0 l.briefs.items
   pub room : vec_len l.whole + length l.briefs.items ≤ vec_capacity l.whole

@@ -1,5 +1,5 @@
 -- What contracts see of a journal whose newest entries may be kept short, and how such are written out.
-use Rattle.std.specs.Prelude.{◌≡◌, ◌≤◌, ℕ, List, [], ◌∷◌, length, take, drop}
+use Rattle.std.specs.Prelude.{◌≡◌, ◌≤◌, ◌+◌, ℕ, List, [], ◌∷◌, length, take, drop}
 use Rattle.hub_base.specs.declared.case.Case.{Case}
 use Rattle.hub_base.specs.declared.entry.Step.{Step}
 use Rattle.hub_base.specs.declared.entry.Step.TheVariants as step
@@ -40,8 +40,9 @@ brief_step (step.Close p) = brief.Close p
 brief_step step.Exit = brief.Exit
 brief_step (step.Cancel q) = brief.Cancel q
 
-abbrev pub brief_of : Entry → Brief
-brief_of e = record { pid = e.pid; step = brief_step e.step }
+-- that, with where its cases begin
+abbrev pub brief_of : Entry → ℕ → Brief
+brief_of e first = record { pid = e.pid; step = brief_step e.step; first = first }
 
 -- how many cases it has
 abbrev pub count_of_step : BriefStep → ℕ
@@ -71,6 +72,11 @@ entry_of b cases = record { pid = b.pid; step = step_of_brief b.step cases }
 unfoldable pub written : List Brief → List Case → List Entry
 written [] cases = []
 written (b ∷ bs) cases = entry_of b (take (case_count b) cases) ∷ written bs (drop (case_count b) cases)
+
+-- the cases of each stand behind those of the ones before it; those of the first, behind so many
+unfoldable pub StandFrom : ℕ → List Brief → Type 0
+StandFrom n [] = Unit {0}
+StandFrom n (b ∷ bs) = (b.first ≡ n) × StandFrom (n + case_count b) bs
 
 -- these are all their cases, and none has more than an entry has places for
 unfoldable pub AreBriefs : List Brief → List Case → Type 0

@@ -5,10 +5,10 @@
 //! it has, and a few bytes beside them; the entries are written out when they are asked for. Their places are reserved
 //! as if they were written, so that this takes no memory.
 
-ghost use Rattle.std.specs.Prelude.{◌≡◌, ◌≤◌, ◌<◌, ◌+◌, ◌++◌, ◌∷◌, [], IsTrue, ◌↔◌, true, false, IfOk, OnOk, OnErr, length, vec_len};
+ghost use Rattle.std.specs.Prelude.{◌≡◌, ◌≤◌, ◌<◌, ◌+◌, ◌++◌, ◌∷◌, [], ℕ, IsTrue, ◌↔◌, true, false, IfOk, OnOk, OnErr, length, slice_get, vec_len};
 ghost use Rattle.std.specs.Vec.{vec_capacity};
 ghost use Rattle.hub_base.specs.declared.limits.TheConstants.{CASE_PLACES};
-ghost use Rattle.hub_core.specs.LogView.{brief_of, case_count, cases_of, entry_of, written, AreBriefs};
+ghost use Rattle.hub_core.specs.LogView.{brief_of, case_count, cases_of, entry_of, written, AreBriefs, StandFrom};
 
 use hub_base::{Case, Cases, Entry, MOST_PROCS, Pid, Port, Step};
 use std::alloc::{AllocError, Global};
@@ -34,6 +34,8 @@ pub(crate) enum BriefStep {
 pub(crate) struct Brief {
     pid: Pid,
     step: BriefStep,
+    /// Where its cases begin among those of all entries that are kept short.
+    first: usize,
 }
 
 /// The entries of a journal, in order. The newest may be kept short.
@@ -58,9 +60,9 @@ impl Model for Log {
     ghost invariant = { λ l. LogKeeps l };
 }
 
-/// What is kept of an entry beside its cases.
-fn brief_of(entry: &Entry) -> Brief
-    ensures { result ≡ brief_of entry.now }
+/// What is kept of an entry beside its cases, which begin there.
+fn brief_of(entry: &Entry, first: usize) -> Brief
+    ensures { result ≡ brief_of entry.now first }
 {
     let step = match entry.step {
         Step::Make(cap) => BriefStep::Make(cap),
@@ -80,13 +82,14 @@ fn brief_of(entry: &Entry) -> Brief
     Brief {
         pid: entry.pid,
         step,
+        first,
     }
 }
 
 /// The cases of an entry; none where it is no call.
 fn cases_of(entry: &Entry) -> &[Case]
     ensures cases { result.now ≡ cases_of entry.now }
-    ensures count { length result.now ≡ case_count (brief_of entry.now) }
+    ensures count { (first : ℕ) → length result.now ≡ case_count (brief_of entry.now first) }
     ensures few { length result.now ≤ CASE_PLACES }
 {
     match entry.step {
@@ -169,6 +172,20 @@ fn write_out(whole: &mut Vec<Entry>, briefs: &[Brief], cases: &[Case])
     }
 }
 
+/// The entry at this place of those that are kept short; `None` behind the last.
+fn short_at(briefs: &[Brief], cases: &[Case], place: usize) -> Option<Entry>
+    requires briefs { AreBriefs briefs.now cases.now }
+    requires begin { StandFrom 0 briefs.now }
+    ensures { result ≡ slice_get (written briefs.now cases.now) place }
+{
+    let Some(brief) = briefs.get(place) else {
+        return None;
+    };
+    let (_others, from) = cases.split_at(brief.first);
+    let (own, _rest) = from.split_at(brief.count());
+    Some(brief.entry(own))
+}
+
 impl Log {
     /// No entry, and room for so many.
     pub(crate) fn with_capacity(alloc: Global, capacity: usize) -> Result<Log, AllocError>
@@ -236,11 +253,12 @@ impl Log {
         if !has_room(&mut self.briefs, entry) {
             return false;
         }
+        let first = self.cases.len();
         let cases = cases_of(entry);
         let Ok(()) = self.cases.extend_from_slice(cases) else {
             return false;
         };
-        self.briefs.push_reserved(brief_of(entry));
+        self.briefs.push_reserved(brief_of(entry, first));
         true
     }
 
@@ -276,6 +294,16 @@ impl Log {
         ensures { result.now ≡ self.now.items }
     {
         &self.whole
+    }
+
+    /// The entry at this place; `None` behind the last. None is written out for it.
+    pub(crate) fn entry(&self, place: usize) -> Option<Entry>
+        ensures { result ≡ slice_get self.now.items place }
+    {
+        match self.whole.get(place) {
+            Some(entry) => Some(entry.copy()),
+            None => short_at(&self.briefs, &self.cases, place - self.whole.len()),
+        }
     }
 
     /// The entries.

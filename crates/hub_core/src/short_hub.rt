@@ -336,16 +336,14 @@ impl ShortHub {
         self.entries.len()
     }
 
-    /// The journal's entry at this place, counted from 0; `None` behind the last. The journal is written out, which takes
-    /// no memory. Each entry was admitted when it came, and is one that the edition has.
-    pub fn entry(&mut self, place: usize) -> Option<Entry>
-        ensures entry { result ≡ slice_get self.old.memory.hub.journal place }
-        ensures same { self.new.memory ≡ self.old.memory }
-        ensures legal { kept self.old.memory.hub.terms.head self.old.memory.hub.journal ≡ self.old.memory.hub.journal }
-        ensures fits { AreOf self.old.memory.hub.terms.head.edition self.old.memory.hub.journal }
+    /// The journal's entry at this place, counted from 0; `None` behind the last. No entry is written out for it. Each
+    /// entry was admitted when it came, and is one that the edition has.
+    pub fn entry(&self, place: usize) -> Option<Entry>
+        ensures entry { result ≡ slice_get self.now.memory.hub.journal place }
+        ensures legal { kept self.now.memory.hub.terms.head self.now.memory.hub.journal ≡ self.now.memory.hub.journal }
+        ensures fits { AreOf self.now.memory.hub.terms.head.edition self.now.memory.hub.journal }
     {
-        self.entries.write_out();
-        self.entries.as_slice().get(place).map(Entry::copy)
+        self.entries.entry(place)
     }
 
     /// The journal so far, where all of it is written out.

@@ -214,13 +214,11 @@ impl Locked {
     }
 
     /// The journal's entry at this place, counted from 0; `None` behind the last. The journal is legal: each of its entries
-    /// was admitted when it came, and is one that the edition has. It is kept short while steps are made, and written out
-    /// here, which takes no memory, but time where many steps were made since.
-    pub fn entry(&mut self, place: usize) -> Option<Entry>
-        ensures entry { result ≡ slice_get self.old.hub.journal place }
-        ensures same { self.new ≡ self.old }
-        ensures legal { IsLegal self.old.hub.terms.head self.old.hub.journal }
-        ensures fits { AreOf self.old.hub.terms.head.edition self.old.hub.journal }
+    /// was admitted when it came, and is one that the edition has. No entry is written out for it.
+    pub fn entry(&self, place: usize) -> Option<Entry>
+        ensures entry { result ≡ slice_get self.now.hub.journal place }
+        ensures legal { IsLegal self.now.hub.terms.head self.now.hub.journal }
+        ensures fits { AreOf self.now.hub.terms.head.edition self.now.hub.journal }
     {
         self.hub.entry(place)
     }

@@ -167,7 +167,24 @@ fn run_named<K: HubName + Send + Sync, R: Threads + Wait + Clock + Sync>(
     let Ok(done) = run_crew(rt, alloc, &hub, seats, turns) else {
         return Err(Trouble::NotStarted);
     };
-    time_of(done.as_slice())
+    let took = time_of(done.as_slice())?;
+    if turns.workload.gives_its_journal() {
+        Ok(took.saturating_add(finishing(rt, alloc, hub)?))
+    } else {
+        Ok(took)
+    }
+}
+
+/// How long the hub takes to give its journal.
+fn finishing<K: HubName, R: Clock>(
+    rt: &R,
+    alloc: Global,
+    hub: LiveHub<K>,
+) -> Result<Duration, Trouble> {
+    let began = Instant::now(rt)?;
+    let _journal = hub.finish_held(Vec::new(alloc));
+    let ended = Instant::now(rt)?;
+    Ok(ended.saturating_duration_since(began))
 }
 
 /// From the earliest beginning to the latest end.

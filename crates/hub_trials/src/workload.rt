@@ -130,6 +130,11 @@ impl Workload {
         }
     }
 
+    /// Whether the hub's journal is made too: of the calls that `chanhub run` makes, which reports on it.
+    pub fn gives_its_journal(self) -> bool {
+        matches!(self, Workload::Pool | Workload::Pipeline)
+    }
+
     /// How many calls or looks are timed.
     pub fn operations(self, calls: u32) -> u64 {
         match self {

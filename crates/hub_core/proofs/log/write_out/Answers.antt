@@ -9,7 +9,7 @@ pub loop-brief-init : goal.loop-brief-init
 loop-brief-init c = record { briefs = c.requires.briefs; items = refl; room = c.requires.room; capacity = refl }
 
 abbrev blank : Brief
-blank = record { pid = record { 0 = 0 }; step = Make 0 }
+blank = record { pid = record { 0 = 0 }; step = Make 0; first = 0 }
 
 pub split_at-requires : goal.split_at-requires
 split_at-requires c =

@@ -1,4 +1,4 @@
-use Rattle.std.proofs.Common.{◌∙◌, ◌++◌, ◌∷◌, [], List, ap, length, arith}
+use Rattle.std.proofs.Common.{◌≡◌, ◌∙◌, ◌++◌, ◌∷◌, [], List, ap, length, arith}
 use Rattle.hub_base.specs.declared.entry.Entry.{Entry}
 use Rattle.hub_core.specs.LogView.{LogView}
 use Rattle.hub_core.proofs.Logs.{all_length, gains}
@@ -7,10 +7,12 @@ use Rattle.hub_core.proofs.log.Log.keeps_short.Goals as goal
 pub invariant_of-self-2 : goal.invariant_of-self-2
 invariant_of-self-2 c =
     let v = c.self.view_is in
-    let more = gains c.args.entry.now c.self.invariant.briefs (ap (λ bs. bs ++ c.brief_of.result ∷ []) c.has_room.ensures.same) c.brief_of.ensures
+    let behind : c.len-first.result ≡ length c.self.inside.cases.items = omega (arith, c.len-first.ensures, c.self.inside.cases.ok) in
+    let more = gains c.args.entry.now c.self.invariant.briefs (ap (λ bs. bs ++ c.brief_of.result ∷ []) c.has_room.ensures.same) c.brief_of.ensures behind
     c.push_reserved.ensures.items c.cases_of-cases.ensures.cases c.cases_of-cases.ensures.few c.in-Ok.ensures.items in
     record {
       briefs = more.briefs;
+      begin = more.begin c.self.invariant.begin;
       room = omega (
         arith,
         more.one,
@@ -24,6 +26,7 @@ invariant_of-self-2 c =
 
 pub returns-clause-items : goal.returns-clause-items
 returns-clause-items c = λ yes.
-    let more = gains c.args.entry.now c.self.invariant.briefs (ap (λ bs. bs ++ c.brief_of.result ∷ []) c.has_room.ensures.same) c.brief_of.ensures
+    let behind : c.len-first.result ≡ length c.self.inside.cases.items = omega (arith, c.len-first.ensures, c.self.inside.cases.ok) in
+    let more = gains c.args.entry.now c.self.invariant.briefs (ap (λ bs. bs ++ c.brief_of.result ∷ []) c.has_room.ensures.same) c.brief_of.ensures behind
     c.push_reserved.ensures.items c.cases_of-cases.ensures.cases c.cases_of-cases.ensures.few c.in-Ok.ensures.items in
     more.items c.self.inside.whole.items ∙ ap (λ (es : List Entry). es ++ c.args.entry.now ∷ []) (ap (λ (v : LogView). v.items) c.self.view_is)

@@ -1,11 +1,12 @@
 use Rattle.std.proofs.Common.{◌∙◌, ◌++◌, ap, length, arith}
 use Rattle.hub_core.specs.LogView.{LogView, written}
-use Rattle.hub_core.proofs.Logs.{all_length, all_whole, none_short}
+use Rattle.hub_core.proofs.Logs.{all_length, all_whole, none_begins, none_short}
 use Rattle.hub_core.proofs.log.Log.write_out.Goals as goal
 
 pub invariant_of-self : goal.invariant_of-self
 invariant_of-self c = record {
   briefs = none_short c.clear.new.self.items c.clear-2.new.self.items c.clear.ensures.items c.clear-2.ensures.items;
+  begin = none_begins c.clear.new.self.items c.clear.ensures.items;
   room = omega (arith, ap length c.clear.ensures.items, c.write_out.new.whole.ok);
 }
 

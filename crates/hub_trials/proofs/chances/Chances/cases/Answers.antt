@@ -1,4 +1,4 @@
-use Rattle.std.proofs.Common.{◌≡◌, ◌≤◌, ◌∙◌, ◌∷◌, [], ◌&&◌, ap, arith, length, length-append, true}
+use Rattle.std.proofs.Common.{◌∙◌, ◌∷◌, [], ◌&&◌, ap, arith, length, length-append, true}
 use Rattle.std.proofs.lemmas.List.Folds.{list_all-append}
 use Rattle.std.specs.List.{list_all}
 use Rattle.hub_base.specs.Head.{has_case}

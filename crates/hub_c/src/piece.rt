@@ -40,7 +40,9 @@ impl Session {
         }
     }
 
-    /// Writes a piece of the journal's text, and answers how many bytes it has. None are where memory is refused.
+    /// Writes a piece of the journal's text, and answers how many bytes it has. None are where memory is refused. It stands in
+    /// a function of its own, so that a step does not pay for the place of its entry.
+    #[inline(never)]
     #[tactic(auto, using(crate::proofs::Wholes::all_pieces_are_text))]
     pub(crate) fn write_piece(&mut self, number: u64) -> u64
         ensures { WritesPiece self.old number self.new result }

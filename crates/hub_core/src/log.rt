@@ -237,9 +237,20 @@ impl Log {
         ensures capacity { self.new.capacity ≡ self.old.capacity }
     {
         if !self.keeps_short(entry) {
-            self.write_out();
-            self.push(entry.copy());
+            self.push_whole(entry);
         }
+    }
+
+    /// Appends an entry, written out as all before it are then too. It stands in a function of its own, so that a step
+    /// whose entry is kept short does not pay for the place of the copy.
+    #[inline(never)]
+    fn push_whole(&mut self, entry: &Entry)
+        requires room { length self.old.items < self.old.capacity }
+        ensures items { self.new.items ≡ self.old.items ++ entry.now ∷ [] }
+        ensures capacity { self.new.capacity ≡ self.old.capacity }
+    {
+        self.write_out();
+        self.push(entry.copy());
     }
 
     /// Appends an entry and keeps it short, if there is memory for that.

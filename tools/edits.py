@@ -88,7 +88,8 @@ class Edit:
 
     def owns(self, function):
         """How much of the path of a function that a check names, and of those inside it, is that of one that this edit changes; a
-        module is worth less than any function in it."""
+        module is worth less than any function in it. A closure's path is that of its function, with an `fn` in it."""
+        function = '::'.join(it for it in function.split('::') if it != 'fn')
         parts = [(len(it), it) for it in self.functions if not it.endswith('::*')]
         parts += [(1, it[:-len('::*')]) for it in self.functions if it.endswith('::*')]
         return max((worth for worth, it in parts if '::%s::' % it in '::%s::' % function), default=0)

@@ -34,7 +34,7 @@ pub(crate) enum Form {
     Short,
 }
 
-/// A hub whose journal is kept short until it is asked for: some 60 bytes for a call of one case, in place of those of an
+/// A hub whose journal is kept short until it is asked for: some 70 bytes for a call of one case, in place of those of an
 /// `Entry`. All else is as of a `Hub`.
 #[derive(Drop)]
 pub struct ShortHub {

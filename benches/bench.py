@@ -8,7 +8,9 @@ scenarios   `hub_trials` beside `chanhub run`
 capi        the C library beside the plain hub of live_peer, called from C: c_times.c, linked with each
 
 Journals and scenarios are made in FOLDER, where they are not there. RUNS (10, or what the environment says) is how often
-each program runs, in turn with the other. What can't be measured is said to be skipped.
+each program runs, in turn with the other. A replay runs REPEATS times as often (8), and its user time is the least of the
+means of REPEATS runs, since a kernel tells user from system time by ticks, of which one run has few. What can't be measured is
+said to be skipped.
 """
 import argparse
 import collections
@@ -36,6 +38,7 @@ PEER_BYTES = os.path.join(HERE, 'live_peer', 'target', 'bytes', 'release', 'live
 PEER_LIBRARY = os.path.join(HERE, 'live_peer', 'target', 'release', 'liblive_peer.a')
 PEER_BYTES_LIBRARY = os.path.join(HERE, 'live_peer', 'target', 'bytes', 'release', 'liblive_peer.a')
 RUNS = int(os.environ.get('RUNS', '10'))
+REPEATS = int(os.environ.get('REPEATS', '8'))
 SETS = 3
 JOURNALS = ('hand_overs', 'bursts', 'selects', 'bytes')
 WORKLOADS = ('alone', 'ping_pong', 'one_to_one', 'four_to_four', 'select_over_four', 'looks_1', 'looks_2', 'looks_4')
@@ -102,12 +105,17 @@ def in_turns(times, makers):
     return zip(*[[make() for make in makers] for _ in range(times)])
 
 
+def least_mean(times):
+    """The least of the means of so many times in a row."""
+    return min(statistics.mean(times[i:i + REPEATS]) for i in range(0, len(times), REPEATS))
+
+
 def costs(name, beginnings, wholes):
     """Rows of what jobs take: instructions on the first lines of a journal, time and memory on the whole of it."""
-    usages = [Usage(*zip(*runs)) for runs in in_turns(RUNS, [lambda job=job: run(job) for job in wholes])]
+    usages = [Usage(*zip(*runs)) for runs in in_turns(RUNS * REPEATS, [lambda job=job: run(job) for job in wholes])]
     if has_valgrind():
         yield Row(name + ', million instructions', [instructions(*job) / 1000000 for job in beginnings])
-    yield Row(name + ', user time in ms', [min(usage.user) for usage in usages])
+    yield Row(name + ', user time in ms', [least_mean(usage.user) for usage in usages])
     yield Row(name + ', processor time in ms', [min(usage.processor) for usage in usages])
     yield Row(name + ', peak memory in MB', [max(usage.peak) for usage in usages])
 

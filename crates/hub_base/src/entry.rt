@@ -1,8 +1,8 @@
 //! What a process asks of a hub.
 
-ghost use Rattle.std.specs.Prelude.{◌≡◌};
+ghost use Rattle.std.specs.Prelude.{◌≡◌, ◌≤◌, length};
 
-use crate::{Cases, Edition, Pid, Port};
+use crate::{CASE_PLACES, Case, Cases, Edition, Pid, Port};
 
 /// One step of a process.
 #[derive(Debug, Drop, PartialEq, Eq)]
@@ -87,13 +87,21 @@ impl Step {
     }
 }
 
+/// A call's list of these cases, in order. It takes no memory.
+pub fn cases_from(cases: &[Case]) -> Cases
+    requires { length cases.now ≤ CASE_PLACES }
+    ensures { result.items ≡ cases.now }
+{
+    let mut list = Cases::new();
+    match list.try_extend_from_slice(cases) {
+        Ok(()) => list,
+        Err(_full) => unreachable!(),
+    }
+}
+
 /// Equal cases. It takes no memory.
 pub fn copy_cases(cases: &Cases) -> Cases
     ensures { result ≡ cases.now }
 {
-    let mut copy = Cases::new();
-    match copy.try_extend_from_slice(cases.as_slice()) {
-        Ok(()) => copy,
-        Err(_full) => unreachable!(),
-    }
+    cases_from(cases.as_slice())
 }

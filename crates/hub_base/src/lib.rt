@@ -21,7 +21,7 @@ mod value;
 
 pub use case::{Case, Cases, CasesExt};
 pub use counts::{Counts, Look};
-pub use entry::{Entry, Step, copy_cases};
+pub use entry::{Entry, Step, cases_from, copy_cases};
 pub use event::{Event, Events, Hears, Outcome, What};
 pub use fault::Fault;
 pub use has_pid::HasPid;

@@ -10,7 +10,7 @@ ghost use Rattle.std.specs.Vec.{vec_capacity};
 ghost use Rattle.hub_base.specs.declared.limits.TheConstants.{CASE_PLACES};
 ghost use Rattle.hub_core.specs.LogView.{brief_of, case_count, cases_of, entry_of, written, AreBriefs, StandFrom};
 
-use hub_base::{Case, Cases, Entry, MOST_PROCS, Pid, Port, Step};
+use hub_base::{Case, Entry, MOST_PROCS, Pid, Port, Step, cases_from};
 use std::alloc::{AllocError, Global};
 use std::marker::Model;
 
@@ -98,18 +98,6 @@ fn cases_of(entry: &Entry) -> &[Case]
     }
 }
 
-/// These cases, which an entry has room for.
-fn placed(cases: &[Case]) -> Cases
-    requires { length cases.now ≤ CASE_PLACES }
-    ensures { result.items ≡ cases.now }
-{
-    let mut places = Cases::new();
-    match places.try_extend_from_slice(cases) {
-        Ok(()) => places,
-        Err(_full) => unreachable!(),
-    }
-}
-
 impl Brief {
     /// How many cases its entry has.
     fn count(self) -> usize
@@ -129,7 +117,7 @@ impl Brief {
         let step = match self.step {
             BriefStep::Make(cap) => Step::Make(cap),
             BriefStep::Call { default, word, .. } => Step::Call {
-                cases: placed(cases),
+                cases: cases_from(cases),
                 default,
                 word,
             },
@@ -211,9 +199,8 @@ impl Log {
             → self.new.capacity ≡ self.old.capacity }
         ensures capacity { self.old.capacity ≤ self.new.capacity }
     {
-        let short = self.briefs.len();
-        if self.whole.capacity() - self.whole.len() - short < more {
-            self.whole.reserve(short.saturating_add(more))
+        if self.whole.capacity() - self.len() < more {
+            self.whole.reserve(self.briefs.len().saturating_add(more))
         } else {
             Ok(())
         }
@@ -287,7 +274,8 @@ impl Log {
 
     /// How many entries there are.
     pub(crate) fn len(&self) -> usize
-        ensures { result ≡ length self.now.items }
+        ensures count { result ≡ length self.now.items }
+        ensures fits { result ≤ self.now.capacity }
     {
         self.whole.len() + self.briefs.len()
     }

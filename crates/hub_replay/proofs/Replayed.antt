@@ -16,7 +16,7 @@ use Rattle.hub_base.specs.Text.{IsText}
 use Rattle.hub_core.specs.Follows.{Follows, Answers}
 use Rattle.hub_core.specs.Records.{MachineLists}
 use Rattle.hub_replay.specs.Replay.{event_lines}
-use Rattle.hub_replay.specs.Replayed.{Replayed, ReplayedWhole, ReplayedMore, GoesOn}
+use Rattle.hub_replay.specs.Replayed.{Replayed, ReplayedWhole, ReplayedMore, ReplayedRest, GoesOn}
 use Rattle.hub_replay.proofs.Newlines.{lines-few}
 
 behind-more : (es : List Entry) (e : Entry) (r : Reading) → behind es (with_entry e r) ≡ behind (es ++ e ∷ []) r
@@ -80,6 +80,34 @@ pub replayed-more : {bytes text old new : List ℕ} (reader : ReaderView) (machi
 replayed-more {bytes} {text} {old} {new} reader machine some goes = subst (λ (b : Bool). GoesOn bytes text reader machine old new b) some goes
 
 -- there was none
-pub whole-replayed : {bytes text old new : List ℕ} (reader : ReaderView) (machine : MachineLists) {more : Bool} → more ≡ false
-    → GoesOn bytes text reader machine old new more → ReplayedWhole bytes text × (new ≡ old)
-whole-replayed {bytes} {text} {old} {new} reader machine none goes = subst (λ (b : Bool). GoesOn bytes text reader machine old new b) none goes
+pub rest-replayed : {bytes text old new : List ℕ} (reader : ReaderView) (machine : MachineLists) {more : Bool} → more ≡ false
+    → GoesOn bytes text reader machine old new more → ReplayedRest bytes text old new
+rest-replayed {bytes} {text} {old} {new} reader machine none goes = subst (λ (b : Bool). GoesOn bytes text reader machine old new b) none goes
+
+-- before any step nothing is written
+pub none-replayed : {bytes text lines : List ℕ} {reader : ReaderView} {machine : MachineLists} → Replayed bytes text reader machine
+    → ReplayedMore bytes text reader machine lines lines
+none-replayed {bytes} {text} {lines} {reader} {machine} so = record {
+  more = [];
+  written = sym (append-nil lines);
+  replayed = subst (λ (t : List ℕ). Replayed bytes t reader machine) (sym (append-nil text)) so;
+}
+
+-- steps behind others
+pub more-replayed : {bytes text old mid new : List ℕ} {reader reader' : ReaderView} {machine machine' : MachineLists}
+    (so : ReplayedMore bytes text reader machine old mid) → ReplayedMore bytes (text ++ so.more) reader' machine' mid new
+    → ReplayedMore bytes text reader' machine' old new
+more-replayed {bytes} {text} {old} {mid} {new} {reader} {reader'} {machine} {machine'} so then = record {
+  more = so.more ++ then.more;
+  written = then.written ∙ ap (λ l. l ++ then.more) so.written ∙ append_assoc old so.more then.more;
+  replayed = subst (λ (t : List ℕ). Replayed bytes t reader' machine') (append_assoc text so.more then.more) then.replayed;
+}
+
+-- the last ones behind others
+pub rest-more-replayed : {bytes text old mid new : List ℕ} {reader : ReaderView} {machine : MachineLists}
+    (so : ReplayedMore bytes text reader machine old mid) → ReplayedRest bytes (text ++ so.more) mid new → ReplayedRest bytes text old new
+rest-more-replayed {bytes} {text} {old} {mid} {new} {reader} {machine} so then = record {
+  more = so.more ++ then.more;
+  written = then.written ∙ ap (λ l. l ++ then.more) so.written ∙ append_assoc old so.more then.more;
+  whole = subst (λ (t : List ℕ). ReplayedWhole bytes t) (append_assoc text so.more then.more) then.whole;
+}

@@ -10,7 +10,7 @@ use Rattle.hub_replay.specs.declared.fault.ReplayFault.{ReplayFault}
 use Rattle.hub_replay.specs.declared.verifier.Compared.{Compared}
 use Rattle.hub_replay.specs.declared.verifier.Compared.TheVariants.{Same, Differs}
 use Rattle.hub_replay.specs.Comparing.{Agrees, Tells}
-use Rattle.hub_replay.specs.Replay.{HasNone, IsEventText, event_lines}
+use Rattle.hub_replay.specs.Replay.{IsEventText, event_lines}
 use Rattle.hub_replay.specs.Replayed.{Replayed, ReplayedWhole}
 use Rattle.hub_replay.specs.Verify.{Compares, newlines_in, line_of_difference}
 use Rattle.hub_replay.proofs.Comparing.{agreed-newlines}
@@ -60,8 +60,8 @@ tells-all {journal} {text} {bytes} {events} (Differs line) one whole given tells
   at = tells.1 ∙ ap (line_of_difference text) given;
 }
 
--- the fault that is handed on is the fault that came
-pub same-fault : {A : Type 0} (bytes : List ℕ) (fault : ReplayFault) (r : Result A ReplayFault) → IsErrAnd r (λ other. other ≡ fault)
-    → HasNone bytes fault → IfErr r (HasNone bytes)
-same-fault bytes fault (Ok x) is none = absurd is
-same-fault bytes fault (Err other) is none = subst (λ (f : ReplayFault). HasNone bytes f) (sym is) none
+-- of the fault that is handed on holds what holds of the one that came
+pub same-fault : {A : Type 0} (P : ReplayFault → Type 0) (fault : ReplayFault) (r : Result A ReplayFault) → IsErrAnd r (λ other. other ≡ fault)
+    → P fault → IfErr r P
+same-fault P fault (Ok x) is so = absurd is
+same-fault P fault (Err other) is so = subst P (sym is) so

@@ -1,10 +1,7 @@
 -- What the entries that were read so far have led to.
 use Rattle.std.specs.Prelude.{◌≡◌, ℕ, ◌-◌, ◌*◌, ◌≤◌, ◌<◌, ◌^◌, Bool, true, false, List, ◌++◌, length}
-use Rattle.std.specs.List.{flat_map}
 use Rattle.hub_base.specs.declared.entry.Entry.{Entry}
-use Rattle.hub_base.specs.declared.event.Event.{Event}
 use Rattle.hub_base.specs.declared.limits.TheConstants.{MOST_EVENTS}
-use Rattle.hub_base.specs.EventText.{event_line}
 use Rattle.hub_base.specs.Reader.{ReaderView}
 use Rattle.hub_base.specs.Reading.{read_text, behind}
 use Rattle.hub_base.specs.Runs.{events}
@@ -26,13 +23,19 @@ pub record ReplayedWhole (bytes text : List ℕ) : Type 0 where
   pub is : IsEventText bytes text
   pub lines : newlines_in text < 2 ^ 32 - 1
 
--- one step more was made, and its events were written behind the lines that were there
+-- more steps were made, and their events were written behind the lines that were there
 pub record ReplayedMore (bytes text : List ℕ) (reader : ReaderView) (machine : MachineLists) (old new : List ℕ) : Type 0 where
-  pub events : List Event
-  pub written : new ≡ old ++ flat_map event_line events
-  pub replayed : Replayed bytes (text ++ flat_map event_line events) reader machine
+  pub more : List ℕ
+  pub written : new ≡ old ++ more
+  pub replayed : Replayed bytes (text ++ more) reader machine
 
--- one step more was made; or there was none, and nothing was written
+-- the last steps were made, if there were any, and their events were written
+pub record ReplayedRest (bytes text old new : List ℕ) : Type 0 where
+  pub more : List ℕ
+  pub written : new ≡ old ++ more
+  pub whole : ReplayedWhole bytes (text ++ more)
+
+-- there may be steps still; or there are none
 abbrev pub GoesOn : List ℕ → List ℕ → ReaderView → MachineLists → List ℕ → List ℕ → Bool → Type 0
 GoesOn bytes text reader machine old new true = ReplayedMore bytes text reader machine old new
-GoesOn bytes text reader machine old new false = ReplayedWhole bytes text × (new ≡ old)
+GoesOn bytes text reader machine old new false = ReplayedRest bytes text old new

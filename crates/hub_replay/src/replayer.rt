@@ -22,7 +22,7 @@ fn event_text(alloc: Global, bytes: &[u8]) -> Result<EventText, ReplayFault>
 {
     let mut steps = Steps::open(alloc, bytes)?;
     let mut text = EventText::new(alloc);
-    while steps.advance(&mut text)? {}
+    while steps.advance(&mut text, usize::MAX)? {}
     Ok(text)
 }
 

@@ -64,7 +64,7 @@ impl<'a> Steps<'a> {
     /// Makes the next step, and writes its events behind these lines; `false` at the end of the journal. An `Err`
     /// is the journal's first fault, or memory.
     #[inline(always)]
-    pub fn advance(&mut self, lines: &mut EventText) -> Result<bool, ReplayFault>
+    fn step(&mut self, lines: &mut EventText) -> Result<bool, ReplayFault>
         ensures ok { IfOk result (λ more. (bytes text : List ℕ)
             → Replayed bytes text self.old.reader self.old.machine
             → GoesOn bytes text self.new.reader self.new.machine lines.old.lines lines.new.lines more) }
@@ -80,5 +80,28 @@ impl<'a> Steps<'a> {
         lines.make_step_room()?;
         self.machine.tell(&self.entry, lines)?;
         Ok(true)
+    }
+
+    /// Makes steps, and writes their events behind these lines, until they have so many bytes; `false` at the end of
+    /// the journal. An `Err` is the journal's first fault, or memory.
+    ///
+    /// It is a function of its own for whoever calls it, since the compiler writes a whole step into a loop only where
+    /// there is one such loop.
+    #[inline(never)]
+    pub fn advance(&mut self, lines: &mut EventText, enough: usize) -> Result<bool, ReplayFault>
+        ensures ok { IfOk result (λ more. (bytes text : List ℕ)
+            → Replayed bytes text self.old.reader self.old.machine
+            → GoesOn bytes text self.new.reader self.new.machine lines.old.lines lines.new.lines more) }
+        ensures less { IfOk result (λ more. OnTrue more (self.new.reader.bytes < self.old.reader.bytes)) }
+        ensures enough { IfOk result (λ more. OnTrue more (enough ≤ length lines.new.lines)) }
+        ensures err { IfErr result (λ fault. (bytes text : List ℕ)
+            → Replayed bytes text self.old.reader self.old.machine → HasNone bytes fault) }
+    {
+        while self.step(lines)? {
+            if lines.text().len() >= enough {
+                return Ok(true);
+            }
+        }
+        Ok(false)
     }
 }

@@ -1,7 +1,7 @@
 //! Whether given bytes are the event text of a journal.
 //!
-//! They are compared as the journal's steps are made, and no event text is made: one buffer holds the
-//! lines of one step at a time.
+//! They are compared as the journal's steps are made, and no whole event text is made: one buffer holds the
+//! lines of some steps at a time.
 
 ghost use Rattle.std.specs.Prelude.{◌≡◌, IfOk, IfErr};
 ghost use Rattle.hub_replay.specs.Replay.{HasNone};
@@ -12,6 +12,9 @@ use crate::comparison::Comparison;
 use crate::steps::Steps;
 use hub_base::{EventText, one_reading};
 use std::alloc::Global;
+
+/// How many bytes of lines are compared at once, or a few more.
+const ENOUGH: usize = 65_536;
 
 /// What a comparison says.
 #[derive(Clone, Copy, Debug, PartialEq, Eq)]
@@ -35,9 +38,11 @@ pub fn verify(alloc: Global, journal: &[u8], events: &[u8]) -> Result<Compared, 
     let mut steps = Steps::open(alloc, journal)?;
     let mut comparison = Comparison::of(events);
     let mut lines = EventText::new(alloc);
-    while steps.advance(&mut lines)? {
+    while steps.advance(&mut lines, ENOUGH)? {
         comparison.take(lines.text());
         lines.clear();
     }
+    let last = lines.text();
+    comparison.take(last);
     Ok(comparison.end())
 }

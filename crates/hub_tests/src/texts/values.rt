@@ -1,7 +1,7 @@
 //! Values, cases, and the numbers and texts of faults and of what is wrong with a line.
 
 use crate::compare::{has_text, same};
-use hub_base::{Case, Cases, Edition, Fault, Kind, Port, Value, copy_cases};
+use hub_base::{Case, Cases, Edition, Fault, Kind, Port, Value, cases_from, copy_cases};
 use std::alloc::Global;
 use std::process::Abort;
 use std::test::Fail;
@@ -59,6 +59,12 @@ fn cases_are_copied_in_order(rt: HostRuntime) {
         copy_cases(&cases).as_slice(),
         cases.as_slice(),
         "cases",
+    );
+    same(
+        &rt,
+        cases_from(&[Case::Send(Port(1), Value::num(2)), Case::Recv(Port(3))]).as_slice(),
+        cases.as_slice(),
+        "a list of cases",
     );
 }
 

@@ -1,13 +1,13 @@
 use Rattle.std.proofs.Common.{ℕ, List, sym, subst}
-use Rattle.hub_replay.specs.Replay.{IsEventText}
+use Rattle.hub_replay.specs.Replay.{HasNone, IsEventText}
 use Rattle.hub_replay.specs.Replayed.{Replayed}
-use Rattle.hub_replay.proofs.Replayed.{replayed-more, whole-replayed}
+use Rattle.hub_replay.proofs.Replayed.{replayed-more, rest-replayed}
 use Rattle.hub_replay.proofs.Verified.{same-fault}
 use Rattle.hub_replay.proofs.replayer.event_text.Goals as goal
 
 pub returns-in_err-advance-clause-err : goal.returns-in_err-advance-clause-err
 returns-in_err-advance-clause-err c =
-    same-fault c.args.bytes.now _ _ c.from_residual-in_err-advance.ensures.1
+    same-fault (HasNone c.args.bytes.now) _ _ c.from_residual-in_err-advance.ensures.1
     (c.in_err-advance.ensures.err c.args.bytes.now c.loop-text.text.lines c.loop-text.invariant)
 
 pub loop-text-preserved : goal.loop-text-preserved
@@ -18,6 +18,6 @@ loop-text-preserved c =
 
 pub returns-clause-ok : goal.returns-clause-ok
 returns-clause-ok c =
-    let none = whole-replayed c.advance.new.self.reader c.advance.new.self.machine c.if-branch.false
+    let none = rest-replayed c.advance.new.self.reader c.advance.new.self.machine c.if-branch.false
     (c.in_ok-advance.ensures.ok c.args.bytes.now c.loop-text.text.lines c.loop-text.invariant) in
-    subst (IsEventText c.args.bytes.now) (sym none.1) none.0.is
+    subst (IsEventText c.args.bytes.now) (sym none.written) none.whole.is

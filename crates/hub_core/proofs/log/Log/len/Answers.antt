@@ -9,6 +9,8 @@ returns c =
       arith,
       all_length c.self.inside.whole.items c.self.inside.briefs.items c.self.inside.cases.items,
       ap (λ (v : LogView). length v.items) c.self.view_is,
+      ap (λ (v : LogView). v.capacity) c.self.view_is,
+      c.self.invariant.room,
       c.len.ensures,
       c.len-2.ensures,
       c.self.inside.whole.ok,

@@ -1,25 +1,40 @@
-use Rattle.std.proofs.Common.{◌∙◌, ◌++◌, ap, refl, subst, Bool, Ok}
-use Rattle.std.specs.List.{flat_map}
-use Rattle.hub_base.specs.EventText.{event_line}
-use Rattle.hub_base.specs.Reader.{FillsOn}
-use Rattle.hub_replay.proofs.Replayed.{one-more-replayed, all-replayed}
+use Rattle.std.proofs.Common.{ℕ, List, arith}
+use Rattle.std.proofs.lemmas.Grind.{common_steps}
+use Rattle.hub_replay.proofs.Replayed.{more-replayed, none-replayed, replayed-more, rest-more-replayed, rest-replayed}
+use Rattle.hub_replay.specs.Replay.{HasNone}
+use Rattle.hub_replay.specs.Replayed.{Replayed}
+use Rattle.hub_replay.proofs.Verified.{same-fault}
 use Rattle.hub_replay.proofs.steps.Steps.advance.Goals as goal
 
-pub returns-then-not-branch-clause-ok : goal.returns-then-not-branch-clause-ok
-returns-then-not-branch-clause-ok c = λ bytes text so_far. (
-  all-replayed so_far (c.one_reading.ensures.reads bytes)
-      (subst (λ (b : Bool). FillsOn c.args.self.now.reader c.read_into.new.self c.read_into.new.entry (Ok b)) c.if-not-branch.true
-      c.in_ok-read_into.ensures.reads).0,
-  refl,
-)
+pub loop-lines-init : goal.loop-lines-init
+loop-lines-init c = record {
+  more = λ bytes text so. none-replayed so;
+  less = omega arith;
+}
+
+pub returns-then-text-enough-clause-ok : goal.returns-then-text-enough-clause-ok
+returns-then-text-enough-clause-ok c = λ bytes text so.
+    let before = c.loop-lines.invariant.more bytes text so in
+    more-replayed before (replayed-more c.step.new.self.reader c.step.new.self.machine c.if-branch.true
+    (c.in_ok-step.ensures.ok bytes _ before.replayed))
+
+pub loop-lines-preserved : goal.loop-lines-preserved
+loop-lines-preserved c = record {
+  more = λ bytes text so.
+      let before = c.loop-lines.invariant.more bytes text so in
+      more-replayed before (replayed-more c.step.new.self.reader c.step.new.self.machine c.if-branch.true
+      (c.in_ok-step.ensures.ok bytes _ before.replayed));
+  less = let fewer = c.in_ok-step.ensures.less in grind (arith, common_steps, fewer, c.if-branch.true, c.loop-lines.invariant.less);
+}
 
 pub returns-clause-ok : goal.returns-clause-ok
-returns-clause-ok c = λ bytes text so_far.
-    let tells = c.in_ok-tell.ensures.ok _ _ so_far.follows in
-    record {
-      events = tells.told;
-      written = tells.heard ∙ ap (λ l. l ++ flat_map event_line tells.told) c.in_ok-make_step_room.ensures.lines;
-      replayed = one-more-replayed so_far c.read_into.new.entry tells.told
-          (subst (λ (b : Bool). FillsOn c.args.self.now.reader c.read_into.new.self c.read_into.new.entry (Ok b)) c.if-not-branch.false
-          c.in_ok-read_into.ensures.reads) tells.answers tells.few;
-    }
+returns-clause-ok c = λ bytes text so.
+    let before = c.loop-lines.invariant.more bytes text so in
+    rest-more-replayed before (rest-replayed c.step.new.self.reader c.step.new.self.machine c.if-branch.false
+    (c.in_ok-step.ensures.ok bytes _ before.replayed))
+
+pub returns-in_err-step-clause-err : goal.returns-in_err-step-clause-err
+returns-in_err-step-clause-err c =
+    same-fault (λ fault. (bytes text : List ℕ) → Replayed bytes text c.args.self.now.reader c.args.self.now.machine → HasNone bytes fault) _ _
+    c.from_residual.ensures.1
+    (λ bytes text so. c.in_err-step.ensures.err bytes _ (c.loop-lines.invariant.more bytes text so).replayed)

@@ -12,7 +12,7 @@ use Rattle.hub_parts.specs.declared.side.Side.{Side}
 use Rattle.hub_parts.specs.declared.side.Side.TheVariants as side
 use Rattle.hub_parts.specs.declared.wait_queue.Waiter.{Waiter}
 use Rattle.hub_parts.specs.Records.{Ticketed, Calls, ChannelLists}
-use Rattle.hub_parts.specs.Queues.{is_live, lives, live_of, waiters, waiters_of, waiters_from, waiter_at, pid_at, case_at, is_before}
+use Rattle.hub_parts.specs.Queues.{lives, live_of, waiters, waiters_of, waiters_from, waiter_at, pid_at, case_at, is_before}
 use Rattle.hub_parts.specs.Lists.{open_calls, still_open, passes}
 use Rattle.hub_parts.specs.Channels.{queue_of, line_of, older}
 use Rattle.hub_parts.specs.Keeps.{QueueKeeps, joins, Ascending}
@@ -64,7 +64,7 @@ pub record Found (test : Case → Bool) (ws : List Ticketed) (e : Waiter) : Type
   pub at : case_at ws e.ticket e.case ≡ Some case
   pub passes : test case ≡ true
   pub first : first_with test (open_calls ws) ≡ Some (record { pid = e.pid; at = record { index = e.case; case = case } })
-  pub dies : is_live (still_open e.pid ws) e.ticket ≡ false
+  pub dies : lives (still_open e.pid ws) e ≡ false
   pub known : (t : ℕ) → AllByRecursion (λ v. t < v.ticket) ws → t < e.ticket
 
 abbrev pub Tells : (Case → Bool) → List Ticketed → Option Waiter → Type 0
@@ -74,10 +74,10 @@ Tells test ws (Some e) = Found test ws e
 later_other : (t u : ℕ) → t < u → (t == u) ≡ false
 later_other t u less = ne_eqb t u (λ e. omega arith)
 
-dies_later : (w : Ticketed) (ws : List Ticketed) (e : Waiter) → w.ticket < e.ticket → is_live (still_open e.pid ws) e.ticket ≡ false
-    → is_live (still_open e.pid (w ∷ ws)) e.ticket ≡ false
+dies_later : (w : Ticketed) (ws : List Ticketed) (e : Waiter) → w.ticket < e.ticket → lives (still_open e.pid ws) e ≡ false
+    → lives (still_open e.pid (w ∷ ws)) e ≡ false
 dies_later w ws e less d =
-    elim (not (w.call.pid.0 == e.pid.0)) as (λ b. is_live (cond b (w ∷ still_open e.pid ws) (still_open e.pid ws)) e.ticket ≡ false)
+    elim (not (w.call.pid.0 == e.pid.0)) as (λ b. lives (cond b (w ∷ still_open e.pid ws) (still_open e.pid ws)) e ≡ false)
     [ true ↦ rw (later_other w.ticket e.ticket less) d | false ↦ d ]
 
 tells_later : (test : Case → Bool) (w : Ticketed) (ws : List Ticketed) (o : Option Waiter) → AllByRecursion (λ v. w.ticket < v.ticket) ws
@@ -105,7 +105,7 @@ tells_here test w ws at above l s t = record {
   passes = t;
   first = rw l refl;
   dies = rw (eq-eqb w.call.pid.0 w.call.pid.0 refl)
-      (dead_below w.ticket (still_open w.call.pid ws) (all_filter (λ v. w.ticket < v.ticket) (λ v. not (v.call.pid.0 == w.call.pid.0)) ws above));
+      (dead_below w.ticket w.call.pid (still_open w.call.pid ws) (all_filter (λ v. w.ticket < v.ticket) (λ v. not (v.call.pid.0 == w.call.pid.0)) ws above));
   known = λ n a. a.0;
 }
 

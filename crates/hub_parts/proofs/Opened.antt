@@ -1,8 +1,9 @@
 -- The calls in their list and in their places, as contracts see them.
 use Rattle.std.proofs.Common.{◌≡◌, ◌≢◌, ℕ, ◌++◌, Bool, List, [], ◌∷◌, refl, Option, Some, None, arith, length, get_or, set, ◌<◌, not}
-use Rattle.std.proofs.Common.{◌==◌, ◌||◌, filter, slice_get, true, false, inl, inr, eq-eqb, replicate, cond, ap, sym, ◌∙◌}
+use Rattle.std.proofs.Common.{◌==◌, ◌&&◌, ◌||◌, filter, slice_get, true, false, inl, inr, eq-eqb, subst, replicate, cond, ap, sym, ◌∙◌}
 use Rattle.std.specs.List.{AllByRecursion, list_any}
-use Rattle.std.proofs.lemmas.Bool.{eqb-false, ne_eqb, cases_eq}
+use Rattle.std.specs.Option.{is_some}
+use Rattle.std.proofs.lemmas.Bool.{eqb-false, ne_eqb, cases_eq, true≢false}
 use Rattle.std.proofs.lemmas.Bool.Decides.{nat_tests}
 use Rattle.std.proofs.lemmas.List.{get_or-set_same, get_or-set_other, map-append, get_or_default, length-set, get_or-replicate, length-replicate}
 use Rattle.std.proofs.lemmas.Grind.{common_steps}
@@ -12,9 +13,9 @@ use Rattle.hub_base.specs.declared.case.Case.{Case}
 use Rattle.hub_parts.specs.declared.tickets.TheConstants.{PIDS}
 use Rattle.hub_parts.specs.declared.tickets.Opened.{Opened}
 use Rattle.hub_parts.specs.Records.{Ticketed}
-use Rattle.hub_parts.specs.Tickets.{IsMarked, calls_of, call_of, cases_of, pids}
+use Rattle.hub_parts.specs.Tickets.{AreApart, IsMarked, calls_of, call_of, cases_of, pids, ticket_of}
 use Rattle.hub_parts.specs.Lists.{still_open, ticketed}
-use Rattle.hub_parts.specs.Queues.{case_at, pid_at, is_live}
+use Rattle.hub_parts.specs.Queues.{case_at, pid_at, has_call, is_live}
 
 abbrev Places : Type 0
 Places = List (ArrayVec Case)
@@ -91,64 +92,120 @@ none_to_end pid (w ∷ ws) free =
     let rest : list_any (λ w. w.call.pid.0 == pid.0) ws ≡ false = grind (arith, common_steps) in
     rw (apart, none_to_end pid ws rest) refl
 
-both_true : (b : Bool) → true ≡ cond b true true
-both_true true = refl
-both_true false = refl
+-- whether there is this ticket
+abbrev pub is_ticket : ℕ → Option ℕ → Bool
+is_ticket ticket None = false
+is_ticket ticket (Some t) = t == ticket
 
-marked_new : (os : List Opened) (o : Opened) (q : ℕ) (b : Bool) → (o.pid.0 == q) ≡ b
-    → list_any (λ o. o.pid.0 == q) (os ++ o ∷ []) ≡ cond b true (list_any (λ o. o.pid.0 == q) os)
-marked_new [] o q true e = rw e refl
-marked_new [] o q false e = rw e refl
-marked_new (v ∷ os) o q b e =
-    elim (v.pid.0 == q) as (λ a. (a || list_any (λ o. o.pid.0 == q) (os ++ o ∷ [])) ≡ cond b true (a || list_any (λ o. o.pid.0 == q) os)) [
-      | true ↦ both_true b
-      | false ↦ marked_new os o q b e
-    ]
+pub open_in : (os : List Opened) (q : ℕ) → is_some (ticket_of os q) ≡ list_any (λ o. o.pid.0 == q) os
+open_in [] q = refl
+open_in (o ∷ os) q =
+    elim (o.pid.0 == q) as (λ b. is_some (cond b (Some o.ticket) (ticket_of os q)) ≡ (b || list_any (λ o. o.pid.0 == q) os))
+    [ true ↦ refl | false ↦ open_in os q ]
 
-pub marked_opened : (marks : List Bool) (os : List Opened) (o : Opened) → o.pid.0 < PIDS → IsMarked marks os → IsMarked (set marks o.pid.0 true) (os ++ o ∷ [])
-marked_opened marks os o small k = record {
+pub has_call_of : (places : Places) (os : List Opened) (ticket : ℕ) (pid : Pid)
+    → has_call (calls_of places os) ticket pid ≡ list_any (λ o. (o.ticket == ticket) && (o.pid.0 == pid.0)) os
+has_call_of places [] ticket pid = refl
+has_call_of places (o ∷ os) ticket pid = ap (λ b. ((o.ticket == ticket) && (o.pid.0 == pid.0)) || b) (has_call_of places os ticket pid)
+
+nothing_more : (b : Bool) → ((b && false) || false) ≡ false
+nothing_more true = refl
+nothing_more false = refl
+
+this_alone : (b : Bool) → ((b && true) || false) ≡ b
+this_alone true = refl
+this_alone false = refl
+
+nothing_before : (b c : Bool) → ((b && false) || c) ≡ c
+nothing_before true c = refl
+nothing_before false c = refl
+
+-- no other call is of a process that has one
+others_apart : (os : List Opened) (ticket q : ℕ) → AllByRecursion (λ y. (q == y) ≡ false) (pids os)
+    → list_any (λ o. (o.ticket == ticket) && (o.pid.0 == q)) os ≡ false
+others_apart [] ticket q a = refl
+others_apart (o ∷ os) ticket q a =
+    let other : (o.pid.0 == q) ≡ false = (let apart : (q == o.pid.0) ≡ false = a.0 in grind (arith, nat_tests)) in
+    rw (other, others_apart os ticket q a.1) (nothing_more (o.ticket == ticket))
+
+ticket_step : (o : Opened) (os : List Opened) (ticket q : ℕ) (b : Bool) → (o.pid.0 == q) ≡ b → AllByRecursion (λ y. (o.pid.0 == y) ≡ false) (pids os)
+    → list_any (λ o. (o.ticket == ticket) && (o.pid.0 == q)) os ≡ is_ticket ticket (ticket_of os q)
+    → list_any (λ o. (o.ticket == ticket) && (o.pid.0 == q)) (o ∷ os) ≡ is_ticket ticket (ticket_of (o ∷ os) q)
+ticket_step o os ticket q true e a ih =
+    let same : o.pid.0 ≡ q = grind (arith, nat_tests) in
+    rw (e, others_apart os ticket q (subst (λ n. AllByRecursion (λ y. (n == y) ≡ false) (pids os)) same a)) (this_alone (o.ticket == ticket))
+ticket_step o os ticket q false e a ih = rw (e, ih) (nothing_before (o.ticket == ticket) (is_ticket ticket (ticket_of os q)))
+
+-- a process has a call under this ticket where this is the ticket of its call
+pub call_in : (os : List Opened) (ticket q : ℕ) → AreApart (pids os)
+    → list_any (λ o. (o.ticket == ticket) && (o.pid.0 == q)) os ≡ is_ticket ticket (ticket_of os q)
+call_in [] ticket q a = refl
+call_in (o ∷ os) ticket q a = ticket_step o os ticket q (o.pid.0 == q) refl a.0 (call_in os ticket q a.1)
+
+newest_step : (o v : Opened) (os : List Opened) (q : ℕ) (b : Bool) → (v.pid.0 == q) ≡ b → (b || list_any (λ o. o.pid.0 == q) os) ≡ false
+    → (list_any (λ o. o.pid.0 == q) os ≡ false → ticket_of (os ++ o ∷ []) q ≡ Some o.ticket)
+    → ticket_of (v ∷ (os ++ o ∷ [])) q ≡ Some o.ticket
+newest_step o v os q true e free ih = absurd (true≢false free)
+newest_step o v os q false e free ih = rw e (ih free)
+
+-- a process without a call has the one that it opens
+newest_of : (os : List Opened) (o : Opened) (q : ℕ) → o.pid.0 ≡ q → list_any (λ o. o.pid.0 == q) os ≡ false → ticket_of (os ++ o ∷ []) q ≡ Some o.ticket
+newest_of [] o q same free = rw (eq-eqb o.pid.0 q same) refl
+newest_of (v ∷ os) o q same free = newest_step o v os q (v.pid.0 == q) refl free (newest_of os o q same)
+
+-- the others have what they had
+others_of : (os : List Opened) (o : Opened) (q : ℕ) → (o.pid.0 == q) ≡ false → ticket_of (os ++ o ∷ []) q ≡ ticket_of os q
+others_of [] o q e = rw e refl
+others_of (v ∷ os) o q e = ap (λ t. cond (v.pid.0 == q) (Some v.ticket) t) (others_of os o q e)
+
+pub marked_opened : (marks : List (Option ℕ)) (os : List Opened) (o : Opened) → o.pid.0 < PIDS → list_any (λ v. v.pid.0 == o.pid.0) os ≡ false
+    → IsMarked marks os → IsMarked (set marks o.pid.0 (Some o.ticket)) (os ++ o ∷ [])
+marked_opened marks os o small free k = record {
   told = λ q within.
       elim (cases_eq o.pid.0 q) [
-        | inl same ↦ rw (marked_new os o q true (eq-eqb o.pid.0 q same), same) (get_or-set_same marks q true false (rw k.long within))
-        | inr apart ↦ rw (marked_new os o q false (ne_eqb o.pid.0 q apart), get_or-set_other marks o.pid.0 q true false (λ e. apart (sym e))) (k.told q within)
+        | inl same ↦
+            rw (newest_of os o q same (subst (λ n. list_any (λ v. v.pid.0 == n) os ≡ false) same free), same)
+            (get_or-set_same marks q (Some o.ticket) None (rw k.long within))
+        | inr apart ↦
+            rw (others_of os o q (ne_eqb o.pid.0 q apart), get_or-set_other marks o.pid.0 q (Some o.ticket) None (λ e. apart (sym e)))
+            (k.told q within)
       ];
-  long = length-set marks o.pid.0 true ∙ k.long;
+  long = length-set marks o.pid.0 (Some o.ticket) ∙ k.long;
 }
 
 ended_step : (pid : Pid) (o : Opened) (os : List Opened) (q : ℕ) (b : Bool) → (o.pid.0 == pid.0) ≡ b → (q == pid.0) ≡ false
-    → list_any (λ o. o.pid.0 == q) (filter (λ o. not (o.pid.0 == pid.0)) os) ≡ list_any (λ o. o.pid.0 == q) os
-    → list_any (λ o. o.pid.0 == q) (cond (not b) (o ∷ filter (λ o. not (o.pid.0 == pid.0)) os) (filter (λ o. not (o.pid.0 == pid.0)) os))
-    ≡ list_any (λ o. o.pid.0 == q) (o ∷ os)
+    → ticket_of (filter (λ o. not (o.pid.0 == pid.0)) os) q ≡ ticket_of os q
+    → ticket_of (cond (not b) (o ∷ filter (λ o. not (o.pid.0 == pid.0)) os) (filter (λ o. not (o.pid.0 == pid.0)) os)) q ≡ ticket_of (o ∷ os) q
 ended_step pid o os q true e other ih =
     let not_this : (o.pid.0 == q) ≡ false = grind (arith, nat_tests) in
     rw not_this ih
-ended_step pid o os q false e other ih = ap (λ b. (o.pid.0 == q) || b) ih
+ended_step pid o os q false e other ih = ap (λ t. cond (o.pid.0 == q) (Some o.ticket) t) ih
 
 marked_others : (pid : Pid) (os : List Opened) (q : ℕ) → (q == pid.0) ≡ false
-    → list_any (λ o. o.pid.0 == q) (filter (λ o. not (o.pid.0 == pid.0)) os) ≡ list_any (λ o. o.pid.0 == q) os
+    → ticket_of (filter (λ o. not (o.pid.0 == pid.0)) os) q ≡ ticket_of os q
 marked_others pid [] q other = refl
 marked_others pid (o ∷ os) q other = ended_step pid o os q (o.pid.0 == pid.0) refl other (marked_others pid os q other)
 
 unmarked_step : (pid : Pid) (o : Opened) (os : List Opened) (b : Bool) → (o.pid.0 == pid.0) ≡ b
-    → list_any (λ o. o.pid.0 == pid.0) (filter (λ o. not (o.pid.0 == pid.0)) os) ≡ false
-    → list_any (λ o. o.pid.0 == pid.0) (cond (not b) (o ∷ filter (λ o. not (o.pid.0 == pid.0)) os) (filter (λ o. not (o.pid.0 == pid.0)) os)) ≡ false
+    → ticket_of (filter (λ o. not (o.pid.0 == pid.0)) os) pid.0 ≡ None
+    → ticket_of (cond (not b) (o ∷ filter (λ o. not (o.pid.0 == pid.0)) os) (filter (λ o. not (o.pid.0 == pid.0)) os)) pid.0 ≡ None
 unmarked_step pid o os true e ih = ih
 unmarked_step pid o os false e ih = rw e ih
 
-unmarked : (pid : Pid) (os : List Opened) → list_any (λ o. o.pid.0 == pid.0) (filter (λ o. not (o.pid.0 == pid.0)) os) ≡ false
+unmarked : (pid : Pid) (os : List Opened) → ticket_of (filter (λ o. not (o.pid.0 == pid.0)) os) pid.0 ≡ None
 unmarked pid [] = refl
 unmarked pid (o ∷ os) = unmarked_step pid o os (o.pid.0 == pid.0) refl (unmarked pid os)
 
-pub marked_ended : (marks : List Bool) (os : List Opened) (pid : Pid) → IsMarked marks os
-    → IsMarked (set marks pid.0 false) (filter (λ o. not (o.pid.0 == pid.0)) os)
+pub marked_ended : (marks : List (Option ℕ)) (os : List Opened) (pid : Pid) → IsMarked marks os
+    → IsMarked (set marks pid.0 None) (filter (λ o. not (o.pid.0 == pid.0)) os)
 marked_ended marks os pid k = record {
   told = λ q within.
       elim (cases_eq q pid.0) [
-        | inl same ↦ rw (same, unmarked pid os) (get_or-set_same marks pid.0 false false (rw (k.long, ← same) within))
-        | inr apart ↦ rw (marked_others pid os q (ne_eqb q pid.0 apart), get_or-set_other marks pid.0 q false false apart) (k.told q within)
+        | inl same ↦ rw (same, unmarked pid os) (get_or-set_same marks pid.0 None None (rw (k.long, ← same) within))
+        | inr apart ↦ rw (marked_others pid os q (ne_eqb q pid.0 apart), get_or-set_other marks pid.0 q None None apart) (k.told q within)
       ];
-  long = length-set marks pid.0 false ∙ k.long;
+  long = length-set marks pid.0 None ∙ k.long;
 }
 
-pub none_marked : IsMarked (replicate PIDS false) []
-none_marked = record { told = λ q within. get_or-replicate PIDS q false false within; long = length-replicate PIDS false }
+pub none_marked : IsMarked (replicate PIDS None) []
+none_marked = record { told = λ q within. get_or-replicate {A = Option ℕ} PIDS q None None within; long = length-replicate {A = Option ℕ} PIDS None }

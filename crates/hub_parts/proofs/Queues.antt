@@ -3,7 +3,10 @@ use Rattle.std.proofs.Common.{◌≡◌, ℕ, ◌+◌, ◌++◌, ◌<◌, Bool, 
 use Rattle.std.proofs.Common.{drop, take, length, get_or, suc, zero, filter, find, slice_get, append_assoc}
 use Rattle.std.proofs.lemmas.List.{drop_more, append-nil}
 use Rattle.std.proofs.lemmas.List.Elements.{filter_more}
-use Rattle.hub_parts.specs.Queues.{turned}
+use Rattle.circular_buffer.specs.Buffer.{Buffer}
+use Rattle.hub_parts.specs.declared.wait_queue.Waiter.{Waiter}
+use Rattle.hub_parts.specs.Records.{Ticketed}
+use Rattle.hub_parts.specs.Queues.{from_first, lives, passed, turned}
 
 pub find_here : {X : Type 0} (test : X → Bool) (xs : List X) (i : ℕ) (x : X) → slice_get xs i ≡ Some x → test x ≡ true → find test (drop i xs) ≡ Some x
 find_here test [] i x e t = cc
@@ -36,3 +39,21 @@ pub turned_more : {X : Type 0} (test : X → Bool) (xs : List X) (i : ℕ) → i
 turned_more test [] i h = absurd (omega arith)
 turned_more test (y ∷ xs) i h =
     rw (drop_more (y ∷ xs) i y h, filter_more test (y ∷ xs) i y h) (turned_at test (get_or (y ∷ xs) i y) (drop (i + 1) (y ∷ xs)) (take i (y ∷ xs)))
+
+-- the first passes, so nothing stands before it
+from_here : {X : Type 0} (test : X → Bool) (xs : List X) (x : X) → slice_get xs 0 ≡ Some x → test x ≡ true → from_first test xs ≡ xs
+from_here test [] x e t = refl
+from_here test (y ∷ xs) x e t = let same : y ≡ x = cc in rw (same, t) refl
+
+from_none : {X : Type 0} (test : X → Bool) (xs : List X) → slice_get xs 0 ≡ None → from_first test xs ≡ xs
+from_none test [] e = refl
+from_none test (y ∷ xs) e = cc
+
+-- a queue from whose front dead entries were removed, and whose first is live
+pub passed_to : (ws : List Ticketed) (now was : Buffer Waiter) (x : Waiter) → from_first (lives ws) now.items ≡ from_first (lives ws) was.items
+    → now.capacity ≡ was.capacity → slice_get now.items 0 ≡ Some x → lives ws x ≡ true → now ≡ passed ws was
+passed_to ws now was x e same here t = rw (← e, ← same, from_here (lives ws) now.items x here t) refl
+
+pub passed_all : (ws : List Ticketed) (now was : Buffer Waiter) → from_first (lives ws) now.items ≡ from_first (lives ws) was.items
+    → now.capacity ≡ was.capacity → slice_get now.items 0 ≡ None → now ≡ passed ws was
+passed_all ws now was e same none = rw (← e, ← same, from_none (lives ws) now.items none) refl

@@ -1,5 +1,5 @@
 -- Room for a call's entries, and what the queues keep when it joins.
-use Rattle.std.proofs.Common.{◌≡◌, ℕ, ◌+◌, ◌-◌, ◌*◌, ◌<◌, ◌≤◌, ◌==◌, ◌||◌, Bool, true, false, cond, List, [], ◌∷◌, ◌++◌, length}
+use Rattle.std.proofs.Common.{◌≡◌, ℕ, ◌+◌, ◌-◌, ◌*◌, ◌<◌, ◌≤◌, ◌==◌, ◌&&◌, ◌||◌, Bool, true, false, cond, List, [], ◌∷◌, ◌++◌, length}
 use Rattle.std.proofs.Common.{filter, refl, ap, ◌∙◌, sym, arith, subst, suc, eq-eqb, length-append, append_assoc, ltb}
 use Rattle.std.specs.List.{AllByRecursion}
 use Rattle.std.proofs.lemmas.Bool.{ne_eqb, ltb-false, le-ltb}
@@ -18,7 +18,7 @@ use Rattle.hub_parts.specs.declared.side.Side.{Side}
 use Rattle.hub_parts.specs.declared.side.Side.TheVariants as side
 use Rattle.hub_parts.specs.declared.wait_queue.Waiter.{Waiter}
 use Rattle.hub_parts.specs.Records.{Ticketed, Calls, ChannelLists}
-use Rattle.hub_parts.specs.Queues.{is_live, lives, live_of, roomy, joined, waiters, waiters_of, waiters_from, waiter_at}
+use Rattle.hub_parts.specs.Queues.{has_call, lives, live_of, roomy, joined, waiters, waiters_of, waiters_from, waiter_at}
 use Rattle.hub_parts.specs.Lists.{with_call, ticketed}
 use Rattle.hub_parts.specs.Channels.{queue_of, channel_of}
 use Rattle.hub_parts.specs.Parking.{with_case, CanJoin, CaseFits}
@@ -123,13 +123,15 @@ joined_after test pid ticket i q (c ∷ cases) =
       | false ↦ joined_after test pid ticket (i + 1) q cases
     ]
 
-live_alone : (ws : List Ticketed) (w : Ticketed) (t : ℕ) → (w.ticket == t) ≡ false → is_live (ws ++ w ∷ []) t ≡ is_live ws t
-live_alone [] w t e = rw e refl
-live_alone (v ∷ ws) w t e = ap (λ b. (v.ticket == t) || b) (live_alone ws w t e)
+live_alone : (ws : List Ticketed) (w : Ticketed) (t : ℕ) (pid : Pid) → (w.ticket == t) ≡ false → has_call (ws ++ w ∷ []) t pid ≡ has_call ws t pid
+live_alone [] w t pid e = rw e refl
+live_alone (v ∷ ws) w t pid e = ap (λ b. ((v.ticket == t) && (v.call.pid.0 == pid.0)) || b) (live_alone ws w t pid e)
 
-live_newest : (ws : List Ticketed) (w : Ticketed) → is_live (ws ++ w ∷ []) w.ticket ≡ true
-live_newest [] w = rw (eq-eqb w.ticket w.ticket refl) refl
-live_newest (v ∷ ws) w = elim (v.ticket == w.ticket) as (λ b. (b || is_live (ws ++ w ∷ []) w.ticket) ≡ true) [ true ↦ refl | false ↦ live_newest ws w ]
+live_newest : (ws : List Ticketed) (w : Ticketed) → has_call (ws ++ w ∷ []) w.ticket w.call.pid ≡ true
+live_newest [] w = rw (eq-eqb w.ticket w.ticket refl, eq-eqb w.call.pid.0 w.call.pid.0 refl) refl
+live_newest (v ∷ ws) w =
+    elim ((v.ticket == w.ticket) && (v.call.pid.0 == w.call.pid.0)) as (λ b. (b || has_call (ws ++ w ∷ []) w.ticket w.call.pid) ≡ true)
+    [ true ↦ refl | false ↦ live_newest ws w ]
 
 -- the entries that stood there know nothing of the new call
 old_live : (ws : List Ticketed) (w : Ticketed) (n : ℕ) (items : List Waiter) → n ≤ w.ticket → AllByRecursion (λ entry. entry.ticket < n) items
@@ -137,7 +139,7 @@ old_live : (ws : List Ticketed) (w : Ticketed) (n : ℕ) (items : List Waiter) �
 old_live ws w n [] later a = refl
 old_live ws w n (e ∷ items) later a =
     let less : e.ticket < n = a.0 in
-    rw (live_alone ws w e.ticket (ne_eqb w.ticket e.ticket (λ same. omega arith)), old_live ws w n items later a.1) refl
+    rw (live_alone ws w e.ticket e.pid (ne_eqb w.ticket e.ticket (λ same. omega arith)), old_live ws w n items later a.1) refl
 
 new_live : (ws : List Ticketed) (w : Ticketed) (test : Case → Bool) (i : ℕ) (cases : List Case)
     → live_of (ws ++ w ∷ []) (waiters_from test w.call.pid w.ticket i cases) ≡ waiters_from test w.call.pid w.ticket i cases

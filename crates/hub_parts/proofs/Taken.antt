@@ -10,14 +10,15 @@ use Rattle.hub_base.specs.Ready.{first_with}
 use Rattle.hub_parts.specs.declared.side.Side.{Side}
 use Rattle.hub_parts.specs.declared.wait_queue.Waiter.{Waiter}
 use Rattle.hub_parts.specs.Records.{Calls, ChannelLists, PortLists}
-use Rattle.hub_parts.specs.Queues.{roomy, joined, taken, waiter_at, case_at}
+use Rattle.hub_parts.specs.Queues.{roomy, joined, taken, passed, waiter_at, case_at}
 use Rattle.hub_parts.specs.Lists.{IsMade, with_call, with_port, port_at, parked, ended_by, passes, open_calls}
-use Rattle.hub_parts.specs.Channels.{channel_of, line_of, first_on, without_first, with_queue, no_channel}
+use Rattle.hub_parts.specs.Channels.{channel_of, queue_of, line_of, first_on, without_first, with_queue, no_channel}
 use Rattle.hub_parts.specs.Parking.{all_roomy, all_joined}
-use Rattle.hub_parts.specs.Keeps.{BoardKeeps, AllMade, without_call, board_lists as lists}
+use Rattle.hub_parts.specs.Keeps.{BoardKeeps, AllMade, joins, without_call, board_lists as lists}
 use Rattle.hub_parts.proofs.Lines.{lists_of, get_or-map, lists-with_queue, lists-with_cases}
+use Rattle.hub_parts.proofs.Endings.{passed_keeps}
 use Rattle.hub_parts.proofs.Firsts.{Found, Tells}
-use Rattle.hub_parts.proofs.Boards.{board_lists, board_taken, board_untaken, taken_tells}
+use Rattle.hub_parts.proofs.Boards.{board_changed, board_lists, board_taken, board_untaken, taken_tells}
 
 pub within : (c : Calls) (cs : List ChannelLists) (p : Port) → IsMade (lists c cs) p → p.0 ≤ length cs
 within c cs p made = let le : p.0 ≤ length (map lists_of cs) = made.1 in omega (arith, length-map cs lists_of)
@@ -117,3 +118,16 @@ lists_parked pid ticket c d cs ds cases opened joins =
       lists-with_cases (λ i. joined (waiter_at pid ticket i)) 0 (all_roomy c.waiting cs cases) cases,
       lists-with_cases (λ i. roomy c.waiting) 0 cs cases,
     ) refl
+
+-- the dead entries of a queue were passed
+pub kept_passed : (s : Side) (p : Port) (c : Calls) (cs : List ChannelLists) (old ch : ChannelLists) → IsMade (lists c cs) p
+    → old ≡ get_or cs (p.0 - 1) old → ch ≡ with_queue (passed c.waiting) s old → BoardKeeps c cs → BoardKeeps c (set cs (p.0 - 1) ch)
+kept_passed s p c cs old ch made at left k =
+    let r = read c cs p old made at in
+    rw (left, r)
+    (board_changed (passed c.waiting) s p c cs made.0 (within c cs p made) k
+    (passed_keeps (joins s p) c (queue_of s (channel_of cs p)) (k.queues s p made.0 (within c cs p made))))
+
+pub lists_passed : (s : Side) (p : Port) (c : Calls) (cs : List ChannelLists) (old ch : ChannelLists) → IsMade (lists c cs) p
+    → old ≡ get_or cs (p.0 - 1) old → ch ≡ with_queue (passed c.waiting) s old → lists c (set cs (p.0 - 1) ch) ≡ lists c cs
+lists_passed s p c cs old ch made at left = rw (same_lists (passed c.waiting) s p c cs old ch made at left) refl

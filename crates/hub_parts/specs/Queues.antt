@@ -13,11 +13,15 @@ use Rattle.hub_parts.specs.Records.{Ticketed}
 abbrev pub is_live : List Ticketed → ℕ → Bool
 is_live ws ticket = list_any (λ w. w.ticket == ticket) ws
 
--- the entry is live
-abbrev pub lives : List Ticketed → Waiter → Bool
-lives ws entry = is_live ws entry.ticket
+-- the process has an open call under this ticket
+abbrev pub has_call : List Ticketed → ℕ → Pid → Bool
+has_call ws ticket pid = list_any (λ w. (w.ticket == ticket) && (w.call.pid.0 == pid.0)) ws
 
--- the entries whose ticket is live
+-- the entry is live: its process has an open call under its ticket
+abbrev pub lives : List Ticketed → Waiter → Bool
+lives ws entry = has_call ws entry.ticket entry.pid
+
+-- the live entries
 abbrev pub live_of : List Ticketed → List Waiter → List Waiter
 live_of ws q = filter (lives ws) q
 
@@ -25,6 +29,11 @@ live_of ws q = filter (lives ws) q
 abbrev pub after_first : {X : Type 0} → (X → Bool) → List X → List X
 after_first test [] = []
 after_first test (x ∷ xs) = if test x then xs else after_first test xs
+
+-- what stands from the first that passes on
+abbrev pub from_first : {X : Type 0} → (X → Bool) → List X → List X
+from_first test [] = []
+from_first test (x ∷ xs) = if test x then x ∷ xs else from_first test xs
 
 -- the first moved to the end where it passes, and else left out
 abbrev pub turned : {X : Type 0} → (X → Bool) → List X → List X
@@ -34,6 +43,10 @@ turned test (x ∷ xs) = if test x then xs ++ x ∷ [] else xs
 -- the queue without what stands before the first live entry, and without that
 abbrev pub taken : List Ticketed → Buffer Waiter → Buffer Waiter
 taken ws q = buffer (after_first (lives ws) q.items) q.capacity
+
+-- the queue without the dead entries before its first live one
+abbrev pub passed : List Ticketed → Buffer Waiter → Buffer Waiter
+passed ws q = buffer (from_first (lives ws) q.items) q.capacity
 
 -- the queue after its first entry was turned
 abbrev pub one_turn : List Ticketed → Buffer Waiter → Buffer Waiter

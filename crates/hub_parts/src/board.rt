@@ -188,6 +188,40 @@ impl Board {
         ensures side { IfSome result (λ e. passes port side e.case ≡ true) }
         ensures left { self.new ≡ after_taking result self.old }
     {
+        self.pass_dead(port, side);
+        self.take_oldest(port, side)
+    }
+
+    /// Removes the dead entries before the oldest live one of each queue of the port, where both are looked at. So each is
+    /// passed once, however many calls are then taken. No list of the board changes.
+    #[inline(always)]
+    fn pass_dead(&mut self, port: Port, side: Side)
+        requires { IsMade self.old port }
+        ensures { self.new ≡ self.old }
+    {
+        if let Side::Any = side {
+            self.pass_dead_on(port, Side::Send);
+            self.pass_dead_on(port, Side::Recv);
+        }
+    }
+
+    /// Removes the dead entries before the oldest live one of a queue of the port. No list of the board changes.
+    fn pass_dead_on(&mut self, port: Port, side: Side)
+        requires { IsMade self.old port }
+        ensures { self.new ≡ self.old }
+    {
+        let channel = &mut self.ports[port.0 as usize - 1];
+        channel.pass_dead(side, &self.calls);
+    }
+
+    /// What `take` does once the dead entries are passed.
+    #[inline(always)]
+    fn take_oldest(&mut self, port: Port, side: Side) -> Option<Ended>
+        requires { IsMade self.old port }
+        ensures taken { option_map ending_of result ≡ first_with (passes port side) (open_calls self.old.waiting) }
+        ensures side { IfSome result (λ e. passes port side e.case ≡ true) }
+        ensures left { self.new ≡ after_taking result self.old }
+    {
         let channel = &mut self.ports[port.0 as usize - 1];
         let waiter = channel.take(side, &self.calls)?;
         let Some(case) = self.calls.case(waiter) else {

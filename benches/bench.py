@@ -2,6 +2,7 @@
 """Measures the built programs beside others, and prints a table of each part.
 
 replay      `chanhub replay` beside OTHER, the command of another program that reads a journal and writes its events
+growth      the same on the journals of make_growth.py, in which much waits or has waited: instructions alone
 verify      `chanhub verify` beside `chanhub replay`
 live        `hub_trials` beside live_peer, which is built where there is cargo
 scenarios   `hub_trials` beside `chanhub run`
@@ -27,7 +28,7 @@ HERE = os.path.dirname(os.path.abspath(__file__))
 ROOT = os.path.dirname(HERE)
 sys.path.append(os.path.join(ROOT, 'tools'))
 sys.dont_write_bytecode = True
-from check_instructions import LINES, has_valgrind, instructions, make_beginnings
+from check_instructions import LINES, has_valgrind, instructions, make_beginnings, make_growth
 
 CHANHUB = os.path.join(ROOT, 'crates', 'chanhub', 'out', 'chanhub')
 TRIALS = os.path.join(ROOT, 'crates', 'hub_trials', 'out', 'hub_trials')
@@ -41,6 +42,7 @@ RUNS = int(os.environ.get('RUNS', '10'))
 REPEATS = int(os.environ.get('REPEATS', '8'))
 SETS = 3
 JOURNALS = ('hand_overs', 'bursts', 'selects', 'bytes')
+GROWTH = ('open_calls', 'dead_entries', 'stalls', 'one_busy', 'worst_close', 'faults')
 WORKLOADS = ('alone', 'ping_pong', 'one_to_one', 'four_to_four', 'select_over_four', 'looks_1', 'looks_2', 'looks_4')
 # of c_times.c: what is timed, and of what one thread does also the instructions of a call
 C_WORKLOADS = ('hand_overs', 'buffered', 'alone', 'look', 'journal')
@@ -146,6 +148,23 @@ def replay(folder, other):
         return jobs
 
     print_table('Replays', 'chanhub replay', 'the other', journal_costs(folder, jobs_of))
+
+
+def growth(folder, other):
+    programs = [[CHANHUB, 'replay']] + ([] if other is None else [shlex.split(other)])
+    if other is None:
+        skip('another program that replays: none is named')
+    if not has_valgrind():
+        skip('growth: valgrind is not there')
+        return
+    make_growth(folder)
+    rows = []
+    for name in GROWTH:
+        jobs = [Job(words, os.path.join(folder, name)) for words in programs]
+        if len(set(map(digest, jobs))) != 1:
+            sys.exit('bench: the programs write different events of ' + name)
+        rows.append(Row(name, [instructions(job.words, job.input) / 1000000 for job in jobs]))
+    print_table('Replays in which much waits, in million instructions', 'chanhub replay', 'the other', rows)
 
 
 def verify(folder, _):
@@ -265,6 +284,7 @@ def capi(folder, _):
 # each part, and what has to be built for it
 PARTS = {
     'replay': (replay, [CHANHUB]),
+    'growth': (growth, [CHANHUB]),
     'verify': (verify, [CHANHUB]),
     'live': (live, [TRIALS]),
     'scenarios': (scenarios, [TRIALS, CHANHUB]),

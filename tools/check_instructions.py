@@ -1,6 +1,7 @@
 #!/usr/bin/env python3
 """check_instructions.py [PROGRAM]: counts the instructions of `chanhub replay` on the first 100,000 lines of journals
-that benches/make_journals.py makes, and compares them with those that are written here.
+that benches/make_journals.py makes, and on some that benches/make_growth.py makes, and compares them with those that are
+written here.
 
 A count fails where it is more than 5 percent above. One as far below passes, and is told, so that what is written is
 lowered. Where valgrind is not there nothing is counted, and the status is 77.
@@ -25,6 +26,11 @@ def make_beginnings(folder):
     """Writes the first lines of the big journals."""
     maker = os.path.join(ROOT, 'benches', 'make_journals.py')
     subprocess.run([maker, folder, str(LINES)], stdout=subprocess.DEVNULL, check=True)
+
+
+def make_growth(folder):
+    """Writes the journals in which much waits, or has waited."""
+    subprocess.run([os.path.join(ROOT, 'benches', 'make_growth.py'), folder], check=True)
 
 
 def has_valgrind():
@@ -56,6 +62,7 @@ def main(program):
         sys.exit(SKIPPED)
     with tempfile.TemporaryDirectory() as folder:
         make_beginnings(folder)
+        make_growth(folder)
         counts = {name: instructions([program, 'replay'], os.path.join(folder, name)) for name in WRITTEN}
     sys.exit(0 if all([is_within(name, count) for name, count in counts.items()]) else 1)
 

@@ -112,7 +112,8 @@ pub enum Selected {
 }
 
 impl Hub {
-    /// Opens a hub, and gives a seat for each of its processes, in order.
+    /// Opens a hub of 1 to 64 processes, which makes at most `limit` steps, 1 to 1,000,000, and gives a seat for each process, in
+    /// order. Drop a seat that nobody calls by, or the others may wait for its process for ever.
     pub fn open(edition: Edition, procs: u8, limit: u32) -> Result<(Hub, Vec<Seat>), OpenError> {
         static OPENED: AtomicU64 = AtomicU64::new(0);
         let mut at = ptr::null_mut();

@@ -1,5 +1,7 @@
 //! A hub of Go channels that threads share, with a journal of all that happened.
 //!
+//! The crate links `libchanhub.a`: that of the folder that `CHANHUB_LIB` names, or what `make -C capi` leaves in this repository.
+//!
 //! ```
 //! use chanhub::{Edition, Ended, Hub};
 //!

@@ -39,7 +39,7 @@ type Fault uint8
 const (
 	FaultNoProcess     Fault = C.CHANHUB_NO_PROCESS     // no such process
 	FaultGone          Fault = C.CHANHUB_GONE           // the process has exited
-	FaultBusy          Fault = C.CHANHUB_BUSY           // a call of the process waits, in another goroutine
+	FaultBusy          Fault = C.CHANHUB_BUSY           // a call of the process is open, in another goroutine
 	FaultTooManyCases  Fault = C.CHANHUB_TOO_MANY_CASES // more than 8 cases, in edition 1
 	FaultNoPort        Fault = C.CHANHUB_NO_PORT        // no such port
 	FaultBadCap        Fault = C.CHANHUB_BAD_CAP        // a capacity that is not 0 to 1,024
@@ -55,7 +55,7 @@ const (
 var faultTexts = map[Fault]string{
 	FaultNoProcess:     "no such process",
 	FaultGone:          "the process has exited",
-	FaultBusy:          "a call of the process waits",
+	FaultBusy:          "a call of the process is open",
 	FaultTooManyCases:  "more than 8 cases, in edition 1",
 	FaultNoPort:        "no such port",
 	FaultBadCap:        "a capacity that is not 0 to 1,024",

@@ -3,8 +3,8 @@ package chanhub
 // #include <chanhub.h>
 import "C"
 
-// Seat is a process of a hub. One goroutine at a time calls by it; which goroutine that is may change. While a call of it waits
-// another one is refused by FaultBusy. Two seats of one number are one process.
+// Seat is a process of a hub. One goroutine at a time calls by it; which goroutine that is may change. Until a call that waits has
+// returned, another one of the process is refused by FaultBusy. Two seats of one number are one process.
 type Seat struct {
 	hub *Hub
 	pid int

@@ -56,7 +56,7 @@ func TestFaultsSayWhatTheirNumbersMean(t *testing.T) {
 		0:  "a number that chanhub.h has not",
 		1:  "no such process",
 		2:  "the process has exited",
-		3:  "a call of the process waits",
+		3:  "a call of the process is open",
 		4:  "more than 8 cases, in edition 1",
 		5:  "no such port",
 		6:  "a capacity that is not 0 to 1,024",

@@ -40,7 +40,7 @@ impl Fault {
     pub const NO_PROCESS: Fault = Fault(1);
     /// The process has exited.
     pub const GONE: Fault = Fault(2);
-    /// A call of the process waits.
+    /// A call of the process is open.
     pub const BUSY: Fault = Fault(3);
     /// More than 8 cases, in edition 1.
     pub const TOO_MANY_CASES: Fault = Fault(4);
@@ -67,7 +67,7 @@ impl Fault {
         match self {
             Fault::NO_PROCESS => "no such process",
             Fault::GONE => "the process has exited",
-            Fault::BUSY => "a call of the process waits",
+            Fault::BUSY => "a call of the process is open",
             Fault::TOO_MANY_CASES => "more than 8 cases, in edition 1",
             Fault::NO_PORT => "no such port",
             Fault::BAD_CAP => "a capacity above 1,024",

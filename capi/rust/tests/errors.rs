@@ -13,7 +13,7 @@ fn faults_say_what_their_numbers_mean() {
     let said = [
         "fault 1: no such process",
         "fault 2: the process has exited",
-        "fault 3: a call of the process waits",
+        "fault 3: a call of the process is open",
         "fault 4: more than 8 cases, in edition 1",
         "fault 5: no such port",
         "fault 6: a capacity above 1,024",
@@ -57,8 +57,13 @@ fn ends_and_refusals_say_what_happened() {
 #[test]
 fn faults_are_numbered_as_in_the_header() {
     let header = include_str!("../../chanhub.h");
-    let (_, reasons) = header.split_once("/* Why nothing happened.").unwrap();
+    let (_, reasons) = header.split_once("enum {\n    CHANHUB_NO_PROCESS").unwrap();
     let (reasons, _) = reasons.split_once("};").unwrap();
+    let reasons: Vec<_> = format!("CHANHUB_NO_PROCESS{reasons}")
+        .lines()
+        .map(|line| line.trim().to_string())
+        .filter(|line| line.starts_with("CHANHUB_"))
+        .collect();
     let named = [
         ("NO_PROCESS", Fault::NO_PROCESS),
         ("GONE", Fault::GONE),
@@ -74,11 +79,11 @@ fn faults_are_numbered_as_in_the_header() {
         ("NOT_PARKED", Fault::NOT_PARKED),
         ("BAD_CALL", Fault::BAD_CALL),
     ];
-    for (name, fault) in named {
-        let line = format!("CHANHUB_{name} = {},", fault.0);
-        assert!(reasons.contains(&line), "{line}");
+    assert_eq!(reasons.len(), named.len());
+    for (reason, (name, fault)) in reasons.iter().zip(named) {
+        let said = format!("CHANHUB_{name} = {},", fault.0);
+        assert!(reason.starts_with(&said), "{reason}: {said}");
     }
-    assert_eq!(reasons.matches("CHANHUB_").count(), named.len());
 }
 
 #[test]

@@ -2,6 +2,9 @@ package chanhub_test
 
 import (
 	"errors"
+	"os"
+	"strconv"
+	"strings"
 	"sync"
 	"testing"
 	"time"
@@ -109,5 +112,39 @@ func TestCloseWhileCallsRun(t *testing.T) {
 		}
 		closes.Wait()
 		calls.Wait()
+	}
+}
+
+// resident is how many bytes of memory the program has.
+func resident(t *testing.T) int {
+	t.Helper()
+	statm, err := os.ReadFile("/proc/self/statm")
+	if err != nil {
+		t.Fatal(err)
+	}
+	pages, err := strconv.Atoi(strings.Fields(string(statm))[1])
+	if err != nil {
+		t.Fatal(err)
+	}
+	return pages * os.Getpagesize()
+}
+
+func TestCloseGivesMemoryBack(t *testing.T) {
+	const hubs, steps, leastBytesOfAStep = 1000, 1000, 50
+	before := resident(t)
+	for i := 0; i < hubs; i++ {
+		hub, err := chanhub.Open(chanhub.Edition1, 1, steps)
+		if err != nil {
+			t.Fatal(err)
+		}
+		for step := 0; step < steps; step++ {
+			if _, _, err := hub.Seat(0).TrySelect(0); err != nil {
+				t.Fatal(err)
+			}
+		}
+		hub.Close()
+	}
+	if more := resident(t) - before; more > hubs*steps*leastBytesOfAStep/2 {
+		t.Errorf("%d bytes more than before", more)
 	}
 }

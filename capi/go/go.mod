@@ -1,3 +1,3 @@
-module chanhub/pool
+module chanhub
 
 go 1.18

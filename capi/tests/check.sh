@@ -61,6 +61,48 @@ is_installed() {
         LD_LIBRARY_PATH="$work/prefix/lib" prints "$work/sum" "$work/installed"
 }
 
+# build_rust FOLDER [OPTION ..]: builds the Rust crate over the library of this folder.
+build_rust() {
+    folder=$1
+    shift
+    CHANHUB_LIB=$folder cargo build --offline --manifest-path rust/Cargo.toml "$@"
+}
+
+# says_what_to_do: whether a build over a folder without the library says so, where it looked, and what to do.
+says_what_to_do() {
+    mkdir -p "$work/nothing" && ! build_rust "$work/nothing" > "$work/said" 2>&1 && cat "$work/said" &&
+        grep -qF "There is no libchanhub.a in $work/nothing." "$work/said" &&
+        grep -qF 'make -C capi' "$work/said" &&
+        grep -qF 'have CHANHUB_LIB name the folder' "$work/said"
+}
+
+# links_anew: whether the Rust crate is built again once its library was, and only then.
+links_anew() {
+    mkdir -p "$work/newer" && cp out/libchanhub.a "$work/newer" && build_rust "$work/newer" &&
+        build_rust "$work/newer" -v 2>&1 | grep -q 'Fresh chanhub' &&
+        touch "$work/newer/libchanhub.a" &&
+        build_rust "$work/newer" -v > "$work/built" 2>&1 && ! grep -q 'Fresh chanhub' "$work/built"
+}
+
+# offline_go COMMAND..: runs the go tool in the module, without a network.
+offline_go() {
+    env -C go GOFLAGS=-mod=mod GOPROXY=off go "$@"
+}
+
+# is_formatted: whether gofmt leaves the Go sources as they are.
+is_formatted() {
+    gofmt -d go > "$work/edits" && cat "$work/edits" && ! [ -s "$work/edits" ]
+}
+
+# is_used_elsewhere: whether a module of somebody else uses the Go package over a library that is elsewhere.
+is_used_elsewhere() {
+    mkdir -p "$work/user" "$work/elsewhere" && cp -R go "$work/go" && cp chanhub.h out/libchanhub.a "$work/elsewhere" &&
+        printf '%s\n' 'package main' 'import "chanhub/chanhub"' \
+            'func main() { if _, err := chanhub.Open(chanhub.Edition1, 1, 1); err != nil { panic(err) } }' > "$work/user/main.go" &&
+        printf '%s\n' 'module user' 'require chanhub v0.0.0' "replace chanhub => $work/go" > "$work/user/go.mod" &&
+        env -C "$work/user" GOFLAGS=-mod=mod GOPROXY=off CGO_CFLAGS="-I$work/elsewhere" CGO_LDFLAGS="-L$work/elsewhere" go run .
+}
+
 echo 385 > "$work/sum"
 printf 'stalled: 0 recv 2\nstalled: 1 recv 1\n' > "$work/stalled"
 
@@ -120,13 +162,24 @@ if command -v cargo > "$work/found"; then
     done
     check 'pool.rs' prints "$work/sum" cargo run --offline --quiet --manifest-path rust/Cargo.toml --example pool
     check 'deadlock.rs' prints "$work/stalled" cargo run --offline --quiet --manifest-path rust/Cargo.toml --example deadlock
+    check 'cargo doc' env RUSTDOCFLAGS='-D warnings' cargo doc --offline --quiet --no-deps --manifest-path rust/Cargo.toml
+    check 'build.rs says what to do without the library' says_what_to_do
+    check 'build.rs sees a new library' links_anew
+    if cargo clippy --version > "$work/found" 2>&1; then
+        check 'cargo clippy' cargo clippy --offline --quiet --all-targets --manifest-path rust/Cargo.toml -- -D warnings
+    else
+        skip 'cargo clippy' 'not there'
+    fi
 else
     skip 'the Rust crate' 'no cargo'
 fi
 if command -v go > "$work/found"; then
-    check 'pool.go' prints "$work/sum" env -C go GOFLAGS=-mod=mod go run pool.go
+    check 'go vet' offline_go vet ./...
+    check 'go test' offline_go test -count=1 -timeout 120s ./...
+    check 'gofmt' is_formatted
+    check 'the Go package elsewhere' is_used_elsewhere
 else
-    skip 'pool.go' 'no go'
+    skip 'the Go package' 'no go'
 fi
 
 echo "$passed passed, $failed failed, $skipped skipped"

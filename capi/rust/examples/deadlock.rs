@@ -6,8 +6,8 @@ use std::thread;
 
 fn main() -> Result<(), Box<dyn Error>> {
     let (hub, mut seats) = Hub::open(Edition::One, 2, 1000)?;
-    let (to_right, from_left) = seats[0].channel(0).expect("a channel");
-    let (to_left, from_right) = seats[0].channel(0).expect("a channel");
+    let (to_right, from_left) = seats[0].channel(0)?;
+    let (to_left, from_right) = seats[0].channel(0)?;
     let ends = [(from_right, to_right), (from_left, to_left)];
     let threads = seats.into_iter().zip(ends).map(|(mut seat, (from, to))| {
         thread::spawn(move || {

@@ -1,20 +1,21 @@
 //! A pool of workers: process 0 hands out jobs, the others do them, and each result comes back.
 
-use chanhub::{Edition, Hub};
+use chanhub::{Edition, Ended, Hub};
 use std::error::Error;
 use std::thread;
 
 fn main() -> Result<(), Box<dyn Error>> {
     let (_hub, mut seats) = Hub::open(Edition::One, 4, 1000)?;
     let mut boss = seats.remove(0);
-    let (to_workers, jobs) = boss.channel(2).expect("a channel");
-    let (to_boss, results) = boss.channel(100).expect("a channel");
+    let (to_workers, jobs) = boss.channel(2)?;
+    let (to_boss, results) = boss.channel(100)?;
     let workers = seats.into_iter().map(|mut seat| {
-        thread::spawn(move || {
-            while let Ok(job) = jobs.recv(&mut seat) {
+        thread::spawn(move || -> Result<(), Ended> {
+            while let Some(job) = jobs.next(&mut seat)? {
                 let job = job.number().expect("a number");
-                to_boss.send(&mut seat, job * job).expect("room");
+                to_boss.send(&mut seat, job * job)?;
             }
+            Ok(())
         })
     });
     let workers: Vec<_> = workers.collect();
@@ -22,10 +23,14 @@ fn main() -> Result<(), Box<dyn Error>> {
         to_workers.send(&mut boss, job)?;
     }
     to_workers.close(&mut boss)?;
-    let done = (0..10).map(|_| Ok(results.recv(&mut boss)?.number().unwrap_or(0)));
-    println!("{}", done.sum::<Result<u64, chanhub::Ended>>()?);
     for worker in workers {
-        worker.join().expect("a worker ends");
+        worker.join().expect("no panic")?;
     }
+    to_boss.close(&mut boss)?;
+    let mut sum = 0;
+    for result in results.drain(&mut boss) {
+        sum += result?.number().expect("a number");
+    }
+    println!("{sum}");
     Ok(())
 }

@@ -3,6 +3,8 @@
 use crate::error::{Ended, Fault, OpenError};
 use crate::sys;
 use crate::value::Value;
+use std::fmt;
+use std::iter::FusedIterator;
 use std::os::raw::c_uint;
 use std::ptr;
 use std::sync::atomic::{AtomicU64, Ordering};
@@ -45,12 +47,33 @@ pub struct Seat {
     pid: u8,
 }
 
+/// Its number, by which a [`Sender`] and a [`Receiver`] show whose they are.
+impl fmt::Debug for Hub {
+    fn fmt(&self, f: &mut fmt::Formatter<'_>) -> fmt::Result {
+        f.debug_struct("Hub").field("id", &self.0.id).finish()
+    }
+}
+
+/// The number of its hub, and that of its process.
+impl fmt::Debug for Seat {
+    fn fmt(&self, f: &mut fmt::Formatter<'_>) -> fmt::Result {
+        f.debug_struct("Seat")
+            .field("hub", &self.hub.0.id)
+            .field("pid", &self.pid)
+            .finish()
+    }
+}
+
 /// The counts of a port.
 #[derive(Clone, Copy, Debug, PartialEq, Eq)]
 pub struct Counts {
+    /// How many values it buffers at most.
     pub cap: u32,
+    /// How many values were sent.
     pub sent: u32,
+    /// How many of them were received: the others are in the buffer.
     pub received: u32,
+    /// Whether it is closed.
     pub closed: bool,
 }
 
@@ -71,7 +94,9 @@ pub struct Receiver {
 /// A case of a select.
 #[derive(Clone, Copy, Debug)]
 pub enum Case {
+    /// Sends the value.
     Send(Sender, Value),
+    /// Receives a value.
     Recv(Receiver),
 }
 
@@ -87,7 +112,8 @@ pub enum Selected {
 }
 
 impl Hub {
-    /// Opens a hub, and gives a seat for each of its processes, in order.
+    /// Opens a hub of 1 to 64 processes, which makes at most `limit` steps, 1 to 1,000,000, and gives a seat for each process, in
+    /// order. Drop a seat that nobody calls by, or the others may wait for its process for ever.
     pub fn open(edition: Edition, procs: u8, limit: u32) -> Result<(Hub, Vec<Seat>), OpenError> {
         static OPENED: AtomicU64 = AtomicU64::new(0);
         let mut at = ptr::null_mut();
@@ -151,21 +177,22 @@ impl Hub {
 }
 
 fn selected(told: sys::Told) -> Result<Selected, Ended> {
-    let index = usize::from(told.index);
     match told.what {
-        2 => Ok(Selected::Sent(index)),
-        3 => Ok(Selected::Got(index, Value::of(told.value))),
-        4 => Err(Ended::Drained(told.index)),
-        5 => Err(Ended::Closed(told.index)),
-        9 => Err(Ended::Stalled),
-        10 => Err(Ended::Fault(Fault(told.fault))),
-        11 => Err(Ended::Cancelled),
-        _ => Ok(Selected::Default),
+        sys::SENT => Ok(Selected::Sent(told.index.into())),
+        sys::GOT => Ok(Selected::Got(told.index.into(), Value::of(told.value))),
+        sys::DEFAULT => Ok(Selected::Default),
+        sys::DRAINED => Err(Ended::Drained(told.index)),
+        sys::CLOSED => Err(Ended::Closed(told.index)),
+        sys::STALLED => Err(Ended::Stalled),
+        sys::CANCELLED => Err(Ended::Cancelled),
+        sys::FAULT => Err(Ended::Fault(Fault(told.fault))),
+        sys::WAITING => Err(Ended::Fault(Fault::BUSY)),
+        what => unreachable!("chanhub.h has no answer {what} to a send, a receive or a select"),
     }
 }
 
 fn done(told: sys::Told) -> Result<(), Fault> {
-    if told.what == 10 {
+    if told.what == sys::FAULT {
         Err(Fault(told.fault))
     } else {
         Ok(())
@@ -173,6 +200,7 @@ fn done(told: sys::Told) -> Result<(), Fault> {
 }
 
 impl Seat {
+    /// The number of the process, from 0 on.
     pub fn pid(&self) -> u8 {
         self.pid
     }
@@ -181,11 +209,11 @@ impl Seat {
         (self.hub.0.at, self.pid.into())
     }
 
-    fn is_mine(&self, hub: u64) -> Result<(), Ended> {
+    fn is_mine(&self, hub: u64) -> Result<(), Fault> {
         if hub == self.hub.0.id {
             Ok(())
         } else {
-            Err(Ended::Fault(Fault::BAD_CALL))
+            Err(Fault::BAD_CALL)
         }
     }
 
@@ -216,7 +244,7 @@ impl Seat {
         })
     }
 
-    fn raw(&self, case: &Case) -> Result<sys::Case, Ended> {
+    fn raw(&self, case: &Case) -> Result<sys::Case, Fault> {
         match *case {
             Case::Send(Sender { hub, port }, value) => self.is_mine(hub).map(|()| sys::Case {
                 sends: true,
@@ -261,7 +289,8 @@ impl Sender {
     pub fn close(&self, seat: &mut Seat) -> Result<(), Ended> {
         seat.is_mine(self.hub)?;
         let (hub, pid) = seat.at();
-        done(unsafe { sys::chanhub_close(hub, pid, self.port.into()) }).map_err(Ended::Fault)
+        done(unsafe { sys::chanhub_close(hub, pid, self.port.into()) })?;
+        Ok(())
     }
 }
 
@@ -278,8 +307,97 @@ impl Receiver {
         }
     }
 
-    /// Receives until the channel is closed and holds nothing more, or the call ends otherwise.
-    pub fn drain<'a>(&'a self, seat: &'a mut Seat) -> impl Iterator<Item = Value> + 'a {
-        std::iter::from_fn(move || self.recv(seat).ok())
+    /// Waits for the next value; `None` where the channel is closed and holds nothing more. Unlike [`drain`](Receiver::drain) it
+    /// leaves the seat free between two values:
+    ///
+    /// ```
+    /// # use chanhub::{Edition, Ended, Hub};
+    /// # let (_hub, mut seats) = Hub::open(Edition::One, 1, 100).unwrap();
+    /// # let mut seat = seats.remove(0);
+    /// # let (send_number, numbers) = seat.channel(1).unwrap();
+    /// # let (send_double, doubles) = seat.channel(1).unwrap();
+    /// # send_number.send(&mut seat, 4).unwrap();
+    /// # send_number.close(&mut seat).unwrap();
+    /// while let Some(value) = numbers.next(&mut seat)? {
+    ///     let number = value.number().expect("a number");
+    ///     send_double.send(&mut seat, 2 * number)?;
+    /// }
+    /// # assert_eq!(doubles.recv(&mut seat)?.number(), Some(8));
+    /// # Ok::<(), Ended>(())
+    /// ```
+    pub fn next(&self, seat: &mut Seat) -> Result<Option<Value>, Ended> {
+        match self.recv(seat) {
+            Ok(value) => Ok(Some(value)),
+            Err(Ended::Drained(_)) => Ok(None),
+            Err(ended) => Err(ended),
+        }
+    }
+
+    /// Receives until the channel is closed and holds nothing more. What ends it otherwise is its last item:
+    ///
+    /// ```
+    /// use chanhub::{Edition, Ended, Hub};
+    ///
+    /// let (_hub, mut seats) = Hub::open(Edition::One, 1, 100).unwrap();
+    /// let mut seat = seats.remove(0);
+    /// let (sender, receiver) = seat.channel(2).unwrap();
+    /// sender.send(&mut seat, 7).unwrap();
+    ///
+    /// // Nobody else can send or close.
+    /// let came: Vec<_> = receiver.drain(&mut seat).collect();
+    /// assert_eq!(came, [Ok(7.into()), Err(Ended::Stalled)]);
+    ///
+    /// sender.send(&mut seat, 8).unwrap();
+    /// sender.close(&mut seat).unwrap();
+    /// let values = receiver.drain(&mut seat).collect::<Result<Vec<_>, _>>();
+    /// assert_eq!(values, Ok(vec![8.into()]));
+    /// ```
+    pub fn drain<'a>(&'a self, seat: &'a mut Seat) -> Drain<'a> {
+        Drain {
+            receiver: self,
+            seat,
+            has_ended: false,
+        }
+    }
+}
+
+/// The values that come, by [`Receiver::drain`].
+#[derive(Debug)]
+#[must_use = "it receives as it is iterated"]
+pub struct Drain<'a> {
+    receiver: &'a Receiver,
+    seat: &'a mut Seat,
+    has_ended: bool,
+}
+
+impl Iterator for Drain<'_> {
+    type Item = Result<Value, Ended>;
+
+    fn next(&mut self) -> Option<Result<Value, Ended>> {
+        if self.has_ended {
+            return None;
+        }
+        let came = self.receiver.next(self.seat).transpose();
+        self.has_ended = !matches!(came, Some(Ok(_)));
+        came
+    }
+}
+
+impl FusedIterator for Drain<'_> {}
+
+#[cfg(test)]
+mod tests {
+    use super::*;
+
+    #[test]
+    fn a_call_that_is_left_waiting_is_no_default() {
+        let told = sys::Told {
+            what: sys::WAITING,
+            fault: 0,
+            index: 0,
+            port: 0,
+            value: sys::Value::default(),
+        };
+        assert_eq!(selected(told), Err(Ended::Fault(Fault::BUSY)));
     }
 }

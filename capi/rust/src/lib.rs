@@ -1,5 +1,7 @@
 //! A hub of Go channels that threads share, with a journal of all that happened.
 //!
+//! The crate links `libchanhub.a`: that of the folder that `CHANHUB_LIB` names, or what `make -C capi` leaves in this repository.
+//!
 //! ```
 //! use chanhub::{Edition, Ended, Hub};
 //!
@@ -12,6 +14,26 @@
 //! thread.join().unwrap().unwrap();
 //! assert_eq!(receiver.recv(&mut receives), Err(Ended::Stalled)); // the other process has exited
 //! assert_eq!(hub.look_at(&receiver).unwrap().received, 1);
+//! ```
+//!
+//! What ends a call is an error, so that a function passes it on by `?`:
+//!
+//! ```
+//! use chanhub::{Edition, Ended, Hub, Seat};
+//! use std::error::Error;
+//!
+//! fn pass_on(seat: &mut Seat) -> Result<Option<u64>, Ended> {
+//!     let (sender, receiver) = seat.channel(1)?;
+//!     sender.send(seat, 7)?;
+//!     sender.close(seat)?;
+//!     Ok(receiver.recv(seat)?.number())
+//! }
+//!
+//! fn main() -> Result<(), Box<dyn Error>> {
+//!     let (_hub, mut seats) = Hub::open(Edition::One, 1, 100)?;
+//!     assert_eq!(pass_on(&mut seats[0])?, Some(7));
+//!     Ok(())
+//! }
 //! ```
 //!
 //! A hub that is gone takes no call:
@@ -34,6 +56,8 @@
 //! });
 //! ```
 
+#![warn(missing_docs, missing_debug_implementations)]
+
 mod error;
 mod hub;
 mod sys;
@@ -41,6 +65,6 @@ mod table;
 mod value;
 
 pub use error::{Ended, Fault, OpenError};
-pub use hub::{Case, Counts, Edition, Hub, Receiver, Seat, Selected, Sender};
+pub use hub::{Case, Counts, Drain, Edition, Hub, Receiver, Seat, Selected, Sender};
 pub use table::Table;
 pub use value::{Bytes, TooLong, Value};

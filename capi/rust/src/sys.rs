@@ -2,6 +2,18 @@
 
 use std::os::raw::{c_char, c_int, c_uint};
 
+/// What a process is told.
+pub const SENT: u8 = 2;
+pub const GOT: u8 = 3;
+pub const DRAINED: u8 = 4;
+pub const CLOSED: u8 = 5;
+pub const DEFAULT: u8 = 6;
+/// A call was left while it waits: no call of this crate is.
+pub const WAITING: u8 = 8;
+pub const STALLED: u8 = 9;
+pub const FAULT: u8 = 10;
+pub const CANCELLED: u8 = 11;
+
 #[repr(C)]
 pub struct Chanhub {
     _private: [u8; 0],

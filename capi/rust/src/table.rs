@@ -28,6 +28,7 @@ impl<T> Default for Table<T> {
 }
 
 impl<T> Table<T> {
+    /// A table that keeps nothing.
     pub fn new() -> Table<T> {
         Table::default()
     }

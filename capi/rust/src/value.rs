@@ -1,11 +1,15 @@
 //! What a channel carries.
 
 use crate::sys;
+use std::error::Error;
+use std::fmt;
 
 /// A number, or, in a hub of edition 2, 0 to 32 bytes.
 #[derive(Clone, Copy, Debug, PartialEq, Eq)]
 pub enum Value {
+    /// A number.
     Number(u64),
+    /// Bytes, in a hub of edition 2 alone.
     Bytes(Bytes),
 }
 
@@ -16,18 +20,27 @@ pub struct Bytes {
     places: [u8; 32],
 }
 
-/// More than 32 bytes.
+/// More than 32 bytes, which no value has.
 #[derive(Clone, Copy, Debug, PartialEq, Eq)]
 pub struct TooLong;
 
+impl fmt::Display for TooLong {
+    fn fmt(&self, f: &mut fmt::Formatter<'_>) -> fmt::Result {
+        f.write_str("a value has at most 32 bytes")
+    }
+}
+
+impl Error for TooLong {}
+
 impl Bytes {
+    /// The bytes.
     pub fn as_slice(&self) -> &[u8] {
         &self.places[..usize::from(self.length)]
     }
 }
 
-impl std::fmt::Debug for Bytes {
-    fn fmt(&self, f: &mut std::fmt::Formatter<'_>) -> std::fmt::Result {
+impl fmt::Debug for Bytes {
+    fn fmt(&self, f: &mut fmt::Formatter<'_>) -> fmt::Result {
         self.as_slice().fmt(f)
     }
 }

@@ -11,6 +11,13 @@ fn one_seat(edition: Edition) -> (Hub, Seat) {
     (hub, seats.remove(0))
 }
 
+fn cancel_once_it_waits(seat: &mut Seat, other: u8) {
+    while let Err(fault) = seat.cancel(other) {
+        assert_eq!(fault, Fault::NOT_PARKED);
+        thread::sleep(Duration::from_millis(1));
+    }
+}
+
 #[test]
 fn values_come_in_order() {
     let (hub, mut seat) = one_seat(Edition::Two);
@@ -30,13 +37,74 @@ fn values_come_in_order() {
     sender.close(&mut seat).unwrap();
     assert_eq!(
         receiver.drain(&mut seat).collect::<Vec<_>>(),
-        [Value::Number(7), bytes]
+        [Ok(Value::Number(7)), Ok(bytes)]
     );
     assert_eq!(receiver.recv(&mut seat), Err(Ended::Drained(0)));
     assert_eq!(sender.send(&mut seat, 1), Err(Ended::Closed(0)));
     assert_eq!(
         sender.close(&mut seat),
         Err(Ended::Fault(Fault::ALREADY_CLOSED))
+    );
+}
+
+#[test]
+fn next_tells_what_drain_passes_on() {
+    let (_hub, mut seat) = one_seat(Edition::One);
+    let (sender, receiver) = seat.channel(1).unwrap();
+    sender.send(&mut seat, 7).unwrap();
+    assert_eq!(receiver.next(&mut seat), Ok(Some(Value::Number(7))));
+    assert_eq!(receiver.next(&mut seat), Err(Ended::Stalled));
+    sender.close(&mut seat).unwrap();
+    assert_eq!(receiver.next(&mut seat), Ok(None));
+}
+
+#[test]
+fn a_drain_that_stalls_says_so() {
+    let (_hub, mut seat) = one_seat(Edition::One);
+    let (sender, receiver) = seat.channel(1).unwrap();
+    sender.send(&mut seat, 7).unwrap();
+    assert_eq!(
+        receiver.drain(&mut seat).collect::<Vec<_>>(),
+        [Ok(Value::Number(7)), Err(Ended::Stalled)]
+    );
+}
+
+#[test]
+fn a_drain_that_is_cancelled_says_so() {
+    let (_hub, mut seats) = Hub::open(Edition::Two, 2, 1_000_000).unwrap();
+    let mut drains = seats.pop().unwrap();
+    let mut cancels = seats.pop().unwrap();
+    let (_, receiver) = cancels.channel(0).unwrap();
+    let thread = thread::spawn(move || receiver.drain(&mut drains).collect::<Vec<_>>());
+    cancel_once_it_waits(&mut cancels, 1);
+    assert_eq!(thread.join().unwrap(), [Err(Ended::Cancelled)]);
+}
+
+#[test]
+fn a_drain_that_is_refused_says_so() {
+    let (_hub, mut seats) = Hub::open(Edition::One, 1, 2).unwrap();
+    let (sender, receiver) = seats[0].channel(1).unwrap();
+    sender.send(&mut seats[0], 7).unwrap();
+    assert_eq!(
+        receiver.drain(&mut seats[0]).collect::<Vec<_>>(),
+        [Err(Ended::Fault(Fault::JOURNAL_FULL))]
+    );
+}
+
+#[test]
+fn a_drain_that_has_ended_makes_no_step() {
+    let (hub, mut seat) = one_seat(Edition::One);
+    let (sender, receiver) = seat.channel(0).unwrap();
+    let mut stalls = receiver.drain(&mut seat);
+    assert_eq!(stalls.next(), Some(Err(Ended::Stalled)));
+    assert_eq!(stalls.next(), None);
+    sender.close(&mut seat).unwrap();
+    let mut drains = receiver.drain(&mut seat);
+    assert_eq!(drains.next(), None);
+    assert_eq!(drains.next(), None);
+    assert_eq!(
+        hub.journal().unwrap(),
+        "chanhub journal 1\nprocs 1\n0 make 0\n0 recv 1\n0 close 1\n0 recv 1\n"
     );
 }
 
@@ -103,10 +171,7 @@ fn a_call_that_waits_is_cancelled() {
     let mut cancels = seats.pop().unwrap();
     let (_, receiver) = cancels.channel(0).unwrap();
     let thread = thread::spawn(move || receiver.recv(&mut waits));
-    while let Err(fault) = cancels.cancel(1) {
-        assert_eq!(fault, Fault::NOT_PARKED);
-        thread::sleep(Duration::from_millis(1));
-    }
+    cancel_once_it_waits(&mut cancels, 1);
     assert_eq!(thread.join().unwrap(), Err(Ended::Cancelled));
 }
 

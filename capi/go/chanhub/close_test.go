@@ -1,0 +1,150 @@
+package chanhub_test
+
+import (
+	"errors"
+	"os"
+	"strconv"
+	"strings"
+	"sync"
+	"testing"
+	"time"
+
+	"chanhub/chanhub"
+)
+
+func TestCallsOnAClosedHubAreRefused(t *testing.T) {
+	hub := open(t, chanhub.Edition2, 2, 100)
+	seat := hub.Seat(0)
+	port := makePort(t, seat, 1)
+	told(t, "send", seat.Send(port, chanhub.Number(7)), nil)
+	told(t, "close", hub.Close(), nil)
+	told(t, "a second close", hub.Close(), nil)
+	drain := seat.Drain(port)
+	if drain.Next() {
+		t.Error("a closed hub gives values")
+	}
+	told(t, "drain", drain.Err(), chanhub.ErrHubClosed)
+	_, err := seat.Make(0)
+	told(t, "make", err, chanhub.ErrHubClosed)
+	told(t, "send", seat.Send(port, chanhub.Number(7)), chanhub.ErrHubClosed)
+	_, err = seat.Recv(port)
+	told(t, "receive", err, chanhub.ErrHubClosed)
+	index, _, err := seat.Select(0, chanhub.RecvCase(port))
+	told(t, "select", err, chanhub.ErrHubClosed)
+	if index != -1 {
+		t.Errorf("select: case %d", index)
+	}
+	_, _, err = seat.TrySelect(0)
+	told(t, "select with a default", err, chanhub.ErrHubClosed)
+	told(t, "close of a channel", seat.Close(port), chanhub.ErrHubClosed)
+	told(t, "cancel", seat.Cancel(1), chanhub.ErrHubClosed)
+	told(t, "exit", seat.Exit(), chanhub.ErrHubClosed)
+	told(t, "a process that was not", hub.Seat(2).Exit(), chanhub.ErrHubClosed)
+	_, err = hub.Look(port)
+	told(t, "look", err, chanhub.ErrHubClosed)
+	_, err = hub.Journal()
+	told(t, "journal", err, chanhub.ErrHubClosed)
+}
+
+func TestCloseEndsTheCallsThatWait(t *testing.T) {
+	hub := open(t, chanhub.Edition1, 64, 1000)
+	port := makePort(t, hub.Seat(0), 0)
+	ended := make(chan error)
+	go func() { ended <- hub.Seat(1).Send(port, chanhub.Number(7)) }()
+	untilItStands(t, hub, "1 send 1 7")
+	go func() {
+		_, err := hub.Seat(2).Recv(0)
+		ended <- err
+	}()
+	untilItStands(t, hub, "2 recv 0")
+	go func() {
+		_, _, err := hub.Seat(63).Select(0, chanhub.RecvCase(0), chanhub.SendCase(port, chanhub.Number(8)))
+		ended <- err
+	}()
+	untilItStands(t, hub, "63 select 0 r0 s1:8")
+	told(t, "close", hub.Close(), nil)
+	for i := 0; i < 3; i++ {
+		told(t, "a call that waited", <-ended, chanhub.ErrHubClosed)
+	}
+}
+
+// Whoever closes at the same time has to wait until the memory is given back, and no call may go on in it.
+func TestCloseWhileCallsRun(t *testing.T) {
+	const procs = 16
+	for round := 0; round < 50; round++ {
+		hub := open(t, chanhub.Edition1, procs, 1_000_000)
+		port := makePort(t, hub.Seat(0), round%3)
+		var calls sync.WaitGroup
+		calls.Add(procs + 1)
+		for pid := 0; pid < procs; pid++ {
+			sends, seat := pid%2 == 0, hub.Seat(pid)
+			go func() {
+				defer calls.Done()
+				err := error(nil)
+				for err == nil {
+					if sends {
+						err = seat.Send(port, chanhub.Number(1))
+					} else {
+						_, err = seat.Recv(port)
+					}
+				}
+				if !errors.Is(err, chanhub.ErrHubClosed) {
+					t.Errorf("told %v", err)
+				}
+			}()
+		}
+		go func() {
+			defer calls.Done()
+			err := error(nil)
+			for err == nil {
+				_, err = hub.Look(port)
+			}
+			told(t, "look", err, chanhub.ErrHubClosed)
+		}()
+		time.Sleep(time.Duration(round) * 100 * time.Microsecond)
+		var closes sync.WaitGroup
+		closes.Add(2)
+		for i := 0; i < 2; i++ {
+			go func() {
+				defer closes.Done()
+				hub.Close()
+			}()
+		}
+		closes.Wait()
+		calls.Wait()
+	}
+}
+
+// resident is how many bytes of memory the program has.
+func resident(t *testing.T) int {
+	t.Helper()
+	statm, err := os.ReadFile("/proc/self/statm")
+	if err != nil {
+		t.Fatal(err)
+	}
+	pages, err := strconv.Atoi(strings.Fields(string(statm))[1])
+	if err != nil {
+		t.Fatal(err)
+	}
+	return pages * os.Getpagesize()
+}
+
+func TestCloseGivesMemoryBack(t *testing.T) {
+	const hubs, steps, leastBytesOfAStep = 1000, 1000, 50
+	before := resident(t)
+	for i := 0; i < hubs; i++ {
+		hub, err := chanhub.Open(chanhub.Edition1, 1, steps)
+		if err != nil {
+			t.Fatal(err)
+		}
+		for step := 0; step < steps; step++ {
+			if _, _, err := hub.Seat(0).TrySelect(0); err != nil {
+				t.Fatal(err)
+			}
+		}
+		hub.Close()
+	}
+	if more := resident(t) - before; more > hubs*steps*leastBytesOfAStep/2 {
+		t.Errorf("%d bytes more than before", more)
+	}
+}

@@ -1,0 +1,54 @@
+package chanhub
+
+// #include <chanhub.h>
+import "C"
+
+// waiting is what is told of a call that is left while it waits. No call of this package is.
+const waiting = 8
+
+// told is what a call came to.
+type told struct {
+	what  uint8
+	fault Fault
+	index int
+	port  Port
+	value Value
+}
+
+func toldOf(raw C.chanhub_told) told {
+	return told{
+		what:  uint8(raw.what),
+		fault: Fault(raw.fault),
+		index: int(raw.index),
+		port:  Port(raw.port),
+		value: valueOf(raw.value),
+	}
+}
+
+// err is the error that ended the call, if any.
+func (t told) err() error {
+	switch t.what {
+	case C.CHANHUB_CLOSED:
+		return ErrClosed
+	case C.CHANHUB_DRAINED:
+		return ErrDrained
+	case C.CHANHUB_STALLED:
+		return ErrStalled
+	case C.CHANHUB_CANCELLED:
+		return ErrCancelled
+	case C.CHANHUB_FAULT:
+		return t.fault
+	case waiting:
+		return FaultBusy
+	}
+	return nil
+}
+
+// caseIndex is the index of the case of which something is told, or -1.
+func (t told) caseIndex() int {
+	switch t.what {
+	case C.CHANHUB_SENT, C.CHANHUB_GOT, C.CHANHUB_CLOSED, C.CHANHUB_DRAINED:
+		return t.index
+	}
+	return -1
+}

@@ -1,0 +1,147 @@
+//! What a Rust program expects of errors, and what they say.
+
+use chanhub::{Edition, Ended, Fault, Hub, OpenError, Seat, Table, TooLong, Value};
+use std::error::Error;
+
+fn one_seat() -> (Hub, Seat) {
+    let (hub, mut seats) = Hub::open(Edition::One, 1, 100).unwrap();
+    (hub, seats.remove(0))
+}
+
+#[test]
+fn faults_say_what_their_numbers_mean() {
+    let said = [
+        "fault 1: no such process",
+        "fault 2: the process has exited",
+        "fault 3: a call of the process is open",
+        "fault 4: more than 8 cases, in edition 1",
+        "fault 5: no such port",
+        "fault 6: a capacity above 1,024",
+        "fault 7: 64 ports are made",
+        "fault 8: a close of port 0",
+        "fault 9: a close of a closed port",
+        "fault 10: the hub has made its limit of steps",
+        "fault 11: memory was refused",
+        "fault 12: a cancel of a process whose call does not wait",
+        "fault 13: an end of another hub's channel, more than 16 cases, or what the hub's edition has not",
+        "fault 14: a number that chanhub.h has not",
+    ];
+    for (number, said) in (1..).zip(said) {
+        assert_eq!(Fault(number).to_string(), said);
+        assert_eq!(Ended::Fault(Fault(number)).to_string(), said);
+    }
+}
+
+#[test]
+fn ends_and_refusals_say_what_happened() {
+    assert_eq!(Ended::Closed(0).to_string(), "send on a closed port");
+    assert_eq!(
+        Ended::Drained(0).to_string(),
+        "the port is closed and holds nothing more"
+    );
+    assert_eq!(Ended::Stalled.to_string(), "everybody waited");
+    assert_eq!(
+        Ended::Cancelled.to_string(),
+        "another process ended the call"
+    );
+    assert_eq!(OpenError::Procs.to_string(), "a hub has 1 to 64 processes");
+    assert_eq!(
+        OpenError::Limit.to_string(),
+        "a hub has 1 to 1,000,000 steps"
+    );
+    assert_eq!(OpenError::Memory.to_string(), "out of memory");
+    assert_eq!(TooLong.to_string(), "a value has at most 32 bytes");
+}
+
+/// The numbers of chanhub.h, by their names there.
+#[test]
+fn faults_are_numbered_as_in_the_header() {
+    let header = include_str!("../../chanhub.h");
+    let (_, reasons) = header.split_once("enum {\n    CHANHUB_NO_PROCESS").unwrap();
+    let (reasons, _) = reasons.split_once("};").unwrap();
+    let reasons: Vec<_> = format!("CHANHUB_NO_PROCESS{reasons}")
+        .lines()
+        .map(|line| line.trim().to_string())
+        .filter(|line| line.starts_with("CHANHUB_"))
+        .collect();
+    let named = [
+        ("NO_PROCESS", Fault::NO_PROCESS),
+        ("GONE", Fault::GONE),
+        ("BUSY", Fault::BUSY),
+        ("TOO_MANY_CASES", Fault::TOO_MANY_CASES),
+        ("NO_PORT", Fault::NO_PORT),
+        ("BAD_CAP", Fault::BAD_CAP),
+        ("TOO_MANY_PORTS", Fault::TOO_MANY_PORTS),
+        ("NIL_CLOSE", Fault::NIL_CLOSE),
+        ("ALREADY_CLOSED", Fault::ALREADY_CLOSED),
+        ("JOURNAL_FULL", Fault::JOURNAL_FULL),
+        ("NO_MEMORY", Fault::NO_MEMORY),
+        ("NOT_PARKED", Fault::NOT_PARKED),
+        ("BAD_CALL", Fault::BAD_CALL),
+    ];
+    assert_eq!(reasons.len(), named.len());
+    for (reason, (name, fault)) in reasons.iter().zip(named) {
+        let said = format!("CHANHUB_{name} = {},", fault.0);
+        assert!(reason.starts_with(&said), "{reason}: {said}");
+    }
+}
+
+#[test]
+fn errors_go_where_rust_takes_errors() {
+    fn is_error<E: Error + Send + Sync + 'static>() {}
+    is_error::<Ended>();
+    is_error::<Fault>();
+    is_error::<OpenError>();
+    is_error::<TooLong>();
+}
+
+#[test]
+fn one_question_mark_passes_all_errors_on() {
+    fn to_ended(seat: &mut Seat) -> Result<(), Ended> {
+        let (sender, receiver) = seat.channel(1)?;
+        sender.send(seat, 1)?;
+        sender.close(seat)?;
+        receiver.recv(seat)?;
+        seat.cancel(0)?;
+        Ok(())
+    }
+    fn to_box(seat: &mut Seat) -> Result<(), Box<dyn Error + Send + Sync>> {
+        let value = Value::try_from(&[0u8; 33][..])?;
+        let (sender, _) = seat.channel(1)?;
+        sender.send(seat, value)?;
+        Ok(())
+    }
+    let (_hub, mut seat) = one_seat();
+    // Edition 1 has no cancel.
+    assert_eq!(to_ended(&mut seat), Err(Ended::Fault(Fault::BAD_CALL)));
+    let refused = to_box(&mut seat).unwrap_err();
+    assert_eq!(refused.downcast_ref::<TooLong>(), Some(&TooLong));
+}
+
+#[test]
+fn hubs_and_seats_show_whose_a_channel_is() {
+    let (hub, mut seat) = one_seat();
+    let (sender, _) = seat.channel(0).unwrap();
+    let id = format!("{hub:?}")
+        .trim_start_matches("Hub { id: ")
+        .trim_end_matches(" }")
+        .to_string();
+    assert!(id.parse::<u64>().is_ok(), "{hub:?}");
+    assert_eq!(format!("{seat:?}"), format!("Seat {{ hub: {id}, pid: 0 }}"));
+    assert_eq!(
+        format!("{sender:?}"),
+        format!("Sender {{ hub: {id}, port: 1 }}")
+    );
+}
+
+#[test]
+fn what_the_crate_gives_can_be_shown() {
+    let (_hub, mut seat) = one_seat();
+    let (_, receiver) = seat.channel(0).unwrap();
+    assert!(format!("{:?}", receiver.drain(&mut seat)).starts_with("Drain { receiver: Receiver"));
+    let table = Table::new();
+    table.put("a thing");
+    assert!(format!("{table:?}").contains("\"a thing\""));
+    // So that a result with a hub in it can be unwrapped for its error.
+    assert_eq!(Hub::open(Edition::One, 0, 1).unwrap_err(), OpenError::Procs);
+}

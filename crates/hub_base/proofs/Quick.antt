@@ -22,6 +22,7 @@ use Rattle.hub_base.specs.declared.limits.TheConstants.{CASE_PLACES, GREATEST_PI
 use Rattle.hub_base.specs.declared.case.Case.{Case}
 use Rattle.hub_base.specs.declared.case.Case.TheVariants.{Send, Recv}
 use Rattle.hub_base.specs.declared.entry.Step.{Step}
+use Rattle.hub_base.specs.declared.entry.Step.TheVariants.{Exit}
 use Rattle.hub_base.specs.Head.{has_bytes, has_content, has_case, is_of}
 use Rattle.hub_base.specs.declared.value.Port.{Port}
 use Rattle.hub_base.specs.declared.value.Value.{Value}
@@ -36,9 +37,9 @@ use Rattle.hub_base.proofs.HexDigits.{bytes-push, digit-hex, encode-push}
 use Rattle.hub_base.proofs.Values.{content-saying, is-value, padded_is}
 use Rattle.hub_base.specs.Writing.{spaced, spaced_cases}
 use Rattle.hub_base.specs.Lines.{line, step_fields, case_field, call, call_fields, select_fields, default_field, spelled, is_hex}
-use Rattle.hub_base.specs.Quick.{EndsLine, Stands, GoesOn, ValueStands, SendStands, RecvStands, CaseStands, CasesStand, SelectStands, StepStands, Begins}
+use Rattle.hub_base.specs.Quick.{EndsLine, Stands, GoesOn, ValueStands, SendStands, RecvStands, CaseStands, CasesStand, SelectStands, NumberStands, StepStands, Begins, BeginsExit}
 use Rattle.hub_base.specs.Reading.{Reading, Reads, Faulty, behind, is_exit, with_entry, entries_from, rows}
-use Rattle.hub_base.specs.Text.{CaseFits, StepFits, body, steps_of}
+use Rattle.hub_base.specs.Text.{CaseFits, StepFits, Fits, body, steps_of}
 use Rattle.hub_base.proofs.Bodies.{rows-entry}
 use Rattle.hub_base.proofs.Running.{entries-again}
 use Rattle.hub_base.proofs.Spelled.{join-spaced, spaced-select}
@@ -387,6 +388,19 @@ select-stands ed bs start at step end word so =
       no_exit = ap is_exit so.is;
     }
 
+-- the word of a step and the number behind it are the step
+pub number-stands : (ed : Edition) (bs : List ℕ) (start at : ℕ) (word : List ℕ) (step : Step) (end : ℕ)
+    → Stands bs start (codes " " ++ word ++ codes " ") at → NumberStands ed bs at word step end → StepStands ed bs start step end
+number-stands ed bs start at word step end spelled so =
+    let whole : spaced (step_fields step) ≡ codes " " ++ word ++ codes " " ++ decimal so.number =
+    ap spaced so.is ∙ simp (append_assoc, append-nil) in
+    record {
+      stands = subst (λ text. Stands bs start text end) (sym whole) (stands-then spelled so.stands);
+      fits = so.fits;
+      of_edition = so.of_edition;
+      no_exit = so.no_exit;
+    }
+
 -- a process, its step and a newline are a line
 pub begins-line : (ed : Edition) (bs : List ℕ) (e : Entry) (at end : ℕ) → Stands bs 0 (decimal e.pid.0) at → e.pid.0 ≤ GREATEST_PID
     → StepStands ed bs at e.step end
@@ -406,31 +420,53 @@ begins-line ed bs e at end pid small step newline = record {
 }
 
 -- where the line ends
-end-of-line : (ed : Edition) (bs : List ℕ) (e : Entry) (end : ℕ) → Begins ed bs e end → end ≡ length (line e)
-end-of-line ed bs e end so =
-    let l : length bs ≡ length (line e) + length (drop end bs) = ap length so.spelled ∙ length-append (line e) (drop end bs) in
-    let r = length-drop end bs in let i = so.inside in omega (arith, l, r, i)
+end-of-line : (bs : List ℕ) (e : Entry) (end : ℕ) → bs ≡ line e ++ drop end bs → end ≤ length bs → end ≡ length (line e)
+end-of-line bs e end spelled inside =
+    let l : length bs ≡ length (line e) + length (drop end bs) = ap length spelled ∙ length-append (line e) (drop end bs) in
+    let r = length-drop end bs in omega (arith, l, r)
 
 -- which is behind some byte
-pub end-some : (ed : Edition) (bs : List ℕ) (e : Entry) (end : ℕ) → Begins ed bs e end → 0 < end
-end-some ed bs e end so = let here = end-of-line ed bs e end so in let l = length-append (body e) (codes "\n") in omega (arith, here, l)
+pub end-some : (bs : List ℕ) (e : Entry) (end : ℕ) → bs ≡ line e ++ drop end bs → end ≤ length bs → 0 < end
+end-some bs e end spelled inside =
+    let here = end-of-line bs e end spelled inside in let l = length-append (body e) (codes "\n") in omega (arith, here, l)
 
 with-one : (e : Entry) (r : Reading) → behind (e ∷ []) r ≡ with_entry e r
 with-one e (Reads head es) = refl
 with-one e (Faulty k kind) = refl
 
--- a line that is spelled, within the limits, is read as its entry
+-- a line that is spelled, within the limits, is read as its entry; so many steps stand behind it
+any-line-again : (head : Head) (k start steps after : ℕ) (bs : List ℕ) (e : Entry) (end : ℕ) → bs ≡ line e ++ drop end bs → end ≤ length bs
+    → Fits head.edition e → start + end ≤ MOST_BYTES → after ≡ steps + steps_of (e ∷ []) → after ≤ MOST_STEPS
+    → entries_from head k start steps (rows bs)
+    ≡ with_entry e (entries_from head (k + 1) (start + end) after (rows (take (length bs - end) (drop end bs))))
+any-line-again head k start steps after bs e end spelled inside fits lim count few =
+    let here = end-of-line bs e end spelled inside in
+    let rest : take (length bs - end) (drop end bs) ≡ drop end bs = grind (arith, common_steps) in
+    let all : length (flat_map line (e ∷ [])) ≡ length (line e) = ap length (append-nil (line e)) in
+    ap (entries_from head k start steps) (ap rows spelled ∙ rows-entry head.edition e (drop end bs) fits)
+    ∙ entries-again head (e ∷ []) (rows (drop end bs)) k start steps (k + 1) (start + end) after (fits, tt) refl
+    (omega (arith, here, all)) count lim few
+    ∙ with-one e (entries_from head (k + 1) (start + end) after (rows (drop end bs)))
+    ∙ ap (λ r. with_entry e (entries_from head (k + 1) (start + end) after (rows r))) (sym rest)
+
+-- that of a step counts
 pub line-again : (head : Head) (k start steps : ℕ) (bs : List ℕ) (e : Entry) (end : ℕ) → Begins head.edition bs e end → start + end ≤ MOST_BYTES
     → steps < MOST_STEPS
     → entries_from head k start steps (rows bs)
     ≡ with_entry e (entries_from head (k + 1) (start + end) (steps + 1) (rows (take (length bs - end) (drop end bs))))
 line-again head k start steps bs e end so lim few =
-    let here = end-of-line head.edition bs e end so in
-    let rest : take (length bs - end) (drop end bs) ≡ drop end bs = grind (arith, common_steps) in
-    let all : length (flat_map line (e ∷ [])) ≡ length (line e) = ap length (append-nil (line e)) in
     let one : steps_of (e ∷ []) ≡ 1 = ap (λ b. cond b 0 1 + 0) so.no_exit in
-    ap (entries_from head k start steps) (ap rows so.spelled ∙ rows-entry head.edition e (drop end bs) so.fits)
-    ∙ entries-again head (e ∷ []) (rows (drop end bs)) k start steps (k + 1) (start + end) (steps + 1) (so.fits, tt) refl
-    (omega (arith, here, all)) (omega (arith, one)) lim (omega arith)
-    ∙ with-one e (entries_from head (k + 1) (start + end) (steps + 1) (rows (drop end bs)))
-    ∙ ap (λ r. with_entry e (entries_from head (k + 1) (start + end) (steps + 1) (rows r))) (sym rest)
+    any-line-again head k start steps (steps + 1) bs e end so.spelled so.inside so.fits lim (omega (arith, one)) (omega arith)
+
+-- each edition has exits
+exit-fits : (ed : Edition) (e : Entry) → e.pid.0 ≤ GREATEST_PID → e.step ≡ Exit → Fits ed e
+exit-fits ed e small exit = record { pid = small; step = subst StepFits (sym exit) (omega arith); of_edition = ap (is_of ed) exit }
+
+-- that of an exit does not
+pub exit-again : (head : Head) (k start steps : ℕ) (bs : List ℕ) (e : Entry) (end : ℕ) → BeginsExit bs e end → start + end ≤ MOST_BYTES
+    → steps ≤ MOST_STEPS
+    → entries_from head k start steps (rows bs)
+    ≡ with_entry e (entries_from head (k + 1) (start + end) steps (rows (take (length bs - end) (drop end bs))))
+exit-again head k start steps bs e end so lim few =
+    let none : steps_of (e ∷ []) ≡ 0 = ap (λ step. cond (is_exit step) 0 1 + 0) so.exit in
+    any-line-again head k start steps steps bs e end so.spelled so.inside (exit-fits head.edition e so.pid_fits so.exit) lim (omega (arith, none)) few

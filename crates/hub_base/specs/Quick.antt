@@ -1,11 +1,13 @@
 -- What the quick reading of a line finds: a spelling between two places of the bytes.
-use Rattle.std.specs.Prelude.{◌≡◌, ◌≢◌, ◌≤◌, ◌<◌, ◌+◌, ℕ, List, ◌∷◌, ◌++◌, decimal, length, drop, get_or, Bool, true, false, Ok}
+use Rattle.std.specs.Prelude.{◌≡◌, ◌≢◌, ◌≤◌, ◌<◌, ◌+◌, ℕ, List, [], ◌∷◌, ◌++◌, decimal, length, drop, get_or, Bool, true, false, Ok}
 use Rattle.std.specs.List.{AllByRecursion, list_all}
 use Rattle.hub_base.specs.declared.case.Case.{Case}
 use Rattle.hub_base.specs.declared.case.Case.TheVariants.{Send, Recv}
 use Rattle.hub_base.specs.declared.entry.Entry.{Entry}
 use Rattle.hub_base.specs.declared.entry.Step.{Step}
+use Rattle.hub_base.specs.declared.entry.Step.TheVariants.{Exit}
 use Rattle.hub_base.specs.declared.head.Edition.{Edition}
+use Rattle.hub_base.specs.declared.limits.TheConstants.{GREATEST_PID}
 use Rattle.hub_base.specs.declared.value.Port.{Port}
 use Rattle.hub_base.specs.Head.{has_value, has_case, is_of}
 use Rattle.hub_base.specs.Lines.{line, step_fields, call, spelled, default_field}
@@ -75,6 +77,15 @@ pub record StepStands (edition : Edition) (bytes : List ℕ) (start : ℕ) (step
   pub of_edition : is_of edition step ≡ true
   pub no_exit : is_exit step ≡ false
 
+-- the number behind the word of a step stands there, which is the last of its fields
+pub record NumberStands (edition : Edition) (bytes : List ℕ) (start : ℕ) (word : List ℕ) (step : Step) (end : ℕ) : Type 0 where
+  pub number : ℕ
+  pub is : step_fields step ≡ word ∷ decimal number ∷ []
+  pub stands : Stands bytes start (decimal number) end
+  pub fits : StepFits step
+  pub of_edition : is_of edition step ≡ true
+  pub no_exit : is_exit step ≡ false
+
 -- the fields of a select stand there, from its word on
 pub record SelectStands (edition : Edition) (bytes : List ℕ) (start : ℕ) (step : Step) (end : ℕ) : Type 0 where
   pub cases : List Case
@@ -92,3 +103,10 @@ pub record Begins (edition : Edition) (bytes : List ℕ) (e : Entry) (end : ℕ)
   pub inside : end ≤ length bytes
   pub fits : Fits edition e
   pub no_exit : is_exit e.step ≡ false
+
+-- the bytes begin with the line of an exit, and go on behind it
+pub record BeginsExit (bytes : List ℕ) (e : Entry) (end : ℕ) : Type 0 where
+  pub spelled : bytes ≡ line e ++ drop end bytes
+  pub inside : end ≤ length bytes
+  pub pid_fits : e.pid.0 ≤ GREATEST_PID
+  pub exit : e.step ≡ Exit

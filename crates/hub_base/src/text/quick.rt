@@ -1,19 +1,19 @@
-//! Reading a call of a journal of some edition that is spelled as writers spell it, in one pass over its bytes.
+//! Reading a line of a journal of some edition that is spelled as writers spell it, in one pass over its bytes.
 //!
 //! Whatever else a line is, the answer is `None`, which says nothing of it: it is left to the slow
 //! reading. The last byte of all is a newline, so no place is tested for the end of the bytes.
 //!
 //! The small functions are inlined always: the compiler would make calls of some, which cost more than they do.
 
-ghost use Rattle.std.specs.Prelude.{◌≡◌, ◌≢◌, ◌≤◌, ◌<◌, ◌-◌, ◌∷◌, ◌++◌, [], length, codes, decimal, get_or, true, false, IfSome};
+ghost use Rattle.std.specs.Prelude.{◌≡◌, ◌≢◌, ◌≤◌, ◌<◌, ◌+◌, ◌-◌, ◌∷◌, ◌++◌, [], length, codes, decimal, get_or, true, false, IfSome};
 ghost use Rattle.std.specs.Char.{is_ascii_digit};
 ghost use Rattle.hub_base.specs.Head.{has_bytes};
 ghost use Rattle.hub_base.specs.Lines.{call_fields, case_field};
-ghost use Rattle.hub_base.specs.Quick.{EndsLine, Stands, GoesOn, ValueStands, BytesStand, SendStands, RecvStands, CaseStands, CasesStand, SelectStands, StepStands, Begins};
+ghost use Rattle.hub_base.specs.Quick.{EndsLine, Stands, GoesOn, ValueStands, BytesStand, SendStands, RecvStands, CaseStands, CasesStand, SelectStands, NumberStands, StepStands, Begins, BeginsExit};
 ghost use Rattle.hub_base.specs.Writing.{spaced};
 
-use crate::limits::{GREATEST_PID, GREATEST_PORT, MOST_VALUE_BYTES};
-use crate::text::steps::set_call;
+use crate::limits::{GREATEST_CAP, GREATEST_PID, GREATEST_PORT, MOST_VALUE_BYTES};
+use crate::text::steps::{set_call, set_empty_call};
 use crate::text::values::byte_of;
 use crate::{Case, Cases, Edition, Entry, Pid, Port, Step, Value};
 
@@ -194,6 +194,18 @@ fn port_at(bytes: &[u8], start: usize) -> Option<(Port, usize)>
     Some((Port(port as u16), end))
 }
 
+/// The process whose number stands at this place, and the place behind it.
+#[inline(always)]
+fn pid_at(bytes: &[u8], start: usize) -> Option<(Pid, usize)>
+    requires line { EndsLine bytes.now }
+    requires start { start < length bytes.now }
+    ensures spelled { IfSome result (λ x. Stands bytes.now start (decimal x.0.0) x.1) }
+    ensures fits { IfSome result (λ x. x.0.0 ≤ GREATEST_PID) }
+{
+    let (pid, end) = number_up_to(GREATEST_PID.into(), bytes, start)?;
+    Some((Pid(pid as u8), end))
+}
+
 /// Reads the case that sends on this port the bytes that stand at this place, and gives the place behind it. It
 /// stands apart, so that the places of the bytes are filled with zeros only where there are bytes.
 #[inline(never)]
@@ -292,7 +304,7 @@ fn plain_into(edition: Edition, bytes: &[u8], start: usize, step: &mut Step) -> 
 }
 
 /// The same where no such call stands: it is made anew. Few are.
-#[inline(never)]
+#[inline(always)]
 fn plain_anew(edition: Edition, bytes: &[u8], start: usize, step: &mut Step) -> Option<usize>
     requires line { EndsLine bytes.now }
     requires start { start < length bytes.now }
@@ -352,7 +364,10 @@ fn select_into(edition: Edition, bytes: &[u8], start: usize, step: &mut Step) ->
     requires start { start < length bytes.now }
     ensures { IfSome result (λ end. SelectStands edition bytes.now start step.new end) }
 {
-    // Where no call stands the slow reading makes one, for the selects behind it.
+    // A call that stands there already keeps its place, since a new one is some 650 bytes.
+    if !matches!(step, Step::Call { .. }) {
+        set_empty_call(step);
+    }
     let Step::Call {
         cases,
         default,
@@ -376,9 +391,72 @@ fn select_into(edition: Edition, bytes: &[u8], start: usize, step: &mut Step) ->
     Some(end)
 }
 
-/// Reads a call, from the space behind the process on, and gives the place behind it. Most are no selects.
+/// Reads a make from its capacity on, and gives the place behind it.
 #[inline(always)]
-fn call_into(edition: Edition, bytes: &[u8], start: usize, step: &mut Step) -> Option<usize>
+fn make_into(bytes: &[u8], start: usize, step: &mut Step) -> Option<usize>
+    requires line { EndsLine bytes.now }
+    requires start { start < length bytes.now }
+    ensures { IfSome result (λ end. (edition : Edition)
+        → NumberStands edition bytes.now start (codes "make") step.new end) }
+{
+    let (cap, end) = number_up_to(GREATEST_CAP.into(), bytes, start)?;
+    *step = Step::Make(cap as u32);
+    Some(end)
+}
+
+/// Reads a close from its port on, and gives the place behind it.
+#[inline(always)]
+fn close_into(bytes: &[u8], start: usize, step: &mut Step) -> Option<usize>
+    requires line { EndsLine bytes.now }
+    requires start { start < length bytes.now }
+    ensures { IfSome result (λ end. (edition : Edition)
+        → NumberStands edition bytes.now start (codes "close") step.new end) }
+{
+    let (port, end) = port_at(bytes, start)?;
+    *step = Step::Close(port);
+    Some(end)
+}
+
+/// Reads a cancel from its process on, and gives the place behind it.
+#[inline(always)]
+fn cancel_into(edition: Edition, bytes: &[u8], start: usize, step: &mut Step) -> Option<usize>
+    requires line { EndsLine bytes.now }
+    requires start { start < length bytes.now }
+    ensures { IfSome result (λ end. NumberStands edition bytes.now start (codes "cancel") step.new end) }
+{
+    if !edition.has_cancel() {
+        return None;
+    }
+    let (pid, end) = pid_at(bytes, start)?;
+    *step = Step::Cancel(pid);
+    Some(end)
+}
+
+/// Reads what is no select and no call over one that stands there, from the space before the word on, and gives the
+/// place behind it. It stands apart, since such steps are few.
+#[inline(never)]
+fn rare_into(edition: Edition, bytes: &[u8], start: usize, step: &mut Step) -> Option<usize>
+    requires line { EndsLine bytes.now }
+    requires start { start < length bytes.now }
+    ensures { IfSome result (λ end. StepStands edition bytes.now start step.new end) }
+{
+    if let Some(end) = behind_word(bytes, start, b" mak") {
+        let end = behind(bytes, end, b'e')?;
+        make_into(bytes, behind(bytes, end, b' ')?, step)
+    } else if let Some(end) = behind_word(bytes, start, b" clo") {
+        let end = behind(bytes, end, b's')?;
+        let end = behind(bytes, end, b'e')?;
+        close_into(bytes, behind(bytes, end, b' ')?, step)
+    } else if let Some(end) = behind_words(bytes, start, b" can", b"cel ") {
+        cancel_into(edition, bytes, end, step)
+    } else {
+        plain_anew(edition, bytes, start, step)
+    }
+}
+
+/// Reads a step, from the space behind the process on, and gives the place behind it. Most are calls and no selects.
+#[inline(always)]
+fn step_into(edition: Edition, bytes: &[u8], start: usize, step: &mut Step) -> Option<usize>
     requires line { EndsLine bytes.now }
     requires start { start < length bytes.now }
     ensures { IfSome result (λ end. StepStands edition bytes.now start step.new end) }
@@ -388,22 +466,51 @@ fn call_into(edition: Edition, bytes: &[u8], start: usize, step: &mut Step) -> O
     }
     match behind_words(bytes, start, b" sel", b"ect ") {
         Some(word) => select_into(edition, bytes, word, step),
-        None => plain_anew(edition, bytes, start, step),
+        None => rare_into(edition, bytes, start, step),
     }
 }
 
-/// Reads the first line into this entry, and gives the place behind it.
+/// The place behind the newline, where it stands at this place.
+#[inline(always)]
+fn behind_newline(bytes: &[u8], start: usize) -> Option<usize>
+    requires { start < length bytes.now }
+    ensures newline { IfSome result (λ end. get_or bytes.now start 0 ≡ 10) }
+    ensures end { IfSome result (λ end. end ≡ start + 1) }
+{
+    if bytes[start] == b'\n' {
+        Some(start + 1)
+    } else {
+        None
+    }
+}
+
+/// Reads the first line into this entry where it is no exit, and gives the place behind it.
 #[inline]
 pub fn quick_line(edition: Edition, bytes: &[u8], entry: &mut Entry) -> Option<usize>
     requires line { EndsLine bytes.now }
     requires some { 0 < length bytes.now }
     ensures { IfSome result (λ end. Begins edition bytes.now entry.new end) }
 {
-    let (pid, end) = number_up_to(GREATEST_PID.into(), bytes, 0)?;
-    let end = call_into(edition, bytes, end, &mut entry.step)?;
-    if bytes[end] != b'\n' {
-        return None;
-    }
-    entry.pid = Pid(pid as u8);
-    Some(end + 1)
+    let (pid, end) = pid_at(bytes, 0)?;
+    let end = step_into(edition, bytes, end, &mut entry.step)?;
+    let end = behind_newline(bytes, end)?;
+    entry.pid = pid;
+    Some(end)
+}
+
+/// Reads the first line into this entry where it is an exit, and gives the place behind it. An exit counts as no step,
+/// so it is read apart, and calls cost no test for it.
+#[inline]
+pub fn quick_exit(bytes: &[u8], entry: &mut Entry) -> Option<usize>
+    requires line { EndsLine bytes.now }
+    requires some { 0 < length bytes.now }
+    ensures { IfSome result (λ end. BeginsExit bytes.now entry.new end) }
+{
+    let (pid, end) = pid_at(bytes, 0)?;
+    let end = behind_word(bytes, end, b" exi")?;
+    let end = behind(bytes, end, b't')?;
+    let end = behind_newline(bytes, end)?;
+    entry.pid = pid;
+    entry.step = Step::Exit;
+    Some(end)
 }

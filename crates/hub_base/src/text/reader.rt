@@ -26,7 +26,7 @@ use crate::limits::{MOST_BYTES, MOST_PROCS, MOST_STEPS};
 use crate::text::fields::Fields;
 use crate::text::lines::line_at;
 use crate::text::numbers::number;
-use crate::text::quick::quick_line;
+use crate::text::quick::{quick_exit, quick_line};
 use crate::text::steps::{read_line, same_text};
 use crate::text::writer::header;
 use crate::{Edition, Entry, Head, Journal, Kind, Pid, ReadFault, Step, TextFault};
@@ -184,7 +184,7 @@ impl<'a> Reader<'a> {
         if self.rest.is_empty() {
             return Ok(false);
         }
-        if self.read_quickly(entry) {
+        if self.read_quickly(entry) || self.read_exit(entry) {
             return Ok(true);
         }
         self.read_slowly(entry)
@@ -212,6 +212,30 @@ impl<'a> Reader<'a> {
             }
             _ => false,
         }
+    }
+
+    /// Reads the next line where it is an exit that `quick_exit` knows, and within the limits. Where it answers `false`,
+    /// the entry may be any.
+    #[inline(never)]
+    fn read_exit(&mut self, entry: &mut Entry) -> bool
+        requires some { 0 < self.old.bytes }
+        ensures reads { OnTrue result (FillsOn self.old self.new entry.new (Ok true)) }
+        ensures some { OnTrue result (HasEntry self.old.left) }
+        ensures unchanged { OnFalse result (self.new ≡ self.old) }
+    {
+        if self.rest[self.rest.len() - 1] != b'\n' {
+            return false;
+        }
+        let Some(end) = quick_exit(self.rest, entry) else {
+            return false;
+        };
+        if end > MOST_BYTES - self.place {
+            return false;
+        }
+        self.place += end;
+        self.line += 1;
+        self.rest = &self.rest[end..];
+        true
     }
 
     /// Reads any next line: its end is looked for, then its fields, and then their numbers.

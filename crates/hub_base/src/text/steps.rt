@@ -74,7 +74,7 @@ pub fn set_call(step: &mut Step, case: Case)
 {
     // A call that stands there already is changed in place, since a new one is some 650 bytes.
     if !matches!(step, Step::Call { .. }) {
-        *step = some_call();
+        set_empty_call(step);
     }
     if let Step::Call {
         cases,
@@ -101,16 +101,17 @@ fn set_case(cases: &mut Cases, case: Case)
     }
 }
 
-/// A call without cases. It is given none, so that a case which is set is nowhere else in memory.
+/// Makes the step a call without cases. It stands apart, so that the call is made where the step is, and no case that
+/// is set is anywhere else in memory.
 #[inline(never)]
-fn some_call() -> Step
-    ensures { result ≡ call [] false 0 }
+pub fn set_empty_call(step: &mut Step)
+    ensures { step.new ≡ call [] false 0 }
 {
-    Step::Call {
+    *step = Step::Call {
         cases: Cases::new(),
         default: false,
         word: 0,
-    }
+    };
 }
 
 /// A line of a journal of this edition, whose word was read.

@@ -12,7 +12,7 @@ returns-in-Some-clause-reads c =
     grind (
       arith,
       common_steps,
-      end-some c.self.inside.head.edition c.self.inside.rest.now c.quick_line.new.entry c.in-Some.end begins,
+      end-some c.self.inside.rest.now c.quick_line.new.entry c.in-Some.end begins.spelled begins.inside,
       begins.fits.of_edition,
       line-again c.self.inside.head c.self.inside.line c.self.inside.place c.self.inside.steps c.self.inside.rest.now c.quick_line.new.entry
           c.in-Some.end begins (omega arith) (omega arith),

@@ -1,6 +1,6 @@
 use Rattle.std.proofs.lemmas.Option.{IfSome_then}
 use Rattle.hub_base.proofs.Quick.{select-stands}
-use Rattle.hub_base.proofs.text.quick.call_into.Goals as goal
+use Rattle.hub_base.proofs.text.quick.step_into.Goals as goal
 
 pub returns-in-Some-behind_words : goal.returns-in-Some-behind_words
 returns-in-Some-behind_words c =

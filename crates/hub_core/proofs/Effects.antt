@@ -68,14 +68,14 @@ makes_on-as s m pid cap h = record {
 }
 
 -- ---- an exit
-gone_by : (gone : List Bool) (given : List Pid) (pid : Pid) (q : ℕ) (same : Bool) → pid.0 < length gone → (pid.0 == q) ≡ same
-    → gone_on gone q ≡ list_any (λ g. g.0 == q) given → gone_on (slice_set gone pid.0 true) q ≡ list_any (λ g. g.0 == q) given || same
-gone_by gone given pid q true room is rest =
-    let here : gone_on (slice_set gone pid.0 true) pid.0 ≡ true = get_or-set_same gone pid.0 true false room in
-    subst (λ (n : ℕ). gone_on (slice_set gone pid.0 true) n ≡ true) (eqb-true pid.0 q is) here ∙ sym (or-true (list_any (λ g. g.0 == q) given))
-gone_by gone given pid q false room is rest =
-    let other : q ≢ pid.0 = λ e. differs pid.0 q is e in
-    get_or-set_other gone pid.0 q true false other ∙ rest ∙ sym (or-false (list_any (λ g. g.0 == q) given)) where
+-- a process has exited then if it had, or is the one that exits
+pub gone-more : (gone : List Bool) (pid q : ℕ) (same : Bool) → pid < length gone → (pid == q) ≡ same → gone_on (slice_set gone pid true) q ≡ (gone_on gone q || same)
+gone-more gone pid q true room is =
+    let here : gone_on (slice_set gone pid true) pid ≡ true = get_or-set_same gone pid true false room in
+    subst (λ (n : ℕ). gone_on (slice_set gone pid true) n ≡ true) (eqb-true pid q is) here ∙ sym (or-true (gone_on gone q))
+gone-more gone pid q false room is =
+    let other : q ≢ pid = λ e. differs pid q is e in
+    get_or-set_other gone pid q true false other ∙ sym (or-false (gone_on gone q)) where
       differs : (a b : ℕ) → (a == b) ≡ false → b ≡ a → ⊥
       differs a b is e = grind (arith, common_steps)
 
@@ -88,7 +88,8 @@ exits_on-as s m pid h room = record {
     calls = h.calls;
     ports = h.ports;
     counts = h.counts;
-    gone = λ q below. gone_by m.gone s.gone pid q (pid.0 == q) room refl (h.gone q below) ∙ sym (any_snoc (λ g. g.0 == q) s.gone pid);
+    gone = λ q below.
+        gone-more m.gone pid.0 q (pid.0 == q) room refl ∙ ap (λ b. b || (pid.0 == q)) (h.gone q below) ∙ sym (any_snoc (λ g. g.0 == q) s.gone pid);
   };
 }
 

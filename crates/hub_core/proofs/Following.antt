@@ -139,7 +139,7 @@ pub admitted_as : (head : Head) (es : List Entry) (e : Entry) (m : MachineLists)
 admitted_as head es e m h is = sym (refusal_of-as (state head es) m e.pid h.matches) ∙ is
 
 -- ---- the opening
-none-gone : (k q : ℕ) → gone_on (replicate k false) q ≡ false
+pub none-gone : (k q : ℕ) → gone_on (replicate k false) q ≡ false
 none-gone zero q = refl
 none-gone (suc k) zero = refl
 none-gone (suc k) (suc q) = none-gone k q

@@ -35,13 +35,13 @@ use Rattle.hub_parts.specs.Keeps.{AllMade}
 use Rattle.hub_core.specs.Records.{MachineLists, tally_at}
 use Rattle.hub_core.specs.ListReady.{BufferFits}
 use Rattle.hub_core.specs.ListKeeps.{CanCount, PortsKeep}
-use Rattle.hub_core.specs.ListSteps.{ListChange, effect_on, fault_on, call_fault_on, is_unmade_on, refusal_of}
+use Rattle.hub_core.specs.ListSteps.{ListChange, ArePresent, effect_on, fault_on, call_fault_on, is_unmade_on, refusal_of}
 use Rattle.hub_core.specs.ListSteps.{all_wait_on, stalls_on, stalled_events, answers_on, turn_on}
 use Rattle.hub_core.specs.Follows.{tally_of, Matches, Follows, IsReached}
 use Rattle.hub_core.proofs.Ports.{port-lists_of, tally-tally_of}
 use Rattle.hub_core.proofs.Readiness.{count-ports, get_within, length-buffer_of}
 use Rattle.hub_core.proofs.Effects.{fault_on-as, effect_on-as}
-use Rattle.hub_core.proofs.Stalls.{refusal_of-as, count-calls}
+use Rattle.hub_core.proofs.Stalls.{open_on-as, refusal_of-as, count-calls}
 
 -- ---- the ports
 pub count-counts : (s : State) (m : MachineLists) → Matches s m → length m.counts ≡ length s.channels
@@ -100,6 +100,7 @@ room_left m pid r h few =
 -- what is known behind a step, before the stall rule
 pub record BeforeStall (m : MachineLists) (told : List Event) : Type 0 where
   pub apart : Apart (open_calls m.board.waiting)
+  pub present : ArePresent m.board.waiting m.gone m.board.procs
   pub room : length told + length m.board.waiting ≤ MOST_EVENTS
 
 before_stall : (m : MachineLists) (pid : Pid) (step : Step) → IsReached m → refusal_of m.board m.gone pid ≡ None → fault_on m.edition m.board step ≡ None
@@ -110,8 +111,12 @@ before_stall m pid step r h fine few places =
     let adm = is_admitted m pid r h in
     let faultless : fault_of s step ≡ None = sym (fault_on-as s m step r.2.matches) ∙ fine in
     let same = effect_on-as s m pid step sound r.2.matches (omega (arith, adm.below, r.2.matches.procs)) faultless in
+    let after = effect-sound s pid step sound adm faultless in
     record {
-      apart = subst Apart (sym same.state.calls) (effect-sound s pid step sound adm faultless).apart;
+      apart = subst Apart (sym same.state.calls) after.apart;
+      present = λ q waits.
+          let there = after.present q (sym (open_on-as (effect s pid step).state (effect_on m pid step).machine q same.state) ∙ waits) in
+          (omega (arith, there.0, same.state.procs), same.state.gone q there.0 ∙ there.1);
       room = omega (
         arith,
         effect_size s pid step sound,
@@ -122,12 +127,11 @@ before_stall m pid step r h fine few places =
       );
     }
 
--- the same, of the machine and the events that a step left
-pub before_stall_of : (m next : MachineLists) (pid : Pid) (step : Step) (told : List Event) → IsReached m → refusal_of m.board m.gone pid ≡ None →
+-- the same, of the machine that a step left
+pub before_stall_of : (m next : MachineLists) (pid : Pid) (step : Step) → IsReached m → refusal_of m.board m.gone pid ≡ None →
     fault_on m.edition m.board step ≡ None → m.board.procs ≤ MOST_PROCS → length m.gone ≡ MOST_PROCS →
-    next ≡ (effect_on m pid step).machine → told ≡ (effect_on m pid step).events → BeforeStall next told
-before_stall_of m next pid step told r h fine few places machine events =
-    rw (machine, events) (before_stall m pid step r h fine few places)
+    next ≡ (effect_on m pid step).machine → BeforeStall next (effect_on m pid step).events
+before_stall_of m next pid step r h fine few places machine = rw machine (before_stall m pid step r h fine few places)
 
 -- with those that end in a stall
 stalls_few : (c : ListChange) → (waits : Bool) → waits ≡ all_wait_on c.machine.board c.machine.gone

@@ -1,7 +1,7 @@
 -- What one step does to a machine's lists, and what it tells: the rules of a step over buffers and
 -- counts, where the meaning has whole histories. Most names are those of the meaning, with `_on`.
-use Rattle.std.specs.Prelude.{ℕ, ◌+◌, ◌==◌, nat_le, nat_lt, Bool, true, false, not, ◌&&◌, ◌||◌, List, [], ◌∷◌, ◌++◌}
-use Rattle.std.specs.Prelude.{length, filter, map, Option, None, Some, slice_index_or, slice_set, if◌then◌else◌}
+use Rattle.std.specs.Prelude.{◌≡◌, ◌<◌, ℕ, ◌+◌, ◌==◌, nat_le, nat_lt, Bool, true, false, not, ◌&&◌, ◌||◌, List, [], ◌∷◌, ◌++◌}
+use Rattle.std.specs.Prelude.{count_by, length, filter, map, Option, None, Some, slice_index_or, slice_set, if◌then◌else◌}
 use Rattle.std.specs.List.{list_any, list_all, filter_map, range_with_len}
 use Rattle.hub_base.specs.declared.value.Pid.{Pid}
 use Rattle.hub_base.specs.declared.value.Port.{Port}
@@ -157,9 +157,17 @@ effect_on m pid (Cancel q) = cancels_on m pid q
 abbrev pub gone_on : List Bool → ℕ → Bool
 gone_on gone q = slice_index_or gone q false
 
+-- how many of so many processes have exited
+abbrev pub count_gone : List Bool → ℕ → ℕ
+count_gone gone procs = count_by (gone_on gone) (range_with_len 0 procs)
+
 -- the process has an open call
 abbrev pub open_on : List Ticketed → ℕ → Bool
 open_on ws q = list_any (λ w. w.call.pid.0 == q) ws
+
+-- whoever has an open call is one of so many processes, and has not exited
+abbrev pub ArePresent : List Ticketed → List Bool → ℕ → Type 0
+ArePresent ws gone procs = (q : ℕ) → open_on ws q ≡ true → (q < procs) × (gone_on gone q ≡ false)
 
 -- each of so many processes has exited or has an open call
 abbrev pub each_gone_or_open_on : Lists → List Bool → ℕ → Bool

@@ -33,6 +33,8 @@ pub(crate) struct MachineState {
     counted: CountedBoard,
     /// Whether each process has exited, by its number.
     gone: [bool; MOST_PROCS],
+    /// How many processes have exited.
+    left: u8,
     /// How many entries came, from which each call has its ticket.
     steps: u32,
 }
@@ -82,6 +84,7 @@ impl MachineState {
                 tallies: Tallies::new(),
             },
             gone: none_gone(),
+            left: 0,
             steps: 0,
         })
     }
@@ -151,6 +154,7 @@ impl MachineState {
             }
             Step::Exit => {
                 self.gone[pid.0 as usize] = true;
+                self.left += 1;
                 events.hear(tells(pid, What::Done));
             }
             Step::Cancel(other) => {
@@ -203,7 +207,7 @@ impl MachineState {
             events.hear(tells(entry.pid, What::Fault(fault)));
         } else {
             self.effect(entry.pid, &entry.step, events)?;
-            if all_wait(&self.counted.board, &self.gone, self.head.procs) {
+            if all_wait(&self.counted.board, &self.gone, self.left, self.head.procs) {
                 stop_all(&mut self.counted.board, events);
             }
         }

@@ -4,9 +4,9 @@
 ghost use Rattle.std.specs.Prelude.{◌≡◌, ◌≤◌, ◌<◌, length};
 ghost use Rattle.hub_core.specs.Prelude.{Apart, open_calls};
 ghost use Rattle.hub_core.specs.Hearing.{Heard};
-ghost use Rattle.hub_core.specs.ListSteps.{gone_on, each_gone_or_open_on, all_wait_on, none_open, stalled_events};
+ghost use Rattle.hub_core.specs.ListSteps.{gone_on, count_gone, ArePresent, all_wait_on, none_open, stalled_events};
 
-use hub_base::{Event, Hears, MOST_PROCS, Pid, What};
+use hub_base::{Event, Hears, MOST_PROCS, What};
 use hub_parts::Board;
 
 /// Whether the process has exited.
@@ -17,21 +17,20 @@ pub(crate) fn has_gone(gone: &[bool; MOST_PROCS], pid: u8) -> bool
     gone[pid as usize]
 }
 
-/// Whether every process has exited or has an open call.
-fn each_gone_or_open(board: &Board, gone: &[bool; MOST_PROCS], procs: u8) -> bool
-    requires { procs ≤ MOST_PROCS }
-    ensures { result ≡ each_gone_or_open_on board.now gone.now procs }
-{
-    (0..procs).all(|pid| has_gone(gone, pid) || board.open(Pid(pid)))
-}
-
 /// Whether some call is open, and every process that has not exited has one.
-pub(crate) fn all_wait(board: &Board, gone: &[bool; MOST_PROCS], procs: u8) -> bool
+///
+/// Each open call is of another process, which has not exited. So all wait where the open calls and the processes that have
+/// exited, `left`, are together as many as there are processes. Only the contract reads `gone`.
+pub(crate) fn all_wait(board: &Board, gone: &[bool; MOST_PROCS], left: u8, procs: u8) -> bool
     requires procs { board.now.procs ≡ procs }
     requires few { procs ≤ MOST_PROCS }
+    requires left { left ≡ count_gone gone.now procs }
+    requires apart { Apart (open_calls board.now.waiting) }
+    requires present { ArePresent board.now.waiting gone.now procs }
     ensures { result ≡ all_wait_on board.now gone.now }
 {
-    board.open_count() != 0 && each_gone_or_open(board, gone, procs)
+    let waiting = board.open_count();
+    waiting != 0 && waiting + left == procs
 }
 
 /// Ends every open call, oldest first.

@@ -8,4 +8,5 @@ invariant_of-self-in-Some g c = record {
   procs = ap (λ (b : Lists). b.procs) c.fire.ensures.fires.board
       ∙ fire_on-procs c.self.inside.counted.board c.self.inside.counted.tallies c.in-Some.chosen.case.now ∙ c.self.invariant.procs;
   few = c.self.invariant.few;
+  left = c.self.invariant.left;
 }

@@ -7,7 +7,8 @@ use Rattle.hub_base.specs.declared.event.What.TheVariants as what
 use Rattle.hub_base.specs.declared.entry.Step.{Step}
 use Rattle.hub_base.specs.declared.entry.Step.TheVariants.{Close}
 use Rattle.hub_base.specs.Steps.{tells}
-use Rattle.hub_core.specs.ListSteps.{effect_on, closing_events}
+use Rattle.hub_core.specs.ListSteps.{effect_on, closing_events, refusal_of}
+use Rattle.hub_core.proofs.Counting.{count-exit, count-le-procs}
 use Rattle.hub_core.proofs.Hearing.{heard_as, heard_on}
 use Rattle.hub_core.proofs.Reached.{calls_apart, room_left}
 use Rattle.hub_core.proofs.machine_state.MachineState.rare_effect.Goals as goal
@@ -48,4 +49,17 @@ returns-in-Cancel g c = record {
   make = tt;
   unchanged = tt;
   silent = tt;
+}
+
+pub overflow_add-self : goal.overflow_add-self
+overflow_add-self g c = omega (arith, count-le-procs c.self.inside.gone c.self.inside.head.procs)
+
+pub invariant_of-self-in-Exit : goal.invariant_of-self-in-Exit
+invariant_of-self-in-Exit g c = record {
+  procs = c.self.invariant.procs;
+  few = c.self.invariant.few;
+  left =
+      count-exit c.self.inside.counted.board c.self.inside.gone c.args.pid c.self.inside.left c.self.inside.head.procs
+      c.self.invariant.procs c.self.invariant.left (omega arith)
+      (ap (λ (m : MachineLists). refusal_of m.board m.gone c.args.pid) c.self.view_is ∙ c.requires.may.admitted);
 }

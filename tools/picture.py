@@ -5,8 +5,9 @@ of it, and never from a picture: the boxes are the entries, the bars the calls t
 that was sent on a port to the k-th that was received, the stalls are the calls that were told so, the levels are what ports hold
 from step to step. Arrows lie above the boxes, and go from one's side to the other's; a lane ends at its process's exit. The
 pictures of docs/pictures are drawn again and compared; each of them is drawn with each allocation refused, which needs a C
-compiler; and Chromium, where it is there, is asked whether all of a picture is in view and no text lies over another's box.
-The last line counts: 'N passed, M failed', and 'K skipped' where there is no Chromium."""
+compiler; pictures of the longest journal, in which many wait, have to come soon, and a step costs as much however many wait, by
+valgrind where it is there; and Chromium, where it is there, is asked whether all of a picture is in view and no text lies over another's box.
+The last line counts: 'N passed, M failed', and 'K skipped' for what is not there."""
 import collections
 import os
 import pathlib
@@ -468,6 +469,73 @@ def check_refusals(count, program, journals):
             count.test(f"{path.name} with refused allocations", survives_refusals(program, path.read_bytes(), refuse))
 
 
+# ---- what it costs
+
+# of so many entries a journal has, that are no exits, at most
+MOST_ENTRIES = 1000000
+# how long the picture of such a journal may take, in seconds, where a slow machine does other things too
+MOST_SECONDS = 20
+# how many steps a journal has whose instructions are counted, and another one twice as many
+FEW = 2000
+# how much more a step may cost where all others wait, or where there are many ports
+MOST_FACTOR = 2
+
+
+def busy_journal(steps, waiting, ports):
+    """A journal of so many entries. The last of 64 processes makes a port on which nobody sends, and these ports, which have room;
+    so many processes then wait to receive by 16 cases; and it sends and receives on its ports, one after the other."""
+    lines = ["63 make 0"] * 16 + ["63 make 4"] * ports
+    lines += [f"{pid} select 0 " + " ".join(f"r{1 + (pid + case) % 16}" for case in range(16)) for pid in range(waiting)]
+    moves = range((steps - len(lines)) // 2)
+    lines += [f"63 {word} {17 + move % ports}{value}" for move in moves for word, value in (("send", " 7"), ("recv", ""))]
+    return ("chanhub journal 2\nprocs 64\n" + "".join(line + "\n" for line in lines)).encode(), len(lines)
+
+
+def is_soon(program, first_of):
+    """Whether the picture of the longest journal, with all who wait at its end, is soon there: of 1,000 steps, from this one on."""
+    journal, steps = busy_journal(MOST_ENTRIES, 63, 1)
+    first = first_of(steps)
+    words = [program, "picture", str(first), str(first + 999)]
+    picture = subprocess.run(words, input=journal, capture_output=True, timeout=MOST_SECONDS, check=True).stdout
+    assert picture.count(b'<tspan class="waits"') == (63 * 16 if first + 999 == steps else 0), "those who wait at the end are others"
+
+
+def instructions(program, words, journal):
+    with tempfile.TemporaryDirectory() as work:
+        path = pathlib.Path(work) / "journal"
+        path.write_bytes(journal)
+        with open(path, "rb") as file:
+            counted = ["valgrind", "--tool=callgrind", "--callgrind-out-file=/dev/null", program, *words]
+            done = subprocess.run(counted, stdin=file, stdout=subprocess.DEVNULL, stderr=subprocess.PIPE, text=True, check=True)
+    return int(re.search(r"Collected : (\d+)", done.stderr)[1])
+
+
+def step_cost(program, waiting, ports):
+    """How many instructions a step more costs, in a picture of the last one."""
+    counts = []
+    for size in FEW, 2 * FEW:
+        journal, steps = busy_journal(size, waiting, ports)
+        counts.append(instructions(program, ["picture", str(steps), str(steps)], journal))
+    return (counts[1] - counts[0]) / FEW
+
+
+def check_costs(count, program):
+    """A step costs as much, however many wait, and however many ports there are."""
+    if not shutil.which("valgrind"):
+        count.skip("instructions of pictures, since there is no valgrind")
+        return
+    alone = step_cost(program, 1, 1)
+    for waiting, ports in (63, 1), (1, 48):
+        cost = step_cost(program, waiting, ports)
+        told = f"{cost:.0f} instructions a step where {waiting} wait and {ports} ports are busy, {alone:.0f} where one waits and one is"
+        count.test(told, cost <= MOST_FACTOR * alone)
+
+
+def check_times(count, program):
+    for where, first_of in (("its beginning", lambda steps: 1), ("its middle", lambda steps: steps // 2), ("its end", lambda steps: steps - 999)):
+        count.run(f"{where} of the longest journal, of 63 who wait", lambda: is_soon(program, first_of))
+
+
 # ---- all of it
 
 
@@ -529,6 +597,8 @@ def main():
         check_document(count, program, path)
         check_journal(count, program, path.name, path.read_bytes())
     check_refusals(count, program, documents)
+    check_times(count, program)
+    check_costs(count, program)
     if browser():
         check_views(count, {path.name: output_of([program, "picture"], path.read_bytes()) for path in examples + documents})
     else:

@@ -3,8 +3,8 @@
 # random journals beside the events that model.py makes of them; and with each of its allocations refused. Runs a hub's
 # tests and the live hub's, which `./test` has built, with theirs refused; compares model.py, CLAIMS and the quotations of
 # README with what they speak of; looks for limits that are written as numbers, and for definitions and proofs that are too
-# wide; counts the instructions of replays, where valgrind is there; tries a close by an end that receives; converses with
-# the built chanhub_serve; compares the stories and pictures of the built chanhub_story with second readings; and builds and
+# wide; counts the instructions of replays, where valgrind is there; tries a close by an end that receives; has each program
+# refuse bad arguments; converses with the built chanhub_serve; compares the stories and pictures of the built chanhub_story with second readings; and builds and
 # tries the C library. The last line counts: 'N passed, M failed', and how many were skipped, if any, for what the machine
 # lacks.
 set -u
@@ -149,6 +149,9 @@ for seed in $(seq "$random_journals"); do
     [ -s "$work/wanted" ] && replays "$work/journal_$seed" "$work/wanted"
     count $? "random journal of seed $seed"
 done
+
+"$root/tools/arguments.py" "$program" "$serve" "$story" > "$work/arguments" 2>&1
+count $? "arguments: $(cat "$work/arguments")"
 
 "$root/tools/converse.py" "$program" "$serve" > "$work/conversations" 2>&1
 count $? "conversations: $(cat "$work/conversations")"

@@ -27,12 +27,12 @@ const USAGE: &str = "usage: chanhub_serve\n\n\
     Status 0: all was a journal, and is answered. 1: a device or memory. 2: a faulty line, which\n\
     standard error names.\n";
 
-/// What the arguments ask for.
+/// What the arguments ask for, behind the place of the program's name. Of bad ones there is not even that.
 fn read_request(words: &[String]) -> Request {
-    match words.get(1) {
-        None => Request::Converse,
-        Some(word) if word.as_str() == "--help" && words.len() == 2 => Request::Help,
-        Some(_) => Request::Unknown,
+    match words {
+        [_] => Request::Converse,
+        [_, word] if word.as_str() == "--help" => Request::Help,
+        _ => Request::Unknown,
     }
 }
 

@@ -1,4 +1,7 @@
 mod Appended
 pub mod Plain
+mod Exits
+mod Lasts
+mod OtherPorts
 mod Ports
 pub mod Titles

@@ -1,6 +1,9 @@
 pub mod Lanes
+pub mod Exits
 pub mod Levels
+pub mod Moves
 pub mod Waiters
+pub mod Lasts
 pub mod Drawings
 pub mod Labels
 pub mod Pieces

@@ -5,7 +5,6 @@ use Rattle.std.specs.Prelude.{Option, None, Some, if◌then◌else◌}
 use Rattle.std.specs.List.{flat_map}
 use Rattle.hub_base.specs.declared.value.Port.{Port}
 use Rattle.hub_base.specs.declared.case.Case.{Case}
-use Rattle.hub_base.specs.declared.case.Case.TheVariants.{Send, Recv}
 use Rattle.hub_base.specs.declared.entry.Entry.{Entry}
 use Rattle.hub_story.specs.declared.levels.Level.{Level}
 use Rattle.hub_story.specs.declared.told.Told.{Told}
@@ -15,10 +14,7 @@ use Rattle.hub_picture.specs.declared.waiters.Side.{Side}
 use Rattle.hub_picture.specs.declared.waiters.Side.TheVariants.{Sends, Receives}
 use Rattle.hub_picture.specs.declared.waiters.Waiter.{Waiter}
 use Rattle.hub_picture.specs.Levels.{after, empty}
-
-abbrev pub port_of : Case → Port
-port_of (Send p v) = p
-port_of (Recv p) = p
+use Rattle.hub_picture.specs.Moves.{port_of}
 
 -- how many values passed this side of a port
 abbrev pub count_on : Side → Level → ℕ

@@ -2,8 +2,10 @@
 
 ghost use Rattle.std.specs.Prelude.{◌≡◌, ◌≤◌, ◌++◌, IfOk, OnOk};
 ghost use Rattle.hub_picture.specs.Drawings.{all_arrows, arrows_on, crosses, makes_port, ports_of};
+ghost use Rattle.hub_story.specs.Passing.{passages};
 
 use crate::Window;
+use crate::moves::Moves;
 use hub_base::{Journal, MOST_PORTS, Port, What};
 use hub_story::{Passage, Story, Told};
 use std::alloc::{AllocError, Global};
@@ -64,20 +66,40 @@ fn add_arrows(
     Ok(())
 }
 
+/// The passages of values through a port, by a story of nothing else.
+fn passages_on(
+    alloc: Global,
+    journal: &Journal,
+    moves: &Moves<'_>,
+    port: Port,
+) -> Result<Vec<Passage>, AllocError>
+    requires of { moves.now.entries.now ≡ journal.now.entries }
+    ensures { IfOk result (λ all.
+        all.items ≡ passages journal.now.entries moves.now.told.now port) }
+{
+    let story = Story {
+        told: moves.on(alloc, port)?,
+        ends: Vec::new(alloc),
+        waiting: Vec::new(alloc),
+    };
+    story.passages(alloc, journal, port)
+}
+
 /// The arrows of all ports, by the number of the port, and oldest first.
 pub(crate) fn arrows_in(
     alloc: Global,
     window: Window,
     journal: &Journal,
-    story: &Story,
+    moves: &Moves<'_>,
 ) -> Result<Vec<Arrow>, AllocError>
+    requires of { moves.now.entries.now ≡ journal.now.entries }
     ensures { IfOk result (λ all.
-        all.items ≡ all_arrows window journal.now.entries story.now.told.items) }
+        all.items ≡ all_arrows window journal.now.entries moves.now.told.now) }
 {
     let mut all = Vec::new(alloc);
-    for before in 0..ports_of(&story.told) as u16 {
+    for before in 0..ports_of(moves.told) as u16 {
         let port = Port(before + 1);
-        let passages = story.passages(alloc, journal, port)?;
+        let passages = passages_on(alloc, journal, moves, port)?;
         add_arrows(&mut all, window, port, &passages)?;
     }
     Ok(all)

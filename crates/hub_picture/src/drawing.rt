@@ -7,6 +7,7 @@ use crate::arrows::arrows_in;
 use crate::asked::{Shown, asked_in};
 use crate::lanes::lanes_of;
 use crate::levels::levels_in;
+use crate::moves::Moves;
 use crate::stalls::all_stalled;
 use crate::strips::strips_of;
 use crate::waiters::waiters_in;
@@ -55,10 +56,11 @@ pub fn drawing_of(
     let strips = strips_of(alloc, entries, &story.told)?;
     let boxes = asked_in(alloc, Shown::Boxes, window, journal, story)?;
     let bars = asked_in(alloc, Shown::Bars, window, journal, story)?;
-    let arrows = arrows_in(alloc, window, journal, story)?;
-    let levels = levels_in(alloc, window, entries, &story.told, &strips)?;
+    let moves = Moves::new(alloc, entries, &story.told)?;
+    let arrows = arrows_in(alloc, window, journal, &moves)?;
+    let levels = levels_in(alloc, window, &moves, &strips)?;
     let stalls = all_stalled(alloc, window, &story.told)?;
-    let waiters = waiters_in(alloc, window, entries, &story.told, &stalls, &story.waiting)?;
+    let waiters = waiters_in(alloc, window, &moves, &stalls, &story.waiting)?;
     Ok(Drawing {
         procs: journal.procs(),
         window: window.within(entries.len() as u32),

@@ -1,7 +1,8 @@
 //! The lanes of a drawing.
 
-ghost use Rattle.std.specs.Prelude.{◌≡◌, IfOk};
-ghost use Rattle.hub_picture.specs.Lanes.{exit_of, exits, is_exit, lanes_of};
+ghost use Rattle.std.specs.Prelude.{◌≡◌, IfOk, None, replicate};
+ghost use Rattle.hub_picture.specs.Exits.{AreExits, with_exit};
+ghost use Rattle.hub_picture.specs.Lanes.{exits, is_exit, lanes_of};
 
 use hub_base::{Entry, Step, What};
 use hub_story::Told;
@@ -35,16 +36,38 @@ fn exits(entries: &[Entry], pid: u8, told: &Told) -> bool
         }
 }
 
-/// By which step a process exits, if it does.
-fn exit_of(entries: &[Entry], told: &[Told], pid: u8) -> Option<u32>
-    ensures { result ≡ exit_of entries.now told.now pid }
+/// How many numbers an entry can give a process.
+const PID_NUMBERS: usize = 256;
+
+/// By which step each process exits, process 0 first.
+type Exits = [Option<u32>; PID_NUMBERS];
+
+/// Takes in what is told next. The first exit of a process counts.
+fn note_exit(all: &mut Exits, entries: &[Entry], told: &Told)
+    ensures { all.new ≡ with_exit entries.now all.old told.now }
 {
-    for told in told {
-        if exits(entries, pid, told) {
-            return Some(told.by);
-        }
+    let pid = told.event.pid.0;
+    if exits(entries, pid, told) && all[usize::from(pid)].is_none() {
+        all[usize::from(pid)] = Some(told.by);
     }
-    None
+}
+
+/// Nobody has exited.
+fn no_exits() -> Exits
+    ensures { result ≡ replicate PID_NUMBERS None }
+{
+    [None; PID_NUMBERS]
+}
+
+/// By which step each process exits, if it does.
+fn exits_of(entries: &[Entry], told: &[Told]) -> Exits
+    ensures { AreExits entries.now told.now result }
+{
+    let mut all = no_exits();
+    for told in told {
+        note_exit(&mut all, entries, told);
+    }
+    all
 }
 
 /// The lanes of so many processes.
@@ -56,9 +79,10 @@ pub(crate) fn lanes_of(
 ) -> Result<Vec<Lane>, AllocError>
     ensures { IfOk result (λ lanes. lanes.items ≡ lanes_of procs entries.now told.now) }
 {
+    let all = exits_of(entries, told);
     let mut lanes = Vec::new(alloc);
     for pid in 0..procs {
-        let exited = exit_of(entries, told, pid);
+        let exited = all[usize::from(pid)];
         lanes.push(Lane { pid, exited })?;
     }
     Ok(lanes)

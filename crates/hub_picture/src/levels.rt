@@ -4,6 +4,7 @@ ghost use Rattle.std.specs.Prelude.{◌≡◌, ◌<◌, ◌≤◌, ◌+◌, ◌-
 ghost use Rattle.std.specs.List.{flat_map};
 ghost use Rattle.hub_picture.specs.Levels.{after, empty, is_same, levels_on, shows_level, with_case};
 
+use crate::moves::Moves;
 use crate::{Strip, Window};
 use hub_base::{Case, Entry, Outcome, Port, What};
 use hub_story::{Level, Told, case_at};
@@ -125,16 +126,16 @@ fn add_levels(
 pub(crate) fn levels_in(
     alloc: Global,
     window: Window,
-    entries: &[Entry],
-    told: &[Told],
+    moves: &Moves<'_>,
     strips: &[Strip],
 ) -> Result<Vec<Held>, AllocError>
     ensures { IfOk result (λ all.
-        all.items ≡ flat_map (levels_on window entries.now told.now) strips.now) }
+        all.items ≡ flat_map (levels_on window moves.now.entries.now moves.now.told.now) strips.now) }
 {
     let mut all = Vec::new(alloc);
     for strip in strips {
-        add_levels(&mut all, window, entries, told, *strip)?;
+        let told = moves.on(alloc, strip.port)?;
+        add_levels(&mut all, window, moves.entries, &told, *strip)?;
     }
     Ok(all)
 }

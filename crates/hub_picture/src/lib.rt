@@ -12,6 +12,7 @@ mod label;
 mod lanes;
 mod laws;
 mod levels;
+mod moves;
 mod pen;
 mod piece;
 mod stalls;

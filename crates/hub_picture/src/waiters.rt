@@ -1,12 +1,15 @@
 //! Who waits in vain, and for what: the foot of a drawing.
 
-ghost use Rattle.std.specs.Prelude.{◌≡◌, ◌<◌, ◌-◌, ◌^◌, ◌++◌, length, map, IfOk, OnOk};
-ghost use Rattle.hub_picture.specs.Waiters.{all_waiters, count_on, last_on, last_step, later, open_in, passed_until};
-ghost use Rattle.hub_picture.specs.Waiters.{port_of, waiters_of, waits_for};
+ghost use Rattle.std.specs.Prelude.{◌≡◌, ◌<◌, ◌-◌, ◌^◌, ◌++◌, filter, length, map, IfOk, OnOk};
+ghost use Rattle.std.specs.List.{flat_map};
+ghost use Rattle.hub_picture.specs.Lasts.{AreLasts, lasts_on};
+ghost use Rattle.hub_picture.specs.Waiters.{all_waiters, count_on, is_by, last_on, last_step, later, open_in, passed_until};
+ghost use Rattle.hub_picture.specs.Waiters.{waiters_of, waits_for};
 
 use crate::Window;
 use crate::levels::{after, empty};
-use hub_base::{Case, Entry, Port};
+use crate::moves::{Moves, port_of};
+use hub_base::{Case, Entry, MOST_PORTS, Port};
 use hub_story::{Level, Told, cases_at};
 use std::alloc::{AllocError, Global};
 
@@ -21,16 +24,6 @@ pub struct Waiter {
     pub sender: Option<Told>,
     /// The last receive from it.
     pub receiver: Option<Told>,
-}
-
-/// The port of a case.
-fn port_of(case: Case) -> Port
-    ensures { result ≡ port_of case }
-{
-    match case {
-        Case::Send(port, _value) => port,
-        Case::Recv(port) => port,
-    }
 }
 
 /// A side of a port.
@@ -77,55 +70,137 @@ fn last_on(side: Side, entries: &[Entry], told: &[Told], port: Port, step: u32) 
     last
 }
 
-/// What a call waits for by a case of it, as it stands after this step.
-fn waits_for(entries: &[Entry], told: &[Told], step: u32, call: &Told, case: Case) -> Waiter
-    ensures { result ≡ waits_for entries.now told.now step call.now case }
+/// Who was the last at a port.
+#[derive(Clone, Copy)]
+struct Lasts {
+    /// To send there.
+    sender: Option<Told>,
+    /// To receive from it.
+    receiver: Option<Told>,
+}
+
+/// Who was the last at a port by this step.
+fn lasts_on(entries: &[Entry], told: &[Told], step: u32, port: Port) -> Lasts
+    ensures { result ≡ lasts_on entries.now told.now step port }
 {
+    Lasts {
+        sender: last_on(Side::Sends, entries, told, port, step),
+        receiver: last_on(Side::Receives, entries, told, port, step),
+    }
+}
+
+/// How many numbers the ports of a hub have, and the nil channel.
+const PORT_NUMBERS: u16 = MOST_PORTS as u16 + 1;
+
+/// Who was the last at each port by this step, by the number of the port.
+fn all_lasts(alloc: Global, moves: &Moves<'_>, step: u32) -> Result<Vec<Lasts>, AllocError>
+    ensures { IfOk result (λ all.
+        AreLasts moves.now.entries.now moves.now.told.now step all.items) }
+{
+    let mut all = Vec::new(alloc);
+    for number in 0..PORT_NUMBERS {
+        let port = Port(number);
+        let told = moves.on(alloc, port)?;
+        all.push(lasts_on(moves.entries, &told, step, port))?;
+    }
+    Ok(all)
+}
+
+/// How things stand after a step.
+#[derive(Clone, Copy)]
+struct Standing<'a> {
+    /// The entries of the journal.
+    entries: &'a [Entry],
+    /// All that is told.
+    told: &'a [Told],
+    /// The step.
+    step: u32,
+    /// Who was the last at each port by then.
+    lasts: &'a [Lasts],
+}
+
+/// Who was the last at a port by then. No hub has a port for which that is not at hand.
+fn lasts_at(standing: &Standing<'_>, port: Port) -> Lasts
+    requires lasts { AreLasts standing.now.entries.now standing.now.told.now standing.now.step standing.now.lasts.now }
+    ensures { result ≡ lasts_on standing.now.entries.now standing.now.told.now standing.now.step port }
+{
+    let number = usize::from(port.0);
+    if number < standing.lasts.len() {
+        standing.lasts[number]
+    } else {
+        lasts_on(standing.entries, standing.told, standing.step, port)
+    }
+}
+
+/// What a call waits for by a case of it.
+fn waits_for(standing: &Standing<'_>, call: &Told, case: Case) -> Waiter
+    requires lasts { AreLasts standing.now.entries.now standing.now.told.now standing.now.step standing.now.lasts.now }
+    ensures { result ≡ waits_for standing.now.entries.now standing.now.told.now standing.now.step call.now case }
+{
+    let lasts = lasts_at(standing, port_of(case));
     Waiter {
         told: *call,
         case,
-        sender: last_on(Side::Sends, entries, told, port_of(case), step),
-        receiver: last_on(Side::Receives, entries, told, port_of(case), step),
+        sender: lasts.sender,
+        receiver: lasts.receiver,
     }
 }
 
 /// Adds what a call waits for by each of these cases.
 fn add_cases(
     all: &mut Vec<Waiter>,
-    entries: &[Entry],
-    told: &[Told],
-    step: u32,
+    standing: &Standing<'_>,
     call: &Told,
     cases: &[Case],
 ) -> Result<(), AllocError>
-    ensures { OnOk result (
-        all.new.items ≡ all.old.items ++ map (waits_for entries.now told.now step call.now) cases.now) }
+    requires lasts { AreLasts standing.now.entries.now standing.now.told.now standing.now.step standing.now.lasts.now }
+    ensures { OnOk result (all.new.items ≡ all.old.items
+        ++ map (waits_for standing.now.entries.now standing.now.told.now standing.now.step call.now) cases.now) }
 {
     for case in cases {
-        all.push(waits_for(entries, told, step, call, *case))?;
+        all.push(waits_for(standing, call, *case))?;
     }
     Ok(())
 }
 
-/// Adds what a call waits for, as it stands after this step.
-fn add_waiters(
+/// Adds what these calls wait for.
+fn add_calls(
     all: &mut Vec<Waiter>,
-    entries: &[Entry],
-    told: &[Told],
-    step: u32,
-    call: &Told,
+    standing: &Standing<'_>,
+    calls: &[Told],
 ) -> Result<(), AllocError>
-    ensures { OnOk result (
-        all.new.items ≡ all.old.items ++ waiters_of entries.now told.now step call.now) }
+    requires lasts { AreLasts standing.now.entries.now standing.now.told.now standing.now.step standing.now.lasts.now }
+    ensures { OnOk result (all.new.items ≡ all.old.items
+        ++ flat_map (waiters_of standing.now.entries.now standing.now.told.now standing.now.step) calls.now) }
 {
-    add_cases(
-        all,
-        entries,
-        told,
+    for call in calls {
+        add_cases(all, standing, call, cases_at(standing.entries, call.asked))?;
+    }
+    Ok(())
+}
+
+/// Adds what these calls wait for, as it stands after this step.
+fn add_waiters(
+    alloc: Global,
+    all: &mut Vec<Waiter>,
+    moves: &Moves<'_>,
+    step: u32,
+    calls: &[Told],
+) -> Result<(), AllocError>
+    ensures { OnOk result (all.new.items ≡ all.old.items
+        ++ flat_map (waiters_of moves.now.entries.now moves.now.told.now step) calls.now) }
+{
+    if calls.is_empty() {
+        return Ok(());
+    }
+    let lasts = all_lasts(alloc, moves, step)?;
+    let standing = Standing {
+        entries: moves.entries,
+        told: moves.told,
         step,
-        call,
-        cases_at(entries, call.asked),
-    )
+        lasts: &lasts,
+    };
+    add_calls(all, &standing, calls)
 }
 
 /// The step of the last of these.
@@ -139,6 +214,19 @@ fn last_step(told: &[Told]) -> u32
     step
 }
 
+/// Those of this step.
+fn all_by(alloc: Global, step: u32, told: &[Told]) -> Result<Vec<Told>, AllocError>
+    ensures { IfOk result (λ all. all.items ≡ filter (is_by step) told.now) }
+{
+    let mut all = Vec::new(alloc);
+    for told in told {
+        if told.by == step {
+            all.push(*told)?;
+        }
+    }
+    Ok(all)
+}
+
 /// The calls that wait in the end, where the window goes so far.
 fn open_in(window: Window, count: u32, waiting: &[Told]) -> &[Told]
     ensures { result.now ≡ open_in window count waiting.now }
@@ -150,25 +238,25 @@ fn open_in(window: Window, count: u32, waiting: &[Told]) -> &[Told]
 pub(crate) fn waiters_in(
     alloc: Global,
     window: Window,
-    entries: &[Entry],
-    told: &[Told],
+    moves: &Moves<'_>,
     stalls: &[Told],
     waiting: &[Told],
 ) -> Result<Vec<Waiter>, AllocError>
-    requires few { length entries.now < 2 ^ 32 - 1 }
-    ensures { IfOk result (λ all.
-        all.items ≡ all_waiters window entries.now told.now stalls.now waiting.now) }
+    requires few { length moves.now.entries.now < 2 ^ 32 - 1 }
+    ensures { IfOk result (λ all. all.items
+        ≡ all_waiters window moves.now.entries.now moves.now.told.now stalls.now waiting.now) }
 {
-    let count = entries.len() as u32;
+    let count = moves.entries.len() as u32;
     let stall = last_step(stalls);
+    let stalled = all_by(alloc, stall, stalls)?;
     let mut all = Vec::new(alloc);
-    for call in stalls {
-        if call.by == stall {
-            add_waiters(&mut all, entries, told, stall, call)?;
-        }
-    }
-    for call in open_in(window, count, waiting) {
-        add_waiters(&mut all, entries, told, count, call)?;
-    }
+    add_waiters(alloc, &mut all, moves, stall, &stalled)?;
+    add_waiters(
+        alloc,
+        &mut all,
+        moves,
+        count,
+        open_in(window, count, waiting),
+    )?;
     Ok(all)
 }

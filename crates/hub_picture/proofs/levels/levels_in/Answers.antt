@@ -1,6 +1,7 @@
 use Rattle.std.proofs.Common.{arith}
 use Rattle.std.proofs.lemmas.Grind.{common_steps}
+use Rattle.hub_picture.proofs.OtherPorts.{same-levels}
 use Rattle.hub_picture.proofs.levels.levels_in.Goals as goal
 
 pub loop-strip-preserved : goal.loop-strip-preserved
-loop-strip-preserved c = grind (arith, common_steps)
+loop-strip-preserved c = grind (arith, common_steps, same-levels)

@@ -5,5 +5,5 @@ use Rattle.hub_picture.proofs.levels.levels_in.Given as goal
 
 abbrev pub invariant-loop-strip : goal.invariant-loop-strip
 invariant-loop-strip l =
-    l.all.items ++ flat_map (levels_on l.window l.entries l.told) (drop l.strip-index l.strips)
-    ≡ flat_map (levels_on l.window l.entries l.told) l.strips
+    l.all.items ++ flat_map (levels_on l.window l.moves.entries.now l.moves.told.now) (drop l.strip-index l.strips)
+    ≡ flat_map (levels_on l.window l.moves.entries.now l.moves.told.now) l.strips

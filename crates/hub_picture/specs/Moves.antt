@@ -1,0 +1,32 @@
+-- On which port each thing that is told may have moved a value.
+use Rattle.std.specs.Prelude.{◌==◌, Bool, false, List, Option, None, Some, slice_get}
+use Rattle.std.specs.Option.{option_map}
+use Rattle.hub_base.specs.declared.value.Port.{Port}
+use Rattle.hub_base.specs.declared.case.Case.{Case}
+use Rattle.hub_base.specs.declared.case.Case.TheVariants.{Send, Recv}
+use Rattle.hub_base.specs.declared.entry.Entry.{Entry}
+use Rattle.hub_base.specs.declared.event.What.{What}
+use Rattle.hub_base.specs.declared.event.What.TheVariants as what
+use Rattle.hub_story.specs.declared.told.Told.{Told}
+use Rattle.hub_story.specs.Passing.{cases_at}
+
+abbrev pub port_of : Case → Port
+port_of (Send p v) = p
+port_of (Recv p) = p
+
+-- the port of the case that fired, if one did
+abbrev pub fired_port : List Case → What → Option Port
+fired_port cases (what.Fired i o) = option_map port_of (slice_get cases i)
+fired_port cases w = None
+
+abbrev pub port_told : List Entry → Told → Option Port
+port_told es t = fired_port (cases_at es t.asked) t.event.what
+
+-- it is this port
+abbrev pub is_port : Port → Option Port → Bool
+is_port p None = false
+is_port p (Some q) = q.0 == p.0
+
+-- it is told of a case of this port
+abbrev pub is_told_on : List Entry → Port → Told → Bool
+is_told_on es p t = is_port p (port_told es t)

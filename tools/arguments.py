@@ -1,0 +1,76 @@
+#!/usr/bin/env python3
+"""arguments.py PROGRAM SERVE STORY: tries words that are no UTF-8 on the built chanhub (PROGRAM), chanhub_serve (SERVE) and
+chanhub_story (STORY), behind each word that it knows: they are bad arguments, and nothing is read or written for them. The
+bytes of a program's own name are no argument: under a name that is no UTF-8 it does the same. And tries words too many for those
+that ask for help. The last line counts: 'N passed, M failed'."""
+import os
+import pathlib
+import subprocess
+import sys
+import tempfile
+
+ROOT = pathlib.Path(__file__).resolve().parent.parent
+JOURNAL = (ROOT / "examples" / "journals" / "hand_over").read_bytes()
+WAIT = 60
+# no text has such a byte
+BYTE = b"\xff"
+BAD = 2, b"", b"chanhub: bad arguments\n"
+
+# what each program is asked for, with what stands behind
+ASKED = {
+    "chanhub": [[b"replay"], [b"run"], [b"run", b"--journal"], [b"verify"], [b"verify", b"journal"]],
+    "chanhub_serve": [[], [b"--help"]],
+    "chanhub_story": [[b"text"], [b"picture"], [b"text", b"1"], [b"--help"]],
+}
+# what does something
+SERVED = {"chanhub": [[b"replay"]], "chanhub_serve": [[], [b"--help"]], "chanhub_story": [[b"text"], [b"picture", b"1", b"2"], [b"--help"]]}
+# what does not
+REFUSED = {
+    "chanhub": [[], [b"--help"], [b"x"]],
+    "chanhub_serve": [[b"x"], [b"--help", b"x"], [b""]],
+    "chanhub_story": [[], [b"x"], [b"--help", b"x"], [b"text", b"1"]],
+}
+
+
+def told(program, words):
+    done = subprocess.run([program, *words], input=JOURNAL, capture_output=True, timeout=WAIT)
+    return done.returncode, done.stdout, done.stderr
+
+
+def behind(words):
+    """These words with one that is no text behind them, in their midst, or as a part of the last."""
+    yield [*words, BYTE]
+    yield [BYTE, *words]
+    if words:
+        yield [*words[:-1], words[-1] + BYTE]
+
+
+def checks(name, program, work):
+    for words in ASKED[name]:
+        for given in behind(words):
+            yield f"{name} {b' '.join(given)}", told(program, given) == BAD
+    for words in REFUSED[name]:
+        yield f"{name} {b' '.join(words)}", told(program, words) == BAD
+    named = os.path.join(os.fsencode(work), os.fsencode(name) + BYTE)
+    os.symlink(program, named)
+    for words in SERVED[name]:
+        served = told(program, words)
+        yield f"{name} {b' '.join(words)}", served[0] == 0 and served[1] != b"" and served[2] == b""
+        yield f"{name} {b' '.join(words)} under a name that is no text", told(named, words) == served
+    yield f"{name}, a bad argument under such a name", told(named, [b"x"]) == BAD
+
+
+def main():
+    passed = failed = 0
+    with tempfile.TemporaryDirectory() as work:
+        for name, program in zip(ASKED, sys.argv[1:4]):
+            for check, good in checks(name, os.path.realpath(program), work):
+                passed, failed = passed + good, failed + (not good)
+                if not good:
+                    print(f"failed: {check}")
+    print(f"{passed} passed, {failed} failed")
+    return 1 if failed else 0
+
+
+if __name__ == "__main__":
+    sys.exit(main())

@@ -114,7 +114,8 @@ static void edition_two(void) {
     cases[15].value = chanhub_bytes(long_bytes, 33);
     is_fault("33 bytes", chanhub_send(hub, 0, 1, cases[15].value), CHANHUB_BAD_CALL);
     is_fault("33 bytes", chanhub_select(hub, 0, cases, 16, false, 0), CHANHUB_BAD_CALL);
-    is_fault("no call waits", chanhub_cancel(hub, 0, 1000), CHANHUB_NOT_PARKED);
+    is_fault("no such process", chanhub_cancel(hub, 0, 256), CHANHUB_BAD_CALL);
+    is_fault("no call waits", chanhub_cancel(hub, 0, 255), CHANHUB_NOT_PARKED);
     is_fault("the eighth step", chanhub_recv(hub, 0, 1), CHANHUB_JOURNAL_FULL);
     is("exit", chanhub_exit(hub, 0).what, CHANHUB_DONE);
     has_journal("journal", hub,

@@ -80,7 +80,7 @@ struct chanhub {
 };
 
 /* Of what is read and given, no process matters. Holds the lock. */
-static uint64_t ask(chanhub *h, uint8_t kind, uint16_t port, uint64_t value) {
+static inline uint64_t ask(chanhub *h, uint8_t kind, uint16_t port, uint64_t value) {
     return hub_c_do(h->hub, kind, 0, port, value);
 }
 
@@ -135,47 +135,58 @@ static chanhub_told fault(uint64_t number) {
     return (chanhub_told){ .what = CHANHUB_FAULT, .fault = (uint8_t)number };
 }
 
-/* What an answer tells that was given last. 0 is the answer to what the edition has not. Holds the lock. */
-static chanhub_told told(chanhub *h, uint64_t answer) {
-    if (answer & REFUSED) return fault(answer & WHAT);
-    if (!answer) return fault(CHANHUB_BAD_CALL);
+/* Puts the bytes that were received into a value. Holds the lock. */
+static void read_bytes(chanhub *h, chanhub_value *value) {
+    uint8_t length = (uint8_t)ask(h, LENGTH, 0, 0);
+    value->is_bytes = true;
+    value->length = length;
+    for (unsigned i = 0; i < length; i++) value->bytes[i] = (uint8_t)ask(h, BYTE, 0, i);
+}
+
+/* Puts what an answer tells that was given last there. 0 is the answer to what the edition has not. Holds the lock. */
+static void tell(chanhub *h, uint64_t answer, chanhub_told *t) {
+    uint8_t what = answer & WHAT;
     uint16_t detail = (uint16_t)(answer >> DETAIL_AT);
-    chanhub_told t = { .what = answer & WHAT };
-    if (t.what == CHANHUB_FAULT) t.fault = (uint8_t)detail;
-    else if (t.what == CHANHUB_MADE) t.port = detail;
-    else t.index = (uint8_t)detail;
-    if (answer & GOT_BYTES) {
-        t.value.is_bytes = true;
-        t.value.length = (uint8_t)ask(h, LENGTH, 0, 0);
-        for (unsigned i = 0; i < t.value.length; i++) t.value.bytes[i] = (uint8_t)ask(h, BYTE, 0, i);
-    } else if (t.what == CHANHUB_GOT) {
-        t.value.number = ask(h, NUMBER, 0, 0);
+    memset(t, 0, sizeof *t);
+    if (answer & REFUSED || !answer) {
+        t->what = CHANHUB_FAULT;
+        t->fault = answer ? what : CHANHUB_BAD_CALL;
+        return;
     }
-    return t;
+    t->what = what;
+    if (what == CHANHUB_FAULT) t->fault = (uint8_t)detail;
+    else if (what == CHANHUB_MADE) t->port = detail;
+    else t->index = (uint8_t)detail;
+    if (answer & GOT_BYTES) read_bytes(h, &t->value);
+    else if (what == CHANHUB_GOT) t->value.number = ask(h, NUMBER, 0, 0);
 }
 
 /* ---- The lock. ---- */
 
-/* Takes the lock. Whoever has it mostly lets it go before a thread could sleep. */
-static void take_lock(chanhub *h) {
-    for (int i = 0; i < TRIES; i++) {
-        if (pthread_mutex_trylock(&h->lock) == 0) return;
+/* Takes the lock that another thread has. Mostly that lets it go before a thread could sleep. */
+static void wait_for_lock(chanhub *h) {
+    for (int i = 1; i < TRIES; i++) {
         __builtin_ia32_pause();
+        if (pthread_mutex_trylock(&h->lock) == 0) return;
     }
     pthread_mutex_lock(&h->lock);
 }
 
-static void leave_lock(chanhub *h) {
+static inline void take_lock(chanhub *h) {
+    if (pthread_mutex_trylock(&h->lock) != 0) wait_for_lock(h);
+}
+
+static inline void leave_lock(chanhub *h) {
     pthread_mutex_unlock(&h->lock);
 }
 
 /* The set of this process alone; the empty one for a number that no hub has. */
-static uint64_t only(unsigned pid) {
+static inline uint64_t only(unsigned pid) {
     return pid < MOST_PROCS ? (uint64_t)1 << pid : 0;
 }
 
 /* Takes the lock for a call in the name of this process. Where one is open, it leaves the lock and says no. */
-static bool enter(chanhub *h, unsigned pid) {
+static inline bool enter(chanhub *h, unsigned pid) {
     take_lock(h);
     if (!(h->open & only(pid))) return true;
     leave_lock(h);
@@ -275,44 +286,46 @@ static uint64_t wait_for(chanhub *h, unsigned pid, uint64_t nanoseconds) {
 
 /* ---- The calls. ---- */
 
-/* What an answer tells; and wakes these processes. Holds the lock, and leaves it. */
-static chanhub_told leave(chanhub *h, uint64_t answer, uint64_t ended) {
-    chanhub_told t = told(h, answer);
+/* Keeps the call of a process open that parked, wakes those whose calls the step ended, and waits. Holds the lock, but not while
+ * it waits. */
+static uint64_t park(chanhub *h, uint8_t pid, uint64_t ended, uint64_t nanoseconds) {
+    h->open |= only(pid);
+    wake(h, ended);
+    return wait_for(h, pid, nanoseconds);
+}
+
+/* Makes a step of a process that has no open call; wakes those whose calls it ended; where it parks, waits for so many
+ * nanoseconds. Holds the lock, and leaves it. */
+static chanhub_told step(chanhub *h, uint8_t kind, uint8_t pid, uint16_t port, uint64_t value, uint64_t nanoseconds) {
+    uint64_t answer = hub_c_do(h->hub, kind, pid, port, value);
+    uint64_t ended = ended_by(h, answer);
+    if ((answer & (REFUSED | WHAT)) == PARKED) {
+        answer = park(h, pid, ended, nanoseconds);
+        ended = 0;
+    }
+    chanhub_told t;
+    tell(h, answer, &t);
     leave_lock(h);
     wake(h, ended);
     return t;
 }
 
-/* Makes a step of a process that has no open call; wakes those whose calls it ended; where it parks, waits for so many
- * nanoseconds. Holds the lock, and leaves it. */
-static chanhub_told step(chanhub *h, uint8_t kind, unsigned pid, unsigned port, uint64_t value, uint64_t nanoseconds) {
-    uint64_t answer = hub_c_do(h->hub, kind, (uint8_t)pid, (uint16_t)port, value);
-    uint64_t ended = ended_by(h, answer);
-    if ((answer & (REFUSED | WHAT)) == PARKED) {
-        h->open |= only(pid);
-        wake(h, ended);
-        ended = 0;
-        answer = wait_for(h, pid, nanoseconds);
-    }
-    return leave(h, answer, ended);
-}
-
-static bool is_bad(const chanhub *h, unsigned pid, unsigned port) {
+static inline bool is_bad(const chanhub *h, unsigned pid, unsigned port) {
     return !h || pid > GREATEST_PID || port > GREATEST_PORT;
 }
 
 /* A call of which nothing has to be given. */
-static chanhub_told plain(chanhub *h, uint8_t kind, unsigned pid, unsigned port, uint64_t value) {
+static inline chanhub_told plain(chanhub *h, uint8_t kind, unsigned pid, unsigned port, uint64_t value) {
     if (is_bad(h, pid, port)) return fault(CHANHUB_BAD_CALL);
     if (!enter(h, pid)) return fault(CHANHUB_BUSY);
-    return step(h, kind, pid, port, value, FOR_EVER);
+    return step(h, kind, (uint8_t)pid, (uint16_t)port, value, FOR_EVER);
 }
 
 chanhub_told chanhub_make(chanhub *h, unsigned pid, uint32_t cap) {
     if (is_bad(h, pid, 0)) return fault(CHANHUB_BAD_CALL);
     if (!enter(h, pid)) return fault(CHANHUB_BUSY);
     if (cap) h->has_buffer = true;
-    return step(h, MAKE, pid, 0, cap, FOR_EVER);
+    return step(h, MAKE, (uint8_t)pid, 0, cap, FOR_EVER);
 }
 
 chanhub_told chanhub_recv(chanhub *h, unsigned pid, unsigned port) {
@@ -348,15 +361,20 @@ static void give_case(chanhub *h, const chanhub_case *c) {
     ask(h, c->value.is_bytes ? GIVE_SEND_BYTES : GIVE_SEND, c->port, c->value.number);
 }
 
+/* Sends a value, and waits for at most so many nanoseconds. Holds the lock, and leaves it. */
+static inline chanhub_told send_step(chanhub *h, uint8_t pid, uint16_t port, const chanhub_value *value, uint64_t nanoseconds) {
+    give_bytes(h, value);
+    return step(h, value->is_bytes ? SEND_BYTES : SEND, pid, port, value->number, nanoseconds);
+}
+
 chanhub_told chanhub_send(chanhub *h, unsigned pid, unsigned port, chanhub_value value) {
     if (is_bad(h, pid, port) || value.length > MOST_BYTES) return fault(CHANHUB_BAD_CALL);
     if (!enter(h, pid)) return fault(CHANHUB_BUSY);
-    give_bytes(h, &value);
-    return step(h, value.is_bytes ? SEND_BYTES : SEND, pid, port, value.number, FOR_EVER);
+    return send_step(h, (uint8_t)pid, (uint16_t)port, &value, FOR_EVER);
 }
 
 /* Whether these are cases as the library takes them. The value of a receive is not looked at. */
-static bool are_cases(const chanhub_case *cases, size_t count) {
+static inline bool are_cases(const chanhub_case *cases, size_t count) {
     if (count > MOST_CASES) return false;
     for (size_t i = 0; i < count; i++) {
         if (cases[i].sends && cases[i].value.length > MOST_BYTES) return false;
@@ -364,13 +382,21 @@ static bool are_cases(const chanhub_case *cases, size_t count) {
     return true;
 }
 
+/* Does what this case says, and waits as above. It makes the same entry as a select of it, at less cost. Holds the lock, and leaves
+ * it. */
+static chanhub_told one_case_step(chanhub *h, uint8_t pid, const chanhub_case *c, uint64_t nanoseconds) {
+    if (c->sends) return send_step(h, pid, c->port, &c->value, nanoseconds);
+    return step(h, RECV, pid, c->port, 0, nanoseconds);
+}
+
 /* A select that waits for at most so many nanoseconds, and stays open then. */
 static chanhub_told select_for(chanhub *h, unsigned pid, const chanhub_case *cases, size_t count, bool has_default, uint64_t word,
                                uint64_t nanoseconds) {
     if (is_bad(h, pid, 0) || !are_cases(cases, count)) return fault(CHANHUB_BAD_CALL);
     if (!enter(h, pid)) return fault(CHANHUB_BUSY);
+    if (count == 1 && !has_default && word == 0) return one_case_step(h, (uint8_t)pid, cases, nanoseconds);
     for (size_t i = 0; i < count; i++) give_case(h, &cases[i]);
-    return step(h, has_default ? SELECT_OR_DEFAULT : SELECT, pid, 0, word, nanoseconds);
+    return step(h, has_default ? SELECT_OR_DEFAULT : SELECT, (uint8_t)pid, 0, word, nanoseconds);
 }
 
 chanhub_told chanhub_select(chanhub *h, unsigned pid, const chanhub_case *cases, size_t count, bool has_default, uint64_t word) {
@@ -388,7 +414,10 @@ chanhub_told chanhub_resume(chanhub *h, unsigned pid, uint64_t nanoseconds) {
     if (!(h->open & only(pid))) answer = REFUSED + CHANHUB_NOT_PARKED;
     else if (h->awaited & only(pid)) answer = REFUSED + CHANHUB_BUSY;
     else answer = wait_for(h, pid, nanoseconds);
-    return leave(h, answer, 0);
+    chanhub_told t;
+    tell(h, answer, &t);
+    leave_lock(h);
+    return t;
 }
 
 /* ---- Looks, and the journal. ---- */

@@ -5,21 +5,31 @@
 
 Each thread calls by a seat of its own. A call that has to wait waits, and other threads go on meanwhile. What ends a call
 without a value is an exception: Closed, Drained, Stalled, Cancelled, Fault.
+
+Ctrl-C ends the wait of the main thread by KeyboardInterrupt, and loses nothing: the call stays open, `seat.waits` says so, and
+`seat.resume()` waits on for its answer. Leaving `with Hub` ends what its threads do: no call begins any more, and whoever waits
+is told. A hub belongs to the process which opened it: in a forked child each call on it raises RuntimeError.
 """
 from __future__ import annotations
 
 import ctypes
-import itertools
 import os
+import struct
+import threading
 import weakref
-from typing import Any, Dict, Iterator, NamedTuple, Optional, Sequence, Union
+from itertools import count, starmap
+from threading import get_ident
+from typing import Any, Callable, Dict, Iterable, Iterator, NamedTuple, Optional, Sequence, Set, Tuple, Union
 
 Value = Union[int, bytes]
+# What may be sent. A bool is the number that it is, 0 or 1; a bytearray and a memoryview are received as bytes.
+Sendable = Union[int, bytes, bytearray, memoryview]
 
-MADE, SENT, GOT, DRAINED, CLOSED, DEFAULT, DONE, _PARKED, STALLED, FAULT, CANCELLED = range(1, 12)
+MADE, SENT, GOT, DRAINED, CLOSED, DEFAULT, DONE, WAITING, STALLED, FAULT, CANCELLED = range(1, 12)
 
+GONE, BUSY, NOT_PARKED = 2, 3, 12
 FAULTS = {
-    1: 'no such process', 2: 'the process has exited', 3: 'a call of the process waits', 4: 'too many cases',
+    1: 'no such process', 2: 'the process has exited', 3: 'a call of the process is open', 4: 'too many cases',
     5: 'no such port', 6: 'the capacity is too large', 7: 'too many ports', 8: 'close of port 0',
     9: 'close of a closed port', 10: 'the journal is full', 11: 'out of memory', 12: 'no call of it waits',
     13: 'a bad number, or not of this edition',
@@ -30,39 +40,55 @@ OPENING = {1: '1 to 64 processes', 2: '1 to 1,000,000 steps', 4: 'edition 1 or 2
 class Ended(Exception):
     """A call that ended without a value. `index` is that of its case."""
 
+    words = 'the call ended without a value'
+
     def __init__(self, index: int = 0) -> None:
         super().__init__(index)
         self.index = index
+
+    def __str__(self) -> str:
+        return self.words
 
 
 class Closed(Ended):
     """A send on a closed port."""
 
+    words = 'a send on a closed port'
+
 
 class Drained(Ended):
     """A receive from a port that is closed and holds nothing more."""
+
+    words = 'the port is closed and holds nothing more'
 
 
 class Stalled(Ended):
     """Everybody waited."""
 
+    words = 'everybody waited, so no call could ever end'
+
 
 class Cancelled(Ended):
     """Another process ended the call."""
+
+    words = 'another process ended the call'
 
 
 class Fault(Exception):
     """Nothing happened, for the reason `number`."""
 
     def __init__(self, number: int) -> None:
-        super().__init__(f'fault {number}: {FAULTS.get(number, "unknown")}')
+        super().__init__(number)
         self.number = number
+
+    def __str__(self) -> str:
+        return f'fault {self.number}: {FAULTS.get(self.number, "unknown")}'
 
 
 class Send(NamedTuple):
     """A case that sends a value on a port."""
     port: int
-    value: Value
+    value: Sendable
 
 
 class Recv(NamedTuple):
@@ -84,21 +110,19 @@ class Counts(NamedTuple):
     closed: bool
 
 
-class _Value(ctypes.Structure):
-    _fields_ = [('number', ctypes.c_uint64), ('is_bytes', ctypes.c_bool), ('length', ctypes.c_uint8),
-                ('bytes', ctypes.c_uint8 * 32)]
-
-    def get(self) -> Value:
-        return bytes(self.bytes[:self.length]) if self.is_bytes else self.number
-
-
 class _Told(ctypes.Structure):
+    """chanhub_told, with the members of its value."""
     _fields_ = [('what', ctypes.c_uint8), ('fault', ctypes.c_uint8), ('index', ctypes.c_uint8), ('port', ctypes.c_uint16),
-                ('value', _Value)]
+                ('number', ctypes.c_uint64), ('is_bytes', ctypes.c_bool), ('length', ctypes.c_uint8), ('bytes', ctypes.c_uint8 * 32)]
+
+    def value(self) -> Value:
+        return bytes(self.bytes[:self.length]) if self.is_bytes else int(self.number)
 
 
-class _Case(ctypes.Structure):
-    _fields_ = [('sends', ctypes.c_bool), ('port', ctypes.c_uint16), ('value', _Value)]
+# chanhub_case: that of a receive, of a send of a number, and of a send of bytes. It begins with `sends` and the port.
+_pack_recv = struct.Struct('=?xH52x').pack
+_pack_number = struct.Struct('=?xH4xQ40x').pack
+_pack_bytes = struct.Struct('=?xH12x?B32s6x').pack
 
 
 class _Counts(ctypes.Structure):
@@ -116,9 +140,9 @@ def _library() -> ctypes.CDLL:
             ('open', ctypes.c_int, [ctypes.POINTER(hub), number, number, ctypes.c_uint32]),
             ('free', None, [hub]),
             ('make', _Told, [hub, number, ctypes.c_uint32]),
-            ('send', _Told, [hub, number, number, _Value]),
-            ('recv', _Told, [hub, number, number]),
-            ('select', _Told, [hub, number, ctypes.POINTER(_Case), ctypes.c_size_t, ctypes.c_bool, ctypes.c_uint64]),
+            ('select', _Told, [hub, number, ctypes.c_char_p, ctypes.c_size_t, ctypes.c_bool, ctypes.c_uint64]),
+            ('begin', _Told, [hub, number, ctypes.c_char_p, ctypes.c_size_t, ctypes.c_bool, ctypes.c_uint64]),
+            ('resume', _Told, [hub, number, ctypes.c_uint64]),
             ('close', _Told, [hub, number, number]),
             ('exit', _Told, [hub, number]),
             ('cancel', _Told, [hub, number, number]),
@@ -131,6 +155,27 @@ def _library() -> ctypes.CDLL:
 
 
 _LIBRARY = _library()
+_select, _begin, _resume = _LIBRARY.chanhub_select, _LIBRARY.chanhub_begin, _LIBRARY.chanhub_resume
+# For how many nanoseconds the main thread waits before it looks whether there was a signal.
+_SLICE = 50_000_000
+# The thread that is told of signals.
+_main = threading.main_thread().ident
+
+
+# All hubs that are open.
+_hubs: weakref.WeakSet[Hub] = weakref.WeakSet()
+
+
+def _after_fork() -> None:
+    """In a child, the thread that forked is the main one, and hubs are of no use: other threads, which are not there, may hold
+    their locks."""
+    global _main
+    _main = get_ident()
+    for hub in list(_hubs):
+        hub._live = None
+
+
+os.register_at_fork(after_in_child=_after_fork)
 
 
 def _within(name: str, number: int, most: int) -> int:
@@ -140,32 +185,84 @@ def _within(name: str, number: int, most: int) -> int:
     return number
 
 
-def _value(value: Value) -> _Value:
+def _send_case(port: int, value: Sendable) -> bytes:
+    """A case that sends this value, as C has it."""
     if isinstance(value, int):
-        return _Value(number=_within('value', value, 2 ** 64 - 1))
-    _within('length', len(value), 32)
-    return _Value(is_bytes=True, length=len(value), bytes=(ctypes.c_uint8 * 32)(*value))
+        if 0 <= port <= 65535 and 0 <= value < 2 ** 64:
+            return _pack_number(True, port, value)
+        _within('value', value, 2 ** 64 - 1)
+    elif not isinstance(value, (bytes, bytearray, memoryview)):
+        raise TypeError(f'a value is an int of 64 bits or bytes, not {type(value).__name__}')
+    _within('port', port, 65535)
+    sent = bytes(value)
+    return _pack_bytes(True, port, True, _within('length', len(sent), 32), sent)
 
 
-def _case(case: Union[Send, Recv]) -> _Case:
-    port = _within('port', case.port, 65535)
-    return _Case(True, port, _value(case.value)) if isinstance(case, Send) else _Case(False, port, _Value())
+def _recv_case(port: int) -> bytes:
+    """A case that receives from this port, as C has it."""
+    return _pack_recv(False, port if 0 <= port <= 65535 else _within('port', port, 65535))
 
 
-def _ended(told: _Told) -> Fired:
-    """The case that fired, or what ended the call without a value."""
+def _case(case: Union[Send, Recv]) -> bytes:
+    return _send_case(case.port, case.value) if isinstance(case, Send) else _recv_case(case.port)
+
+
+_ENDED = {CLOSED: Closed, DRAINED: Drained, STALLED: Stalled, CANCELLED: Cancelled}
+
+
+def _ended(told: _Told) -> Exception:
+    """What ended a call without a value."""
+    ended = _ENDED.get(told.what)
+    return Fault(told.fault) if ended is None else ended(told.index)
+
+
+# What a call gives that was told this, or raises where it ended without a value.
+_Gives = Callable[[_Told], Any]
+
+
+def _sent(told: _Told) -> None:
+    if told.what != SENT:
+        raise _ended(told)
+
+
+def _got(told: _Told) -> Value:
+    if told.what != GOT:
+        raise _ended(told)
+    return told.value() if told.is_bytes else told.number
+
+
+def _fired(told: _Told) -> Optional[Fired]:
     if told.what == GOT:
-        return Fired(told.index, told.value.get())
-    if told.what == FAULT:
-        raise Fault(told.fault)
-    ended = {CLOSED: Closed, DRAINED: Drained, STALLED: Stalled, CANCELLED: Cancelled}.get(told.what)
-    if ended is not None:
-        raise ended(told.index)
-    return Fired(told.index)
+        return Fired(told.index, told.value())
+    if told.what == SENT:
+        return Fired(told.index)
+    if told.what == DEFAULT:
+        return None
+    raise _ended(told)
+
+
+def _made(told: _Told) -> int:
+    if told.what != MADE:
+        raise _ended(told)
+    return told.port
+
+
+def _done(told: _Told) -> None:
+    if told.what != DONE:
+        raise _ended(told)
+
+
+def _free(handle: ctypes.c_void_p, opener: int) -> None:
+    """Frees a hub, but not in a forked child, where its lock may be held by a thread that is not there."""
+    if os.getpid() == opener:
+        _LIBRARY.chanhub_free(handle)
 
 
 class Hub:
-    """A hub of `procs` processes. Its memory goes once no thread calls on it or has a seat of it any longer."""
+    """A hub of `procs` processes: exactly as many as run, since for one that nobody calls for all others may wait.
+
+    Its memory goes once no thread calls on it or has a seat of it any longer, or else with the interpreter's own process.
+    """
 
     def __init__(self, procs: int, edition: int = 2, limit: int = 1_000_000) -> None:
         handle = ctypes.c_void_p()
@@ -175,21 +272,48 @@ class Hub:
             raise MemoryError
         if refusal:
             raise ValueError(OPENING[refusal])
-        self._handle: Optional[ctypes.c_void_p] = handle
-        self._free = weakref.finalize(self, _LIBRARY.chanhub_free, handle)
+        self._handle = handle
+        self._live: Optional[ctypes.c_void_p] = handle  # None once no call may begin
+        self._procs = procs
+        self._opener = os.getpid()
+        # The open calls that an exception left, by process: what each gives, and what it was told last.
+        self._left: Dict[int, Tuple[_Gives, _Told]] = {}
+        # Of those the ones for which a thread waits again.
+        self._resumed: Set[int] = set()
+        self._settling = threading.RLock()
+        self._free = weakref.finalize(self, _free, handle, self._opener)
+        # At the interpreter's end other threads may still call on it.
+        self._free.atexit = False
+        _hubs.add(self)
 
     def __enter__(self) -> Hub:
         return self
 
     def __exit__(self, *_: object) -> None:
-        """From now on no call on the hub begins."""
-        self._handle = None
+        """From now on no call on the hub begins, but for exits. Each process that does not wait exits; whoever waits is told, at
+        latest by Stalled, and then its process exits too."""
+        if self._is_here():
+            self._live = None
+            self._settle()
+
+    def _is_here(self) -> bool:
+        """Whether this is the process which opened it, and not a forked child."""
+        return os.getpid() == self._opener
+
+    def _owned(self) -> ctypes.c_void_p:
+        """The handle, also of a hub that has ended."""
+        if not self._is_here():
+            raise RuntimeError('the hub belongs to the process which opened it, and not to a forked child')
+        return self._handle
 
     @property
     def handle(self) -> ctypes.c_void_p:
-        if self._handle is None:
+        """The hub for a call that begins."""
+        handle = self._live
+        if handle is None:
+            self._owned()
             raise ValueError('the hub has ended')
-        return self._handle
+        return handle
 
     def seat(self, pid: int) -> Seat:
         """What one thread calls with in the name of process `pid`."""
@@ -197,13 +321,13 @@ class Hub:
 
     def look(self, port: int) -> Optional[Counts]:
         """The counts of a port now; None where it is not made."""
-        counts = _LIBRARY.chanhub_look(self.handle, _within('port', port, 65535))
+        counts = _LIBRARY.chanhub_look(self._owned(), _within('port', port, 65535))
         return Counts(counts.cap, counts.sent, counts.received, counts.closed) if counts.made else None
 
     def journal(self) -> bytes:
-        """The journal so far, as `chanhub replay` reads it."""
+        """The journal so far, as `chanhub replay` reads it where it has at most 67,108,864 bytes."""
         length = ctypes.c_size_t()
-        text = _LIBRARY.chanhub_journal(self.handle, ctypes.byref(length))
+        text = _LIBRARY.chanhub_journal(self._owned(), ctypes.byref(length))
         if not text:
             raise MemoryError
         try:
@@ -211,12 +335,28 @@ class Hub:
         finally:
             _LIBRARY.chanhub_free_text(text)
 
+    def _settle(self) -> None:
+        """Of a hub that has ended: exits all processes that do not wait. An exit may end calls by a stall, so it goes on until there
+        is none more to make. Whoever's call ends later settles again."""
+        with self._settling:
+            while any([self._exits(pid) for pid in range(self._procs)]):
+                pass
+
+    def _exits(self, pid: int) -> bool:
+        """Whether the process had not exited, does not wait, and exits now."""
+        if pid in self._left and pid not in self._resumed:
+            gives, told = self._left[pid]
+            if told.what == WAITING:
+                told, = starmap(_resume, ((self._handle, pid, 0),))
+                self._left[pid] = gives, told
+        return bool(_LIBRARY.chanhub_exit(self._handle, pid).what == DONE)
+
 
 class Table:
     """Objects that channels pass by their numbers: `seat.send(port, table.put(it))`, and `table.take(seat.recv(port))`."""
 
     def __init__(self) -> None:
-        self._numbers = itertools.count()
+        self._numbers = count()
         self._things: Dict[int, Any] = {}
 
     def put(self, thing: Any) -> int:
@@ -240,24 +380,51 @@ class Seat:
     def __enter__(self) -> Seat:
         return self
 
-    def __exit__(self, *_: object) -> None:
+    def __exit__(self, kind: object, *_: object) -> None:
+        """Exits, but in a forked child, and where the block was left by an exception while a call is open: that exception goes on."""
+        if not self.hub._is_here() or kind is not None and self.waits:
+            return
         self.exit()
+
+    @property
+    def waits(self) -> bool:
+        """Whether a call of the process is open that Ctrl-C left. `resume` waits on for its answer; until then each other call of
+        the process is Fault 3."""
+        return self.pid in self.hub._left
+
+    def resume(self) -> Union[None, Value, Fired]:
+        """Waits on for the answer of the call that Ctrl-C left open, and gives or raises what that call would have. Fault 12 where
+        there is none."""
+        hub, pid = self.hub, self.pid
+        hub._owned()
+        with hub._settling:
+            if pid not in hub._left:
+                raise Fault(NOT_PARKED)
+            if pid in hub._resumed:
+                raise Fault(BUSY)
+            gives, told = hub._left[pid]
+            hub._resumed.add(pid)
+        try:
+            given: Union[None, Value, Fired] = self._await(gives, (told,))
+            return given
+        finally:
+            hub._resumed.discard(pid)
 
     def make(self, cap: int) -> int:
         """Makes a channel that buffers `cap` values, and gives its port."""
-        told = _LIBRARY.chanhub_make(self.hub.handle, self.pid, _within('capacity', cap, 2 ** 32 - 1))
-        _ended(told)
-        return told.port
+        told = _LIBRARY.chanhub_make(self._handle(), self.pid, _within('capacity', cap, 2 ** 32 - 1))
+        port: int = self._give(_made, told)
+        return port
 
-    def send(self, port: int, value: Value) -> None:
-        """Sends a value, and waits until it is taken or buffered."""
-        _ended(_LIBRARY.chanhub_send(self.hub.handle, self.pid, _within('port', port, 65535), _value(value)))
+    def send(self, port: int, value: Sendable) -> None:
+        """Sends a value, and waits until it is taken or buffered. TypeError where it is neither an int nor bytes; ValueError where it
+        is not within 64 bits or 32 bytes."""
+        self._call(_sent, _send_case(port, value))
 
     def recv(self, port: int) -> Value:
         """Waits for a value."""
-        fired = _ended(_LIBRARY.chanhub_recv(self.hub.handle, self.pid, _within('port', port, 65535)))
-        assert fired.value is not None
-        return fired.value
+        value: Value = self._call(_got, _recv_case(port))
+        return value
 
     def drain(self, port: int) -> Iterator[Value]:
         """Receives until the port is closed and holds nothing more."""
@@ -270,22 +437,71 @@ class Seat:
 
     def select(self, cases: Sequence[Union[Send, Recv]], default: bool = False, word: int = 0) -> Optional[Fired]:
         """One case that can proceed: of k, number `word` mod k. None for the default."""
-        array = (_Case * len(cases))(*map(_case, cases))
-        told = _LIBRARY.chanhub_select(self.hub.handle, self.pid, array, len(cases), default, _within('word', word, 2 ** 64 - 1))
-        return None if told.what == DEFAULT else _ended(told)
+        packed = b''.join(map(_case, cases))
+        fired: Optional[Fired] = self._call(_fired, packed, len(cases), default, _within('word', word, 2 ** 64 - 1))
+        return fired
 
     def close(self, port: int) -> None:
         """Closes a port."""
-        _ended(_LIBRARY.chanhub_close(self.hub.handle, self.pid, _within('port', port, 65535)))
+        self._give(_done, _LIBRARY.chanhub_close(self._handle(), self.pid, _within('port', port, 65535)))
 
     def exit(self) -> None:
-        """Ends the process, so that nobody waits for it. A second time it does nothing."""
-        try:
-            _ended(_LIBRARY.chanhub_exit(self.hub.handle, self.pid))
-        except Fault as fault:
-            if fault.number != 2:
-                raise
+        """Ends the process, so that nobody waits for it. A second time it does nothing. It may come after the hub's end."""
+        handle = self.hub._owned()
+        if self.waits:
+            raise Fault(BUSY)
+        told = _LIBRARY.chanhub_exit(handle, self.pid)
+        if told.fault != GONE:
+            _done(told)
 
     def cancel(self, other: int) -> None:
         """Ends the call of another process that waits."""
-        _ended(_LIBRARY.chanhub_cancel(self.hub.handle, self.pid, _within('process', other, 255)))
+        self._give(_done, _LIBRARY.chanhub_cancel(self._handle(), self.pid, _within('process', other, 255)))
+
+    def _handle(self) -> ctypes.c_void_p:
+        """The hub, for a call that begins."""
+        if self.waits:
+            raise Fault(BUSY)
+        return self.hub.handle
+
+    def _give(self, gives: _Gives, told: _Told) -> Any:
+        """What a call gives that was told this. The hub may have ended meanwhile."""
+        if self.hub._live is None:
+            self.hub._settle()
+            if told.fault == GONE:
+                raise ValueError('the hub has ended')
+        return gives(told)
+
+    def _call(self, gives: _Gives, cases: bytes, count: int = 1, default: bool = False, word: int = 0) -> Any:
+        """Makes a call of these cases. The main thread begins it, so that it waits in slices, and may be interrupted."""
+        hub = self.hub
+        call = (hub._live or hub.handle, self.pid, cases, count, default, word)
+        if hub._left and self.waits:
+            raise Fault(BUSY)
+        if get_ident() != _main:
+            return self._give(gives, _select(*call))
+        return self._await(gives, starmap(_begin, (call,)))
+
+    def _await(self, gives: _Gives, asked: Iterable[_Told]) -> Any:
+        """Waits for the answer of a call that was told this, and gives what the call gives.
+
+        An exception may come between any two steps of the interpreter: KeyboardInterrupt, or what else the handler of a signal
+        raises. It loses no answer, since `told, = starmap(..)` calls the library and keeps what it tells within one step.
+        """
+        hub, pid = self.hub, self.pid
+        told: Optional[_Told] = None
+        try:
+            told, = asked
+            while told.what == WAITING:
+                told, = starmap(_resume, ((hub._handle, pid, _SLICE),))
+            if hub._left:
+                hub._left.pop(pid, None)
+            try:
+                return gives(told) if hub._live else self._give(gives, told)
+            except (Ended, Fault, ValueError):
+                told = None
+                raise
+        except BaseException:
+            if told is not None:
+                hub._left[pid] = gives, told
+            raise

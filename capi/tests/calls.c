@@ -1,31 +1,8 @@
 /* Each call of chanhub.h, by one thread with a stack of 64 KB: what it returns, and the journal at the end. */
-#include "chanhub.h"
+#include "tally.h"
 
 #include <pthread.h>
-#include <stdio.h>
 #include <stdlib.h>
-#include <string.h>
-
-static int tried, wrong;
-
-static void is(const char *name, long long found, long long wanted) {
-    tried++;
-    if (found == wanted) return;
-    wrong++;
-    printf("%s: found %lld, wanted %lld\n", name, found, wanted);
-}
-
-static void is_fault(const char *name, chanhub_told t, int number) {
-    is(name, t.what, CHANHUB_FAULT);
-    is(name, t.fault, number);
-}
-
-static void has_journal(const char *name, chanhub *hub, const char *wanted) {
-    size_t length;
-    char *text = chanhub_journal(hub, &length);
-    is(name, text && length == strlen(wanted) && memcmp(text, wanted, length) == 0, 1);
-    chanhub_free_text(text);
-}
 
 static void openings(void) {
     chanhub *hub;
@@ -114,7 +91,8 @@ static void edition_two(void) {
     cases[15].value = chanhub_bytes(long_bytes, 33);
     is_fault("33 bytes", chanhub_send(hub, 0, 1, cases[15].value), CHANHUB_BAD_CALL);
     is_fault("33 bytes", chanhub_select(hub, 0, cases, 16, false, 0), CHANHUB_BAD_CALL);
-    is_fault("no call waits", chanhub_cancel(hub, 0, 1000), CHANHUB_NOT_PARKED);
+    is_fault("no such process", chanhub_cancel(hub, 0, 256), CHANHUB_BAD_CALL);
+    is_fault("no call waits", chanhub_cancel(hub, 0, 255), CHANHUB_NOT_PARKED);
     is_fault("the eighth step", chanhub_recv(hub, 0, 1), CHANHUB_JOURNAL_FULL);
     is("exit", chanhub_exit(hub, 0).what, CHANHUB_DONE);
     has_journal("journal", hub,
@@ -150,11 +128,49 @@ static void nobody(void) {
     chanhub_free(hub);
 }
 
+/* A case that receives, with a value of which each byte is wrong. */
+static chanhub_case receive_of_rubbish(uint16_t port) {
+    chanhub_case c;
+    memset(&c, 255, sizeof c);
+    c.sends = false;
+    c.port = port;
+    return c;
+}
+
+/* The value of a receive is not read: not by a select, and not by what is begun. */
+static void rubbish_in_receives(void) {
+    chanhub *hub;
+    is("opened", chanhub_open(&hub, 2, 1, 100), 0);
+    is("made", chanhub_make(hub, 0, 2).port, 1);
+    is("sent", chanhub_send(hub, 0, 1, chanhub_bytes("ab", 2)).what, CHANHUB_SENT);
+    is("sent", chanhub_send(hub, 0, 1, chanhub_number(7)).what, CHANHUB_SENT);
+    chanhub_case cases[2] = { receive_of_rubbish(1), receive_of_rubbish(0) };
+    chanhub_told t = chanhub_select(hub, 0, cases, 2, true, 0);
+    is("got", t.what == CHANHUB_GOT && t.value.is_bytes && t.value.length == 2 && t.value.number == 0, 1);
+    t = chanhub_select(hub, 0, cases, 1, false, 0);
+    is("got", t.what == CHANHUB_GOT && !t.value.is_bytes && t.value.number == 7, 1);
+    has_journal("journal", hub, "chanhub journal 2\nprocs 1\n0 make 2\n0 send 1 #6162\n0 send 1 7\n0 select 0 r1 r0 default\n0 recv 1\n");
+    chanhub_free(hub);
+}
+
+/* A cancel of a number that is no process is in the journal where it is one of a byte, and else is a bad call. */
+static void cancels(void) {
+    chanhub *hub;
+    is("opened", chanhub_open(&hub, 2, 1, 100), 0);
+    is_fault("no call waits", chanhub_cancel(hub, 0, 64), CHANHUB_NOT_PARKED);
+    is_fault("no call waits", chanhub_cancel(hub, 0, 255), CHANHUB_NOT_PARKED);
+    for (unsigned other = 256; other; other *= 2) is_fault("no process", chanhub_cancel(hub, 0, other), CHANHUB_BAD_CALL);
+    has_journal("journal", hub, "chanhub journal 2\nprocs 1\n0 cancel 64\n0 cancel 255\n");
+    chanhub_free(hub);
+}
+
 static void *run(void *unused) {
     openings();
     nobody();
     edition_one();
     edition_two();
+    rubbish_in_receives();
+    cancels();
     return unused;
 }
 
@@ -164,6 +180,5 @@ int main(void) {
     if (pthread_attr_init(&small) || pthread_attr_setstacksize(&small, 65536)) return 2;
     if (pthread_create(&thread, &small, run, NULL) || pthread_join(thread, NULL)) return 2;
     pthread_attr_destroy(&small);
-    printf("calls: %d of %d right\n", tried - wrong, tried);
-    return wrong != 0;
+    return tally("calls");
 }

@@ -13,7 +13,9 @@ work=$(mktemp -d)
 trap 'rm -rf "$work"' EXIT
 export CHANHUB_LIBRARY="$library/libchanhub.so" CHANHUB_LIB="$library" CARGO_TARGET_DIR="$work/target" PYTHONDONTWRITEBYTECODE=1
 cc=${CC:-cc}
-flags="-std=c11 -O2 -Wall -Wextra -Werror -I."
+flags="-std=c11 -D_DEFAULT_SOURCE -O2 -Wall -Wextra -Werror -I."
+proved="../crates/hub_c/out/libhub_c.a $(dirname "$(rt doc)")/c/liblibc_c.a"
+threads='cancelled second closed stalled'
 
 # check NAME COMMAND..: whether the command succeeds; what it prints is shown where it does not.
 check() {
@@ -106,10 +108,19 @@ is_used_elsewhere() {
 echo 385 > "$work/sum"
 printf 'stalled: 0 recv 2\nstalled: 1 recv 1\n' > "$work/stalled"
 
-for test in calls crew; do
+for test in calls crew threads; do
     check "$test builds" "$cc" $flags "tests/$test.c" out/libchanhub.a -lpthread -o "$work/$test"
 done
+check 'resume builds' "$cc" $flags -Wl,--wrap=clock_gettime tests/resume.c out/libchanhub.a -lpthread -o "$work/resume"
 check 'each call' "$work/calls"
+for test in $threads; do
+    check "threads: $test" "$work/threads" "$test"
+done
+for test in alone threads; do
+    check "begun and resumed: $test" "$work/resume" "$test"
+done
+check 'inside builds' "$cc" $flags -Wl,--wrap=hub_c_do chanhub.c tests/inside.c $proved -lpthread -o "$work/inside"
+check 'no two inside of a hub' "$work/inside"
 for cap in 0 1 7 1024; do
     check "64 threads that pass 160,000 values, capacity $cap" crew crew "$cap" 5000 "$program"
 done
@@ -135,16 +146,27 @@ else
 fi
 
 if echo 'int main(void) { return 0; }' | "$cc" -fsanitize=thread -x c - -o "$work/empty" 2> "$work/errors" && "$work/empty"; then
-    check 'the thread sanitizer builds' "$cc" $flags -g -fsanitize=thread chanhub.c tests/crew.c ../crates/hub_c/out/libhub_c.a \
-        "$(dirname "$(rt doc)")/c/liblibc_c.a" -lpthread -o "$work/sanitized"
+    sanitize="$flags -g -fsanitize=thread"
+    for test in crew threads; do
+        check "$test builds for the thread sanitizer" "$cc" $sanitize chanhub.c "tests/$test.c" $proved -lpthread \
+            -o "$work/sanitized-$test"
+    done
+    check 'resume builds for the thread sanitizer' "$cc" $sanitize -Wl,--wrap=clock_gettime chanhub.c tests/resume.c $proved \
+        -lpthread -o "$work/sanitized-resume"
     for cap in 0 7; do
-        check "64 threads under the thread sanitizer, capacity $cap" crew sanitized "$cap" 200
+        check "64 threads under the thread sanitizer, capacity $cap" crew sanitized-crew "$cap" 200
+    done
+    for test in $threads; do
+        check "threads under the thread sanitizer: $test" "$work/sanitized-threads" "$test"
+    done
+    for test in alone threads; do
+        check "begun and resumed under the thread sanitizer: $test" "$work/sanitized-resume" "$test"
     done
 else
     skip 'the thread sanitizer' "$cc has none"
 fi
 if command -v valgrind > "$work/found"; then
-    for test in calls "crew $work 1 20" pool; do
+    for test in calls "crew $work 1 20" pool 'threads cancelled' 'threads second' 'threads closed' 'resume alone' 'resume threads'; do
         check "valgrind: $test" valgrind -q --error-exitcode=9 --leak-check=full --show-leak-kinds=all "$work"/$test
     done
 else

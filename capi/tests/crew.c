@@ -1,5 +1,5 @@
-/* 64 threads, half of which send and half of which receive, on two ports of one hub; now and then by a select. Each keeps
- * what it was told.
+/* 64 threads, half of which send and half of which receive, on two ports of one hub; now and then by a select, or by a call that
+ * is begun and resumed. Each keeps what it was told.
  *
  *     crew FOLDER CAP COUNT       writes FOLDER/journal, and FOLDER/told: each thread's answers as event lines
  */
@@ -17,14 +17,23 @@ static unsigned count;
 
 struct worker { pthread_t thread; unsigned pid; chanhub_told *told; uint64_t got; };
 
+/* Begins a call of these cases, and resumes it: at first for shorter times, then for as long as it takes. */
+static chanhub_told begin(unsigned pid, const chanhub_case *cases, unsigned i) {
+    chanhub_told t = chanhub_begin(hub, pid, cases, 2, false, i);
+    uint64_t nanoseconds = i % 3 * 20000;
+    for (unsigned tries = 0; t.what == CHANHUB_WAITING; tries++) {
+        t = chanhub_resume(hub, pid, tries < 3 ? nanoseconds : UINT64_MAX);
+    }
+    return t;
+}
+
 static chanhub_told ask(unsigned pid, unsigned i) {
     chanhub_value value = chanhub_number((uint64_t)pid << 32 | i);
     bool sends = pid % 2;
     unsigned port = 1 + pid / 2 % 2;
-    if (i % 8 == 3) {
-        chanhub_case cases[2] = { { sends, (uint16_t)port, value }, { sends, (uint16_t)port, value } };
-        return chanhub_select(hub, pid, cases, 2, false, i);
-    }
+    chanhub_case cases[2] = { { sends, (uint16_t)port, value }, { sends, (uint16_t)port, value } };
+    if (i % 8 == 3) return chanhub_select(hub, pid, cases, 2, false, i);
+    if (i % 8 == 5) return begin(pid, cases, i);
     return sends ? chanhub_send(hub, pid, port, value) : chanhub_recv(hub, pid, port);
 }
 

@@ -1,0 +1,116 @@
+/* No two threads are inside of a hub at once, and none reads what another was told: threads that pass bytes and numbers, look, read the
+ * journal, begin and resume, with every entry into the proved library counted.
+ *
+ * Linked with chanhub.c itself and with --wrap for hub_c_do.
+ */
+#include "tally.h"
+
+#include <pthread.h>
+#include <sched.h>
+#include <stdlib.h>
+
+enum { COUNT = 1500, SENDERS = 3, SECONDS = 300 };
+
+static chanhub *hub;
+static atomic_int inside, entries, overlaps, mixed, torn;
+static atomic_bool done;
+
+uint64_t __real_hub_c_do(void *at, uint8_t kind, uint8_t pid, uint16_t port, uint64_t value);
+
+/* Now and then it lets others run, who would find somebody inside. */
+uint64_t __wrap_hub_c_do(void *at, uint8_t kind, uint8_t pid, uint16_t port, uint64_t value) {
+    overlaps += atomic_fetch_add(&inside, 1) != 0;
+    if (++entries % 128 == 0) sched_yield();
+    uint64_t answer = __real_hub_c_do(at, kind, pid, port, value);
+    inside--;
+    return answer;
+}
+
+/* Bytes that tell whose they are, of a length that does too. */
+static chanhub_value value_of(unsigned pid) {
+    unsigned char bytes[32];
+    memset(bytes, 'a' + (int)pid, sizeof bytes);
+    return chanhub_bytes(bytes, 32 - pid);
+}
+
+static bool is_value_of_one(const chanhub_value *value) {
+    if (!value->is_bytes || value->length < 32 - SENDERS) return false;
+    chanhub_value wanted = value_of(32u - value->length);
+    return memcmp(value, &wanted, sizeof wanted) == 0;
+}
+
+/* Sends on port 1: by a send, by a select, or by what is begun and resumed. */
+static void *sends_bytes(void *at) {
+    unsigned pid = (unsigned)(size_t)at;
+    for (unsigned i = 0; i < COUNT; i++) {
+        chanhub_case cases[2] = { { .port = 0 }, { .sends = true, .port = 1, .value = value_of(pid) } };
+        chanhub_told t;
+        if (i % 3 == 0) t = chanhub_send(hub, pid, 1, cases[1].value);
+        else if (i % 3 == 1) t = chanhub_select(hub, pid, cases, 2, false, i);
+        else if ((t = chanhub_begin(hub, pid, cases, 2, false, i)).what == CHANHUB_WAITING) t = chanhub_resume(hub, pid, UINT64_MAX);
+        mixed += t.what != CHANHUB_SENT;
+    }
+    return NULL;
+}
+
+static void *receives_bytes(void *at) {
+    unsigned pid = (unsigned)(size_t)at;
+    for (unsigned i = 0; i < COUNT; i++) {
+        chanhub_told t = chanhub_recv(hub, pid, 1);
+        mixed += t.what != CHANHUB_GOT || !is_value_of_one(&t.value);
+    }
+    return NULL;
+}
+
+/* On port 2, which buffers nothing, each value that was sent was received. */
+static void *looks(void *at) {
+    while (!done) {
+        chanhub_counts c = chanhub_look(hub, 2);
+        torn += c.sent != c.received;
+    }
+    return at;
+}
+
+static void *reads(void *at) {
+    while (!done) {
+        size_t length;
+        char *text = chanhub_journal(hub, &length);
+        torn += !text || text[length - 1] != '\n' || memcmp(text, "chanhub journal 2\n", 18) != 0;
+        chanhub_free_text(text);
+        usleep(5000);
+    }
+    return at;
+}
+
+static void *sends_numbers(void *at) {
+    for (unsigned i = 0; i < COUNT; i++) mixed += chanhub_send(hub, 2 * SENDERS, 2, chanhub_number(i)).what != CHANHUB_SENT;
+    return at;
+}
+
+static void *receives_numbers(void *at) {
+    for (unsigned i = 0; i < COUNT; i++) mixed += chanhub_recv(hub, 2 * SENDERS + 1, 2).value.number != i;
+    return at;
+}
+
+int main(void) {
+    alarm(SECONDS);
+    if (chanhub_open(&hub, 2, 2 * SENDERS + 3, 1000000)) return 2;
+    is("made", chanhub_make(hub, 2 * SENDERS + 2, 1).port, 1);
+    is("made", chanhub_make(hub, 2 * SENDERS + 2, 0).port, 2);
+    void *(*others[])(void *) = { sends_numbers, receives_numbers, looks, reads };
+    enum { OTHERS = sizeof others / sizeof *others };
+    pthread_t threads[2 * SENDERS + OTHERS];
+    for (size_t i = 0; i < 2 * SENDERS + OTHERS; i++) {
+        void *(*work)(void *) = i < SENDERS ? sends_bytes : i < 2 * SENDERS ? receives_bytes : others[i - 2 * SENDERS];
+        if (pthread_create(&threads[i], NULL, work, (void *)i)) return 2;
+    }
+    for (size_t i = 0; i < 2 * SENDERS + 2; i++) pthread_join(threads[i], NULL);
+    done = true;
+    for (size_t i = 2 * SENDERS + 2; i < 2 * SENDERS + OTHERS; i++) pthread_join(threads[i], NULL);
+    chanhub_free(hub);
+    is("entries are counted", entries > 10 * COUNT, 1);
+    is("two at once", overlaps, 0);
+    is("mixed values", mixed, 0);
+    is("torn looks and journals", torn, 0);
+    return tally("inside");
+}

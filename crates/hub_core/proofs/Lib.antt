@@ -15,3 +15,4 @@ pub mod Reached
 pub mod Hubs
 pub mod Journeys
 pub mod Logs
+pub mod Shorts

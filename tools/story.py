@@ -20,6 +20,9 @@ RANDOM_JOURNALS = 200
 WINDOWED = 50
 MINUTE = 60
 MOST_ALLOCATIONS = 1000
+MOST_BYTES = 67_108_864
+# the most memory for the story of a journal of so many bytes that has the most entries
+MOST_MEMORY = 2_000_000_000
 
 
 class Program:
@@ -36,6 +39,16 @@ class Program:
         except subprocess.TimeoutExpired:
             return None
         return done.returncode, done.stdout, done.stderr
+
+    def memory(self, words, journal):
+        """The status, how many bytes of text were written, and the most memory in bytes that was resident."""
+        with tempfile.TemporaryFile() as text, tempfile.TemporaryFile() as given:
+            given.write(journal)
+            given.seek(0)
+            child = subprocess.Popen([self.path, *words], stdin=given, stdout=text, stderr=subprocess.DEVNULL)
+            _, status, usage = os.wait4(child.pid, 0)
+            child.returncode = os.waitstatus_to_exitcode(status)
+            return child.returncode, text.seek(0, os.SEEK_END), usage.ru_maxrss * 1024
 
     def run_to_full(self, words, journal=b""):
         """The status and what was written to standard error, where standard output takes nothing."""
@@ -162,11 +175,20 @@ def longest_journals(program, _):
     yield "one entry more", program.run(["text"], (makes + "0 make 1025\n").encode()) == refused("line 1000004: too long")
 
 
+def most_entries(program, _):
+    """Exits are no steps, so a journal may have as many as it has bytes for. All but the first are refused."""
+    head = b"chanhub journal 1\nprocs 1\n"
+    exits = (MOST_BYTES - len(head)) // len(b"0 exit\n")
+    status, written, memory = program.memory(["text"], head + b"0 exit\n" * exits)
+    yield f"a line for each of {exits} exits", status == 0 and written > exits * len("9586976  P0 exit")
+    yield f"their story within {MOST_MEMORY} bytes of memory, not {memory}", memory <= MOST_MEMORY
+
+
 def main():
     program = Program(sys.argv[1])
     passed = failed = 0
     with tempfile.TemporaryDirectory() as work:
-        for checks in (worked, texts, faulty_journals, arguments, devices, refused_allocations, longest_journals):
+        for checks in (worked, texts, faulty_journals, arguments, devices, refused_allocations, longest_journals, most_entries):
             for name, good in checks(program, work):
                 passed, failed = passed + good, failed + (not good)
                 if not good:

@@ -2,6 +2,8 @@
 
 ghost use Rattle.std.specs.Prelude.{◌≡◌, IfOk, IfErr, OnOk};
 ghost use Rattle.std.specs.Io.KnownBytes.{Appends};
+ghost use Rattle.hub_base.specs.ReadJournal.{IsFaultOf};
+ghost use Rattle.hub_base.specs.Text.{IsText};
 ghost use Rattle.hub_picture.specs.Svg.Page.{svg_text};
 ghost use Rattle.hub_replay.specs.Devices.{AppendsBeginning, Failed};
 ghost use Rattle.chanhub_story.specs.Explains.{Explains, HasNone, IsExplanation};
@@ -9,10 +11,11 @@ ghost use Rattle.chanhub_story.specs.Promises.{HasRefused};
 
 use crate::asked::{Asked, Form, window_of};
 use crate::fault::StoryFault;
-use hub_base::{MOST_BYTES, NoMemory, read_journal};
+use hub_base::{MOST_BYTES, NoMemory, ReadFault};
+use hub_core::{ShortJournal, read_short_journal};
 use hub_picture::{Drawing, drawing_of, write_svg};
 use hub_replay::{Sink, Source, read_up_to, write_whole};
-use hub_story::story_of;
+use hub_story::{short_story_of, story_of};
 use hub_story_text::story_text;
 use std::alloc::Global;
 
@@ -25,18 +28,30 @@ fn svg_of(alloc: Global, drawing: &Drawing) -> Result<Vec<u8>, NoMemory>
     Ok(text)
 }
 
-/// What is asked of the journal that these bytes are the text of.
-fn explanation(alloc: Global, asked: Asked, bytes: &[u8]) -> Result<Vec<u8>, StoryFault>
-    ensures ok { IfOk result (λ text. IsExplanation asked bytes.now text.items) }
-    ensures err { IfErr result (HasNone asked bytes.now) }
+/// The journal that these bytes are the text of. They are let go.
+fn journal_of(alloc: Global, bytes: Vec<u8>) -> Result<ShortJournal, ReadFault>
+    ensures found { IfOk result (λ j. IsText bytes.items j.head j.entries) }
+    ensures faulty { IfErr result (λ f. IsFaultOf bytes.items f) }
 {
-    let journal = read_journal(alloc, bytes)?;
+    read_short_journal(alloc, &bytes)
+}
+
+/// What is asked of the journal that these bytes are the text of.
+fn explanation(alloc: Global, asked: Asked, bytes: Vec<u8>) -> Result<Vec<u8>, StoryFault>
+    ensures ok { IfOk result (λ text. IsExplanation asked bytes.items text.items) }
+    ensures err { IfErr result (HasNone asked bytes.items) }
+{
+    let journal = journal_of(alloc, bytes)?;
     let window = window_of(asked, journal.entries().len())?;
-    let story = story_of(alloc, &journal)?;
     match asked.form {
-        Form::Text => Ok(story_text(alloc, &journal, &story, window)?),
+        Form::Text => {
+            let story = short_story_of(alloc, &journal)?;
+            Ok(story_text(alloc, &journal, &story, window)?)
+        }
         Form::Picture => {
-            let drawing = drawing_of(alloc, &journal, &story, window)?;
+            let story = story_of(alloc, &journal)?;
+            let whole = journal.write_out(alloc)?;
+            let drawing = drawing_of(alloc, &whole, &story, window)?;
             Ok(svg_of(alloc, &drawing)?)
         }
     }
@@ -60,7 +75,7 @@ pub(crate) fn explain<S: Source, W: Sink>(
         (AppendsBeginning (W.contents output.old) (W.contents output.new)))) }
 {
     let bytes = read_up_to(alloc, input, MOST_BYTES)?;
-    let text = explanation(alloc, asked, &bytes)?;
+    let text = explanation(alloc, asked, bytes)?;
     write_whole(output, &text)?;
     Ok(())
 }

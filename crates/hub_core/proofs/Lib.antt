@@ -16,3 +16,4 @@ pub mod Hubs
 pub mod Journeys
 pub mod Logs
 pub mod Counting
+pub mod Shorts

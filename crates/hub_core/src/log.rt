@@ -61,7 +61,7 @@ impl Model for Log {
 }
 
 /// What is kept of an entry beside its cases, which begin there.
-fn brief_of(entry: &Entry, first: usize) -> Brief
+pub(crate) fn brief_of(entry: &Entry, first: usize) -> Brief
     ensures { result ≡ brief_of entry.now first }
 {
     let step = match entry.step {
@@ -87,7 +87,7 @@ fn brief_of(entry: &Entry, first: usize) -> Brief
 }
 
 /// The cases of an entry; none where it is no call.
-fn cases_of(entry: &Entry) -> &[Case]
+pub(crate) fn cases_of(entry: &Entry) -> &[Case]
     ensures cases { result.now ≡ cases_of entry.now }
     ensures count { (first : ℕ) → length result.now ≡ case_count (brief_of entry.now first) }
     ensures few { length result.now ≤ CASE_PLACES }
@@ -99,8 +99,15 @@ fn cases_of(entry: &Entry) -> &[Case]
 }
 
 impl Brief {
+    /// Where its cases begin among those of all entries that are kept short.
+    pub(crate) fn first(self) -> usize
+        ensures { result ≡ self.first }
+    {
+        self.first
+    }
+
     /// How many cases its entry has.
-    fn count(self) -> usize
+    pub(crate) fn count(self) -> usize
         ensures { result ≡ case_count self }
     {
         match self.step {
@@ -146,7 +153,7 @@ fn has_room(briefs: &mut Vec<Brief>, entry: &Entry) -> bool
 }
 
 /// Writes entries out that are kept short.
-fn write_out(whole: &mut Vec<Entry>, briefs: &[Brief], cases: &[Case])
+pub(crate) fn write_out(whole: &mut Vec<Entry>, briefs: &[Brief], cases: &[Case])
     requires briefs { AreBriefs briefs.now cases.now }
     requires room { vec_len whole.old + length briefs.now ≤ vec_capacity whole.old }
     ensures items { whole.new.items ≡ whole.old.items ++ written briefs.now cases.now }
@@ -161,7 +168,7 @@ fn write_out(whole: &mut Vec<Entry>, briefs: &[Brief], cases: &[Case])
 }
 
 /// The entry at this place of those that are kept short; `None` behind the last.
-fn short_at(briefs: &[Brief], cases: &[Case], place: usize) -> Option<Entry>
+pub(crate) fn short_at(briefs: &[Brief], cases: &[Case], place: usize) -> Option<Entry>
     requires briefs { AreBriefs briefs.now cases.now }
     requires begin { StandFrom 0 briefs.now }
     ensures { result ≡ slice_get (written briefs.now cases.now) place }

@@ -16,6 +16,25 @@ with_end ends t =
     if is_parked t.event.what || is_some (slice_index_or ends t.asked None) then ends
     else slice_set ends t.asked (Some t)
 
--- the call was parked, and none of these ends is its
-abbrev pub waits_by : List (Option Told) → Told → Bool
-waits_by ends t = is_parked t.event.what && not (is_some (slice_index_or ends t.asked None))
+-- ---- the same, by the places of events among all that are told
+
+-- what is told at such a place
+abbrev pub told_at : List Told → Option ℕ → Option Told
+told_at all None = None
+told_at all (Some k) = slice_get all k
+
+-- of so many entries the places of the ends that are told
+pub record AreEndPlaces (all : List Told) (count : ℕ) (ends : List (Option ℕ)) : Type 0 where
+  pub within : (place k : ℕ) → slice_index_or ends place None ≡ Some k → k < length all
+  pub length : length ends ≡ count
+  pub each : (place : ℕ) → place < count → told_at all (slice_index_or ends place None) ≡ end_of all place
+
+-- with one event more, which stands at this place
+abbrev pub with_end_place : List (Option ℕ) → ℕ → Told → List (Option ℕ)
+with_end_place ends k t =
+    if is_parked t.event.what || is_some (slice_index_or ends t.asked None) then ends
+    else slice_set ends t.asked (Some k)
+
+-- the call was parked, and no end of it has a place
+abbrev pub waits_by_place : List (Option ℕ) → Told → Bool
+waits_by_place ends t = is_parked t.event.what && not (is_some (slice_index_or ends t.asked None))

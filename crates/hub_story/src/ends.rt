@@ -2,7 +2,7 @@
 
 ghost use Rattle.std.specs.Prelude.{◌≡◌, IfOk, length};
 ghost use Rattle.std.specs.List.{filter};
-ghost use Rattle.hub_story.specs.Ends.{AreEnds, with_end, waits_by};
+ghost use Rattle.hub_story.specs.Ends.{AreEndPlaces, AreEnds, waits_by_place, with_end, with_end_place};
 ghost use Rattle.hub_story.specs.Waiting.{is_stalled_by, stalled_by};
 
 use crate::Told;
@@ -34,9 +34,38 @@ pub(crate) fn ends_of(
     Ok(ends)
 }
 
+/// Takes in the event at this place. The first that is not `Parked` ends its entry.
+fn note_end_place(ends: &mut Vec<Option<u32>>, place: u32, told: &Told)
+    ensures { ends.new.items ≡ with_end_place ends.old.items place told.now }
+{
+    let asked = told.asked as usize;
+    if !matches!(told.event.what, What::Parked) && asked < ends.len() && ends[asked].is_none() {
+        ends[asked] = Some(place);
+    }
+}
+
+/// Where it is told how each of so many entries ended; nothing while it waits. So many events that their places do not
+/// fit find no memory.
+pub(crate) fn end_places_of(
+    alloc: Global,
+    told: &[Told],
+    count: usize,
+) -> Result<Vec<Option<u32>>, AllocError>
+    ensures { IfOk result (λ ends. AreEndPlaces told.now count ends.items) }
+{
+    let mut ends = vec![in alloc; None; count]?;
+    for (place, told) in told.iter().enumerate() {
+        if place > u32::MAX as usize {
+            return Err(AllocError);
+        }
+        note_end_place(&mut ends, place as u32, told);
+    }
+    Ok(ends)
+}
+
 /// Whether the call that was parked so had no other event.
-fn waits(ends: &[Option<Told>], told: &Told) -> bool
-    ensures { result ≡ waits_by ends.now told.now }
+fn waits(ends: &[Option<u32>], told: &Told) -> bool
+    ensures { result ≡ waits_by_place ends.now told.now }
 {
     matches!(told.event.what, What::Parked)
         && match ends.get(told.asked as usize) {
@@ -49,9 +78,9 @@ fn waits(ends: &[Option<Told>], told: &Told) -> bool
 pub(crate) fn waiting_of(
     alloc: Global,
     told: &[Told],
-    ends: &[Option<Told>],
+    ends: &[Option<u32>],
 ) -> Result<Vec<Told>, AllocError>
-    ensures { IfOk result (λ waiting. waiting.items ≡ filter (waits_by ends.now) told.now) }
+    ensures { IfOk result (λ waiting. waiting.items ≡ filter (waits_by_place ends.now) told.now) }
 {
     let mut waiting = Vec::new(alloc);
     for told in told {

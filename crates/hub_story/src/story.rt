@@ -7,12 +7,13 @@ ghost use Rattle.hub_story.specs.Passing.{passages};
 ghost use Rattle.hub_story.specs.Stories.{IsStoryOf};
 ghost use Rattle.hub_story.specs.Waiting.{stalled_by};
 
-use crate::ends::{ends_of, stalled_by, waiting_of};
+use crate::ends::{ends_of, stalled_by};
 use crate::levels::level_of;
 use crate::passing::passages_of;
-use crate::telling::tell_all;
-use crate::{Level, Passage, Told};
+use crate::short_story::short_story_of;
+use crate::{Level, Passage, ShortStory, Told};
 use hub_base::{Journal, NoMemory, Port};
+use hub_core::ShortJournal;
 use std::alloc::{AllocError, Global};
 
 /// What a journal tells.
@@ -29,14 +30,17 @@ pub struct Story {
 
 /// The story of a journal of 1 to `MOST_PROCS` processes. Its entries are stepped once, and none is copied; the journal
 /// need not be legal. `Err` where memory was refused.
-pub fn story_of(alloc: Global, journal: &Journal) -> Result<Story, NoMemory>
+pub fn story_of(alloc: Global, journal: &ShortJournal) -> Result<Story, NoMemory>
     requires head { IsHead journal.now.head }
     requires few { length journal.now.entries < 2 ^ 32 - 1 }
     ensures { IfOk result (λ story. IsStoryOf journal.now story) }
 {
-    let told = tell_all(alloc, journal)?;
+    let ShortStory {
+        told,
+        ends: _,
+        waiting,
+    } = short_story_of(alloc, journal)?;
     let ends = ends_of(alloc, &told, journal.entries().len())?;
-    let waiting = waiting_of(alloc, &told, &ends)?;
     Ok(Story {
         told,
         ends,

@@ -8,8 +8,8 @@ ghost use Rattle.hub_story.specs.LastCalls.{tells_of};
 
 use crate::Told;
 use crate::last_calls::{LastCalls, asked_of, no_calls, note_call};
-use hub_base::{Event, Events, Journal, NoMemory};
-use hub_core::Machine;
+use hub_base::{Event, Events, NoMemory};
+use hub_core::{Machine, ShortJournal};
 use std::alloc::{AllocError, Global};
 
 /// Tells the events of the entry at this place.
@@ -35,21 +35,22 @@ fn tell(
 }
 
 /// All that a journal tells, in order.
-pub(crate) fn tell_all(alloc: Global, journal: &Journal) -> Result<Vec<Told>, NoMemory>
+pub(crate) fn tell_all(alloc: Global, journal: &ShortJournal) -> Result<Vec<Told>, NoMemory>
     requires head { IsHead journal.now.head }
     requires few { length journal.now.entries < 2 ^ 32 - 1 }
     ensures { IfOk result (λ all. all.items ≡ told journal.now.head journal.now.entries) }
 {
     let mut machine = Machine::new(alloc, journal.head())?;
     let mut calls = no_calls();
-    let mut told = Vec::new(alloc);
+    let entries = journal.entries();
+    // Most steps have one event.
+    let mut told = Vec::with_capacity(alloc, entries.len())?;
     let mut events = Events::new();
-    let mut place = 0;
-    for entry in journal.entries() {
-        machine.answer(entry, &mut events)?;
-        note_call(&mut calls, place, entry, &events);
-        tell(&mut told, &calls, place, &events)?;
-        place += 1;
+    for place in 0..entries.len() {
+        let entry = entries.entry(place);
+        machine.answer(&entry, &mut events)?;
+        note_call(&mut calls, place as u32, &entry, &events);
+        tell(&mut told, &calls, place as u32, &events)?;
     }
     Ok(told)
 }

@@ -1,12 +1,14 @@
 -- Waits that stand longest first, one by one.
 use Rattle.std.proofs.Common.{◌≡◌, ◌≤◌, ◌<◌, ◌+◌, ℕ, zero, suc, Bool, true, false, List, [], ◌∷◌, ◌++◌, length, take, drop}
 use Rattle.std.proofs.Common.{refl, ap, ◌∙◌, sym, arith, append_assoc, length-append, append-nil, add-one, get_or}
-use Rattle.std.specs.Prelude.{cond, nat_lt, insert}
+use Rattle.std.specs.Prelude.{Some, cond, count_by, nat_lt, insert, slice_get}
+use Rattle.std.specs.Int.{from_bool}
 use Rattle.std.specs.List.{cons_option, fold}
 use Rattle.std.proofs.Math.Seq.{drop-cons}
 use Rattle.std.proofs.lemmas.Bool.{lt-ltb}
 use Rattle.std.proofs.lemmas.List.{drop_all}
-use Rattle.std.proofs.lemmas.List.Sums.{fold-append}
+use Rattle.std.proofs.lemmas.List.Sums.{count_by_more_no, count_by_more_yes, fold-append}
+use Rattle.std.proofs.lemmas.Option.{get_or_from_slice_get}
 use Rattle.hub_story.specs.declared.told.Told.{Told}
 use Rattle.hub_story.specs.Told.{end_of}
 use Rattle.hub_story_text.specs.declared.waits.TheConstants.{MOST_LONGEST}
@@ -80,3 +82,17 @@ no-wait-more ws new so = rw (append-nil ws) so
 pub waits-next : (count n : ℕ) (all : List Told) →
     waits_below count all (n + 1) ≡ waits_below count all n ++ cons_option (wait_of count n (end_of all n)) []
 waits-next count n all = ap (waits_below count all) (add-one n)
+
+-- ---- how many entries are such
+pub count-next : {A : Type 0} (p : A → Bool) (xs : List A) (i : ℕ) (x : A) (b : Bool) (count : ℕ) → i < length xs → slice_get xs i ≡ Some x → b ≡ p x →
+    count ≡ count_by p (take i xs) → count + from_bool b ≡ count_by p (take (i + 1) xs)
+count-next p xs i x true count below at is so =
+    let here : p (get_or xs i x) ≡ true = ap p (get_or_from_slice_get xs i x x at) ∙ sym is in
+    omega (arith, so, count_by_more_yes p xs i x below here)
+count-next p xs i x false count below at is so =
+    let here : p (get_or xs i x) ≡ false = ap p (get_or_from_slice_get xs i x x at) ∙ sym is in
+    omega (arith, so, count_by_more_no p xs i x below here)
+
+pub one-at-most : (b : Bool) → from_bool b ≤ 1
+one-at-most true = omega arith
+one-at-most false = omega arith

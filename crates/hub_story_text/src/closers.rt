@@ -3,7 +3,8 @@
 ghost use Rattle.std.specs.Prelude.{◌≡◌, IfOk, filter};
 ghost use Rattle.hub_story_text.specs.Closers.{closed_port, closer_of, closes, is_close, port_closed};
 
-use hub_base::{Entry, Port, Step, What};
+use hub_base::{Port, Step, What};
+use hub_core::ShortEntries;
 use hub_story::Told;
 use std::alloc::{AllocError, Global};
 
@@ -18,7 +19,7 @@ fn port_closed(step: &Step) -> Option<Port>
 }
 
 /// The port of which the event says that its close was done.
-fn closed_port(entries: &[Entry], told: &Told) -> Option<Port>
+fn closed_port(entries: &ShortEntries, told: &Told) -> Option<Port>
     ensures { result ≡ closed_port entries.now told.now }
 {
     if !matches!(told.event.what, What::Done) {
@@ -31,7 +32,7 @@ fn closed_port(entries: &[Entry], told: &Told) -> Option<Port>
 }
 
 /// Whether it is this one.
-fn closes(entries: &[Entry], port: Port, told: &Told) -> bool
+fn closes(entries: &ShortEntries, port: Port, told: &Told) -> bool
     ensures { result ≡ closes entries.now port told.now }
 {
     match closed_port(entries, told) {
@@ -43,7 +44,7 @@ fn closes(entries: &[Entry], port: Port, told: &Told) -> bool
 /// The closes that were done, in order.
 pub(crate) fn closes_of(
     alloc: Global,
-    entries: &[Entry],
+    entries: &ShortEntries,
     told: &[Told],
 ) -> Result<Vec<Told>, AllocError>
     ensures { IfOk result (λ closes. closes.items ≡ filter (is_close entries.now) told.now) }
@@ -58,7 +59,7 @@ pub(crate) fn closes_of(
 }
 
 /// The first of these events that says that this port was closed.
-pub(crate) fn closer_of(entries: &[Entry], told: &[Told], port: Port) -> Option<Told>
+pub(crate) fn closer_of(entries: &ShortEntries, told: &[Told], port: Port) -> Option<Told>
     ensures { result ≡ closer_of entries.now told.now port }
 {
     for told in told {

@@ -7,16 +7,17 @@ ghost use Rattle.hub_story_text.specs.LineText.{told_line};
 ghost use Rattle.hub_story_text.specs.Partners.{partner_of};
 
 use crate::lines::put_line;
-use hub_base::{Entry, Journal, NoMemory};
-use hub_story::{Story, Told};
+use hub_base::{Entry, NoMemory};
+use hub_core::ShortJournal;
+use hub_story::{ShortStory, Told};
 
 /// A journal, its story, and for each entry the other one of the passage in which it stands.
 #[derive(Clone, Copy)]
 pub(crate) struct Explained<'a> {
     /// The journal.
-    pub(crate) journal: &'a Journal,
+    pub(crate) journal: &'a ShortJournal,
     /// Its story.
-    pub(crate) story: &'a Story,
+    pub(crate) story: &'a ShortStory,
     /// The other entries.
     pub(crate) partners: &'a [Option<u32>],
 }
@@ -36,7 +37,7 @@ impl<'a> Explained<'a> {
         requires within { place < length (entries_of self.now) }
         ensures { result ≡ end_of (told_of self.now) place }
     {
-        item_at(&self.story.ends, place)
+        self.story.end(place)
     }
 
     /// The other entry of the passage in which it stands.

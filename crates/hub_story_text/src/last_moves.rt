@@ -7,8 +7,9 @@ ghost use Rattle.hub_story_text.specs.LastMoves.{AreLast, AreNext, IsWhole, got_
 ghost use Rattle.hub_story_text.specs.Leavers.{leaves};
 
 use crate::leavers::note_leaver;
-use hub_base::{Case, Entry, Outcome, Pid, Port, What};
-use hub_story::{Told, case_at};
+use hub_base::{Case, Outcome, Pid, Port, What};
+use hub_core::ShortEntries;
+use hub_story::Told;
 use std::alloc::{AllocError, Global};
 
 /// How many numbers a case can give a port.
@@ -80,7 +81,7 @@ impl LastMoves {
     }
 
     /// Takes in who moved a value by the next event of these entries.
-    fn note_mover(&mut self, entries: &[Entry], told: &Told)
+    fn note_mover(&mut self, entries: &ShortEntries, told: &Told)
         requires { IsWhole self.old }
         ensures next { AreNext entries.now told.now self.old self.new }
         ensures left { self.new.left.items ≡ self.old.left.items }
@@ -89,7 +90,7 @@ impl LastMoves {
         let What::Fired { case, outcome } = told.event.what else {
             return;
         };
-        let Some(case) = case_at(entries, told.asked, case) else {
+        let Some(case) = entries.case_at(told.asked as usize, case) else {
             return;
         };
         let mover = Mover {
@@ -101,7 +102,7 @@ impl LastMoves {
     }
 
     /// Takes in the next event of these entries.
-    fn note(&mut self, entries: &[Entry], told: &Told) -> Result<(), AllocError>
+    fn note(&mut self, entries: &ShortEntries, told: &Told) -> Result<(), AllocError>
         requires { IsWhole self.old }
         ensures next { OnOk result (AreNext entries.now told.now self.old self.new) }
         ensures left { OnOk result (
@@ -113,7 +114,11 @@ impl LastMoves {
     }
 
     /// Takes in these events, in order, behind those so far.
-    pub(crate) fn note_all(&mut self, entries: &[Entry], told: &[Told]) -> Result<(), AllocError>
+    pub(crate) fn note_all(
+        &mut self,
+        entries: &ShortEntries,
+        told: &[Told],
+    ) -> Result<(), AllocError>
         requires { IsWhole self.old }
         ensures last { OnOk result (
             (before : List Told) → AreLast entries.now before self.old → AreLast entries.now (before ++ told.now) self.new) }

@@ -3,12 +3,13 @@
 ghost use Rattle.std.specs.Prelude.{◌≡◌, ◌∷◌, ◌++◌, [], filter, OnOk};
 ghost use Rattle.hub_story_text.specs.Leavers.{leaves};
 
-use hub_base::{Entry, Step, What};
+use hub_base::{Step, What};
+use hub_core::ShortEntries;
 use hub_story::Told;
 use std::alloc::AllocError;
 
 /// Whether the event says that an exit was done.
-fn leaves(entries: &[Entry], told: &Told) -> bool
+fn leaves(entries: &ShortEntries, told: &Told) -> bool
     ensures { result ≡ leaves entries.now told.now }
 {
     matches!(told.event.what, What::Done)
@@ -21,7 +22,7 @@ fn leaves(entries: &[Entry], told: &Told) -> bool
 /// Takes in who leaves by the next event, if anybody does.
 pub(crate) fn note_leaver(
     left: &mut Vec<Told>,
-    entries: &[Entry],
+    entries: &ShortEntries,
     told: &Told,
 ) -> Result<(), AllocError>
     ensures { OnOk result (left.new.items ≡ left.old.items ++ filter (leaves entries.now) (told.now ∷ [])) }

@@ -12,6 +12,7 @@ use crate::cells::{ANSWER, ASKS, VALUE, WAITED, close_cell, open_cell, put_right
 use crate::ends::{Ending, ends_cell};
 use crate::numbers::{number_of, put_number};
 use hub_base::{Case, Edition, Entry, NoMemory, Outcome, Port, What, write_entry};
+use hub_core::ShortEntries;
 use hub_story::{Told, cases_of};
 use std::alloc::AllocError;
 
@@ -45,7 +46,7 @@ fn put_still(out: &mut Vec<u8>, place: u32, count: usize) -> Result<(), AllocErr
 }
 
 /// Appends the process of the entry at this place, and its step.
-fn put_step(out: &mut Vec<u8>, entries: &[Entry], place: u32) -> Result<(), AllocError>
+fn put_step(out: &mut Vec<u8>, entries: &ShortEntries, place: u32) -> Result<(), AllocError>
     ensures { OnOk result (out.new.items ≡ out.old.items ++ step_words entries.now place) }
 {
     if let Some(entry) = entries.get(place as usize) {
@@ -57,7 +58,7 @@ fn put_step(out: &mut Vec<u8>, entries: &[Entry], place: u32) -> Result<(), Allo
 /// Appends where a value went that was sent on this port.
 fn put_sent(
     out: &mut Vec<u8>,
-    entries: &[Entry],
+    entries: &ShortEntries,
     port: Port,
     partner: Option<u32>,
 ) -> Result<(), AllocError>
@@ -73,7 +74,11 @@ fn put_sent(
 }
 
 /// Appends where a value came from that was received.
-fn put_got(out: &mut Vec<u8>, entries: &[Entry], partner: Option<u32>) -> Result<(), AllocError>
+fn put_got(
+    out: &mut Vec<u8>,
+    entries: &ShortEntries,
+    partner: Option<u32>,
+) -> Result<(), AllocError>
     ensures { OnOk result (out.new.items ≡ out.old.items ++ got_words entries.now partner) }
 {
     let Some(place) = partner else {
@@ -86,7 +91,7 @@ fn put_got(out: &mut Vec<u8>, entries: &[Entry], partner: Option<u32>) -> Result
 /// Appends where the value went or came from that the case moved.
 fn put_passed(
     out: &mut Vec<u8>,
-    entries: &[Entry],
+    entries: &ShortEntries,
     partner: Option<u32>,
     case: Case,
     outcome: Outcome,
@@ -103,7 +108,7 @@ fn put_passed(
 /// Appends where the value of a step went or came from, or what is wrong with the step.
 fn put_moved(
     out: &mut Vec<u8>,
-    entries: &[Entry],
+    entries: &ShortEntries,
     cases: &[Case],
     partner: Option<u32>,
     what: What,
@@ -167,7 +172,7 @@ fn still_cell(out: &mut Vec<u8>, start: usize, place: u32, count: usize) -> Resu
 fn value_cell(
     out: &mut Vec<u8>,
     start: usize,
-    entries: &[Entry],
+    entries: &ShortEntries,
     cases: &[Case],
     partner: Option<u32>,
     what: What,
@@ -195,7 +200,7 @@ fn put_waits(out: &mut Vec<u8>, start: usize, place: u32, count: usize) -> Resul
 fn put_end(
     out: &mut Vec<u8>,
     start: usize,
-    entries: &[Entry],
+    entries: &ShortEntries,
     place: u32,
     entry: &Entry,
     partner: Option<u32>,
@@ -217,7 +222,7 @@ fn put_end(
 /// Appends the line of the entry at this place.
 pub(crate) fn put_line(
     out: &mut Vec<u8>,
-    entries: &[Entry],
+    entries: &ShortEntries,
     place: u32,
     entry: &Entry,
     partner: Option<u32>,

@@ -6,8 +6,9 @@ ghost use Rattle.hub_story_text.specs.Partners.{AreIn, is_made, ports_made, ways
 ghost use Rattle.hub_story_text.specs.PortMoves.{AreMoves, paired};
 
 use crate::port_moves::{PortMoves, places_on};
-use hub_base::{Journal, MOST_PORTS, Port, What};
-use hub_story::{Story, Told};
+use hub_base::{MOST_PORTS, Port, What};
+use hub_core::ShortJournal;
+use hub_story::{ShortStory, Told};
 use std::alloc::{AllocError, Global};
 
 /// Whether the event tells that a port was made.
@@ -51,8 +52,8 @@ fn note_pairs(table: &mut Vec<Option<u32>>, sent: &[u32], received: &[u32])
 /// For each entry the other one of the passage in which it stands.
 pub(crate) fn partners_of(
     alloc: Global,
-    journal: &Journal,
-    story: &Story,
+    journal: &ShortJournal,
+    story: &ShortStory,
     moves: &PortMoves,
 ) -> Result<Vec<Option<u32>>, AllocError>
     requires { AreMoves journal.now.entries story.now.told.items moves.now }

@@ -11,8 +11,9 @@ ghost use Rattle.hub_story_text.specs.PortMoves.{AreMore, AreMoves, move_at, pla
 
 use crate::fullest::{Fullest, fullest_of};
 use crate::last_moves::{got_port, sent_port};
-use hub_base::{Entry, Port, What};
-use hub_story::{Level, Told, case_at};
+use hub_base::{Port, What};
+use hub_core::ShortEntries;
+use hub_story::{Level, Told};
 use std::alloc::{AllocError, Global};
 
 /// A call that moved a value.
@@ -51,13 +52,13 @@ fn push_move(moves: &mut Vec<PortMove>, port: Option<Port>, told: &Told) -> Resu
 
 impl PortMoves {
     /// Takes in the next event of these entries.
-    fn note(&mut self, entries: &[Entry], told: &Told) -> Result<(), AllocError>
+    fn note(&mut self, entries: &ShortEntries, told: &Told) -> Result<(), AllocError>
         ensures { OnOk result (AreMore entries.now told.now self.old self.new) }
     {
         let What::Fired { case, outcome } = told.event.what else {
             return Ok(());
         };
-        let Some(case) = case_at(entries, told.asked, case) else {
+        let Some(case) = entries.case_at(told.asked as usize, case) else {
             return Ok(());
         };
         push_move(&mut self.sent, sent_port(case, outcome), told)?;
@@ -67,7 +68,7 @@ impl PortMoves {
     /// All that are told of these entries.
     pub(crate) fn of(
         alloc: Global,
-        entries: &[Entry],
+        entries: &ShortEntries,
         told: &[Told],
     ) -> Result<PortMoves, AllocError>
         ensures { IfOk result (AreMoves entries.now told.now) }

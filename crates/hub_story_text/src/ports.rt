@@ -13,12 +13,13 @@ use crate::closers::{closer_of, closes_of};
 use crate::fullest::Fullest;
 use crate::numbers::{number_of, put_number};
 use crate::port_moves::PortMoves;
-use hub_base::{Journal, Port, Step, What};
-use hub_story::{Level, Story, Told};
+use hub_base::{Port, Step, What};
+use hub_core::ShortJournal;
+use hub_story::{Level, ShortStory, Told};
 use std::alloc::AllocError;
 
 /// Appends the capacity of the port that the entry at this place made.
-fn put_cap(out: &mut Vec<u8>, journal: &Journal, place: u32) -> Result<(), AllocError>
+fn put_cap(out: &mut Vec<u8>, journal: &ShortJournal, place: u32) -> Result<(), AllocError>
     ensures { OnOk result (out.new.items ≡
         out.old.items ++ option_map_or (λ e. cap_words e.step) (slice_get journal.now.entries place) []) }
 {
@@ -76,8 +77,8 @@ fn put_closer(out: &mut Vec<u8>, closer: Option<Told>) -> Result<(), AllocError>
 /// Appends what a port carried that this event says was made.
 fn put_port(
     out: &mut Vec<u8>,
-    journal: &Journal,
-    story: &Story,
+    journal: &ShortJournal,
+    story: &ShortStory,
     moves: &PortMoves,
     closes: &[Told],
     told: &Told,
@@ -103,8 +104,8 @@ fn put_port(
 /// Appends a line for each port, in the order in which they were made.
 pub(crate) fn put_ports(
     out: &mut Vec<u8>,
-    journal: &Journal,
-    story: &Story,
+    journal: &ShortJournal,
+    story: &ShortStory,
     moves: &PortMoves,
 ) -> Result<(), AllocError>
     requires whole { told_by (length journal.now.entries) story.now.told.items ≡ story.now.told.items }

@@ -85,11 +85,12 @@ pub(crate) fn put_steps(
 {
     let entries = explained.journal.entries();
     let mut rest: &[Told] = &explained.story.told;
-    for (place, entry) in entries.iter().enumerate() {
+    for place in 0..entries.len() {
         let (came, later) = rest.split_at(count_of(rest, place as u32));
         moves.note_all(entries, came)?;
+        let entry = entries.entry(place);
         if window.has(place as u32) {
-            put_told_line(out, explained, place as u32, entry, came)?;
+            put_told_line(out, explained, place as u32, &entry, came)?;
             put_stalled(out, explained, moves, came)?;
         }
         rest = later;

@@ -1,7 +1,7 @@
 //! The whole text.
 
 ghost use Rattle.std.specs.Prelude.{◌≡◌, ◌<◌, ◌-◌, ◌^◌, ◌++◌, [], length, IfOk, OnOk};
-ghost use Rattle.hub_story.specs.Stories.{IsStoryOf};
+ghost use Rattle.hub_story.specs.Stories.{IsShortStoryOf};
 ghost use Rattle.hub_story_text.specs.Explained.{IsExplained, entries_of, told_of};
 ghost use Rattle.hub_story_text.specs.LastMoves.{AreLast, IsWhole};
 ghost use Rattle.hub_story_text.specs.PortMoves.{AreMoves};
@@ -16,8 +16,9 @@ use crate::ports::put_ports;
 use crate::steps::put_steps;
 use crate::waiters::put_waiters;
 use crate::waits::put_waits;
-use hub_base::{Journal, NoMemory};
-use hub_story::Story;
+use hub_base::NoMemory;
+use hub_core::ShortJournal;
+use hub_story::ShortStory;
 use std::alloc::Global;
 
 const HEADING: &[u8] =
@@ -62,11 +63,11 @@ fn put_story(
 /// memory was refused.
 pub fn story_text(
     alloc: Global,
-    journal: &Journal,
-    story: &Story,
+    journal: &ShortJournal,
+    story: &ShortStory,
     window: Window,
 ) -> Result<Vec<u8>, NoMemory>
-    requires story { IsStoryOf journal.now story.now }
+    requires story { IsShortStoryOf journal.now story.now }
     requires few { length journal.now.entries < 2 ^ 32 - 1 }
     ensures { IfOk result (λ text. text.items ≡ story_text window journal.now.entries story.now.told.items) }
 {

@@ -7,8 +7,9 @@ ghost use Rattle.hub_story_text.specs.WaiterText.{case_words, left_words, mover_
 
 use crate::last_moves::{LastMoves, Mover};
 use crate::numbers::{number_of, put_number};
-use hub_base::{Case, Entry, Port};
-use hub_story::{Told, cases_at};
+use hub_base::{Case, Port};
+use hub_core::ShortEntries;
+use hub_story::Told;
 use std::alloc::AllocError;
 
 /// Appends a process and a step, behind these words.
@@ -88,7 +89,7 @@ fn put_left(out: &mut Vec<u8>, left: &[Told]) -> Result<(), AllocError>
 /// Appends a call that waited, and its cases.
 fn put_waiter(
     out: &mut Vec<u8>,
-    entries: &[Entry],
+    entries: &ShortEntries,
     moves: &LastMoves,
     told: &Told,
 ) -> Result<(), AllocError>
@@ -96,13 +97,13 @@ fn put_waiter(
         ++ waiter_words entries.now (mover_at moves.now.sent.items) (mover_at moves.now.received.items) told.now) }
 {
     put_who(out, b" waits since step ", told)?;
-    put_cases(out, moves, cases_at(entries, told.asked))
+    put_cases(out, moves, entries.cases_at(told.asked as usize))
 }
 
 /// Appends these calls.
 fn put_calls(
     out: &mut Vec<u8>,
-    entries: &[Entry],
+    entries: &ShortEntries,
     moves: &LastMoves,
     waiters: &[Told],
 ) -> Result<(), AllocError>
@@ -120,7 +121,7 @@ pub(crate) fn put_waiters(
     out: &mut Vec<u8>,
     nobody: &[u8],
     heading: &[u8],
-    entries: &[Entry],
+    entries: &ShortEntries,
     moves: &LastMoves,
     waiters: &[Told],
 ) -> Result<(), AllocError>

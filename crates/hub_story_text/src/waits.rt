@@ -8,7 +8,8 @@ ghost use Rattle.hub_story_text.specs.Waits.{AreWaits, is_call, line_at, wait_of
 
 use crate::explained::{Explained, put_told_line};
 use crate::numbers::put_number;
-use hub_base::{Entry, NoMemory, Step};
+use hub_base::{NoMemory, Step};
+use hub_core::ShortEntries;
 use hub_story::Told;
 use std::alloc::{AllocError, Global};
 
@@ -108,13 +109,20 @@ impl Waits {
     }
 }
 
+/// Whether the step is a call.
+fn is_call(step: &Step) -> bool
+    ensures { result ≡ is_call step.now }
+{
+    matches!(step, Step::Call { .. })
+}
+
 /// How many of these entries are calls.
-fn calls_of(entries: &[Entry]) -> usize
+fn calls_of(entries: &ShortEntries) -> usize
     ensures { result ≡ count_by (λ e. is_call e.step) entries.now }
 {
     let mut calls = 0;
-    for entry in entries {
-        calls += usize::from(matches!(entry.step, Step::Call { .. }));
+    for place in 0..entries.len() {
+        calls += usize::from(is_call(&entries.entry(place).step));
     }
     calls
 }
@@ -128,7 +136,7 @@ fn put_wait(out: &mut Vec<u8>, explained: &Explained, wait: Wait) -> Result<(), 
     let Some(entry) = explained.journal.entries().get(wait.place as usize) else {
         return Ok(());
     };
-    put_told_line(out, explained, wait.place, entry, &[])
+    put_told_line(out, explained, wait.place, &entry, &[])
 }
 
 /// Appends the lines of these.

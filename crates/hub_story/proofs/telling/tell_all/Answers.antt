@@ -1,25 +1,26 @@
-use Rattle.std.proofs.Common.{refl, arith, ap, length, take}
+use Rattle.std.proofs.Common.{◌≡◌, ◌<◌, ◌∙◌, sym, arith, ap, length, take, slice_get, Some}
+use Rattle.std.proofs.lemmas.Option.{get_or_from_slice_get}
 use Rattle.hub_story.proofs.Tellings.{has-none, has-next}
 use Rattle.hub_story.proofs.telling.tell_all.Goals as goal
 
-pub loop-entry-init : goal.loop-entry-init
-loop-entry-init c =
+pub loop-place-init : goal.loop-place-init
+loop-place-init c =
     let follows = rw c.head.ensures at c.in_ok-machine.ensures in
     record {
       follows = follows;
       steps = omega (arith, follows.steps);
-      has = rw c.new-told.ensures.items (has-none c.args.journal.now.head c.no_calls-calls.result c.no_calls-calls.ensures);
-      place = refl;
+      has = rw c.in_ok-told.ensures.items (has-none c.args.journal.now.head c.no_calls-calls.result c.no_calls-calls.ensures);
     }
 
-pub loop-entry-preserved : goal.loop-entry-preserved
-loop-entry-preserved c =
-    let answers = c.in_ok-answer.ensures.ok c.args.journal.now.head
-    (take c.loop-entry.entry-index c.args.journal.now.entries) c.loop-entry.invariant.follows in
-    let place = c.loop-entry.invariant.place in
-    let next = has-next c.args.journal.now.head c.args.journal.now.entries c.loop-entry.entry-index c.entry-item.result c.loop-entry.calls
-    c.note_call.new.calls c.loop-entry.told.items c.tell.new.told.items c.answer.new.events.items c.answer.new.self
-    (omega (arith, ap length c.entries-entry-items.ensures)) (rw c.entries-entry-items.ensures at c.entry-item.is)
-    c.loop-entry.invariant.has answers c.note_call.ensures.pid
-    (rw (c.deref.ensures.0, place) at c.note_call.ensures.calls) (rw (c.deref-in-loop-entry.ensures.0, place) at c.in_ok-tell.ensures) in
-    record { follows = next.0; steps = omega (arith, c.in_ok-answer.ensures.steps, c.loop-entry.invariant.steps); has = next.1; place = omega (arith, place) }
+pub loop-place-preserved : goal.loop-place-preserved
+loop-place-preserved c =
+    let es = c.args.journal.now.entries in
+    let place = c.loop-place.place in
+    let entry = c.entry-entry.result in
+    let answers = c.in_ok-answer.ensures.ok c.args.journal.now.head (take place es) c.loop-place.invariant.follows in
+    let here : slice_get es place ≡ Some entry = ap (λ xs. slice_get xs place) (sym c.entries-entries.ensures) ∙ c.entry-entry.ensures in
+    let below : place < length es = omega (arith, c.loop-place-test.true, ap length c.entries-entries.ensures) in
+    let next = has-next c.args.journal.now.head es place entry c.loop-place.calls c.note_call.new.calls c.loop-place.told.items c.tell.new.told.items
+    c.answer.new.events.items c.answer.new.self below (sym (get_or_from_slice_get es place entry entry here)) c.loop-place.invariant.has answers
+    c.note_call.ensures.pid (rw c.deref.ensures.0 at c.note_call.ensures.calls) (rw c.deref-in-loop-place.ensures.0 at c.in_ok-tell.ensures) in
+    record { follows = next.0; steps = omega (arith, c.in_ok-answer.ensures.steps, c.loop-place.invariant.steps); has = next.1 }

@@ -7,4 +7,4 @@ returns c =
     rw c.in-Some.is (λ before line at is. value before _ at (c.in_ok-waited_cell.ensures before _ at (answer before line at is)))
 
 pub returns-in_default : goal.returns-in_default
-returns-in_default c = rw c.in_default.is c.put_waits.ensures
+returns-in_default c = rw c.in_default.is (rw c.len.ensures at c.put_waits.ensures)

@@ -1,4 +1,5 @@
 use Rattle.std.proofs.Common.{refl, ◌∙◌, ◌++◌, ◌≡◌, ◌<◌, ap, sym, subst, arith, length}
+use Rattle.std.proofs.lemmas.Option.{get_or_from_slice_get}
 use Rattle.hub_story.specs.Levels.{told_by}
 use Rattle.hub_story_text.specs.Explained.{entries_of, told_of}
 use Rattle.hub_story_text.specs.LastMoves.{AreLast}
@@ -33,23 +34,24 @@ loop-place-preserved c =
     let below : place < length es = omega (arith, c.loop-place-test.true, ap length c.entries-entries.ensures) in
     elim c.if-has.branch [
       | then-has+in_ok-put_told_line+in_ok-put_stalled w ↦
-          rw (w.rest-is, w.out-is) (record {
+          rw w.out-is (record {
             cut = next.cut;
             last = last;
             whole = c.note_all.ensures.whole;
             text =
-                step-shown c.args.window es told place c.index-entries-place.result out w.put_stalled.new.out.items _ below
+                step-shown c.args.window es told place c.entry-entry.result out w.put_stalled.new.out.items _ below
                 (sym c.has.ensures ∙ w.if-has.true) so.text
                 (one-more out w.put_told_line.new.out.items w.put_stalled.new.out.items _ _ w.in_ok-put_told_line.ensures w.in_ok-put_stalled.ensures
-                ∙ ap (λ l. out ++ l) (step-is es told place c.index-entries-place.result _ c.note_all.new.self next.came last)
-                ∙ ap (λ e. out ++ step_text es told place e) (rw c.entries-entries.ensures at c.index-entries-place.is));
+                ∙ ap (λ l. out ++ l) (step-is es told place c.entry-entry.result _ c.note_all.new.self next.came last)
+                ∙ ap (λ e. out ++ step_text es told place e)
+                (sym (get_or_from_slice_get es place c.entry-entry.result c.entry-entry.result (rw c.entries-entries.ensures at c.entry-entry.ensures))));
           })
       | else-has w ↦
-          rw (w.rest-is, w.out-is) (record {
+          rw w.out-is (record {
             cut = next.cut;
             last = last;
             whole = c.note_all.ensures.whole;
-            text = step-hidden c.args.window es told place c.index-entries-place.result out _ below (sym c.has.ensures ∙ w.if-has.false) so.text;
+            text = step-hidden c.args.window es told place c.entry-entry.result out _ below (sym c.has.ensures ∙ w.if-has.false) so.text;
           })
     ]
 

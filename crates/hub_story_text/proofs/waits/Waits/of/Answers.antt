@@ -10,7 +10,8 @@ loop-place-preserved c =
     let told = told_of c.args.explained.now in
     let place = c.loop-place.place in
     let count = length (entries_of c.args.explained.now) in
-    let is = c.wait_of.ensures ∙ ap (λ l. wait_of (length l) place c.end.result) c.entries-count.ensures ∙ ap (wait_of count place) c.end.ensures in
+    let many : c.len-count.result ≡ count = c.len-count.ensures ∙ ap length c.entries.ensures in
+    let is = c.wait_of.ensures ∙ ap (λ n. wait_of n place c.end.result) many ∙ ap (wait_of count place) c.end.ensures in
     record {
       waits =
           subst (λ ws. AreWaits ws c.note.new.self) (ap (λ o. waits_below count told place ++ cons_option o []) is ∙ sym (waits-next count place told))
@@ -22,5 +23,5 @@ pub returns : goal.returns
 returns c =
     let es = entries_of c.args.explained.now in
     let last : c.loop-place.place ≡ length es =
-    omega (arith, c.loop-place.auto.place-end, c.loop-place-test.false, ap length c.entries-count.ensures) in
+    omega (arith, c.loop-place.auto.place-end, c.loop-place-test.false, c.len-count.ensures, ap length c.entries.ensures) in
     subst (λ k. AreWaits (waits_below (length es) (told_of c.args.explained.now) k) c.loop-place.waits) last c.loop-place.invariant.waits

@@ -331,8 +331,14 @@ class Ends(unittest.TestCase):
 
 class Interrupts(unittest.TestCase):
     def setUp(self):
-        before = signal.signal(signal.SIGINT, signal.default_int_handler)
-        self.addCleanup(signal.signal, signal.SIGINT, before)
+        self.inside = False
+        self.addCleanup(signal.signal, signal.SIGINT, signal.signal(signal.SIGINT, self.handle))
+
+    def handle(self, *_):
+        """As the default does, but only once for each call that is to be interrupted."""
+        if self.inside:
+            self.inside = False
+            raise KeyboardInterrupt
 
     def interrupted(self, call):
         """How long it took from Ctrl-C to the exception."""
@@ -345,10 +351,11 @@ class Interrupts(unittest.TestCase):
         thread = threading.Thread(target=interrupt)
         thread.start()
         with self.assertRaises(KeyboardInterrupt):
+            self.inside = True
             call()
-        took = time.monotonic() - sent[0]
+        raised = time.monotonic()
         thread.join()
-        return took
+        return raised - sent[0]
 
     def is_busy(self, seat):
         self.assertTrue(seat.waits)
@@ -429,14 +436,7 @@ class Interrupts(unittest.TestCase):
 
     def test_an_answer_that_comes_with_an_interrupt_is_not_lost(self):
         """A thread sends numbers while signals come all the time; a handler raises only within a call of the seat."""
-        count, inside, interrupts = 4000, [False], [0]
-
-        def handler(*_):
-            if inside[0]:
-                inside[0] = False
-                interrupts[0] += 1
-                raise KeyboardInterrupt
-        signal.signal(signal.SIGINT, handler)
+        count, interrupts = 4000, 0
         hub = Hub(procs=2)
         seat = hub.seat(0)
         port = seat.make(0)
@@ -457,19 +457,19 @@ class Interrupts(unittest.TestCase):
         got = []
         while True:
             try:
-                inside[0] = True
+                self.inside = True
                 value = seat.resume() if seat.waits else seat.recv(port)
-                inside[0] = False
+                self.inside = False
                 got.append(value)
             except KeyboardInterrupt:
-                pass
+                interrupts += 1
             except Drained:
-                inside[0] = False
+                self.inside = False
                 break
         done.set()
         self.assertTrue(joined(threads))
         self.assertEqual(got, list(range(count)))
-        self.assertGreater(interrupts[0], 10)
+        self.assertGreater(interrupts, 10)
 
 
 if __name__ == '__main__':

@@ -37,7 +37,8 @@ use Rattle.hub_base.proofs.HexDigits.{bytes-push, digit-hex, encode-push}
 use Rattle.hub_base.proofs.Values.{content-saying, is-value, padded_is}
 use Rattle.hub_base.specs.Writing.{spaced, spaced_cases}
 use Rattle.hub_base.specs.Lines.{line, step_fields, case_field, call, call_fields, select_fields, default_field, spelled, is_hex}
-use Rattle.hub_base.specs.Quick.{EndsLine, Stands, GoesOn, ValueStands, SendStands, RecvStands, CaseStands, CasesStand, SelectStands, NumberStands, StepStands, Begins, BeginsExit}
+use Rattle.hub_base.specs.Quick.{EndsLine, Stands, GoesOn, ValueStands, SendStands, RecvStands, CaseStands, CasesStand}
+use Rattle.hub_base.specs.Quick.{SelectStands, NumberStands, StepStands, Begins, BeginsExit}
 use Rattle.hub_base.specs.Reading.{Reading, Reads, Faulty, behind, is_exit, with_entry, entries_from, rows}
 use Rattle.hub_base.specs.Text.{CaseFits, StepFits, Fits, body, steps_of}
 use Rattle.hub_base.proofs.Bodies.{rows-entry}

@@ -69,7 +69,8 @@ makes_on-as s m pid cap h = record {
 
 -- ---- an exit
 -- a process has exited then if it had, or is the one that exits
-pub gone-more : (gone : List Bool) (pid q : ℕ) (same : Bool) → pid < length gone → (pid == q) ≡ same → gone_on (slice_set gone pid true) q ≡ (gone_on gone q || same)
+pub gone-more : (gone : List Bool) (pid q : ℕ) (same : Bool) → pid < length gone → (pid == q) ≡ same
+    → gone_on (slice_set gone pid true) q ≡ (gone_on gone q || same)
 gone-more gone pid q true room is =
     let here : gone_on (slice_set gone pid true) pid ≡ true = get_or-set_same gone pid true false room in
     subst (λ (n : ℕ). gone_on (slice_set gone pid true) n ≡ true) (eqb-true pid q is) here ∙ sym (or-true (gone_on gone q))

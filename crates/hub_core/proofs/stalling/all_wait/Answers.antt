@@ -8,5 +8,6 @@ overflow_add-result c = omega (arith, count-le-procs c.args.gone.now c.args.proc
 
 pub returns-then-waiting-ne0 : goal.returns-then-waiting-ne0
 returns-then-waiting-ne0 c =
-    let counts = all_wait-counts c.args.board.now c.args.gone.now c.args.left c.args.procs c.requires.procs c.requires.left c.requires.apart c.requires.present in
+    let counts = all_wait-counts c.args.board.now c.args.gone.now c.args.left c.args.procs
+    c.requires.procs c.requires.left c.requires.apart c.requires.present in
     grind (arith, common_steps)

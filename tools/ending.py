@@ -22,6 +22,7 @@ LAST_PATIENCE = 10
 ended_by = None
 # held where a process is started, and where the end begins: none is started behind it
 starting = threading.RLock()
+has_begun = threading.Event()
 
 # Until `end_by_signals` Ctrl-C ends the script without a word.
 if signal.getsignal(signal.SIGINT) is signal.default_int_handler:
@@ -46,6 +47,7 @@ def end(number, _):
         signal.signal(it, signal.SIG_IGN)
     with starting:
         ended_by = number
+        has_begun.set()
     end_all()
     sys.exit(128 + number)
 
@@ -70,6 +72,9 @@ def run(words, **how):
         child = subprocess.Popen(words, **how)
     with child:
         said, _ = child.communicate()
+    if -child.returncode in SIGNALS:
+        # Ctrl-C reaches what was started as well, and may do so first.
+        has_begun.wait(PATIENCE)
     if ended_by:
         raise SystemExit
     return subprocess.CompletedProcess(words, child.returncode, said)

@@ -279,14 +279,15 @@ def locked(room, crate):
         os.close(held)
 
 
-def heard(child, seconds):
-    """What it has said by then, and has not ended."""
-    time.sleep(seconds)
+def heard(child):
+    """The first line that it says, and has not ended; after ten seconds what there is of it."""
     os.set_blocking(child.stderr.fileno(), False)
-    try:
-        said = os.read(child.stderr.fileno(), 65536).decode()
-    except BlockingIOError:
-        said = ''
+    said = ''
+    until = time.monotonic() + 10
+    while '\n' not in said and time.monotonic() < until:
+        time.sleep(0.05)
+        with contextlib.suppress(BlockingIOError):
+            said += os.read(child.stderr.fileno(), 65536).decode()
     os.set_blocking(child.stderr.fileno(), True)
     return said if child.poll() is None else ''
 
@@ -298,7 +299,7 @@ def waits(tests, room):
         write(room.path('crates', 'low', 'src', 'lib.rt'), '//! For %s.\n' % name)
         with locked(room, 'low'):
             child = room.start(*words)
-            told = heard(child, 1.5)
+            told = heard(child)
         child.communicate(timeout=60)
         # What explain.sh explains stays.
         end(*room.left())
@@ -332,7 +333,7 @@ def interrupt(tests, room, number, *words, to_all=False):
         told, errors = child.communicate()
     spent = time.monotonic() - began
     ran, left = room.left()
-    tests.tell(name + ', with its status', (child.returncode, told) == (128 + number, '') and spent < 5, (child.returncode, told, '%d s' % spent))
+    tests.tell(name + ', with its status', (child.returncode, told) == (128 + number, '') and spent < 10, (child.returncode, told, '%d s' % spent))
     tests.tell(name + ', without a traceback', 'Traceback' not in errors and 'not built' not in errors, errors[-200:])
     tests.same(name + ', with all that it started', ran, [])
     tests.same(name + ', and leaves no folder', left, [])
@@ -362,6 +363,7 @@ def killed(tests, room):
     """A build that has no time to say anything."""
     time.sleep(0.1)
     write(room.path('crates', 'low', 'src', 'lib.rt'), '//! For a killed build.\n')
+    shutil.rmtree(room.path('crates', 'high', 'out'))
     write(os.path.join(room.kit, 'slow'), 'high')
     write(room.log, '')
     child = room.start('tools/build.py', 'chanhub')
@@ -416,6 +418,10 @@ def installs(tests, room):
 
 def main():
     tests = Tests()
+    # What is started here hears these signals, though this script may have been started deaf to some, as in the background.
+    signal.signal(signal.SIGINT, signal.default_int_handler)
+    for number in (signal.SIGTERM, signal.SIGHUP):
+        signal.signal(number, signal.SIG_DFL)
     with tempfile.TemporaryDirectory() as folder:
         room = Room(folder)
         for part in (by_its_line, by_another, wrapper, waits, killed, interrupts, gate, installs):

@@ -280,11 +280,8 @@ class Tests:
         before = self.left()
         what = '%s ends by %s and leaves nothing' % (name, number.name)
         try:
-            # A script that is started in the background is deaf to Ctrl-C, so it is asked for here.
-            child = subprocess.Popen(
-                [os.path.join(TOOLS, name), *words], env=self.env, start_new_session=True, stdout=subprocess.PIPE, stderr=subprocess.STDOUT,
-                preexec_fn=lambda: signal.signal(signal.SIGINT, signal.default_int_handler),
-            )
+            how = {'env': self.env, 'start_new_session': True, 'stdout': subprocess.PIPE, 'stderr': subprocess.STDOUT}
+            child = subprocess.Popen([os.path.join(TOOLS, name), *words], **how)
         except OSError:
             self.tell(what, False)
             return
@@ -327,6 +324,8 @@ def main():
     program = os.path.abspath(words[0])
     story = os.path.abspath(words[1] if len(words) > 1 else os.path.join(ROOT, 'crates', 'chanhub_story', 'out', 'chanhub_story'))
     mutations = int(words[2]) if len(words) > 2 else 1500
+    # What is started here hears Ctrl-C, though this script may have been started deaf to it, as in the background.
+    signal.signal(signal.SIGINT, signal.default_int_handler)
     with tempfile.TemporaryDirectory() as folder:
         tests = Tests(program, story, folder)
         for part in (lambda: tests.lint_agrees(mutations), tests.lint_says_where, tests.explains, tests.stalls, tests.counts, tests.reports):

@@ -4,19 +4,26 @@ import os
 import subprocess
 
 ROOT = os.path.dirname(os.path.dirname(os.path.abspath(__file__)))
+LIST = os.path.join(ROOT, 'crates.txt')
 
 
 def folder(tree, crate):
     return os.path.join(tree, 'crates', crate)
 
 
+@functools.lru_cache
 def read_heads():
-    """Each crate's words before the colon, its name and what it is, with the libraries that it names."""
-    with open(os.path.join(ROOT, 'crates.txt')) as file:
-        for line in file:
-            head, colon, libraries = line.partition('#')[0].partition(':')
-            if colon:
-                yield head.split(), libraries.split()
+    """Each crate's words before the colon, its name and what it is, with the libraries that it names; all as they stood when this was
+    first called, so that one script goes by one list."""
+    with open(LIST) as file:
+        parts = [line.partition('#')[0].partition(':') for line in file]
+    return [(head.split(), libraries.split()) for head, colon, libraries in parts if colon]
+
+
+def line_of(crate):
+    """A crate's own line, in one spelling."""
+    lines = {head[0]: f"{' '.join(head)}: {' '.join(libraries)}" for head, libraries in read_heads()}
+    return lines[crate]
 
 
 def read_lines():

@@ -4,8 +4,10 @@
 # tests and the live hub's, which `./test` has built, with theirs refused; compares model.py, CLAIMS and the quotations of
 # README with what they speak of; looks for limits that are written as numbers, and for definitions and proofs that are too
 # wide; counts the instructions of replays, where valgrind is there; tries a close by an end that receives; has each program
-# refuse bad arguments; converses with the built chanhub_serve; compares the stories and pictures of the built chanhub_story with second readings; and builds and
-# tries the C library. The last line counts: 'N passed, M failed', and how many were skipped, if any, for what the machine
+# refuse bad arguments; converses with the built chanhub_serve; compares the stories and pictures of the built chanhub_story
+# with second readings; tries the scripts that build, by builds_test.py, and those that look at scenarios, by
+# scenarios_test.py; and builds and tries the C library. The last line counts: 'N passed, M failed', and how many were
+# skipped, if any, for what the machine
 # lacks.
 set -u
 root=$(cd "$(dirname "$0")/.." && pwd)
@@ -50,6 +52,10 @@ hub_refusals=$!
 instructions=$!
 "$root/tools/story.py" "$story" > "$work/stories" 2>&1 &
 stories=$!
+"$root/tools/builds_test.py" > "$work/builds" 2>&1 &
+builds=$!
+"$root/tools/scenarios_test.py" "$program" "$story" > "$work/scenarios" 2>&1 &
+scenarios=$!
 
 for events in "$root"/examples/journals/*.stdout; do
     journal=${events%.stdout}
@@ -187,6 +193,10 @@ grep '^skipped: ' "$work/pictures"
 skipped=$((skipped + $(skipped_in "$work/pictures")))
 wait "$stories"
 count $? "stories: $(cat "$work/stories")"
+wait "$builds"
+count $? "builds: $(cat "$work/builds")"
+wait "$scenarios"
+count $? "scenarios: $(cat "$work/scenarios")"
 
 # Built over what the gate has proved; the last line counts with what was skipped.
 make -C "$root/capi" > "$work/capi" 2>&1 &&

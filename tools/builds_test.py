@@ -1,0 +1,439 @@
+#!/usr/bin/env python3
+"""builds_test.py [TREE]: tries build.py, current.py, ../chanhub, ../test, ../capi/Makefile and explain.sh of this tree, or of another one,
+on a small tree of crates with a toolchain that only writes files.
+
+That shows what is built, what is waited for and what is left, in seconds. A line for each test that fails; the last line counts:
+'N passed, M failed'.
+"""
+import contextlib
+import fcntl
+import os
+import shutil
+import signal
+import stat
+import subprocess
+import sys
+import tempfile
+import time
+
+TREE = os.path.abspath(sys.argv[1] if len(sys.argv) > 1 else os.path.join(os.path.dirname(os.path.abspath(__file__)), '..'))
+
+LINES = {'low': 'low: arrayvec', 'high': 'high: low', 'hub_c': 'hub_c staticlib: low', 'chanhub': 'chanhub: low high', 'chanhub_story': 'chanhub_story: low'}
+PROGRAMS = ('chanhub', 'chanhub_story')
+
+RT = '''#!/bin/sh
+case $1 in
+    doc) echo "$KIT/START-HERE.md" ;;
+    ci)
+        # As rt does: what is built is set aside, and the rest of a run takes long.
+        mkdir -p .git/rt-aside
+        for crate in low high chanhub; do mv "crates/$crate/out" ".git/rt-aside/$crate"; done
+        mkdir -p crates/low/out/rlib/low.rlib crates/hub_c/out
+        echo half > crates/hub_c/out/libhub_c.a
+        mktemp -d
+        echo rt >> "$LOG"
+        setsid sleep 60 &
+        sleep 60
+        ;;
+esac
+'''
+
+# It writes half of what it makes, takes long for the crate that is named in the file `slow`, and then writes all.
+RATTLE = '''#!/bin/sh
+while [ $# -gt 0 ]; do
+    case $1 in --crate-name) name=$2 ;; -o) to=$2 ;; esac
+    shift
+done
+case $to in *.rlib) mkdir -p "$to"; place=$to/part ;; *) place=$to ;; esac
+echo half > "$place"
+echo "$name" >> "$LOG"
+if [ "$(cat "$KIT/slow")" = "$name" ]; then
+    mktemp -d > /dev/null
+    setsid sleep 60 &
+    sleep 60
+fi
+case $to in
+    *.a) cp "$KIT/one.a" "$place" ;;
+    *.rlib) echo whole > "$place" ;;
+    *) printf '#!/bin/sh\\necho ran "$@"\\n' > "$place" ;;
+esac
+echo logic=proved
+'''
+
+LINK = '''#!/bin/sh
+while [ $# -gt 0 ]; do
+    case $1 in -o) to=$2 ;; esac
+    shift
+done
+cp "$to.o" "$to"
+chmod +x "$to"
+'''
+
+
+def write(path, text, is_program=False):
+    os.makedirs(os.path.dirname(path), exist_ok=True)
+    with open(path, 'w') as file:
+        file.write(text)
+    if is_program:
+        os.chmod(path, os.stat(path).st_mode | stat.S_IXUSR | stat.S_IXGRP | stat.S_IXOTH)
+
+
+def read(path):
+    try:
+        with open(path) as file:
+            return file.read()
+    except OSError:
+        return None
+
+
+class Room:
+    """A small tree with the scripts of TREE, and the toolchain that it is built by."""
+
+    def __init__(self, folder):
+        self.top = os.path.join(folder, 'tree')
+        self.kit = os.path.join(folder, 'kit')
+        self.log = os.path.join(folder, 'log')
+        self.kept = os.path.join(folder, 'kept')
+        self.mark = 'BUILDS_TEST=%s' % folder
+        os.mkdir(self.kept)
+        for name in ('tools', 'test', 'chanhub'):
+            source = os.path.join(TREE, name)
+            (shutil.copytree if os.path.isdir(source) else shutil.copy2)(source, self.path(name))
+        os.makedirs(self.path('.git'))
+        os.makedirs(self.path('capi'))
+        shutil.copy2(os.path.join(TREE, 'capi', 'Makefile'), self.path('capi', 'Makefile'))
+        write(self.path('capi', 'chanhub.c'), 'int chanhub_open(void) { return 0; }\n')
+        write(self.path('capi', 'chanhub.h'), 'int chanhub_open(void);\n')
+        for crate in LINES:
+            write(self.path('crates', crate, 'src', 'main.rt' if crate in PROGRAMS else 'lib.rt'), '//! A crate.\n')
+        write(os.path.join(self.kit, 'path', 'rt'), RT, True)
+        write(os.path.join(self.kit, 'bin', 'rattle'), RATTLE, True)
+        write(os.path.join(self.kit, 'bin', 'rattle-link'), LINK, True)
+        write(os.path.join(self.kit, 'slow'), '')
+        self.archives()
+        self.write_lines(LINES)
+
+    def archives(self):
+        for name in ('one', 'liblibc_c', 'libos_c'):
+            place = os.path.join(self.kit, 'c' if name.startswith('lib') else '.', name)
+            write(place + '.c', 'int %s_here;\n' % name)
+            subprocess.run([os.environ.get('CC', 'cc'), '-c', '-fPIC', place + '.c', '-o', place + '.o'], check=True)
+            subprocess.run(['ar', 'rcs', place + '.a', place + '.o'], check=True)
+
+    def path(self, *parts):
+        return os.path.join(self.top, *parts)
+
+    def write_lines(self, lines):
+        write(self.path('crates.txt'), ''.join(line + '\n' for line in lines.values()))
+
+    def env(self, has_rt=True):
+        words = os.environ['PATH'].split(':')
+        words = [it for it in words if not os.path.exists(os.path.join(it, 'rt'))]
+        if has_rt:
+            words.insert(0, os.path.join(self.kit, 'path'))
+        name, value = self.mark.split('=')
+        env = {**os.environ, 'PATH': ':'.join(words), 'KIT': self.kit, 'LOG': self.log, 'TMPDIR': self.kept, name: value}
+        return env
+
+    def start(self, *words, **how):
+        return subprocess.Popen(
+            words, cwd=self.top, env=self.env(), stdin=subprocess.DEVNULL, stdout=subprocess.PIPE, stderr=subprocess.PIPE, text=True,
+            start_new_session=True, **how,
+        )
+
+    def run(self, *words, has_rt=True):
+        try:
+            done = subprocess.run(
+                words, cwd=self.top, env=self.env(has_rt), stdin=subprocess.DEVNULL, capture_output=True, text=True, timeout=60,
+            )
+        except FileNotFoundError:
+            return None, '', 'there is no such script'
+        return done.returncode, done.stdout, done.stderr
+
+    def built(self, *words, has_rt=True):
+        """Which crates a command builds, or `None` where it fails."""
+        write(self.log, '')
+        status, _, _ = self.run(*words, has_rt=has_rt)
+        return sorted(read(self.log).split()) if status == 0 else None
+
+    def build(self, crate='chanhub'):
+        return self.built('tools/build.py', crate)
+
+    def left(self):
+        """What runs of all that was started here, and what it left of its folders."""
+        ours = set()
+        for name in filter(str.isdigit, os.listdir('/proc')):
+            try:
+                with open('/proc/%s/environ' % name, 'rb') as file:
+                    if self.mark.encode() in file.read().split(b'\0'):
+                        ours.add(name)
+            except OSError:
+                pass
+        folders = [os.path.join(place, it) for place, inside, _ in os.walk(self.path('crates')) for it in inside if it == 'building' or it.startswith('tmp')]
+        return sorted(ours), [os.path.join(self.kept, it) for it in os.listdir(self.kept)] + folders
+
+    def wait_for(self, word):
+        """Waits until a check of this crate has begun."""
+        until = time.monotonic() + 20
+        while word not in (read(self.log) or '').split():
+            if time.monotonic() > until:
+                raise TimeoutError('nobody began with ' + word)
+            time.sleep(0.02)
+        time.sleep(0.1)
+
+
+class Tests:
+    def __init__(self):
+        self.passed = self.failed = 0
+
+    def tell(self, name, is_well, why=''):
+        self.passed += bool(is_well)
+        self.failed += not is_well
+        if not is_well:
+            print(('failed: %s: %s' % (name, why)).rstrip(': '), flush=True)
+
+    def same(self, name, found, wanted):
+        self.tell(name, found == wanted, '%r, and not %r' % (found, wanted))
+
+
+def by_its_line(tests, room):
+    tests.same('a first build builds all that a program stands on', room.build(), ['chanhub', 'high', 'low'])
+    tests.same('what is built is not built again', room.build(), [])
+    time.sleep(0.1)
+    room.write_lines({**LINES, 'other': 'other: low'})
+    tests.same('a line added to crates.txt makes no crate stale', room.build(), [])
+    tests.same('a line added makes no crate stale for ./chanhub', room.built('./chanhub', 'replay'), [])
+    time.sleep(0.1)
+    room.write_lines({**LINES, 'high': 'high: low  itoa # a library more'})
+    tests.same('a line that changes makes its crate stale, and those above it', room.build(), ['chanhub', 'high'])
+    time.sleep(0.1)
+    room.write_lines({**LINES, 'high': 'high: low itoa'})
+    tests.same('spaces and comments of a line make nothing stale', room.build(), [])
+    time.sleep(0.1)
+    room.write_lines({**LINES, 'high': 'high: low itoa', 'chanhub': 'chanhub may_wait=2: low high'})
+    tests.same('a word of a line makes its crate stale', room.built('./chanhub'), ['chanhub'])
+    time.sleep(0.1)
+    room.write_lines(LINES)
+    tests.same('a line that is as it was makes its crate stale once more', room.build(), ['chanhub', 'high'])
+    time.sleep(0.1)
+    write(room.path('crates', 'high', 'src', 'lib.rt'), '//! An edit.\n')
+    tests.same('an edit makes its crate stale, for ./chanhub too', room.built('./chanhub', 'replay'), ['chanhub', 'high'])
+    # As a copy that keeps times does.
+    os.utime(room.path('crates', 'high', 'src', 'lib.rt'), (1, 1))
+    tests.same('an older file makes no crate stale', (room.build(), room.built('./chanhub')), ([], []))
+
+
+def by_another(tests, room):
+    """What `rt` built has no note of its line."""
+    for crate in LINES:
+        for name in ('built_by', 'checked'):
+            if os.path.exists(room.path('crates', crate, 'out', name)):
+                os.remove(room.path('crates', crate, 'out', name))
+    os.utime(room.path('crates.txt'), (1, 1))
+    tests.same('what rt built is taken where crates.txt is older', room.build(), [])
+    time.sleep(0.1)
+    room.write_lines({**LINES, 'other': 'other: low'})
+    tests.same('and goes by its line from then on', room.build(), [])
+    time.sleep(0.1)
+    # `rt` builds it by another line, and then the line is as it was.
+    room.write_lines({**LINES, 'high': 'high: low itoa'})
+    time.sleep(0.1)
+    for place in (('high', 'out', 'rlib', 'high.rlib'), ('chanhub', 'out', 'chanhub')):
+        os.utime(room.path('crates', *place))
+    time.sleep(0.1)
+    room.write_lines(LINES)
+    tests.same('what rt built by another line is stale', room.build(), ['chanhub', 'high'])
+
+
+def wrapper(tests, room):
+    tests.same('./chanhub runs the program with its words', room.run('./chanhub', 'run', 'a b'), (0, 'ran run a b\n', ''))
+    spent = []
+    for _ in range(5):
+        began = time.monotonic()
+        room.run('./chanhub')
+        spent.append(time.monotonic() - began)
+    tests.tell('./chanhub begins at once', min(spent) < 0.15, '%.2f s' % min(spent))
+    tests.same('./chanhub needs no rt where it is built', room.run('./chanhub', 'replay', has_rt=False), (0, 'ran replay\n', ''))
+    status, told, errors = room.run('./chanhub', '--help', has_rt=False)
+    tests.tell('./chanhub --help', (status, errors, told.count('\n')) == (0, '', 10) and 'ran' not in told.split() and './chanhub verify' in told)
+    tests.same('./chanhub takes --help beside other words as the program does', room.run('./chanhub', '--help', 'run'), (0, 'ran --help run\n', ''))
+    time.sleep(0.1)
+    write(room.path('crates', 'low', 'src', 'lib.rt'), '//! Another edit.\n')
+    for words, wanted in ((('./chanhub', 'replay'), 125), (('tools/build.py', 'chanhub'), 1)):
+        status, told, errors = room.run(*words, has_rt=False)
+        is_well = (status, told) == (wanted, '') and 'no command rt on the path' in errors.splitlines()[0] and 'Traceback' not in errors
+        tests.tell('%s says that there is no rt' % words[0], is_well and errors.count('\n') <= 2, (status, errors[-300:]))
+    status, told, errors = room.run('./chanhub', '--help')
+    tests.tell('./chanhub --help builds nothing', status == 0 and 'ran' not in told.split() and not errors)
+    room.build()
+
+
+@contextlib.contextmanager
+def locked(room, crate):
+    """Another build works in this crate."""
+    held = os.open(room.path('crates', crate), os.O_RDONLY)
+    try:
+        fcntl.flock(held, fcntl.LOCK_EX)
+        yield
+    finally:
+        os.close(held)
+
+
+def heard(child):
+    """The first line that it says, and has not ended; after ten seconds what there is of it."""
+    os.set_blocking(child.stderr.fileno(), False)
+    said = ''
+    until = time.monotonic() + 10
+    while '\n' not in said and time.monotonic() < until:
+        time.sleep(0.05)
+        with contextlib.suppress(BlockingIOError):
+            said += os.read(child.stderr.fileno(), 65536).decode()
+    os.set_blocking(child.stderr.fileno(), True)
+    return said if child.poll() is None else ''
+
+
+def waits(tests, room):
+    """Another build holds what is to be built."""
+    for name, *words in (('./chanhub', './chanhub', 'replay'), ('make -C capi', 'make', '-C', 'capi'), ('explain.sh', 'tools/explain.sh', 'scenario')):
+        time.sleep(0.1)
+        write(room.path('crates', 'low', 'src', 'lib.rt'), '//! For %s.\n' % name)
+        with locked(room, 'low'):
+            child = room.start(*words)
+            told = heard(child)
+        child.communicate(timeout=60)
+        # What explain.sh explains stays.
+        end(*room.left())
+        tests.tell('%s says for what it waits' % name, told.count('\n') == 1 and 'waiting for another build' in told and 'crates/low' in told, told)
+    room.build()
+    with locked(room, 'low'):
+        child = room.start('tools/build.py', 'chanhub')
+        try:
+            child.communicate(timeout=5)
+        except subprocess.TimeoutExpired:
+            child.kill()
+            child.communicate()
+    tests.same('what is built waits for nobody', child.returncode, 0)
+
+
+def interrupt(tests, room, number, *words, to_all=False):
+    """Ends a build while `high` is built, and looks at what is left."""
+    name = '%s ends by %s%s' % (words[0], number.name, ' to its group' if to_all else '')
+    time.sleep(0.1)
+    write(room.path('crates', 'low', 'src', 'lib.rt'), '//! For %s.\n' % name)
+    write(os.path.join(room.kit, 'slow'), 'high')
+    write(room.log, '')
+    child = room.start(*words)
+    room.wait_for('high')
+    began = time.monotonic()
+    (os.killpg if to_all else os.kill)(child.pid, number)
+    try:
+        told, errors = child.communicate(timeout=20)
+    except subprocess.TimeoutExpired:
+        os.killpg(child.pid, signal.SIGKILL)
+        told, errors = child.communicate()
+    spent = time.monotonic() - began
+    ran, left = room.left()
+    tests.tell(name + ', with its status', (child.returncode, told) == (128 + number, '') and spent < 10, (child.returncode, told, '%d s' % spent))
+    tests.tell(name + ', without a traceback', 'Traceback' not in errors and 'not built' not in errors, errors[-200:])
+    tests.same(name + ', with all that it started', ran, [])
+    tests.same(name + ', and leaves no folder', left, [])
+    end(ran, left)
+    write(os.path.join(room.kit, 'slow'), '')
+    tests.same(name + ', and the next build goes on from there', room.build(), ['chanhub', 'high'])
+
+
+def end(processes, folders):
+    for it in processes:
+        try:
+            os.kill(int(it), signal.SIGKILL)
+        except OSError:
+            pass
+    for it in folders:
+        shutil.rmtree(it, ignore_errors=True)
+
+
+def interrupts(tests, room):
+    for words in (('tools/build.py', 'chanhub'), ('./chanhub', 'replay')):
+        for number in (signal.SIGINT, signal.SIGTERM, signal.SIGHUP):
+            interrupt(tests, room, number, *words)
+        interrupt(tests, room, signal.SIGINT, *words, to_all=True)
+
+
+def killed(tests, room):
+    """A build that has no time to say anything."""
+    time.sleep(0.1)
+    write(room.path('crates', 'low', 'src', 'lib.rt'), '//! For a killed build.\n')
+    shutil.rmtree(room.path('crates', 'high', 'out'))
+    write(os.path.join(room.kit, 'slow'), 'high')
+    write(room.log, '')
+    child = room.start('tools/build.py', 'chanhub')
+    room.wait_for('high')
+    os.kill(child.pid, signal.SIGKILL)
+    child.communicate()
+    end(*room.left())
+    write(os.path.join(room.kit, 'slow'), '')
+    tests.same('what was half written is built again', room.build(), ['chanhub', 'high'])
+    tests.same('and is whole', read(room.path('crates', 'high', 'out', 'rlib', 'high.rlib', 'part')), 'whole\n')
+
+
+def gate(tests, room):
+    """`./test`, whose prover sets aside what is built."""
+    for number, to_all in ((signal.SIGINT, True), (signal.SIGTERM, False), (signal.SIGHUP, False)):
+        name = './test ends by %s' % number.name
+        room.build()
+        write(room.log, '')
+        child = room.start('./test')
+        room.wait_for('rt')
+        (os.killpg if to_all else os.kill)(child.pid, number)
+        try:
+            _, errors = child.communicate(timeout=20)
+        except subprocess.TimeoutExpired:
+            os.killpg(child.pid, signal.SIGKILL)
+            _, errors = child.communicate()
+        ran, left = room.left()
+        tests.same(name + ', with its status', child.returncode, 128 + number)
+        tests.tell(name + ', without a traceback', 'Traceback' not in errors, errors[-200:])
+        tests.same(name + ', with all that it started', ran, [])
+        tests.same(name + ', and leaves no folder', left, [])
+        end(ran, left)
+        tests.same(name + ', and what was built stands again', (room.build(), os.path.exists(room.path('crates', 'low', 'out', 'rlib', 'low.rlib', 'part'))), ([], True))
+        tests.same(name + ', and what was half written is gone', read(room.path('crates', 'hub_c', 'out', 'libhub_c.a')), None)
+
+
+def installs(tests, room):
+    status, _, errors = room.run('make', '-C', 'capi')
+    tests.tell('make -C capi', status == 0, errors)
+    status, _, errors = room.run('make', '-C', 'capi', 'install', 'PREFIX=' + room.path('there'), has_rt=False)
+    tests.tell('make install without rt', (status, errors) == (0, '') and os.path.exists(room.path('there', 'lib', 'libchanhub.a')), errors)
+    # The libraries of C alone were kept.
+    for crate in LINES:
+        shutil.rmtree(room.path('crates', crate, 'out'), ignore_errors=True)
+    status, _, errors = room.run('make', '-C', 'capi', 'install', 'PREFIX=' + room.path('here'), has_rt=False)
+    tests.tell('make install without rt, of the built libraries alone', (status, errors) == (0, '') and os.path.exists(room.path('here', 'lib', 'libchanhub.a')), errors)
+    time.sleep(0.1)
+    write(room.path('crates', 'low', 'src', 'lib.rt'), '//! For make.\n')
+    status, _, errors = room.run('make', '-C', 'capi', 'install', 'PREFIX=' + room.path('nowhere'), has_rt=False)
+    tests.tell('make install of what is older than its sources says that there is no rt', status != 0 and 'no command rt on the path' in errors and 'Traceback' not in errors and not os.path.exists(room.path('nowhere', 'lib')), errors)
+
+
+def main():
+    tests = Tests()
+    # What is started here hears these signals, though this script may have been started deaf to some, as in the background.
+    signal.signal(signal.SIGINT, signal.default_int_handler)
+    for number in (signal.SIGTERM, signal.SIGHUP):
+        signal.signal(number, signal.SIG_DFL)
+    with tempfile.TemporaryDirectory() as folder:
+        room = Room(folder)
+        for part in (by_its_line, by_another, wrapper, waits, killed, interrupts, gate, installs):
+            try:
+                part(tests, room)
+            except (OSError, TypeError, subprocess.TimeoutExpired) as error:
+                tests.tell(part.__name__, False, error)
+                end(*room.left())
+                write(os.path.join(room.kit, 'slow'), '')
+    print('%d passed, %d failed' % (tests.passed, tests.failed))
+    return 1 if tests.failed else 0
+
+
+if __name__ == '__main__':
+    sys.exit(main())

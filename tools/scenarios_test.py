@@ -1,0 +1,341 @@
+#!/usr/bin/env python3
+"""scenarios_test.py PROGRAM [STORY [MUTATIONS]]: tries the scripts here that look at scenarios and at their runs.
+
+That is lint_scenario.py, which has to agree with the program on every file, explain.sh, until_stall.sh, seeds.sh and report.py. A line
+for each test that fails; the last line counts: 'N passed, M failed'.
+"""
+import glob
+import os
+import random
+import re
+import signal
+import subprocess
+import sys
+import tempfile
+import time
+import tomllib
+
+ROOT = os.path.join(os.path.dirname(os.path.abspath(__file__)), '..')
+TOOLS = os.path.join(ROOT, 'tools')
+EXAMPLES = os.path.join(ROOT, 'examples')
+
+# What the formats allow and examples do not show: each kind of text, table, number and date.
+RICH = [
+    '''\
+seed = 0x7F
+limit = 1_000
+"journal" = 2
+ports = [ 1, # one
+  0o17, 0b11,
+]
+process = [
+  { steps = ["send 1 #00ff", 'recv 1', """select r1 s1:5 \\
+      default""", \'\'\'close 1\'\'\'] },
+  { steps = [
+    "range\\u00201", # a comment
+  ], },
+]
+''',
+    '''\
+# A header behind an array.
+ports = [] # none
+[[process]]
+steps = []
+[[process]]
+"steps" = ["select default", "select", "range 65535"]
+''',
+    'ports = [0]\r\nprocess = [{steps = ["send 1 18446744073709551615"]}, {steps = ["recv\\x201"]}]\r\nlimit = 10\r\n',
+]
+
+PIECES = [
+    '"', "'", '"""', "'''", '[', ']', '[[', ']]', '{', '}', ',', '=', '.', '#', '\\', '\n', '\r\n', '\r', ' ', '\t', '\x00', '\x7f', 'ä',
+    '_', '-', '+', '0', '1', '2', '9', '00', '64', '65', '1024', '1025', '65535', '65536', '18446744073709551615', '18446744073709551616',
+    '9223372036854775807', '9223372036854775808', '-1', '+1', '1.0', '1e3', '1e999', 'inf', 'nan', '0x1f', '0xG', '0o8', '0b1', '1_0', '1__0',
+    'true', '2020-02-29', '2021-02-29', '2020-01-01T00:00:60Z', '2020-01-01 10:00', '10:61', '10:30', 'seed = 1\n', 'limit = 0\n', 'limit = 1000001\n',
+    'journal = 2\n', 'journal = 3\n', 'ports = []\n', 'other = 1\n', 'a.b = 1\n', '[process]\n', '[[process]]\nsteps = []\n', '[[process.steps]]\n', '[other]\n',
+    'process.steps = []\n', 'steps', 'process', '{steps = []}', '{ steps = ["close 1"], }', '"send 1 2"', '"recv 1 "', '"select r1 default"', '"range 1"',
+    's1:2', 'r1', 's1:#00', '#00', ' default', 'default', 'send', 'recv', 'select ', '\\n', '\\t', '\\e', '\\x31', '\\u0031', '\\U00110000', '\\q', '\\\n  ',
+    '\N{BYTE ORDER MARK}',
+]
+
+
+def run(words, **how):
+    done = subprocess.run(words, stdin=subprocess.DEVNULL, capture_output=True, timeout=120, **how)
+    return done.returncode, done.stdout.decode(), done.stderr.decode()
+
+
+def read(path):
+    with open(path, 'rb') as file:
+        return file.read()
+
+
+def write(path, text):
+    with open(path, 'wb') as file:
+        file.write(text)
+
+
+def table(name):
+    with open(os.path.join(ROOT, 'tests', name + '.toml'), 'rb') as file:
+        return tomllib.load(file)
+
+
+def examples(kind):
+    return [it.removesuffix('.stdout') for it in sorted(glob.glob(os.path.join(EXAMPLES, kind, '*.stdout')))]
+
+
+def rows():
+    """The scenarios of tests/, good and faulty."""
+    for row in table('runs')['run']:
+        yield row['scenario'].encode()
+    scenarios = table('scenarios')
+    for group in scenarios['group']:
+        yield from (text.encode() for text in group['texts'].values())
+        yield from (bytes.fromhex(text) for text in group.get('hexadecimal', {}).values())
+    for group in scenarios['steps']:
+        yield from (group['text'].replace('STEP', value).encode() for value in group['values'])
+
+
+def limits():
+    """Scenarios at the limits, and one past them."""
+    for times in (64, 65):
+        yield b'ports = [%s]\nprocess = [{steps = []}]\n' % (b'0,' * times)
+        yield b'ports = []\nprocess = [%s]\n' % (b'{steps = []},' * times)
+    for times in (10000, 10001):
+        yield b'ports = []\nprocess = [{steps = [%s]}]\n' % (b"'recv 1'," * times)
+    for cases in (16, 17):
+        yield b'ports = [1]\nprocess = [{steps = ["select%s default"]}]\n' % (b' r1' * cases)
+    for size in (1048576, 1048577):
+        head = b'ports = []\nprocess = [{steps = []}]\n#'
+        yield head + b'x' * (size - len(head))
+    # The arrays are elements of `ports`, so the program refuses both; but the deeper one is no TOML.
+    for depth in (79, 80):
+        yield b'ports = [%s%s]\nprocess = [{steps = []}]\n' % (b'[' * depth, b']' * depth)
+    for parts in (80, 81):
+        yield b'%s = 1\nports = []\nprocess = [{steps = []}]\n' % b'.'.join([b'a'] * parts)
+    for digits in (32, 33):
+        yield b'journal = 2\nports = [1]\nprocess = [{steps = ["send 1 #%s"]}]\n' % (b'0f' * digits)
+
+
+def mutate(chance, text):
+    """The text with a few places changed."""
+    for _ in range(chance.choice((1, 1, 1, 2, 3))):
+        at = chance.randrange(len(text) + 1)
+        end = min(len(text), at + chance.choice((0, 0, 1, 1, 2, 8)))
+        kind = chance.randrange(5)
+        if kind == 0:
+            text = text[:at] + text[end:]
+        elif kind == 1:
+            lines = text.splitlines(keepends=True)
+            line = chance.choice(lines or [b''])
+            at = sum(map(len, lines[:chance.randrange(len(lines) + 1)]))
+            text = text[:at] + line + text[at:]
+        elif kind == 2:
+            # A number becomes another one.
+            found = list(re.finditer(rb'\d+', text))
+            if found:
+                number = chance.choice(found)
+                text = text[:number.start()] + chance.choice(PIECES[27:60]).encode() + text[number.end():]
+        else:
+            text = text[:at] + chance.choice(PIECES).encode() + text[end:]
+    return text
+
+
+class Tests:
+    def __init__(self, program, story, folder):
+        self.program = program
+        self.folder = folder
+        self.env = {**os.environ, 'CHANHUB': program, 'STORY': story, 'OPENER': 'true', 'TMPDIR': folder}
+        self.passed = self.failed = 0
+
+    def tell(self, name, is_well):
+        self.passed += bool(is_well)
+        self.failed += not is_well
+        if not is_well:
+            print('failed: %s' % name, flush=True)
+
+    def path(self, name):
+        return os.path.join(self.folder, name)
+
+    def script(self, name, *words):
+        try:
+            return run([os.path.join(TOOLS, name), *words], env=self.env)
+        except OSError:
+            # There is no such script.
+            return None, '', ''
+
+    def left(self):
+        """What lies in the folder for what is kept for a while."""
+        return {it for it in os.listdir(self.folder) if it.startswith('tmp')}
+
+    def lint(self, text):
+        """Whether the linter takes it, in one process for all; and what it says."""
+        import lint_scenario
+        faults = lint_scenario.faults_of(text)
+        return not faults, [(*lint_scenario.line_and_column(text, it.at), str(it)) for it in faults]
+
+    def agrees(self, text):
+        """Whether linter and program agree on a scenario."""
+        write(self.path('scenario'), text)
+        status, _, told = run([self.program, 'run', self.path('scenario')])
+        try:
+            takes, _ = self.lint(text)
+        except Exception as error:
+            print('lint_scenario.py: %r on %r' % (error, text[:300]))
+            return False
+        if takes == (status == 2):
+            print('lint_scenario.py %s, and the program: %d %s: %r' % ('takes it' if takes else 'refuses it', status, told.strip(), text[:600]))
+        return takes == (status != 2)
+
+    def lint_agrees(self, mutations):
+        good = [read(it) for it in examples('scenarios')] + [it.encode() for it in RICH]
+        self.tell('lint_scenario.py takes the examples', all(self.lint(it)[0] for it in good) and all([self.agrees(it) for it in good]))
+        self.tell('lint_scenario.py agrees on the rows of tests/', all([self.agrees(it) for it in rows()]))
+        self.tell('lint_scenario.py agrees at the limits', all([self.agrees(it) for it in limits()]))
+        chance = random.Random(38)
+        # Whatever a script does is done soon.
+        short = [it for it in good if len(it) < 2000]
+        self.tell('lint_scenario.py agrees on %d changed scenarios' % mutations, all([self.agrees(mutate(chance, chance.choice(short))) for _ in range(mutations)]))
+
+    def lint_says_where(self):
+        """Worked by hand: what is wrong stands at this line and column."""
+        head = 'ports = [1]\n'
+        one = head + 'process = [{steps = [%s]}]\n'
+        places = [
+            ('ports = [1\nprocess = []\n', 2, 1, 'an element of an array'),
+            ('ports = [1]\nsteps = "a\n', 2, 9, 'does not end'),
+            ('ports = [1]\n\nports = [2]\nprocess = [{steps = []}]\n', 3, 1, '`ports` stands twice'),
+            ('ports = [1, 1025]\nprocess = [{steps = []}]\n', 1, 13, 'a capacity'),
+            ('# é\nports = ["é", "é"]\nprocess = [{steps = []}]\n', 2, 15, 'a capacity'),
+            (head + 'seed = -1\nprocess = [{steps = []}]\n', 2, 8, 'seed'),
+            (head + 'limit = 0\nprocess = [{steps = []}]\n', 2, 9, 'limit'),
+            (head + 'colour = 1\nprocess = [{steps = []}]\n', 2, 1, '`colour`'),
+            (head + '[[process]]\n', 2, 1, '`steps`'),
+            ('process = [{steps = []}]\n', 1, 1, '`ports`'),
+            (one % '"send 1 2", "sned 1 2"', 2, 35, 'process 0 step 1'),
+            (one % '"send 65536 2"', 2, 28, '`65536` is no port'),
+            (one % '"send 1 02"', 2, 30, '`02` is no value'),
+            (one % '"recv 1 2"', 2, 30, '`recv PORT`'),
+            (one % '"send 1"', 2, 29, '`send PORT V`'),
+            (one % '"select r1 s1 default"', 2, 33, '`s1` is no case'),
+            (one % '"select\\u0020r1 r"', 2, 39, 'no port'),
+            (one % '"send 1 #00"', 2, 30, 'journal = 2'),
+            (one % '\n  """\nrecv\\\n  x 1"""', 5, 3, None),
+            (one % '7', 2, 22, 'a whole number'),
+            (head + 'process = []\n', 2, 11, 'at least one process'),
+        ]
+        for text, line, column, said in places:
+            _, faults = self.lint(text.encode())
+            where = [it for it in faults if it[:2] == (line, column) and (said is None or said in it[2])]
+            if said is None:
+                # The step's first field is `recvx`, and begins in the line of its text.
+                where = [it for it in faults if it[0] == 4 and it[1] == 1]
+            self.tell('lint_scenario.py says where: line %d column %d of %r' % (line, column, text), where and len(faults) == (2 if 'é' in text else 1))
+        write(self.path('two'), b'ports = [9999]\nprocess = [{steps = ["recv x"]}]\n')
+        status, told, errors = self.script('lint_scenario.py', self.path('two'))
+        places = [it.removeprefix(self.path('two')).split(': ')[0] for it in told.splitlines()]
+        self.tell('lint_scenario.py tells each fault, and status 1', (status, places, errors) == (1, [':1:10', ':2:28'], ''))
+        self.tell('lint_scenario.py says nothing of a good file', self.script('lint_scenario.py', os.path.join(EXAMPLES, 'scenarios', 'ring')) == (0, '', ''))
+        status, _, errors = self.script('lint_scenario.py', self.path('missing'))
+        self.tell('lint_scenario.py on a file that is not there', status == 2 and errors.count('\n') == 1)
+
+    def explains(self):
+        journal = os.path.join(EXAMPLES, 'journals', 'hand_over')
+        status, told, errors = self.script('explain.sh', journal)
+        names = told.splitlines()
+        is_well = status == 0 and errors == '' and len(names) == 2
+        self.tell('explain.sh explains a journal', is_well and read(names[1]).endswith(b'</svg>\n') and b'recv 1' in read(names[0]))
+        status, told, errors = self.script('explain.sh', journal, '1', '2')
+        self.tell('explain.sh explains some steps of a journal', status == 0 and errors == '' and b'      3  P0 send 1 9' not in read(told.splitlines()[0]))
+        for word in ('-h', '--help'):
+            status, told, errors = self.script('explain.sh', word)
+            self.tell('explain.sh ' + word, status == 0 and errors == '' and told.startswith('usage: ') and 'JOURNAL' in told)
+        status, told, errors = self.script('explain.sh', journal, '1')
+        self.tell('explain.sh says how it is used', status == 2 and told == '' and errors.startswith('usage: '))
+        before = self.left()
+        write(self.path('faulty'), b'chanhub journal 1\nprocs 0\n')
+        status, told, errors = self.script('explain.sh', self.path('faulty'))
+        self.tell('explain.sh leaves nothing of a faulty journal', (status, told, self.left()) == (2, '', before) and errors == 'chanhub: line 2: bad procs\n')
+
+    def stalls(self):
+        stalls, ends = (os.path.join(EXAMPLES, 'scenarios', it) for it in ('everyone_stalls', 'hand_over'))
+        status, told, errors = self.script('until_stall.sh', stalls)
+        found = re.fullmatch(r'run 1 stalled: (\S+)\n', told)
+        journal = read(found[1]) if found else b''
+        self.tell('until_stall.sh keeps the journal of a run that stalls', status == 0 and errors == '' and journal.startswith(b'chanhub journal '))
+        events = subprocess.run([self.program, 'replay'], input=journal, capture_output=True).stdout
+        self.tell('until_stall.sh keeps a journal with a stall', b' stalled\n' in events)
+        before = self.left()
+        self.tell('until_stall.sh says that none stalled', self.script('until_stall.sh', ends, '3') == (1, 'no run stalled, of 3\n', '') and self.left() == before)
+        status, told, errors = self.script('until_stall.sh', ends, 'many')
+        self.tell('until_stall.sh says how it is used', status == 2 and told == '' and errors.startswith('usage: '))
+        write(self.path('faulty'), b'ports = 1\n')
+        self.tell('until_stall.sh on a faulty file', self.script('until_stall.sh', self.path('faulty')) == (2, '', 'chanhub: scenario: bad key\n'))
+        self.tell('until_stall.sh --help', self.script('until_stall.sh', '--help')[:2:2] == (0,) and 'seed' in self.script('until_stall.sh', '--help')[1])
+        for number in (signal.SIGINT, signal.SIGTERM):
+            self.interrupt('until_stall.sh', number, ends, '999999999')
+            self.interrupt('seeds.sh', number, ends, '999999999')
+
+    def interrupt(self, name, number, *words):
+        """A signal to the script's group, as Ctrl-C sends it: it ends, with its status, and leaves nothing."""
+        before = self.left()
+        what = '%s ends by %s and leaves nothing' % (name, number.name)
+        try:
+            how = {'env': self.env, 'start_new_session': True, 'stdout': subprocess.PIPE, 'stderr': subprocess.STDOUT}
+            child = subprocess.Popen([os.path.join(TOOLS, name), *words], **how)
+        except OSError:
+            self.tell(what, False)
+            return
+        with child:
+            time.sleep(0.5)
+            os.killpg(child.pid, number)
+            said, _ = child.communicate(timeout=20)
+        # The shell says of a program that it waited for how that ended.
+        self.tell(what, child.returncode == 128 + number and said in (b'', b'Terminated\n') and self.left() == before)
+
+    def counts(self):
+        scenario = os.path.join(EXAMPLES, 'scenarios', 'seeds')
+        kept = self.path('kept')
+        status, told, errors = self.script('seeds.sh', scenario, '6', kept)
+        # One process: of each seed one journal, which has the choice word.
+        self.tell('seeds.sh counts outcomes and journals', (status, errors) == (0, '') and told.endswith('6 runs, 2 outcomes, 6 different journals\n'))
+        self.tell('seeds.sh counts the journals of an outcome', '4 of 6, first with seed 0, status 0:\n' in told and '  different journals: 4\n' in told)
+        names = sorted(os.listdir(kept)) if os.path.isdir(kept) else []
+        replays = [subprocess.run([self.program, 'replay'], input=read(os.path.join(kept, it)), capture_output=True) for it in names]
+        self.tell('seeds.sh keeps a journal of each outcome', names == ['journal_1', 'journal_2'] and all(it.returncode == 0 for it in replays) and b'got 2' in replays[0].stdout and b'got 1' in replays[1].stdout)
+        status, told, errors = self.script('seeds.sh', '--help')
+        self.tell('seeds.sh says that no seed repeats a schedule', status == 0 and 'No seed repeats a schedule' in told)
+        status, told, errors = self.script('seeds.sh', os.path.join(EXAMPLES, 'scenarios', 'limit_is_reached'), '2')
+        self.tell('seeds.sh counts no journal of a run that has none', status == 0 and 'chanhub: journal full' in told and told.endswith(' 0 different journals\n'))
+
+    def reports(self):
+        """What a journal reports by report.py is what a run prints, where that is the same under each schedule."""
+        for scenario in examples('scenarios'):
+            wanted = read(scenario + '.stdout')
+            if not wanted:
+                continue
+            journal = subprocess.run([self.program, 'run', scenario, '--journal'], capture_output=True).stdout
+            write(self.path('journal'), journal)
+            status, _, _ = self.script('report.py', self.program, self.path('journal'))
+            self.tell('report.py on ' + os.path.basename(scenario), status == 0 and read(self.path('journal.report')) == wanted)
+
+
+def main():
+    words = sys.argv[1:]
+    program = os.path.abspath(words[0])
+    story = os.path.abspath(words[1] if len(words) > 1 else os.path.join(ROOT, 'crates', 'chanhub_story', 'out', 'chanhub_story'))
+    mutations = int(words[2]) if len(words) > 2 else 1500
+    # What is started here hears Ctrl-C, though this script may have been started deaf to it, as in the background.
+    signal.signal(signal.SIGINT, signal.default_int_handler)
+    with tempfile.TemporaryDirectory() as folder:
+        tests = Tests(program, story, folder)
+        for part in (lambda: tests.lint_agrees(mutations), tests.lint_says_where, tests.explains, tests.stalls, tests.counts, tests.reports):
+            try:
+                part()
+            except ImportError as error:
+                tests.tell(str(error), False)
+    print('%d passed, %d failed' % (tests.passed, tests.failed))
+    return 1 if tests.failed else 0
+
+
+if __name__ == '__main__':
+    sys.exit(main())

@@ -286,11 +286,15 @@ class Tests:
             self.tell(what, False)
             return
         with child:
+            # Its folder shows that it has begun.
+            until = time.monotonic() + 20
+            while self.left() == before and time.monotonic() < until:
+                time.sleep(0.05)
             time.sleep(0.5)
             os.killpg(child.pid, number)
             said, _ = child.communicate(timeout=20)
         # The shell says of a program that it waited for how that ended.
-        self.tell(what, child.returncode == 128 + number and said in (b'', b'Terminated\n') and self.left() == before)
+        self.tell(what, child.returncode == 128 + number and set(said.split()) <= {b'Terminated'} and self.left() == before)
 
     def counts(self):
         scenario = os.path.join(EXAMPLES, 'scenarios', 'seeds')

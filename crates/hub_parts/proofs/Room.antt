@@ -1,6 +1,6 @@
 -- A process without an open call leaves room for one.
 use Rattle.std.proofs.Common.{◌≡◌, ℕ, ◌<◌, ◌≤◌, ◌==◌, Bool, true, false, not, List, [], ◌∷◌, length, arith, eqb, ◌++◌, cond, filter}
-use Rattle.std.proofs.Common.{refl, ap, sym, ◌∙◌, subst, Some, suc, ◌+◌}
+use Rattle.std.proofs.Common.{refl, ap, sym, ◌∙◌, subst, Some, suc}
 use Rattle.std.proofs.Common.{slice_get, zero}
 use Rattle.std.specs.List.{IsDistinct, AllByRecursion, list_any, remove}
 use Rattle.std.specs.Option.{option_map}

@@ -1,8 +1,9 @@
 -- A process without an open call leaves room for one.
 use Rattle.std.proofs.Common.{◌≡◌, ℕ, ◌<◌, ◌≤◌, ◌==◌, Bool, true, false, not, List, [], ◌∷◌, length, arith, eqb, ◌++◌, cond, filter}
-use Rattle.std.proofs.Common.{refl, ap, sym, ◌∙◌, subst, Some, None, ltb, suc, ◌+◌}
-use Rattle.std.specs.List.{IsDistinct, AllByRecursion, list_any, position, position_or_len, remove}
-use Rattle.std.proofs.lemmas.Bool.{ltb-false, ltb-true}
+use Rattle.std.proofs.Common.{refl, ap, sym, ◌∙◌, subst, Some, suc}
+use Rattle.std.proofs.Common.{slice_get, zero}
+use Rattle.std.specs.List.{IsDistinct, AllByRecursion, list_any, remove}
+use Rattle.std.specs.Option.{option_map}
 use Rattle.std.proofs.lemmas.Grind.{common_steps}
 use Rattle.std.proofs.lemmas.List.{length-map}
 use Rattle.std.proofs.lemmas.Map.Steps.{length-le_from_distinct_below}
@@ -65,9 +66,6 @@ count_fits os n distinct below =
     let most : length (pids os) ≤ n = length-le_from_distinct_below (pids os) n (to_distinct (pids os) distinct) (λ q e. member_below (pids os) n q below e) in
     omega (arith, length-map os (λ (o : Opened). o.pid.0))
 
-abbrev has_pid : ℕ → Opened → Bool
-has_pid q o = o.pid.0 == q
-
 abbrev of_others : ℕ → List Opened → List Opened
 of_others q os = filter (λ o. not (o.pid.0 == q)) os
 
@@ -78,52 +76,31 @@ all_of_others q (o ∷ os) a =
     let other : (o.pid.0 == q) ≡ false = (let apart : (q == o.pid.0) ≡ false = a.0 in grind (arith, common_steps)) in
     rw (other, all_of_others q os a.1) refl
 
-removed_later : (o : Opened) (os : List Opened) (i : ℕ) → remove (o ∷ os) (1 + i) ≡ o ∷ remove os i
-removed_later o os i = let later : 1 + i ≡ suc i = omega arith in rw later refl
+some_eq : (a b : ℕ) → Some a ≡ Some b → a ≡ b
+some_eq a b e = cc
 
-removed_step : (q : ℕ) (o : Opened) (os : List Opened) (b : Bool) → (o.pid.0 == q) ≡ b → AllByRecursion (λ y. (o.pid.0 == y) ≡ false) (pids os)
-    → position_or_len (has_pid q) (o ∷ os) < length (o ∷ os)
-    → (position_or_len (has_pid q) os < length os → remove os (position_or_len (has_pid q) os) ≡ of_others q os)
-    → remove (o ∷ os) (position_or_len (has_pid q) (o ∷ os)) ≡ of_others q (o ∷ os)
-removed_step q o os true e a less ih =
-    let same : o.pid.0 ≡ q = grind (arith, common_steps) in
-    rw e (sym (all_of_others q os (subst (λ n. AllByRecursion (λ y. (n == y) ≡ false) (pids os)) same a)))
-removed_step q o os false e a less ih =
-    let fewer : position_or_len (has_pid q) os < length os = (let l = rw e at less in omega arith) in
-    rw e (removed_later o os (position_or_len (has_pid q) os) ∙ ap (λ rest. o ∷ rest) (ih fewer))
+-- the others are apart from the call at a place behind the first
+other_before : (o : Opened) (os : List Opened) (q place : ℕ) → AllByRecursion (λ y. (o.pid.0 == y) ≡ false) (pids os)
+    → option_map (λ o. o.pid.0) (slice_get os place) ≡ Some q → (o.pid.0 == q) ≡ false
+other_before o [] q place a e = absurd cc
+other_before o (v ∷ os) q zero a e = let same : v.pid.0 ≡ q = some_eq v.pid.0 q e in subst (λ n. (o.pid.0 == n) ≡ false) same a.0
+other_before o (v ∷ os) q (suc place) a e = other_before o os q place a.1 e
 
-removed_at : (q : ℕ) (os : List Opened) → AreApart (pids os) → position_or_len (has_pid q) os < length os
-    → remove os (position_or_len (has_pid q) os) ≡ of_others q os
-removed_at q [] a less = absurd (omega arith)
-removed_at q (o ∷ os) a less = removed_step q o os (o.pid.0 == q) refl a.0 less (removed_at q os a.1)
+removed_later : (o : Opened) (os : List Opened) (i : ℕ) → remove (o ∷ os) (suc i) ≡ o ∷ remove os i
+removed_later o os i = refl
 
-stays_step : (q : ℕ) (o : Opened) (os : List Opened) (b : Bool) → (o.pid.0 == q) ≡ b
-    → length (o ∷ os) ≤ position_or_len (has_pid q) (o ∷ os)
-    → (length os ≤ position_or_len (has_pid q) os → os ≡ of_others q os) → o ∷ os ≡ of_others q (o ∷ os)
-stays_step q o os true e more ih = absurd (let m = rw e at more in omega arith)
-stays_step q o os false e more ih =
-    let rest : length os ≤ position_or_len (has_pid q) os = (let m = rw e at more in omega arith) in
-    rw e (ap (λ rest. o ∷ rest) (ih rest))
+-- without the call at its place, the calls of the others are left
+pub removed : (q place : ℕ) (os : List Opened) → AreApart (pids os) → option_map (λ o. o.pid.0) (slice_get os place) ≡ Some q
+    → remove os place ≡ of_others q os
+removed q place [] a e = absurd cc
+removed q zero (o ∷ os) a e =
+    let same : o.pid.0 ≡ q = some_eq o.pid.0 q e in
+    let here : (o.pid.0 == q) ≡ true = grind (arith, common_steps) in
+    rw here (sym (all_of_others q os (subst (λ n. AllByRecursion (λ y. (n == y) ≡ false) (pids os)) same a.0)))
+removed q (suc place) (o ∷ os) a e =
+    let other : (o.pid.0 == q) ≡ false = other_before o os q place a.0 e in
+    rw other (removed_later o os place ∙ ap (λ rest. o ∷ rest) (removed q place os a.1 e))
 
-stays_all : (q : ℕ) (os : List Opened) → length os ≤ position_or_len (has_pid q) os → os ≡ of_others q os
-stays_all q [] more = refl
-stays_all q (o ∷ os) more = stays_step q o os (o.pid.0 == q) refl more (stays_all q os)
-
-found_is : (n : ℕ) (b : Bool) (i : ℕ) → cond b (Some n) None ≡ Some i → (b ≡ true) × (n ≡ i)
-found_is n true i e = (refl, cc)
-found_is n false i e = absurd cc
-
-none_is : (n : ℕ) (b : Bool) → cond b (Some n) None ≡ None → b ≡ false
-none_is n true e = absurd cc
-none_is n false e = refl
-
--- without the call that was found there, the calls of the others are left
-pub removed : (q : ℕ) (os : List Opened) (i : ℕ) → AreApart (pids os) → position (λ o. o.pid.0 == q) os ≡ Some i → remove os i ≡ of_others q os
-removed q os i a e =
-    let found = found_is (position_or_len (has_pid q) os) (ltb (position_or_len (has_pid q) os) (length os)) i e in
-    rw (← found.1) (removed_at q os a (ltb-true (position_or_len (has_pid q) os) (length os) found.0))
-
-pub unremoved : (q : ℕ) (os : List Opened) → position (λ o. o.pid.0 == q) os ≡ None → os ≡ of_others q os
-unremoved q os e =
-    stays_all q os
-    (ltb-false (position_or_len (has_pid q) os) (length os) (none_is (position_or_len (has_pid q) os) (ltb (position_or_len (has_pid q) os) (length os)) e))
+-- where the process has no call, all are left
+pub unremoved : (q : ℕ) (os : List Opened) → list_any (λ o. o.pid.0 == q) os ≡ false → os ≡ of_others q os
+unremoved q os e = sym (all_of_others q os (apart os q e))

@@ -1,16 +1,15 @@
 -- The calls in their list and in their places, as contracts see them.
-use Rattle.std.proofs.Common.{◌≡◌, ◌≢◌, ℕ, ◌++◌, Bool, List, [], ◌∷◌, refl, Option, Some, None, arith, length, get_or, set, ◌<◌, not}
+use Rattle.std.proofs.Common.{◌≡◌, ◌≢◌, ℕ, ◌++◌, Bool, List, [], ◌∷◌, refl, Option, Some, None, arith, length, get_or, set, ◌<◌, ◌≤◌, not}
 use Rattle.std.proofs.Common.{◌==◌, ◌&&◌, ◌||◌, filter, slice_get, true, false, inl, inr, eq-eqb, subst, replicate, cond, ap, sym, ◌∙◌}
 use Rattle.std.specs.List.{AllByRecursion, list_any}
 use Rattle.std.specs.Option.{is_some}
-use Rattle.std.proofs.lemmas.Bool.{eqb-false, ne_eqb, cases_eq, true≢false}
+use Rattle.std.proofs.lemmas.Bool.{eqb-false, ne_eqb, cases_eq, cases_lt, true≢false}
 use Rattle.std.proofs.lemmas.Bool.Decides.{nat_tests}
-use Rattle.std.proofs.lemmas.List.{get_or-set_same, get_or-set_other, map-append, get_or_default, length-set, get_or-replicate, length-replicate}
+use Rattle.std.proofs.lemmas.List.{get_or-set_same, get_or-set_other, map-append, get_or_default, length-set, get_or-replicate, get_or_past, length-replicate}
 use Rattle.std.proofs.lemmas.Grind.{common_steps}
 use Rattle.arrayvec.specs.ArrayVec.{ArrayVec}
 use Rattle.hub_base.specs.declared.value.Pid.{Pid}
 use Rattle.hub_base.specs.declared.case.Case.{Case}
-use Rattle.hub_parts.specs.declared.tickets.TheConstants.{PIDS}
 use Rattle.hub_parts.specs.declared.tickets.Opened.{Opened}
 use Rattle.hub_parts.specs.Records.{Ticketed}
 use Rattle.hub_parts.specs.Tickets.{AreApart, IsMarked, calls_of, call_of, cases_of, pids, ticket_of}
@@ -158,9 +157,9 @@ others_of : (os : List Opened) (o : Opened) (q : ℕ) → (o.pid.0 == q) ≡ fal
 others_of [] o q e = rw e refl
 others_of (v ∷ os) o q e = ap (λ t. cond (v.pid.0 == q) (Some v.ticket) t) (others_of os o q e)
 
-pub marked_opened : (marks : List (Option ℕ)) (os : List Opened) (o : Opened) → o.pid.0 < PIDS → list_any (λ v. v.pid.0 == o.pid.0) os ≡ false
-    → IsMarked marks os → IsMarked (set marks o.pid.0 (Some o.ticket)) (os ++ o ∷ [])
-marked_opened marks os o small free k = record {
+pub marked_opened : (marks : List (Option ℕ)) (os : List Opened) (o : Opened) (procs : ℕ) → list_any (λ v. v.pid.0 == o.pid.0) os ≡ false
+    → IsMarked marks os procs → IsMarked (set marks o.pid.0 (Some o.ticket)) (os ++ o ∷ []) procs
+marked_opened marks os o procs free k = record {
   told = λ q within.
       elim (cases_eq o.pid.0 q) [
         | inl same ↦
@@ -196,9 +195,9 @@ unmarked : (pid : Pid) (os : List Opened) → ticket_of (filter (λ o. not (o.pi
 unmarked pid [] = refl
 unmarked pid (o ∷ os) = unmarked_step pid o os (o.pid.0 == pid.0) refl (unmarked pid os)
 
-pub marked_ended : (marks : List (Option ℕ)) (os : List Opened) (pid : Pid) → IsMarked marks os
-    → IsMarked (set marks pid.0 None) (filter (λ o. not (o.pid.0 == pid.0)) os)
-marked_ended marks os pid k = record {
+pub marked_ended : (marks : List (Option ℕ)) (os : List Opened) (pid : Pid) (procs : ℕ) → IsMarked marks os procs
+    → IsMarked (set marks pid.0 None) (filter (λ o. not (o.pid.0 == pid.0)) os) procs
+marked_ended marks os pid procs k = record {
   told = λ q within.
       elim (cases_eq q pid.0) [
         | inl same ↦ rw (same, unmarked pid os) (get_or-set_same marks pid.0 None None (rw (k.long, ← same) within))
@@ -207,5 +206,24 @@ marked_ended marks os pid k = record {
   long = length-set marks pid.0 None ∙ k.long;
 }
 
-pub none_marked : IsMarked (replicate PIDS None) []
-none_marked = record { told = λ q within. get_or-replicate {A = Option ℕ} PIDS q None None within; long = length-replicate {A = Option ℕ} PIDS None }
+pub none_marked : (procs : ℕ) → IsMarked (replicate procs None) [] procs
+none_marked procs = record {
+  told = λ q within. get_or-replicate {A = Option ℕ} procs q None None within;
+  long = length-replicate {A = Option ℕ} procs None;
+}
+
+-- a number that no process has, has no call
+pub none_beyond : (os : List Opened) (procs q : ℕ) → AllByRecursion (λ p. p < procs) (pids os) → procs ≤ q → ticket_of os q ≡ None
+none_beyond [] procs q below beyond = refl
+none_beyond (o ∷ os) procs q below beyond =
+    let other : (o.pid.0 == q) ≡ false = (let less : o.pid.0 < procs = below.0 in ne_eqb o.pid.0 q (λ e. omega arith)) in
+    rw other (none_beyond os procs q below.1 beyond)
+
+-- the mark of any number
+pub marked_as : (marks : List (Option ℕ)) (os : List Opened) (procs q : ℕ) → AllByRecursion (λ p. p < procs) (pids os) → IsMarked marks os procs
+    → get_or marks q None ≡ ticket_of os q
+marked_as marks os procs q below k =
+    elim (cases_lt q procs) [
+      | inl less ↦ k.told q less
+      | inr more ↦ get_or_past marks q None (rw k.long more) ∙ sym (none_beyond os procs q below more)
+    ]

@@ -11,13 +11,13 @@ ghost use Rattle.chanhub_story.specs.Promises.{HasRefused};
 
 use crate::asked::{Asked, Form, window_of};
 use crate::fault::StoryFault;
-use crate::writing::write_text;
+use crate::writing::{room, write_text};
 use hub_base::{MOST_BYTES, NoMemory, ReadFault};
 use hub_core::{ShortJournal, read_short_journal};
 use hub_picture::{Drawing, drawing_of, write_svg};
 use hub_replay::{Sink, Source, read_up_to};
 use hub_story::{short_story_of, story_of};
-use hub_story_text::{MOST_BLOCK, PackedText, story_text};
+use hub_story_text::{PackedText, story_text};
 use std::alloc::Global;
 
 /// The text of a drawing.
@@ -75,9 +75,9 @@ pub(crate) fn explain<S: Source, W: Sink>(
         (Explains asked (S.remaining input.old) (S.remaining input.new)
         (AppendsBeginning (W.contents output.old) (W.contents output.new)))) }
 {
-    let bytes = read_up_to(alloc, input, MOST_BYTES)?;
-    let text = explanation(alloc, asked, bytes)?;
-    let mut bytes = Vec::with_capacity(alloc, MOST_BLOCK)?;
+    let journal = read_up_to(alloc, input, MOST_BYTES)?;
+    let text = explanation(alloc, asked, journal)?;
+    let mut bytes = room(alloc)?;
     write_text(output, &text, &mut bytes)?;
     Ok(())
 }

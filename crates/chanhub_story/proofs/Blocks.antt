@@ -1,5 +1,5 @@
 -- Blocks that are written one after the other.
-use Rattle.std.proofs.Common.{◌≡◌, ◌∙◌, ◌<◌, ◌≤◌, ◌+◌, ℕ, List, ◌++◌, length, drop, get_or, ap, sym, append_assoc, append-nil, add-one, Option}
+use Rattle.std.proofs.Common.{◌≡◌, ◌∙◌, ◌<◌, ◌≤◌, ◌+◌, ℕ, List, ◌++◌, length, drop, get_or, ap, sym, append_assoc, append-nil, add-one, Option, Result, Ok, Err, OnErr}
 use Rattle.std.proofs.lemmas.List.{drop_all}
 use Rattle.std.proofs.Math.Seq.{drop-cons}
 use Rattle.std.specs.Io.KnownBytes.{Appends}
@@ -29,3 +29,11 @@ begun old now new written left block behind text before (front, back, split, mor
 -- all blocks were written
 pub all-written : (blocks : List (List ℕ)) (i : ℕ) (written : List ℕ) → length blocks ≤ i → joined blocks ≡ written ++ joined (drop i blocks) → joined blocks ≡ written
 all-written blocks i written past split = split ∙ ap (λ l. written ++ joined l) (drop_all i blocks past) ∙ append-nil written
+
+pub on-err : {A E P : Type 0} (r : Result A E) → P → OnErr r P
+on-err (Ok x) p = tt
+on-err (Err e) p = p
+
+pub if-err : {A E P Q : Type 0} (r : Result A E) → (P → Q) → OnErr r P → OnErr r Q
+if-err (Ok x) f p = tt
+if-err (Err e) f p = f p

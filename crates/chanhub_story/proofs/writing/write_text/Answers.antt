@@ -1,8 +1,7 @@
-use Rattle.std.proofs.Common.{rules, ◌∙◌, ◌++◌, ◌+◌, [], ap, append_assoc, drop, get_or}
+use Rattle.std.proofs.Common.{rules, ◌∙◌, ◌++◌, ◌+◌, [], ap, append-nil, append_assoc, drop, get_or, sym}
 use Rattle.std.proofs.KnownBytes.{Appends-trans}
-use Rattle.hub_replay.proofs.Written.{if_err}
 use Rattle.hub_story_text.specs.Packed.{joined}
-use Rattle.chanhub_story.proofs.Blocks.{all-written, begun, block-written, from-there}
+use Rattle.chanhub_story.proofs.Blocks.{all-written, begun, block-written, from-there, if-err, on-err}
 use Rattle.chanhub_story.proofs.writing.write_text.Goals as goal
 
 pub loop-block-preserved : goal.loop-block-preserved
@@ -16,3 +15,29 @@ loop-block-preserved g c =
       search rules,
       c.unpack.ensures.capacity,
     )
+
+pub returns-in_err-write_whole-clause-beginning : goal.returns-in_err-write_whole-clause-beginning
+returns-in_err-write_whole-clause-beginning g c =
+    let (written, split, appended, same, room) = c.loop-block.invariant in
+    let blocks = c.args.text.now.blocks in
+    let i = c.loop-block.block-index in
+    let rest = c.rest-rest.result.now in
+    let block = c.deref.result.now in
+    let is = c.deref.ensures.value ∙ c.unpack.ensures.items ∙ ap (λ l. get_or l i []) c.blocks-block-items.ensures in
+    let below = rw c.blocks-block-items.ensures at c.loop-block-test.true in
+    on-err c.from_residual.result
+    (begun _ _ _ written (joined (drop i blocks) ++ rest) block (joined (drop (i + 1) blocks) ++ rest) c.args.text.now.items appended
+    c.in_err-write_whole.ensures.beginning
+    (ap (λ l. l ++ rest) (from-there blocks i [] below ∙ ap (λ l. l ++ joined (drop (i + 1) blocks)) (sym is))
+    ∙ append_assoc block (joined (drop (i + 1) blocks)) rest)
+    (c.rest-rest.ensures ∙ ap (λ l. l ++ rest) split ∙ append_assoc written (joined (drop i blocks)) rest))
+
+pub returns-clause-beginning : goal.returns-clause-beginning
+returns-clause-beginning g c =
+    let (written, split, appended, same, room) = c.loop-block.invariant in
+    let past = rw c.blocks-block-items.ensures at c.loop-block-test.false in
+    let rest = c.rest-rest.result.now in
+    let all = all-written c.args.text.now.blocks c.loop-block.block-index written past split in
+    if-err c.write_whole.result
+    (λ b. begun _ _ _ written rest rest [] c.args.text.now.items appended b (sym (append-nil rest)) (c.rest-rest.ensures ∙ ap (λ l. l ++ rest) all))
+    c.write_whole.ensures.beginning

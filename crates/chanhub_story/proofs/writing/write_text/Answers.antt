@@ -9,7 +9,7 @@ loop-block-preserved g c =
     let (written, split, appended, same, room) = c.loop-block.invariant in (
       written ++ c.deref.result.now,
       block-written c.args.text.now.blocks c.loop-block.block-index [] c.deref.result.now written
-      (c.deref.ensures.value ∙ c.unpack.ensures.items ∙ ap (λ l. get_or l c.loop-block.block-index []) c.blocks-block-items.ensures)
+      (c.deref.ensures.value ∙ c.unpack.ensures.items ∙ c.block-item.is ∙ ap (λ l. get_or l c.loop-block.block-index []) c.blocks-block-items.ensures)
       (rw c.blocks-block-items.ensures at c.loop-block-test.true) split,
       Appends-trans _ _ _ _ _ appended c.in_ok-write_whole.ensures.whole,
       search rules,
@@ -23,7 +23,7 @@ returns-in_err-write_whole-clause-beginning g c =
     let i = c.loop-block.block-index in
     let rest = c.rest-rest.result.now in
     let block = c.deref.result.now in
-    let is = c.deref.ensures.value ∙ c.unpack.ensures.items ∙ ap (λ l. get_or l i []) c.blocks-block-items.ensures in
+    let is = c.deref.ensures.value ∙ c.unpack.ensures.items ∙ c.block-item.is ∙ ap (λ l. get_or l i []) c.blocks-block-items.ensures in
     let below = rw c.blocks-block-items.ensures at c.loop-block-test.true in
     on-err c.from_residual.result
     (begun _ _ _ written (joined (drop i blocks) ++ rest) block (joined (drop (i + 1) blocks) ++ rest) c.args.text.now.items appended
@@ -38,6 +38,6 @@ returns-clause-beginning g c =
     let past = rw c.blocks-block-items.ensures at c.loop-block-test.false in
     let rest = c.rest-rest.result.now in
     let all = all-written c.args.text.now.blocks c.loop-block.block-index written past split in
-    if-err c.write_whole.result
+    if-err c.write_whole-2.result
     (λ b. begun _ _ _ written rest rest [] c.args.text.now.items appended b (sym (append-nil rest)) (c.rest-rest.ensures ∙ ap (λ l. l ++ rest) all))
-    c.write_whole.ensures.beginning
+    c.write_whole-2.ensures.beginning

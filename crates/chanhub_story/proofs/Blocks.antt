@@ -20,11 +20,13 @@ block-written blocks i d block written is below split =
 -- a beginning of what is left was written
 pub begun : (old now new : Option (List ℕ)) (written left block behind text : List ℕ) → Appends old now written → AppendsBeginning now new block →
     left ≡ block ++ behind → text ≡ written ++ left → AppendsBeginning old new text
-begun old now new written left block behind text before (front, back, split, more) is whole =
-    (written ++ front, back ++ behind,
-    whole ∙ ap (λ l. written ++ l) (is ∙ ap (λ l. l ++ behind) split ∙ append_assoc front back behind)
-    ∙ sym (append_assoc written front (back ++ behind)),
-    Appends-trans _ _ _ _ _ before more)
+begun old now new written left block behind text before (front, back, split, more) is whole = (
+  written ++ front,
+  back ++ behind,
+  whole ∙ ap (λ l. written ++ l) (is ∙ ap (λ l. l ++ behind) split ∙ append_assoc front back behind)
+      ∙ sym (append_assoc written front (back ++ behind)),
+  Appends-trans _ _ _ _ _ before more,
+)
 
 -- all blocks were written
 pub all-written : (blocks : List (List ℕ)) (i : ℕ) (written : List ℕ) → length blocks ≤ i → joined blocks ≡ written ++ joined (drop i blocks) → joined blocks ≡ written

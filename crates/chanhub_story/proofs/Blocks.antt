@@ -1,5 +1,6 @@
 -- Blocks that are written one after the other.
-use Rattle.std.proofs.Common.{◌≡◌, ◌∙◌, ◌<◌, ◌≤◌, ◌+◌, ℕ, List, ◌++◌, length, drop, get_or, ap, sym, append_assoc, append-nil, add-one, Option, Result, Ok, Err, OnErr}
+use Rattle.std.proofs.Common.{◌≡◌, ◌∙◌, ◌<◌, ◌≤◌, ◌+◌, ℕ, List, ◌++◌, length, drop, get_or, ap, sym}
+use Rattle.std.proofs.Common.{append_assoc, append-nil, add-one, Option, Result, Ok, Err, OnErr}
 use Rattle.std.proofs.lemmas.List.{drop_all}
 use Rattle.std.proofs.Math.Seq.{drop-cons}
 use Rattle.std.specs.Io.KnownBytes.{Appends}
@@ -29,7 +30,8 @@ begun old now new written left block behind text before (front, back, split, mor
 )
 
 -- all blocks were written
-pub all-written : (blocks : List (List ℕ)) (i : ℕ) (written : List ℕ) → length blocks ≤ i → joined blocks ≡ written ++ joined (drop i blocks) → joined blocks ≡ written
+pub all-written : (blocks : List (List ℕ)) (i : ℕ) (written : List ℕ) → length blocks ≤ i → joined blocks ≡ written ++ joined (drop i blocks)
+    → joined blocks ≡ written
 all-written blocks i written past split = split ∙ ap (λ l. written ++ joined l) (drop_all i blocks past) ∙ append-nil written
 
 pub on-err : {A E P : Type 0} (r : Result A E) → P → OnErr r P

@@ -9,7 +9,8 @@ loop-block-preserved g c =
     let (written, split, appended, same, room) = c.loop-block.invariant in (
       written ++ c.deref.result.now,
       block-written c.args.text.now.blocks c.loop-block.block-index c.block-item.result c.deref.result.now written
-          (c.deref.ensures.value ∙ c.unpack.ensures.items ∙ c.block-item.is ∙ ap (λ l. get_or l c.loop-block.block-index c.block-item.result) c.blocks-block-items.ensures)
+          (c.deref.ensures.value ∙ c.unpack.ensures.items ∙ c.block-item.is
+          ∙ ap (λ l. get_or l c.loop-block.block-index c.block-item.result) c.blocks-block-items.ensures)
           (rw c.blocks-block-items.ensures at c.loop-block-test.true) split,
       Appends-trans _ _ _ _ _ appended c.in_ok-write_whole.ensures.whole,
       search rules,

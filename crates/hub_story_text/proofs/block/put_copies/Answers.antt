@@ -38,7 +38,9 @@ pub loop-copied-preserved : goal.loop-copied-preserved
 loop-copied-preserved c =
     let so = c.loop-copied.invariant in (
       one-copied c.args.distance c.loop-copied.copied-index c.args.copies.now c.loop-copied.out.items
-          c.extend_from_within.new.self.items _ _ _ _ _ c.loop-copied-test.true (omega (arith, c.len.ensures, c.saturating_sub-start.ensures, c.loop-copied.out.ok)) (omega (arith, c.from.ensures, c.len-in-loop-copied.ensures, c.min-end.ensures, c.loop-copied.out.ok))
+          c.extend_from_within.new.self.items _ _ _ _ _ c.loop-copied-test.true
+          (omega (arith, c.len.ensures, c.saturating_sub-start.ensures, c.loop-copied.out.ok))
+          (omega (arith, c.from.ensures, c.len-in-loop-copied.ensures, c.min-end.ensures, c.loop-copied.out.ok))
           c.in_ok-extend_from_within.ensures.items c.in_ok-push.ensures.items so.0,
       search rules,
     )

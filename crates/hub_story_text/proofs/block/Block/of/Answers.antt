@@ -8,7 +8,12 @@ invariant_of-result-2 c =
     let d = c.first_line-distance.result in
     let text = c.in_ok-from_slice-3.field-0.items in
     let few : length (unpacked d text c.new.result.items) ≤ 131072 =
-    omega (arith, ap length (no-copies d text c.new.result.items c.new.ensures.items), ap length c.in_ok-from_slice-3.ensures.items, c.if-text-gt-MOST_BLOCK.false) in
+    omega (
+      arith,
+      ap length (no-copies d text c.new.result.items c.new.ensures.items),
+      ap length c.in_ok-from_slice-3.ensures.items,
+      c.if-text-gt-MOST_BLOCK.false,
+    ) in
     few
 
 pub returns : goal.returns

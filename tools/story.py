@@ -22,7 +22,7 @@ MINUTE = 60
 MOST_ALLOCATIONS = 1000
 MOST_BYTES = 67_108_864
 # the most memory for the story of a journal of so many bytes that has the most entries
-MOST_MEMORY = 2_000_000_000
+MOST_MEMORY = 1_000_000_000
 
 
 class Program:

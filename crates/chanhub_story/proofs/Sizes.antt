@@ -1,12 +1,11 @@
 -- A text has a byte for each of its entries, and more.
-use Rattle.std.proofs.Common.{◌≡◌, ◌≤◌, ◌<◌, ◌+◌, ◌-◌, ◌^◌, ℕ, List, [], ◌∷◌, ◌++◌, length, ap, arith, zero-le, length-append}
+use Rattle.std.proofs.Common.{◌≤◌, ◌<◌, ◌-◌, ◌^◌, ℕ, List, [], ◌∷◌, length, ap, arith, zero-le, length-append}
 use Rattle.std.specs.List.{flat_map, join_with_byte}
-use Rattle.std.specs.Prelude.{codes, decimal}
+use Rattle.std.specs.Prelude.{decimal}
 use Rattle.hub_base.specs.declared.head.Head.{Head}
 use Rattle.hub_base.specs.declared.entry.Entry.{Entry}
-use Rattle.hub_base.specs.declared.limits.TheConstants.{MOST_BYTES}
 use Rattle.hub_base.specs.Lines.{line, step_fields}
-use Rattle.hub_base.specs.Reading.{head_lines, text}
+use Rattle.hub_base.specs.Reading.{head_lines}
 use Rattle.hub_base.specs.Text.{IsText}
 
 a-byte : (e : Entry) → 1 ≤ length (line e)

@@ -11,12 +11,13 @@ ghost use Rattle.chanhub_story.specs.Promises.{HasRefused};
 
 use crate::asked::{Asked, Form, window_of};
 use crate::fault::StoryFault;
+use crate::writing::{room, write_text};
 use hub_base::{MOST_BYTES, NoMemory, ReadFault};
 use hub_core::{ShortJournal, read_short_journal};
 use hub_picture::{Drawing, drawing_of, write_svg};
-use hub_replay::{Sink, Source, read_up_to, write_whole};
+use hub_replay::{Sink, Source, read_up_to};
 use hub_story::{short_story_of, story_of};
-use hub_story_text::story_text;
+use hub_story_text::{PackedText, story_text};
 use std::alloc::Global;
 
 /// The text of a drawing.
@@ -37,7 +38,7 @@ fn journal_of(alloc: Global, bytes: Vec<u8>) -> Result<ShortJournal, ReadFault>
 }
 
 /// What is asked of the journal that these bytes are the text of.
-fn explanation(alloc: Global, asked: Asked, bytes: Vec<u8>) -> Result<Vec<u8>, StoryFault>
+fn explanation(alloc: Global, asked: Asked, bytes: Vec<u8>) -> Result<PackedText, StoryFault>
     ensures ok { IfOk result (λ text. IsExplanation asked bytes.items text.items) }
     ensures err { IfErr result (HasNone asked bytes.items) }
 {
@@ -52,7 +53,7 @@ fn explanation(alloc: Global, asked: Asked, bytes: Vec<u8>) -> Result<Vec<u8>, S
             let story = story_of(alloc, &journal)?;
             let whole = journal.write_out(alloc)?;
             let drawing = drawing_of(alloc, &whole, &story, window)?;
-            Ok(svg_of(alloc, &drawing)?)
+            Ok(PackedText::plain(svg_of(alloc, &drawing)?))
         }
     }
 }
@@ -74,8 +75,9 @@ pub(crate) fn explain<S: Source, W: Sink>(
         (Explains asked (S.remaining input.old) (S.remaining input.new)
         (AppendsBeginning (W.contents output.old) (W.contents output.new)))) }
 {
-    let bytes = read_up_to(alloc, input, MOST_BYTES)?;
-    let text = explanation(alloc, asked, bytes)?;
-    write_whole(output, &text)?;
+    let journal = read_up_to(alloc, input, MOST_BYTES)?;
+    let text = explanation(alloc, asked, journal)?;
+    let mut bytes = room(alloc)?;
+    write_text(output, &text, &mut bytes)?;
     Ok(())
 }

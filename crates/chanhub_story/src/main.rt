@@ -5,6 +5,7 @@ mod asked;
 mod explanation;
 mod fault;
 mod program;
+mod writing;
 
 use asked::{Asked, Form, Shown};
 use hub_base::number;

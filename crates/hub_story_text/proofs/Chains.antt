@@ -1,5 +1,6 @@
 -- What is appended piece by piece.
-use Rattle.std.proofs.Common.{◌≡◌, ◌<◌, ◌+◌, ◌-◌, ℕ, List, ◌++◌, length, take, drop, ap, ◌∙◌, sym, append_assoc, Result, Ok, Err, OnOk, add-one, arith, get_or}
+use Rattle.std.proofs.Common.{◌≡◌, ◌<◌, ◌+◌, ◌-◌, ℕ, List, [], ◌++◌, length, take, drop, ap, ◌∙◌, sym}
+use Rattle.std.proofs.Common.{append_assoc, Result, Ok, Err, OnOk, add-one, arith, get_or}
 use Rattle.std.specs.List.{flat_map}
 use Rattle.std.proofs.Math.Seq.{drop-cons}
 use Rattle.std.proofs.lemmas.List.{take_all, length-drop}
@@ -20,6 +21,12 @@ pub two-more : {A : Type 0} (out was new x y z : List A) → was ≡ out ++ x �
 two-more out was new x y z so is =
     is ∙ ap (λ l. l ++ y ++ z) so ∙ ap (λ l. l ++ z) (append_assoc out x y) ∙ append_assoc out (x ++ y) z
 
+-- one more line, which was put together first
+pub line-more : (out now line put told cleared x y : List ℕ) → now ≡ out ++ line → line ≡ put → put ≡ told ++ y → told ≡ cleared ++ x → cleared ≡ [] →
+    now ≡ out ++ (x ++ y)
+line-more out now line put told cleared x y is same all first none =
+    is ∙ ap (λ l. out ++ l) (same ∙ all ∙ ap (λ l. l ++ y) (first ∙ ap (λ l. l ++ x) none))
+
 -- all behind the first n
 pub rest-whole : {A : Type 0} (n : ℕ) (xs ys : List A) → xs ≡ ys → take (length xs - n) (drop n xs) ≡ drop n ys
 rest-whole n xs ys same = take_all (length xs - n) (drop n xs) (omega (arith, length-drop n xs)) ∙ ap (drop n) same
@@ -31,6 +38,6 @@ flat-next f xs i d was now text below so is =
     ap (λ l. l ++ flat_map f (drop (i + 1) xs)) is ∙ append_assoc was (f (get_or xs i d)) (flat_map f (drop (i + 1) xs))
     ∙ ap (λ l. was ++ l) (ap (λ k. f (get_or xs i d) ++ flat_map f (drop k xs)) (add-one i) ∙ sym (ap (flat_map f) (drop-cons xs i d below))) ∙ so
 
--- five texts behind another
-pub five-behind : (before a b c d e : List ℕ) → before ++ a ++ b ++ c ++ d ++ e ≡ before ++ (a ++ b ++ c ++ d ++ e)
+-- five texts behind another, of which the last three were put together first
+pub five-behind : (before a b c d e : List ℕ) → before ++ a ++ b ++ (c ++ d ++ e) ≡ before ++ (a ++ b ++ c ++ d ++ e)
 five-behind before a b c d e = simp append_assoc

@@ -9,3 +9,4 @@ pub mod Written
 pub mod Levels
 pub mod Places
 pub mod Ranks
+pub mod Packs

@@ -14,3 +14,4 @@ pub mod Fullest
 pub mod PortText
 pub mod Waits
 pub mod StoryText
+pub mod Packed

@@ -3,6 +3,7 @@
 #![tactic(auto)]
 
 mod answers;
+mod block;
 mod cells;
 mod closers;
 mod ends;
@@ -12,6 +13,7 @@ mod last_moves;
 mod leavers;
 mod lines;
 mod numbers;
+mod packed_text;
 mod partners;
 mod port_moves;
 mod ports;
@@ -20,5 +22,7 @@ mod text;
 mod waiters;
 mod waits;
 
+pub use block::{Block, MOST_BLOCK};
 pub use hub_story::Window;
+pub use packed_text::PackedText;
 pub use text::story_text;

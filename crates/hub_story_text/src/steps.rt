@@ -12,6 +12,7 @@ ghost use Rattle.hub_story_text.specs.WaiterText.{waiters_words};
 use crate::Window;
 use crate::explained::{Explained, put_told_line};
 use crate::last_moves::LastMoves;
+use crate::packed_text::PackedText;
 use crate::waiters::put_waiters;
 use hub_base::{NoMemory, What};
 use hub_story::Told;
@@ -70,7 +71,7 @@ fn put_stalled(
 
 /// Appends the lines of the steps that the window has, below each those whom it stalled, and takes in all that is told.
 pub(crate) fn put_steps(
-    out: &mut Vec<u8>,
+    out: &mut PackedText,
     moves: &mut LastMoves,
     explained: &Explained,
     window: Window,
@@ -84,14 +85,17 @@ pub(crate) fn put_steps(
         (told_by (length (entries_of explained.now)) (told_of explained.now)) moves.new) }
 {
     let entries = explained.journal.entries();
+    let mut line = Vec::new(*moves.left.allocator());
     let mut rest: &[Told] = &explained.story.told;
     for place in 0..entries.len() {
         let (came, later) = rest.split_at(count_of(rest, place as u32));
         moves.note_all(entries, came)?;
         let entry = entries.entry(place);
         if window.has(place as u32) {
-            put_told_line(out, explained, place as u32, &entry, came)?;
-            put_stalled(out, explained, moves, came)?;
+            line.clear();
+            put_told_line(&mut line, explained, place as u32, &entry, came)?;
+            put_stalled(&mut line, explained, moves, came)?;
+            out.push(&line)?;
         }
         rest = later;
     }

@@ -10,6 +10,7 @@ ghost use Rattle.hub_story_text.specs.StoryText.{story_text};
 use crate::Window;
 use crate::explained::Explained;
 use crate::last_moves::LastMoves;
+use crate::packed_text::PackedText;
 use crate::partners::partners_of;
 use crate::port_moves::PortMoves;
 use crate::ports::put_ports;
@@ -30,7 +31,7 @@ const END_NOBODY: &[u8] = b"in the end no call waits\n";
 
 /// Appends the story of a journal, by what is known of its values; `last` comes to tell who moved one last.
 fn put_story(
-    out: &mut Vec<u8>,
+    out: &mut PackedText,
     last: &mut LastMoves,
     explained: &Explained,
     moves: &PortMoves,
@@ -43,18 +44,20 @@ fn put_story(
     ensures { OnOk result (out.new.items ≡
         out.old.items ++ story_text window (entries_of explained.now) (told_of explained.now)) }
 {
-    out.extend_from_slice(HEADING)?;
+    out.push(HEADING)?;
     put_steps(out, last, explained, window)?;
-    put_ports(out, explained.journal, explained.story, moves)?;
-    put_waits(out, explained)?;
+    let mut rest = Vec::new(*last.left.allocator());
+    put_ports(&mut rest, explained.journal, explained.story, moves)?;
+    put_waits(&mut rest, explained)?;
     put_waiters(
-        out,
+        &mut rest,
         END_NOBODY,
         END_HEADING,
         explained.journal.entries(),
         last,
         &explained.story.waiting,
     )?;
+    out.push(&rest)?;
     Ok(())
 }
 
@@ -66,7 +69,7 @@ pub fn story_text(
     journal: &ShortJournal,
     story: &ShortStory,
     window: Window,
-) -> Result<Vec<u8>, NoMemory>
+) -> Result<PackedText, NoMemory>
     requires story { IsShortStoryOf journal.now story.now }
     requires few { length journal.now.entries < 2 ^ 32 - 1 }
     ensures { IfOk result (λ text. text.items ≡ story_text window journal.now.entries story.now.told.items) }
@@ -79,7 +82,7 @@ pub fn story_text(
         partners: &partners,
     };
     let mut last = LastMoves::new(alloc)?;
-    let mut out = Vec::new(alloc);
+    let mut out = PackedText::new(alloc);
     put_story(&mut out, &mut last, &explained, &moves, window)?;
     Ok(out)
 }

@@ -1,4 +1,4 @@
-use Rattle.std.proofs.Common.{sym, arith}
+use Rattle.std.proofs.Common.{◌∙◌, sym, arith}
 use Rattle.chanhub_story.proofs.Sizes.{few-entries}
 use Rattle.chanhub_story.proofs.explanation.explanation.Goals as goal
 
@@ -30,6 +30,6 @@ returns-clause-ok c =
         drawing = c.in_ok-drawing-in-Picture.drawing;
         told = c.in_ok-story-in-Picture.ensures;
         draws = rw c.in_ok-whole-in-Picture.ensures at c.in_ok-drawing-in-Picture.ensures;
-        is = c.in_ok-svg_of-in-Picture.ensures;
+        is = c.plain.ensures ∙ c.in_ok-svg_of-in-Picture.ensures;
       });
     }

@@ -4,11 +4,11 @@ use Rattle.hub_story.specs.Levels.{told_by}
 use Rattle.hub_story_text.specs.Explained.{entries_of, told_of}
 use Rattle.hub_story_text.specs.LastMoves.{AreLast}
 use Rattle.hub_story_text.specs.StoryText.{step_text}
-use Rattle.hub_story_text.proofs.Chains.{one-more}
+use Rattle.hub_story_text.proofs.Chains.{line-more}
 use Rattle.hub_story_text.proofs.Groups.{first-cut, next-cut, none-before}
 use Rattle.hub_story_text.proofs.StepTexts.{step-is, step-shown, step-hidden}
 use Rattle.hub_story_text.proofs.steps.put_steps.Goals as goal
-use Rattle.hub_story_text.proofs.steps.put_steps.Goals.{then-has+in_ok-put_told_line+in_ok-put_stalled, else-has}
+use Rattle.hub_story_text.proofs.steps.put_steps.Goals.{then-has+in_ok-put_told_line+in_ok-put_stalled+in_ok-push, else-has}
 
 pub loop-place-init : goal.loop-place-init
 loop-place-init c =
@@ -33,15 +33,16 @@ loop-place-preserved c =
     let last = subst (λ l. AreLast es l c.note_all.new.self) next.told (noted _ so.last) in
     let below : place < length es = omega (arith, c.loop-place-test.true, ap length c.entries-entries.ensures) in
     elim c.if-has.branch [
-      | then-has+in_ok-put_told_line+in_ok-put_stalled w ↦
+      | then-has+in_ok-put_told_line+in_ok-put_stalled+in_ok-push w ↦
           rw w.out-is (record {
             cut = next.cut;
             last = last;
             whole = c.note_all.ensures.whole;
             text =
-                step-shown c.args.window es told place c.entry-entry.result out w.put_stalled.new.out.items _ below
+                step-shown c.args.window es told place c.entry-entry.result out w.push.new.self.items _ below
                 (sym c.has.ensures ∙ w.if-has.true) so.text
-                (one-more out w.put_told_line.new.out.items w.put_stalled.new.out.items _ _ w.in_ok-put_told_line.ensures w.in_ok-put_stalled.ensures
+                (line-more out w.push.new.self.items _ w.put_stalled.new.out.items w.put_told_line.new.out.items w.clear.new.self.items _ _
+                w.in_ok-push.ensures w.deref.ensures.value w.in_ok-put_stalled.ensures w.in_ok-put_told_line.ensures w.clear.ensures.items
                 ∙ ap (λ l. out ++ l) (step-is es told place c.entry-entry.result _ c.note_all.new.self next.came last)
                 ∙ ap (λ e. out ++ step_text es told place e)
                 (sym (get_or_from_slice_get es place c.entry-entry.result c.entry-entry.result (rw c.entries-entries.ensures at c.entry-entry.ensures))));

@@ -19,7 +19,16 @@ returns c =
     let es = entries_of c.args.explained.now in
     let told = told_of c.args.explained.now in
     let waits = rw (c.entries.ensures, c.deref.ensures.value, c.requires.explained.story.waiting) at c.in_ok-put_waiters.ensures in
-    rw (waits, c.in_ok-put_waits.ensures, c.in_ok-put_ports.ensures, c.in_ok-put_steps.ensures.text, c.in_ok-extend_from_slice.ensures.items)
+    rw (
+      c.in_ok-push-2.ensures,
+      c.deref-2.ensures.value,
+      waits,
+      c.in_ok-put_waits.ensures,
+      c.in_ok-put_ports.ensures,
+      c.new-rest.ensures.items,
+      c.in_ok-put_steps.ensures.text,
+      c.in_ok-push.ensures,
+    )
     (five-behind c.args.out.now.items heading (steps_text c.args.window es told 0 es) (ports_text es told) (waits_text es told) _
     ∙ ap (λ l. c.args.out.now.items ++ (heading ++ steps_text c.args.window es told 0 es ++ ports_text es told ++ waits_text es told ++ l))
     (waiters-told end_nobody end_heading es (told_by (length es) told) c.put_steps.new.moves c.in_ok-put_steps.ensures.last _))

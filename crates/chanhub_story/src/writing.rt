@@ -1,0 +1,38 @@
+//! Writing a text that is kept short. No memory is asked for, so that only a write can fail.
+
+ghost use Rattle.std.specs.Prelude.{◌≡◌, ◌≤◌, vec_capacity, IfOk, OnErr, OnOk};
+ghost use Rattle.std.specs.Io.KnownBytes.{Appends};
+ghost use Rattle.hub_replay.specs.Devices.{AppendsBeginning, Failed};
+
+use hub_base::NoMemory;
+use hub_replay::{Sink, WriteFailed, write_whole};
+use hub_story_text::{MOST_BLOCK, PackedText};
+use std::alloc::Global;
+
+/// Room for the bytes of a block.
+pub(crate) fn room(alloc: Global) -> Result<Vec<u8>, NoMemory>
+    ensures { IfOk result (λ bytes. MOST_BLOCK ≤ vec_capacity bytes) }
+{
+    Ok(Vec::with_capacity(alloc, MOST_BLOCK)?)
+}
+
+/// Writes all of a text, and stops at the first write that fails. `bytes` has room for a block.
+pub(crate) fn write_text<W: Sink>(
+    output: &mut W,
+    text: &PackedText,
+    bytes: &mut Vec<u8>,
+) -> Result<(), WriteFailed>
+    requires { MOST_BLOCK ≤ vec_capacity bytes.old }
+    ensures whole { OnOk result (Appends (W.contents output.old) (W.contents output.new) text.now.items) }
+    ensures beginning { OnErr result
+        (AppendsBeginning (W.contents output.old) (W.contents output.new) text.now.items) }
+    ensures err { OnErr result (Failed (W.failures output.old) (W.failures output.new)) }
+    ensures ok { OnOk result (W.failures output.new ≡ W.failures output.old) }
+{
+    let rest = text.rest();
+    for block in text.blocks() {
+        block.unpack(bytes);
+        write_whole(output, bytes)?;
+    }
+    write_whole(output, rest)
+}

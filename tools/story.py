@@ -23,6 +23,14 @@ MOST_ALLOCATIONS = 1000
 MOST_BYTES = 67_108_864
 # the most memory for the story of a journal of so many bytes that has the most entries
 MOST_MEMORY = 1_000_000_000
+# Runs a program and tells its status and the most memory that was resident. A process begins with what the one has that starts it,
+# which here is much; so this small one stands between.
+MEASURE = """
+import os, subprocess, sys
+child = subprocess.Popen(sys.argv[1:], stderr=subprocess.DEVNULL)
+_, status, usage = os.wait4(child.pid, 0)
+print(os.waitstatus_to_exitcode(status), usage.ru_maxrss * 1024, file=sys.stderr)
+"""
 
 
 class Program:
@@ -45,10 +53,10 @@ class Program:
         with tempfile.TemporaryFile() as text, tempfile.TemporaryFile() as given:
             given.write(journal)
             given.seek(0)
-            child = subprocess.Popen([self.path, *words], stdin=given, stdout=text, stderr=subprocess.DEVNULL)
-            _, status, usage = os.wait4(child.pid, 0)
-            child.returncode = os.waitstatus_to_exitcode(status)
-            return child.returncode, text.seek(0, os.SEEK_END), usage.ru_maxrss * 1024
+            words = [sys.executable, "-c", MEASURE, self.path, *words]
+            said = subprocess.run(words, stdin=given, stdout=text, stderr=subprocess.PIPE, text=True, check=True).stderr
+            status, peak = map(int, said.split()[-2:])
+            return status, text.seek(0, os.SEEK_END), peak
 
     def run_to_full(self, words, journal=b""):
         """The status and what was written to standard error, where standard output takes nothing."""

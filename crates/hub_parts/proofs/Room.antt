@@ -1,14 +1,18 @@
 -- A process without an open call leaves room for one.
 use Rattle.std.proofs.Common.{◌≡◌, ℕ, ◌<◌, ◌≤◌, ◌==◌, Bool, true, false, not, List, [], ◌∷◌, length, arith, eqb, ◌++◌, cond, filter}
 use Rattle.std.proofs.Common.{refl, ap, sym, ◌∙◌, subst, Some, suc}
-use Rattle.std.proofs.Common.{slice_get, zero}
-use Rattle.std.specs.List.{IsDistinct, AllByRecursion, list_any, remove}
+use Rattle.std.proofs.Common.{slice_get, get_or, zero, None, ltb}
+use Rattle.std.specs.List.{IsDistinct, AllByRecursion, list_any, position, position_or_len, remove}
+use Rattle.std.proofs.lemmas.Bool.{ltb-false, ltb-true}
+use Rattle.std.proofs.lemmas.List.Sums.{passes_at_first}
+use Rattle.hub_base.specs.declared.value.Pid.{Pid}
+use Rattle.std.specs.Prelude.{IfNone, IfSome, Option}
 use Rattle.std.specs.Option.{option_map}
 use Rattle.std.proofs.lemmas.Grind.{common_steps}
 use Rattle.std.proofs.lemmas.List.{length-map}
 use Rattle.std.proofs.lemmas.Map.Steps.{length-le_from_distinct_below}
 use Rattle.hub_parts.specs.declared.tickets.Opened.{Opened}
-use Rattle.hub_parts.specs.Tickets.{pids, AreApart}
+use Rattle.hub_parts.specs.Tickets.{pids, AreApart, IsAt}
 
 apart : (os : List Opened) (pid : ℕ) → list_any (λ o. o.pid.0 == pid) os ≡ false → AllByRecursion (λ y. (pid == y) ≡ false) (pids os)
 apart [] pid e = tt
@@ -104,3 +108,56 @@ removed q (suc place) (o ∷ os) a e =
 -- where the process has no call, all are left
 pub unremoved : (q : ℕ) (os : List Opened) → list_any (λ o. o.pid.0 == q) os ≡ false → os ≡ of_others q os
 unremoved q os e = sym (all_of_others q os (apart os q e))
+
+is_at : (os : List Opened) (pid place : ℕ) (d : Opened) → place < length os → (get_or os place d).pid.0 ≡ pid
+    → option_map (λ o. o.pid.0) (slice_get os place) ≡ Some pid
+is_at [] pid place d within same = absurd (omega arith)
+is_at (o ∷ os) pid zero d within same = ap Some same
+is_at (o ∷ os) pid (suc place) d within same = is_at os pid place d (omega arith) same
+
+-- a call at a place
+at_place : (os : List Opened) (pid : Pid) (place : ℕ) (d : Opened) → place < length os → (get_or os place d).pid.0 ≡ pid.0 → IsAt os pid place
+at_place os pid place d within same = record { within = within; of_process = is_at os pid.0 place d within same }
+
+found_is : (n : ℕ) (b : Bool) (i : ℕ) → cond b (Some n) None ≡ Some i → (b ≡ true) × (n ≡ i)
+found_is n true i e = (refl, cc)
+found_is n false i e = absurd cc
+
+none_is : (n : ℕ) (b : Bool) → cond b (Some n) None ≡ None → b ≡ false
+none_is n true e = absurd cc
+none_is n false e = refl
+
+-- what is found first is at its place
+first_at : (os : List Opened) (pid : Pid) (i : ℕ) (d : Opened) → position (λ o. o.pid.0 == pid.0) os ≡ Some i → IsAt os pid i
+first_at os pid i d e =
+    let found = found_is (position_or_len (λ o. o.pid.0 == pid.0) os) (ltb (position_or_len (λ o. o.pid.0 == pid.0) os) (length os)) i e in
+    let within = ltb-true (position_or_len (λ o. o.pid.0 == pid.0) os) (length os) found.0 in
+    let passes = passes_at_first (λ (o : Opened). o.pid.0 == pid.0) os d within in
+    let same : (get_or os (position_or_len (λ o. o.pid.0 == pid.0) os) d).pid.0 ≡ pid.0 = grind (arith, common_steps) in
+    subst (λ k. IsAt os pid k) found.1 (at_place os pid (position_or_len (λ o. o.pid.0 == pid.0) os) d within same)
+
+none_step : (q : ℕ) (o : Opened) (os : List Opened) (b : Bool) → (o.pid.0 == q) ≡ b → length (o ∷ os) ≤ position_or_len (λ o. o.pid.0 == q) (o ∷ os)
+    → (length os ≤ position_or_len (λ o. o.pid.0 == q) os → list_any (λ o. o.pid.0 == q) os ≡ false) → list_any (λ o. o.pid.0 == q) (o ∷ os) ≡ false
+none_step q o os true e more ih = absurd (let m = rw e at more in omega arith)
+none_step q o os false e more ih =
+    let rest : length os ≤ position_or_len (λ o. o.pid.0 == q) os = (let m = rw e at more in omega arith) in
+    rw e (ih rest)
+
+none_past : (q : ℕ) (os : List Opened) → length os ≤ position_or_len (λ o. o.pid.0 == q) os → list_any (λ o. o.pid.0 == q) os ≡ false
+none_past q [] more = refl
+none_past q (o ∷ os) more = none_step q o os (o.pid.0 == q) refl more (none_past q os)
+
+none_found : (q : ℕ) (os : List Opened) → position (λ o. o.pid.0 == q) os ≡ None → list_any (λ o. o.pid.0 == q) os ≡ false
+none_found q os e =
+    none_past q os
+    (ltb-false (position_or_len (λ o. o.pid.0 == q) os) (length os)
+    (none_is (position_or_len (λ o. o.pid.0 == q) os) (ltb (position_or_len (λ o. o.pid.0 == q) os) (length os)) e))
+
+pub found_where : (os : List Opened) (pid : Pid) (r : Option ℕ) → r ≡ position (λ o. o.pid.0 == pid.0) os → IfSome r (λ place. IsAt os pid place)
+found_where os pid None e = tt
+found_where os pid (Some i) e = first_at os pid i (record { ticket = 0; pid = pid }) (sym e)
+
+pub none_where : (os : List Opened) (pid : Pid) (r : Option ℕ) → r ≡ position (λ o. o.pid.0 == pid.0) os
+    → IfNone r (list_any (λ o. o.pid.0 == pid.0) os ≡ false)
+none_where os pid None e = none_found pid.0 os (sym e)
+none_where os pid (Some i) e = tt

@@ -23,8 +23,8 @@ WRITTEN = {
     'bursts': 25_028_894,
     'selects': 114_964_196,
     'bytes': 71_201_327,
-    'open_calls': 97_080_111,
-    'worst_close': 37_033_413,
+    'open_calls': 82_224_429,
+    'worst_close': 35_188_789,
 }
 PERCENT = 5
 

@@ -1,27 +1,32 @@
-// The scenario pool on Go's own channels: one goroutine a process, process 0 in main. Where everyone waits, Go's runtime ends
-// it with status 2.
+// The scenario pool on Go's own channels, a goroutine a process. Where everyone waits, Go's runtime ends it with status 2.
 package main
 
-func work(jobs <-chan int, results chan<- int, mine ...int) {
-	for _, result := range mine {
-		<-jobs
-		results <- result
+import "sync"
+
+// work takes the connection or opens one, works with it, and puts it back.
+func work(pool chan int, connection int) {
+	own := make(chan int, 1)
+	select {
+	case connection = <-pool:
+	default:
 	}
-	for range jobs {
+	for i := 0; i < 3; i++ {
+		own <- 1
+		<-own
 	}
+	pool <- connection
 }
 
 func main() {
-	jobs, results := make(chan int), make(chan int, 2)
-	go work(jobs, results, 10, 11)
-	go work(jobs, results, 20, 21)
-	go work(jobs, results, 30)
-	go work(jobs, results, 40)
-	for job := 1; job <= 6; job++ {
-		jobs <- job
+	pool := make(chan int, 1)
+	var workers sync.WaitGroup
+	for connection := 1; connection <= 5; connection++ {
+		connection := connection
+		workers.Add(1)
+		go func() {
+			defer workers.Done()
+			work(pool, connection)
+		}()
 	}
-	close(jobs)
-	for i := 0; i < 6; i++ {
-		<-results
-	}
+	workers.Wait()
 }

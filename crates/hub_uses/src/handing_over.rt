@@ -26,7 +26,7 @@ impl<K: HubName, R: Wait> Task<LiveHub<K>, Held<K>, R> for HandOver {
     }
 }
 
-/// Process 0 sends 9 on the channel, and process 1 receives it. Of more processes all but one would wait for ever.
+/// Process 0 sends 9 on the channel, and process 1 receives it. Further processes would wait for ever.
 pub fn hand_over<K: HubName + Send + Sync, R: Threads + Wait + Sync>(
     rt: &R,
     alloc: Global,

@@ -40,7 +40,7 @@ impl Session {
         }
     }
 
-    /// Writes a piece of the journal's text, and answers how many bytes it has. None are where memory is refused. It stands in
+    /// Writes a piece of the journal's text, and answers how many bytes it has, 0 if memory is refused. It stands in
     /// a function of its own, so that a step does not pay for the place of its entry.
     #[inline(never)]
     #[tactic(auto, using(crate::proofs::Wholes::all_pieces_are_text))]

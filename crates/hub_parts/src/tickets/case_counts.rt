@@ -83,7 +83,7 @@ impl CaseCounts {
         self.change_each(cases, Change::More);
     }
 
-    /// Counts the cases of a call that ends no more.
+    /// Uncounts the cases of a call that ends.
     pub(crate) fn remove(&mut self, cases: &[Case])
         requires { CanLower self.old cases.now }
         ensures { self.new ≡ with_lowered self.old cases.now }

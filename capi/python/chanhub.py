@@ -3,8 +3,8 @@
     with Hub(procs=2) as hub:
         port = hub.seat(0).make(0)
 
-Each thread calls by a seat of its own. A call that has to wait waits, and other threads go on meanwhile. What ends a call
-without a value is an exception: Closed, Drained, Stalled, Cancelled, Fault.
+Each thread calls by a seat of its own. Other threads run while a call waits. A call that ends without a value raises Closed,
+Drained, Stalled, Cancelled or Fault.
 
 Ctrl-C ends the wait of the main thread by KeyboardInterrupt, and loses nothing: the call stays open, `seat.waits` says so, and
 `seat.resume()` waits on for its answer. Leaving `with Hub` ends what its threads do: no call begins any more, and whoever waits

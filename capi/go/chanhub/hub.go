@@ -7,13 +7,13 @@
 //
 // # Errors
 //
-// What ends a call without a value is an error: [ErrClosed], [ErrDrained], [ErrStalled], [ErrCancelled], [ErrHubClosed], or a
-// [Fault] where nothing happened. Each is found by [errors.Is], and a Fault by [errors.As].
+// A call that ends without a value returns an error: [ErrClosed], [ErrDrained], [ErrStalled], [ErrCancelled], [ErrHubClosed], or a
+// [Fault] if nothing happened. [errors.Is] finds each of them, and [errors.As] a Fault.
 //
 // # Threads
 //
-// A call is one of cgo: while it waits its goroutine keeps a thread of the system, so a hub has up to 64 of them wait. Other
-// goroutines go on meanwhile.
+// Each call goes through cgo: while it waits, its goroutine keeps a thread of the system, up to 64 for a hub. Other goroutines go
+// on meanwhile.
 //
 // # The library
 //

@@ -16,7 +16,7 @@
 //! assert_eq!(hub.look_at(&receiver).unwrap().received, 1);
 //! ```
 //!
-//! What ends a call is an error, so that a function passes it on by `?`:
+//! A call that ends without a value is an error, which `?` passes on:
 //!
 //! ```
 //! use chanhub::{Edition, Ended, Hub, Seat};

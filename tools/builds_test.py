@@ -90,7 +90,7 @@ class Room:
     """A small tree with the scripts of TREE, and the toolchain that it is built by."""
 
     def __init__(self, folder):
-        self.top = os.path.join(folder, 'tree')
+        self.top = os.path.join(folder, 'a tree')
         self.kit = os.path.join(folder, 'kit')
         self.log = os.path.join(folder, 'log')
         self.kept = os.path.join(folder, 'kept')
@@ -400,6 +400,15 @@ def gate(tests, room):
         tests.same(name + ', and what was half written is gone', read(room.path('crates', 'hub_c', 'out', 'libhub_c.a')), None)
 
 
+def makes_at_once(tests, room):
+    write(os.path.join(room.kit, 'path', 'slow-ar'), '#!/bin/sh\nar "$@"\nsleep 0.5\n', True)
+    makes = [room.start('make', '-C', 'capi', 'AR=slow-ar') for _ in range(2)]
+    for make in makes:
+        _, errors = make.communicate(timeout=60)
+        tests.tell('two of make -C capi at once', make.returncode == 0, errors)
+    shutil.rmtree(room.path('capi', 'out'))
+
+
 def installs(tests, room):
     status, _, errors = room.run('make', '-C', 'capi')
     tests.tell('make -C capi', status == 0, errors)
@@ -424,7 +433,7 @@ def main():
         signal.signal(number, signal.SIG_DFL)
     with tempfile.TemporaryDirectory() as folder:
         room = Room(folder)
-        for part in (by_its_line, by_another, wrapper, waits, killed, interrupts, gate, installs):
+        for part in (by_its_line, by_another, wrapper, waits, killed, interrupts, gate, makes_at_once, installs):
             try:
                 part(tests, room)
             except (OSError, TypeError, subprocess.TimeoutExpired) as error:

@@ -2,7 +2,7 @@
 """Whether a crate, and all that it stands on, is built and current.
 
     current.py CRATE                status 0, or 1 where something is to be built
-    current.py --sources CRATE      prints the files that it is built from
+    current.py --sources CRATE      prints the files that it is built from, as seen from the working directory
 
 A crate is current where it is as new as its sources and as what it stands on, whoever built it, and was built by the line that
 crates.txt has for it now. So a line that changes makes its own crate stale, with those above it, and no other. Builds nothing.
@@ -116,7 +116,8 @@ def main():
     if not lists:
         return look(crate, crates, began)
     for it in sorted({crate, *below(crate, crates)}):
-        print(*sources(it), sep='\n')
+        # A path from here has none of the spaces that the path to here may have, which a Makefile can't take.
+        print(*map(os.path.relpath, sources(it)), sep='\n')
     return 0
 
 

@@ -4,4 +4,6 @@ use Rattle.hub_parts.proofs.tickets.Tickets.live.Goals as goal
 
 pub returns : goal.returns
 returns c = rw (← c.self.view_is)
-    (c.has_ticket.ensures ∙ rw c.as_slice.ensures.value (sym (live_calls c.self.inside.cases.items c.self.inside.opened.items c.args.ticket)))
+    (c.has_ticket.ensures
+    ∙ rw (c.as_slice.ensures.value, c.as_slice-2.ensures.value)
+    (sym (live_calls c.self.inside.calls.items c.self.inside.opened.items c.args.ticket)))

@@ -1,5 +1,0 @@
-use Rattle.std.proofs.Common.{◌≡◌, length}
-use Rattle.hub_parts.proofs.tickets.no_cases.Given as goal
-
-abbrev pub invariant-loop-pid : goal.invariant-loop-pid
-invariant-loop-pid l = length l.cases.items ≡ l._pid

@@ -1,9 +1,9 @@
 #!/bin/sh
 # program.sh [PROGRAM [SERVE [STORY]]]: runs the built program on the examples, journals and scenarios; on the rows of tests/; on
 # random journals beside the events that model.py makes of them; and with each of its allocations refused. Runs a hub's
-# tests and the live hub's, which `./test` has built, with theirs refused; compares model.py, CLAIMS and the quotations of
-# README with what they speak of; follows the links of pages, and compares CHANGING with the crates; looks for limits that
-# are written as numbers, and for definitions and proofs that are too wide; counts the instructions of replays, where valgrind is there; tries a close by an end that receives; has each program
+# tests and the live hub's, which `./test` has built, with theirs refused; compares model.py, CLAIMS, CHANGING, the links of pages and the quotations of
+# README with what they speak of; looks for limits that are written as numbers, and for definitions and proofs that are too
+# wide; counts the instructions of replays, where valgrind is there; tries a close by an end that receives; has each program
 # refuse bad arguments; converses with the built chanhub_serve; compares the stories and pictures of the built chanhub_story
 # with second readings; tries the scripts that build, by builds_test.py, and those that look at scenarios, by
 # scenarios_test.py; and builds and tries the C library. The last line counts: 'N passed, M failed', and how many were
@@ -168,6 +168,12 @@ count $? "a close by an end that receives"
 "$root/tools/check_claims.py"
 count $? "docs/CLAIMS.md beside the sources"
 
+"$root/tools/check_changing.py"
+count $? "docs/CHANGING.md beside the crates"
+
+"$root/tools/check_links.py"
+count $? "links of pages"
+
 "$root/tools/check_limits.py"
 count $? "limits that are written as numbers"
 
@@ -176,12 +182,6 @@ count $? "lines of definitions and proofs that are too wide"
 
 "$root/tools/check_quotes.py"
 count $? "what README.md quotes"
-
-"$root/tools/check_links.py"
-count $? "links of pages"
-
-"$root/tools/check_changing.py"
-count $? "docs/CHANGING.md beside the crates"
 
 # What is built and current is not built once more.
 if [ "$program" = "$root/crates/chanhub/out/chanhub" ]; then

@@ -174,6 +174,9 @@ count $? "docs/CHANGING.md beside the crates"
 "$root/tools/check_links.py"
 count $? "links of pages"
 
+"$root/tools/check_lists.py"
+count $? "lists of files in READMEs"
+
 "$root/tools/check_limits.py"
 count $? "limits that are written as numbers"
 

@@ -132,6 +132,18 @@ fn step_of(window: Window, scale: Scale, band: u64) -> u32
     step.min(window.end.into()) as u32
 }
 
+/// The steps from one band to another.
+pub(crate) fn steps_between(scale: Scale, drawing: &Drawing, first: u64, end: u64) -> Window
+    requires first { first ≤ 4294967296 }
+    requires end { end ≤ 4294967296 }
+    ensures { result ≡ steps_between scale drawing.now first end }
+{
+    Window {
+        first: step_of(drawing.window, scale, first),
+        end: step_of(drawing.window, scale, end),
+    }
+}
+
 /// The band of this number.
 pub(crate) fn frame_of(scale: Scale, drawing: &Drawing, band: u32) -> Frame
     ensures { result ≡ frame_of scale drawing.now band }
@@ -141,10 +153,7 @@ pub(crate) fn frame_of(scale: Scale, drawing: &Drawing, band: u32) -> Frame
         band,
         procs: drawing.procs,
         ports: ports_of(drawing),
-        steps: Window {
-            first: step_of(drawing.window, scale, band.into()),
-            end: step_of(drawing.window, scale, u64::from(band) + 1),
-        },
+        steps: steps_between(scale, drawing, band.into(), u64::from(band) + 1),
     }
 }
 

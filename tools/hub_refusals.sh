@@ -1,7 +1,7 @@
 #!/bin/sh
 # hub_refusals.sh [TESTS]: runs a hub's tests of refused memory with the first allocation after their mark refused, then
 # with the second, and so on until a run meets no refusal; and that of reserved steps with all of them refused. Each run
-# must pass. TESTS is the built program of hub_tests' tests, where they stand, if it is not said. It needs a C compiler
+# must pass, and a run of steps tells at which it was refused memory. TESTS is the built program of hub_tests' tests, where they stand, if it is not said. It needs a C compiler
 # (CC, or cc).
 set -eu
 root=$(cd "$(dirname "$0")/.." && pwd)
@@ -21,7 +21,8 @@ trap 'exit 130' INT TERM
 passes() {
     rm -f "$work/refused"
     timeout 60 env LD_PRELOAD="$work/refuse.so" REFUSE="$1" REFUSE_AFTER=$mark REFUSED="$work/refused" \
-        "$tests" "steps::refusals::$2" > "$work/output" 2>&1 && return 0
+        "$tests" "steps::refusals::$2" > "$work/output" 2>&1 &&
+        sed -n 's/^refused at //p' "$work/output" >> "$work/places" && return 0
     echo "hub_refusals.sh: $2, with allocation $1 after its mark refused:" >&2
     cat "$work/output" >&2
     return 1
@@ -42,6 +43,12 @@ for test in refused_opening_and_steps_are_made_again refused_steps_leave_the_buf
     fi
     total=$((total + number - 1))
 done
+
+# A later allocation is asked for at no earlier step, and steps behind the first ask for some.
+if ! sort -n -c "$work/places" || [ "$(sort -n -u "$work/places" | wc -l)" -lt 2 ]; then
+    echo "hub_refusals.sh: a run tells these places of its refused steps:" $(cat "$work/places") >&2
+    exit 1
+fi
 
 passes all reserved_steps_take_no_memory
 if [ ! -e "$work/refused" ]; then

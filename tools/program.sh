@@ -162,6 +162,9 @@ count $? "arguments: $(cat "$work/arguments")"
 "$root/tools/converse.py" "$program" "$serve" > "$work/conversations" 2>&1
 count $? "conversations: $(cat "$work/conversations")"
 
+"$root/tools/sleeps.py" "$program" > "$work/sleeps" 2>&1
+count $? "waits that sleep: $(cat "$work/sleeps")"
+
 "$root/tools/receivers_close_nothing.sh"
 count $? "a close by an end that receives"
 

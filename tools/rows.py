@@ -349,11 +349,17 @@ def run_by_devices(library, at_most, text, **wrong):
     return done.returncode, done.stdout, done.stderr
 
 
+def build_library(folder, name):
+    """The library of this source in C, to stand before a program's own."""
+    library = os.path.join(folder, name + '.so')
+    source = os.path.join(ROOT, 'tools', name + '.c')
+    subprocess.run([os.environ.get('CC', 'cc'), '-O1', '-shared', '-fPIC', '-o', library, source], check=True)
+    return library
+
+
 def small_devices(folder):
     """Each read fails in turn, and each write fails, or takes nothing: the last calls that are made."""
-    library = os.path.join(folder, 'devices.so')
-    source = os.path.join(ROOT, 'tools', 'devices.c')
-    subprocess.run([os.environ.get('CC', 'cc'), '-O1', '-shared', '-fPIC', '-o', library, source], check=True)
+    library = build_library(folder, 'devices')
     for most in (1, 7, 1000):
         yield '%d bytes a call' % most, run_by_devices(library, most, JOURNAL) == (0, EVENTS, b'')
     # One more finds the end.

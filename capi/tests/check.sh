@@ -108,11 +108,12 @@ is_used_elsewhere() {
 echo 385 > "$work/sum"
 printf 'stalled: 0 recv 2\nstalled: 1 recv 1\n' > "$work/stalled"
 
-for test in calls crew threads; do
+for test in calls crew threads memory; do
     check "$test builds" "$cc" $flags "tests/$test.c" out/libchanhub.a -lpthread -o "$work/$test"
 done
 check 'resume builds' "$cc" $flags -Wl,--wrap=clock_gettime tests/resume.c out/libchanhub.a -lpthread -o "$work/resume"
 check 'each call' "$work/calls"
+check 'a million steps in little memory' "$work/memory"
 for test in $threads; do
     check "threads: $test" "$work/threads" "$test"
 done

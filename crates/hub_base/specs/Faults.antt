@@ -1,4 +1,4 @@
--- The numbers of faults, as event texts print them, and the numbers and texts of what is wrong with a line.
+-- The numbers of faults, as event texts print them, and their texts; and the numbers and texts of what is wrong with a line.
 use Rattle.std.specs.Prelude.{ℕ, List, codes}
 use Rattle.hub_base.specs.declared.fault.Fault.{Fault}
 use Rattle.hub_base.specs.declared.fault.Fault.TheVariants.{NoProcess, Gone, Busy, TooManyCases, NoPort, BadCap}
@@ -20,6 +20,21 @@ fault_number AlreadyClosed = 9
 fault_number JournalFull = 10
 fault_number NoMemory = 11
 fault_number NotParked = 12
+
+-- why a step had no effect, in words
+abbrev pub fault_text : Fault → List ℕ
+fault_text NoProcess = codes "no such process"
+fault_text Gone = codes "the process has exited"
+fault_text Busy = codes "the process has an open call"
+fault_text TooManyCases = codes "too many cases"
+fault_text NoPort = codes "no such port"
+fault_text BadCap = codes "the capacity is too large"
+fault_text TooManyPorts = codes "too many ports"
+fault_text NilClose = codes "close of the nil port"
+fault_text AlreadyClosed = codes "close of a closed port"
+fault_text JournalFull = codes "the journal is full"
+fault_text NoMemory = codes "out of memory"
+fault_text NotParked = codes "no open call"
 
 -- the number of a kind, and what is wrong with a journal's line, in two words
 abbrev pub kind_row : Kind → ℕ × List ℕ

@@ -43,7 +43,7 @@ pub enum Fault {
 }
 
 impl Fault {
-    ghost use Rattle.hub_base.specs.Faults.{fault_number};
+    ghost use Rattle.hub_base.specs.Faults.{fault_number, fault_text};
 
     /// The fault's number, 1 to 12, as event texts print it.
     pub fn number(self) -> u8
@@ -53,7 +53,9 @@ impl Fault {
     }
 
     /// What is wrong, as it is printed.
-    fn text(self) -> &'static str {
+    pub fn text(self) -> &'static str
+        ensures { result.now ≡ fault_text self }
+    {
         match self {
             Fault::NoProcess => "no such process",
             Fault::Gone => "the process has exited",

@@ -11,6 +11,9 @@ log_shown l =
       items = l.whole.items ++ written l.briefs.items l.cases.items;
       capacity = vec_capacity l.whole;
       short = length l.briefs.items;
+      short_room = vec_capacity l.briefs;
+      cases = length l.cases.items;
+      case_room = vec_capacity l.cases;
     }
 
 pub record LogKeeps (l : Inside) : Type 0 where

@@ -1,11 +1,12 @@
 -- What contracts see of a journal whose newest entries may be kept short, and how such are written out.
-use Rattle.std.specs.Prelude.{◌≡◌, ◌≤◌, ◌+◌, ℕ, List, [], ◌∷◌, length, take, drop}
+use Rattle.std.specs.Prelude.{◌≡◌, ◌≤◌, ◌+◌, ℕ, List, [], ◌∷◌, length, take, drop, if◌then◌else◌}
 use Rattle.hub_base.specs.declared.case.Case.{Case}
 use Rattle.hub_base.specs.declared.entry.Step.{Step}
 use Rattle.hub_base.specs.declared.entry.Step.TheVariants as step
 use Rattle.hub_base.specs.declared.entry.Entry.{Entry}
-use Rattle.hub_base.specs.declared.limits.TheConstants.{CASE_PLACES}
+use Rattle.hub_base.specs.declared.limits.TheConstants.{CASE_PLACES, MOST_PROCS}
 use Rattle.hub_base.specs.Lines.{call}
+use Rattle.hub_base.specs.Reading.{is_exit}
 use Rattle.hub_core.specs.declared.log.Brief.{Brief}
 use Rattle.hub_core.specs.declared.log.BriefStep.{BriefStep}
 use Rattle.hub_core.specs.declared.log.BriefStep.TheVariants as brief
@@ -18,6 +19,11 @@ pub record LogView : Type 0 where
   pub capacity : ℕ
   -- how many of the newest are kept short
   pub short : ℕ
+  -- how many can be before that has to grow
+  pub short_room : ℕ
+  -- how many cases these have, and how many they can have before that has to grow
+  pub cases : ℕ
+  pub case_room : ℕ
 
 -- ---- one entry
 
@@ -40,7 +46,16 @@ brief_step (step.Close p) = brief.Close p
 brief_step step.Exit = brief.Exit
 brief_step (step.Cancel q) = brief.Cancel q
 
--- that, with where its cases begin
+-- how many places it asks for among those that are kept short: behind any step there is one for the exit of each process
+abbrev pub places_asked : Step → ℕ
+places_asked s = if is_exit s then 1 else MOST_PROCS + 1
+
+-- there is room for it there, and for its cases
+pub record FitsShort (log : LogView) (e : Entry) : Type 0 where
+  pub places : log.short + places_asked e.step ≤ log.short_room
+  pub cases : log.cases + length (cases_of e) ≤ log.case_room
+
+-- what is kept of an entry beside its cases, with where they begin
 abbrev pub brief_of : Entry → ℕ → Brief
 brief_of e first = record { pid = e.pid; step = brief_step e.step; first = first }
 

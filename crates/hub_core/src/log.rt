@@ -8,7 +8,7 @@
 ghost use Rattle.std.specs.Prelude.{◌≡◌, ◌≤◌, ◌<◌, ◌+◌, ◌++◌, ◌∷◌, [], ℕ, IsTrue, ◌↔◌, true, false, IfOk, OnOk, OnErr, length, slice_get, vec_len};
 ghost use Rattle.std.specs.Vec.{vec_capacity};
 ghost use Rattle.hub_base.specs.declared.limits.TheConstants.{CASE_PLACES};
-ghost use Rattle.hub_core.specs.LogView.{brief_of, case_count, cases_of, entry_of, written, AreBriefs, StandFrom};
+ghost use Rattle.hub_core.specs.LogView.{brief_of, case_count, cases_of, entry_of, written, AreBriefs, FitsShort, StandFrom, places_asked};
 
 use hub_base::{Case, Entry, MOST_PROCS, Pid, Port, Step, cases_from};
 use std::alloc::{AllocError, Global};
@@ -145,6 +145,8 @@ impl Brief {
 fn has_room(briefs: &mut Vec<Brief>, entry: &Entry) -> bool
     ensures same { briefs.new.items ≡ briefs.old.items }
     ensures room { result ≡ true → vec_len briefs.new < vec_capacity briefs.new }
+    ensures had_room { vec_len briefs.old + places_asked entry.now.step ≤ vec_capacity briefs.old
+        → result ≡ true }
 {
     match entry.step {
         Step::Exit => briefs.len() < briefs.capacity(),
@@ -229,6 +231,7 @@ impl Log {
         requires room { length self.old.items < self.old.capacity }
         ensures items { self.new.items ≡ self.old.items ++ entry.now ∷ [] }
         ensures capacity { self.new.capacity ≡ self.old.capacity }
+        ensures short { FitsShort self.old entry.now → self.new.short ≡ self.old.short + 1 }
     {
         if !self.keeps_short(entry) {
             self.push_whole(entry);
@@ -254,6 +257,8 @@ impl Log {
         ensures items { result ≡ true → self.new.items ≡ self.old.items ++ entry.now ∷ [] }
         ensures same { result ≡ false → self.new.items ≡ self.old.items }
         ensures capacity { self.new.capacity ≡ self.old.capacity }
+        ensures short { result ≡ true → self.new.short ≡ self.old.short + 1 }
+        ensures had_room { FitsShort self.old entry.now → result ≡ true }
     {
         if !has_room(&mut self.briefs, entry) {
             return false;

@@ -25,8 +25,8 @@ use Rattle.hub_runner.specs.declared.fault.RunFault.{RunFault}
 use Rattle.hub_runner.specs.declared.fault.RunFault.TheVariants as run
 use Rattle.hub_runner.specs.Asked.{asked}
 use Rattle.hub_runner.specs.CutShort.{ComesTo, LeavesLast, AllCome, OneGoesOn, IsCutShort}
-use Rattle.hub_runner.specs.Running.{has_exited, SawFull, HasCome, MeetsLimit, HaveEnded}
-use Rattle.hub_runner.specs.Working.{asked_of}
+use Rattle.hub_runner.specs.Running.{SawFull, HasCome, MeetsLimit, HaveEnded}
+use Rattle.hub_runner.specs.Working.{asked_of, has_exited}
 use Rattle.hub_runner.proofs.Stops.{steps_of-append, steps_grow}
 use Rattle.hub_runner.proofs.Runs.{in_journal, pid_at, all_processes}
 

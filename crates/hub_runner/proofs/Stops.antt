@@ -3,8 +3,9 @@ use Rattle.std.proofs.Common.{◌≡◌, ℕ, ◌+◌, ◌≤◌, ◌⊎◌, ◌
 use Rattle.std.proofs.Common.{Option, None, append-nil, arith}
 use Rattle.std.specs.Prelude.{not}
 use Rattle.std.specs.List.{list_any}
-use Rattle.std.proofs.lemmas.Bool.{or_parts, or_from}
+use Rattle.std.proofs.lemmas.Bool.{or_parts, or_from, or_right}
 use Rattle.std.proofs.lemmas.List.Elements.{filter-append}
+use Rattle.std.proofs.lemmas.List.Folds.{list_any-append}
 use Rattle.std.proofs.lemmas.List.{length-append}
 use mathlib.Core.List.{IsPrefix}
 use Rattle.hub_base.specs.declared.value.Pid.{Pid}
@@ -25,8 +26,8 @@ use Rattle.hub_scenario.specs.ChoiceWords.{words_of_process}
 use Rattle.hub_runner.specs.Asked.{Asked}
 use Rattle.hub_runner.specs.Scripts.{asks, taken_after, left, Follows, MakesThenFollows, FollowsScript, made_by}
 use Rattle.hub_runner.specs.CutShort.{steps_asked, ComesTo}
-use Rattle.hub_runner.specs.Running.{AreMakes, has_exited, SawFull}
-use Rattle.hub_runner.specs.Working.{asked_of, Onward, next_of}
+use Rattle.hub_runner.specs.Running.{AreMakes, SawFull}
+use Rattle.hub_runner.specs.Working.{asked_of, has_exited, Onward, next_of}
 use Rattle.hub_runner.proofs.Askings.{answered, asked-steps}
 
 -- ---- exits
@@ -166,9 +167,26 @@ any_step : (test : Step → Bool) (xs : List Asked) (es : List Entry) → map (�
 any_step test xs es same =
     sym (list_any-map test (λ (a : Asked). a.step) xs) ∙ ap (list_any test) same ∙ list_any-map test (λ (e : Entry). e.step) es
 
--- it had not exited
+-- it has exited where it asked an exit
+exit_asked : (s : SeatView) → has_exited s.pid.0 s.seen ≡ list_any (λ a. is_exit a.step) (asked_of s)
+exit_asked s = sym (any_step is_exit (asked_of s) (own_of s) (asked-steps s.pid.0 s.hub.terms.head s.seen))
+
 pub own_no_exit : (s : SeatView) → NoExit (asked_of s) → has_exited s.pid.0 s.seen ≡ false
-own_no_exit s h = sym (any_step is_exit (asked_of s) (own_of s) (asked-steps s.pid.0 s.hub.terms.head s.seen)) ∙ h
+own_no_exit s h = exit_asked s ∙ h
+
+-- it made its exit
+pub own_exit : (s t : SeatView) (reply : Option Event) → asked_of t ≡ asked_of s ++ answered step.Exit reply ∷ [] → has_exited t.pid.0 t.seen ≡ true
+own_exit s t reply is =
+    let last = answered step.Exit reply ∷ [] in
+    exit_asked t ∙ ap (list_any (λ a. is_exit a.step)) is ∙ list_any-append (λ (a : Asked). is_exit a.step) (asked_of s) last
+    ∙ or_right (list_any (λ a. is_exit a.step) (asked_of s)) (list_any (λ a. is_exit a.step) last) refl
+
+-- an exit is refused only behind another
+pub exit_refused : (s t : SeatView) (f : Fault) → t.pid ≡ s.pid → Shows t.hub.terms (entry_of s step.Exit) t.seen f → has_exited t.pid.0 t.seen ≡ true
+exit_refused s t fault.JournalFull pid shows = let is_step = shows.0 in absurd (let g : ⊥ = cc in g)
+exit_refused s t fault.NoMemory pid shows = let is_step = shows.0 in absurd (let g : ⊥ = cc in g)
+exit_refused s t fault.Gone pid shows = ap (λ (p : Pid). has_exited p.0 t.seen) pid ∙ shows.1
+exit_refused s t other pid shows = absurd shows
 
 pub steps_of-append : (xs ys : List Entry) → steps_of (xs ++ ys) ≡ steps_of xs + steps_of ys
 steps_of-append [] ys = omega arith

@@ -24,9 +24,9 @@ use Rattle.hub_report.specs.Reports.{is_stalled}
 use Rattle.hub_runner.specs.Asked.{Asked, asked}
 use Rattle.hub_runner.specs.Scripts.{asks, gets, is_range, taken_after, left, Follows}
 use Rattle.hub_runner.specs.CutShort.{steps_asked}
-use Rattle.hub_runner.specs.Working.{asked_of, Onward, Leads, Followed, goes_on_with, next_of, Stopped, WasStopped}
+use Rattle.hub_runner.specs.Working.{asked_of, has_exited, Onward, Leads, Followed, goes_on_with, next_of, Stopped, WasStopped}
 use Rattle.hub_runner.proofs.Askings.{answered, asked-gains, asked-same}
-use Rattle.hub_runner.proofs.Stops.{exit_is_no_step}
+use Rattle.hub_runner.proofs.Stops.{exit_is_no_step, own_exit, exit_refused}
 
 -- ---- one entry
 
@@ -213,21 +213,28 @@ stopped_next a b t seed given script i used word s f same cut p chosen stops =
     let here = stops words rest used (chosen ∙ ap (λ (n : ℕ). asks s (choice_word n used)) same) in
     stopped_later a b t words script (s ∷ rest) 0 used f (subst (λ (z : List ScriptStep). Leads a b words script 0 z used) cut p) here
 
--- the exit that was made then, or was refused, is no step
-left_no_step : (s t : SeatView) (r : Result Event Fault) → Later s t → IfOk r (λ x. asked_of t ≡ asked_of s ++ answered step.Exit (Some x) ∷ [])
+-- the exit that was made, or was refused, is no step
+pub left_no_step : (s t : SeatView) (r : Result Event Fault) → Later s t → IfOk r (λ x. asked_of t ≡ asked_of s ++ answered step.Exit (Some x) ∷ [])
     → IfErr r (λ f. Refused s t step.Exit f) → steps_asked (asked_of t) ≡ steps_asked (asked_of s)
 left_no_step s t (Ok x) later made refused = ap steps_asked made ∙ exit_is_no_step (asked_of s) (Some x)
 left_no_step s t (Err f) later made refused = ap steps_asked (refused_asks s t step.Exit f later refused)
 
+-- and the process has exited then
+pub left_exited : (s t : SeatView) (r : Result Event Fault) → Later s t → IfOk r (λ x. asked_of t ≡ asked_of s ++ answered step.Exit (Some x) ∷ [])
+    → IfErr r (λ f. Refused s t step.Exit f) → has_exited t.pid.0 t.seen ≡ true
+left_exited s t (Ok x) later made refused = own_exit s t (Some x) made
+left_exited s t (Err f) later made refused = exit_refused s t f later.pid refused.shows
+
 -- a step was refused, and then the process left
-pub stopped_leaves : (a : List Asked) (s t : SeatView) (words : ℕ → ℕ) (script : List ScriptStep) (f : Fault) (r : Result Event Fault)
-    → Stopped a s words script 0 f → Later s t → IfOk r (λ x. asked_of t ≡ asked_of s ++ answered step.Exit (Some x) ∷ [])
-    → IfErr r (λ g. Refused s t step.Exit g) → WasStopped a t words script f
-stopped_leaves a s t words script f r stopped later made refused = record {
+pub stopped_leaves : (a : List Asked) (s t : SeatView) (words : ℕ → ℕ) (script : List ScriptStep) (f : Fault)
+    → Stopped a s words script 0 f → Later s t → steps_asked (asked_of t) ≡ steps_asked (asked_of s) → has_exited t.pid.0 t.seen ≡ true
+    → WasStopped a t words script f
+stopped_leaves a s t words script f stopped later same left = record {
   at = s;
   stopped = stopped;
   onward = record { hub = later.hub; pid = later.pid; begins = later.begins };
-  same = left_no_step s t r later made refused;
+  same = same;
+  left = left;
 }
 
 -- the exit behind the script was refused
@@ -238,4 +245,5 @@ stopped_at_exit a s t words script k f p later refused = record {
   stopped = stopped_here a s t words script [] 0 k step.Exit f p refl later refused;
   onward = record { hub = refl; pid = refl; begins = prefix_self t.seen };
   same = refl;
+  left = exit_refused s t f later.pid refused.shows;
 }

@@ -1,7 +1,6 @@
 -- The seats of a run, before their processes begin and after they have ended.
-use Rattle.std.specs.Prelude.{◌≡◌, ◌≢◌, ◌≤◌, ◌⊎◌, ℕ, Bool, false, List, [], ◌∷◌, ◌++◌, Option, None, Some, Result}
+use Rattle.std.specs.Prelude.{◌≡◌, ◌≢◌, ◌≤◌, ◌⊎◌, ℕ, false, List, [], ◌∷◌, ◌++◌, Option, None, Some, Result}
 use Rattle.std.specs.Prelude.{IfErr, OnOk, All, Any, map, slice_get}
-use Rattle.std.specs.List.{list_any}
 use mathlib.Core.List.{IsPrefix}
 use Rattle.hub_base.specs.declared.value.Pid.{Pid}
 use Rattle.hub_base.specs.declared.entry.Entry.{Entry}
@@ -11,7 +10,6 @@ use Rattle.hub_base.specs.declared.fault.Fault.{Fault}
 use Rattle.hub_base.specs.declared.fault.Fault.TheVariants as fault
 use Rattle.hub_base.specs.Reading.{is_exit}
 use Rattle.hub_base.specs.Text.{steps_of}
-use Rattle.hub_laws.specs.Replies.{own}
 use Rattle.hub_live.specs.Name.{Name}
 use Rattle.hub_live.specs.SeatView.{SeatView}
 use Rattle.hub_live.specs.Calls.{Shows, entry_of}
@@ -22,7 +20,7 @@ use Rattle.hub_runner.specs.declared.fault.RunFault.TheVariants as run
 use Rattle.hub_runner.specs.Asked.{Asked}
 use Rattle.hub_runner.specs.CutShort.{ComesTo}
 use Rattle.hub_runner.specs.Scripts.{FollowsScript, made_by}
-use Rattle.hub_runner.specs.Working.{asked_of}
+use Rattle.hub_runner.specs.Working.{asked_of, has_exited}
 
 -- this was asked: makes of these capacities, and no more
 abbrev pub AreMakes : List ℕ → List Asked → Type 0
@@ -54,10 +52,6 @@ pub record MakesStopped (caps : List ℕ) (s : SeatView) (f : Fault) : Type 0 wh
   pub whole : caps ≡ made ++ cap ∷ more
   pub makes : AreMakes made (asked_of s)
   pub shows : Shows s.hub.terms (entry_of s (step.Make cap)) s.seen f
-
--- process q has exited among these entries
-abbrev pub has_exited : ℕ → List Entry → Bool
-has_exited q es = list_any (λ e. is_exit e.step) (own q es)
 
 -- the seat has seen a beginning of the journal that is full, and its process had not exited there
 pub record SawFull (s : SeatView) : Type 0 where

@@ -1,9 +1,13 @@
 -- How far a process has come in its script, said of what its seat has seen.
-use Rattle.std.specs.Prelude.{◌≡◌, ℕ, Bool, List, [], ◌∷◌, ◌++◌, if◌then◌else◌}
+use Rattle.std.specs.Prelude.{◌≡◌, ℕ, Bool, true, List, [], ◌∷◌, ◌++◌, if◌then◌else◌}
+use Rattle.std.specs.List.{list_any}
 use mathlib.Core.List.{IsPrefix}
+use Rattle.hub_base.specs.declared.entry.Entry.{Entry}
 use Rattle.hub_base.specs.declared.entry.Step.{Step}
 use Rattle.hub_base.specs.declared.entry.Step.TheVariants.{Exit}
 use Rattle.hub_base.specs.declared.fault.Fault.{Fault}
+use Rattle.hub_base.specs.Reading.{is_exit}
+use Rattle.hub_laws.specs.Replies.{own}
 use Rattle.hub_live.specs.SeatView.{SeatView}
 use Rattle.hub_live.specs.Calls.{Shows, entry_of}
 use Rattle.hub_scenario.specs.declared.script.ScriptStep.{ScriptStep}
@@ -53,9 +57,15 @@ pub record Stopped (before : List Asked) (s : SeatView) (words : ℕ → ℕ) (s
   pub leads : Leads before (asked_of s) words script j rest k
   pub shows : Shows s.hub.terms (entry_of s (next_of rest words k)) s.seen f
 
--- so it was when its seat was `at`, and since then the process asked no step
+-- process q has exited among these entries
+abbrev pub has_exited : ℕ → List Entry → Bool
+has_exited q es = list_any (λ e. is_exit e.step) (own q es)
+
+-- so it was when its seat was `at`; since then the process asked no step, and it has left: otherwise those that wait
+-- would wait for it for ever
 pub record WasStopped (before : List Asked) (s : SeatView) (words : ℕ → ℕ) (script : List ScriptStep) (f : Fault) : Type 0 where
   pub at : SeatView
   pub stopped : Stopped before at words script 0 f
   pub onward : Onward at s
   pub same : steps_asked (asked_of s) ≡ steps_asked (asked_of at)
+  pub left : has_exited s.pid.0 s.seen ≡ true

@@ -1,6 +1,6 @@
 //! Why a run has no report.
 
-ghost use Rattle.std.specs.Prelude.{◌≡◌, ◌⊎◌, None, Some, Err, IsOk, IsErr};
+ghost use Rattle.std.specs.Prelude.{◌≡◌, ◌↔◌, ◌⊎◌, None, Some, Err, IsOk, IsErr};
 ghost use Rattle.hub_base.specs.declared.fault.Fault.TheVariants as why;
 ghost use Rattle.hub_runner.specs.declared.fault.RunFault.TheVariants as run;
 
@@ -22,7 +22,7 @@ pub enum RunFault {
 }
 
 impl From<Fault> for RunFault {
-    ghost from_gives = { λ fault given. fault ≡ why.NoMemory → given ≡ run.NoMemory };
+    ghost from_gives = { λ fault given. fault ≡ why.NoMemory ↔ given ≡ run.NoMemory };
 
     fn from(fault: Fault) -> RunFault {
         match fault {
@@ -54,6 +54,8 @@ pub fn with_outcome(before: Option<RunFault>, outcome: Result<(), Fault>) -> Opt
     ensures none { result ≡ None → (before ≡ None) × IsOk outcome }
     ensures memory { (before ≡ Some run.NoMemory) ⊎ (outcome ≡ Err why.NoMemory)
         → result ≡ Some run.NoMemory }
+    ensures only { result ≡ Some run.NoMemory
+        → (before ≡ Some run.NoMemory) ⊎ (outcome ≡ Err why.NoMemory) }
     ensures full { result ≡ Some run.JournalFull → (before ≡ Some run.JournalFull) ⊎ IsErr outcome }
 {
     match (before, outcome) {

@@ -9,7 +9,8 @@ ghost use Rattle.hub_scenario.specs.declared.script.ScriptStep.{ScriptStep};
 ghost use Rattle.hub_scenario.specs.ChoiceWords.{choice_word};
 ghost use Rattle.hub_scenario.specs.Steps.{has_step};
 ghost use Rattle.hub_runner.specs.Scripts.{asks, gets, is_range, taken_after};
-ghost use Rattle.hub_runner.specs.Working.{asked_of, Onward, Leads, Followed, goes_on_with};
+ghost use Rattle.hub_runner.specs.CutShort.{steps_asked};
+ghost use Rattle.hub_runner.specs.Working.{asked_of, has_exited, Onward, Leads, Followed, goes_on_with};
 ghost use Rattle.hub_runner.specs.Working.{Stopped, WasStopped};
 
 use crate::gate::{Gate, Passes};
@@ -167,10 +168,21 @@ fn leave<K: HubName, R: Wait>(rt: &R, hub: &LiveHub<K>, seat: &mut Held<K>) -> R
     ensures ok { IfOk result (λ x.
         asked_of seat.new ≡ asked_of seat.old ++ record { step = Exit; reply = Some x } ∷ []) }
     ensures err { IfErr result (λ f. Refused seat.old seat.new Exit f) }
+    ensures same { steps_asked (asked_of seat.new) ≡ steps_asked (asked_of seat.old) }
+    ensures left { has_exited seat.new.pid.0 seat.new.seen ≡ true }
 {
     // Its contract says that the process has no open call.
     let _pid = seat.pid();
     seat.exit(rt, hub)
+}
+
+/// Exits where a step was refused, so that those who still wait are told. An exit is refused only behind another.
+fn leave_early<K: HubName, R: Wait>(rt: &R, hub: &LiveHub<K>, seat: &mut Held<K>)
+    ensures later { Later seat.old seat.new }
+    ensures same { steps_asked (asked_of seat.new) ≡ steps_asked (asked_of seat.old) }
+    ensures left { has_exited seat.new.pid.0 seat.new.seen ≡ true }
+{
+    let _left = leave(rt, hub, seat);
 }
 
 /// Makes a script's entries in order, and exits; where a step is refused, it exits at once.
@@ -198,8 +210,7 @@ pub fn follow<K: HubName, R: Wait, G: Gate>(
             Ok(())
         }
         Err(fault) => {
-            // So that those who still wait are told.
-            let _ = leave(rt, hub, seat);
+            leave_early(rt, hub, seat);
             Err(fault)
         }
     }

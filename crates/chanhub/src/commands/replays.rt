@@ -1,6 +1,6 @@
 //! `chanhub replay`.
 
-ghost use Rattle.std.specs.Prelude.{◌≡◌, IfOk, IfErr};
+ghost use Rattle.std.specs.Prelude.{◌≡◌, IfOk, IfErr, IsErrOf};
 ghost use Rattle.hub_base.specs.declared.text.faults.TextFault.{TextFault};
 ghost use Rattle.std.specs.Io.KnownBytes.{Appends};
 ghost use Rattle.hub_replay.specs.Devices.{Failed, AppendsBeginning};
@@ -10,7 +10,7 @@ ghost use Rattle.chanhub.specs.Statuses.{status_of};
 
 use crate::outcome::Outcome;
 use crate::refusal::Refusal;
-use hub_replay::{Sink, Source, replay};
+use hub_replay::{ReplayFault, Sink, Source, replay};
 use std::alloc::Global;
 
 /// Replays the journal on standard input.
@@ -32,6 +32,8 @@ pub(crate) fn replay_input<S: Source, W: Sink>(
         (Failed (S.failures input.old) (S.failures input.new)) refusal) }
     ensures faulty { IfErr result (λ refusal. status_of refusal ≡ 2 → (fault : TextFault)
         × ReadsFaulty (S.remaining input.old) (S.remaining input.new) fault) }
+    ensures reads_once { ¬ IsErrOf result (Refusal.Replay ReplayFault.Read)
+        → S.failures input.new ≡ S.failures input.old }
 {
     match replay(alloc, input, output) {
         Ok(()) => Ok(Outcome::Done),

@@ -61,6 +61,8 @@ fn make_room(bytes: &mut Vec<u8>, at: usize) -> Result<(), NoMemory>
     ensures ok { OnOk result (at + MOST_EVENTS * MOST_LINE ≤ vec_len bytes.new) }
     ensures longer { vec_len bytes.old ≤ vec_len bytes.new }
     ensures kept { take at bytes.new.items ≡ take at bytes.old.items }
+    ensures had_room { at + MOST_EVENTS * MOST_LINE ≤ vec_len bytes.old
+        → vec_len bytes.new ≡ vec_len bytes.old }
 {
     let most = MOST_EVENTS * MOST_LINE;
     let room = bytes.len() - at;
@@ -92,6 +94,7 @@ impl EventText {
     #[inline(always)]
     pub fn make_step_room(&mut self) -> Result<(), NoMemory>
         ensures ok { OnOk result (MOST_EVENTS ≤ self.new.room) }
+        ensures had_room { MOST_EVENTS ≤ self.old.room → self.new.room ≡ self.old.room }
         ensures lines { self.new.lines ≡ self.old.lines }
     {
         make_room(&mut self.bytes, self.len)

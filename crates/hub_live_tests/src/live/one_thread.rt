@@ -10,6 +10,7 @@ use hub_core::OpenFault;
 use hub_live::{Blank, Chan, Held, HubName, LiveHub, Seat, mark_of};
 use std::process::Abort;
 use std::sync::Wait;
+use std::test::Fail;
 
 /// One value was sent and received, and the port is closed.
 const USED_UP: Counts = Counts {
@@ -36,6 +37,18 @@ fn openings_are_refused(rt: HostRuntime) {
         let refused = Blank::open(rt.alloc(), procs, limit, Edition::One).err();
         same(&rt, refused, Some(fault), (procs, limit));
     }
+}
+
+// The least and the most of each edition.
+#[test]
+fn openings_are_made(rt: HostRuntime) -> Result<(), Fail> {
+    for edition in [Edition::One, Edition::Two] {
+        for (procs, limit) in [(1, 1), (33, 1_000), (64, 1_000_000)] {
+            let (_blank, seats) = Blank::open(rt.alloc(), procs, limit, edition)?;
+            same(&rt, seats.len(), usize::from(procs), (procs, limit));
+        }
+    }
+    Ok(())
 }
 
 /// A value goes through a channel that is then closed, and drained, by a seat whose hub no type says. It is not given

@@ -29,6 +29,17 @@ const STORIES: &[Row] = &[
     ("pass", 100, (2, 100), MAKE, Crew::Pass, Some(3)),
     // Both wait for ever, and the step of the second tells both.
     ("stall", 100, (2, 100), &[], Crew::Stall, Some(2)),
+    // All four wait for ever, and the step of the last tells all: one step wakes three threads.
+    ("stall_of_four", 100, (4, 100), &[], Crew::Stall, Some(4)),
+    // Three wait, mostly, and one close wakes them.
+    (
+        "close_on_all",
+        100,
+        (4, 100),
+        MAKE,
+        Crew::CloseOnAll,
+        Some(5),
+    ),
     // Process 1 waits for a value that never comes, until its call is cancelled. Most of the cancels may come too early.
     ("cancel", 1, (2, 1_000_000), MAKE, Crew::Cancel, None),
     // A look shows what a thread did that has been joined, though its seat made no call since.

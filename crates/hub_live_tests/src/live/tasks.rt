@@ -9,7 +9,7 @@ use hub_crew::Task;
 use hub_live::{Held, HubName, LiveHub};
 use std::process::Abort;
 use std::sync::Wait;
-use std::sync::atomic::{AtomicBool, Ordering};
+use std::sync::atomic::{AtomicU32, Ordering};
 use std::thread;
 
 /// What is done with the seats of a story once its rows are.
@@ -27,6 +27,8 @@ pub(crate) enum Crew {
     Close,
     /// Process 1 tells that it begins, and receives from port 1; process 0 cancels its call.
     Cancel,
+    /// Every other process tells that it begins, and receives from port 1; then process 0 closes it.
+    CloseOnAll,
     /// Each makes a channel of the capacity that stands at the number of its process.
     MakeOwn,
     /// Process 0 makes port 1 and sends 1,000 values on it, every other looks at it as often.
@@ -44,18 +46,25 @@ pub(crate) const CAPACITIES: [u32; 3] = [7, 8, 9];
 #[derive(Clone, Copy)]
 pub(crate) struct Job<'a> {
     pub crew: Crew,
-    /// Whether process 1 has begun.
-    pub begins: &'a AtomicBool,
+    /// How many have told that they begin.
+    pub begun: &'a AtomicU32,
     pub capacities: &'a [u32],
 }
 
-/// Waits until process 1 has told that it begins. Between two looks the processor goes to whoever wants it, so that on a
-/// busy machine process 1 has its turn too.
-fn wait_for(begins: &AtomicBool) {
+/// Waits until so many have told that they begin. Between two looks the processor goes to whoever wants it, so that on a
+/// busy machine they have their turn too.
+fn wait_for(begun: &AtomicU32, many: u32) {
     for _ in 0..10_000_000u32 {
-        if begins.load(Ordering::SeqCst) {
+        if begun.load(Ordering::SeqCst) >= many {
             break;
         }
+        thread::yield_now();
+    }
+}
+
+/// Gives the processor away so often that calls which have begun mostly wait by then.
+fn let_others_wait() {
+    for _ in 0..1_000u32 {
         thread::yield_now();
     }
 }
@@ -135,15 +144,20 @@ impl<'a, K: HubName, R: Wait + Abort> Task<LiveHub<K>, Held<K>, R> for Job<'a> {
         }
         match (self.crew, pid) {
             (Crew::Cancel, Pid(0)) => {
-                wait_for(self.begins);
+                wait_for(self.begun, 1);
                 // It may come before the call is open.
                 let last = ask_often(rt, hub, seat, Ask::Cancel, 100_000);
                 // So that nobody waits for ever.
                 let _exit = seat.exit(rt, hub);
                 Some(last)
             }
-            (Crew::Cancel, _) => {
-                self.begins.store(true, Ordering::SeqCst);
+            (Crew::CloseOnAll, Pid(0)) => {
+                wait_for(self.begun, 3);
+                let_others_wait();
+                Some(ask(rt, hub, seat, Ask::Close))
+            }
+            (Crew::Cancel | Crew::CloseOnAll, _) => {
+                self.begun.fetch_add(1, Ordering::SeqCst);
                 Some(ask(rt, hub, seat, Ask::Recv))
             }
             (Crew::Watch, Pid(0)) => {

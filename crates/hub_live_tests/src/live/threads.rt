@@ -3,13 +3,13 @@
 use super::rows::Act;
 use super::stories::Runtime;
 use super::tasks::{CAPACITIES, Crew, Job};
-use super::{Ask, DONE, MADE, SENT, SHUT, STALLED, Told, UNUSED, answer, entry_of};
+use super::{Ask, DONE, DRAINED, MADE, SENT, SHUT, STALLED, Told, UNUSED, answer, entry_of};
 use crate::compare::same;
 use hub_base::{Counts, Entry, Event, Fault, Pid, Port, Step, What};
 use hub_crew::{Member, run_crew};
 use hub_live::{Held, HubName, LiveHub};
 use std::process::Abort;
-use std::sync::atomic::AtomicBool;
+use std::sync::atomic::AtomicU32;
 use std::test::Fail;
 
 /// Process 0 makes an unbuffered port.
@@ -28,10 +28,10 @@ pub(super) fn in_threads<K: HubName + Send + Sync, R: Runtime>(
     seats: Vec<Held<K>>,
     crew: Crew,
 ) -> Result<Vec<Held<K>>, Fail> {
-    let begins = AtomicBool::new(false);
+    let begun = AtomicU32::new(0);
     let job = Job {
         crew,
-        begins: &begins,
+        begun: &begun,
         capacities: &CAPACITIES,
     };
     let mut held = Vec::new(rt.alloc());
@@ -78,8 +78,9 @@ pub(crate) fn told_by(crew: Crew, pid: Pid) -> Option<Result<Event, Fault>> {
         (Crew::Pass, Pid(0)) | (Crew::Watch, Pid(0)) => SENT,
         (Crew::Pass, _) => Told::Got(9),
         (Crew::Stall, _) => STALLED,
-        (Crew::Close, Pid(0)) | (Crew::Cancel, Pid(0)) => DONE,
+        (Crew::Close | Crew::Cancel | Crew::CloseOnAll, Pid(0)) => DONE,
         (Crew::Cancel, _) => Told::Is(What::Cancelled),
+        (Crew::CloseOnAll, _) => DRAINED,
         _ => return None,
     };
     Some(answer(pid, told))
@@ -97,7 +98,7 @@ const ALL_WAIT: Counts = Counts {
 fn seen_by(crew: Crew, pid: Pid) -> Option<Counts> {
     match (crew, pid) {
         (Crew::Watch, _) => Some(ALL_WAIT),
-        (Crew::Close, Pid(1)) => Some(SHUT),
+        (Crew::Close, Pid(1)) | (Crew::CloseOnAll, _) => Some(SHUT),
         _ => None,
     }
 }

@@ -105,23 +105,24 @@ fn refused_steps_leave_the_buffer(rt: HostRuntime) -> Result<(), Fail> {
     hub_again(&rt, rt.alloc(), 1, BUFFERED)
 }
 
-/// Runs these entries and, where memory was refused, once more.
-fn run_again(
-    rt: &impl Abort,
+/// Runs these entries and, where memory was refused, once more. Tells the place of the entry at which it was.
+fn run_again<R: Abort + Print>(
+    rt: &R,
     alloc: Global,
     entries: &[Entry],
-) -> Result<(Hub, Vec<Event>), ListFault> {
+) -> Result<(Hub, Vec<Event>), Fail> {
     assert!(rt; Edition::One.has_all(entries));
     match run(alloc, 1, 100, Edition::One, entries) {
+        Err(ListFault::Open(OpenFault::NoMemory)) => {}
         Err(
-            ListFault::Open(OpenFault::NoMemory)
-            | ListFault::At {
+            ListFault::At {
+                index,
                 fault: Fault::NoMemory,
-                ..
             },
-        ) => run(alloc, 1, 100, Edition::One, entries),
-        ran => ran,
+        ) => println!(rt; "refused at {index}")?,
+        ran => return Ok(ran?),
     }
+    Ok(run(alloc, 1, 100, Edition::One, entries)?)
 }
 
 #[test]

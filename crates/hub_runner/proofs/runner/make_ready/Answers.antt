@@ -26,4 +26,4 @@ returns-in-Err-clause-err g c =
     c.requires.seats (omega (arith, c.args.seats.ok.0, c.requires.some))
     (subst (λ (s : SeatView). Onward s c.make_ports.new.seat) c.index_mut.ensures.value c.make_ports.ensures.onward)
     (subst (λ (ports : List ℕ). MakesStopped ports c.make_ports.new.seat c.in-Err.fault) c.deref.ensures.value c.in-Err.ensures.err)
-    c.from.ensures
+    c.from.ensures.0

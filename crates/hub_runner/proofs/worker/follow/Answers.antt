@@ -19,7 +19,7 @@ returns-in_err-leave-in-Ok-clause-onward g c =
 
 pub returns-in-Err-clause-onward : goal.returns-in-Err-clause-onward
 returns-in-Err-clause-onward g c =
-    still_onward c.args.seat.now c.follow_steps.new.seat c.leave-in-Err.new.seat c.follow_steps.ensures.onward c.leave-in-Err.ensures.later
+    still_onward c.args.seat.now c.follow_steps.new.seat c.leave_early.new.seat c.follow_steps.ensures.onward c.leave_early.ensures.later
 
 pub returns-in_err-leave-in-Ok-clause-err : goal.returns-in_err-leave-in-Ok-clause-err
 returns-in_err-leave-in-Ok-clause-err g c =
@@ -30,5 +30,5 @@ returns-in_err-leave-in-Ok-clause-err g c =
 
 pub returns-in-Err-clause-err : goal.returns-in-Err-clause-err
 returns-in-Err-clause-err g c =
-    stopped_leaves (asked_of c.args.seat.now) c.follow_steps.new.seat c.leave-in-Err.new.seat (choice_word c.args.words.seed) c.args.script.now
-    c.in-Err.fault c.leave-in-Err.result c.in-Err.ensures.err c.leave-in-Err.ensures.later c.leave-in-Err.ensures.ok c.leave-in-Err.ensures.err
+    stopped_leaves (asked_of c.args.seat.now) c.follow_steps.new.seat c.leave_early.new.seat (choice_word c.args.words.seed) c.args.script.now
+    c.in-Err.fault c.in-Err.ensures.err c.leave_early.ensures.later c.leave_early.ensures.same c.leave_early.ensures.left

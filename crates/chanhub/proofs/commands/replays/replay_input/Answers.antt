@@ -21,3 +21,6 @@ pub returns-in-Err-clause-faulty : goal.returns-in-Err-clause-faulty
 returns-in-Err-clause-faulty g c =
     of_text _ c.in-Err.fault
     (λ at is. (at, (c.in-Err.ensures.text at (ap (λ f. Err f) is)).0))
+
+pub returns-in-Err-clause-reads_once : goal.returns-in-Err-clause-reads_once
+returns-in-Err-clause-reads_once g c = λ other. c.in-Err.ensures.reads_once (λ is. other cc)

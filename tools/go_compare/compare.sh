@@ -59,7 +59,7 @@ is_noticed() {
 }
 
 if ! command -v go > "$work/found"; then
-    echo 'go_compare: skipped: go is not there'
+    echo 'skipped: go is not there'
     exit 77
 fi
 check 'go vet' go vet .

@@ -1,6 +1,7 @@
 package main
 
 import (
+	"reflect"
 	"strings"
 	"testing"
 )
@@ -102,28 +103,25 @@ func outcome(asked string) string {
 
 // Of two cases that can proceed, and of two that wait on one port, Go takes each at some time, and the journal asks for it.
 func TestDraws(t *testing.T) {
-	const word = "18446744073709551615"
+	const (
+		asked   = "0 make 1\n0 select 19 s0:1 s1:2 s1:3\n1 recv 1\n0 select 0 r1 r1\n1 send 1 4\n"
+		lower   = "0 made 1\n0 case 1 sent\n1 case 0 got 2\n0 parked\n1 case 0 sent\n"
+		higher  = "0 made 1\n0 case 2 sent\n1 case 0 got 3\n0 parked\n1 case 0 sent\n"
+		highest = "0 select 0 r0 r1"
+	)
+	even := strings.Replace(asked, "select 19", "select 18", 1)
+	wanted := map[string]bool{
+		even + lower + "0 case 0 got 4\n":                                                    true,
+		asked + higher + "0 case 0 got 4\n":                                                  true,
+		strings.Replace(even, "0 select 0 r1 r1", highest, 1) + lower + "0 case 1 got 4\n":   true,
+		strings.Replace(asked, "0 select 0 r1 r1", highest, 1) + higher + "0 case 1 got 4\n": true,
+	}
 	drawn := map[string]bool{}
-	for i := 0; i < 1000 && len(drawn) < 4; i++ {
-		drawn[outcome("0 make 1\n0 select "+word+" s0:1 s1:2 s1:3\n1 recv 1\n0 select 0 r1 r1\n1 send 1 4\n")] = true
+	for i := 0; i < 1000 && len(drawn) < len(wanted); i++ {
+		drawn[outcome(asked)] = true
 	}
-	wanted := 0
-	for _, first := range []string{
-		"0 make 1\n0 select 18446744073709551614 s0:1 s1:2 s1:3\n1 recv 1\nSECOND1 send 1 4\n0 made 1\n0 case 1 sent\n1 case 0 got 2\n",
-		"0 make 1\n0 select 18446744073709551615 s0:1 s1:2 s1:3\n1 recv 1\nSECOND1 send 1 4\n0 made 1\n0 case 2 sent\n1 case 0 got 3\n",
-	} {
-		for second, end := range map[string]string{
-			"0 select 0 r1 r1\n": "0 parked\n1 case 0 sent\n0 case 0 got 4\n",
-			"0 select 0 r0 r1\n": "0 parked\n1 case 0 sent\n0 case 1 got 4\n",
-		} {
-			wanted++
-			if text := strings.Replace(first, "SECOND", second, 1) + end; !drawn[text] {
-				t.Errorf("Go never drew\n%s", text)
-			}
-		}
-	}
-	if len(drawn) != wanted {
-		t.Errorf("%d draws: %v", len(drawn), drawn)
+	if !reflect.DeepEqual(drawn, wanted) {
+		t.Errorf("Go drew\n%v", drawn)
 	}
 }
 

@@ -30,17 +30,17 @@ is_formatted() {
     gofmt -d . && [ -z "$(gofmt -l .)" ]
 }
 
-# compared PROGRAM JOURNAL..: compares, and prints and counts what go_compare does.
-compared() {
-    "$work/go_compare" "$@" > "$work/compared" 2>&1
-    sed '$d' "$work/compared"
-    counts=$(sed -n '$s/^\([0-9]*\) passed, \([0-9]*\) failed$/\1 \2/p' "$work/compared")
-    if [ -z "$counts" ]; then
-        tail -n 1 "$work/compared"
-        counts='0 1'
-    fi
-    passed=$((passed + ${counts% *}))
-    failed=$((failed + ${counts#* }))
+# go_compare ARGUMENTS: one step is made at a time, so more threads would only have it look for goroutines at work too early.
+go_compare() {
+    GOMAXPROCS=1 "$work/go_compare" "$@"
+}
+
+# add_counts NAME FILE: prints what go_compare said, under this name, and adds its counts.
+add_counts() {
+    counts=$(sed -n '$s/^\([0-9]*\) passed, \([0-9]*\) failed$/\1 \2/p' "$2")
+    sed "s/^/$1: /" "$2"
+    passed=$((passed + $(echo "${counts:-0 1}" | cut -d ' ' -f 1)))
+    failed=$((failed + $(echo "${counts:-0 1}" | cut -d ' ' -f 2)))
 }
 
 # notices JOURNAL NAME CHANGE: whether the comparison of this journal with model.py, changed so, finds a difference.
@@ -52,7 +52,7 @@ notices() {
 
 is_noticed() {
     ! cmp -s "$work/wrong" "$root/tools/model.py" || return
-    "$work/go_compare" "$work/wrong" "$1" > "$work/noticed" 2>&1
+    go_compare "$work/wrong" "$1" > "$work/noticed" 2>&1
     status=$?
     cat "$work/noticed"
     [ "$status" -eq 1 ] && grep -q '^failed: .*: the replay tells ' "$work/noticed"
@@ -76,7 +76,15 @@ awk 'BEGIN {
     print "chanhub journal 1\nprocs 2\n0 make 1"
     for (i = 0; i < 64; i++) print "0 select 0 s1:1 s1:2\n1 recv 1\n0 select 0 r1 r1\n1 send 1 3"
 }' > "$work/examples/draws"
-compared "$program" "$work"/examples/* "$work"/journals/*
+go_compare "$program" "$work"/journals/*[13579] > "$work/first" 2>&1 &
+first=$!
+go_compare "$program" "$work"/journals/*[02468] > "$work/second" 2>&1 &
+second=$!
+go_compare "$program" "$work"/examples/* > "$work/compared" 2>&1
+wait "$first" "$second"
+add_counts 'examples' "$work/compared"
+add_counts 'first edition' "$work/first"
+add_counts 'second edition' "$work/second"
 
 notices oldest_receiver_first 'newest waiter first' 's/for pid, cases in self.waiting:/for pid, cases in reversed(self.waiting):/'
 notices draws 'highest case of a waiting call' 's/in enumerate(cases):/in reversed(list(enumerate(cases))):/'

@@ -1,26 +1,27 @@
-// Command go_compare makes the steps of journals on Go's own channels, and compares what these answered with a replay of the
-// same journals by chanhub.
+// Command go_compare makes the steps of journals on Go's own channels, and compares the answers with a replay by chanhub.
 //
 //	go_compare [-keep FOLDER] PROGRAM JOURNAL ..
 //
-// Each process is a goroutine, each port a channel, and each step is begun once all goroutines wait on channels or have ended:
-// so Go's answers to a journal are the only ones that it can give, but for what its runtime draws. What it draws is not steered.
-// The journal that is replayed follows it:
+// A process is a goroutine, and a port is a channel. A step begins once every goroutine waits on a channel or has ended, so the
+// order of the steps is the journal's. Some answers Go's runtime draws by chance. It is not steered: the journal that PROGRAM
+// replays follows it.
 //
-//   - Of several cases that can proceed Go takes one. The choice word becomes one that asks for that case.
-//   - A call that waits with several cases on one port ends at one of those. A hub takes the lowest, Go 1.19 any of those that
-//     meet what comes, and at a close a receive. Where that is not the lowest, those below it on that port get port 0, on which
-//     nothing can proceed. This is the one class of difference; it is counted.
-//   - A panic does not tell which send was on a closed channel: the lowest that was is taken.
-//   - The lines of one step are the caller's first, then those of calls that ended by it in order of arrival.
+//   - If several cases can proceed, Go takes one. The choice word is changed to ask for that case.
+//   - If a call waits with several cases on one port, a hub ends it at the lowest that fits. Go 1.19 ends it at any that fits, and
+//     at a close at a receive. If that is not the lowest, the lower ones get port 0, on which nothing can proceed. This is the
+//     one class of difference between the two, and its calls are counted.
+//   - If a select panics, Go does not tell at which send. The lowest send on a closed port is told.
+//   - If one step ends several calls, Go has no order among them. They are told in order of arrival.
 //
-// What has no like in Go is answered as the rules say, and Go is not asked: faults 1 to 7 and 12. Each journal is run twice:
+// Faults 1 to 7 and 12 have nothing like them in Go. They are told by the rules, and Go is given no step.
 //
-//   - plain, by send and receive statements and selects of the call's cases, up to the first moment in which every goroutine
-//     waits, where a Go program ends, or the first cancel of a call that waits;
-//   - whole, where each call that waits has a case more, a receive by which a stall and a cancel end it.
+// Each journal is run twice:
 //
-// A call on port 0 alone has that case in both.
+//   - plain: with send, receive and select statements, and selects by reflection, of the call's own cases. A Go program ends when
+//     all its goroutines wait, so the run ends there; it also ends before a call is cancelled, which Go cannot do from outside.
+//   - whole: with one case more in each call that may wait, a receive by which a stall or a cancel ends it.
+//
+// A call on port 0 alone has that case in both, so that its goroutine can end.
 package main
 
 import (
@@ -52,29 +53,39 @@ func main() {
 		mustDo(err)
 		asked := readJournal(string(text))
 		for _, isPlain := range []bool{true, false} {
-			name := filepath.Base(path) + "_whole"
-			if isPlain {
-				name = filepath.Base(path) + "_plain"
-			}
-			followed, events, more := runJournal(asked, isPlain)
-			all.add(more)
-			if *keep != "" {
-				keepCase(filepath.Join(*keep, name), followed, events)
-			}
-			if differs := compare(flag.Arg(0), followed, events); differs == "" {
+			differs := compareRun(path, asked, isPlain, &all)
+			if differs == "" {
 				passed++
 			} else {
 				failed++
-				fmt.Printf("failed: %s: %s\n", name, differs)
+				fmt.Println("failed:", differs)
 			}
 		}
 	}
 	fmt.Printf("calls of which several cases could proceed, so that Go drew: %d\n", all.drawn)
-	fmt.Printf("calls that waited with several cases on a port, and did not end at the lowest: %d\n", all.notLowest)
+	fmt.Printf("calls that waited with several cases on one port, and did not end at the lowest: %d\n", all.notLowest)
 	fmt.Printf("%d passed, %d failed\n", passed, failed)
 	if failed > 0 {
 		os.Exit(1)
 	}
+}
+
+// compareRun runs a journal in one of the two ways, and gives the name of the run with the first difference, or nothing.
+func compareRun(path string, asked journal, isPlain bool, all *counts) string {
+	name := filepath.Base(path) + "_whole"
+	if isPlain {
+		name = filepath.Base(path) + "_plain"
+	}
+	followed, events, more := runJournal(asked, isPlain)
+	all.add(more)
+	if *keep != "" {
+		keepCase(filepath.Join(*keep, name), followed, events)
+	}
+	differs := compare(flag.Arg(0), followed, events)
+	if differs == "" {
+		return ""
+	}
+	return name + ": " + differs
 }
 
 func mustDo(err error) {

@@ -37,6 +37,7 @@ func (c *counts) add(more counts) {
 
 // runJournal gives the journal that follows Go, its events and the counts.
 func runJournal(asked journal, isPlain bool) (journal, []string, counts) {
+	settle()
 	before := runtime.NumGoroutine()
 	r := run{isPlain: isPlain, edition: asked.edition, channels: []chan string{nil}, isClosed: map[int]bool{}}
 	for len(r.processes) < asked.processes {
@@ -171,10 +172,11 @@ func (r *run) stall() bool {
 // endOpen ends all calls that wait, each of which has a way out.
 func (r *run) endOpen() {
 	for _, o := range r.open {
-		p := r.processes[o.pid]
-		p.wayOut <- struct{}{}
-		settle()
-		if told := p.told.Load(); told == nil || *told != tookWayOut {
+		r.processes[o.pid].wayOut <- struct{}{}
+	}
+	settle()
+	for _, o := range r.open {
+		if told := r.processes[o.pid].told.Load(); told == nil || *told != tookWayOut {
 			panic("a call that waits took another case than its way out")
 		}
 	}

@@ -23,10 +23,10 @@ func TestGoroutinesThatWaitAreSeen(t *testing.T) {
 	}
 	for name, wait := range waits {
 		var isThere atomic.Bool
-		go func() {
+		go func(wait func()) {
 			isThere.Store(true)
 			wait()
-		}()
+		}(wait)
 		settle()
 		if !isThere.Load() {
 			t.Errorf("%s: settled before the goroutine began", name)

@@ -27,7 +27,7 @@ check() {
 }
 
 is_formatted() {
-    gofmt -d . && [ -z "$(gofmt -l .)" ]
+    gofmt -d . ../../examples/stall_against_go > "$work/unformatted" && cat "$work/unformatted" && ! [ -s "$work/unformatted" ]
 }
 
 # go_compare ARGUMENTS: one step is made at a time, so more threads would only have it look for goroutines at work too early.

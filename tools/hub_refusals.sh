@@ -1,6 +1,6 @@
 #!/bin/sh
 # hub_refusals.sh [TESTS]: runs a hub's tests of refused memory with the first allocation after their mark refused, then
-# with the second, and so on until a run meets no refusal; and that of reserved steps with all of them refused. Each run
+# with the second, and so on until a run meets no refusal; and those of reserved steps with all of them refused. Each run
 # must pass. TESTS is the built program of hub_tests' tests, where they stand, if it is not said. It needs a C compiler
 # (CC, or cc).
 set -eu
@@ -43,9 +43,11 @@ for test in refused_opening_and_steps_are_made_again refused_steps_leave_the_buf
     total=$((total + number - 1))
 done
 
-passes all reserved_steps_take_no_memory
-if [ ! -e "$work/refused" ]; then
-    echo "hub_refusals.sh: reserved_steps_take_no_memory met no refusal, so nothing was shown" >&2
-    exit 1
-fi
+for test in reserved_steps_take_no_memory three_reserved_steps_take_no_memory; do
+    passes all "$test"
+    if [ ! -e "$work/refused" ]; then
+        echo "hub_refusals.sh: $test met no refusal, so nothing was shown" >&2
+        exit 1
+    fi
+done
 echo "hub_refusals.sh: $total allocations refused, each answered as it must be; reserved steps took none"

@@ -1,8 +1,8 @@
 #!/bin/sh
 # hub_refusals.sh [TESTS]: runs a hub's tests of refused memory with the first allocation after their mark refused, then
-# with the second, and so on until a run meets no refusal; and that of reserved steps with all of them refused. Each run
-# must pass, and a run of steps tells at which it was refused memory. TESTS is the built program of hub_tests' tests, where they stand, if it is not said. It needs a C compiler
-# (CC, or cc).
+# with the second, and so on until a run meets no refusal; and those of reserved steps with all of them refused. Each run
+# must pass, and a run of steps tells at which it was refused memory. TESTS is the built program of hub_tests' tests, where
+# they stand, if it is not said. It needs a C compiler (CC, or cc).
 set -eu
 root=$(cd "$(dirname "$0")/.." && pwd)
 tests=${1:-$root/crates/hub_tests/out/hub_tests_tests}
@@ -50,9 +50,11 @@ if ! sort -n -c "$work/places" || [ "$(sort -n -u "$work/places" | wc -l)" -lt 2
     exit 1
 fi
 
-passes all reserved_steps_take_no_memory
-if [ ! -e "$work/refused" ]; then
-    echo "hub_refusals.sh: reserved_steps_take_no_memory met no refusal, so nothing was shown" >&2
-    exit 1
-fi
+for test in reserved_steps_take_no_memory three_reserved_steps_take_no_memory; do
+    passes all "$test"
+    if [ ! -e "$work/refused" ]; then
+        echo "hub_refusals.sh: $test met no refusal, so nothing was shown" >&2
+        exit 1
+    fi
+done
 echo "hub_refusals.sh: $total allocations refused, each answered as it must be; reserved steps took none"

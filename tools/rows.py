@@ -143,8 +143,18 @@ def faulty_journals(folder):
 
 def beginnings(_):
     """Each beginning of a text, cut behind a line or within one; and lines up to the limit of bytes, and one past it."""
-    lines = ['chanhub journal 1', 'procs 3', '0 make 0', '0 make 0', '1 select 0 r1 r2', '0 send 2 8', '0 send 1 9', '1 recv 1']
-    text = ''.join(line + '\n' for line in lines).encode()
+    lines = (
+        ('chanhub journal 1', ''),
+        ('procs 3', ''),
+        ('0 make 0', '0 made 1\n'),
+        ('0 make 0', '0 made 2\n'),
+        ('1 select 0 r1 r2', '1 parked\n'),
+        ('0 send 2 8', '0 case 0 sent\n1 case 1 got 8\n'),
+        ('0 send 1 9', '0 parked\n'),
+        ('1 recv 1', '1 case 0 got 9\n0 case 0 sent\n'),
+    )
+    text = ''.join(line + '\n' for line, _ in lines).encode()
+    events = [told for _, told in lines]
     behind = {0: refused('line 1: bad header'), 1: refused('line 2: bad procs')}
     for size in range(len(text) + 1):
         whole = text[:size].count(b'\n')
@@ -152,7 +162,7 @@ def beginnings(_):
         if size > 0 and not text[:size].endswith(b'\n'):
             is_well = answer == refused('line %d: cut line' % (whole + 1))
         else:
-            is_well = answer == behind[whole] if whole in behind else (answer[0], answer[2]) == (0, b'')
+            is_well = answer == behind.get(whole, (0, ''.join(events[:whole]).encode(), b''))
         yield 'beginning of %d bytes' % size, is_well
     most = 67108864
     head = b'chanhub journal 1\nprocs 1\n0 recv '

@@ -65,6 +65,13 @@ fn processes_run_at_the_same_time(rt: HostRuntime) -> Result<(), Fail> {
         let report = run_by(&rt, rt.alloc(), text, &gate)?;
         same(&rt, gate.missed.load(Ordering::SeqCst), false, "missed");
         each_has_one(&rt, report.ports.as_slice());
+        same(
+            &rt,
+            (report.stalled, report.faults),
+            (0, 0),
+            "stalls and faults",
+        );
+        same(&rt, report.journal.entries().len(), 6, "entries");
     }
     Ok(())
 }

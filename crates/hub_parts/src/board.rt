@@ -6,12 +6,13 @@
 //! places for each process, and no process has more than one open call, of at most `CASE_PLACES` cases: so the
 //! live entries leave room for one call more.
 
-ghost use Rattle.std.specs.Prelude.{◌≡◌, ◌≤◌, ◌<◌, ◌+◌, [], length, IfOk, IfSome, OnErr, ◌==◌, true, false, slice_get, is_some};
+ghost use Rattle.std.specs.Prelude.{◌≡◌, ◌≤◌, ◌<◌, ◌+◌, ◌*◌, [], length, IfOk, IfSome, OnErr, ◌==◌, true, false, slice_get, is_some};
 ghost use Rattle.std.specs.Option.{option_map};
 ghost use Rattle.std.specs.List.{list_any};
 ghost use Rattle.hub_base.specs.Ready.{first_with};
 ghost use Rattle.hub_parts.specs.Lists.{open_calls, parked, with_new, IsMade, port_at, with_port, pushed, popped, closed_now, passes, ending_of, after_taking, after_stop, ended_by, opened};
 ghost use Rattle.hub_parts.specs.Keeps.{AllMade};
+ghost use Rattle.hub_parts.specs.declared.wait_queue.TheConstants.{PLACES};
 
 mod parking;
 
@@ -233,6 +234,15 @@ impl Board {
             index: waiter.case,
             case,
         })
+    }
+
+    /// How many entries the queue of a side of the port stores, the dead ones among them. `Any` means the receivers.
+    /// The lists of a board leave the queues out, so no contract says how many it is after a call.
+    pub fn stored(&self, port: Port, side: Side) -> u32
+        requires { IsMade self.now port }
+        ensures { result ≤ PLACES * self.now.procs }
+    {
+        self.ports[port.0 as usize - 1].stored(side)
     }
 
     /// Ends the oldest open call, on whatever ports. The call leaves the queues of all its cases.

@@ -1,5 +1,6 @@
 //! Tests through the public calls. Expected values are worked out by hand from the rules.
 
+mod faults;
 mod reader;
 mod values;
 mod written;

@@ -32,6 +32,7 @@ fn openings_are_refused(rt: HostRuntime) {
         (0, 1, OpenFault::BadProcs),
         (65, 0, OpenFault::BadProcs),
         (1, 0, OpenFault::BadLimit),
+        (1, 1_000_001, OpenFault::BadLimit),
         (64, 1_000_001, OpenFault::BadLimit),
     ] {
         let refused = Blank::open(rt.alloc(), procs, limit, Edition::One).err();

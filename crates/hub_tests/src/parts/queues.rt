@@ -1,13 +1,13 @@
-//! Queues: how long dead entries stay in one.
+//! Queues: how long dead entries stay in those of a board.
 
-ghost use Rattle.std.specs.Prelude.{◌≡◌, ◌∷◌, []};
+ghost use Rattle.std.specs.Prelude.{◌≡◌, ◌≤◌, ◌<◌, ◌+◌, ◌∷◌, [], length};
 
 use crate::compare::same;
 use hub_base::{Case, Cases, Pid, Port};
-use hub_parts::{Side, Tickets, WaitQueue, Waiter};
+use hub_parts::{Board, Side};
 use std::process::Abort;
 
-/// The entries of the first queue after this many selects, where a row says.
+/// The entries of the first port's receivers after this many selects, where a row says.
 fn entries_after(selects: u32) -> Option<u32> {
     match selects {
         49 => Some(49),
@@ -27,57 +27,52 @@ fn cases_of(first: Case, second: Case) -> Cases
     cases
 }
 
-/// The case of this number of the select under this ticket.
-fn waiter(ticket: u32, case: u8) -> Waiter {
-    Waiter {
-        pid: Pid(1),
-        ticket,
-        case,
-    }
+/// Process 1 waits on both ports, to receive.
+fn select(rt: &impl Abort, board: &mut Board, ticket: u32)
+    requires procs { board.old.procs ≡ 2 }
+    requires ports { length board.old.ports ≡ 2 }
+    requires later { board.old.next_ticket ≤ ticket }
+    ensures procs { board.new.procs ≡ 2 }
+    ensures ports { length board.new.ports ≡ 2 }
+    ensures later { board.new.next_ticket ≡ ticket + 1 }
+{
+    assert!(rt; !board.open(Pid(1)), "it waits no more");
+    let cases = cases_of(Case::Recv(Port(1)), Case::Recv(Port(2)));
+    board.park(Pid(1), ticket, &cases);
 }
 
-/// Puts an entry into a queue of two processes, as a board does: first room is made for it.
-fn join(rt: &impl Abort, queue: &mut WaitQueue, tickets: &Tickets, entry: Waiter)
-    requires { queue.old.capacity ≡ 64 }
-    ensures { queue.new.capacity ≡ 64 }
+/// A select is served at the port of one of its two cases.
+fn serve(rt: &impl Abort, board: &mut Board, case: u8)
+    requires case { case < 2 }
+    requires ports { length board.old.ports ≡ 2 }
+    ensures procs { board.new.procs ≡ board.old.procs }
+    ensures ports { length board.new.ports ≡ 2 }
+    ensures later { board.new.next_ticket ≡ board.old.next_ticket }
 {
-    queue.room(tickets);
-    assert!(rt; queue.stored() < 64, "there is room");
-    queue.park(entry);
-}
-
-/// Serves a select at one of its two queues.
-fn serve(rt: &impl Abort, queue: &mut WaitQueue, tickets: &Tickets, served: Waiter)
-    requires { queue.old.capacity ≡ 64 }
-    ensures { queue.new.capacity ≡ 64 }
-{
-    same(rt, queue.take(tickets), Some(served), served.ticket);
+    let ended = board.take(Port(u16::from(case) + 1), Side::Recv);
+    let served = ended.map(|ended| (ended.pid, ended.index));
+    same(rt, served, Some((Pid(1), case)), case);
 }
 
 // A select that waits on two ports and is served on the second leaves a dead entry on the first. Two processes have
 // 64 places there; the 50th select finds fewer than 16 of them free, and so does the 99th.
 #[test]
 fn dead_entries_go_when_room_is_short(rt: HostRuntime) {
-    let mut first = WaitQueue::new(rt.alloc(), 2).expect(&rt, "memory for a queue");
-    let mut second = WaitQueue::new(rt.alloc(), 2).expect(&rt, "memory for a queue");
-    let mut tickets = Tickets::new(rt.alloc(), 2).expect(&rt, "memory for tickets");
-    let cases = cases_of(Case::Recv(Port(1)), Case::Recv(Port(2)));
+    let mut board = Board::new(rt.alloc(), 2).expect(&rt, "memory for a board");
+    board.make(0).expect(&rt, "memory for a port");
+    board.make(0).expect(&rt, "memory for a port");
     for selects in 1..102 {
-        let ticket: u32 = selects;
-        join(&rt, &mut first, &tickets, waiter(ticket, 0));
-        join(&rt, &mut second, &tickets, waiter(ticket, 1));
-        tickets.open(Pid(1), ticket, &cases);
+        select(&rt, &mut board, selects);
         if let Some(entries) = entries_after(selects) {
-            same(&rt, first.stored(), entries, selects);
+            same(&rt, board.stored(Port(1), Side::Recv), entries, selects);
         }
-        if selects == 101 {
-            serve(&rt, &mut first, &tickets, waiter(ticket, 0));
-        } else {
-            serve(&rt, &mut second, &tickets, waiter(ticket, 1));
-        }
-        tickets.end(Pid(1));
-        same(&rt, tickets.waits(Port(1), Side::Any), false, selects);
+        serve(&rt, &mut board, if selects == 101 { 0 } else { 1 });
     }
-    same(&rt, first.take(&tickets), None, "in the end");
-    same(&rt, first.stored(), 0, "in the end");
+    same(
+        &rt,
+        board.take(Port(1), Side::Recv).is_none(),
+        true,
+        "in the end",
+    );
+    same(&rt, board.stored(Port(1), Side::Recv), 0, "in the end");
 }

@@ -150,6 +150,20 @@ fn run_both(rt: &impl Abort, alloc: Global, entries: &[Entry]) -> Result<(), Fai
     Ok(())
 }
 
+// The one step of a hub is made, and all but its exit are refused.
+const ONE_STEP: &[Row] = &[
+    Row::Steps(0, Ask::Make(0), &[(0, MADE)]),
+    Row::Refuses(0, Ask::Recv(0), Fault::JournalFull),
+    Row::Keeps(1),
+    Row::Steps(0, Ask::Exit, &[(0, DONE)]),
+    Row::Keeps(2),
+];
+
+#[test]
+fn hub_of_one_process_makes_one_step(rt: HostRuntime) -> Result<(), Fail> {
+    tell(&rt, rt.alloc(), first(1), 1, ONE_STEP)
+}
+
 const RESERVING: &[Row] = &[
     Row::Steps(0, Ask::Make(1), &[(0, MADE)]),
     Row::Reserves(3),

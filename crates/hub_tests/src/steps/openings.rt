@@ -12,6 +12,7 @@ const OPENINGS: &[(u8, u32, Option<OpenFault>)] = &[
     (65, 0, Some(OpenFault::BadProcs)),
     (255, 1_000_001, Some(OpenFault::BadProcs)),
     (1, 0, Some(OpenFault::BadLimit)),
+    (1, 1_000_001, Some(OpenFault::BadLimit)),
     (64, 1_000_001, Some(OpenFault::BadLimit)),
     (1, 4294967295, Some(OpenFault::BadLimit)),
     (1, 1, None),

@@ -185,6 +185,21 @@ const WITHOUT_MEMORY: &[Row] = &[
     ),
 ];
 
+const THREE_WITHOUT_MEMORY: &[Row] = &[
+    Row::Steps(0, Ask::Make(1), &[(0, MADE)]),
+    Row::Reserves(3),
+    Row::Begins,
+    Row::Steps(0, Ask::Send(1, 5), &[(0, SENT)]),
+    Row::Steps(0, Ask::Recv(1), &[(0, Told::Got(0, 5))]),
+    Row::Steps(0, Ask::Recv(1), &[(0, PARKED), (0, STALLED)]),
+];
+
+// As many steps as were reserved, by the only process.
+#[test]
+fn three_reserved_steps_take_no_memory(rt: HostRuntime) -> Result<(), Fail> {
+    tell(&rt, rt.alloc(), first(1), 10, THREE_WITHOUT_MEMORY)
+}
+
 // A wait on the nil channel, a send, a receive, a wait on a port and a stall.
 #[test]
 fn reserved_steps_take_no_memory(rt: HostRuntime) -> Result<(), Fail> {

@@ -5,9 +5,11 @@
 
 Tells the public functions that no claim names, and the calls, clauses and definitions that a page names and the sources
 do not have. A row of CLAIMS is | calls | .. clauses .. | promise | definition |; a row without a clause is a promise to
-come, and is left aside. Tells also the public functions that no must-fail edit turns, but for those that a section names
-as without an edit, and for laws, which have no body; an edit names its function in its line `call:`. The status is 1
-where anything is told.
+come, and is left aside; of any other, each call has one of the clauses. A trait's methods with clauses count as calls. Tells
+also the public functions that no must-fail edit turns, but for those that a section names as without an edit, for laws, which
+have no body, and for the methods of traits, which have none there; an edit names its function in its line `call:`. Tells last
+where a crate's README names a file that is not there, or has a table of its files and leaves one out. The status is 1 where
+anything is told.
 """
 import os
 import re
@@ -42,21 +44,29 @@ def public_calls(crate):
         offered |= set(re.findall(r'^pub (?:unsafe )?(?:extern "C" )?fn (\w+)', read('crates', crate, 'src', 'lib.rt'), re.M))
     else:
         offered |= set(re.findall(r'^pub (?:fn|struct|enum) (\w+)', source, re.M))
-    calls, owner = {}, ''
-    for line in re.split(r'\n(?=[^\s)>]|    pub fn )', source.replace('pub unsafe extern "C" fn', 'pub fn').replace('pub extern "C" fn', 'pub fn')):
-        block = re.match(r'impl(?:<[^>]*>)? (\w+)(?:<[^>]*>)? \{', line)
+    calls, owner, visible = {}, '', 'pub '
+    for line in re.split(r'\n(?=[^\s)>]|    (?:pub )?fn )', source.replace('pub unsafe extern "C" fn', 'pub fn').replace('pub extern "C" fn', 'pub fn')):
+        block = re.match(r'impl(?:<[^>]*>)? (\w+)(?:<[^>]*>)? \{|pub trait (\w+)', line)
         if block:
-            owner = block.group(1)
+            owner, visible = block.group(1) or block.group(2), '' if block.group(2) else 'pub '
         elif re.match(r'\S', line) and not line.startswith(('}', '{', ')', '#')):
-            owner = ''
-        found = re.match(r'( *)pub fn (\w+)', line)
+            owner, visible = '', 'pub '
+        found = re.match(r'( *)%sfn (\w+)' % visible, line)
         if not found:
             continue
         name = owner + '::' + found.group(2) if found.group(1) else found.group(2)
         if (owner if found.group(1) else found.group(2)) in offered:
             head = re.split(r'\n *\{', line, maxsplit=1)[0]
-            calls[name] = {label or '–' for label in re.findall(r'ensures\*? (\w+)? ?\{', head)}
+            labels = {label or '–' for label in re.findall(r'ensures\*? (\w+)? ?\{', head)}
+            # What a trait's method promises are its clauses alone.
+            if labels or visible:
+                calls[name] = labels
     return calls
+
+
+def traits(crate):
+    """The traits of a crate. Their methods have no body of their own."""
+    return {name for path in files('crates/%s/src' % crate, '.rt') for name in re.findall(r'^pub trait (\w+)', read(path), re.M)}
 
 
 def defined(crate, file, name):
@@ -89,6 +99,9 @@ def check_section(crate, text):
         for label in labels:
             if not any(label in calls.get(name, ()) for name in current):
                 yield 'CLAIMS: no clause %s on %s' % (label, ', '.join(current))
+        for name in current:
+            if labels and not any(label in calls.get(name, ()) for label in labels):
+                yield 'CLAIMS: %s has none of the clauses %s' % (name, ', '.join(labels))
         yield from check_definitions('CLAIMS', crate, cells[-1])
     for name in sorted(set(calls) - named):
         yield 'CLAIMS: no row for %s of %s' % (name, crate)
@@ -111,9 +124,24 @@ def check_edits(crate, text, calls):
             else:
                 turned.add(call.group(1))
     told = {name for part in re.findall(r'^Without an edit:(.*?)\n\n', text + '\n\n', re.M | re.S) for name in TICKED.findall(part)}
-    lacking = set(calls) - turned - set(laws(crate))
+    lacking = {it for it in calls if it.split('::')[0] not in traits(crate)} - turned - set(laws(crate))
     yield from ('CLAIMS: no edit turns %s of %s' % (name, crate) for name in sorted(lacking - told))
     yield from ('CLAIMS: %s of %s is no call without an edit' % (name, crate) for name in sorted(told - lacking))
+
+
+def check_files(crate):
+    """The files that a crate's README names are there; and where it lists them in a table, it lists them all."""
+    text = read('crates', crate, 'README.md')
+    sources = {os.path.relpath(path, 'crates/%s/src' % crate) for path in files('crates/%s/src' % crate, '.rt')}
+    named = set(re.findall(r'`src/([\w/]+?)(?:\.rt)?`', text)) | set(re.findall(r'`([\w/]+)\.rt`', text))
+    for name in sorted(named):
+        if name + '.rt' not in sources and not os.path.exists(os.path.join(ROOT, 'crates', name + '.rt')):
+            if not name.startswith('src/') or name[len('src/'):] + '.rt' not in sources:
+                yield 'README of %s: no file %s' % (crate, name)
+    rows = set(re.findall(r'^\| `src/([\w/]+?)(?:\.rt)?`', text, re.M))
+    for name in sorted(sources if rows else ()):
+        if name not in ('lib.rt', 'main.rt') and name.removesuffix('.rt') not in rows:
+            yield 'README of %s: its list of files lacks %s' % (crate, name)
 
 
 def main():
@@ -122,6 +150,9 @@ def main():
         crate = section.split('\n', 1)[0]
         if has_file(crate, 'lib.rt') or has_file(crate, 'main.rt'):
             found += check_section(crate, section)
+    for crate in sorted(os.listdir(os.path.join(ROOT, 'crates'))):
+        if os.path.exists(os.path.join(ROOT, 'crates', crate, 'README.md')):
+            found += check_files(crate)
     print(''.join(line + '\n' for line in found), end='')
     sys.exit(1 if found else 0)
 

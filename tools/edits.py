@@ -2,8 +2,9 @@
 """Tries the must-fail edits of the crates: the prover must refuse each wrong body, at a goal of the function that it stands in.
 
     edits.py [--further] [--proved-in LOG] [--jobs N] [CRATE[/NAME] ..]
+    edits.py --read [CRATE ..]
 
-Those in the folders `edits`, which the gate tries, or, after --further, those in `further-edits`; of these crates, or of all; or
+Those in the folders `edits`, which the gate tries, and after --further those in `further-edits` too; of these crates, or of all; or
 one by its name.
 An edit is a file with a line `call: NAME`, the public call that it turns, a line `file: PATH`, and pairs of lines `old: TEXT` and
 `new: TEXT`, where the old text stands in that file once.
@@ -13,12 +14,19 @@ change are proved first, unchanged, with what they call; this shows that what is
 --proved-in that is left out: LOG is what `rt ci` prints, which may still run, and a crate's turn comes once it is proved there.
 Then edits of a crate that change different functions are made together on a copy, and the changed functions are checked, each
 by itself: a caller is checked against a contract, which no edit changes.
-An edit is refused where the prover says of a function in its place that it is not proved, for a goal of that function; not where it
-fails to read the text, nor where a proof names what the edit took away, nor where an unchanged function is not proved. One that is
-not refused so beside others is tried alone. Prints a line for each edit, and last how many were refused: `N passed, M failed`.
-Status 0 where none failed.
+An edit is refused where a goal of its own function is shown false, or left open by a search that came to its end. Where a search
+stopped at its limit, or an answer's line does not fit, the goals are asked anew, with a plain search in their place, in the edited
+crate and, where an answer stood, in the unchanged one: only what a search proves there and not here counts. What is left is no
+refusal, and fails: by a limit, by a name that is gone, by an answer's line, by a goal of safety alone (an index, a sum).
+One that is not refused beside others is tried alone. Prints a line for each edit, then how many by each kind, and last how many were
+refused: `N passed, M failed`. Status 0 where none failed, and something was tried. Where all edits of a crate were tried, writes
+so to edits_tried.toml.
+
+After --read none is tried: all edits of the crates, further ones too, are made on copies and read by the compiler's front end, which
+checks names and types; and the contracts of each crate are compared with those over which all its edits were tried last.
 """
 import argparse
+import collections
 import os
 import re
 import shutil
@@ -30,245 +38,172 @@ import time
 from concurrent.futures import ThreadPoolExecutor
 
 sys.dont_write_bytecode = True
+import edit_verdicts as verdicts
+import edits_tried
 from crates import ROOT, folder, read_crates, words_of
-
-PARTS = ('src', 'specs', 'proofs')
-FUNCTION = re.compile(r'^( *)(?:pub(?:\([a-z]+\))? )?(?:extern "C" )?fn (\w+)', re.M)
-BLOCK = re.compile(r'^impl\b.*\{', re.M)
-# a goal that is not met, or an answer that is none of its goal
-TOLD = re.compile(r'note: \S+:\d+:\d+: it is not proved|\S+:\d+:\d+: error')
-# a proof file that names what the edit took away
-LOST = re.compile(r'(?:note: )?(?:\./)?proofs/\S+:\d+:\d+: .*(?:has no field|is not in scope|has no `|was not admitted)')
-
+from edit_files import FOLDERS, BadEdit, Batch, batches_of, copy_of, read_edits
 
 # as many checks at a time as main says
 turns = threading.Semaphore()
 
-
-class BadEdit(Exception):
-    pass
+Told = collections.namedtuple('Told', 'edit kind said')
 
 
-class Edit:
-    def __init__(self, crate, path):
-        self.crate = crate
-        self.path = path
-        self.changes = []
-        file = old = None
-        with open(path) as lines:
-            for line in lines.read().split('\n'):
-                if line.startswith('file: '):
-                    file = line[len('file: '):].strip()
-                elif line.startswith('old: '):
-                    old = line[len('old: '):]
-                elif line.startswith('new:'):
-                    self.changes.append((file, old, line[len('new:'):].removeprefix(' ')))
-        if not self.changes:
-            raise BadEdit('it changes nothing')
-        _, self.functions = self.made({})
-
-    def made(self, texts):
-        """The texts of the files with this edit made too, and the functions that it changes."""
-        texts = dict(texts)
-        functions = []
-        for file, old, new in self.changes:
-            text = texts.get(file)
-            if text is None:
-                with open(os.path.join(folder(ROOT, self.crate), file)) as source:
-                    text = source.read()
-            if text.count(old) != 1:
-                raise BadEdit('an old text stands in %s %d times' % (file, text.count(old)))
-            functions.append(function_at(file, text[:text.index(old) + len(old)]))
-            texts[file] = text.replace(old, new)
-        return texts, functions
-
-    def places(self):
-        """The bare names of the functions that it changes."""
-        return {it.rsplit('::', 1)[-1] for it in self.functions}
-
-    def owns(self, function):
-        """How much of the path of a function that a check names, and of those inside it, is that of one that this edit changes; a
-        module is worth less than any function in it. A closure's path is that of its function, with an `fn` in it."""
-        function = '::'.join(it for it in function.split('::') if it != 'fn')
-        parts = [(len(it), it) for it in self.functions if not it.endswith('::*')]
-        parts += [(1, it[:-len('::*')]) for it in self.functions if it.endswith('::*')]
-        return max((worth for worth, it in parts if '::%s::' % it in '::%s::' % function), default=0)
-
-    def name(self):
-        return self.crate + '/' + os.path.basename(self.path)
-
-
-class Batch:
-    """Edits of one crate that are made together, each in functions of its own."""
-
-    def __init__(self):
-        self.edits = []
-        self.texts = {}
-
-    def takes(self, edit):
-        if any(it.places() & edit.places() for it in self.edits):
-            return False
-        try:
-            self.texts, _ = edit.made(self.texts)
-        except BadEdit:
-            return False
-        self.edits.append(edit)
-        return True
-
-
-def batches_of(edits):
-    batches = []
-    for edit in edits:
-        if not any(it.takes(edit) for it in batches):
-            batches.append(Batch())
-            batches[-1].takes(edit)
-    return batches
-
-
-def function_at(file, before):
-    """By what a check names the function that a text ends in: its path below the crate, or the end of that of a method, which
-    goes by the place of its type. Of what is no plain function, its module, and then `::*`."""
-    module = [it for it in file[len('src/'):-len('.rt')].split('/') if it not in ('lib', 'main')]
-    functions = list(FUNCTION.finditer(before))
-    if not functions:
-        return '::'.join(module + ['*'])
-    indented, name = functions[-1].groups()
-    if not indented:
-        return '::'.join(module + [name])
-    block = list(BLOCK.finditer(before))[-1].group()
-    words = re.sub(r'<(?:[^<>]|<[^<>]*>)*>', '', block[len('impl'):]).split()
-    if 'for' in words:
-        return '::'.join(module + ['*'])
-    return words[0] + '::' + name
-
-
-def copy_of(crate, room, texts):
-    for part in PARTS:
-        source = os.path.join(folder(ROOT, crate), part)
-        if os.path.isdir(source):
-            shutil.copytree(source, os.path.join(room, part))
-    for file, text in texts.items():
-        with open(os.path.join(room, file), 'w') as target:
-            target.write(text)
-
-
-def check(crate, texts, edits, kept):
-    """What a check of the functions that these edits change says, of the crate with these texts in place of its own, over what was
-    kept, if anything was."""
-    functions = dict.fromkeys(function for edit in edits for function in edit.functions)
+def run_check(crate, texts, more):
+    """What a check of the crate says, with these texts in place of its own."""
     with turns, tempfile.TemporaryDirectory() as room:
         copy_of(crate, room, texts)
-        over = ['--incremental', kept] if kept else []
-        words = words_of(crate, 'check') + ['--jobs', '1'] + over + [word for it in functions for word in ('--only', it.removesuffix('::*'))]
         began = time.monotonic()
+        words = words_of(crate, 'check') + ['--jobs', '1', *more]
         ran = subprocess.run(words, cwd=room, stdin=subprocess.DEVNULL, stdout=subprocess.PIPE, stderr=subprocess.STDOUT, text=True)
         ran.seconds = time.monotonic() - began
         return ran
 
 
-def check_changed(batch, kept):
-    """What a check says with the edits of the batch made, over a copy of what was kept."""
-    crate = batch.edits[0].crate
+def check(crate, texts, edits, kept):
+    """What a check of the functions that these edits change says, over what was kept, if anything was."""
+    functions = dict.fromkeys(function for edit in edits for function in edit.functions)
+    over = ['--incremental', kept] if kept else []
+    return run_check(crate, texts, over + [word for it in functions for word in ('--only', it.removesuffix('::*'))])
+
+
+def check_over(crate, texts, edits, kept):
+    """The same over a copy of what was kept."""
     if kept is None:
-        return check(crate, batch.texts, batch.edits, None)
+        return check(crate, texts, edits, None)
     with tempfile.TemporaryDirectory(dir=os.path.dirname(kept)) as room:
         over = os.path.join(room, 'kept')
         shutil.copytree(kept, over, copy_function=link_or_copy)
-        return check(crate, batch.texts, batch.edits, over)
+        return check(crate, texts, edits, over)
 
 
 def link_or_copy(source, target):
     """What was proved is linked: a check replaces such a file, and changes none."""
-    if source.endswith('.oantt'):
-        os.link(source, target)
-    else:
-        shutil.copy2(source, target)
+    try:
+        if source.endswith('.oantt'):
+            os.link(source, target)
+            return
+    except OSError:
+        pass  # another file system
+    shutil.copy2(source, target)
 
 
-def not_proved(crate, lines):
-    """Each function that is not proved for a goal of its own, and what is said of it: before its line, or of its proof file."""
-    found = {}
-    said = []
-    for line in lines:
-        verdict = re.match(r'fn %s::(\S+): (.*)' % crate, line)
-        if verdict is None:
-            said.append(line)
-            continue
-        if re.match(r'(?:not proved|no proof)(?!: it calls)', verdict.group(2)):
-            found[verdict.group(1)] = said
-        said = []
-    for line in lines:
-        proof = re.match(r'(?:note: )?(?:\./)?proofs/(\S+)/\w+\.antt:\d+:\d+: ', line)
-        if proof and proof.group(1).replace('/', '::') in found:
-            found[proof.group(1).replace('/', '::')].append(line)
-    return found
+def refuse_unread(ran):
+    """Raises why a check says nothing of its edits."""
+    lines = ran.stdout.split('\n')
+    if re.search(r'\berror\[[\w-]+\]', ran.stdout):
+        raise BadEdit('BAD EDIT: ' + next(it for it in lines if 'error' in it)[:200])
+    if ran.returncode == 3 and verdicts.STOPPED.search(ran.stdout):
+        return
+    if len(lines) < 2 or not lines[-2].startswith('only='):
+        raise BadEdit('it was not proved and not refused: ' + next((it for it in lines if 'error' in it), lines[0])[:200])
 
 
 def judge(batch, ran):
-    """What refuses each edit of the batch, by its name; those that nothing refuses are left out. Raises why none of them counts."""
-    lines = ran.stdout.split('\n')
-    crate = batch.edits[0].crate
-    if re.search(r'\berror\[[\w-]+\]', ran.stdout) or len(lines) < 2 or not lines[-2].startswith('only='):
-        raise BadEdit('it was not proved and not refused: ' + next((it for it in lines if 'error' in it), lines[0])[:200])
+    """Of each edit of the batch the goals of its own functions that are not met, by its name. Raises why none of them counts."""
+    refuse_unread(ran)
     if ran.returncode == 0:
         raise BadEdit('NOT REFUSED: it is still proved')
-    refused = {}
+    found = {}
     others = []
-    for function, said in not_proved(crate, lines).items():
+    goals = verdicts.goals_of(ran.stdout)
+    for function in verdicts.not_proved(ran.stdout):
         edit = max(batch.edits, key=lambda it: it.owns(function))
-        if not edit.owns(function):
+        if edit.owns(function):
+            found.setdefault(edit.name(), []).extend(it for it in goals if it.function == function)
+        else:
             others.append(function)
-            continue
-        told = [it for it in said if TOLD.match(it) and not LOST.match(it)]
-        if told:
-            refused.setdefault(edit.name(), told[0][:180])
     if others:
         raise BadEdit('what is not proved is another function: ' + ', '.join(others))
-    if not refused:
-        raise BadEdit('no goal of it fails: a proof names what it took away, or nothing is told')
-    return refused
+    return found
+
+
+def asked_files(edits, ran, found):
+    """The Answers of the functions whose goals are to be asked anew, and those of them that stand for an answer, for the unchanged crate."""
+    asked, plain = {}, {}
+    for goals in (found[it.name()] for it in edits):
+        for function in dict.fromkeys(it.function for it in goals):
+            crate = edits[0].crate
+            file = 'proofs/%s/Answers.antt' % function.replace('::', '/')
+            place = os.path.join(folder(ROOT, crate), file)
+            text = open(place).read() if os.path.exists(place) else ''
+            own = [it for it in goals if it.function == function]
+            anew = verdicts.asked_anew(crate, function, ran.stdout, own, text)
+            if anew is not None:
+                asked[file] = anew
+                without = verdicts.asked_anew(crate, function, '', own, text)
+                if without is not None:
+                    plain[file] = without
+    return asked, plain
+
+
+def ask_anew(edits, ran, found, kept):
+    """The goals that are not met where a plain search stands in place of the answers that are none, by the names of the edits."""
+    asked, plain = asked_files(edits, ran, found)
+    if not asked:
+        return {}
+    again = judge(Batch(edits), check_over(edits[0].crate, {**Batch(edits).texts, **asked}, edits, kept))
+    if plain:
+        lacking = verdicts.not_proved(check_over(edits[0].crate, plain, edits, kept).stdout)
+        # No search proves these in the unchanged crate either.
+        again = {name: [it._replace(kind=verdicts.ANSWER) if it.function in lacking and it.kind in verdicts.REFUSED and
+                        not it.line.startswith('note: ') else it for it in goals] for name, goals in again.items()}
+    return again
+
+
+def settle(edits, ran, found, kept):
+    """Adds what the goals of these edits, asked anew, come to."""
+    try:
+        found.update(ask_anew(edits, ran, found, kept))
+    except BadEdit as error:
+        if len(edits) > 1:
+            for edit in edits:
+                settle([edit], ran, found, kept)
+        else:
+            found[edits[0].name()] = [it._replace(line='%s; asked anew: %s' % (it.line.split('\n')[0][:160], error)) for it in found[edits[0].name()]]
+
+
+def halves(batch):
+    middle = len(batch.edits) // 2
+    return [Batch(it, batch.apart) for it in (batch.edits[:middle], batch.edits[middle:])]
 
 
 def try_batch(batch, kept):
-    """What to say of each of its edits, and whether it was refused."""
-    ran = check_changed(batch, kept)
-    why = 'no goal of it fails'
+    """What was told of each of its edits."""
+    ran = check_over(batch.edits[0].crate, batch.texts, batch.edits, kept)
+    alone = len(batch.edits) == 1
     try:
-        refused = judge(batch, ran)
+        found = judge(batch, ran)
     except BadEdit as error:
-        refused, why = {}, error
-    beside = ' with %d more' % (len(batch.edits) - 1) if len(batch.edits) > 1 else ''
-    told = [(True, '%s: refused, as it must be, in %d s%s: %s' % (name, ran.seconds, beside, said)) for name, said in refused.items()]
-    left = [it for it in batch.edits if it.name() not in refused]
-    if len(batch.edits) == 1:
-        return told + [(False, '%s: %s' % (it.name(), why)) for it in left]
-    for edit in left:
-        alone = Batch()
-        alone.takes(edit)
-        told += try_batch(alone, kept)
+        if alone:
+            return [Told(batch.edits[0], None, '%s: %s' % (batch.edits[0].name(), error))]
+        return [it for half in halves(batch) for it in try_batch(half, kept)]
+    open_still = [it for it in batch.edits if found.get(it.name()) and verdicts.best(found[it.name()]).kind not in verdicts.REFUSED]
+    if open_still:
+        settle(open_still, ran, found, kept)
+    told = []
+    for edit in batch.edits:
+        goal = verdicts.best(found.get(edit.name(), []))
+        if goal:
+            told.append(Told(edit, goal.kind, '%s: %s, in %d s: %s' % (edit.name(), goal.kind, ran.seconds, goal.line.split('\n')[0][:200])))
+        elif alone:
+            told.append(Told(edit, None, '%s: no goal of it fails' % edit.name()))
+        else:
+            told += try_batch(Batch([edit]), kept)
     return told
 
 
 def prove_unchanged(crate, edits, kept):
-    os.makedirs(kept)
+    """Proves what the edits change, over what a check of the crate kept, if one did."""
+    earlier = os.path.join(folder(ROOT, crate), 'out', 'incremental')
+    if os.path.isdir(earlier):
+        shutil.copytree(earlier, kept, copy_function=link_or_copy)
+    else:
+        os.makedirs(kept)
     ran = check(crate, {}, edits, kept)
     if ran.returncode != 0:
         raise BadEdit('what is to be edited is not proved unchanged:\n' + ran.stdout[-2000:])
     print('%s: what its edits change is proved unchanged, in %d s' % (crate, ran.seconds), flush=True)
-
-
-def read_edits(crate, where, asked, bad):
-    """Those of a crate that were asked for, by its name or by theirs."""
-    edits = []
-    place = os.path.join(folder(ROOT, crate), where)
-    for name in sorted(os.listdir(place)) if os.path.isdir(place) else []:
-        if asked and crate not in asked and '%s/%s' % (crate, name.removesuffix('.edit')) not in asked:
-            continue
-        try:
-            edits.append(Edit(crate, os.path.join(place, name)))
-        except (BadEdit, OSError) as error:
-            bad.append('%s/%s: BAD EDIT: %s' % (crate, name, error))
-    return edits
 
 
 def wait_for(crate, log):
@@ -284,8 +219,8 @@ def wait_for(crate, log):
 
 
 def try_all(by_crate, log, bad):
-    """Tries them, those of a crate once what they change is proved unchanged, and returns how many were refused."""
-    refused = 0
+    """Tries them, those of a crate once what they change is proved unchanged, and returns what was told of each."""
+    told = []
     with tempfile.TemporaryDirectory() as room, ThreadPoolExecutor(2 * sum(map(len, by_crate.values())) + 1) as pool:
         def begin(crate):
             kept = None if log else os.path.join(room, crate, 'kept')
@@ -302,19 +237,52 @@ def try_all(by_crate, log, bad):
             except BadEdit as error:
                 bad.extend('%s: NOT TRIED: %s' % (it.name(), error) for it in by_crate[crate])
                 continue
-            for is_refused, said in (it for result in results for it in result.result()):
-                if is_refused:
-                    print(said, flush=True)
-                    refused += 1
-                else:
-                    bad.append(said)
+            for it in (it for result in results for it in result.result()):
+                print(it.said, flush=True)
+                told.append(it)
             shutil.rmtree(os.path.join(room, crate), ignore_errors=True)
-    return refused
+    return told
+
+
+def read_batch(batch):
+    """What the front end says against these edits."""
+    ran = run_check(batch.edits[0].crate, batch.texts, ['--only', ''])
+    if ran.returncode == 0:
+        return []
+    if len(batch.edits) == 1:
+        line = next((it for it in ran.stdout.split('\n') if 'error' in it), 'status %d' % ran.returncode)
+        return ['%s: BAD EDIT: %s' % (batch.edits[0].name(), line[:200])]
+    return [it for half in halves(batch) for it in read_batch(half)]
+
+
+def read_all(by_crate, log, bad):
+    """Has the front end read all edits, and returns how many it took."""
+    def read_crate(crate):
+        if log:
+            wait_for(crate, log)
+        return [it for batch in batches_of(by_crate[crate], apart=False) for it in read_batch(batch)]
+
+    with ThreadPoolExecutor(len(by_crate) + 1) as pool:
+        found = {crate: pool.submit(read_crate, crate) for crate in by_crate}
+        for crate, it in found.items():
+            try:
+                bad += it.result()
+            except BadEdit as error:
+                bad.append('%s: its edits were not read: %s' % (crate, error))
+    return sum(map(len, by_crate.values()))
+
+
+def count_kinds(told):
+    """How many edits were refused by each kind, in one line."""
+    counts = collections.Counter(it.kind for it in told)
+    kinds = ['%d %s' % (counts[it], it) for it in verdicts.KINDS if counts[it] or it in verdicts.REFUSED]
+    return 'edits: %d tried: %s; %d not refused' % (len(told), ', '.join(kinds), counts[None])
 
 
 def main():
     parser = argparse.ArgumentParser(description=__doc__, formatter_class=argparse.RawDescriptionHelpFormatter)
     parser.add_argument('--further', action='store_true')
+    parser.add_argument('--read', action='store_true')
     parser.add_argument('--proved-in', metavar='LOG')
     parser.add_argument('--jobs', type=int, default=len(os.sched_getaffinity(0)))
     parser.add_argument('asked', nargs='*')
@@ -322,13 +290,26 @@ def main():
     for _ in range(1, words.jobs):
         turns.release()
     bad = []
-    where = 'further-edits' if words.further else 'edits'
+    where = FOLDERS if words.further or words.read else FOLDERS[:1]
     found = {crate: read_edits(crate, where, words.asked, bad) for crate in read_crates()}
     there = {name for crate, edits in found.items() for name in (crate, *(it.name().removesuffix('.edit') for it in edits))}
     bad += ['%s: there is no such crate or edit' % it for it in words.asked if it not in there]
-    refused = try_all({crate: edits for crate, edits in found.items() if edits}, words.proved_in, bad)
-    print(''.join(it + '\n' for it in bad), end='')
-    print('%d passed, %d failed' % (refused, len(bad)))
+    by_crate = {crate: edits for crate, edits in found.items() if edits}
+    if not by_crate:
+        bad.append('there are no edits')
+    if words.read:
+        passed = read_all(by_crate, words.proved_in, bad)
+        bad += edits_tried.stale(by_crate)
+    else:
+        told = try_all(by_crate, words.proved_in, bad)
+        passed = sum(it.kind in verdicts.REFUSED for it in told)
+        bad += [it.said for it in told if it.kind not in verdicts.REFUSED]
+        print(count_kinds(told))
+        if words.further:
+            whole = [it for it in by_crate if not words.asked or it in words.asked]
+            edits_tried.write({crate: [it for it in told if it.edit.crate == crate] for crate in whole}, verdicts.REFUSED)
+    print(''.join('failed: %s\n' % it for it in bad), end='')
+    print('%d passed, %d failed' % (passed, len(bad)))
     return 1 if bad else 0
 
 

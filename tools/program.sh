@@ -200,6 +200,9 @@ count $? "lines of definitions and proofs that are too wide"
 "$root/tools/check_quotes.py"
 count $? "what README.md quotes"
 
+"$root/tools/edits_test.py" > "$work/edits_test" 2>&1
+count $? "how edits are judged: $(cat "$work/edits_test")"
+
 # What is built and current is not built once more.
 if [ "$program" = "$root/crates/chanhub/out/chanhub" ]; then
     [ "$("$root/chanhub" verify "$root/examples/journals/hand_over" "$root/examples/journals/hand_over.stdout" 2>&1)" = same ] &&

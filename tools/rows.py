@@ -4,12 +4,14 @@
 The last line counts: 'N passed, M failed'.
 """
 import os
-import re
 import resource
 import subprocess
 import sys
 import tempfile
 import tomllib
+
+sys.dont_write_bytecode = True
+from theorems import theorems
 
 ROOT = os.path.join(os.path.dirname(os.path.abspath(__file__)), '..')
 PROGRAM = os.path.abspath(sys.argv[1] if len(sys.argv) > 1 else os.path.join(ROOT, 'crates', 'chanhub', 'out', 'chanhub'))
@@ -57,25 +59,19 @@ def refused(fault):
     return 2, b'', b'chanhub: %s\n' % fault.encode()
 
 
-def theorems():
-    """The worked journals that stand as theorems beside the definitions."""
-    folder = os.path.join(ROOT, 'crates', 'hub_base', 'specs', 'Rows')
-    for name in os.listdir(folder):
-        with open(os.path.join(folder, name), encoding='utf-8') as file:
-            yield from re.findall(r'^pub (\w+) :', file.read(), re.M)
-
-
 def text_of(edition, row):
     """The journal of a row, in this edition."""
     return 'chanhub journal %d\nprocs %d\n%s' % (edition, row['procs'], row['steps'])
 
 
 def journals(folder):
-    known = set(theorems())
-    for row in table('journals')['journal']:
+    known = dict(theorems())
+    rows = table('journals')['journal']
+    yield 'each theorem has a row', set(known) <= {row['name'] for row in rows} | set(long_rows())
+    for row in rows:
         edition = row.get('edition', 1)
         journal = text_of(edition, row)
-        yield row['name'] + ' is a theorem', row['name'] in known
+        yield row['name'] + ' is a theorem', known.get(row['name']) == (edition, row['procs'], row['steps'], row['events'])
         yield row['name'], run(['replay'], journal.encode()) == (0, row['events'].encode(), b'')
         yield row['name'] + ' compared', compare(folder, journal, row['events']) == (0, b'same\n', b'')
         # A journal of the first edition means the same in the second, unless a call has too many cases.
@@ -84,12 +80,13 @@ def journals(folder):
             yield row['name'] + ' in the second edition', again == (0, row['events'].encode(), b'')
 
 
-def long_journals(_):
+def long_rows():
+    """Journals that are made here, each by its name: of so many processes, the steps and the events."""
     makes = '0 make 0\n' * 64
     made = ''.join('0 made %d\n' % port for port in range(1, 65))
     everyone = range(64)
     others = range(1, 64)
-    rows = {
+    return {
         'sixty_four_ports_at_most': (1, makes + '0 make 0\n', made + '0 fault 7\n'),
         # Each select ends at its second case, and leaves nothing behind at the port of its first.
         'hundred_selects_end_once': (
@@ -122,7 +119,13 @@ def long_journals(_):
             made + '0 case 0 sent\n' * 1024 + '0 parked\n0 stalled\n',
         ),
     }
-    for name, (procs, steps, events) in rows.items():
+
+
+def long_journals(_):
+    known = dict(theorems())
+    for name, (procs, steps, events) in long_rows().items():
+        if name in known:
+            yield name + ' is a theorem', known[name] == (1, procs, steps, events)
         journal = 'chanhub journal 1\nprocs %d\n%s' % (procs, steps)
         yield name, run(['replay'], journal.encode()) == (0, events.encode(), b'')
 

@@ -1,0 +1,137 @@
+"""Must-fail edits: their files, which functions they change, and which of them can be made together."""
+import os
+import re
+import shutil
+
+from crates import ROOT, folder
+
+PARTS = ('src', 'specs', 'proofs')
+FOLDERS = ('edits', 'further-edits')
+FUNCTION = re.compile(r'^( *)(?:pub(?:\([a-z]+\))? )?(?:extern "C" )?fn (\w+)', re.M)
+BLOCK = re.compile(r'^impl\b.*\{', re.M)
+
+
+class BadEdit(Exception):
+    pass
+
+
+class Edit:
+    def __init__(self, crate, path):
+        self.crate = crate
+        self.path = path
+        self.changes = []
+        file = old = None
+        with open(path) as lines:
+            for line in lines.read().split('\n'):
+                if line.startswith('file: '):
+                    file = line[len('file: '):].strip()
+                elif line.startswith('old: '):
+                    old = line[len('old: '):]
+                elif line.startswith('new:'):
+                    self.changes.append((file, old, line[len('new:'):].removeprefix(' ')))
+        if not self.changes:
+            raise BadEdit('it changes nothing')
+        _, self.functions = self.made({})
+
+    def made(self, texts):
+        """The texts of the files with this edit made too, and the functions that it changes."""
+        texts = dict(texts)
+        functions = []
+        for file, old, new in self.changes:
+            text = texts.get(file)
+            if text is None:
+                with open(os.path.join(folder(ROOT, self.crate), file)) as source:
+                    text = source.read()
+            if text.count(old) != 1:
+                raise BadEdit('an old text stands in %s %d times' % (file, text.count(old)))
+            functions.append(function_at(file, text[:text.index(old) + len(old)]))
+            texts[file] = text.replace(old, new)
+        return texts, functions
+
+    def places(self):
+        """The bare names of the functions that it changes."""
+        return {it.rsplit('::', 1)[-1] for it in self.functions}
+
+    def owns(self, function):
+        """How much of the path of a function that a check names, and of those inside it, is that of one that this edit changes; a
+        module is worth less than any function in it. A closure's path is that of its function, with an `fn` in it."""
+        function = '::'.join(it for it in function.split('::') if it != 'fn')
+        parts = [(len(it), it) for it in self.functions if not it.endswith('::*')]
+        parts += [(1, it[:-len('::*')]) for it in self.functions if it.endswith('::*')]
+        return max((worth for worth, it in parts if '::%s::' % it in '::%s::' % function), default=0)
+
+    def name(self):
+        return self.crate + '/' + os.path.basename(self.path)
+
+
+class Batch:
+    """Edits of one crate that are made together, each in functions of its own where it says so."""
+
+    def __init__(self, edits=(), apart=True):
+        self.edits = []
+        self.texts = {}
+        self.apart = apart
+        for edit in edits:
+            self.takes(edit)
+
+    def takes(self, edit):
+        if self.apart and any(it.places() & edit.places() for it in self.edits):
+            return False
+        try:
+            self.texts, _ = edit.made(self.texts)
+        except BadEdit:
+            return False
+        self.edits.append(edit)
+        return True
+
+
+def batches_of(edits, apart=True):
+    batches = []
+    for edit in edits:
+        if not any(it.takes(edit) for it in batches):
+            batches.append(Batch([edit], apart))
+    return batches
+
+
+def function_at(file, before):
+    """By what a check names the function that a text ends in: its path below the crate, or the end of that of a method, which
+    goes by the place of its type. Of what is no plain function, its module, and then `::*`."""
+    module = [it for it in file[len('src/'):-len('.rt')].split('/') if it not in ('lib', 'main')]
+    functions = list(FUNCTION.finditer(before))
+    if not functions:
+        return '::'.join(module + ['*'])
+    indented, name = functions[-1].groups()
+    if not indented:
+        return '::'.join(module + [name])
+    block = list(BLOCK.finditer(before))[-1].group()
+    words = re.sub(r'<(?:[^<>]|<[^<>]*>)*>', '', block[len('impl'):]).split()
+    if 'for' in words:
+        return '::'.join(module + ['*'])
+    return words[0] + '::' + name
+
+
+def copy_of(crate, room, texts):
+    """Puts the crate into an empty folder, with these texts in place of its own."""
+    for part in PARTS:
+        source = os.path.join(folder(ROOT, crate), part)
+        if os.path.isdir(source):
+            shutil.copytree(source, os.path.join(room, part))
+    for file, text in texts.items():
+        place = os.path.join(room, file)
+        os.makedirs(os.path.dirname(place), exist_ok=True)
+        with open(place, 'w') as target:
+            target.write(text)
+
+
+def read_edits(crate, where, asked, bad):
+    """Those of a crate in these folders that were asked for, by its name or by theirs."""
+    edits = []
+    for place in (os.path.join(folder(ROOT, crate), it) for it in where):
+        for name in sorted(os.listdir(place)) if os.path.isdir(place) else []:
+            if asked and crate not in asked and '%s/%s' % (crate, name.removesuffix('.edit')) not in asked:
+                continue
+            try:
+                edits.append(Edit(crate, os.path.join(place, name)))
+            except (BadEdit, OSError) as error:
+                bad.append('%s/%s: BAD EDIT: %s' % (crate, name, error))
+    return edits

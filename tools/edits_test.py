@@ -1,0 +1,169 @@
+#!/usr/bin/env python3
+"""edits_test.py: tries how edits.py reads what the prover prints, on texts that it printed of edits, cut behind what decides.
+
+A line for each test that fails; the last line counts: 'N passed, M failed'.
+"""
+import sys
+
+sys.dont_write_bytecode = True
+import edit_verdicts as verdicts
+import edits_tried
+from edit_files import Batch, batches_of
+
+# Each with the function that it speaks of, and the kind that the best of its goals is.
+PRINTED = {
+    'values at which the goal is false': ('head::Edition::most_cases', verdicts.FALSE, '''\
+note: src/head.rt:25:5: it is not proved that what the function ensures holds when it returns (`returns-in-Two`); the facts known there allow values at which this goal is false
+note: a goal may be false even if its line does not say so: rattle seldom finds values that break an equation of lists or a bound on a multiplication: help: try the goal by hand on small values before you look for a lemma
+fn hub_base::head::Edition::most_cases: no proof: expected answers in ./proofs/head/Edition/most_cases/Answers.antt; `search` did not prove `returns-in-Two`
+'''),
+    'a search that ended': ('text::lines::line_at', verdicts.OPEN, '''\
+note: src/text/lines.rt:26:1: it is not proved that what the function ensures holds when it returns (`returns-else-bytes-place-clause-fault`)
+fn hub_base::text::lines::line_at: no proof: expected answers in ./proofs/text/lines/line_at/Answers.antt; `search` did not prove `returns-else-bytes-place-clause-fault`
+'''),
+    'a search that stopped at its limit': ('text::writer::write_event', verdicts.LIMIT, '''\
+note: src/text/writer.rt:100:1: it is not proved that what the function ensures holds when it returns (`returns-clause-capacity`); `search` gave up at one of its limits
+fn hub_base::text::writer::write_event: no proof: expected answers in ./proofs/text/writer/write_event/Answers.antt; `search` did not prove `returns-clause-capacity`
+'''),
+    'what a call requires, at its limit': ('text::quick::number_at', verdicts.LIMIT, '''\
+note: src/text/quick.rt:52:5: it is not proved that what `longer_at` requires holds at this call (`longer_at-requires-clause-some`); `search` gave up at one of its limits
+fn hub_base::text::quick::number_at: not proved
+'''),
+    'numbers at which an answer fails': ('text::quick::number_at', verdicts.FALSE, '''\
+./proofs/text/quick/number_at/Answers.antt:18:99: error: `returns-then-last-gt9`: `omega`: the goal does not follow from what it read. All of that holds, and the goal fails, at `lib.ListN.get_or c.args.bytes.now c.args.start 0` = 0
+  = 0, `c.digit-first.result` = 0. It read 21 hypotheses about numbers, 18 of them from the fields of hypotheses that are records.
+fn hub_base::text::quick::number_at: not proved
+'''),
+    'an answer that stops at a limit': ('text::reader::Reader::read_quickly', verdicts.LIMIT, '''\
+./proofs/text/reader/Reader/read_quickly/Answers.antt:31:23: error: `invariant_of-self`: `grind` stopped at its own limit of instances of lemmas, so the goal may hold. By the facts that it had used, the goal fails at `c.self.inside.place` = `67108859`
+fn hub_base::text::reader::Reader::read_quickly: not proved
+'''),
+    'an answer that finds nothing': ('text::numbers::number', verdicts.OPEN, '''\
+./proofs/text/numbers/number/Answers.antt:6:26: error: `returns-clause-exact`: `grind` found no proof. It did not look into whether `x3` is `mathlib.Core.List.[]`, nor every instance of a hypothesis that holds for all values of a variable, so these may not break the goal: the goal fails at `c.value_of.result` = `Rattle.std.proofs.Common.Some x'`
+fn hub_base::text::numbers::number: not proved
+'''),
+    'a search that tried every way': ('text::numbers::number', verdicts.OPEN, '''\
+./proofs/text/numbers/number/Answers.antt:6:26: error: `returns-clause-exact`: `search`: no proof of `mathlib.Core.Path.◌≡◌ c.value_of.result (Rattle.hub_base.specs.Lines.number c.args.most c.args.bytes.now)`
+  was found. Every way was tried: a deeper search would find nothing either. No hypothesis and no lemma of the list fits the goal as it stands.
+fn hub_base::text::numbers::number: not proved
+'''),
+    'an answer of another goal': ('text::selects::choose', verdicts.ANSWER, '''\
+./proofs/text/selects/choose/Answers.antt:24:105: error: `returns`: as printed, the two types differ only where one has `0` (expected), right after `… ≡ 1 × c.args.default ≡ mathlib.Core.Bool.false × (c.in_ok-word.word ≡`
+  and the other has `1` (found)
+fn hub_base::text::selects::choose: not proved
+'''),
+    'a field that is gone': ('text::writer::put_head', verdicts.NAME, '''\
+./proofs/text/writer/put_head/Answers.antt:6:32: error: `returns`: record `Rattle.hub_base.proofs.text.writer.put_head.Lts.View.In-After-put-3` has no field `into`
+fn hub_base::text::writer::put_head: not proved
+'''),
+    'a goal that goes by another name': ('text::selects::read_select', verdicts.NAME, '''\
+./proofs/text/selects/read_select/Answers.antt:6:41: error: `returns-then-count-eq-CASE_PLACES`: `goal.returns-then-count-eq-CASE_PLACES`: module `Rattle.hub_base.proofs.text.selects.read_select.Goals` has no `returns-then-count-eq-CASE_PLACES` that can be named from here
+note: src/text/selects.rt:100:21: it is not proved that what `push` requires holds at this call (`push-requires`)
+fn hub_base::text::selects::read_select: not proved
+'''),
+    'a sum that may not fit': ('total', verdicts.SAFETY, '''\
+note: src/lib.rt:9:5: it is not proved that the sum fits its type (`overflow_add-sum`); the facts known there allow values at which this goal is false
+fn hub_base::total: no proof: expected answers in ./proofs/total/Answers.antt; `search` did not prove `overflow_add-sum`
+'''),
+    'no verdict': ('text::lines::line_at', verdicts.LIMIT, '''\
+fn hub_base::text::lines::line_at: could not tell
+rattle: no verdict, since antt ran out of the steps that the check of one declaration may take
+'''),
+}
+
+CALLER = '''\
+fn hub_base::text::quick::number_at: not proved
+fn hub_base::text::quick::make_into: no proof: it calls `hub_base::text::quick::number_up_to`, which is not proved
+fn hub_base::text::quick::pid_at: proved
+'''
+
+HELP = '''\
+help: write ./proofs/head/Edition/most_cases/Answers.antt with these lines, and check again: each hole's goal is what is left to show there
+    use Rattle.std.proofs.Common.{rules, ◌≡◌}
+    use Rattle.hub_base.proofs.head.Edition.most_cases.Goals as goal
+    
+    -- src/head.rt:25:5
+    pub returns-in-Two : goal.returns-in-Two
+    returns-in-Two c = ?
+help: write ./proofs/journal/Journal/head/Answers.antt with these lines, and check again: each hole's goal is what is left to show there
+    pub returns : goal.returns
+    returns c = ?
+'''
+
+ANSWERS = '''\
+use Rattle.hub_base.proofs.text.selects.choose.Goals as goal
+
+pub returns : goal.returns
+returns c =
+    let one = two in
+    three
+
+pub returns-in-Two : goal.returns-in-Two
+returns-in-Two g c = four
+'''
+
+ASKED = verdicts.ASKED + '''\
+use Rattle.hub_base.proofs.text.selects.choose.Goals as goal
+
+pub returns : goal.returns
+returns c = search every_rule
+
+pub returns-in-Two : goal.returns-in-Two
+returns-in-Two g c = four
+'''
+
+SOURCE = '''\
+/// Which ensures { nothing }.
+pub fn one(x: u8) -> u8
+    requires small { x < 9 }
+    ensures {
+        IfOk result (λ r. { r }) }
+{
+    let ensured = x;
+}
+'''
+
+
+class Change:
+    """An edit of one function, as far as batches look at it."""
+
+    def __init__(self, function):
+        self.function = function
+
+    def places(self):
+        return {self.function}
+
+    def made(self, texts):
+        return {**texts, self.function: 'changed'}, [self.function]
+
+
+def tests():
+    for name, (function, kind, said) in PRINTED.items():
+        goals = verdicts.goals_of(said)
+        yield name, goals != [] and {it.function for it in goals} == {function} and verdicts.best(goals).kind == kind
+    yield 'callers do not count', verdicts.not_proved(CALLER) == ['text::quick::number_at']
+    _, _, two = PRINTED['numbers at which an answer fails']
+    both = verdicts.goals_of(PRINTED['what a call requires, at its limit'][2].split('fn ')[0] + two)
+    yield 'the best of two goals', len(both) == 2 and verdicts.best(both).kind == verdicts.FALSE
+    yield 'lines to ask by', verdicts.asked_lines(HELP, 'head::Edition::most_cases') == ['pub returns-in-Two : goal.returns-in-Two', 'returns-in-Two c = ?']
+    goal = verdicts.Goal('text::selects::choose', 'returns', verdicts.ANSWER, '')
+    yield 'an answer asked anew', verdicts.asked_anew('hub_base', goal.function, '', [goal], ANSWERS) == ASKED
+    yield 'nothing to ask', verdicts.asked_anew('hub_base', goal.function, '', [goal._replace(kind=verdicts.FALSE)], ANSWERS) is None
+    batches = batches_of([Change('one'), Change('two'), Change('one')])
+    yield 'edits of one function are apart', [len(it.edits) for it in batches] == [2, 1]
+    yield 'or read together', [len(it.edits) for it in batches_of([Change('one'), Change('one')], apart=False)] == [2]
+    yield 'an empty batch', Batch().texts == {}
+    clauses = list(edits_tried.clauses(SOURCE))
+    yield 'clauses of a source', clauses == ['requires small { x < 9 }', 'ensures { IfOk result (λ r. { r }) }']
+
+
+def main():
+    results = list(tests())
+    failed = [name for name, is_well in results if not is_well]
+    print(''.join('failed: %s\n' % name for name in failed), end='')
+    print('%d passed, %d failed' % (len(results) - len(failed), len(failed)))
+    return 1 if failed else 0
+
+
+if __name__ == '__main__':
+    sys.exit(main())

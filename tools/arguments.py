@@ -1,8 +1,7 @@
 #!/usr/bin/env python3
-"""arguments.py PROGRAM SERVE STORY: tries words that are no UTF-8 on the built chanhub (PROGRAM), chanhub_serve (SERVE) and
-chanhub_story (STORY), behind each word that it knows: they are bad arguments, and nothing is read or written for them. The
-bytes of a program's own name are no argument: under a name that is no UTF-8 it does the same. And tries words too many for those
-that ask for help. The last line counts: 'N passed, M failed'."""
+"""arguments.py PROGRAM TOOL: tries words that are no UTF-8 on the built chanhub (PROGRAM) and chanhub_tool (TOOL), beside the words
+that each knows: they are bad arguments, and nothing is read or written for them. The bytes of a program's own name are no
+argument: under a name that is no UTF-8 it does the same. The last line counts: 'N passed, M failed'."""
 import os
 import pathlib
 import subprocess
@@ -19,16 +18,17 @@ BAD = 2, b"", b"chanhub: bad arguments\n"
 # what each program is asked for, with what stands behind
 ASKED = {
     "chanhub": [[b"replay"], [b"run"], [b"run", b"--journal"], [b"verify"], [b"verify", b"journal"]],
-    "chanhub_serve": [[], [b"--help"]],
-    "chanhub_story": [[b"text"], [b"picture"], [b"text", b"1"], [b"--help"]],
+    "chanhub_tool": [[b"story"], [b"picture"], [b"serve"], [b"story", b"1"], [b"story", b"-o"], [b"picture", b"1", b"2", b"-"], [b"--help"], [b"--version"]],
 }
 # what does something
-SERVED = {"chanhub": [[b"replay"]], "chanhub_serve": [[], [b"--help"]], "chanhub_story": [[b"text"], [b"picture", b"1", b"2"], [b"--help"]]}
+SERVED = {
+    "chanhub": [[b"replay"]],
+    "chanhub_tool": [[b"story"], [b"picture", b"1", b"2"], [b"story", b"2", b"-"], [b"serve"], [b"--help"], [b"story", b"--help"], [b"--version"]],
+}
 # what does not
 REFUSED = {
     "chanhub": [[], [b"--help"], [b"x"]],
-    "chanhub_serve": [[b"x"], [b"--help", b"x"], [b""]],
-    "chanhub_story": [[], [b"x"], [b"--help", b"x"], [b"text", b"1"]],
+    "chanhub_tool": [[], [b"x"], [b""], [b"serve", b"x"]],
 }
 
 
@@ -63,7 +63,7 @@ def checks(name, program, work):
 def main():
     passed = failed = 0
     with tempfile.TemporaryDirectory() as work:
-        for name, program in zip(ASKED, sys.argv[1:4]):
+        for name, program in zip(ASKED, sys.argv[1:3]):
             for check, good in checks(name, os.path.realpath(program), work):
                 passed, failed = passed + good, failed + (not good)
                 if not good:

@@ -18,8 +18,8 @@ import time
 
 TREE = os.path.abspath(sys.argv[1] if len(sys.argv) > 1 else os.path.join(os.path.dirname(os.path.abspath(__file__)), '..'))
 
-LINES = {'low': 'low: arrayvec', 'high': 'high: low', 'hub_c': 'hub_c staticlib: low', 'chanhub': 'chanhub: low high', 'chanhub_story': 'chanhub_story: low'}
-PROGRAMS = ('chanhub', 'chanhub_story')
+LINES = {'low': 'low: arrayvec', 'high': 'high: low', 'hub_c': 'hub_c staticlib: low', 'chanhub': 'chanhub: low high', 'chanhub_tool': 'chanhub_tool: low'}
+PROGRAMS = ('chanhub', 'chanhub_tool')
 
 RT = '''#!/bin/sh
 case $1 in

@@ -1,5 +1,5 @@
 #!/usr/bin/env python3
-"""converse.py PROGRAM SERVE: converses with the built chanhub_serve (SERVE) over the examples, random journals and faulty
+"""converse.py PROGRAM TOOL: converses with the built chanhub_tool (TOOL), by `serve`, over the examples, random journals and faulty
 ones, and compares what it says with what `chanhub replay` (PROGRAM) says of the same journal: line by line, in pieces of
 lines, and several lines at a time. The last line counts: 'N passed, M failed'."""
 import os
@@ -16,10 +16,10 @@ WAIT = 10
 
 
 class Conversation:
-    """A chanhub_serve that is spoken with."""
+    """A `chanhub_tool serve` that is spoken with."""
 
     def __init__(self, program):
-        self.process = subprocess.Popen([program], stdin=subprocess.PIPE, stdout=subprocess.PIPE, stderr=subprocess.PIPE, bufsize=0)
+        self.process = subprocess.Popen([program, "serve"], stdin=subprocess.PIPE, stdout=subprocess.PIPE, stderr=subprocess.PIPE, bufsize=0)
 
     def say(self, piece):
         try:
@@ -59,10 +59,10 @@ def answers(program, lines):
     return told[: len(lines)]
 
 
-def converses_by_lines(program, serve, journal):
+def converses_by_lines(program, tool, journal):
     """Each answer has come before the next line is sent."""
     lines = journal.splitlines(keepends=True)
-    talk = Conversation(serve)
+    talk = Conversation(tool)
     before = b""
     good = True
     for line, told in zip(lines, answers(program, lines)):
@@ -73,9 +73,9 @@ def converses_by_lines(program, serve, journal):
     return talk.end() == (b"", b"", 0) and good
 
 
-def converses_by_pieces(program, serve, journal, draw):
+def converses_by_pieces(program, tool, journal, draw):
     """Pieces end within lines, and some hold several."""
-    talk = Conversation(serve)
+    talk = Conversation(tool)
     told = b""
     at = 0
     while at < len(journal):
@@ -92,7 +92,7 @@ def converses_by_pieces(program, serve, journal, draw):
     return talk.end() == (b"", b"", 0) and told == replay(program, journal)[0]
 
 
-def converses_at_once(program, serve, journal):
+def converses_at_once(program, tool, journal):
     """All in one piece: what is said of the whole is what a replay says, and so are the fault line and the status. Of a
     faulty journal the lines before the fault are answered, and nothing behind them."""
     wanted, errors, status = replay(program, journal)
@@ -100,7 +100,7 @@ def converses_at_once(program, serve, journal):
         line = int(errors.split()[2].rstrip(b":"))
         before = b"".join(journal.splitlines(keepends=True)[: line - 1])
         wanted = replay(program, before)[0] if before.count(b"\n") > 1 else b""
-    talk = Conversation(serve)
+    talk = Conversation(tool)
     talk.say(journal)
     return talk.end() == (wanted, errors, status)
 
@@ -128,7 +128,7 @@ def broken(journal, draw):
 
 
 def main():
-    program, serve = sys.argv[1:3]
+    program, tool = sys.argv[1:3]
     passed = failed = 0
     draw = random.Random(1)
     journals = [(path.name, path.read_bytes()) for path in sorted((ROOT / "examples" / "journals").iterdir()) if not path.suffix]
@@ -138,16 +138,14 @@ def main():
             journals.append((path.name, b"".join(path.read_bytes().splitlines(keepends=True)[:120])))
     checks = []
     for name, journal in journals:
-        checks.append((f"{name} by lines", lambda j=journal: converses_by_lines(program, serve, j)))
-        checks.append((f"{name} by pieces", lambda j=journal: converses_by_pieces(program, serve, j, draw)))
-        checks.append((f"{name} at once", lambda j=journal: converses_at_once(program, serve, j)))
+        checks.append((f"{name} by lines", lambda j=journal: converses_by_lines(program, tool, j)))
+        checks.append((f"{name} by pieces", lambda j=journal: converses_by_pieces(program, tool, j, draw)))
+        checks.append((f"{name} at once", lambda j=journal: converses_at_once(program, tool, j)))
         for count in range(8):
-            checks.append((f"{name} broken {count}", lambda j=broken(journal, draw): converses_at_once(program, serve, j)))
+            checks.append((f"{name} broken {count}", lambda j=broken(journal, draw): converses_at_once(program, tool, j)))
     for name, journal in faulty_journals():
-        checks.append((f"faulty journal {name}", lambda j=journal: converses_at_once(program, serve, j)))
-    checks.append(("no byte", lambda: converses_at_once(program, serve, b"")))
-    checks.append(("help", lambda: subprocess.run([serve, "--help"], capture_output=True).stdout.startswith(b"usage: chanhub_serve")))
-    checks.append(("an argument", lambda: subprocess.run([serve, "x"], capture_output=True).returncode == 2))
+        checks.append((f"faulty journal {name}", lambda j=journal: converses_at_once(program, tool, j)))
+    checks.append(("no byte", lambda: converses_at_once(program, tool, b"")))
     for name, check in checks:
         if check():
             passed += 1

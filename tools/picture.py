@@ -1,5 +1,5 @@
 #!/usr/bin/env python3
-"""picture.py STORY: checks the pictures of the built chanhub_story (STORY), of the example journals, of 200 random ones and of
+"""picture.py TOOL: checks the pictures of the built chanhub_tool (TOOL), of the example journals, of 200 random ones and of
 windows of each. What a picture has to show is worked out here, from the journal and from the events that tools/model.py tells
 of it, and never from a picture: the boxes are the entries, the bars the calls that waited, the arrows go from the k-th value
 that was sent on a port to the k-th that was received, the stalls are the calls that were told so, the levels are what ports hold

@@ -1,10 +1,10 @@
 #!/bin/sh
-# program.sh [PROGRAM [SERVE [STORY]]]: runs the built program on the examples, journals and scenarios; on the rows of tests/; on
+# program.sh [PROGRAM [TOOL]]: runs the built program on the examples, journals and scenarios; on the rows of tests/; on
 # random journals beside the events that model.py makes of them; and with each of its allocations refused. Runs a hub's
 # tests and the live hub's, which `./test` has built, with theirs refused; compares model.py, CLAIMS, CHANGING, the links of pages and the quotations of
 # README with what they speak of; looks for limits that are written as numbers, and for definitions and proofs that are too
 # wide; counts the instructions of replays, where valgrind is there; tries a close by an end that receives; has each program
-# refuse bad arguments; converses with the built chanhub_serve; compares the stories and pictures of the built chanhub_story
+# refuse bad arguments; tries the words of the built chanhub_tool, converses with it, and compares its stories and pictures
 # with second readings; tries the scripts that build, by builds_test.py, and those that look at scenarios, by
 # scenarios_test.py; compares replays with Go's own channels; and builds and tries the C library. The last line counts:
 # 'N passed, M failed', and how many were skipped, if any, for what the machine
@@ -12,8 +12,7 @@
 set -u
 root=$(cd "$(dirname "$0")/.." && pwd)
 program=${1:-$root/crates/chanhub/out/chanhub}
-serve=${2:-$root/crates/chanhub_serve/out/chanhub_serve}
-story=${3:-$root/crates/chanhub_story/out/chanhub_story}
+tool=${2:-$root/crates/chanhub_tool/out/chanhub_tool}
 random_journals=20
 passed=0
 failed=0
@@ -59,11 +58,11 @@ live_refusals=$!
 hub_refusals=$!
 "$root/tools/check_instructions.py" "$program" > "$work/instructions" 2>&1 &
 instructions=$!
-"$root/tools/story.py" "$story" > "$work/stories" 2>&1 &
+"$root/tools/story.py" "$tool" > "$work/stories" 2>&1 &
 stories=$!
 "$root/tools/builds_test.py" > "$work/builds" 2>&1 &
 builds=$!
-"$root/tools/scenarios_test.py" "$program" "$story" > "$work/scenarios" 2>&1 &
+"$root/tools/scenarios_test.py" "$program" "$tool" > "$work/scenarios" 2>&1 &
 scenarios=$!
 "$root/tools/go_compare/compare.sh" "$program" > "$work/go_compare" 2>&1 &
 go_compare=$!
@@ -167,10 +166,13 @@ for seed in $(seq "$random_journals"); do
     count $? "random journal of seed $seed"
 done
 
-"$root/tools/arguments.py" "$program" "$serve" "$story" > "$work/arguments" 2>&1
+"$root/tools/arguments.py" "$program" "$tool" > "$work/arguments" 2>&1
 count $? "arguments: $(cat "$work/arguments")"
 
-"$root/tools/converse.py" "$program" "$serve" > "$work/conversations" 2>&1
+"$root/tools/tool.py" "$tool" > "$work/words" 2>&1
+count $? "the words of chanhub_tool: $(cat "$work/words")"
+
+"$root/tools/converse.py" "$program" "$tool" > "$work/conversations" 2>&1
 count $? "conversations: $(cat "$work/conversations")"
 
 "$root/tools/sleeps.py" "$program" > "$work/sleeps" 2>&1
@@ -210,10 +212,10 @@ if [ "$program" = "$root/crates/chanhub/out/chanhub" ]; then
     count $? "the program is taken as it is built"
 fi
 
-CHANHUB=$program STORY=$story OPENER=cat TMPDIR=$work "$root/tools/explain.sh" "$root/examples/scenarios/hand_over" > "$work/told" 2> "$work/errors" &&
+CHANHUB=$program TOOL=$tool OPENER=cat TMPDIR=$work "$root/tools/explain.sh" "$root/examples/scenarios/hand_over" > "$work/told" 2> "$work/errors" &&
     grep -q '^</svg>$' "$work/told" && [ ! -s "$work/errors" ]
 count $? "a scenario explained"
-"$root/tools/picture.py" "$story" > "$work/pictures" 2>&1
+"$root/tools/picture.py" "$tool" > "$work/pictures" 2>&1
 count $? "pictures: $(cat "$work/pictures")"
 grep '^skipped: ' "$work/pictures"
 skipped=$((skipped + $(skipped_in "$work/pictures")))

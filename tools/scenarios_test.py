@@ -1,5 +1,5 @@
 #!/usr/bin/env python3
-"""scenarios_test.py PROGRAM [STORY [MUTATIONS]]: tries the scripts here that look at scenarios and at their runs.
+"""scenarios_test.py PROGRAM [TOOL [MUTATIONS]]: tries the scripts here that look at scenarios and at their runs.
 
 That is lint_scenario.py, which has to agree with the program on every file, explain.sh, until_stall.sh, seeds.sh and report.py. A line
 for each test that fails; the last line counts: 'N passed, M failed'.
@@ -141,10 +141,10 @@ def mutate(chance, text):
 
 
 class Tests:
-    def __init__(self, program, story, folder):
+    def __init__(self, program, tool, folder):
         self.program = program
         self.folder = folder
-        self.env = {**os.environ, 'CHANHUB': program, 'STORY': story, 'OPENER': 'true', 'TMPDIR': folder}
+        self.env = {**os.environ, 'CHANHUB': program, 'TOOL': tool, 'OPENER': 'true', 'TMPDIR': folder}
         self.passed = self.failed = 0
 
     def tell(self, name, is_well):
@@ -249,8 +249,12 @@ class Tests:
         for word in ('-h', '--help'):
             status, told, errors = self.script('explain.sh', word)
             self.tell('explain.sh ' + word, status == 0 and errors == '' and told.startswith('usage: ') and 'JOURNAL' in told)
-        status, told, errors = self.script('explain.sh', journal, '1')
-        self.tell('explain.sh says how it is used', status == 2 and told == '' and errors.startswith('usage: '))
+        status, told, errors = self.script('explain.sh', journal, '2')
+        one = read(told.splitlines()[0]) if told else b''
+        self.tell('explain.sh explains one step of a journal', status == 0 and errors == '' and b'\n      2  P' in one and b'\n      1  P' not in one and b'\n      3  P' not in one)
+        for words in ((), (journal, '1', '2', '3'), (journal, journal), (journal, '1', journal), (journal, ''), (journal, '-o')):
+            status, told, errors = self.script('explain.sh', *words)
+            self.tell('explain.sh says how it is used: %s' % (words[1:],), status == 2 and told == '' and errors.startswith('usage: '))
         before = self.left()
         write(self.path('faulty'), b'chanhub journal 1\nprocs 0\n')
         status, told, errors = self.script('explain.sh', self.path('faulty'))
@@ -326,12 +330,12 @@ class Tests:
 def main():
     words = sys.argv[1:]
     program = os.path.abspath(words[0])
-    story = os.path.abspath(words[1] if len(words) > 1 else os.path.join(ROOT, 'crates', 'chanhub_story', 'out', 'chanhub_story'))
+    tool = os.path.abspath(words[1] if len(words) > 1 else os.path.join(ROOT, 'crates', 'chanhub_tool', 'out', 'chanhub_tool'))
     mutations = int(words[2]) if len(words) > 2 else 1500
     # What is started here hears Ctrl-C, though this script may have been started deaf to it, as in the background.
     signal.signal(signal.SIGINT, signal.default_int_handler)
     with tempfile.TemporaryDirectory() as folder:
-        tests = Tests(program, story, folder)
+        tests = Tests(program, tool, folder)
         for part in (lambda: tests.lint_agrees(mutations), tests.lint_says_where, tests.explains, tests.stalls, tests.counts, tests.reports):
             try:
                 part()

@@ -1,5 +1,5 @@
 #!/usr/bin/env python3
-"""story.py STORY: has the built chanhub_story (STORY) tell the examples, random journals and the longest ones, whole and by
+"""story.py TOOL: has the built chanhub_tool (TOOL) tell the examples, random journals and the longest ones, whole and by
 windows, and compares each text with the one that story_model.py writes. Runs the rows of tests/stories.toml and
 tests/faulty_journals.toml too, and stories with each allocation refused, which needs a C compiler. The last line counts:
 'N passed, M failed'."""
@@ -39,11 +39,12 @@ class Program:
     def __init__(self, path):
         self.path = pathlib.Path(path).resolve()
 
-    def run(self, words, journal=b"", **environment):
-        """The status, what was written to standard output, and to standard error; nothing where it takes too long."""
-        surroundings = {**os.environ, **environment}
+    def run(self, words, journal=b"", folder=None, **environment):
+        """The status, what was written to standard output, and to standard error; nothing where it takes too long. It runs in the
+        folder."""
+        how = {"cwd": folder, "env": {**os.environ, **environment}, "timeout": MINUTE}
         try:
-            done = subprocess.run([self.path, *words], input=journal, capture_output=True, timeout=MINUTE, env=surroundings)
+            done = subprocess.run([self.path, *words], input=journal, capture_output=True, **how)
         except subprocess.TimeoutExpired:
             return None
         return done.returncode, done.stdout, done.stderr
@@ -73,7 +74,7 @@ class Program:
 
     def tells(self, journal, story, window):
         """Whether it tells these steps of the journal, or all where there is no window, as story_model.py does."""
-        words = ["text", *(str(step) for step in window or ())]
+        words = ["story", *(str(step) for step in window or ())]
         return self.run(words, journal.encode()) == (0, story.text(*window or (1, len(story.entries))), b"")
 
 
@@ -111,7 +112,7 @@ def worked(program, _):
     for row in table("stories")["story"]:
         wanted = row["text"].encode()
         first, last = row.get("steps", (1, len(Story(row["journal"]).entries)))
-        words = ["text", *(str(step) for step in row.get("steps", ()))]
+        words = ["story", *(str(step) for step in row.get("steps", ()))]
         yield row["name"], program.run(words, row["journal"].encode()) == (0, wanted, b"")
         yield row["name"] + " by story_model.py", Story(row["journal"]).text(first, last) == wanted
 
@@ -122,40 +123,28 @@ def faulty_journals(program, _):
     for group in rows["group"]:
         for name, line in group["lines"].items():
             journal = (group["before"] + line + "\n" + group["after"]).encode()
-            yield name, program.run(["text"], journal) == refused(group["fault"])
-            yield name + " with steps", program.run(["text", "2", "1"], journal) == refused(group["fault"])
+            yield name, program.run(["story"], journal) == refused(group["fault"])
+            yield name + " with steps", program.run(["story", "2", "1"], journal) == refused(group["fault"])
     for fault, faulty in rows["texts"].items():
         for text in faulty:
-            yield repr(text), program.run(["text"], text.encode()) == refused(fault)
-
-
-def arguments(program, _):
-    rows = table("stories")["arguments"]
-    journal = rows["journal"].encode()
-    for fault, several in rows["refused"].items():
-        for words in several:
-            yield " ".join([fault + ":", *words]), program.run(words, journal) == refused(fault)
-    yield "a word that is not UTF-8", program.run([b"text\xff"], journal) == refused("bad arguments")
-    status, usage, errors = program.run(["--help"])
-    yield "help", status == 0 and usage.startswith(b"usage: chanhub_story text [FROM TO]\n") and errors == b""
+            yield repr(text), program.run(["story"], text.encode()) == refused(fault)
 
 
 def devices(program, _):
-    journal = table("stories")["arguments"]["journal"].encode()
-    yield "a full device", program.run_to_full(["text"], journal) == (1, b"chanhub: write failed\n")
-    yield "a full device for one step", program.run_to_full(["text", "1", "1"], journal) == (1, b"chanhub: write failed\n")
-    yield "a fault before a full device", program.run_to_full(["text"]) == (2, b"chanhub: line 1: bad header\n")
-    yield "help for a full device", program.run_to_full(["--help"])[0] == 1
-    yield "a folder for a journal", program.run_on_folder(["text"]) == (1, b"", b"chanhub: read failed\n")
+    journal = table("tool")["journal"].encode()
+    yield "a full device", program.run_to_full(["story"], journal) == (1, b"chanhub: write failed\n")
+    yield "a full device for one step", program.run_to_full(["story", "1", "1"], journal) == (1, b"chanhub: write failed\n")
+    yield "a fault before a full device", program.run_to_full(["story"]) == (2, b"chanhub: line 1: bad header\n")
+    yield "a folder for a journal", program.run_on_folder(["story"]) == (1, b"", b"chanhub: read failed\n")
 
 
-def survives_refusals(program, journal, refuse):
-    """With each allocation refused in turn the story is told, or that memory is wanting and nothing else."""
-    told = program.run(["text"], journal)
+def survives_refusals(program, words, journal, refuse):
+    """With each allocation refused in turn it does the same, or tells that memory is wanting and nothing else."""
+    told = program.run(words, journal)
     for number in range(1, MOST_ALLOCATIONS):
         trace = refuse.with_name("refused")
         trace.unlink(missing_ok=True)
-        done = program.run(["text"], journal, LD_PRELOAD=str(refuse), REFUSE=str(number), REFUSED=str(trace))
+        done = program.run(words, journal, LD_PRELOAD=str(refuse), REFUSE=str(number), REFUSED=str(trace))
         if not trace.exists():
             return number > 1 and done == told
         if done not in (told, (1, b"", b"chanhub: out of memory\n")):
@@ -163,12 +152,18 @@ def survives_refusals(program, journal, refuse):
     return False
 
 
-def refused_allocations(program, work):
+def build_refuse(work):
+    """What stands before the allocator, to refuse."""
     refuse = pathlib.Path(work) / "refuse.so"
     flags = ["-O1", "-shared", "-fPIC", "-fno-builtin", "-o", refuse]
     subprocess.run([os.environ.get("CC", "cc"), *flags, ROOT / "tools" / "refuse.c"], check=True)
+    return refuse
+
+
+def refused_allocations(program, work):
+    refuse = build_refuse(work)
     for row in table("stories")["story"]:
-        yield row["name"], survives_refusals(program, row["journal"].encode(), refuse)
+        yield row["name"], survives_refusals(program, ["story"], row["journal"].encode(), refuse)
 
 
 def longest_journals(program, _):
@@ -180,29 +175,34 @@ def longest_journals(program, _):
     passing = head + "0 make 1\n" * 64 + passing + "0 exit\n"
     for name, journal in (("makes", makes), ("passing of values", passing)):
         yield f"the longest journal of {name}", program.tells(journal, Story(journal), None)
-    yield "one entry more", program.run(["text"], (makes + "0 make 1025\n").encode()) == refused("line 1000004: too long")
+    yield "one entry more", program.run(["story"], (makes + "0 make 1025\n").encode()) == refused("line 1000004: too long")
 
 
 def most_entries(program, _):
     """Exits are no steps, so a journal may have as many as it has bytes for. All but the first are refused."""
     head = b"chanhub journal 1\nprocs 1\n"
     exits = (MOST_BYTES - len(head)) // len(b"0 exit\n")
-    status, written, memory = program.memory(["text"], head + b"0 exit\n" * exits)
+    status, written, memory = program.memory(["story"], head + b"0 exit\n" * exits)
     yield f"a line for each of {exits} exits", status == 0 and written > exits * len("9586976  P0 exit")
     yield f"their story within {MOST_MEMORY} bytes of memory, not {memory}", memory <= MOST_MEMORY
 
 
-def main():
-    program = Program(sys.argv[1])
+def count(program, *parts):
+    """Makes the checks of each part, prints those that fail and how many there were, and answers the status."""
     passed = failed = 0
     with tempfile.TemporaryDirectory() as work:
-        for checks in (worked, texts, faulty_journals, arguments, devices, refused_allocations, longest_journals, most_entries):
+        for checks in parts:
             for name, good in checks(program, work):
                 passed, failed = passed + good, failed + (not good)
                 if not good:
                     print(f"failed: {checks.__name__}: {name}")
     print(f"{passed} passed, {failed} failed")
     return 1 if failed else 0
+
+
+def main():
+    parts = worked, texts, faulty_journals, devices, refused_allocations, longest_journals, most_entries
+    return count(Program(sys.argv[1]), *parts)
 
 
 if __name__ == "__main__":

@@ -4,7 +4,7 @@
     story_model.py [FROM TO] < JOURNAL
 
 It is a second reading of docs/FORMATS.md, "Stories and pictures", written from the lines of a journal and from the events that
-model.py gives of it, to compare chanhub_story with. It takes well-formed journals only, and steps that they have.
+model.py gives of it, to compare chanhub_tool with. It takes well-formed journals only, and steps that they have.
 """
 import collections
 import sys

@@ -1,0 +1,27 @@
+-- Which steps of a journal are shown, by what is asked.
+use Rattle.std.specs.Prelude.{ℕ, ◌-◌, ◌==◌, ◌||◌, nat_lt, Bool, false, Result, Ok, Err, if◌then◌else◌}
+use Rattle.hub_story.specs.declared.window.Window.{Window}
+use Rattle.chanhub_tool.specs.declared.asked.TheConstants.{MOST_DRAWN}
+use Rattle.chanhub_tool.specs.declared.asked.Asked.{Asked}
+use Rattle.chanhub_tool.specs.declared.asked.Form.{Form}
+use Rattle.chanhub_tool.specs.declared.asked.Form.TheVariants.{Text, Picture}
+use Rattle.chanhub_tool.specs.declared.asked.Shown.{Shown}
+use Rattle.chanhub_tool.specs.declared.asked.Shown.TheVariants.{All, Steps}
+use Rattle.chanhub_tool.specs.declared.fault.StoryFault.{StoryFault}
+use Rattle.chanhub_tool.specs.declared.fault.StoryFault.TheVariants.{Backward, Outside, TooLong}
+
+-- a journal of so many steps is not shown whole
+abbrev pub too_long : Form → ℕ → Bool
+too_long Text count = false
+too_long Picture count = nat_lt MOST_DRAWN count
+
+-- the places of these steps, which are counted from 1, in a journal of so many
+abbrev pub shown_of : Form → Shown → ℕ → Result Window StoryFault
+shown_of form All count = if too_long form count then Err TooLong else Ok (record { first = 0; end = count })
+shown_of form (Steps from to) count =
+    if nat_lt to from then Err Backward
+    else if (from == 0) || nat_lt count to then Err Outside
+    else Ok (record { first = from - 1; end = to })
+
+abbrev pub window_of : Asked → ℕ → Result Window StoryFault
+window_of asked count = shown_of asked.form asked.shown count

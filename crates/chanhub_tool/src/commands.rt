@@ -1,0 +1,68 @@
+//! The commands. Each has a file, which says what `clap` reads of it and what it does.
+
+mod picture;
+mod serve;
+mod story;
+
+use crate::asked::Form;
+use crate::explain::explain_given;
+use crate::given::{Given, read_given};
+use clap::ArgMatches;
+use hub_replay::Sink;
+pub(crate) use picture::picture_of;
+use serve::serve_streams;
+use std::alloc::{AllocError, Global};
+pub(crate) use story::story_of_steps;
+
+/// What the program is asked to do.
+#[derive(Clone, Copy)]
+pub(crate) enum Command<'a> {
+    /// `story`: to tell a journal as text.
+    Story(Given<'a>),
+    /// `picture`: to draw it.
+    Picture(Given<'a>),
+    /// `serve`: to answer a journal's lines as they come.
+    Serve,
+}
+
+/// The version of the program, and of the library for C.
+const VERSION: &str = "1.0.0";
+
+const ABOUT: &str =
+    "Tells and draws journals of a hub of channels, and answers the steps of one as its lines come.";
+
+const STATUSES: &str = "\
+Status 0: done. 1: a device or memory failed. 2: a malformed journal, steps that it does not have, or bad\n\
+arguments. Standard error says which.";
+
+/// All commands, in `clap`'s words.
+pub(crate) fn grammar<'a>(alloc: Global) -> Result<clap::Command<'a>, AllocError> {
+    clap::Command::new(alloc, "chanhub_tool")
+        .version(VERSION)
+        .about(ABOUT)
+        .after_help(STATUSES)
+        .subcommand_required(true)
+        .subcommand(story::grammar(alloc)?)?
+        .subcommand(picture::grammar(alloc)?)?
+        .subcommand(serve::grammar(alloc))
+}
+
+/// The command that `clap` found.
+pub(crate) fn command_of<'a>(found: &ArgMatches<'a>) -> Option<Command<'a>> {
+    let (name, found) = found.subcommand()?;
+    match name {
+        "story" => Some(Command::Story(read_given(found)?)),
+        "picture" => Some(Command::Picture(read_given(found)?)),
+        "serve" => Some(Command::Serve),
+        _ => None,
+    }
+}
+
+/// Does what is asked, and answers the status.
+pub(crate) fn carry_out<X: Sink>(rt: &HostRuntime, command: Command<'_>, errors: &mut X) -> u8 {
+    match command {
+        Command::Story(given) => explain_given(rt, Form::Text, given, errors),
+        Command::Picture(given) => explain_given(rt, Form::Picture, given, errors),
+        Command::Serve => serve_streams(rt, errors),
+    }
+}

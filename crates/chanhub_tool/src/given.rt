@@ -1,0 +1,118 @@
+//! What a command over a journal is given: `[FROM [TO]] [FILE] [-o OUT]`.
+
+use crate::asked::Shown;
+use clap::{Arg, ArgAction, ArgMatches, Command};
+use hub_base::number;
+use std::alloc::{AllocError, Global};
+
+/// What a command over a journal is given.
+#[derive(Clone, Copy)]
+pub(crate) struct Given<'a> {
+    /// The steps.
+    pub(crate) shown: Shown,
+    /// The file that holds the journal; standard input where there is none.
+    pub(crate) file: Option<&'a str>,
+    /// The file that is written; standard output where there is none.
+    pub(crate) output: Option<&'a str>,
+}
+
+/// An argument with one value, which may be left out.
+fn optional<'a>(alloc: Global, id: &'a str, name: &'a str, help: &'a str) -> Arg<'a> {
+    Arg::new(alloc, id)
+        .action(ArgAction::Set)
+        .value_name(name)
+        .help(help)
+}
+
+/// A command over a journal, in `clap`'s words.
+pub(crate) fn journal_command<'a>(
+    alloc: Global,
+    name: &'a str,
+    about: &'a str,
+    usage: &'a str,
+) -> Result<Command<'a>, AllocError> {
+    let from = optional(
+        alloc,
+        "from",
+        "FROM",
+        "The first step shown, counted from 1: step K is line K + 2 of the journal",
+    );
+    let to = optional(
+        alloc,
+        "to",
+        "TO",
+        "The last step shown; without it FROM alone is shown",
+    );
+    let file = optional(
+        alloc,
+        "file",
+        "FILE",
+        "The journal; without it, or as -, standard input. A word of digits alone is a step: ./7 is a file",
+    );
+    let output = optional(
+        alloc,
+        "output",
+        "OUT",
+        "The file that is written, once all is known; without it, or as -, standard output",
+    );
+    Command::new(alloc, name)
+        .about(about)
+        .override_usage(usage)
+        .arg(from)?
+        .arg(to)?
+        .arg(file)?
+        .arg(output.short('o').long("output"))
+}
+
+/// Whether a word can only be a step: it has digits, and nothing else.
+fn is_step(word: &str) -> bool {
+    !word.is_empty() && word.as_bytes().iter().all(|byte| byte.is_ascii_digit())
+}
+
+/// A step, counted from 1.
+fn read_step(word: &str) -> Option<u32> {
+    match number(word.as_bytes(), u64::from(u32::MAX)) {
+        Some(step) => u32::try_from(step).ok(),
+        None => None,
+    }
+}
+
+/// The steps from one to another; one alone where there is no other.
+fn read_shown(from: Option<&str>, to: Option<&str>) -> Option<Shown> {
+    match (from, to) {
+        (Some(from), to) => Some(Shown::Steps {
+            from: read_step(from)?,
+            to: read_step(to.unwrap_or(from))?,
+        }),
+        (None, None) => Some(Shown::All),
+        (None, Some(_)) => None,
+    }
+}
+
+/// A file of this name; none where it stands for a standard stream.
+fn file_of(name: Option<&str>) -> Option<&str> {
+    match name {
+        Some("-") => None,
+        _ => name,
+    }
+}
+
+/// What `clap` found. Steps stand before the file, and it finds them in the places of one another where some are left out.
+pub(crate) fn read_given<'a>(found: &ArgMatches<'a>) -> Option<Given<'a>> {
+    let words = (
+        found.get_str("from"),
+        found.get_str("to"),
+        found.get_str("file"),
+    );
+    let (from, to, file) = match words {
+        (Some(word), None, None) if !is_step(word) => (None, None, Some(word)),
+        (Some(from), Some(word), None) if !is_step(word) => (Some(from), None, Some(word)),
+        (_, _, Some(word)) if is_step(word) => return None,
+        _ => words,
+    };
+    Some(Given {
+        shown: read_shown(from, to)?,
+        file: file_of(file),
+        output: file_of(found.get_str("output")),
+    })
+}

@@ -1,0 +1,124 @@
+#!/usr/bin/env python3
+"""tool.py TOOL: tries the words of the built chanhub_tool (TOOL) by the rows of tests/tool.toml: steps, files that take the place of
+standard input and output, those that are refused, and help; with each allocation refused too, which needs a C compiler. The last
+line counts: 'N passed, M failed'."""
+import pathlib
+import re
+import sys
+
+sys.dont_write_bytecode = True
+from story import ROOT, Program, build_refuse, count, refused, survives_refusals, table
+from story_model import Story
+
+ROWS = table("tool")
+JOURNAL = ROWS["journal"].encode()
+
+
+def failed(fault):
+    return 1, b"", f"chanhub: {fault}\n".encode()
+
+
+class Folder:
+    """A new folder with the files of the rows, in which the program runs."""
+
+    def __init__(self, program, work, out=None):
+        self.program = program
+        self.path = pathlib.Path(work) / "folder"
+        self.path.mkdir(exist_ok=True)
+        for name in ROWS["files"]:
+            (self.path / name).write_bytes(JOURNAL)
+        self.out.unlink(missing_ok=True)
+        if out is not None:
+            self.out.write_bytes(out)
+
+    @property
+    def out(self):
+        return self.path / "out"
+
+    def run(self, words, given=JOURNAL):
+        return self.program.run(words, given, self.path)
+
+    def left(self):
+        """What the file `out` holds, where it is there."""
+        return self.out.read_bytes() if self.out.exists() else None
+
+
+def told(program, work):
+    for row in ROWS["told"]:
+        wanted = 0, Story(ROWS["journal"]).text(*row["steps"]), b""
+        for words in row["input"]:
+            yield " ".join(words), Folder(program, work).run(words) == wanted
+        for words in row["files"]:
+            yield " ".join(words), Folder(program, work).run(words, b"") == wanted
+
+
+def written(program, work):
+    wanted = Story(ROWS["journal"]).text(1, 2)
+    for words in ROWS["written"]["words"]:
+        for before in (None, b"", wanted + b"and more"):
+            folder = Folder(program, work, before)
+            yield f"{' '.join(words)} over {before}", folder.run(words, b"") == (0, b"", b"") and folder.left() == wanted
+    folder = Folder(program, work)
+    done = folder.run(["story", "journal", "-o", "journal"], b"")
+    yield "a story over its journal", done == (0, b"", b"") and (folder.path / "journal").read_bytes() == wanted
+
+
+def pictures(program, work):
+    """A picture of one step, and of a file to a file, are those of standard input to standard output."""
+    folder = Folder(program, work)
+    for words in (["1"], ["1", "journal"]):
+        given = b"" if "journal" in words else JOURNAL
+        yield f"picture {words}", folder.run(["picture", *words], given) == folder.run(["picture", "1", "1"])
+    status, picture, errors = folder.run(["picture"])
+    done = folder.run(["picture", "journal", "-o", "out"], b"")
+    yield "a picture to a file", (status, errors) == (0, b"") and done == (0, b"", b"") and folder.left() == picture
+
+
+def not_written(program, work):
+    """Where it fails, nothing is printed, and a file `out` stays as it was."""
+    wants = [(refused(fault), words) for fault, several in ROWS["refused"].items() for words in several]
+    wants += [(failed("read failed"), words) for words in ROWS["unread"]["words"]]
+    wants += [(failed("write failed"), words) for words in ROWS["unwritten"]["words"]]
+    for wanted, words in wants:
+        for before in (None, b"kept"):
+            folder = Folder(program, work, before)
+            yield f"{wanted[2].decode().strip()}: {' '.join(words)}", folder.run(words) == wanted and folder.left() == before
+
+
+def faulty_journals(program, work):
+    folder = Folder(program, work, b"kept")
+    (folder.path / "journal").write_bytes(b"chanhub journal 1\nprocs 0\n")
+    for words in (["story", "journal"], ["picture", "journal"], ["story", "journal", "-o", "out"], ["picture", "3", "journal", "-o", "out"]):
+        yield " ".join(words), folder.run(words) == refused("line 2: bad procs") and folder.left() == b"kept"
+
+
+def help_texts(program, work):
+    folder = Folder(program, work)
+    for beginning, several in ROWS["help"].items():
+        for words in several:
+            status, text, errors = folder.run(words, b"")
+            yield " ".join(words), (status, errors) == (0, b"") and text.startswith(beginning.encode()) and b"\nUsage: chanhub_tool" in text
+    yield "help for a full device", program.run_to_full(["--help"]) == (1, b"")
+
+
+def versions(program, work):
+    """The version is that of the Rust crate over the library for C."""
+    version = re.search(r'^version = "(.*)"$', (ROOT / "capi" / "rust" / "Cargo.toml").read_text(), re.M)[1]
+    for words in ROWS["version"]["words"]:
+        yield " ".join(words), Folder(program, work).run(words, b"") == (0, f"chanhub_tool {version}\n".encode(), b"")
+
+
+def refused_allocations(program, work):
+    refuse = build_refuse(work)
+    for words in (["story", "1", "-"], ["picture", "1"], ["serve"], ["--help"], ["story", "--help"], ["--version"]):
+        yield " ".join(words), survives_refusals(program, words, JOURNAL, refuse)
+    yield "bad arguments", survives_refusals(program, ["story", "--bad"], JOURNAL, refuse)
+
+
+def main():
+    parts = told, written, pictures, not_written, faulty_journals, help_texts, versions, refused_allocations
+    return count(Program(sys.argv[1]), *parts)
+
+
+if __name__ == "__main__":
+    sys.exit(main())

@@ -6,8 +6,8 @@
 # wide; counts the instructions of replays, where valgrind is there; tries a close by an end that receives; has each program
 # refuse bad arguments; converses with the built chanhub_serve; compares the stories and pictures of the built chanhub_story
 # with second readings; tries the scripts that build, by builds_test.py, and those that look at scenarios, by
-# scenarios_test.py; and builds and tries the C library. The last line counts: 'N passed, M failed', and how many were
-# skipped, if any, for what the machine
+# scenarios_test.py; compares replays with Go's own channels; and builds and tries the C library. The last line counts:
+# 'N passed, M failed', and how many were skipped, if any, for what the machine
 # lacks.
 set -u
 root=$(cd "$(dirname "$0")/.." && pwd)
@@ -27,6 +27,15 @@ count() {
     else
         failed=$((failed + 1))
         echo "failed: $2"
+    fi
+}
+
+# count_or_skip STATUS NAME: 77 says that nothing was tried, so it neither passed nor failed.
+count_or_skip() {
+    if [ "$1" -eq 77 ]; then
+        skipped=$((skipped + 1))
+    else
+        count "$1" "$2"
     fi
 }
 
@@ -56,6 +65,8 @@ stories=$!
 builds=$!
 "$root/tools/scenarios_test.py" "$program" "$story" > "$work/scenarios" 2>&1 &
 scenarios=$!
+"$root/tools/go_compare/compare.sh" "$program" > "$work/go_compare" 2>&1 &
+go_compare=$!
 
 for events in "$root"/examples/journals/*.stdout; do
     journal=${events%.stdout}
@@ -216,12 +227,20 @@ count $? "refused allocations of a hub: $(cat "$work/hub_refusals")"
 wait "$instructions"
 status=$?
 cat "$work/instructions"
-# 77: nothing was counted, so it neither passed nor failed.
-if [ "$status" -eq 77 ]; then
-    skipped=$((skipped + 1))
-else
-    count "$status" "instructions of replays"
+count_or_skip "$status" "instructions of replays"
+
+wait "$go_compare"
+status=$?
+sed 's/^/go_compare: /' "$work/go_compare"
+count_or_skip "$status" "replays beside Go's own channels"
+
+CHANHUB=$program "$root/examples/stall_against_go/count.sh" 3 3 > "$work/stalls" 2>&1
+status=$?
+if [ "$status" -eq 0 ] && [ "$(grep -c '^[a-zG]*: [0-3] of 3 runs stalled$' "$work/stalls")" -ne 2 ]; then
+    status=1
 fi
+grep 'skipped: ' "$work/stalls"
+count_or_skip "$status" "the pool that stalls: $(cat "$work/stalls")"
 
 if [ "$skipped" -eq 0 ]; then
     echo "$passed passed, $failed failed"

@@ -1,0 +1,60 @@
+#!/bin/sh
+set -eu
+here=$(cd "$(dirname "$0")" && pwd)
+program=${CHANHUB:-$here/../../crates/chanhub/out/chanhub}
+
+usage() {
+    cat <<'END'
+usage: count.sh [RUNS [GO_RUNS]]
+
+Counts how many runs of the scenario `pool` stall, of RUNS (200 where it is left out), and how many of the same program on Go's own
+channels, of GO_RUNS (2000): one line each. No two machines give the same counts: threads are scheduled anew in each run.
+Where go is not there the second line says so, and the status is 77.
+END
+}
+
+case "${1-}" in -h | --help) usage; exit ;; esac
+is_well=true
+case $# in 0 | 1 | 2) ;; *) is_well=false ;; esac
+case ${1-200}${2-2000} in *[!0-9]*) is_well=false ;; esac
+if ! $is_well; then
+    usage | head -n 1 >&2
+    exit 2
+fi
+if [ ! -x "$program" ]; then
+    echo "count.sh: $program is not built: ./chanhub builds it" >&2
+    exit 2
+fi
+work=$(mktemp -d)
+trap 'rm -rf "$work"' EXIT
+
+# stalls RUNS STATUS COMMAND..: how many runs end with this status. Any other but 0 is told, and ends it all.
+stalls() {
+    runs=$1
+    stalled=$2
+    shift 2
+    count=0
+    for _ in $(seq "$runs"); do
+        status=0
+        "$@" > "$work/output" 2>&1 || status=$?
+        case $status in
+            0) ;;
+            "$stalled") count=$((count + 1)) ;;
+            *)
+                cat "$work/output" >&2
+                exit "$status"
+                ;;
+        esac
+    done
+    echo "$count of $runs runs stalled"
+}
+
+counted=$(stalls "${1-200}" 4 "$program" run "$here/pool")
+echo "chanhub: $counted"
+if ! command -v go > "$work/output"; then
+    echo 'Go: skipped: go is not there'
+    exit 77
+fi
+(cd "$here" && GOPROXY=off GOFLAGS='' go build -o "$work/pool" .)
+counted=$(stalls "${2-2000}" 2 "$work/pool")
+echo "Go: $counted"

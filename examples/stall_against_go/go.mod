@@ -1,0 +1,3 @@
+module stall_against_go
+
+go 1.18

@@ -1,0 +1,29 @@
+// Command stall_against_go is the pool of the scenario `pool` on Go's own channels. If everybody waits, Go's runtime says so and
+// ends the program with status 2.
+package main
+
+// work takes a job for each of its results, and then takes jobs away until there are no more.
+func work(jobs <-chan int, results chan<- int, own ...int) {
+	for _, result := range own {
+		<-jobs
+		results <- result
+	}
+	for range jobs {
+	}
+}
+
+func main() {
+	jobs := make(chan int)
+	results := make(chan int, 2)
+	go work(jobs, results, 10, 11)
+	go work(jobs, results, 20, 21)
+	go work(jobs, results, 30)
+	go work(jobs, results, 40)
+	for job := 1; job <= 8; job++ {
+		jobs <- job
+	}
+	close(jobs)
+	for i := 0; i < 6; i++ {
+		<-results
+	}
+}

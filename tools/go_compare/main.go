@@ -1,0 +1,129 @@
+// Command go_compare makes the steps of journals on Go's own channels, and compares the answers with a replay by chanhub.
+//
+//	go_compare [-keep FOLDER] PROGRAM JOURNAL ..
+//
+// A process is a goroutine, and a port is a channel. A step begins once every goroutine waits on a channel or has ended, so the
+// order of the steps is the journal's. Some answers Go's runtime draws by chance. It is not steered: the journal that PROGRAM
+// replays follows it.
+//
+//   - If several cases can proceed, Go takes one. The choice word is changed to ask for that case.
+//   - If a call waits with several cases on one port, a hub ends it at the lowest that fits. Go 1.19 ends it at any that fits, and
+//     at a close at a receive. If that is not the lowest, the lower ones get port 0, on which nothing can proceed. This is the
+//     one class of difference between the two, and its calls are counted.
+//   - If a select panics, Go does not tell at which send. The lowest send on a closed port is told.
+//   - If one step ends several calls, Go has no order among them. They are told in order of arrival.
+//
+// Faults 1 to 7 and 12 have nothing like them in Go. They are told by the rules, and Go is given no step.
+//
+// Each journal is run twice:
+//
+//   - plain: with send, receive and select statements, and selects by reflection, of the call's own cases. A Go program ends when
+//     all its goroutines wait, so the run ends there; it also ends before a call is cancelled, which Go cannot do from outside.
+//   - whole: with one case more in each call that may wait, a receive by which a stall or a cancel ends it.
+//
+// A call on port 0 alone has that case in both, so that its goroutine can end.
+package main
+
+import (
+	"bytes"
+	"flag"
+	"fmt"
+	"os"
+	"os/exec"
+	"path/filepath"
+	"strings"
+)
+
+var keep = flag.String("keep", "", "a folder for the journals that follow Go, each with its arguments and its events beside it")
+
+func main() {
+	flag.Usage = func() {
+		fmt.Fprintln(os.Stderr, "usage: go_compare [-keep FOLDER] PROGRAM JOURNAL ..")
+		flag.PrintDefaults()
+	}
+	flag.Parse()
+	if flag.NArg() < 2 {
+		flag.Usage()
+		os.Exit(2)
+	}
+	passed, failed := 0, 0
+	var all counts
+	for _, path := range flag.Args()[1:] {
+		text, err := os.ReadFile(path)
+		mustDo(err)
+		asked := readJournal(string(text))
+		for _, isPlain := range []bool{true, false} {
+			differs := compareRun(path, asked, isPlain, &all)
+			if differs == "" {
+				passed++
+			} else {
+				failed++
+				fmt.Println("failed:", differs)
+			}
+		}
+	}
+	fmt.Printf("calls of which several cases could proceed, so that Go drew: %d\n", all.drawn)
+	fmt.Printf("calls that waited with several cases on one port, and did not end at the lowest: %d\n", all.notLowest)
+	fmt.Printf("%d passed, %d failed\n", passed, failed)
+	if failed > 0 {
+		os.Exit(1)
+	}
+}
+
+// compareRun runs a journal in one of the two ways, and gives the name of the run with the first difference, or nothing.
+func compareRun(path string, asked journal, isPlain bool, all *counts) string {
+	name := filepath.Base(path) + "_whole"
+	if isPlain {
+		name = filepath.Base(path) + "_plain"
+	}
+	followed, events, more := runJournal(asked, isPlain)
+	all.add(more)
+	if *keep != "" {
+		keepCase(filepath.Join(*keep, name), followed, events)
+	}
+	differs := compare(flag.Arg(0), followed, events)
+	if differs == "" {
+		return ""
+	}
+	return name + ": " + differs
+}
+
+func mustDo(err error) {
+	if err != nil {
+		fmt.Fprintln(os.Stderr, "go_compare:", err)
+		os.Exit(2)
+	}
+}
+
+func keepCase(path string, followed journal, events []string) {
+	mustDo(os.MkdirAll(filepath.Dir(path), 0o777))
+	mustDo(os.WriteFile(path, []byte(followed.text()), 0o666))
+	mustDo(os.WriteFile(path+".args", []byte("replay\n"), 0o666))
+	mustDo(os.WriteFile(path+".stdout", []byte(strings.Join(events, "")), 0o666))
+}
+
+// compare gives nothing where the program's events are those of Go's channels, or the first line that differs.
+func compare(program string, followed journal, events []string) string {
+	replay := exec.Command(program, "replay")
+	replay.Stdin = strings.NewReader(followed.text())
+	var faults bytes.Buffer
+	replay.Stderr = &faults
+	output, err := replay.Output()
+	if err != nil {
+		return fmt.Sprintf("%v: %s", err, faults.String())
+	}
+	lines := strings.SplitAfter(string(output), "\n")
+	for place := 0; place < len(lines) || place < len(events); place++ {
+		if hub, runtime := lineAt(lines, place), lineAt(events, place); hub != runtime {
+			return fmt.Sprintf("event %d: the replay tells %q, Go %q", place+1, hub, runtime)
+		}
+	}
+	return ""
+}
+
+func lineAt(lines []string, place int) string {
+	if place < len(lines) {
+		return lines[place]
+	}
+	return ""
+}

@@ -61,16 +61,15 @@ def run_check(crate, texts, more):
 
 
 def check(crate, texts, edits, kept):
-    """What a check of the functions that these edits change says, over what was kept, if anything was."""
+    """What a check of the functions that these edits change says, over what was kept."""
     functions = dict.fromkeys(function for edit in edits for function in edit.functions)
-    over = ['--incremental', kept] if kept else []
-    return run_check(crate, texts, over + [word for it in functions for word in ('--only', it.removesuffix('::*'))])
+    return run_check(crate, texts, ['--incremental', kept, *(word for it in functions for word in ('--only', it.removesuffix('::*')))])
 
 
 def check_over(crate, texts, edits, kept):
-    """The same over a copy of what was kept."""
-    if kept is None:
-        return check(crate, texts, edits, None)
+    """The same over a copy of what was kept; where nothing was yet, what this one proves is kept."""
+    if not os.listdir(kept):
+        return check(crate, texts, edits, kept)
     with tempfile.TemporaryDirectory(dir=os.path.dirname(kept)) as room:
         over = os.path.join(room, 'kept')
         shutil.copytree(kept, over, copy_function=link_or_copy)
@@ -223,12 +222,17 @@ def try_all(by_crate, log, bad):
     told = []
     with tempfile.TemporaryDirectory() as room, ThreadPoolExecutor(2 * sum(map(len, by_crate.values())) + 1) as pool:
         def begin(crate):
-            kept = None if log else os.path.join(room, crate, 'kept')
+            kept = os.path.join(room, crate, 'kept')
+            first, *others = batches_of(by_crate[crate])
             if log:
                 wait_for(crate, log)
+                os.makedirs(kept)
             else:
                 prove_unchanged(crate, by_crate[crate], kept)
-            return [pool.submit(try_batch, batch, kept) for batch in batches_of(by_crate[crate])]
+            tried = pool.submit(try_batch, first, kept)
+            if log:
+                tried.exception()  # the others go over what it proves
+            return [tried, *(pool.submit(try_batch, batch, kept) for batch in others)]
 
         begun = {crate: pool.submit(begin, crate) for crate in sorted(by_crate, key=lambda it: -len(by_crate[it]))}
         for crate, tried in begun.items():

@@ -207,6 +207,13 @@ def try_batch(batch, kept):
     return told
 
 
+def tell_batch(batch, kept):
+    """The same, and prints it."""
+    told = try_batch(batch, kept)
+    print(''.join(it.said + '\n' for it in told), end='', flush=True)
+    return told
+
+
 def prove_unchanged(crate, edits, kept):
     """Proves what the edits change, over what a check of the crate kept, if one did."""
     earlier = os.path.join(folder(ROOT, crate), 'out', 'incremental')
@@ -244,10 +251,10 @@ def try_all(by_crate, log, bad):
                 os.makedirs(kept)
             else:
                 prove_unchanged(crate, by_crate[crate], kept)
-            tried = pool.submit(try_batch, first, kept)
+            tried = pool.submit(tell_batch, first, kept)
             if log:
                 tried.exception()  # the others go over what it proves
-            return [tried, *(pool.submit(try_batch, batch, kept) for batch in others)]
+            return [tried, *(pool.submit(tell_batch, batch, kept) for batch in others)]
 
         begun = {crate: pool.submit(begin, crate) for crate in sorted(by_crate, key=lambda it: -len(by_crate[it]))}
         for crate, tried in begun.items():
@@ -256,9 +263,7 @@ def try_all(by_crate, log, bad):
             except BadEdit as error:
                 bad.extend('%s: NOT TRIED: %s' % (it.name(), error) for it in by_crate[crate])
                 continue
-            for it in (it for result in results for it in result.result()):
-                print(it.said, flush=True)
-                told.append(it)
+            told += [it for result in results for it in result.result()]
             shutil.rmtree(os.path.join(room, crate), ignore_errors=True)
     return told
 

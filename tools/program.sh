@@ -4,11 +4,10 @@
 # tests and the live hub's, which `./test` has built, with theirs refused; compares model.py, CLAIMS and the quotations of
 # README with what they speak of; looks for limits that are written as numbers, and for definitions and proofs that are too
 # wide; counts the instructions of replays, where valgrind is there; tries a close by an end that receives; has each program
-# refuse bad arguments; converses with the built chanhub_serve; sees that who waits sleeps, by sleeps.py; compares the stories and pictures of the built chanhub_story
-# with second readings; tries the scripts that build, by builds_test.py, and those that look at scenarios, by
-# scenarios_test.py; and builds and tries the C library. The last line counts: 'N passed, M failed', and how many were
-# skipped, if any, for what the machine
-# lacks.
+# refuse bad arguments; converses with the built chanhub_serve; sees that who waits sleeps, by sleeps.py; compares the stories
+# and pictures of the built chanhub_story with second readings; tries the scripts that build, by builds_test.py, and those
+# that look at scenarios, by scenarios_test.py; and builds and tries the C library. The last line counts: 'N passed, M
+# failed', and how many were skipped, if any, for what the machine lacks.
 set -u
 root=$(cd "$(dirname "$0")/.." && pwd)
 program=${1:-$root/crates/chanhub/out/chanhub}

@@ -1,6 +1,7 @@
 mod Appended
 pub mod Plain
 mod Exits
+mod Halves
 mod Lasts
 mod OtherPorts
 mod Ports

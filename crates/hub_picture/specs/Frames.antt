@@ -1,5 +1,6 @@
 -- Where steps and processes stand on a page. Steps go on for a band, and then in the next band below it.
 use Rattle.std.specs.Prelude.{ℕ, ◌+◌, ◌-◌, ◌*◌, ◌/◌, ◌≤◌, min, length, Option, None, Some}
+use Rattle.hub_story.specs.declared.window.Window.{Window}
 use Rattle.hub_base.specs.declared.limits.TheConstants.{MOST_PORTS}
 use Rattle.hub_picture.specs.declared.drawing.Drawing.{Drawing}
 use Rattle.hub_picture.specs.declared.frame.Frame.{Frame}
@@ -67,14 +68,18 @@ abbrev pub ports_of : Drawing → ℕ
 ports_of d = min (length d.strips.items) MOST_PORTS
 
 -- ---- the bands of a drawing
+-- the steps from one band to another
+abbrev pub steps_between : Scale → Drawing → ℕ → ℕ → Window
+steps_between scale d first end = record {
+  first = min (d.window.first + first * (sizes_of scale).steps) d.window.end;
+  end = min (d.window.first + end * (sizes_of scale).steps) d.window.end;
+}
+
 abbrev pub frame_of : Scale → Drawing → ℕ → Frame
 frame_of scale d band = record {
   scale = scale;
   band = band;
   procs = d.procs;
   ports = ports_of d;
-  steps = record {
-    first = min (d.window.first + band * (sizes_of scale).steps) d.window.end;
-    end = min (d.window.first + (band + 1) * (sizes_of scale).steps) d.window.end;
-  };
+  steps = steps_between scale d band (band + 1);
 }

@@ -1,6 +1,6 @@
 -- The pieces of a picture's text. No piece comes from outside: each is a fixed word, a number, or a line that tells an
 -- entry or an event.
-use Rattle.std.specs.Prelude.{◌≡◌, ℕ, ◌+◌, List, [], ◌∷◌, ◌++◌, codes, decimal, Option, None, Some, Result, OnOk, OnErr}
+use Rattle.std.specs.Prelude.{◌≡◌, ℕ, ◌+◌, List, [], ◌∷◌, ◌++◌, codes, decimal, map, Option, None, Some, Result, OnOk, OnErr}
 use Rattle.std.specs.Borrow.{Bor}
 use Rattle.std.specs.Global.{Vec}
 use Rattle.hub_base.specs.declared.case.Case.{Case}
@@ -11,6 +11,10 @@ use Rattle.hub_story.specs.declared.told.Told.{Told}
 use Rattle.hub_picture.specs.declared.piece.Piece.{Piece}
 use Rattle.hub_picture.specs.declared.piece.Piece.TheVariants.{Word, Number, Line, Tells, End, Until, Mover, Aim, Class, Ending, Name, Moves}
 use Rattle.hub_picture.specs.Labels.{class_text, end_class, label_text, value_text}
+
+-- what these references point to
+abbrev pub nows : {A : Type 0} → List (Bor A) → List A
+nows {A} xs = map (λ (x : Bor A). x.now) xs
 
 -- texts, one after the other
 abbrev pub joined : List (List ℕ) → List ℕ

@@ -11,3 +11,4 @@ pub mod Strips
 pub mod Waiters
 pub mod Legend
 pub mod Page
+pub mod Shapes

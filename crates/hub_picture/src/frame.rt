@@ -1,7 +1,7 @@
 //! Where steps and processes stand on a page.
 
 ghost use Rattle.std.specs.Prelude.{◌≡◌, ◌≤◌, ◌+◌, ◌*◌, max, min};
-ghost use Rattle.hub_picture.specs.Frames.{AreBounded, by_scale, floor_of, frame_of, height_of, ports_of, sizes_of, top_of};
+ghost use Rattle.hub_picture.specs.Frames.{AreBounded, by_scale, floor_of, frame_of, height_of, ports_of, sizes_of, steps_between, top_of};
 ghost use Rattle.hub_picture.specs.Frames.{until, x_of, y_of};
 
 use crate::{Drawing, Window};
@@ -132,6 +132,18 @@ fn step_of(window: Window, scale: Scale, band: u64) -> u32
     step.min(window.end.into()) as u32
 }
 
+/// The steps from one band to another.
+pub(crate) fn steps_between(scale: Scale, drawing: &Drawing, first: u64, end: u64) -> Window
+    requires first { first ≤ 4294967296 }
+    requires end { end ≤ 4294967296 }
+    ensures { result ≡ steps_between scale drawing.now first end }
+{
+    Window {
+        first: step_of(drawing.window, scale, first),
+        end: step_of(drawing.window, scale, end),
+    }
+}
+
 /// The band of this number.
 pub(crate) fn frame_of(scale: Scale, drawing: &Drawing, band: u32) -> Frame
     ensures { result ≡ frame_of scale drawing.now band }
@@ -141,10 +153,7 @@ pub(crate) fn frame_of(scale: Scale, drawing: &Drawing, band: u32) -> Frame
         band,
         procs: drawing.procs,
         ports: ports_of(drawing),
-        steps: Window {
-            first: step_of(drawing.window, scale, band.into()),
-            end: step_of(drawing.window, scale, u64::from(band) + 1),
-        },
+        steps: steps_between(scale, drawing, band.into(), u64::from(band) + 1),
     }
 }
 

@@ -2,7 +2,7 @@
 
 ghost use Rattle.std.specs.Prelude.{List, ℕ};
 ghost use Rattle.std.specs.List.{flat_map};
-ghost use Rattle.hub_picture.specs.Pieces.{Appends};
+ghost use Rattle.hub_picture.specs.Pieces.{Appends, nows};
 
 use std::alloc::AllocError;
 
@@ -31,4 +31,27 @@ pub(crate) fn put_each<T, P: Pen<T>>(
         }
     }
     Ok(())
+}
+
+/// How a thing that lies elsewhere is written.
+#[derive(Clone, Copy)]
+struct There<'a, P>(&'a P);
+
+impl<T, P: Pen<T>> Pen<&T> for There<'_, P> {
+    ghost text = { λ pen thing. P.text pen.0.now thing.now };
+
+    fn put(&self, out: &mut Vec<u8>, thing: &&T) -> Result<(), AllocError> {
+        self.0.put(out, *thing)
+    }
+}
+
+/// Appends these things that lie elsewhere, in order.
+pub(crate) fn put_all<T, P: Pen<T>>(
+    out: &mut Vec<u8>,
+    pen: &P,
+    things: &[&T],
+) -> Result<(), AllocError>
+    ensures { Appends out.old out.new (flat_map (P.text pen.now) (nows things.now)) result }
+{
+    put_each(out, &There(pen), things)
 }

@@ -2,6 +2,7 @@
 use Rattle.std.specs.Prelude.{ℕ, ◌+◌, ◌-◌, ◌/◌, Bool, ◌||◌, nat_lt, List, [], ◌∷◌, ◌++◌, codes, decimal, if◌then◌else◌}
 use Rattle.hub_base.specs.EventText.{event_line}
 use Rattle.hub_base.specs.declared.value.Port.{Port}
+use Rattle.hub_story.specs.declared.window.Window.{Window}
 use Rattle.hub_story.specs.declared.told.Told.{Told}
 use Rattle.hub_picture.specs.declared.arrows.Arrow.{Arrow}
 use Rattle.hub_picture.specs.declared.frame.Frame.{Frame}
@@ -55,9 +56,10 @@ arrow_text f a =
     arrow_opening a.port ++ arrow_title a.passage.sent.told a.passage.received.told
     ++ arrow_body f a.passage.sent.told a.passage.received.told
 
--- the band has one of its ends
-abbrev pub ends_in : Frame → Arrow → Bool
-ends_in f a = has f.steps a.passage.sent.told.by || has f.steps a.passage.received.told.by
+-- one of these steps is one of its ends
+abbrev pub has_end : Window → Arrow → Bool
+has_end w a = has w a.passage.sent.told.by || has w a.passage.received.told.by
 
+-- where the band has one
 abbrev pub arrow_in : Frame → Arrow → List ℕ
-arrow_in f a = if ends_in f a then arrow_text f a else []
+arrow_in f a = if has_end f.steps a then arrow_text f a else []

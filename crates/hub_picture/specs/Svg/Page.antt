@@ -1,6 +1,12 @@
 -- The whole picture: a head, the bands of steps one below the other, and a foot that tells how to read it.
 use Rattle.std.specs.Prelude.{ℕ, zero, suc, ◌+◌, ◌-◌, ◌*◌, ◌/◌, nat_le, min, max, length, List, [], ◌∷◌, ◌++◌, codes, decimal, if◌then◌else◌}
 use Rattle.std.specs.List.{flat_map}
+use Rattle.hub_story.specs.declared.told.Told.{Told}
+use Rattle.hub_picture.specs.declared.arrows.Arrow.{Arrow}
+use Rattle.hub_picture.specs.declared.asked.Asked.{Asked}
+use Rattle.hub_picture.specs.declared.lanes.Lane.{Lane}
+use Rattle.hub_picture.specs.declared.levels.Held.{Held}
+use Rattle.hub_picture.specs.declared.strips.Strip.{Strip}
 use Rattle.hub_picture.specs.declared.asked.Shown.TheVariants.{Boxes, Bars}
 use Rattle.hub_picture.specs.declared.drawing.Drawing.{Drawing}
 use Rattle.hub_picture.specs.declared.frame.Frame.{Frame}
@@ -89,20 +95,21 @@ abbrev pub head_text : Drawing → List ℕ
 head_text d = page_opening d ++ style ++ paper_text d
 
 -- what stands behind, and what before it: arrows above all, so that no box hides where one passes
-abbrev pub back_text : Frame → Drawing → List ℕ
-back_text f d =
-    flat_map (lane_text f) d.lanes.items ++ ticks_to (f.steps.end - f.steps.first) f ++ flat_map (stall_in f) d.stalls.items
+abbrev pub back_text : Frame → List Lane → List Told → List ℕ
+back_text f lanes stalls = flat_map (lane_text f) lanes ++ ticks_to (f.steps.end - f.steps.first) f ++ flat_map (stall_in f) stalls
 
 -- what stands below
-abbrev pub below_text : Frame → Drawing → List ℕ
-below_text f d = flat_map (strip_text f) d.strips.items ++ flat_map (level_in f) d.levels.items
+abbrev pub below_text : Frame → List Strip → List Held → List ℕ
+below_text f strips levels = flat_map (strip_text f) strips ++ flat_map (level_in f) levels
 
-abbrev pub front_text : Frame → Drawing → List ℕ
-front_text f d =
-    flat_map (entry_in Bars f) d.bars.items ++ flat_map (entry_in Boxes f) d.boxes.items ++ flat_map (arrow_in f) d.arrows.items
+abbrev pub front_text : Frame → List Asked → List Asked → List Arrow → List ℕ
+front_text f bars boxes arrows = flat_map (entry_in Bars f) bars ++ flat_map (entry_in Boxes f) boxes ++ flat_map (arrow_in f) arrows
 
 abbrev pub band_text : Frame → Drawing → List ℕ
-band_text f d = back_text f d ++ below_text f d ++ front_text f d
+band_text f d =
+    back_text f d.lanes.items d.stalls.items
+    ++ below_text f d.strips.items d.levels.items
+    ++ front_text f d.bars.items d.boxes.items d.arrows.items
 
 -- the first so many bands
 abbrev pub bands_to : ℕ → Drawing → List ℕ

@@ -1,5 +1,6 @@
 -- The band over the lane of a process that a step stalled.
-use Rattle.std.specs.Prelude.{ℕ, ◌+◌, ◌-◌, ◌*◌, ◌/◌, List, [], ◌∷◌, ◌++◌, codes, decimal, if◌then◌else◌}
+use Rattle.std.specs.Prelude.{ℕ, Bool, ◌+◌, ◌-◌, ◌*◌, ◌/◌, List, [], ◌∷◌, ◌++◌, codes, decimal, if◌then◌else◌}
+use Rattle.hub_story.specs.declared.window.Window.{Window}
 use Rattle.hub_story.specs.declared.told.Told.{Told}
 use Rattle.hub_picture.specs.declared.frame.Frame.{Frame}
 use Rattle.hub_picture.specs.declared.svg.rect.Rect.{Rect}
@@ -32,6 +33,10 @@ stall_body f t = rect_text (stall_rect f t) ++ codes "</g>\n"
 
 abbrev pub stall_text : Frame → Told → List ℕ
 stall_text f t = codes "<g class=\"stall\"><title>" ++ stall_title t ++ stall_body f t
+
+-- it came by one of these steps
+abbrev pub is_by_one_of : Window → Told → Bool
+is_by_one_of w t = has w t.by
 
 -- where the band has the step
 abbrev pub stall_in : Frame → Told → List ℕ

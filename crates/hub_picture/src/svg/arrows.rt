@@ -3,8 +3,9 @@
 ghost use Rattle.std.specs.Prelude.{◌≡◌};
 ghost use Rattle.hub_picture.specs.Pieces.{Appends};
 ghost use Rattle.hub_picture.specs.Svg.Arrows.{arrow_body, arrow_in, arrow_opening, arrow_text};
-ghost use Rattle.hub_picture.specs.Svg.Arrows.{arrow_title, ends_in, moved_title, side_of};
+ghost use Rattle.hub_picture.specs.Svg.Arrows.{arrow_title, moved_title, side_of};
 
+use super::shapes::has_end;
 use crate::Arrow;
 use crate::frame::{Frame, number_of};
 use crate::pen::Pen;
@@ -94,19 +95,12 @@ fn put_arrow(out: &mut Vec<u8>, frame: Frame, arrow: &Arrow) -> Result<(), Alloc
     )
 }
 
-/// Whether the band has an end of the arrow.
-fn ends_in(frame: Frame, arrow: &Arrow) -> bool
-    ensures { result ≡ ends_in frame arrow.now }
-{
-    frame.steps.has(arrow.passage.sent.told.by) || frame.steps.has(arrow.passage.received.told.by)
-}
-
 /// Arrows, where the band has an end of them.
 impl Pen<Arrow> for Frame {
     ghost text = { arrow_in };
 
     fn put(&self, out: &mut Vec<u8>, arrow: &Arrow) -> Result<(), AllocError> {
-        if ends_in(*self, arrow) {
+        if has_end(self.steps, arrow) {
             put_arrow(out, *self, arrow)
         } else {
             Ok(())

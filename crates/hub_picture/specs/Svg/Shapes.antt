@@ -41,7 +41,7 @@ pub record AreEnough (d : Drawing) (w : Window) (s : Shapes) : Type 0 where
 abbrev pub shapes_text : Frame → Drawing → Shapes → List ℕ
 shapes_text f d s =
     back_text f d.lanes.items (nows s.stalls.items)
-    ++ below_text f d.strips.items (nows s.levels.items)
+    ++ below_text f d (nows s.levels.items)
     ++ front_text f (nows s.bars.items) (nows s.boxes.items) (nows s.arrows.items)
 
 -- behind the bands before the first, those before the end are appended, or a part where memory was refused

@@ -1,4 +1,4 @@
-use Rattle.std.proofs.Common.{◌+◌, ◌-◌, ◌/◌, arith, refl}
+use Rattle.std.proofs.Common.{◌+◌, ◌-◌, ◌/◌, arith}
 use Rattle.hub_picture.proofs.Halves.{band-reaches, both-reach, half-of}
 use Rattle.hub_picture.proofs.svg.bands.+put_between.Goals as goal
 

@@ -141,15 +141,20 @@ no-text false text is = refl
 pub same-band : (f : Frame) (d : Drawing) (s : Shapes) → AreEnough d f.steps s → shapes_text f d s ≡ band_text f d
 same-band f d s enough =
     let stalls : flat_map (stall_in f) (nows s.stalls.items) ≡ flat_map (stall_in f) d.stalls.items =
-    same-written (is_by_one_of f.steps) (stall_in f) (nows s.stalls.items) d.stalls.items (λ t. no-text (is_by_one_of f.steps t) (stall_text f t)) enough.stalls in
+    same-written (is_by_one_of f.steps) (stall_in f) (nows s.stalls.items) d.stalls.items
+    (λ t. no-text (is_by_one_of f.steps t) (stall_text f t)) enough.stalls in
     let levels : flat_map (level_in f) (nows s.levels.items) ≡ flat_map (level_in f) d.levels.items =
-    same-written (shows_level f.steps) (level_in f) (nows s.levels.items) d.levels.items (λ h. no-text (shows_level f.steps h) (level_text f h)) enough.levels in
+    same-written (shows_level f.steps) (level_in f) (nows s.levels.items) d.levels.items
+    (λ h. no-text (shows_level f.steps h) (level_text f h)) enough.levels in
     let bars : flat_map (entry_in Bars f) (nows s.bars.items) ≡ flat_map (entry_in Bars f) d.bars.items =
-    same-written (is_shown Bars f.steps) (entry_in Bars f) (nows s.bars.items) d.bars.items (λ a. no-text (is_shown Bars f.steps a) (entry_text Bars f a)) enough.bars in
+    same-written (is_shown Bars f.steps) (entry_in Bars f) (nows s.bars.items) d.bars.items
+    (λ a. no-text (is_shown Bars f.steps a) (entry_text Bars f a)) enough.bars in
     let boxes : flat_map (entry_in Boxes f) (nows s.boxes.items) ≡ flat_map (entry_in Boxes f) d.boxes.items =
-    same-written (is_shown Boxes f.steps) (entry_in Boxes f) (nows s.boxes.items) d.boxes.items (λ a. no-text (is_shown Boxes f.steps a) (entry_text Boxes f a)) enough.boxes in
+    same-written (is_shown Boxes f.steps) (entry_in Boxes f) (nows s.boxes.items) d.boxes.items
+    (λ a. no-text (is_shown Boxes f.steps a) (entry_text Boxes f a)) enough.boxes in
     let arrows : flat_map (arrow_in f) (nows s.arrows.items) ≡ flat_map (arrow_in f) d.arrows.items =
-    same-written (has_end f.steps) (arrow_in f) (nows s.arrows.items) d.arrows.items (λ a. no-text (has_end f.steps a) (arrow_text f a)) enough.arrows in
+    same-written (has_end f.steps) (arrow_in f) (nows s.arrows.items) d.arrows.items
+    (λ a. no-text (has_end f.steps a) (arrow_text f a)) enough.arrows in
     rw (stalls, levels, bars, boxes, arrows) refl
 
 -- a half of the bands from one to another
@@ -161,7 +166,8 @@ half-enough d s part first middle last end before behind enough is =
     (inside (scale_of d) d first middle last end before behind) enough is
 
 -- the same, as a call tells it
-pub half-of : (d : Drawing) (s part : Shapes) (scale : Scale) (w : Window) (from to first middle last end : ℕ) → w ≡ steps_between scale d from to →
+pub half-of : (d : Drawing) (s part : Shapes) (scale : Scale) (w : Window) (from to first middle last end : ℕ) →
+    w ≡ steps_between scale d from to →
     scale ≡ scale_of d → from ≡ first → to ≡ end → first ≤ middle → last ≤ end →
     AreEnough d (steps_between (scale_of d) d first end) s → IsPart w s part → AreEnough d (steps_between (scale_of d) d middle last) part
 half-of d s part scale w from to first middle last end made known begins ends before behind enough is =

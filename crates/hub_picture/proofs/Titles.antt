@@ -1,6 +1,6 @@
 -- So have what is told of shapes, and what stands in boxes.
 use Rattle.std.proofs.Common.{ℕ, ◌<◌, ◌≤◌, ◌^◌, ◌+◌, List, [], ◌∷◌, ◌++◌, codes, refl, arith, Option, None, Some, IfSome, Bool, true, false}
-use Rattle.std.specs.Prelude.{decimal, nat_lt, if◌then◌else◌}
+use Rattle.std.specs.Prelude.{decimal, nat_le, if◌then◌else◌}
 use Rattle.hub_base.specs.declared.limits.TheConstants.{GREATEST_PID, GREATEST_PORT, GREATEST_VALUE}
 use Rattle.hub_base.specs.declared.case.Case.{Case}
 use Rattle.hub_base.specs.declared.case.Case.TheVariants as case
@@ -177,7 +177,7 @@ label-plain (label.Cancel q) fits = worded (codes "x") q.0 255 refl fits (omega 
 label-plain (label.Refused f) fits = worded (codes "f") (fault_number f) 255 refl (fault-small f) (omega arith)
 
 content-shown : (c : Content) → IsContent c → IsPlain (codes ":" ++ number_text (number_in c))
-content-shown (Num n) fits = by (nat_lt n 1000000)
+content-shown (Num n) fits = by (nat_le n 999999)
   where
     by : (b : Bool) → IsPlain (codes ":" ++ (if b then decimal n else codes ".."))
     by true = worded (codes ":") n GREATEST_VALUE refl fits (omega arith)

@@ -1,5 +1,5 @@
 -- What stands in a box, and what its class says: the port by a colour, the rest by a form.
-use Rattle.std.specs.Prelude.{ℕ, ◌%◌, List, [], ◌∷◌, ◌++◌, codes, decimal, Option, None, Some, slice_get, nat_lt, if◌then◌else◌}
+use Rattle.std.specs.Prelude.{ℕ, ◌%◌, List, [], ◌∷◌, ◌++◌, codes, decimal, Option, None, Some, slice_get, nat_le, if◌then◌else◌}
 use Rattle.hub_base.specs.declared.value.Port.{Port}
 use Rattle.hub_base.specs.declared.case.Case.{Case}
 use Rattle.hub_base.specs.declared.case.Case.TheVariants as case
@@ -111,7 +111,7 @@ shown_value scale a = None
 -- a number of up to six digits; others have no room in a box, and bytes are told by their mark alone
 abbrev pub number_text : Option ℕ → List ℕ
 number_text None = codes "#"
-number_text (Some n) = if nat_lt n 1000000 then decimal n else codes ".."
+number_text (Some n) = if nat_le n 999999 then decimal n else codes ".."
 
 abbrev pub value_text : Option Value → List ℕ
 value_text None = []

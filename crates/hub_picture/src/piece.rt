@@ -198,7 +198,7 @@ fn put_value(out: &mut Vec<u8>, value: Option<Value>) -> Result<(), AllocError>
 {
     match value {
         Some(value) => match value.as_num() {
-            Some(number) if number < 1_000_000 => put_numbered(out, b":", number),
+            Some(number) if number <= 999_999 => put_numbered(out, b":", number),
             Some(_long) => put(out, b":.."),
             None => put(out, b":#"),
         },

@@ -26,7 +26,7 @@ HEADING = 'Call | Promise | Definitions\n---|---|---\n'
 ROWS = re.compile('^' + re.escape(HEADING) + '((?:.+\n)+)', re.M)
 # A public call: the labels of its clauses, and the file that it stands in.
 Call = namedtuple('Call', 'labels path')
-CITED = re.compile(r'(?:(base|laws|core|live|replay|serve|words|report|scenario|story_text|story|picture|c) )?`([A-Z]\w*)`: ((?:`\w+`(?:, )?)+)')
+CITED = re.compile(r'(?:(base|laws|core|live|replay|serve|words|report|scenario|story_text|story|picture|c) )?`([A-Z][\w/]*)`: ((?:`\w+`(?:, )?)+)')
 
 
 def read(*parts):

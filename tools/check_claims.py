@@ -6,8 +6,8 @@
 Tells the public functions that no claim names, and the calls, paths, clauses and definitions that a page names and the sources
 do not have. A row of CLAIMS is: calls, with a link to their file | promise | definitions. In a promise `a`, `b`: stands before
 what these clauses say, and what stands before any label is of a clause without one; a row that begins with 'By its type' has no
-clause. Each clause of a call stands in one of its rows, and each call of a row has one of the row's clauses. A trait's methods
-with clauses count as calls. Tells also the public functions that no must-fail edit turns, but for those that a section names as
+clause. Each clause of a call stands in one of its rows, each call of a row has one of the row's clauses, and the contracts of a
+row lead to each definition that it names. A trait's methods with clauses count as calls. Tells also the public functions that no must-fail edit turns, but for those that a section names as
 without an edit, for laws, which have no body, and for the methods of traits, which have none there; an edit names its function in
 its line `call:`. Tells last where a crate's README names a file that is not there, or has a table of its files and leaves one out.
 With --write the links of all rows are made anew first, so a row may be written without. The status is 1 where anything is told.
@@ -16,6 +16,7 @@ import os
 import re
 import sys
 from collections import namedtuple
+from functools import lru_cache
 
 WORDS = [word for word in sys.argv[1:] if word != '--write']
 ROOT = WORDS[0] if WORDS else os.path.join(os.path.dirname(os.path.abspath(__file__)), '..')
@@ -24,8 +25,8 @@ LINK = re.compile(r'\[([^\]]+)\]\(([^)]+)\)')
 LABELS = re.compile(r'((?:`\w+`, )*`\w+`): ')
 HEADING = 'Call | Promise | Definitions\n---|---|---\n'
 ROWS = re.compile('^' + re.escape(HEADING) + '((?:.+\n)+)', re.M)
-# A public call: the labels of its clauses, and the file that it stands in.
-Call = namedtuple('Call', 'labels path')
+# A public call: the labels of its clauses, the words of its contract, and the file that it stands in.
+Call = namedtuple('Call', 'labels words path')
 CITED = re.compile(r'(?:(base|laws|core|live|replay|serve|words|report|scenario|story_text|story|picture|c) )?`([A-Z][\w/]*)`: ((?:`\w+`(?:, )?)+)')
 
 
@@ -44,6 +45,11 @@ def has_file(crate, name):
     return os.path.exists(os.path.join(ROOT, 'crates', crate, 'src', name))
 
 
+def words_of(text):
+    return set(re.findall(r'\w+', text))
+
+
+@lru_cache(maxsize=None)
 def sources(crate):
     return {path: read(path) for path in sorted(files('crates/%s/src' % crate, '.rt'))}
 
@@ -58,7 +64,8 @@ def offered(crate):
 
 
 def calls_in(source, names):
-    """The calls of one file that are among the names, each with its clauses' labels; '–' stands for a clause without one."""
+    """The calls of one file that are among the names, each with its clauses' labels and its contract's words; '–' stands for a
+    clause without a label."""
     owner, visible = '', 'pub '
     for line in re.split(r'\n(?=[^\s)>]|    (?:pub )?fn )', re.sub('pub (?:unsafe )?extern "C" fn', 'pub fn', source)):
         block = re.match(r'impl(?:<[^>]*>)? (\w+)(?:<[^>]*>)? \{|pub trait (\w+)', line)
@@ -68,15 +75,16 @@ def calls_in(source, names):
             owner, visible = '', 'pub '
         found = re.match(r'( *)%sfn (\w+)' % visible, line)
         if found and (owner if found.group(1) else found.group(2)) in names:
-            labels = {label or '–' for label in re.findall(r'ensures\*? (\w+)? ?\{', re.split(r'\n *\{', line, maxsplit=1)[0])}
+            head = re.split(r'\n *\{', line, maxsplit=1)[0]
+            labels = {label or '–' for label in re.findall(r'ensures\*? (\w+)? ?\{', head)}
             # What a trait's method promises are its clauses alone.
             if labels or visible:
-                yield (owner + '::' + found.group(2) if found.group(1) else found.group(2)), labels
+                yield (owner + '::' + found.group(2) if found.group(1) else found.group(2)), labels, words_of(head)
 
 
 def public_calls(crate):
     names = offered(crate)
-    return {name: Call(labels, path) for path, source in sources(crate).items() for name, labels in calls_in(source, names)}
+    return {name: Call(labels, words, path) for path, source in sources(crate).items() for name, labels, words in calls_in(source, names)}
 
 
 def traits(crate):
@@ -88,6 +96,36 @@ def defined(crate, file, name):
     path = os.path.join('crates', crate, 'specs', file + '.antt')
     return os.path.exists(os.path.join(ROOT, path)) and re.search(
         r'^\s*(?:abbrev )?(?:pub )?(?:abbrev )?(?:record |data )?%s\b' % re.escape(name), read(path), re.M)
+
+
+@lru_cache(maxsize=None)
+def meanings():
+    """Each definition of all crates, with the words of its text."""
+    found = {}
+    for path in files('crates', '.antt'):
+        for text in re.split(r'\n(?=\S)', read(path) if os.sep + 'specs' + os.sep in path else ''):
+            name = re.match(r'(?:pub |abbrev |record |data )*(\w+)', text)
+            if name:
+                found.setdefault(name.group(1), set()).update(words_of(text))
+    return found
+
+
+@lru_cache(maxsize=None)
+def views():
+    """The words by which types say what a contract sees of them."""
+    return {word for path in files('crates', '.rt') for text in re.findall(r'^ +ghost \w+ = \{(.*?)\};$', read(path), re.M | re.S)
+            for word in words_of(text)}
+
+
+def led_to(words):
+    """What these words lead to, definition by definition."""
+    found, left = set(), list(words)
+    while left:
+        word = left.pop()
+        if word not in found:
+            found.add(word)
+            left += meanings().get(word, ())
+    return found
 
 
 def check_definitions(page, crate, text):
@@ -129,6 +167,9 @@ def check_row(crate, calls, cells):
         if labels and not labels & calls[name].labels:
             yield 'CLAIMS: %s has none of the clauses %s' % (name, ', '.join(sorted(labels)))
     yield from check_definitions('CLAIMS', crate, cells[-1])
+    cited = {name for found in CITED.findall(cells[-1]) for name in TICKED.findall(found[-1])}
+    for name in sorted(cited - views() - led_to(set().union(*(calls[name].words for name in names))) if names else ()):
+        yield 'CLAIMS: no contract of %s leads to %s' % (', '.join(names), name)
 
 
 def check_section(crate, text):

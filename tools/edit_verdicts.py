@@ -101,24 +101,28 @@ def best(goals):
     return min(goals, key=lambda it: KINDS.index(it.kind), default=None)
 
 
-ALIAS = 'every_rule'
-ASKED = 'use Rattle.std.proofs.Common.{rules as %s}\n' % ALIAS
+# What is tried where no answer stands, under names that no file has.
+ASKED = '''\
+use Rattle.std.proofs.Common.{rules as every_rule, arith as every_number}
+use Rattle.std.proofs.lemmas.Grind.{common_steps as every_step}
+'''
+PLAIN = ('search every_rule', 'grind (every_number, every_step)')
 
 
-def asked_anew(crate, function, said, goals, text):
-    """The function's answers with a search in place of those that are not proved and of those that stop at a limit; None where there
-    are none such. The text is that of its Answers.antt, or empty."""
+def asked_anew(crate, function, said, goals, text, plain):
+    """The function's answers with this plain search in place of those that are not proved and of those that stop at a limit; None
+    where there are none such. The text is that of its Answers.antt, or empty."""
     anew = text
     for goal in goals:
         body = re.compile(r'^(%s(?: [^=\n]*)? =)[ \n].*(?:\n[ \t].*)*' % re.escape(goal.name), re.M)
         if goal.kind in (LIMIT, ANSWER) and goal.name:
-            anew = body.sub(r'\1 search %s' % ALIAS, anew, count=1)
+            anew = body.sub(r'\1 ' + plain, anew, count=1)
     lines = asked_lines(said, function)
     if anew == text and not lines:
         return None
     if lines and not text:
         anew = 'use Rattle.%s.proofs.%s.Goals as goal\n' % (crate, function.replace('::', '.'))
-    asked = ''.join(it.removesuffix('?') + 'search ' + ALIAS + '\n' if it.endswith('= ?') else '\n' + it + '\n' for it in lines)
+    asked = ''.join(it.removesuffix('?') + plain + '\n' if it.endswith('= ?') else '\n' + it + '\n' for it in lines)
     return ASKED + anew + asked
 
 

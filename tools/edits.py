@@ -61,16 +61,15 @@ def run_check(crate, texts, more):
 
 
 def check(crate, texts, edits, kept):
-    """What a check of the functions that these edits change says, over what was kept, if anything was."""
+    """What a check of the functions that these edits change says, over what was kept."""
     functions = dict.fromkeys(function for edit in edits for function in edit.functions)
-    over = ['--incremental', kept] if kept else []
-    return run_check(crate, texts, over + [word for it in functions for word in ('--only', it.removesuffix('::*'))])
+    return run_check(crate, texts, ['--incremental', kept, *(word for it in functions for word in ('--only', it.removesuffix('::*')))])
 
 
 def check_over(crate, texts, edits, kept):
-    """The same over a copy of what was kept."""
-    if kept is None:
-        return check(crate, texts, edits, None)
+    """The same over a copy of what was kept; where nothing was yet, what this one proves is kept."""
+    if not os.listdir(kept):
+        return check(crate, texts, edits, kept)
     with tempfile.TemporaryDirectory(dir=os.path.dirname(kept)) as room:
         over = os.path.join(room, 'kept')
         shutil.copytree(kept, over, copy_function=link_or_copy)
@@ -118,7 +117,7 @@ def judge(batch, ran):
     return found
 
 
-def asked_files(edits, ran, found):
+def asked_files(edits, ran, found, search):
     """The Answers of the functions whose goals are to be asked anew, and those of them that stand for an answer, for the unchanged crate."""
     asked, plain = {}, {}
     for goals in (found[it.name()] for it in edits):
@@ -128,18 +127,18 @@ def asked_files(edits, ran, found):
             place = os.path.join(folder(ROOT, crate), file)
             text = open(place).read() if os.path.exists(place) else ''
             own = [it for it in goals if it.function == function]
-            anew = verdicts.asked_anew(crate, function, ran.stdout, own, text)
+            anew = verdicts.asked_anew(crate, function, ran.stdout, own, text, search)
             if anew is not None:
                 asked[file] = anew
-                without = verdicts.asked_anew(crate, function, '', own, text)
+                without = verdicts.asked_anew(crate, function, '', own, text, search)
                 if without is not None:
                     plain[file] = without
     return asked, plain
 
 
-def ask_anew(edits, ran, found, kept):
+def ask_anew(edits, ran, found, kept, search):
     """The goals that are not met where a plain search stands in place of the answers that are none, by the names of the edits."""
-    asked, plain = asked_files(edits, ran, found)
+    asked, plain = asked_files(edits, ran, found, search)
     if not asked:
         return {}
     again = judge(Batch(edits), check_over(edits[0].crate, {**Batch(edits).texts, **asked}, edits, kept))
@@ -152,15 +151,32 @@ def ask_anew(edits, ran, found, kept):
 
 
 def settle(edits, ran, found, kept):
-    """Adds what the goals of these edits, asked anew, come to."""
+    """What the goals of these edits, asked anew, come to, by their names."""
+    settled = {}
+    for search in verdicts.PLAIN:
+        left = [it for it in edits if not is_refused(settled.get(it.name(), ()))]
+        if left:
+            settled.update(ask_all(left, ran, found, kept, search))
+    return settled
+
+
+def ask_all(edits, ran, found, kept, search):
     try:
-        found.update(ask_anew(edits, ran, found, kept))
+        return ask_anew(edits, ran, found, kept, search)
     except BadEdit as error:
         if len(edits) > 1:
-            for edit in edits:
-                settle([edit], ran, found, kept)
-        else:
-            found[edits[0].name()] = [it._replace(line='%s; asked anew: %s' % (it.line.split('\n')[0][:160], error)) for it in found[edits[0].name()]]
+            return {name: goals for it in edits for name, goals in ask_all([it], ran, found, kept, search).items()}
+        said = '%s; asked anew: %s' % (first_line(found[edits[0].name()][0]), error)
+        return {edits[0].name(): [it._replace(line=said) for it in found[edits[0].name()]]}
+
+
+def is_refused(goals):
+    best = verdicts.best(goals)
+    return best is not None and best.kind in verdicts.REFUSED
+
+
+def first_line(goal):
+    return goal.line.split('\n')[0][:200]
 
 
 def halves(batch):
@@ -178,18 +194,23 @@ def try_batch(batch, kept):
         if alone:
             return [Told(batch.edits[0], None, '%s: %s' % (batch.edits[0].name(), error))]
         return [it for half in halves(batch) for it in try_batch(half, kept)]
-    open_still = [it for it in batch.edits if found.get(it.name()) and verdicts.best(found[it.name()]).kind not in verdicts.REFUSED]
-    if open_still:
-        settle(open_still, ran, found, kept)
+    found.update(settle([it for it in batch.edits if found.get(it.name()) and not is_refused(found[it.name()])], ran, found, kept))
     told = []
     for edit in batch.edits:
         goal = verdicts.best(found.get(edit.name(), []))
         if goal:
-            told.append(Told(edit, goal.kind, '%s: %s, in %d s: %s' % (edit.name(), goal.kind, ran.seconds, goal.line.split('\n')[0][:200])))
+            told.append(Told(edit, goal.kind, '%s: %s, in %d s: %s' % (edit.name(), goal.kind, ran.seconds, first_line(goal))))
         elif alone:
             told.append(Told(edit, None, '%s: no goal of it fails' % edit.name()))
         else:
             told += try_batch(Batch([edit]), kept)
+    return told
+
+
+def tell_batch(batch, kept):
+    """The same, and prints it."""
+    told = try_batch(batch, kept)
+    print(''.join(it.said + '\n' for it in told), end='', flush=True)
     return told
 
 
@@ -223,12 +244,17 @@ def try_all(by_crate, log, bad):
     told = []
     with tempfile.TemporaryDirectory() as room, ThreadPoolExecutor(2 * sum(map(len, by_crate.values())) + 1) as pool:
         def begin(crate):
-            kept = None if log else os.path.join(room, crate, 'kept')
+            kept = os.path.join(room, crate, 'kept')
+            first, *others = batches_of(by_crate[crate])
             if log:
                 wait_for(crate, log)
+                os.makedirs(kept)
             else:
                 prove_unchanged(crate, by_crate[crate], kept)
-            return [pool.submit(try_batch, batch, kept) for batch in batches_of(by_crate[crate])]
+            tried = pool.submit(tell_batch, first, kept)
+            if log:
+                tried.exception()  # the others go over what it proves
+            return [tried, *(pool.submit(tell_batch, batch, kept) for batch in others)]
 
         begun = {crate: pool.submit(begin, crate) for crate in sorted(by_crate, key=lambda it: -len(by_crate[it]))}
         for crate, tried in begun.items():
@@ -237,9 +263,7 @@ def try_all(by_crate, log, bad):
             except BadEdit as error:
                 bad.extend('%s: NOT TRIED: %s' % (it.name(), error) for it in by_crate[crate])
                 continue
-            for it in (it for result in results for it in result.result()):
-                print(it.said, flush=True)
-                told.append(it)
+            told += [it for result in results for it in result.result()]
             shutil.rmtree(os.path.join(room, crate), ignore_errors=True)
     return told
 

@@ -147,8 +147,8 @@ def tests():
     yield 'the best of two goals', len(both) == 2 and verdicts.best(both).kind == verdicts.FALSE
     yield 'lines to ask by', verdicts.asked_lines(HELP, 'head::Edition::most_cases') == ['pub returns-in-Two : goal.returns-in-Two', 'returns-in-Two c = ?']
     goal = verdicts.Goal('text::selects::choose', 'returns', verdicts.ANSWER, '')
-    yield 'an answer asked anew', verdicts.asked_anew('hub_base', goal.function, '', [goal], ANSWERS) == ASKED
-    yield 'nothing to ask', verdicts.asked_anew('hub_base', goal.function, '', [goal._replace(kind=verdicts.FALSE)], ANSWERS) is None
+    yield 'an answer asked anew', verdicts.asked_anew('hub_base', goal.function, '', [goal], ANSWERS, verdicts.PLAIN[0]) == ASKED
+    yield 'nothing to ask', verdicts.asked_anew('hub_base', goal.function, '', [goal._replace(kind=verdicts.FALSE)], ANSWERS, '') is None
     batches = batches_of([Change('one'), Change('two'), Change('one')])
     yield 'edits of one function are apart', [len(it.edits) for it in batches] == [2, 1]
     yield 'or read together', [len(it.edits) for it in batches_of([Change('one'), Change('one')], apart=False)] == [2]

@@ -8,4 +8,5 @@ pub mod SeatView
 pub mod Request
 pub mod Seated
 pub mod Calls
+pub mod Values
 pub mod Prelude

@@ -15,6 +15,7 @@ mod request;
 mod rule;
 mod seat;
 pub mod under_lock;
+mod values;
 mod words;
 
 pub use answer::Answer;
@@ -26,3 +27,4 @@ pub use live_hub::LiveHub;
 pub use mark::mark_of;
 pub use name::HubName;
 pub use seat::Seat;
+pub use values::Ended;

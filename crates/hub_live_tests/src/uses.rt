@@ -8,8 +8,8 @@ use crate::live::threads::told_by;
 use crate::live::{Ask, DONE, MADE, SENT, SHUT};
 use hub_base::{Event, Fault, Pid, Port};
 use hub_crew::Member;
-use hub_live::{Chan, Held, HubName, LiveHub};
-use hub_uses::{Pool, Stopped, Work, hand_over};
+use hub_live::{Chan, Ended, Held, HubName, LiveHub};
+use hub_uses::{Pool, Work, hand_over};
 use std::process::Abort;
 use std::test::Fail;
 
@@ -54,7 +54,7 @@ pub(crate) fn work_off<K: HubName + Send + Sync, R: Runtime>(
     Ok(Vec::new(rt.alloc()))
 }
 
-fn add_jobs<K: HubName>(rt: &impl Abort, done: &[Member<Held<K>, Result<Work, Stopped>>]) {
+fn add_jobs<K: HubName>(rt: &impl Abort, done: &[Member<Held<K>, Result<Work, Ended>>]) {
     let (mut all, mut total) = (0u32, 0u64);
     for member in done {
         let (jobs, sum) = jobs_and_sum(rt, member.report, member.seat.pid());
@@ -65,7 +65,7 @@ fn add_jobs<K: HubName>(rt: &impl Abort, done: &[Member<Held<K>, Result<Work, St
 }
 
 /// What a member of the pool did. Only process 0 hands out.
-fn jobs_and_sum(rt: &impl Abort, report: Result<Work, Stopped>, pid: Pid) -> (u32, u64) {
+fn jobs_and_sum(rt: &impl Abort, report: Result<Work, Ended>, pid: Pid) -> (u32, u64) {
     match report {
         Ok(Work::HandedOut) => {
             same(rt, pid, Pid(0), "who hands out");

@@ -10,4 +10,4 @@ mod pool;
 pub use handing_over::hand_over;
 pub use meeting::share;
 pub use polling::{poll, waiting};
-pub use pool::{Pool, Stopped, Work};
+pub use pool::{Pool, Work};

@@ -7,7 +7,7 @@ ghost use Rattle.hub_base.specs.declared.event.Outcome.TheVariants.{Got};
 ghost use Rattle.hub_live.specs.Calls.{Later};
 ghost use Rattle.hub_live.specs.Mark.{counts_at};
 ghost use Rattle.hub_live.specs.SeatView.{state_seen};
-ghost use Rattle.hub_uses.specs.Told.{last_answer};
+ghost use Rattle.hub_live.specs.Values.{last_answer};
 
 use hub_base::{Cases, Fault, Outcome, Value, What};
 use hub_live::{Chan, Held, HubName, LiveHub};

@@ -3,14 +3,15 @@
 
     check_claims.py [--write] [ROOT]
 
-Tells the public functions that no claim names, and the calls, paths, clauses and definitions that a page names and the sources
-do not have. A row of CLAIMS is: calls, with a link to their file | promise | definitions. In a promise `a`, `b`: stands before
-what these clauses say, and what stands before any label is of a clause without one; a row that begins with 'By its type' has no
-clause. Each clause of a call stands in one of its rows, each call of a row has one of the row's clauses, and the contracts of a
-row lead to each definition that it names. A trait's methods with clauses count as calls. Tells also the public functions that no
-must-fail edit turns, but for those that a section names as without an edit, for laws, which have no body, and for the methods of
-traits, which have none there; an edit names its function in its line `call:`. Tells last where a crate's README names a file that
-is not there, or has a table of its files and leaves one out.
+Tells the public functions that no claim names, and the calls, paths, clauses and definitions that a page names and the
+sources do not have. A row of CLAIMS is: calls, with a link to their file | promise | definitions. In a promise `a`, `b`:
+stands before what these clauses say, and what stands before any label is of a clause without one; *a* is a part of a
+definition; a row that begins with 'By its type' has no clause. Each clause of a call stands in one of its rows, each call of
+a row has one of the row's clauses, and the contracts of a row lead to each definition that it names. A trait's methods with
+clauses count as calls. Tells also the public functions that no must-fail edit turns, but for those that a section names as
+without an edit, for laws, which have no body, and for the methods of traits, which have none there; an edit names its
+function in its line `call:`. Tells last where a crate's README names a file that is not there, or has a table of its files
+and leaves one out.
 With --write the links of all rows are made anew first, so a row may be written without. The status is 1 where anything is told.
 """
 import os
@@ -168,7 +169,7 @@ def check_row(crate, calls, cells):
         if labels and not labels & calls[name].labels:
             yield 'CLAIMS: %s has none of the clauses %s' % (name, ', '.join(sorted(labels)))
     yield from check_definitions('CLAIMS', crate, cells[-1])
-    cited = {name for found in CITED.findall(cells[-1]) for name in TICKED.findall(found[-1])}
+    cited = {name for found in CITED.findall(cells[-1]) for name in TICKED.findall(found[-1])} | set(re.findall(r'\*(\w+)\*', cells[1]))
     for name in sorted(cited - views() - led_to(set().union(*(calls[name].words for name in names))) if names else ()):
         yield 'CLAIMS: no contract of %s leads to %s' % (', '.join(names), name)
 

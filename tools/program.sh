@@ -5,10 +5,9 @@
 # README with what they speak of; looks for limits that are written as numbers, and for definitions and proofs that are too
 # wide; counts the instructions of replays, where valgrind is there; tries a close by an end that receives; has each program
 # refuse bad arguments; tries the words of the built chanhub_tool, converses with it, and compares its stories and pictures
-# with second readings; tries the scripts that build, by builds_test.py, and those that look at scenarios, by
-# scenarios_test.py; compares replays with Go's own channels; and builds and tries the C library. The last line counts:
-# 'N passed, M failed', and how many were skipped, if any, for what the machine
-# lacks.
+# with second readings; sees that who waits sleeps, by sleeps.py; tries the scripts that build, by builds_test.py, and those
+# that look at scenarios, by scenarios_test.py; compares replays with Go's own channels; and builds and tries the C library.
+# The last line counts: 'N passed, M failed', and how many were skipped, if any, for what the machine lacks.
 set -u
 root=$(cd "$(dirname "$0")/.." && pwd)
 program=${1:-$root/crates/chanhub/out/chanhub}

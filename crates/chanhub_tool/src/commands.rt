@@ -25,7 +25,10 @@ pub(crate) enum Command<'a> {
     Serve,
 }
 
-/// The version of the program, and of the library for C.
+/// The program's name, whatever its file is called.
+const NAME: &str = "chanhub_tool";
+
+/// The program's version, which is that of the library for C.
 const VERSION: &str = "1.0.0";
 
 const ABOUT: &str =
@@ -37,7 +40,8 @@ arguments. Standard error says which.";
 
 /// All commands, in `clap`'s words.
 pub(crate) fn grammar<'a>(alloc: Global) -> Result<clap::Command<'a>, AllocError> {
-    clap::Command::new(alloc, "chanhub_tool")
+    clap::Command::new(alloc, NAME)
+        .bin_name(NAME)?
         .version(VERSION)
         .about(ABOUT)
         .after_help(STATUSES)

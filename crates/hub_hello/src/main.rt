@@ -1,4 +1,4 @@
-//! A whole program over the live hub. Process 0 sends three numbers, process 1 adds them up, each in a thread of its own.
+//! A whole program over the live hub. Process 0 sends a number to process 1, each in a thread of its own.
 #![tactic(auto)]
 
 ghost use Rattle.std.specs.Prelude.{◌≡◌, All};
@@ -13,28 +13,18 @@ use std::thread::Threads;
 
 /// What the processes do over this channel.
 #[derive(Clone, Copy)]
-struct Add(Chan);
+struct Hello(Chan);
 
-impl<K: HubName, R: Wait> Task<LiveHub<K>, Held<K>, R> for Add {
-    type Report = Result<u64, Ended>;
+impl<K: HubName, R: Wait> Task<LiveHub<K>, Held<K>, R> for Hello {
+    type Report = Result<Option<u64>, Ended>;
 
-    fn perform(self, rt: &R, hub: &LiveHub<K>, seat: &mut Held<K>) -> Result<u64, Ended> {
-        let Add(chan) = self;
+    fn perform(self, rt: &R, hub: &LiveHub<K>, seat: &mut Held<K>) -> Result<Option<u64>, Ended> {
         if seat.pid() == Pid(0) {
-            for number in 1..4 {
-                seat.send_value(rt, hub, &chan.sender(), Value::num(number))?;
-            }
-            seat.close_port(rt, hub, &chan.sender())?;
-            return Ok(0);
+            seat.send_value(rt, hub, &self.0.sender(), Value::num(9))?;
+            return Ok(None);
         }
-        let mut sum = 0u64;
-        for _ in rt.forever() {
-            match seat.recv_value(rt, hub, &chan.receiver())? {
-                Some(value) => sum = sum.saturating_add(value.as_num().unwrap_or(0)),
-                None => break,
-            }
-        }
-        Ok(sum)
+        let got = seat.recv_value(rt, hub, &self.0.receiver())?;
+        Ok(got.and_then(Value::as_num))
     }
 }
 
@@ -50,7 +40,7 @@ fn run<K: HubName + Send + Sync, R: Threads + Wait + Print + AllocGlobal + Sync>
     let hub = blank.named::<K>();
     let mut seats = hold_all::<K>(rt.alloc(), seats).ok()?;
     let chan = seats.first_mut()?.make_chan(rt, &hub, 1).ok()?;
-    for member in run_crew(rt, rt.alloc(), &hub, seats, Add(chan)).ok()? {
+    for member in run_crew(rt, rt.alloc(), &hub, seats, Hello(chan)).ok()? {
         println!(rt; "process {}: {:?}", member.seat.pid().0, member.report).ok()?;
     }
     Some(())
@@ -58,11 +48,8 @@ fn run<K: HubName + Send + Sync, R: Threads + Wait + Print + AllocGlobal + Sync>
 
 fn main(rt: HostRuntime) -> ExitCode {
     // Two processes, whose journal has room for a hundred steps.
-    match Blank::open(rt.alloc(), 2, 100, Edition::One) {
-        Ok((blank, seats)) => match run::<Brand, _>(&rt, blank, seats) {
-            Some(()) => ExitCode::SUCCESS,
-            None => ExitCode::FAILURE,
-        },
-        Err(_) => ExitCode::FAILURE,
-    }
+    let Ok((blank, seats)) = Blank::open(rt.alloc(), 2, 100, Edition::One) else {
+        return ExitCode::FAILURE;
+    };
+    run::<Brand, _>(&rt, blank, seats).map_or(ExitCode::FAILURE, |()| ExitCode::SUCCESS)
 }

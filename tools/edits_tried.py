@@ -55,13 +55,16 @@ def read():
         return tomllib.load(file)
 
 
+def untried(crates):
+    """The crates of which no run of all edits is recorded."""
+    return [it for it in crates if it not in read()]
+
+
 def stale(crates):
     """What to say of each crate whose contracts are not those over which all its edits were tried."""
     tried = read()
     for crate in crates:
-        if crate not in tried:
-            yield '%s: no run of all its edits is recorded: tools/edits.py --further %s' % (crate, crate)
-        elif tried[crate]['contracts'] != contracts(crate):
+        if crate in tried and tried[crate]['contracts'] != contracts(crate):
             yield '%s: its contracts have changed since all its edits were tried on %s: tools/edits.py --further %s' % (
                 crate, tried[crate]['date'], crate)
 

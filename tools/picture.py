@@ -3,16 +3,19 @@
 windows of each. What a picture has to show is worked out here, from the journal and from the events that tools/model.py tells
 of it, and never from a picture: the boxes are the entries, the bars the calls that waited, the arrows go from the k-th value
 that was sent on a port to the k-th that was received, the stalls are the calls that were told so, the levels are what ports hold
-from step to step. Arrows lie above the boxes, and go from one's side to the other's; a lane ends at its process's exit. The
+from step to step. Arrows lie behind the boxes, and go from one's side to the other's; a lane ends at its process's exit. The
 pictures of docs/pictures are drawn again and compared; each of them is drawn with each allocation refused, which needs a C
 compiler; pictures of the longest journal, in which many wait, have to come soon, and a step costs as much however many wait, by
-valgrind where it is there; and Chromium, where it is there, is asked whether all of a picture is in view and no text lies over another's box.
+valgrind where it is there, and the time of a whole picture grows with its steps and not with their square; and Chromium, where it
+is there, is asked on white and on dark paper whether all of a picture is in view, no text lies over another's box, over an arrow or
+beyond its own box, and all contrasts are at least 3.
 The last line counts: 'N passed, M failed', and 'K skipped' for what is not there."""
 import collections
 import os
 import pathlib
 import random
 import re
+import resource
 import shutil
 import subprocess
 import sys
@@ -27,8 +30,11 @@ RANDOM = 200
 # of these by windows too
 WINDOWED = 50
 MOST_ALLOCATIONS = 1000
-LAYERS = ["lane", "stall", "strip", "level", "bar", "box", "arrow"]
+LAYERS = ["lane", "stall", "strip", "level", "whom", "arrow", "bar", "box"]
 FULL = 12
+# where lanes begin, and how much room a process has, how high its box is and how many steps a band has, by scale
+TOP, STRIP, HUES = 90, 18, 8
+SIZES = {14: (58, 30, 40), 36: (42, 20, 16), 60: (30, 14, 10)}
 
 Asked = collections.namedtuple("Asked", "place line cases ended")
 Told = collections.namedtuple("Told", "by event")
@@ -58,6 +64,7 @@ class Journal:
     """Each entry with how it ended, by the events of the model."""
 
     def __init__(self, text):
+        self.procs = int(text.decode().splitlines()[1].split()[1])
         self.lines = text.decode().splitlines()[2:]
         self.ended = {}
         self.exited = {}
@@ -125,6 +132,12 @@ class Bands:
         self.first, self.end = first, end
         self.steps = 14 if count <= 14 else 36 if count <= 72 else 60
         self.count = -(-count // self.steps)
+        self.lane, self.size, self.half = SIZES[self.steps]
+
+    def y(self, band, pid, journal):
+        """Where a process stands in a band."""
+        procs = journal.procs
+        return TOP + band * (self.lane * (procs + 2) + STRIP * len(shown_ports(journal, self))) + self.lane * (1 + min(pid, procs))
 
     def band(self, place):
         return (place - self.first) // self.steps
@@ -167,10 +180,16 @@ def arrows(journal, bands):
             yield band, f"port {port} from\n{moved_title(sent)}to\n{moved_title(received)}"
 
 
+def shown_ports(journal, bands):
+    """The ports that hold a value in the window, each of which has a strip."""
+    held = {held.port for held in journal.levels() if bands.between(held.first, bands.end if held.until is None else held.until)}
+    return [port for port in journal.room if port in held]
+
+
 def strips(journal, bands):
     for band in range(bands.count):
-        for port, room in journal.room.items():
-            yield band, f"port {port} has room for {room}\n"
+        for port in shown_ports(journal, bands):
+            yield band, f"port {port} has room for {journal.room[port]}\n"
 
 
 def levels(journal, bands):
@@ -181,64 +200,99 @@ def levels(journal, bands):
             yield band, title
 
 
+def shown_case(line, cases, end):
+    """The side and the port of the case that fired, or of the only one; none for a select of which none fired."""
+    if end.startswith("case"):
+        return cases[int(end.split()[1])]
+    return cases[0] if len(cases) == 1 and not end.startswith(("default", "fault")) else None
+
+
+def is_side(side):
+    return lambda line, cases, end: (shown_case(line, cases, end) or " ")[0] == side
+
+
 # what the legend tells, and of which entries, by their lines and their ends
 MARKS = {
-    "Box: an entry. Filled it sends, white it receives. Its colour is the port's. ": lambda line, cases, end: True,
-    "m and a number: makes that port. ": lambda line, cases, end: end.startswith("made"),
-    "c and a number: closes that port. ": lambda line, cases, end: line[1] == "close" and end == "done",
-    "?: a select of which no case fired. ": lambda line, cases, end: line[1] == "select"
+    "sends": is_side("s"),
+    "receives": is_side("r"),
+    "makes a port": lambda line, cases, end: end.startswith("made"),
+    "closes a port": lambda line, cases, end: line[1] == "close" and end == "done",
+    "no case fired": lambda line, cases, end: line[1] == "select"
     and len(cases) != 1
     and end.split(" ")[0] not in ("case", "default", "fault"),
-    "def: took its default. ": lambda line, cases, end: end == "default",
-    "x and a number: cancels the call of that process. ": lambda line, cases, end: line[1] == "cancel" and end == "done",
-    "f and a number, with a thick dashed orange edge: refused by that fault. ": lambda line, cases, end: end.startswith("fault"),
-    "Thin dashed edge: still waits. ": lambda line, cases, end: end == "",
-    "Dotted edge: the port was closed and empty. ": lambda line, cases, end: end.endswith("drained"),
-    "Finely dotted edge: cancelled. ": lambda line, cases, end: end == "cancelled",
-    "Thick dashed orange edge: stalled, or sent on a closed port. ": lambda line, cases, end: end == "stalled" or end.endswith("closed"),
+    "default taken": lambda line, cases, end: end == "default",
+    "cancels a call": lambda line, cases, end: line[1] == "cancel" and end == "done",
+    "refused: fault 3": lambda line, cases, end: end.startswith("fault"),
+    "still waits": lambda line, cases, end: end == "",
+    "closed and empty": lambda line, cases, end: end.endswith("drained"),
+    "was cancelled": lambda line, cases, end: end == "cancelled",
+    "stalls or fails": lambda line, cases, end: end == "stalled" or end.endswith("closed"),
 }
 
 
 def mover(moved, step):
-    last = [(by, event) for _, by, event in moved if by <= step][-1:]
-    return "".join(f"P{event.split()[0]} by step {by + 1}" for by, event in last) or "nobody"
+    """Who moved the last of these values by this step, and by which step."""
+    return next(((int(event.split()[0]), by) for _, by, event in reversed(moved) if by <= step), None)
 
 
-def waiters(journal, bands):
-    """Whoever the last step that stalls anyone stalls, and whoever waits in the end, where that is shown: a row for each case."""
+def mover_words(moved):
+    return f"P{moved[0]} by step {moved[1] + 1}" if moved else "nobody"
+
+
+def whom(journal, step, side, own, sender, receiver):
+    """For whom a case waits: of a receive the last sender, of a send the last receiver, or else the other one, where the same step
+    stalled that one too."""
+    stalled = {pid for by, pid, _ in journal.stalls if by == step and pid != own}
+    both = (sender, receiver) if side == "r" else (receiver, sender)
+    return next((moved[0] for moved in both if moved and moved[0] in stalled), None)
+
+
+def waits(journal, bands):
+    """A row for each case of those who wait in vain, and whom it waits for at which step."""
+    for step, asked in vain(journal, bands):
+        for side, port in cases_of(journal.lines[asked]):
+            aim = "send on" if side == "s" else "receive from"
+            moved = [mover(journal.moved[way][int(port)], step) for way in "sr"]
+            pid = int(journal.lines[asked].split()[0])
+            other = whom(journal, step, side, pid, *moved)
+            row = (
+                f"P{pid} waits from step {asked + 1} to {aim} port {port}; "
+                f"the last to send there: {mover_words(moved[0])}, to receive: {mover_words(moved[1])}. "
+            )
+            yield row + ("" if other is None else f"It waits for P{other}. "), step, pid, other
+
+
+def vain(journal, bands):
+    """Whoever the last step that stalls anyone stalls, and whoever waits in the end, where that is shown: by step and call."""
     stalled = [(by, asked) for by, _, asked in journal.stalls if bands.has(by)]
     rows = [(by, asked) for by, asked in stalled if by == stalled[-1][0]]
     if bands.end >= len(journal.lines):
         rows += [(bands.end, asked.place) for asked in journal.asked() if asked.ended is None]
-    for step, asked in rows:
-        for side, port in cases_of(journal.lines[asked]):
-            aim = "send on" if side == "s" else "receive from"
-            moved = [mover(journal.moved[way][int(port)], step) for way in "sr"]
-            pid = journal.lines[asked].split()[0]
-            yield (
-                f"P{pid} waits from step {asked + 1} to {aim} port {port}; "
-                f"the last to send there: {moved[0]}, to receive: {moved[1]}. "
-            )
+    return rows
+
+
+def whoms(journal, bands):
+    """Who waits for whom of those who were stalled."""
+    for _, step, pid, other in waits(journal, bands):
+        if other is not None and bands.has(step):
+            yield bands.band(step), f"P{pid} waits for P{other}"
 
 
 def legend(journal, bands):
-    """What the legend has to tell, in any order."""
+    """What the legend has to tell, in order."""
     shown = [asked for asked in journal.asked() if bands.has(asked.place)]
     for words, holds in MARKS.items():
         ends = ((asked, asked.ended.event.split(" ", 1)[1] if asked.ended else "") for asked in shown)
         if any(holds(asked.line.split(), asked.cases, end) for asked, end in ends):
             yield words
     if any(bars(journal, bands)):
-        yield "Bar: the call waits, and ends at the knob. "
+        yield "waits, then ends"
     if any(sent[1] < bands.end and bands.first <= received[1] for _, sent, received in journal.passages()):
-        yield (
-            "Arrow: a value, from the dot to the tip. Straight down it was handed over, "
-            "slanted it lay in the buffer. "
-        )
+        yield "value on its way"
     if any(stalls(journal, bands)):
-        yield "Shaded: everyone who is left waits, and this step stalls them. "
+        yield "deadlock"
     if any(levels(journal, bands)):
-        yield "Strip: how full a port is; at the upper line it is full. A port without a buffer has none. "
+        yield "values in a port"
 
 
 def stalls(journal, bands):
@@ -251,7 +305,7 @@ def stalls(journal, bands):
 
 
 def shapes(root, shape):
-    return [(group, group.find(SVG + "title").text) for group in root.iter(SVG + "g") if group.get("class").split()[0] == shape]
+    return [(group, group.find(SVG + "title").text) for group in root.findall(SVG + "g") if group.get("class").split()[0] == shape]
 
 
 def number(element, name):
@@ -263,22 +317,24 @@ def numbers(path):
 
 
 def layers_agree(root):
-    """In each band stalls lie on the lanes, bars on them, boxes on these, and arrows on top."""
+    """In each band stalls lie on the lanes, arrows on them, bars on these, and boxes on top."""
     last = 0
     for element in root:
         shape = element.get("class", "").split(" ")[0]
+        if shape == "tick":
+            last = 0
         if shape in LAYERS:
             assert shape == "lane" or last <= LAYERS.index(shape), f"{shape} lies above {LAYERS[last]}"
             last = LAYERS.index(shape)
 
 
 def legend_agrees(root, wanted):
-    """The legend has all of these, and nothing else."""
-    told = "".join(row.text or "" for row in root.iter(SVG + "tspan") if row.get("class") is None)
-    for words in wanted:
-        assert told.count(words) == 1, f"the legend does not tell: {words}"
-        told = told.replace(words, "")
-    assert told == "", f"the legend tells: {told}"
+    """The legend has a sign for each of these, six in a row, and nothing else."""
+    signs = [group for group in root.findall(SVG + "g") if group.get("class") == "sign"]
+    told = [sign.find(SVG + "text").text for sign in signs]
+    assert told == list(wanted), f"the legend tells: {told}"
+    for place, sign in enumerate(signs):
+        assert sign.get("transform") == f"translate({14 + 126 * (place % 6)} {44 + 18 * (place // 6)})", told[place]
 
 
 def by_band(wanted):
@@ -299,16 +355,22 @@ def column(place, band, bands, columns, edges):
 
 
 def lanes_agree(root, journal, bands):
-    """Each lane begins at the left edge of its band, and ends at the column of the exit of its process, or at the right edge."""
+    """Each lane goes from the left edge of its band to the column of the exit of its process, or to the right edge; a process that
+    exited before the band has none there, and no name."""
     lanes = [numbers(path) for path in root.iter(SVG + "path") if path.get("class") == "lane"]
-    columns = columns_of(root)
-    procs = len(lanes) // bands.count
-    half = (columns[bands.first] - lanes[0][0]) if lanes else 0
-    for place, (left, y, end, other) in enumerate(lanes):
-        band = place // procs
-        right = left + 2 * half * (min(bands.end, bands.first + (band + 1) * bands.steps) - bands.first - band * bands.steps)
-        wanted = column(journal.exited.get(place % procs), band, bands, columns, (left, right))
-        assert (end, other) == (wanted, y), f"the lane of process {place % procs} ends at {end} and not at {wanted}"
+    columns, wanted, names = columns_of(root), [], []
+    for band in range(bands.count):
+        first = bands.first + band * bands.steps
+        edges = 60, 60 + 2 * bands.half * (min(bands.end, first + bands.steps) - first)
+        for pid in range(journal.procs):
+            exited = journal.exited.get(pid)
+            if exited is None or exited >= first:
+                y = bands.y(band, pid, journal)
+                wanted.append([edges[0], y, column(exited, band, bands, columns, edges), y])
+                names.append(f"P{pid}")
+    assert lanes == wanted, f"lanes: {lanes} and not {wanted}"
+    told = [name.text for name in root.findall(SVG + "text") if name.get("class") == "name"]
+    assert told == names, f"names: {told}"
 
 
 def levels_agree(root, journal, bands):
@@ -318,7 +380,7 @@ def levels_agree(root, journal, bands):
     strips = {}
     for place, (group, title) in enumerate(shapes(root, "strip")):
         left, floor, right, _, full, _ = numbers(group.find(SVG + "path"))
-        strips[place // len(journal.room), int(title.split()[1])] = left, right, floor
+        strips[place // len(shown_ports(journal, bands)), int(title.split()[1])] = left, right, floor
         assert floor - full == FULL, title
     wanted = by_band(
         (band, held)
@@ -336,21 +398,50 @@ def levels_agree(root, journal, bands):
         assert stays == ([f"{held.count} stay"] if held.until is None else []), title
 
 
-def arrows_agree(root, wanted, bands):
-    """Each goes from the side of its sender that faces the receiver to the side of this one that faces the sender, and in the
-    columns of their steps where its band has them."""
-    rects = {title.split("\n")[0]: group.find(SVG + "rect") for group, title in shapes(root, "box")}
+def arrows_agree(root, wanted, journal, bands):
+    """Each goes from the side of its sender that faces the receiver to the side of this one that faces the sender, as an arc above
+    the lane where both are one; in the columns of their steps where its band has them, and else with no mark or no tip."""
     columns = columns_of(root)
-    lanes = [numbers(path)[1] for path in root.iter(SVG + "path") if path.get("class") == "lane"]
-    procs = len(lanes) // bands.count
     for (group, title), (band, _) in zip(shapes(root, "arrow"), by_band(wanted)):
         ends = numbers(group.find(SVG + "path"))
         sent, received = (int(pid) for pid in re.findall(r"^(\d+) case", title, re.MULTILINE))
-        side = number(next(iter(rects.values())), "height") // 2 * ((sent < received) - (received < sent))
-        assert ends[1::2] == [lanes[band * procs + sent] + side, lanes[band * procs + received] - side], title
-        for x, step in zip(ends[::2], re.findall(r"by step (\d+)", title)):
-            place = int(step) - 1
-            assert not bands.has(place) or bands.band(place) != band or x == columns[place], title
+        heights = [bands.y(band, pid, journal) for pid in (sent, received)]
+        side = bands.size // 2 * ((sent < received) - (received < sent))
+        if sent == received:
+            upper = heights[0] - bands.size // 2
+            assert ends[1::2] == [upper, upper - (bands.lane - bands.size - 4), upper], title
+            assert ends[2] == (ends[0] + ends[4]) // 2, title
+        else:
+            assert ends[1::2] == [heights[0] + side, heights[1] - side], title
+        steps = [int(step) - 1 for step in re.findall(r"by step (\d+)", title)]
+        inside = [bands.has(step) and bands.band(step) == band for step in steps]
+        for x, step, known in zip((ends[0], ends[-2]), steps, inside):
+            assert not known or x == columns[step], title
+        port = int(title.split()[1])
+        words = ["arrow", f"h{port % HUES}", *(["comes"] if not inside[0] else []), *(["leaves"] if not inside[1] else [])]
+        assert group.get("class").split() == words, title
+
+
+def marks_agree(root, journal):
+    """Each box of a port has its mark; a select shows the cases that it offered, and of these the one that fired."""
+    asked = journal.asked()
+    for group, title in shapes(root, "box"):
+        entry = asked[int(title.split()[1]) - 1]
+        line, end = entry.line.split(), entry.ended.event.split(" ", 1)[1] if entry.ended else ""
+        case = shown_case(line, entry.cases, end) if entry.cases else None
+        port = case[1] if case else end.split()[1] if end.startswith("made") else line[2] if line[1] == "close" else None
+        port = None if end.startswith("fault") else port
+        marks = [mark.get("href") for mark in group.findall(SVG + "use")]
+        assert marks == ([] if port is None else [f"#k{int(port) % HUES}"]), f"{title}: {marks}"
+        offers = [text for text in group.findall(SVG + "text") if text.get("class") == "cases"]
+        if root.get("class") != "wide" or len(entry.cases) < 2:
+            assert not offers, title
+            continue
+        told = "".join(offers[0].itertext()).split()
+        cases = [side + port for side, port in entry.cases]
+        assert told == (cases if len(cases) <= 4 else [str(len(cases)), "cases"]), f"{title}: {told}"
+        fired = [text.text for text in offers[0].iter(SVG + "tspan")]
+        assert fired == ([case[0] + case[1]] if end.startswith("case") and len(cases) <= 4 else []), f"{title}: {fired}"
 
 
 def places_agree(root):
@@ -364,9 +455,9 @@ def places_agree(root):
     for group, title in shapes(root, "arrow"):
         steps = re.findall(r"by step (\d+)", title)
         ends = numbers(group.find(SVG + "path"))
-        assert (steps[0] == steps[1]) <= (ends[0] == ends[2]), title
+        assert (steps[0] == steps[1]) <= (ends[0] == ends[-2]), title
     width, height = number(root, "width"), number(root, "height")
-    for rect in root.iter(SVG + "rect"):
+    for rect in root.findall(f"{SVG}g/{SVG}rect"):
         assert 0 <= int(rect.get("x", 0)) and int(rect.get("x", 0)) + number(rect, "width") <= width, "a box is outside"
         assert 0 <= int(rect.get("y", 0)) and int(rect.get("y", 0)) + number(rect, "height") <= height, "a box is outside"
 
@@ -385,7 +476,7 @@ def check_picture(picture, journal, first, end):
     if shutil.which("xmllint"):
         output_of(["xmllint", "--noout", "-"], picture)
     root = xml.fromstring(picture)
-    allowed = "svg title style defs marker rect circle path text tspan g".split()
+    allowed = "svg title style defs marker rect circle path text tspan use g".split()
     assert all(element.tag[len(SVG) :] in allowed for element in root.iter()), "an element of another kind"
     bands = Bands(first, end)
     same("boxes", shapes(root, "box"), boxes(journal, bands))
@@ -394,11 +485,15 @@ def check_picture(picture, journal, first, end):
     same("stalls", shapes(root, "stall"), stalls(journal, bands))
     same("strips", shapes(root, "strip"), strips(journal, bands))
     same("levels", shapes(root, "level"), levels(journal, bands))
+    same("who waits for whom", shapes(root, "whom"), whoms(journal, bands))
     layers_agree(root)
-    arrows_agree(root, arrows(journal, bands), bands)
+    arrows_agree(root, arrows(journal, bands), journal, bands)
+    marks_agree(root, journal)
     legend_agrees(root, legend(journal, bands))
     rows = [row.text for row in root.iter(SVG + "tspan") if row.get("class") == "waits"]
-    assert rows == list(waiters(journal, bands)), f"those who wait: {rows}"
+    assert rows == [row for row, *_ in waits(journal, bands)], f"those who wait: {rows}"
+    dead = [row.text for row in root.iter(SVG + "tspan") if row.get("class") == "dead"]
+    assert dead == ["deadlock: everyone who is left waits"] * any(stalls(journal, bands)), f"deadlock: {dead}"
     lanes_agree(root, journal, bands)
     levels_agree(root, journal, bands)
     places_agree(root)
@@ -406,19 +501,43 @@ def check_picture(picture, journal, first, end):
 
 # ---- what a browser shows
 
-# each picture stands in a section of its own; what is wrong with it is written there
+# each picture stands in a section of its own; what is wrong with it is written there: what is out of view, a text over another's
+# box, over an arrow or beyond its own box, and a contrast below 3, of a text with what it stands on and of an edge with the paper
 PAGE = """<!doctype html><meta charset="ascii"><body style="margin:0">%s<script>
 const meets = (a, b) => a.x + 1 < b.x + b.width && b.x + 1 < a.x + a.width && a.y + 1 < b.y + b.height && b.y + 1 < a.y + a.height;
+const holds = (a, b) => a.x - 1 <= b.x && b.x + b.width <= a.x + a.width + 1 && a.y - 1 <= b.y && b.y + b.height <= a.y + a.height + 1;
+const color = (text) => text.match(/[\\d.]+/g).map(Number);
+const light = (c) => c.slice(0, 3).map((v) => (v /= 255) <= 0.04045 ? v / 12.92 : ((v + 0.055) / 1.055) ** 2.4);
+const bright = (c) => { const [r, g, b] = light(c); return 0.2126 * r + 0.7152 * g + 0.0722 * b + 0.05; };
+const contrast = (a, b) => Math.max(bright(a) / bright(b), bright(b) / bright(a));
+const over = (a, b, share) => a.slice(0, 3).map((v, i) => share * v + (1 - share) * b[i]);
+const inside = (p, b) => b.x < p.x && p.x < b.x + b.width && b.y < p.y && p.y < b.y + b.height;
 for (const section of document.querySelectorAll("section")) {
     const svg = section.querySelector("svg"), view = svg.viewBox.baseVal, faults = [];
-    const boxes = [...svg.querySelectorAll(".box rect")];
-    for (const shape of svg.querySelectorAll("rect, path, circle, text")) {
+    const boxes = [...svg.querySelectorAll(":scope > .box rect")], paper = color(getComputedStyle(svg.querySelector(".paper")).fill);
+    const field = svg.querySelector(":scope > .stall rect"), style = field && getComputedStyle(field);
+    const grounds = [paper, ...(field ? [over(color(style.fill), paper, style.fillOpacity)] : [])];
+    for (const shape of svg.querySelectorAll("rect, path, circle, text, use")) {
         if (shape.closest("defs")) continue;
-        const at = shape.getBBox(), name = shape.tagName + " " + shape.textContent + " at " + at.x + ", " + at.y;
-        if (at.x < 0 || at.y < 0 || at.x + at.width > view.width || at.y + at.height > view.height) faults.push(name + " is out of view");
-        if (shape.tagName === "text" && boxes.some((box) => box.parentNode !== shape.parentNode && meets(at, box.getBBox())))
-            faults.push(name + " lies over a box");
+        const at = shape.getBBox(), look = getComputedStyle(shape), name = shape.tagName + " " + shape.textContent + " at " + at.x + ", " + at.y;
+        const own = shape.closest(".box")?.querySelector("rect"), sign = shape.closest(".sign");
+        if (!sign && (at.x < 0 || at.y < 0 || at.x + at.width > view.width || at.y + at.height > view.height)) faults.push(name + " is out of view");
+        if (shape.tagName === "text") {
+            if (!sign && boxes.some((box) => box !== own && meets(at, box.getBBox()))) faults.push(name + " lies over a box");
+            if (own && !holds(own.getBBox(), at)) faults.push(name + " goes beyond its box");
+            for (const ground of own ? [color(getComputedStyle(own).fill)] : grounds)
+                if (contrast(over(color(look.fill), ground, look.fillOpacity), ground) < 3) faults.push(name + " is hardly read");
+        } else if (!shape.matches(".paper, .stall rect"))
+            for (const ground of grounds)
+                if (Math.max(...[look.stroke, look.fill, look.color].filter((c) => c !== "none").map((c) => contrast(color(c), ground))) < 3
+                    || (look.stroke !== "none" && shape.tagName !== "use" && contrast(color(look.stroke), ground) < 3))
+                    faults.push(name + " is hardly seen");
     }
+    const texts = [...svg.querySelectorAll(":scope > text, .strip text, .stay")].map((text) => [text, text.getBBox()]);
+    for (const arrow of svg.querySelectorAll(":scope > .arrow path, :scope > .whom path"))
+        for (let along = 0; along < arrow.getTotalLength(); along += 3)
+            for (const [text, box] of texts)
+                if (inside(arrow.getPointAtLength(along), box)) { faults.push(text.textContent + " lies over an arrow"); along = 1e9; break; }
     section.replaceChildren("faults of " + section.id + ": " + faults.join("; "));
 }
 </script>"""
@@ -429,16 +548,17 @@ def browser():
 
 
 def check_views(count, pictures):
-    """Has the browser lay out all of these pictures, by name, at once."""
+    """Has the browser lay out all of these pictures, by name, at once, on white and on dark paper."""
     sections = "".join(f'<section id="{name}">{picture.decode()}</section>' for name, picture in pictures.items())
-    with tempfile.TemporaryDirectory() as work:
-        page = pathlib.Path(work) / "page.html"
-        page.write_text(PAGE % sections)
-        words = [browser(), "--headless", "--no-sandbox", "--disable-gpu", f"--user-data-dir={work}/user", "--dump-dom", page.as_uri()]
-        shown = output_of(words).decode()
-    for name in pictures:
-        faults = re.search(f"faults of {re.escape(name)}: ([^<]*)<", shown)
-        count.test(f"{name} in a browser: {faults and faults[1]}", faults is not None and faults[1] == "")
+    for scheme, more in ("white", []), ("dark", ["--blink-settings=preferredColorScheme=0"]):
+        with tempfile.TemporaryDirectory() as work:
+            page = pathlib.Path(work) / "page.html"
+            page.write_text(PAGE % sections)
+            words = [browser(), "--headless", "--no-sandbox", "--disable-gpu", f"--user-data-dir={work}/user", *more, "--dump-dom", page.as_uri()]
+            shown = output_of(words).decode()
+        for name in pictures:
+            faults = re.search(f"faults of {re.escape(name)}: ([^<]*)<", shown)
+            count.test(f"{name} on {scheme} paper in a browser: {faults and faults[1]}", faults is not None and faults[1] == "")
 
 
 # ---- refused allocations
@@ -477,6 +597,8 @@ MOST_ENTRIES = 1000000
 MOST_SECONDS = 20
 # how many steps a journal has whose instructions are counted, and another one twice as many
 FEW = 2000
+# of so many steps a whole picture is drawn, and of four times as many, and how much longer that may take at most
+MANY, MOST_GROWTH = 20000, 8
 # how much more a step may cost where all others wait, or where there are many ports
 MOST_FACTOR = 2
 
@@ -529,6 +651,20 @@ def check_costs(count, program):
         cost = step_cost(program, waiting, ports)
         told = f"{cost:.0f} instructions a step where {waiting} wait and {ports} ports are busy, {alone:.0f} where one waits and one is"
         count.test(told, cost <= MOST_FACTOR * alone)
+
+
+def seconds(program, steps):
+    """How long the processor takes for the whole picture of a journal of so many entries."""
+    journal, end = busy_journal(steps, 1, 1)
+    before = resource.getrusage(resource.RUSAGE_CHILDREN).ru_utime
+    subprocess.run([program, "picture", "1", str(end)], input=journal, stdout=subprocess.DEVNULL, timeout=WAIT, check=True)
+    return resource.getrusage(resource.RUSAGE_CHILDREN).ru_utime - before
+
+
+def check_growth(count, program):
+    """Four times as many steps take some four times as long, and not their square."""
+    few, many = seconds(program, MANY), seconds(program, 4 * MANY)
+    count.test(f"{4 * MANY} steps are drawn in {many:.2f} s, and {MANY} in {few:.2f} s", many <= MOST_GROWTH * few)
 
 
 def check_times(count, program):
@@ -598,6 +734,7 @@ def main():
         check_journal(count, program, path.name, path.read_bytes())
     check_refusals(count, program, documents)
     check_times(count, program)
+    check_growth(count, program)
     check_costs(count, program)
     if browser():
         check_views(count, {path.name: output_of([program, "picture"], path.read_bytes()) for path in examples + documents})

@@ -1,5 +1,8 @@
 -- A text to which something was appended, and then some more.
 use Rattle.std.proofs.Common.{◌≡◌, ◌<◌, ◌∙◌, ◌+◌, ◌++◌, ℕ, suc, List, length, get_or, drop, ap, sym, append_assoc, add-one, arith, Result, Ok, Err, IsErr}
+use Rattle.std.proofs.Common.{◌↔◌, IsOk, take}
+use Rattle.std.specs.Prelude.{OnOk, OnErr}
+use Rattle.std.proofs.Math.Seq.{take-append_seam}
 use Rattle.std.specs.List.{flat_map}
 use Rattle.std.proofs.lemmas.List.{at_drop_more}
 use Rattle.std.specs.Global.{Vec}
@@ -33,6 +36,27 @@ pub refused : {E : Type 0} {old new : Vec ℕ} {mid : List ℕ} {text : List ℕ
     (rest : List ℕ) × (mid ≡ old.items ++ rest) → (more : List ℕ) × (new.items ≡ mid ++ more) → Appends old new text result
 refused {result = Ok u} wrong was more = grind (arith, wrong)
 refused {result = Err e} right was more = part was more
+
+-- the same where nothing stands before it
+pub refused-first : {E : Type 0} {old new : Vec ℕ} {text : List ℕ} {result : Result (Unit {0}) E} → IsErr result →
+    (rest : List ℕ) × (new.items ≡ old.items ++ rest) → Appends old new text result
+refused-first {result = Ok u} wrong grown = grind (arith, wrong)
+refused-first {result = Err e} right grown = record { ok = _; err = grown }
+
+-- what was appended stays where nothing was refused, and else it is taken back
+pub kept-ok : {E F : Type 0} (old mid new : Vec ℕ) (text : List ℕ) (done : Result (Unit {0}) E) (result : Result (Unit {0}) F) →
+    (IsOk result ↔ IsOk done) → OnOk result (new.items ≡ mid.items) → Appends old mid text done → OnOk result (new.items ≡ old.items ++ text)
+kept-ok old mid new text (Ok v) (Ok u) same kept put = kept ∙ put.ok
+kept-ok old mid new text (Err e) (Ok u) same kept put = grind (arith, same)
+kept-ok old mid new text done (Err f) same kept put = _
+
+pub kept-err : {E F : Type 0} (old mid new : Vec ℕ) (text : List ℕ) (done : Result (Unit {0}) E) (result : Result (Unit {0}) F) (before : ℕ) →
+    (IsOk result ↔ IsOk done) → before ≡ length old.items → OnErr result (new.items ≡ take before mid.items) → Appends old mid text done →
+    OnErr result (new.items ≡ old.items)
+kept-err old mid new text done (Ok u) before same whole kept put = _
+kept-err old mid new text (Ok v) (Err f) before same whole kept put = grind (arith, same)
+kept-err old mid new text (Err e) (Err f) before same whole kept put =
+    kept ∙ ap (take before) put.err.1 ∙ ap (λ k. take k (old.items ++ put.err.0)) whole ∙ take-append_seam old.items put.err.0
 
 -- texts are appended in turn: those that are left, behind what stands there
 pub record Goes {X : Type 0} (text : X → List ℕ) (xs : List X) (i : ℕ) (first now : List ℕ) : Type 0 where

@@ -6,3 +6,4 @@ mod Lasts
 mod OtherPorts
 mod Ports
 pub mod Titles
+mod Signs

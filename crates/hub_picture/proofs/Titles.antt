@@ -1,7 +1,7 @@
 -- So have what is told of shapes, and what stands in boxes.
-use Rattle.std.proofs.Common.{ℕ, ◌<◌, ◌≤◌, ◌^◌, ◌+◌, List, [], ◌∷◌, ◌++◌, codes, refl, arith, Option, None, Some, IfSome}
-use Rattle.std.specs.Prelude.{decimal}
-use Rattle.hub_base.specs.declared.limits.TheConstants.{GREATEST_PORT, GREATEST_VALUE}
+use Rattle.std.proofs.Common.{ℕ, ◌<◌, ◌≤◌, ◌^◌, ◌+◌, List, [], ◌∷◌, ◌++◌, codes, refl, arith, Option, None, Some, IfSome, Bool, true, false}
+use Rattle.std.specs.Prelude.{decimal, nat_le, if◌then◌else◌}
+use Rattle.hub_base.specs.declared.limits.TheConstants.{GREATEST_PID, GREATEST_PORT, GREATEST_VALUE}
 use Rattle.hub_base.specs.declared.case.Case.{Case}
 use Rattle.hub_base.specs.declared.case.Case.TheVariants as case
 use Rattle.hub_base.specs.Text.{CaseFits}
@@ -34,6 +34,7 @@ use Rattle.hub_picture.specs.Svg.Legend.{mark_words}
 use Rattle.hub_picture.specs.Svg.Stalls.{stall_title}
 use Rattle.hub_picture.specs.Svg.Strips.{strip_title, level_title, count_of}
 use Rattle.hub_picture.specs.Svg.Waiters.{waiter_words}
+use Rattle.hub_picture.specs.Svg.Whom.{whom_words}
 use Rattle.hub_picture.specs.Plain.{IsPlain, ToldFits, AskedFits, StripFits, HeldFits, WaiterFits, LabelFits, PlainLaw}
 use Rattle.hub_picture.proofs.Plain.{plain-both, plain-number, plain-value, plain-joined, plain-line}
 
@@ -140,8 +141,15 @@ waiter-plain w fits =
     ∷ codes "; the last to send there: " ∷ mover_text w.sender ∷ codes ", to receive: " ∷ mover_text w.receiver ∷ codes ". " ∷ [])
     (refl, (pid, (refl, (from, (aim, (refl, (sender, (refl, (receiver, (refl, _))))))))))
 
+whom-plain : (w : Option ℕ) → IfSome w (λ pid. pid ≤ GREATEST_PID) → IsPlain (whom_words w)
+whom-plain None fits = refl
+whom-plain (Some pid) fits =
+    plain-both (codes "It waits for P") (decimal pid ++ codes ". ") refl
+    (plain-both (decimal pid) (codes ". ") (plain-number pid (omega (arith, fits))) refl)
+
 legend-plain : (m : Mark) → IsPlain (mark_words m)
-legend-plain mark.Boxes = refl
+legend-plain mark.Sends = refl
+legend-plain mark.Receives = refl
 legend-plain mark.Makes = refl
 legend-plain mark.Closes = refl
 legend-plain mark.Selects = refl
@@ -169,7 +177,11 @@ label-plain (label.Cancel q) fits = worded (codes "x") q.0 255 refl fits (omega 
 label-plain (label.Refused f) fits = worded (codes "f") (fault_number f) 255 refl (fault-small f) (omega arith)
 
 content-shown : (c : Content) → IsContent c → IsPlain (codes ":" ++ number_text (number_in c))
-content-shown (Num n) fits = worded (codes ":") n GREATEST_VALUE refl fits (omega arith)
+content-shown (Num n) fits = by (nat_le n 999999)
+  where
+    by : (b : Bool) → IsPlain (codes ":" ++ (if b then decimal n else codes ".."))
+    by true = worded (codes ":") n GREATEST_VALUE refl fits (omega arith)
+    by false = refl
 content-shown (Bytes bs) fits = refl
 
 value-plain : (v : Option Value) → IfSome v IsValue → IsPlain (value_text v)
@@ -184,6 +196,7 @@ plain-law = record {
   strip = strip-plain;
   level = level-plain;
   waiter = waiter-plain;
+  whom = whom-plain;
   legend = legend-plain;
   label = label-plain;
   value = value-plain;

@@ -18,7 +18,7 @@ use Rattle.hub_picture.specs.declared.asked.Shown.{Shown}
 use Rattle.hub_picture.specs.declared.asked.Shown.TheVariants.{Boxes, Bars}
 use Rattle.hub_picture.specs.declared.arrows.Arrow.{Arrow}
 use Rattle.hub_picture.specs.Lanes.{lanes_of}
-use Rattle.hub_picture.specs.Levels.{all_strips, all_levels}
+use Rattle.hub_picture.specs.Levels.{shown_strips, all_levels}
 use Rattle.hub_picture.specs.Waiters.{all_waiters}
 use Rattle.hub_picture.specs.declared.drawing.Drawing.{Drawing}
 use Rattle.hub_story.specs.Windows.{goes_on, has, touches, within}
@@ -87,14 +87,14 @@ abbrev pub stalls_in : Window → Told → Bool
 stalls_in w t = is_stalled t.event.what && has w t.by
 
 -- ---- the whole
--- the lanes are the processes, the strips the ports that have room; the boxes are the entries of the window, the bars the
+-- the lanes are the processes, the strips the ports that hold a value in the window; the boxes are the entries of the window, the bars the
 -- calls that waited, the arrows the passages of all ports, and the levels what ports held, as far as they touch it; the
 -- stalls who was stalled by its steps, and the waiters who waits in vain, and for what: each once, in order, and nothing else
 pub record IsDrawingOf (given : JournalView) (s : Story) (w : Window) (d : Drawing) : Type 0 where
   pub procs : d.procs ≡ given.head.procs
   pub window : d.window ≡ within w (length given.entries)
   pub lanes : d.lanes.items ≡ lanes_of given.head.procs given.entries s.told.items
-  pub strips : d.strips.items ≡ all_strips given.entries s.told.items
+  pub strips : d.strips.items ≡ shown_strips w given.entries s.told.items
   pub boxes : d.boxes.items ≡ filter (is_shown Boxes w) (asked s 0 given.entries)
   pub bars : d.bars.items ≡ filter (is_shown Bars w) (asked s 0 given.entries)
   pub arrows : d.arrows.items ≡ all_arrows w given.entries s.told.items

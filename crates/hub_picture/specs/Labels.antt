@@ -1,5 +1,5 @@
 -- What stands in a box, and what its class says: the port by a colour, the rest by a form.
-use Rattle.std.specs.Prelude.{ℕ, ◌%◌, List, [], ◌∷◌, ◌++◌, codes, decimal, Option, None, Some, slice_get}
+use Rattle.std.specs.Prelude.{ℕ, ◌%◌, List, [], ◌∷◌, ◌++◌, codes, decimal, Option, None, Some, slice_get, nat_le, if◌then◌else◌}
 use Rattle.hub_base.specs.declared.value.Port.{Port}
 use Rattle.hub_base.specs.declared.case.Case.{Case}
 use Rattle.hub_base.specs.declared.case.Case.TheVariants as case
@@ -74,9 +74,9 @@ label_text Exit = codes "exit"
 label_text (Cancel q) = codes "x" ++ decimal q.0
 label_text (Refused f) = codes "f" ++ decimal (fault_number f)
 
--- five colours, and again
+-- eight colours, each with a mark of its own, and again
 abbrev pub hue_of : Port → ℕ
-hue_of p = p.0 % 5
+hue_of p = p.0 % 8
 
 abbrev pub class_text : Label → List ℕ
 class_text (Make p) = codes "port h" ++ decimal (hue_of p)
@@ -108,10 +108,10 @@ abbrev pub shown_value : Scale → Asked → Option Value
 shown_value Wide a = moved_value a.entry.step (last_told a.ended)
 shown_value scale a = None
 
--- a number; bytes are told by their mark alone
+-- a number of up to six digits; others have no room in a box, and bytes are told by their mark alone
 abbrev pub number_text : Option ℕ → List ℕ
 number_text None = codes "#"
-number_text (Some n) = decimal n
+number_text (Some n) = if nat_le n 999999 then decimal n else codes ".."
 
 abbrev pub value_text : Option Value → List ℕ
 value_text None = []

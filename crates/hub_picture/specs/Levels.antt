@@ -1,6 +1,6 @@
--- How full ports were: a strip for each port that has room for values, and on it a level from each value that moves there
+-- How full ports were: a strip for each port that holds a value in the window, and on it a level from each value that moves there
 -- to the next.
-use Rattle.std.specs.Prelude.{ℕ, zero, ◌+◌, ◌==◌, ◌&&◌, Bool, nat_lt, List, [], ◌∷◌, filter, Option, None, Some, slice_get, if◌then◌else◌}
+use Rattle.std.specs.Prelude.{ℕ, zero, ◌+◌, ◌==◌, ◌&&◌, Bool, not, nat_lt, length, List, [], ◌∷◌, filter, Option, None, Some, slice_get, if◌then◌else◌}
 use Rattle.std.specs.List.{flat_map}
 use Rattle.std.specs.Option.{option_map_or}
 use Rattle.hub_base.specs.declared.value.Port.{Port}
@@ -97,5 +97,20 @@ shows_level w h = nat_lt h.level.received h.level.sent && goes_on w h.from h.unt
 abbrev pub levels_on : Window → List Entry → List Told → Strip → List Held
 levels_on w es all s = filter (shows_level w) (levels_from es s 0 empty all)
 
+-- ---- the strips that are shown
+-- the port holds a value at a step of the window
+abbrev pub holds_any : Window → List Entry → List Told → Strip → Bool
+holds_any w es all s = not (length (levels_on w es all s) == 0)
+
+-- of these strips those whose ports do, a row each from this one on
+abbrev pub rows_from : Window → List Entry → List Told → ℕ → List Strip → List Strip
+rows_from w es all row [] = []
+rows_from w es all row (s ∷ ss) =
+    if holds_any w es all s then record { row = row; port = s.port; room = s.room } ∷ rows_from w es all (row + 1) ss
+    else rows_from w es all row ss
+
+abbrev pub shown_strips : Window → List Entry → List Told → List Strip
+shown_strips w es all = rows_from w es all 0 (all_strips es all)
+
 abbrev pub all_levels : Window → List Entry → List Told → List Held
-all_levels w es all = flat_map (levels_on w es all) (all_strips es all)
+all_levels w es all = flat_map (levels_on w es all) (shown_strips w es all)

@@ -71,14 +71,14 @@ pub columns_row : map (x_of second) (3 ∷ 14 ∷ 15 ∷ 27 ∷ 99 ∷ []) ≡ 6
 columns_row = refl
 
 -- four rows of 58 stand above the band's first lane, and its own; a number that no process has stands below the lanes
-pub lanes_row : map (y_of second) (0 ∷ 1 ∷ 2 ∷ 200 ∷ []) ≡ 330 ∷ 388 ∷ 446 ∷ 446 ∷ []
+pub lanes_row : map (y_of second) (0 ∷ 1 ∷ 2 ∷ 200 ∷ []) ≡ 380 ∷ 438 ∷ 496 ∷ 496 ∷ []
 lanes_row = refl
 
 -- a box is 30 high: it is left below towards a later process, above towards an earlier one, and on the lane towards none
-pub sides_row : map (side_of second 1) (2 ∷ 0 ∷ 1 ∷ []) ≡ 403 ∷ 373 ∷ 388 ∷ []
+pub sides_row : map (side_of second 1) (2 ∷ 0 ∷ 1 ∷ []) ≡ 453 ∷ 423 ∷ 438 ∷ []
 sides_row = refl
 
--- in the first band lane 0 is at 98 and lane 1 at 156, and the columns of places 1, 3 and 4 at 180, 340 and 420
+-- in the first band lane 0 is at 148 and lane 1 at 206, and the columns of places 1, 3 and 4 at 180, 340 and 420
 abbrev first_band : Frame
 first_band = record { scale = Wide; band = 0; procs = 2; ports = 0; steps = steps 0 5 }
 
@@ -86,11 +86,11 @@ abbrev bodies : List Arrow → List (List ℕ)
 bodies arrows = map (λ a. arrow_body first_band a.passage.sent.told a.passage.received.told) arrows
 
 pub bodies_row : bodies (all_arrows (steps 0 5) through_a_buffer all_told)
-    ≡ codes "</title><path d=\"M180 113L340 141\"/></g>\n" ∷ codes "</title><path d=\"M340 113L420 141\"/></g>\n" ∷ []
+    ≡ codes "</title><path d=\"M180 163L340 191\"/></g>\n" ∷ codes "</title><path d=\"M340 163L420 191\"/></g>\n" ∷ []
 unfolding digits
 bodies_row = refl
 
-pub tick_row : tick_in second 14 ≡ codes "<text class=\"tick\" x=\"100\" y=\"300\">15</text>\n"
+pub tick_row : tick_in second 14 ≡ codes "<text class=\"tick\" x=\"100\" y=\"350\">15</text>\n"
 unfolding digits
 tick_row = refl
 
@@ -101,7 +101,7 @@ pub label_row : label_text (Send (port 12)) ≡ codes "s12"
 unfolding digits
 label_row = refl
 
-pub class_row : class_text (Send (port 12)) ≡ codes "send h2"
+pub class_row : class_text (Send (port 12)) ≡ codes "send h4"
 unfolding digits
 class_row = refl
 

@@ -22,6 +22,7 @@ use Rattle.hub_picture.specs.Svg.Legend.{mark_words}
 use Rattle.hub_picture.specs.Svg.Stalls.{stall_title}
 use Rattle.hub_picture.specs.Svg.Strips.{strip_title, level_title}
 use Rattle.hub_picture.specs.Svg.Waiters.{waiter_words}
+use Rattle.hub_picture.specs.Svg.Whom.{whom_words}
 
 -- it is none of `<`, `>`, `&` and the quotation mark
 abbrev pub is_plain : ℕ → Bool
@@ -78,6 +79,7 @@ pub record PlainLaw : Type 0 where
   pub strip : (s : Strip) → StripFits s → IsPlain (strip_title s)
   pub level : (h : Held) → HeldFits h → IsPlain (level_title h)
   pub waiter : (w : Waiter) → WaiterFits w → IsPlain (waiter_words w)
+  pub whom : (w : Option ℕ) → IfSome w (λ pid. pid ≤ GREATEST_PID) → IsPlain (whom_words w)
   pub legend : (m : Mark) → IsPlain (mark_words m)
   pub label : (l : Label) → LabelFits l → IsPlain (label_text l)
   pub value : (v : Option Value) → IfSome v IsValue → IsPlain (value_text v)

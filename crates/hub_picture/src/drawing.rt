@@ -6,7 +6,7 @@ ghost use Rattle.hub_picture.specs.Drawings.{IsDrawingOf};
 use crate::arrows::arrows_in;
 use crate::asked::{Shown, asked_in};
 use crate::lanes::lanes_of;
-use crate::levels::levels_in;
+use crate::levels::{levels_in, shown_strips};
 use crate::moves::Moves;
 use crate::stalls::all_stalled;
 use crate::strips::strips_of;
@@ -25,7 +25,7 @@ pub struct Drawing {
     pub window: Window,
     /// The processes: a lane each, until it exits.
     pub lanes: Vec<Lane>,
-    /// The ports that have room for values: a strip each.
+    /// The ports that hold a value at one of them: a strip each.
     pub strips: Vec<Strip>,
     /// The entries of these steps: a box each.
     pub boxes: Vec<Asked>,
@@ -53,10 +53,11 @@ pub fn drawing_of(
 {
     let entries = journal.entries();
     let lanes = lanes_of(alloc, journal.procs(), entries, &story.told)?;
-    let strips = strips_of(alloc, entries, &story.told)?;
+    let made = strips_of(alloc, entries, &story.told)?;
     let boxes = asked_in(alloc, Shown::Boxes, window, journal, story)?;
     let bars = asked_in(alloc, Shown::Bars, window, journal, story)?;
     let moves = Moves::new(alloc, entries, &story.told)?;
+    let strips = shown_strips(alloc, window, &moves, &made)?;
     let arrows = arrows_in(alloc, window, journal, &moves)?;
     let levels = levels_in(alloc, window, &moves, &strips)?;
     let stalls = all_stalled(alloc, window, &story.told)?;

@@ -1,7 +1,7 @@
 //! Where steps and processes stand on a page.
 
 ghost use Rattle.std.specs.Prelude.{◌≡◌, ◌≤◌, ◌+◌, ◌*◌, max, min};
-ghost use Rattle.hub_picture.specs.Frames.{AreBounded, by_scale, floor_of, frame_of, height_of, ports_of, sizes_of, top_of};
+ghost use Rattle.hub_picture.specs.Frames.{AreBounded, by_scale, floor_of, frame_of, height_of, ports_of, sizes_of, steps_between, top_of};
 ghost use Rattle.hub_picture.specs.Frames.{until, x_of, y_of};
 
 use crate::{Drawing, Window};
@@ -10,8 +10,8 @@ use hub_base::{CASE_PLACES, MOST_PORTS, MOST_PROCS};
 /// Where the first step of a band begins.
 pub(crate) const LEFT: u64 = 60;
 
-/// Where the first band begins.
-pub(crate) const TOP: u64 = 40;
+/// Where the first band begins, below the legend.
+pub(crate) const TOP: u64 = 90;
 
 /// The height of a port's strip, with the room above it.
 pub(crate) const STRIP: u64 = 18;
@@ -19,8 +19,8 @@ pub(crate) const STRIP: u64 = 18;
 /// The height of a strip whose port is full.
 pub(crate) const FULL: u64 = 12;
 
-/// The height of a picture's legend: that of its rows, with the room above them.
-pub(crate) const LEGEND: u64 = 16 + 7 * ROW;
+/// The room below the rows of those who wait, and of the row above them.
+pub(crate) const FOOT: u64 = 16 + ROW;
 
 /// The height of a row of those who wait, or of the legend.
 pub(crate) const ROW: u64 = 18;

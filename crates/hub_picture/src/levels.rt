@@ -2,7 +2,7 @@
 
 ghost use Rattle.std.specs.Prelude.{◌≡◌, ◌<◌, ◌≤◌, ◌+◌, ◌-◌, ◌^◌, ◌∷◌, ◌++◌, [], filter, IfOk, OnOk};
 ghost use Rattle.std.specs.List.{flat_map};
-ghost use Rattle.hub_picture.specs.Levels.{after, empty, is_same, levels_on, shows_level, with_case};
+ghost use Rattle.hub_picture.specs.Levels.{after, empty, holds_any, is_same, levels_on, rows_from, shows_level, with_case};
 
 use crate::moves::Moves;
 use crate::{Strip, Window};
@@ -120,6 +120,42 @@ fn add_levels(
         }
     }
     add_shown(levels, window, held)
+}
+
+/// Whether the port holds a value at a step of the window.
+fn holds_any(
+    alloc: Global,
+    window: Window,
+    moves: &Moves<'_>,
+    strip: Strip,
+) -> Result<bool, AllocError>
+    ensures { IfOk result (λ any.
+        any ≡ holds_any window moves.now.entries.now moves.now.told.now strip) }
+{
+    let mut levels = Vec::new(alloc);
+    let told = moves.on(alloc, strip.port)?;
+    add_levels(&mut levels, window, moves.entries, &told, strip)?;
+    Ok(!levels.is_empty())
+}
+
+/// Those of these strips whose ports hold a value at a step of the window, a row each.
+pub(crate) fn shown_strips(
+    alloc: Global,
+    window: Window,
+    moves: &Moves<'_>,
+    strips: &[Strip],
+) -> Result<Vec<Strip>, AllocError>
+    ensures { IfOk result (λ all.
+        all.items ≡ rows_from window moves.now.entries.now moves.now.told.now 0 strips.now) }
+{
+    let mut all = Vec::new(alloc);
+    for strip in strips {
+        if holds_any(alloc, window, moves, *strip)? {
+            let row = all.len();
+            all.push(Strip { row, ..*strip })?;
+        }
+    }
+    Ok(all)
 }
 
 /// The levels of these ports, oldest first.

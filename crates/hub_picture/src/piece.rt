@@ -17,6 +17,9 @@ use hub_story::Told;
 use itoa::Buffer;
 use std::alloc::AllocError;
 
+/// How many colours there are, and marks.
+const HUES: u16 = 8;
+
 /// A piece of text.
 #[derive(Clone, Copy)]
 pub(crate) enum Piece<'a> {
@@ -145,11 +148,18 @@ fn put_aim(out: &mut Vec<u8>, case: Case) -> Result<(), AllocError>
     }
 }
 
+/// The number of a port's colour and mark.
+pub(crate) fn hue(port: Port) -> u64
+    ensures { result ≡ hue_of port }
+{
+    u64::from(port.0 % HUES)
+}
+
 /// Appends a word and the colour of a port.
 fn put_hue(out: &mut Vec<u8>, word: &[u8], port: Port) -> Result<(), AllocError>
     ensures { Appends out.old out.new (word.now ++ decimal (hue_of port)) result }
 {
-    put_numbered(out, word, u64::from(port.0 % 5))
+    put_numbered(out, word, hue(port))
 }
 
 /// Appends the class of a label.
@@ -188,7 +198,8 @@ fn put_value(out: &mut Vec<u8>, value: Option<Value>) -> Result<(), AllocError>
 {
     match value {
         Some(value) => match value.as_num() {
-            Some(number) => put_numbered(out, b":", number),
+            Some(number) if number <= 999_999 => put_numbered(out, b":", number),
+            Some(_long) => put(out, b":.."),
             None => put(out, b":#"),
         },
         None => Ok(()),

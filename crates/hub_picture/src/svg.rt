@@ -3,7 +3,7 @@
 
 ghost use Rattle.std.specs.Prelude.{◌≡◌, ◌++◌, OnErr, OnOk};
 ghost use Rattle.hub_picture.specs.Pieces.{Appends};
-ghost use Rattle.hub_picture.specs.Svg.Page.{bands_of, bands_to, foot_text, head_text, svg_text};
+ghost use Rattle.hub_picture.specs.Svg.Page.{bands_of, bands_to, foot_text, svg_text, top_text};
 
 mod arrows;
 mod bands;
@@ -12,16 +12,19 @@ mod boxes;
 mod entries;
 mod lanes;
 mod legend;
+mod marks;
 mod page;
 mod rect;
+mod select;
 mod shapes;
 mod stalls;
 mod strips;
 mod style;
 mod waiters;
+mod whom;
 
 use self::bands::put_bands;
-use self::page::{put_foot, put_head};
+use self::page::{put_foot, put_top};
 use crate::Drawing;
 use hub_base::{NoMemory, undo_if_refused};
 use std::alloc::AllocError;
@@ -30,7 +33,7 @@ use std::alloc::AllocError;
 fn put_svg(out: &mut Vec<u8>, drawing: &Drawing) -> Result<(), AllocError>
     ensures { Appends out.old out.new (svg_text drawing.now) result }
 {
-    put_head(out, drawing)?;
+    put_top(out, drawing)?;
     put_bands(out, drawing)?;
     put_foot(out, drawing)
 }

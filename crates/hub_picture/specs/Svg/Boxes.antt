@@ -6,6 +6,8 @@ use Rattle.hub_picture.specs.declared.svg.rect.Rect.{Rect}
 use Rattle.hub_picture.specs.Frames.{x_of, y_of, sizes_of}
 use Rattle.hub_picture.specs.Labels.{label_of, label_text, shown_value, value_text}
 use Rattle.hub_picture.specs.Pieces.{joined}
+use Rattle.hub_picture.specs.Svg.Marks.{hue_in, mark_at}
+use Rattle.hub_picture.specs.Svg.Select.{box_offers}
 use Rattle.hub_picture.specs.Svg.Rects.{rect_text}
 
 -- in the middle of the step and of the lane
@@ -17,7 +19,7 @@ box_rect f a = record {
   height = (sizes_of f.scale).size;
 }
 
--- what stands in it, and the end of the element
+-- what stands in it
 abbrev pub box_label : Frame → Asked → List ℕ
 box_label f a =
     joined (
@@ -25,8 +27,16 @@ box_label f a =
     ∷ codes "\" y=\"" ∷ decimal (y_of f a.entry.pid.0 + 4)
     ∷ codes "\">" ∷ label_text (label_of a)
     ∷ value_text (shown_value f.scale a)
-    ∷ codes "</text></g>\n"
+    ∷ codes "</text>"
     ∷ [])
 
+-- the box and the mark of its port
+abbrev pub box_form : Frame → Asked → List ℕ
+box_form f a = rect_text (box_rect f a) ++ mark_at (hue_in (label_of a)) (box_rect f a)
+
+-- its texts, and the end of the element
+abbrev pub box_texts : Frame → Asked → List ℕ
+box_texts f a = box_label f a ++ box_offers f a ++ codes "</g>\n"
+
 abbrev pub drawn_box : Frame → Asked → List ℕ
-drawn_box f a = rect_text (box_rect f a) ++ box_label f a
+drawn_box f a = box_form f a ++ box_texts f a

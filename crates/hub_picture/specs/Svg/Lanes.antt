@@ -1,5 +1,5 @@
 -- What stands behind the shapes of a band: a lane for each process, and the numbers of steps.
-use Rattle.std.specs.Prelude.{ℕ, zero, suc, ◌+◌, ◌-◌, ◌%◌, ◌==◌, List, [], ◌∷◌, ◌++◌, codes, decimal, if◌then◌else◌}
+use Rattle.std.specs.Prelude.{ℕ, zero, suc, ◌+◌, ◌-◌, ◌%◌, ◌==◌, nat_le, List, [], ◌∷◌, ◌++◌, codes, decimal, if◌then◌else◌}
 use Rattle.hub_picture.specs.declared.frame.Frame.{Frame}
 use Rattle.hub_picture.specs.declared.lanes.Lane.{Lane}
 use Rattle.hub_picture.specs.declared.frame.TheConstants.{LEFT}
@@ -19,6 +19,10 @@ lane_text f l =
     ∷ codes "\">P" ∷ decimal l.pid
     ∷ codes "</text>\n"
     ∷ [])
+
+-- where it goes on in the band
+abbrev pub lane_in : Frame → Lane → List ℕ
+lane_in f l = if nat_le f.steps.first (until f l.exited) then lane_text f l else []
 
 -- the number of a step, above the first lane
 abbrev pub tick_text : Frame → ℕ → List ℕ

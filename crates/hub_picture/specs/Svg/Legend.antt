@@ -1,6 +1,7 @@
--- How to read a picture: what occurs in it, and nothing else.
-use Rattle.std.specs.Prelude.{ℕ, ◌==◌, Bool, true, false, ◌||◌, not, List, [], ◌∷◌, ◌++◌, codes, length, if◌then◌else◌}
-use Rattle.std.specs.List.{flat_map, list_any}
+-- How to read a picture: a sign and a word for what occurs in it, and nothing else.
+use Rattle.std.specs.Prelude.{ℕ, ◌+◌, ◌*◌, ◌/◌, ◌%◌, ◌==◌, Bool, true, false, ◌||◌, not, List, [], ◌∷◌, ◌++◌, codes, decimal, length}
+use Rattle.std.specs.Prelude.{if◌then◌else◌}
+use Rattle.std.specs.List.{list_any}
 use Rattle.hub_base.specs.declared.event.Outcome.TheVariants as outcome
 use Rattle.hub_base.specs.declared.event.What.{What}
 use Rattle.hub_base.specs.declared.event.What.TheVariants as what
@@ -9,14 +10,17 @@ use Rattle.hub_picture.specs.declared.drawing.Drawing.{Drawing}
 use Rattle.hub_picture.specs.declared.label.Label.{Label}
 use Rattle.hub_picture.specs.declared.label.Label.TheVariants as label
 use Rattle.hub_picture.specs.declared.svg.legend.Mark.{Mark}
-use Rattle.hub_picture.specs.declared.svg.legend.Mark.TheVariants.{Boxes, Makes, Closes, Selects, Defaults, Cancels, Refused, Open}
+use Rattle.hub_picture.specs.declared.svg.legend.Mark.TheVariants.{Sends, Receives, Makes, Closes, Selects, Defaults, Cancels, Refused, Open}
 use Rattle.hub_picture.specs.declared.svg.legend.Mark.TheVariants.{Drained, Cancelled, Trouble, Bars, Arrows, Stalls, Levels}
+use Rattle.hub_picture.specs.declared.frame.TheConstants.{ROW}
 use Rattle.hub_picture.specs.Labels.{label_of, last_told}
+use Rattle.hub_picture.specs.Pieces.{joined}
 
 -- ---- what occurs
 -- a label has the mark; each is in a box
 abbrev pub of_label : Mark → Label → Bool
-of_label Boxes l = true
+of_label Sends (label.Send p) = true
+of_label Receives (label.Receive p) = true
 of_label Makes (label.Make p) = true
 of_label Closes (label.Close p) = true
 of_label Selects label.Select = true
@@ -47,48 +51,62 @@ occurs d Levels = not (length d.levels.items == 0)
 occurs d m = list_any (has_mark m) d.boxes.items
 
 -- ---- the text
+-- a sign of it, as it looks in the picture
+abbrev pub mark_sign : Mark → List ℕ
+mark_sign Sends = codes "<g class=\"box send h1\"><rect x=\"0\" y=\"-7\" width=\"28\" height=\"14\"/><text x=\"14\" y=\"4\">s1</text></g>"
+mark_sign Receives = codes "<g class=\"box receive h2\"><rect x=\"0\" y=\"-7\" width=\"28\" height=\"14\"/><text x=\"14\" y=\"4\">r2</text></g>"
+mark_sign Makes = codes "<g class=\"box port h3\"><rect x=\"0\" y=\"-7\" width=\"28\" height=\"14\"/><text x=\"14\" y=\"4\">m3</text></g>"
+mark_sign Closes = codes "<g class=\"box port h4\"><rect x=\"0\" y=\"-7\" width=\"28\" height=\"14\"/><text x=\"14\" y=\"4\">c4</text></g>"
+mark_sign Selects = codes "<g class=\"box plain\"><rect x=\"0\" y=\"-7\" width=\"28\" height=\"14\"/><text x=\"14\" y=\"4\">?</text></g>"
+mark_sign Defaults = codes "<g class=\"box plain\"><rect x=\"0\" y=\"-7\" width=\"28\" height=\"14\"/><text x=\"14\" y=\"4\">def</text></g>"
+mark_sign Cancels = codes "<g class=\"box plain\"><rect x=\"0\" y=\"-7\" width=\"28\" height=\"14\"/><text x=\"14\" y=\"4\">x2</text></g>"
+mark_sign Refused = codes "<g class=\"box refused\"><rect x=\"0\" y=\"-7\" width=\"28\" height=\"14\"/><text x=\"14\" y=\"4\">f3</text></g>"
+mark_sign Open = codes "<g class=\"box receive h2 open\"><rect x=\"0\" y=\"-7\" width=\"28\" height=\"14\"/><text x=\"14\" y=\"4\">r2</text></g>"
+mark_sign Drained = codes "<g class=\"box receive h2 drained\"><rect x=\"0\" y=\"-7\" width=\"28\" height=\"14\"/><text x=\"14\" y=\"4\">r2</text></g>"
+mark_sign Cancelled = codes "<g class=\"box receive h2 cancelled\"><rect x=\"0\" y=\"-7\" width=\"28\" height=\"14\"/><text x=\"14\" y=\"4\">r2</text></g>"
+mark_sign Trouble = codes "<g class=\"box receive h2 trouble\"><rect x=\"0\" y=\"-7\" width=\"28\" height=\"14\"/><text x=\"14\" y=\"4\">r2</text></g>"
+mark_sign Bars = codes "<g class=\"bar receive h2\"><rect x=\"0\" y=\"-4\" width=\"24\" height=\"8\"/><circle cx=\"24\" cy=\"0\" r=\"4\"/></g>"
+mark_sign Arrows = codes "<g class=\"arrow h1\"><path d=\"M4 -5L26 5\"/></g>"
+mark_sign Stalls = codes "<g class=\"stall\"><rect x=\"0\" y=\"-7\" width=\"28\" height=\"14\"/></g>"
+mark_sign Levels = codes "<g class=\"strip\"><path d=\"M0 6H28M0 -6H28\"/></g><g class=\"level h1\"><rect x=\"4\" y=\"-1\" width=\"20\" height=\"7\"/></g>"
+
+-- and a word
 abbrev pub mark_words : Mark → List ℕ
-mark_words Boxes = codes "Box: an entry. Filled it sends, white it receives. Its colour is the port's. "
-mark_words Makes = codes "m and a number: makes that port. "
-mark_words Closes = codes "c and a number: closes that port. "
-mark_words Selects = codes "?: a select of which no case fired. "
-mark_words Defaults = codes "def: took its default. "
-mark_words Cancels = codes "x and a number: cancels the call of that process. "
-mark_words Refused = codes "f and a number, with a thick dashed orange edge: refused by that fault. "
-mark_words Open = codes "Thin dashed edge: still waits. "
-mark_words Drained = codes "Dotted edge: the port was closed and empty. "
-mark_words Cancelled = codes "Finely dotted edge: cancelled. "
-mark_words Trouble = codes "Thick dashed orange edge: stalled, or sent on a closed port. "
-mark_words Bars = codes "Bar: the call waits, and ends at the knob. "
-mark_words Arrows = codes "Arrow: a value, from the dot to the tip. Straight down it was handed over, slanted it lay in the buffer. "
-mark_words Stalls = codes "Shaded: everyone who is left waits, and this step stalls them. "
-mark_words Levels = codes "Strip: how full a port is; at the upper line it is full. A port without a buffer has none. "
+mark_words Sends = codes "sends"
+mark_words Receives = codes "receives"
+mark_words Makes = codes "makes a port"
+mark_words Closes = codes "closes a port"
+mark_words Selects = codes "no case fired"
+mark_words Defaults = codes "default taken"
+mark_words Cancels = codes "cancels a call"
+mark_words Refused = codes "refused: fault 3"
+mark_words Open = codes "still waits"
+mark_words Drained = codes "closed and empty"
+mark_words Cancelled = codes "was cancelled"
+mark_words Trouble = codes "stalls or fails"
+mark_words Bars = codes "waits, then ends"
+mark_words Arrows = codes "value on its way"
+mark_words Stalls = codes "deadlock"
+mark_words Levels = codes "values in a port"
 
-abbrev pub mark_text : Drawing → Mark → List ℕ
-mark_text d m = if occurs d m then mark_words m else []
+-- six signs stand in a row
+abbrev pub sign_text : ℕ → Mark → List ℕ
+sign_text place m =
+    joined (
+    codes "<g class=\"sign\" transform=\"translate(" ∷ decimal (14 + 126 * (place % 6))
+    ∷ codes " " ∷ decimal (44 + ROW * (place / 6))
+    ∷ codes ")\">" ∷ mark_sign m
+    ∷ codes "<text class=\"note\" x=\"34\" y=\"4\">" ∷ mark_words m
+    ∷ codes "</text></g>\n"
+    ∷ [])
 
--- a row of those that occur; where none does it takes no room
-abbrev pub row_text : Drawing → List Mark → List ℕ
-row_text d ms = codes "<tspan x=\"12\" dy=\"18\">" ++ flat_map (mark_text d) ms ++ codes "</tspan>\n"
-
--- the boxes, and what stands in them
-abbrev pub box_rows : Drawing → List ℕ
-box_rows d =
-    row_text d (Boxes ∷ [])
-    ++ row_text d (Makes ∷ Closes ∷ Selects ∷ Defaults ∷ [])
-    ++ row_text d (Cancels ∷ Refused ∷ [])
-
--- how boxes ended
-abbrev pub edge_rows : Drawing → List ℕ
-edge_rows d =
-    row_text d (Open ∷ Drained ∷ Cancelled ∷ [])
-    ++ row_text d (Trouble ∷ Bars ∷ [])
-
--- what else is drawn
-abbrev pub shape_rows : Drawing → List ℕ
-shape_rows d =
-    row_text d (Arrows ∷ [])
-    ++ row_text d (Stalls ∷ Levels ∷ [])
+-- those that occur, from this place on
+abbrev pub signs_from : Drawing → ℕ → List Mark → List ℕ
+signs_from d place [] = []
+signs_from d place (m ∷ ms) = if occurs d m then sign_text place m ++ signs_from d (place + 1) ms else signs_from d place ms
 
 abbrev pub legend_text : Drawing → List ℕ
-legend_text d = box_rows d ++ edge_rows d ++ shape_rows d
+legend_text d =
+    signs_from d 0 (
+    Sends ∷ Receives ∷ Makes ∷ Closes ∷ Selects ∷ Defaults ∷ Cancels ∷ Refused
+    ∷ Open ∷ Drained ∷ Cancelled ∷ Trouble ∷ Bars ∷ Arrows ∷ Stalls ∷ Levels ∷ [])

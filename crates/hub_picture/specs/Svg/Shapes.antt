@@ -1,5 +1,5 @@
 -- Which shapes of a drawing some bands show, and that to look at these is enough.
-use Rattle.std.specs.Prelude.{◌≡◌, ℕ, List, ◌++◌, filter, Result, OnOk, OnErr}
+use Rattle.std.specs.Prelude.{◌≡◌, ℕ, List, ◌++◌, filter, Result, OnOk}
 use Rattle.std.specs.Global.{Vec}
 use Rattle.hub_story.specs.declared.window.Window.{Window}
 use Rattle.hub_picture.specs.declared.asked.Shown.TheVariants.{Boxes, Bars}
@@ -41,10 +41,10 @@ pub record AreEnough (d : Drawing) (w : Window) (s : Shapes) : Type 0 where
 abbrev pub shapes_text : Frame → Drawing → Shapes → List ℕ
 shapes_text f d s =
     back_text f d.lanes.items (nows s.stalls.items)
-    ++ below_text f d.strips.items (nows s.levels.items)
+    ++ below_text f d (nows s.levels.items)
     ++ front_text f (nows s.bars.items) (nows s.boxes.items) (nows s.arrows.items)
 
 -- behind the bands before the first, those before the end are appended, or a part where memory was refused
 pub record Reaches {E : Type 0} (d : Drawing) (first end : ℕ) (old new : Vec ℕ) (result : Result (Unit {0}) E) : Type 0 where
   pub ok : OnOk result ((before : List ℕ) → old.items ≡ before ++ bands_to first d → new.items ≡ before ++ bands_to end d)
-  pub err : OnErr result ((rest : List ℕ) × (new.items ≡ old.items ++ rest))
+  pub grown : (rest : List ℕ) × (new.items ≡ old.items ++ rest)

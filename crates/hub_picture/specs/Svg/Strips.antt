@@ -34,7 +34,10 @@ strip_body f s =
     ∷ codes "\"/><text class=\"name\" x=\"" ∷ decimal (LEFT - 8)
     ∷ codes "\" y=\"" ∷ decimal (floor_of f s.row)
     ∷ codes "\">port " ∷ decimal s.port.0
-    ∷ codes "</text></g>\n"
+    ∷ codes "</text><use class=\"mark h" ∷ decimal (hue_of s.port)
+    ∷ codes "\" href=\"#k" ∷ decimal (hue_of s.port)
+    ∷ codes "\" x=\"4\" y=\"" ∷ decimal (floor_of f s.row - 8)
+    ∷ codes "\"/></g>\n"
     ∷ [])
 
 abbrev pub strip_text : Frame → Strip → List ℕ

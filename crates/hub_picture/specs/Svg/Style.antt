@@ -1,4 +1,5 @@
--- How shapes look. Colours are safe for the colour-blind, and tell the port alone; a form tells the rest.
+-- How shapes look. A colour and a mark tell the port; a form tells the rest. Edges, marks and texts have a contrast of 3 or
+-- more, on white paper and on dark.
 use Rattle.std.specs.Prelude.{ℕ, List, [], ◌∷◌, codes}
 use Rattle.hub_picture.specs.Pieces.{joined}
 
@@ -7,18 +8,33 @@ abbrev pub style : List ℕ
 style =
     joined (
     codes "text{font-family:sans-serif;font-size:11px;fill:#222;text-anchor:middle}.paper{fill:#fff}\n"
-    ∷ codes ".name,.note{font-size:11px}.name{text-anchor:end}.note{text-anchor:start;fill:#666}.tick{font-size:9px;fill:#666}\n"
-    ∷ codes ".lane{stroke:#999}.strip path{stroke:#bbb}.level rect{fill:currentColor}.stay{font-size:9px;text-anchor:start}\n"
-    ∷ codes ".tip{fill:#666}.arrow path{stroke:currentColor;stroke-width:2;marker-start:url(#dot);marker-end:url(#tip)}\n"
-    ∷ codes ".h0{color:#56b4e9}.h1{color:#0072b2}.h2{color:#e69f00}.h3{color:#009e73}.h4{color:#cc79a7}\n"
-    ∷ codes ".box rect,.bar rect{fill:#ddd;stroke:#888;stroke-width:1.5}.bar circle{fill:#888}\n"
+    ∷ codes ".name,.note{font-size:11px}.name{text-anchor:end}.note{text-anchor:start;fill:#595959}.tick{font-size:9px;fill:#595959}\n"
+    ∷ codes ".lane{stroke:#808080}.strip path{stroke:#808080}.level rect{fill:currentColor}.stay{font-size:9px;text-anchor:start}\n"
+    ∷ codes ".dense .box text{font-size:7px}.dead{font-weight:bold}\n"
+    ∷ codes ".whom path{fill:none;stroke:#c85000;stroke-width:2;marker-end:url(#tip)}.tip{fill:#595959}\n"
+    ∷ codes ".arrow path{fill:none;stroke:currentColor;stroke-width:2;marker-end:url(#tip)}.mark{stroke:#fff}marker path,.mark{fill:currentColor}\n"
+    ∷ codes ".arrow.h0 path{marker-start:url(#m0)}.arrow.h1 path{marker-start:url(#m1)}.arrow.h2 path{marker-start:url(#m2)}\n"
+    ∷ codes ".arrow.h3 path{marker-start:url(#m3)}\n"
+    ∷ codes ".arrow.h4 path{marker-start:url(#m4)}.arrow.h5 path{marker-start:url(#m5)}.arrow.h6 path{marker-start:url(#m6)}\n"
+    ∷ codes ".arrow.h7 path{marker-start:url(#m7)}\n"
+    ∷ codes ".arrow.comes path{marker-start:none}.arrow.leaves path{marker-end:none}\n"
+    ∷ codes ".h0{color:#475666}.h1{color:#0072b2}.h2{color:#9a5b00}.h3{color:#007a58}.h4{color:#b03a78}.h5{color:#6a4fc0}.h6{color:#006f80}\n"
+    ∷ codes ".h7{color:#666600}\n"
+    ∷ codes ".box rect,.bar rect{fill:#ddd;stroke:#6b6b6b;stroke-width:1.5}.bar circle{fill:#6b6b6b}\n"
     ∷ codes ".box.send rect{fill:currentColor;stroke:currentColor}.box.receive rect,.bar.receive rect{fill:#fff;stroke:currentColor}\n"
-    ∷ codes ".box.port rect{stroke:currentColor;stroke-width:3}.send.h1 text,.send.h3 text{fill:#fff}.send text{fill:#000}\n"
+    ∷ codes ".cases{font-size:8px;fill-opacity:.75}.fired{fill-opacity:1;font-weight:bold}\n"
+    ∷ codes ".box.port rect{stroke:currentColor;stroke-width:3}.box.send text{fill:#fff}\n"
     ∷ codes ".bar.send rect{fill:currentColor;fill-opacity:.38;stroke:currentColor}.bar.send circle{fill:currentColor}\n"
     ∷ codes ".bar.receive circle{fill:#fff;stroke:currentColor;stroke-width:2}.box.drained rect{stroke-dasharray:2 3}\n"
-    ∷ codes ".box.trouble rect,.refused rect{stroke:#d55e00;stroke-width:3;stroke-dasharray:6 2}.bar.trouble circle{fill:#d55e00;stroke:none}\n"
-    ∷ codes ".box.cancelled rect{stroke-dasharray:1 2}.box.open rect,.bar.open rect{stroke-dasharray:4 3}.stall rect{fill:#d55e00;fill-opacity:.2}\n"
-    ∷ codes "@media (prefers-color-scheme:dark){text{fill:#e8e8e8}.tick,.note{fill:#a0a0a0}.paper{fill:#16181c}\n"
-    ∷ codes ".h1{color:#3d9ddb}.h3{color:#1fbf92}.send.h1 text,.send.h3 text{fill:#000}.box rect,.bar rect{fill:#444}.lane{stroke:#777}\n"
-    ∷ codes ".box.receive rect,.bar.receive rect,.bar.receive circle{fill:#16181c}}\n"
+    ∷ codes ".box.trouble rect,.box.refused rect{stroke:#c85000;stroke-width:3;stroke-dasharray:6 2}.bar.trouble circle{fill:#c85000;stroke:none}\n"
+    ∷ codes ".box.cancelled rect{stroke-dasharray:1 2}.box.open rect,.bar.open rect{stroke-dasharray:4 3}.stall rect{fill:#c85000;fill-opacity:.12}\n"
+    ∷ codes "@media (prefers-color-scheme:dark){text{fill:#e8e8e8}.tick,.note{fill:#a8a8a8}.tip{fill:#a8a8a8}.paper{fill:#16181c}.mark{stroke:#16181c}\n"
+    ∷ codes ".h0{color:#b8c4d0}.h1{color:#56b4e9}.h2{color:#e69f00}.h3{color:#2fc79a}.h4{color:#e58bc0}.h5{color:#a99bff}.h6{color:#4fd3dc}\n"
+    ∷ codes ".h7{color:#cfcf4a}\n"
+    ∷ codes ".box rect,.bar rect{fill:#3a3d42;stroke:#a8a8a8}.bar circle{fill:#a8a8a8}\n"
+    ∷ codes ".box.send rect{fill:currentColor;stroke:currentColor}.box.send text{fill:#000}\n"
+    ∷ codes ".box.receive rect,.bar.receive rect,.bar.receive circle{fill:#16181c;stroke:currentColor}.box.port rect{stroke:currentColor}\n"
+    ∷ codes ".bar.send rect{fill:currentColor;stroke:currentColor}.bar.send circle{fill:currentColor}\n"
+    ∷ codes ".box.trouble rect,.box.refused rect{stroke:#ff8533}.bar.trouble circle{fill:#ff8533;stroke:none}\n"
+    ∷ codes ".stall rect{fill:#ff8533}.whom path{stroke:#ff8533}}\n"
     ∷ [])

@@ -1,7 +1,9 @@
 -- Who waits in vain, and for what: a row for each case.
 use Rattle.std.specs.Prelude.{ℕ, ◌+◌, List, [], ◌∷◌, ◌++◌, codes, decimal}
+use Rattle.hub_story.specs.declared.told.Told.{Told}
 use Rattle.hub_picture.specs.declared.waiters.Waiter.{Waiter}
 use Rattle.hub_picture.specs.Pieces.{aim_text, mover_text, joined}
+use Rattle.hub_picture.specs.Svg.Whom.{whom, whom_words}
 
 abbrev pub waiter_words : Waiter → List ℕ
 waiter_words w =
@@ -14,5 +16,14 @@ waiter_words w =
     ∷ codes ". "
     ∷ [])
 
-abbrev pub waiter_text : Waiter → List ℕ
-waiter_text w = codes "<tspan class=\"waits\" x=\"12\" dy=\"18\">" ++ waiter_words w ++ codes "</tspan>\n"
+-- with for whom it waits, where everyone waits
+abbrev pub waiter_told : List Told → Waiter → List ℕ
+waiter_told stalls w = waiter_words w ++ whom_words (whom stalls w)
+
+abbrev pub waiter_text : List Told → Waiter → List ℕ
+waiter_text stalls w = codes "<tspan class=\"waits\" x=\"12\" dy=\"18\">" ++ waiter_told stalls w ++ codes "</tspan>\n"
+
+-- where anyone was stalled, what that is
+abbrev pub deadlock_text : List Told → List ℕ
+deadlock_text [] = []
+deadlock_text (t ∷ ts) = codes "<tspan class=\"dead\" x=\"12\" dy=\"18\">deadlock: everyone who is left waits</tspan>\n"

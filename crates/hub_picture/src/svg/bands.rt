@@ -14,10 +14,11 @@ use super::entries::Entries;
 use super::lanes::put_ticks;
 use super::page::{bands_of, scale_of};
 use super::shapes::Shapes;
+use super::whom::Arcs;
 use crate::asked::Shown;
 use crate::frame::{Frame, frame_of, steps_between};
 use crate::pen::{put_all, put_each};
-use crate::{Arrow, Asked, Drawing, Held, Lane, Strip};
+use crate::{Arrow, Asked, Drawing, Held, Lane};
 use hub_story::Told;
 use std::alloc::AllocError;
 
@@ -39,13 +40,14 @@ fn put_back(
 fn put_below(
     out: &mut Vec<u8>,
     frame: Frame,
-    strips: &[Strip],
+    drawing: &Drawing,
     levels: &[&Held],
 ) -> Result<(), AllocError>
-    ensures { Appends out.old out.new (below_text frame strips.now (nows levels.now)) result }
+    ensures { Appends out.old out.new (below_text frame drawing.now (nows levels.now)) result }
 {
-    put_each(out, &frame, strips)?;
-    put_all(out, &frame, levels)
+    put_each(out, &frame, &drawing.strips)?;
+    put_all(out, &frame, levels)?;
+    put_each(out, &Arcs(frame, &drawing.stalls), &drawing.waiters)
 }
 
 /// Appends what stands before all.
@@ -58,9 +60,9 @@ fn put_front(
 ) -> Result<(), AllocError>
     ensures { Appends out.old out.new (front_text frame (nows bars.now) (nows boxes.now) (nows arrows.now)) result }
 {
+    put_all(out, &frame, arrows)?;
     put_all(out, &Entries(Shown::Bars, frame), bars)?;
-    put_all(out, &Entries(Shown::Boxes, frame), boxes)?;
-    put_all(out, &frame, arrows)
+    put_all(out, &Entries(Shown::Boxes, frame), boxes)
 }
 
 /// Appends what a band shows of these shapes.
@@ -73,7 +75,7 @@ fn put_shapes(
     ensures { Appends out.old out.new (shapes_text frame drawing.now shapes.now) result }
 {
     put_back(out, frame, &drawing.lanes, &shapes.stalls)?;
-    put_below(out, frame, &drawing.strips, &shapes.levels)?;
+    put_below(out, frame, drawing, &shapes.levels)?;
     put_front(out, frame, &shapes.bars, &shapes.boxes, &shapes.arrows)
 }
 

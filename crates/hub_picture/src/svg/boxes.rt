@@ -2,13 +2,15 @@
 
 ghost use Rattle.std.specs.Prelude.{◌≡◌};
 ghost use Rattle.hub_picture.specs.Pieces.{Appends};
-ghost use Rattle.hub_picture.specs.Svg.Boxes.{box_label, box_rect, drawn_box};
+ghost use Rattle.hub_picture.specs.Svg.Boxes.{box_form, box_label, box_rect, box_texts, drawn_box};
 
+use super::marks::{hue_in, put_mark};
 use super::rect::{Rect, put_rect};
+use super::select::put_box_offers;
 use crate::Asked;
 use crate::frame::Frame;
 use crate::label::{label_of, shown_value};
-use crate::piece::{Piece, put_pieces};
+use crate::piece::{Piece, put, put_pieces};
 use std::alloc::AllocError;
 
 /// Where the box stands.
@@ -24,7 +26,7 @@ fn rect_of(frame: Frame, asked: &Asked) -> Rect
     }
 }
 
-/// Appends what stands in it, and the end of the element.
+/// Appends what stands in it.
 fn put_label(out: &mut Vec<u8>, frame: Frame, asked: &Asked) -> Result<(), AllocError>
     ensures { Appends out.old out.new (box_label frame asked.now) result }
 {
@@ -38,15 +40,33 @@ fn put_label(out: &mut Vec<u8>, frame: Frame, asked: &Asked) -> Result<(), Alloc
             Piece::Word(b"\">"),
             Piece::Name(label_of(asked)),
             Piece::Moves(shown_value(frame.scale, asked)),
-            Piece::Word(b"</text></g>\n"),
+            Piece::Word(b"</text>"),
         ],
     )
+}
+
+/// Appends the box and the mark of its port.
+fn put_form(out: &mut Vec<u8>, frame: Frame, asked: &Asked) -> Result<(), AllocError>
+    ensures { Appends out.old out.new (box_form frame asked.now) result }
+{
+    let rect = rect_of(frame, asked);
+    put_rect(out, rect)?;
+    put_mark(out, hue_in(label_of(asked)), rect)
+}
+
+/// Appends its texts, and the end of the element.
+fn put_texts(out: &mut Vec<u8>, frame: Frame, asked: &Asked) -> Result<(), AllocError>
+    ensures { Appends out.old out.new (box_texts frame asked.now) result }
+{
+    put_label(out, frame, asked)?;
+    put_box_offers(out, frame, asked)?;
+    put(out, b"</g>\n")
 }
 
 /// Appends the box of an entry.
 pub(crate) fn put_box(out: &mut Vec<u8>, frame: Frame, asked: &Asked) -> Result<(), AllocError>
     ensures { Appends out.old out.new (drawn_box frame asked.now) result }
 {
-    put_rect(out, rect_of(frame, asked))?;
-    put_label(out, frame, asked)
+    put_form(out, frame, asked)?;
+    put_texts(out, frame, asked)
 }

@@ -2,7 +2,7 @@
 
 ghost use Rattle.std.specs.Prelude.{◌≡◌, ◌<◌, ◌+◌, ◌^◌, ◌-◌};
 ghost use Rattle.hub_picture.specs.Pieces.{Appends};
-ghost use Rattle.hub_picture.specs.Svg.Lanes.{lane_text, tick_in, tick_text, ticks_to};
+ghost use Rattle.hub_picture.specs.Svg.Lanes.{lane_in, lane_text, tick_in, tick_text, ticks_to};
 
 use crate::Lane;
 use crate::frame::{Frame, LEFT, number_of};
@@ -10,34 +10,45 @@ use crate::pen::Pen;
 use crate::piece::put_filled;
 use std::alloc::AllocError;
 
-/// Lanes, in the band: each until its process exits.
+/// Appends a lane, until its process exits.
+fn put_lane(out: &mut Vec<u8>, frame: Frame, lane: &Lane) -> Result<(), AllocError>
+    ensures { Appends out.old out.new (lane_text frame lane.now) result }
+{
+    let y = frame.y(lane.pid);
+    put_filled(
+        out,
+        &[
+            b"<path class=\"lane\" d=\"M",
+            b" ",
+            b"L",
+            b" ",
+            b"\"/><text class=\"name\" x=\"",
+            b"\" y=\"",
+            b"\">P",
+            b"</text>\n",
+        ],
+        &[
+            LEFT,
+            y,
+            frame.x(frame.until(lane.exited)),
+            y,
+            LEFT - 8,
+            y + 4,
+            lane.pid.into(),
+        ],
+    )
+}
+
+/// Lanes, where they go on in the band.
 impl Pen<Lane> for Frame {
-    ghost text = { lane_text };
+    ghost text = { lane_in };
 
     fn put(&self, out: &mut Vec<u8>, lane: &Lane) -> Result<(), AllocError> {
-        let y = self.y(lane.pid);
-        put_filled(
-            out,
-            &[
-                b"<path class=\"lane\" d=\"M",
-                b" ",
-                b"L",
-                b" ",
-                b"\"/><text class=\"name\" x=\"",
-                b"\" y=\"",
-                b"\">P",
-                b"</text>\n",
-            ],
-            &[
-                LEFT,
-                y,
-                self.x(self.until(lane.exited)),
-                y,
-                LEFT - 8,
-                y + 4,
-                lane.pid.into(),
-            ],
-        )
+        if self.steps.first <= self.until(lane.exited) {
+            put_lane(out, *self, lane)
+        } else {
+            Ok(())
+        }
     }
 }
 

@@ -1,14 +1,14 @@
 //! How to read what occurs in a picture.
 
-ghost use Rattle.std.specs.Prelude.{◌≡◌};
+ghost use Rattle.std.specs.Prelude.{◌≡◌, ◌≤◌, length};
 ghost use Rattle.std.specs.List.{list_any};
 ghost use Rattle.hub_picture.specs.Pieces.{Appends};
-ghost use Rattle.hub_picture.specs.Svg.Legend.{box_rows, edge_rows, has_mark, legend_text, mark_text, mark_words};
-ghost use Rattle.hub_picture.specs.Svg.Legend.{occurs, of_end, of_label, row_text, shape_rows};
+ghost use Rattle.hub_picture.specs.Svg.Legend.{has_mark, legend_text, mark_sign, mark_words, occurs, of_end, of_label};
+ghost use Rattle.hub_picture.specs.Svg.Legend.{sign_text, signs_from};
 
+use crate::frame::ROW;
 use crate::label::{Label, label_of, last_told};
-use crate::pen::{Pen, put_each};
-use crate::piece::put;
+use crate::piece::{Piece, put_pieces};
 use crate::{Asked, Drawing};
 use hub_base::{Outcome, What};
 use std::alloc::AllocError;
@@ -16,8 +16,10 @@ use std::alloc::AllocError;
 /// What is told of.
 #[derive(Clone, Copy)]
 pub(crate) enum Mark {
-    /// An entry.
-    Boxes,
+    /// It sends.
+    Sends,
+    /// It receives.
+    Receives,
     /// It made a port.
     Makes,
     /// It closes a port.
@@ -53,7 +55,8 @@ fn of_label(mark: Mark, label: Label) -> bool
     ensures { result ≡ of_label mark label }
 {
     match mark {
-        Mark::Boxes => true,
+        Mark::Sends => matches!(label, Label::Send(_)),
+        Mark::Receives => matches!(label, Label::Receive(_)),
         Mark::Makes => matches!(label, Label::Make(_)),
         Mark::Closes => matches!(label, Label::Close(_)),
         Mark::Selects => matches!(label, Label::Select),
@@ -113,92 +116,132 @@ fn occurs(drawing: &Drawing, mark: Mark) -> bool
     }
 }
 
-/// What is told of it.
-fn words(mark: Mark) -> &'static [u8]
+/// A sign of it, as it looks in the picture.
+fn sign(mark: Mark) -> &'static [u8]
+    ensures { result.now ≡ mark_sign mark }
+{
+    match mark {
+        Mark::Sends =>
+            b"<g class=\"box send h1\"><rect x=\"0\" y=\"-7\" width=\"28\" height=\"14\"/><text x=\"14\" y=\"4\">s1</text></g>",
+        Mark::Receives =>
+            b"<g class=\"box receive h2\"><rect x=\"0\" y=\"-7\" width=\"28\" height=\"14\"/><text x=\"14\" y=\"4\">r2</text></g>",
+        Mark::Makes =>
+            b"<g class=\"box port h3\"><rect x=\"0\" y=\"-7\" width=\"28\" height=\"14\"/><text x=\"14\" y=\"4\">m3</text></g>",
+        Mark::Closes =>
+            b"<g class=\"box port h4\"><rect x=\"0\" y=\"-7\" width=\"28\" height=\"14\"/><text x=\"14\" y=\"4\">c4</text></g>",
+        Mark::Selects =>
+            b"<g class=\"box plain\"><rect x=\"0\" y=\"-7\" width=\"28\" height=\"14\"/><text x=\"14\" y=\"4\">?</text></g>",
+        Mark::Defaults =>
+            b"<g class=\"box plain\"><rect x=\"0\" y=\"-7\" width=\"28\" height=\"14\"/><text x=\"14\" y=\"4\">def</text></g>",
+        Mark::Cancels =>
+            b"<g class=\"box plain\"><rect x=\"0\" y=\"-7\" width=\"28\" height=\"14\"/><text x=\"14\" y=\"4\">x2</text></g>",
+        Mark::Refused =>
+            b"<g class=\"box refused\"><rect x=\"0\" y=\"-7\" width=\"28\" height=\"14\"/><text x=\"14\" y=\"4\">f3</text></g>",
+        Mark::Open =>
+            b"<g class=\"box receive h2 open\"><rect x=\"0\" y=\"-7\" width=\"28\" height=\"14\"/><text x=\"14\" y=\"4\">r2</text></g>",
+        Mark::Drained =>
+            b"<g class=\"box receive h2 drained\"><rect x=\"0\" y=\"-7\" width=\"28\" height=\"14\"/><text x=\"14\" y=\"4\">r2</text></g>",
+        Mark::Cancelled =>
+            b"<g class=\"box receive h2 cancelled\"><rect x=\"0\" y=\"-7\" width=\"28\" height=\"14\"/><text x=\"14\" y=\"4\">r2</text></g>",
+        Mark::Trouble =>
+            b"<g class=\"box receive h2 trouble\"><rect x=\"0\" y=\"-7\" width=\"28\" height=\"14\"/><text x=\"14\" y=\"4\">r2</text></g>",
+        Mark::Bars =>
+            b"<g class=\"bar receive h2\"><rect x=\"0\" y=\"-4\" width=\"24\" height=\"8\"/><circle cx=\"24\" cy=\"0\" r=\"4\"/></g>",
+        Mark::Arrows => b"<g class=\"arrow h1\"><path d=\"M4 -5L26 5\"/></g>",
+        Mark::Stalls =>
+            b"<g class=\"stall\"><rect x=\"0\" y=\"-7\" width=\"28\" height=\"14\"/></g>",
+        Mark::Levels =>
+            b"<g class=\"strip\"><path d=\"M0 6H28M0 -6H28\"/></g><g class=\"level h1\"><rect x=\"4\" y=\"-1\" width=\"20\" height=\"7\"/></g>",
+    }
+}
+
+/// A word for it.
+fn word(mark: Mark) -> &'static [u8]
     ensures { result.now ≡ mark_words mark }
 {
     match mark {
-        Mark::Boxes =>
-            b"Box: an entry. Filled it sends, white it receives. Its colour is the port's. ",
-        Mark::Makes => b"m and a number: makes that port. ",
-        Mark::Closes => b"c and a number: closes that port. ",
-        Mark::Selects => b"?: a select of which no case fired. ",
-        Mark::Defaults => b"def: took its default. ",
-        Mark::Cancels => b"x and a number: cancels the call of that process. ",
-        Mark::Refused =>
-            b"f and a number, with a thick dashed orange edge: refused by that fault. ",
-        Mark::Open => b"Thin dashed edge: still waits. ",
-        Mark::Drained => b"Dotted edge: the port was closed and empty. ",
-        Mark::Cancelled => b"Finely dotted edge: cancelled. ",
-        Mark::Trouble => b"Thick dashed orange edge: stalled, or sent on a closed port. ",
-        Mark::Bars => b"Bar: the call waits, and ends at the knob. ",
-        Mark::Arrows =>
-            b"Arrow: a value, from the dot to the tip. Straight down it was handed over, slanted it lay in the buffer. ",
-        Mark::Stalls => b"Shaded: everyone who is left waits, and this step stalls them. ",
-        Mark::Levels =>
-            b"Strip: how full a port is; at the upper line it is full. A port without a buffer has none. ",
+        Mark::Sends => b"sends",
+        Mark::Receives => b"receives",
+        Mark::Makes => b"makes a port",
+        Mark::Closes => b"closes a port",
+        Mark::Selects => b"no case fired",
+        Mark::Defaults => b"default taken",
+        Mark::Cancels => b"cancels a call",
+        Mark::Refused => b"refused: fault 3",
+        Mark::Open => b"still waits",
+        Mark::Drained => b"closed and empty",
+        Mark::Cancelled => b"was cancelled",
+        Mark::Trouble => b"stalls or fails",
+        Mark::Bars => b"waits, then ends",
+        Mark::Arrows => b"value on its way",
+        Mark::Stalls => b"deadlock",
+        Mark::Levels => b"values in a port",
     }
 }
 
-/// What is told of marks, where this drawing has them.
-#[derive(Clone, Copy)]
-struct Marks<'a>(&'a Drawing);
+/// Appends the sign in this place, and its word. Six stand in a row.
+fn put_sign(out: &mut Vec<u8>, place: u64, mark: Mark) -> Result<(), AllocError>
+    requires few { place ≤ 100 }
+    ensures { Appends out.old out.new (sign_text place mark) result }
+{
+    put_pieces(
+        out,
+        &[
+            Piece::Word(b"<g class=\"sign\" transform=\"translate("),
+            Piece::Number(14 + 126 * (place % 6)),
+            Piece::Word(b" "),
+            Piece::Number(44 + ROW * (place / 6)),
+            Piece::Word(b")\">"),
+            Piece::Word(sign(mark)),
+            Piece::Word(b"<text class=\"note\" x=\"34\" y=\"4\">"),
+            Piece::Word(word(mark)),
+            Piece::Word(b"</text></g>\n"),
+        ],
+    )
+}
 
-impl Pen<Mark> for Marks<'_> {
-    ghost text = { λ pen. mark_text pen.0.now };
-
-    fn put(&self, out: &mut Vec<u8>, mark: &Mark) -> Result<(), AllocError> {
-        if occurs(self.0, *mark) {
-            put(out, words(*mark))
-        } else {
-            Ok(())
+/// Appends those of these marks that occur.
+fn put_signs(out: &mut Vec<u8>, drawing: &Drawing, marks: &[Mark]) -> Result<(), AllocError>
+    requires few { length marks.now ≤ 100 }
+    ensures { Appends out.old out.new (signs_from drawing.now 0 marks.now) result }
+{
+    let mut place = 0;
+    for mark in marks {
+        if occurs(drawing, *mark) {
+            match put_sign(out, place, *mark) {
+                Ok(()) => {}
+                Err(AllocError) => return Err(AllocError),
+            }
+            place += 1;
         }
     }
+    Ok(())
 }
 
-/// Appends a row of it.
-fn put_row(out: &mut Vec<u8>, drawing: &Drawing, marks: &[Mark]) -> Result<(), AllocError>
-    ensures { Appends out.old out.new (row_text drawing.now marks.now) result }
-{
-    put(out, b"<tspan x=\"12\" dy=\"18\">")?;
-    put_each(out, &Marks(drawing), marks)?;
-    put(out, b"</tspan>\n")
-}
-
-/// Appends the boxes, and what stands in them.
-fn put_box_rows(out: &mut Vec<u8>, drawing: &Drawing) -> Result<(), AllocError>
-    ensures { Appends out.old out.new (box_rows drawing.now) result }
-{
-    put_row(out, drawing, &[Mark::Boxes])?;
-    put_row(
-        out,
-        drawing,
-        &[Mark::Makes, Mark::Closes, Mark::Selects, Mark::Defaults],
-    )?;
-    put_row(out, drawing, &[Mark::Cancels, Mark::Refused])
-}
-
-/// Appends how boxes ended.
-fn put_edge_rows(out: &mut Vec<u8>, drawing: &Drawing) -> Result<(), AllocError>
-    ensures { Appends out.old out.new (edge_rows drawing.now) result }
-{
-    put_row(out, drawing, &[Mark::Open, Mark::Drained, Mark::Cancelled])?;
-    put_row(out, drawing, &[Mark::Trouble, Mark::Bars])
-}
-
-/// Appends what else is drawn.
-fn put_shape_rows(out: &mut Vec<u8>, drawing: &Drawing) -> Result<(), AllocError>
-    ensures { Appends out.old out.new (shape_rows drawing.now) result }
-{
-    put_row(out, drawing, &[Mark::Arrows])?;
-    put_row(out, drawing, &[Mark::Stalls, Mark::Levels])
-}
-
-/// Appends what is told of all that occurs.
+/// Appends a sign and a word for each mark that occurs.
 pub(crate) fn put_legend(out: &mut Vec<u8>, drawing: &Drawing) -> Result<(), AllocError>
     ensures { Appends out.old out.new (legend_text drawing.now) result }
 {
-    put_box_rows(out, drawing)?;
-    put_edge_rows(out, drawing)?;
-    put_shape_rows(out, drawing)
+    put_signs(
+        out,
+        drawing,
+        &[
+            Mark::Sends,
+            Mark::Receives,
+            Mark::Makes,
+            Mark::Closes,
+            Mark::Selects,
+            Mark::Defaults,
+            Mark::Cancels,
+            Mark::Refused,
+            Mark::Open,
+            Mark::Drained,
+            Mark::Cancelled,
+            Mark::Trouble,
+            Mark::Bars,
+            Mark::Arrows,
+            Mark::Stalls,
+            Mark::Levels,
+        ],
+    )
 }

@@ -3,14 +3,15 @@
 ghost use Rattle.std.specs.Prelude.{◌≡◌, ◌≤◌, ◌+◌, ◌∷◌, []};
 ghost use Rattle.hub_picture.specs.Pieces.{Appends, filled};
 ghost use Rattle.hub_picture.specs.Svg.Page.{bands_of, foot_of, height_of_page, scale_for, scale_of, shown_of, width_of};
-ghost use Rattle.hub_picture.specs.Svg.Page.{foot_opening, foot_text, head_text, page_opening, paper_text, procs_text};
-ghost use Rattle.hub_picture.specs.Svg.Page.{rows_text, sheet_text, size_text, steps_text, tags_text};
+ghost use Rattle.hub_picture.specs.Svg.Page.{defs_text, foot_opening, foot_text, head_text, page_opening, paper_text, procs_text};
+ghost use Rattle.hub_picture.specs.Svg.Page.{rows_text, scale_text, sheet_text, size_text, steps_text, tags_text, top_text};
 
 use super::legend::put_legend;
+use super::marks::put_marks;
 use super::style::put_style;
-use super::waiters::Rows;
+use super::waiters::{Rows, put_deadlock};
 use crate::Drawing;
-use crate::frame::{LEFT, LEGEND, MOST_ROWS, ROW, Scale, TOP, height_of, number_of, ports_of};
+use crate::frame::{FOOT, LEFT, MOST_ROWS, ROW, Scale, TOP, height_of, number_of, ports_of};
 use crate::pen::put_each;
 use crate::piece::{put, put_filled};
 use std::alloc::AllocError;
@@ -73,7 +74,7 @@ fn height_of_page(drawing: &Drawing) -> u64
     ensures { result ≡ height_of_page drawing.now }
 {
     let rows = drawing.waiters.len().min(MOST_ROWS) as u64;
-    foot_of(drawing) + LEGEND + ROW * rows
+    foot_of(drawing) + FOOT + ROW * rows
 }
 
 /// Appends these words, and behind the first two how wide and how high the picture is.
@@ -102,11 +103,22 @@ fn put_steps(out: &mut Vec<u8>, drawing: &Drawing) -> Result<(), AllocError>
     )
 }
 
+/// Where a picture begins, with its scale as its class.
+fn scale_class(scale: Scale) -> &'static [u8]
+    ensures { result.now ≡ scale_text scale }
+{
+    match scale {
+        Scale::Wide => b"<svg xmlns=\"http://www.w3.org/2000/svg\" class=\"wide\"",
+        Scale::Middle => b"<svg xmlns=\"http://www.w3.org/2000/svg\" class=\"middle\"",
+        Scale::Dense => b"<svg xmlns=\"http://www.w3.org/2000/svg\" class=\"dense\"",
+    }
+}
+
 /// Appends its first tags.
 fn put_tags(out: &mut Vec<u8>, drawing: &Drawing) -> Result<(), AllocError>
     ensures { Appends out.old out.new (tags_text drawing.now) result }
 {
-    put(out, b"<svg xmlns=\"http://www.w3.org/2000/svg\"")?;
+    put(out, scale_class(scale_of(drawing)))?;
     put_size(out, drawing)?;
     put_sides(
         out,
@@ -133,7 +145,7 @@ fn put_sheet(out: &mut Vec<u8>, drawing: &Drawing) -> Result<(), AllocError>
     put(out, b"/>\n<text class=\"note\" x=\"12\" y=\"20\">")
 }
 
-/// Appends of how many processes it is, and the ends of arrows.
+/// Appends of how many processes it is, and the tip of arrows.
 fn put_procs(out: &mut Vec<u8>, procs: u8) -> Result<(), AllocError>
     ensures { Appends out.old out.new (procs_text procs) result }
 {
@@ -143,13 +155,19 @@ fn put_procs(out: &mut Vec<u8>, procs: u8) -> Result<(), AllocError>
             b" of ",
             b" processes</text>\n<defs>\
 <marker id=\"tip\" viewBox=\"0 0 8 8\" refX=\"7\" refY=\"4\" markerWidth=\"5\" markerHeight=\"5\" orient=\"auto\">\
-<path class=\"tip\" d=\"M0 0L8 4L0 8z\"/></marker>\
-<marker id=\"dot\" viewBox=\"0 0 8 8\" refX=\"4\" refY=\"4\" markerWidth=\"3\" markerHeight=\"3\">\
-<circle class=\"tip\" cx=\"4\" cy=\"4\" r=\"4\"/></marker>\
-</defs>\n",
+<path class=\"tip\" d=\"M0 0L8 4L0 8z\"/></marker>\n",
         ],
         &[procs.into()],
     )
+}
+
+/// Appends them, and the marks of ports.
+fn put_defs(out: &mut Vec<u8>, procs: u8) -> Result<(), AllocError>
+    ensures { Appends out.old out.new (defs_text procs) result }
+{
+    put_procs(out, procs)?;
+    put_marks(out)?;
+    put(out, b"</defs>\n")
 }
 
 /// Appends the paper, and what it shows.
@@ -158,16 +176,24 @@ fn put_paper(out: &mut Vec<u8>, drawing: &Drawing) -> Result<(), AllocError>
 {
     put_sheet(out, drawing)?;
     put_steps(out, drawing)?;
-    put_procs(out, drawing.procs)
+    put_defs(out, drawing.procs)
 }
 
 /// Appends the head of a picture.
-pub(crate) fn put_head(out: &mut Vec<u8>, drawing: &Drawing) -> Result<(), AllocError>
+fn put_head(out: &mut Vec<u8>, drawing: &Drawing) -> Result<(), AllocError>
     ensures { Appends out.old out.new (head_text drawing.now) result }
 {
     put_opening(out, drawing)?;
     put_style(out)?;
     put_paper(out, drawing)
+}
+
+/// Appends the head, and how to read the picture.
+pub(crate) fn put_top(out: &mut Vec<u8>, drawing: &Drawing) -> Result<(), AllocError>
+    ensures { Appends out.old out.new (top_text drawing.now) result }
+{
+    put_head(out, drawing)?;
+    put_legend(out, drawing)
 }
 
 /// Appends where its foot begins.
@@ -181,15 +207,15 @@ fn put_foot_opening(out: &mut Vec<u8>, drawing: &Drawing) -> Result<(), AllocErr
     )
 }
 
-/// Appends the rows of those who wait, and of the legend.
+/// Appends the rows of those who wait, below what it is that they do.
 fn put_rows(out: &mut Vec<u8>, drawing: &Drawing) -> Result<(), AllocError>
     ensures { Appends out.old out.new (rows_text drawing.now) result }
 {
-    put_each(out, &Rows, &drawing.waiters)?;
-    put_legend(out, drawing)
+    put_deadlock(out, &drawing.stalls)?;
+    put_each(out, &Rows(&drawing.stalls), &drawing.waiters)
 }
 
-/// Appends its foot, which tells who waits in vain, and how to read it.
+/// Appends its foot, which tells who waits in vain.
 pub(crate) fn put_foot(out: &mut Vec<u8>, drawing: &Drawing) -> Result<(), AllocError>
     ensures { Appends out.old out.new (foot_text drawing.now) result }
 {

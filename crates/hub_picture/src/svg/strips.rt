@@ -9,7 +9,7 @@ use super::rect::{Rect, put_rect};
 use crate::frame::{FULL, Frame, LEFT, number_of};
 use crate::levels::shows_level;
 use crate::pen::Pen;
-use crate::piece::{Piece, put, put_filled, put_pieces};
+use crate::piece::{Piece, hue, put, put_filled, put_pieces};
 use crate::{Held, Strip};
 use hub_base::Port;
 use hub_story::Level;
@@ -52,7 +52,10 @@ fn put_strip_body(out: &mut Vec<u8>, frame: Frame, strip: &Strip) -> Result<(), 
             b"\"/><text class=\"name\" x=\"",
             b"\" y=\"",
             b"\">port ",
-            b"</text></g>\n",
+            b"</text><use class=\"mark h",
+            b"\" href=\"#k",
+            b"\" x=\"4\" y=\"",
+            b"\"/></g>\n",
         ],
         &[
             LEFT,
@@ -64,6 +67,9 @@ fn put_strip_body(out: &mut Vec<u8>, frame: Frame, strip: &Strip) -> Result<(), 
             LEFT - 8,
             floor,
             strip.port.0.into(),
+            hue(strip.port),
+            hue(strip.port),
+            floor - 8,
         ],
     )
 }
@@ -90,11 +96,7 @@ fn count_of(level: Level) -> u64
 fn put_opening(out: &mut Vec<u8>, port: Port) -> Result<(), AllocError>
     ensures { Appends out.old out.new (level_opening port) result }
 {
-    put_filled(
-        out,
-        &[b"<g class=\"level h", b"\"><title>"],
-        &[(port.0 % 5).into()],
-    )
+    put_filled(out, &[b"<g class=\"level h", b"\"><title>"], &[hue(port)])
 }
 
 /// Appends what is told where one points at it.

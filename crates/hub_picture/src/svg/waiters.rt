@@ -1,12 +1,14 @@
 //! The rows of those who wait in vain.
 
 ghost use Rattle.hub_picture.specs.Pieces.{Appends};
-ghost use Rattle.hub_picture.specs.Svg.Waiters.{waiter_text, waiter_words};
+ghost use Rattle.hub_picture.specs.Svg.Waiters.{deadlock_text, waiter_text, waiter_told, waiter_words};
 
+use super::whom::{put_whom_words, whom};
 use crate::Waiter;
 use crate::frame::number_of;
 use crate::pen::Pen;
 use crate::piece::{Piece, put, put_pieces};
+use hub_story::Told;
 use std::alloc::AllocError;
 
 /// Appends what is told of a waiter.
@@ -30,16 +32,37 @@ fn put_words(out: &mut Vec<u8>, waiter: &Waiter) -> Result<(), AllocError>
     )
 }
 
-/// The rows of those who wait.
-#[derive(Clone, Copy)]
-pub(crate) struct Rows;
+/// Appends it with for whom it waits, where everyone waits.
+fn put_told(out: &mut Vec<u8>, stalls: &[Told], waiter: &Waiter) -> Result<(), AllocError>
+    ensures { Appends out.old out.new (waiter_told stalls.now waiter.now) result }
+{
+    put_words(out, waiter)?;
+    put_whom_words(out, whom(stalls, waiter))
+}
 
-impl Pen<Waiter> for Rows {
-    ghost text = { λ _. waiter_text };
+/// Appends, where anyone was stalled, what that is.
+pub(crate) fn put_deadlock(out: &mut Vec<u8>, stalls: &[Told]) -> Result<(), AllocError>
+    ensures { Appends out.old out.new (deadlock_text stalls.now) result }
+{
+    match stalls {
+        [] => Ok(()),
+        _ => put(
+            out,
+            b"<tspan class=\"dead\" x=\"12\" dy=\"18\">deadlock: everyone who is left waits</tspan>\n",
+        ),
+    }
+}
+
+/// The rows of those who wait, by who was stalled.
+#[derive(Clone, Copy)]
+pub(crate) struct Rows<'a>(pub &'a [Told]);
+
+impl Pen<Waiter> for Rows<'_> {
+    ghost text = { λ pen. waiter_text pen.0.now };
 
     fn put(&self, out: &mut Vec<u8>, waiter: &Waiter) -> Result<(), AllocError> {
         put(out, b"<tspan class=\"waits\" x=\"12\" dy=\"18\">")?;
-        put_words(out, waiter)?;
+        put_told(out, self.0, waiter)?;
         put(out, b"</tspan>\n")
     }
 }

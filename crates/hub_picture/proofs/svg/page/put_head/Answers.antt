@@ -1,5 +1,8 @@
-use Rattle.hub_picture.proofs.Appended.{three}
+use Rattle.hub_picture.proofs.Appended.{refused, three}
 use Rattle.hub_picture.proofs.svg.page.put_head.Goals as goal
+
+pub returns-in_err-put_style : goal.returns-in_err-put_style
+returns-in_err-put_style c = refused c.from_residual-in_err-put_style.ensures.0 (_, c.in_ok-put_opening.ensures.ok) c.in_err-put_style.ensures.err
 
 pub returns : goal.returns
 returns c = three _ _ _ c.in_ok-put_opening.ensures.ok c.in_ok-put_style.ensures.ok c.put_paper.ensures

@@ -9,4 +9,6 @@ returns c =
       c.height-full.ensures,
       c.into.ensures,
       c.into-2.ensures,
+      c.hue.ensures,
+      c.hue-2.ensures,
     ) at c.put_filled.ensures

@@ -1,12 +1,11 @@
 -- A half of the bands shows what the whole shows of it.
 use Rattle.std.proofs.Common.{◌≡◌, ◌≤◌, ◌∙◌, ◌&&◌, ◌||◌, ℕ, nat_lt, Bool, true, false, cond, List, [], ◌∷◌, ◌++◌}
-use Rattle.std.proofs.Common.{filter, map, refl, ap, sym, arith, Option, None, Some}
+use Rattle.std.proofs.Common.{filter, refl, ap, sym, arith, Option, None, Some}
 use Rattle.std.specs.List.{flat_map}
 use Rattle.std.specs.Borrow.{Bor}
 use Rattle.std.proofs.Common.{◌+◌, append-nil, Result, Ok, Err, IsErr}
 use Rattle.std.specs.Global.{Vec}
 use Rattle.std.proofs.Math.Nat.{mul-le-mul_left}
-use Rattle.hub_story.specs.declared.told.Told.{Told}
 use Rattle.hub_story.specs.declared.window.Window.{Window}
 use Rattle.hub_story.specs.Windows.{goes_on, has}
 use Rattle.hub_picture.specs.declared.arrows.Arrow.{Arrow}

@@ -13,7 +13,7 @@ for crate in hub_base hub_laws hub_parts hub_core hub_live hub_crew hub_uses; do
 done
 
 pool=src/pool.rt
-sed -i 's/seat\.close(rt, hub, &sender)/seat.close(rt, hub, \&self.chan.receiver())/' \
+sed -i 's/seat\.close_port(rt, hub, &sender)/seat.close_port(rt, hub, \&self.chan.receiver())/' \
     "$work/crates/hub_uses/$pool"
 if cmp -s "$work/crates/hub_uses/$pool" "$root/crates/hub_uses/$pool"; then
     echo "receivers_close_nothing: no close to change"

@@ -102,13 +102,13 @@ impl Machine {
         ensures empty { OnErr result (events.new.items ≡ []) }
     {
         empty(events);
-        self.tell(entry, events)
+        self.step_into(entry, events)
     }
 
     /// As `answer`, to whoever hears the events behind those that it has heard before; there must be room for those
     /// of any step. Where memory is refused nothing is told.
     #[inline(always)]
-    pub fn tell<E: Hears>(&mut self, entry: &Entry, events: &mut E) -> Result<(), NoMemory>
+    pub fn step_into<E: Hears>(&mut self, entry: &Entry, events: &mut E) -> Result<(), NoMemory>
         requires steps { self.old.steps < 2 ^ 32 - 1 }
         requires room { MOST_EVENTS ≤ E.room events.old }
 
@@ -126,7 +126,7 @@ impl Machine {
             events.hear(tells(entry.pid, What::Fault(fault)));
             return Ok(());
         }
-        self.tell_admitted(entry, events)
+        self.step_admitted(entry, events)
     }
 
     /// Makes an admitted step, where there are no events yet. After a refusal there are none either, and
@@ -138,12 +138,12 @@ impl Machine {
         ensures ok { OnOk result (Turns self.old entry.now self.new events.new.items) }
         ensures err { OnErr result (RefusesMake self.old entry.now self.new events.new.items) }
     {
-        self.tell_admitted(entry, events)
+        self.step_admitted(entry, events)
     }
 
     /// Makes an admitted step, and tells what follows. After a refusal nothing is told, and the machine is as
     /// before.
-    fn tell_admitted<E: Hears>(&mut self, entry: &Entry, events: &mut E) -> Result<(), NoMemory>
+    fn step_admitted<E: Hears>(&mut self, entry: &Entry, events: &mut E) -> Result<(), NoMemory>
         requires steps { self.old.steps < 2 ^ 32 - 1 }
         requires admitted { refusal_of self.old.board self.old.gone entry.now.pid ≡ None }
         requires room { MOST_EVENTS ≤ E.room events.old }

@@ -13,7 +13,7 @@ use crate::closing::close;
 use crate::firing::{Caller, CountedBoard};
 use crate::looking::{buffered, look};
 use crate::refusals::{fault_of, refusal};
-use crate::select::{choose, wait};
+use crate::select::{choose, park_or_default};
 use crate::stalling::{all_wait, stop_all};
 use crate::tally::Tallies;
 use hub_base::{
@@ -109,7 +109,7 @@ impl MachineState {
             (call_on self.old pid cases.now.items default word).events }
     {
         match choose(&self.counted.board, cases.as_slice(), word) {
-            None => wait(
+            None => park_or_default(
                 &mut self.counted.board,
                 events,
                 self.steps,

@@ -70,8 +70,8 @@ pub(crate) fn choose<'a>(board: &Board, cases: &'a [Case], word: u64) -> Option<
     })
 }
 
-/// A call of which no case can proceed takes its default, or waits.
-pub(crate) fn wait<E: Hears>(
+/// A call of which no case can proceed takes its default, or parks.
+pub(crate) fn park_or_default<E: Hears>(
     board: &mut Board,
     events: &mut E,
     ticket: u32,

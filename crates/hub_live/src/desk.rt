@@ -115,11 +115,11 @@ impl<K: HubName> Desk<K> {
                 let port = changed(&made.step, answer.what);
                 let mark = mark_at(&self.locked, port);
                 words.publish(&mut self.token, usize::from(port.0), mark, made);
-                seat.token = Some(words.part(&mut self.token));
+                seat.token = Some(words.split(&mut self.token));
                 Ok(answer)
             }
             Err(fault) => {
-                seat.token = Some(words.part(&mut self.token));
+                seat.token = Some(words.split(&mut self.token));
                 Err(fault)
             }
         }

@@ -88,7 +88,7 @@ impl<K: HubName> Words<K> {
     }
 
     /// One load: the seat that was taken in is given back.
-    pub(crate) fn part(&self, token: &mut Token) -> Token
+    pub(crate) fn split(&self, token: &mut Token) -> Token
         requires token { IsToken K.name token.old }
         requires joined { IsSome token.old.me.0.joined }
         ensures token { IsToken K.name token.new }
@@ -108,7 +108,7 @@ impl<K: HubName> Words<K> {
         ensures met { Met token.old.me.0 other.me.0 token.new.me.0 result.me.0 }
     {
         self.join(token, other);
-        self.part(token)
+        self.split(token)
     }
 }
 

@@ -6,20 +6,20 @@
 //! in `specs/Verify`.
 #![tactic(auto)]
 
+mod arguments;
 mod comparison;
 mod device;
 mod fault;
 mod fault_lines;
 mod pieces;
-mod program;
 mod replayer;
 mod steps;
 mod verifier;
 
+pub use arguments::arguments;
 pub use device::{Counted, Sink, Source};
 pub use fault::{ReplayFault, SourceFault, WriteFailed};
 pub use fault_lines::{ProgramFault, tell_fault, write_pieces};
 pub use pieces::{CHUNK, read_up_to, write_whole};
-pub use program::arguments;
 pub use replayer::replay;
 pub use verifier::{Compared, verify};

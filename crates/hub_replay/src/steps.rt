@@ -78,7 +78,7 @@ impl<'a> Steps<'a> {
             return Ok(false);
         }
         lines.make_step_room()?;
-        self.machine.tell(&self.entry, lines)?;
+        self.machine.step_into(&self.entry, lines)?;
         Ok(true)
     }
 

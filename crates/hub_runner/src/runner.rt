@@ -27,7 +27,7 @@ use std::thread::Threads;
 
 /// The seats of processes that make no more steps, and why one of these was refused, if one was.
 #[derive(Drop)]
-struct Halted<K: HubName> {
+struct Ended<K: HubName> {
     seats: Vec<Held<K>>,
     fault: Option<RunFault>,
 }
@@ -58,7 +58,7 @@ fn make_ready<K: HubName, R: Wait>(
     hub: &LiveHub<K>,
     seats: Vec<Held<K>>,
     scenario: &Scenario,
-) -> Result<Vec<Held<K>>, Halted<K>>
+) -> Result<Vec<Held<K>>, Ended<K>>
     requires head { K.name.terms.head ≡ run_head (scenario_view scenario.now) }
     requires some { 0 < vec_len seats }
     requires seats { AreSeats K.name 0 seats.items }
@@ -70,7 +70,7 @@ fn make_ready<K: HubName, R: Wait>(
     let mut seats = seats;
     match make_ports(rt, hub, &mut seats[0], &scenario.ports) {
         Ok(()) => Ok(seats),
-        Err(fault) => Err(Halted {
+        Err(fault) => Err(Ended {
             seats,
             fault: Some(RunFault::from(fault)),
         }),
@@ -78,11 +78,11 @@ fn make_ready<K: HubName, R: Wait>(
 }
 
 /// The seats of processes whose threads have ended, and why a step was refused, if one was.
-fn part<K: HubName>(
+fn end_of<K: HubName>(
     alloc: Global,
     scenario: &Scenario,
     members: Vec<Member<Held<K>, Result<(), Fault>>>,
-) -> Result<Halted<K>, AllocError>
+) -> Result<Ended<K>, AllocError>
     requires { All (λ m. IsOutcome (scenario_view scenario.now) m.seat m.report) members.items }
     ensures { IfOk result (λ h. HaveEnded (scenario_view scenario.now) K.name
         (map (λ m. m.seat.pid) members.items) h.seats.items h.fault) }
@@ -98,7 +98,7 @@ fn part<K: HubName>(
             return Err(AllocError);
         };
     }
-    Ok(Halted { seats, fault })
+    Ok(Ended { seats, fault })
 }
 
 /// The seats, once the ports are made and each process has followed its script; or as they are where a
@@ -110,7 +110,7 @@ fn follow_all<K: HubName + Send + Sync, R: Threads + Wait + Sync, G: Gate + Sync
     seats: Vec<Seat>,
     scenario: &Scenario,
     gate: &G,
-) -> Result<Halted<K>, AllocError>
+) -> Result<Ended<K>, AllocError>
     requires head { K.name.terms.head ≡ run_head (scenario_view scenario.now) }
     requires some { 0 < vec_len seats }
     requires seats { AreSeats K.name 0 seats.items }
@@ -122,9 +122,9 @@ fn follow_all<K: HubName + Send + Sync, R: Threads + Wait + Sync, G: Gate + Sync
     match make_ready(rt, hub, held, scenario) {
         Ok(ready) => {
             let members = run_crew(rt, alloc, hub, ready, Following { scenario, gate })?;
-            part(alloc, scenario, members)
+            end_of(alloc, scenario, members)
         }
-        Err(halted) => Ok(halted),
+        Err(ended) => Ok(ended),
     }
 }
 
@@ -151,7 +151,7 @@ fn run_named<K: HubName + Send + Sync, R: Threads + Wait + Sync, G: Gate + Sync>
         → (journal : List Entry) × IsCutShort (scenario_view scenario.now) journal }
 {
     let hub = blank.named::<K>();
-    let Halted { seats, fault } = follow_all(rt, alloc, &hub, seats, scenario, gate)?;
+    let Ended { seats, fault } = follow_all(rt, alloc, &hub, seats, scenario, gate)?;
     // Also where a step was refused, since only the whole journal shows where each process had come to.
     let journal = hub.finish_held(seats);
     match fault {

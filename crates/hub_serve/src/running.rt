@@ -83,7 +83,7 @@ impl Running {
             return Ok(Some(Kind::TooLong));
         };
         answers.make_step_room()?;
-        self.machine.tell(&self.entry, answers)?;
+        self.machine.step_into(&self.entry, answers)?;
         self.steps = steps;
         Ok(None)
     }

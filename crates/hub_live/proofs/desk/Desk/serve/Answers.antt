@@ -26,10 +26,10 @@ served : (g : Over) (c : Joined-seat g)
 served g c = served_by c.args.request.now (stepper g c) c.in-Ok.ensures.ok
 
 made : (g : Over) (c : Joined-seat g)
-    → Stepped g.K.HubName.name c.args.seat.now (entry_by c.args.seat.now.pid c.args.request.now) c.serve.new.self c.part.new.token c.seat.inside.pid
-    c.part.result
+    → Stepped g.K.HubName.name c.args.seat.now (entry_by c.args.seat.now.pid c.args.request.now) c.serve.new.self c.split.new.token c.seat.inside.pid
+    c.split.result
 made g c =
-    let p = c.part.ensures in
+    let p = c.split.ensures in
     let newest = c.newest-made.ensures in
     stepped c.self.invariant (stepper g c) refl c.join.ensures.sees (served g c) newest c.publish.ensures.view p.token p.left p.given p.back
 
@@ -59,17 +59,17 @@ returns-in-Ok g c =
 seat : (g : Over) (c : Joined-seat-2 g) → IsSeatOf g.K.HubName.name c.args.seat.now c.seat.inside.pid c.in-Some.mine
 seat g c = seat_opened c.requires.hub c.seat.invariant c.seat.view_is (sym c.take.ensures.value ∙ c.in-Some.is)
 
-meeting : (g : Over) (c : Joined-seat-2 g) → Met c.self.inside.token.me.0 c.in-Some.mine.me.0 c.part-in-Err.new.token.me.0 c.part-in-Err.result.me.0
+meeting : (g : Over) (c : Joined-seat-2 g) → Met c.self.inside.token.me.0 c.in-Some.mine.me.0 c.split-in-Err.new.token.me.0 c.split-in-Err.result.me.0
 meeting g c =
-    let p = c.part-in-Err.ensures in
+    let p = c.split-in-Err.ensures in
     met (desk_single c.self.invariant) (seat g c).single c.join.ensures.sees p.left p.back
 
-left : (g : Over) (c : Joined-seat-2 g) → HasSeen c.args.seat.now c.seat.inside.pid c.part-in-Err.result
-left g c = has_seen (seat g c) c.part-in-Err.ensures.given (meeting g c).second
+left : (g : Over) (c : Joined-seat-2 g) → HasSeen c.args.seat.now c.seat.inside.pid c.split-in-Err.result
+left g c = has_seen (seat g c) c.split-in-Err.ensures.given (meeting g c).second
 
 pub invariant_of-self-in-Err : goal.invariant_of-self-in-Err
 invariant_of-self-in-Err g c =
-    desk_seen c.self.invariant (ap (λ (l : LockedView). l.hub) c.in-Err.ensures.unchanged) c.part-in-Err.ensures.token (meeting g c).first
+    desk_seen c.self.invariant (ap (λ (l : LockedView). l.hub) c.in-Err.ensures.unchanged) c.split-in-Err.ensures.token (meeting g c).first
 
 refused : (g : Over) (c : Joined-seat-2 g) → Refuses c.self.inside.locked.hub (entry_by c.args.seat.now.pid c.args.request.now) c.in-Err.fault
 refused g c = refused_by c.args.request.now c.self.inside.locked.hub c.in-Err.fault (seat g c) c.in-Err.ensures.refused
@@ -88,7 +88,7 @@ returns-in-Err g c =
       own = tt;
       told = tt;
       refused = subst (λ (l : LockedView). Refuses l.hub asked c.in-Err.fault) c.self.view_is (refused g c);
-      shows = refusal_seen c.part-in-Err.result asked c.in-Err.fault c.self.invariant (seat g c) (left g c).follows
+      shows = refusal_seen c.split-in-Err.result asked c.in-Err.fault c.self.invariant (seat g c) (left g c).follows
           (seen ∙ ap (λ (l : LockedView). l.hub.journal) c.in-Err.ensures.unchanged) r.hub refl r.free (refused g c);
       left = asked_nothing (left g c).follows r.free;
       unchanged = search rules;

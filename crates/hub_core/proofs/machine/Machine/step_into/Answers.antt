@@ -7,7 +7,7 @@ use Rattle.hub_base.specs.Steps.{tells}
 use Rattle.hub_core.specs.Follows.{Follows}
 use Rattle.hub_core.proofs.Stalls.{refusal_of-as}
 use Rattle.hub_core.proofs.Following.{follows_refused}
-use Rattle.hub_core.proofs.machine.Machine.tell.Goals as goal
+use Rattle.hub_core.proofs.machine.Machine.step_into.Goals as goal
 
 pub returns-in-Some-clause-ok : goal.returns-in-Some-clause-ok
 returns-in-Some-clause-ok g c = λ head es h.
@@ -27,8 +27,8 @@ on_ok (Err e) so p q r = tt
 
 pub returns-clause-ok : goal.returns-clause-ok
 returns-clause-ok g c =
-    on_ok c.tell_admitted.result
+    on_ok c.step_admitted.result
     (λ turns heard few. λ head es h.
     let admits = turns.ok head es h in
     record { told = _; heard = heard.events; answers = record { events = admits.events; follows = admits.follows }; few = few })
-    c.tell_admitted.ensures.ok c.tell_admitted.ensures.told c.tell_admitted.ensures.few
+    c.step_admitted.ensures.ok c.step_admitted.ensures.told c.step_admitted.ensures.few

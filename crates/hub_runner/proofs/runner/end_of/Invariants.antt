@@ -1,7 +1,7 @@
 use Rattle.std.proofs.Common.{◌≡◌, ◌++◌, map}
 use Rattle.hub_scenario.specs.Scenario.{scenario_view}
 use Rattle.hub_runner.specs.Running.{HaveEnded}
-use Rattle.hub_runner.proofs.runner.part.Given as goal
+use Rattle.hub_runner.proofs.runner.end_of.Given as goal
 
 abbrev pub invariant-loop-member : goal.invariant-loop-member
 invariant-loop-member g l =

@@ -8,7 +8,7 @@ use Rattle.hub_core.specs.Records.{MachineLists}
 use Rattle.hub_core.proofs.Effects.{fault_on-as}
 use Rattle.hub_core.proofs.Following.{admits_on, reached_next}
 use Rattle.hub_core.proofs.Reached.{turn_few}
-use Rattle.hub_core.proofs.machine.Machine.tell_admitted.Goals as goal
+use Rattle.hub_core.proofs.machine.Machine.step_admitted.Goals as goal
 
 pub invariant_of-self-2 : goal.invariant_of-self-2
 invariant_of-self-2 g c =

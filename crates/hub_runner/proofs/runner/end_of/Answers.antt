@@ -5,7 +5,7 @@ use Rattle.hub_scenario.specs.Scenario.{scenario_view}
 use Rattle.hub_runner.specs.Running.{IsOutcome, HaveEnded}
 use Rattle.hub_base.proofs.Loops.{one_further, all_next}
 use Rattle.hub_runner.proofs.Outcomes.{ended_more}
-use Rattle.hub_runner.proofs.runner.part.Goals as goal
+use Rattle.hub_runner.proofs.runner.end_of.Goals as goal
 
 pub loop-member-preserved : goal.loop-member-preserved
 loop-member-preserved g c =

@@ -1,6 +1,6 @@
 use Rattle.std.proofs.Common.{arith, sym, ◌∙◌}
 use Rattle.hub_live.proofs.Seats.{parts_some}
-use Rattle.hub_live.proofs.words.Words.part.Goals as goal
+use Rattle.hub_live.proofs.words.Words.split.Goals as goal
 
 pub split_seat-requires : goal.split_seat-requires
 split_seat-requires g c =

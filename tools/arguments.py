@@ -8,6 +8,9 @@ import subprocess
 import sys
 import tempfile
 
+sys.dont_write_bytecode = True
+from counting import Count
+
 ROOT = pathlib.Path(__file__).resolve().parent.parent
 JOURNAL = (ROOT / "examples" / "journals" / "hand_over").read_bytes()
 WAIT = 60
@@ -61,15 +64,12 @@ def checks(name, program, work):
 
 
 def main():
-    passed = failed = 0
+    count = Count()
     with tempfile.TemporaryDirectory() as work:
         for name, program in zip(ASKED, sys.argv[1:3]):
             for check, good in checks(name, os.path.realpath(program), work):
-                passed, failed = passed + good, failed + (not good)
-                if not good:
-                    print(f"failed: {check}")
-    print(f"{passed} passed, {failed} failed")
-    return 1 if failed else 0
+                count.test(check, good)
+    return count.end()
 
 
 if __name__ == "__main__":

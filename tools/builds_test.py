@@ -16,6 +16,9 @@ import sys
 import tempfile
 import time
 
+sys.dont_write_bytecode = True
+from counting import Count
+
 TREE = os.path.abspath(sys.argv[1] if len(sys.argv) > 1 else os.path.join(os.path.dirname(os.path.abspath(__file__)), '..'))
 
 LINES = {'low': 'low: arrayvec', 'high': 'high: low', 'hub_c': 'hub_c staticlib: low', 'chanhub': 'chanhub: low high', 'chanhub_tool': 'chanhub_tool: low'}
@@ -182,18 +185,9 @@ class Room:
         time.sleep(0.1)
 
 
-class Tests:
-    def __init__(self):
-        self.passed = self.failed = 0
-
-    def tell(self, name, is_well, why=''):
-        self.passed += bool(is_well)
-        self.failed += not is_well
-        if not is_well:
-            print(('failed: %s: %s' % (name, why)).rstrip(': '), flush=True)
-
+class Tests(Count):
     def same(self, name, found, wanted):
-        self.tell(name, found == wanted, '%r, and not %r' % (found, wanted))
+        self.test(name, found == wanted, '%r, and not %r' % (found, wanted))
 
 
 def by_its_line(tests, room):
@@ -252,19 +246,19 @@ def wrapper(tests, room):
         began = time.monotonic()
         room.run('./chanhub')
         spent.append(time.monotonic() - began)
-    tests.tell('./chanhub begins at once', min(spent) < 0.15, '%.2f s' % min(spent))
+    tests.test('./chanhub begins at once', min(spent) < 0.15, '%.2f s' % min(spent))
     tests.same('./chanhub needs no rt where it is built', room.run('./chanhub', 'replay', has_rt=False), (0, 'ran replay\n', ''))
     status, told, errors = room.run('./chanhub', '--help', has_rt=False)
-    tests.tell('./chanhub --help', (status, errors, told.count('\n')) == (0, '', 10) and 'ran' not in told.split() and './chanhub verify' in told)
+    tests.test('./chanhub --help', (status, errors, told.count('\n')) == (0, '', 10) and 'ran' not in told.split() and './chanhub verify' in told)
     tests.same('./chanhub takes --help beside other words as the program does', room.run('./chanhub', '--help', 'run'), (0, 'ran --help run\n', ''))
     time.sleep(0.1)
     write(room.path('crates', 'low', 'src', 'lib.rt'), '//! Another edit.\n')
     for words, wanted in ((('./chanhub', 'replay'), 125), (('tools/build.py', 'chanhub'), 1)):
         status, told, errors = room.run(*words, has_rt=False)
         is_well = (status, told) == (wanted, '') and 'no command rt on the path' in errors.splitlines()[0] and 'Traceback' not in errors
-        tests.tell('%s says that there is no rt' % words[0], is_well and errors.count('\n') <= 2, (status, errors[-300:]))
+        tests.test('%s says that there is no rt' % words[0], is_well and errors.count('\n') <= 2, (status, errors[-300:]))
     status, told, errors = room.run('./chanhub', '--help')
-    tests.tell('./chanhub --help builds nothing', status == 0 and 'ran' not in told.split() and not errors)
+    tests.test('./chanhub --help builds nothing', status == 0 and 'ran' not in told.split() and not errors)
     room.build()
 
 
@@ -303,7 +297,7 @@ def waits(tests, room):
         child.communicate(timeout=60)
         # What explain.sh explains stays.
         end(*room.left())
-        tests.tell('%s says for what it waits' % name, told.count('\n') == 1 and 'waiting for another build' in told and 'crates/low' in told, told)
+        tests.test('%s says for what it waits' % name, told.count('\n') == 1 and 'waiting for another build' in told and 'crates/low' in told, told)
     room.build()
     with locked(room, 'low'):
         child = room.start('tools/build.py', 'chanhub')
@@ -333,8 +327,8 @@ def interrupt(tests, room, number, *words, to_all=False):
         told, errors = child.communicate()
     spent = time.monotonic() - began
     ran, left = room.left()
-    tests.tell(name + ', with its status', (child.returncode, told) == (128 + number, '') and spent < 10, (child.returncode, told, '%d s' % spent))
-    tests.tell(name + ', without a traceback', 'Traceback' not in errors and 'not built' not in errors, errors[-200:])
+    tests.test(name + ', with its status', (child.returncode, told) == (128 + number, '') and spent < 10, (child.returncode, told, '%d s' % spent))
+    tests.test(name + ', without a traceback', 'Traceback' not in errors and 'not built' not in errors, errors[-200:])
     tests.same(name + ', with all that it started', ran, [])
     tests.same(name + ', and leaves no folder', left, [])
     end(ran, left)
@@ -392,7 +386,7 @@ def gate(tests, room):
             _, errors = child.communicate()
         ran, left = room.left()
         tests.same(name + ', with its status', child.returncode, 128 + number)
-        tests.tell(name + ', without a traceback', 'Traceback' not in errors, errors[-200:])
+        tests.test(name + ', without a traceback', 'Traceback' not in errors, errors[-200:])
         tests.same(name + ', with all that it started', ran, [])
         tests.same(name + ', and leaves no folder', left, [])
         end(ran, left)
@@ -405,24 +399,24 @@ def makes_at_once(tests, room):
     makes = [room.start('make', '-C', 'capi', 'AR=slow-ar') for _ in range(2)]
     for make in makes:
         _, errors = make.communicate(timeout=60)
-        tests.tell('two of make -C capi at once', make.returncode == 0, errors)
+        tests.test('two of make -C capi at once', make.returncode == 0, errors)
     shutil.rmtree(room.path('capi', 'out'))
 
 
 def installs(tests, room):
     status, _, errors = room.run('make', '-C', 'capi')
-    tests.tell('make -C capi', status == 0, errors)
+    tests.test('make -C capi', status == 0, errors)
     status, _, errors = room.run('make', '-C', 'capi', 'install', 'PREFIX=' + room.path('there'), has_rt=False)
-    tests.tell('make install without rt', (status, errors) == (0, '') and os.path.exists(room.path('there', 'lib', 'libchanhub.a')), errors)
+    tests.test('make install without rt', (status, errors) == (0, '') and os.path.exists(room.path('there', 'lib', 'libchanhub.a')), errors)
     # The libraries of C alone were kept.
     for crate in LINES:
         shutil.rmtree(room.path('crates', crate, 'out'), ignore_errors=True)
     status, _, errors = room.run('make', '-C', 'capi', 'install', 'PREFIX=' + room.path('here'), has_rt=False)
-    tests.tell('make install without rt, of the built libraries alone', (status, errors) == (0, '') and os.path.exists(room.path('here', 'lib', 'libchanhub.a')), errors)
+    tests.test('make install without rt, of the built libraries alone', (status, errors) == (0, '') and os.path.exists(room.path('here', 'lib', 'libchanhub.a')), errors)
     time.sleep(0.1)
     write(room.path('crates', 'low', 'src', 'lib.rt'), '//! For make.\n')
     status, _, errors = room.run('make', '-C', 'capi', 'install', 'PREFIX=' + room.path('nowhere'), has_rt=False)
-    tests.tell('make install of what is older than its sources says that there is no rt', status != 0 and 'no command rt on the path' in errors and 'Traceback' not in errors and not os.path.exists(room.path('nowhere', 'lib')), errors)
+    tests.test('make install of what is older than its sources says that there is no rt', status != 0 and 'no command rt on the path' in errors and 'Traceback' not in errors and not os.path.exists(room.path('nowhere', 'lib')), errors)
 
 
 def main():
@@ -437,11 +431,10 @@ def main():
             try:
                 part(tests, room)
             except (OSError, TypeError, subprocess.TimeoutExpired) as error:
-                tests.tell(part.__name__, False, error)
+                tests.test(part.__name__, False, error)
                 end(*room.left())
                 write(os.path.join(room.kit, 'slow'), '')
-    print('%d passed, %d failed' % (tests.passed, tests.failed))
-    return 1 if tests.failed else 0
+    return tests.end()
 
 
 if __name__ == '__main__':

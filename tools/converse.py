@@ -11,6 +11,9 @@ import sys
 import tempfile
 import tomllib
 
+sys.dont_write_bytecode = True
+from counting import Count
+
 ROOT = pathlib.Path(__file__).resolve().parent.parent
 WAIT = 10
 
@@ -129,7 +132,7 @@ def broken(journal, draw):
 
 def main():
     program, tool = sys.argv[1:3]
-    passed = failed = 0
+    count = Count()
     draw = random.Random(1)
     journals = [(path.name, path.read_bytes()) for path in sorted((ROOT / "examples" / "journals").iterdir()) if not path.suffix]
     with tempfile.TemporaryDirectory() as work:
@@ -141,19 +144,14 @@ def main():
         checks.append((f"{name} by lines", lambda j=journal: converses_by_lines(program, tool, j)))
         checks.append((f"{name} by pieces", lambda j=journal: converses_by_pieces(program, tool, j, draw)))
         checks.append((f"{name} at once", lambda j=journal: converses_at_once(program, tool, j)))
-        for count in range(8):
-            checks.append((f"{name} broken {count}", lambda j=broken(journal, draw): converses_at_once(program, tool, j)))
+        for nth in range(8):
+            checks.append((f"{name} broken {nth}", lambda j=broken(journal, draw): converses_at_once(program, tool, j)))
     for name, journal in faulty_journals():
         checks.append((f"faulty journal {name}", lambda j=journal: converses_at_once(program, tool, j)))
     checks.append(("no byte", lambda: converses_at_once(program, tool, b"")))
     for name, check in checks:
-        if check():
-            passed += 1
-        else:
-            failed += 1
-            print(f"failed: {name}")
-    print(f"{passed} passed, {failed} failed")
-    return 1 if failed else 0
+        count.test(name, check())
+    return count.end()
 
 
 if __name__ == "__main__":

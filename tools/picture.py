@@ -22,6 +22,9 @@ import sys
 import tempfile
 import xml.etree.ElementTree as xml
 
+sys.dont_write_bytecode = True
+from counting import Count
+
 ROOT = pathlib.Path(__file__).resolve().parent.parent
 TOOLS = ROOT / "tools"
 SVG = "{http://www.w3.org/2000/svg}"
@@ -675,28 +678,6 @@ def check_times(count, program):
 # ---- all of it
 
 
-class Count:
-    def __init__(self):
-        self.passed = self.failed = self.skipped = 0
-
-    def test(self, name, good):
-        self.passed, self.failed = self.passed + good, self.failed + (not good)
-        if not good:
-            print(f"failed: {name}")
-
-    def skip(self, name):
-        self.skipped += 1
-        print(f"skipped: {name}")
-
-    def run(self, name, test):
-        try:
-            test()
-            self.passed += 1
-        except Exception as fault:
-            self.failed += 1
-            print(f"{name}: {fault}")
-
-
 def check_journal(count, program, name, text, by_windows=True):
     """The whole picture, and two windows of it."""
     journal = Journal(text)
@@ -740,8 +721,7 @@ def main():
         check_views(count, {path.name: output_of([program, "picture"], path.read_bytes()) for path in examples + documents})
     else:
         count.skip("pictures in a browser, since there is no Chromium")
-    print(f"{count.passed} passed, {count.failed} failed" + (f", {count.skipped} skipped" if count.skipped else ""))
-    return count.failed != 0
+    return count.end()
 
 
 if __name__ == "__main__":

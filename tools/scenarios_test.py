@@ -15,6 +15,9 @@ import tempfile
 import time
 import tomllib
 
+sys.dont_write_bytecode = True
+from counting import Count
+
 ROOT = os.path.join(os.path.dirname(os.path.abspath(__file__)), '..')
 TOOLS = os.path.join(ROOT, 'tools')
 EXAMPLES = os.path.join(ROOT, 'examples')
@@ -140,18 +143,12 @@ def mutate(chance, text):
     return text
 
 
-class Tests:
+class Tests(Count):
     def __init__(self, program, tool, folder):
+        super().__init__()
         self.program = program
         self.folder = folder
         self.env = {**os.environ, 'CHANHUB': program, 'TOOL': tool, 'OPENER': 'true', 'TMPDIR': folder}
-        self.passed = self.failed = 0
-
-    def tell(self, name, is_well):
-        self.passed += bool(is_well)
-        self.failed += not is_well
-        if not is_well:
-            print('failed: %s' % name, flush=True)
 
     def path(self, name):
         return os.path.join(self.folder, name)
@@ -188,13 +185,13 @@ class Tests:
 
     def lint_agrees(self, mutations):
         good = [read(it) for it in examples('scenarios')] + [it.encode() for it in RICH]
-        self.tell('lint_scenario.py takes the examples', all(self.lint(it)[0] for it in good) and all([self.agrees(it) for it in good]))
-        self.tell('lint_scenario.py agrees on the rows of tests/', all([self.agrees(it) for it in rows()]))
-        self.tell('lint_scenario.py agrees at the limits', all([self.agrees(it) for it in limits()]))
+        self.test('lint_scenario.py takes the examples', all(self.lint(it)[0] for it in good) and all([self.agrees(it) for it in good]))
+        self.test('lint_scenario.py agrees on the rows of tests/', all([self.agrees(it) for it in rows()]))
+        self.test('lint_scenario.py agrees at the limits', all([self.agrees(it) for it in limits()]))
         chance = random.Random(38)
         # Whatever a script does is done soon.
         short = [it for it in good if len(it) < 2000]
-        self.tell('lint_scenario.py agrees on %d changed scenarios' % mutations, all([self.agrees(mutate(chance, chance.choice(short))) for _ in range(mutations)]))
+        self.test('lint_scenario.py agrees on %d changed scenarios' % mutations, all([self.agrees(mutate(chance, chance.choice(short))) for _ in range(mutations)]))
 
     def lint_says_where(self):
         """Worked by hand: what is wrong stands at this line and column."""
@@ -229,52 +226,52 @@ class Tests:
             if said is None:
                 # The step's first field is `recvx`, and begins in the line of its text.
                 where = [it for it in faults if it[0] == 4 and it[1] == 1]
-            self.tell('lint_scenario.py says where: line %d column %d of %r' % (line, column, text), where and len(faults) == (2 if 'é' in text else 1))
+            self.test('lint_scenario.py says where: line %d column %d of %r' % (line, column, text), where and len(faults) == (2 if 'é' in text else 1))
         write(self.path('two'), b'ports = [9999]\nprocess = [{steps = ["recv x"]}]\n')
         status, told, errors = self.script('lint_scenario.py', self.path('two'))
         places = [it.removeprefix(self.path('two')).split(': ')[0] for it in told.splitlines()]
-        self.tell('lint_scenario.py tells each fault, and status 1', (status, places, errors) == (1, [':1:10', ':2:28'], ''))
-        self.tell('lint_scenario.py says nothing of a good file', self.script('lint_scenario.py', os.path.join(EXAMPLES, 'scenarios', 'ring')) == (0, '', ''))
+        self.test('lint_scenario.py tells each fault, and status 1', (status, places, errors) == (1, [':1:10', ':2:28'], ''))
+        self.test('lint_scenario.py says nothing of a good file', self.script('lint_scenario.py', os.path.join(EXAMPLES, 'scenarios', 'ring')) == (0, '', ''))
         status, _, errors = self.script('lint_scenario.py', self.path('missing'))
-        self.tell('lint_scenario.py on a file that is not there', status == 2 and errors.count('\n') == 1)
+        self.test('lint_scenario.py on a file that is not there', status == 2 and errors.count('\n') == 1)
 
     def explains(self):
         journal = os.path.join(EXAMPLES, 'journals', 'hand_over')
         status, told, errors = self.script('explain.sh', journal)
         names = told.splitlines()
         is_well = status == 0 and errors == '' and len(names) == 2
-        self.tell('explain.sh explains a journal', is_well and read(names[1]).endswith(b'</svg>\n') and b'recv 1' in read(names[0]))
+        self.test('explain.sh explains a journal', is_well and read(names[1]).endswith(b'</svg>\n') and b'recv 1' in read(names[0]))
         status, told, errors = self.script('explain.sh', journal, '1', '2')
-        self.tell('explain.sh explains some steps of a journal', status == 0 and errors == '' and b'      3  P0 send 1 9' not in read(told.splitlines()[0]))
+        self.test('explain.sh explains some steps of a journal', status == 0 and errors == '' and b'      3  P0 send 1 9' not in read(told.splitlines()[0]))
         for word in ('-h', '--help'):
             status, told, errors = self.script('explain.sh', word)
-            self.tell('explain.sh ' + word, status == 0 and errors == '' and told.startswith('usage: ') and 'JOURNAL' in told)
+            self.test('explain.sh ' + word, status == 0 and errors == '' and told.startswith('usage: ') and 'JOURNAL' in told)
         status, told, errors = self.script('explain.sh', journal, '2')
         one = read(told.splitlines()[0]) if told else b''
-        self.tell('explain.sh explains one step of a journal', status == 0 and errors == '' and b'\n      2  P' in one and b'\n      1  P' not in one and b'\n      3  P' not in one)
+        self.test('explain.sh explains one step of a journal', status == 0 and errors == '' and b'\n      2  P' in one and b'\n      1  P' not in one and b'\n      3  P' not in one)
         for words in ((), (journal, '1', '2', '3'), (journal, journal), (journal, '1', journal), (journal, ''), (journal, '-o')):
             status, told, errors = self.script('explain.sh', *words)
-            self.tell('explain.sh says how it is used: %s' % (words[1:],), status == 2 and told == '' and errors.startswith('usage: '))
+            self.test('explain.sh says how it is used: %s' % (words[1:],), status == 2 and told == '' and errors.startswith('usage: '))
         before = self.left()
         write(self.path('faulty'), b'chanhub journal 1\nprocs 0\n')
         status, told, errors = self.script('explain.sh', self.path('faulty'))
-        self.tell('explain.sh leaves nothing of a faulty journal', (status, told, self.left()) == (2, '', before) and errors == 'chanhub: line 2: bad procs\n')
+        self.test('explain.sh leaves nothing of a faulty journal', (status, told, self.left()) == (2, '', before) and errors == 'chanhub: line 2: bad procs\n')
 
     def stalls(self):
         stalls, ends = (os.path.join(EXAMPLES, 'scenarios', it) for it in ('everyone_stalls', 'hand_over'))
         status, told, errors = self.script('until_stall.sh', stalls)
         found = re.fullmatch(r'run 1 stalled: (\S+)\n', told)
         journal = read(found[1]) if found else b''
-        self.tell('until_stall.sh keeps the journal of a run that stalls', status == 0 and errors == '' and journal.startswith(b'chanhub journal '))
+        self.test('until_stall.sh keeps the journal of a run that stalls', status == 0 and errors == '' and journal.startswith(b'chanhub journal '))
         events = subprocess.run([self.program, 'replay'], input=journal, capture_output=True).stdout
-        self.tell('until_stall.sh keeps a journal with a stall', b' stalled\n' in events)
+        self.test('until_stall.sh keeps a journal with a stall', b' stalled\n' in events)
         before = self.left()
-        self.tell('until_stall.sh says that none stalled', self.script('until_stall.sh', ends, '3') == (1, 'no run stalled, of 3\n', '') and self.left() == before)
+        self.test('until_stall.sh says that none stalled', self.script('until_stall.sh', ends, '3') == (1, 'no run stalled, of 3\n', '') and self.left() == before)
         status, told, errors = self.script('until_stall.sh', ends, 'many')
-        self.tell('until_stall.sh says how it is used', status == 2 and told == '' and errors.startswith('usage: '))
+        self.test('until_stall.sh says how it is used', status == 2 and told == '' and errors.startswith('usage: '))
         write(self.path('faulty'), b'ports = 1\n')
-        self.tell('until_stall.sh on a faulty file', self.script('until_stall.sh', self.path('faulty')) == (2, '', 'chanhub: scenario: bad key\n'))
-        self.tell('until_stall.sh --help', self.script('until_stall.sh', '--help')[:2:2] == (0,) and 'seed' in self.script('until_stall.sh', '--help')[1])
+        self.test('until_stall.sh on a faulty file', self.script('until_stall.sh', self.path('faulty')) == (2, '', 'chanhub: scenario: bad key\n'))
+        self.test('until_stall.sh --help', self.script('until_stall.sh', '--help')[:2:2] == (0,) and 'seed' in self.script('until_stall.sh', '--help')[1])
         for number in (signal.SIGINT, signal.SIGTERM):
             self.interrupt('until_stall.sh', number, ends, '999999999')
             self.interrupt('seeds.sh', number, ends, '999999999')
@@ -287,7 +284,7 @@ class Tests:
             how = {'env': self.env, 'start_new_session': True, 'stdout': subprocess.PIPE, 'stderr': subprocess.STDOUT}
             child = subprocess.Popen([os.path.join(TOOLS, name), *words], **how)
         except OSError:
-            self.tell(what, False)
+            self.test(what, False)
             return
         with child:
             # Its folder shows that it has begun.
@@ -298,22 +295,22 @@ class Tests:
             os.killpg(child.pid, number)
             said, _ = child.communicate(timeout=20)
         # The shell says of a program that it waited for how that ended.
-        self.tell(what, child.returncode == 128 + number and set(said.split()) <= {b'Terminated'} and self.left() == before)
+        self.test(what, child.returncode == 128 + number and set(said.split()) <= {b'Terminated'} and self.left() == before)
 
     def counts(self):
         scenario = os.path.join(EXAMPLES, 'scenarios', 'seeds')
         kept = self.path('kept')
         status, told, errors = self.script('seeds.sh', scenario, '6', kept)
         # One process: of each seed one journal, which has the choice word.
-        self.tell('seeds.sh counts outcomes and journals', (status, errors) == (0, '') and told.endswith('6 runs, 2 outcomes, 6 different journals\n'))
-        self.tell('seeds.sh counts the journals of an outcome', '4 of 6, first with seed 0, status 0:\n' in told and '  different journals: 4\n' in told)
+        self.test('seeds.sh counts outcomes and journals', (status, errors) == (0, '') and told.endswith('6 runs, 2 outcomes, 6 different journals\n'))
+        self.test('seeds.sh counts the journals of an outcome', '4 of 6, first with seed 0, status 0:\n' in told and '  different journals: 4\n' in told)
         names = sorted(os.listdir(kept)) if os.path.isdir(kept) else []
         replays = [subprocess.run([self.program, 'replay'], input=read(os.path.join(kept, it)), capture_output=True) for it in names]
-        self.tell('seeds.sh keeps a journal of each outcome', names == ['journal_1', 'journal_2'] and all(it.returncode == 0 for it in replays) and b'got 2' in replays[0].stdout and b'got 1' in replays[1].stdout)
+        self.test('seeds.sh keeps a journal of each outcome', names == ['journal_1', 'journal_2'] and all(it.returncode == 0 for it in replays) and b'got 2' in replays[0].stdout and b'got 1' in replays[1].stdout)
         status, told, errors = self.script('seeds.sh', '--help')
-        self.tell('seeds.sh says that no seed repeats a schedule', status == 0 and 'No seed repeats a schedule' in told)
+        self.test('seeds.sh says that no seed repeats a schedule', status == 0 and 'No seed repeats a schedule' in told)
         status, told, errors = self.script('seeds.sh', os.path.join(EXAMPLES, 'scenarios', 'limit_is_reached'), '2')
-        self.tell('seeds.sh counts no journal of a run that has none', status == 0 and 'chanhub: journal full' in told and told.endswith(' 0 different journals\n'))
+        self.test('seeds.sh counts no journal of a run that has none', status == 0 and 'chanhub: journal full' in told and told.endswith(' 0 different journals\n'))
 
     def reports(self):
         """What a journal reports by report.py is what a run prints, where that is the same under each schedule."""
@@ -324,7 +321,7 @@ class Tests:
             journal = subprocess.run([self.program, 'run', scenario, '--journal'], capture_output=True).stdout
             write(self.path('journal'), journal)
             status, _, _ = self.script('report.py', self.program, self.path('journal'))
-            self.tell('report.py on ' + os.path.basename(scenario), status == 0 and read(self.path('journal.report')) == wanted)
+            self.test('report.py on ' + os.path.basename(scenario), status == 0 and read(self.path('journal.report')) == wanted)
 
 
 def main():
@@ -340,9 +337,8 @@ def main():
             try:
                 part()
             except ImportError as error:
-                tests.tell(str(error), False)
-    print('%d passed, %d failed' % (tests.passed, tests.failed))
-    return 1 if tests.failed else 0
+                tests.test(str(error), False)
+    return tests.end()
 
 
 if __name__ == '__main__':

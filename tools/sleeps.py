@@ -9,6 +9,7 @@ import tempfile
 import time
 
 sys.dont_write_bytecode = True
+from counting import Count
 from rows import PROGRAM, build_library
 
 # A run takes some hundredths of a second of the processor; a wait that does not sleep takes a whole one.
@@ -43,17 +44,14 @@ def run(library, slow, scenario):
 
 
 def main():
-    passed = failed = 0
+    count = Count()
     with tempfile.TemporaryDirectory() as folder:
         library = build_library(folder, 'slow')
         for name, (slow, scenario, report) in ROWS.items():
             told, took, busy = run(library, slow, scenario)
             good = told == (0, report.encode(), b'') and took >= 1 and busy < MOST_BUSY
-            passed, failed = passed + good, failed + (not good)
-            if not good:
-                print(f'failed: a wait for the {name}: status {told[0]}, {took:.2f} s, of them {busy:.2f} s of the processor')
-    print(f'{passed} passed, {failed} failed')
-    return 1 if failed else 0
+            count.test(f'a wait for the {name}', good, f'status {told[0]}, {took:.2f} s, of them {busy:.2f} s of the processor')
+    return count.end()
 
 
 if __name__ == '__main__':

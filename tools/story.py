@@ -12,6 +12,7 @@ import tempfile
 import tomllib
 
 sys.dont_write_bytecode = True
+from counting import Count
 from story_model import Story
 
 ROOT = pathlib.Path(__file__).resolve().parent.parent
@@ -189,15 +190,12 @@ def most_entries(program, _):
 
 def count(program, *parts):
     """Makes the checks of each part, prints those that fail and how many there were, and answers the status."""
-    passed = failed = 0
+    count = Count()
     with tempfile.TemporaryDirectory() as work:
         for checks in parts:
             for name, good in checks(program, work):
-                passed, failed = passed + good, failed + (not good)
-                if not good:
-                    print(f"failed: {checks.__name__}: {name}")
-    print(f"{passed} passed, {failed} failed")
-    return 1 if failed else 0
+                count.test(f"{checks.__name__}: {name}", good)
+    return count.end()
 
 
 def main():

@@ -6,29 +6,13 @@ set -u
 program=$(realpath "$1")
 cd "$(dirname "$0")/.." || exit 2
 library=$PWD/out
-passed=0
-failed=0
+. ../tools/checks.sh
 skipped=0
-work=$(mktemp -d)
-trap 'rm -rf "$work"' EXIT
 export CHANHUB_LIBRARY="$library/libchanhub.so" CHANHUB_LIB="$library" CARGO_TARGET_DIR="$work/target" PYTHONDONTWRITEBYTECODE=1
 cc=${CC:-cc}
 flags="-std=c11 -D_DEFAULT_SOURCE -O2 -Wall -Wextra -Werror -I."
 proved="../crates/hub_c/out/libhub_c.a $(dirname "$(rt doc)")/c/liblibc_c.a"
 threads='cancelled second closed stalled'
-
-# check NAME COMMAND..: whether the command succeeds; what it prints is shown where it does not.
-check() {
-    name=$1
-    shift
-    if "$@" > "$work/output" 2>&1; then
-        passed=$((passed + 1))
-    else
-        failed=$((failed + 1))
-        echo "failed: $name"
-        sed 's/^/    /' "$work/output" | tail -n 40
-    fi
-}
 
 # skip NAME REASON
 skip() {

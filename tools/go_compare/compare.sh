@@ -7,24 +7,8 @@ root=$(cd "$(dirname "$0")/../.." && pwd)
 program=$(realpath "${1:-$root/crates/chanhub/out/chanhub}")
 of_each_edition=${2:-500}
 export GOPROXY=off GOFLAGS=
-passed=0
-failed=0
-work=$(mktemp -d)
-trap 'rm -rf "$work"' EXIT
+. "$root/tools/checks.sh"
 cd "$root/tools/go_compare" || exit 2
-
-# check NAME COMMAND..: whether the command succeeds; what it prints is shown where it does not.
-check() {
-    name=$1
-    shift
-    if "$@" > "$work/output" 2>&1; then
-        passed=$((passed + 1))
-    else
-        failed=$((failed + 1))
-        echo "failed: $name"
-        sed 's/^/    /' "$work/output" | tail -n 40
-    fi
-}
 
 is_formatted() {
     gofmt -d . ../../examples/stall_against_go > "$work/unformatted" && cat "$work/unformatted" && ! [ -s "$work/unformatted" ]

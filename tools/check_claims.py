@@ -6,7 +6,7 @@
 Tells the public functions that no claim names, and the calls, paths, clauses and definitions that a page names and the
 sources do not have. A row of CLAIMS is: calls, with a link to their file | promise | definitions. In a promise `a`, `b`:
 stands before what these clauses say, and what stands before any label is of a clause without one; *a* is a part of a
-definition; a row that begins with 'By its type' has no clause. Each clause of a call stands in one of its rows, each call of
+definition; a row that begins with 'By its type' has no clause. A row has at most MOST_WORDS words. Each clause of a call stands in one of its rows, each call of
 a row has one of the row's clauses, and the contracts of a row lead to each definition that it names. A trait's methods with
 clauses count as calls. Tells also the public functions that no must-fail edit turns, but for those that a section names as
 without an edit, for laws, which have no body, and for the methods of traits, which have none there; an edit names its
@@ -27,6 +27,8 @@ LINK = re.compile(r'\[([^\]]+)\]\(([^)]+)\)')
 LABELS = re.compile(r'((?:`\w+`, )*`\w+`): ')
 HEADING = 'Call | Promise | Definitions\n---|---|---\n'
 ROWS = re.compile('^' + re.escape(HEADING) + '((?:.+\n)+)', re.M)
+# As many as can be read at once.
+MOST_WORDS = 75
 # A public call: the labels of its clauses, the words of its contract, and the file that it stands in.
 Call = namedtuple('Call', 'labels words path')
 CITED = re.compile(r'(?:(base|laws|core|live|replay|serve|words|report|scenario|story_text|story|picture|c) )?`([A-Z][\w/]*)`: ((?:`\w+`(?:, )?)+)')
@@ -157,6 +159,8 @@ def calls_of(cell):
 def check_row(crate, calls, cells):
     names, labels = [name for name in calls_of(cells[0]) if name in calls], labels_of(cells[1])
     paths = {name: path for linked, path in LINK.findall(cells[0]) for name in TICKED.findall(linked)}
+    if len(' '.join(cells).split()) > MOST_WORDS:
+        yield 'CLAIMS: a row of %s has more than %d words' % (', '.join(calls_of(cells[0])), MOST_WORDS)
     for name in calls_of(cells[0]):
         if name not in calls:
             yield 'CLAIMS: %s has no public call %s' % (crate, name)

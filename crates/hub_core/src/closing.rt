@@ -6,7 +6,7 @@ ghost use Rattle.hub_core.specs.Hearing.{Heard};
 ghost use Rattle.hub_core.specs.ListSteps.{cleared, closed_on, closing_events};
 
 use hub_base::{Case, Event, Hears, Outcome, Port, What};
-use hub_parts::{Board, Ended, Side};
+use hub_parts::{Board, Ended};
 
 /// What a waiting call is told whose port is closed.
 fn closing_event(ended: &Ended) -> Event
@@ -33,7 +33,7 @@ fn end_calls<E: Hears>(board: &mut Board, events: &mut E, port: Port)
     ensures board { board.new ≡ cleared port board.old }
     ensures told { Heard E.heard E.room events.old events.new (closing_events port board.old.waiting) }
 {
-    while let Some(ended) = board.take(port, Side::Any) {
+    while let Some(ended) = board.take_either(port) {
         events.hear(closing_event(&ended));
     }
 }

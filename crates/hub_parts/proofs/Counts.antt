@@ -11,7 +11,7 @@ use Rattle.hub_base.specs.declared.value.Pid.{Pid}
 use Rattle.hub_base.specs.declared.value.Port.{Port}
 use Rattle.hub_base.specs.declared.case.Case.{Case}
 use Rattle.hub_base.specs.declared.case.Case.TheVariants.{Send, Recv}
-use Rattle.hub_base.specs.Ready.{is_send_on, is_recv_on, is_on, first_with, lowest_from, or_else}
+use Rattle.hub_base.specs.Ready.{is_send_on, is_recv_on, first_with, lowest_from, or_else}
 use Rattle.hub_base.specs.declared.limits.TheConstants.{CASE_PLACES, MOST_PORTS}
 use Rattle.hub_parts.specs.declared.tickets.case_counts.CaseCounts.{CaseCounts}
 use Rattle.hub_parts.specs.declared.side.Side.{Side}
@@ -274,34 +274,10 @@ some_waits test (w ∷ ws) =
     ∙ ap (λ b. is_some (lowest_from 0 test w.call.cases) || b) (some_waits test ws)
     ∙ sym (is_some-or_else _ (lowest_from 0 test w.call.cases) (first_with test (open_calls ws)))
 
-passing-on : (p : Port) (cases : List Case) → passing (is_on p) cases ≡ passing (is_send_on p) cases + passing (is_recv_on p) cases
-passing-on p [] = omega arith
-passing-on p (Send q v ∷ cases) = elim (q.0 == p.0) as (λ b. cond (b || false) (suc (passing (is_on p) cases)) (passing (is_on p) cases)
-    ≡ cond b (suc (passing (is_send_on p) cases)) (passing (is_send_on p) cases) + passing (is_recv_on p) cases) [
-      | true ↦ omega (arith, passing-on p cases)
-      | false ↦ passing-on p cases
-    ]
-passing-on p (Recv q ∷ cases) = elim (q.0 == p.0) as (λ b. cond (false || b) (suc (passing (is_on p) cases)) (passing (is_on p) cases)
-    ≡ passing (is_send_on p) cases + cond b (suc (passing (is_recv_on p) cases)) (passing (is_recv_on p) cases)) [
-      | true ↦ omega (arith, passing-on p cases)
-      | false ↦ passing-on p cases
-    ]
-
-all_passing-on : (p : Port) (ws : List Ticketed) → all_passing (is_on p) ws ≡ all_passing (is_send_on p) ws + all_passing (is_recv_on p) ws
-all_passing-on p [] = omega arith
-all_passing-on p (w ∷ ws) = omega (arith, passing-on p w.call.cases, all_passing-on p ws)
-
--- on either side
-pub some_waits_on : (p : Port) (ws : List Ticketed)
-    → (not (all_passing (is_send_on p) ws == 0) || not (all_passing (is_recv_on p) ws == 0)) ≡ is_some (first_with (is_on p) (open_calls ws))
-some_waits_on p ws = some_of_two (all_passing (is_send_on p) ws) (all_passing (is_recv_on p) ws)
-    ∙ ap (λ n. not (n == 0)) (sym (all_passing-on p ws)) ∙ some_waits (is_on p) ws
-
 pub counts_tell : (s : Side) (p : Port) (t : CaseCounts) (ws : List Ticketed) → IsCountOf t ws → p.0 ≤ MOST_PORTS
     → has_case t p s ≡ is_some (first_with (passes p s) (open_calls ws))
 counts_tell side.Send p t ws k within = rw (k.sends p within) (some_waits (is_send_on p) ws)
 counts_tell side.Recv p t ws k within = rw (k.recvs p within) (some_waits (is_recv_on p) ws)
-counts_tell side.Any p t ws k within = rw (k.sends p within, k.recvs p within) (some_waits_on p ws)
 
 pub no_counts : (t : CaseCounts) → t.sends ≡ replicate (MOST_PORTS + 1) 0 → t.recvs ≡ replicate (MOST_PORTS + 1) 0 → IsCountOf t []
 no_counts t s r = record {

@@ -1,6 +1,6 @@
 -- The first entry of a queue is the oldest open call with such a case.
 use Rattle.std.proofs.Common.{◌≡◌, ℕ, ◌+◌, ◌-◌, ◌<◌, ◌≤◌, ◌==◌, ◌||◌, Bool, true, false, not, cond, List, [], ◌∷◌, ◌++◌}
-use Rattle.std.proofs.Common.{filter, find, refl, ap, ◌∙◌, sym, arith, Option, Some, None, suc, eq-eqb, slice_get}
+use Rattle.std.proofs.Common.{filter, find, refl, ap, ◌∙◌, sym, subst, arith, Option, Some, None, suc, eq-eqb, slice_get}
 use Rattle.std.specs.List.{AllByRecursion}
 use Rattle.std.proofs.lemmas.Bool.{ne_eqb, le-ltb, lt-ltb}
 use Rattle.hub_base.specs.declared.value.Pid.{Pid}
@@ -14,8 +14,8 @@ use Rattle.hub_parts.specs.declared.wait_queue.Waiter.{Waiter}
 use Rattle.hub_parts.specs.Records.{Ticketed, Calls, ChannelLists}
 use Rattle.hub_parts.specs.Queues.{lives, live_of, waiters, waiters_of, waiters_from, waiter_at, pid_at, case_at, is_before}
 use Rattle.hub_parts.specs.Lists.{open_calls, still_open, passes}
-use Rattle.hub_parts.specs.Channels.{queue_of, line_of, older}
-use Rattle.hub_parts.specs.Keeps.{QueueKeeps, joins, Ascending}
+use Rattle.hub_parts.specs.Channels.{queue_of, older, older_side, first_on}
+use Rattle.hub_parts.specs.Keeps.{QueueKeeps, Ascending}
 use Rattle.hub_parts.proofs.Lists.{all_filter}
 use Rattle.hub_parts.proofs.Endings.{dead_below}
 
@@ -204,10 +204,10 @@ merged t None (Some r) (Some s) tr a b c d =
     let less : r.ticket < s.ticket = (let e : r.ticket ≡ t = b.1 in let f : t < s.ticket = c in omega arith) in
     rw (lt-ltb r.ticket s.ticket less) refl
 
-first_on : (p : Port) (ws : List Ticketed) → Ascending ws
+first_waiter : (p : Port) (ws : List Ticketed) → Ascending ws
     → first (waiters (is_on p) ws) ≡ earlier (first (waiters (is_send_on p) ws)) (first (waiters (is_recv_on p) ws))
-first_on p [] a = refl
-first_on p (w ∷ ws) a =
+first_waiter p [] a = refl
+first_waiter p (w ∷ ws) a =
     let all = λ (test : Case → Bool). at_least test w.call.pid w.ticket 0 w.call.cases (lowest_of test w.call.pid w.ticket 0 w.call.cases) in
     let rest = λ (test : Case → Bool). above test w.ticket ws (first (waiters test ws)) a.0 (tells test ws a.1) in
     rw (
@@ -215,7 +215,7 @@ first_on p (w ∷ ws) a =
       first_append (waiters_of (is_send_on p) w) (waiters (is_send_on p) ws),
       first_append (waiters_of (is_recv_on p) w) (waiters (is_recv_on p) ws),
       first_of_call p w.call.pid w.ticket 0 w.call.cases,
-      first_on p ws a.1,
+      first_waiter p ws a.1,
     )
     (merged w.ticket (first (waiters_of (is_send_on p) w)) (first (waiters_of (is_recv_on p) w)) (first (waiters (is_send_on p) ws))
     (first (waiters (is_recv_on p) ws)) (all (is_send_on p)) (all (is_recv_on p)) (rest (is_send_on p)) (rest (is_recv_on p)))
@@ -230,14 +230,32 @@ picked ws c (Some s) (Some r) e f =
       | false ↦ e
     ]
 
--- the entry that a taking finds is the first of the calls
-pub line_finds : (s : Side) (p : Port) (c : Calls) (ch : ChannelLists) → Ascending c.waiting
-    → QueueKeeps (joins side.Send p) c ch.senders → QueueKeeps (joins side.Recv p) c ch.receivers
-    → find (lives c.waiting) (queue_of (line_of s c.waiting ch) ch).items ≡ first (waiters (passes p s) c.waiting)
-line_finds side.Send p c ch a ks kr = found_first (is_send_on p) c.waiting ch.senders.items ks.live
-line_finds side.Recv p c ch a ks kr = found_first (is_recv_on p) c.waiting ch.receivers.items kr.live
-line_finds side.Any p c ch a ks kr =
+-- the first entry of the side that has the older one is the first of the calls' entries on the port
+older_first : (p : Port) (c : Calls) (ch : ChannelLists) → Ascending c.waiting → ((s : Side) → QueueKeeps (passes p s) c (queue_of s ch))
+    → first_on (older_side c.waiting ch) c.waiting ch ≡ first (waiters (is_on p) c.waiting)
+older_first p c ch a keeps =
+    let finds = λ (s : Side). found_first (passes p s) c.waiting (queue_of s ch).items (keeps s).live in
     picked c.waiting ch _ _ refl refl
-    ∙ ap (λ o. earlier o (find (lives c.waiting) ch.receivers.items)) (found_first (is_send_on p) c.waiting ch.senders.items ks.live)
-    ∙ ap (earlier (first (waiters (is_send_on p) c.waiting))) (found_first (is_recv_on p) c.waiting ch.receivers.items kr.live)
-    ∙ sym (first_on p c.waiting a)
+    ∙ ap (λ o. earlier o (first_on side.Recv c.waiting ch)) (finds side.Send)
+    ∙ ap (earlier (first (waiters (is_send_on p) c.waiting))) (finds side.Recv)
+    ∙ sym (first_waiter p c.waiting a)
+
+some_case : (x y : Case) → Some x ≡ Some y → x ≡ y
+some_case x y e = cc
+
+-- two tests that find one entry find one call
+same_call : (test also : Case → Bool) (ws : List Ticketed) (o : Option Waiter) → Tells test ws o → Tells also ws o
+    → first_with test (open_calls ws) ≡ first_with also (open_calls ws)
+same_call test also ws None t u = t ∙ sym u
+same_call test also ws (Some e) t u =
+    let same : t.case ≡ u.case = some_case t.case u.case (sym t.at ∙ u.at) in
+    rw same at t.first ∙ sym u.first
+
+-- so the oldest call on that side is the oldest on the port
+pub older_call : (p : Port) (c : Calls) (ch : ChannelLists) → Ascending c.waiting → ((s : Side) → QueueKeeps (passes p s) c (queue_of s ch)) → (s : Side)
+    → s ≡ older_side c.waiting ch → first_with (passes p s) (open_calls c.waiting) ≡ first_with (is_on p) (open_calls c.waiting)
+older_call p c ch a keeps s is =
+    let ws = c.waiting in
+    let same : first (waiters (passes p s) ws) ≡ first (waiters (is_on p) ws) =
+    sym (found_first (passes p s) ws (queue_of s ch).items (keeps s).live) ∙ ap (λ s. first_on s ws ch) is ∙ older_first p c ch a keeps in
+    same_call (passes p s) (is_on p) ws (first (waiters (is_on p) ws)) (subst (Tells (passes p s) ws) same (tells (passes p s) ws a)) (tells (is_on p) ws a)

@@ -16,7 +16,8 @@ use Rattle.hub_parts.specs.Records.{ChannelLists, PortLists}
 use Rattle.hub_parts.specs.Channels.{queue_of, with_queue, channel_of, no_channel}
 use Rattle.hub_parts.specs.Parking.{with_line, with_case, with_cases, CanJoin, CaseFits}
 use Rattle.hub_parts.specs.Queues.{joined, waiter_at}
-use Rattle.hub_parts.specs.Keeps.{AllMade, joins}
+use Rattle.hub_parts.specs.Keeps.{AllMade}
+use Rattle.hub_parts.specs.Lists.{passes}
 
 abbrev Change : Type 0
 Change = Buffer Waiter → Buffer Waiter
@@ -58,7 +59,6 @@ length-with_cases f i cs (c ∷ cases) = length-with_cases f (i + 1) (with_case 
 pub lists-with_queue : (f : Change) (s : Side) (c : ChannelLists) → lists_of (with_queue f s c) ≡ lists_of c
 lists-with_queue f side.Send c = refl
 lists-with_queue f side.Recv c = refl
-lists-with_queue f side.Any c = refl
 
 pub get_or-map : {A B : Type 0} (f : A → B) (xs : List A) (i : ℕ) (d : A) → get_or (map f xs) i (f d) ≡ f (get_or xs i d)
 get_or-map f [] i d = refl
@@ -125,13 +125,11 @@ receivers_stay f false q p cs e positive within = rw (channel_other f side.Send 
 
 -- a change at a case, seen at the queue of one side of a port
 pub queue_with_case : (f : Change) (cs : List ChannelLists) (c : Case) (s : Side) (p : Port) → 0 < p.0 → p.0 ≤ length cs
-    → queue_of s (channel_of (with_case f cs c) p) ≡ with_if (joins s p c) f (queue_of s (channel_of cs p))
+    → queue_of s (channel_of (with_case f cs c) p) ≡ with_if (passes p s c) f (queue_of s (channel_of cs p))
 queue_with_case f cs (Send q v) side.Send p positive within = senders_line f (q.0 == p.0) q p cs refl positive within
 queue_with_case f cs (Recv q) side.Send p positive within = senders_stay f (q.0 == p.0) q p cs refl positive within
 queue_with_case f cs (Send q v) side.Recv p positive within = receivers_stay f (q.0 == p.0) q p cs refl positive within
 queue_with_case f cs (Recv q) side.Recv p positive within = receivers_line f (q.0 == p.0) q p cs refl positive within
-queue_with_case f cs (Send q v) side.Any p positive within = receivers_stay f (q.0 == p.0) q p cs refl positive within
-queue_with_case f cs (Recv q) side.Any p positive within = receivers_line f (q.0 == p.0) q p cs refl positive within
 
 -- the changes of those cases that pass
 abbrev pub queue_after : (ℕ → Change) → (Case → Bool) → ℕ → Buffer Waiter → List Case → Buffer Waiter
@@ -139,8 +137,8 @@ queue_after f test i q [] = q
 queue_after f test i q (c ∷ cases) = queue_after f test (i + 1) (with_if (test c) (f i) q) cases
 
 pub queue_with_cases : (f : ℕ → Change) (i : ℕ) (cs : List ChannelLists) (cases : List Case) (s : Side) (p : Port) → 0 < p.0 → p.0 ≤ length cs
-    → queue_of s (channel_of (with_cases f i cs cases) p) ≡ queue_after f (joins s p) i (queue_of s (channel_of cs p)) cases
+    → queue_of s (channel_of (with_cases f i cs cases) p) ≡ queue_after f (passes p s) i (queue_of s (channel_of cs p)) cases
 queue_with_cases f i cs [] s p positive within = refl
 queue_with_cases f i cs (c ∷ cases) s p positive within =
     queue_with_cases f (i + 1) (with_case (f i) cs c) cases s p positive (rw (length-with_case (f i) cs c) within)
-    ∙ ap (λ q. queue_after f (joins s p) (i + 1) q cases) (queue_with_case (f i) cs c s p positive within)
+    ∙ ap (λ q. queue_after f (passes p s) (i + 1) q cases) (queue_with_case (f i) cs c s p positive within)

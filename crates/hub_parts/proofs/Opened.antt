@@ -13,12 +13,7 @@ use Rattle.hub_parts.specs.declared.tickets.TheConstants.{PIDS}
 use Rattle.hub_parts.specs.Records.{Ticketed}
 use Rattle.hub_parts.specs.Tickets.{IsMarked, calls_of, call_of, cases_of, last_of, pids}
 use Rattle.hub_parts.specs.Lists.{still_open, ticketed}
-use Rattle.hub_parts.specs.Queues.{case_at, pid_at, has_call, is_live}
-
-pub live_calls : (places : List LastCall) (os : List Pid) (ticket : ℕ)
-    → is_live (calls_of places os) ticket ≡ list_any (λ o. (last_of places o).ticket == ticket) os
-live_calls places [] ticket = refl
-live_calls places (o ∷ os) ticket = ap (λ b. ((last_of places o).ticket == ticket) || b) (live_calls places os ticket)
+use Rattle.hub_parts.specs.Queues.{case_at, pid_at, has_call}
 
 pub open_calls_of : (places : List LastCall) (os : List Pid) (pid : Pid)
     → list_any (λ w. w.call.pid.0 == pid.0) (calls_of places os) ≡ list_any (λ o. o.0 == pid.0) os

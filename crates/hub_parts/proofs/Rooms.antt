@@ -19,10 +19,10 @@ use Rattle.hub_parts.specs.declared.side.Side.TheVariants as side
 use Rattle.hub_parts.specs.declared.wait_queue.Waiter.{Waiter}
 use Rattle.hub_parts.specs.Records.{Ticketed, Calls, ChannelLists}
 use Rattle.hub_parts.specs.Queues.{has_call, lives, live_of, roomy, joined, waiters, waiters_of, waiters_from, waiter_at}
-use Rattle.hub_parts.specs.Lists.{with_call, ticketed}
+use Rattle.hub_parts.specs.Lists.{with_call, ticketed, passes}
 use Rattle.hub_parts.specs.Channels.{queue_of, channel_of}
 use Rattle.hub_parts.specs.Parking.{with_case, CanJoin, CaseFits}
-use Rattle.hub_parts.specs.Keeps.{QueueKeeps, joins, AllMade}
+use Rattle.hub_parts.specs.Keeps.{QueueKeeps, AllMade}
 use Rattle.hub_parts.proofs.Lists.{all_filter, length-filter-le}
 use Rattle.hub_parts.proofs.Lines.{with_if, queue_after, queue_with_case, length-with_case}
 use Rattle.hub_parts.proofs.Endings.{filter_within}
@@ -184,14 +184,14 @@ parked_keeps test c q pid ticket cases later r =
 -- where each queue has room for its cases, the cases join one by one
 abbrev pub AllRoom : List ChannelLists → List Case → Type 0
 AllRoom cs cases = (s : Side) (p : Port) → 0 < p.0 → p.0 ≤ length cs
-    → length (queue_of s (channel_of cs p)).items + length (filter (joins s p) cases) ≤ (queue_of s (channel_of cs p)).capacity
+    → length (queue_of s (channel_of cs p)).items + length (filter (passes p s) cases) ≤ (queue_of s (channel_of cs p)).capacity
 
 counted : (b : Bool) (e : Waiter) (q : Buffer Waiter) (c : Case) (cases : List Case) → length q.items + length (cond b (c ∷ cases) cases) ≤ q.capacity
     → length (with_if b (joined e) q).items + length cases ≤ (with_if b (joined e) q).capacity
 counted true e q c cases room = omega (arith, length-append q.items (e ∷ []))
 counted false e q c cases room = room
 
-place_for : (s : Side) (p : Port) (cs : List ChannelLists) (c : Case) (cases : List Case) → joins s p c ≡ true → p.0 ≤ length cs
+place_for : (s : Side) (p : Port) (cs : List ChannelLists) (c : Case) (cases : List Case) → passes p s c ≡ true → p.0 ≤ length cs
     → AllRoom cs (c ∷ cases) → 0 < p.0 → length (queue_of s (channel_of cs p)).items < (queue_of s (channel_of cs p)).capacity
 place_for s p cs c cases e within room positive = let r = rw e at (room s p positive within) in omega arith
 
@@ -203,7 +203,7 @@ room_left : (cs : List ChannelLists) (e : Waiter) (c : Case) (cases : List Case)
 room_left cs e c cases room s p positive within =
     let inside : p.0 ≤ length cs = rw (length-with_case (joined e) cs c) at within in
     rw (queue_with_case (joined e) cs c s p positive inside)
-    (counted (joins s p c) e (queue_of s (channel_of cs p)) c (filter (joins s p) cases) (room s p positive inside))
+    (counted (passes p s c) e (queue_of s (channel_of cs p)) c (filter (passes p s) cases) (room s p positive inside))
 
 pub can_join : (pid : Pid) (ticket i : ℕ) (cs : List ChannelLists) (cases : List Case) → AllMade (length cs) cases → AllRoom cs cases
     → CanJoin pid ticket i cs cases

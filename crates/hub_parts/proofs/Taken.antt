@@ -1,23 +1,22 @@
 -- What the calls of a board leave, as the code has it: a channel is read, changed and written back.
 use Rattle.std.proofs.Common.{◌≡◌, ℕ, ◌-◌, ◌<◌, ◌≤◌, List, length, map, get_or, set, refl, ap, ◌∙◌, sym, arith, Option, Some, None, subst, true}
-use Rattle.std.specs.Option.{is_some}
 use Rattle.std.proofs.lemmas.List.{length-map, map-set, set-get_or, get_or_default}
 use Rattle.circular_buffer.specs.Buffer.{Buffer}
 use Rattle.hub_base.specs.declared.value.Pid.{Pid}
 use Rattle.hub_base.specs.declared.value.Port.{Port}
 use Rattle.hub_base.specs.declared.case.Case.{Case}
-use Rattle.hub_base.specs.Ready.{first_with}
+use Rattle.hub_base.specs.Ready.{first_with, is_on}
 use Rattle.hub_parts.specs.declared.side.Side.{Side}
 use Rattle.hub_parts.specs.declared.wait_queue.Waiter.{Waiter}
 use Rattle.hub_parts.specs.Records.{Calls, ChannelLists, PortLists}
 use Rattle.hub_parts.specs.Queues.{roomy, joined, taken, passed, waiter_at, case_at}
 use Rattle.hub_parts.specs.Lists.{IsMade, with_call, with_port, port_at, parked, ended_by, passes, open_calls}
-use Rattle.hub_parts.specs.Channels.{channel_of, queue_of, line_of, first_on, without_first, with_queue, no_channel}
+use Rattle.hub_parts.specs.Channels.{channel_of, queue_of, first_on, older_side, without_first, with_queue, no_channel}
 use Rattle.hub_parts.specs.Parking.{all_roomy, all_joined}
-use Rattle.hub_parts.specs.Keeps.{BoardKeeps, AllMade, joins, without_call, board_lists as lists}
+use Rattle.hub_parts.specs.Keeps.{BoardKeeps, AllMade, without_call, board_lists as lists}
 use Rattle.hub_parts.proofs.Lines.{lists_of, get_or-map, lists-with_queue, lists-with_cases}
 use Rattle.hub_parts.proofs.Endings.{passed_keeps}
-use Rattle.hub_parts.proofs.Firsts.{Found, Tells}
+use Rattle.hub_parts.proofs.Firsts.{Found, Tells, older_call}
 use Rattle.hub_parts.proofs.Boards.{board_changed, board_lists, board_taken, board_untaken, taken_tells}
 
 pub within : (c : Calls) (cs : List ChannelLists) (p : Port) → IsMade (lists c cs) p → p.0 ≤ length cs
@@ -77,12 +76,12 @@ same_lists f s p c cs old ch made at left =
 pub lists_taken : (s : Side) (p : Port) (c d : Calls) (cs : List ChannelLists) (old ch : ChannelLists) (pid : Pid) → IsMade (lists c cs) p
     → old ≡ get_or cs (p.0 - 1) old → ch ≡ without_first s c.waiting old → d ≡ without_call pid c → lists d (set cs (p.0 - 1) ch) ≡ ended_by pid (lists c cs)
 lists_taken s p c d cs old ch pid made at left ended =
-    rw (ended, same_lists (taken c.waiting) (line_of s c.waiting old) p c cs old ch made at left) refl
+    rw (ended, same_lists (taken c.waiting) s p c cs old ch made at left) refl
 
 pub lists_untaken : (s : Side) (p : Port) (c : Calls) (cs : List ChannelLists) (old ch : ChannelLists) → IsMade (lists c cs) p
     → old ≡ get_or cs (p.0 - 1) old → ch ≡ without_first s c.waiting old → lists c (set cs (p.0 - 1) ch) ≡ lists c cs
 lists_untaken s p c cs old ch made at left =
-    rw (same_lists (taken c.waiting) (line_of s c.waiting old) p c cs old ch made at left) refl
+    rw (same_lists (taken c.waiting) s p c cs old ch made at left) refl
 
 pub told : (s : Side) (p : Port) (c : Calls) (cs : List ChannelLists) (old : ChannelLists) (o : Option Waiter) → IsMade (lists c cs) p
     → old ≡ get_or cs (p.0 - 1) old → o ≡ first_on s c.waiting old → BoardKeeps c cs → Tells (passes p s) c.waiting o
@@ -104,10 +103,12 @@ case_passes s p c entry case f e = let same : case ≡ f.case = some_is case f.c
 pub case_is : (s : Side) (p : Port) (c : Calls) (entry : Waiter) → Found (passes p s) c.waiting entry → None ≡ case_at c.waiting entry.ticket entry.case → ⊥
 case_is s p c entry f e = let impossible : None ≡ Some f.case = e ∙ f.at in cc
 
-pub waits : (s : Side) (p : Port) (c : Calls) (o : Option Waiter) → Tells (passes p s) c.waiting o
-    → is_some o ≡ is_some (first_with (passes p s) (open_calls c.waiting))
-waits s p c None t = rw t refl
-waits s p c (Some e) t = rw t.first refl
+-- the oldest call on the side that a channel tells is the oldest on the port
+pub older_told : (s : Side) (p : Port) (c : Calls) (cs : List ChannelLists) (old : ChannelLists) → IsMade (lists c cs) p
+    → old ≡ get_or cs (p.0 - 1) old → s ≡ older_side c.waiting old → BoardKeeps c cs
+    → first_with (passes p s) (open_calls c.waiting) ≡ first_with (is_on p) (open_calls c.waiting)
+older_told s p c cs old made at is k =
+    older_call p c (channel_of cs p) k.calls.ascending (λ t. k.queues t p made.0 (within c cs p made)) s (rw (read c cs p old made at) at is)
 
 pub lists_parked : (pid : Pid) (ticket : ℕ) (c d : Calls) (cs ds : List ChannelLists) (cases : List Case) → d ≡ with_call pid ticket cases c
     → ds ≡ all_joined pid ticket 0 (all_roomy c.waiting cs cases) cases → lists d ds ≡ parked pid ticket cases (lists c cs)
@@ -126,7 +127,7 @@ kept_passed s p c cs old ch made at left k =
     let r = read c cs p old made at in
     rw (left, r)
     (board_changed (passed c.waiting) s p c cs made.0 (within c cs p made) k
-    (passed_keeps (joins s p) c (queue_of s (channel_of cs p)) (k.queues s p made.0 (within c cs p made))))
+    (passed_keeps (passes p s) c (queue_of s (channel_of cs p)) (k.queues s p made.0 (within c cs p made))))
 
 pub lists_passed : (s : Side) (p : Port) (c : Calls) (cs : List ChannelLists) (old ch : ChannelLists) → IsMade (lists c cs) p
     → old ≡ get_or cs (p.0 - 1) old → ch ≡ with_queue (passed c.waiting) s old → lists c (set cs (p.0 - 1) ch) ≡ lists c cs

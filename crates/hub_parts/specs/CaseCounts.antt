@@ -1,5 +1,5 @@
 -- Counts of the cases of open calls, for each side of each port: how they change, and when they are right.
-use Rattle.std.specs.Prelude.{ℕ, suc, ◌≡◌, Bool, not, ◌==◌, ◌||◌, ◌+◌, ◌-◌, ◌<◌, ◌≤◌, nat_lt, List, [], ◌∷◌, length, slice_index, slice_set, if◌then◌else◌}
+use Rattle.std.specs.Prelude.{ℕ, suc, ◌≡◌, Bool, not, ◌==◌, ◌+◌, ◌-◌, ◌<◌, ◌≤◌, nat_lt, List, [], ◌∷◌, length, slice_index, slice_set, if◌then◌else◌}
 use Rattle.hub_base.specs.declared.value.Port.{Port}
 use Rattle.hub_base.specs.declared.case.Case.{Case}
 use Rattle.hub_base.specs.declared.case.Case.TheVariants.{Send, Recv}
@@ -86,7 +86,6 @@ CanLower t cases = AllAllow one_less IsPositive t cases
 abbrev pub has_case : CaseCounts → Port → Side → Bool
 has_case t p side.Send = not (slice_index t.sends p.0 == 0)
 has_case t p side.Recv = not (slice_index t.recvs p.0 == 0)
-has_case t p side.Any = not (slice_index t.sends p.0 == 0) || not (slice_index t.recvs p.0 == 0)
 
 -- how many of these cases pass
 abbrev pub passing : (Case → Bool) → List Case → ℕ

@@ -1,4 +1,4 @@
--- A channel: its ring as a buffer, its two queues, and which of them a taking looks at.
+-- A channel: its ring as a buffer, its two queues, and which of them has the older first entry.
 use Rattle.std.specs.Prelude.{ℕ, ◌≡◌, ◌≤◌, ◌-◌, ◌*◌, List, [], length, Option, None, Some, find, slice_index_or, if◌then◌else◌}
 use Rattle.circular_buffer.specs.Buffer.{Buffer, buffer}
 use Rattle.hub_base.specs.declared.value.Port.{Port}
@@ -15,29 +15,21 @@ use Rattle.hub_parts.specs.Lists.{no_port, new_port}
 abbrev pub RingFits : ℕ → Buffer Value → Type 0
 RingFits cap r = (r.capacity ≡ cap) × (length r.items ≤ cap)
 
--- which queue has the older of two first entries, where there is one
+-- the side of the older of two first entries; the receivers where there is none
 abbrev pub older : Option Waiter → Option Waiter → Side
 older None receiver = side.Recv
 older (Some sender) None = side.Send
 older (Some sender) (Some receiver) = if is_before receiver sender then side.Recv else side.Send
 
--- the queue whose first live entry is the oldest on a side
-abbrev pub line_of : Side → List Ticketed → ChannelLists → Side
-line_of side.Send ws c = side.Send
-line_of side.Recv ws c = side.Recv
-line_of side.Any ws c = older (find (lives ws) c.senders.items) (find (lives ws) c.receivers.items)
-
--- the queue of a side; for both sides the receivers
+-- the queue of a side
 abbrev pub queue_of : Side → ChannelLists → Buffer Waiter
 queue_of side.Send c = c.senders
 queue_of side.Recv c = c.receivers
-queue_of side.Any c = c.receivers
 
 -- the channel with that queue changed
 abbrev pub with_queue : (Buffer Waiter → Buffer Waiter) → Side → ChannelLists → ChannelLists
 with_queue f side.Send c = record { lists = c.lists; senders = f c.senders; receivers = c.receivers }
 with_queue f side.Recv c = record { lists = c.lists; senders = c.senders; receivers = f c.receivers }
-with_queue f side.Any c = record { lists = c.lists; senders = c.senders; receivers = f c.receivers }
 
 -- an empty and open channel, with queues for this many processes
 abbrev pub new_channel : ℕ → ℕ → ChannelLists
@@ -46,11 +38,15 @@ new_channel cap procs =
 
 -- the oldest live entry on a side
 abbrev pub first_on : Side → List Ticketed → ChannelLists → Option Waiter
-first_on side ws c = find (lives ws) (queue_of (line_of side ws c) c).items
+first_on side ws c = find (lives ws) (queue_of side c).items
+
+-- the side whose oldest live entry is the older one
+abbrev pub older_side : List Ticketed → ChannelLists → Side
+older_side ws c = older (first_on side.Send ws c) (first_on side.Recv ws c)
 
 -- the channel without that entry, and without the dead ones before it in its queue
 abbrev pub without_first : Side → List Ticketed → ChannelLists → ChannelLists
-without_first side ws c = with_queue (taken ws) (line_of side ws c) c
+without_first side ws c = with_queue (taken ws) side c
 
 -- what stands for a port that was not made
 abbrev pub no_channel : ChannelLists

@@ -6,22 +6,15 @@ use Rattle.circular_buffer.specs.Buffer.{Buffer}
 use Rattle.hub_base.specs.declared.value.Port.{Port}
 use Rattle.hub_base.specs.declared.value.Pid.{Pid}
 use Rattle.hub_base.specs.declared.case.Case.{Case}
-use Rattle.hub_base.specs.Ready.{is_send_on, is_recv_on, port_of}
+use Rattle.hub_base.specs.Ready.{port_of}
 use Rattle.hub_base.specs.declared.limits.TheConstants.{CASE_PLACES, MOST_PORTS}
 use Rattle.hub_parts.specs.declared.wait_queue.TheConstants.{PLACES}
 use Rattle.hub_parts.specs.declared.side.Side.{Side}
-use Rattle.hub_parts.specs.declared.side.Side.TheVariants as side
 use Rattle.hub_parts.specs.declared.wait_queue.Waiter.{Waiter}
 use Rattle.hub_parts.specs.Records.{Ticketed, Calls, ChannelLists, Lists}
 use Rattle.hub_parts.specs.Queues.{live_of, waiters}
-use Rattle.hub_parts.specs.Lists.{still_open}
+use Rattle.hub_parts.specs.Lists.{still_open, passes}
 use Rattle.hub_parts.specs.Channels.{queue_of, channel_of}
-
--- the cases of which a queue has the entries; for both sides those of the receivers
-abbrev pub joins : Side → Port → Case → Bool
-joins side.Send p c = is_send_on p c
-joins side.Recv p c = is_recv_on p c
-joins side.Any p c = is_recv_on p c
 
 -- a queue's live entries are those of the calls' cases that pass; no entry has a ticket that is still to come
 pub record QueueKeeps (test : Case → Bool) (c : Calls) (q : Buffer Waiter) : Type 0 where
@@ -51,7 +44,7 @@ pub record CallsKeep (c : Calls) (ports : ℕ) : Type 0 where
 
 -- both queues of every port keep it
 abbrev pub QueuesKeep : Calls → List ChannelLists → Type 0
-QueuesKeep c cs = (s : Side) (p : Port) → 0 < p.0 → p.0 ≤ length cs → QueueKeeps (joins s p) c (queue_of s (channel_of cs p))
+QueuesKeep c cs = (s : Side) (p : Port) → 0 < p.0 → p.0 ≤ length cs → QueueKeeps (passes p s) c (queue_of s (channel_of cs p))
 
 -- the open calls and the queues of a board
 pub record BoardKeeps (c : Calls) (cs : List ChannelLists) : Type 0 where

@@ -5,7 +5,7 @@ use Rattle.hub_base.specs.declared.value.Port.{Port}
 use Rattle.hub_base.specs.declared.value.Pid.{Pid}
 use Rattle.hub_base.specs.declared.case.Case.{Case}
 use Rattle.hub_base.specs.State.{OpenCall}
-use Rattle.hub_base.specs.Ready.{is_send_on, is_recv_on, is_on, Ending}
+use Rattle.hub_base.specs.Ready.{is_send_on, is_recv_on, Ending}
 use Rattle.hub_parts.specs.declared.side.Side.{Side}
 use Rattle.hub_parts.specs.declared.side.Side.TheVariants as side
 use Rattle.hub_parts.specs.declared.side.Ended.{Ended}
@@ -16,7 +16,6 @@ use Rattle.hub_parts.specs.Records.{PortLists, Ticketed, Calls, Lists}
 abbrev pub passes : Port → Side → Case → Bool
 passes p side.Send c = is_send_on p c
 passes p side.Recv c = is_recv_on p c
-passes p side.Any c = is_on p c
 
 -- a call that ended, as the meaning of a hub has it
 abbrev pub ending_of : Ended → Ending

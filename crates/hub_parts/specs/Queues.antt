@@ -9,10 +9,6 @@ use Rattle.hub_base.specs.declared.limits.TheConstants.{CASE_PLACES}
 use Rattle.hub_parts.specs.declared.wait_queue.Waiter.{Waiter}
 use Rattle.hub_parts.specs.Records.{Ticketed}
 
--- an open call has this ticket
-abbrev pub is_live : List Ticketed → ℕ → Bool
-is_live ws ticket = list_any (λ w. w.ticket == ticket) ws
-
 -- the process has an open call under this ticket
 abbrev pub has_call : List Ticketed → ℕ → Pid → Bool
 has_call ws ticket pid = list_any (λ w. (w.ticket == ticket) && (w.call.pid.0 == pid.0)) ws

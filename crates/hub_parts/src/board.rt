@@ -9,7 +9,7 @@
 ghost use Rattle.std.specs.Prelude.{◌≡◌, ◌≤◌, ◌<◌, ◌+◌, ◌*◌, [], length, IfOk, IfSome, OnErr, ◌==◌, true, false, slice_get, is_some};
 ghost use Rattle.std.specs.Option.{option_map};
 ghost use Rattle.std.specs.List.{list_any};
-ghost use Rattle.hub_base.specs.Ready.{first_with};
+ghost use Rattle.hub_base.specs.Ready.{first_with, is_on};
 ghost use Rattle.hub_parts.specs.Lists.{open_calls, parked, with_new, IsMade, port_at, with_port, pushed, popped, closed_now, passes, ending_of, after_taking, after_stop, ended_by, opened};
 ghost use Rattle.hub_parts.specs.Keeps.{AllMade};
 ghost use Rattle.hub_parts.specs.declared.wait_queue.TheConstants.{PLACES};
@@ -189,40 +189,6 @@ impl Board {
         ensures side { IfSome result (λ e. passes port side e.case ≡ true) }
         ensures left { self.new ≡ after_taking result self.old }
     {
-        self.pass_dead(port, side);
-        self.take_oldest(port, side)
-    }
-
-    /// Removes the dead entries before the oldest live one of each queue of the port, where both are looked at. So each is
-    /// passed once, however many calls are then taken. No list of the board changes.
-    #[inline(always)]
-    fn pass_dead(&mut self, port: Port, side: Side)
-        requires { IsMade self.old port }
-        ensures { self.new ≡ self.old }
-    {
-        if let Side::Any = side {
-            self.pass_dead_on(port, Side::Send);
-            self.pass_dead_on(port, Side::Recv);
-        }
-    }
-
-    /// Removes the dead entries before the oldest live one of a queue of the port. No list of the board changes.
-    fn pass_dead_on(&mut self, port: Port, side: Side)
-        requires { IsMade self.old port }
-        ensures { self.new ≡ self.old }
-    {
-        let channel = &mut self.ports[port.0 as usize - 1];
-        channel.pass_dead(side, &self.calls);
-    }
-
-    /// What `take` does once the dead entries are passed.
-    #[inline(always)]
-    fn take_oldest(&mut self, port: Port, side: Side) -> Option<Ended>
-        requires { IsMade self.old port }
-        ensures taken { option_map ending_of result ≡ first_with (passes port side) (open_calls self.old.waiting) }
-        ensures side { IfSome result (λ e. passes port side e.case ≡ true) }
-        ensures left { self.new ≡ after_taking result self.old }
-    {
         let channel = &mut self.ports[port.0 as usize - 1];
         let waiter = channel.take(side, &self.calls)?;
         let Some(case) = self.calls.case(waiter) else {
@@ -236,7 +202,40 @@ impl Board {
         })
     }
 
-    /// How many entries the queue of a side of the port stores, the dead ones among them. `Any` means the receivers.
+    /// Ends the oldest open call with a case on either side of the port, at its lowest such case. The call leaves the
+    /// queues of all its cases.
+    pub fn take_either(&mut self, port: Port) -> Option<Ended>
+        requires { IsMade self.old port }
+        ensures taken { option_map ending_of result ≡ first_with (is_on port) (open_calls self.old.waiting) }
+        ensures port { IfSome result (λ e. is_on port e.case ≡ true) }
+        ensures left { self.new ≡ after_taking result self.old }
+    {
+        // Each look at both queues passes their dead entries anew, and a taking removes those of one queue alone. Removed
+        // here, each is passed once, however many calls are then taken.
+        self.pass_dead(port, Side::Send);
+        self.pass_dead(port, Side::Recv);
+        let side = self.older_side(port);
+        self.take(port, side)
+    }
+
+    /// Removes the dead entries before the oldest live one of a queue of the port. No list of the board changes.
+    fn pass_dead(&mut self, port: Port, side: Side)
+        requires { IsMade self.old port }
+        ensures { self.new ≡ self.old }
+    {
+        let channel = &mut self.ports[port.0 as usize - 1];
+        channel.pass_dead(side, &self.calls);
+    }
+
+    /// The side of the port whose oldest open call is the oldest on the port.
+    fn older_side(&self, port: Port) -> Side
+        requires { IsMade self.now port }
+        ensures { first_with (passes port result) (open_calls self.now.waiting) ≡ first_with (is_on port) (open_calls self.now.waiting) }
+    {
+        self.ports[port.0 as usize - 1].older_side(&self.calls)
+    }
+
+    /// How many entries the queue of a side of the port stores, the dead ones among them.
     /// The lists of a board leave the queues out, so no contract says how many it is after a call.
     pub fn stored(&self, port: Port, side: Side) -> u32
         requires { IsMade self.now port }

@@ -100,7 +100,6 @@ impl CaseCounts {
         match side {
             Side::Send => self.sends[place] != 0,
             Side::Recv => self.recvs[place] != 0,
-            Side::Any => self.sends[place] != 0 || self.recvs[place] != 0,
         }
     }
 }

@@ -1,5 +1,5 @@
 use Rattle.hub_parts.proofs.Taken.{kept_passed, lists_passed}
-use Rattle.hub_parts.proofs.board.Board.pass_dead_on.Goals as goal
+use Rattle.hub_parts.proofs.board.Board.pass_dead.Goals as goal
 
 pub invariant_of-self : goal.invariant_of-self
 invariant_of-self c =

@@ -1,0 +1,16 @@
+pub mod Stalling
+pub mod Buffers
+pub mod Steps
+pub mod Future
+pub mod Leading
+pub mod Ports
+pub mod Exits
+pub mod Calls
+pub mod Holding
+pub mod Reached
+pub mod Weights
+pub mod Editions
+pub mod Checkpoints
+pub mod Chapters
+pub mod Replies
+pub mod Counts

@@ -1,10 +1,11 @@
 /* The lock, the waits and the wakes around the proved hub, which answers each call: crates/hub_c.
  *
- * One lock orders all that is asked of a hub. Above each function stands who holds it, where that matters.
+ * One lock orders all that is asked of a hub. The comment of a function says whether its caller holds it, where that matters. Each
+ * answer is picked up under the lock, so what the thread that brought it wrote before is seen.
  *
- * No wake is lost. Who waits has found no answer under the lock, and clears `told`, or begins to sleep, before the lock is free.
- * So whoever brings the answer has the lock later, and tells and signals later still.
- * A wake too many does no harm: whoever is woken looks under the lock, and where it finds no answer it waits again.
+ * No wake is lost. A thread that waits has found no answer under the lock, and clears `told` or begins to sleep before it lets go of
+ * the lock. So the thread that brings the answer takes the lock later, and sets `told` and signals later still.
+ * A wake too many does no harm: a woken thread looks under the lock, and waits again if it finds no answer.
  */
 #define _POSIX_C_SOURCE 200809L /* for the monotonic clock */
 #include "chanhub.h"
@@ -79,7 +80,7 @@ struct chanhub {
     _Alignas(16) unsigned char hub[]; /* hub_c_size() bytes */
 };
 
-/* Of what is read and given, no process matters. Holds the lock. */
+/* Asks for a reading, or gives a byte or a case: what belongs to no process. Holds the lock. */
 static inline uint64_t ask(chanhub *h, uint8_t kind, uint16_t port, uint64_t value) {
     return hub_c_do(h->hub, kind, 0, port, value);
 }
@@ -119,7 +120,7 @@ void chanhub_free(chanhub *h) {
     free(h);
 }
 
-/* ---- Values, and what is told. ---- */
+/* ---- Values and answers. ---- */
 
 chanhub_value chanhub_number(uint64_t number) {
     return (chanhub_value){ .number = number };
@@ -143,7 +144,7 @@ static void read_bytes(chanhub *h, chanhub_value *value) {
     for (unsigned i = 0; i < length; i++) value->bytes[i] = (uint8_t)ask(h, BYTE, 0, i);
 }
 
-/* Puts what an answer tells that was given last there. 0 is the answer to what the edition has not. Holds the lock. */
+/* Writes into t what the last answer says. 0 answers what the edition does not have. Holds the lock. */
 static void tell(chanhub *h, uint64_t answer, chanhub_told *t) {
     uint8_t what = answer & WHAT;
     uint16_t detail = (uint16_t)(answer >> DETAIL_AT);
@@ -163,7 +164,7 @@ static void tell(chanhub *h, uint64_t answer, chanhub_told *t) {
 
 /* ---- The lock. ---- */
 
-/* Takes the lock that another thread has. Mostly that lets it go before a thread could sleep. */
+/* Takes the lock while another thread has it. Mostly that thread lets go before this one could sleep. */
 static void wait_for_lock(chanhub *h) {
     for (int i = 1; i < TRIES; i++) {
         __builtin_ia32_pause();
@@ -195,7 +196,7 @@ static inline bool enter(chanhub *h, unsigned pid) {
 
 /* ---- Wakes and waits. ---- */
 
-/* Whose calls a step ended that came to this answer. Holds the lock since the step. */
+/* The processes whose calls the step with this answer ended. Holds the lock since that step. */
 static uint64_t ended_by(chanhub *h, uint64_t answer) {
     uint64_t ended = 0;
     for (uint64_t i = 0; i < answer >> ENDED_AT; i++) ended |= only((unsigned)ask(h, ENDED_PID, 0, i));
@@ -224,8 +225,8 @@ static struct timespec time_in(uint64_t nanoseconds) {
     return time;
 }
 
-/* Whether a wait of so many nanoseconds begins with looks. They pay where no port buffers, so that answers come soon; and after
- * each that was in vain twice as many waits do without. Holds the lock. */
+/* Whether a wait of so many nanoseconds begins with looks. They pay if no port has a buffer, since answers then come soon. After
+ * each that was in vain twice as many waits go without. Holds the lock. */
 static bool begins_with_looks(const chanhub *h, struct place *mine, uint64_t nanoseconds) {
     if (h->has_buffer || nanoseconds < LOOKS_TAKE) return false;
     if (mine->sleeps == 0) return true;
@@ -286,8 +287,8 @@ static uint64_t wait_for(chanhub *h, unsigned pid, uint64_t nanoseconds) {
 
 /* ---- The calls. ---- */
 
-/* Keeps the call of a process open that parked, wakes those whose calls the step ended, and waits. Holds the lock, but not while
- * it waits. */
+/* Keeps the parked call of a process open, wakes those whose calls the step ended, and waits. Holds the lock, but not while it
+ * waits. */
 static uint64_t park(chanhub *h, uint8_t pid, uint64_t ended, uint64_t nanoseconds) {
     h->open |= only(pid);
     wake(h, ended);
@@ -314,7 +315,7 @@ static inline bool is_bad(const chanhub *h, unsigned pid, unsigned port) {
     return !h || pid > GREATEST_PID || port > GREATEST_PORT;
 }
 
-/* A call of which nothing has to be given. */
+/* A call without cases or bytes to give. */
 static inline chanhub_told plain(chanhub *h, uint8_t kind, unsigned pid, unsigned port, uint64_t value) {
     if (is_bad(h, pid, port)) return fault(CHANHUB_BAD_CALL);
     if (!enter(h, pid)) return fault(CHANHUB_BUSY);

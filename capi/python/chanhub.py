@@ -3,12 +3,12 @@
     with Hub(procs=2) as hub:
         port = hub.seat(0).make(0)
 
-Each thread calls by a seat of its own. Other threads run while a call waits. A call that ends without a value raises Closed,
-Drained, Stalled, Cancelled or Fault.
+Each thread calls by a seat of its own. Other threads run while a call waits. A call that fails raises Closed, Drained, Stalled,
+Cancelled or Fault.
 
 Ctrl-C ends the wait of the main thread by KeyboardInterrupt, and loses nothing: the call stays open, `seat.waits` says so, and
-`seat.resume()` waits on for its answer. Leaving `with Hub` ends what its threads do: no call begins any more, and whoever waits
-is told. A hub belongs to the process which opened it: in a forked child each call on it raises RuntimeError.
+`seat.resume()` waits on for its answer. Leaving `with Hub` ends what its threads do: no new call begins, and each waiting call
+ends. A hub belongs to the process which opened it: in a forked child each call on it raises RuntimeError.
 """
 from __future__ import annotations
 
@@ -38,7 +38,7 @@ OPENING = {1: '1 to 64 processes', 2: '1 to 1,000,000 steps', 4: 'edition 1 or 2
 
 
 class Ended(Exception):
-    """A call that ended without a value. `index` is that of its case."""
+    """Why a call failed, but for a Fault. `index` is that of its case."""
 
     words = 'the call ended without a value'
 
@@ -259,7 +259,7 @@ def _free(handle: ctypes.c_void_p, opener: int) -> None:
 
 
 class Hub:
-    """A hub of `procs` processes: exactly as many as run, since for one that nobody calls for all others may wait.
+    """A hub of `procs` processes: exactly as many as run, since all others may wait for one that neither calls nor exits.
 
     Its memory goes once no thread calls on it or has a seat of it any longer, or else with the interpreter's own process.
     """
@@ -290,7 +290,7 @@ class Hub:
         return self
 
     def __exit__(self, *_: object) -> None:
-        """From now on no call on the hub begins, but for exits. Each process that does not wait exits; whoever waits is told, at
+        """From now on no call on the hub begins, but for exits. Each process that does not wait exits. Each waiting call ends, at
         latest by Stalled, and then its process exits too."""
         if self._is_here():
             self._live = None
@@ -436,7 +436,8 @@ class Seat:
             yield value
 
     def select(self, cases: Sequence[Union[Send, Recv]], default: bool = False, word: int = 0) -> Optional[Fired]:
-        """One case that can proceed: of k, number `word` mod k. None for the default."""
+        """Makes a case that can proceed: if k can, number `word` mod k of them, counted from 0. Word 0 takes the first; pass
+        `random.getrandbits(64)` for a fair choice. If none can proceed: None with a default, and else it waits."""
         packed = b''.join(map(_case, cases))
         fired: Optional[Fired] = self._call(_fired, packed, len(cases), default, _within('word', word, 2 ** 64 - 1))
         return fired
@@ -455,7 +456,7 @@ class Seat:
             _done(told)
 
     def cancel(self, other: int) -> None:
-        """Ends the call of another process that waits."""
+        """Ends the waiting call of another process, by Cancelled."""
         self._give(_done, _LIBRARY.chanhub_cancel(self._handle(), self.pid, _within('process', other, 255)))
 
     def _handle(self) -> ctypes.c_void_p:

@@ -8,17 +8,17 @@ import (
 	"fmt"
 )
 
-// What ends a call without a value.
+// Why a call failed, but for a Fault.
 var (
-	// ErrClosed is what a send on a closed port is told.
+	// ErrClosed is returned by a send on a closed port.
 	ErrClosed = errors.New("chanhub: send on a closed port")
-	// ErrDrained is what a receive is told from a port that is closed and holds nothing more.
+	// ErrDrained is returned by a receive from a port that is closed and holds nothing more.
 	ErrDrained = errors.New("chanhub: the port is closed and holds nothing more")
-	// ErrStalled is what all are told when everybody waited. The calls had no effect.
+	// ErrStalled is returned by all calls when everybody waited. They had no effect.
 	ErrStalled = errors.New("chanhub: everybody waited")
-	// ErrCancelled is what a call is told that another process ended. It had no effect.
+	// ErrCancelled is returned by a call that another process ended. It had no effect.
 	ErrCancelled = errors.New("chanhub: another process ended the call")
-	// ErrHubClosed is what a call is told that Hub.Close ended, or that came later. It had no effect.
+	// ErrHubClosed is returned by a call that Hub.Close ended, or that came later. It had no effect.
 	ErrHubClosed = errors.New("chanhub: the hub is closed")
 )
 

@@ -2,13 +2,14 @@
 // happened.
 //
 // A hub has 1 to 64 processes, each of which calls by its [Seat]. A call that has to wait waits, and holds up no other. When
-// every process that has not exited waits, no call could ever end: then all are told [ErrStalled]. So a goroutine that others
-// may wait for calls [Seat.Exit] before it returns.
+// every process that has not exited waits, no call could ever end: then each call returns [ErrStalled]. A process that waits
+// outside the hub keeps that from all. So a goroutine that others may wait for calls [Seat.Exit] before it returns, and before
+// it waits for other goroutines.
 //
 // # Errors
 //
-// A call that ends without a value returns an error: [ErrClosed], [ErrDrained], [ErrStalled], [ErrCancelled], [ErrHubClosed], or a
-// [Fault] if nothing happened. [errors.Is] finds each of them, and [errors.As] a Fault.
+// A call that fails returns [ErrClosed], [ErrDrained], [ErrStalled], [ErrCancelled], [ErrHubClosed], or a [Fault] if nothing
+// happened. [errors.Is] finds each of them, and [errors.As] a Fault.
 //
 // # Threads
 //
@@ -65,7 +66,7 @@ type Hub struct {
 	calling []int // by process, how many calls in its name are in the library
 }
 
-// Open opens a hub with 1 to 64 processes, which makes at most limit steps, 1 to 1,000,000; an exit is no step. It refuses by
+// Open opens a hub with 1 to 64 processes, which makes at most limit steps, 1 to 1,000,000, exits not counted. It refuses by
 // ErrProcs, ErrLimit, ErrEdition or ErrMemory. Close gives back its memory, and nothing else does. A process by whose seat nobody
 // calls has to exit as well, or the others may wait for it for ever.
 func Open(edition Edition, procs int, limit int) (*Hub, error) {
@@ -118,8 +119,8 @@ func (h *Hub) Journal() ([]byte, error) {
 }
 
 // Close ends the hub and gives back its memory. Calls that come later are refused by ErrHubClosed. Calls that run end: one that
-// waits is told ErrHubClosed, and one that can proceed is told what it came to. Close waits for them, which takes no longer
-// than a step of each. It may be called more than once and by several goroutines, and returns nil.
+// waits returns ErrHubClosed, and one that can proceed what it came to. Close waits for them, which takes no longer than a step
+// of each. It may be called more than once and by several goroutines, and returns nil.
 func (h *Hub) Close() error {
 	h.freed.Do(func() {
 		h.shut()
@@ -142,7 +143,7 @@ func (h *Hub) shut() {
 	}
 }
 
-// nobody is in whose name a look is, or the journal.
+// nobody is the process of a look, and of the journal.
 const nobody = -1
 
 // enter lets a call in the name of a process into the library, unless the hub is closed. The memory stays until it leaves.
@@ -159,7 +160,7 @@ func (h *Hub) enter(pid int) error {
 	return nil
 }
 
-// leave tells that a call is over, and whether the hub is closed; there the process exits with the last of its calls.
+// leave ends a call, and says whether the hub is closed; if it is, the process exits with the last of its calls.
 func (h *Hub) leave(pid int) (closed bool) {
 	defer h.running.Done()
 	h.lock.Lock()

@@ -56,15 +56,14 @@ func RecvCase(port Port) Case {
 	return Case{port: port}
 }
 
-// Select makes one case that can proceed, or waits until one can. Of k that can proceed it is number word mod k, in their order
-// from 0 on: pass a random word for a fair choice. The index is that of the case that sent, that received the value, or that is
-// told ErrClosed or ErrDrained; and -1 with every other error.
+// Select makes a case that can proceed, or waits until one can. If k can, it makes number word mod k of them, counted from 0:
+// pass a random word for a fair choice; word 0 takes the first. The index is that of the case that sent, that received the
+// value, or that failed by ErrClosed or ErrDrained; and -1 with every other error.
 func (s *Seat) Select(word uint64, cases ...Case) (index int, value Value, err error) {
 	return s.selectOf(false, word, cases)
 }
 
-// TrySelect is Select, but does not wait: where no case can proceed at once the index is -1, and the error nil. So it is a select
-// with a default.
+// TrySelect is a select with a default. It never waits: if no case can proceed, the index is -1 and the error nil.
 func (s *Seat) TrySelect(word uint64, cases ...Case) (index int, value Value, err error) {
 	return s.selectOf(true, word, cases)
 }
@@ -84,7 +83,7 @@ func (s *Seat) selectOf(hasDefault bool, word uint64, cases []Case) (int, Value,
 	return told.caseIndex(), told.value, err
 }
 
-// Close closes a channel: sends that wait are told ErrClosed, and receives ErrDrained.
+// Close closes a channel: waiting sends return ErrClosed, and waiting receives ErrDrained.
 func (s *Seat) Close(port Port) error {
 	_, err := s.call(func(hub *C.chanhub, pid C.uint) C.chanhub_told {
 		return C.chanhub_close(hub, pid, C.uint(port))
@@ -100,8 +99,7 @@ func (s *Seat) Exit() error {
 	return err
 }
 
-// Cancel ends the call of another process that waits, which is told ErrCancelled; FaultNotParked where none waits. Edition2 has
-// it.
+// Cancel ends the waiting call of another process, which returns ErrCancelled; FaultNotParked if none waits. Edition2 has it.
 func (s *Seat) Cancel(other int) error {
 	_, err := s.call(func(hub *C.chanhub, pid C.uint) C.chanhub_told {
 		return C.chanhub_cancel(hub, pid, within(other))

@@ -3,7 +3,7 @@ package chanhub
 // #include <chanhub.h>
 import "C"
 
-// waiting is what is told of a call that is left while it waits. No call of this package is.
+// waiting is the answer of a call that is left while it waits. No call of this package is.
 const waiting = 8
 
 // told is what a call came to.
@@ -44,7 +44,7 @@ func (t told) err() error {
 	return nil
 }
 
-// caseIndex is the index of the case of which something is told, or -1.
+// caseIndex is the index of the case that the answer is about, or -1.
 func (t told) caseIndex() int {
 	switch t.what {
 	case C.CHANHUB_SENT, C.CHANHUB_GOT, C.CHANHUB_CLOSED, C.CHANHUB_DRAINED:

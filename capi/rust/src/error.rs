@@ -1,4 +1,4 @@
-//! What ends a call without a value.
+//! Why a call failed.
 
 use std::error::Error;
 use std::fmt;
@@ -15,7 +15,7 @@ pub enum OpenError {
     Memory,
 }
 
-/// What ended a call.
+/// Why a call failed.
 #[derive(Clone, Copy, Debug, PartialEq, Eq)]
 #[non_exhaustive]
 pub enum Ended {

@@ -227,7 +227,8 @@ impl Seat {
         Ok((Sender { hub, port }, Receiver { hub, port }))
     }
 
-    /// One case that can proceed, of k number `word` mod k; or the default, where there is one; or waits.
+    /// Makes a case that can proceed: if k can, number `word` mod k of them, counted from 0. A random word chooses fairly, and 0
+    /// takes the first. If none can proceed, it takes the default, or waits if it has none.
     pub fn select(
         &mut self,
         cases: &[Case],
@@ -285,7 +286,7 @@ impl Sender {
             .map(|_sent| ())
     }
 
-    /// Closes the channel.
+    /// Closes the channel. Fails by a fault alone.
     pub fn close(&self, seat: &mut Seat) -> Result<(), Ended> {
         seat.is_mine(self.hub)?;
         let (hub, pid) = seat.at();

@@ -16,7 +16,7 @@
 //! assert_eq!(hub.look_at(&receiver).unwrap().received, 1);
 //! ```
 //!
-//! A call that ends without a value is an error, which `?` passes on:
+//! A call that fails returns an [`Ended`], or a [`Fault`], which `?` turns into an `Ended`:
 //!
 //! ```
 //! use chanhub::{Edition, Ended, Hub, Seat};

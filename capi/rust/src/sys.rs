@@ -2,7 +2,7 @@
 
 use std::os::raw::{c_char, c_int, c_uint};
 
-/// What a process is told.
+/// What a call came to.
 pub const SENT: u8 = 2;
 pub const GOT: u8 = 3;
 pub const DRAINED: u8 = 4;

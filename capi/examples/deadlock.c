@@ -1,4 +1,4 @@
-/* A deadlock that is explained: each of two threads waits for the other to send first. */
+/* A deadlock: each of two threads waits for the other to send first. */
 #include <chanhub.h>
 #include <pthread.h>
 #include <stdint.h>

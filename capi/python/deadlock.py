@@ -1,5 +1,7 @@
-"""A deadlock that is explained: each of two threads waits for the other to send first."""
+"""A deadlock: each of two threads waits for the other to send first. Writes the journal to the file that it is given, if any."""
+import sys
 import threading
+from pathlib import Path
 
 from chanhub import Hub, Seat, Stalled
 
@@ -20,8 +22,11 @@ def main() -> None:
             thread.start()
         for thread in threads:
             thread.join()
-        for line in sorted(hub.journal().decode().splitlines()[-2:]):
+        journal = hub.journal()
+        for line in sorted(journal.decode().splitlines()[-2:]):
             print('stalled:', line)
+        if sys.argv[1:]:
+            Path(sys.argv[1]).write_bytes(journal)
 
 
 if __name__ == '__main__':

@@ -12,7 +12,7 @@ export CHANHUB_LIBRARY="$library/libchanhub.so" CHANHUB_LIB="$library" CARGO_TAR
 cc=${CC:-cc}
 flags="-std=c11 -D_DEFAULT_SOURCE -O2 -Wall -Wextra -Werror -I."
 proved="../crates/hub_c/out/libhub_c.a $(dirname "$(rt doc)")/c/liblibc_c.a"
-threads='cancelled second closed stalled'
+threads='cancelled second closed stalled handed'
 
 # skip NAME REASON
 skip() {
@@ -30,6 +30,17 @@ prints() {
 # crew NAME CAP COUNT [PROGRAM]: whether each of 64 threads is told what a replay tells it, by the rules or by the program.
 crew() {
     mkdir -p "$work/$1-$2" && "$work/$1" "$work/$1-$2" "$2" "$3" && tests/compare.py "$work/$1-$2" ${4+"$4"}
+}
+
+# chooses COMMAND..: whether the command of a choice prints what it must, in whatever order its words chose.
+chooses() {
+    "$@" > "$work/chosen" && sort "$work/chosen" | cmp - "$work/choice-lines" && [ "$(tail -n 1 "$work/chosen")" = neither ]
+}
+
+# keeps_journal: whether deadlock.py writes a journal whose replay stalls both.
+keeps_journal() {
+    python3 python/deadlock.py "$work/kept" && "$program" replay < "$work/kept" > "$work/replayed" &&
+        [ "$(grep -c 'stalled$' "$work/replayed")" = 2 ]
 }
 
 # has_only_names NM..: whether what this lists are the header's names and no other.
@@ -91,6 +102,7 @@ is_used_elsewhere() {
 
 echo 385 > "$work/sum"
 printf 'stalled: 0 recv 2\nstalled: 1 recv 1\n' > "$work/stalled"
+printf 'got 5\nneither\nsent\n' > "$work/choice-lines"
 
 for test in calls crew threads memory; do
     check "$test builds" "$cc" $flags "tests/$test.c" out/libchanhub.a -lpthread -o "$work/$test"
@@ -112,10 +124,11 @@ done
 check '64 threads, by the rules' crew crew 2 500
 check 'refuse builds' "$cc" $flags -Wl,--wrap=malloc,--wrap=calloc,--wrap=realloc tests/refuse.c out/libchanhub.a -lpthread -o "$work/refuse"
 check 'each allocation refused' "$work/refuse"
-for example in pool deadlock; do
+for example in pool deadlock choice; do
     check "$example.c builds" "$cc" $flags "examples/$example.c" out/libchanhub.a -lpthread -o "$work/$example"
 done
 check 'pool.c' prints "$work/sum" "$work/pool"
+check 'choice.c' chooses "$work/choice"
 "$work/deadlock" > "$work/deadlocked"
 check 'deadlock.c: both are told' grep -qx '2 stalled' "$work/deadlocked"
 grep recv "$work/deadlocked" | sort | sed 's/^/stalled: /' > "$work/calls-left"
@@ -161,6 +174,8 @@ fi
 check 'the Python module' env PYTHONPATH=python:tests python3 -m unittest -q test_chanhub
 check 'pool.py' prints "$work/sum" python3 python/pool.py
 check 'deadlock.py' prints "$work/stalled" python3 python/deadlock.py
+check 'deadlock.py keeps its journal' keeps_journal
+check 'choice.py' chooses python3 python/choice.py
 check '50 random rigs' tests/rigs.py "$program" 50
 
 if command -v cargo > "$work/found"; then
@@ -169,6 +184,7 @@ if command -v cargo > "$work/found"; then
     done
     check 'pool.rs' prints "$work/sum" cargo run --offline --quiet --manifest-path rust/Cargo.toml --example pool
     check 'deadlock.rs' prints "$work/stalled" cargo run --offline --quiet --manifest-path rust/Cargo.toml --example deadlock
+    check 'choice.rs' chooses cargo run --offline --quiet --manifest-path rust/Cargo.toml --example choice
     check 'cargo doc' env RUSTDOCFLAGS='-D warnings' cargo doc --offline --quiet --no-deps --manifest-path rust/Cargo.toml
     check 'build.rs says what to do without the library' says_what_to_do
     check 'build.rs sees a new library' links_anew

@@ -4,6 +4,7 @@
  *     threads second         another thread calls in the name of a process whose answer is not picked up
  *     threads closed         a close ends 63 calls that wait
  *     threads stalled        the last call of 64 that wait ends them all
+ *     threads handed         what a thread wrote before it sent is read by the one that received, without a lock of their own
  *
  * A test that hangs is ended by an alarm.
  */
@@ -121,9 +122,45 @@ static void stalled(void) {
     }
 }
 
+/* Neither has a lock or an atomic operation, by which the thread sanitizer would pass over a hand-over that orders nothing. */
+static unsigned notes[ROUNDS], misread;
+
+static void *double_notes(void *at) {
+    unsigned pid = (unsigned)(size_t)at;
+    for (unsigned round = 0; round < ROUNDS; round++) {
+        unsigned place = (unsigned)chanhub_recv(hub, pid, 1).value.number;
+        misread += notes[place] != round;
+        notes[place] = 2 * round;
+        chanhub_send(hub, pid, 2, chanhub_number(place));
+    }
+    return NULL;
+}
+
+static void hand_over(uint32_t cap) {
+    open_hub(2);
+    for (unsigned port = 1; port <= 2; port++) is("made", chanhub_make(hub, 0, cap).port, port);
+    pthread_t thread;
+    start(&thread, double_notes, 1);
+    for (unsigned round = 0; round < ROUNDS; round++) {
+        notes[round] = round;
+        chanhub_send(hub, 0, 1, chanhub_number(round));
+        chanhub_recv(hub, 0, 2);
+        misread += notes[round] != 2 * round;
+    }
+    pthread_join(thread, NULL);
+    is("misread", misread, 0);
+    chanhub_free(hub);
+}
+
+static void handed(void) {
+    hand_over(0);
+    hand_over(1);
+}
+
 int main(int argc, char **argv) {
     static const struct { const char *name; void (*run)(void); } tests[] = {
         { "cancelled", cancelled }, { "second", second }, { "closed", closed }, { "stalled", stalled },
+        { "handed", handed },
     };
     alarm(SECONDS);
     for (size_t i = 0; argc == 2 && i < sizeof tests / sizeof *tests; i++) {

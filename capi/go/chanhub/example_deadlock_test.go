@@ -11,7 +11,7 @@ import (
 	"chanhub/chanhub"
 )
 
-// A deadlock that is explained: each of two goroutines waits for the other to send first.
+// A deadlock: each of two goroutines waits for the other to send first.
 func Example_deadlock() {
 	hub, err := chanhub.Open(chanhub.Edition1, 2, 1000)
 	if err != nil {

@@ -7,6 +7,16 @@ import (
 	"chanhub/chanhub"
 )
 
+// A pool of workers: process 0 hands out jobs, 1 to 3 do them, and each result comes back.
+func Example_pool() {
+	sum, err := sumOfSquares()
+	if err != nil {
+		log.Fatal(err)
+	}
+	fmt.Println(sum)
+	// Output: 385
+}
+
 // square sends the square of each job, until there are no more.
 func square(seat *chanhub.Seat, jobs, results chanhub.Port) error {
 	defer seat.Exit()
@@ -49,29 +59,22 @@ func sumOfSquares() (uint64, error) {
 	if err := boss.Close(jobs); err != nil {
 		return 0, err
 	}
+	sum := uint64(0)
+	for i := 0; i < 10; i++ {
+		result, err := boss.Recv(results)
+		if err != nil {
+			return 0, err
+		}
+		number, _ := result.Number()
+		sum += number
+	}
+	if err := boss.Exit(); err != nil {
+		return 0, err
+	}
 	for i := 0; i < 3; i++ {
 		if err := <-ended; err != nil {
 			return 0, err
 		}
 	}
-	if err := boss.Close(results); err != nil {
-		return 0, err
-	}
-	sum := uint64(0)
-	squares := boss.Drain(results)
-	for squares.Next() {
-		number, _ := squares.Value().Number()
-		sum += number
-	}
-	return sum, squares.Err()
-}
-
-// A pool of workers: process 0 hands out jobs, 1 to 3 do them, and each result comes back.
-func Example_pool() {
-	sum, err := sumOfSquares()
-	if err != nil {
-		log.Fatal(err)
-	}
-	fmt.Println(sum)
-	// Output: 385
+	return sum, nil
 }

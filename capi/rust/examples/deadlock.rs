@@ -1,4 +1,4 @@
-//! A deadlock that is explained: each of two threads waits for the other to send first.
+//! A deadlock: each of two threads waits for the other to send first.
 
 use chanhub::{Edition, Ended, Hub};
 use std::error::Error;

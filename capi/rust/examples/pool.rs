@@ -23,14 +23,14 @@ fn main() -> Result<(), Box<dyn Error>> {
         to_workers.send(&mut boss, job)?;
     }
     to_workers.close(&mut boss)?;
+    let mut sum = 0;
+    for _ in 1..=10 {
+        sum += results.recv(&mut boss)?.number().expect("a number");
+    }
+    println!("{sum}");
+    boss.exit();
     for worker in workers {
         worker.join().expect("no panic")?;
     }
-    to_boss.close(&mut boss)?;
-    let mut sum = 0;
-    for result in results.drain(&mut boss) {
-        sum += result?.number().expect("a number");
-    }
-    println!("{sum}");
     Ok(())
 }

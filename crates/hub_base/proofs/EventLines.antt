@@ -19,8 +19,9 @@ use Rattle.hub_base.specs.declared.head.Edition.TheVariants.{Two}
 use Rattle.hub_base.specs.Lines.{number, value, pieces, same_text}
 use Rattle.hub_base.specs.Reading.{Row, rows}
 use Rattle.hub_base.specs.Head.{has_content}
-use Rattle.hub_base.specs.Value.{Content, content, saying, value_field}
-use Rattle.hub_base.specs.Value.Content.{Num, Bytes}
+use Rattle.hub_base.specs.Content.{Content}
+use Rattle.hub_base.specs.Value.{content, saying, value_field}
+use Rattle.hub_base.specs.Content.Content.{Num, Bytes}
 use Rattle.hub_base.proofs.ValueFields.{value-again, value-lacks}
 use Rattle.hub_base.proofs.Bodies.{lacks-high, rows-line}
 use Rattle.hub_base.proofs.Heads.{rows-one}

@@ -27,14 +27,15 @@ use Rattle.hub_base.specs.Head.{has_bytes, has_content, has_case, is_of}
 use Rattle.hub_base.specs.declared.value.Port.{Port}
 use Rattle.hub_base.specs.declared.value.Value.{Value}
 use Rattle.hub_base.specs.declared.limits.TheConstants.{MOST_VALUE_BYTES}
-use Rattle.hub_base.specs.Value.{bytes_of, padded, value_field, IsContent, field_of}
-use Rattle.hub_base.specs.Value.Content.{Bytes}
+use Rattle.hub_base.specs.Content.{padded, is_stored, IsContent}
+use Rattle.hub_base.specs.Value.{bytes_of, value_field, field_of}
+use Rattle.hub_base.specs.Content.Content.{Bytes}
 use Rattle.std.proofs.Common.{replicate, set, slice_index, slice_set}
 use Rattle.std.proofs.lemmas.Grind.{take-set_at}
 use Rattle.std.proofs.lemmas.List.{drop-replicate, drop-set-lt, length-set}
 use Rattle.hex.specs.Hex.{IsBytes, encode_lower, encode_with, lower_digits}
 use Rattle.hub_base.proofs.HexDigits.{bytes-push, digit-hex, encode-push}
-use Rattle.hub_base.proofs.Values.{content-saying, is-value, padded_is}
+use Rattle.hub_base.proofs.Values.{bytes-stored, content-saying, is-value, padded_is}
 use Rattle.hub_base.specs.Writing.{spaced, spaced_cases}
 use Rattle.hub_base.specs.Lines.{line, step_fields, case_field, call, call_fields, select_fields, default_field, spelled, is_hex}
 use Rattle.hub_base.specs.Quick.{EndsLine, Stands, GoesOn, ValueStands, SendStands, RecvStands, CaseStands, CasesStand}
@@ -190,20 +191,40 @@ decoded-push text start len places end high low ends so room high-small high-is 
       one-fewer : drop (len + 1) places ≡ replicate (MOST_VALUE_BYTES - (len + 1)) 0
       one-fewer = grind (arith, common_steps, twice 1 len places, so.behind, drop-replicate {X = ℕ} 1 (MOST_VALUE_BYTES - len) 0)
 
--- the bytes that stand there are a value
+-- the bytes that stand there
+record Standing (len : ℕ) (places : List ℕ) : Type 0 where
+  pub count : length (take len places) ≡ len
+  pub pads : places ≡ padded (take len places)
+  pub fits : IsContent (Bytes (take len places))
+
+decoded-standing : (text : List ℕ) (start len : ℕ) (places : List ℕ) (end : ℕ) → Decoded text start len places end → Standing len places
+decoded-standing text start len places end so =
+    let bs : List ℕ = take len places in
+    let count : length bs ≡ len = (let all = so.all in let few = so.few in grind (arith, common_steps)) in
+    let zeros : drop len places ≡ replicate (MOST_VALUE_BYTES - length bs) 0 = so.behind ∙ ap (λ n. replicate (MOST_VALUE_BYTES - n) 0) (sym count) in
+    record {
+      count = count;
+      pads = sym (take-append-drop len places) ∙ padded_is bs bs (drop len places) refl zeros;
+      fits = (rw count so.few, so.bytes);
+    }
+
+-- are stored as a value's
+pub decoded-stored : (text : List ℕ) (start len : ℕ) (places : List ℕ) (end : ℕ) → Decoded text start len places end → is_stored (len + 1) places ≡ true
+decoded-stored text start len places end so =
+    let it = decoded-standing text start len places end so in
+    bytes-stored (take len places) len places it.fits.0 it.fits.1 it.count it.pads
+
+-- and that value stands there
 pub decoded-value : (ed : Edition) (text : List ℕ) (start len : ℕ) (places : List ℕ) (end : ℕ) (v : Value) → has_bytes ed ≡ true
     → Decoded text start len places end
     → ((bs : List ℕ) → length bs ≡ len → places ≡ padded bs → v ≡ bytes_of bs) → ValueStands ed text start v end
 decoded-value ed text start len places end v has so is =
     let bs : List ℕ = take len places in
-    let count : length bs ≡ len = (let all = so.all in let few = so.few in grind (arith, common_steps)) in
-    let zeros : drop len places ≡ replicate (MOST_VALUE_BYTES - length bs) 0 = so.behind ∙ ap (λ n. replicate (MOST_VALUE_BYTES - n) 0) (sym count) in
-    let pads : places ≡ padded bs = sym (take-append-drop len places) ∙ padded_is bs bs (drop len places) refl zeros in
-    let fits : IsContent (Bytes bs) = (rw count so.few, so.bytes) in
-    let same = content-saying (Bytes bs) fits in
-    subst (λ x. ValueStands ed text start x end) (sym (is bs count pads)) record {
+    let it = decoded-standing text start len places end so in
+    let same = content-saying (Bytes bs) it.fits in
+    subst (λ x. ValueStands ed text start x end) (sym (is bs it.count it.pads)) record {
       stands = subst (λ f. Stands text start f end) (ap field_of (sym same)) so.stands;
-      fits = is-value (Bytes bs) fits;
+      fits = is-value (Bytes bs) it.fits;
       of_edition = ap (has_content ed) same ∙ has;
     }
 

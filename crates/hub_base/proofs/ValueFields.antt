@@ -8,7 +8,7 @@ use Rattle.std.specs.List.{list_all}
 use Rattle.std.specs.Option.{option_map}
 use Rattle.std.specs.Char.{is_ascii_digit}
 use Rattle.hex.specs.declared.error.FromHexError.{FromHexError}
-use Rattle.hex.specs.Hex.{decode_of, decode_sized, encode_lower, lower_digits}
+use Rattle.hex.specs.Hex.{IsBytes, decode_of, decode_sized, encode_lower, lower_digits}
 use Rattle.hex.proofs.HexLemmas.{decode_of-encode_lower, decode_of-ok, length-encode_with}
 use Rattle.hub_base.specs.declared.head.Edition.{Edition}
 use Rattle.hub_base.specs.declared.text.faults.Kind.TheVariants.{BadNumber}
@@ -16,8 +16,9 @@ use Rattle.hub_base.specs.declared.limits.TheConstants.{GREATEST_VALUE, MOST_VAL
 use Rattle.hub_base.specs.declared.value.Value.{Value}
 use Rattle.hub_base.specs.Head.{has_bytes, has_content, has_value}
 use Rattle.hub_base.specs.Lines.{is_hex, decoded, bytes_value, value, value_read, must, number}
-use Rattle.hub_base.specs.Value.{Content, content, saying, bytes_of, IsContent, IsValue, field_of, value_field}
-use Rattle.hub_base.specs.Value.Content.{Num, Bytes}
+use Rattle.hub_base.specs.Content.{Content, IsContent}
+use Rattle.hub_base.specs.Value.{content, saying, bytes_of, IsValue, field_of, value_field}
+use Rattle.hub_base.specs.Content.Content.{Num, Bytes}
 use Rattle.hub_base.proofs.Bound.{number-ok}
 use Rattle.hub_base.proofs.Decimals.{digits-of, some-of}
 use Rattle.hub_base.proofs.Values.{content-saying, is-value}
@@ -157,6 +158,22 @@ value-lacks-colon v is = content-lacks-colon (content v) is.fits
 -- what is decoded into room for half as many bytes is what is decoded
 sized : (s : List ℕ) → decode_sized s (length s / 2) ≡ decode_of s
 sized s = let same : (length s / 2 == length s / 2) ≡ true = grind (arith, common_steps) in rw same refl
+
+-- digits are decoded to bytes, so many that a value can be them
+pub decodes-content : (digits out : List ℕ) (n : ℕ) (done : Result (Unit {0}) FromHexError) → length digits ≤ 2 * MOST_VALUE_BYTES
+    → n ≡ length digits / 2 → MatchResult (decode_sized digits n) (λ bytes. (done ≡ Ok tt) × (out ≡ bytes)) (λ e. done ≡ Err e) → done ≡ Ok tt
+    → (length out ≡ length digits / 2) × IsContent (Bytes out)
+decodes-content digits out n done short half told ok =
+    let all : MatchResult (decode_of digits) (λ bytes. (done ≡ Ok tt) × (out ≡ bytes)) (λ e. done ≡ Err e) =
+    subst (λ (x : Result (List ℕ) FromHexError). MatchResult x (λ bytes. (done ≡ Ok tt) × (out ≡ bytes)) (λ e. done ≡ Err e))
+    (ap (decode_sized digits) half ∙ sized digits) told in
+    whole (decode_of digits) refl all where
+      whole : (d : Result (List ℕ) FromHexError) → decode_of digits ≡ d
+          → MatchResult d (λ bytes. (done ≡ Ok tt) × (out ≡ bytes)) (λ e. done ≡ Err e) → (length out ≡ length digits / 2) × IsContent (Bytes out)
+      whole (Err e) was all = cc
+      whole (Ok bs) was all =
+          let is = decode_of-ok digits bs was in let twice = is.2 in let same = ap length all.1 in
+          (grind (arith, common_steps), (grind (arith, common_steps), subst IsBytes (sym all.1) is.3))
 
 -- digits are decoded to the value that they spell
 pub decodes : (digits out : List ℕ) (n : ℕ) (done : Result (Unit {0}) FromHexError) (v : Value) → list_all is_hex digits ≡ true

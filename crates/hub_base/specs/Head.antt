@@ -11,8 +11,9 @@ use Rattle.hub_base.specs.declared.head.Edition.TheVariants.{One, Two}
 use Rattle.hub_base.specs.declared.head.Head.{Head}
 use Rattle.hub_base.specs.declared.limits.TheConstants.{CASE_PLACES, MOST_CASES, MOST_PROCS}
 use Rattle.hub_base.specs.declared.value.Value.{Value}
-use Rattle.hub_base.specs.Value.{Content, content}
-use Rattle.hub_base.specs.Value.Content.{Num, Bytes}
+use Rattle.hub_base.specs.Content.{Content}
+use Rattle.hub_base.specs.Value.{content}
+use Rattle.hub_base.specs.Content.Content.{Num, Bytes}
 
 -- a hub may have so many processes
 abbrev pub IsHead : Head → Type 0

@@ -1,3 +1,4 @@
+pub mod Content
 pub mod Value
 pub mod Faults
 pub mod State

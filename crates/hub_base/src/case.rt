@@ -3,6 +3,7 @@
 ghost use Rattle.std.specs.Prelude.{◌≡◌, ◌∷◌, []};
 ghost use Rattle.hub_base.specs.Head.{has_case};
 ghost use Rattle.hub_base.specs.Ready.{port_of};
+ghost use Rattle.hub_base.specs.Text.{CaseFits};
 
 use crate::limits::CASE_PLACES;
 use crate::{Edition, Port, Value};
@@ -29,8 +30,10 @@ impl Case {
     }
 
     /// Whether a journal of this edition can have the case: its value, where it sends one, is one that it has.
+    #[tactic(auto, using(crate::proofs::Values::every_value))]
     pub fn fits(self, edition: Edition) -> bool
-        ensures { result ≡ has_case edition self }
+        ensures is { result ≡ has_case edition self }
+        ensures fits { CaseFits self }
     {
         match self {
             Case::Send(_port, value) => value.fits(edition),

@@ -40,7 +40,9 @@ pub struct Entry {
 }
 
 impl Entry {
+    ghost use Rattle.std.specs.Prelude.{IsTrue};
     ghost use Rattle.hub_base.specs.Head.{is_of};
+    ghost use Rattle.hub_base.specs.Text.{Fits};
 
     /// An equal entry. It takes no memory.
     pub fn copy(&self) -> Entry
@@ -55,12 +57,29 @@ impl Entry {
     /// Whether a journal of this edition can have the entry: one of the first edition has no cancel, and no value that
     /// is bytes.
     pub fn fits(&self, edition: Edition) -> bool
-        ensures { result ≡ is_of edition self.now.step }
+        ensures is { result ≡ is_of edition self.now.step }
+        ensures fits { IsTrue result → Fits edition self.now }
     {
-        match self.step {
-            Step::Make(_) | Step::Close(_) | Step::Exit => true,
-            Step::Call { ref cases, .. } => edition.has_cases(cases.as_slice()),
-            Step::Cancel(_) => edition.has_cancel(),
+        // Each number is read, since its type tells the greatest that it can be.
+        let _pid = self.pid.0;
+        match &self.step {
+            Step::Make(cap) => {
+                let _cap = *cap;
+                true
+            }
+            Step::Call { cases, word, .. } => {
+                let _word = *word;
+                edition.has_cases(cases.as_slice())
+            }
+            Step::Close(port) => {
+                let _port = port.0;
+                true
+            }
+            Step::Exit => true,
+            Step::Cancel(pid) => {
+                let _pid = pid.0;
+                edition.has_cancel()
+            }
         }
     }
 }

@@ -18,8 +18,10 @@ pub enum Edition {
 }
 
 impl Edition {
-    ghost use Rattle.std.specs.List.{list_all};
+    ghost use Rattle.std.specs.Prelude.{IsTrue};
+    ghost use Rattle.std.specs.List.{AllByRecursion, list_all};
     ghost use Rattle.hub_base.specs.Head.{most_cases, has_bytes, has_cancel, has_case, is_of};
+    ghost use Rattle.hub_base.specs.Text.{CaseFits, Fits};
 
     /// The most cases that a call may have.
     pub fn most_cases(self) -> usize
@@ -47,14 +49,16 @@ impl Edition {
 
     /// Whether a journal of this edition can have all of these cases.
     pub fn has_cases(self, cases: &[Case]) -> bool
-        ensures { result ≡ list_all (has_case self) cases.now }
+        ensures is { result ≡ list_all (has_case self) cases.now }
+        ensures fits { IsTrue result → AllByRecursion CaseFits cases.now }
     {
         cases.iter().all(|case| case.fits(self))
     }
 
     /// Whether a journal of this edition can have all of these entries.
     pub fn has_all(self, entries: &[Entry]) -> bool
-        ensures { result ≡ list_all (λ e. is_of self e.step) entries.now }
+        ensures is { result ≡ list_all (λ e. is_of self e.step) entries.now }
+        ensures fits { IsTrue result → AllByRecursion (Fits self) entries.now }
     {
         entries.iter().all(|entry| entry.fits(self))
     }

@@ -1,9 +1,7 @@
 //! What a channel carries, and the numbers that name ports and processes.
 
-ghost use Rattle.std.specs.Prelude.{◌≡◌, ◌≤◌, ◌<◌, ◌↔◌, ℕ, List, IfSome, IsNone, length, slice_get, true};
-ghost use Rattle.hub_base.specs.Head.{has_value};
-ghost use Rattle.hub_base.specs.Value.{content, value_of, bytes_of, padded, number_in, bytes_in};
-ghost use Rattle.hub_base.specs.Value.Content.{Num, Bytes};
+ghost use Rattle.std.specs.Prelude.{◌≡◌, true};
+ghost use Rattle.hub_base.specs.Content.{is_stored};
 
 use crate::Edition;
 use crate::limits::MOST_VALUE_BYTES;
@@ -13,16 +11,24 @@ use crate::limits::MOST_VALUE_BYTES;
 ///
 /// Only texts look inside it. A hub moves values and never reads one, so nothing that is proved of
 /// a hub depends on what a value is.
-#[derive(Clone, Copy, Debug, Default, PartialEq, Eq)]
+#[derive(Clone, Copy, Debug, PartialEq, Eq)]
 pub struct Value {
     /// 0 for a number, and else one more than there are bytes.
     form: u8,
     /// The number, its lowest byte first, or the bytes. Zeros stand behind them, so that equal values are the same
     /// bytes.
     bytes: [u8; MOST_VALUE_BYTES],
+    /// So each value says a number or bytes, and is the only one that says it.
+    ghost stored: { is_stored form bytes ≡ true },
 }
 
 impl Value {
+    ghost use Rattle.std.specs.Prelude.{◌+◌, ◌≤◌, ◌<◌, ◌↔◌, ℕ, List, IfSome, IsNone, length, slice_get};
+    ghost use Rattle.hub_base.specs.Content.{padded};
+    ghost use Rattle.hub_base.specs.Content.Content.{Num, Bytes};
+    ghost use Rattle.hub_base.specs.Head.{has_value};
+    ghost use Rattle.hub_base.specs.Value.{IsValue, content, value_of, bytes_of, number_in, bytes_in};
+
     /// The value that is this number.
     #[inline(always)]
     pub fn num(number: u64) -> Value
@@ -59,7 +65,8 @@ impl Value {
     /// The value that is the first of these bytes, where zeros stand behind them.
     #[inline]
     pub(crate) fn of_places(len: usize, places: [u8; MOST_VALUE_BYTES]) -> Value
-        requires { len ≤ MOST_VALUE_BYTES }
+        requires few { len ≤ MOST_VALUE_BYTES }
+        requires stored { is_stored (len + 1) places ≡ true }
         ensures { (bs : List ℕ) → length bs ≡ len → places ≡ padded bs → result ≡ bytes_of bs }
     {
         Value {
@@ -111,6 +118,18 @@ impl Value {
         ensures { result ≡ slice_get (bytes_in (content self)) i }
     {
         self.as_slice().get(usize::from(i)).copied()
+    }
+}
+
+/// The number 0.
+impl Default for Value {
+    ghost use Rattle.std.specs.Prelude.{◌≡◌};
+    ghost use Rattle.hub_base.specs.Value.{value_of};
+
+    ghost is_default = { λ value. value ≡ value_of 0 };
+
+    fn default() -> Value {
+        Value::num(0)
     }
 }
 

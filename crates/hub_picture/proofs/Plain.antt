@@ -14,8 +14,9 @@ use Rattle.hub_base.specs.declared.entry.Step.{Step}
 use Rattle.hub_base.specs.declared.entry.Step.TheVariants.{Make, Call, Close, Exit, Cancel}
 use Rattle.hub_base.specs.declared.entry.Entry.{Entry}
 use Rattle.hub_base.specs.declared.head.Edition.{Edition}
-use Rattle.hub_base.specs.Value.{Content, IsContent, IsValue, content, field_of, value_field}
-use Rattle.hub_base.specs.Value.Content.{Num, Bytes}
+use Rattle.hub_base.specs.Content.{Content, IsContent}
+use Rattle.hub_base.specs.Value.{IsValue, content, field_of, value_field}
+use Rattle.hub_base.specs.Content.Content.{Num, Bytes}
 use Rattle.hub_base.specs.Lines.{is_hex, case_field, default_field, select_fields, call_fields, step_fields, line}
 use Rattle.hub_base.specs.Text.{CaseFits, CallFits, StepFits, Fits}
 use Rattle.hub_base.proofs.Decimals.{digits-of}

@@ -15,8 +15,9 @@ use Rattle.hub_base.specs.Faults.{fault_number}
 use Rattle.hub_base.specs.Lines.{line}
 use Rattle.hub_base.specs.EventText.{OutcomeFits, WhatFits, EventFits, outcome_text, what_text, event_line}
 use Rattle.hub_base.specs.declared.value.Value.{Value}
-use Rattle.hub_base.specs.Value.{Content, IsContent, IsValue, content, number_in, value_field}
-use Rattle.hub_base.specs.Value.Content.{Num, Bytes}
+use Rattle.hub_base.specs.Content.{Content, IsContent}
+use Rattle.hub_base.specs.Value.{IsValue, content, number_in, value_field}
+use Rattle.hub_base.specs.Content.Content.{Num, Bytes}
 use Rattle.hub_story.specs.declared.told.Told.{Told}
 use Rattle.hub_picture.specs.declared.asked.Asked.{Asked}
 use Rattle.hub_picture.specs.declared.levels.Held.{Held}

@@ -25,8 +25,9 @@ use Rattle.hub_base.specs.Lines.{line, step_fields, call_fields}
 use Rattle.hub_base.specs.Reading.{head_lines}
 use Rattle.hub_base.specs.Runs.{events}
 use Rattle.hub_base.specs.Text.{IsText}
-use Rattle.hub_base.specs.Value.{Content, content, field_of, value_field}
-use Rattle.hub_base.specs.Value.Content.{Num, Bytes}
+use Rattle.hub_base.specs.Content.{Content}
+use Rattle.hub_base.specs.Value.{content, field_of, value_field}
+use Rattle.hub_base.specs.Content.Content.{Num, Bytes}
 use Rattle.hub_replay.specs.Replay.{event_lines}
 use Rattle.hub_replay.specs.Verify.{newlines_in}
 

@@ -17,8 +17,9 @@ use Rattle.hub_base.specs.declared.value.Value.{Value}
 use Rattle.hub_base.specs.Head.{has_content, has_value, has_case}
 use Rattle.hub_base.specs.Lines as lines
 use Rattle.hub_base.specs.Lines.Draft.{Sends, Receives}
-use Rattle.hub_base.specs.Value.{Content, content, saying}
-use Rattle.hub_base.specs.Value.Content.{Num, Bytes}
+use Rattle.hub_base.specs.Content.{Content}
+use Rattle.hub_base.specs.Value.{content, saying}
+use Rattle.hub_base.specs.Content.Content.{Num, Bytes}
 use Rattle.hub_scenario.specs.declared.fault.ScenarioFault.{ScenarioFault}
 use Rattle.hub_scenario.specs.declared.fault.ScenarioFault.TheVariants.{BadScript}
 use Rattle.hub_scenario.specs.declared.limits.TheConstants.{MOST_SCRIPT_STEPS}

@@ -6,8 +6,9 @@ use Rattle.hub_base.specs.declared.case.Case.TheVariants.{Send, Recv}
 use Rattle.hub_base.specs.declared.entry.Step.{Step}
 use Rattle.hub_base.specs.declared.entry.Step.TheVariants.{Make, Call, Close, Exit, Cancel}
 use Rattle.hub_base.specs.declared.head.Edition.TheVariants.{Two}
-use Rattle.hub_base.specs.Value.{Content, content}
-use Rattle.hub_base.specs.Value.Content.{Num, Bytes}
+use Rattle.hub_base.specs.Content.{Content}
+use Rattle.hub_base.specs.Value.{content}
+use Rattle.hub_base.specs.Content.Content.{Num, Bytes}
 use Rattle.hub_base.specs.Head.{has_content, has_case, is_of}
 
 two-content : (c : Content) → has_content Two c ≡ true

@@ -2,13 +2,14 @@
 //! the public one takes back.
 
 ghost use Rattle.std.specs.Prelude.{◌≡◌, ◌++◌, codes, decimal, OnOk, OnErr, IsOk, ◌↔◌, take, ◌≤◌, true};
-ghost use Rattle.hub_base.specs.EventText.{event_line};
+ghost use Rattle.hub_base.specs.EventText.{event_line, EventFits};
 ghost use Rattle.hub_base.specs.Lines.{case_field, select_fields, call_fields, step_fields, line};
 ghost use Rattle.std.specs.List.{flat_map};
 ghost use Rattle.std.specs.Vec.{vec_capacity};
 ghost use Rattle.hub_base.specs.Head.{IsHead, head_of, is_of};
 ghost use Rattle.hub_base.specs.Reading.{head_lines, header, text};
 ghost use Rattle.hub_base.specs.Writing.{Appends, spaced, spaced_cases, HasRoomFor};
+ghost use Rattle.hub_base.specs.Text.{Fits};
 ghost use Rattle.hub_base.specs.Value.{value_field};
 
 use crate::limits::{MOST_LINE, MOST_PROCS};
@@ -102,7 +103,9 @@ pub fn write_event(out: &mut Vec<u8>, event: &Event) -> Result<(), NoMemory>
     ensures err { OnErr result (out.new.items ≡ out.old.items) }
     ensures capacity { vec_capacity out.old ≤ vec_capacity out.new }
     ensures succeeds { HasRoomFor out.old (event_line event.now) → IsOk result }
+    ensures fits { EventFits event.now }
 {
+    event.parts_fit();
     let mut line = [0; MOST_LINE];
     let end = put_event(&mut line, 0, event);
     put(out, &line[..end])?;
@@ -191,7 +194,9 @@ pub fn write_entry(out: &mut Vec<u8>, edition: Edition, entry: &Entry) -> Result
     ensures err { OnErr result (out.new.items ≡ out.old.items) }
     ensures capacity { vec_capacity out.old ≤ vec_capacity out.new }
     ensures succeeds { HasRoomFor out.old (line entry.now) → IsOk result }
+    ensures fits { Fits edition entry.now }
 {
+    let _fits = entry.fits(edition);
     let before = out.len();
     let done = put_entry(out, entry);
     undo_if_refused(out, before, done)

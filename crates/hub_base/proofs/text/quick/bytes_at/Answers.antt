@@ -1,6 +1,6 @@
 use Rattle.std.proofs.Common.{◌≡◌, ◌<◌, ◌+◌, ◌*◌, ◌/◌, ◌%◌, ℕ, arith, set, subst}
 use Rattle.hub_base.specs.declared.limits.TheConstants.{MOST_VALUE_BYTES}
-use Rattle.hub_base.proofs.Quick.{Decoded, decoded-push, decoded-value, mark-stands}
+use Rattle.hub_base.proofs.Quick.{Decoded, decoded-push, decoded-stored, decoded-value, mark-stands}
 use Rattle.hub_base.proofs.text.quick.bytes_at.Goals as goal
 
 pub loop-end-init : goal.loop-end-init
@@ -22,6 +22,9 @@ loop-end-preserved c =
       so_far = subst (λ (b : ℕ). Decoded c.args.bytes.now c.args.start (so.len + 1) (set so.places so.len b) (so.end + 2)) whole pushed;
       place = omega (arith, so.invariant.place);
     }
+
+pub of_places-requires-clause-stored : goal.of_places-requires-clause-stored
+of_places-requires-clause-stored c = decoded-stored c.args.bytes.now c.args.start c.loop-end.len c.loop-end.places c.loop-end.end c.loop-end.invariant.so_far
 
 pub returns : goal.returns
 returns c edition has =

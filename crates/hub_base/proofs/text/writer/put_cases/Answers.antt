@@ -1,5 +1,4 @@
 use Rattle.std.proofs.Common.{refl, Err}
-use Rattle.hub_base.specs.declared.case.Case.TheVariants.{Recv}
 use Rattle.hub_base.proofs.Appending.{each-more, each-done, each-part, spaced_case, spaced-flat}
 use Rattle.hub_base.proofs.text.writer.put_cases.Goals as goal
 
@@ -11,10 +10,10 @@ pub returns-in-Err : goal.returns-in-Err
 returns-in-Err c =
     let cases = c.args.cases.now in
     let i = c.loop-case.case-index in
-    let here = each-more spaced_case cases i (Recv (record { 0 = 0 })) c.loop-case-test.true refl c.loop-case.invariant c.in-Err.ensures in
+    let here = each-more spaced_case cases i c.case-item.result c.loop-case-test.true c.case-item.is c.loop-case.invariant c.in-Err.ensures in
     rw (← spaced-flat cases) (each-part spaced_case cases i (Err c.in-Err.field-0) here refl)
 
 pub loop-case-preserved : goal.loop-case-preserved
 loop-case-preserved c =
-    each-more spaced_case c.args.cases.now c.loop-case.case-index (Recv (record { 0 = 0 })) c.loop-case-test.true refl c.loop-case.invariant
+    each-more spaced_case c.args.cases.now c.loop-case.case-index c.case-item.result c.loop-case-test.true c.case-item.is c.loop-case.invariant
     c.in-Ok.ensures

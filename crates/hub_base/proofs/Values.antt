@@ -1,5 +1,6 @@
 -- A value and what it says.
-use Rattle.std.proofs.Common.{◌≡◌, ℕ, suc, ◌+◌, ◌-◌, ◌≤◌, ◌<◌, Bool, true, false, List, [], ◌∷◌, ◌++◌, length, drop, take, replicate, Some, None, refl, ap, ◌∙◌, sym, subst, arith, add-one}
+use Rattle.std.proofs.Common.{◌≡◌, ℕ, suc, ◌+◌, ◌-◌, ◌≤◌, ◌<◌, true, List, [], ◌∷◌, ◌++◌, length, drop, replicate}
+use Rattle.std.proofs.Common.{Some, None, refl, ap, ◌∙◌, sym, subst, arith, add-one}
 use Rattle.std.proofs.lemmas.Bool.{and_parts, eqb-true, leb-true, le-leb}
 use Rattle.std.proofs.lemmas.Bool.Decides.{nat_tests}
 use Rattle.std.proofs.lemmas.Grind.{common_steps}
@@ -9,11 +10,12 @@ use Rattle.std.proofs.Math.Bool.{Bool-set}
 use Rattle.std.specs.Int.{to_le_bytes, w64}
 use Rattle.std.specs.List.{list_all}
 use Rattle.std.specs.Str.{bytes_eq}
-use Rattle.std.specs.Prelude.{◌==◌, ◌&&◌, nat_le, nat_lt, decimal, slice_index, if◌then◌else◌}
+use Rattle.std.specs.Prelude.{◌==◌, ◌&&◌, nat_le, nat_lt, decimal, if◌then◌else◌}
 use Rattle.hex.specs.Hex.{IsBytes, encode_lower}
 use Rattle.hub_base.specs.declared.limits.TheConstants.{GREATEST_VALUE, MOST_VALUE_BYTES}
 use Rattle.hub_base.specs.declared.value.Value.{Value}
-use Rattle.hub_base.specs.Content.{Content, padded, IsContent, is_content, is_stored, form_of, places_of, said, said-again, said-bytes, sayable, stored-so, stores}
+use Rattle.hub_base.specs.Content.{Content, padded, IsContent, is_content, is_stored, form_of, places_of, said, sayable}
+use Rattle.hub_base.specs.Content.{said-again, said-bytes, stored-so}
 use Rattle.hub_base.specs.Content.Content.{Num, Bytes}
 use Rattle.hub_base.specs.Value.{content, saying, value_of, bytes_of, IsValue, bytes_in, number_in, field_of}
 

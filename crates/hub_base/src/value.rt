@@ -27,7 +27,7 @@ impl Value {
     ghost use Rattle.hub_base.specs.Content.{padded};
     ghost use Rattle.hub_base.specs.Content.Content.{Num, Bytes};
     ghost use Rattle.hub_base.specs.Head.{has_value};
-    ghost use Rattle.hub_base.specs.Value.{IsValue, content, value_of, bytes_of, number_in, bytes_in};
+    ghost use Rattle.hub_base.specs.Value.{content, value_of, bytes_of, number_in, bytes_in};
 
     /// The value that is this number.
     #[inline(always)]

@@ -1,11 +1,13 @@
 -- The case that was chosen by its number can proceed, and stands at that number.
-use Rattle.std.proofs.Common.{◌≡◌, ℕ, ◌%◌, true, List, length, map, ap, ◌∙◌, sym, Option, None, Some, arith}
+use Rattle.std.proofs.Common.{◌≡◌, ℕ, zero, suc, ◌%◌, ◌≤◌, true, List, [], ◌∷◌, length, map, ap, ◌∙◌, sym, subst, Option, None, Some, arith}
 use Rattle.std.specs.Prelude.{slice_get}
 use Rattle.std.specs.Option.{option_map}
 use Rattle.std.proofs.lemmas.List.{length-map}
 use Rattle.std.proofs.lemmas.Option.{slice_get-map}
 use Rattle.hub_base.specs.declared.case.Case.{Case}
+use Rattle.hub_base.specs.Ready.{port_of}
 use Rattle.hub_laws.proofs.Ready.{chosen}
+use Rattle.hub_parts.specs.Keeps.{AllMade}
 use Rattle.hub_parts.specs.Records.{Lists}
 use Rattle.hub_core.specs.ListReady.{can_on, ready_on, number_of, chosen_on}
 
@@ -28,3 +30,9 @@ chosen_at b cases word index ready is h =
     let found = chosen (can_on b) 0 (word % length all) cases (index, named.0) named.1 in
     let place : index ≡ found.stands.0 = omega (arith, found.stands.1) in
     record { case = named.0; is = named.1; stands = ap (slice_get cases) place ∙ found.stands.2; can = found.ready }
+
+-- so it is on a port that was made, where all are
+pub made_at : (n : ℕ) (cases : List Case) (index : ℕ) (k : Case) → AllMade n cases → slice_get cases index ≡ Some k → (port_of k).0 ≤ n
+made_at n [] index k made h = cc
+made_at n (c ∷ cases) zero k made h = let same : c ≡ k = cc in subst (λ (x : Case). (port_of x).0 ≤ n) same made.0
+made_at n (c ∷ cases) (suc index) k made h = made_at n cases index k made.1 h

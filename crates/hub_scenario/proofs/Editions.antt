@@ -17,9 +17,9 @@ use Rattle.hub_base.specs.declared.value.Value.{Value}
 use Rattle.hub_base.specs.Head.{has_content, has_value, has_case}
 use Rattle.hub_base.specs.Lines as lines
 use Rattle.hub_base.specs.Lines.Draft.{Sends, Receives}
-use Rattle.hub_base.specs.Content.{Content}
-use Rattle.hub_base.specs.Value.{content, saying}
+use Rattle.hub_base.specs.Content.{Content, form_of, places_of, said}
 use Rattle.hub_base.specs.Content.Content.{Num, Bytes}
+use Rattle.hub_base.specs.Value.{content, saying, value_of}
 use Rattle.hub_scenario.specs.declared.fault.ScenarioFault.{ScenarioFault}
 use Rattle.hub_scenario.specs.declared.fault.ScenarioFault.TheVariants.{BadScript}
 use Rattle.hub_scenario.specs.declared.limits.TheConstants.{MOST_SCRIPT_STEPS}
@@ -40,11 +40,18 @@ two_reads : (r : Result Value Kind) → IfOk r (λ v. has_value Two v ≡ true)
 two_reads (Ok v) = two_has (content v)
 two_reads (Err k) = tt
 
--- the first reads numbers alone
-one_reads : (o : Option ℕ) → IfOk (lines.must BadNumber (option_map saying (option_map Num o))) (λ v. has_value One v ≡ true)
+-- the first every number
+number-has : (n : ℕ) → has_value One (value_of n) ≡ true
 unfolding saying
+number-has n = by (nat_le n GREATEST_VALUE) where
+  by : (b : Bool) → let c = if b then Num n else Num 0 in has_content One (said (form_of c) (places_of c)) ≡ true
+  by true = refl
+  by false = refl
+
+-- and it reads them alone
+one_reads : (o : Option ℕ) → IfOk (lines.must BadNumber (option_map saying (option_map Num o))) (λ v. has_value One v ≡ true)
 one_reads None = tt
-one_reads (Some n) = refl
+one_reads (Some n) = number-has n
 
 value-read : (ed : Edition) (bs : List ℕ) → IfOk (lines.value_read ed bs) (λ v. has_value ed v ≡ true)
 value-read One [] = tt

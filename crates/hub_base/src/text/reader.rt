@@ -364,14 +364,15 @@ pub fn one_reading()
         → IsText bytes h es → IsFaulty bytes k kind → ⊥ }
 {}
 
-/// A law: in one edition no spelling begins another, so a list of lines can be read in one way.
+/// A law: in one edition no spelling begins another, so a list of lines can be read in one way. Where an edition
+/// has an entry, it fits, read or not: `Entry::fits` and `write_entry` tell so.
 pub fn one_spelling()
     ensures { (edition : Edition) (e f : Entry) (x y : List ℕ)
         → Fits edition e → Fits edition f → line e ++ x ≡ line f ++ y → (e ≡ f) × (x ≡ y) }
 {}
 
 /// A law: no event's line begins another's, so a list of lines can be read in one way; and where the
-/// text of some events begins that of others, the events begin the others.
+/// text of some events begins that of others, the events begin the others. Each event fits: `write_event` tells so.
 pub fn one_event_spelling()
     ensures line { (e f : Event) (x y : List ℕ)
         → EventFits e → EventFits f → event_line e ++ x ≡ event_line f ++ y → (e ≡ f) × (x ≡ y) }

@@ -242,7 +242,7 @@ def check_files(crate):
         if name + '.rt' not in sources and not os.path.exists(os.path.join(ROOT, 'crates', name + '.rt')):
             if not name.startswith('src/') or name[len('src/'):] + '.rt' not in sources:
                 yield 'README of %s: no file %s' % (crate, name)
-    rows = set(re.findall(r'^\| `src/([\w/]+?)(?:\.rt)?`', text, re.M))
+    rows = set(re.findall(r'^(?:\| )?`src/([\w/]+?)(?:\.rt)?`[^|\n]* \|', text, re.M))
     for name in sorted(sources if rows else ()):
         if name not in ('lib.rt', 'main.rt') and name.removesuffix('.rt') not in rows:
             yield 'README of %s: its list of files lacks %s' % (crate, name)

@@ -18,14 +18,18 @@ counted pick entries count told = length (filter_map (moved_by pick entries) (fi
 pub loop-told-preserved : goal.loop-told-preserved
 loop-told-preserved c =
     let so = c.loop-told.invariant in
+    let port = c.args.port in
+    let entries = c.args.entries.now in
+    let count = c.args.count in
+    let here = c.told-item in
+    let below = c.loop-told-test.true in
     record {
       sent =
-          count-kept (moved_by (sent_on c.args.port) c.args.entries.now) (λ (t : Told). nat_lt t.by c.args.count) c.args.told.now c.loop-told.told-index
-          c.told-item.result _ _ c.loop-told-test.true so.sent (c.count_of.ensures.value ∙ ap (counted (sent_on c.args.port) c.args.entries.now c.args.count) c.told-item.is);
+          count-kept (moved_by (sent_on port) entries) (λ (t : Told). nat_lt t.by count) c.args.told.now c.loop-told.told-index here.result _ _ below
+          so.sent (c.count_of.ensures.value ∙ ap (counted (sent_on port) entries count) here.is);
       received =
-          count-kept (moved_by (got_on c.args.port) c.args.entries.now) (λ (t : Told). nat_lt t.by c.args.count) c.args.told.now c.loop-told.told-index
-          c.told-item.result _ _ c.loop-told-test.true so.received
-          (c.count_of-in-loop-told.ensures.value ∙ ap (counted (got_on c.args.port) c.args.entries.now c.args.count) c.told-item.is);
+          count-kept (moved_by (got_on port) entries) (λ (t : Told). nat_lt t.by count) c.args.told.now c.loop-told.told-index here.result _ _ below
+          so.received (c.count_of-in-loop-told.ensures.value ∙ ap (counted (got_on port) entries count) here.is);
       sent-few = omega (arith, so.sent-few, c.count_of.ensures.most);
       received-few = omega (arith, so.received-few, c.count_of-in-loop-told.ensures.most);
     }

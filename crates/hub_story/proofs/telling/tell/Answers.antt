@@ -15,11 +15,17 @@ tells calls place {e} {other} {asked} is gives =
 
 pub loop-event-preserved : goal.loop-event-preserved
 loop-event-preserved c =
+    let calls = c.args.calls.now in
+    let events = c.args.events.now in
+    let i = c.loop-event.event-index in
+    let here = c.event-item in
     elim c.match-asked_of.branch [
       | in-Some+in_ok-push w ↦
-          rw (w.told-is, w.in_ok-push.ensures.items) (kept-some (tells_of c.args.calls.now c.args.place) c.args.events.now c.loop-event.event-index
-          c.event-item.result _ _ _ c.loop-event-test.true (tells c.args.calls.now c.args.place c.event-item.is (sym c.asked_of.ensures ∙ w.in-Some.is)) c.loop-event.invariant)
+          rw (w.told-is, w.in_ok-push.ensures.items)
+          (kept-some (tells_of calls c.args.place) events i here.result _ _ _ c.loop-event-test.true
+          (tells calls c.args.place here.is (sym c.asked_of.ensures ∙ w.in-Some.is)) c.loop-event.invariant)
       | in_default w ↦
-          rw w.told-is (kept-none (tells_of c.args.calls.now c.args.place) c.args.events.now c.loop-event.event-index
-          c.event-item.result _ _ c.loop-event-test.true (tells c.args.calls.now c.args.place c.event-item.is (sym c.asked_of.ensures ∙ w.in_default.is)) c.loop-event.invariant)
+          rw w.told-is
+          (kept-none (tells_of calls c.args.place) events i here.result _ _ c.loop-event-test.true
+          (tells calls c.args.place here.is (sym c.asked_of.ensures ∙ w.in_default.is)) c.loop-event.invariant)
     ]

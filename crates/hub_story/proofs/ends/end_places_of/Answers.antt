@@ -1,11 +1,15 @@
-use Rattle.std.proofs.Common.{arith}
+use Rattle.std.proofs.Common.{ap, ◌∙◌, arith}
+use Rattle.hub_story.specs.Ends.{with_end_place}
 use Rattle.hub_story.proofs.Ending.{all-places, places-next}
 use Rattle.hub_story.proofs.ends.end_places_of.Goals as goal
 
 pub loop-place-preserved : goal.loop-place-preserved
 loop-place-preserved c =
-    places-next c.args.told.now c.loop-place.place _ c.args.count c.loop-place.ends.items c.note_end_place.new.ends.items c.loop-place-test.true
-    c.loop-place.invariant c.note_end_place.ensures
+    let place = c.loop-place.place in
+    let ends = c.loop-place.ends.items in
+    let here = c.index-told-place in
+    places-next c.args.told.now place here.result c.args.count ends c.note_end_place.new.ends.items c.loop-place-test.true c.loop-place.invariant
+    (c.note_end_place.ensures ∙ ap (with_end_place ends place) here.is)
 
 pub returns : goal.returns
 returns c =

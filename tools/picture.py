@@ -8,7 +8,7 @@ pictures of docs/pictures are drawn again and compared; each of them is drawn wi
 compiler; pictures of the longest journal, in which many wait, have to come soon, and a step costs as much however many wait, by
 valgrind where it is there, and the time of a whole picture grows with its steps and not with their square; and Chromium, where it
 is there, is asked on white and on dark paper whether all of a picture is in view, no text lies over another's box, over an arrow or
-beyond its own box, and all contrasts are at least 3.
+beyond its own box, no tip of an arc that tells who waits for whom lies under a box or a bar, and all contrasts are at least 3.
 The last line counts: 'N passed, M failed', and 'K skipped' for what is not there."""
 import collections
 import os
@@ -37,7 +37,7 @@ LAYERS = ["lane", "stall", "strip", "level", "whom", "arrow", "bar", "box"]
 FULL = 12
 # where lanes begin, and how much room a process has, how high its box is and how many steps a band has, by scale
 TOP, STRIP, HUES = 90, 18, 8
-SIZES = {14: (58, 30, 40), 36: (42, 20, 16), 60: (30, 14, 10)}
+SIZES = {14: (58, 36, 40), 36: (42, 20, 16), 60: (30, 14, 10)}
 
 Asked = collections.namedtuple("Asked", "place line cases ended")
 Told = collections.namedtuple("Told", "by event")
@@ -242,12 +242,14 @@ def mover_words(moved):
     return f"P{moved[0]} by step {moved[1] + 1}" if moved else "nobody"
 
 
-def whom(journal, step, side, own, sender, receiver):
-    """For whom a case waits: of a receive the last sender, of a send the last receiver, or else the other one, where the same step
-    stalled that one too."""
-    stalled = {pid for by, pid, _ in journal.stalls if by == step and pid != own}
-    both = (sender, receiver) if side == "r" else (receiver, sender)
-    return next((moved[0] for moved in both if moved and moved[0] in stalled), None)
+def whom(journal, step, case, own, sender, receiver):
+    """For whom a case waits, of those whom the same step stalled too: a receive for the last sender, unless that one waits to receive
+    there itself, or else for the last receiver; a send the other way round."""
+    stalled = {pid: cases_of(journal.lines[asked]) for by, pid, asked in journal.stalls if by == step and pid != own}
+    across, beside = (sender, receiver) if case[0] == "r" else (receiver, sender)
+    if across and across[0] in stalled and case not in stalled[across[0]]:
+        return across[0]
+    return beside[0] if beside and beside[0] in stalled else None
 
 
 def waits(journal, bands):
@@ -257,7 +259,7 @@ def waits(journal, bands):
             aim = "send on" if side == "s" else "receive from"
             moved = [mover(journal.moved[way][int(port)], step) for way in "sr"]
             pid = int(journal.lines[asked].split()[0])
-            other = whom(journal, step, side, pid, *moved)
+            other = whom(journal, step, (side, port), pid, *moved)
             row = (
                 f"P{pid} waits from step {asked + 1} to {aim} port {port}; "
                 f"the last to send there: {mover_words(moved[0])}, to receive: {mover_words(moved[1])}. "
@@ -278,7 +280,7 @@ def whoms(journal, bands):
     """Who waits for whom of those who were stalled."""
     for _, step, pid, other in waits(journal, bands):
         if other is not None and bands.has(step):
-            yield bands.band(step), f"P{pid} waits for P{other}"
+            yield bands.band(step), f"P{pid} waits for P{other}", step, pid, other
 
 
 def legend(journal, bands):
@@ -425,6 +427,16 @@ def arrows_agree(root, wanted, journal, bands):
         assert group.get("class").split() == words, title
 
 
+def whoms_agree(root, wanted, journal, bands):
+    """Each stands on the right of the column of its step, from the lane of the one who waits to above the box of the other; upwards
+    it goes out twice as far."""
+    columns = columns_of(root)
+    for (group, title), (band, _, step, pid, other) in zip(shapes(root, "whom"), by_band(wanted)):
+        x, y, to = columns[step] + bands.half, bands.y(band, pid, journal), bands.y(band, other, journal) - bands.size // 2 - 5
+        far = x + (24 if pid < other else 48)
+        assert numbers(group.find(SVG + "path")) == [x, y, far, y, far, to, x, to], title
+
+
 def marks_agree(root, journal):
     """Each box of a port has its mark; a select shows the cases that it offered, and of these the one that fired."""
     asked = journal.asked()
@@ -467,7 +479,7 @@ def places_agree(root):
 
 def same(shape, shown, wanted):
     """The titles of a shape in the order of bands, and in a band in that in which they are wanted."""
-    wanted = [title for _, title in by_band(wanted)]
+    wanted = [title for _, title, *_ in by_band(wanted)]
     shown = [title for _, title in shown]
     assert shown == wanted, f"{shape}: {len(shown)} shown, {len(wanted)} wanted; first other: " + next(
         (f"{one!r} for {other!r}" for one, other in zip(shown, wanted) if one != other), "one is the beginning of the other"
@@ -491,6 +503,7 @@ def check_picture(picture, journal, first, end):
     same("who waits for whom", shapes(root, "whom"), whoms(journal, bands))
     layers_agree(root)
     arrows_agree(root, arrows(journal, bands), journal, bands)
+    whoms_agree(root, whoms(journal, bands), journal, bands)
     marks_agree(root, journal)
     legend_agrees(root, legend(journal, bands))
     rows = [row.text for row in root.iter(SVG + "tspan") if row.get("class") == "waits"]
@@ -505,7 +518,8 @@ def check_picture(picture, journal, first, end):
 # ---- what a browser shows
 
 # each picture stands in a section of its own; what is wrong with it is written there: what is out of view, a text over another's
-# box, over an arrow or beyond its own box, and a contrast below 3, of a text with what it stands on and of an edge with the paper
+# box, over an arrow or beyond its own box, a tip of an arc under a box, a bar or a knob, and a contrast below 3, of a text with what
+# it stands on and of an edge with the paper
 PAGE = """<!doctype html><meta charset="ascii"><body style="margin:0">%s<script>
 const meets = (a, b) => a.x + 1 < b.x + b.width && b.x + 1 < a.x + a.width && a.y + 1 < b.y + b.height && b.y + 1 < a.y + a.height;
 const holds = (a, b) => a.x - 1 <= b.x && b.x + b.width <= a.x + a.width + 1 && a.y - 1 <= b.y && b.y + b.height <= a.y + a.height + 1;
@@ -541,6 +555,11 @@ for (const section of document.querySelectorAll("section")) {
         for (let along = 0; along < arrow.getTotalLength(); along += 3)
             for (const [text, box] of texts)
                 if (inside(arrow.getPointAtLength(along), box)) { faults.push(text.textContent + " lies over an arrow"); along = 1e9; break; }
+    const above = [...svg.querySelectorAll(":scope > .box rect, :scope > .bar rect, :scope > .bar circle")].map((shape) => shape.getBBox());
+    for (const arc of svg.querySelectorAll(":scope > .whom path")) {
+        const end = arc.getPointAtLength(arc.getTotalLength()), tip = { x: end.x - 2, y: end.y - 5, width: 11, height: 10 };
+        if (above.some((box) => meets(tip, box))) faults.push("the tip of " + arc.parentNode.textContent + " is hidden");
+    }
     section.replaceChildren("faults of " + section.id + ": " + faults.join("; "));
 }
 </script>"""

@@ -22,7 +22,7 @@ abbrev pub sizes_of : Scale → Sizes
 sizes_of scale = record {
   half = by_scale scale 40 16 10;
   lane = by_scale scale 58 42 30;
-  size = by_scale scale 30 20 14;
+  size = by_scale scale 36 20 14;
   thick = by_scale scale 5 4 3;
   steps = by_scale scale 14 36 60;
   tick = by_scale scale 1 1 5;
@@ -33,7 +33,7 @@ pub record AreBounded (s : Sizes) : Type 0 where
   pub half_least : 10 ≤ s.half
   pub half : s.half ≤ 40
   pub lane : s.lane ≤ 58
-  pub size : s.size ≤ 30
+  pub size : s.size ≤ 36
   pub thick : s.thick ≤ 5
   pub steps_least : 1 ≤ s.steps
   pub steps : s.steps ≤ 60

@@ -74,8 +74,8 @@ columns_row = refl
 pub lanes_row : map (y_of second) (0 ∷ 1 ∷ 2 ∷ 200 ∷ []) ≡ 380 ∷ 438 ∷ 496 ∷ 496 ∷ []
 lanes_row = refl
 
--- a box is 30 high: it is left below towards a later process, above towards an earlier one, and on the lane towards none
-pub sides_row : map (side_of second 1) (2 ∷ 0 ∷ 1 ∷ []) ≡ 453 ∷ 423 ∷ 438 ∷ []
+-- a box is 36 high: it is left below towards a later process, above towards an earlier one, and on the lane towards none
+pub sides_row : map (side_of second 1) (2 ∷ 0 ∷ 1 ∷ []) ≡ 456 ∷ 420 ∷ 438 ∷ []
 sides_row = refl
 
 -- in the first band lane 0 is at 148 and lane 1 at 206, and the columns of places 1, 3 and 4 at 180, 340 and 420
@@ -86,11 +86,11 @@ abbrev bodies : List Arrow → List (List ℕ)
 bodies arrows = map (λ a. arrow_body first_band a.passage.sent.told a.passage.received.told) arrows
 
 pub bodies_row : bodies (all_arrows (steps 0 5) through_a_buffer all_told)
-    ≡ codes "</title><path d=\"M180 163L340 191\"/></g>\n" ∷ codes "</title><path d=\"M340 163L420 191\"/></g>\n" ∷ []
+    ≡ codes "</title><path d=\"M180 166L340 188\"/></g>\n" ∷ codes "</title><path d=\"M340 166L420 188\"/></g>\n" ∷ []
 unfolding digits
 bodies_row = refl
 
-pub tick_row : tick_in second 14 ≡ codes "<text class=\"tick\" x=\"100\" y=\"350\">15</text>\n"
+pub tick_row : tick_in second 14 ≡ codes "<text class=\"tick\" x=\"100\" y=\"344\">15</text>\n"
 unfolding digits
 tick_row = refl
 

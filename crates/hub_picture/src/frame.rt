@@ -85,7 +85,7 @@ impl Scale {
         Sizes {
             half: self.of(40, 16, 10),
             lane: self.of(58, 42, 30),
-            size: self.of(30, 20, 14),
+            size: self.of(36, 20, 14),
             thick: self.of(5, 4, 3),
             steps: self.of(14, 36, 60),
             tick: self.of(1, 1, 5),

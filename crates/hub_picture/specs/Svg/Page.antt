@@ -109,7 +109,7 @@ back_text f lanes stalls = flat_map (lane_in f) lanes ++ ticks_to (f.steps.end -
 
 -- who waits for whom
 abbrev pub whoms_text : Frame → Drawing → List ℕ
-whoms_text f d = flat_map (whom_in f d.stalls.items) d.waiters.items
+whoms_text f d = flat_map (whom_in f d) d.waiters.items
 
 -- what stands below: the strips, and who waits for whom above them
 abbrev pub below_text : Frame → Drawing → List Held → List ℕ
@@ -135,7 +135,7 @@ foot_opening d = joined (codes "<text class=\"note\" x=\"12\" y=\"" ∷ decimal 
 
 -- the rows of those who wait, below what it is that they do
 abbrev pub rows_text : Drawing → List ℕ
-rows_text d = deadlock_text d.stalls.items ++ flat_map (waiter_text d.stalls.items) d.waiters.items
+rows_text d = deadlock_text d.stalls.items ++ flat_map (waiter_text d) d.waiters.items
 
 abbrev pub foot_text : Drawing → List ℕ
 foot_text d = foot_opening d ++ rows_text d ++ codes "</text>\n</svg>\n"

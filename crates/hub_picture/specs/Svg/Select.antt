@@ -40,7 +40,7 @@ abbrev pub select_opening : Frame → Asked → List ℕ
 select_opening f a =
     joined (
     codes "<text class=\"cases\" x=\"" ∷ decimal (x_of f a.place)
-    ∷ codes "\" y=\"" ∷ decimal (y_of f a.entry.pid.0 + 13)
+    ∷ codes "\" y=\"" ∷ decimal (y_of f a.entry.pid.0 + 15)
     ∷ codes "\">"
     ∷ [])
 

@@ -22,7 +22,7 @@ style =
     ∷ codes ".h7{color:#666600}\n"
     ∷ codes ".box rect,.bar rect{fill:#ddd;stroke:#6b6b6b;stroke-width:1.5}.bar circle{fill:#6b6b6b}\n"
     ∷ codes ".box.send rect{fill:currentColor;stroke:currentColor}.box.receive rect,.bar.receive rect{fill:#fff;stroke:currentColor}\n"
-    ∷ codes ".cases{font-size:8px;fill-opacity:.75}.fired{fill-opacity:1;font-weight:bold}\n"
+    ∷ codes ".cases{font-size:10px;fill-opacity:.75}.fired{fill-opacity:1;font-weight:bold}\n"
     ∷ codes ".box.port rect{stroke:currentColor;stroke-width:3}.box.send text{fill:#fff}\n"
     ∷ codes ".bar.send rect{fill:currentColor;fill-opacity:.38;stroke:currentColor}.bar.send circle{fill:currentColor}\n"
     ∷ codes ".bar.receive circle{fill:#fff;stroke:currentColor;stroke-width:2}.box.drained rect{stroke-dasharray:2 3}\n"

@@ -1,6 +1,7 @@
 -- Who waits in vain, and for what: a row for each case.
 use Rattle.std.specs.Prelude.{ℕ, ◌+◌, List, [], ◌∷◌, ◌++◌, codes, decimal}
 use Rattle.hub_story.specs.declared.told.Told.{Told}
+use Rattle.hub_picture.specs.declared.drawing.Drawing.{Drawing}
 use Rattle.hub_picture.specs.declared.waiters.Waiter.{Waiter}
 use Rattle.hub_picture.specs.Pieces.{aim_text, mover_text, joined}
 use Rattle.hub_picture.specs.Svg.Whom.{whom, whom_words}
@@ -17,11 +18,11 @@ waiter_words w =
     ∷ [])
 
 -- with for whom it waits, where everyone waits
-abbrev pub waiter_told : List Told → Waiter → List ℕ
-waiter_told stalls w = waiter_words w ++ whom_words (whom stalls w)
+abbrev pub waiter_told : Drawing → Waiter → List ℕ
+waiter_told d w = waiter_words w ++ whom_words (whom d w)
 
-abbrev pub waiter_text : List Told → Waiter → List ℕ
-waiter_text stalls w = codes "<tspan class=\"waits\" x=\"12\" dy=\"18\">" ++ waiter_told stalls w ++ codes "</tspan>\n"
+abbrev pub waiter_text : Drawing → Waiter → List ℕ
+waiter_text d w = codes "<tspan class=\"waits\" x=\"12\" dy=\"18\">" ++ waiter_told d w ++ codes "</tspan>\n"
 
 -- where anyone was stalled, what that is
 abbrev pub deadlock_text : List Told → List ℕ

@@ -47,7 +47,7 @@ fn put_below(
 {
     put_each(out, &frame, &drawing.strips)?;
     put_all(out, &frame, levels)?;
-    put_each(out, &Arcs(frame, &drawing.stalls), &drawing.waiters)
+    put_each(out, &Arcs(frame, drawing), &drawing.waiters)
 }
 
 /// Appends what stands before all.

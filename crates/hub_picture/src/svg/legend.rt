@@ -124,11 +124,11 @@ fn sign(mark: Mark) -> &'static [u8]
         Mark::Sends =>
             b"<g class=\"box send h1\"><rect x=\"0\" y=\"-7\" width=\"28\" height=\"14\"/><text x=\"14\" y=\"4\">s1</text></g>",
         Mark::Receives =>
-            b"<g class=\"box receive h2\"><rect x=\"0\" y=\"-7\" width=\"28\" height=\"14\"/><text x=\"14\" y=\"4\">r2</text></g>",
+            b"<g class=\"box receive h1\"><rect x=\"0\" y=\"-7\" width=\"28\" height=\"14\"/><text x=\"14\" y=\"4\">r1</text></g>",
         Mark::Makes =>
-            b"<g class=\"box port h3\"><rect x=\"0\" y=\"-7\" width=\"28\" height=\"14\"/><text x=\"14\" y=\"4\">m3</text></g>",
+            b"<g class=\"box port h1\"><rect x=\"0\" y=\"-7\" width=\"28\" height=\"14\"/><text x=\"14\" y=\"4\">m1</text></g>",
         Mark::Closes =>
-            b"<g class=\"box port h4\"><rect x=\"0\" y=\"-7\" width=\"28\" height=\"14\"/><text x=\"14\" y=\"4\">c4</text></g>",
+            b"<g class=\"box port h1\"><rect x=\"0\" y=\"-7\" width=\"28\" height=\"14\"/><text x=\"14\" y=\"4\">c1</text></g>",
         Mark::Selects =>
             b"<g class=\"box plain\"><rect x=\"0\" y=\"-7\" width=\"28\" height=\"14\"/><text x=\"14\" y=\"4\">?</text></g>",
         Mark::Defaults =>
@@ -138,15 +138,15 @@ fn sign(mark: Mark) -> &'static [u8]
         Mark::Refused =>
             b"<g class=\"box refused\"><rect x=\"0\" y=\"-7\" width=\"28\" height=\"14\"/><text x=\"14\" y=\"4\">f3</text></g>",
         Mark::Open =>
-            b"<g class=\"box receive h2 open\"><rect x=\"0\" y=\"-7\" width=\"28\" height=\"14\"/><text x=\"14\" y=\"4\">r2</text></g>",
+            b"<g class=\"box receive h1 open\"><rect x=\"0\" y=\"-7\" width=\"28\" height=\"14\"/><text x=\"14\" y=\"4\">r1</text></g>",
         Mark::Drained =>
-            b"<g class=\"box receive h2 drained\"><rect x=\"0\" y=\"-7\" width=\"28\" height=\"14\"/><text x=\"14\" y=\"4\">r2</text></g>",
+            b"<g class=\"box receive h1 drained\"><rect x=\"0\" y=\"-7\" width=\"28\" height=\"14\"/><text x=\"14\" y=\"4\">r1</text></g>",
         Mark::Cancelled =>
-            b"<g class=\"box receive h2 cancelled\"><rect x=\"0\" y=\"-7\" width=\"28\" height=\"14\"/><text x=\"14\" y=\"4\">r2</text></g>",
+            b"<g class=\"box receive h1 cancelled\"><rect x=\"0\" y=\"-7\" width=\"28\" height=\"14\"/><text x=\"14\" y=\"4\">r1</text></g>",
         Mark::Trouble =>
-            b"<g class=\"box receive h2 trouble\"><rect x=\"0\" y=\"-7\" width=\"28\" height=\"14\"/><text x=\"14\" y=\"4\">r2</text></g>",
+            b"<g class=\"box receive h1 trouble\"><rect x=\"0\" y=\"-7\" width=\"28\" height=\"14\"/><text x=\"14\" y=\"4\">r1</text></g>",
         Mark::Bars =>
-            b"<g class=\"bar receive h2\"><rect x=\"0\" y=\"-4\" width=\"24\" height=\"8\"/><circle cx=\"24\" cy=\"0\" r=\"4\"/></g>",
+            b"<g class=\"bar receive h1\"><rect x=\"0\" y=\"-4\" width=\"24\" height=\"8\"/><circle cx=\"24\" cy=\"0\" r=\"4\"/></g>",
         Mark::Arrows => b"<g class=\"arrow h1\"><path d=\"M4 -5L26 5\"/></g>",
         Mark::Stalls =>
             b"<g class=\"stall\"><rect x=\"0\" y=\"-7\" width=\"28\" height=\"14\"/></g>",

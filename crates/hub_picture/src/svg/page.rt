@@ -212,7 +212,7 @@ fn put_rows(out: &mut Vec<u8>, drawing: &Drawing) -> Result<(), AllocError>
     ensures { Appends out.old out.new (rows_text drawing.now) result }
 {
     put_deadlock(out, &drawing.stalls)?;
-    put_each(out, &Rows(&drawing.stalls), &drawing.waiters)
+    put_each(out, &Rows(drawing), &drawing.waiters)
 }
 
 /// Appends its foot, which tells who waits in vain.

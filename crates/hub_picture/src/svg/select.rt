@@ -88,7 +88,7 @@ fn put_opening(out: &mut Vec<u8>, frame: Frame, asked: &Asked) -> Result<(), All
     put_filled(
         out,
         &[b"<text class=\"cases\" x=\"", b"\" y=\"", b"\">"],
-        &[frame.x(asked.place), frame.y(asked.entry.pid.0) + 13],
+        &[frame.x(asked.place), frame.y(asked.entry.pid.0) + 15],
     )
 }
 

@@ -23,7 +23,7 @@ const STYLE: &[u8] =
 .h7{color:#666600}\n\
 .box rect,.bar rect{fill:#ddd;stroke:#6b6b6b;stroke-width:1.5}.bar circle{fill:#6b6b6b}\n\
 .box.send rect{fill:currentColor;stroke:currentColor}.box.receive rect,.bar.receive rect{fill:#fff;stroke:currentColor}\n\
-.cases{font-size:8px;fill-opacity:.75}.fired{fill-opacity:1;font-weight:bold}\n\
+.cases{font-size:10px;fill-opacity:.75}.fired{fill-opacity:1;font-weight:bold}\n\
 .box.port rect{stroke:currentColor;stroke-width:3}.box.send text{fill:#fff}\n\
 .bar.send rect{fill:currentColor;fill-opacity:.38;stroke:currentColor}.bar.send circle{fill:currentColor}\n\
 .bar.receive circle{fill:#fff;stroke:currentColor;stroke-width:2}.box.drained rect{stroke-dasharray:2 3}\n\

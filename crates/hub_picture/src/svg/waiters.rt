@@ -4,10 +4,10 @@ ghost use Rattle.hub_picture.specs.Pieces.{Appends};
 ghost use Rattle.hub_picture.specs.Svg.Waiters.{deadlock_text, waiter_text, waiter_told, waiter_words};
 
 use super::whom::{put_whom_words, whom};
-use crate::Waiter;
 use crate::frame::number_of;
 use crate::pen::Pen;
 use crate::piece::{Piece, put, put_pieces};
+use crate::{Drawing, Waiter};
 use hub_story::Told;
 use std::alloc::AllocError;
 
@@ -33,11 +33,11 @@ fn put_words(out: &mut Vec<u8>, waiter: &Waiter) -> Result<(), AllocError>
 }
 
 /// Appends it with for whom it waits, where everyone waits.
-fn put_told(out: &mut Vec<u8>, stalls: &[Told], waiter: &Waiter) -> Result<(), AllocError>
-    ensures { Appends out.old out.new (waiter_told stalls.now waiter.now) result }
+fn put_told(out: &mut Vec<u8>, drawing: &Drawing, waiter: &Waiter) -> Result<(), AllocError>
+    ensures { Appends out.old out.new (waiter_told drawing.now waiter.now) result }
 {
     put_words(out, waiter)?;
-    put_whom_words(out, whom(stalls, waiter))
+    put_whom_words(out, whom(drawing, waiter))
 }
 
 /// Appends, where anyone was stalled, what that is.
@@ -53,9 +53,9 @@ pub(crate) fn put_deadlock(out: &mut Vec<u8>, stalls: &[Told]) -> Result<(), All
     }
 }
 
-/// The rows of those who wait, by who was stalled.
+/// The rows of those who wait, of this drawing.
 #[derive(Clone, Copy)]
-pub(crate) struct Rows<'a>(pub &'a [Told]);
+pub(crate) struct Rows<'a>(pub &'a Drawing);
 
 impl Pen<Waiter> for Rows<'_> {
     ghost text = { λ pen. waiter_text pen.0.now };

@@ -3,12 +3,13 @@
 ghost use Rattle.std.specs.Prelude.{◌≡◌, ◌≤◌};
 ghost use Rattle.std.specs.List.{list_any};
 ghost use Rattle.hub_picture.specs.Pieces.{Appends};
-ghost use Rattle.hub_picture.specs.Svg.Whom.{field_side, if_other, of_case, stalls_it, whom, whom_arc, whom_in, whom_text, whom_words};
+ghost use Rattle.hub_picture.specs.Svg.Whom.{field_end, if_across, if_other, is_beside, last_across, last_beside, pulled, stalls_it, tip_of};
+ghost use Rattle.hub_picture.specs.Svg.Whom.{waits_beside, whom, whom_arc, whom_in, whom_text, whom_words};
 
-use crate::Waiter;
 use crate::frame::Frame;
 use crate::pen::Pen;
 use crate::piece::put_filled;
+use crate::{Drawing, Waiter};
 use hub_base::Case;
 use hub_story::Told;
 use std::alloc::AllocError;
@@ -32,7 +33,7 @@ fn is_stalled(stalls: &[Told], step: u32, pid: u8) -> bool
     false
 }
 
-/// Whoever moved a value, where the same step stalled it, and it is not the one who waits.
+/// The process that moved a value, where the same step stalled it, and it is not the one that waits.
 fn if_other(stalls: &[Told], own: &Told, mover: Option<Told>) -> Option<u8>
     ensures { result ≡ if_other stalls.now own.now mover }
 {
@@ -49,25 +50,73 @@ fn if_other(stalls: &[Told], own: &Told, mover: Option<Told>) -> Option<u8>
     }
 }
 
-/// The first of these, or else the other one.
-fn of_case(case: Case, sender: Option<u8>, receiver: Option<u8>) -> Option<u8>
-    ensures { result ≡ of_case case sender receiver }
+/// Whether both send on one port, or both receive from it.
+fn is_beside(case: Case, other: Case) -> bool
+    ensures { result ≡ is_beside case other }
 {
     match case {
-        Case::Recv(_port) => sender.or(receiver),
-        Case::Send(_port, _value) => receiver.or(sender),
+        Case::Recv(port) => matches!(other, Case::Recv(same) if same.0 == port.0),
+        Case::Send(port, _) => matches!(other, Case::Send(same, _) if same.0 == port.0),
+    }
+}
+
+/// Whether this process waits beside it, and the same step stalled both.
+fn waits_beside(own: &Waiter, pid: u8, waiter: &Waiter) -> bool
+    ensures { result ≡ waits_beside own.now pid waiter.now }
+{
+    stalls_it(own.told.by, pid, &waiter.told) && is_beside(own.case, waiter.case)
+}
+
+/// Whether one of these waits does.
+fn any_beside(waiters: &[Waiter], own: &Waiter, pid: u8) -> bool
+    ensures { result ≡ list_any (waits_beside own.now pid) waiters.now }
+{
+    for waiter in waiters {
+        if waits_beside(own, pid, waiter) {
+            return true;
+        }
+    }
+    false
+}
+
+/// That process, unless it waits beside.
+fn if_across(waiters: &[Waiter], own: &Waiter, pid: Option<u8>) -> Option<u8>
+    ensures { result ≡ if_across waiters.now own.now pid }
+{
+    match pid {
+        Some(pid) if any_beside(waiters, own, pid) => None,
+        _ => pid,
+    }
+}
+
+/// The last on the other side of the port.
+fn last_across(waiter: &Waiter) -> Option<Told>
+    ensures { result ≡ last_across waiter.now.case waiter.now.sender waiter.now.receiver }
+{
+    match waiter.case {
+        Case::Recv(_port) => waiter.sender,
+        Case::Send(_port, _value) => waiter.receiver,
+    }
+}
+
+/// The last on its own side.
+fn last_beside(waiter: &Waiter) -> Option<Told>
+    ensures { result ≡ last_beside waiter.now.case waiter.now.sender waiter.now.receiver }
+{
+    match waiter.case {
+        Case::Recv(_port) => waiter.receiver,
+        Case::Send(_port, _value) => waiter.sender,
     }
 }
 
 /// For whom it waits, where that one waits too.
-pub(crate) fn whom(stalls: &[Told], waiter: &Waiter) -> Option<u8>
-    ensures { result ≡ whom stalls.now waiter.now }
+pub(crate) fn whom(drawing: &Drawing, waiter: &Waiter) -> Option<u8>
+    ensures { result ≡ whom drawing.now waiter.now }
 {
-    of_case(
-        waiter.case,
-        if_other(stalls, &waiter.told, waiter.sender),
-        if_other(stalls, &waiter.told, waiter.receiver),
-    )
+    let stalls = &drawing.stalls;
+    let across = if_other(stalls, &waiter.told, last_across(waiter));
+    let beside = if_other(stalls, &waiter.told, last_beside(waiter));
+    if_across(&drawing.waiters, waiter, across).or(beside)
 }
 
 /// Appends it in words.
@@ -80,27 +129,37 @@ pub(crate) fn put_whom_words(out: &mut Vec<u8>, whom: Option<u8>) -> Result<(), 
     }
 }
 
-/// The side of the shaded field at which an arc stands, and so far beyond it.
-fn field_side(frame: Frame, told: &Told, other: u8, more: u64) -> u64
-    requires few { more ≤ 100 }
-    ensures { result ≡ field_side frame told.now other more }
+/// Where the shaded fields end, on the right of which an arc stands.
+fn field_end(frame: Frame, told: &Told) -> u64
+    ensures value { result ≡ field_end frame told.now }
+    ensures most { result ≤ 2199023255552 }
 {
-    let (x, half) = (frame.x(told.by), frame.scale.sizes().half);
-    if told.event.pid.0 < other {
-        x + half + more
-    } else {
-        x.saturating_sub(half).saturating_sub(more)
-    }
+    frame.x(told.by) + frame.scale.sizes().half
+}
+
+/// How far the ends of an arc are pulled out: upwards twice as far, so that it meets no arc that goes down.
+fn pulled(frame: Frame, told: &Told, other: u8) -> u64
+    ensures { result ≡ pulled frame told.now other }
+{
+    let far = if told.event.pid.0 < other { 24 } else { 48 };
+    field_end(frame, told) + far
+}
+
+/// The height of its tip: above the box of the other, where no box and no bar is.
+fn tip_of(frame: Frame, other: u8) -> u64
+    ensures { result ≡ tip_of frame other }
+{
+    frame.y(other) - frame.scale.sizes().size / 2 - 5
 }
 
 /// Appends an arc from the lane of the one who waits to the lane of the other.
 fn put_arc(out: &mut Vec<u8>, frame: Frame, told: &Told, other: u8) -> Result<(), AllocError>
     ensures { Appends out.old out.new (whom_arc frame told.now other) result }
 {
-    let near = field_side(frame, told, other, 0);
-    let far = field_side(frame, told, other, 24);
+    let near = field_end(frame, told);
+    let far = pulled(frame, told, other);
     let from = frame.y(told.event.pid.0);
-    let to = frame.y(other);
+    let to = tip_of(frame, other);
     put_filled(
         out,
         &[
@@ -146,9 +205,9 @@ fn put_whom(
     }
 }
 
-/// Who waits for whom of these who were stalled, in the band.
+/// Who waits for whom of a drawing, in the band.
 #[derive(Clone, Copy)]
-pub(crate) struct Arcs<'a>(pub Frame, pub &'a [Told]);
+pub(crate) struct Arcs<'a>(pub Frame, pub &'a Drawing);
 
 impl Pen<Waiter> for Arcs<'_> {
     ghost text = { λ pen. whom_in pen.0 pen.1.now };

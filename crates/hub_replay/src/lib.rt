@@ -6,7 +6,7 @@
 //! in `specs/Verify`.
 #![tactic(auto)]
 
-mod arguments;
+mod args;
 mod comparison;
 mod device;
 mod fault;
@@ -16,7 +16,7 @@ mod replayer;
 mod steps;
 mod verifier;
 
-pub use arguments::arguments;
+pub use args::arguments;
 pub use device::{Counted, Sink, Source};
 pub use fault::{ReplayFault, SourceFault, WriteFailed};
 pub use fault_lines::{ProgramFault, tell_fault, write_pieces};

@@ -28,24 +28,29 @@ use Rattle.hub_chapters.proofs.Stalling.{stalls_if}
 abbrev pub beside : State → List Pid → List Channel → State
 beside s gone channels = record s { gone = gone; channels = channels }
 
+-- no channel has received more than it sent
 abbrev Fine : List Channel → Type 0
 Fine cs = (p : Port) (c : Channel) → at cs p ≡ Some c → c.received ≤ length c.sent
 
+-- the state and the one beside it are alike, and the channels of both are sound
 pub record Twin (s : State) (k : List Pid) (ds : List Channel) : Type 0 where
   pub gone : (q : ℕ) → has_gone s q ≡ has_gone (beside s k ds) q
   pub channels : map afresh s.channels ≡ map afresh ds
   pub fine : Fine s.channels
   pub fine_too : Fine ds
 
+-- two steps tell the same events, and lead to states alike
 pub record SameChange (c d : Change) : Type 0 where
   pub events : c.events ≡ d.events
   pub alike : Alike c.state d.state
 
+-- and so do two cases that fire
 pub record SameFiring (f g : Firing) : Type 0 where
   pub outcome : f.outcome ≡ g.outcome
   pub ended : f.ended ≡ g.ended
   pub alike : Alike f.state g.state
 
+-- or neither fires
 abbrev pub SameFires : Option Firing → Option Firing → Type 0
 SameFires None None = Unit
 SameFires (Some f) (Some g) = SameFiring f g
@@ -244,8 +249,7 @@ all_wait-like s t a =
     (λ q. ap (λ b. b || is_waiting t q) (a.gone q)))
 
 stalled-like : (c d : Change) (b : Bool) → SameChange c d →
-    SameChange (stalls_if b c)
-    (stalls_if b d)
+    SameChange (stalls_if b c) (stalls_if b d)
 stalled-like c d true x = record {
   events = ap (λ es. es ++ filter_map (λ call. Some (tells call.pid what.Stalled)) c.state.parked) x.events
       ∙ ap (λ (calls : List OpenCall). d.events ++ filter_map (λ call. Some (tells call.pid what.Stalled)) calls) x.alike.parked;
@@ -255,8 +259,7 @@ stalled-like c d false x = x
 
 stalls-like : (c d : Change) → SameChange c d → SameChange (stalls c) (stalls d)
 stalls-like c d x =
-    subst (λ (b : Bool). SameChange (stalls c)
-    (stalls_if b d))
+    subst (λ (b : Bool). SameChange (stalls c) (stalls_if b d))
     (all_wait-like c.state d.state x.alike) (stalled-like c d (all_wait c.state) x)
 
 -- Faults

@@ -1,4 +1,4 @@
-use Rattle.std.proofs.Common.{◌∙◌, sym, subst, ap, slice_get}
+use Rattle.std.proofs.Common.{◌∙◌, sym}
 use Rattle.std.proofs.lemmas.Option.{slice_get-map}
 use Rattle.hub_core.proofs.machine_state.MachineState.call_at.Goals as goal
 

@@ -2,7 +2,6 @@ use Rattle.std.proofs.Common.{◌≡◌, ◌∙◌, ap, sym, arith, slice_get, S
 use Rattle.std.specs.Option.{option_map}
 use Rattle.hub_parts.specs.Records.{Ticketed}
 use Rattle.hub_parts.specs.Lists.{shown_call}
-use Rattle.hub_parts.specs.Tickets.{call_of}
 use Rattle.hub_parts.proofs.Opened.{placed_below, placed_call, place_read}
 use Rattle.hub_parts.specs.declared.tickets.LastCall.{LastCall}
 use Rattle.hub_parts.proofs.tickets.Tickets.at.Goals as goal

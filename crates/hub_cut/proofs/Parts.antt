@@ -1,23 +1,19 @@
 -- A checkpoint that is written part by part.
 use Rattle.hub_laws.proofs.Prelude.{◌≡◌, Bool, true, false, List, [], ◌∷◌, ◌++◌, refl, ap, ◌∙◌, sym, Option, Some, None, ℕ, zero, suc, ◌+◌, ◌≤◌, ◌<◌}
-use Rattle.hub_laws.proofs.Prelude.{◌==◌, ◌-◌, cond, length, arith, map, take, filter, slice_get, option_map_or, add-one, append_assoc, append-nil}
-use Rattle.hub_laws.proofs.Prelude.{get_or}
-use Rattle.hub_laws.proofs.Prelude.{and_parts, Entry, Step, Make, Call, Close, Exit, Cancel, Port, Channel, State, OpenCall, channel_at, buffer_of}
-use Rattle.hub_laws.proofs.Prelude.{has_gone, map-append}
-use Rattle.hub_laws.proofs.Prelude.{option_map, length-drop, lt-ltb, Pid, Head, refusal, is_waiting, opening, state, MOST_PORTS}
+use Rattle.hub_laws.proofs.Prelude.{◌==◌, ◌-◌, cond, length, arith, map, take, filter, slice_get, option_map_or, add-one, append_assoc, append-nil, get_or}
+use Rattle.hub_laws.proofs.Prelude.{and_parts, has_gone, map-append, Entry, Port, Channel, State, OpenCall, channel_at, buffer_of}
+use Rattle.hub_laws.proofs.Prelude.{lt-ltb, Pid, Head, refusal, is_waiting, opening, state, MOST_PORTS}
 use Rattle.std.specs.List.{range_with_len, list_all}
-use Rattle.hub_base.specs.declared.counts.Look.{Look}
 use Rattle.hub_base.specs.declared.fault.Fault.TheVariants as fault
 use Rattle.hub_laws.proofs.Account.{procs-of}
 use Rattle.hub_laws.proofs.Lasting.{head-after, ports-law}
 use Rattle.hub_laws.proofs.Rules.{state-sound}
 use Rattle.hub_laws.proofs.States.{count-law}
-use Rattle.hub_core.specs.Looks.{value_at, look_at, counts_of}
-use Rattle.hub_core.specs.HubView.{places_after, HubView, state_of}
+use Rattle.hub_core.specs.Looks.{value_at}
+use Rattle.hub_core.specs.HubView.{HubView, state_of}
 use Rattle.hub_chapters.proofs.Checkpoints.{checkpoint-law}
 use Rattle.hub_chapters.proofs.Chapters.{runs-on}
 use Rattle.hub_cut.specs.Cut.{IsCut, hub_with}
-use Rattle.hub_base.specs.Lines.{by}
 use Rattle.hub_base.specs.Notation.{exit}
 use Rattle.hub_chapters.specs.Checkpoint.{checkpoint, send_again, port_again, ports_again, call_again}
 use Rattle.hub_cut.specs.Written.{is_gone, one_of, sent_entries, port_entries}
@@ -88,59 +84,15 @@ take_whole zero (x ∷ xs) h = absurd (omega arith)
 take_whole (suc n) [] h = refl
 take_whole (suc n) (x ∷ xs) h = ap (λ ys. x ∷ ys) (take_whole n xs (omega arith))
 
--- Entries that a hub makes
-
-pub no_places : (step : Step) → places_after step 0 ≡ 0
-no_places (Make cap) = refl
-no_places (Call cases default word) = refl
-no_places (Close p) = refl
-no_places Exit = refl
-no_places (Cancel q) = refl
-
+-- what holds of all of a list holds at each place
 pub all_at : {A : Type 0} (f : A → Bool) (xs : List A) (i : ℕ) (x : A) → list_all f xs ≡ true → i < length xs → x ≡ get_or xs i x → f x ≡ true
 all_at f [] i x a h e = absurd (omega arith)
 all_at f (y ∷ ys) zero x a h e = ap f e ∙ (and_parts (f y) (list_all f ys) a).0
 all_at f (y ∷ ys) (suc i) x a h e = all_at f ys i x (and_parts (f y) (list_all f ys) a).1 (omega arith) e
 
-take_at : {A : Type 0} (xs : List A) (i : ℕ) (x : A) → i < length xs → x ≡ get_or xs i x → take (suc i) xs ≡ take i xs ++ x ∷ []
-take_at [] i x h e = absurd (omega arith)
-take_at (y ∷ ys) zero x h e = ap (λ z. z ∷ []) (sym e)
-take_at (y ∷ ys) (suc i) x h e = ap (λ zs. y ∷ zs) (take_at ys i x (omega arith) e)
-
-pub take_item : {A : Type 0} (xs : List A) (i : ℕ) (x : A) → i < length xs → x ≡ get_or xs i x → take (i + 1) xs ≡ take i xs ++ x ∷ []
-take_item xs i x h e = ap (λ k. take k xs) (add-one i) ∙ take_at xs i x h e
-
 -- what was written, and a part more
 pub grown : (base old new part next whole : List Entry) → new ≡ old ++ next → old ≡ base ++ part → whole ≡ part ++ next → new ≡ base ++ whole
 grown base old new part next whole a b c = a ∙ ap (λ xs. xs ++ next) b ∙ append_assoc base part next ∙ ap (λ xs. base ++ xs) (sym c)
-
--- A port, from what a look tells
-
-port_by : (s : State) (p : Port) (look : Look) (o : Option Channel) → o ≡ channel_at s p →
-    option_map (λ c. record { cap = c.cap; counts = counts_of c }) o ≡ Some look →
-    option_map_or (port_again p.0) o [] ≡ by 0 (Make look.cap) ∷ option_map_or (λ c. map (send_again p.0) (take look.counts.len (buffer_of c))) o []
-    ++ (cond look.counts.closed (by 0 (Close p) ∷ []) [])
-port_by s p look None is e = absurd (let g : ⊥ = cc in g)
-port_by s p look (Some c) is e =
-    let same : look ≡ record { cap = c.cap; counts = counts_of c } = sym cc in
-    let whole : take (length c.sent - c.received) (buffer_of c) ≡ buffer_of c =
-    take_whole (length c.sent - c.received) (buffer_of c) (let l = length-drop c.received c.sent in omega arith) in
-    rw same (ap (λ vs. by 0 (Make c.cap) ∷ map (send_again p.0) vs ++ (cond c.closed (by 0 (Close p) ∷ []) [])) (sym whole))
-
-pub port_parts : (s : State) (p : Port) (look : Look) → look_at s p ≡ Some look →
-    port_entries s p ≡ by 0 (Make look.cap) ∷ sent_entries s p look.counts.len ++ (cond look.counts.closed (by 0 (Close p) ∷ []) [])
-port_parts s p look e = port_by s p look (channel_at s p) refl e
-
-look_of_channel : Channel → Look
-look_of_channel c = record { cap = c.cap; counts = counts_of c }
-
-none_by : (p : Port) (o : Option Channel) → option_map look_of_channel o ≡ None → option_map_or (port_again p.0) o [] ≡ []
-none_by p None e = refl
-none_by p (Some c) e = absurd (let g : ⊥ = cc in g)
-
-pub port_none : (s : State) (p : Port) → look_at s p ≡ None → port_entries s p ≡ []
-unfolding look_of_channel
-port_none s p e = none_by p (channel_at s p) e
 
 -- Who has gone, from a refusal
 

@@ -27,14 +27,20 @@ pub(crate) enum Ask {
     Exit,
 }
 
-/// What a process is told.
+/// What a process is told, by the numbers of ports, of cases and of values, since a constant table holds no `Value`.
 #[derive(Clone, Copy)]
 pub(crate) enum Told {
-    Is(What),
-    /// This case of its call came to this.
-    Fired(u8, Outcome),
-    /// This case of its call received this number.
+    Made(u16),
+    Sent(u8),
     Got(u8, u64),
+    Drained(u8),
+    Closed(u8),
+    Default,
+    Done,
+    Parked,
+    Stalled,
+    Fault(Fault),
+    Cancelled,
 }
 
 fn call(first: Case, second: Option<Case>) -> Step {
@@ -67,14 +73,23 @@ pub(crate) fn entry_of(pid: u8, asked: Ask) -> Entry {
     }
 }
 
+fn fired(case: u8, outcome: Outcome) -> What {
+    What::Fired { case, outcome }
+}
+
 pub(crate) fn event_of(pid: u8, told: Told) -> Event {
     let what = match told {
-        Told::Is(what) => what,
-        Told::Fired(case, outcome) => What::Fired { case, outcome },
-        Told::Got(case, number) => What::Fired {
-            case,
-            outcome: Outcome::Got(Value::num(number)),
-        },
+        Told::Made(port) => What::Made(Port(port)),
+        Told::Sent(case) => fired(case, Outcome::Sent),
+        Told::Got(case, number) => fired(case, Outcome::Got(Value::num(number))),
+        Told::Drained(case) => fired(case, Outcome::Drained),
+        Told::Closed(case) => fired(case, Outcome::Closed),
+        Told::Default => What::Default,
+        Told::Done => What::Done,
+        Told::Parked => What::Parked,
+        Told::Stalled => What::Stalled,
+        Told::Fault(fault) => What::Fault(fault),
+        Told::Cancelled => What::Cancelled,
     };
     Event {
         pid: Pid(pid),
@@ -82,17 +97,17 @@ pub(crate) fn event_of(pid: u8, told: Told) -> Event {
     }
 }
 
-pub(crate) const MADE: Told = Told::Is(What::Made(Port(1)));
+pub(crate) const MADE: Told = Told::Made(1);
 
-pub(crate) const MADE_SECOND: Told = Told::Is(What::Made(Port(2)));
+pub(crate) const MADE_SECOND: Told = Told::Made(2);
 
-pub(crate) const SENT: Told = Told::Fired(0, Outcome::Sent);
+pub(crate) const SENT: Told = Told::Sent(0);
 
-pub(crate) const DONE: Told = Told::Is(What::Done);
+pub(crate) const DONE: Told = Told::Done;
 
-pub(crate) const PARKED: Told = Told::Is(What::Parked);
+pub(crate) const PARKED: Told = Told::Parked;
 
-pub(crate) const STALLED: Told = Told::Is(What::Stalled);
+pub(crate) const STALLED: Told = Told::Stalled;
 
 /// These are told, in order.
 pub(crate) fn are_told(rt: &impl Abort, events: &[Event], told: &[(u8, Told)]) {

@@ -3,7 +3,7 @@
 use super::entries::{Ask, DONE, MADE, MADE_SECOND, PARKED, SENT, STALLED, Told, first};
 use super::rows::{Row, entries_of, tell};
 use crate::compare::same;
-use hub_base::{Counts, Edition, Entry, Fault, Head, Look, Outcome, What};
+use hub_base::{Counts, Edition, Entry, Fault, Head, Look};
 use hub_core::{ListFault, run};
 use std::alloc::Global;
 use std::process::Abort;
@@ -36,11 +36,11 @@ const USED: Look = Look {
     },
 };
 
-const DRAINED: Told = Told::Fired(0, Outcome::Drained);
+pub(super) const DRAINED: Told = Told::Drained(0);
 
-const CLOSED: Told = Told::Fired(0, Outcome::Closed);
+const CLOSED: Told = Told::Closed(0);
 
-const CLOSED_BEFORE: Told = Told::Is(What::Fault(Fault::AlreadyClosed));
+pub(super) const CLOSED_BEFORE: Told = Told::Fault(Fault::AlreadyClosed);
 
 /// A value is sent and received, and the closed port is drained.
 #[test]
@@ -68,9 +68,9 @@ fn buffer_shows_its_values(rt: HostRuntime) -> Result<(), Fail> {
     tell(&rt, rt.alloc(), first(2), 100, BUFFERED)
 }
 
-const NOBODY: &[(u8, Told)] = &[(0, Told::Is(What::Fault(Fault::NotParked)))];
+const NOBODY: &[(u8, Told)] = &[(0, Told::Fault(Fault::NotParked))];
 
-const CANCELLED: Told = Told::Is(What::Cancelled);
+const CANCELLED: Told = Told::Cancelled;
 
 const CANCELLING: &[Row] = &[
     Row::Steps(0, Ask::Make(0), &[(0, MADE)]),

@@ -4,7 +4,7 @@ ghost use Rattle.std.specs.Prelude.{◌≤◌, ◌<◌, ◌+◌, ◌-◌, ◌^�
 
 use super::entries::{Ask, DONE, MADE, PARKED, STALLED, Told, are_told, entry_of, first};
 use crate::compare::same;
-use hub_base::{Events, Fault, Pid, What};
+use hub_base::{Events, Fault, Pid};
 use hub_core::Machine;
 use std::process::Abort;
 use std::test::Fail;
@@ -36,7 +36,7 @@ fn tell_all(rt: &impl Abort, machine: &mut Machine)
     tell(rt, machine, 0, Ask::Exit, &[(0, DONE), (1, STALLED)]);
 }
 
-const BUSY: &[(u8, Told)] = &[(1, Told::Is(What::Fault(Fault::Busy)))];
+const BUSY: &[(u8, Told)] = &[(1, Told::Fault(Fault::Busy))];
 
 /// The process asks the machine, and these are told of it.
 fn tell(rt: &impl Abort, machine: &mut Machine, pid: u8, asked: Ask, told: &[(u8, Told)])

@@ -3,8 +3,8 @@
 use crate::compare::same;
 use crate::steps::entries::{SENT, Told, event_of};
 use hub_base::{
-    Event, EventText, Fault, Hears, Journal, Outcome, Port, What, read_journal, write_entry,
-    write_event, write_head, write_journal,
+    Event, EventText, Fault, Hears, Journal, read_journal, write_entry, write_event, write_head,
+    write_journal,
 };
 use std::alloc::Global;
 use std::process::Abort;
@@ -80,8 +80,8 @@ fn write_entries(rt: &impl Abort, out: &mut Vec<u8>, journal: &Journal) -> Resul
 }
 
 const LINES: &[(u8, Told, &str)] = &[
-    (0, Told::Is(What::Made(Port(1))), "0 made 1\n"),
-    (255, Told::Is(What::Made(Port(65535))), "255 made 65535\n"),
+    (0, Told::Made(1), "0 made 1\n"),
+    (255, Told::Made(65535), "255 made 65535\n"),
     (0, SENT, "0 case 0 sent\n"),
     (1, Told::Got(7, 0), "1 case 7 got 0\n"),
     (
@@ -89,16 +89,16 @@ const LINES: &[(u8, Told, &str)] = &[
         Told::Got(255, 18446744073709551615),
         "2 case 255 got 18446744073709551615\n",
     ),
-    (63, Told::Fired(1, Outcome::Drained), "63 case 1 drained\n"),
-    (64, Told::Fired(2, Outcome::Closed), "64 case 2 closed\n"),
-    (10, Told::Is(What::Default), "10 default\n"),
-    (20, Told::Is(What::Done), "20 done\n"),
-    (30, Told::Is(What::Parked), "30 parked\n"),
-    (40, Told::Is(What::Stalled), "40 stalled\n"),
-    (50, Told::Is(What::Fault(Fault::NoProcess)), "50 fault 1\n"),
-    (60, Told::Is(What::Fault(Fault::NoMemory)), "60 fault 11\n"),
-    (70, Told::Is(What::Fault(Fault::NotParked)), "70 fault 12\n"),
-    (80, Told::Is(What::Cancelled), "80 cancelled\n"),
+    (63, Told::Drained(1), "63 case 1 drained\n"),
+    (64, Told::Closed(2), "64 case 2 closed\n"),
+    (10, Told::Default, "10 default\n"),
+    (20, Told::Done, "20 done\n"),
+    (30, Told::Parked, "30 parked\n"),
+    (40, Told::Stalled, "40 stalled\n"),
+    (50, Told::Fault(Fault::NoProcess), "50 fault 1\n"),
+    (60, Told::Fault(Fault::NoMemory), "60 fault 11\n"),
+    (70, Told::Fault(Fault::NotParked), "70 fault 12\n"),
+    (80, Told::Cancelled, "80 cancelled\n"),
 ];
 
 #[test]
@@ -130,7 +130,7 @@ fn lines_of_events_join_into_one_text(rt: HostRuntime) -> Result<(), Fail> {
 /// Three events behind a text without any.
 fn join(rt: &impl Abort, text: &mut EventText) -> Result<(), Fail> {
     same(rt, text.text(), b"", "new");
-    let parked = event_of(9, Told::Is(What::Parked));
+    let parked = event_of(9, Told::Parked);
     text.make_step_room()?;
     text.hear(parked);
     text.hear(event_of(10, Told::Got(99, 100)));
@@ -144,7 +144,7 @@ fn join(rt: &impl Abort, text: &mut EventText) -> Result<(), Fail> {
 fn write_anew(rt: &impl Abort, text: &mut EventText) -> Result<(), Fail> {
     same(rt, text.text(), b"", "cleared");
     text.make_step_room()?;
-    text.hear(event_of(0, Told::Is(What::Stalled)));
+    text.hear(event_of(0, Told::Stalled));
     same(rt, text.text(), b"0 stalled\n", "written anew");
     Ok(())
 }

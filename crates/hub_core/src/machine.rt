@@ -4,7 +4,9 @@
 //! order and each under the place of its entry among the admitted ones; its buffers are what was
 //! sent and not yet received; its tallies are how many values were sent and received.
 
-ghost use Rattle.std.specs.Prelude.{◌≡◌, ◌≤◌, ◌<◌, ◌+◌, ◌-◌, ◌^◌, ℕ, List, [], None, length, IfOk, IfErr, OnOk, OnErr, IsErrOf};
+ghost use Rattle.std.specs.Prelude.{◌≡◌, ◌≤◌, ◌<◌, ◌+◌, ◌-◌, ◌^◌, ℕ, List, [], None, length, slice_get, IfOk, IfErr, OnOk, OnErr, IsErrOf};
+ghost use Rattle.std.specs.Option.{option_map};
+ghost use Rattle.hub_parts.specs.Lists.{shown_call};
 ghost use Rattle.hub_core.specs.Prelude.{Entry, Head, IsHead, MOST_EVENTS, refusal, state};
 ghost use Rattle.hub_core.specs.Hearing.{Heard};
 ghost use Rattle.hub_core.specs.ListSteps.{refusal_of, turn_on};
@@ -12,7 +14,7 @@ ghost use Rattle.hub_core.specs.Looks.{look_at, value_at};
 ghost use Rattle.hub_core.specs.Follows.{Follows, Admits, Answers, Tells, IsMake, IsFine, RefusesFor, Turns, RefusesMake};
 
 use crate::machine_state::{MachineState, tells};
-use hub_base::{Entry, Events, Fault, Head, Hears, Look, NoMemory, Pid, Port, Value, What};
+use hub_base::{Cases, Entry, Events, Fault, Head, Hears, Look, NoMemory, Pid, Port, Value, What};
 use std::alloc::Global;
 use std::marker::Model;
 
@@ -165,6 +167,14 @@ impl Machine {
             → result ≡ refusal (state h es) pid }
     {
         self.state.refusal(pid)
+    }
+
+    /// The open call at this place, counted from the oldest: whose it is, and its cases. `None` behind the newest.
+    pub fn call_at(&self, place: usize) -> Option<(Pid, Cases)>
+        ensures { (h : Head) (es : List Entry) → Follows h es self.now
+            → option_map shown_call result ≡ slice_get (state h es).parked place }
+    {
+        self.state.call_at(place)
     }
 
     /// The capacity and the counts of a port, or `None` for port 0 and for a port that was not made.

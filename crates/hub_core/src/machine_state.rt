@@ -1,6 +1,8 @@
 //! What a machine holds, also in the midst of a step, and what a step does to it.
 
-ghost use Rattle.std.specs.Prelude.{◌≡◌, ◌≤◌, ◌<◌, ◌-◌, ◌^◌, None, false, replicate, length, IfOk, OnOk, OnErr};
+ghost use Rattle.std.specs.Prelude.{◌≡◌, ◌≤◌, ◌<◌, ◌-◌, ◌^◌, None, false, replicate, length, slice_get, IfOk, OnOk, OnErr};
+ghost use Rattle.std.specs.Option.{option_map};
+ghost use Rattle.hub_parts.specs.Lists.{open_calls, shown_call};
 ghost use Rattle.hub_core.specs.Prelude.{AllMade, MOST_EVENTS, is_call, tells};
 ghost use Rattle.hub_core.specs.ListSteps.{call_on, effect_on, turn_on, refusal_of, fault_on, open_on};
 ghost use Rattle.hub_core.specs.ListKeeps.{PortsKeep};
@@ -213,6 +215,13 @@ impl MachineState {
         }
         self.steps += 1;
         Ok(())
+    }
+
+    /// The open call at this place, counted from the oldest. `None` behind the newest.
+    pub(crate) fn call_at(&self, place: usize) -> Option<(Pid, Cases)>
+        ensures { option_map shown_call result ≡ slice_get (open_calls self.now.board.waiting) place }
+    {
+        self.counted.board.call(place)
     }
 
     /// The capacity and the counts of a port.

@@ -9,7 +9,11 @@ ghost use Rattle.hub_base.specs.declared.entry.Entry.{Entry};
 ghost use Rattle.hub_base.specs.declared.value.Pid.{Pid};
 ghost use Rattle.hub_base.specs.Head.{IsHead, AreOf, head_of, is_of};
 ghost use Rattle.hub_base.specs.Reading.{is_exit};
+ghost use Rattle.std.specs.Option.{option_map};
 ghost use Rattle.hub_base.specs.Runs.{kept};
+ghost use Rattle.hub_base.specs.Steps.{refusal};
+ghost use Rattle.hub_base.specs.Text.{steps_of};
+ghost use Rattle.hub_parts.specs.Lists.{shown_call};
 ghost use Rattle.hub_core.specs.Looks.{look_at, value_at};
 ghost use Rattle.hub_core.specs.HubView.{HubInMemory, ShortInMemory, Steps, StepRules, Grows, RefusesOpening, call_of, opened_hub, places_after, state_of, terms_of, IsLimit};
 ghost use Rattle.hub_core.specs.HubKeeps.{count_after, IsSuch, Takes};
@@ -273,7 +277,7 @@ impl ShortHub {
 
     /// Makes room in the journal: after `Ok` the next `k` steps other than makes take no memory. After
     /// a refusal the hub is as before.
-    pub(crate) fn reserve(&mut self, k: u32) -> Result<(), NoMemory>
+    pub fn reserve(&mut self, k: u32) -> Result<(), NoMemory>
         ensures ok { OnOk result (
             self.new.memory.hub ≡ record self.old.memory.hub { places = max self.old.memory.hub.places k }) }
         ensures more { OnErr result (self.old.memory.hub.places < k) }
@@ -303,10 +307,49 @@ impl ShortHub {
 
     /// The value at a place of a port's buffer, 0 the oldest. `None` past its end, for port 0 and for
     /// a port that was not made.
-    pub(crate) fn buffered(&self, port: Port, place: u32) -> Option<Value>
+    pub fn buffered(&self, port: Port, place: u32) -> Option<Value>
         ensures { result ≡ value_at (state_of self.now.memory.hub) port place }
     {
         self.machine.buffered(port, place)
+    }
+
+    /// The open call at this place, counted from the oldest: whose it is, and its cases. `None` behind the newest.
+    pub fn call_at(&self, place: usize) -> Option<(Pid, Cases)>
+        ensures { option_map shown_call result ≡ slice_get (state_of self.now.memory.hub).parked place }
+    {
+        self.machine.call_at(place)
+    }
+
+    /// Why a step of this process would be refused now: `NoProcess`, `Gone`, `Busy`, or nothing.
+    pub fn refusal(&self, pid: Pid) -> Option<Fault>
+        ensures { result ≡ refusal (state_of self.now.memory.hub) pid }
+    {
+        self.machine.refusal(pid)
+    }
+
+    /// What it was opened with.
+    pub fn terms(&self) -> Terms
+        ensures value { result ≡ self.now.memory.hub.terms }
+        ensures head { IsHead result.head }
+        ensures limit { IsLimit result.limit }
+    {
+        self.terms
+    }
+
+    /// How many steps other than makes take no memory.
+    pub fn places(&self) -> u32
+        ensures { result ≡ self.now.memory.hub.places }
+    {
+        self.places
+    }
+
+    /// That each entry of its journal was admitted when it came, and is one that the edition has.
+    pub fn journal_is_legal(&self)
+        ensures legal { kept self.now.memory.hub.terms.head self.now.memory.hub.journal ≡ self.now.memory.hub.journal }
+        ensures fits { AreOf self.now.memory.hub.terms.head.edition self.now.memory.hub.journal }
+        ensures few { steps_of self.now.memory.hub.journal ≤ self.now.memory.hub.terms.limit }
+    {
+        let _count = self.count;
     }
 
     /// What its journal's head lines say: its edition, and its number of processes.

@@ -1,5 +1,5 @@
 -- The calls in their list and in their places, as contracts see them.
-use Rattle.std.proofs.Common.{◌≡◌, ◌≢◌, ℕ, ◌++◌, Bool, List, [], ◌∷◌, refl, Option, Some, None, arith, length, get_or, set, ◌<◌, not}
+use Rattle.std.proofs.Common.{◌≡◌, ◌≢◌, ℕ, zero, suc, ◌++◌, Bool, List, [], ◌∷◌, refl, Option, Some, None, arith, length, get_or, set, ◌<◌, not}
 use Rattle.std.proofs.Common.{◌==◌, ◌&&◌, ◌||◌, filter, slice_get, true, false, inl, inr, eq-eqb, replicate, cond, ap, sym, ◌∙◌}
 use Rattle.std.specs.List.{AllByRecursion, list_any}
 use Rattle.std.proofs.lemmas.Bool.{eqb-false, ne_eqb, cases_eq}
@@ -171,3 +171,16 @@ marked_ended marks os pid k = record {
 
 pub none_marked : IsMarked (replicate PIDS false) []
 none_marked = record { told = λ q within. get_or-replicate PIDS q false false within; long = length-replicate PIDS false }
+
+-- the call at this place
+pub placed_below : (os : List Pid) (n i : ℕ) (o : Pid) → AllByRecursion (λ q. q < n) (pids os) → slice_get os i ≡ Some o → o.0 < n
+placed_below [] n i o a e = absurd (let g : ⊥ = cc in g)
+placed_below (x ∷ os) n zero o a e =
+    let same : x.0 ≡ o.0 = ap (λ (y : Pid). y.0) (let s : x ≡ o = cc in s) in let h = a.0 in omega arith
+placed_below (x ∷ os) n (suc i) o a e = placed_below os n i o a.1 e
+
+pub placed_call : (places : List LastCall) (os : List Pid) (i : ℕ) (o : Pid) → slice_get os i ≡ Some o
+    → slice_get (calls_of places os) i ≡ Some (call_of places o)
+placed_call places [] i o e = absurd (let g : ⊥ = cc in g)
+placed_call places (x ∷ os) zero o e = ap (λ y. Some (call_of places y)) (let s : x ≡ o = cc in s)
+placed_call places (x ∷ os) (suc i) o e = placed_call places os i o e

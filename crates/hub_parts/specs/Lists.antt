@@ -1,6 +1,7 @@
 -- The words of a board's contracts: what its calls find, and what they leave.
 use Rattle.std.specs.Prelude.{ℕ, ◌==◌, ◌+◌, not, Bool, List, [], filter, map, length, slice_index_or}
 use Rattle.std.specs.Prelude.{slice_set, false, true, ◌≤◌, ◌<◌, ◌-◌, ◌∷◌, ◌++◌, drop, Option, None, Some}
+use Rattle.arrayvec.specs.ArrayVec.{ArrayVec}
 use Rattle.hub_base.specs.declared.value.Port.{Port}
 use Rattle.hub_base.specs.declared.value.Pid.{Pid}
 use Rattle.hub_base.specs.declared.case.Case.{Case}
@@ -28,6 +29,10 @@ opened n = record { procs = n; ports = []; waiting = []; next_ticket = 0 }
 -- the open calls without their tickets
 abbrev pub open_calls : List Ticketed → List OpenCall
 open_calls ws = map (λ w. w.call) ws
+
+-- an open call as it is told: its process and its cases
+abbrev pub shown_call : Pid × ArrayVec Case → OpenCall
+shown_call c = record { pid = c.0; cases = c.1.items }
 
 -- the calls of the other processes
 abbrev pub still_open : Pid → List Ticketed → List Ticketed

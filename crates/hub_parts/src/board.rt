@@ -10,7 +10,7 @@ ghost use Rattle.std.specs.Prelude.{◌≡◌, ◌≤◌, ◌<◌, ◌+◌, ◌*
 ghost use Rattle.std.specs.Option.{option_map};
 ghost use Rattle.std.specs.List.{list_any};
 ghost use Rattle.hub_base.specs.Ready.{first_with, is_on};
-ghost use Rattle.hub_parts.specs.Lists.{open_calls, parked, with_new, IsMade, port_at, with_port, pushed, popped, closed_now, passes, ending_of, after_taking, after_stop, ended_by, opened};
+ghost use Rattle.hub_parts.specs.Lists.{open_calls, parked, with_new, IsMade, port_at, with_port, pushed, popped, closed_now, passes, ending_of, after_taking, after_stop, ended_by, opened, shown_call};
 ghost use Rattle.hub_parts.specs.Keeps.{AllMade};
 ghost use Rattle.hub_parts.specs.declared.wait_queue.TheConstants.{PLACES};
 
@@ -270,6 +270,13 @@ impl Board {
         ensures { result ≡ list_any (λ w. w.call.pid.0 == pid.0) self.now.waiting }
     {
         self.calls.is_open(pid)
+    }
+
+    /// The open call at this place, counted from the oldest: whose it is, and its cases. `None` behind the newest.
+    pub fn call(&self, place: usize) -> Option<(Pid, Cases)>
+        ensures { option_map shown_call result ≡ option_map (λ w. w.call) (slice_get self.now.waiting place) }
+    {
+        self.calls.at(place)
     }
 
     /// How many open calls there are, at most one of each process.

@@ -27,13 +27,11 @@ pub(crate) enum Ask {
     Exit,
 }
 
-/// What a process is told: a port that was made, or the case of its call that fired, by their numbers. No value stands in it,
-/// since a constant table borrows none.
+/// What a process is told, by the numbers of ports, of cases and of values, since a constant table holds no `Value`.
 #[derive(Clone, Copy)]
 pub(crate) enum Told {
     Made(u16),
     Sent(u8),
-    /// This case received this number.
     Got(u8, u64),
     Drained(u8),
     Closed(u8),
@@ -41,8 +39,8 @@ pub(crate) enum Told {
     Done,
     Parked,
     Stalled,
-    Cancelled,
     Fault(Fault),
+    Cancelled,
 }
 
 fn call(first: Case, second: Option<Case>) -> Step {
@@ -90,8 +88,8 @@ pub(crate) fn event_of(pid: u8, told: Told) -> Event {
         Told::Done => What::Done,
         Told::Parked => What::Parked,
         Told::Stalled => What::Stalled,
-        Told::Cancelled => What::Cancelled,
         Told::Fault(fault) => What::Fault(fault),
+        Told::Cancelled => What::Cancelled,
     };
     Event {
         pid: Pid(pid),

@@ -36,11 +36,11 @@ const USED: Look = Look {
     },
 };
 
-const DRAINED: Told = Told::Drained(0);
+pub(super) const DRAINED: Told = Told::Drained(0);
 
 const CLOSED: Told = Told::Closed(0);
 
-const CLOSED_BEFORE: Told = Told::Fault(Fault::AlreadyClosed);
+pub(super) const CLOSED_BEFORE: Told = Told::Fault(Fault::AlreadyClosed);
 
 /// A value is sent and received, and the closed port is drained.
 #[test]

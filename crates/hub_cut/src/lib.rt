@@ -1,0 +1,11 @@
+//! Cuts: a hub hands out its journal and goes on from a checkpoint, and whatever follows is answered as before.
+//!
+//! A checkpoint is written from what a hub shows of its ports, its processes and its open calls, so a cut takes as
+//! long as the checkpoint is, however long the journal. Why nobody can tell is said in `hub_chapters`.
+#![tactic(auto)]
+
+mod checkpoints;
+mod cuts;
+
+pub use checkpoints::checkpoint_of;
+pub use cuts::{cut, cut_journal};

@@ -35,30 +35,35 @@ pub(crate) enum Ask {
     Exit,
 }
 
-/// What a process is told.
+/// What a process is told, by the numbers of ports, of cases and of values, since a constant table holds no `Value`.
 #[derive(Clone, Copy)]
 pub(crate) enum Told {
-    /// Its step is answered so.
-    Is(What),
-    /// This case of its call came to this.
-    Fired(u8, Outcome),
+    Made(u16),
+    Sent(u8),
+    Drained(u8),
     /// It received this number.
     Got(u64),
+    Default,
+    Done,
+    Parked,
+    Stalled,
+    Cancelled,
+    Fault(Fault),
     /// Its step is refused.
     Refused(Fault),
 }
 
-pub(crate) const MADE: Told = Told::Is(What::Made(Port(1)));
+pub(crate) const MADE: Told = Told::Made(1);
 
-pub(crate) const SENT: Told = Told::Fired(0, Outcome::Sent);
+pub(crate) const SENT: Told = Told::Sent(0);
 
-pub(crate) const DRAINED: Told = Told::Fired(0, Outcome::Drained);
+pub(crate) const DRAINED: Told = Told::Drained(0);
 
-pub(crate) const DONE: Told = Told::Is(What::Done);
+pub(crate) const DONE: Told = Told::Done;
 
-pub(crate) const PARKED: Told = Told::Is(What::Parked);
+pub(crate) const PARKED: Told = Told::Parked;
 
-pub(crate) const STALLED: Told = Told::Is(What::Stalled);
+pub(crate) const STALLED: Told = Told::Stalled;
 
 /// One value was sent, and waits in the buffer.
 pub(crate) const ONE_WAITS: Counts = Counts {
@@ -110,15 +115,23 @@ fn call(case: Case) -> Step {
     }
 }
 
+fn fired(case: u8, outcome: Outcome) -> What {
+    What::Fired { case, outcome }
+}
+
 /// How the step of a process is answered that is told this.
 fn answer(pid: Pid, told: Told) -> Result<Event, Fault> {
     let what = match told {
-        Told::Is(what) => what,
-        Told::Fired(case, outcome) => What::Fired { case, outcome },
-        Told::Got(number) => What::Fired {
-            case: 0,
-            outcome: Outcome::Got(Value::num(number)),
-        },
+        Told::Made(port) => What::Made(Port(port)),
+        Told::Sent(case) => fired(case, Outcome::Sent),
+        Told::Drained(case) => fired(case, Outcome::Drained),
+        Told::Got(number) => fired(0, Outcome::Got(Value::num(number))),
+        Told::Default => What::Default,
+        Told::Done => What::Done,
+        Told::Parked => What::Parked,
+        Told::Stalled => What::Stalled,
+        Told::Cancelled => What::Cancelled,
+        Told::Fault(fault) => What::Fault(fault),
         Told::Refused(fault) => return Err(fault),
     };
     Ok(Event { pid, what })

@@ -4,7 +4,7 @@ use super::{
     Ask, DONE, DRAINED, MADE, ONE_WAITS, PARKED, SENT, STALLED, Told, answer, compare, entry_of,
 };
 use crate::compare::same;
-use hub_base::{Edition, Entry, Event, Fault, Look, Pid, Port, What};
+use hub_base::{Edition, Entry, Event, Fault, Look, Pid, Port};
 use hub_core::Hub;
 use hub_live::under_lock::Locked;
 use std::alloc::Global;
@@ -171,8 +171,8 @@ const CANCELLING: &[Row] = &[
     Row::Asks(1, Ask::Recv, PARKED),
     Row::Asks(0, Ask::Cancel, DONE),
     Row::Ended(&[Pid(1)]),
-    Row::Takes(1, Told::Is(What::Cancelled)),
-    Row::Asks(0, Ask::Cancel, Told::Is(What::Fault(Fault::NotParked))),
+    Row::Takes(1, Told::Cancelled),
+    Row::Asks(0, Ask::Cancel, Told::Fault(Fault::NotParked)),
     Row::FindsNone(1),
     Row::Asks(1, Ask::Recv, PARKED),
 ];

@@ -5,7 +5,7 @@ ghost use Rattle.std.specs.Prelude.{◌≡◌};
 use super::rows::Act;
 use super::{Ask, DONE, DRAINED, MADE, ONE_WAITS, SENT, SHUT, STALLED, Told, UNUSED, compare};
 use crate::compare::same;
-use hub_base::{Counts, Edition, Event, Fault, Outcome, Pid, Port, Value, What};
+use hub_base::{Counts, Edition, Event, Fault, Pid, Port, Value};
 use hub_core::OpenFault;
 use hub_live::{Blank, Chan, Held, HubName, LiveHub, Seat, mark_of};
 use std::process::Abort;
@@ -133,10 +133,7 @@ pub(super) const MEETING: &[(u8, Act)] = &[
     (0, Act::Asks(Ask::Close, DONE)),
     (0, Act::Meets),
     (1, Act::Sees(1, Some(SHUT))),
-    (
-        1,
-        Act::Asks(Ask::Close, Told::Is(What::Fault(Fault::AlreadyClosed))),
-    ),
+    (1, Act::Asks(Ask::Close, Told::Fault(Fault::AlreadyClosed))),
 ];
 
 pub(super) const STALLING: &[(u8, Act)] = &[
@@ -154,7 +151,7 @@ pub(super) const STALLING: &[(u8, Act)] = &[
 pub(super) const SELECTING: &[(u8, Act)] = &[
     (0, Act::Makes(0, Ok(1))),
     (0, Act::Makes(1, Ok(2))),
-    (0, Act::Selects(Told::Fired(1, Outcome::Sent))),
-    (0, Act::Selects(Told::Is(What::Default))),
+    (0, Act::Selects(Told::Sent(1))),
+    (0, Act::Selects(Told::Default)),
     (0, Act::Asks(Ask::Exit, DONE)),
 ];

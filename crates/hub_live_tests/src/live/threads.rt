@@ -79,7 +79,7 @@ pub(crate) fn told_by(crew: Crew, pid: Pid) -> Option<Result<Event, Fault>> {
         (Crew::Pass, _) => Told::Got(9),
         (Crew::Stall, _) => STALLED,
         (Crew::Close | Crew::Cancel | Crew::CloseOnAll, Pid(0)) => DONE,
-        (Crew::Cancel, _) => Told::Is(What::Cancelled),
+        (Crew::Cancel, _) => Told::Cancelled,
         (Crew::CloseOnAll, _) => DRAINED,
         _ => return None,
     };

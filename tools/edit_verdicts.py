@@ -114,7 +114,8 @@ def asked_anew(crate, function, said, goals, text, plain):
     where there are none such. The text is that of its Answers.antt, or empty."""
     anew = text
     for goal in goals:
-        body = re.compile(r'^(%s(?: [^=\n]*)? =)[ \n].*(?:\n[ \t].*)*' % re.escape(goal.name), re.M)
+        # It may end with the brace of a record, which stands in the first column.
+        body = re.compile(r'^(%s(?: [^=\n]*)? =)[ \n].*(?:\n[ \t})].*)*' % re.escape(goal.name), re.M)
         if goal.kind in (LIMIT, ANSWER) and goal.name:
             anew = body.sub(r'\1 ' + plain, anew, count=1)
     lines = asked_lines(said, function)
@@ -136,6 +137,9 @@ def asked_lines(said, function):
             inside = ('%s with these lines' % place in line) or ('these lines to ./%s' % place in line)
         elif not line.startswith('    '):
             inside = False
-        elif inside and re.match(r'    (?:pub |\S.* = \?$|unfolding )', line):
+        elif inside and lines and lines[-1].endswith((' :', ' =')) and line.startswith('     '):
+            # The prover breaks a line of a long name.
+            lines[-1] += ' ' + line.strip()
+        elif inside and re.match(r'    (?:pub |\S.* =(?: \?)?$|unfolding )', line):
             lines.append(line[4:])
     return lines

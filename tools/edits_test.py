@@ -88,6 +88,11 @@ help: write ./proofs/head/Edition/most_cases/Answers.antt with these lines, and 
 help: write ./proofs/journal/Journal/head/Answers.antt with these lines, and check again: each hole's goal is what is left to show there
     pub returns : goal.returns
     returns c = ?
+help: write ./proofs/value/Value/bytes/Answers.antt with these lines, and check again: each hole's goal is what is left to show there
+    pub returns-then-bytes-eq-MOST_VALUE_BYTES-clause-none :
+        goal.returns-then-bytes-eq-MOST_VALUE_BYTES-clause-none
+    returns-then-bytes-eq-MOST_VALUE_BYTES-clause-none g c =
+        ?
 '''
 
 ANSWERS = '''\
@@ -147,6 +152,10 @@ def tests():
     yield 'the best of two goals', len(both) == 2 and verdicts.best(both).kind == verdicts.FALSE
     yield 'lines to ask by', verdicts.asked_lines(HELP, 'head::Edition::most_cases') == ['pub returns-in-Two : goal.returns-in-Two', 'returns-in-Two c = ?']
     goal = verdicts.Goal('text::selects::choose', 'returns', verdicts.ANSWER, '')
+    name = 'returns-then-bytes-eq-MOST_VALUE_BYTES-clause-none'
+    yield 'lines that the prover breaks', verdicts.asked_lines(HELP, 'value::Value::bytes') == ['pub %s : goal.%s' % (name, name), name + ' g c = ?']
+    record = ANSWERS.replace('    three\n', '    record {\n      three = four;\n}\n')
+    yield 'a record asked anew', verdicts.asked_anew('hub_base', goal.function, '', [goal], record, verdicts.PLAIN[0]) == ASKED
     yield 'an answer asked anew', verdicts.asked_anew('hub_base', goal.function, '', [goal], ANSWERS, verdicts.PLAIN[0]) == ASKED
     yield 'nothing to ask', verdicts.asked_anew('hub_base', goal.function, '', [goal._replace(kind=verdicts.FALSE)], ANSWERS, '') is None
     batches = batches_of([Change('one'), Change('two'), Change('one')])

@@ -15,6 +15,7 @@ import sys
 
 sys.dont_write_bytecode = True
 import model
+from counting import Count
 from random_journal import Journal
 
 RUNS = 100
@@ -159,17 +160,14 @@ def main(words):
         sys.exit(__doc__.strip())
     runs, first = (int(words[place]) if place < len(words) else usual for place, usual in ((1, RUNS), (2, 1)))
     cutter = Cutter(os.path.abspath(words[0]))
-    failed = 0
+    count = Count()
     for seed in range(first, first + runs):
         wrong = cutter.what_fails(seed)
-        if wrong:
-            failed += 1
-            print(f'failed: the journal of seed {seed}, {wrong}')
-    for name in cutter.unnoticed:
-        print(f'failed: nobody noticed that {name}')
-    print(f'{runs - failed + len(WRONG) - len(cutter.unnoticed)} passed, {failed + len(cutter.unnoticed)} failed')
-    return failed + len(cutter.unnoticed) == 0
+        count.test(f'the journal of seed {seed}', not wrong, wrong)
+    for name in WRONG:
+        count.test(f'a wrong checkpoint, {name}', name not in cutter.unnoticed, 'nobody noticed')
+    return count.end()
 
 
 if __name__ == '__main__':
-    sys.exit(0 if main(sys.argv[1:]) else 1)
+    sys.exit(main(sys.argv[1:]))

@@ -212,16 +212,12 @@ ports_afresh : (n : ℕ) (cs : List Channel) → ports_again n (map afresh cs) �
 ports_afresh n [] = refl
 ports_afresh n (c ∷ cs) = ap (λ es. port_again n c ++ es) (ports_afresh (n + 1) cs)
 
-filter_same : (f g : ℕ → Bool) (qs : List ℕ) → ((q : ℕ) → f q ≡ g q) → filter f qs ≡ filter g qs
-filter_same f g [] h = refl
-filter_same f g (q ∷ qs) h = rw (h q, filter_same f g qs h) refl
-
 pub one-checkpoint : (s t : State) → Alike s t → checkpoint s ≡ checkpoint t
 one-checkpoint s t a =
     let ports : ports_again 1 s.channels ≡ ports_again 1 t.channels =
     sym (ports_afresh 1 s.channels) ∙ ap (λ (cs : List Channel). ports_again 1 cs) a.channels ∙ ports_afresh 1 t.channels in
     let gone : exited s ≡ exited t =
-    ap (λ (h : Head). filter (has_gone s) (range_with_len 0 h.procs)) a.head ∙ filter_same (has_gone s) (has_gone t) (range_with_len 0 t.head.procs) a.gone in
+    ap (λ (h : Head). filter (has_gone s) (range_with_len 0 h.procs)) a.head ∙ (λ i. filter (λ q. a.gone q i) (range_with_len 0 t.head.procs)) in
     ap (λ es. es ++ map exit (exited s) ++ map call_again s.parked) ports
     ∙ ap (λ qs. ports_again 1 t.channels ++ map exit qs ++ map call_again s.parked) gone
     ∙ ap (λ (cs : List OpenCall). ports_again 1 t.channels ++ map exit (exited t) ++ map call_again cs) a.parked

@@ -98,12 +98,8 @@ can-like s k ds t (Send p v) =
 can-like s k ds t (Recv p) =
     both (at s.channels p) (at ds p) (recv_can s p) (recv_can (beside s k ds) p) (at-like s.channels ds p t.channels) (recv_can-like s k ds p)
 
-filter_same : {A : Type 0} (f g : A → Bool) (xs : List A) → ((x : A) → f x ≡ g x) → filter f xs ≡ filter g xs
-filter_same f g [] h = refl
-filter_same f g (x ∷ xs) h = rw (h x, filter_same f g xs h) refl
-
 ready-like : (s : State) (k : List Pid) (ds : List Channel) (cases : List Case) → Twin s k ds → ready s cases ≡ ready (beside s k ds) cases
-ready-like s k ds cases t = filter_same (λ x. can_proceed s x.1) (λ x. can_proceed (beside s k ds) x.1) (enumerate_from 0 cases) (λ x. can-like s k ds t x.1)
+ready-like s k ds cases t = λ i. filter (λ x. can-like s k ds t x.1 i) (enumerate_from 0 cases)
 
 -- A case that fires
 
@@ -232,10 +228,6 @@ effect-like s k ds pid (Cancel q) t = record { events = refl; alike = parked-ali
 
 -- The stall rule
 
-list_all_same : {A : Type 0} (f g : A → Bool) (xs : List A) → ((x : A) → f x ≡ g x) → list_all f xs ≡ list_all g xs
-list_all_same f g [] h = refl
-list_all_same f g (x ∷ xs) h = rw (h x, list_all_same f g xs h) refl
-
 -- whether all wait, of hubs with this head, and these calls open
 abbrev all_of : Head → (ℕ → Bool) → List OpenCall → Bool
 all_of h gone calls = not (length calls == 0) && list_all (λ q. gone q || list_any (λ call. call.pid.0 == q) calls) (range_with_len 0 h.procs)
@@ -244,9 +236,7 @@ pub all_wait-like : (s t : State) → Alike s t → all_wait s ≡ all_wait t
 all_wait-like s t a =
     ap (λ (h : Head). all_of h (has_gone s) s.parked) a.head
     ∙ ap (λ (cs : List OpenCall). all_of t.head (has_gone s) cs) a.parked
-    ∙ ap (λ (b : Bool). not (length t.parked == 0) && b)
-    (list_all_same (λ q. has_gone s q || is_waiting t q) (λ q. has_gone t q || is_waiting t q) (range_with_len 0 t.head.procs)
-    (λ q. ap (λ b. b || is_waiting t q) (a.gone q)))
+    ∙ (λ i. all_of t.head (λ q. a.gone q i) t.parked)
 
 stalled-like : (c d : Change) (b : Bool) → SameChange c d →
     SameChange (stalls_if b c) (stalls_if b d)

@@ -4,6 +4,7 @@ use Rattle.hub_laws.proofs.Prelude.{◌==◌, ◌-◌, cond, length, arith, map,
 use Rattle.hub_laws.proofs.Prelude.{and_parts, has_gone, map-append, Entry, Port, Channel, State, OpenCall, channel_at, buffer_of}
 use Rattle.hub_laws.proofs.Prelude.{lt-ltb, Pid, Head, refusal, is_waiting, opening, state, MOST_PORTS}
 use Rattle.std.specs.List.{range_with_len, list_all}
+use Rattle.std.proofs.lemmas.List.{take_all}
 use Rattle.hub_base.specs.declared.fault.Fault.TheVariants as fault
 use Rattle.hub_laws.proofs.Account.{procs-of}
 use Rattle.hub_laws.proofs.Lasting.{head-after, ports-law}
@@ -78,12 +79,6 @@ ports_more n s =
     ∙ ap (λ k. ports_again 1 (take n s.channels) ++ option_map_or (port_again k) (slice_get s.channels n) []) e
     ∙ ap (λ (o : Option Channel). ports_again 1 (take n s.channels) ++ option_map_or (port_again (n + 1)) o []) (sym (at_place s n))
 
-pub take_whole : {A : Type 0} (n : ℕ) (xs : List A) → length xs ≤ n → take n xs ≡ xs
-take_whole zero [] h = refl
-take_whole zero (x ∷ xs) h = absurd (omega arith)
-take_whole (suc n) [] h = refl
-take_whole (suc n) (x ∷ xs) h = ap (λ ys. x ∷ ys) (take_whole n xs (omega arith))
-
 -- what holds of all of a list holds at each place
 pub all_at : {A : Type 0} (f : A → Bool) (xs : List A) (i : ℕ) (x : A) → list_all f xs ≡ true → i < length xs → x ≡ get_or xs i x → f x ≡ true
 all_at f [] i x a h e = absurd (omega arith)
@@ -110,13 +105,13 @@ gone_is s q below = rw (lt-ltb q.0 s.head.procs below) (by (has_gone s q.0))
 -- All of a state's ports and open calls
 
 pub all_ports : (h : Head) (es : List Entry) (n : ℕ) → MOST_PORTS ≤ n → take n (state h es).channels ≡ (state h es).channels
-all_ports h es n enough = take_whole n (state h es).channels (let most = ports-law h es in omega arith)
+all_ports h es n enough = take_all n (state h es).channels (let most = ports-law h es in omega arith)
 
 pub procs_same : (h : Head) (es : List Entry) → (state h es).head.procs ≡ h.procs
 procs_same h es = procs-of (head-after (opening h) es)
 
 pub all_calls : (h : Head) (es : List Entry) (n : ℕ) → h.procs ≤ n → take n (state h es).parked ≡ (state h es).parked
-all_calls h es n enough = take_whole n (state h es).parked (let most = count-law (state h es) (state-sound h es) in let n = procs_same h es in omega arith)
+all_calls h es n enough = take_all n (state h es).parked (let most = count-law (state h es) (state-sound h es) in let n = procs_same h es in omega arith)
 
 -- A cut
 

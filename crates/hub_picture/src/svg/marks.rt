@@ -16,11 +16,11 @@ const MARKS: &[u8] =
 <marker id=\"m1\" class=\"h1\" viewBox=\"0 0 8 8\" refX=\"4\" refY=\"4\" markerWidth=\"5\" markerHeight=\"5\">\
 <path id=\"k1\" d=\"M0 0H8V8H0z\"/></marker>\n\
 <marker id=\"m2\" class=\"h2\" viewBox=\"0 0 8 8\" refX=\"4\" refY=\"4\" markerWidth=\"5\" markerHeight=\"5\">\
-<path id=\"k2\" d=\"M4 0L8 8H0z\"/></marker>\n\
+<path id=\"k2\" d=\"M2 0H6V8H2z\"/></marker>\n\
 <marker id=\"m3\" class=\"h3\" viewBox=\"0 0 8 8\" refX=\"4\" refY=\"4\" markerWidth=\"5\" markerHeight=\"5\">\
 <path id=\"k3\" d=\"M4 0L8 4L4 8L0 4z\"/></marker>\n\
 <marker id=\"m4\" class=\"h4\" viewBox=\"0 0 8 8\" refX=\"4\" refY=\"4\" markerWidth=\"5\" markerHeight=\"5\">\
-<path id=\"k4\" d=\"M0 0H8L4 8z\"/></marker>\n\
+<path id=\"k4\" d=\"M0 2H8V6H0z\"/></marker>\n\
 <marker id=\"m5\" class=\"h5\" viewBox=\"0 0 8 8\" refX=\"4\" refY=\"4\" markerWidth=\"5\" markerHeight=\"5\">\
 <path id=\"k5\" d=\"M3 0H5V3H8V5H5V8H3V5H0V3H3z\"/></marker>\n\
 <marker id=\"m6\" class=\"h6\" viewBox=\"0 0 8 8\" refX=\"4\" refY=\"4\" markerWidth=\"5\" markerHeight=\"5\">\

@@ -23,8 +23,8 @@ refused: `N passed, M failed`. Status 0 where none failed, and something was tri
 so to edits_tried.toml.
 
 After --read none is tried: all edits of the crates, further ones too, are made on copies and read by the compiler's front end, which
-checks names and types; and the contracts of each crate are compared with those over which all its edits were tried last. A crate of
-which no such run is recorded counts as skipped.
+checks names and types. A crate fails if edits_tried.toml does not say that all its edits were tried over its present contracts, and
+were refused.
 """
 import argparse
 import collections
@@ -322,21 +322,19 @@ def main():
     by_crate = {crate: edits for crate, edits in found.items() if edits}
     if not by_crate:
         bad.append('there are no edits')
-    skipped = edits_tried.untried(by_crate) if words.read else []
+    whole = [it for it in by_crate if not words.asked or it in words.asked]
     if words.read:
         passed = read_all(by_crate, words.proved_in, bad)
-        bad += edits_tried.stale(by_crate)
-        print(''.join('skipped: %s: no run of all its edits is recorded: tools/edits.py --further %s\n' % (it, it) for it in skipped), end='')
+        bad += edits_tried.lacks({it: by_crate[it] for it in whole})
     else:
         told = try_all(by_crate, words.proved_in, bad)
         passed = sum(it.kind in verdicts.REFUSED for it in told)
         bad += [it.said for it in told if it.kind not in verdicts.REFUSED]
         print(count_kinds(told))
         if words.further:
-            whole = [it for it in by_crate if not words.asked or it in words.asked]
             edits_tried.write({crate: [it for it in told if it.edit.crate == crate] for crate in whole}, verdicts.REFUSED)
     print(''.join('failed: %s\n' % it for it in bad), end='')
-    print('%d passed, %d failed' % (passed, len(bad)) + (', %d skipped' % len(skipped) if skipped else ''))
+    print('%d passed, %d failed' % (passed, len(bad)))
     return 1 if bad else 0
 
 

@@ -11,8 +11,8 @@ from crates import ROOT, folder
 
 RECORD = os.path.join(ROOT, 'tools', 'edits_tried.toml')
 HEAD = """# Per crate, the last time that all its edits were tried, further ones too: by `tools/edits.py --further CRATE`, which writes this.
-# `contracts` is a sum over the crate's specs and the clauses of its sources; where they have changed since, `tools/edits.py --read`
-# fails. `left` names the edits that were not shown false or left open.
+# `contracts` is a sum over the crate's specs and the clauses of its sources. `left` names the edits that were not shown false or left
+# open. `tools/edits.py --read` fails if there is one, if an edit was not tried, or if the contracts have changed since.
 """
 CLAUSE = re.compile(r'^\s*(?:requires|ensures|follows\w*|ghost(?! use)|invariant)\b', re.M)
 
@@ -55,18 +55,24 @@ def read():
         return tomllib.load(file)
 
 
-def untried(crates):
-    """The crates of which no run of all edits is recorded."""
-    return [it for it in crates if it not in read()]
+def what_lacks(crate, count):
+    """Why the record does not say of this crate that all its edits, so many, are refused over its present contracts; or nothing."""
+    tried = read().get(crate)
+    if tried is None:
+        return 'no run of all its edits is recorded'
+    if tried['contracts'] != contracts(crate):
+        return 'its contracts have changed since all its edits were tried on %s' % tried['date']
+    if tried['edits'] != count:
+        return 'it has %d edits, and %d were tried' % (count, tried['edits'])
+    return 'not refused: ' + ', '.join(tried['left']) if tried['left'] else None
 
 
-def stale(crates):
-    """What to say of each crate whose contracts are not those over which all its edits were tried."""
-    tried = read()
-    for crate in crates:
-        if crate in tried and tried[crate]['contracts'] != contracts(crate):
-            yield '%s: its contracts have changed since all its edits were tried on %s: tools/edits.py --further %s' % (
-                crate, tried[crate]['date'], crate)
+def lacks(by_crate):
+    """What to say of each crate of which the record lacks something."""
+    for crate, edits in by_crate.items():
+        why = what_lacks(crate, len(edits))
+        if why:
+            yield '%s: %s: tools/edits.py --further %s' % (crate, why, crate)
 
 
 def entry(crate, told, refused):

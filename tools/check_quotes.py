@@ -1,55 +1,63 @@
 #!/usr/bin/env python3
-"""Compares what README.md quotes with the sources.
+"""Compares what pages quote with the sources: README.md, and the pages in docs.
 
-    check_quotes.py [ROOT]
+    check_quotes.py [--write]
 
-A quotation is a block of code below a line `<!-- quoted: FILE from `LINE` on -->`: it must be all that stands in FILE
-from that line to the end, and LINE must stand there once. Tells each quotation that is not so, and where there is none
-at all. The status is 1 where anything is told.
+A quotation is the block of code below a line `<!-- quoted: FILE from `LINE` on -->`: all that stands in FILE from that line to its
+end; with `to `END`` in place of `on`, up to the line END, without empty lines before it. In a table whose rows begin with a link to a
+file of capi/, each code of a row has to stand in that file. README and OUTSIDE have to quote something. Prints what is wrong, with
+status 1. After --write it first puts the sources' lines into the pages.
 """
+import glob
 import os
 import re
 import sys
 
-ROOT = sys.argv[1] if len(sys.argv) > 1 else os.path.join(os.path.dirname(os.path.abspath(__file__)), '..')
-MARKER = re.compile(r'^<!-- quoted: (\S+) from `(.+)` on -->$', re.M)
-BLOCK = re.compile(r'\n```\w+\n(.*?)^```$', re.M | re.S)
+ROOT = os.path.join(os.path.dirname(os.path.abspath(__file__)), '..')
+QUOTED = re.compile(r'(<!-- quoted: (\S+) from `([^`\n]+)` (?:on|to `([^`\n]+)`) -->\n```\w+\n)(.*?)(^```$)', re.M | re.S)
+ROW = re.compile(r'^\[[^\]\n]+\]\(\.\./(capi/\S+)\) \| (.*)$', re.M)
+CODE = re.compile(r'`([^`]+)`')
+QUOTES = ('README.md', 'docs/OUTSIDE.md')
 
 
-def lines_from(path, first):
-    """The lines of a file from this one on, or None where it does not stand there once."""
-    if not os.path.isfile(path):
-        return None
-    with open(path) as file:
-        lines = file.read().split('\n')
-    return lines[lines.index(first):] if lines.count(first) == 1 else None
+def read(name):
+    with open(os.path.join(ROOT, name), encoding='utf-8') as file:
+        return file.read()
 
 
-def told(page, marker):
-    """What is wrong with one quotation, or nothing."""
-    source, first = marker.groups()
-    block = BLOCK.match(page, marker.end())
-    if not block:
-        return 'no block of code follows'
-    wanted = lines_from(os.path.join(ROOT, source), first)
-    if wanted is None:
-        return 'the line is not there once'
-    quoted = block.group(1).split('\n')
-    if quoted != wanted:
-        place = next((i for i, (a, b) in enumerate(zip(quoted, wanted)) if a != b), min(len(quoted), len(wanted)))
-        return 'line %d of the quotation is not what stands there' % (place + 1)
-    return None
+def wanted(match):
+    """The quotation as it should be."""
+    before, source, first, end, _, after = match.groups()
+    lines = read(source).split('\n')
+    if lines.count(first) != 1:
+        raise ValueError('%s does not have this line once: %s' % (source, first))
+    start = lines.index(first)
+    quoted = '\n'.join(lines[start:lines.index(end, start)] if end else lines[start:])
+    return before + quoted.rstrip('\n') + '\n' + after
+
+
+def what_is_wrong(page):
+    """What is wrong with each quotation, and each code of a table, of a page."""
+    text = read(page)
+    marks, found = text.count('<!-- quoted: '), list(QUOTED.finditer(text))
+    if marks != len(found) or page in QUOTES and not found:
+        yield '%d quotations are marked, and %d can be read' % (marks, len(found))
+    for match in found:
+        if match.group(0) != wanted(match):
+            yield 'the quotation of %s' % match.group(2)
+    for source, row in ROW.findall(text):
+        yield from ('%s has no `%s`' % (source, code) for code in CODE.findall(row) if code not in read(source))
 
 
 def main():
-    with open(os.path.join(ROOT, 'README.md')) as file:
-        page = file.read()
-    markers = list(MARKER.finditer(page))
-    found = [(marker.group(1), told(page, marker)) for marker in markers]
-    wrong = ['README: the quotation of %s: %s' % pair for pair in found if pair[1]]
-    if not markers:
-        wrong = ['README: no quotation is marked']
-    print(''.join(line + '\n' for line in wrong), end='')
+    pages = ['README.md', *sorted(os.path.relpath(it, ROOT) for it in glob.glob(os.path.join(ROOT, 'docs', '*.md')))]
+    if sys.argv[1:] == ['--write']:
+        for page in pages:
+            right = QUOTED.sub(wanted, read(page))
+            with open(os.path.join(ROOT, page), 'w', encoding='utf-8') as file:
+                file.write(right)
+    wrong = ['%s: %s' % (page, it) for page in pages for it in what_is_wrong(page)]
+    print(''.join(it + '\n' for it in wrong), end='')
     sys.exit(1 if wrong else 0)
 
 

@@ -202,7 +202,7 @@ count $? "limits that are written as numbers"
 count $? "lines of definitions and proofs that are too wide"
 
 "$root/tools/check_quotes.py"
-count $? "what README.md quotes"
+count $? "what pages quote"
 
 "$root/tools/edits_test.py" > "$work/edits_test" 2>&1
 count $? "how edits are judged: $(cat "$work/edits_test")"

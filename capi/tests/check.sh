@@ -101,6 +101,7 @@ is_used_elsewhere() {
 }
 
 echo 385 > "$work/sum"
+printf '9\nchanhub journal 2\nprocs 2\n0 make 1\n0 send 1 9\n1 recv 1\n' > "$work/first"
 printf 'stalled: 0 recv 2\nstalled: 1 recv 1\n' > "$work/stalled"
 printf 'got 5\nneither\nsent\n' > "$work/choice-lines"
 
@@ -133,7 +134,6 @@ check 'choice.c' chooses "$work/choice"
 check 'deadlock.c: both are told' grep -qx '2 stalled' "$work/deadlocked"
 grep recv "$work/deadlocked" | sort | sed 's/^/stalled: /' > "$work/calls-left"
 check 'deadlock.c: the journal shows who waited' cmp "$work/calls-left" "$work/stalled"
-check 'what OUTSIDE quotes' tests/quotes.py ../docs/OUTSIDE.md
 check 'the header by C++' "$cc" -x c++ -fsyntax-only -Wall -Wextra -Werror chanhub.h
 check 'the names of libchanhub.so' has_only_names nm -D --defined-only "$library/libchanhub.so"
 check 'the names of libchanhub.a' has_only_names nm -g --defined-only "$library/libchanhub.a"
@@ -173,6 +173,7 @@ fi
 
 check 'the Python module' env PYTHONPATH=python:tests python3 -m unittest -q test_chanhub
 check 'pool.py' prints "$work/sum" python3 python/pool.py
+check 'first.py' prints "$work/first" python3 python/first.py
 check 'deadlock.py' prints "$work/stalled" python3 python/deadlock.py
 check 'deadlock.py keeps its journal' keeps_journal
 check 'choice.py' chooses python3 python/choice.py

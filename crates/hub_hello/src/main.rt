@@ -9,7 +9,6 @@ use hub_live::{Blank, Chan, Ended, Held, HubName, LiveHub, Seat, hold_all};
 use std::marker::Brand;
 use std::process::ExitCode;
 use std::sync::Wait;
-use std::thread::Threads;
 
 /// What the processes do over this channel.
 #[derive(Clone, Copy)]
@@ -20,20 +19,14 @@ impl<K: HubName, R: Wait> Task<LiveHub<K>, Held<K>, R> for Hello {
 
     fn perform(self, rt: &R, hub: &LiveHub<K>, seat: &mut Held<K>) -> Result<Option<u64>, Ended> {
         if seat.pid() == Pid(0) {
-            seat.send_value(rt, hub, &self.0.sender(), Value::num(9))?;
-            return Ok(None);
+            return seat.send_value(rt, hub, &self.0.sender(), Value::num(9)).map(|()| None);
         }
-        let got = seat.recv_value(rt, hub, &self.0.receiver())?;
-        Ok(got.and_then(Value::as_num))
+        Ok(seat.recv_value(rt, hub, &self.0.receiver())?.and_then(Value::as_num))
     }
 }
 
 /// Runs both processes, and prints what each reports. `None` where memory, a thread or a step was refused.
-fn run<K: HubName + Send + Sync, R: Threads + Wait + Print + AllocGlobal + Sync>(
-    rt: &R,
-    blank: Blank,
-    seats: Vec<Seat>,
-) -> Option<()>
+fn run<K: HubName + Send + Sync>(rt: &HostRuntime, blank: Blank, seats: Vec<Seat>) -> Option<()>
     requires named { blank.name ≡ K.name }
     requires seats { All (λ s. s.hub ≡ K.name) seats.items }
 {
@@ -51,5 +44,5 @@ fn main(rt: HostRuntime) -> ExitCode {
     let Ok((blank, seats)) = Blank::open(rt.alloc(), 2, 100, Edition::One) else {
         return ExitCode::FAILURE;
     };
-    run::<Brand, _>(&rt, blank, seats).map_or(ExitCode::FAILURE, |()| ExitCode::SUCCESS)
+    run::<Brand>(&rt, blank, seats).map_or(ExitCode::FAILURE, |()| ExitCode::SUCCESS)
 }

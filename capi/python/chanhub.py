@@ -8,7 +8,7 @@ A call that fails raises Closed, Drained, Stalled, Cancelled or Fault. If every 
 call raises Stalled.
 
 Ctrl-C interrupts a wait of the main thread with KeyboardInterrupt. Nothing is lost: the call stays open, `seat.waits` is true, and
-`seat.resume()` waits for the answer again. Leaving the `with Hub` block ends what the threads do on the hub: no new call begins, and
+`seat.resume()` resumes the wait. Leaving the `with Hub` block ends what the threads do on the hub: no new call begins, and
 each waiting call ends. A hub belongs to the operating-system process that opened it: in a forked child, every call on it raises
 RuntimeError.
 """
@@ -406,7 +406,7 @@ class Seat:
         return self.pid in self.hub._left
 
     def resume(self) -> Union[None, Value, Fired]:
-        """Waits for the answer of the call that Ctrl-C interrupted, and returns or raises what that call would have.
+        """Resumes the wait of the call that Ctrl-C interrupted, and returns or raises what that call would have.
 
         Raises Fault 12 if there is no such call, and Fault 3 if another thread is waiting for its answer.
         """

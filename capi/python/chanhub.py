@@ -1,14 +1,16 @@
-"""A hub of Go channels that Python threads share, with a journal of all that happened: over libchanhub.so.
+"""A hub of Go channels that Python threads share. The hub keeps a journal of its steps. Requires libchanhub.so.
 
     with Hub(procs=2) as hub:
         port = hub.seat(0).make(0)
 
-Each thread calls by a seat of its own. Other threads run while a call waits. A call that fails raises Closed, Drained, Stalled,
-Cancelled or Fault.
+A hub has a fixed number of processes, and each thread calls as one of them, through a seat. Other threads run while a call waits.
+A call that fails raises Closed, Drained, Stalled, Cancelled or Fault. If every process that has not exited is waiting, each waiting
+call raises Stalled.
 
-Ctrl-C ends the wait of the main thread by KeyboardInterrupt, and loses nothing: the call stays open, `seat.waits` says so, and
-`seat.resume()` waits on for its answer. Leaving `with Hub` ends what its threads do: no new call begins, and each waiting call
-ends. A hub belongs to the process which opened it: in a forked child each call on it raises RuntimeError.
+Ctrl-C interrupts a wait of the main thread with KeyboardInterrupt. Nothing is lost: the call stays open, `seat.waits` is true, and
+`seat.resume()` resumes the wait. Leaving the `with Hub` block ends what the threads do on the hub: no new call begins, and
+each waiting call ends. A hub belongs to the operating-system process that opened it: in a forked child, every call on it raises
+RuntimeError.
 """
 from __future__ import annotations
 
@@ -22,7 +24,7 @@ from threading import get_ident
 from typing import Any, Callable, Dict, Iterable, Iterator, NamedTuple, Optional, Sequence, Set, Tuple, Union
 
 Value = Union[int, bytes]
-# What may be sent. A bool is the number that it is, 0 or 1; a bytearray and a memoryview are received as bytes.
+# The types that can be sent. A bool is sent as the number 0 or 1; a bytearray or a memoryview is received as bytes.
 Sendable = Union[int, bytes, bytearray, memoryview]
 
 MADE, SENT, GOT, DRAINED, CLOSED, DEFAULT, DONE, WAITING, STALLED, FAULT, CANCELLED = range(1, 12)
@@ -38,7 +40,10 @@ OPENING = {1: '1 to 64 processes', 2: '1 to 1,000,000 steps', 4: 'edition 1 or 2
 
 
 class Ended(Exception):
-    """Why a call failed, but for a Fault. `index` is that of its case."""
+    """Base class of the exceptions of a call that ended without a value, except Fault.
+
+    For Closed and Drained, `index` is the index of the case.
+    """
 
     words = 'the call ended without a value'
 
@@ -51,31 +56,31 @@ class Ended(Exception):
 
 
 class Closed(Ended):
-    """A send on a closed port."""
+    """Raised by a send on a closed port."""
 
     words = 'a send on a closed port'
 
 
 class Drained(Ended):
-    """A receive from a port that is closed and holds nothing more."""
+    """Raised by a receive from a port that is closed and empty."""
 
     words = 'the port is closed and holds nothing more'
 
 
 class Stalled(Ended):
-    """Everybody waited."""
+    """Raised by every waiting call when all processes that have not exited are waiting. The call had no effect."""
 
     words = 'everybody waited, so no call could ever end'
 
 
 class Cancelled(Ended):
-    """Another process ended the call."""
+    """Raised by a call that another process cancelled. The call had no effect."""
 
     words = 'another process ended the call'
 
 
 class Fault(Exception):
-    """Nothing happened, for the reason `number`."""
+    """Raised by a call that was refused or answered with a fault. Nothing happened. `number` is the reason, a key of FAULTS."""
 
     def __init__(self, number: int) -> None:
         super().__init__(number)
@@ -86,24 +91,24 @@ class Fault(Exception):
 
 
 class Send(NamedTuple):
-    """A case that sends a value on a port."""
+    """A case of a select that sends a value on a port."""
     port: int
     value: Sendable
 
 
 class Recv(NamedTuple):
-    """A case that receives from a port."""
+    """A case of a select that receives from a port."""
     port: int
 
 
 class Fired(NamedTuple):
-    """The case of a select that fired, and what it received."""
+    """The result of a select: the index of the case that fired and, for a receive, the value. `value` is None for a send."""
     index: int
     value: Optional[Value] = None
 
 
 class Counts(NamedTuple):
-    """What a look at a port tells."""
+    """The counts of a port: its capacity, how many values were sent and received, and whether it is closed."""
     cap: int
     sent: int
     received: int
@@ -111,7 +116,7 @@ class Counts(NamedTuple):
 
 
 class _Told(ctypes.Structure):
-    """chanhub_told, with the members of its value."""
+    """chanhub_told, with the members of its value inline."""
     _fields_ = [('what', ctypes.c_uint8), ('fault', ctypes.c_uint8), ('index', ctypes.c_uint8), ('port', ctypes.c_uint16),
                 ('number', ctypes.c_uint64), ('is_bytes', ctypes.c_bool), ('length', ctypes.c_uint8), ('bytes', ctypes.c_uint8 * 32)]
 
@@ -119,7 +124,7 @@ class _Told(ctypes.Structure):
         return bytes(self.bytes[:self.length]) if self.is_bytes else int(self.number)
 
 
-# chanhub_case: that of a receive, of a send of a number, and of a send of bytes. It begins with `sends` and the port.
+# The layouts of chanhub_case for a receive, a send of a number, and a send of bytes. Each begins with `sends` and the port.
 _pack_recv = struct.Struct('=?xH52x').pack
 _pack_number = struct.Struct('=?xH4xQ40x').pack
 _pack_bytes = struct.Struct('=?xH12x?B32s6x').pack
@@ -131,7 +136,7 @@ class _Counts(ctypes.Structure):
 
 
 def _library() -> ctypes.CDLL:
-    """libchanhub.so: where CHANHUB_LIBRARY says, or where make leaves it, or where the system has it."""
+    """Loads libchanhub.so: the file that CHANHUB_LIBRARY names, or the one that make builds, or the installed one."""
     built = os.path.join(os.path.dirname(os.path.abspath(__file__)), '..', 'out', 'libchanhub.so')
     path = os.environ.get('CHANHUB_LIBRARY') or (built if os.path.exists(built) else 'libchanhub.so.1')
     library = ctypes.CDLL(path)
@@ -156,19 +161,19 @@ def _library() -> ctypes.CDLL:
 
 _LIBRARY = _library()
 _select, _begin, _resume = _LIBRARY.chanhub_select, _LIBRARY.chanhub_begin, _LIBRARY.chanhub_resume
-# For how many nanoseconds the main thread waits before it looks whether there was a signal.
+# How many nanoseconds the main thread waits before it checks for signals.
 _SLICE = 50_000_000
-# The thread that is told of signals.
+# The thread that handles signals.
 _main = threading.main_thread().ident
 
 
-# All hubs that are open.
+# All open hubs.
 _hubs: weakref.WeakSet[Hub] = weakref.WeakSet()
 
 
 def _after_fork() -> None:
-    """In a child, the thread that forked is the main one, and hubs are of no use: other threads, which are not there, may hold
-    their locks."""
+    """In a forked child, makes the thread that forked the main one, and ends all hubs: threads that do not exist in the child may
+    hold their locks."""
     global _main
     _main = get_ident()
     for hub in list(_hubs):
@@ -179,14 +184,14 @@ os.register_at_fork(after_in_child=_after_fork)
 
 
 def _within(name: str, number: int, most: int) -> int:
-    """ctypes would cut a number that is too large."""
+    """Returns the number if it is within 0 to `most`, and otherwise raises ValueError. ctypes would truncate it."""
     if not 0 <= number <= most:
         raise ValueError(f'{name} {number}: not within 0 to {most}')
     return number
 
 
 def _send_case(port: int, value: Sendable) -> bytes:
-    """A case that sends this value, as C has it."""
+    """Returns the chanhub_case that sends this value."""
     if isinstance(value, int):
         if 0 <= port <= 65535 and 0 <= value < 2 ** 64:
             return _pack_number(True, port, value)
@@ -199,7 +204,7 @@ def _send_case(port: int, value: Sendable) -> bytes:
 
 
 def _recv_case(port: int) -> bytes:
-    """A case that receives from this port, as C has it."""
+    """Returns the chanhub_case that receives from this port."""
     return _pack_recv(False, port if 0 <= port <= 65535 else _within('port', port, 65535))
 
 
@@ -211,12 +216,12 @@ _ENDED = {CLOSED: Closed, DRAINED: Drained, STALLED: Stalled, CANCELLED: Cancell
 
 
 def _ended(told: _Told) -> Exception:
-    """What ended a call without a value."""
+    """Returns the exception for a call that ended without a value."""
     ended = _ENDED.get(told.what)
     return Fault(told.fault) if ended is None else ended(told.index)
 
 
-# What a call gives that was told this, or raises where it ended without a value.
+# A function from the answer of a call to its result. It raises an exception if the call ended without a value.
 _Gives = Callable[[_Told], Any]
 
 
@@ -253,15 +258,20 @@ def _done(told: _Told) -> None:
 
 
 def _free(handle: ctypes.c_void_p, opener: int) -> None:
-    """Frees a hub, but not in a forked child, where its lock may be held by a thread that is not there."""
+    """Frees a hub, except in a forked child, where a thread that does not exist may hold its lock."""
     if os.getpid() == opener:
         _LIBRARY.chanhub_free(handle)
 
 
 class Hub:
-    """A hub of `procs` processes: exactly as many as run, since all others may wait for one that neither calls nor exits.
+    """A hub of `procs` processes, 1 to 64, that makes at most `limit` steps, 1 to 1,000,000, not counting exits.
 
-    Its memory goes once no thread calls on it or has a seat of it any longer, or else with the interpreter's own process.
+    Open exactly as many processes as run: all others may wait for a process that neither calls nor exits. An edition 1 hub carries
+    numbers only and has up to 8 cases in a select; edition 2 adds bytes, 16 cases and `cancel`.
+
+    Raises ValueError if an argument is out of range, and MemoryError if memory runs out.
+
+    The hub is freed once no thread calls on it and nothing refers to it or its seats, or when the interpreter's process ends.
     """
 
     def __init__(self, procs: int, edition: int = 2, limit: int = 1_000_000) -> None:
@@ -273,16 +283,16 @@ class Hub:
         if refusal:
             raise ValueError(OPENING[refusal])
         self._handle = handle
-        self._live: Optional[ctypes.c_void_p] = handle  # None once no call may begin
+        self._live: Optional[ctypes.c_void_p] = handle  # None once no new call may begin
         self._procs = procs
         self._opener = os.getpid()
-        # The open calls that an exception left, by process: what each gives, and what it was told last.
+        # The open calls that an exception interrupted, by process: the function for each one's result, and its last answer.
         self._left: Dict[int, Tuple[_Gives, _Told]] = {}
-        # Of those the ones for which a thread waits again.
+        # The processes of those calls for which a thread waits again.
         self._resumed: Set[int] = set()
         self._settling = threading.RLock()
         self._free = weakref.finalize(self, _free, handle, self._opener)
-        # At the interpreter's end other threads may still call on it.
+        # When the interpreter exits, other threads may still call on the hub.
         self._free.atexit = False
         _hubs.add(self)
 
@@ -290,25 +300,25 @@ class Hub:
         return self
 
     def __exit__(self, *_: object) -> None:
-        """From now on no call on the hub begins, but for exits. Each process that does not wait exits. Each waiting call ends, at
-        latest by Stalled, and then its process exits too."""
+        """Ends the hub. No new call begins, except exits. Each process that is not waiting exits. Each waiting call ends, with
+        Stalled if nothing else ends it, and then its process exits too."""
         if self._is_here():
             self._live = None
             self._settle()
 
     def _is_here(self) -> bool:
-        """Whether this is the process which opened it, and not a forked child."""
+        """Whether this operating-system process opened the hub. False in a forked child."""
         return os.getpid() == self._opener
 
     def _owned(self) -> ctypes.c_void_p:
-        """The handle, also of a hub that has ended."""
+        """Returns the handle, even if the hub has ended. Raises RuntimeError in a forked child."""
         if not self._is_here():
             raise RuntimeError('the hub belongs to the process which opened it, and not to a forked child')
         return self._handle
 
     @property
     def handle(self) -> ctypes.c_void_p:
-        """The hub for a call that begins."""
+        """The C library's pointer to the hub, for a new call. Raises ValueError once the hub has ended."""
         handle = self._live
         if handle is None:
             self._owned()
@@ -316,16 +326,19 @@ class Hub:
         return handle
 
     def seat(self, pid: int) -> Seat:
-        """What one thread calls with in the name of process `pid`."""
+        """Returns a seat, through which one thread at a time calls as process `pid`."""
         return Seat(self, pid)
 
     def look(self, port: int) -> Optional[Counts]:
-        """The counts of a port now; None where it is not made."""
+        """Returns the present counts of a port, or None if the port has not been made."""
         counts = _LIBRARY.chanhub_look(self._owned(), _within('port', port, 65535))
         return Counts(counts.cap, counts.sent, counts.received, counts.closed) if counts.made else None
 
     def journal(self) -> bytes:
-        """The journal so far, as `chanhub replay` reads it where it has at most 67,108,864 bytes."""
+        """Returns the text of the journal so far. `chanhub replay` reads it if it has at most 67,108,864 bytes.
+
+        Raises MemoryError if memory runs out.
+        """
         length = ctypes.c_size_t()
         text = _LIBRARY.chanhub_journal(self._owned(), ctypes.byref(length))
         if not text:
@@ -336,14 +349,14 @@ class Hub:
             _LIBRARY.chanhub_free_text(text)
 
     def _settle(self) -> None:
-        """Of a hub that has ended: exits all processes that do not wait. An exit may end calls by a stall, so it goes on until there
-        is none more to make. Whoever's call ends later settles again."""
+        """Exits all processes that are not waiting, once the hub has ended. An exit may end calls by a stall, so this repeats until
+        no process exits. A call that ends later does the same again."""
         with self._settling:
             while any([self._exits(pid) for pid in range(self._procs)]):
                 pass
 
     def _exits(self, pid: int) -> bool:
-        """Whether the process had not exited, does not wait, and exits now."""
+        """Exits the process if it is not waiting. Returns whether it exited now."""
         if pid in self._left and pid not in self._resumed:
             gives, told = self._left[pid]
             if told.what == WAITING:
@@ -353,25 +366,25 @@ class Hub:
 
 
 class Table:
-    """Objects that channels pass by their numbers: `seat.send(port, table.put(it))`, and `table.take(seat.recv(port))`."""
+    """Keeps objects, so that channels can pass their numbers: `seat.send(port, table.put(it))` and `table.take(seat.recv(port))`."""
 
     def __init__(self) -> None:
         self._numbers = count()
         self._things: Dict[int, Any] = {}
 
     def put(self, thing: Any) -> int:
-        """Keeps an object, and gives its number."""
+        """Stores an object and returns its number."""
         number = next(self._numbers)
         self._things[number] = thing
         return number
 
     def take(self, number: Value) -> Any:
-        """The object of this number, which the table keeps no longer. KeyError where there is none."""
+        """Removes and returns the object with this number. Raises KeyError if there is none."""
         return self._things.pop(number)
 
 
 class Seat:
-    """A process of a hub, in whose name one thread at a time calls. As a context manager it exits at the end."""
+    """A process of a hub. One thread at a time may call through it. As a context manager, it exits the process at the end."""
 
     def __init__(self, hub: Hub, pid: int) -> None:
         self.hub = hub
@@ -381,20 +394,22 @@ class Seat:
         return self
 
     def __exit__(self, kind: object, *_: object) -> None:
-        """Exits, but in a forked child, and where the block was left by an exception while a call is open: that exception goes on."""
+        """Exits the process, except in a forked child, or if an exception left the block while a call is open."""
         if not self.hub._is_here() or kind is not None and self.waits:
             return
         self.exit()
 
     @property
     def waits(self) -> bool:
-        """Whether a call of the process is open that Ctrl-C left. `resume` waits on for its answer; until then each other call of
-        the process is Fault 3."""
+        """Whether Ctrl-C interrupted a call of the process that is still open. `resume` waits for its answer; until then, every other
+        call of the process raises Fault 3."""
         return self.pid in self.hub._left
 
     def resume(self) -> Union[None, Value, Fired]:
-        """Waits on for the answer of the call that Ctrl-C left open, and gives or raises what that call would have. Fault 12 where
-        there is none."""
+        """Resumes the wait of the call that Ctrl-C interrupted, and returns or raises what that call would have.
+
+        Raises Fault 12 if there is no such call, and Fault 3 if another thread is waiting for its answer.
+        """
         hub, pid = self.hub, self.pid
         hub._owned()
         with hub._settling:
@@ -411,23 +426,25 @@ class Seat:
             hub._resumed.discard(pid)
 
     def make(self, cap: int) -> int:
-        """Makes a channel that buffers `cap` values, and gives its port."""
+        """Makes a channel that buffers up to `cap` values, 0 to 1,024, and returns its port."""
         told = _LIBRARY.chanhub_make(self._handle(), self.pid, _within('capacity', cap, 2 ** 32 - 1))
         port: int = self._give(_made, told)
         return port
 
     def send(self, port: int, value: Sendable) -> None:
-        """Sends a value, and waits until it is taken or buffered. TypeError where it is neither an int nor bytes; ValueError where it
-        is not within 64 bits or 32 bytes."""
+        """Sends a value. Waits until a receiver takes it or the buffer has room for it.
+
+        Raises TypeError if the value is neither an int nor bytes, and ValueError if it does not fit into 64 bits or 32 bytes.
+        """
         self._call(_sent, _send_case(port, value))
 
     def recv(self, port: int) -> Value:
-        """Waits for a value."""
+        """Receives a value and returns it. Waits until there is one."""
         value: Value = self._call(_got, _recv_case(port))
         return value
 
     def drain(self, port: int) -> Iterator[Value]:
-        """Receives until the port is closed and holds nothing more."""
+        """Iterates over received values until the port is closed and empty."""
         while True:
             try:
                 value = self.recv(port)
@@ -436,18 +453,24 @@ class Seat:
             yield value
 
     def select(self, cases: Sequence[Union[Send, Recv]], default: bool = False, word: int = 0) -> Optional[Fired]:
-        """Makes a case that can proceed: if k can, number `word` mod k of them, counted from 0. Word 0 takes the first; pass
-        `random.getrandbits(64)` for a fair choice. If none can proceed: None with a default, and else it waits."""
+        """Fires one of the cases that can proceed, and returns which one, with the value that it received.
+
+        If k cases can proceed, it fires number `word` mod k of them, counted from 0. Word 0 always picks the first; pass
+        `random.getrandbits(64)` for a fair choice. If no case can proceed, it returns None if `default` is true, and otherwise waits.
+        """
         packed = b''.join(map(_case, cases))
         fired: Optional[Fired] = self._call(_fired, packed, len(cases), default, _within('word', word, 2 ** 64 - 1))
         return fired
 
     def close(self, port: int) -> None:
-        """Closes a port."""
+        """Closes a port. Waiting sends raise Closed, and waiting receives raise Drained."""
         self._give(_done, _LIBRARY.chanhub_close(self._handle(), self.pid, _within('port', port, 65535)))
 
     def exit(self) -> None:
-        """Ends the process, so that nobody waits for it. A second time it does nothing. It may come after the hub's end."""
+        """Ends the process, so that no other process waits for it. Does nothing if the process has already exited.
+
+        Raises Fault 3 if a call of the process is open. May be called after the hub has ended.
+        """
         handle = self.hub._owned()
         if self.waits:
             raise Fault(BUSY)
@@ -456,17 +479,20 @@ class Seat:
             _done(told)
 
     def cancel(self, other: int) -> None:
-        """Ends the waiting call of another process, by Cancelled."""
+        """Ends the waiting call of another process with Cancelled. Raises Fault 12 if that process has no waiting call.
+
+        Requires edition 2; in edition 1 it raises Fault 13.
+        """
         self._give(_done, _LIBRARY.chanhub_cancel(self._handle(), self.pid, _within('process', other, 255)))
 
     def _handle(self) -> ctypes.c_void_p:
-        """The hub, for a call that begins."""
+        """Returns the hub's handle for a new call. Raises Fault 3 if a call of the process is open."""
         if self.waits:
             raise Fault(BUSY)
         return self.hub.handle
 
     def _give(self, gives: _Gives, told: _Told) -> Any:
-        """What a call gives that was told this. The hub may have ended meanwhile."""
+        """Returns the result of a call with this answer. The hub may have ended meanwhile."""
         if self.hub._live is None:
             self.hub._settle()
             if told.fault == GONE:
@@ -474,7 +500,7 @@ class Seat:
         return gives(told)
 
     def _call(self, gives: _Gives, cases: bytes, count: int = 1, default: bool = False, word: int = 0) -> Any:
-        """Makes a call of these cases. The main thread begins it, so that it waits in slices, and may be interrupted."""
+        """Makes a call of these cases. The main thread waits in short slices, so that it can be interrupted."""
         hub = self.hub
         call = (hub._live or hub.handle, self.pid, cases, count, default, word)
         if hub._left and self.waits:
@@ -484,10 +510,10 @@ class Seat:
         return self._await(gives, starmap(_begin, (call,)))
 
     def _await(self, gives: _Gives, asked: Iterable[_Told]) -> Any:
-        """Waits for the answer of a call that was told this, and gives what the call gives.
+        """Waits for the final answer of a call, of which `asked` yields the first one, and returns the call's result.
 
-        An exception may come between any two steps of the interpreter: KeyboardInterrupt, or what else the handler of a signal
-        raises. It loses no answer, since `told, = starmap(..)` calls the library and keeps what it tells within one step.
+        An exception may occur between any two steps of the interpreter: KeyboardInterrupt, or any other that a signal handler raises.
+        No answer is lost, because `told, = starmap(..)` calls the library and stores its answer within one step.
         """
         hub, pid = self.hub, self.pid
         told: Optional[_Told] = None

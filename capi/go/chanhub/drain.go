@@ -2,7 +2,7 @@ package chanhub
 
 import "errors"
 
-// Drain receives from a port until it is closed and holds nothing more:
+// A Drain receives values from a port until the port is closed and empty:
 //
 //	values := seat.Drain(port)
 //	for values.Next() {
@@ -20,12 +20,13 @@ type Drain struct {
 	end   error
 }
 
-// Drain gives what receives from a port until it is drained.
+// Drain returns a [Drain] that receives from a port until the port is closed and empty.
 func (s *Seat) Drain(port Port) *Drain {
 	return &Drain{seat: s, port: port}
 }
 
-// Next receives the next value, and waits until one comes; false where none will. Once it is false it stays so, without a step.
+// Next receives the next value for [Drain.Value]. It waits until there is one, and returns true. It returns false if the port is
+// closed and empty, or if the receive fails. After that it always returns false, without making a step.
 func (d *Drain) Next() bool {
 	if d.end != nil {
 		return false
@@ -34,12 +35,12 @@ func (d *Drain) Next() bool {
 	return d.end == nil
 }
 
-// Value is what the last Next received.
+// Value returns the value that the last call of Next received.
 func (d *Drain) Value() Value {
 	return d.value
 }
 
-// Err is what ended it, once Next is false: nil where the port is closed and holds nothing more.
+// Err returns the error that ended the iteration, once Next has returned false. It returns nil if the port was closed and empty.
 func (d *Drain) Err() error {
 	if errors.Is(d.end, ErrDrained) {
 		return nil

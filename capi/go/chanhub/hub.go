@@ -1,26 +1,26 @@
-// Package chanhub is a hub of channels that goroutines share, with the meaning of Go's own channels and a journal of all that
-// happened.
+// Package chanhub provides a hub of channels that goroutines share. The channels behave like Go's own, and the hub keeps a
+// journal of its steps.
 //
-// A hub has 1 to 64 processes, each of which calls by its [Seat]. A call that has to wait waits, and holds up no other. When
-// every process that has not exited waits, no call could ever end: then each call returns [ErrStalled]. A process that waits
-// outside the hub keeps that from all. So a goroutine that others may wait for calls [Seat.Exit] before it returns, and before
-// it waits for other goroutines.
+// A hub has 1 to 64 processes. A goroutine calls as one of them, through a [Seat]. A call that has to wait blocks its goroutine
+// and delays no other call. If every process that has not exited is waiting, no call could ever end; in that case each waiting
+// call returns [ErrStalled]. This cannot happen as long as one of these processes waits outside the hub. A goroutine that others
+// may wait for must therefore call [Seat.Exit] before it returns and before it waits for other goroutines.
 //
 // # Errors
 //
-// A call that fails returns [ErrClosed], [ErrDrained], [ErrStalled], [ErrCancelled], [ErrHubClosed], or a [Fault] if nothing
-// happened. [errors.Is] finds each of them, and [errors.As] a Fault.
+// A call that fails returns [ErrClosed], [ErrDrained], [ErrStalled], [ErrCancelled] or [ErrHubClosed], or a [Fault] if nothing
+// happened. Use [errors.Is] to test for a particular error, and [errors.As] to get a Fault.
 //
 // # Threads
 //
-// Each call goes through cgo: while it waits, its goroutine keeps a thread of the system, up to 64 for a hub. Other goroutines go
-// on meanwhile.
+// Each call goes through cgo. While a call waits, its goroutine holds an operating system thread, so a hub may hold up to 64.
+// Other goroutines keep running.
 //
 // # The library
 //
-// The package needs cgo, and links libchanhub.a: of the folder capi/out of this repository, where `make -C capi` leaves it. To
-// link another one, set CGO_LDFLAGS=-L/its/folder, and CGO_CFLAGS=-I/folder for its header. The go tool does not see that a
-// library was built anew: `go build -a` links it.
+// The package requires cgo. It links libchanhub.a from the folder capi/out of this repository, where `make -C capi` builds it. To
+// link a library in another folder, set CGO_LDFLAGS=-L/its/folder and, for its header, CGO_CFLAGS=-I/folder. The go tool does not
+// notice that the library was rebuilt; use `go build -a` to link the new one.
 package chanhub
 
 /*
@@ -36,39 +36,40 @@ import (
 	"unsafe"
 )
 
-// Edition says what a hub admits.
+// An Edition decides what the calls on a hub may contain.
 type Edition int
 
 const (
-	// Edition1 has numbers as values, and up to 8 cases in a select.
+	// Edition1 hubs have numbers as values, and up to 8 cases in a select.
 	Edition1 Edition = 1
-	// Edition2 has also bytes as values, up to 16 cases in a select, and Cancel.
+	// Edition2 hubs also have bytes as values, up to 16 cases in a select, and Cancel.
 	Edition2 Edition = 2
 )
 
-// Port is the number of a channel, from 1 on. Port 0 is there, and never ready: what a nil channel is in Go.
+// A Port is the number of a channel, counted from 1. Port 0 always exists and is never ready, like a nil channel in Go.
 type Port uint16
 
-// Counts are those of a port. Sent - Received values are in its buffer.
+// Counts holds the counts of a port. Its buffer holds Sent - Received values.
 type Counts struct {
 	Capacity, Sent, Received int
 	Closed                   bool
 }
 
-// Hub is a hub of channels. All its methods may be called by all goroutines at any time.
+// A Hub is a hub of channels. Its methods may be called by multiple goroutines at any time.
 type Hub struct {
 	at      *C.chanhub
 	freed   sync.Once
-	running sync.WaitGroup // the calls that are in the library
+	running sync.WaitGroup // the calls in the library
 
 	lock    sync.Mutex
 	closed  bool
-	calling []int // by process, how many calls in its name are in the library
+	calling []int // for each process, the number of its calls in the library
 }
 
-// Open opens a hub with 1 to 64 processes, which makes at most limit steps, 1 to 1,000,000, exits not counted. It refuses by
-// ErrProcs, ErrLimit, ErrEdition or ErrMemory. Close gives back its memory, and nothing else does. A process by whose seat nobody
-// calls has to exit as well, or the others may wait for it for ever.
+// Open opens a hub with 1 to 64 processes. The hub makes at most limit steps, 1 to 1,000,000, not counting exits.
+//
+// Open returns [ErrProcs], [ErrLimit], [ErrEdition] or [ErrMemory] if it fails. Only [Hub.Close] frees the memory of a hub. If no
+// goroutine calls as one of the processes, call [Seat.Exit] for it. Otherwise the other processes may wait for it for ever.
 func Open(edition Edition, procs int, limit int) (*Hub, error) {
 	var at *C.chanhub
 	switch C.chanhub_open(&at, within(int(edition)), within(procs), C.uint32_t(within(limit))) {
@@ -84,12 +85,13 @@ func Open(edition Edition, procs int, limit int) (*Hub, error) {
 	return nil, ErrMemory
 }
 
-// Seat gives the seat of a process, from 0 on. Where the hub has none of this number each call by the seat is a Fault.
+// Seat returns the seat of the process with the number pid. Processes are numbered from 0. If the hub has no such process, each
+// call through the seat returns a Fault.
 func (h *Hub) Seat(pid int) *Seat {
 	return &Seat{hub: h, pid: pid}
 }
 
-// Look tells the counts of a port now; FaultNoPort where it is not made.
+// Look returns the present counts of a port. It returns [FaultNoPort] if the port has not been made.
 func (h *Hub) Look(port Port) (Counts, error) {
 	if err := h.enter(nobody); err != nil {
 		return Counts{}, err
@@ -102,8 +104,8 @@ func (h *Hub) Look(port Port) (Counts, error) {
 	return Counts{int(counts.cap), int(counts.sent), int(counts.received), bool(counts.closed)}, nil
 }
 
-// Journal gives the journal so far, as the text that `chanhub replay` reads; FaultNoMemory where memory is refused. Other calls
-// are held up meanwhile.
+// Journal returns the text of the journal so far, which `chanhub replay` reads if it has at most 67,108,864 bytes. Other calls on
+// the hub are delayed meanwhile. Journal returns [FaultNoMemory] if memory runs out.
 func (h *Hub) Journal() ([]byte, error) {
 	if err := h.enter(nobody); err != nil {
 		return nil, err
@@ -118,9 +120,10 @@ func (h *Hub) Journal() ([]byte, error) {
 	return append([]byte(nil), unsafe.Slice((*byte)(unsafe.Pointer(text)), int(length))...), nil
 }
 
-// Close ends the hub and gives back its memory. Calls that come later are refused by ErrHubClosed. Calls that run end: one that
-// waits returns ErrHubClosed, and one that can proceed what it came to. Close waits for them, which takes no longer than a step
-// of each. It may be called more than once and by several goroutines, and returns nil.
+// Close ends the hub and frees its memory. It always returns nil, and may be called more than once and by several goroutines.
+//
+// Later calls return [ErrHubClosed]. Of the calls that are running, those that wait return ErrHubClosed, and those that can
+// proceed return their result. Close waits for the running calls, which takes no longer than a step of each.
 func (h *Hub) Close() error {
 	h.freed.Do(func() {
 		h.shut()
@@ -130,8 +133,8 @@ func (h *Hub) Close() error {
 	return nil
 }
 
-// shut lets no call begin from now on, and exits the processes in whose name none runs. The others exit as their calls leave. So
-// soon every process has exited or waits: then the hub tells those that wait that they are stalled, and none is left.
+// shut lets no further call begin, and exits the processes that have no running call. The others exit when their calls leave.
+// Every process has then soon exited or is waiting, so the hub stalls the calls that wait, and none is left.
 func (h *Hub) shut() {
 	h.lock.Lock()
 	defer h.lock.Unlock()
@@ -143,10 +146,10 @@ func (h *Hub) shut() {
 	}
 }
 
-// nobody is the process of a look, and of the journal.
+// nobody stands for the process of Look and Journal, which have none.
 const nobody = -1
 
-// enter lets a call in the name of a process into the library, unless the hub is closed. The memory stays until it leaves.
+// enter lets a call of a process into the library, or returns ErrHubClosed. The memory is kept until the call leaves.
 func (h *Hub) enter(pid int) error {
 	h.lock.Lock()
 	defer h.lock.Unlock()
@@ -160,7 +163,7 @@ func (h *Hub) enter(pid int) error {
 	return nil
 }
 
-// leave ends a call, and says whether the hub is closed; if it is, the process exits with the last of its calls.
+// leave ends a call, and reports whether the hub is closed. If so, the process exits with the last of its calls.
 func (h *Hub) leave(pid int) (closed bool) {
 	defer h.running.Done()
 	h.lock.Lock()
@@ -178,7 +181,7 @@ func (h *Hub) has(pid int) bool {
 	return 0 <= pid && pid < len(h.calling)
 }
 
-// within is a number as the library takes it. One that C would cut becomes the greatest, which the library refuses.
+// within converts a number for the library. A number that C would truncate becomes the greatest one, which the library refuses.
 func within(number int) C.uint {
 	if number < 0 || number > math.MaxUint32 {
 		return math.MaxUint32

@@ -3,19 +3,19 @@ package chanhub
 // #include <chanhub.h>
 import "C"
 
-// Seat is a process of a hub. One goroutine at a time calls by it; which goroutine that is may change. Until a call that waits has
-// returned, another one of the process is refused by FaultBusy. Two seats of one number are one process.
+// A Seat is a process of a hub. Only one goroutine at a time may call through it; several may take turns. While a call of the
+// process waits, its other calls return [FaultBusy]. Two seats with the same number are the same process.
 type Seat struct {
 	hub *Hub
 	pid int
 }
 
-// Pid is the number of the process.
+// Pid returns the number of the process.
 func (s *Seat) Pid() int {
 	return s.pid
 }
 
-// Make makes a channel that buffers up to capacity values, 0 to 1,024, and gives its port.
+// Make makes a channel that buffers up to capacity values, 0 to 1,024, and returns its port.
 func (s *Seat) Make(capacity int) (Port, error) {
 	told, err := s.call(func(hub *C.chanhub, pid C.uint) C.chanhub_told {
 		return C.chanhub_make(hub, pid, C.uint32_t(within(capacity)))
@@ -23,7 +23,8 @@ func (s *Seat) Make(capacity int) (Port, error) {
 	return told.port, err
 }
 
-// Send sends a value, and waits until a receiver or a place of the buffer takes it.
+// Send sends a value on a port. It waits until a receiver takes the value or the buffer has room for it. It returns [ErrClosed] if
+// the port is closed.
 func (s *Seat) Send(port Port, value Value) error {
 	_, err := s.call(func(hub *C.chanhub, pid C.uint) C.chanhub_told {
 		return C.chanhub_send(hub, pid, C.uint(port), value.raw())
@@ -31,7 +32,7 @@ func (s *Seat) Send(port Port, value Value) error {
 	return err
 }
 
-// Recv receives a value, and waits until one comes.
+// Recv receives a value from a port. It waits until there is one. It returns [ErrDrained] if the port is closed and empty.
 func (s *Seat) Recv(port Port) (Value, error) {
 	told, err := s.call(func(hub *C.chanhub, pid C.uint) C.chanhub_told {
 		return C.chanhub_recv(hub, pid, C.uint(port))
@@ -39,31 +40,34 @@ func (s *Seat) Recv(port Port) (Value, error) {
 	return told.value, err
 }
 
-// Case is a case of a select.
+// A Case is a case of a select. [SendCase] and [RecvCase] make one.
 type Case struct {
 	sends bool
 	port  Port
 	value Value
 }
 
-// SendCase is the case that sends a value.
+// SendCase returns a case that sends a value on a port.
 func SendCase(port Port, value Value) Case {
 	return Case{sends: true, port: port, value: value}
 }
 
-// RecvCase is the case that receives a value.
+// RecvCase returns a case that receives a value from a port.
 func RecvCase(port Port) Case {
 	return Case{port: port}
 }
 
-// Select makes a case that can proceed, or waits until one can. If k can, it makes number word mod k of them, counted from 0:
-// pass a random word for a fair choice; word 0 takes the first. The index is that of the case that sent, that received the
-// value, or that failed by ErrClosed or ErrDrained; and -1 with every other error.
+// Select fires one of the cases that can proceed, or waits until one can. If k cases can proceed, it fires number word mod k of
+// them, counted from 0. Pass a random word for a fair choice; word 0 always picks the first.
+//
+// Select returns the index of the case that fired and, for a receive, the value. If it returns [ErrClosed] or [ErrDrained], index
+// is the index of the case that failed; with any other error, index is -1.
 func (s *Seat) Select(word uint64, cases ...Case) (index int, value Value, err error) {
 	return s.selectOf(false, word, cases)
 }
 
-// TrySelect is a select with a default. It never waits: if no case can proceed, the index is -1 and the error nil.
+// TrySelect is like [Seat.Select], but has a default and never waits. If no case can proceed, it returns the index -1 and a nil
+// error.
 func (s *Seat) TrySelect(word uint64, cases ...Case) (index int, value Value, err error) {
 	return s.selectOf(true, word, cases)
 }
@@ -83,7 +87,8 @@ func (s *Seat) selectOf(hasDefault bool, word uint64, cases []Case) (int, Value,
 	return told.caseIndex(), told.value, err
 }
 
-// Close closes a channel: waiting sends return ErrClosed, and waiting receives ErrDrained.
+// Close closes a port. Waiting sends return [ErrClosed], and waiting receives return [ErrDrained]. Close returns
+// [FaultAlreadyClosed] if the port is closed already, and [FaultNilClose] for port 0.
 func (s *Seat) Close(port Port) error {
 	_, err := s.call(func(hub *C.chanhub, pid C.uint) C.chanhub_told {
 		return C.chanhub_close(hub, pid, C.uint(port))
@@ -91,7 +96,7 @@ func (s *Seat) Close(port Port) error {
 	return err
 }
 
-// Exit ends the process: each later call of it is refused by FaultGone.
+// Exit ends the process. Later calls of the process return [FaultGone].
 func (s *Seat) Exit() error {
 	_, err := s.call(func(hub *C.chanhub, pid C.uint) C.chanhub_told {
 		return C.chanhub_exit(hub, pid)
@@ -99,7 +104,8 @@ func (s *Seat) Exit() error {
 	return err
 }
 
-// Cancel ends the waiting call of another process, which returns ErrCancelled; FaultNotParked if none waits. Edition2 has it.
+// Cancel ends the waiting call of another process, which then returns [ErrCancelled]. Cancel returns [FaultNotParked] if that
+// process has no waiting call. It requires [Edition2].
 func (s *Seat) Cancel(other int) error {
 	_, err := s.call(func(hub *C.chanhub, pid C.uint) C.chanhub_told {
 		return C.chanhub_cancel(hub, pid, within(other))
@@ -107,7 +113,7 @@ func (s *Seat) Cancel(other int) error {
 	return err
 }
 
-// call makes a call in the name of the process.
+// call makes a call of the process.
 func (s *Seat) call(step func(hub *C.chanhub, pid C.uint) C.chanhub_told) (told, error) {
 	if err := s.hub.enter(s.pid); err != nil {
 		return told{}, err

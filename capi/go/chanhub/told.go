@@ -3,10 +3,10 @@ package chanhub
 // #include <chanhub.h>
 import "C"
 
-// waiting is the answer of a call that is left while it waits. No call of this package is.
+// waiting is the answer of a call that still waits. No call of this package returns it.
 const waiting = 8
 
-// told is what a call came to.
+// told is the answer of a call.
 type told struct {
 	what  uint8
 	fault Fault
@@ -25,7 +25,7 @@ func toldOf(raw C.chanhub_told) told {
 	}
 }
 
-// err is the error that ended the call, if any.
+// err returns the error that ended the call, if any.
 func (t told) err() error {
 	switch t.what {
 	case C.CHANHUB_CLOSED:
@@ -44,7 +44,7 @@ func (t told) err() error {
 	return nil
 }
 
-// caseIndex is the index of the case that the answer is about, or -1.
+// caseIndex returns the index of the case that the answer is about, or -1.
 func (t told) caseIndex() int {
 	switch t.what {
 	case C.CHANHUB_SENT, C.CHANHUB_GOT, C.CHANHUB_CLOSED, C.CHANHUB_DRAINED:

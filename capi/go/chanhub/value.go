@@ -10,8 +10,8 @@ import (
 
 const mostBytes = 32
 
-// Value is what a channel carries: a number or, in Edition2, 0 to 32 bytes. Values are compared by ==, and the zero Value is the
-// number 0.
+// A Value is what a channel carries: a number or, in [Edition2], 0 to 32 bytes. Values can be compared with ==. The zero Value is
+// the number 0.
 type Value struct {
 	number  uint64
 	isBytes bool
@@ -19,12 +19,12 @@ type Value struct {
 	bytes   [mostBytes]byte
 }
 
-// Number gives the value that is this number.
+// Number returns a number as a Value.
 func Number(number uint64) Value {
 	return Value{number: number}
 }
 
-// Bytes gives the value that is these bytes; ErrTooLong where they are more than 32.
+// Bytes returns a copy of the bytes as a Value. It returns [ErrTooLong] if there are more than 32.
 func Bytes(bytes []byte) (Value, error) {
 	if len(bytes) > mostBytes {
 		return Value{}, ErrTooLong
@@ -34,12 +34,12 @@ func Bytes(bytes []byte) (Value, error) {
 	return value, nil
 }
 
-// Number gives the number that it is; false where it is bytes.
+// Number returns the number. If v is bytes, it returns 0 and false.
 func (v Value) Number() (number uint64, isNumber bool) {
 	return v.number, !v.isBytes
 }
 
-// Bytes gives the bytes that it is; false where it is a number.
+// Bytes returns the bytes. If v is a number, it returns nil and false.
 func (v Value) Bytes() (bytes []byte, isBytes bool) {
 	if !v.isBytes {
 		return nil, false
@@ -47,7 +47,7 @@ func (v Value) Bytes() (bytes []byte, isBytes bool) {
 	return v.bytes[:v.length:v.length], true
 }
 
-// String spells the value as a journal does: 7, or #00ff.
+// String returns the value as a journal spells it, such as 7 or #00ff.
 func (v Value) String() string {
 	if v.isBytes {
 		return "#" + hex.EncodeToString(v.bytes[:v.length])

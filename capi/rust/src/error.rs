@@ -1,17 +1,17 @@
-//! Why a call failed.
+//! The errors of calls.
 
 use std::error::Error;
 use std::fmt;
 
-/// Why no hub was opened. Nothing is left of it.
+/// Why [`Hub::open`](crate::Hub::open) failed. Nothing was opened.
 #[derive(Clone, Copy, Debug, PartialEq, Eq)]
 #[non_exhaustive]
 pub enum OpenError {
-    /// Not 1 to 64 processes.
+    /// The number of processes is not within 1 to 64.
     Procs,
-    /// Not 1 to 1,000,000 steps.
+    /// The limit of steps is not within 1 to 1,000,000.
     Limit,
-    /// Memory was refused.
+    /// Memory ran out.
     Memory,
 }
 
@@ -19,48 +19,48 @@ pub enum OpenError {
 #[derive(Clone, Copy, Debug, PartialEq, Eq)]
 #[non_exhaustive]
 pub enum Ended {
-    /// A send on a closed port; the index of its case.
+    /// It was a send on a closed channel. The number is the index of its case.
     Closed(u8),
-    /// A receive from a port that is closed and holds nothing more; the index of its case.
+    /// It was a receive from a channel that is closed and empty. The number is the index of its case.
     Drained(u8),
-    /// Everybody waited. The call had no effect.
+    /// Every process that had not exited was waiting. The call had no effect.
     Stalled,
-    /// Another process ended the call. It had no effect.
+    /// Another process cancelled the call. The call had no effect.
     Cancelled,
-    /// Nothing happened.
+    /// The call was refused or answered with a fault. Nothing happened.
     Fault(Fault),
 }
 
-/// Why nothing happened, by its number in chanhub.h.
+/// The reason why nothing happened, with the number that it has in `chanhub.h`.
 #[derive(Clone, Copy, Debug, PartialEq, Eq)]
 pub struct Fault(pub u8);
 
 impl Fault {
-    /// No such process.
+    /// There is no such process.
     pub const NO_PROCESS: Fault = Fault(1);
     /// The process has exited.
     pub const GONE: Fault = Fault(2);
     /// A call of the process is open.
     pub const BUSY: Fault = Fault(3);
-    /// More than 8 cases, in edition 1.
+    /// A select had more than 8 cases, in edition 1.
     pub const TOO_MANY_CASES: Fault = Fault(4);
-    /// No such port.
+    /// There is no such port.
     pub const NO_PORT: Fault = Fault(5);
-    /// A capacity above 1,024.
+    /// The capacity was above 1,024.
     pub const BAD_CAP: Fault = Fault(6);
-    /// 64 ports are made.
+    /// 64 channels have been made already.
     pub const TOO_MANY_PORTS: Fault = Fault(7);
-    /// A close of port 0.
+    /// The call was a close of port 0.
     pub const NIL_CLOSE: Fault = Fault(8);
-    /// A close of a closed port.
+    /// The call was a close of a closed channel.
     pub const ALREADY_CLOSED: Fault = Fault(9);
-    /// The hub has made its limit of steps. A seat that is dropped still exits.
+    /// The hub has reached its limit of steps. Dropping a seat still exits its process.
     pub const JOURNAL_FULL: Fault = Fault(10);
-    /// Memory was refused. A seat that is dropped still exits.
+    /// Memory ran out. Dropping a seat still exits its process.
     pub const NO_MEMORY: Fault = Fault(11);
-    /// A cancel of a process whose call does not wait.
+    /// The call was a cancel of a process that has no waiting call.
     pub const NOT_PARKED: Fault = Fault(12);
-    /// An end of another hub's channel, more than 16 cases, or what the hub's edition has not.
+    /// The call used a channel of another hub, had more than 16 cases, or asked for something that the hub's edition lacks.
     pub const BAD_CALL: Fault = Fault(13);
 
     fn text(self) -> &'static str {

@@ -1,4 +1,4 @@
-//! A hub, and the seats that its threads call with.
+//! A hub, and the seats through which its threads call.
 
 use crate::error::{Ended, Fault, OpenError};
 use crate::sys;
@@ -10,22 +10,22 @@ use std::ptr;
 use std::sync::atomic::{AtomicU64, Ordering};
 use std::sync::Arc;
 
-/// What a hub admits.
+/// The edition of a hub, which decides what its calls may contain.
 #[derive(Clone, Copy, Debug, PartialEq, Eq)]
 pub enum Edition {
     /// Values are numbers, and a select has up to 8 cases.
     One,
-    /// Values may be bytes, a select has up to 16 cases, and a process may cancel the call of another.
+    /// Values are numbers or bytes, a select has up to 16 cases, and a process may cancel the call of another.
     Two,
 }
 
-/// The address of a hub of the C library, which is freed with it.
+/// A hub of the C library. Dropping it frees the hub.
 struct Raw {
     at: *mut sys::Chanhub,
     id: u64,
 }
 
-// SAFETY: chanhub.h lets every thread call at any time but for the free, and that comes once no `Arc` is left.
+// SAFETY: chanhub.h allows calls from all threads at any time, except for the free, which happens once no `Arc` is left.
 unsafe impl Send for Raw {}
 unsafe impl Sync for Raw {}
 
@@ -36,25 +36,29 @@ impl Drop for Raw {
     }
 }
 
-/// A hub of channels. Its memory goes with the last of it and its seats.
+/// A hub of channels.
+///
+/// A clone refers to the same hub. The hub is freed when the last clone and the last [`Seat`] have been dropped.
 #[derive(Clone)]
 pub struct Hub(Arc<Raw>);
 
-/// A process of a hub. Each call takes it by `&mut`, so that one thread at a time calls in its name. When it is dropped the
-/// process exits, so that nobody waits for it.
+/// A process of a hub.
+///
+/// Each call takes the seat by `&mut`, so only one thread at a time calls in the name of the process. Dropping the seat exits the
+/// process, so that no other process waits for it.
 pub struct Seat {
     hub: Hub,
     pid: u8,
 }
 
-/// Its number, by which a [`Sender`] and a [`Receiver`] show whose they are.
+/// Shows the number of the hub. A [`Sender`] and a [`Receiver`] show the number of the hub that they belong to.
 impl fmt::Debug for Hub {
     fn fmt(&self, f: &mut fmt::Formatter<'_>) -> fmt::Result {
         f.debug_struct("Hub").field("id", &self.0.id).finish()
     }
 }
 
-/// The number of its hub, and that of its process.
+/// Shows the number of the hub and the number of the process.
 impl fmt::Debug for Seat {
     fn fmt(&self, f: &mut fmt::Formatter<'_>) -> fmt::Result {
         f.debug_struct("Seat")
@@ -64,34 +68,34 @@ impl fmt::Debug for Seat {
     }
 }
 
-/// The counts of a port.
+/// The counts of a channel, which [`Hub::look_at`] returns.
 #[derive(Clone, Copy, Debug, PartialEq, Eq)]
 pub struct Counts {
-    /// How many values it buffers at most.
+    /// The capacity of the buffer.
     pub cap: u32,
-    /// How many values were sent.
+    /// The number of values that have been sent.
     pub sent: u32,
-    /// How many of them were received: the others are in the buffer.
+    /// The number of those values that have been received. The others are in the buffer.
     pub received: u32,
-    /// Whether it is closed.
+    /// Whether the channel is closed.
     pub closed: bool,
 }
 
-/// The end of a channel that sends.
+/// The sending end of a channel. Dropping it does not close the channel.
 #[derive(Clone, Copy, Debug, PartialEq, Eq)]
 pub struct Sender {
     hub: u64,
     port: u16,
 }
 
-/// The end of a channel that receives.
+/// The receiving end of a channel.
 #[derive(Clone, Copy, Debug, PartialEq, Eq)]
 pub struct Receiver {
     hub: u64,
     port: u16,
 }
 
-/// A case of a select.
+/// A case of a [`select`](Seat::select).
 #[derive(Clone, Copy, Debug)]
 pub enum Case {
     /// Sends the value.
@@ -100,20 +104,27 @@ pub enum Case {
     Recv(Receiver),
 }
 
-/// What a select came to.
+/// The result of a [`select`](Seat::select).
 #[derive(Clone, Copy, Debug, PartialEq, Eq)]
 pub enum Selected {
-    /// The case of this index sent its value.
+    /// The case with this index sent its value.
     Sent(usize),
-    /// The case of this index received a value.
+    /// The case with this index received this value.
     Got(usize, Value),
-    /// No case could proceed.
+    /// No case could proceed, so the default was taken.
     Default,
 }
 
 impl Hub {
-    /// Opens a hub of 1 to 64 processes, which makes at most `limit` steps, 1 to 1,000,000, and gives a seat for each process, in
-    /// order. Drop a seat that nobody calls by, or the others may wait for its process for ever.
+    /// Opens a hub with 1 to 64 processes. Returns the hub and a seat for each process, in order.
+    ///
+    /// The hub makes at most `limit` steps, 1 to 1,000,000, not counting exits.
+    ///
+    /// Drop every seat that no thread uses. Otherwise the other processes may wait for its process for ever.
+    ///
+    /// # Errors
+    ///
+    /// Returns an [`OpenError`] if `procs` or `limit` is out of range, or if memory runs out.
     pub fn open(edition: Edition, procs: u8, limit: u32) -> Result<(Hub, Vec<Seat>), OpenError> {
         static OPENED: AtomicU64 = AtomicU64::new(0);
         let mut at = ptr::null_mut();
@@ -121,7 +132,7 @@ impl Hub {
             Edition::One => 1,
             Edition::Two => 2,
         };
-        // SAFETY: `at` is written before it returns, and not kept.
+        // SAFETY: the function writes `at` before it returns, and does not keep the pointer to it.
         match unsafe { sys::chanhub_open(&mut at, edition, procs.into(), limit) } {
             0 => {}
             1 => return Err(OpenError::Procs),
@@ -150,7 +161,9 @@ impl Hub {
         })
     }
 
-    /// The journal so far, as `chanhub replay` reads it; `None` where memory is refused.
+    /// Returns the text of the journal so far, which `chanhub replay` reads if it has at most 67,108,864 bytes.
+    ///
+    /// Returns `None` if memory runs out.
     pub fn journal(&self) -> Option<String> {
         let mut length = 0;
         // SAFETY: the text is `length` bytes until it is freed.
@@ -166,7 +179,7 @@ impl Hub {
         }
     }
 
-    /// The counts of a channel now; `None` where it is another hub's.
+    /// Returns the present counts of a channel, or `None` if the channel belongs to another hub.
     pub fn look_at(&self, receiver: &Receiver) -> Option<Counts> {
         if receiver.hub == self.0.id {
             self.look(receiver.port)
@@ -200,7 +213,7 @@ fn done(told: sys::Told) -> Result<(), Fault> {
 }
 
 impl Seat {
-    /// The number of the process, from 0 on.
+    /// Returns the number of the process. Processes are numbered from 0.
     pub fn pid(&self) -> u8 {
         self.pid
     }
@@ -217,18 +230,34 @@ impl Seat {
         }
     }
 
-    /// Makes a channel that buffers `cap` values.
+    /// Makes a channel that buffers up to `cap` values, and returns its two ends.
+    ///
+    /// A channel of capacity 0 has no buffer: a send and a receive have to meet.
+    ///
+    /// # Errors
+    ///
+    /// Returns [`Fault::BAD_CAP`] if `cap` is above 1,024, [`Fault::TOO_MANY_PORTS`] if the hub already has 64 channels,
+    /// [`Fault::JOURNAL_FULL`] if the hub has reached its limit of steps, and [`Fault::NO_MEMORY`] if memory runs out.
     pub fn channel(&mut self, cap: u32) -> Result<(Sender, Receiver), Fault> {
         let (hub, pid) = self.at();
-        // SAFETY: the hub is open as long as `self.hub` is, and nobody else has this seat meanwhile. So in all calls below.
+        // SAFETY: the hub is open as long as `self.hub` exists, and no other call uses this seat. This holds for all calls below.
         let told = unsafe { sys::chanhub_make(hub, pid, cap) };
         done(told)?;
         let (hub, port) = (self.hub.0.id, told.port);
         Ok((Sender { hub, port }, Receiver { hub, port }))
     }
 
-    /// Makes a case that can proceed: if k can, number `word` mod k of them, counted from 0. A random word chooses fairly, and 0
-    /// takes the first. If none can proceed, it takes the default, or waits if it has none.
+    /// Fires one of the cases that can proceed.
+    ///
+    /// If `k` cases can proceed, it fires number `word` mod `k` of them, counted from 0. Pass a random word for a fair choice; 0
+    /// always picks the first. If no case can proceed, it returns [`Selected::Default`] if `has_default` is true, and otherwise
+    /// waits.
+    ///
+    /// # Errors
+    ///
+    /// Returns [`Ended::Closed`] if the case that fires sends on a closed channel, and [`Ended::Drained`] if it receives from a
+    /// channel that is closed and empty; both have the index of the case. Returns [`Ended::Stalled`] or [`Ended::Cancelled`] if
+    /// that ended the wait, and [`Ended::Fault`] if the call was refused or answered with a fault.
     pub fn select(
         &mut self,
         cases: &[Case],
@@ -260,13 +289,18 @@ impl Seat {
         }
     }
 
-    /// Ends the call of another process that waits.
+    /// Ends the waiting call of another process, which returns [`Ended::Cancelled`].
+    ///
+    /// # Errors
+    ///
+    /// Returns [`Fault::NOT_PARKED`] if the process has no waiting call or does not exist, and [`Fault::BAD_CALL`] in a hub of
+    /// [`Edition::One`]. Returns another [`Fault`] if the call was refused.
     pub fn cancel(&mut self, other: u8) -> Result<(), Fault> {
         let (hub, pid) = self.at();
         done(unsafe { sys::chanhub_cancel(hub, pid, other.into()) })
     }
 
-    /// Ends the process, as a drop does.
+    /// Exits the process. Dropping the seat does the same.
     pub fn exit(self) {}
 }
 
@@ -278,7 +312,12 @@ impl Drop for Seat {
 }
 
 impl Sender {
-    /// Sends a value, and waits until it is taken or buffered.
+    /// Sends a value. Waits until a receiver takes it or the buffer has room for it.
+    ///
+    /// # Errors
+    ///
+    /// Returns [`Ended::Closed`] if the channel is closed. Returns [`Ended::Stalled`] or [`Ended::Cancelled`] if that ended the
+    /// wait, and [`Ended::Fault`] if the call was refused or answered with a fault.
     pub fn send(&self, seat: &mut Seat, value: impl Into<Value>) -> Result<(), Ended> {
         seat.is_mine(self.hub)?;
         let (hub, pid) = seat.at();
@@ -286,7 +325,11 @@ impl Sender {
             .map(|_sent| ())
     }
 
-    /// Closes the channel. Fails by a fault alone.
+    /// Closes the channel. Waiting sends return [`Ended::Closed`], and waiting receives return [`Ended::Drained`].
+    ///
+    /// # Errors
+    ///
+    /// Returns [`Ended::Fault`] if the call was refused, or if the channel is already closed. It returns no other error.
     pub fn close(&self, seat: &mut Seat) -> Result<(), Ended> {
         seat.is_mine(self.hub)?;
         let (hub, pid) = seat.at();
@@ -296,7 +339,12 @@ impl Sender {
 }
 
 impl Receiver {
-    /// Waits for a value.
+    /// Receives a value. Waits until there is one.
+    ///
+    /// # Errors
+    ///
+    /// Returns [`Ended::Drained`] if the channel is closed and empty. Returns [`Ended::Stalled`] or [`Ended::Cancelled`] if that
+    /// ended the wait, and [`Ended::Fault`] if the call was refused or answered with a fault.
     pub fn recv(&self, seat: &mut Seat) -> Result<Value, Ended> {
         seat.is_mine(self.hub)?;
         let (hub, pid) = seat.at();
@@ -308,8 +356,9 @@ impl Receiver {
         }
     }
 
-    /// Waits for the next value; `None` where the channel is closed and holds nothing more. Unlike [`drain`](Receiver::drain) it
-    /// leaves the seat free between two values:
+    /// Receives the next value, or returns `None` once the channel is closed and empty.
+    ///
+    /// Unlike [`drain`](Receiver::drain), this leaves the seat free between two values:
     ///
     /// ```
     /// # use chanhub::{Edition, Ended, Hub};
@@ -326,6 +375,10 @@ impl Receiver {
     /// # assert_eq!(doubles.recv(&mut seat)?.number(), Some(8));
     /// # Ok::<(), Ended>(())
     /// ```
+    ///
+    /// # Errors
+    ///
+    /// Same as [`recv`](Receiver::recv), except that it never returns [`Ended::Drained`].
     pub fn next(&self, seat: &mut Seat) -> Result<Option<Value>, Ended> {
         match self.recv(seat) {
             Ok(value) => Ok(Some(value)),
@@ -334,7 +387,9 @@ impl Receiver {
         }
     }
 
-    /// Receives until the channel is closed and holds nothing more. What ends it otherwise is its last item:
+    /// Returns an iterator over the values received, until the channel is closed and empty.
+    ///
+    /// If a receive fails for another reason, the error is the last item:
     ///
     /// ```
     /// use chanhub::{Edition, Ended, Hub};
@@ -344,7 +399,7 @@ impl Receiver {
     /// let (sender, receiver) = seat.channel(2).unwrap();
     /// sender.send(&mut seat, 7).unwrap();
     ///
-    /// // Nobody else can send or close.
+    /// // No other process can send or close.
     /// let came: Vec<_> = receiver.drain(&mut seat).collect();
     /// assert_eq!(came, [Ok(7.into()), Err(Ended::Stalled)]);
     ///
@@ -362,7 +417,9 @@ impl Receiver {
     }
 }
 
-/// The values that come, by [`Receiver::drain`].
+/// An iterator over the values received from a channel.
+///
+/// [`Receiver::drain`] returns it.
 #[derive(Debug)]
 #[must_use = "it receives as it is iterated"]
 pub struct Drain<'a> {

@@ -1,6 +1,10 @@
-//! A hub of Go channels that threads share, with a journal of all that happened.
+//! A hub of Go channels that threads share. The hub keeps a journal of its steps.
 //!
-//! The crate links `libchanhub.a`: that of the folder that `CHANHUB_LIB` names, or what `make -C capi` leaves in this repository.
+//! A [`Hub`] has a fixed number of processes, and each thread calls as one of them, through a [`Seat`]. A call that has to wait
+//! blocks its thread. If every process that has not exited is waiting, no call could ever end; then each waiting call returns
+//! [`Ended::Stalled`].
+//!
+//! # Examples
 //!
 //! ```
 //! use chanhub::{Edition, Ended, Hub};
@@ -16,7 +20,7 @@
 //! assert_eq!(hub.look_at(&receiver).unwrap().received, 1);
 //! ```
 //!
-//! A call that fails returns an [`Ended`], or a [`Fault`], which `?` turns into an `Ended`:
+//! A call that fails returns an [`Ended`], or a [`Fault`], which `?` converts into an `Ended`:
 //!
 //! ```
 //! use chanhub::{Edition, Ended, Hub, Seat};
@@ -36,7 +40,7 @@
 //! }
 //! ```
 //!
-//! A hub that is gone takes no call:
+//! A program that uses a hub after dropping it does not compile:
 //!
 //! ```compile_fail,E0382
 //! let (hub, seats) = chanhub::Hub::open(chanhub::Edition::One, 1, 100).unwrap();
@@ -45,7 +49,7 @@
 //! hub.journal();
 //! ```
 //!
-//! Nor do two threads call by one seat:
+//! Neither does a program in which two threads use one seat at the same time:
 //!
 //! ```compile_fail,E0499
 //! let (_hub, mut seats) = chanhub::Hub::open(chanhub::Edition::One, 1, 100).unwrap();
@@ -55,6 +59,11 @@
 //!     s.spawn(|| seat.channel(0));
 //! });
 //! ```
+//!
+//! # Linking
+//!
+//! The crate links the static library `libchanhub.a`. It looks in the folder that the environment variable `CHANHUB_LIB` names at
+//! build time or, if that is not set, in `capi/out` of this repository, where `make -C capi` builds the library.
 
 #![warn(missing_docs, missing_debug_implementations)]
 

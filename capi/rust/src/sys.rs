@@ -1,14 +1,14 @@
-//! chanhub.h.
+//! The declarations of `chanhub.h`.
 
 use std::os::raw::{c_char, c_int, c_uint};
 
-/// What a call came to.
+/// The kinds of result.
 pub const SENT: u8 = 2;
 pub const GOT: u8 = 3;
 pub const DRAINED: u8 = 4;
 pub const CLOSED: u8 = 5;
 pub const DEFAULT: u8 = 6;
-/// A call was left while it waits: no call of this crate is.
+/// The call still waits. No call of this crate returns this.
 pub const WAITING: u8 = 8;
 pub const STALLED: u8 = 9;
 pub const FAULT: u8 = 10;

@@ -1,10 +1,13 @@
-//! Things that channels pass by number.
+//! A table of things that channels pass by number.
 
 use crate::value::Value;
 use std::collections::HashMap;
 use std::sync::{Mutex, MutexGuard, PoisonError};
 
-/// Things that channels pass by their numbers.
+/// A table of things, so that channels can pass their numbers.
+///
+/// A channel carries only numbers and short byte strings. To pass anything else, [`put`](Table::put) it into a table that both
+/// threads share, send the value that stands for it, and [`take`](Table::take) it out on the other side.
 #[derive(Debug)]
 pub struct Table<T> {
     kept: Mutex<Kept<T>>,
@@ -28,7 +31,7 @@ impl<T> Default for Table<T> {
 }
 
 impl<T> Table<T> {
-    /// A table that keeps nothing.
+    /// Creates an empty table.
     pub fn new() -> Table<T> {
         Table::default()
     }
@@ -37,7 +40,7 @@ impl<T> Table<T> {
         self.kept.lock().unwrap_or_else(PoisonError::into_inner)
     }
 
-    /// Keeps a thing, and gives the value that stands for it.
+    /// Stores a thing, and returns the value that stands for it.
     pub fn put(&self, thing: T) -> Value {
         let mut kept = self.lock();
         let number = kept.next;
@@ -46,7 +49,7 @@ impl<T> Table<T> {
         Value::Number(number)
     }
 
-    /// The thing that a value stands for, which the table keeps no longer.
+    /// Removes and returns the thing that a value stands for, or returns `None` if the table does not have it.
     pub fn take(&self, value: Value) -> Option<T> {
         self.lock().things.remove(&value.number()?)
     }

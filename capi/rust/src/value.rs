@@ -1,26 +1,28 @@
-//! What a channel carries.
+//! The values that channels carry.
 
 use crate::sys;
 use std::error::Error;
 use std::fmt;
 
-/// A number, or, in a hub of edition 2, 0 to 32 bytes.
+/// A value that a channel carries.
 #[derive(Clone, Copy, Debug, PartialEq, Eq)]
 pub enum Value {
     /// A number.
     Number(u64),
-    /// Bytes, in a hub of edition 2 alone.
+    /// Bytes. Only a hub of [`Edition::Two`](crate::Edition::Two) accepts them.
     Bytes(Bytes),
 }
 
-/// 0 to 32 bytes.
+/// A byte string of 0 to 32 bytes.
+///
+/// `Value::try_from` makes a [`Value`] of a byte slice.
 #[derive(Clone, Copy, PartialEq, Eq)]
 pub struct Bytes {
     length: u8,
     places: [u8; 32],
 }
 
-/// More than 32 bytes, which no value has.
+/// The error for a byte slice of more than 32 bytes, which does not fit into a [`Value`].
 #[derive(Clone, Copy, Debug, PartialEq, Eq)]
 pub struct TooLong;
 
@@ -33,7 +35,7 @@ impl fmt::Display for TooLong {
 impl Error for TooLong {}
 
 impl Bytes {
-    /// The bytes.
+    /// Returns the bytes as a slice.
     pub fn as_slice(&self) -> &[u8] {
         &self.places[..usize::from(self.length)]
     }
@@ -46,7 +48,7 @@ impl fmt::Debug for Bytes {
 }
 
 impl Value {
-    /// The number that it is.
+    /// Returns the number, or `None` if the value is bytes.
     pub fn number(self) -> Option<u64> {
         match self {
             Value::Number(number) => Some(number),

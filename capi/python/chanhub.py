@@ -70,7 +70,7 @@ class Drained(Ended):
 class Stalled(Ended):
     """Raised by every waiting call when all processes that have not exited are waiting. The call had no effect."""
 
-    words = 'everybody waited, so no call could ever end'
+    words = 'every process was waiting, so no call could ever end'
 
 
 class Cancelled(Ended):

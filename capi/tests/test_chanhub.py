@@ -101,7 +101,7 @@ class Calls(unittest.TestCase):
     def test_exceptions_say_what_happened(self):
         said = [str(ended(3)) for ended in (Closed, Drained, Stalled, Cancelled)]
         self.assertEqual(said, ['a send on a closed port', 'the port is closed and holds nothing more',
-                                'everybody waited, so no call could ever end', 'another process ended the call'])
+                                'every process was waiting, so no call could ever end', 'another process ended the call'])
         self.assertEqual(str(Fault(5)), 'fault 5: no such port')
         again = pickle.loads(pickle.dumps([Closed(3), Fault(5)]))
         self.assertEqual((again[0].index, again[1].number), (3, 5))

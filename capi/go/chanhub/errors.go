@@ -15,7 +15,7 @@ var (
 	// ErrDrained is returned by a receive from a port that is closed and empty.
 	ErrDrained = errors.New("chanhub: the port is closed and holds nothing more")
 	// ErrStalled is returned by each waiting call if every process that has not exited was waiting. The call had no effect.
-	ErrStalled = errors.New("chanhub: everybody waited")
+	ErrStalled = errors.New("chanhub: every process was waiting")
 	// ErrCancelled is returned by a call that another process cancelled. The call had no effect.
 	ErrCancelled = errors.New("chanhub: another process ended the call")
 	// ErrHubClosed is returned by a call that Hub.Close ended, or that began after it. The call had no effect.
@@ -66,14 +66,14 @@ var faultTexts = map[Fault]string{
 	FaultJournalFull:   "the hub has made its limit of steps",
 	FaultNoMemory:      "memory was refused",
 	FaultNotParked:     "a cancel of a process whose call does not wait",
-	FaultBadCall:       "a process above 255, more than 16 cases, or what the hub's edition has not",
+	FaultBadCall:       "a process above 255, more than 16 cases, or something that the hub's edition lacks",
 }
 
 // Error returns the number of the fault and its meaning.
 func (f Fault) Error() string {
 	text, isKnown := faultTexts[f]
 	if !isKnown {
-		text = "a number that chanhub.h has not"
+		text = "a number that chanhub.h does not define"
 	}
 	return fmt.Sprintf("chanhub: fault %d: %s", uint8(f), text)
 }

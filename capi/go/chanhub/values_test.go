@@ -53,7 +53,7 @@ func TestValuesAreSpelledAsInAJournal(t *testing.T) {
 
 func TestFaultsSayWhatTheirNumbersMean(t *testing.T) {
 	for number, wanted := range []string{
-		0:  "a number that chanhub.h has not",
+		0:  "a number that chanhub.h does not define",
 		1:  "no such process",
 		2:  "the process has exited",
 		3:  "a call of the process is open",
@@ -66,8 +66,8 @@ func TestFaultsSayWhatTheirNumbersMean(t *testing.T) {
 		10: "the hub has made its limit of steps",
 		11: "memory was refused",
 		12: "a cancel of a process whose call does not wait",
-		13: "a process above 255, more than 16 cases, or what the hub's edition has not",
-		14: "a number that chanhub.h has not",
+		13: "a process above 255, more than 16 cases, or something that the hub's edition lacks",
+		14: "a number that chanhub.h does not define",
 	} {
 		wanted = fmt.Sprintf("chanhub: fault %d: %s", number, wanted)
 		if said := chanhub.Fault(number).Error(); said != wanted {

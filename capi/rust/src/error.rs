@@ -78,9 +78,9 @@ impl Fault {
             Fault::NO_MEMORY => "memory was refused",
             Fault::NOT_PARKED => "a cancel of a process whose call does not wait",
             Fault::BAD_CALL => {
-                "an end of another hub's channel, more than 16 cases, or what the hub's edition has not"
+                "an end of another hub's channel, more than 16 cases, or something that the hub's edition lacks"
             }
-            _ => "a number that chanhub.h has not",
+            _ => "a number that chanhub.h does not define",
         }
     }
 }
@@ -100,7 +100,7 @@ impl fmt::Display for Ended {
         match self {
             Ended::Closed(_) => f.write_str("send on a closed port"),
             Ended::Drained(_) => f.write_str("the port is closed and holds nothing more"),
-            Ended::Stalled => f.write_str("everybody waited"),
+            Ended::Stalled => f.write_str("every process was waiting"),
             Ended::Cancelled => f.write_str("another process ended the call"),
             Ended::Fault(fault) => fault.fmt(f),
         }

@@ -23,8 +23,8 @@ fn faults_say_what_their_numbers_mean() {
         "fault 10: the hub has made its limit of steps",
         "fault 11: memory was refused",
         "fault 12: a cancel of a process whose call does not wait",
-        "fault 13: an end of another hub's channel, more than 16 cases, or what the hub's edition has not",
-        "fault 14: a number that chanhub.h has not",
+        "fault 13: an end of another hub's channel, more than 16 cases, or something that the hub's edition lacks",
+        "fault 14: a number that chanhub.h does not define",
     ];
     for (number, said) in (1..).zip(said) {
         assert_eq!(Fault(number).to_string(), said);
@@ -39,7 +39,7 @@ fn ends_and_refusals_say_what_happened() {
         Ended::Drained(0).to_string(),
         "the port is closed and holds nothing more"
     );
-    assert_eq!(Ended::Stalled.to_string(), "everybody waited");
+    assert_eq!(Ended::Stalled.to_string(), "every process was waiting");
     assert_eq!(
         Ended::Cancelled.to_string(),
         "another process ended the call"

@@ -239,7 +239,7 @@ def mover(moved, step):
 
 
 def mover_words(moved):
-    return f"P{moved[0]} by step {moved[1] + 1}" if moved else "nobody"
+    return f"P{moved[0]} at step {moved[1] + 1}" if moved else "nobody"
 
 
 def whom(journal, step, case, own, sender, receiver):
@@ -261,8 +261,8 @@ def waits(journal, bands):
             pid = int(journal.lines[asked].split()[0])
             other = whom(journal, step, (side, port), pid, *moved)
             row = (
-                f"P{pid} waits from step {asked + 1} to {aim} port {port}; "
-                f"the last to send there: {mover_words(moved[0])}, to receive: {mover_words(moved[1])}. "
+                f"P{pid} has waited since step {asked + 1} to {aim} port {port}; "
+                f"last sent there by {mover_words(moved[0])}, last received by {mover_words(moved[1])}. "
             )
             yield row + ("" if other is None else f"It waits for P{other}. "), step, pid, other
 
@@ -303,7 +303,7 @@ def legend(journal, bands):
 def stalls(journal, bands):
     for by, pid, asked in journal.stalls:
         if bands.has(by):
-            yield bands.band(by), f"step {by + 1} stalls process {pid} which waits from step {asked + 1}\n"
+            yield bands.band(by), f"step {by + 1} stalls process {pid}, which has waited since step {asked + 1}\n"
 
 
 # ---- what it shows

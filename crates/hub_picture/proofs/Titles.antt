@@ -94,7 +94,7 @@ arrow-plain sent received one other =
 
 stall-plain : (t : Told) → ToldFits t → IsPlain (stall_title t)
 stall-plain t fits =
-    plain-joined (codes "step " ∷ decimal (t.by + 1) ∷ codes " stalls process " ∷ decimal t.event.pid.0 ∷ codes " which waits from step "
+    plain-joined (codes "step " ∷ decimal (t.by + 1) ∷ codes " stalls process " ∷ decimal t.event.pid.0 ∷ codes ", which has waited since step "
     ∷ decimal (t.asked + 1) ∷ codes "\n" ∷ [])
     (refl, (step-plain t.by fits.by, (refl, (plain-number t.event.pid.0 (omega (arith, fits.event.pid)), (refl, (step-plain t.asked fits.asked, (refl, _)))))))
 
@@ -127,9 +127,9 @@ aim-plain (case.Recv p) fits = worded (codes " to receive from port ") p.0 GREAT
 mover-plain : (mover : Option Told) → IfSome mover ToldFits → IsPlain (mover_text mover)
 mover-plain None fits = refl
 mover-plain (Some t) fits =
-    plain-both (codes "P" ++ decimal t.event.pid.0) (codes " by step " ++ decimal (t.by + 1))
+    plain-both (codes "P" ++ decimal t.event.pid.0) (codes " at step " ++ decimal (t.by + 1))
     (plain-both (codes "P") (decimal t.event.pid.0) refl (plain-number t.event.pid.0 (omega (arith, fits.event.pid))))
-    (plain-both (codes " by step ") (decimal (t.by + 1)) refl (step-plain t.by fits.by))
+    (plain-both (codes " at step ") (decimal (t.by + 1)) refl (step-plain t.by fits.by))
 
 waiter-plain : (w : Waiter) → WaiterFits w → IsPlain (waiter_words w)
 waiter-plain w fits =
@@ -138,8 +138,8 @@ waiter-plain w fits =
     let aim : IsPlain (aim_text w.case) = aim-plain w.case fits.case in
     let sender : IsPlain (mover_text w.sender) = mover-plain w.sender fits.sender in
     let receiver : IsPlain (mover_text w.receiver) = mover-plain w.receiver fits.receiver in
-    plain-joined (codes "P" ∷ decimal w.told.event.pid.0 ∷ codes " waits from step " ∷ decimal (w.told.asked + 1) ∷ aim_text w.case
-    ∷ codes "; the last to send there: " ∷ mover_text w.sender ∷ codes ", to receive: " ∷ mover_text w.receiver ∷ codes ". " ∷ [])
+    plain-joined (codes "P" ∷ decimal w.told.event.pid.0 ∷ codes " has waited since step " ∷ decimal (w.told.asked + 1) ∷ aim_text w.case
+    ∷ codes "; last sent there by " ∷ mover_text w.sender ∷ codes ", last received by " ∷ mover_text w.receiver ∷ codes ". " ∷ [])
     (refl, (pid, (refl, (from, (aim, (refl, (sender, (refl, (receiver, (refl, _))))))))))
 
 whom-plain : (w : Option ℕ) → IfSome w (λ pid. pid ≤ GREATEST_PID) → IsPlain (whom_words w)

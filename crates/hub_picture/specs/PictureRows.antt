@@ -105,6 +105,6 @@ pub class_row : class_text (Send (port 12)) ≡ codes "send h4"
 unfolding digits
 class_row = refl
 
-pub stall_row : option_map stall_title (end_of everyone_stalls 1) ≡ Some (codes "step 4 stalls process 1 which waits from step 2\n")
+pub stall_row : option_map stall_title (end_of everyone_stalls 1) ≡ Some (codes "step 4 stalls process 1, which has waited since step 2\n")
 unfolding digits
 stall_row = refl

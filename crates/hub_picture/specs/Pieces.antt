@@ -34,7 +34,7 @@ until_text (Some until) = codes " until step " ++ decimal (until + 1)
 -- who it was, and by which step
 abbrev pub mover_text : Option Told → List ℕ
 mover_text None = codes "nobody"
-mover_text (Some t) = (codes "P" ++ decimal t.event.pid.0) ++ (codes " by step " ++ decimal (t.by + 1))
+mover_text (Some t) = (codes "P" ++ decimal t.event.pid.0) ++ (codes " at step " ++ decimal (t.by + 1))
 
 -- what a case waits for
 abbrev pub aim_text : Case → List ℕ

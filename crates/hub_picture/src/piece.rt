@@ -132,7 +132,7 @@ fn put_mover(out: &mut Vec<u8>, mover: Option<Told>) -> Result<(), AllocError>
     match mover {
         Some(told) => {
             put_numbered(out, b"P", told.event.pid.0.into())?;
-            put_numbered(out, b" by step ", u64::from(told.by) + 1)
+            put_numbered(out, b" at step ", u64::from(told.by) + 1)
         }
         None => put(out, b"nobody"),
     }

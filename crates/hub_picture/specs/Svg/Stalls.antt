@@ -15,7 +15,7 @@ stall_title t =
     joined (
     codes "step " ∷ decimal (t.by + 1)
     ∷ codes " stalls process " ∷ decimal t.event.pid.0
-    ∷ codes " which waits from step " ∷ decimal (t.asked + 1)
+    ∷ codes ", which has waited since step " ∷ decimal (t.asked + 1)
     ∷ codes "\n"
     ∷ [])
 

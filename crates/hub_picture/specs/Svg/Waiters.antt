@@ -10,10 +10,10 @@ abbrev pub waiter_words : Waiter → List ℕ
 waiter_words w =
     joined (
     codes "P" ∷ decimal w.told.event.pid.0
-    ∷ codes " waits from step " ∷ decimal (w.told.asked + 1)
+    ∷ codes " has waited since step " ∷ decimal (w.told.asked + 1)
     ∷ aim_text w.case
-    ∷ codes "; the last to send there: " ∷ mover_text w.sender
-    ∷ codes ", to receive: " ∷ mover_text w.receiver
+    ∷ codes "; last sent there by " ∷ mover_text w.sender
+    ∷ codes ", last received by " ∷ mover_text w.receiver
     ∷ codes ". "
     ∷ [])
 

@@ -20,7 +20,7 @@ fn put_title(out: &mut Vec<u8>, told: &Told) -> Result<(), AllocError>
         &[
             b"step ",
             b" stalls process ",
-            b" which waits from step ",
+            b", which has waited since step ",
             b"\n",
         ],
         &[

@@ -34,10 +34,10 @@ var (
 // ErrTooLong is returned by [Bytes] for more than 32 bytes.
 var ErrTooLong = errors.New("chanhub: a value has at most 32 bytes")
 
-// A Fault is the reason why the hub did not carry out a call. It has the same number in chanhub.h.
+// A Fault is the reason why the hub did not carry out a call. It has the same number in chanhub.h and in the events of a journal.
 type Fault uint8
 
-// The page docs/SEMANTICS.md explains faults 1 to 12, which also occur in the events of a journal. Fault 13 exists only in the library.
+// The page docs/SEMANTICS.md explains faults 1 to 12. Fault 13 exists only in the library.
 const (
 	FaultNoProcess     Fault = C.CHANHUB_NO_PROCESS     // the hub has no such process
 	FaultGone          Fault = C.CHANHUB_GONE           // the process has exited

@@ -1,16 +1,21 @@
-"""A hub of Go channels that Python threads share. The hub keeps a journal of its steps. Requires libchanhub.so.
+"""Go's channels for Python threads, in a hub that reports deadlocks and keeps a journal of its steps. Requires libchanhub.so.
 
     with Hub(procs=2) as hub:
-        port = hub.seat(0).make(0)
+        ann, bob = hub.seat(0), hub.seat(1)
+        port = ann.make(1)
+        ann.send(port, 9)
+        print(bob.recv(port))
 
 A hub has a fixed number of processes, and each thread calls as one of them, through a seat. Other threads run while a call waits.
-A call that fails raises Closed, Drained, Stalled, Cancelled or Fault. If every process that has not exited is waiting, each waiting
-call raises Stalled.
+A call that fails raises Closed, Drained, Stalled, Cancelled or Fault.
+
+If every process that has not exited is waiting, no call could ever end; then each waiting call raises Stalled. No call is stalled
+while a live process is outside the hub, such as in a lock, a join or I/O. If a program hangs, any thread can save `hub.journal()`
+to a file; `tools/explain.sh FILE` in this repository draws the calls that still wait, with the numbers of their processes and ports.
 
 Ctrl-C interrupts a wait of the main thread with KeyboardInterrupt. Nothing is lost: the call stays open, `seat.waits` is true, and
-`seat.resume()` resumes the wait. Leaving the `with Hub` block ends what the threads do on the hub: no new call begins, and
-each waiting call ends. A hub belongs to the operating-system process that opened it: in a forked child, every call on it raises
-RuntimeError.
+`seat.resume()` resumes the wait. When a `with Hub` block ends, no new call begins, and each waiting call ends. A hub belongs to the
+operating-system process that opened it: in a forked child, every call on it raises RuntimeError.
 """
 from __future__ import annotations
 
@@ -31,12 +36,13 @@ MADE, SENT, GOT, DRAINED, CLOSED, DEFAULT, DONE, WAITING, STALLED, FAULT, CANCEL
 
 GONE, BUSY, NOT_PARKED = 2, 3, 12
 FAULTS = {
-    1: 'no such process', 2: 'the process has exited', 3: 'a call of the process is open', 4: 'too many cases',
-    5: 'no such port', 6: 'the capacity is too large', 7: 'too many ports', 8: 'close of port 0',
-    9: 'close of a closed port', 10: 'the journal is full', 11: 'out of memory', 12: 'no call of it waits',
-    13: 'a bad number, or not of this edition',
+    1: 'no such process', 2: 'the process has exited', 3: 'a call of the process is still open', 4: 'more than 8 cases in edition 1',
+    5: 'no such port', 6: 'the capacity is above 1,024', 7: 'the hub already has 64 ports', 8: 'close of port 0',
+    9: 'close of a closed port', 10: 'the hub has reached its step limit', 11: 'out of memory', 12: 'the process has no waiting call',
+    13: 'more than 16 cases, or a call that needs edition 2',
 }
-OPENING = {1: '1 to 64 processes', 2: '1 to 1,000,000 steps', 4: 'edition 1 or 2'}
+OPENING = {1: 'the number of processes must be between 1 and 64', 2: 'the step limit must be between 1 and 1,000,000',
+           4: 'the edition must be 1 or 2'}
 
 
 class Ended(Exception):
@@ -58,17 +64,20 @@ class Ended(Exception):
 class Closed(Ended):
     """Raised by a send on a closed port."""
 
-    words = 'a send on a closed port'
+    words = 'send on a closed port'
 
 
 class Drained(Ended):
     """Raised by a receive from a port that is closed and empty."""
 
-    words = 'the port is closed and holds nothing more'
+    words = 'receive from a port that is closed and empty'
 
 
 class Stalled(Ended):
-    """Raised by every waiting call when all processes that have not exited are waiting. The call had no effect."""
+    """Raised by every waiting call if all processes that have not exited are waiting. The call had no effect.
+
+    To see who waited for whom, save `hub.journal()` to a file, and run `tools/explain.sh FILE` in this repository.
+    """
 
     words = 'every process was waiting, so no call could ever end'
 
@@ -76,11 +85,11 @@ class Stalled(Ended):
 class Cancelled(Ended):
     """Raised by a call that another process cancelled. The call had no effect."""
 
-    words = 'another process ended the call'
+    words = 'another process cancelled the call'
 
 
 class Fault(Exception):
-    """Raised by a call that was refused or answered with a fault. Nothing happened. `number` is the reason, a key of FAULTS."""
+    """Raised by a call that the hub did not carry out. `number` says why; it is a key of FAULTS."""
 
     def __init__(self, number: int) -> None:
         super().__init__(number)
@@ -108,7 +117,7 @@ class Fired(NamedTuple):
 
 
 class Counts(NamedTuple):
-    """The counts of a port: its capacity, how many values were sent and received, and whether it is closed."""
+    """The state of a port: its capacity, how many values were sent and received, and whether it is closed."""
     cap: int
     sent: int
     received: int
@@ -197,7 +206,7 @@ def _send_case(port: int, value: Sendable) -> bytes:
             return _pack_number(True, port, value)
         _within('value', value, 2 ** 64 - 1)
     elif not isinstance(value, (bytes, bytearray, memoryview)):
-        raise TypeError(f'a value is an int of 64 bits or bytes, not {type(value).__name__}')
+        raise TypeError(f'a value must be an int or bytes, not {type(value).__name__}')
     _within('port', port, 65535)
     sent = bytes(value)
     return _pack_bytes(True, port, True, _within('length', len(sent), 32), sent)
@@ -264,10 +273,11 @@ def _free(handle: ctypes.c_void_p, opener: int) -> None:
 
 
 class Hub:
-    """A hub of `procs` processes, 1 to 64, that makes at most `limit` steps, 1 to 1,000,000, not counting exits.
+    """A hub of `procs` processes, 1 to 64, that makes at most `limit` steps, 1 to 1,000,000. Exits do not count.
 
-    Open exactly as many processes as run: all others may wait for a process that neither calls nor exits. An edition 1 hub carries
-    numbers only and has up to 8 cases in a select; edition 2 adds bytes, 16 cases and `cancel`.
+    Open the hub with exactly as many processes as you will run: while one of them neither calls nor exits, a deadlock among the others
+    is not reported. In edition 1, values are numbers and a select has up to 8 cases. Edition 2, the default, adds bytes, 16 cases and
+    `cancel`.
 
     Raises ValueError if an argument is out of range, and MemoryError if memory runs out.
 
@@ -300,8 +310,8 @@ class Hub:
         return self
 
     def __exit__(self, *_: object) -> None:
-        """Ends the hub. No new call begins, except exits. Each process that is not waiting exits. Each waiting call ends, with
-        Stalled if nothing else ends it, and then its process exits too."""
+        """Ends the hub. From then on no call begins, except exits. Each process that is not waiting exits. Each waiting call ends,
+        with Stalled if nothing else ends it, and then its process exits too."""
         if self._is_here():
             self._live = None
             self._settle()
@@ -313,7 +323,7 @@ class Hub:
     def _owned(self) -> ctypes.c_void_p:
         """Returns the handle, even if the hub has ended. Raises RuntimeError in a forked child."""
         if not self._is_here():
-            raise RuntimeError('the hub belongs to the process which opened it, and not to a forked child')
+            raise RuntimeError('the hub belongs to the process that opened it, not to a forked child')
         return self._handle
 
     @property
@@ -330,13 +340,14 @@ class Hub:
         return Seat(self, pid)
 
     def look(self, port: int) -> Optional[Counts]:
-        """Returns the present counts of a port, or None if the port has not been made."""
+        """Returns the present state of a port, or None if the port has not been made."""
         counts = _LIBRARY.chanhub_look(self._owned(), _within('port', port, 65535))
         return Counts(counts.cap, counts.sent, counts.received, counts.closed) if counts.made else None
 
     def journal(self) -> bytes:
-        """Returns the text of the journal so far. `chanhub replay` reads it if it has at most 67,108,864 bytes.
+        """Returns the text of the journal so far. This needs no seat, so it also works while every process waits.
 
+        Other calls on the hub are delayed while the text is made. `chanhub replay` reads a text of at most 67,108,864 bytes.
         Raises MemoryError if memory runs out.
         """
         length = ctypes.c_size_t()
@@ -366,7 +377,7 @@ class Hub:
 
 
 class Table:
-    """Keeps objects, so that channels can pass their numbers: `seat.send(port, table.put(it))` and `table.take(seat.recv(port))`."""
+    """Keeps objects, so that channels can pass them by number: `seat.send(port, table.put(it))` and `table.take(seat.recv(port))`."""
 
     def __init__(self) -> None:
         self._numbers = count()
@@ -426,7 +437,7 @@ class Seat:
             hub._resumed.discard(pid)
 
     def make(self, cap: int) -> int:
-        """Makes a channel that buffers up to `cap` values, 0 to 1,024, and returns its port."""
+        """Makes a channel that buffers up to `cap` values, 0 to 1,024, and returns its port. Ports are numbered from 1."""
         told = _LIBRARY.chanhub_make(self._handle(), self.pid, _within('capacity', cap, 2 ** 32 - 1))
         port: int = self._give(_made, told)
         return port
@@ -444,7 +455,7 @@ class Seat:
         return value
 
     def drain(self, port: int) -> Iterator[Value]:
-        """Iterates over received values until the port is closed and empty."""
+        """Receives values and yields them, until the port is closed and empty."""
         while True:
             try:
                 value = self.recv(port)
@@ -453,10 +464,11 @@ class Seat:
             yield value
 
     def select(self, cases: Sequence[Union[Send, Recv]], default: bool = False, word: int = 0) -> Optional[Fired]:
-        """Fires one of the cases that can proceed, and returns which one, with the value that it received.
+        """Fires one of the cases that can proceed, and returns its index and, for a receive, the value.
 
-        If k cases can proceed, it fires number `word` mod k of them, counted from 0. Word 0 always picks the first; pass
-        `random.getrandbits(64)` for a fair choice. If no case can proceed, it returns None if `default` is true, and otherwise waits.
+        If k cases can proceed, the one with index `word % k` among them fires. Word 0 always picks the first; pass
+        `random.getrandbits(64)` for a fair choice. If no case can proceed, `select` returns None if `default` is true, and
+        otherwise waits.
         """
         packed = b''.join(map(_case, cases))
         fired: Optional[Fired] = self._call(_fired, packed, len(cases), default, _within('word', word, 2 ** 64 - 1))
@@ -467,7 +479,7 @@ class Seat:
         self._give(_done, _LIBRARY.chanhub_close(self._handle(), self.pid, _within('port', port, 65535)))
 
     def exit(self) -> None:
-        """Ends the process, so that no other process waits for it. Does nothing if the process has already exited.
+        """Ends the process, which then no longer keeps a deadlock from being reported. Does nothing if it has already exited.
 
         Raises Fault 3 if a call of the process is open. May be called after the hub has ended.
         """

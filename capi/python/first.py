@@ -1,9 +1,12 @@
-"""Two processes and one port; then what happened, as a journal."""
-from chanhub import Hub
+"""A first program: a value that is sent and received, and a receive that can never end."""
+from chanhub import Hub, Stalled
 
-with Hub(procs=2) as hub:
-    ann, bob = hub.seat(0), hub.seat(1)
-    port = ann.make(1)
-    ann.send(port, 9)
-    print(bob.recv(port))
+with Hub(procs=1) as hub, hub.seat(0) as seat:
+    port = seat.make(1)
+    seat.send(port, 9)
+    print(seat.recv(port))
+    try:
+        seat.recv(port)
+    except Stalled as why:
+        print(why)
     print(hub.journal().decode(), end='')

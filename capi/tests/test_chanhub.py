@@ -100,8 +100,8 @@ class Calls(unittest.TestCase):
 
     def test_exceptions_say_what_happened(self):
         said = [str(ended(3)) for ended in (Closed, Drained, Stalled, Cancelled)]
-        self.assertEqual(said, ['a send on a closed port', 'the port is closed and holds nothing more',
-                                'every process was waiting, so no call could ever end', 'another process ended the call'])
+        self.assertEqual(said, ['send on a closed port', 'receive from a port that is closed and empty',
+                                'every process was waiting, so no call could ever end', 'another process cancelled the call'])
         self.assertEqual(str(Fault(5)), 'fault 5: no such port')
         again = pickle.loads(pickle.dumps([Closed(3), Fault(5)]))
         self.assertEqual((again[0].index, again[1].number), (3, 5))
@@ -297,7 +297,7 @@ for _ in range(20):
                 call()
                 print('no exception')
             except RuntimeError as error:
-                if str(error) != 'the hub belongs to the process which opened it, and not to a forked child':
+                if str(error) != 'the hub belongs to the process that opened it, not to a forked child':
                     print(error)
         with Hub(procs=1) as own:
             if own.seat(0).make(0) != 1:

@@ -9,7 +9,7 @@ import "errors"
 //		fmt.Println(values.Value())
 //	}
 //	if err := values.Err(); err != nil {
-//		return err // stalled, cancelled, refused, or the hub is closed
+//		return err // stalled, cancelled, not carried out, or the hub is closed
 //	}
 //
 // Between two values the seat is free for other calls.
@@ -25,8 +25,8 @@ func (s *Seat) Drain(port Port) *Drain {
 	return &Drain{seat: s, port: port}
 }
 
-// Next receives the next value for [Drain.Value]. It waits until there is one, and returns true. It returns false if the port is
-// closed and empty, or if the receive fails. After that it always returns false, without making a step.
+// Next receives the next value, which [Drain.Value] then returns. It waits until there is one, and returns true. It returns false
+// if the port is closed and empty, or if the receive fails. After that it always returns false, without making a step.
 func (d *Drain) Next() bool {
 	if d.end != nil {
 		return false

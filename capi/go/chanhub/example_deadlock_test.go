@@ -23,7 +23,11 @@ func Example_deadlock() {
 	var both sync.WaitGroup
 	askFirst := func(seat *chanhub.Seat, mine, other chanhub.Port) {
 		defer both.Done()
-		if _, err := seat.Recv(other); !errors.Is(err, chanhub.ErrStalled) {
+		value, err := seat.Recv(other)
+		if err == nil {
+			err = seat.Send(mine, value)
+		}
+		if !errors.Is(err, chanhub.ErrStalled) {
 			log.Fatalf("not stalled: %v", err)
 		}
 	}

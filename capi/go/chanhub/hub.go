@@ -1,20 +1,27 @@
-// Package chanhub provides a hub of channels that goroutines share. The channels behave like Go's own, and the hub keeps a
-// journal of its steps.
+// Package chanhub provides channels like Go's, in a hub that reports deadlocks and keeps a journal of its steps.
 //
 // A hub has 1 to 64 processes. A goroutine calls as one of them, through a [Seat]. A call that has to wait blocks its goroutine
-// and delays no other call. If every process that has not exited is waiting, no call could ever end; in that case each waiting
-// call returns [ErrStalled]. This cannot happen as long as one of these processes waits outside the hub. A goroutine that others
-// may wait for must therefore call [Seat.Exit] before it returns and before it waits for other goroutines.
+// and delays no other call.
+//
+// # Deadlocks
+//
+// If every process that has not exited is waiting, no call could ever end; then each waiting call returns [ErrStalled]. To see who
+// waited for whom, write [Hub.Journal] to a file, and run tools/explain.sh on it in this repository. The picture shows processes
+// and channels by number: [Seat.Pid] and [Port].
+//
+// No call is stalled while a live process is outside the hub, such as in a lock, a join or I/O. A goroutine that others may wait
+// for must therefore call [Seat.Exit] before it returns and before it waits for other goroutines. If a program hangs, any
+// goroutine can write the journal, since Journal needs no seat. Its picture shows the calls that still wait.
 //
 // # Errors
 //
-// A call that fails returns [ErrClosed], [ErrDrained], [ErrStalled], [ErrCancelled] or [ErrHubClosed], or a [Fault] if nothing
-// happened. Use [errors.Is] to test for a particular error, and [errors.As] to get a Fault.
+// A call that fails returns [ErrClosed], [ErrDrained], [ErrStalled], [ErrCancelled] or [ErrHubClosed], or a [Fault] if the hub did
+// not carry it out. Use [errors.Is] to test for a particular error, and [errors.As] to get a Fault.
 //
 // # Threads
 //
-// Each call goes through cgo. While a call waits, its goroutine holds an operating system thread, so a hub may hold up to 64.
-// Other goroutines keep running.
+// Each call goes through cgo. A goroutine whose call waits holds an operating system thread, so the calls of a hub may hold up to
+// 64 threads. Other goroutines keep running.
 //
 // # The library
 //
@@ -36,26 +43,27 @@ import (
 	"unsafe"
 )
 
-// An Edition decides what the calls on a hub may contain.
+// An Edition determines what the calls on a hub may contain.
 type Edition int
 
 const (
-	// Edition1 hubs have numbers as values, and up to 8 cases in a select.
+	// In Edition1, values are numbers, and a select has up to 8 cases.
 	Edition1 Edition = 1
-	// Edition2 hubs also have bytes as values, up to 16 cases in a select, and Cancel.
+	// In Edition2, values may also be bytes, a select has up to 16 cases, and [Seat.Cancel] works.
 	Edition2 Edition = 2
 )
 
-// A Port is the number of a channel, counted from 1. Port 0 always exists and is never ready, like a nil channel in Go.
+// A Port is the number of a channel. Ports are numbered from 1 in the order in which they are made. Port 0 always exists and is
+// never ready, like a nil channel in Go.
 type Port uint16
 
-// Counts holds the counts of a port. Its buffer holds Sent - Received values.
+// Counts is the state of a port. The port's buffer holds Sent - Received values.
 type Counts struct {
 	Capacity, Sent, Received int
 	Closed                   bool
 }
 
-// A Hub is a hub of channels. Its methods may be called by multiple goroutines at any time.
+// A Hub is a hub of channels. Multiple goroutines may call its methods at any time.
 type Hub struct {
 	at      *C.chanhub
 	freed   sync.Once
@@ -66,10 +74,12 @@ type Hub struct {
 	calling []int // for each process, the number of its calls in the library
 }
 
-// Open opens a hub with 1 to 64 processes. The hub makes at most limit steps, 1 to 1,000,000, not counting exits.
+// Open opens a hub with 1 to 64 processes. The hub makes at most limit steps, between 1 and 1,000,000; exits do not count. Call
+// [Hub.Close] to free its memory.
 //
-// Open returns [ErrProcs], [ErrLimit], [ErrEdition] or [ErrMemory] if it fails. Only [Hub.Close] frees the memory of a hub. If no
-// goroutine calls as one of the processes, call [Seat.Exit] for it. Otherwise the other processes may wait for it for ever.
+// If no goroutine calls as one of the processes, call [Seat.Exit] for it. Otherwise a deadlock among the others is never reported.
+//
+// Open returns [ErrProcs], [ErrLimit], [ErrEdition] or [ErrMemory] if it fails.
 func Open(edition Edition, procs int, limit int) (*Hub, error) {
 	var at *C.chanhub
 	switch C.chanhub_open(&at, within(int(edition)), within(procs), C.uint32_t(within(limit))) {
@@ -85,13 +95,13 @@ func Open(edition Edition, procs int, limit int) (*Hub, error) {
 	return nil, ErrMemory
 }
 
-// Seat returns the seat of the process with the number pid. Processes are numbered from 0. If the hub has no such process, each
-// call through the seat returns a Fault.
+// Seat returns the seat of the process with number pid. Processes are numbered from 0. If the hub has no such process, each call
+// through the seat returns a Fault.
 func (h *Hub) Seat(pid int) *Seat {
 	return &Seat{hub: h, pid: pid}
 }
 
-// Look returns the present counts of a port. It returns [FaultNoPort] if the port has not been made.
+// Look returns the present state of a port. It returns [FaultNoPort] if the port has not been made.
 func (h *Hub) Look(port Port) (Counts, error) {
 	if err := h.enter(nobody); err != nil {
 		return Counts{}, err
@@ -104,8 +114,9 @@ func (h *Hub) Look(port Port) (Counts, error) {
 	return Counts{int(counts.cap), int(counts.sent), int(counts.received), bool(counts.closed)}, nil
 }
 
-// Journal returns the text of the journal so far, which `chanhub replay` reads if it has at most 67,108,864 bytes. Other calls on
-// the hub are delayed meanwhile. Journal returns [FaultNoMemory] if memory runs out.
+// Journal returns the text of the journal so far. It needs no seat, so it also works while every process waits. Other calls on the
+// hub are delayed while the text is made. `chanhub replay` reads a text of at most 67,108,864 bytes. Journal returns
+// [FaultNoMemory] if memory runs out.
 func (h *Hub) Journal() ([]byte, error) {
 	if err := h.enter(nobody); err != nil {
 		return nil, err
@@ -120,10 +131,10 @@ func (h *Hub) Journal() ([]byte, error) {
 	return append([]byte(nil), unsafe.Slice((*byte)(unsafe.Pointer(text)), int(length))...), nil
 }
 
-// Close ends the hub and frees its memory. It always returns nil, and may be called more than once and by several goroutines.
+// Close ends the hub and frees its memory. It always returns nil. It may be called more than once and by several goroutines.
 //
-// Later calls return [ErrHubClosed]. Of the calls that are running, those that wait return ErrHubClosed, and those that can
-// proceed return their result. Close waits for the running calls, which takes no longer than a step of each.
+// Later calls return [ErrHubClosed], including [Hub.Journal]. Of the calls that are running, those that wait return ErrHubClosed,
+// and those that can proceed return their result. Close waits for the running calls, which takes no longer than a step of each.
 func (h *Hub) Close() error {
 	h.freed.Do(func() {
 		h.shut()

@@ -4,7 +4,7 @@ package chanhub
 import "C"
 
 // A Seat is a process of a hub. Only one goroutine at a time may call through it; several may take turns. While a call of the
-// process waits, its other calls return [FaultBusy]. Two seats with the same number are the same process.
+// process waits, any other call of the process returns [FaultBusy]. Two seats with the same number are the same process.
 type Seat struct {
 	hub *Hub
 	pid int
@@ -15,7 +15,8 @@ func (s *Seat) Pid() int {
 	return s.pid
 }
 
-// Make makes a channel that buffers up to capacity values, 0 to 1,024, and returns its port.
+// Make makes a channel that buffers up to capacity values, and returns its port. The capacity is from 0 to 1,024. With capacity 0,
+// each send waits for a receive.
 func (s *Seat) Make(capacity int) (Port, error) {
 	told, err := s.call(func(hub *C.chanhub, pid C.uint) C.chanhub_told {
 		return C.chanhub_make(hub, pid, C.uint32_t(within(capacity)))
@@ -40,7 +41,7 @@ func (s *Seat) Recv(port Port) (Value, error) {
 	return told.value, err
 }
 
-// A Case is a case of a select. [SendCase] and [RecvCase] make one.
+// A Case is a case of a select. [SendCase] and [RecvCase] return one.
 type Case struct {
 	sends bool
 	port  Port
@@ -57,17 +58,16 @@ func RecvCase(port Port) Case {
 	return Case{port: port}
 }
 
-// Select fires one of the cases that can proceed, or waits until one can. If k cases can proceed, it fires number word mod k of
-// them, counted from 0. Pass a random word for a fair choice; word 0 always picks the first.
+// Select fires one of the cases that can proceed, or waits until one can. If k cases can proceed, the one with index word % k among
+// them fires. Pass a random word for a fair choice; word 0 always picks the first.
 //
-// Select returns the index of the case that fired and, for a receive, the value. If it returns [ErrClosed] or [ErrDrained], index
-// is the index of the case that failed; with any other error, index is -1.
+// Select returns the index of the case that fired and, for a receive, the value. If err is [ErrClosed] or [ErrDrained], index is
+// that of the case that failed; with any other error, index is -1.
 func (s *Seat) Select(word uint64, cases ...Case) (index int, value Value, err error) {
 	return s.selectOf(false, word, cases)
 }
 
-// TrySelect is like [Seat.Select], but has a default and never waits. If no case can proceed, it returns the index -1 and a nil
-// error.
+// TrySelect is like [Seat.Select] with a default: it never waits. If no case can proceed, it returns index -1 and a nil error.
 func (s *Seat) TrySelect(word uint64, cases ...Case) (index int, value Value, err error) {
 	return s.selectOf(true, word, cases)
 }
@@ -96,7 +96,8 @@ func (s *Seat) Close(port Port) error {
 	return err
 }
 
-// Exit ends the process. Later calls of the process return [FaultGone].
+// Exit ends the process. Later calls of the process return [FaultGone]. A process that has exited does not keep a deadlock from
+// being reported.
 func (s *Seat) Exit() error {
 	_, err := s.call(func(hub *C.chanhub, pid C.uint) C.chanhub_told {
 		return C.chanhub_exit(hub, pid)

@@ -15,6 +15,7 @@ fn main() -> Result<(), Box<dyn Error>> {
                 .recv(&mut seat)
                 .and_then(|value| to.send(&mut seat, value));
             assert_eq!(came, Err(Ended::Stalled));
+            // Dropping the seat here would add an exit to the journal, after the calls that stalled.
             seat
         })
     });

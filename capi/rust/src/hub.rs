@@ -10,12 +10,12 @@ use std::ptr;
 use std::sync::atomic::{AtomicU64, Ordering};
 use std::sync::Arc;
 
-/// The edition of a hub, which decides what its calls may contain.
+/// The edition of a hub, which determines what its calls may contain.
 #[derive(Clone, Copy, Debug, PartialEq, Eq)]
 pub enum Edition {
     /// Values are numbers, and a select has up to 8 cases.
     One,
-    /// Values are numbers or bytes, a select has up to 16 cases, and a process may cancel the call of another.
+    /// Values are numbers or bytes, a select has up to 16 cases, and a process can cancel the call of another.
     Two,
 }
 
@@ -38,20 +38,20 @@ impl Drop for Raw {
 
 /// A hub of channels.
 ///
-/// A clone refers to the same hub. The hub is freed when the last clone and the last [`Seat`] have been dropped.
+/// A clone refers to the same hub. The hub is freed when the last clone and the last [`Seat`] are dropped.
 #[derive(Clone)]
 pub struct Hub(Arc<Raw>);
 
 /// A process of a hub.
 ///
-/// Each call takes the seat by `&mut`, so only one thread at a time calls in the name of the process. Dropping the seat exits the
-/// process, so that no other process waits for it.
+/// Each call takes the seat by `&mut`, so only one thread at a time calls as the process. Dropping the seat exits the process, and
+/// so does a panic that unwinds the thread that owns it. A process that has exited does not keep a deadlock from being reported.
 pub struct Seat {
     hub: Hub,
     pid: u8,
 }
 
-/// Shows the number of the hub. A [`Sender`] and a [`Receiver`] show the number of the hub that they belong to.
+/// Shows the number of the hub. A [`Sender`] and a [`Receiver`] show the number of the hub to which they belong.
 impl fmt::Debug for Hub {
     fn fmt(&self, f: &mut fmt::Formatter<'_>) -> fmt::Result {
         f.debug_struct("Hub").field("id", &self.0.id).finish()
@@ -68,7 +68,7 @@ impl fmt::Debug for Seat {
     }
 }
 
-/// The counts of a channel, which [`Hub::look_at`] returns.
+/// The state of a channel, as [`Hub::look_at`] returns it.
 #[derive(Clone, Copy, Debug, PartialEq, Eq)]
 pub struct Counts {
     /// The capacity of the buffer.
@@ -81,7 +81,9 @@ pub struct Counts {
     pub closed: bool,
 }
 
-/// The sending end of a channel. Dropping it does not close the channel.
+/// The sending end of a channel.
+///
+/// It is `Copy`, and dropping it does not close the channel: call [`close`](Sender::close).
 #[derive(Clone, Copy, Debug, PartialEq, Eq)]
 pub struct Sender {
     hub: u64,
@@ -89,6 +91,8 @@ pub struct Sender {
 }
 
 /// The receiving end of a channel.
+///
+/// It is `Copy`, so several threads can receive from one channel. Each value goes to one of them.
 #[derive(Clone, Copy, Debug, PartialEq, Eq)]
 pub struct Receiver {
     hub: u64,
@@ -118,9 +122,9 @@ pub enum Selected {
 impl Hub {
     /// Opens a hub with 1 to 64 processes. Returns the hub and a seat for each process, in order.
     ///
-    /// The hub makes at most `limit` steps, 1 to 1,000,000, not counting exits.
+    /// The hub makes at most `limit` steps, between 1 and 1,000,000. Exits do not count.
     ///
-    /// Drop every seat that no thread uses. Otherwise the other processes may wait for its process for ever.
+    /// Drop every seat that no thread uses. Otherwise a deadlock among the others is never reported.
     ///
     /// # Errors
     ///
@@ -161,9 +165,10 @@ impl Hub {
         })
     }
 
-    /// Returns the text of the journal so far, which `chanhub replay` reads if it has at most 67,108,864 bytes.
+    /// Returns the text of the journal so far, or `None` if memory runs out.
     ///
-    /// Returns `None` if memory runs out.
+    /// This needs no seat, so it also works while every process waits. Other calls on the hub are delayed while the text is made.
+    /// `chanhub replay` reads a text of at most 67,108,864 bytes.
     pub fn journal(&self) -> Option<String> {
         let mut length = 0;
         // SAFETY: the text is `length` bytes until it is freed.
@@ -179,7 +184,7 @@ impl Hub {
         }
     }
 
-    /// Returns the present counts of a channel, or `None` if the channel belongs to another hub.
+    /// Returns the present state of a channel, or `None` if the channel belongs to another hub.
     pub fn look_at(&self, receiver: &Receiver) -> Option<Counts> {
         if receiver.hub == self.0.id {
             self.look(receiver.port)
@@ -232,12 +237,12 @@ impl Seat {
 
     /// Makes a channel that buffers up to `cap` values, and returns its two ends.
     ///
-    /// A channel of capacity 0 has no buffer: a send and a receive have to meet.
+    /// A channel of capacity 0 has no buffer: each send waits for a receive.
     ///
     /// # Errors
     ///
     /// Returns [`Fault::BAD_CAP`] if `cap` is above 1,024, [`Fault::TOO_MANY_PORTS`] if the hub already has 64 channels,
-    /// [`Fault::JOURNAL_FULL`] if the hub has reached its limit of steps, and [`Fault::NO_MEMORY`] if memory runs out.
+    /// [`Fault::JOURNAL_FULL`] if the hub has reached its step limit, and [`Fault::NO_MEMORY`] if memory runs out.
     pub fn channel(&mut self, cap: u32) -> Result<(Sender, Receiver), Fault> {
         let (hub, pid) = self.at();
         // SAFETY: the hub is open as long as `self.hub` exists, and no other call uses this seat. This holds for all calls below.
@@ -249,15 +254,15 @@ impl Seat {
 
     /// Fires one of the cases that can proceed.
     ///
-    /// If `k` cases can proceed, it fires number `word` mod `k` of them, counted from 0. Pass a random word for a fair choice; 0
-    /// always picks the first. If no case can proceed, it returns [`Selected::Default`] if `has_default` is true, and otherwise
+    /// If `k` cases can proceed, the one with index `word % k` among them fires. Pass a random word for a fair choice; 0 always
+    /// picks the first. If no case can proceed, `select` returns [`Selected::Default`] if `has_default` is true, and otherwise
     /// waits.
     ///
     /// # Errors
     ///
     /// Returns [`Ended::Closed`] if the case that fires sends on a closed channel, and [`Ended::Drained`] if it receives from a
     /// channel that is closed and empty; both have the index of the case. Returns [`Ended::Stalled`] or [`Ended::Cancelled`] if
-    /// that ended the wait, and [`Ended::Fault`] if the call was refused or answered with a fault.
+    /// that ended the wait, and [`Ended::Fault`] if the hub did not carry out the call.
     pub fn select(
         &mut self,
         cases: &[Case],
@@ -294,7 +299,7 @@ impl Seat {
     /// # Errors
     ///
     /// Returns [`Fault::NOT_PARKED`] if the process has no waiting call or does not exist, and [`Fault::BAD_CALL`] in a hub of
-    /// [`Edition::One`]. Returns another [`Fault`] if the call was refused.
+    /// [`Edition::One`]. Returns another [`Fault`] if the hub refuses the call.
     pub fn cancel(&mut self, other: u8) -> Result<(), Fault> {
         let (hub, pid) = self.at();
         done(unsafe { sys::chanhub_cancel(hub, pid, other.into()) })
@@ -312,12 +317,19 @@ impl Drop for Seat {
 }
 
 impl Sender {
+    /// Returns the number of the channel's port, by which journals, stories and pictures name the channel.
+    ///
+    /// The ports of a hub are numbered from 1, in the order in which they are made. Both ends of a channel have the same port.
+    pub fn port(&self) -> u16 {
+        self.port
+    }
+
     /// Sends a value. Waits until a receiver takes it or the buffer has room for it.
     ///
     /// # Errors
     ///
     /// Returns [`Ended::Closed`] if the channel is closed. Returns [`Ended::Stalled`] or [`Ended::Cancelled`] if that ended the
-    /// wait, and [`Ended::Fault`] if the call was refused or answered with a fault.
+    /// wait, and [`Ended::Fault`] if the hub did not carry out the call.
     pub fn send(&self, seat: &mut Seat, value: impl Into<Value>) -> Result<(), Ended> {
         seat.is_mine(self.hub)?;
         let (hub, pid) = seat.at();
@@ -329,7 +341,7 @@ impl Sender {
     ///
     /// # Errors
     ///
-    /// Returns [`Ended::Fault`] if the call was refused, or if the channel is already closed. It returns no other error.
+    /// Returns [`Ended::Fault`] if the channel is already closed or the hub refuses the call. It returns no other error.
     pub fn close(&self, seat: &mut Seat) -> Result<(), Ended> {
         seat.is_mine(self.hub)?;
         let (hub, pid) = seat.at();
@@ -339,12 +351,17 @@ impl Sender {
 }
 
 impl Receiver {
+    /// Returns the number of the channel's port, as [`Sender::port`] does.
+    pub fn port(&self) -> u16 {
+        self.port
+    }
+
     /// Receives a value. Waits until there is one.
     ///
     /// # Errors
     ///
     /// Returns [`Ended::Drained`] if the channel is closed and empty. Returns [`Ended::Stalled`] or [`Ended::Cancelled`] if that
-    /// ended the wait, and [`Ended::Fault`] if the call was refused or answered with a fault.
+    /// ended the wait, and [`Ended::Fault`] if the hub did not carry out the call.
     pub fn recv(&self, seat: &mut Seat) -> Result<Value, Ended> {
         seat.is_mine(self.hub)?;
         let (hub, pid) = seat.at();
@@ -387,7 +404,7 @@ impl Receiver {
         }
     }
 
-    /// Returns an iterator over the values received, until the channel is closed and empty.
+    /// Returns an iterator that receives values until the channel is closed and empty.
     ///
     /// If a receive fails for another reason, the error is the last item:
     ///
@@ -417,11 +434,11 @@ impl Receiver {
     }
 }
 
-/// An iterator over the values received from a channel.
+/// An iterator that receives values from a channel.
 ///
-/// [`Receiver::drain`] returns it.
+/// It is returned by [`Receiver::drain`].
 #[derive(Debug)]
-#[must_use = "it receives as it is iterated"]
+#[must_use = "a `Drain` is lazy: iterate it to receive"]
 pub struct Drain<'a> {
     receiver: &'a Receiver,
     seat: &'a mut Seat,

@@ -1,8 +1,7 @@
-//! A hub of Go channels that threads share. The hub keeps a journal of its steps.
+//! Go's channels for threads, in a hub that reports deadlocks and keeps a journal of its steps.
 //!
 //! A [`Hub`] has a fixed number of processes, and each thread calls as one of them, through a [`Seat`]. A call that has to wait
-//! blocks its thread. If every process that has not exited is waiting, no call could ever end; then each waiting call returns
-//! [`Ended::Stalled`].
+//! blocks its thread, so async code should make such calls on a thread of their own.
 //!
 //! # Examples
 //!
@@ -60,10 +59,26 @@
 //! });
 //! ```
 //!
+//! # Deadlocks
+//!
+//! If every process that has not exited is waiting, no call could ever end; then each waiting call returns [`Ended::Stalled`]. To
+//! see who waited for whom, save [`Hub::journal`] to a file, and run `tools/explain.sh FILE` in this crate's repository. The
+//! picture shows processes and channels by number: [`Seat::pid`] and [`Sender::port`].
+//!
+//! A deadlock among some of the processes is not reported as long as another one can act. A process counts as able to act even if
+//! its thread is blocked elsewhere, such as in a `Mutex`, in I/O or in [`join`](std::thread::JoinHandle::join). If a program
+//! hangs, save the journal from any thread, through a clone of the [`Hub`]. Its picture shows the calls that still wait.
+//!
+//! # Panics
+//!
+//! A panic that unwinds drops the seats that its thread owns, and so exits their processes. If every other process is waiting
+//! then, these calls return [`Ended::Stalled`] instead of hanging.
+//!
 //! # Linking
 //!
-//! The crate links the static library `libchanhub.a`. It looks in the folder that the environment variable `CHANHUB_LIB` names at
-//! build time or, if that is not set, in `capi/out` of this repository, where `make -C capi` builds the library.
+//! The crate links the static library `libchanhub.a`. The build looks for it in the folder that the environment variable
+//! `CHANHUB_LIB` names or, if that is not set, in `capi/out` of this repository, where `make -C capi` builds it. The crate needs
+//! Rust 1.62 or later.
 
 #![warn(missing_docs, missing_debug_implementations)]
 

@@ -1,13 +1,13 @@
-//! A table of things that channels pass by number.
+//! The table of things.
 
 use crate::value::Value;
 use std::collections::HashMap;
 use std::sync::{Mutex, MutexGuard, PoisonError};
 
-/// A table of things, so that channels can pass their numbers.
+/// A table of things that channels pass by number.
 ///
 /// A channel carries only numbers and short byte strings. To pass anything else, [`put`](Table::put) it into a table that both
-/// threads share, send the value that stands for it, and [`take`](Table::take) it out on the other side.
+/// threads share, send the value that `put` returns, and [`take`](Table::take) the thing out on the other side.
 #[derive(Debug)]
 pub struct Table<T> {
     kept: Mutex<Kept<T>>,

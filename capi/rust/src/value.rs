@@ -15,7 +15,7 @@ pub enum Value {
 
 /// A byte string of 0 to 32 bytes.
 ///
-/// `Value::try_from` makes a [`Value`] of a byte slice.
+/// `Value::try_from` makes a [`Value`] from a byte slice.
 #[derive(Clone, Copy, PartialEq, Eq)]
 pub struct Bytes {
     length: u8,

@@ -48,6 +48,37 @@ fn values_come_in_order() {
 }
 
 #[test]
+fn both_ends_have_the_number_of_their_port() {
+    let (hub, mut seat) = one_seat(Edition::One);
+    for port in 1..=3 {
+        let (sender, receiver) = seat.channel(1).unwrap();
+        assert_eq!((sender.port(), receiver.port()), (port, port));
+    }
+    let (sender, receiver) = seat.channel(1).unwrap();
+    sender.send(&mut seat, 7).unwrap();
+    receiver.recv(&mut seat).unwrap();
+    assert_eq!(
+        hub.journal().unwrap().lines().skip(6).collect::<Vec<_>>(),
+        [
+            format!("0 send {} 7", sender.port()),
+            format!("0 recv {}", receiver.port())
+        ]
+    );
+}
+
+#[test]
+fn a_panic_exits_the_process_of_its_seat() {
+    let (hub, mut seats) = Hub::open(Edition::One, 2, 100).unwrap();
+    let panics = seats.pop().unwrap();
+    let mut waits = seats.pop().unwrap();
+    let (_, receiver) = waits.channel(0).unwrap();
+    let thread = thread::spawn(move || panic!("{panics:?}"));
+    assert_eq!(receiver.recv(&mut waits), Err(Ended::Stalled));
+    assert!(thread.join().is_err());
+    assert!(hub.journal().unwrap().lines().any(|line| line == "1 exit"));
+}
+
+#[test]
 fn next_tells_what_drain_passes_on() {
     let (_hub, mut seat) = one_seat(Edition::One);
     let (sender, receiver) = seat.channel(1).unwrap();

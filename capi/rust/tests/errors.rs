@@ -13,17 +13,17 @@ fn faults_say_what_their_numbers_mean() {
     let said = [
         "fault 1: no such process",
         "fault 2: the process has exited",
-        "fault 3: a call of the process is open",
-        "fault 4: more than 8 cases, in edition 1",
+        "fault 3: a call of the process is still open",
+        "fault 4: more than 8 cases in edition 1",
         "fault 5: no such port",
-        "fault 6: a capacity above 1,024",
-        "fault 7: 64 ports are made",
-        "fault 8: a close of port 0",
-        "fault 9: a close of a closed port",
-        "fault 10: the hub has made its limit of steps",
-        "fault 11: memory was refused",
-        "fault 12: a cancel of a process whose call does not wait",
-        "fault 13: an end of another hub's channel, more than 16 cases, or something that the hub's edition lacks",
+        "fault 6: the capacity is above 1,024",
+        "fault 7: the hub already has 64 ports",
+        "fault 8: close of port 0",
+        "fault 9: close of a closed port",
+        "fault 10: the hub has reached its step limit",
+        "fault 11: out of memory",
+        "fault 12: the process has no waiting call to cancel",
+        "fault 13: a channel of another hub, more than 16 cases, or a call that needs edition 2",
         "fault 14: a number that chanhub.h does not define",
     ];
     for (number, said) in (1..).zip(said) {
@@ -37,17 +37,20 @@ fn ends_and_refusals_say_what_happened() {
     assert_eq!(Ended::Closed(0).to_string(), "send on a closed port");
     assert_eq!(
         Ended::Drained(0).to_string(),
-        "the port is closed and holds nothing more"
+        "receive from a port that is closed and empty"
     );
     assert_eq!(Ended::Stalled.to_string(), "every process was waiting");
     assert_eq!(
         Ended::Cancelled.to_string(),
-        "another process ended the call"
+        "another process cancelled the call"
     );
-    assert_eq!(OpenError::Procs.to_string(), "a hub has 1 to 64 processes");
+    assert_eq!(
+        OpenError::Procs.to_string(),
+        "the number of processes must be between 1 and 64"
+    );
     assert_eq!(
         OpenError::Limit.to_string(),
-        "a hub has 1 to 1,000,000 steps"
+        "the step limit must be between 1 and 1,000,000"
     );
     assert_eq!(OpenError::Memory.to_string(), "out of memory");
     assert_eq!(TooLong.to_string(), "a value has at most 32 bytes");

@@ -19,9 +19,11 @@ impl<K: HubName, R: Wait> Task<LiveHub<K>, Held<K>, R> for Hello {
 
     fn perform(self, rt: &R, hub: &LiveHub<K>, seat: &mut Held<K>) -> Result<Option<u64>, Ended> {
         if seat.pid() == Pid(0) {
-            return seat.send_value(rt, hub, &self.0.sender(), Value::num(9)).map(|()| None);
+            seat.send_value(rt, hub, &self.0.sender(), Value::num(9))?;
+            return Ok(None);
         }
-        Ok(seat.recv_value(rt, hub, &self.0.receiver())?.and_then(Value::as_num))
+        let got = seat.recv_value(rt, hub, &self.0.receiver())?;
+        Ok(got.and_then(Value::as_num))
     }
 }
 
@@ -40,7 +42,6 @@ fn run<K: HubName + Send + Sync>(rt: &HostRuntime, blank: Blank, seats: Vec<Seat
 }
 
 fn main(rt: HostRuntime) -> ExitCode {
-    // Two processes, whose journal has room for a hundred steps.
     let Ok((blank, seats)) = Blank::open(rt.alloc(), 2, 100, Edition::One) else {
         return ExitCode::FAILURE;
     };

@@ -9,10 +9,10 @@ usage() {
 usage: explain.sh SCENARIO [FROM [TO]]
        explain.sh JOURNAL [FROM [TO]]
 
-Runs a scenario, or takes a journal, which is a file that begins with `chanhub journal `; and opens the picture of it, of all
-steps, of FROM alone, or of those from FROM to TO. Prints where the story of these steps is, and then where their picture is. A run that stalls
-is explained as well. OPENER is the command that opens the picture, xdg-open if it is not set; without such a command nothing
-is opened.
+Takes a journal, which is a file that begins with `chanhub journal `, or runs a scenario to get one. Writes the story and the
+picture of all its steps, of step FROM, or of steps FROM to TO. Prints the path of the story and then that of the picture, and
+opens the picture. A run that stalls is explained too.
+The command in OPENER opens the picture, or xdg-open if OPENER is not set. If there is no such command, nothing is opened.
 END
 }
 
@@ -30,7 +30,7 @@ given=$1
 shift
 [ -n "${TOOL:-}" ] || "$root/tools/build.py" chanhub_tool
 
-# What is not explained leaves nothing.
+# If anything fails, no file stays behind.
 folder=$(mktemp -d)
 trap 'rm -rf "$folder"' EXIT
 trap 'exit 130' INT

@@ -266,7 +266,7 @@ class Tests(Count):
         events = subprocess.run([self.program, 'replay'], input=journal, capture_output=True).stdout
         self.test('until_stall.sh keeps a journal with a stall', b' stalled\n' in events)
         before = self.left()
-        self.test('until_stall.sh says that none stalled', self.script('until_stall.sh', ends, '3') == (1, 'no run stalled, of 3\n', '') and self.left() == before)
+        self.test('until_stall.sh says that none stalled', self.script('until_stall.sh', ends, '3') == (1, 'none of 3 runs stalled\n', '') and self.left() == before)
         status, told, errors = self.script('until_stall.sh', ends, 'many')
         self.test('until_stall.sh says how it is used', status == 2 and told == '' and errors.startswith('usage: '))
         write(self.path('faulty'), b'ports = 1\n')

@@ -7,10 +7,11 @@ usage() {
     cat <<'END'
 usage: until_stall.sh SCENARIO [N]
 
-Runs a scenario until a run stalls, at most N times, 1000 where N is left out. Prints in which run that was, and where its
-journal is, which explain.sh takes: status 0. Where no run stalls it says so: status 1; where a run fails, that one's line
-and status. Each run has another schedule, as the threads are scheduled anew, and the seed of the file, so the same
-choice words: no seed repeats a schedule.
+Runs a scenario until a run stalls, at most N times (1000 if N is left out). If a run stalls, prints its number and the path of
+its journal, which explain.sh takes, and exits with status 0. If no run stalls, says so and exits with status 1. If a run fails,
+prints its error and exits with its status.
+Each run may have a different schedule. All runs use the seed in the file, and so the same choice words; a seed does not fix the
+schedule.
 END
 }
 
@@ -49,5 +50,5 @@ while [ "$run" -lt "$most" ]; do
         *) exit "$status" ;;
     esac
 done
-echo "no run stalled, of $most"
+echo "none of $most runs stalled"
 exit 1

@@ -7,6 +7,5 @@ with Hub(procs=1) as hub, hub.seat(0) as seat:
     print(seat.recv(port))
     try:
         seat.recv(port)
-    except Stalled as why:
-        print(why)
-    print(hub.journal().decode(), end='')
+    except Stalled:
+        print(hub.journal().decode(), end='')

@@ -9,6 +9,7 @@ use hub_live::{Blank, Chan, Ended, Held, HubName, LiveHub, Seat, hold_all};
 use std::marker::Brand;
 use std::process::ExitCode;
 use std::sync::Wait;
+use std::thread::Threads;
 
 /// What the processes do over this channel.
 #[derive(Clone, Copy)]
@@ -28,7 +29,11 @@ impl<K: HubName, R: Wait> Task<LiveHub<K>, Held<K>, R> for Hello {
 }
 
 /// Runs both processes, and prints what each reports. `None` where memory, a thread or a step was refused.
-fn run<K: HubName + Send + Sync>(rt: &HostRuntime, blank: Blank, seats: Vec<Seat>) -> Option<()>
+fn run<K: HubName + Send + Sync, R: Threads + Wait + Print + AllocGlobal + Sync>(
+    rt: &R,
+    blank: Blank,
+    seats: Vec<Seat>,
+) -> Option<()>
     requires named { blank.name ≡ K.name }
     requires seats { All (λ s. s.hub ≡ K.name) seats.items }
 {
@@ -45,5 +50,5 @@ fn main(rt: HostRuntime) -> ExitCode {
     let Ok((blank, seats)) = Blank::open(rt.alloc(), 2, 100, Edition::One) else {
         return ExitCode::FAILURE;
     };
-    run::<Brand>(&rt, blank, seats).map_or(ExitCode::FAILURE, |()| ExitCode::SUCCESS)
+    run::<Brand, _>(&rt, blank, seats).map_or(ExitCode::FAILURE, |()| ExitCode::SUCCESS)
 }

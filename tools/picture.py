@@ -243,13 +243,12 @@ def mover_words(moved):
 
 
 def whom(journal, step, case, own, sender, receiver):
-    """For whom a case waits, of those whom the same step stalled too: a receive for the last sender, unless that one waits to receive
-    there itself, or else for the last receiver; a send the other way round."""
+    """For whom a case may wait, of those whom the same step stalled too, unless that one waits on the same side of the port: a receive
+    for the last sender, or else for the last receiver; a send the other way round."""
     stalled = {pid: cases_of(journal.lines[asked]) for by, pid, asked in journal.stalls if by == step and pid != own}
-    across, beside = (sender, receiver) if case[0] == "r" else (receiver, sender)
-    if across and across[0] in stalled and case not in stalled[across[0]]:
-        return across[0]
-    return beside[0] if beside and beside[0] in stalled else None
+    movers = (sender, receiver) if case[0] == "r" else (receiver, sender)
+    others = [moved[0] for moved in movers if moved and moved[0] in stalled and case not in stalled[moved[0]]]
+    return others[0] if others else None
 
 
 def waits(journal, bands):
@@ -264,7 +263,7 @@ def waits(journal, bands):
                 f"P{pid} has waited since step {asked + 1} to {aim} port {port}; "
                 f"last sent there by {mover_words(moved[0])}, last received by {mover_words(moved[1])}. "
             )
-            yield row + ("" if other is None else f"It waits for P{other}. "), step, pid, other
+            yield row + ("" if other is None else f"Perhaps it waits for P{other}. "), step, pid, other
 
 
 def vain(journal, bands):
@@ -280,7 +279,7 @@ def whoms(journal, bands):
     """Who waits for whom of those who were stalled."""
     for _, step, pid, other in waits(journal, bands):
         if other is not None and bands.has(step):
-            yield bands.band(step), f"P{pid} waits for P{other}", step, pid, other
+            yield bands.band(step), f"P{pid} perhaps waits for P{other}", step, pid, other
 
 
 def legend(journal, bands):

@@ -145,7 +145,7 @@ waiter-plain w fits =
 whom-plain : (w : Option ℕ) → IfSome w (λ pid. pid ≤ GREATEST_PID) → IsPlain (whom_words w)
 whom-plain None fits = refl
 whom-plain (Some pid) fits =
-    plain-both (codes "It waits for P") (decimal pid ++ codes ". ") refl
+    plain-both (codes "Perhaps it waits for P") (decimal pid ++ codes ". ") refl
     (plain-both (decimal pid) (codes ". ") (plain-number pid (omega (arith, fits))) refl)
 
 legend-plain : (m : Mark) → IsPlain (mark_words m)

@@ -1,4 +1,4 @@
--- Who waits for whom where everyone waits. Where it goes round, the arcs make a circle.
+-- Who may wait for whom where everyone waits: a guess by who moved values last. Where it goes round, the arcs make a circle.
 use Rattle.std.specs.Prelude.{ℕ, ◌+◌, ◌-◌, ◌/◌, ◌==◌, ◌&&◌, Bool, false, not, nat_lt, List, [], ◌∷◌, ◌++◌, codes, decimal, Option, None, Some}
 use Rattle.std.specs.Prelude.{if◌then◌else◌}
 use Rattle.std.specs.List.{list_any}
@@ -34,9 +34,9 @@ abbrev pub waits_beside : Waiter → ℕ → Waiter → Bool
 waits_beside own pid w = stalls_it own.told.by pid w.told && is_beside own.case w.case
 
 -- that process, unless it waits beside
-abbrev pub if_across : List Waiter → Waiter → Option ℕ → Option ℕ
-if_across all own None = None
-if_across all own (Some pid) = if list_any (waits_beside own pid) all then None else Some pid
+abbrev pub unless_beside : List Waiter → Waiter → Option ℕ → Option ℕ
+unless_beside all own None = None
+unless_beside all own (Some pid) = if list_any (waits_beside own pid) all then None else Some pid
 
 -- the last on the other side of the port, of the last who sent there and the last who received
 abbrev pub last_across : Case → Option Told → Option Told → Option Told
@@ -48,17 +48,20 @@ abbrev pub last_beside : Case → Option Told → Option Told → Option Told
 last_beside (Recv p) sender receiver = receiver
 last_beside (Send p v) sender receiver = sender
 
--- A receive waits for the last who sent there, unless that one waits to receive there itself, and else for the last who
--- received; a send the other way round. Whoever is not in the deadlock is not waited for.
+-- the process that moved a value, where it can be waited for: it is another, in the deadlock too, and does not wait beside
+abbrev pub waited_for : Drawing → Waiter → Option Told → Option ℕ
+waited_for d w mover = unless_beside d.waiters.items w (if_other d.stalls.items w.told mover)
+
+-- A receive is thought to wait for the last who sent there, and else for the last who received; a send the other way round.
 abbrev pub whom : Drawing → Waiter → Option ℕ
 whom d w =
-    option_or (if_across d.waiters.items w (if_other d.stalls.items w.told (last_across w.case w.sender w.receiver)))
-    (if_other d.stalls.items w.told (last_beside w.case w.sender w.receiver))
+    option_or (waited_for d w (last_across w.case w.sender w.receiver))
+    (waited_for d w (last_beside w.case w.sender w.receiver))
 
 -- in words
 abbrev pub whom_words : Option ℕ → List ℕ
 whom_words None = []
-whom_words (Some pid) = codes "It waits for P" ++ decimal pid ++ codes ". "
+whom_words (Some pid) = codes "Perhaps it waits for P" ++ decimal pid ++ codes ". "
 
 -- an arc stands on the right of the shaded fields, which end here
 abbrev pub field_end : Frame → Told → ℕ
@@ -77,7 +80,7 @@ abbrev pub whom_arc : Frame → Told → ℕ → List ℕ
 whom_arc f t other =
     joined (
     codes "<g class=\"whom\"><title>P" ∷ decimal t.event.pid.0
-    ∷ codes " waits for P" ∷ decimal other
+    ∷ codes " perhaps waits for P" ∷ decimal other
     ∷ codes "</title><path d=\"M" ∷ decimal (field_end f t)
     ∷ codes " " ∷ decimal (y_of f t.event.pid.0)
     ∷ codes "C" ∷ decimal (pulled f t other)

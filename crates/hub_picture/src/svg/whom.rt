@@ -1,10 +1,10 @@
-//! Who waits for whom where everyone waits.
+//! Who may wait for whom where everyone waits.
 
 ghost use Rattle.std.specs.Prelude.{◌≡◌, ◌≤◌};
 ghost use Rattle.std.specs.List.{list_any};
 ghost use Rattle.hub_picture.specs.Pieces.{Appends};
-ghost use Rattle.hub_picture.specs.Svg.Whom.{field_end, if_across, if_other, is_beside, last_across, last_beside, pulled, stalls_it, tip_of};
-ghost use Rattle.hub_picture.specs.Svg.Whom.{waits_beside, whom, whom_arc, whom_in, whom_text, whom_words};
+ghost use Rattle.hub_picture.specs.Svg.Whom.{field_end, if_other, is_beside, last_across, last_beside, pulled, stalls_it, tip_of};
+ghost use Rattle.hub_picture.specs.Svg.Whom.{unless_beside, waited_for, waits_beside, whom, whom_arc, whom_in, whom_text, whom_words};
 
 use crate::frame::Frame;
 use crate::pen::Pen;
@@ -80,8 +80,8 @@ fn any_beside(waiters: &[Waiter], own: &Waiter, pid: u8) -> bool
 }
 
 /// That process, unless it waits beside.
-fn if_across(waiters: &[Waiter], own: &Waiter, pid: Option<u8>) -> Option<u8>
-    ensures { result ≡ if_across waiters.now own.now pid }
+fn unless_beside(waiters: &[Waiter], own: &Waiter, pid: Option<u8>) -> Option<u8>
+    ensures { result ≡ unless_beside waiters.now own.now pid }
 {
     match pid {
         Some(pid) if any_beside(waiters, own, pid) => None,
@@ -109,14 +109,21 @@ fn last_beside(waiter: &Waiter) -> Option<Told>
     }
 }
 
-/// For whom it waits, where that one waits too.
+/// The process that moved a value, where it can be waited for.
+fn waited_for(drawing: &Drawing, waiter: &Waiter, mover: Option<Told>) -> Option<u8>
+    ensures { result ≡ waited_for drawing.now waiter.now mover }
+{
+    let other = if_other(&drawing.stalls, &waiter.told, mover);
+    unless_beside(&drawing.waiters, waiter, other)
+}
+
+/// For whom it may wait, where that one waits too.
 pub(crate) fn whom(drawing: &Drawing, waiter: &Waiter) -> Option<u8>
     ensures { result ≡ whom drawing.now waiter.now }
 {
-    let stalls = &drawing.stalls;
-    let across = if_other(stalls, &waiter.told, last_across(waiter));
-    let beside = if_other(stalls, &waiter.told, last_beside(waiter));
-    if_across(&drawing.waiters, waiter, across).or(beside)
+    let across = waited_for(drawing, waiter, last_across(waiter));
+    let beside = waited_for(drawing, waiter, last_beside(waiter));
+    across.or(beside)
 }
 
 /// Appends it in words.
@@ -124,7 +131,7 @@ pub(crate) fn put_whom_words(out: &mut Vec<u8>, whom: Option<u8>) -> Result<(), 
     ensures { Appends out.old out.new (whom_words whom) result }
 {
     match whom {
-        Some(pid) => put_filled(out, &[b"It waits for P", b". "], &[pid.into()]),
+        Some(pid) => put_filled(out, &[b"Perhaps it waits for P", b". "], &[pid.into()]),
         None => Ok(()),
     }
 }
@@ -164,7 +171,7 @@ fn put_arc(out: &mut Vec<u8>, frame: Frame, told: &Told, other: u8) -> Result<()
         out,
         &[
             b"<g class=\"whom\"><title>P",
-            b" waits for P",
+            b" perhaps waits for P",
             b"</title><path d=\"M",
             b" ",
             b"C",

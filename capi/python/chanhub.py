@@ -9,9 +9,14 @@
 A hub has a fixed number of processes, and each thread calls as one of them, through a seat. Other threads run while a call waits.
 A call that fails raises Closed, Drained, Stalled, Cancelled or Fault.
 
-If every process that has not exited is waiting, no call could ever end; then each waiting call raises Stalled. No call is stalled
-while a live process is outside the hub, such as in a lock, a join or I/O. If a program hangs, any thread can save `hub.journal()`
-to a file; `tools/explain.sh FILE` in this repository draws the calls that still wait, with the numbers of their processes and ports.
+If every process that has not exited is waiting, no call could ever end. Each waiting call then raises Stalled. A hub watches only its
+own processes, so it can report a deadlock while other threads of the program still run. But no deadlock is reported while a process
+that has not exited is outside the hub, such as in a lock, a join or I/O. If a program hangs, any thread can save `hub.journal()` to a
+file; `tools/explain.sh FILE` in this repository draws the calls that still wait, with the numbers of their processes and ports.
+
+Limits: a hub has at most 64 processes and 64 ports, and a closed port still counts. It makes at most 1,000,000 steps, not counting
+exits, so it suits tests and finite runs; a program that runs longer opens a new hub for each batch of its work. A value is an int of
+64 bits or up to 32 bytes; a Table passes any other object by its number. No call has a timeout.
 
 Ctrl-C interrupts a wait of the main thread with KeyboardInterrupt. Nothing is lost: the call stays open, `seat.waits` is true, and
 `seat.resume()` resumes the wait. When a `with Hub` block ends, no new call begins, and each waiting call ends. A hub belongs to the
@@ -74,7 +79,7 @@ class Drained(Ended):
 
 
 class Stalled(Ended):
-    """Raised by every waiting call if all processes that have not exited are waiting. The call had no effect.
+    """Raised by each call of a deadlock: every process that had not exited was waiting. The call had no effect.
 
     To see who waited for whom, save `hub.journal()` to a file, and run `tools/explain.sh FILE` in this repository.
     """
@@ -275,9 +280,11 @@ def _free(handle: ctypes.c_void_p, opener: int) -> None:
 class Hub:
     """A hub of `procs` processes, 1 to 64, that makes at most `limit` steps, 1 to 1,000,000. Exits do not count.
 
-    Open the hub with exactly as many processes as you will run: while one of them neither calls nor exits, a deadlock among the others
-    is not reported. In edition 1, values are numbers and a select has up to 8 cases. Edition 2, the default, adds bytes, 16 cases and
-    `cancel`.
+    Open the hub with exactly as many processes as you will run. While one of them neither calls nor exits, no deadlock among the
+    others is reported.
+
+    In edition 1, values are numbers and a select has up to 8 cases. Edition 2, the default, also has bytes as values, up to 16 cases,
+    and `cancel`.
 
     Raises ValueError if an argument is out of range, and MemoryError if memory runs out.
 
@@ -377,7 +384,10 @@ class Hub:
 
 
 class Table:
-    """Keeps objects, so that channels can pass them by number: `seat.send(port, table.put(it))` and `table.take(seat.recv(port))`."""
+    """Holds objects of any type, so that channels can pass them by number.
+
+    One thread calls `seat.send(port, table.put(it))`, and another calls `table.take(seat.recv(port))`.
+    """
 
     def __init__(self) -> None:
         self._numbers = count()
@@ -479,7 +489,7 @@ class Seat:
         self._give(_done, _LIBRARY.chanhub_close(self._handle(), self.pid, _within('port', port, 65535)))
 
     def exit(self) -> None:
-        """Ends the process, which then no longer keeps a deadlock from being reported. Does nothing if it has already exited.
+        """Ends the process, so that a deadlock among the others can be reported. Does nothing if it has already exited.
 
         Raises Fault 3 if a call of the process is open. May be called after the hub has ended.
         """

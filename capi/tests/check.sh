@@ -184,6 +184,7 @@ if command -v cargo > "$work/found"; then
         check "cargo test $test" cargo test --offline --quiet --manifest-path rust/Cargo.toml $test
     done
     check 'pool.rs' prints "$work/sum" cargo run --offline --quiet --manifest-path rust/Cargo.toml --example pool
+    check 'first.rs' prints "$work/first" cargo run --offline --quiet --manifest-path rust/Cargo.toml --example first
     check 'deadlock.rs' prints "$work/stalled" cargo run --offline --quiet --manifest-path rust/Cargo.toml --example deadlock
     check 'choice.rs' chooses cargo run --offline --quiet --manifest-path rust/Cargo.toml --example choice
     check 'cargo doc' env RUSTDOCFLAGS='-D warnings' cargo doc --offline --quiet --no-deps --manifest-path rust/Cargo.toml

@@ -14,8 +14,8 @@ var (
 	ErrClosed = errors.New("chanhub: send on a closed port")
 	// ErrDrained is returned by a receive from a port that is closed and empty.
 	ErrDrained = errors.New("chanhub: receive from a port that is closed and empty")
-	// ErrStalled is returned by each waiting call if every process that had not exited was waiting. The call had no effect. To see
-	// who waited for whom, write [Hub.Journal] to a file, and run tools/explain.sh on it.
+	// ErrStalled is returned by each call of a deadlock: every process that had not exited was waiting. The call had no effect. To
+	// see who waited for whom, write [Hub.Journal] to a file, and run tools/explain.sh on it.
 	ErrStalled = errors.New("chanhub: every process was waiting")
 	// ErrCancelled is returned by a call that another process cancelled. The call had no effect.
 	ErrCancelled = errors.New("chanhub: another process cancelled the call")
@@ -37,7 +37,7 @@ var ErrTooLong = errors.New("chanhub: a value has at most 32 bytes")
 // A Fault is the reason why the hub did not carry out a call. It has the same number in chanhub.h and in the events of a journal.
 type Fault uint8
 
-// The page docs/SEMANTICS.md explains faults 1 to 12. Fault 13 exists only in the library.
+// The faults. The page docs/SEMANTICS.md explains faults 1 to 12. Fault 13 exists only in the library.
 const (
 	FaultNoProcess     Fault = C.CHANHUB_NO_PROCESS     // the hub has no such process
 	FaultGone          Fault = C.CHANHUB_GONE           // the process has exited

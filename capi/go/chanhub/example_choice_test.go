@@ -4,12 +4,14 @@ import (
 	"fmt"
 	"log"
 	"math/rand"
+	"time"
 
 	"chanhub/chanhub"
 )
 
 // A select with a default: it receives 5 or sends 7, as a random word chooses, until neither can proceed.
 func Example_choice() {
+	rand.Seed(time.Now().UnixNano()) // from Go 1.20 on, the generator seeds itself
 	hub, err := chanhub.Open(chanhub.Edition1, 1, 1000)
 	if err != nil {
 		log.Fatal(err)

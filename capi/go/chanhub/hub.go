@@ -5,18 +5,36 @@
 //
 // # Deadlocks
 //
-// If every process that has not exited is waiting, no call could ever end; then each waiting call returns [ErrStalled]. To see who
+// If every process that has not exited is waiting, no call could ever end. Each waiting call then returns [ErrStalled]. To see who
 // waited for whom, write [Hub.Journal] to a file, and run tools/explain.sh on it in this repository. The picture shows processes
 // and channels by number: [Seat.Pid] and [Port].
 //
-// No call is stalled while a live process is outside the hub, such as in a lock, a join or I/O. A goroutine that others may wait
-// for must therefore call [Seat.Exit] before it returns and before it waits for other goroutines. If a program hangs, any
-// goroutine can write the journal, since Journal needs no seat. Its picture shows the calls that still wait.
+// A hub watches only its own processes, so it can report a deadlock while other goroutines of the program still run. Go's runtime
+// reports a deadlock only if all goroutines are asleep. In a program that uses cgo, as this package does, it reports none at all
+// (tried with Go 1.19).
+//
+// No deadlock is reported while a process that has not exited is outside the hub, such as in I/O or in a call of [sync.Mutex.Lock]
+// or [sync.WaitGroup.Wait]. A goroutine that others may wait for must therefore call [Seat.Exit] before it returns and before it
+// waits for other goroutines. If a program hangs, any goroutine can write the journal, since Journal needs no seat. Its picture
+// shows the calls that still wait.
+//
+// # Memory order
+//
+// What a goroutine wrote before it sent a value or closed a port is visible to the goroutine that receives the value or learns of
+// the close. What a goroutine wrote before it received a value is visible to the goroutine whose waiting send was ended by that
+// receive. The race detector knows this order, since each call also locks a [sync.Mutex] of the hub. But that mutex orders all
+// calls on the hub, even those that pass no value to each other, so the detector can miss some races.
 //
 // # Errors
 //
 // A call that fails returns [ErrClosed], [ErrDrained], [ErrStalled], [ErrCancelled] or [ErrHubClosed], or a [Fault] if the hub did
 // not carry it out. Use [errors.Is] to test for a particular error, and [errors.As] to get a Fault.
+//
+// # Limits
+//
+// A hub has at most 64 ports, and a closed port still counts. It makes at most 1,000,000 steps, not counting exits, so it suits
+// tests and finite runs. A program that runs longer opens a new hub for each batch of its work. No call takes a timeout or a
+// context; the example RecvContext uses [Seat.Cancel] instead.
 //
 // # Threads
 //
@@ -25,9 +43,9 @@
 //
 // # The library
 //
-// The package requires cgo. It links libchanhub.a from the folder capi/out of this repository, where `make -C capi` builds it. To
-// link a library in another folder, set CGO_LDFLAGS=-L/its/folder and, for its header, CGO_CFLAGS=-I/folder. The go tool does not
-// notice that the library was rebuilt; use `go build -a` to link the new one.
+// The package links libchanhub.a from the folder capi/out of this repository, where `make -C capi` builds it. To link a library in
+// another folder, set CGO_LDFLAGS=-L/its/folder and, for its header, CGO_CFLAGS=-I/folder. The go tool does not notice that the
+// library was rebuilt; use `go build -a` to link the new one.
 package chanhub
 
 /*
@@ -63,7 +81,7 @@ type Counts struct {
 	Closed                   bool
 }
 
-// A Hub is a hub of channels. Multiple goroutines may call its methods at any time.
+// A Hub is a hub of channels. Several goroutines may call its methods at the same time.
 type Hub struct {
 	at      *C.chanhub
 	freed   sync.Once
@@ -77,7 +95,7 @@ type Hub struct {
 // Open opens a hub with 1 to 64 processes. The hub makes at most limit steps, between 1 and 1,000,000; exits do not count. Call
 // [Hub.Close] to free its memory.
 //
-// If no goroutine calls as one of the processes, call [Seat.Exit] for it. Otherwise a deadlock among the others is never reported.
+// If no goroutine calls as one of the processes, call [Seat.Exit] for it. Until then, no deadlock among the others is reported.
 //
 // Open returns [ErrProcs], [ErrLimit], [ErrEdition] or [ErrMemory] if it fails.
 func Open(edition Edition, procs int, limit int) (*Hub, error) {
@@ -134,7 +152,8 @@ func (h *Hub) Journal() ([]byte, error) {
 // Close ends the hub and frees its memory. It always returns nil. It may be called more than once and by several goroutines.
 //
 // Later calls return [ErrHubClosed], including [Hub.Journal]. Of the calls that are running, those that wait return ErrHubClosed,
-// and those that can proceed return their result. Close waits for the running calls, which takes no longer than a step of each.
+// and those that can proceed return their result. Close returns after all running calls have left the library; none of them waits
+// any longer.
 func (h *Hub) Close() error {
 	h.freed.Do(func() {
 		h.shut()

@@ -59,7 +59,10 @@ func RecvCase(port Port) Case {
 }
 
 // Select fires one of the cases that can proceed, or waits until one can. If k cases can proceed, the one with index word % k among
-// them fires. Pass a random word for a fair choice; word 0 always picks the first.
+// them fires. Word 0 always picks the first.
+//
+// For a fair choice, pass a random word, such as that of [math/rand.Uint64]. Before Go 1.20, that function returns the same numbers
+// in every run unless the program calls [math/rand.Seed].
 //
 // Select returns the index of the case that fired and, for a receive, the value. If err is [ErrClosed] or [ErrDrained], index is
 // that of the case that failed; with any other error, index is -1.
@@ -96,8 +99,8 @@ func (s *Seat) Close(port Port) error {
 	return err
 }
 
-// Exit ends the process. Later calls of the process return [FaultGone]. A process that has exited does not keep a deadlock from
-// being reported.
+// Exit ends the process. Later calls of the process return [FaultGone]. Once a process has exited, a deadlock among the others can
+// be reported.
 func (s *Seat) Exit() error {
 	_, err := s.call(func(hub *C.chanhub, pid C.uint) C.chanhub_told {
 		return C.chanhub_exit(hub, pid)

@@ -21,17 +21,17 @@ pub enum OpenError {
 pub enum Ended {
     /// The call was a send on a closed channel.
     ///
-    /// The number is the index of the case in a [`select`](crate::Seat::select), and 0 in any other call. A select has at most 16
-    /// cases; `usize::from` converts the index to the type of those in [`Selected`](crate::Selected).
+    /// The number is the index of the case in a [`select`](crate::Seat::select), and 0 in any other call. Use `usize::from` to
+    /// compare it with an index in [`Selected`](crate::Selected).
     Closed(u8),
     /// The call was a receive from a channel that is closed and empty.
     ///
-    /// The number is the index of the case, as in [`Closed`](Ended::Closed).
+    /// The number means the same as in [`Closed`](Ended::Closed).
     Drained(u8),
-    /// Every process that had not exited was waiting, so no call could ever end. The call had no effect.
+    /// The call was part of a deadlock: every process that had not exited was waiting. The call had no effect.
     ///
     /// To see who waited for whom, save [`Hub::journal`](crate::Hub::journal) to a file, and run `tools/explain.sh FILE` in this
-    /// crate's repository.
+    /// crate's repository. [The crate's documentation](crate#deadlocks-in-tests) shows how to do so in a test.
     Stalled,
     /// Another process cancelled the call. The call had no effect.
     Cancelled,
@@ -39,7 +39,7 @@ pub enum Ended {
     Fault(Fault),
 }
 
-/// The reason why the hub did not carry out a call, with its number in `chanhub.h`.
+/// The reason why the hub did not carry out a call. The number is the same as in `chanhub.h`.
 #[derive(Clone, Copy, Debug, PartialEq, Eq)]
 pub struct Fault(pub u8);
 
@@ -68,7 +68,7 @@ impl Fault {
     pub const NO_MEMORY: Fault = Fault(11);
     /// The call would have cancelled the call of a process that has no waiting call.
     pub const NOT_PARKED: Fault = Fault(12);
-    /// The call used a channel of another hub, had more than 16 cases, or needs edition 2.
+    /// The call used a channel of another hub, had more than 16 cases, or requires edition 2.
     pub const BAD_CALL: Fault = Fault(13);
 
     fn text(self) -> &'static str {

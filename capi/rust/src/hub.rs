@@ -19,7 +19,7 @@ pub enum Edition {
     Two,
 }
 
-/// A hub of the C library. Dropping it frees the hub.
+/// A hub of the C library. It is freed when this is dropped.
 struct Raw {
     at: *mut sys::Chanhub,
     id: u64,
@@ -45,7 +45,7 @@ pub struct Hub(Arc<Raw>);
 /// A process of a hub.
 ///
 /// Each call takes the seat by `&mut`, so only one thread at a time calls as the process. Dropping the seat exits the process, and
-/// so does a panic that unwinds the thread that owns it. A process that has exited does not keep a deadlock from being reported.
+/// so does a panic that unwinds the thread that owns it. Once a process has exited, a deadlock among the others can be reported.
 pub struct Seat {
     hub: Hub,
     pid: u8,
@@ -83,7 +83,8 @@ pub struct Counts {
 
 /// The sending end of a channel.
 ///
-/// It is `Copy`, and dropping it does not close the channel: call [`close`](Sender::close).
+/// A sender is `Copy`, so several threads can send on one channel. Dropping it does not close the channel: call
+/// [`close`](Sender::close).
 #[derive(Clone, Copy, Debug, PartialEq, Eq)]
 pub struct Sender {
     hub: u64,
@@ -92,7 +93,7 @@ pub struct Sender {
 
 /// The receiving end of a channel.
 ///
-/// It is `Copy`, so several threads can receive from one channel. Each value goes to one of them.
+/// A receiver is `Copy`, so several threads can receive from one channel. Each value goes to one of them.
 #[derive(Clone, Copy, Debug, PartialEq, Eq)]
 pub struct Receiver {
     hub: u64,
@@ -124,7 +125,7 @@ impl Hub {
     ///
     /// The hub makes at most `limit` steps, between 1 and 1,000,000. Exits do not count.
     ///
-    /// Drop every seat that no thread uses. Otherwise a deadlock among the others is never reported.
+    /// Drop every seat that no thread uses. As long as you keep it, no deadlock among the other processes is reported.
     ///
     /// # Errors
     ///
@@ -257,6 +258,25 @@ impl Seat {
     /// If `k` cases can proceed, the one with index `word % k` among them fires. Pass a random word for a fair choice; 0 always
     /// picks the first. If no case can proceed, `select` returns [`Selected::Default`] if `has_default` is true, and otherwise
     /// waits.
+    ///
+    /// # Examples
+    ///
+    /// A select of one case with a default does what `try_recv` or `try_send` does elsewhere:
+    ///
+    /// ```
+    /// use chanhub::{Case, Edition, Hub, Selected};
+    ///
+    /// let (_hub, mut seats) = Hub::open(Edition::One, 1, 100).unwrap();
+    /// let mut seat = seats.remove(0);
+    /// let (sender, receiver) = seat.channel(1).unwrap();
+    ///
+    /// assert_eq!(seat.select(&[Case::Recv(receiver)], true, 0), Ok(Selected::Default));
+    ///
+    /// // At first only the send can proceed. Then the buffer is full, and only the receive can.
+    /// let cases = [Case::Recv(receiver), Case::Send(sender, 7.into())];
+    /// assert_eq!(seat.select(&cases, false, 0), Ok(Selected::Sent(1)));
+    /// assert_eq!(seat.select(&cases, false, 0), Ok(Selected::Got(0, 7.into())));
+    /// ```
     ///
     /// # Errors
     ///

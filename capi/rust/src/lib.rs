@@ -1,7 +1,10 @@
 //! Go's channels for threads, in a hub that reports deadlocks and keeps a journal of its steps.
 //!
-//! A [`Hub`] has a fixed number of processes, and each thread calls as one of them, through a [`Seat`]. A call that has to wait
-//! blocks its thread, so async code should make such calls on a thread of their own.
+//! A [`Hub`] has a fixed number of processes. Each thread calls as one of them, through a [`Seat`]. A call that has to wait blocks
+//! its thread, so async code should make its calls on a separate thread.
+//!
+//! A hub watches only its own processes. It can therefore report a deadlock among them while other threads of the program still
+//! run.
 //!
 //! # Examples
 //!
@@ -19,7 +22,7 @@
 //! assert_eq!(hub.look_at(&receiver).unwrap().received, 1);
 //! ```
 //!
-//! A call that fails returns an [`Ended`], or a [`Fault`], which `?` converts into an `Ended`:
+//! A call that fails returns an [`Ended`] or a [`Fault`]. The operator `?` converts a `Fault` into an `Ended`:
 //!
 //! ```
 //! use chanhub::{Edition, Ended, Hub, Seat};
@@ -61,24 +64,65 @@
 //!
 //! # Deadlocks
 //!
-//! If every process that has not exited is waiting, no call could ever end; then each waiting call returns [`Ended::Stalled`]. To
+//! If every process that has not exited is waiting, no call could ever end. Each waiting call then returns [`Ended::Stalled`]. To
 //! see who waited for whom, save [`Hub::journal`] to a file, and run `tools/explain.sh FILE` in this crate's repository. The
 //! picture shows processes and channels by number: [`Seat::pid`] and [`Sender::port`].
 //!
-//! A deadlock among some of the processes is not reported as long as another one can act. A process counts as able to act even if
-//! its thread is blocked elsewhere, such as in a `Mutex`, in I/O or in [`join`](std::thread::JoinHandle::join). If a program
-//! hangs, save the journal from any thread, through a clone of the [`Hub`]. Its picture shows the calls that still wait.
-//!
-//! # Panics
+//! No deadlock is reported while a process that has not exited is outside the hub: busy, or blocked in a `Mutex`, in I/O or in
+//! [`join`](std::thread::JoinHandle::join). If a program hangs, save the journal from any thread, through a clone of the [`Hub`].
+//! Its picture shows the calls that still wait.
 //!
 //! A panic that unwinds drops the seats that its thread owns, and so exits their processes. If every other process is waiting
-//! then, these calls return [`Ended::Stalled`] instead of hanging.
+//! then, their calls return [`Ended::Stalled`] instead of hanging.
+//!
+//! # Deadlocks in tests
+//!
+//! A test can save the journal when a call stalls, and then fail:
+//!
+//! ```
+//! use chanhub::{Edition, Ended, Hub};
+//! use std::{env, fs, process};
+//!
+//! /// Returns the value of a call. If the call failed, panics; if it stalled, saves the journal first.
+//! fn value_of<T>(hub: &Hub, result: Result<T, Ended>) -> T {
+//!     if let Err(Ended::Stalled) = result {
+//!         let file = env::temp_dir().join(format!("stalled-{}.journal", process::id()));
+//!         fs::write(&file, hub.journal().expect("memory")).expect("the journal is saved");
+//!         panic!("deadlock: run tools/explain.sh {}", file.display());
+//!     }
+//!     result.unwrap()
+//! }
+//!
+//! let (hub, mut seats) = Hub::open(Edition::One, 1, 100).unwrap();
+//! let (sender, receiver) = seats[0].channel(1).unwrap();
+//! value_of(&hub, sender.send(&mut seats[0], 7));
+//! assert_eq!(value_of(&hub, receiver.recv(&mut seats[0])).number(), Some(7));
+//! # let stalled = receiver.recv(&mut seats[0]);
+//! # let failed = std::panic::catch_unwind(std::panic::AssertUnwindSafe(|| value_of(&hub, stalled)));
+//! # let said = failed.unwrap_err().downcast::<String>().unwrap();
+//! # let file = said.strip_prefix("deadlock: run tools/explain.sh ").unwrap();
+//! # assert!(fs::read_to_string(file).unwrap().ends_with("\n0 recv 1\n0 recv 1\n"));
+//! # fs::remove_file(file).unwrap();
+//! ```
+//!
+//! The crates `loom` and `shuttle` explore many schedules of a test. This crate records one run and explains it.
+//!
+//! # Limits
+//!
+//! - A hub has at most 64 processes and 64 channels. A closed channel still counts.
+//! - A hub makes at most 1,000,000 steps, not counting exits, so it suits tests and finite runs. A program that runs longer opens
+//!   a new hub for each batch of its work.
+//! - The capacity of a channel is at most 1,024.
+//! - A value is a `u64` or, in [`Edition::Two`], a byte string of at most 32 bytes. A [`Table`] holds values of any other type, so
+//!   that channels can pass them by number.
+//! - No call has a timeout. Use a [`select`](Seat::select) with a default, or let another process [`cancel`](Seat::cancel) the
+//!   call.
 //!
 //! # Linking
 //!
-//! The crate links the static library `libchanhub.a`. The build looks for it in the folder that the environment variable
-//! `CHANHUB_LIB` names or, if that is not set, in `capi/out` of this repository, where `make -C capi` builds it. The crate needs
-//! Rust 1.62 or later.
+//! The crate requires Rust 1.63 or later. It links the static library `libchanhub.a`. The build looks for it in the folder that
+//! the environment variable `CHANHUB_LIB` names or, if that is not set, in `capi/out` of this repository, where `make -C capi`
+//! builds it.
 
 #![warn(missing_docs, missing_debug_implementations)]
 

@@ -1,13 +1,31 @@
-//! The table of things.
+//! The table of values that are passed by number.
 
 use crate::value::Value;
 use std::collections::HashMap;
 use std::sync::{Mutex, MutexGuard, PoisonError};
 
-/// A table of things that channels pass by number.
+/// Holds values of any type, so that channels can pass them by number.
 ///
-/// A channel carries only numbers and short byte strings. To pass anything else, [`put`](Table::put) it into a table that both
-/// threads share, send the value that `put` returns, and [`take`](Table::take) the thing out on the other side.
+/// A channel carries only numbers and byte strings of up to 32 bytes. To pass anything else, [`put`](Table::put) it into a table
+/// that both threads share, and send the number that `put` returns. The receiver passes that number to [`take`](Table::take).
+///
+/// If a send fails, the thing stays in the table; `take` also gets it back for the sender.
+///
+/// # Examples
+///
+/// ```
+/// use chanhub::{Edition, Hub, Table};
+///
+/// let (_hub, mut seats) = Hub::open(Edition::One, 1, 100).unwrap();
+/// let mut seat = seats.remove(0);
+/// let (sender, receiver) = seat.channel(1).unwrap();
+/// let table = Table::new(); // to share it between threads, put it into an `Arc`
+///
+/// sender.send(&mut seat, table.put(String::from("a long text"))).unwrap();
+/// let number = receiver.recv(&mut seat).unwrap();
+/// assert_eq!(table.take(number).as_deref(), Some("a long text"));
+/// assert_eq!(table.take(number), None); // each thing is taken once
+/// ```
 #[derive(Debug)]
 pub struct Table<T> {
     kept: Mutex<Kept<T>>,
@@ -40,7 +58,7 @@ impl<T> Table<T> {
         self.kept.lock().unwrap_or_else(PoisonError::into_inner)
     }
 
-    /// Stores a thing, and returns the value that stands for it.
+    /// Stores a thing and returns its number, as a value that can be sent.
     pub fn put(&self, thing: T) -> Value {
         let mut kept = self.lock();
         let number = kept.next;
@@ -49,7 +67,7 @@ impl<T> Table<T> {
         Value::Number(number)
     }
 
-    /// Removes and returns the thing that a value stands for, or returns `None` if the table does not have it.
+    /// Removes and returns the thing with this number. Returns `None` if the table has no such thing.
     pub fn take(&self, value: Value) -> Option<T> {
         self.lock().things.remove(&value.number()?)
     }

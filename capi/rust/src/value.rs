@@ -9,20 +9,20 @@ use std::fmt;
 pub enum Value {
     /// A number.
     Number(u64),
-    /// Bytes. Only a hub of [`Edition::Two`](crate::Edition::Two) accepts them.
+    /// A byte string. It requires a hub of [`Edition::Two`](crate::Edition::Two).
     Bytes(Bytes),
 }
 
 /// A byte string of 0 to 32 bytes.
 ///
-/// `Value::try_from` makes a [`Value`] from a byte slice.
+/// To send a byte slice, convert it with `Value::try_from`.
 #[derive(Clone, Copy, PartialEq, Eq)]
 pub struct Bytes {
     length: u8,
     places: [u8; 32],
 }
 
-/// The error for a byte slice of more than 32 bytes, which does not fit into a [`Value`].
+/// The error for a byte slice that does not fit into a [`Value`], since it has more than 32 bytes.
 #[derive(Clone, Copy, Debug, PartialEq, Eq)]
 pub struct TooLong;
 

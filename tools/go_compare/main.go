@@ -2,26 +2,28 @@
 //
 //	go_compare [-keep FOLDER] PROGRAM JOURNAL ..
 //
-// A process is a goroutine, and a port is a channel. A step begins once every goroutine waits on a channel or has ended, so the
-// order of the steps is the journal's. Some answers Go's runtime draws by chance. It is not steered: the journal that PROGRAM
-// replays follows it.
+// Each process is a goroutine, and each port is a channel. A step begins only when every goroutine waits on a channel or has
+// ended. Therefore Go makes the steps in the order of the journal. Go's runtime chooses some answers at random. This command
+// does not steer it. Instead, it changes the journal to follow what Go chose, and PROGRAM replays the changed journal:
 //
-//   - If several cases can proceed, Go takes one. The choice word is changed to ask for that case.
-//   - If a call waits with several cases on one port, a hub ends it at the lowest that fits. Go 1.19 ends it at any that fits, and
-//     at a close at a receive. If that is not the lowest, the lower ones get port 0, on which nothing can proceed. This is the
-//     one class of difference between the two, and its calls are counted.
-//   - If a select panics, Go does not tell at which send. The lowest send on a closed port is told.
-//   - If one step ends several calls, Go has no order among them. They are told in order of arrival.
+//   - If several cases can proceed, Go takes one of them. The choice word is changed so that it picks the same case.
+//   - If a call waits with several cases on one port, a hub ends it at the lowest case that fits. Go 1.19 may end it at any case
+//     that fits. If the port is closed while the call waits, Go ends it at a receive. If Go's case is not the lowest, the lower
+//     ones get port 0, on which nothing can proceed. This is the only class of difference between the two, and its calls are
+//     counted.
+//   - If a select panics, Go does not say which send caused it. The lowest send on a closed port is reported.
+//   - If one step ends several calls, Go has no order among them. They are reported in order of arrival.
 //
-// Faults 1 to 7 and 12 have nothing like them in Go. They are told by the rules, and Go is given no step.
+// Faults 1 to 7 and 12 have no counterpart in Go. Their answers come from the rules; Go runs no step.
 //
 // Each journal is run twice:
 //
-//   - plain: with send, receive and select statements, and selects by reflection, of the call's own cases. A Go program ends when
-//     all its goroutines wait, so the run ends there; it also ends before a call is cancelled, which Go cannot do from outside.
-//   - whole: with one case more in each call that may wait, a receive by which a stall or a cancel ends it.
+//   - plain: each call has only its own cases. It is a send, receive or select statement, or a select by reflection. A Go program
+//     ends when all its goroutines wait, so the run ends there. It also ends before the first cancel of a waiting call, because
+//     Go cannot end a call from outside.
+//   - whole: each call that may wait has one more case. This case is a receive, which ends the call at a stall or a cancel.
 //
-// A call on port 0 alone has that case in both, so that its goroutine can end.
+// A call whose cases are all on port 0 has this additional case in both runs, so that its goroutine can end.
 package main
 
 import (
@@ -70,7 +72,8 @@ func main() {
 	}
 }
 
-// compareRun runs a journal in one of the two ways, and gives the name of the run with the first difference, or nothing.
+// compareRun runs a journal in one of the two ways. It returns the name of the run and its first difference, or an empty string
+// if there is none.
 func compareRun(path string, asked journal, isPlain bool, all *counts) string {
 	name := filepath.Base(path) + "_whole"
 	if isPlain {
@@ -102,7 +105,8 @@ func keepCase(path string, followed journal, events []string) {
 	mustDo(os.WriteFile(path+".stdout", []byte(strings.Join(events, "")), 0o666))
 }
 
-// compare gives nothing where the program's events are those of Go's channels, or the first line that differs.
+// compare replays a journal. It returns an empty string if the program's events are those of Go's channels. Otherwise it describes
+// the first line that differs, or why the replay failed.
 func compare(program string, followed journal, events []string) string {
 	replay := exec.Command(program, "replay")
 	replay.Stdin = strings.NewReader(followed.text())

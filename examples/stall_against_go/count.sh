@@ -7,9 +7,9 @@ usage() {
     cat <<'END'
 usage: count.sh [RUNS [GO_RUNS]]
 
-Counts how many runs of the scenario `pool` stall, of RUNS (200 where it is left out), and how many of the same program on Go's own
-channels, of GO_RUNS (2000): one line each. No two machines give the same counts: threads are scheduled anew in each run.
-Where go is not there the second line says so, and the status is 77.
+Runs the scenario `pool` RUNS times (200 if RUNS is left out), and the same program on Go's own channels GO_RUNS times (2000).
+Prints one line for each: how many of its runs stalled. The counts differ from machine to machine and from time to time, because
+each run may have a different schedule. If there is no command `go`, the second line says so, and the status is 77.
 END
 }
 
@@ -28,7 +28,8 @@ fi
 work=$(mktemp -d)
 trap 'rm -rf "$work"' EXIT
 
-# stalls RUNS STATUS COMMAND..: how many runs end with this status. Any other but 0 is told, and ends it all.
+# stalls RUNS STATUS COMMAND..: runs the command RUNS times, and prints how many runs ended with STATUS. If a run ends with any
+# other status except 0, prints its output and ends this script with that status.
 stalls() {
     runs=$1
     stalled=$2

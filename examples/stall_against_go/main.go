@@ -1,8 +1,8 @@
-// Command stall_against_go is the pool of the scenario `pool` on Go's own channels. If everybody waits, Go's runtime says so and
-// ends the program with status 2.
+// Command stall_against_go is the same program as the scenario `pool`, on Go's own channels. If every goroutine waits, Go's
+// runtime reports a deadlock and ends the program with status 2.
 package main
 
-// work takes a job for each of its results, and then takes jobs away until there are no more.
+// work takes a job before it sends each of its own results. After that, it takes jobs and drops them until jobs is closed.
 func work(jobs <-chan int, results chan<- int, own ...int) {
 	for _, result := range own {
 		<-jobs

@@ -2,3 +2,4 @@ pub mod Entries
 pub mod Places
 pub mod Steps
 pub mod Following
+pub mod Wholes

@@ -1,6 +1,6 @@
 //! A chain of chapters that is checked.
 
-ghost use Rattle.std.specs.Prelude.{◌≡◌, List, IfOk, IfErr, OnOk, OnErr};
+ghost use Rattle.std.specs.Prelude.{◌≡◌, ◌++◌, ◌∷◌, [], ℕ, List, IfOk, IfErr, OnOk, OnErr};
 ghost use Rattle.hub_base.specs.declared.entry.Entry.{Entry};
 ghost use Rattle.hub_base.specs.declared.head.Head.{Head};
 ghost use Rattle.hub_chapters.specs.Chapters.{Chapters};
@@ -34,7 +34,8 @@ impl Model for Chain {
 impl Chain {
     ghost use Rattle.hub_chain.specs.Chains.{IsRead, EndsIn, Stands, Begins, Follows, IsChapter, IsWhole};
     ghost use Rattle.hub_chain.specs.Faults.{IsNotLegal, DoesNotFollow, IsRefused};
-    ghost use Rattle.hub_chain.specs.declared.fault.ChainFault.TheVariants as chain;
+    ghost use Rattle.hub_chain.specs.Texts.{IsAt, StandsAt, AreWhole, IsNoNext};
+    ghost use Rattle.hub_chain.specs.declared.fault.ChainFault.TheVariants as why;
 
     /// The chain that ends in this chapter.
     fn ending_in(alloc: Global, chapter: &ShortJournal) -> Result<Chain, ChainFault>
@@ -55,7 +56,7 @@ impl Chain {
     pub fn first(alloc: Global, text: &[u8]) -> Result<Chain, ChainFault>
         ensures begins { IfOk result (Begins text.now) }
         ensures refused { IfErr result (IsNotLegal text.now) }
-        ensures only { IfErr result (λ fault. ¬ (fault ≡ chain.NoMemory) → (h : Head) (es : List Entry)
+        ensures only { IfErr result (λ fault. ¬ (fault ≡ why.NoMemory) → (h : Head) (es : List Entry)
             → ¬ IsChapter text.now h (First es)) }
     {
         let chapter = read_short_journal(alloc, text)?;
@@ -68,7 +69,7 @@ impl Chain {
         ensures follows { OnOk result ((h : Head) (chapters : Chapters)
             → Stands self.old h chapters → Follows text.now h chapters self.new) }
         ensures refused { IfErr result (DoesNotFollow self.old text.now) }
-        ensures only { IfErr result (λ fault. ¬ (fault ≡ chain.NoMemory)
+        ensures only { IfErr result (λ fault. ¬ (fault ≡ why.NoMemory)
             → (h : Head) (chapters : Chapters) (later : List Entry) → Stands self.old h chapters
             → ¬ IsChapter text.now h (Cut chapters later)) }
         ensures unchanged { OnErr result (self.new ≡ self.old) }
@@ -80,8 +81,27 @@ impl Chain {
         Ok(())
     }
 
+    /// The chain with one chapter more; without a chain this is the first. After a refusal the chain is gone.
+    pub fn longer(chain: Option<Chain>, alloc: Global, text: &[u8]) -> Result<Chain, ChainFault>
+        ensures ok { IfOk result (λ longer. (texts : List (List ℕ))
+            → IsAt chain texts → StandsAt longer (texts ++ text.now ∷ [])) }
+        ensures refused { IfErr result (IsNoNext chain text.now) }
+        ensures only { IfErr result (λ fault. ¬ (fault ≡ why.NoMemory) → (texts : List (List ℕ))
+            → IsAt chain texts → ¬ AreWhole (texts ++ text.now ∷ [])) }
+    {
+        match chain {
+            None => Chain::first(alloc, text),
+            Some(mut chain) => {
+                chain.next(alloc, text)?;
+                Ok(chain)
+            }
+        }
+    }
+
     /// Its chapters are one history: a legal one, which tells what they tell behind their checkpoints.
     pub fn chapters_are_whole(&self)
-        ensures { (h : Head) (chapters : Chapters) → Stands self.now h chapters → IsWhole h chapters }
+        ensures chapters { (h : Head) (chapters : Chapters)
+            → Stands self.now h chapters → IsWhole h chapters }
+        ensures texts { (texts : List (List ℕ)) → StandsAt self.now texts → AreWhole texts }
     {}
 }

@@ -36,7 +36,7 @@ const NAME: &str = "chanhub_tool";
 const VERSION: &str = "1.0.0";
 
 const ABOUT: &str =
-    "Tells and draws journals of a hub of channels, checks chapters of one, and answers the steps of one as its lines come.";
+    "Tells, draws and checks journals of a hub of channels, and answers the steps of one as its lines come.";
 
 const STATUSES: &str = "\
 Status 0: done. 1: a device or memory failed. 2: a malformed journal, steps that it does not have, or bad\n\

@@ -1,14 +1,16 @@
 -- Texts are those of one list of chapters at most, so a chain tells whether they are whole.
-use Rattle.std.proofs.Common.{◌≡◌, ◌∙◌, ℕ, ◌<◌, List, [], ◌∷◌, ◌++◌, Option, None, Some, refl, ap, sym, subst, arith, length}
+use Rattle.std.proofs.Common.{◌≡◌, ◌∙◌, ℕ, ◌<◌, List, [], ◌∷◌, ◌++◌, Option, None, Some, refl, ap, sym, subst, arith, length, take, ◌≤◌, ◌⊎◌, inl, inr}
 use Rattle.std.specs.Prelude.{Result, Ok, Err, IfErr}
-use Rattle.std.proofs.lemmas.List.{append_cancel_left, length_push}
+use Rattle.std.proofs.lemmas.Bool.{cases_lt}
+use Rattle.std.proofs.lemmas.List.{append_cancel_left, length_push, take-append-le}
+use Rattle.std.proofs.Math.Seq.{take-length}
 use Rattle.hub_base.specs.declared.entry.Entry.{Entry}
 use Rattle.hub_base.specs.declared.head.Head.{Head}
 use Rattle.hub_base.specs.Journal.{JournalView}
 use Rattle.hub_base.specs.Runs.{state}
 use Rattle.hub_base.specs.Text.{IsText}
 use Rattle.hub_base.proofs.OneReading.{one-text}
-use Rattle.hub_chapters.specs.Chapters.{Chapters, last_chapter}
+use Rattle.hub_chapters.specs.Chapters.{Chapters, last_chapter, AreLegal}
 use Rattle.hub_chapters.specs.Chapters.Chapters.{First, Cut}
 use Rattle.hub_chapters.specs.Checkpoint.{checkpoint}
 use Rattle.hub_chapters.proofs.Chapters.{chapters-law}
@@ -64,17 +66,50 @@ one_list h k (Cut c later) (Cut d other) texts a b =
     (subst (λ (bytes : List ℕ). IsText bytes h (last_chapter h (Cut c later))) both.1 a.4) b.4 in
     later_same h k c d later other before last.1
 
--- Behind which texts a chain stands
+-- Texts that are whole
+
+-- no text is whole alone
+pub none_whole : ¬ AreWhole []
+none_whole whole = let some = some_text whole.head whole.chapters [] whole.texts_are in omega arith
+
+chapters_whole : (h : Head) (c : Chapters) (texts : List (List ℕ)) → AreTexts h c texts → AreLegal h c → AreWhole texts
+chapters_whole h c texts is legal =
+    let law = chapters-law h c in
+    record {
+      head = h;
+      chapters = c;
+      texts_are = is;
+      whole = record { chapters_legal = legal; history_legal = law.legal legal; told = law.told };
+    }
 
 pub whole_at : (last : JournalView) (texts : List (List ℕ)) → StandsAt last texts → AreWhole texts
-whole_at last texts at =
-    let law = chapters-law at.head at.chapters in
-    record {
-      head = at.head;
-      chapters = at.chapters;
-      texts_are = at.texts_are;
-      whole = record { chapters_legal = at.stands.legal; history_legal = law.legal at.stands.legal; told = law.told };
-    }
+whole_at last texts at = chapters_whole at.head at.chapters texts at.texts_are at.stands.legal
+
+-- a beginning of texts that are whole is whole
+begins_whole : (h : Head) (c : Chapters) (texts : List (List ℕ)) (n : ℕ) → AreTexts h c texts → AreLegal h c → 0 < n → n ≤ length texts
+    → AreWhole (take n texts)
+begins_whole h (First es) texts n is legal some few =
+    let whole : take n texts ≡ texts = ap (λ k. take k texts) (let one : n ≡ length texts = omega (arith, ap length is.1) in one) ∙ take-length texts in
+    subst AreWhole (sym whole) (chapters_whole h (First es) texts is legal)
+begins_whole h (Cut c later) texts n is legal some few =
+    by (cases_lt n (length texts)) (λ few. begins_whole h c is.0 n is.3 legal.0 some few)
+  where
+    shorter : n < length texts → AreWhole (take n is.0) → AreWhole (take n texts)
+    shorter fewer before =
+        let within : n ≤ length is.0 = omega (arith, ap length is.2, length_push is.0 is.1) in
+        subst AreWhole (sym (ap (λ (ts : List (List ℕ)). take n ts) is.2 ∙ take-append-le n is.0 (is.1 ∷ []) within)) before
+
+    inside : n < length texts → n ≤ length is.0
+    inside fewer = omega (arith, ap length is.2, length_push is.0 is.1)
+
+    by : (n < length texts) ⊎ (length texts ≤ n) → (n ≤ length is.0 → AreWhole (take n is.0)) → AreWhole (take n texts)
+    by (inl fewer) recur = shorter fewer (recur (inside fewer))
+    by (inr most) recur =
+        let same : n ≡ length texts = omega arith in
+        subst AreWhole (sym (ap (λ k. take k texts) same ∙ take-length texts)) (chapters_whole h (Cut c later) texts is legal)
+
+pub whole_before : (texts : List (List ℕ)) (n : ℕ) → AreWhole texts → 0 < n → n ≤ length texts → AreWhole (take n texts)
+whole_before texts n whole some few = begins_whole whole.head whole.chapters texts n whole.texts_are whole.whole.chapters_legal some few
 
 -- A text that is not the next
 

@@ -35,7 +35,8 @@ not_legal line why j at legal =
     some_none why (sym at.refused ∙ admitted)
 
 -- the journal of a text is the one that it says
-said : (text : List ℕ) (h : Head) (es : List Entry) (Holds : JournalView → Type 0) → IsText text h es → Says text Holds → Holds (record { head = h; entries = es })
+said : (text : List ℕ) (h : Head) (es : List Entry) (Holds : JournalView → Type 0) → IsText text h es → Says text Holds
+    → Holds (record { head = h; entries = es })
 said text h es Holds is says =
     let one = one-text text says.journal.head h says.journal.entries es says.spelled is in
     subst (λ (k : Head). Holds (record { head = k; entries = es })) one.0

@@ -4,7 +4,7 @@ use Rattle.std.specs.List.{flat_map, join_with_byte}
 use Rattle.std.specs.Prelude.{slice_get, decimal, Ok}
 use Rattle.hub_base.specs.declared.entry.Entry.{Entry}
 use Rattle.hub_base.specs.declared.entry.Step.{Step}
-use Rattle.hub_base.specs.declared.entry.Step.TheVariants.{Make, Call, Close, Exit, Cancel}
+use Rattle.hub_base.specs.declared.entry.Step.TheVariants.{Exit}
 use Rattle.hub_base.specs.declared.fault.Fault.{Fault}
 use Rattle.hub_base.specs.declared.fault.Fault.TheVariants as fault
 use Rattle.hub_base.specs.declared.head.Head.{Head}
@@ -51,11 +51,8 @@ refused_so hub e fault.NoMemory refuses limit few not = absurd (not refl)
 refused_so hub e other refuses limit few not = absurd refuses
 
 pub no_places : (step : Step) → places_after step 0 ≡ 0
-no_places (Make cap) = refl
-no_places (Call cases default word) = refl
-no_places (Close p) = refl
 no_places Exit = refl
-no_places (Cancel q) = refl
+no_places other = refl
 
 pub is_refused : (j : JournalView) (n : ℕ) (e : Entry) (f : Fault) → slice_get j.entries n ≡ Some e → IsLegal j.head (take n j.entries)
     → (¬ (f ≡ fault.NoMemory) → refusal (state j.head (take n j.entries)) e.pid ≡ Some f) → IsRefused j (refused_at n f)

@@ -50,7 +50,8 @@ returns-in-Err-clause-err c =
     subst (λ (h : HubView). IsLegal h.terms.head h.journal) same c.journal_is_legal.ensures.legal in
     let refuses : Refuses so_far entry c.in-Err.fault =
     subst (λ (h : HubView). Refuses h entry c.in-Err.fault) c.loop-place.invariant c.in-Err.ensures.rules.refused in
-    let few : steps_of (take n given.entries) + one_step entry ≤ MOST_STEPS = omega (arith, steps_there n given.entries entry there, c.requires.spelled.steps_fit) in
+    let few : steps_of (take n given.entries) + one_step entry ≤ MOST_STEPS =
+    omega (arith, steps_there n given.entries entry there, c.requires.spelled.steps_fit) in
     subst (IsRefused given) (sym c.refused_at.ensures)
     (is_refused given n entry c.in-Err.fault there legal (refused_so so_far entry c.in-Err.fault refuses refl few))
 

@@ -1,17 +1,21 @@
 #!/usr/bin/env python3
-"""cuts.py PROGRAM [RUNS [SEED]]: cuts random journals at random places, and compares what the built chanhub (PROGRAM) tells
+"""cuts.py PROGRAM TOOL [RUNS [SEED]]: cuts random journals at random places, and compares what the built chanhub (PROGRAM) tells
 behind each cut with what it tells there of the journal that was not cut.
 
 Such a journal has a line for each word, selects, cancels, closes, faults and stalls, in both editions (random_journal.py). At a
 cut the journal goes on from a checkpoint, which is made here from what model.py says of the state, and no definition is read: the
 ports in order, each made, filled and closed; the exits by number; the open calls in order of arrival. A journal is cut one to three
 times, each time in the chapter that the last cut began. RUNS journals are cut (100), from SEED on (1). Wrong checkpoints are tried
-as well, until the comparison notices each. The last line counts: 'N passed, M failed'.
+as well, until the comparison notices each. The chapters of the admitted lines are checked as a chain by the built chanhub_tool
+(TOOL): all of them, and with each one left out, which is whole only where the states on both sides have one checkpoint. The last
+line counts: 'N passed, M failed'.
 """
 import os
+import pathlib
 import random
 import subprocess
 import sys
+import tempfile
 
 sys.dont_write_bytecode = True
 import model
@@ -136,6 +140,70 @@ class Cutter:
         return None
 
 
+class Chainer:
+    """Checks chains by the program, and by the model."""
+
+    def __init__(self, tool, work):
+        self.tool = tool
+        self.work = pathlib.Path(work)
+        self.broken = 0
+
+    def what_fails(self, seed):
+        """What is wrong with the chains of this journal's chapters, or nothing."""
+        lines = Journal(seed, 0).text().splitlines()
+        head, lines = lines[:2], admitted(lines[:2], lines[2:])
+        draw = random.Random(seed)
+        places = sorted(draw.randint(0, len(lines)) for _ in range(draw.randint(1, MOST_CUTS)))
+        chapters = dict(enumerate(chapters_of(head, lines, places)))
+        for number, chapter in chapters.items():
+            (self.work / str(number)).write_text(''.join(line + '\n' for line in head + chapter))
+        for left_out in (None, *chapters):
+            names = [number for number in chapters if number != left_out]
+            wanted = verdict(head, {number: chapters[number] for number in names})
+            words = [self.tool, 'chain', *map(str, names)]
+            done = subprocess.run(words, cwd=self.work, capture_output=True, text=True, timeout=MINUTE)
+            if (done.returncode, done.stdout) != wanted or left_out is None and wanted[0] != 0:
+                return f'without chapter {left_out}: {wanted}, told as {done}'
+            self.broken += wanted[0] != 0
+        return None
+
+
+def admitted(head, lines):
+    """Those lines that are admitted."""
+    hub, kept = new_hub(head), []
+    for line in lines:
+        if hub.refusal(int(line.split()[0])) is None:
+            kept.append(line)
+        make(hub, [line])
+    return kept
+
+
+def checkpoint_of(head, lines):
+    hub = new_hub(head)
+    make(hub, lines)
+    return Checkpoint(hub).lines()
+
+
+def chapters_of(head, lines, places):
+    """The chapters of a journal that is cut at these places."""
+    begin, place = [], 0
+    for cut in (*places, len(lines)):
+        chapter = begin + lines[place:cut]
+        yield chapter
+        begin, place = checkpoint_of(head, chapter), cut
+
+
+def verdict(head, chapters):
+    """The status and what is printed for a chain of these chapters, by their names."""
+    begin = []
+    for name, chapter in chapters.items():
+        for place, line in enumerate(begin):
+            if chapter[place:place + 1] != [line]:
+                return 3, f'{name} breaks the chain at line {place + 3}: not the checkpoint of the chapter before\n'
+        begin = checkpoint_of(head, chapter)
+    return 0, 'whole\n'
+
+
 def first_difference(wanted, found):
     return next((f'{a} told as {b}' for a, b in zip(wanted, found) if a != b), f'{len(wanted)} events, told as {len(found)}')
 
@@ -156,14 +224,20 @@ def make(hub, lines):
 
 
 def main(words):
-    if not 1 <= len(words) <= 3:
+    if not 2 <= len(words) <= 4:
         sys.exit(__doc__.strip())
-    runs, first = (int(words[place]) if place < len(words) else usual for place, usual in ((1, RUNS), (2, 1)))
+    runs, first = (int(words[place]) if place < len(words) else usual for place, usual in ((2, RUNS), (3, 1)))
     cutter = Cutter(os.path.abspath(words[0]))
     count = Count()
     for seed in range(first, first + runs):
         wrong = cutter.what_fails(seed)
         count.test(f'the journal of seed {seed}', not wrong, wrong)
+    with tempfile.TemporaryDirectory() as work:
+        chainer = Chainer(os.path.abspath(words[1]), work)
+        for seed in range(first, first + runs):
+            wrong = chainer.what_fails(seed)
+            count.test(f'the chain of seed {seed}', not wrong, wrong)
+    count.test('chains without a chapter', chainer.broken, 'none was broken')
     for name in WRONG:
         count.test(f'a wrong checkpoint, {name}', name not in cutter.unnoticed, 'nobody noticed')
     return count.end()

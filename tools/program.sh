@@ -165,7 +165,7 @@ for seed in $(seq "$random_journals"); do
     count $? "random journal of seed $seed"
 done
 
-"$root/tools/cuts.py" "$program" > "$work/cuts" 2>&1
+"$root/tools/cuts.py" "$program" "$tool" > "$work/cuts" 2>&1
 count $? "journals that are cut: $(cat "$work/cuts")"
 
 "$root/tools/arguments.py" "$program" "$tool" > "$work/arguments" 2>&1

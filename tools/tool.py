@@ -1,6 +1,6 @@
 #!/usr/bin/env python3
 """tool.py TOOL: tries the words of the built chanhub_tool (TOOL) by the rows of tests/tool.toml: steps, files that take the place of
-standard input and output, those that are refused, and help; with each allocation refused too, which needs a C compiler. The last
+standard input and output, those that are refused, chains of chapters, and help; with each allocation refused too, which needs a C compiler. The last
 line counts: 'N passed, M failed'."""
 import pathlib
 import re
@@ -92,6 +92,24 @@ def faulty_journals(program, work):
         yield " ".join(words), folder.run(words) == refused("line 2: bad procs") and folder.left() == b"kept"
 
 
+def chains(program, work):
+    """A chain that is whole, and chains that break; standard input holds the second chapter."""
+    path = pathlib.Path(work) / "chapters"
+    path.mkdir(exist_ok=True)
+    for name, text in ROWS["chapters"].items():
+        (path / name).write_text(text)
+    given = ROWS["chapters"]["second"].encode()
+    wants = [((0, b"whole\n", b""), ROWS["chain"]["whole"])]
+    wants += [((3, f"{line}\n".encode(), b""), several) for line, several in ROWS["chain"]["broken"].items()]
+    wants += [(refused(line), several) for line, several in ROWS["chain"]["malformed"].items()]
+    for wanted, several in wants:
+        for files in several:
+            yield " ".join(files), program.run(["chain", *files], given, path) == wanted
+    full = [str(path / name) for name in ("first", "second")]
+    yield "a full device", program.run_to_full(["chain", *full]) == (1, b"chanhub: write failed\n")
+    yield "refused allocations", survives_refusals(program, ["chain", *full, "-"], ROWS["chapters"]["third"].encode(), build_refuse(work))
+
+
 def help_texts(program, work):
     folder = Folder(program, work)
     for beginning, several in ROWS["help"].items():
@@ -116,7 +134,7 @@ def refused_allocations(program, work):
 
 
 def main():
-    parts = told, written, pictures, not_written, faulty_journals, help_texts, versions, refused_allocations
+    parts = told, written, pictures, not_written, faulty_journals, chains, help_texts, versions, refused_allocations
     return count(Program(sys.argv[1]), *parts)
 
 

@@ -2,3 +2,4 @@ pub mod Windows
 pub mod Explains
 pub mod Faults
 pub mod Promises
+pub mod Files

@@ -1,5 +1,6 @@
 //! The commands. Each has a file, which says what `clap` reads of it and what it does.
 
+mod chain;
 mod picture;
 mod serve;
 mod story;
@@ -7,6 +8,7 @@ mod story;
 use crate::asked::Form;
 use crate::explain::explain_given;
 use crate::given::{Given, read_given};
+use chain::{check_files, read_files};
 use clap::ArgMatches;
 use hub_replay::Sink;
 pub(crate) use picture::picture_of;
@@ -15,7 +17,7 @@ use std::alloc::{AllocError, Global};
 pub(crate) use story::story_of_steps;
 
 /// What the program is asked to do.
-#[derive(Clone, Copy)]
+#[derive(Drop)]
 pub(crate) enum Command<'a> {
     /// `story`: to tell a journal as text.
     Story(Given<'a>),
@@ -23,6 +25,8 @@ pub(crate) enum Command<'a> {
     Picture(Given<'a>),
     /// `serve`: to answer a journal's lines as they come.
     Serve,
+    /// `chain`: to check that these files are the chapters of one journal.
+    Chain(Vec<&'a str>),
 }
 
 /// The program's name, whatever its file is called.
@@ -32,11 +36,11 @@ const NAME: &str = "chanhub_tool";
 const VERSION: &str = "1.0.0";
 
 const ABOUT: &str =
-    "Tells and draws journals of a hub of channels, and answers the steps of one as its lines come.";
+    "Tells, draws and checks journals of a hub of channels, and answers the steps of one as its lines come.";
 
 const STATUSES: &str = "\
 Status 0: done. 1: a device or memory failed. 2: a malformed journal, steps that it does not have, or bad\n\
-arguments. Standard error says which.";
+arguments. Standard error says which. 3: the chapters are no chain.";
 
 /// All commands, in `clap`'s words.
 pub(crate) fn grammar<'a>(alloc: Global) -> Result<clap::Command<'a>, AllocError> {
@@ -48,17 +52,24 @@ pub(crate) fn grammar<'a>(alloc: Global) -> Result<clap::Command<'a>, AllocError
         .subcommand_required(true)
         .subcommand(story::grammar(alloc)?)?
         .subcommand(picture::grammar(alloc)?)?
-        .subcommand(serve::grammar(alloc))
+        .subcommand(serve::grammar(alloc))?
+        .subcommand(chain::grammar(alloc)?)
 }
 
 /// The command that `clap` found.
-pub(crate) fn command_of<'a>(found: &ArgMatches<'a>) -> Option<Command<'a>> {
-    let (name, found) = found.subcommand()?;
+pub(crate) fn command_of<'a>(
+    alloc: Global,
+    found: &ArgMatches<'a>,
+) -> Result<Option<Command<'a>>, AllocError> {
+    let Some((name, found)) = found.subcommand() else {
+        return Ok(None);
+    };
     match name {
-        "story" => Some(Command::Story(read_given(found)?)),
-        "picture" => Some(Command::Picture(read_given(found)?)),
-        "serve" => Some(Command::Serve),
-        _ => None,
+        "story" => Ok(read_given(found).map(Command::Story)),
+        "picture" => Ok(read_given(found).map(Command::Picture)),
+        "serve" => Ok(Some(Command::Serve)),
+        "chain" => Ok(Some(Command::Chain(read_files(alloc, found)?))),
+        _ => Ok(None),
     }
 }
 
@@ -68,5 +79,6 @@ pub(crate) fn carry_out<X: Sink>(rt: &HostRuntime, command: Command<'_>, errors:
         Command::Story(given) => explain_given(rt, Form::Text, given, errors),
         Command::Picture(given) => explain_given(rt, Form::Picture, given, errors),
         Command::Serve => serve_streams(rt, errors),
+        Command::Chain(files) => check_files(rt, &files, errors),
     }
 }

@@ -4,6 +4,14 @@ use std::fs::File;
 use std::io::{Read, Stdin, Stdout, Write};
 use std::{fs, io};
 
+/// A file of this name; none where it stands for a standard stream.
+pub(crate) fn file_of(name: Option<&str>) -> Option<&str> {
+    match name {
+        Some("-") => None,
+        _ => name,
+    }
+}
+
 /// Where a journal is read from.
 #[derive(Drop)]
 pub(crate) enum Input {

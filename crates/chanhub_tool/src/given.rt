@@ -1,6 +1,7 @@
 //! What a command over a journal is given: `[FROM [TO]] [FILE] [-o OUT]`.
 
 use crate::asked::Shown;
+use crate::files::file_of;
 use clap::{Arg, ArgAction, ArgMatches, Command};
 use hub_base::number;
 use std::alloc::{AllocError, Global};
@@ -86,14 +87,6 @@ fn read_shown(from: Option<&str>, to: Option<&str>) -> Option<Shown> {
         }),
         (None, None) => Some(Shown::All),
         (None, Some(_)) => None,
-    }
-}
-
-/// A file of this name; none where it stands for a standard stream.
-fn file_of(name: Option<&str>) -> Option<&str> {
-    match name {
-        Some("-") => None,
-        _ => name,
     }
 }
 

@@ -34,7 +34,7 @@ pub(crate) fn read_request<'a>(
     words: &'a [String],
 ) -> Result<Request<'a>, NoMemory> {
     match grammar(alloc)?.try_get_matches_from(words) {
-        Ok(found) => match command_of(&found) {
+        Ok(found) => match command_of(alloc, &found)? {
             Some(command) => Ok(Request::Do(command)),
             None => Ok(Request::Unknown),
         },

@@ -1,0 +1,46 @@
+use Rattle.std.proofs.Common.{◌≡◌, ◌∙◌, ℕ, ◌+◌, ◌<◌, List, [], ◌∷◌, ◌++◌, Option, ap, sym, subst, arith, length, take, Bor}
+use Rattle.std.specs.Prelude.{IfSome, get_or}
+use Rattle.std.proofs.lemmas.Option.{slice_get-get_or}
+use Rattle.std.proofs.Math.Seq.{take-length}
+use Rattle.hub_chain.specs.Texts.{AreWhole, IsAt, StandsAt}
+use Rattle.hub_chain.proofs.Wholes.{whole_before}
+use Rattle.chanhub_tool.proofs.Held.{as_many, gives_next}
+use Rattle.chanhub_tool.proofs.commands.chain.check.Goals as goal
+
+pub loop-file-preserved : goal.loop-file-preserved
+loop-file-preserved g c = λ texts all.
+    let i = c.loop-file.file-index in
+    let files = c.args.files.now in
+    let gives : Bor (List ℕ) → Option (List ℕ) = λ f. g.S.Shelf.gives c.args.shelf.now f.now in
+    let none : Bor (List ℕ) = record { ref_ptr = (0, 0); now = [] } in
+    let at = gives_next gives i files texts (get_or files i none) all (slice_get-get_or files i none c.loop-file-test.true) in
+    let came : c.in_ok-text.text.items ≡ at.text =
+    subst (λ (o : Option (List ℕ)). IfSome o (λ text. c.in_ok-text.text.items ≡ text)) at.gives c.in_ok-text.ensures in
+    let text : c.deref.result.now ≡ at.text = c.deref.ensures.value ∙ came in
+    let next : take (i + 1) texts ≡ take i texts ++ c.deref.result.now ∷ [] =
+    at.next ∙ ap (λ (t : List ℕ). take i texts ++ t ∷ []) (sym text) in
+    subst (λ (ts : List (List ℕ)). StandsAt c.in-Ok.longer ts) (sym next) (c.in-Ok.ensures.ok (take i texts) (c.loop-file.invariant texts all))
+
+pub returns-clause-ok : goal.returns-clause-ok
+returns-clause-ok g c = λ texts all.
+    let many : length c.args.files.now ≡ length texts =
+    as_many (λ (f : Bor (List ℕ)). g.S.Shelf.gives c.args.shelf.now f.now) c.args.files.now texts all in
+    let whole : c.loop-file.file-index ≡ length texts = omega (arith, c.loop-file-test.false, c.loop-file.auto.file-index-end, many) in
+    subst (λ (ts : List (List ℕ)). IsAt c.loop-file.chain ts) (ap (λ n. take n texts) whole ∙ take-length texts)
+    (c.loop-file.invariant texts all)
+
+pub returns-in-Err-clause-err : goal.returns-in-Err-clause-err
+returns-in-Err-clause-err g c = λ read texts all whole.
+    let i = c.loop-file.file-index in
+    let files = c.args.files.now in
+    let gives : Bor (List ℕ) → Option (List ℕ) = λ f. g.S.Shelf.gives c.args.shelf.now f.now in
+    let none : Bor (List ℕ) = record { ref_ptr = (0, 0); now = [] } in
+    let at = gives_next gives i files texts (get_or files i none) all (slice_get-get_or files i none c.loop-file-test.true) in
+    let came : c.in_ok-text.text.items ≡ at.text =
+    subst (λ (o : Option (List ℕ)). IfSome o (λ text. c.in_ok-text.text.items ≡ text)) at.gives c.in_ok-text.ensures in
+    let text : c.deref.result.now ≡ at.text = c.deref.ensures.value ∙ came in
+    let next : take (i + 1) texts ≡ take i texts ++ c.deref.result.now ∷ [] =
+    at.next ∙ ap (λ (t : List ℕ). take i texts ++ t ∷ []) (sym text) in
+    let some : 0 < i + 1 = omega arith in
+    c.in-Err.ensures.only (c.broken_at.ensures read) (take i texts) (c.loop-file.invariant texts all)
+    (subst (λ (ts : List (List ℕ)). AreWhole ts) next (whole_before texts (i + 1) whole some (omega (arith, at.within))))

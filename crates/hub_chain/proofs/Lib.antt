@@ -1,0 +1,5 @@
+pub mod Entries
+pub mod Places
+pub mod Steps
+pub mod Following
+pub mod Wholes

@@ -1,0 +1,61 @@
+-- The journal that a text says, and a hub that makes its steps.
+use Rattle.std.proofs.Common.{◌≡◌, ℕ, ◌+◌, ◌≤◌, Bool, List, [], ◌∷◌, Some, refl, ap, arith, cond, length, take, zero-le, length-append}
+use Rattle.std.specs.List.{flat_map, join_with_byte}
+use Rattle.std.specs.Prelude.{slice_get, decimal, Ok}
+use Rattle.hub_base.specs.declared.entry.Entry.{Entry}
+use Rattle.hub_base.specs.declared.entry.Step.{Step}
+use Rattle.hub_base.specs.declared.entry.Step.TheVariants.{Exit}
+use Rattle.hub_base.specs.declared.fault.Fault.{Fault}
+use Rattle.hub_base.specs.declared.fault.Fault.TheVariants as fault
+use Rattle.hub_base.specs.declared.head.Head.{Head}
+use Rattle.hub_base.specs.declared.limits.TheConstants.{MOST_BYTES, MOST_STEPS}
+use Rattle.hub_base.specs.Head.{AreOf}
+use Rattle.hub_base.specs.Journal.{JournalView}
+use Rattle.hub_base.specs.Lines.{line, step_fields}
+use Rattle.hub_base.specs.Reading.{head_lines}
+use Rattle.hub_base.specs.Runs.{state}
+use Rattle.hub_base.specs.Steps.{refusal}
+use Rattle.hub_base.specs.Text.{IsText, steps_of, one_step}
+use Rattle.hub_base.proofs.Heads.{text-again}
+use Rattle.hub_base.proofs.OneReading.{found-fits}
+use Rattle.hub_laws.specs.Journals.{IsLegal}
+use Rattle.hub_core.specs.HubView.{HubView, Refuses, places_after}
+use Rattle.hub_chain.specs.Faults.{IsRefused, refused_at}
+
+-- What a text says
+
+pub fits_all : (text : List ℕ) (h : Head) (es : List Entry) → IsText text h es → AreOf h.edition es
+fits_all text h es is = found-fits text (Ok (record { head = h; entries = es })) (text-again text h es is)
+
+a_byte : (e : Entry) → 1 ≤ length (line e)
+a_byte e = omega (arith, length-append (join_with_byte 32 (decimal e.pid.0 ∷ step_fields e.step)) (10 ∷ []))
+
+a_byte_each : (es : List Entry) → length es ≤ length (flat_map line es)
+a_byte_each [] = zero-le
+a_byte_each (e ∷ es) = omega (arith, length-append (line e) (flat_map line es), a_byte e, a_byte_each es)
+
+pub few_entries : (text : List ℕ) (h : Head) (es : List Entry) → IsText text h es → length es ≤ MOST_BYTES
+few_entries text h es is = omega (arith, is.bytes_fit, ap length is.spelled, length-append (head_lines h) (flat_map line es), a_byte_each es)
+
+-- A hub that makes the steps of a journal, without reserved ones
+
+pub refused_so : (hub : HubView) (e : Entry) (f : Fault) → Refuses hub e f → hub.terms.limit ≡ MOST_STEPS → steps_of hub.journal + one_step e ≤ MOST_STEPS
+    → ¬ (f ≡ fault.NoMemory) → refusal (state hub.terms.head hub.journal) e.pid ≡ Some f
+refused_so hub e fault.JournalFull refuses limit few not =
+    let one : one_step e ≡ 1 = ap (λ (b : Bool). cond b 0 1) refuses.0 in
+    absurd (omega (arith, one, refuses.1, limit, few))
+refused_so hub e fault.NoProcess refuses limit few not = refuses.1
+refused_so hub e fault.Gone refuses limit few not = refuses.1
+refused_so hub e fault.Busy refuses limit few not = refuses.1
+refused_so hub e fault.NoMemory refuses limit few not = absurd (not refl)
+refused_so hub e other refuses limit few not = absurd refuses
+
+pub no_places : (step : Step) → places_after step 0 ≡ 0
+no_places Exit = refl
+no_places other = refl
+
+pub is_refused : (j : JournalView) (n : ℕ) (e : Entry) (f : Fault) → slice_get j.entries n ≡ Some e → IsLegal j.head (take n j.entries)
+    → (¬ (f ≡ fault.NoMemory) → refusal (state j.head (take n j.entries)) e.pid ≡ Some f) → IsRefused j (refused_at n f)
+is_refused j n e fault.NoMemory there legal refused = tt
+is_refused j n e f there legal refused =
+    record { place = n; entry = e; is = refl; before = legal; there = there; refused = refused (λ same. cc) }

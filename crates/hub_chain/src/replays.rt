@@ -1,0 +1,36 @@
+//! A chapter's entries, made again.
+
+ghost use Rattle.std.specs.Prelude.{◌≡◌, IfOk, IfErr};
+ghost use Rattle.hub_chain.specs.Chains.{IsRead, IsHubOf};
+ghost use Rattle.hub_chain.specs.Faults.{IsRefused};
+
+use crate::ChainFault;
+use crate::fault::refused_at;
+use hub_base::{Events, MOST_STEPS};
+use hub_core::{Hub, ShortHub, ShortJournal};
+use std::alloc::Global;
+
+/// The hub that has made the journal's steps.
+pub(crate) fn hub_of(alloc: Global, journal: &ShortJournal) -> Result<ShortHub, ChainFault>
+    requires { IsRead journal.now }
+    ensures ok { IfOk result (λ hub. IsHubOf journal.now hub.memory.hub) }
+    ensures err { IfErr result (IsRefused journal.now) }
+{
+    let head = journal.head();
+    let Ok(opened) = Hub::open(alloc, head.procs, MOST_STEPS, head.edition) else {
+        return Err(ChainFault::NoMemory);
+    };
+    let mut hub = opened.shortened();
+    let mut events = Events::new();
+    for place in 0..journal.entries().len() {
+        let entry = journal.entries().entry(place);
+        match hub.step_into(entry, &mut events) {
+            Ok(()) => {}
+            Err(fault) => {
+                hub.journal_is_legal();
+                return Err(refused_at(place, fault));
+            }
+        }
+    }
+    Ok(hub)
+}

@@ -1,39 +1,72 @@
 //! A cut: the journal so far is handed out, and the hub goes on from its checkpoint.
 
-ghost use Rattle.std.specs.Prelude.{◌≡◌, IfOk, OnOk, OnErr};
-ghost use Rattle.hub_base.specs.Head.{AreOf, IsHead};
-ghost use Rattle.hub_core.specs.HubView.{IsLimit};
+ghost use Rattle.std.specs.Prelude.{◌≡◌, ◌≤◌, IfOk, OnOk, OnErr, None, true};
+ghost use Rattle.hub_base.specs.Head.{AreOf, IsHead, is_of};
+ghost use Rattle.hub_base.specs.Steps.{refusal};
+ghost use Rattle.hub_base.specs.Text.{steps_of};
+ghost use Rattle.hub_laws.specs.Journals.{IsLegal};
+ghost use Rattle.hub_core.specs.Follows.{IsMake};
+ghost use Rattle.hub_core.specs.HubView.{Grows, HasRoom, HasSpare, IsLimit, Steps, opened_hub, state_of};
 ghost use Rattle.hub_cut.specs.Cut.{IsCut, hub_with};
 
 use crate::checkpoint_of;
-use hub_base::{Entry, Events, Journal, NoMemory};
-use hub_core::{Hub, ShortHub, Terms};
+use hub_base::{Entry, Events, Fault, Journal, NoMemory};
+use hub_core::{Hub, OpenFault, ShortHub, Terms};
 use std::alloc::Global;
 use std::mem;
 
-/// A hub that was opened so and has made these steps.
+/// A hub that was opened so. Only an allocation that fails makes it refuse.
+fn opened(alloc: Global, terms: Terms) -> Result<ShortHub, NoMemory>
+    requires head { IsHead terms.head }
+    requires limit { IsLimit terms.limit }
+    ensures { IfOk result (λ h. h.memory.hub ≡ opened_hub terms) }
+{
+    match Hub::open(alloc, terms.head.procs, terms.limit, terms.head.edition) {
+        Ok(hub) => Ok(hub.shortened()),
+        Err(OpenFault::NoMemory) => Err(NoMemory),
+        Err(OpenFault::BadProcs | OpenFault::BadLimit) => unreachable!(),
+    }
+}
+
+/// Makes a step of a process that is admitted, where the journal has room. Only an allocation that fails makes it
+/// refuse.
+fn make_step(hub: &mut ShortHub, entry: Entry, events: &mut Events) -> Result<(), NoMemory>
+    requires fits { is_of hub.old.memory.hub.terms.head.edition entry.step ≡ true }
+    requires room { HasRoom hub.old.memory.hub entry }
+    requires admitted { refusal (state_of hub.old.memory.hub) entry.pid ≡ None }
+    ensures ok { OnOk result (Steps hub.old.memory.hub entry hub.new.memory.hub events.new.items) }
+    ensures grows { OnErr result (Grows entry.step hub.old.memory.hub.places) }
+    ensures make { OnErr result (HasSpare hub.old.memory → IsMake entry.step) }
+    ensures unchanged { OnErr result (hub.new.memory.hub ≡ hub.old.memory.hub) }
+{
+    match hub.step_into(entry, events) {
+        Ok(()) => Ok(()),
+        Err(Fault::NoMemory) => Err(NoMemory),
+        Err(_) => unreachable!(),
+    }
+}
+
+/// A hub that was opened so and has made these steps. Only an allocation that fails makes it refuse.
 fn hub_of(alloc: Global, terms: Terms, entries: &[Entry]) -> Result<ShortHub, NoMemory>
     requires head { IsHead terms.head }
     requires limit { IsLimit terms.limit }
     requires fits { AreOf terms.head.edition entries.now }
+    requires legal { IsLegal terms.head entries.now }
+    requires few { steps_of entries.now ≤ terms.limit }
     ensures { IfOk result (λ h. h.memory.hub ≡ hub_with terms entries.now 0) }
 {
-    let Ok(opened) = Hub::open(alloc, terms.head.procs, terms.limit, terms.head.edition) else {
-        return Err(NoMemory);
-    };
-    let mut hub = opened.shortened();
+    let mut hub = opened(alloc, terms)?;
     let mut events = Events::new();
     for entry in entries {
-        let Ok(()) = hub.step_into(entry.copy(), &mut events) else {
-            return Err(NoMemory);
-        };
+        make_step(&mut hub, entry.copy(), &mut events)?;
     }
     Ok(hub)
 }
 
 /// Gives the hub as it was, with its whole journal, and leaves one in its place that goes on from the checkpoint, with
 /// the same limit and as many reserved steps: whatever follows is answered as if nothing had been cut. Nothing is
-/// written out, so the journal's length costs nothing. After a refusal nothing has changed.
+/// written out, so the journal's length costs nothing. Only an allocation that fails makes it refuse, and then nothing
+/// has changed.
 pub fn cut(alloc: Global, hub: &mut ShortHub) -> Result<ShortHub, NoMemory>
     ensures whole { IfOk result (λ h. h ≡ hub.old) }
     ensures goes_on { OnOk result (IsCut hub.old.memory.hub hub.new.memory.hub) }

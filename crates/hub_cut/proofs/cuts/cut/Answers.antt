@@ -4,7 +4,8 @@ use Rattle.hub_core.specs.HubView.{HubView, ShortInMemory, state_of}
 use Rattle.hub_chapters.specs.Checkpoint.{checkpoint}
 use Rattle.hub_chapters.proofs.Editions.{checkpoint-fits}
 use Rattle.hub_cut.specs.Cut.{IsCut, hub_with}
-use Rattle.hub_cut.proofs.Parts.{cut_law}
+use Rattle.hub_chapters.proofs.Checkpoints.{checkpoint-law}
+use Rattle.hub_cut.proofs.Parts.{cut_law, checkpoint_within}
 use Rattle.hub_cut.proofs.cuts.cut.Goals as goal
 
 pub hub_of-requires-clause-fits : goal.hub_of-requires-clause-fits
@@ -12,6 +13,17 @@ hub_of-requires-clause-fits c =
     let hub = c.args.hub.now.memory.hub in
     rw (c.deref.ensures.value, c.in_ok-entries.ensures, c.terms-terms.ensures.value)
     (checkpoint-fits hub.terms.head hub.journal c.journal_is_legal.ensures.fits)
+
+pub hub_of-requires-clause-legal : goal.hub_of-requires-clause-legal
+hub_of-requires-clause-legal c =
+    let hub = c.args.hub.now.memory.hub in
+    rw (c.deref.ensures.value, c.in_ok-entries.ensures, c.terms-terms.ensures.value) (checkpoint-law hub.terms.head hub.journal).legal
+
+pub hub_of-requires-clause-few : goal.hub_of-requires-clause-few
+hub_of-requires-clause-few c =
+    let hub = c.args.hub.now.memory.hub in
+    rw (c.deref.ensures.value, c.in_ok-entries.ensures, c.terms-terms.ensures.value)
+    (checkpoint_within hub c.journal_is_legal.ensures.legal c.journal_is_legal.ensures.few)
 
 pub returns-clause-goes_on : goal.returns-clause-goes_on
 returns-clause-goes_on c =

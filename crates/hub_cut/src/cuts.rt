@@ -1,13 +1,14 @@
 //! A cut: the journal so far is handed out, and the hub goes on from its checkpoint.
 
-ghost use Rattle.std.specs.Prelude.{◌≡◌, ◌≤◌, IfOk, OnOk, OnErr, None, true};
+ghost use Rattle.std.specs.Prelude.{◌≡◌, ◌≤◌, ◌<◌, IfOk, IfErr, OnOk, OnErr, None, true};
 ghost use Rattle.hub_base.specs.Head.{AreOf, IsHead, is_of};
 ghost use Rattle.hub_base.specs.Steps.{refusal};
 ghost use Rattle.hub_base.specs.Text.{steps_of};
 ghost use Rattle.hub_laws.specs.Journals.{IsLegal};
 ghost use Rattle.hub_core.specs.Follows.{IsMake};
 ghost use Rattle.hub_core.specs.HubView.{Grows, HasRoom, HasSpare, IsLimit, Steps, opened_hub, state_of};
-ghost use Rattle.hub_cut.specs.Cut.{IsCut, hub_with};
+ghost use Rattle.hub_chapters.specs.Checkpoint.{most_steps};
+ghost use Rattle.hub_cut.specs.Cut.{CutsAndSteps, IsCut, Refused, hub_with};
 
 use crate::checkpoint_of;
 use hub_base::{Entry, Events, Fault, Journal, NoMemory};
@@ -88,4 +89,34 @@ pub fn cut_journal(alloc: Global, hub: &mut ShortHub) -> Result<Journal, NoMemor
 {
     let whole = cut(alloc, hub)?;
     Ok(whole.into_journal())
+}
+
+/// Makes a step behind a cut, and gives the hub as it was before. Only an allocation that fails makes it refuse a step
+/// of a process that is admitted. After a refusal nothing has changed.
+pub(crate) fn cut_and_step(
+    alloc: Global,
+    hub: &mut ShortHub,
+    entry: Entry,
+    events: &mut Events,
+) -> Result<ShortHub, Fault>
+    requires fits { is_of hub.old.memory.hub.terms.head.edition entry.step ≡ true }
+    requires room { most_steps hub.old.memory.hub.terms.head < hub.old.memory.hub.terms.limit }
+    ensures whole { IfOk result (λ h. h ≡ hub.old) }
+    ensures ok { OnOk result (CutsAndSteps hub.old.memory.hub entry hub.new.memory.hub events.new.items) }
+    ensures refused { IfErr result (λ f. Refused (state_of hub.old.memory.hub) (Unit {0}) entry f) }
+    ensures unchanged { OnErr result (hub.new ≡ hub.old) }
+{
+    if let Some(fault) = hub.refusal(entry.pid) {
+        return Err(fault);
+    }
+    let Ok(whole) = cut(alloc, hub) else {
+        return Err(Fault::NoMemory);
+    };
+    match make_step(hub, entry, events) {
+        Ok(()) => Ok(whole),
+        Err(NoMemory) => {
+            *hub = whole;
+            Err(Fault::NoMemory)
+        }
+    }
 }

@@ -6,6 +6,10 @@
 
 mod checkpoints;
 mod cuts;
+mod recorder;
+mod totals;
 
 pub use checkpoints::checkpoint_of;
 pub use cuts::{cut, cut_journal};
+pub use recorder::{MOST_KEEP, Recorder};
+pub use totals::Totals;

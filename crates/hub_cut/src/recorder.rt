@@ -1,0 +1,172 @@
+//! A recorder: a hub that cuts itself, and so never ends.
+//!
+//! Its present chapter has at most `keep` entries behind its checkpoint, and the chapter before has `keep` of them. So the
+//! last `keep` entries always stand in these two, each of which is a journal of its own. Older chapters are handed
+//! out. The limit of a hub is never met, since a checkpoint and `keep` entries stay below it.
+
+ghost use Rattle.std.specs.Prelude.{◌≡◌, ◌≤◌, ◌<◌, ◌+◌, [], IfOk, IfErr, OnOk, OnErr, None, true};
+ghost use Rattle.std.specs.Option.{option_map};
+ghost use Rattle.hub_base.specs.Head.{IsHead, head_of, is_of};
+ghost use Rattle.hub_base.specs.Runs.{state};
+ghost use Rattle.hub_base.specs.declared.limits.TheConstants.{MOST_STEPS};
+ghost use Rattle.hub_core.specs.HubView.{RefusesOpening, terms_of};
+ghost use Rattle.hub_chapters.specs.Chapters.{Chapters, history};
+ghost use Rattle.hub_chapters.specs.Chapters.Chapters.{First};
+ghost use Rattle.hub_cut.specs.Recorder.{IsKeep, IsRecorder, Records, RecordsStep, RefusesStep, head_of_all, hub_in};
+ghost use Rattle.hub_cut.specs.Totals.{totals_at};
+
+use crate::Totals;
+use crate::cuts::cut_and_step;
+use crate::totals::{PORT_PLACES, add_received, base_of, no_bases, with_base};
+use hub_base::{Edition, Entry, Events, Fault, MOST_STEPS, Port};
+use hub_core::{Hub, OpenFault, ShortHub};
+use std::alloc::Global;
+use std::marker::Model;
+
+/// The most entries that a chapter may have behind its checkpoint.
+pub const MOST_KEEP: u32 = 900_000;
+
+/// A hub that cuts itself, keeps its last two chapters, and hands out the older ones.
+#[derive(Drop)]
+pub struct Recorder {
+    /// Where a cut takes memory.
+    alloc: Global,
+    /// Its journal is the present chapter.
+    hub: ShortHub,
+    /// The hub as it was at the last cut: its journal is the chapter before.
+    before: Option<ShortHub>,
+    /// With so many entries behind its checkpoint a chapter is full.
+    keep: u32,
+    /// How many the present chapter has.
+    fresh: u32,
+    /// By a port's number, how many values were received on it before the present chapter.
+    bases: [u64; PORT_PLACES],
+}
+
+impl Model for Recorder {
+    ghost use Rattle.hub_cut.specs.Recorder.{RecorderView};
+
+    ghost Value = { RecorderView };
+
+    ghost use Rattle.hub_cut.specs.RecorderKeeps.{RecorderKeeps, shown};
+
+    ghost view = { λ r. shown r };
+
+    ghost invariant = { λ r. RecorderKeeps r };
+}
+
+impl Recorder {
+    /// A recorder of this edition, of 1 to `MOST_PROCS` processes. A chapter is cut once it has `keep` entries behind its
+    /// checkpoint.
+    ///
+    /// Err, tested in this order, with nothing kept: `BadProcs`, `NoMemory`.
+    pub fn open(
+        alloc: Global,
+        procs: u8,
+        keep: u32,
+        edition: Edition,
+    ) -> Result<Recorder, OpenFault>
+        requires keep { IsKeep keep }
+        ensures ok { IfOk result (λ r. Records (First []) r) }
+        ensures terms { IfOk result (λ r. r.hub.terms ≡ terms_of edition procs MOST_STEPS) }
+        ensures keep { IfOk result (λ r. r.keep ≡ keep) }
+        ensures err { IfErr result (λ f. RefusesOpening (terms_of edition procs MOST_STEPS) f) }
+    {
+        let hub = Hub::open(alloc, procs, MOST_STEPS, edition)?;
+        Ok(Recorder {
+            alloc,
+            hub: hub.shortened(),
+            before: None,
+            keep,
+            fresh: 0,
+            bases: no_bases(),
+        })
+    }
+
+    /// Makes a step that the hub's edition has, and leaves its events in place of those that were there; after a
+    /// refusal these may be any. Where the present chapter is full it is cut first, and the chapter before it is
+    /// handed out, if there is one: each chapter once, in order.
+    ///
+    /// Refused by `NoProcess`, `Gone`, `Busy` and `NoMemory` alone, tested in this order; nothing has then changed.
+    pub fn step_into(
+        &mut self,
+        entry: Entry,
+        events: &mut Events,
+    ) -> Result<Option<ShortHub>, Fault>
+        requires fits { is_of (head_of_all self.old).edition entry.step ≡ true }
+        ensures ok { IfOk result (λ chapter.
+            RecordsStep self.old entry self.new events.new.items (option_map hub_in chapter)) }
+        ensures refused { IfErr result (λ f. RefusesStep self.old entry f) }
+        ensures unchanged { OnErr result (self.new ≡ self.old) }
+    {
+        if self.fresh < self.keep {
+            self.go_on(entry, events)?;
+            return Ok(None);
+        }
+        self.begin_chapter(entry, events)
+    }
+
+    /// Makes a step in the present chapter, which is not full.
+    fn go_on(&mut self, entry: Entry, events: &mut Events) -> Result<(), Fault>
+        requires fits { is_of (head_of_all self.old).edition entry.step ≡ true }
+        requires room { self.old.fresh < self.old.keep }
+        ensures ok { OnOk result (RecordsStep self.old entry self.new events.new.items None) }
+        ensures refused { IfErr result (λ f. RefusesStep self.old entry f) }
+        ensures unchanged { OnErr result (self.new ≡ self.old) }
+    {
+        self.hub.step_into(entry, events)?;
+        self.fresh += 1;
+        Ok(())
+    }
+
+    /// Cuts the present chapter, which is full, and makes a step behind its checkpoint. Gives the chapter before it.
+    fn begin_chapter(
+        &mut self,
+        entry: Entry,
+        events: &mut Events,
+    ) -> Result<Option<ShortHub>, Fault>
+        requires fits { is_of (head_of_all self.old).edition entry.step ≡ true }
+        requires full { self.old.keep ≤ self.old.fresh }
+        ensures ok { IfOk result (λ chapter.
+            RecordsStep self.old entry self.new events.new.items (option_map hub_in chapter)) }
+        ensures refused { IfErr result (λ f. RefusesStep self.old entry f) }
+        ensures unchanged { OnErr result (self.new ≡ self.old) }
+    {
+        let whole = cut_and_step(self.alloc, &mut self.hub, entry, events)?;
+        add_received(&mut self.bases, &whole);
+        self.fresh = 1;
+        Ok(self.before.replace(whole))
+    }
+
+    /// What a port holds, and has carried since the hub was opened. `None` for port 0 and for a port that was not made.
+    pub fn look(&self, port: Port) -> Option<Totals>
+        ensures { (chapters : Chapters) → Records chapters self.now
+            → result ≡ totals_at (state (head_of_all self.now) (history chapters)) port }
+    {
+        let look = self.hub.look(port)?;
+        Some(with_base(base_of(&self.bases, port), look))
+    }
+
+    /// The hub, whose journal is the present chapter.
+    pub fn present(&self) -> &ShortHub
+        ensures hub { result.now.memory.hub ≡ self.now.hub }
+        ensures recorder { IsRecorder self.now }
+    {
+        &self.hub
+    }
+
+    /// The hub as it was at the last cut, if there was one. Its journal is the chapter before the present one.
+    pub fn before(&self) -> Option<&ShortHub>
+        ensures { option_map (λ b. hub_in b.now) result ≡ self.now.before }
+    {
+        self.before.as_ref()
+    }
+
+    /// The chapter before the present one, if there is one, and the present one.
+    pub fn into_chapters(self) -> (Option<ShortHub>, ShortHub)
+        ensures before { option_map hub_in result.0 ≡ self.before }
+        ensures present { hub_in result.1 ≡ self.hub }
+    {
+        (self.before, self.hub)
+    }
+}

@@ -16,7 +16,7 @@ use Rattle.hub_core.specs.Looks.{value_at}
 use Rattle.hub_core.specs.HubView.{HubView, state_of}
 use Rattle.hub_chapters.proofs.Checkpoints.{checkpoint-law}
 use Rattle.hub_chapters.proofs.Chapters.{runs-on}
-use Rattle.hub_cut.specs.Cut.{IsCut, hub_with}
+use Rattle.hub_cut.specs.Cut.{IsCut, renewed_hub}
 use Rattle.hub_base.specs.Notation.{exit}
 use Rattle.hub_chapters.specs.Checkpoint.{checkpoint, send_again, port_again, ports_again, call_again}
 use Rattle.hub_cut.specs.Written.{is_gone, one_of, sent_entries, port_entries}
@@ -144,7 +144,7 @@ pub checkpoint_within : (hub : HubView) → IsLegal hub.terms.head hub.journal �
     steps_of (checkpoint (state_of hub)) ≤ hub.terms.limit
 checkpoint_within hub legal few = omega (arith, (checkpoint-law hub.terms.head hub.journal).steps, ap steps_of legal, few)
 
-pub cut_law : (old : HubView) → IsCut old (hub_with old.terms (checkpoint (state_of old)) old.places)
+pub cut_law : (old : HubView) → IsCut old (renewed_hub old)
 cut_law old =
     let h : Head = old.terms.head in
     let law = checkpoint-law h old.journal in

@@ -16,9 +16,13 @@ use Rattle.hub_chapters.specs.Checkpoint.{checkpoint}
 abbrev pub hub_with : Terms → List Entry → ℕ → HubView
 hub_with terms journal places = record { terms = terms; journal = journal; places = places }
 
+-- a hub that goes on from the checkpoint of this one's state
+abbrev pub renewed_hub : HubView → HubView
+renewed_hub h = hub_with h.terms (checkpoint (state_of h)) h.places
+
 -- the hub goes on from the checkpoint of its state; whatever follows is answered as if nothing had been cut
 pub record IsCut (old new : HubView) : Type 0 where
-  pub hub : new ≡ hub_with old.terms (checkpoint (state_of old)) old.places
+  pub hub : new ≡ renewed_hub old
   pub alike : Alike (state_of new) (state_of old)
   pub follows : (later : List Entry) → GoOnAlike (state_of new) (state_of old) later
 

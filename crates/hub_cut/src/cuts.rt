@@ -8,7 +8,7 @@ ghost use Rattle.hub_laws.specs.Journals.{IsLegal};
 ghost use Rattle.hub_core.specs.Follows.{IsMake};
 ghost use Rattle.hub_core.specs.HubView.{Grows, HasRoom, HasSpare, IsLimit, Steps, opened_hub, state_of};
 ghost use Rattle.hub_chapters.specs.Checkpoint.{most_steps};
-ghost use Rattle.hub_cut.specs.Cut.{CutsAndSteps, IsCut, Refused, hub_with};
+ghost use Rattle.hub_cut.specs.Cut.{CutsAndSteps, IsCut, Refused, hub_with, renewed_hub};
 
 use crate::checkpoint_of;
 use hub_base::{Entry, Events, Fault, Journal, NoMemory};
@@ -64,6 +64,19 @@ fn hub_of(alloc: Global, terms: Terms, entries: &[Entry]) -> Result<ShortHub, No
     Ok(hub)
 }
 
+/// A hub of the same terms and as many reserved steps, whose journal is the checkpoint. Only an allocation that fails makes
+/// it refuse.
+fn renewed(alloc: Global, hub: &ShortHub) -> Result<ShortHub, NoMemory>
+    ensures { IfOk result (λ h. h.memory.hub ≡ renewed_hub hub.now.memory.hub) }
+{
+    hub.journal_is_legal();
+    let terms = hub.terms();
+    let entries = checkpoint_of(alloc, hub)?;
+    let mut next = hub_of(alloc, terms, &entries)?;
+    next.reserve(hub.places())?;
+    Ok(next)
+}
+
 /// Gives the hub as it was, with its whole journal, and leaves one in its place that goes on from the checkpoint, with
 /// the same limit and as many reserved steps: whatever follows is answered as if nothing had been cut. Nothing is
 /// written out, so the journal's length costs nothing. Only an allocation that fails makes it refuse, and then nothing
@@ -73,11 +86,7 @@ pub fn cut(alloc: Global, hub: &mut ShortHub) -> Result<ShortHub, NoMemory>
     ensures goes_on { OnOk result (IsCut hub.old.memory.hub hub.new.memory.hub) }
     ensures unchanged { OnErr result (hub.new ≡ hub.old) }
 {
-    hub.journal_is_legal();
-    let terms = hub.terms();
-    let entries = checkpoint_of(alloc, hub)?;
-    let mut next = hub_of(alloc, terms, &entries)?;
-    next.reserve(hub.places())?;
+    let next = renewed(alloc, hub)?;
     Ok(mem::replace(hub, next))
 }
 

@@ -1,5 +1,5 @@
 -- A cut, and a step behind it.
-use Rattle.hub_laws.proofs.Prelude.{List, [], ◌∷◌, ◌++◌, ap, ◌∙◌, sym, ◌<◌, arith, append-nil, Entry, Event, moves, steps_of}
+use Rattle.hub_laws.proofs.Prelude.{◌≡◌, None, refusal, List, [], ◌∷◌, ◌++◌, ap, ◌∙◌, sym, ◌<◌, arith, append-nil, Entry, Event, moves, steps_of}
 use Rattle.hub_core.specs.HubView.{HubView, Steps, state_of}
 use Rattle.hub_chapters.specs.Checkpoint.{most_steps}
 use Rattle.hub_chapters.proofs.Checkpoints.{checkpoint-law}
@@ -9,6 +9,10 @@ use Rattle.hub_cut.specs.Cut.{CutsAndSteps, IsCut}
 -- there is room behind the checkpoint
 pub few_behind : (old new : HubView) → IsCut old new → most_steps old.terms.head < old.terms.limit → steps_of new.journal < new.terms.limit
 few_behind old new is room = rw is.hub (omega (arith, (checkpoint-law old.terms.head old.journal).few_steps, room))
+
+-- who was admitted still is
+pub admitted_behind : (old new : HubView) (e : Entry) → IsCut old new → refusal (state_of old) e.pid ≡ None → refusal (state_of new) e.pid ≡ None
+admitted_behind old new e is admitted = refusal-like (state_of new) (state_of old) e.pid is.alike ∙ admitted
 
 -- the step is admitted and told as before the cut
 pub steps_behind : (old new after : HubView) (e : Entry) (told : List Event) → IsCut old new → Steps new e after told → CutsAndSteps old e after told

@@ -2,7 +2,7 @@
 use Rattle.hub_laws.proofs.Prelude.{◌≡◌, Bool, true, false, List, [], ◌∷◌, ◌++◌, refl, ap, ◌∙◌, sym, subst, Option, Some, None, ℕ, ◌+◌, ◌≤◌, ◌<◌, arith, length}
 use Rattle.hub_laws.proofs.Prelude.{append_assoc, append-nil, length-append, option_map, option_map_or, ◌-◌, ◌==◌, nat_lt, inr, inl, slice_get_past}
 use Rattle.hub_laws.proofs.Prelude.{Entry, Event, Fault, Head, Pid, Port, Channel, State, state, moves, refusal, steps_of, channel_at}
-use Rattle.std.specs.Prelude.{min, ◌^◌, slice_index, nat_le}
+use Rattle.std.specs.Prelude.{min, ◌^◌, slice_index, IfSome}
 use Rattle.hub_base.specs.declared.fault.Fault.TheVariants as fault
 use Rattle.hub_base.specs.declared.limits.TheConstants.{MOST_STEPS, MOST_PORTS}
 use Rattle.hub_base.specs.Journal.{JournalView}
@@ -23,9 +23,12 @@ use Rattle.hub_chapters.proofs.Steps.{refusal-like}
 use Rattle.hub_chapters.proofs.Checkpoints.{checkpoint-law}
 use Rattle.hub_chapters.proofs.Chapters.{last-alike, chapters-law}
 use Rattle.hub_chapters.proofs.Counts.{carried-law}
+use Rattle.hub_cut.specs.declared.texts.TheConstants.{CHAPTER_BYTES}
+use Rattle.hub_cut.specs.ChapterText.{FitsText, most_line, most_lines}
 use Rattle.hub_cut.specs.Cut.{CutsAndSteps, Refused}
 use Rattle.hub_cut.specs.Totals.{in_64_bits, totals_of, totals_at, with_base}
-use Rattle.hub_cut.specs.Recorder.{RecorderView, Records, RecordsStep, RefusesStep, head_of_all, is_full, since_cut, with_next, IsKeep}
+use Rattle.hub_cut.specs.Recorder.{RecorderView, Records, RecordsStep, RefusesStep, head_of_all, is_full, since_cut, with_next, IsKeep, is_full_at}
+use Rattle.hub_cut.proofs.ChapterTexts.{most_lines-append}
 use Rattle.hub_cut.proofs.Parts.{steps-append}
 
 -- The last chapter, and the history
@@ -61,10 +64,24 @@ history_next false (Cut chapters later) e = sym (append_assoc (history chapters)
 
 -- the recorder with this entry in its present chapter
 abbrev pub with_fresh : RecorderView → Entry → RecorderView
-with_fresh r e = record { hub = with_entry e r.hub; before = r.before; keep = r.keep; fresh = r.fresh + 1; bases = r.bases }
+with_fresh r e =
+    record {
+      hub = with_entry e r.hub;
+      before = r.before;
+      keep = r.keep;
+      fresh = r.fresh + 1;
+      bytes = r.bytes + most_line e;
+      bases = r.bases;
+    }
 
 one_more : (n : ℕ) (es : List Entry) (e : Entry) → n ≡ length es → n + 1 ≡ length (es ++ e ∷ [])
 one_more n es e is = omega (arith, is, length-append es (e ∷ []))
+
+more_bytes : (n : ℕ) (es : List Entry) (e : Entry) → n ≡ most_lines es → n + most_line e ≡ most_lines (es ++ e ∷ [])
+more_bytes n es e is = omega (arith, is, most_lines-append es (e ∷ []))
+
+pub below_keep : (keep fresh bytes : ℕ) → is_full_at keep fresh bytes ≡ false → (fresh < keep) × (bytes < CHAPTER_BYTES)
+below_keep keep fresh bytes h = (grind arith, grind arith)
 
 pub records_next : (chapters : Chapters) (r : RecorderView) (e : Entry) → Records chapters r → refusal (state_of r.hub) e.pid ≡ None → r.fresh < r.keep →
     Records (with_next false chapters e) (with_fresh r e)
@@ -75,8 +92,9 @@ records_next (First es) r e so admitted room =
       present = ap (λ j. j ++ e ∷ []) so.present;
       before = so.before;
       fresh = one_more r.fresh es e so.fresh;
+      bytes = more_bytes r.bytes es e so.bytes;
       few = omega (arith, room);
-      kept = tt;
+      full = tt;
       bases = so.bases;
     }
 records_next (Cut chapters later) r e so admitted room =
@@ -86,32 +104,30 @@ records_next (Cut chapters later) r e so admitted room =
       legal = (
         so.legal.0,
         subst (IsLegal h) (append_assoc first later (e ∷ []))
-        ((begins-law h (first ++ later) []).goes_on e so.legal.1 (subst (λ j. refusal (state h j) e.pid ≡ None) so.present admitted)),
+            ((begins-law h (first ++ later) []).goes_on e so.legal.1 (subst (λ j. refusal (state h j) e.pid ≡ None) so.present admitted)),
       );
       present = ap (λ j. j ++ e ∷ []) so.present ∙ append_assoc first later (e ∷ []);
       before = so.before;
       fresh = one_more r.fresh later e so.fresh;
+      bytes = more_bytes r.bytes later e so.bytes;
       few = omega (arith, room);
-      kept = so.kept;
+      full = so.full;
       bases = so.bases;
     }
 
-not_full : (keep fresh : ℕ) → fresh < keep → nat_le keep fresh ≡ false
-not_full keep fresh h = grind arith
-
-pub goes_next : (r : RecorderView) (e : Entry) (told : List Event) (new : HubView) → r.fresh < r.keep → Steps r.hub e new told →
-    RecordsStep r e (record { hub = new; before = r.before; keep = r.keep; fresh = r.fresh + 1; bases = r.bases }) told None
-goes_next r e told new room s =
+pub goes_next : (r : RecorderView) (e : Entry) (told : List Event) (new : HubView) → is_full r ≡ false → Steps r.hub e new told →
+    RecordsStep r e (record { hub = new; before = r.before; keep = r.keep; fresh = r.fresh + 1; bytes = r.bytes + most_line e; bases = r.bases }) told None
+goes_next r e told new full s =
     let h : Head = head_of_all r in
-    let full = not_full r.keep r.fresh room in
     record {
       goes_on = λ chapters so. record {
         admitted = sym (refused_alike h chapters r.hub.journal e.pid so.present) ∙ s.admitted;
         events = s.events ∙ told_alike h chapters r.hub.journal e so.present;
         history = history_next (is_full r) chapters e;
-        records = rw (full, s.journal) (records_next chapters r e so s.admitted room);
+        records = rw (full, s.journal) (records_next chapters r e so s.admitted (below_keep r.keep r.fresh r.bytes full).0);
       };
       handed_out = rw full refl;
+      text = tt;
       terms = ap (λ (x : HubView). x.terms) s.journal;
       keep = refl;
     }
@@ -122,9 +138,9 @@ saturated : (a b x y top : ℕ) → x ≡ min a top → y ≡ min (x + b) top �
 saturated a b x y top e f = grind (arith, e, f)
 
 pub records_cut : (chapters : Chapters) (r : RecorderView) (e : Entry) (new : HubView) (told : List Event) (bases : List ℕ) → Records chapters r →
-    r.keep ≤ r.fresh → 1 ≤ r.keep → CutsAndSteps r.hub e new told →
+    is_full r ≡ true → 1 ≤ r.keep → CutsAndSteps r.hub e new told →
     ((p : Port) → p.0 ≤ MOST_PORTS → slice_index bases p.0 ≡ in_64_bits (slice_index r.bases p.0 + received_count (state_of r.hub) p)) →
-    Records (Cut chapters (e ∷ [])) (record { hub = new; before = Some r.hub; keep = r.keep; fresh = 1; bases = bases })
+    Records (Cut chapters (e ∷ [])) (record { hub = new; before = Some r.hub; keep = r.keep; fresh = 1; bytes = most_line e; bases = bases })
 records_cut chapters r e new told bases so full some s added =
     let h : Head = head_of_all r in
     let first : List Entry = checkpoint (state_of r.hub) in
@@ -138,31 +154,29 @@ records_cut chapters r e new told bases so full some s added =
       present = s.journal ∙ ap (λ j. j ++ e ∷ []) same;
       before = ap (λ j. Some (let j : JournalView = record { head = h; entries = j } in j)) so.present;
       fresh = refl;
+      bytes = omega arith;
       few = some;
-      kept = omega (arith, full, so.fresh);
+      full = rw (← so.fresh, ← so.bytes) full;
       bases = λ p few. saturated (base_count h chapters p) (received_count (state h (last_chapter h chapters)) p) (slice_index r.bases p.0)
           (slice_index bases p.0) (2 ^ 64 - 1) (so.bases p few)
           (added p few ∙ ap (λ j. in_64_bits (slice_index r.bases p.0 + received_count (state h j) p)) so.present);
     })
 
-is_full_now : (keep fresh : ℕ) → keep ≤ fresh → nat_le keep fresh ≡ true
-is_full_now keep fresh h = grind arith
-
-pub goes_cut : (r : RecorderView) (e : Entry) (new : HubView) (told : List Event) (bases : List ℕ) → r.keep ≤ r.fresh → 1 ≤ r.keep →
-    CutsAndSteps r.hub e new told →
+pub goes_cut : (r : RecorderView) (e : Entry) (new : HubView) (told : List Event) (bases : List ℕ) → is_full r ≡ true → 1 ≤ r.keep →
+    IfSome r.before FitsText → CutsAndSteps r.hub e new told →
     ((p : Port) → p.0 ≤ MOST_PORTS → slice_index bases p.0 ≡ in_64_bits (slice_index r.bases p.0 + received_count (state_of r.hub) p)) →
-    RecordsStep r e (record { hub = new; before = Some r.hub; keep = r.keep; fresh = 1; bases = bases }) told r.before
-goes_cut r e new told bases over some s added =
+    RecordsStep r e (record { hub = new; before = Some r.hub; keep = r.keep; fresh = 1; bytes = most_line e; bases = bases }) told r.before
+goes_cut r e new told bases full some text s added =
     let h : Head = head_of_all r in
-    let full = is_full_now r.keep r.fresh over in
     record {
       goes_on = λ chapters so. record {
         admitted = sym (refused_alike h chapters r.hub.journal e.pid so.present) ∙ s.admitted;
         events = s.events ∙ told_alike h chapters r.hub.journal e so.present;
         history = history_next (is_full r) chapters e;
-        records = rw full (records_cut chapters r e new told bases so over some s added);
+        records = rw full (records_cut chapters r e new told bases so full some s added);
       };
       handed_out = rw full refl;
+      text = text;
       terms = s.terms;
       keep = refl;
     }
@@ -188,12 +202,12 @@ refuses_next r e fault.NilClose head limit keep room h = absurd h
 refuses_next r e fault.AlreadyClosed head limit keep room h = absurd h
 refuses_next r e fault.NotParked head limit keep room h = absurd h
 
-pub refuses_cut : (r : RecorderView) (e : Entry) (f : Fault) → r.keep ≤ r.fresh → Refused (state_of r.hub) (Unit {0}) e f → RefusesStep r e f
+pub refuses_cut : (r : RecorderView) (e : Entry) (f : Fault) → is_full r ≡ true → Refused (state_of r.hub) (Unit {0}) e f → RefusesStep r e f
 refuses_cut r e fault.NoProcess over h = λ chapters so. sym (refused_alike (head_of_all r) chapters r.hub.journal e.pid so.present) ∙ h
 refuses_cut r e fault.Gone over h = λ chapters so. sym (refused_alike (head_of_all r) chapters r.hub.journal e.pid so.present) ∙ h
 refuses_cut r e fault.Busy over h = λ chapters so. sym (refused_alike (head_of_all r) chapters r.hub.journal e.pid so.present) ∙ h
 refuses_cut r e fault.NoMemory over h = λ chapters so.
-    (sym (refused_alike (head_of_all r) chapters r.hub.journal e.pid so.present) ∙ h.0, inl (is_full_now r.keep r.fresh over))
+    (sym (refused_alike (head_of_all r) chapters r.hub.journal e.pid so.present) ∙ h.0, inl over)
 refuses_cut r e fault.JournalFull over h = absurd h
 refuses_cut r e fault.TooManyCases over h = absurd h
 refuses_cut r e fault.NoPort over h = absurd h

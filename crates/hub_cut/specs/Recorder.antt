@@ -1,5 +1,5 @@
 -- What contracts see of a recorder, which chapters it stands for, and what a step of it does.
-use Rattle.std.specs.Prelude.{◌≡◌, ◌≤◌, ◌⊎◌, ℕ, Bool, true, false, nat_le, List, [], ◌∷◌, ◌++◌, length, Option, None, Some, slice_index, if◌then◌else◌}
+use Rattle.std.specs.Prelude.{◌≡◌, ◌≤◌, ◌⊎◌, ℕ, Bool, true, false, ◌||◌, nat_le, IfSome, List, [], ◌∷◌, ◌++◌, length, Option, None, Some, slice_index, if◌then◌else◌}
 use Rattle.std.specs.Option.{option_map}
 use Rattle.hub_base.specs.declared.entry.Entry.{Entry}
 use Rattle.hub_base.specs.declared.event.Event.{Event}
@@ -15,6 +15,8 @@ use Rattle.hub_chapters.specs.Chapters.{Chapters, last_chapter, history, AreLega
 use Rattle.hub_chapters.specs.Chapters.Chapters.{First, Cut}
 use Rattle.hub_chapters.specs.Carried.{base_count}
 use Rattle.hub_cut.specs.declared.recorder.TheConstants.{MOST_KEEP}
+use Rattle.hub_cut.specs.declared.texts.TheConstants.{CHAPTER_BYTES}
+use Rattle.hub_cut.specs.ChapterText.{FitsText, most_lines}
 use Rattle.hub_cut.specs.Cut.{Refused}
 use Rattle.hub_cut.specs.Totals.{in_64_bits}
 
@@ -28,6 +30,8 @@ pub record RecorderView : Type 0 where
   pub keep : ℕ
   -- so many the present chapter has
   pub fresh : ℕ
+  -- and so many bytes their lines have at most
+  pub bytes : ℕ
   -- by a port's number, how many values were received on it before the present chapter
   pub bases : List ℕ
 
@@ -55,10 +59,14 @@ abbrev pub chapter_before : Head → Chapters → Option JournalView
 chapter_before h (First es) = None
 chapter_before h (Cut chapters later) = Some (record { head = h; entries = last_chapter h chapters })
 
--- where there is a chapter before the last, it has at least so many entries behind its checkpoint
-abbrev pub KeepsBefore : ℕ → Chapters → Type 0
-KeepsBefore keep (First es) = Unit {0}
-KeepsBefore keep (Cut chapters later) = keep ≤ length (since_cut chapters)
+-- a chapter is full with so many entries behind its checkpoint, or where its text might soon be longer than a reader takes
+abbrev pub is_full_at : ℕ → ℕ → ℕ → Bool
+is_full_at keep fresh bytes = nat_le keep fresh || nat_le CHAPTER_BYTES bytes
+
+-- where there is a chapter before the last, it was cut once it was full
+abbrev pub WasFull : ℕ → Chapters → Type 0
+WasFull keep (First es) = Unit {0}
+WasFull keep (Cut chapters later) = is_full_at keep (length (since_cut chapters)) (most_lines (since_cut chapters)) ≡ true
 
 -- the journal of a hub
 abbrev pub journal_of : HubView → JournalView
@@ -70,20 +78,25 @@ pub record Records (chapters : Chapters) (r : RecorderView) : Type 0 where
   pub present : r.hub.journal ≡ last_chapter (head_of_all r) chapters
   pub before : option_map journal_of r.before ≡ chapter_before (head_of_all r) chapters
   pub fresh : r.fresh ≡ length (since_cut chapters)
+  pub bytes : r.bytes ≡ most_lines (since_cut chapters)
   pub few : r.fresh ≤ r.keep
-  -- so the last `keep` entries stand in these two chapters
-  pub kept : KeepsBefore r.keep chapters
+  -- so the last `keep` entries stand in these two chapters, or as many as two texts hold
+  pub full : WasFull r.keep chapters
   pub bases : (p : Port) → p.0 ≤ MOST_PORTS → slice_index r.bases p.0 ≡ in_64_bits (base_count (head_of_all r) chapters p)
 
 -- it stands at the end of some
 abbrev pub IsRecorder : RecorderView → Type 0
 IsRecorder r = (chapters : Chapters) × Records chapters r
 
+-- a reader takes the texts of both
+abbrev pub FitTexts : RecorderView → Type 0
+FitTexts r = FitsText r.hub × IfSome r.before FitsText
+
 -- ---- a step
 
 -- the present chapter is full: it is cut before the next step
 abbrev pub is_full : RecorderView → Bool
-is_full r = nat_le r.keep r.fresh
+is_full r = is_full_at r.keep r.fresh r.bytes
 
 -- the chapters with this entry behind them, after a cut or without one
 abbrev pub with_next : Bool → Chapters → Entry → Chapters
@@ -103,6 +116,7 @@ pub record RecordsStep (old : RecorderView) (e : Entry) (new : RecorderView) (to
   pub goes_on : (chapters : Chapters) → Records chapters old → GoesOn old chapters e new told
   -- at a cut, the chapter before the one that ends
   pub handed_out : chapter ≡ (if is_full old then old.before else None)
+  pub text : IfSome chapter FitsText
   pub terms : new.hub.terms ≡ old.hub.terms
   pub keep : new.keep ≡ old.keep
 

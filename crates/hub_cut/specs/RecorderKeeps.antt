@@ -1,9 +1,13 @@
 -- What every recorder keeps.
-use Rattle.std.specs.Prelude.{◌≡◌}
+use Rattle.std.specs.Prelude.{◌≡◌, ◌≤◌, ◌<◌, ◌+◌, length, IfSome}
+use Rattle.std.specs.List.{flat_map}
 use Rattle.std.specs.Option.{option_map}
 use Rattle.hub_base.specs.declared.limits.TheConstants.{MOST_STEPS}
 use Rattle.hub_base.specs.Head.{IsHead}
+use Rattle.hub_base.specs.Lines.{line}
 use Rattle.hub_cut.specs.declared.recorder.Recorder.TheInside.{Inside}
+use Rattle.hub_cut.specs.declared.texts.TheConstants.{CHECKPOINT_BYTES, CHAPTER_BYTES, MOST_LINE_BYTES}
+use Rattle.hub_cut.specs.ChapterText.{FitsText}
 use Rattle.hub_cut.specs.Recorder.{RecorderView, IsKeep, IsRecorder, hub_in}
 
 -- what contracts see of it
@@ -14,6 +18,7 @@ shown r =
       before = option_map hub_in r.before;
       keep = r.keep;
       fresh = r.fresh;
+      bytes = r.bytes;
       bases = r.bases;
     }
 
@@ -22,3 +27,7 @@ pub record RecorderKeeps (r : Inside) : Type 0 where
   pub limit : r.hub.memory.hub.terms.limit ≡ MOST_STEPS
   pub keep : IsKeep r.keep
   pub recorder : IsRecorder (shown r)
+  -- the lines of its checkpoint, and those behind it
+  pub lines : length (flat_map line r.hub.memory.hub.journal) ≤ CHECKPOINT_BYTES + r.bytes
+  pub bytes : r.bytes < CHAPTER_BYTES + MOST_LINE_BYTES
+  pub text_before : IfSome (option_map hub_in r.before) FitsText

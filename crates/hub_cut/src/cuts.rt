@@ -1,16 +1,21 @@
 //! A cut: the journal so far is handed out, and the hub goes on from its checkpoint.
 
-ghost use Rattle.std.specs.Prelude.{◌≡◌, ◌≤◌, ◌<◌, IfOk, IfErr, OnOk, OnErr, None, true};
+ghost use Rattle.std.specs.Prelude.{◌≡◌, ◌≤◌, ◌<◌, ◌+◌, length, IfOk, IfErr, OnOk, OnErr, None, true};
+ghost use Rattle.std.specs.List.{flat_map};
+ghost use Rattle.hub_base.specs.Lines.{line};
+ghost use Rattle.hub_base.specs.Text.{Fits};
 ghost use Rattle.hub_base.specs.Head.{AreOf, IsHead, is_of};
 ghost use Rattle.hub_base.specs.Steps.{refusal};
 ghost use Rattle.hub_base.specs.Text.{steps_of};
 ghost use Rattle.hub_laws.specs.Journals.{IsLegal};
 ghost use Rattle.hub_core.specs.Follows.{IsMake};
 ghost use Rattle.hub_core.specs.HubView.{Grows, HasRoom, HasSpare, IsLimit, Steps, opened_hub, state_of};
-ghost use Rattle.hub_chapters.specs.Checkpoint.{most_steps};
+ghost use Rattle.hub_chapters.specs.Checkpoint.{checkpoint, most_steps};
+ghost use Rattle.hub_cut.specs.ChapterText.{most_line};
 ghost use Rattle.hub_cut.specs.Cut.{CutsAndSteps, IsCut, Refused, hub_with, renewed_hub};
 
 use crate::checkpoint_of;
+use crate::texts::{CHECKPOINT_BYTES, all_fit};
 use hub_base::{Entry, Events, Fault, Journal, NoMemory};
 use hub_core::{Hub, OpenFault, ShortHub, Terms};
 use std::alloc::Global;
@@ -67,12 +72,16 @@ fn hub_of(alloc: Global, terms: Terms, entries: &[Entry]) -> Result<ShortHub, No
 /// A hub of the same terms and as many reserved steps, whose journal is the checkpoint. Only an allocation that fails makes
 /// it refuse.
 fn renewed(alloc: Global, hub: &ShortHub) -> Result<ShortHub, NoMemory>
-    ensures { IfOk result (λ h. h.memory.hub ≡ renewed_hub hub.now.memory.hub) }
+    ensures hub { IfOk result (λ h. h.memory.hub ≡ renewed_hub hub.now.memory.hub) }
+    ensures lines { OnOk result (
+        length (flat_map line (checkpoint (state_of hub.now.memory.hub))) ≤ CHECKPOINT_BYTES) }
 {
     hub.journal_is_legal();
     let terms = hub.terms();
     let entries = checkpoint_of(alloc, hub)?;
-    let mut next = hub_of(alloc, terms, &entries)?;
+    let steps = entries.as_slice();
+    all_fit(terms.head.edition, steps);
+    let mut next = hub_of(alloc, terms, steps)?;
     next.reserve(hub.places())?;
     Ok(next)
 }
@@ -100,6 +109,26 @@ pub fn cut_journal(alloc: Global, hub: &mut ShortHub) -> Result<Journal, NoMemor
     Ok(whole.into_journal())
 }
 
+/// The hub that a cut leaves, once it has made a step of a process that is admitted. Only an allocation that fails makes
+/// it refuse.
+fn renewed_after(
+    alloc: Global,
+    hub: &ShortHub,
+    entry: Entry,
+    events: &mut Events,
+) -> Result<ShortHub, NoMemory>
+    requires fits { Fits hub.now.memory.hub.terms.head.edition entry }
+    requires room { most_steps hub.now.memory.hub.terms.head < hub.now.memory.hub.terms.limit }
+    requires admitted { refusal (state_of hub.now.memory.hub) entry.pid ≡ None }
+    ensures ok { IfOk result (λ h. CutsAndSteps hub.now.memory.hub entry h.memory.hub events.new.items) }
+    ensures lines { IfOk result (λ h.
+        length (flat_map line h.memory.hub.journal) ≤ CHECKPOINT_BYTES + most_line entry) }
+{
+    let mut next = renewed(alloc, hub)?;
+    make_step(&mut next, entry, events)?;
+    Ok(next)
+}
+
 /// Makes a step behind a cut, and gives the hub as it was before. Only an allocation that fails makes it refuse a step
 /// of a process that is admitted. After a refusal nothing has changed.
 pub(crate) fn cut_and_step(
@@ -108,24 +137,20 @@ pub(crate) fn cut_and_step(
     entry: Entry,
     events: &mut Events,
 ) -> Result<ShortHub, Fault>
-    requires fits { is_of hub.old.memory.hub.terms.head.edition entry.step ≡ true }
+    requires fits { Fits hub.old.memory.hub.terms.head.edition entry }
     requires room { most_steps hub.old.memory.hub.terms.head < hub.old.memory.hub.terms.limit }
     ensures whole { IfOk result (λ h. h ≡ hub.old) }
     ensures ok { OnOk result (CutsAndSteps hub.old.memory.hub entry hub.new.memory.hub events.new.items) }
+    ensures lines { OnOk result (
+        length (flat_map line hub.new.memory.hub.journal) ≤ CHECKPOINT_BYTES + most_line entry) }
     ensures refused { IfErr result (λ f. Refused (state_of hub.old.memory.hub) (Unit {0}) entry f) }
     ensures unchanged { OnErr result (hub.new ≡ hub.old) }
 {
     if let Some(fault) = hub.refusal(entry.pid) {
         return Err(fault);
     }
-    let Ok(whole) = cut(alloc, hub) else {
+    let Ok(next) = renewed_after(alloc, hub, entry, events) else {
         return Err(Fault::NoMemory);
     };
-    match make_step(hub, entry, events) {
-        Ok(()) => Ok(whole),
-        Err(NoMemory) => {
-            *hub = whole;
-            Err(Fault::NoMemory)
-        }
-    }
+    Ok(mem::replace(hub, next))
 }

@@ -7,6 +7,7 @@
 mod checkpoints;
 mod cuts;
 mod recorder;
+mod texts;
 mod totals;
 
 pub use checkpoints::checkpoint_of;

@@ -4,7 +4,7 @@
 //! last `keep` entries always stand in these two, each of which is a journal of its own. Older chapters are handed
 //! out. The limit of a hub is never met, since a checkpoint and `keep` entries stay below it.
 
-ghost use Rattle.std.specs.Prelude.{◌≡◌, ◌≤◌, ◌<◌, ◌+◌, [], IfOk, IfErr, OnOk, OnErr, None, true};
+ghost use Rattle.std.specs.Prelude.{◌≡◌, ◌≤◌, ◌<◌, ◌+◌, [], IfOk, IfErr, OnOk, OnErr, None, true, false};
 ghost use Rattle.std.specs.Option.{option_map};
 ghost use Rattle.hub_base.specs.Head.{IsHead, head_of, is_of};
 ghost use Rattle.hub_base.specs.Runs.{state};
@@ -12,11 +12,12 @@ ghost use Rattle.hub_base.specs.declared.limits.TheConstants.{MOST_STEPS};
 ghost use Rattle.hub_core.specs.HubView.{RefusesOpening, terms_of};
 ghost use Rattle.hub_chapters.specs.Chapters.{Chapters, history};
 ghost use Rattle.hub_chapters.specs.Chapters.Chapters.{First};
-ghost use Rattle.hub_cut.specs.Recorder.{IsKeep, IsRecorder, Records, RecordsStep, RefusesStep, head_of_all, hub_in};
+ghost use Rattle.hub_cut.specs.Recorder.{FitTexts, IsKeep, IsRecorder, Records, RecordsStep, RefusesStep, head_of_all, hub_in, is_full};
 ghost use Rattle.hub_cut.specs.Totals.{totals_at};
 
 use crate::Totals;
 use crate::cuts::cut_and_step;
+use crate::texts::{CHAPTER_BYTES, most_line};
 use crate::totals::{PORT_PLACES, add_received, base_of, no_bases, with_base};
 use hub_base::{Edition, Entry, Events, Fault, MOST_STEPS, Port};
 use hub_core::{Hub, OpenFault, ShortHub};
@@ -39,6 +40,8 @@ pub struct Recorder {
     keep: u32,
     /// How many the present chapter has.
     fresh: u32,
+    /// How many bytes their lines have at most.
+    bytes: u32,
     /// By a port's number, how many values were received on it before the present chapter.
     bases: [u64; PORT_PLACES],
 }
@@ -79,6 +82,7 @@ impl Recorder {
             before: None,
             keep,
             fresh: 0,
+            bytes: 0,
             bases: no_bases(),
         })
     }
@@ -99,23 +103,32 @@ impl Recorder {
         ensures refused { IfErr result (λ f. RefusesStep self.old entry f) }
         ensures unchanged { OnErr result (self.new ≡ self.old) }
     {
-        if self.fresh < self.keep {
-            self.go_on(entry, events)?;
-            return Ok(None);
+        if self.is_full() {
+            return self.begin_chapter(entry, events);
         }
-        self.begin_chapter(entry, events)
+        self.go_on(entry, events)?;
+        Ok(None)
+    }
+
+    /// Whether the present chapter is to be cut before the next step.
+    fn is_full(&self) -> bool
+        ensures { result ≡ is_full self.now }
+    {
+        self.fresh >= self.keep || self.bytes >= CHAPTER_BYTES
     }
 
     /// Makes a step in the present chapter, which is not full.
     fn go_on(&mut self, entry: Entry, events: &mut Events) -> Result<(), Fault>
         requires fits { is_of (head_of_all self.old).edition entry.step ≡ true }
-        requires room { self.old.fresh < self.old.keep }
+        requires room { is_full self.old ≡ false }
         ensures ok { OnOk result (RecordsStep self.old entry self.new events.new.items None) }
         ensures refused { IfErr result (λ f. RefusesStep self.old entry f) }
         ensures unchanged { OnErr result (self.new ≡ self.old) }
     {
+        let bytes = most_line(self.hub.head().edition, &entry);
         self.hub.step_into(entry, events)?;
         self.fresh += 1;
+        self.bytes += bytes;
         Ok(())
     }
 
@@ -126,15 +139,17 @@ impl Recorder {
         events: &mut Events,
     ) -> Result<Option<ShortHub>, Fault>
         requires fits { is_of (head_of_all self.old).edition entry.step ≡ true }
-        requires full { self.old.keep ≤ self.old.fresh }
+        requires full { is_full self.old ≡ true }
         ensures ok { IfOk result (λ chapter.
             RecordsStep self.old entry self.new events.new.items (option_map hub_in chapter)) }
         ensures refused { IfErr result (λ f. RefusesStep self.old entry f) }
         ensures unchanged { OnErr result (self.new ≡ self.old) }
     {
+        let bytes = most_line(self.hub.head().edition, &entry);
         let whole = cut_and_step(self.alloc, &mut self.hub, entry, events)?;
         add_received(&mut self.bases, &whole);
         self.fresh = 1;
+        self.bytes = bytes;
         Ok(self.before.replace(whole))
     }
 
@@ -151,6 +166,7 @@ impl Recorder {
     pub fn present(&self) -> &ShortHub
         ensures hub { result.now.memory.hub ≡ self.now.hub }
         ensures recorder { IsRecorder self.now }
+        ensures texts { FitTexts self.now }
     {
         &self.hub
     }
@@ -166,6 +182,7 @@ impl Recorder {
     pub fn into_chapters(self) -> (Option<ShortHub>, ShortHub)
         ensures before { option_map hub_in result.0 ≡ self.before }
         ensures present { hub_in result.1 ≡ self.hub }
+        ensures texts { FitTexts self }
     {
         (self.before, self.hub)
     }

@@ -12,13 +12,20 @@ invariant_of-result c =
       head = rw same c.in_ok-hub.ensures.bounds.0;
       limit = ap (λ (h : HubView). h.terms.limit) same;
       keep = c.requires.keep;
-      recorder = (First [], record {
-        legal = refl;
-        present = ap (λ (h : HubView). h.journal) same;
-        before = refl;
-        fresh = refl;
-        few = omega arith;
-        kept = tt;
-        bases = λ p few. c.no_bases.ensures p.0;
-      });
+      recorder = (
+        First [],
+        record {
+          legal = refl;
+          present = ap (λ (h : HubView). h.journal) same;
+          before = refl;
+          fresh = refl;
+          bytes = refl;
+          few = omega arith;
+          full = tt;
+          bases = λ p few. c.no_bases.ensures p.0;
+        },
+      );
+      lines = rw same (omega arith);
+      bytes = omega arith;
+      text_before = tt;
     }

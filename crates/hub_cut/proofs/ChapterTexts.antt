@@ -1,6 +1,7 @@
 -- The text of a chapter is not longer than a reader takes.
 use Rattle.hub_laws.proofs.Prelude.{◌≡◌, Bool, true, false, List, [], ◌∷◌, ◌++◌, ap, ℕ, zero, suc, ◌+◌, ◌≤◌, ◌<◌, arith, length, map, cond}
-use Rattle.hub_laws.proofs.Prelude.{length-append, Entry, Head, Case, Send, Recv, Step, Make, Call, Close, Exit, Cancel, Value, Port, Channel, OpenCall, State, state, buffer_of}
+use Rattle.hub_laws.proofs.Prelude.{length-append, Entry, Head, Case, Send, Recv, Step, Make, Call, Close, Exit}
+use Rattle.hub_laws.proofs.Prelude.{Cancel, Value, Port, Channel, OpenCall, State, state, buffer_of}
 use Rattle.std.specs.Prelude.{codes, decimal, ◌*◌}
 use Rattle.std.specs.List.{AllByRecursion, flat_map, join_with_byte}
 use Rattle.std.proofs.lemmas.Fmt.{length-decimal-le}
@@ -22,8 +23,10 @@ use Rattle.hub_laws.proofs.Rules.{state-sound}
 use Rattle.hub_core.specs.HubView.{HubView}
 use Rattle.hub_chapters.specs.Checkpoint.{checkpoint, send_again, port_again, ports_again, call_again, exited}
 use Rattle.hub_chapters.proofs.Checkpoints.{checkpoint-law}
-use Rattle.hub_cut.specs.declared.texts.TheConstants.{CHECKPOINT_BYTES, CHAPTER_BYTES, MOST_LINE_BYTES}
-use Rattle.hub_cut.specs.ChapterText.{case_count, most_line, most_lines, FitsText}
+use Rattle.hub_base.specs.declared.limits.TheConstants.{GREATEST_PID, GREATEST_PORT, MOST_VALUE_BYTES}
+use Rattle.hub_core.specs.LogView.{cases_of_step}
+use Rattle.hub_cut.specs.declared.limits.TheConstants.{LINE_BYTES, CASE_BYTES, CHECKPOINT_BYTES, CHAPTER_BYTES, MOST_LINE_BYTES}
+use Rattle.hub_cut.specs.ChapterText.{most_line, most_lines, FitsText}
 use Rattle.hub_cut.proofs.Parts.{procs_same}
 
 -- Fields
@@ -44,17 +47,19 @@ unfolding fields_size
 fields_size-append [] ys = omega arith
 fields_size-append (x ∷ xs) ys = omega (arith, fields_size-append xs ys)
 
-content_size : (c : Content) → IsContent c → length (field_of c) ≤ 65
-content_size (Num n) few = let l : length (decimal n) ≤ 20 = length-decimal-le 20 n (omega arith) (omega (arith, few)) (omega (arith, few)) in omega (arith, l)
+content_size : (c : Content) → IsContent c → length (field_of c) ≤ 2 * MOST_VALUE_BYTES + 1
+content_size (Num n) few =
+    let l : length (decimal n) ≤ 20 = length-decimal-le 20 n (omega arith) (omega (arith, few)) (omega (arith, few)) in
+    omega (arith, l)
 content_size (Bytes bs) few = omega (arith, length-encode_with lower_digits bs, few.0)
 
-value_size : (v : Value) → IsValue v → length (value_field v) ≤ 65
+value_size : (v : Value) → IsValue v → length (value_field v) ≤ 2 * MOST_VALUE_BYTES + 1
 value_size v is = content_size (content v) is.fits
 
-port_size : (p : Port) → p.0 ≤ 65535 → length (decimal p.0) ≤ 5
+port_size : (p : Port) → p.0 ≤ GREATEST_PORT → length (decimal p.0) ≤ 5
 port_size p few = length-decimal-le 5 p.0 (omega arith) (omega (arith, few)) (omega (arith, few))
 
-pid_size : (p : ℕ) → p ≤ 255 → length (decimal p) ≤ 3
+pid_size : (p : ℕ) → p ≤ GREATEST_PID → length (decimal p) ≤ 3
 pid_size p few = length-decimal-le 3 p (omega arith) (omega (arith, few)) (omega (arith, few))
 
 case_size : (c : Case) → CaseFits c → length (case_field c) ≤ 72
@@ -91,12 +96,14 @@ call_size (Recv p ∷ d ∷ cs) default word fits = select_size (Recv p ∷ d �
 
 -- Lines
 
-step_size : (ed : Edition) (e : Entry) → Fits ed e → fields_size (step_fields e.step) ≤ 36 + 73 * case_count e.step
+step_size : (ed : Edition) (e : Entry) → Fits ed e → fields_size (step_fields e.step) ≤ 36 + 73 * length (cases_of_step e.step)
 unfolding fields_size
 step_size ed e fits = by e.step fits.step
   where
-    by : (s : Step) → StepFits s → fields_size (step_fields s) ≤ 36 + 73 * case_count s
-    by (Make cap) few = let l : length (decimal cap) ≤ 10 = length-decimal-le 10 cap (omega arith) (omega (arith, few)) (omega (arith, few)) in omega (arith, l)
+    by : (s : Step) → StepFits s → fields_size (step_fields s) ≤ 36 + 73 * length (cases_of_step s)
+    by (Make cap) few =
+        let l : length (decimal cap) ≤ 10 = length-decimal-le 10 cap (omega arith) (omega (arith, few)) (omega (arith, few)) in
+        omega (arith, l)
     by (Call cases default word) fits = call_size cases.items default word fits
     by (Close p) few = omega (arith, port_size p few)
     by Exit few = omega arith
@@ -119,32 +126,33 @@ most_lines-append [] ys = omega arith
 most_lines-append (x ∷ xs) ys = omega (arith, most_lines-append xs ys)
 
 -- each entry of these lists has one case at most
-sends_lines : (n : ℕ) (vs : List Value) → most_lines (map (send_again n) vs) ≤ 114 * length (map (send_again n) vs)
+sends_lines : (n : ℕ) (vs : List Value) → most_lines (map (send_again n) vs) ≤ (LINE_BYTES + CASE_BYTES) * length (map (send_again n) vs)
 sends_lines n [] = omega arith
 sends_lines n (v ∷ vs) = omega (arith, sends_lines n vs)
 
-close_lines : (n : ℕ) (b : Bool) → most_lines (cond b (close 0 n ∷ []) []) ≤ 114 * length (cond b (close 0 n ∷ []) [])
+close_lines : (n : ℕ) (b : Bool) → most_lines (cond b (close 0 n ∷ []) []) ≤ (LINE_BYTES + CASE_BYTES) * length (cond b (close 0 n ∷ []) [])
 close_lines n true = omega arith
 close_lines n false = omega arith
 
-port_lines : (n : ℕ) (c : Channel) → most_lines (port_again n c) ≤ 114 * length (port_again n c)
+port_lines : (n : ℕ) (c : Channel) → most_lines (port_again n c) ≤ (LINE_BYTES + CASE_BYTES) * length (port_again n c)
 port_lines n c =
     let sends : List Entry = map (send_again n) (buffer_of c) in
     let closes : List Entry = cond c.closed (close 0 n ∷ []) [] in
     omega (arith, most_lines-append sends closes, length-append sends closes, sends_lines n (buffer_of c), close_lines n c.closed)
 
-ports_lines : (n : ℕ) (cs : List Channel) → most_lines (ports_again n cs) ≤ 114 * length (ports_again n cs)
+ports_lines : (n : ℕ) (cs : List Channel) → most_lines (ports_again n cs) ≤ (LINE_BYTES + CASE_BYTES) * length (ports_again n cs)
 ports_lines n [] = omega arith
 ports_lines n (c ∷ cs) =
     let one : List Entry = port_again n c in
     let more : List Entry = ports_again (n + 1) cs in
     omega (arith, most_lines-append one more, length-append one more, port_lines n c, ports_lines (n + 1) cs)
 
-exits_lines : (qs : List ℕ) → most_lines (map exit qs) ≤ 114 * length (map exit qs)
+exits_lines : (qs : List ℕ) → most_lines (map exit qs) ≤ (LINE_BYTES + CASE_BYTES) * length (map exit qs)
 exits_lines [] = omega arith
 exits_lines (q ∷ qs) = omega (arith, exits_lines qs)
 
-calls_lines : (ed : Edition) (calls : List OpenCall) → AllByRecursion (Fits ed) (map call_again calls) → most_lines (map call_again calls) ≤ 1209 * length calls
+calls_lines : (ed : Edition) (calls : List OpenCall) → AllByRecursion (Fits ed) (map call_again calls) →
+    most_lines (map call_again calls) ≤ MOST_LINE_BYTES * length calls
 calls_lines ed [] fits = omega arith
 calls_lines ed (c ∷ cs) fits = omega (arith, fits.0.step.few, calls_lines ed cs fits.1)
 

@@ -1,7 +1,8 @@
 -- A checkpoint that is written part by part.
 use Rattle.hub_laws.proofs.Prelude.{◌≡◌, Bool, true, false, List, [], ◌∷◌, ◌++◌, refl, ap, ◌∙◌, sym, Option, Some, None, ℕ, zero, suc, ◌+◌, ◌≤◌, ◌<◌}
 use Rattle.hub_laws.proofs.Prelude.{◌==◌, ◌-◌, cond, length, arith, map, take, filter, slice_get, option_map_or, add-one, append_assoc, append-nil, get_or}
-use Rattle.hub_laws.proofs.Prelude.{drop, subst, is_exit, one_step, steps_of, and_parts, has_gone, map-append, Entry, Port, Channel, State, OpenCall, channel_at, buffer_of}
+use Rattle.hub_laws.proofs.Prelude.{drop, subst, is_exit, one_step, steps_of, and_parts, has_gone, map-append, Entry}
+use Rattle.hub_laws.proofs.Prelude.{Port, Channel, State, OpenCall, channel_at, buffer_of}
 use Rattle.hub_laws.proofs.Prelude.{lt-ltb, Pid, Head, refusal, is_waiting, opening, state, MOST_PORTS}
 use Rattle.std.specs.List.{range_with_len, list_all}
 use Rattle.std.proofs.lemmas.List.{take_all}
@@ -98,7 +99,8 @@ parts_at [] i e h is = absurd (omega arith)
 parts_at (x ∷ es) zero e h is = ap (λ (y : Entry). y ∷ es) (sym is)
 parts_at (x ∷ es) (suc i) e h is = ap (λ ys. x ∷ ys) (parts_at es i e (omega arith) is)
 
-pub admitted_at : (h : Head) (es : List Entry) (i : ℕ) (e : Entry) → IsLegal h es → i < length es → e ≡ get_or es i e → refusal (state h (take i es)) e.pid ≡ None
+pub admitted_at : (h : Head) (es : List Entry) (i : ℕ) (e : Entry) → IsLegal h es → i < length es → e ≡ get_or es i e →
+    refusal (state h (take i es)) e.pid ≡ None
 admitted_at h es i e legal below is =
     (begins-law h (take i es) (drop (suc i) es)).next e (subst (IsLegal h) (parts_at es i e below is) legal)
 

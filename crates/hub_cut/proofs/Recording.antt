@@ -1,5 +1,6 @@
 -- What a recorder's chapters are after a step, and that the present one never meets the limit.
-use Rattle.hub_laws.proofs.Prelude.{◌≡◌, Bool, true, false, List, [], ◌∷◌, ◌++◌, refl, ap, ◌∙◌, sym, subst, Option, Some, None, ℕ, ◌+◌, ◌≤◌, ◌<◌, arith, length}
+use Rattle.hub_laws.proofs.Prelude.{◌≡◌, Bool, true, false, List, [], ◌∷◌, ◌++◌, refl, ap, ◌∙◌, sym, subst, Option}
+use Rattle.hub_laws.proofs.Prelude.{Some, None, ℕ, ◌+◌, ◌≤◌, ◌<◌, arith, length}
 use Rattle.hub_laws.proofs.Prelude.{append_assoc, append-nil, length-append, option_map, option_map_or, ◌-◌, ◌==◌, nat_lt, inr, inl, slice_get_past}
 use Rattle.hub_laws.proofs.Prelude.{Entry, Event, Fault, Head, Pid, Port, Channel, State, state, moves, refusal, steps_of, channel_at}
 use Rattle.std.specs.Prelude.{min, ◌^◌, slice_index, IfSome}
@@ -23,7 +24,7 @@ use Rattle.hub_chapters.proofs.Steps.{refusal-like}
 use Rattle.hub_chapters.proofs.Checkpoints.{checkpoint-law}
 use Rattle.hub_chapters.proofs.Chapters.{last-alike, chapters-law}
 use Rattle.hub_chapters.proofs.Counts.{carried-law}
-use Rattle.hub_cut.specs.declared.texts.TheConstants.{CHAPTER_BYTES}
+use Rattle.hub_cut.specs.declared.limits.TheConstants.{CHAPTER_BYTES}
 use Rattle.hub_cut.specs.ChapterText.{FitsText, most_line, most_lines}
 use Rattle.hub_cut.specs.Cut.{CutsAndSteps, Refused}
 use Rattle.hub_cut.specs.Totals.{in_64_bits, totals_of, totals_at, with_base}
@@ -225,7 +226,8 @@ sends o = option_map_or (λ c. length c.sent) o 0
 abbrev gets : Option Channel → ℕ
 gets o = option_map_or (λ c. c.received) o 0
 
-totals_by : (base x : ℕ) (o u : Option Channel) → option_map afresh o ≡ option_map afresh u → x ≡ in_64_bits base → sends u ≡ base + sends o → gets u ≡ base + gets o →
+totals_by : (base x : ℕ) (o u : Option Channel) → option_map afresh o ≡ option_map afresh u → x ≡ in_64_bits base →
+    sends u ≡ base + sends o → gets u ≡ base + gets o →
     option_map (with_base x) (option_map (λ c. record { cap = c.cap; counts = counts_of c }) o) ≡ option_map totals_of u
 totals_by base x None None a is s g = refl
 totals_by base x None (Some d) a is s g = absurd (let x : ⊥ = cc in x)

@@ -1,24 +1,15 @@
 -- How long a journal's text can be, by the number of its entries and of their cases.
 use Rattle.std.specs.Prelude.{◌≤◌, ◌+◌, ◌*◌, ℕ, List, [], ◌∷◌, length}
 use Rattle.hub_base.specs.declared.entry.Entry.{Entry}
-use Rattle.hub_base.specs.declared.entry.Step.{Step}
-use Rattle.hub_base.specs.declared.entry.Step.TheVariants.{Make, Call, Close, Exit, Cancel}
 use Rattle.hub_base.specs.declared.limits.TheConstants.{MOST_BYTES}
 use Rattle.hub_base.specs.Reading.{text}
 use Rattle.hub_core.specs.HubView.{HubView}
-use Rattle.hub_cut.specs.declared.texts.TheConstants.{LINE_BYTES, CASE_BYTES}
-
--- how many cases a step has, none where it is no call
-abbrev pub case_count : Step → ℕ
-case_count (Make cap) = 0
-case_count (Call cases default word) = length cases.items
-case_count (Close p) = 0
-case_count Exit = 0
-case_count (Cancel q) = 0
+use Rattle.hub_core.specs.LogView.{cases_of}
+use Rattle.hub_cut.specs.declared.limits.TheConstants.{LINE_BYTES, CASE_BYTES}
 
 -- so many bytes the line of an entry has at most
 abbrev pub most_line : Entry → ℕ
-most_line e = LINE_BYTES + CASE_BYTES * case_count e.step
+most_line e = LINE_BYTES + CASE_BYTES * length (cases_of e)
 
 -- and so many the lines of these
 abbrev pub most_lines : List Entry → ℕ

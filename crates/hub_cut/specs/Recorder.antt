@@ -1,5 +1,6 @@
 -- What contracts see of a recorder, which chapters it stands for, and what a step of it does.
-use Rattle.std.specs.Prelude.{◌≡◌, ◌≤◌, ◌⊎◌, ℕ, Bool, true, false, ◌||◌, nat_le, IfSome, List, [], ◌∷◌, ◌++◌, length, Option, None, Some, slice_index, if◌then◌else◌}
+use Rattle.std.specs.Prelude.{◌≡◌, ◌≤◌, ◌⊎◌, ℕ, Bool, true, false, ◌||◌, nat_le, IfSome, List, [], ◌∷◌, ◌++◌, length}
+use Rattle.std.specs.Prelude.{Option, None, Some, slice_index, if◌then◌else◌}
 use Rattle.std.specs.Option.{option_map}
 use Rattle.hub_base.specs.declared.entry.Entry.{Entry}
 use Rattle.hub_base.specs.declared.event.Event.{Event}
@@ -14,8 +15,7 @@ use Rattle.hub_core.specs.HubView.{HubView, ShortInMemory, Grows}
 use Rattle.hub_chapters.specs.Chapters.{Chapters, last_chapter, history, AreLegal}
 use Rattle.hub_chapters.specs.Chapters.Chapters.{First, Cut}
 use Rattle.hub_chapters.specs.Carried.{base_count}
-use Rattle.hub_cut.specs.declared.recorder.TheConstants.{MOST_KEEP}
-use Rattle.hub_cut.specs.declared.texts.TheConstants.{CHAPTER_BYTES}
+use Rattle.hub_cut.specs.declared.limits.TheConstants.{CHAPTER_BYTES, MOST_KEEP}
 use Rattle.hub_cut.specs.ChapterText.{FitsText, most_lines}
 use Rattle.hub_cut.specs.Cut.{Refused}
 use Rattle.hub_cut.specs.Totals.{in_64_bits}

@@ -6,7 +6,7 @@ use Rattle.hub_base.specs.declared.limits.TheConstants.{MOST_STEPS}
 use Rattle.hub_base.specs.Head.{IsHead}
 use Rattle.hub_base.specs.Lines.{line}
 use Rattle.hub_cut.specs.declared.recorder.Recorder.TheInside.{Inside}
-use Rattle.hub_cut.specs.declared.texts.TheConstants.{CHECKPOINT_BYTES, CHAPTER_BYTES, MOST_LINE_BYTES}
+use Rattle.hub_cut.specs.declared.limits.TheConstants.{CHECKPOINT_BYTES, CHAPTER_BYTES, MOST_LINE_BYTES}
 use Rattle.hub_cut.specs.ChapterText.{FitsText}
 use Rattle.hub_cut.specs.Recorder.{RecorderView, IsKeep, IsRecorder, hub_in}
 

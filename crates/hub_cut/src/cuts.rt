@@ -15,13 +15,14 @@ ghost use Rattle.hub_cut.specs.ChapterText.{most_line};
 ghost use Rattle.hub_cut.specs.Cut.{CutsAndSteps, IsCut, Refused, hub_with, renewed_hub};
 
 use crate::checkpoint_of;
-use crate::texts::{CHECKPOINT_BYTES, all_fit};
+use crate::limits::CHECKPOINT_BYTES;
+use crate::texts::all_fit;
 use hub_base::{Entry, Events, Fault, Journal, NoMemory};
 use hub_core::{Hub, OpenFault, ShortHub, Terms};
 use std::alloc::Global;
 use std::mem;
 
-/// A hub that was opened so. Only an allocation that fails makes it refuse.
+/// Opens a hub with these terms. It is refused only if an allocation fails.
 fn opened(alloc: Global, terms: Terms) -> Result<ShortHub, NoMemory>
     requires head { IsHead terms.head }
     requires limit { IsLimit terms.limit }
@@ -34,8 +35,7 @@ fn opened(alloc: Global, terms: Terms) -> Result<ShortHub, NoMemory>
     }
 }
 
-/// Makes a step of a process that is admitted, where the journal has room. Only an allocation that fails makes it
-/// refuse.
+/// Makes a step of a process that is admitted, in a journal that has room. It is refused only if an allocation fails.
 fn make_step(hub: &mut ShortHub, entry: Entry, events: &mut Events) -> Result<(), NoMemory>
     requires fits { is_of hub.old.memory.hub.terms.head.edition entry.step ≡ true }
     requires room { HasRoom hub.old.memory.hub entry }
@@ -52,7 +52,7 @@ fn make_step(hub: &mut ShortHub, entry: Entry, events: &mut Events) -> Result<()
     }
 }
 
-/// A hub that was opened so and has made these steps. Only an allocation that fails makes it refuse.
+/// Opens a hub with these terms and makes these steps. It is refused only if an allocation fails.
 fn hub_of(alloc: Global, terms: Terms, entries: &[Entry]) -> Result<ShortHub, NoMemory>
     requires head { IsHead terms.head }
     requires limit { IsLimit terms.limit }
@@ -69,8 +69,8 @@ fn hub_of(alloc: Global, terms: Terms, entries: &[Entry]) -> Result<ShortHub, No
     Ok(hub)
 }
 
-/// A hub of the same terms and as many reserved steps, whose journal is the checkpoint. Only an allocation that fails makes
-/// it refuse.
+/// A hub with the same terms and as many reserved steps, whose journal is the checkpoint. It is refused only if an
+/// allocation fails.
 fn renewed(alloc: Global, hub: &ShortHub) -> Result<ShortHub, NoMemory>
     ensures hub { IfOk result (λ h. h.memory.hub ≡ renewed_hub hub.now.memory.hub) }
     ensures lines { OnOk result (
@@ -88,8 +88,8 @@ fn renewed(alloc: Global, hub: &ShortHub) -> Result<ShortHub, NoMemory>
 
 /// Gives the hub as it was, with its whole journal, and leaves one in its place that goes on from the checkpoint, with
 /// the same limit and as many reserved steps: whatever follows is answered as if nothing had been cut. Nothing is
-/// written out, so the journal's length costs nothing. Only an allocation that fails makes it refuse, and then nothing
-/// has changed.
+/// written out, so the journal's length costs nothing. It is refused only if an allocation fails, and then nothing has
+/// changed.
 pub fn cut(alloc: Global, hub: &mut ShortHub) -> Result<ShortHub, NoMemory>
     ensures whole { IfOk result (λ h. h ≡ hub.old) }
     ensures goes_on { OnOk result (IsCut hub.old.memory.hub hub.new.memory.hub) }
@@ -109,8 +109,7 @@ pub fn cut_journal(alloc: Global, hub: &mut ShortHub) -> Result<Journal, NoMemor
     Ok(whole.into_journal())
 }
 
-/// The hub that a cut leaves, once it has made a step of a process that is admitted. Only an allocation that fails makes
-/// it refuse.
+/// The hub that a cut leaves, after a step of a process that is admitted. It is refused only if an allocation fails.
 fn renewed_after(
     alloc: Global,
     hub: &ShortHub,
@@ -129,8 +128,8 @@ fn renewed_after(
     Ok(next)
 }
 
-/// Makes a step behind a cut, and gives the hub as it was before. Only an allocation that fails makes it refuse a step
-/// of a process that is admitted. After a refusal nothing has changed.
+/// Cuts the hub, makes a step behind the checkpoint, and returns the hub as it was before. If the process is admitted, the
+/// step is refused only if an allocation fails. After a refusal nothing has changed.
 pub(crate) fn cut_and_step(
     alloc: Global,
     hub: &mut ShortHub,

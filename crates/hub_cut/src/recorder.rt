@@ -1,8 +1,9 @@
-//! A recorder: a hub that cuts itself, and so never ends.
+//! A recorder is a hub that cuts itself, so it never ends.
 //!
-//! Its present chapter has at most `keep` entries behind its checkpoint, and the chapter before has `keep` of them. So the
-//! last `keep` entries always stand in these two, each of which is a journal of its own. Older chapters are handed
-//! out. The limit of a hub is never met, since a checkpoint and `keep` entries stay below it.
+//! The present chapter is cut once it has `keep` entries behind its checkpoint, or once its text might soon be longer than
+//! a reader takes. So the last `keep` entries, or as many as two texts hold, always stand in the present chapter and in
+//! the one before it. Each of these is a journal of its own. Older chapters are handed out. A checkpoint and `keep` entries
+//! stay below the limit of a hub, so no step is refused because the journal is full.
 
 ghost use Rattle.std.specs.Prelude.{◌≡◌, ◌≤◌, ◌<◌, ◌+◌, [], IfOk, IfErr, OnOk, OnErr, None, true, false};
 ghost use Rattle.std.specs.Option.{option_map};
@@ -17,15 +18,13 @@ ghost use Rattle.hub_cut.specs.Totals.{totals_at};
 
 use crate::Totals;
 use crate::cuts::cut_and_step;
-use crate::texts::{CHAPTER_BYTES, most_line};
+use crate::limits::CHAPTER_BYTES;
+use crate::texts::most_line;
 use crate::totals::{PORT_PLACES, add_received, base_of, no_bases, with_base};
 use hub_base::{Edition, Entry, Events, Fault, MOST_STEPS, Port};
 use hub_core::{Hub, OpenFault, ShortHub};
 use std::alloc::Global;
 use std::marker::Model;
-
-/// The most entries that a chapter may have behind its checkpoint.
-pub const MOST_KEEP: u32 = 900_000;
 
 /// A hub that cuts itself, keeps its last two chapters, and hands out the older ones.
 #[derive(Drop)]
@@ -59,10 +58,10 @@ impl Model for Recorder {
 }
 
 impl Recorder {
-    /// A recorder of this edition, of 1 to `MOST_PROCS` processes. A chapter is cut once it has `keep` entries behind its
+    /// A recorder of this edition, with 1 to `MOST_PROCS` processes. A chapter is cut once it has `keep` entries behind its
     /// checkpoint.
     ///
-    /// Err, tested in this order, with nothing kept: `BadProcs`, `NoMemory`.
+    /// The errors are `BadProcs` and `NoMemory`, tested in this order.
     pub fn open(
         alloc: Global,
         procs: u8,
@@ -87,11 +86,12 @@ impl Recorder {
         })
     }
 
-    /// Makes a step that the hub's edition has, and leaves its events in place of those that were there; after a
-    /// refusal these may be any. Where the present chapter is full it is cut first, and the chapter before it is
-    /// handed out, if there is one: each chapter once, in order.
+    /// Makes a step that the hub's edition has. Its events replace those that were there; after a refusal they may be any.
+    /// If the present chapter is full, it is cut first, and the chapter before it is handed out, if there is one. So each
+    /// chapter is handed out once, in order.
     ///
-    /// Refused by `NoProcess`, `Gone`, `Busy` and `NoMemory` alone, tested in this order; nothing has then changed.
+    /// The only refusals are `NoProcess`, `Gone`, `Busy` and `NoMemory`, tested in this order. After a refusal nothing has
+    /// changed.
     pub fn step_into(
         &mut self,
         entry: Entry,
@@ -110,7 +110,7 @@ impl Recorder {
         Ok(None)
     }
 
-    /// Whether the present chapter is to be cut before the next step.
+    /// Whether the present chapter is cut before the next step.
     fn is_full(&self) -> bool
         ensures { result ≡ is_full self.now }
     {
@@ -132,7 +132,7 @@ impl Recorder {
         Ok(())
     }
 
-    /// Cuts the present chapter, which is full, and makes a step behind its checkpoint. Gives the chapter before it.
+    /// Cuts the present chapter, which is full, and makes a step behind its checkpoint. Returns the chapter before it.
     fn begin_chapter(
         &mut self,
         entry: Entry,
@@ -153,7 +153,8 @@ impl Recorder {
         Ok(self.before.replace(whole))
     }
 
-    /// What a port holds, and has carried since the hub was opened. `None` for port 0 and for a port that was not made.
+    /// What a port holds, and what it has carried since the recorder was opened. `None` for port 0 and for a port that was
+    /// not made.
     pub fn look(&self, port: Port) -> Option<Totals>
         ensures { (chapters : Chapters) → Records chapters self.now
             → result ≡ totals_at (state (head_of_all self.now) (history chapters)) port }

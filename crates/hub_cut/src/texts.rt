@@ -5,38 +5,25 @@ ghost use Rattle.std.specs.List.{AllByRecursion};
 ghost use Rattle.hub_base.specs.Head.{AreOf, is_of};
 ghost use Rattle.hub_base.specs.Lines.{line};
 ghost use Rattle.hub_base.specs.Text.{Fits};
-ghost use Rattle.hub_cut.specs.ChapterText.{case_count, most_line};
+ghost use Rattle.hub_base.specs.declared.limits.TheConstants.{CASE_PLACES};
+ghost use Rattle.hub_core.specs.LogView.{cases_of_step};
+ghost use Rattle.hub_cut.specs.ChapterText.{most_line};
 
+use crate::limits::{CASE_BYTES, LINE_BYTES, MOST_LINE_BYTES};
 use hub_base::{Edition, Entry, Step};
-
-/// The most bytes of an entry's line, its cases left out.
-pub(crate) const LINE_BYTES: u32 = 41;
-
-/// The most bytes of a case.
-pub(crate) const CASE_BYTES: u32 = 73;
-
-/// The most bytes of an entry's line.
-pub(crate) const MOST_LINE_BYTES: u32 = 1_209;
-
-/// The most bytes of the lines of a checkpoint, rounded up.
-pub(crate) const CHECKPOINT_BYTES: u32 = 7_600_000;
-
-/// With so many bytes behind its checkpoint a chapter is full. A line more, a checkpoint and the head lines then stay
-/// below `MOST_BYTES`.
-pub(crate) const CHAPTER_BYTES: u32 = 59_500_000;
 
 /// How many cases a step has, none where it is no call.
 fn case_count(step: &Step) -> u32
-    ensures count { result ≡ case_count step.now }
-    ensures few { result ≤ 16 }
+    ensures count { result ≡ length (cases_of_step step.now) }
+    ensures few { result ≤ CASE_PLACES }
 {
     match step {
         Step::Call { cases, .. } => cases.len() as u32,
-        Step::Make(_) | Step::Close(_) | Step::Exit | Step::Cancel(_) => 0,
+        _ => 0,
     }
 }
 
-/// How many bytes the entry's line has at most.
+/// The most bytes that the entry's line can have.
 pub(crate) fn most_line(edition: Edition, entry: &Entry) -> u32
     requires fits { is_of edition entry.now.step ≡ true }
     ensures most { result ≡ most_line entry.now }
@@ -47,7 +34,7 @@ pub(crate) fn most_line(edition: Edition, entry: &Entry) -> u32
     LINE_BYTES + CASE_BYTES * case_count(&entry.step)
 }
 
-/// That each of these entries can be spelled.
+/// Shows that a text can have a line of each of these entries. It changes nothing.
 pub(crate) fn all_fit(edition: Edition, entries: &[Entry])
     requires { AreOf edition entries.now }
     ensures { AllByRecursion (Fits edition) entries.now }

@@ -1,4 +1,4 @@
-//! What ports have carried since a hub was opened, by counts of 64 bits that go on at a cut.
+//! What a port has carried since its recorder was opened, in counts of 64 bits that a cut does not begin again.
 
 ghost use Rattle.std.specs.Prelude.{◌≡◌, ◌≤◌, ◌<◌, ◌+◌, ◌^◌, ℕ, length, slice_index};
 ghost use Rattle.hub_base.specs.Notation.{port};
@@ -12,16 +12,16 @@ use hub_core::ShortHub;
 /// A place for each number of a port, from 0 on.
 pub(crate) const PORT_PLACES: usize = MOST_PORTS + 1;
 
-/// What a port holds, and has carried since the hub was opened.
+/// What a port holds, and what it has carried since its recorder was opened.
 #[derive(Clone, Copy, Debug, Default, PartialEq, Eq)]
 pub struct Totals {
     /// The capacity, 0 to `MOST_CAP`.
     pub cap: u32,
     /// How many values were sent and not yet received.
     pub len: u32,
-    /// How many sends completed. It stays at the greatest number once it is there.
+    /// How many sends completed, or the greatest number if there were more.
     pub sent: u64,
-    /// How many values were received. It stays at the greatest number once it is there.
+    /// How many values were received, or the greatest number if there were more.
     pub received: u64,
     /// Whether the port is closed.
     pub closed: bool,
@@ -40,7 +40,7 @@ pub(crate) fn with_base(base: u64, look: Look) -> Totals
     }
 }
 
-/// Counts of nothing.
+/// The counts before anything was received.
 pub(crate) fn no_bases() -> [u64; PORT_PLACES]
     ensures { (n : ℕ) → slice_index result n ≡ 0 }
 {

@@ -148,8 +148,8 @@ pub(crate) fn cut_and_step(
     if let Some(fault) = hub.refusal(entry.pid) {
         return Err(fault);
     }
-    let Ok(next) = renewed_after(alloc, hub, entry, events) else {
-        return Err(Fault::NoMemory);
-    };
-    Ok(mem::replace(hub, next))
+    match renewed_after(alloc, hub, entry, events) {
+        Ok(next) => Ok(mem::replace(hub, next)),
+        Err(NoMemory) => Err(Fault::NoMemory),
+    }
 }

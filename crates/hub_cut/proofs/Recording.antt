@@ -28,7 +28,7 @@ use Rattle.hub_cut.specs.declared.limits.TheConstants.{CHAPTER_BYTES}
 use Rattle.hub_cut.specs.ChapterText.{FitsText, most_line, most_lines}
 use Rattle.hub_cut.specs.Cut.{CutsAndSteps, Refused}
 use Rattle.hub_cut.specs.Totals.{in_64_bits, totals_of, totals_at, with_base}
-use Rattle.hub_cut.specs.Recorder.{RecorderView, Records, RecordsStep, RefusesStep, head_of_all, is_full, since_cut, with_next, IsKeep, is_full_at}
+use Rattle.hub_cut.specs.Recorder.{IsRecorder, IsShort, RecorderView, Records, RecordsStep, RefusesStep, head_of_all, is_full, since_cut, with_next, IsKeep, is_full_at}
 use Rattle.hub_cut.proofs.ChapterTexts.{most_lines-append}
 use Rattle.hub_cut.proofs.Parts.{steps-append}
 
@@ -40,6 +40,16 @@ chapter_few h (First es) = omega (arith, steps-length es)
 chapter_few h (Cut chapters later) =
     let checkpoint : List Entry = checkpoint (state h (last_chapter h chapters)) in
     omega (arith, steps-append checkpoint later, (checkpoint-law h (last_chapter h chapters)).few_steps, steps-length later)
+
+-- nor more entries
+chapter_short : (h : Head) (chapters : Chapters) → length (last_chapter h chapters) ≤ most_steps h + h.procs + length (since_cut chapters)
+chapter_short h (First es) = omega arith
+chapter_short h (Cut chapters later) =
+    let checkpoint : List Entry = checkpoint (state h (last_chapter h chapters)) in
+    omega (arith, length-append checkpoint later, (checkpoint-law h (last_chapter h chapters)).short)
+
+pub recorder_short : (r : RecorderView) → IsRecorder r → IsShort r
+recorder_short r (chapters, so) = omega (arith, ap length so.present, chapter_short (head_of_all r) chapters, so.fresh, so.few)
 
 -- a process is refused in both for the same
 pub refused_alike : (h : Head) (chapters : Chapters) (journal : List Entry) (pid : Pid) → journal ≡ last_chapter h chapters →

@@ -1,5 +1,5 @@
 -- What contracts see of a recorder, which chapters it stands for, and what a step of it does.
-use Rattle.std.specs.Prelude.{◌≡◌, ◌≤◌, ◌⊎◌, ℕ, Bool, true, false, ◌||◌, nat_le, IfSome, List, [], ◌∷◌, ◌++◌, length}
+use Rattle.std.specs.Prelude.{◌≡◌, ◌≤◌, ◌+◌, ◌⊎◌, ℕ, Bool, true, false, ◌||◌, nat_le, IfSome, List, [], ◌∷◌, ◌++◌, length}
 use Rattle.std.specs.Prelude.{Option, None, Some, slice_index, if◌then◌else◌}
 use Rattle.std.specs.Option.{option_map}
 use Rattle.hub_base.specs.declared.entry.Entry.{Entry}
@@ -15,6 +15,7 @@ use Rattle.hub_core.specs.HubView.{HubView, ShortInMemory, Grows}
 use Rattle.hub_chapters.specs.Chapters.{Chapters, last_chapter, history, AreLegal}
 use Rattle.hub_chapters.specs.Chapters.Chapters.{First, Cut}
 use Rattle.hub_chapters.specs.Carried.{base_count}
+use Rattle.hub_chapters.specs.Checkpoint.{most_steps}
 use Rattle.hub_cut.specs.declared.limits.TheConstants.{CHAPTER_BYTES, MOST_KEEP}
 use Rattle.hub_cut.specs.ChapterText.{FitsText, most_lines}
 use Rattle.hub_cut.specs.Cut.{Refused}
@@ -87,6 +88,10 @@ pub record Records (chapters : Chapters) (r : RecorderView) : Type 0 where
 -- it stands at the end of some
 abbrev pub IsRecorder : RecorderView → Type 0
 IsRecorder r = (chapters : Chapters) × Records chapters r
+
+-- the present chapter has no more entries than a checkpoint can have, and `keep`
+abbrev pub IsShort : RecorderView → Type 0
+IsShort r = length r.hub.journal ≤ most_steps (head_of_all r) + (head_of_all r).procs + r.keep
 
 -- a reader takes the texts of both
 abbrev pub FitTexts : RecorderView → Type 0

@@ -13,7 +13,7 @@ ghost use Rattle.hub_base.specs.declared.limits.TheConstants.{MOST_STEPS};
 ghost use Rattle.hub_core.specs.HubView.{RefusesOpening, terms_of};
 ghost use Rattle.hub_chapters.specs.Chapters.{Chapters, history};
 ghost use Rattle.hub_chapters.specs.Chapters.Chapters.{First};
-ghost use Rattle.hub_cut.specs.Recorder.{FitTexts, IsKeep, IsRecorder, Records, RecordsStep, RefusesStep, head_of_all, hub_in, is_full};
+ghost use Rattle.hub_cut.specs.Recorder.{FitTexts, IsKeep, IsRecorder, IsShort, Records, RecordsStep, RefusesStep, head_of_all, hub_in, is_full};
 ghost use Rattle.hub_cut.specs.Totals.{totals_at};
 
 use crate::Totals;
@@ -167,6 +167,7 @@ impl Recorder {
     pub fn present(&self) -> &ShortHub
         ensures hub { result.now.memory.hub ≡ self.now.hub }
         ensures recorder { IsRecorder self.now }
+        ensures short { IsShort self.now }
         ensures texts { FitTexts self.now }
     {
         &self.hub

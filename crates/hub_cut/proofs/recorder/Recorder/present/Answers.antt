@@ -1,5 +1,6 @@
 use Rattle.hub_cut.specs.RecorderKeeps.{shown}
 use Rattle.hub_cut.proofs.ChapterTexts.{text_fits}
+use Rattle.hub_cut.proofs.Recording.{recorder_short}
 use Rattle.hub_cut.proofs.recorder.Recorder.present.Goals as goal
 
 pub returns-clause-texts : goal.returns-clause-texts
@@ -7,3 +8,6 @@ returns-clause-texts c =
     let r = shown c.self.inside in
     rw (← c.self.view_is)
     (text_fits r.hub r.bytes c.self.invariant.head c.self.invariant.lines c.self.invariant.bytes, c.self.invariant.text_before)
+
+pub returns-clause-short : goal.returns-clause-short
+returns-clause-short c = rw (← c.self.view_is) (recorder_short (shown c.self.inside) c.self.invariant.recorder)

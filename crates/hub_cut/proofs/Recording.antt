@@ -3,7 +3,7 @@ use Rattle.hub_laws.proofs.Prelude.{◌≡◌, Bool, true, false, List, [], ◌�
 use Rattle.hub_laws.proofs.Prelude.{Some, None, ℕ, ◌+◌, ◌≤◌, ◌<◌, arith, length}
 use Rattle.hub_laws.proofs.Prelude.{append_assoc, append-nil, length-append, option_map, option_map_or, ◌-◌, ◌==◌, nat_lt, inr, inl, slice_get_past}
 use Rattle.hub_laws.proofs.Prelude.{Entry, Event, Fault, Head, Pid, Port, Channel, State, state, moves, refusal, steps_of, channel_at}
-use Rattle.std.specs.Prelude.{min, ◌^◌, slice_index, IfSome}
+use Rattle.std.specs.Prelude.{min, ◌^◌, slice_index}
 use Rattle.hub_base.specs.declared.fault.Fault.TheVariants as fault
 use Rattle.hub_base.specs.declared.limits.TheConstants.{MOST_STEPS, MOST_PORTS}
 use Rattle.hub_base.specs.Journal.{JournalView}
@@ -25,7 +25,7 @@ use Rattle.hub_chapters.proofs.Checkpoints.{checkpoint-law}
 use Rattle.hub_chapters.proofs.Chapters.{last-alike, chapters-law}
 use Rattle.hub_chapters.proofs.Counts.{carried-law}
 use Rattle.hub_cut.specs.declared.limits.TheConstants.{CHAPTER_BYTES}
-use Rattle.hub_cut.specs.ChapterText.{FitsText, most_line, most_lines}
+use Rattle.hub_cut.specs.ChapterText.{most_line, most_lines}
 use Rattle.hub_cut.specs.Cut.{CutsAndSteps, Refused}
 use Rattle.hub_cut.specs.Totals.{in_64_bits, totals_of, totals_at, with_base}
 use Rattle.hub_cut.specs.Recorder.{IsRecorder, IsShort, RecorderView, Records, RecordsStep, RefusesStep, head_of_all, is_full, since_cut, with_next, IsKeep, is_full_at}
@@ -127,7 +127,7 @@ records_next (Cut chapters later) r e so admitted room =
     }
 
 pub goes_next : (r : RecorderView) (e : Entry) (told : List Event) (new : HubView) → is_full r ≡ false → Steps r.hub e new told →
-    RecordsStep r e (record { hub = new; before = r.before; keep = r.keep; fresh = r.fresh + 1; bytes = r.bytes + most_line e; bases = r.bases }) told None
+    RecordsStep r e (record { hub = new; before = r.before; keep = r.keep; fresh = r.fresh + 1; bytes = r.bytes + most_line e; bases = r.bases }) told
 goes_next r e told new full s =
     let h : Head = head_of_all r in
     record {
@@ -137,8 +137,6 @@ goes_next r e told new full s =
         history = history_next (is_full r) chapters e;
         records = rw (full, s.journal) (records_next chapters r e so s.admitted (below_keep r.keep r.fresh r.bytes full).0);
       };
-      handed_out = rw full refl;
-      text = tt;
       terms = ap (λ (x : HubView). x.terms) s.journal;
       keep = refl;
     }
@@ -174,10 +172,10 @@ records_cut chapters r e new told bases so full some s added =
     })
 
 pub goes_cut : (r : RecorderView) (e : Entry) (new : HubView) (told : List Event) (bases : List ℕ) → is_full r ≡ true → 1 ≤ r.keep →
-    IfSome r.before FitsText → CutsAndSteps r.hub e new told →
+    CutsAndSteps r.hub e new told →
     ((p : Port) → p.0 ≤ MOST_PORTS → slice_index bases p.0 ≡ in_64_bits (slice_index r.bases p.0 + received_count (state_of r.hub) p)) →
-    RecordsStep r e (record { hub = new; before = Some r.hub; keep = r.keep; fresh = 1; bytes = most_line e; bases = bases }) told r.before
-goes_cut r e new told bases full some text s added =
+    RecordsStep r e (record { hub = new; before = Some r.hub; keep = r.keep; fresh = 1; bytes = most_line e; bases = bases }) told
+goes_cut r e new told bases full some s added =
     let h : Head = head_of_all r in
     record {
       goes_on = λ chapters so. record {
@@ -186,8 +184,6 @@ goes_cut r e new told bases full some text s added =
         history = history_next (is_full r) chapters e;
         records = rw full (records_cut chapters r e new told bases so full some s added);
       };
-      handed_out = rw full refl;
-      text = text;
       terms = s.terms;
       keep = refl;
     }

@@ -116,14 +116,15 @@ pub record GoesOn (old : RecorderView) (chapters : Chapters) (e : Entry) (new : 
   pub history : history (with_next (is_full old) chapters e) ≡ history chapters ++ e ∷ []
   pub records : Records (with_next (is_full old) chapters e) new
 
--- what a step that was made leaves, tells and hands out
-pub record RecordsStep (old : RecorderView) (e : Entry) (new : RecorderView) (told : List Event) (chapter : Option HubView) : Type 0 where
+-- what a step that was made leaves and tells
+pub record RecordsStep (old : RecorderView) (e : Entry) (new : RecorderView) (told : List Event) : Type 0 where
   pub goes_on : (chapters : Chapters) → Records chapters old → GoesOn old chapters e new told
-  -- at a cut, the chapter before the one that ends
-  pub handed_out : chapter ≡ (if is_full old then old.before else None)
-  pub text : IfSome chapter FitsText
   pub terms : new.hub.terms ≡ old.hub.terms
   pub keep : new.keep ≡ old.keep
+
+-- a cut hands out the chapter before the one that ends
+abbrev pub chapter_out : RecorderView → Option HubView
+chapter_out r = if is_full r then r.before else None
 
 -- memory is asked for: by a cut, or because the journal may have to grow
 abbrev pub WantsMemory : RecorderView → Entry → Type 0

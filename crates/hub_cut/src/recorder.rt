@@ -5,7 +5,7 @@
 //! the one before it. Each of these is a journal of its own. Older chapters are handed out. A checkpoint and `keep` entries
 //! stay below the limit of a hub, so no step is refused because the journal is full.
 
-ghost use Rattle.std.specs.Prelude.{◌≡◌, ◌≤◌, ◌<◌, ◌+◌, [], IfOk, IfErr, OnOk, OnErr, None, true, false};
+ghost use Rattle.std.specs.Prelude.{◌≡◌, ◌≤◌, ◌<◌, ◌+◌, [], IfOk, IfErr, IfSome, OnOk, OnErr, None, true, false};
 ghost use Rattle.std.specs.Option.{option_map};
 ghost use Rattle.hub_base.specs.Head.{IsHead, head_of, is_of};
 ghost use Rattle.hub_base.specs.Runs.{state};
@@ -13,7 +13,8 @@ ghost use Rattle.hub_base.specs.declared.limits.TheConstants.{MOST_STEPS};
 ghost use Rattle.hub_core.specs.HubView.{RefusesOpening, terms_of};
 ghost use Rattle.hub_chapters.specs.Chapters.{Chapters, history};
 ghost use Rattle.hub_chapters.specs.Chapters.Chapters.{First};
-ghost use Rattle.hub_cut.specs.Recorder.{FitTexts, IsKeep, IsRecorder, IsShort, Records, RecordsStep, RefusesStep, head_of_all, hub_in, is_full};
+ghost use Rattle.hub_cut.specs.ChapterText.{FitsText};
+ghost use Rattle.hub_cut.specs.Recorder.{FitTexts, IsKeep, IsRecorder, IsShort, Records, RecordsStep, RefusesStep, chapter_out, head_of_all, hub_in, is_full};
 ghost use Rattle.hub_cut.specs.Totals.{totals_at};
 
 use crate::Totals;
@@ -98,8 +99,9 @@ impl Recorder {
         events: &mut Events,
     ) -> Result<Option<ShortHub>, Fault>
         requires fits { is_of (head_of_all self.old).edition entry.step ≡ true }
-        ensures ok { IfOk result (λ chapter.
-            RecordsStep self.old entry self.new events.new.items (option_map hub_in chapter)) }
+        ensures ok { OnOk result (RecordsStep self.old entry self.new events.new.items) }
+        ensures handed_out { IfOk result (λ chapter. option_map hub_in chapter ≡ chapter_out self.old) }
+        ensures text { IfOk result (λ chapter. IfSome (option_map hub_in chapter) FitsText) }
         ensures refused { IfErr result (λ f. RefusesStep self.old entry f) }
         ensures unchanged { OnErr result (self.new ≡ self.old) }
     {
@@ -121,7 +123,7 @@ impl Recorder {
     fn go_on(&mut self, entry: Entry, events: &mut Events) -> Result<(), Fault>
         requires fits { is_of (head_of_all self.old).edition entry.step ≡ true }
         requires room { is_full self.old ≡ false }
-        ensures ok { OnOk result (RecordsStep self.old entry self.new events.new.items None) }
+        ensures ok { OnOk result (RecordsStep self.old entry self.new events.new.items) }
         ensures refused { IfErr result (λ f. RefusesStep self.old entry f) }
         ensures unchanged { OnErr result (self.new ≡ self.old) }
     {
@@ -140,8 +142,9 @@ impl Recorder {
     ) -> Result<Option<ShortHub>, Fault>
         requires fits { is_of (head_of_all self.old).edition entry.step ≡ true }
         requires full { is_full self.old ≡ true }
-        ensures ok { IfOk result (λ chapter.
-            RecordsStep self.old entry self.new events.new.items (option_map hub_in chapter)) }
+        ensures ok { OnOk result (RecordsStep self.old entry self.new events.new.items) }
+        ensures handed_out { IfOk result (λ chapter. option_map hub_in chapter ≡ chapter_out self.old) }
+        ensures text { IfOk result (λ chapter. IfSome (option_map hub_in chapter) FitsText) }
         ensures refused { IfErr result (λ f. RefusesStep self.old entry f) }
         ensures unchanged { OnErr result (self.new ≡ self.old) }
     {

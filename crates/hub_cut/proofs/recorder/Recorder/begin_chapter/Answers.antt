@@ -51,9 +51,19 @@ returns-clause-ok c =
     let whole = c.in_ok-whole.ensures.whole in
     let kept : option_map hub_in c.replace.new.self ≡ Some old.hub =
     ap (option_map hub_in) c.replace.ensures.after ∙ ap (λ (h : ShortInMemory). Some (hub_in h)) whole in
-    let out : option_map hub_in c.replace.result ≡ old.before = ap (option_map hub_in) c.replace.ensures.value in
-    rw (← c.self.view_is, kept, out, c.most_line-bytes.ensures.most)
+    rw (← c.self.view_is, kept, c.most_line-bytes.ensures.most)
     (goes_cut old c.args.entry c.cut_and_step.new.hub.memory.hub c.cut_and_step.new.events.items
-    c.add_received.new.bases full c.self.invariant.keep.0 c.self.invariant.text_before steps
+    c.add_received.new.bases full c.self.invariant.keep.0 steps
     (λ p few. c.add_received.ensures p.0 (omega (arith, c.self.told, few))
     ∙ ap (λ (h : ShortInMemory). in_64_bits (slice_index old.bases p.0 + received_count (state_of h.memory.hub) p)) whole))
+
+pub returns-clause-handed_out : goal.returns-clause-handed_out
+returns-clause-handed_out c =
+    let old = shown c.self.inside in
+    let full : is_full old ≡ true = subst (λ (r : RecorderView). is_full r ≡ true) (sym c.self.view_is) c.requires.full in
+    rw (← c.self.view_is, full) (ap (option_map hub_in) c.replace.ensures.value)
+
+pub returns-clause-text : goal.returns-clause-text
+returns-clause-text c =
+    let out = ap (option_map hub_in) c.replace.ensures.value in
+    rw out c.self.invariant.text_before

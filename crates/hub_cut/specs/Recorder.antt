@@ -123,7 +123,7 @@ pub record RecordsStep (old : RecorderView) (e : Entry) (new : RecorderView) (to
   pub keep : new.keep ≡ old.keep
 
 -- a cut hands out the chapter before the one that ends
-abbrev pub chapter_out : RecorderView → Option HubView
+unfoldable pub chapter_out : RecorderView → Option HubView
 chapter_out r = if is_full r then r.before else None
 
 -- memory is asked for: by a cut, or because the journal may have to grow

@@ -5,7 +5,7 @@ use Rattle.hub_chapters.specs.Carried.{received_count}
 use Rattle.hub_chapters.specs.Chapters.Chapters.{Cut}
 use Rattle.hub_cut.specs.Totals.{in_64_bits}
 use Rattle.std.specs.Option.{option_map}
-use Rattle.hub_cut.specs.Recorder.{RecorderView, hub_in, is_full}
+use Rattle.hub_cut.specs.Recorder.{RecorderView, chapter_out, hub_in, is_full}
 use Rattle.hub_cut.specs.RecorderKeeps.{shown}
 use Rattle.hub_cut.proofs.ChapterTexts.{text_fits}
 use Rattle.hub_cut.proofs.Recording.{goes_cut, refuses_cut, records_cut}
@@ -58,6 +58,7 @@ returns-clause-ok c =
     ∙ ap (λ (h : ShortInMemory). in_64_bits (slice_index old.bases p.0 + received_count (state_of h.memory.hub) p)) whole))
 
 pub returns-clause-handed_out : goal.returns-clause-handed_out
+unfolding chapter_out
 returns-clause-handed_out c =
     let old = shown c.self.inside in
     let full : is_full old ≡ true = subst (λ (r : RecorderView). is_full r ≡ true) (sym c.self.view_is) c.requires.full in

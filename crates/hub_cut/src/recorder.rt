@@ -5,7 +5,7 @@
 //! the one before it. Each of these is a journal of its own. Older chapters are handed out. A checkpoint and `keep` entries
 //! stay below the limit of a hub, so no step is refused because the journal is full.
 
-ghost use Rattle.std.specs.Prelude.{◌≡◌, ◌≤◌, ◌<◌, ◌+◌, [], IfOk, IfErr, IfSome, OnOk, OnErr, None, true, false};
+ghost use Rattle.std.specs.Prelude.{◌≡◌, ◌≤◌, ◌<◌, ◌+◌, [], IfOk, IfErr, IfSome, OnOk, OnErr, Some, None, true, false};
 ghost use Rattle.std.specs.Option.{option_map};
 ghost use Rattle.hub_base.specs.Head.{IsHead, head_of, is_of};
 ghost use Rattle.hub_base.specs.Runs.{state};
@@ -56,6 +56,14 @@ impl Model for Recorder {
     ghost view = { λ r. shown r };
 
     ghost invariant = { λ r. RecorderKeeps r };
+}
+
+/// Keeps a chapter that has ended, and hands out the one before it, if there is one.
+fn keep_last(before: &mut Option<ShortHub>, chapter: ShortHub) -> Option<ShortHub>
+    ensures handed_out { result ≡ before.old }
+    ensures kept { before.new ≡ Some chapter }
+{
+    before.replace(chapter)
 }
 
 impl Recorder {
@@ -153,7 +161,7 @@ impl Recorder {
         add_received(&mut self.bases, &whole);
         self.fresh = 1;
         self.bytes = bytes;
-        Ok(self.before.replace(whole))
+        Ok(keep_last(&mut self.before, whole))
     }
 
     /// What a port holds, and what it has carried since the recorder was opened. `None` for port 0 and for a port that was
@@ -168,12 +176,18 @@ impl Recorder {
 
     /// The hub, whose journal is the present chapter.
     pub fn present(&self) -> &ShortHub
-        ensures hub { result.now.memory.hub ≡ self.now.hub }
+        ensures { result.now.memory.hub ≡ self.now.hub }
+    {
+        &self.hub
+    }
+
+    /// Shows that the recorder stands for some history, and that its chapters are short. It changes nothing.
+    pub fn chapters_are_kept(&self)
         ensures recorder { IsRecorder self.now }
         ensures short { IsShort self.now }
         ensures texts { FitTexts self.now }
     {
-        &self.hub
+        let _hub = &self.hub;
     }
 
     /// The hub as it was at the last cut, if there was one. Its journal is the chapter before the present one.

@@ -24,8 +24,8 @@ invariant_of-self-2 c =
     let old = shown c.self.inside in
     let full : is_full old ≡ true = subst (λ (r : RecorderView). is_full r ≡ true) (sym c.self.view_is) c.requires.full in
     let whole = c.in_ok-whole.ensures.whole in
-    let handed : option_map hub_in c.replace.new.self ≡ Some old.hub =
-    ap (option_map hub_in) c.replace.ensures.after ∙ ap (λ (h : ShortInMemory). Some (hub_in h)) whole in
+    let handed : option_map hub_in c.keep_last.new.before ≡ Some old.hub =
+    ap (option_map hub_in) c.keep_last.ensures.kept ∙ ap (λ (h : ShortInMemory). Some (hub_in h)) whole in
     record {
       head = rw steps.terms c.self.invariant.head;
       limit = rw steps.terms c.self.invariant.limit;
@@ -49,8 +49,8 @@ returns-clause-ok c =
     let old = shown c.self.inside in
     let full : is_full old ≡ true = subst (λ (r : RecorderView). is_full r ≡ true) (sym c.self.view_is) c.requires.full in
     let whole = c.in_ok-whole.ensures.whole in
-    let kept : option_map hub_in c.replace.new.self ≡ Some old.hub =
-    ap (option_map hub_in) c.replace.ensures.after ∙ ap (λ (h : ShortInMemory). Some (hub_in h)) whole in
+    let kept : option_map hub_in c.keep_last.new.before ≡ Some old.hub =
+    ap (option_map hub_in) c.keep_last.ensures.kept ∙ ap (λ (h : ShortInMemory). Some (hub_in h)) whole in
     rw (← c.self.view_is, kept, c.most_line-bytes.ensures.most)
     (goes_cut old c.args.entry c.cut_and_step.new.hub.memory.hub c.cut_and_step.new.events.items
     c.add_received.new.bases full c.self.invariant.keep.0 steps
@@ -62,9 +62,9 @@ unfolding chapter_out
 returns-clause-handed_out c =
     let old = shown c.self.inside in
     let full : is_full old ≡ true = subst (λ (r : RecorderView). is_full r ≡ true) (sym c.self.view_is) c.requires.full in
-    rw (← c.self.view_is, full) (ap (option_map hub_in) c.replace.ensures.value)
+    rw (← c.self.view_is, full) (ap (option_map hub_in) c.keep_last.ensures.handed_out)
 
 pub returns-clause-text : goal.returns-clause-text
 returns-clause-text c =
-    let out = ap (option_map hub_in) c.replace.ensures.value in
+    let out = ap (option_map hub_in) c.keep_last.ensures.handed_out in
     rw out c.self.invariant.text_before

@@ -1,7 +1,7 @@
 use Rattle.hub_cut.specs.RecorderKeeps.{shown}
 use Rattle.hub_cut.proofs.ChapterTexts.{text_fits}
 use Rattle.hub_cut.proofs.Recording.{recorder_short}
-use Rattle.hub_cut.proofs.recorder.Recorder.present.Goals as goal
+use Rattle.hub_cut.proofs.recorder.Recorder.chapters_are_kept.Goals as goal
 
 pub returns-clause-texts : goal.returns-clause-texts
 returns-clause-texts c =

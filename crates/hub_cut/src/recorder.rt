@@ -5,9 +5,9 @@
 //! the one before it. Each of these is a journal of its own. Older chapters are handed out. A checkpoint and `keep` entries
 //! stay below the limit of a hub, so no step is refused because the journal is full.
 
-ghost use Rattle.std.specs.Prelude.{◌≡◌, ◌≤◌, ◌<◌, ◌+◌, [], IfOk, IfErr, IfSome, OnOk, OnErr, Some, None, true, false};
+ghost use Rattle.std.specs.Prelude.{◌≡◌, [], IfOk, IfErr, IfSome, OnOk, OnErr, true, false};
 ghost use Rattle.std.specs.Option.{option_map};
-ghost use Rattle.hub_base.specs.Head.{IsHead, head_of, is_of};
+ghost use Rattle.hub_base.specs.Head.{is_of};
 ghost use Rattle.hub_base.specs.Runs.{state};
 ghost use Rattle.hub_base.specs.declared.limits.TheConstants.{MOST_STEPS};
 ghost use Rattle.hub_core.specs.HubView.{RefusesOpening, terms_of};

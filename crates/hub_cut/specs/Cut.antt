@@ -1,6 +1,12 @@
 -- What a cut leaves.
-use Rattle.std.specs.Prelude.{◌≡◌, ℕ, List}
+use Rattle.std.specs.Prelude.{◌≡◌, ℕ, List, [], ◌∷◌, ◌++◌, None, Some}
 use Rattle.hub_base.specs.declared.entry.Entry.{Entry}
+use Rattle.hub_base.specs.declared.event.Event.{Event}
+use Rattle.hub_base.specs.declared.fault.Fault.{Fault}
+use Rattle.hub_base.specs.declared.fault.Fault.TheVariants as fault
+use Rattle.hub_base.specs.State.{State}
+use Rattle.hub_base.specs.Steps.{refusal}
+use Rattle.hub_base.specs.Runs.{moves}
 use Rattle.hub_core.specs.declared.terms.Terms.{Terms}
 use Rattle.hub_core.specs.HubView.{HubView, state_of}
 use Rattle.hub_chapters.specs.Alike.{Alike, GoOnAlike}
@@ -10,8 +16,27 @@ use Rattle.hub_chapters.specs.Checkpoint.{checkpoint}
 abbrev pub hub_with : Terms → List Entry → ℕ → HubView
 hub_with terms journal places = record { terms = terms; journal = journal; places = places }
 
+-- a hub that goes on from the checkpoint of this one's state
+abbrev pub renewed_hub : HubView → HubView
+renewed_hub h = hub_with h.terms (checkpoint (state_of h)) h.places
+
 -- the hub goes on from the checkpoint of its state; whatever follows is answered as if nothing had been cut
 pub record IsCut (old new : HubView) : Type 0 where
-  pub hub : new ≡ hub_with old.terms (checkpoint (state_of old)) old.places
+  pub hub : new ≡ renewed_hub old
   pub alike : Alike (state_of new) (state_of old)
   pub follows : (later : List Entry) → GoOnAlike (state_of new) (state_of old) later
+
+-- the hub is cut, and makes this step
+pub record CutsAndSteps (old : HubView) (e : Entry) (new : HubView) (told : List Event) : Type 0 where
+  pub admitted : refusal (state_of old) e.pid ≡ None
+  pub events : told ≡ (moves (state_of old) e).events
+  pub journal : new.journal ≡ checkpoint (state_of old) ++ e ∷ []
+  pub terms : new.terms ≡ old.terms
+
+-- why a step is refused in this state, where memory may be asked for or not
+abbrev pub Refused : State → Type 0 → Entry → Fault → Type 0
+Refused s wants e fault.NoProcess = refusal s e.pid ≡ Some fault.NoProcess
+Refused s wants e fault.Gone = refusal s e.pid ≡ Some fault.Gone
+Refused s wants e fault.Busy = refusal s e.pid ≡ Some fault.Busy
+Refused s wants e fault.NoMemory = (refusal s e.pid ≡ None) × wants
+Refused s wants e other = ⊥

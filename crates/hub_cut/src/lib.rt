@@ -1,11 +1,19 @@
 //! Cuts: a hub hands out its journal and goes on from a checkpoint, and whatever follows is answered as before.
 //!
 //! A checkpoint is written from what a hub shows of its ports, its processes and its open calls, so a cut takes as
-//! long as the checkpoint is, however long the journal. Why nobody can tell is said in `hub_chapters`.
+//! long as the checkpoint is, however long the journal. Why nobody can tell is said in `hub_chapters`. A recorder cuts
+//! itself, so it never ends.
 #![tactic(auto)]
 
 mod checkpoints;
 mod cuts;
+mod limits;
+mod recorder;
+mod texts;
+mod totals;
 
 pub use checkpoints::checkpoint_of;
 pub use cuts::{cut, cut_journal};
+pub use limits::MOST_KEEP;
+pub use recorder::Recorder;
+pub use totals::Totals;

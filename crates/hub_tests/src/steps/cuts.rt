@@ -1,12 +1,12 @@
-//! A hub that was cut answers as the one that was not.
+//! A hub that was cut answers as the one that was not, and so does a hub that cuts itself.
 
 use super::entries::{Ask, DONE, MADE, MADE_SECOND, PARKED, SENT, Told, are_told, entry_of, first};
 use super::hubs::{CLOSED_BEFORE, DRAINED};
 use super::rows::Row;
 use crate::compare::same;
-use hub_base::{Entry, Events, Fault, Pid};
+use hub_base::{Entry, Events, Fault, Pid, Port};
 use hub_core::{Hub, ShortHub};
-use hub_cut::{cut, cut_journal};
+use hub_cut::{Recorder, Totals, cut, cut_journal};
 use std::alloc::Global;
 use std::process::Abort;
 use std::test::Fail;
@@ -82,4 +82,67 @@ fn cut_twice(rt: &impl Abort, alloc: Global) -> Result<(), Fail> {
 #[test]
 fn cut_hub_answers_as_before(rt: HostRuntime) -> Result<(), Fail> {
     cut_twice(&rt, rt.alloc())
+}
+
+/// Makes a step of process 0, and gives how many entries the chapter has that is handed out.
+fn record(rt: &impl Abort, recorder: &mut Recorder, asked: Ask, told: Told) -> Option<usize> {
+    let entry = entry_of(0, asked);
+    assert!(rt; entry.fits(recorder.present().head().edition));
+    let mut events = Events::new();
+    match recorder.step_into(entry, &mut events) {
+        Ok(chapter) => {
+            are_told(rt, events.as_slice(), &[(0, told)]);
+            Some(chapter?.len())
+        }
+        Err(fault) => panic!(rt; "refused: {fault}"),
+    }
+}
+
+/// What process 0 asks a recorder for, what it is told, and how many entries the chapter has that is handed out. A chapter
+/// has three entries behind its checkpoint, so the fourth and the seventh step cut.
+const RECORDED: &[(Ask, Told, Option<usize>)] = &[
+    (Ask::Make(2), MADE, None),
+    (Ask::Send(1, 5), SENT, None),
+    (Ask::Send(1, 6), SENT, None),
+    (Ask::Recv(1), Told::Got(0, 5), None),
+    (Ask::Recv(1), Told::Got(0, 6), None),
+    (Ask::Send(1, 7), SENT, None),
+    (Ask::Recv(1), Told::Got(0, 7), Some(3)),
+    (Ask::Send(1, 8), SENT, None),
+];
+
+/// Three values were received and one is left, in three chapters.
+const CARRIED: Totals = Totals {
+    cap: 2,
+    len: 1,
+    sent: 4,
+    received: 3,
+    closed: false,
+};
+
+/// How many entries the chapters have that it still keeps.
+fn kept(recorder: Recorder) -> (Option<usize>, usize) {
+    let before = match recorder.before() {
+        Some(chapter) => Some(chapter.len()),
+        None => None,
+    };
+    let (_before, present) = recorder.into_chapters();
+    (before, present.len())
+}
+
+/// The first chapter has three entries, the second three behind a checkpoint of three, the last two behind one of two.
+fn record_all(rt: &impl Abort, alloc: Global) -> Result<(), Fail> {
+    let mut recorder = Recorder::open(alloc, 2, 3, first(2).edition)?;
+    for (asked, told, handed) in RECORDED {
+        same(rt, record(rt, &mut recorder, *asked, *told), *handed, "chapter");
+    }
+    same(rt, recorder.look(Port(1)), Some(CARRIED), "counts");
+    same(rt, recorder.look(Port(2)), None, "no port");
+    same(rt, kept(recorder), (Some(6), 4), "chapters");
+    Ok(())
+}
+
+#[test]
+fn recorder_hands_out_chapters(rt: HostRuntime) -> Result<(), Fail> {
+    record_all(&rt, rt.alloc())
 }

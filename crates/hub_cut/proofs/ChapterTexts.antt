@@ -1,0 +1,206 @@
+-- The text of a chapter is not longer than a reader takes.
+use Rattle.hub_laws.proofs.Prelude.{◌≡◌, Bool, true, false, List, [], ◌∷◌, ◌++◌, ap, ℕ, zero, suc, ◌+◌, ◌≤◌, ◌<◌, arith, length, map, cond}
+use Rattle.hub_laws.proofs.Prelude.{length-append, Entry, Head, Case, Send, Recv, Step, Make, Call, Close, Exit}
+use Rattle.hub_laws.proofs.Prelude.{Cancel, Value, Port, Channel, OpenCall, State, state, buffer_of}
+use Rattle.std.specs.Prelude.{codes, decimal, ◌*◌}
+use Rattle.std.specs.List.{AllByRecursion, flat_map, join_with_byte}
+use Rattle.std.proofs.lemmas.Fmt.{length-decimal-le}
+use Rattle.std.proofs.lemmas.Grind.{flat_map-append}
+use Rattle.hex.specs.Hex.{lower_digits}
+use Rattle.hex.proofs.HexLemmas.{length-encode_with}
+use Rattle.hub_base.specs.declared.head.Edition.{Edition}
+use Rattle.hub_base.specs.declared.head.Edition.TheVariants.{One, Two}
+use Rattle.hub_base.specs.Content.{Content, IsContent}
+use Rattle.hub_base.specs.Content.Content.{Num, Bytes}
+use Rattle.hub_base.specs.Value.{IsValue, content, field_of, value_field}
+use Rattle.hub_base.specs.Lines.{line, call_fields, case_field, default_field, select_fields, step_fields}
+use Rattle.hub_base.specs.Head.{IsHead}
+use Rattle.hub_base.specs.Reading.{head_lines, header}
+use Rattle.hub_base.specs.Text.{Fits, CaseFits, CallFits, StepFits}
+use Rattle.hub_base.specs.Notation.{exit, close}
+use Rattle.hub_laws.proofs.States.{count-law}
+use Rattle.hub_laws.proofs.Rules.{state-sound}
+use Rattle.hub_core.specs.HubView.{HubView}
+use Rattle.hub_chapters.specs.Checkpoint.{checkpoint, send_again, port_again, ports_again, call_again, exited}
+use Rattle.hub_chapters.proofs.Checkpoints.{checkpoint-law}
+use Rattle.hub_base.specs.declared.limits.TheConstants.{GREATEST_PID, GREATEST_PORT, MOST_VALUE_BYTES}
+use Rattle.hub_core.specs.LogView.{cases_of_step}
+use Rattle.hub_cut.specs.declared.limits.TheConstants.{LINE_BYTES, CASE_BYTES, CHECKPOINT_BYTES, CHAPTER_BYTES, MOST_LINE_BYTES}
+use Rattle.hub_cut.specs.ChapterText.{most_line, most_lines, FitsText}
+use Rattle.hub_cut.proofs.Parts.{procs_same}
+
+-- Fields
+
+-- the bytes of the fields, each with one byte behind it
+fields_size : List (List ℕ) → ℕ
+fields_size [] = 0
+fields_size (f ∷ fs) = length f + 1 + fields_size fs
+
+joined : (fs : List (List ℕ)) → length (join_with_byte 32 fs) ≤ fields_size fs
+unfolding fields_size
+joined [] = omega arith
+joined (x ∷ []) = omega arith
+joined (x ∷ y ∷ xs) = omega (arith, length-append x (32 ∷ join_with_byte 32 (y ∷ xs)), joined (y ∷ xs))
+
+fields_size-append : (xs ys : List (List ℕ)) → fields_size (xs ++ ys) ≡ fields_size xs + fields_size ys
+unfolding fields_size
+fields_size-append [] ys = omega arith
+fields_size-append (x ∷ xs) ys = omega (arith, fields_size-append xs ys)
+
+content_size : (c : Content) → IsContent c → length (field_of c) ≤ 2 * MOST_VALUE_BYTES + 1
+content_size (Num n) few =
+    let l : length (decimal n) ≤ 20 = length-decimal-le 20 n (omega arith) (omega (arith, few)) (omega (arith, few)) in
+    omega (arith, l)
+content_size (Bytes bs) few = omega (arith, length-encode_with lower_digits bs, few.0)
+
+value_size : (v : Value) → IsValue v → length (value_field v) ≤ 2 * MOST_VALUE_BYTES + 1
+value_size v is = content_size (content v) is.fits
+
+port_size : (p : Port) → p.0 ≤ GREATEST_PORT → length (decimal p.0) ≤ 5
+port_size p few = length-decimal-le 5 p.0 (omega arith) (omega (arith, few)) (omega (arith, few))
+
+pid_size : (p : ℕ) → p ≤ GREATEST_PID → length (decimal p) ≤ 3
+pid_size p few = length-decimal-le 3 p (omega arith) (omega (arith, few)) (omega (arith, few))
+
+case_size : (c : Case) → CaseFits c → length (case_field c) ≤ 72
+case_size (Send p v) fits = omega (arith, length-append (decimal p.0) (58 ∷ value_field v), port_size p fits.0, value_size v fits.1)
+case_size (Recv p) fits = omega (arith, port_size p fits)
+
+cases_size : (cases : List Case) → AllByRecursion CaseFits cases → fields_size (map case_field cases) ≤ 73 * length cases
+unfolding fields_size
+cases_size [] fits = omega arith
+cases_size (c ∷ cs) fits = omega (arith, case_size c fits.0, cases_size cs fits.1)
+
+default_size : (b : Bool) → fields_size (default_field b) ≤ 8
+unfolding fields_size
+default_size true = omega arith
+default_size false = omega arith
+
+select_size : (cases : List Case) (default : Bool) (word : ℕ) → CallFits cases word → fields_size (select_fields cases default word) ≤ 36 + 73 * length cases
+unfolding fields_size
+select_size cases default word fits =
+    let word : length (decimal word) ≤ 20 = length-decimal-le 20 word (omega arith) (omega (arith, fits.word_fits)) (omega (arith, fits.word_fits)) in
+    omega (arith, word, fields_size-append (map case_field cases) (default_field default), cases_size cases fits.each, default_size default)
+
+call_size : (cases : List Case) (default : Bool) (word : ℕ) → CallFits cases word → fields_size (call_fields cases default word) ≤ 36 + 73 * length cases
+unfolding fields_size
+call_size [] default word fits = select_size [] default word fits
+call_size (Send p v ∷ []) false zero fits = omega (arith, port_size p fits.each.0.0, value_size v fits.each.0.1)
+call_size (Recv p ∷ []) false zero fits = omega (arith, port_size p fits.each.0)
+call_size (Send p v ∷ []) false (suc word) fits = select_size (Send p v ∷ []) false (suc word) fits
+call_size (Recv p ∷ []) false (suc word) fits = select_size (Recv p ∷ []) false (suc word) fits
+call_size (Send p v ∷ []) true word fits = select_size (Send p v ∷ []) true word fits
+call_size (Recv p ∷ []) true word fits = select_size (Recv p ∷ []) true word fits
+call_size (Send p v ∷ d ∷ cs) default word fits = select_size (Send p v ∷ d ∷ cs) default word fits
+call_size (Recv p ∷ d ∷ cs) default word fits = select_size (Recv p ∷ d ∷ cs) default word fits
+
+-- Lines
+
+step_size : (ed : Edition) (e : Entry) → Fits ed e → fields_size (step_fields e.step) ≤ 36 + 73 * length (cases_of_step e.step)
+unfolding fields_size
+step_size ed e fits = by e.step fits.step
+  where
+    by : (s : Step) → StepFits s → fields_size (step_fields s) ≤ 36 + 73 * length (cases_of_step s)
+    by (Make cap) few =
+        let l : length (decimal cap) ≤ 10 = length-decimal-le 10 cap (omega arith) (omega (arith, few)) (omega (arith, few)) in
+        omega (arith, l)
+    by (Call cases default word) fits = call_size cases.items default word fits
+    by (Close p) few = omega (arith, port_size p few)
+    by Exit few = omega arith
+    by (Cancel q) few = omega (arith, pid_size q.0 few)
+
+pub line_fits : (ed : Edition) (e : Entry) → Fits ed e → length (line e) ≤ most_line e
+unfolding fields_size
+line_fits ed e fits =
+    let fields : List (List ℕ) = decimal e.pid.0 ∷ step_fields e.step in
+    omega (arith, length-append (join_with_byte 32 fields) (codes "\n"), joined fields, pid_size e.pid.0 fits.pid, step_size ed e fits)
+
+lines_fit : (ed : Edition) (es : List Entry) → AllByRecursion (Fits ed) es → length (flat_map line es) ≤ most_lines es
+lines_fit ed [] fits = omega arith
+lines_fit ed (e ∷ es) fits = omega (arith, length-append (line e) (flat_map line es), line_fits ed e fits.0, lines_fit ed es fits.1)
+
+-- A checkpoint
+
+pub most_lines-append : (xs ys : List Entry) → most_lines (xs ++ ys) ≡ most_lines xs + most_lines ys
+most_lines-append [] ys = omega arith
+most_lines-append (x ∷ xs) ys = omega (arith, most_lines-append xs ys)
+
+-- each entry of these lists has one case at most
+sends_lines : (n : ℕ) (vs : List Value) → most_lines (map (send_again n) vs) ≤ (LINE_BYTES + CASE_BYTES) * length (map (send_again n) vs)
+sends_lines n [] = omega arith
+sends_lines n (v ∷ vs) = omega (arith, sends_lines n vs)
+
+close_lines : (n : ℕ) (b : Bool) → most_lines (cond b (close 0 n ∷ []) []) ≤ (LINE_BYTES + CASE_BYTES) * length (cond b (close 0 n ∷ []) [])
+close_lines n true = omega arith
+close_lines n false = omega arith
+
+port_lines : (n : ℕ) (c : Channel) → most_lines (port_again n c) ≤ (LINE_BYTES + CASE_BYTES) * length (port_again n c)
+port_lines n c =
+    let sends : List Entry = map (send_again n) (buffer_of c) in
+    let closes : List Entry = cond c.closed (close 0 n ∷ []) [] in
+    omega (arith, most_lines-append sends closes, length-append sends closes, sends_lines n (buffer_of c), close_lines n c.closed)
+
+ports_lines : (n : ℕ) (cs : List Channel) → most_lines (ports_again n cs) ≤ (LINE_BYTES + CASE_BYTES) * length (ports_again n cs)
+ports_lines n [] = omega arith
+ports_lines n (c ∷ cs) =
+    let one : List Entry = port_again n c in
+    let more : List Entry = ports_again (n + 1) cs in
+    omega (arith, most_lines-append one more, length-append one more, port_lines n c, ports_lines (n + 1) cs)
+
+exits_lines : (qs : List ℕ) → most_lines (map exit qs) ≤ (LINE_BYTES + CASE_BYTES) * length (map exit qs)
+exits_lines [] = omega arith
+exits_lines (q ∷ qs) = omega (arith, exits_lines qs)
+
+calls_lines : (ed : Edition) (calls : List OpenCall) → AllByRecursion (Fits ed) (map call_again calls) →
+    most_lines (map call_again calls) ≤ MOST_LINE_BYTES * length calls
+calls_lines ed [] fits = omega arith
+calls_lines ed (c ∷ cs) fits = omega (arith, fits.0.step.few, calls_lines ed cs fits.1)
+
+all_behind : {A : Type 0} (P : A → Type 0) (xs ys : List A) → AllByRecursion P (xs ++ ys) → AllByRecursion P ys
+all_behind P [] ys a = a
+all_behind P (x ∷ xs) ys a = all_behind P xs ys a.1
+
+checkpoint_lines : (h : Head) (es : List Entry) → IsHead h → AllByRecursion (Fits h.edition) (checkpoint (state h es)) →
+    most_lines (checkpoint (state h es)) ≤ CHECKPOINT_BYTES
+checkpoint_lines h es head fits =
+    let s : State = state h es in
+    let ports : List Entry = ports_again 1 s.channels in
+    let exits : List Entry = map exit (exited s) in
+    let calls : List Entry = map call_again s.parked in
+    omega (
+      arith,
+      most_lines-append (ports ++ exits) calls,
+      most_lines-append ports exits,
+      length-append (ports ++ exits) calls,
+      length-append ports exits,
+      ports_lines 1 s.channels,
+      exits_lines (exited s),
+      calls_lines h.edition s.parked (all_behind (Fits h.edition) (ports ++ exits) calls fits),
+      (checkpoint-law h es).short,
+      head.1,
+      count-law s (state-sound h es),
+      procs_same h es,
+    )
+
+pub checkpoint_fits : (h : Head) (es : List Entry) → IsHead h → AllByRecursion (Fits h.edition) (checkpoint (state h es)) →
+    length (flat_map line (checkpoint (state h es))) ≤ CHECKPOINT_BYTES
+checkpoint_fits h es head fits = omega (arith, checkpoint_lines h es head fits, lines_fit h.edition (checkpoint (state h es)) fits)
+
+-- A journal that goes on
+
+pub longer_by : (es : List Entry) (e : Entry) (ed : Edition) → Fits ed e → length (flat_map line (es ++ e ∷ [])) ≤ length (flat_map line es) + most_line e
+longer_by es e ed fits =
+    let parts : flat_map line (es ++ e ∷ []) ≡ flat_map line es ++ (line e ++ []) = flat_map-append line es (e ∷ []) in
+    omega (arith, ap length parts, length-append (flat_map line es) (line e ++ []), length-append (line e) [], line_fits ed e fits)
+
+head_size : (h : Head) → IsHead h → length (head_lines h) ≤ 100
+head_size h head = by h.edition
+  where
+    by : (ed : Edition) → length (header ed ++ (codes "\n" ++ ((codes "procs " ++ decimal h.procs) ++ codes "\n"))) ≤ 100
+    by One = omega (arith, length-append (decimal h.procs) (codes "\n"), pid_size h.procs (omega (arith, head.1)))
+    by Two = omega (arith, length-append (decimal h.procs) (codes "\n"), pid_size h.procs (omega (arith, head.1)))
+
+pub text_fits : (h : HubView) (bytes : ℕ) → IsHead h.terms.head → length (flat_map line h.journal) ≤ CHECKPOINT_BYTES + bytes →
+    bytes < CHAPTER_BYTES + MOST_LINE_BYTES → FitsText h
+text_fits h bytes head lines few =
+    omega (arith, length-append (head_lines h.terms.head) (flat_map line h.journal), head_size h.terms.head head, lines, few)

@@ -1,0 +1,40 @@
+use Rattle.std.proofs.Common.{◌∙◌, ap, sym, subst, arith, length}
+use Rattle.std.specs.List.{flat_map}
+use Rattle.hub_base.specs.Head.{is_of}
+use Rattle.hub_base.specs.Lines.{line}
+use Rattle.hub_core.specs.HubView.{HubView, state_of}
+use Rattle.hub_chapters.specs.Checkpoint.{checkpoint}
+use Rattle.hub_cut.specs.Cut.{IsCut}
+use Rattle.hub_cut.proofs.Parts.{cut_law}
+use Rattle.hub_cut.proofs.Cutting.{few_behind, steps_behind, admitted_behind}
+use Rattle.hub_cut.proofs.ChapterTexts.{longer_by}
+use Rattle.hub_cut.proofs.cuts.renewed_after.Goals as goal
+
+pub make_step-requires : goal.make_step-requires
+make_step-requires c =
+    let old = c.args.hub.now.memory.hub in
+    let cut = subst (IsCut old) (sym c.in_ok-next.ensures.hub) (cut_law old) in
+    record {
+      fits = ap (λ (h : HubView). is_of h.terms.head.edition c.args.entry.step) c.in_ok-next.ensures.hub ∙ c.requires.fits.of_edition;
+      room = λ step. few_behind old c.in_ok-next.next.memory.hub cut c.requires.room;
+      admitted = admitted_behind old c.in_ok-next.next.memory.hub c.args.entry cut c.requires.admitted;
+    }
+
+pub returns-clause-ok : goal.returns-clause-ok
+returns-clause-ok c =
+    let old = c.args.hub.now.memory.hub in
+    let cut = subst (IsCut old) (sym c.in_ok-next.ensures.hub) (cut_law old) in
+    steps_behind old c.in_ok-next.next.memory.hub c.make_step.new.hub.memory.hub c.args.entry c.make_step.new.events.items cut c.in_ok-make_step.ensures.ok
+
+pub returns-clause-lines : goal.returns-clause-lines
+returns-clause-lines c =
+    let old = c.args.hub.now.memory.hub in
+    let cut = subst (IsCut old) (sym c.in_ok-next.ensures.hub) (cut_law old) in
+    let steps = steps_behind old c.in_ok-next.next.memory.hub c.make_step.new.hub.memory.hub c.args.entry c.make_step.new.events.items cut
+    c.in_ok-make_step.ensures.ok in
+    omega (
+      arith,
+      ap (λ j. length (flat_map line j)) steps.journal,
+      longer_by (checkpoint (state_of old)) c.args.entry old.terms.head.edition c.requires.fits,
+      c.in_ok-next.ensures.lines,
+    )

@@ -1,0 +1,70 @@
+use Rattle.std.proofs.Common.{◌≡◌, true, ◌+◌, ◌∙◌, ap, sym, subst, arith, Some, [], ◌∷◌, slice_index}
+use Rattle.std.proofs.lemmas.Result.{err_from_is_err_and}
+use Rattle.hub_core.specs.HubView.{ShortInMemory, state_of}
+use Rattle.hub_chapters.specs.Carried.{received_count}
+use Rattle.hub_chapters.specs.Chapters.Chapters.{Cut}
+use Rattle.hub_cut.specs.Totals.{in_64_bits}
+use Rattle.std.specs.Option.{option_map}
+use Rattle.hub_cut.specs.Recorder.{RecorderView, chapter_out, hub_in, is_full}
+use Rattle.hub_cut.specs.RecorderKeeps.{shown}
+use Rattle.hub_cut.proofs.ChapterTexts.{text_fits}
+use Rattle.hub_cut.proofs.Recording.{goes_cut, refuses_cut, records_cut}
+use Rattle.hub_cut.proofs.recorder.Recorder.begin_chapter.Goals as goal
+
+pub returns-in_err-whole-clause-refused : goal.returns-in_err-whole-clause-refused
+returns-in_err-whole-clause-refused c =
+    let p = err_from_is_err_and c.from_residual.result c.from_residual.ensures.1 in
+    let old = shown c.self.inside in
+    let full : is_full old ≡ true = subst (λ (r : RecorderView). is_full r ≡ true) (sym c.self.view_is) c.requires.full in
+    rw (p.1, p.2, ← c.self.view_is) (refuses_cut old c.args.entry c.in_err-whole.field-0.0 full c.in_err-whole.ensures.refused)
+
+pub invariant_of-self-2 : goal.invariant_of-self-2
+invariant_of-self-2 c =
+    let steps = c.in_ok-whole.ensures.ok in
+    let old = shown c.self.inside in
+    let full : is_full old ≡ true = subst (λ (r : RecorderView). is_full r ≡ true) (sym c.self.view_is) c.requires.full in
+    let whole = c.in_ok-whole.ensures.whole in
+    let handed : option_map hub_in c.keep_last.new.before ≡ Some old.hub =
+    ap (option_map hub_in) c.keep_last.ensures.kept ∙ ap (λ (h : ShortInMemory). Some (hub_in h)) whole in
+    record {
+      head = rw steps.terms c.self.invariant.head;
+      limit = rw steps.terms c.self.invariant.limit;
+      keep = c.self.invariant.keep;
+      recorder = (
+        Cut c.self.invariant.recorder.0 (c.args.entry ∷ []),
+        rw (handed, c.most_line-bytes.ensures.most)
+            (records_cut c.self.invariant.recorder.0 old c.args.entry c.cut_and_step.new.hub.memory.hub c.cut_and_step.new.events.items
+            c.add_received.new.bases c.self.invariant.recorder.1 full c.self.invariant.keep.0 steps
+            (λ p few. c.add_received.ensures p.0 (omega (arith, c.self.told, few))
+            ∙ ap (λ (h : ShortInMemory). in_64_bits (slice_index old.bases p.0 + received_count (state_of h.memory.hub) p)) whole)),
+      );
+      lines = omega (arith, c.in_ok-whole.ensures.lines, c.most_line-bytes.ensures.most);
+      bytes = omega (arith, c.most_line-bytes.ensures.few);
+      text_before = rw handed (text_fits old.hub old.bytes c.self.invariant.head c.self.invariant.lines c.self.invariant.bytes);
+    }
+
+pub returns-clause-ok : goal.returns-clause-ok
+returns-clause-ok c =
+    let steps = c.in_ok-whole.ensures.ok in
+    let old = shown c.self.inside in
+    let full : is_full old ≡ true = subst (λ (r : RecorderView). is_full r ≡ true) (sym c.self.view_is) c.requires.full in
+    let whole = c.in_ok-whole.ensures.whole in
+    let kept : option_map hub_in c.keep_last.new.before ≡ Some old.hub =
+    ap (option_map hub_in) c.keep_last.ensures.kept ∙ ap (λ (h : ShortInMemory). Some (hub_in h)) whole in
+    rw (← c.self.view_is, kept, c.most_line-bytes.ensures.most)
+    (goes_cut old c.args.entry c.cut_and_step.new.hub.memory.hub c.cut_and_step.new.events.items
+    c.add_received.new.bases full c.self.invariant.keep.0 steps
+    (λ p few. c.add_received.ensures p.0 (omega (arith, c.self.told, few))
+    ∙ ap (λ (h : ShortInMemory). in_64_bits (slice_index old.bases p.0 + received_count (state_of h.memory.hub) p)) whole))
+
+pub returns-clause-handed_out : goal.returns-clause-handed_out
+unfolding chapter_out
+returns-clause-handed_out c =
+    let old = shown c.self.inside in
+    let full : is_full old ≡ true = subst (λ (r : RecorderView). is_full r ≡ true) (sym c.self.view_is) c.requires.full in
+    rw (← c.self.view_is, full) (ap (option_map hub_in) c.keep_last.ensures.handed_out)
+
+pub returns-clause-text : goal.returns-clause-text
+returns-clause-text c =
+    let out = ap (option_map hub_in) c.keep_last.ensures.handed_out in
+    rw out c.self.invariant.text_before

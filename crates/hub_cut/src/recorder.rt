@@ -1,0 +1,208 @@
+//! A recorder is a hub that cuts itself, so it never ends.
+//!
+//! The present chapter is cut once it has `keep` entries behind its checkpoint, or once its text might soon be longer than
+//! a reader takes. So the last `keep` entries, or as many as two texts hold, always stand in the present chapter and in
+//! the one before it. Each of these is a journal of its own. Older chapters are handed out. A checkpoint and `keep` entries
+//! stay below the limit of a hub, so no step is refused because the journal is full.
+
+ghost use Rattle.std.specs.Prelude.{◌≡◌, [], IfOk, IfErr, IfSome, OnOk, OnErr, true, false};
+ghost use Rattle.std.specs.Option.{option_map};
+ghost use Rattle.hub_base.specs.Head.{is_of};
+ghost use Rattle.hub_base.specs.Runs.{state};
+ghost use Rattle.hub_base.specs.declared.limits.TheConstants.{MOST_STEPS};
+ghost use Rattle.hub_core.specs.HubView.{RefusesOpening, terms_of};
+ghost use Rattle.hub_chapters.specs.Chapters.{Chapters, history};
+ghost use Rattle.hub_chapters.specs.Chapters.Chapters.{First};
+ghost use Rattle.hub_cut.specs.ChapterText.{FitsText};
+ghost use Rattle.hub_cut.specs.Recorder.{FitTexts, IsKeep, IsRecorder, IsShort, Records, RecordsStep, RefusesStep, chapter_out, head_of_all, hub_in, is_full};
+ghost use Rattle.hub_cut.specs.Totals.{totals_at};
+
+use crate::Totals;
+use crate::cuts::cut_and_step;
+use crate::limits::CHAPTER_BYTES;
+use crate::texts::most_line;
+use crate::totals::{PORT_PLACES, add_received, base_of, no_bases, with_base};
+use hub_base::{Edition, Entry, Events, Fault, MOST_STEPS, Port};
+use hub_core::{Hub, OpenFault, ShortHub};
+use std::alloc::Global;
+use std::marker::Model;
+
+/// A hub that cuts itself, keeps its last two chapters, and hands out the older ones.
+#[derive(Drop)]
+pub struct Recorder {
+    /// Where a cut takes memory.
+    alloc: Global,
+    /// Its journal is the present chapter.
+    hub: ShortHub,
+    /// The hub as it was at the last cut: its journal is the chapter before.
+    before: Option<ShortHub>,
+    /// With so many entries behind its checkpoint a chapter is full.
+    keep: u32,
+    /// How many the present chapter has.
+    fresh: u32,
+    /// How many bytes their lines have at most.
+    bytes: u32,
+    /// By a port's number, how many values were received on it before the present chapter.
+    bases: [u64; PORT_PLACES],
+}
+
+impl Model for Recorder {
+    ghost use Rattle.hub_cut.specs.Recorder.{RecorderView};
+
+    ghost Value = { RecorderView };
+
+    ghost use Rattle.hub_cut.specs.RecorderKeeps.{RecorderKeeps, shown};
+
+    ghost view = { λ r. shown r };
+
+    ghost invariant = { λ r. RecorderKeeps r };
+}
+
+/// Keeps a chapter that has ended, and hands out the one before it, if there is one.
+fn keep_last(before: &mut Option<ShortHub>, chapter: ShortHub) -> Option<ShortHub>
+    ensures handed_out { result ≡ before.old }
+    ensures kept { before.new ≡ Some chapter }
+{
+    before.replace(chapter)
+}
+
+impl Recorder {
+    /// A recorder of this edition, with 1 to `MOST_PROCS` processes. A chapter is cut once it has `keep` entries behind its
+    /// checkpoint.
+    ///
+    /// The errors are `BadProcs` and `NoMemory`, tested in this order.
+    pub fn open(
+        alloc: Global,
+        procs: u8,
+        keep: u32,
+        edition: Edition,
+    ) -> Result<Recorder, OpenFault>
+        requires keep { IsKeep keep }
+        ensures ok { IfOk result (λ r. Records (First []) r) }
+        ensures terms { IfOk result (λ r. r.hub.terms ≡ terms_of edition procs MOST_STEPS) }
+        ensures keep { IfOk result (λ r. r.keep ≡ keep) }
+        ensures err { IfErr result (λ f. RefusesOpening (terms_of edition procs MOST_STEPS) f) }
+    {
+        let hub = Hub::open(alloc, procs, MOST_STEPS, edition)?;
+        Ok(Recorder {
+            alloc,
+            hub: hub.shortened(),
+            before: None,
+            keep,
+            fresh: 0,
+            bytes: 0,
+            bases: no_bases(),
+        })
+    }
+
+    /// Makes a step that the hub's edition has. Its events replace those that were there; after a refusal they may be any.
+    /// If the present chapter is full, it is cut first, and the chapter before it is handed out, if there is one. So each
+    /// chapter is handed out once, in order.
+    ///
+    /// The only refusals are `NoProcess`, `Gone`, `Busy` and `NoMemory`, tested in this order. After a refusal nothing has
+    /// changed.
+    pub fn step_into(
+        &mut self,
+        entry: Entry,
+        events: &mut Events,
+    ) -> Result<Option<ShortHub>, Fault>
+        requires fits { is_of (head_of_all self.old).edition entry.step ≡ true }
+        ensures ok { OnOk result (RecordsStep self.old entry self.new events.new.items) }
+        ensures handed_out { IfOk result (λ chapter. option_map hub_in chapter ≡ chapter_out self.old) }
+        ensures text { IfOk result (λ chapter. IfSome (option_map hub_in chapter) FitsText) }
+        ensures refused { IfErr result (λ f. RefusesStep self.old entry f) }
+        ensures unchanged { OnErr result (self.new ≡ self.old) }
+    {
+        if self.is_full() {
+            return self.begin_chapter(entry, events);
+        }
+        self.go_on(entry, events)?;
+        Ok(None)
+    }
+
+    /// Whether the present chapter is cut before the next step.
+    fn is_full(&self) -> bool
+        ensures { result ≡ is_full self.now }
+    {
+        self.fresh >= self.keep || self.bytes >= CHAPTER_BYTES
+    }
+
+    /// Makes a step in the present chapter, which is not full.
+    fn go_on(&mut self, entry: Entry, events: &mut Events) -> Result<(), Fault>
+        requires fits { is_of (head_of_all self.old).edition entry.step ≡ true }
+        requires room { is_full self.old ≡ false }
+        ensures ok { OnOk result (RecordsStep self.old entry self.new events.new.items) }
+        ensures refused { IfErr result (λ f. RefusesStep self.old entry f) }
+        ensures unchanged { OnErr result (self.new ≡ self.old) }
+    {
+        let bytes = most_line(self.hub.head().edition, &entry);
+        self.hub.step_into(entry, events)?;
+        self.fresh += 1;
+        self.bytes += bytes;
+        Ok(())
+    }
+
+    /// Cuts the present chapter, which is full, and makes a step behind its checkpoint. Returns the chapter before it.
+    fn begin_chapter(
+        &mut self,
+        entry: Entry,
+        events: &mut Events,
+    ) -> Result<Option<ShortHub>, Fault>
+        requires fits { is_of (head_of_all self.old).edition entry.step ≡ true }
+        requires full { is_full self.old ≡ true }
+        ensures ok { OnOk result (RecordsStep self.old entry self.new events.new.items) }
+        ensures handed_out { IfOk result (λ chapter. option_map hub_in chapter ≡ chapter_out self.old) }
+        ensures text { IfOk result (λ chapter. IfSome (option_map hub_in chapter) FitsText) }
+        ensures refused { IfErr result (λ f. RefusesStep self.old entry f) }
+        ensures unchanged { OnErr result (self.new ≡ self.old) }
+    {
+        let bytes = most_line(self.hub.head().edition, &entry);
+        let whole = cut_and_step(self.alloc, &mut self.hub, entry, events)?;
+        add_received(&mut self.bases, &whole);
+        self.fresh = 1;
+        self.bytes = bytes;
+        Ok(keep_last(&mut self.before, whole))
+    }
+
+    /// What a port holds, and what it has carried since the recorder was opened. `None` for port 0 and for a port that was
+    /// not made.
+    pub fn look(&self, port: Port) -> Option<Totals>
+        ensures { (chapters : Chapters) → Records chapters self.now
+            → result ≡ totals_at (state (head_of_all self.now) (history chapters)) port }
+    {
+        let look = self.hub.look(port)?;
+        Some(with_base(base_of(&self.bases, port), look))
+    }
+
+    /// The hub, whose journal is the present chapter.
+    pub fn present(&self) -> &ShortHub
+        ensures { result.now.memory.hub ≡ self.now.hub }
+    {
+        &self.hub
+    }
+
+    /// Shows that the recorder stands for some history, and that its chapters are short. It changes nothing.
+    pub fn chapters_are_kept(&self)
+        ensures recorder { IsRecorder self.now }
+        ensures short { IsShort self.now }
+        ensures texts { FitTexts self.now }
+    {
+        let _hub = &self.hub;
+    }
+
+    /// The hub as it was at the last cut, if there was one. Its journal is the chapter before the present one.
+    pub fn before(&self) -> Option<&ShortHub>
+        ensures { option_map (λ b. hub_in b.now) result ≡ self.now.before }
+    {
+        self.before.as_ref()
+    }
+
+    /// The chapter before the present one, if there is one, and the present one.
+    pub fn into_chapters(self) -> (Option<ShortHub>, ShortHub)
+        ensures before { option_map hub_in result.0 ≡ self.before }
+        ensures present { hub_in result.1 ≡ self.hub }
+        ensures texts { FitTexts self }
+    {
+        (self.before, self.hub)
+    }
+}

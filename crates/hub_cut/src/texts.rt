@@ -1,0 +1,45 @@
+//! How long a journal's text can be, by the number of its entries and of their cases.
+
+ghost use Rattle.std.specs.Prelude.{◌≡◌, ◌≤◌, length, true};
+ghost use Rattle.std.specs.List.{AllByRecursion};
+ghost use Rattle.hub_base.specs.Head.{AreOf, is_of};
+ghost use Rattle.hub_base.specs.Lines.{line};
+ghost use Rattle.hub_base.specs.Text.{Fits};
+ghost use Rattle.hub_base.specs.declared.limits.TheConstants.{CASE_PLACES};
+ghost use Rattle.hub_core.specs.LogView.{cases_of_step};
+ghost use Rattle.hub_cut.specs.ChapterText.{most_line};
+
+use crate::limits::{CASE_BYTES, LINE_BYTES, MOST_LINE_BYTES};
+use hub_base::{Edition, Entry, Step};
+
+/// How many cases a step has, none where it is no call.
+fn case_count(step: &Step) -> u32
+    ensures count { result ≡ length (cases_of_step step.now) }
+    ensures few { result ≤ CASE_PLACES }
+{
+    match step {
+        Step::Call { cases, .. } => cases.len() as u32,
+        _ => 0,
+    }
+}
+
+/// The most bytes that the entry's line can have.
+pub(crate) fn most_line(edition: Edition, entry: &Entry) -> u32
+    requires fits { is_of edition entry.now.step ≡ true }
+    ensures most { result ≡ most_line entry.now }
+    ensures few { result ≤ MOST_LINE_BYTES }
+    ensures fits { Fits edition entry.now }
+{
+    let _fits = entry.fits(edition);
+    LINE_BYTES + CASE_BYTES * case_count(&entry.step)
+}
+
+/// Shows that a text can have a line of each of these entries. It changes nothing.
+pub(crate) fn all_fit(edition: Edition, entries: &[Entry])
+    requires { AreOf edition entries.now }
+    ensures { AllByRecursion (Fits edition) entries.now }
+{
+    for entry in entries {
+        let _fits = entry.fits(edition);
+    }
+}

@@ -134,7 +134,12 @@ fn kept(recorder: Recorder) -> (Option<usize>, usize) {
 fn record_all(rt: &impl Abort, alloc: Global) -> Result<(), Fail> {
     let mut recorder = Recorder::open(alloc, 2, 3, first(2).edition)?;
     for (asked, told, handed) in RECORDED {
-        same(rt, record(rt, &mut recorder, *asked, *told), *handed, "chapter");
+        same(
+            rt,
+            record(rt, &mut recorder, *asked, *told),
+            *handed,
+            "chapter",
+        );
     }
     same(rt, recorder.look(Port(1)), Some(CARRIED), "counts");
     same(rt, recorder.look(Port(2)), None, "no port");

@@ -1,22 +1,23 @@
 // Package chanhub provides channels like Go's, in a hub that reports deadlocks and keeps a journal of its steps.
 //
-// A hub has 1 to 64 processes. Each goroutine acts as one process, through its [Seat]. A call that has to wait blocks its goroutine
-// and delays no other call.
+// A hub has 1 to 64 processes. Each goroutine acts as one process, through its [Seat]. A call that has to wait blocks its
+// goroutine and delays no other call.
 //
 // # Deadlocks
 //
-// If every process that has not exited is waiting, none of their calls can ever end. Each of them then returns [ErrStalled]. To see who
-// waited for whom, write [Hub.Journal] to a file, and run tools/explain.sh on it in this repository. The picture shows processes
-// and channels by number: [Seat.Pid] and [Port].
+// If every process that has not exited is waiting, none of their calls can ever end. Each of these calls then returns
+// [ErrStalled]. To see who waited for whom, write [Hub.Journal] to a file, and run tools/explain.sh on it in this repository. The
+// picture shows processes and channels by number: [Seat.Pid] and [Port].
 //
 // A hub watches only its own processes, so it can report a deadlock while other goroutines of the program still run. Go's runtime
-// reports a deadlock only if all goroutines are asleep, or all those of a testing/synctest bubble. In a program that uses cgo, as this package does, it reports none at all
-// outside a bubble (tried with Go 1.19).
+// reports a deadlock only if all goroutines are asleep, or all those of a testing/synctest bubble. Outside a bubble it reports none
+// at all in a program that uses cgo, as this package does (tried with Go 1.19).
 //
 // No deadlock is reported while a process that has not exited is outside the hub, such as in I/O or in a call of [sync.Mutex.Lock]
-// or [sync.WaitGroup.Wait]. Once it waits in a call or exits, deadlocks are reported again. Therefore call [Seat.Exit] after the last
-// call of a process: before its goroutine returns, and before a wait that only other processes can end, such as a Wait. If a
-// program hangs, any goroutine can write the journal, since Journal needs no seat. Its picture shows the calls that still wait.
+// or [sync.WaitGroup.Wait]. Once it waits in a call or exits, deadlocks are reported again. Therefore call [Seat.Exit] after the
+// last call of a process: before its goroutine returns, and before a wait that only other processes can end, such as that of a
+// WaitGroup. If a program hangs, any goroutine can write the journal, since Journal needs no seat. Its picture shows the calls
+// that still wait.
 //
 // # Deadlocks in tests
 //

@@ -64,14 +64,16 @@
 //!
 //! # Deadlocks
 //!
-//! If every process that has not exited is waiting, none of their calls can ever end. Each of them then returns
-//! [`Ended::Stalled`]. To see who waited for whom, save [`Hub::journal`] to a file, and run `tools/explain.sh FILE` in this crate's repository. The
-//! picture shows processes and channels by number: [`Seat::pid`] and [`Sender::port`].
+//! If every process that has not exited is waiting, none of their calls can ever end. Each of these calls then returns
+//! [`Ended::Stalled`]. To see who waited for whom, save [`Hub::journal`] to a file, and run `tools/explain.sh FILE` in this crate's
+//! repository. The picture shows processes and channels by number: [`Seat::pid`] and [`Sender::port`].
 //!
 //! No deadlock is reported while a process that has not exited is outside the hub: busy, or blocked in a `Mutex`, in I/O or in
 //! [`join`](std::thread::JoinHandle::join). Once it waits in a call or exits, deadlocks are reported again. Drop a seat after its
-//! last call, and before a wait that only other processes can end, such as a join. If a program hangs, save the journal from any thread, through a clone of the [`Hub`].
-//! Its picture shows the calls that still wait.
+//! last call, and before a wait that only other processes can end, such as a join.
+//!
+//! If a program hangs, save the journal from any thread, through a clone of the [`Hub`]. Its picture shows the calls that still
+//! wait.
 //!
 //! A panic that unwinds drops the seats that its thread owns, and so exits their processes. If every other process is waiting
 //! then, their calls return [`Ended::Stalled`] instead of hanging.

@@ -45,7 +45,8 @@
 //
 // A hub has at most 64 ports, and a closed port still counts. It makes at most 1,000,000 steps, not counting exits, so it suits
 // tests and finite runs. A program that runs longer opens a new hub for each batch of its work. No call takes a timeout or a
-// context; the example RecvContext uses [Seat.Cancel] instead.
+// context; the example RecvContext uses [Seat.Cancel] instead. While the process that cancels is outside the hub, no deadlock is
+// reported.
 //
 // # Threads
 //

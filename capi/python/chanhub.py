@@ -6,13 +6,25 @@
         ann.send(port, 9)
         print(bob.recv(port))
 
-A hub has a fixed number of processes, and each thread calls as one of them, through a seat. Other threads run while a call waits.
-A call that fails raises Closed, Drained, Stalled, Cancelled or Fault.
+A hub has a fixed number of processes. Each thread acts as one of them, through its seat. Other threads run while a call waits. A call
+that fails raises Closed, Drained, Stalled, Cancelled or Fault.
 
-If every process that has not exited is waiting, no call could ever end. Each waiting call then raises Stalled. A hub watches only its
-own processes, so it can report a deadlock while other threads of the program still run. But no deadlock is reported while a process
-that has not exited is outside the hub, such as in a lock, a join or I/O. If a program hangs, any thread can save `hub.journal()` to a
-file; `tools/explain.sh FILE` in this repository draws the calls that still wait, with the numbers of their processes and ports.
+If every process that has not exited is waiting, none of their calls can ever end. Each of these calls then raises Stalled. A hub
+watches only its own processes, so it can report a deadlock while other threads of the program still run. But no deadlock is reported
+while a process that has not exited is outside the hub, such as in a lock, a join or I/O. Once it waits in a call or exits, deadlocks
+are reported again. Exit a process after its last call: before its thread ends, and before a wait that only other processes can end,
+such as a join.
+
+If a program hangs, any thread can save `hub.journal()` to a file; `tools/explain.sh FILE` in this repository draws the calls that
+still wait, with the numbers of their processes and ports.
+
+A stall ends several calls at once. In a test, the first thread that catches Stalled saves the journal, before its process exits. Here
+`saving` is a threading.Lock, and `file` a new Path of the test, such as `tmp_path / 'stalled.journal'` in pytest:
+
+    except Stalled:
+        with saving:
+            file.exists() or file.write_bytes(hub.journal())
+        raise
 
 Limits: a hub has at most 64 processes and 64 ports, and a closed port still counts. It makes at most 1,000,000 steps, not counting
 exits, so it suits tests and finite runs; a program that runs longer opens a new hub for each batch of its work. A value is an int of
@@ -405,7 +417,7 @@ class Table:
 
 
 class Seat:
-    """A process of a hub. One thread at a time may call through it. As a context manager, it exits the process at the end."""
+    """A handle to a process of a hub. One thread at a time may call through it. As a context manager, it exits the process at the end."""
 
     def __init__(self, hub: Hub, pid: int) -> None:
         self.hub = hub

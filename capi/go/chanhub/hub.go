@@ -1,22 +1,33 @@
 // Package chanhub provides channels like Go's, in a hub that reports deadlocks and keeps a journal of its steps.
 //
-// A hub has 1 to 64 processes. A goroutine calls as one of them, through a [Seat]. A call that has to wait blocks its goroutine
-// and delays no other call.
+// A hub has 1 to 64 processes. Each goroutine acts as one process, through its [Seat]. A call that has to wait blocks its
+// goroutine and delays no other call.
 //
 // # Deadlocks
 //
-// If every process that has not exited is waiting, no call could ever end. Each waiting call then returns [ErrStalled]. To see who
-// waited for whom, write [Hub.Journal] to a file, and run tools/explain.sh on it in this repository. The picture shows processes
-// and channels by number: [Seat.Pid] and [Port].
+// If every process that has not exited is waiting, none of their calls can ever end. Each of these calls then returns
+// [ErrStalled]. To see who waited for whom, write [Hub.Journal] to a file, and run tools/explain.sh on it in this repository. The
+// picture shows processes and channels by number: [Seat.Pid] and [Port].
 //
 // A hub watches only its own processes, so it can report a deadlock while other goroutines of the program still run. Go's runtime
-// reports a deadlock only if all goroutines are asleep. In a program that uses cgo, as this package does, it reports none at all
-// (tried with Go 1.19).
+// reports a deadlock only if all goroutines are asleep, or all those of a testing/synctest bubble. Outside a bubble it reports none
+// at all in a program that uses cgo, as this package does (tried with Go 1.19).
 //
 // No deadlock is reported while a process that has not exited is outside the hub, such as in I/O or in a call of [sync.Mutex.Lock]
-// or [sync.WaitGroup.Wait]. A goroutine that others may wait for must therefore call [Seat.Exit] before it returns and before it
-// waits for other goroutines. If a program hangs, any goroutine can write the journal, since Journal needs no seat. Its picture
-// shows the calls that still wait.
+// or [sync.WaitGroup.Wait]. Once it waits in a call or exits, deadlocks are reported again. Therefore call [Seat.Exit] after the
+// last call of a process: before its goroutine returns, and before a wait that only other processes can end, such as that of a
+// WaitGroup. If a program hangs, any goroutine can write the journal, since Journal needs no seat. Its picture shows the calls
+// that still wait.
+//
+// # Deadlocks in tests
+//
+// A stall ends several calls at once. Each goroutine should handle the error before it calls [Seat.Exit]; the first one saves the
+// journal, and the others wait until it is saved. Here once is a [sync.Once] of the test, and file is a path with the test's name:
+//
+//	if errors.Is(err, chanhub.ErrStalled) {
+//		once.Do(func() { journal, _ := hub.Journal(); os.WriteFile(file, journal, 0o666) })
+//		t.Error("deadlock: run tools/explain.sh " + file)
+//	}
 //
 // # Memory order
 //
@@ -34,7 +45,8 @@
 //
 // A hub has at most 64 ports, and a closed port still counts. It makes at most 1,000,000 steps, not counting exits, so it suits
 // tests and finite runs. A program that runs longer opens a new hub for each batch of its work. No call takes a timeout or a
-// context; the example RecvContext uses [Seat.Cancel] instead.
+// context; the example RecvContext uses [Seat.Cancel] instead. While the process that cancels is outside the hub, no deadlock is
+// reported.
 //
 // # Threads
 //

@@ -3,8 +3,9 @@ package chanhub
 // #include <chanhub.h>
 import "C"
 
-// A Seat is a process of a hub. Only one goroutine at a time may call through it; several may take turns. While a call of the
-// process waits, any other call of the process returns [FaultBusy]. Two seats with the same number are the same process.
+// A Seat is a handle to a process of a hub. Only one goroutine at a time may call through it; several may take turns. While a
+// call of the process waits, any other call of the process returns [FaultBusy]. Two seats with the same number are handles to the
+// same process.
 type Seat struct {
 	hub *Hub
 	pid int

@@ -42,7 +42,7 @@ impl Drop for Raw {
 #[derive(Clone)]
 pub struct Hub(Arc<Raw>);
 
-/// A process of a hub.
+/// A handle to a process of a hub.
 ///
 /// Each call takes the seat by `&mut`, so only one thread at a time calls as the process. Dropping the seat exits the process, and
 /// so does a panic that unwinds the thread that owns it. Once a process has exited, a deadlock among the others can be reported.

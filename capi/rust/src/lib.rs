@@ -1,6 +1,6 @@
 //! Go's channels for threads, in a hub that reports deadlocks and keeps a journal of its steps.
 //!
-//! A [`Hub`] has a fixed number of processes. Each thread calls as one of them, through a [`Seat`]. A call that has to wait blocks
+//! A [`Hub`] has a fixed number of processes. Each thread acts as one process, through its [`Seat`]. A call that has to wait blocks
 //! its thread, so async code should make its calls on a separate thread.
 //!
 //! A hub watches only its own processes. It can therefore report a deadlock among them while other threads of the program still
@@ -64,48 +64,60 @@
 //!
 //! # Deadlocks
 //!
-//! If every process that has not exited is waiting, no call could ever end. Each waiting call then returns [`Ended::Stalled`]. To
-//! see who waited for whom, save [`Hub::journal`] to a file, and run `tools/explain.sh FILE` in this crate's repository. The
-//! picture shows processes and channels by number: [`Seat::pid`] and [`Sender::port`].
+//! If every process that has not exited is waiting, none of their calls can ever end. Each of these calls then returns
+//! [`Ended::Stalled`]. To see who waited for whom, save [`Hub::journal`] to a file, and run `tools/explain.sh FILE` in this crate's
+//! repository. The picture shows processes and channels by number: [`Seat::pid`] and [`Sender::port`].
 //!
 //! No deadlock is reported while a process that has not exited is outside the hub: busy, or blocked in a `Mutex`, in I/O or in
-//! [`join`](std::thread::JoinHandle::join). If a program hangs, save the journal from any thread, through a clone of the [`Hub`].
-//! Its picture shows the calls that still wait.
+//! [`join`](std::thread::JoinHandle::join). Once it waits in a call or exits, deadlocks are reported again. Drop a seat after its
+//! last call, and before a wait that only other processes can end, such as a join.
+//!
+//! If a program hangs, save the journal from any thread, through a clone of the [`Hub`]. Its picture shows the calls that still
+//! wait.
 //!
 //! A panic that unwinds drops the seats that its thread owns, and so exits their processes. If every other process is waiting
 //! then, their calls return [`Ended::Stalled`] instead of hanging.
 //!
 //! # Deadlocks in tests
 //!
-//! A test can save the journal when a call stalls, and then fail:
+//! A test can save the journal when a call stalls, and then fail. A stall ends several calls at once, so a [`Once`] of the test
+//! saves the journal, and the other threads wait until it is saved. They still own their seats then. Do not drop a seat earlier,
+//! because that appends an exit to the journal.
 //!
 //! ```
 //! use chanhub::{Edition, Ended, Hub};
-//! use std::{env, fs, process};
+//! use std::{env, fs, sync::Once, thread};
 //!
-//! /// Returns the value of a call. If the call failed, panics; if it stalled, saves the journal first.
-//! fn value_of<T>(hub: &Hub, result: Result<T, Ended>) -> T {
+//! /// Returns the value of a call. If the call stalled, saves the test's journal, once, and panics.
+//! fn value_of<T>(hub: &Hub, test: &str, saved: &Once, result: Result<T, Ended>) -> T {
 //!     if let Err(Ended::Stalled) = result {
-//!         let file = env::temp_dir().join(format!("stalled-{}.journal", process::id()));
-//!         fs::write(&file, hub.journal().expect("memory")).expect("the journal is saved");
+//!         let file = env::temp_dir().join(format!("{test}.journal"));
+//!         saved.call_once(|| fs::write(&file, hub.journal().expect("memory")).expect("the journal is saved"));
 //!         panic!("deadlock: run tools/explain.sh {}", file.display());
 //!     }
 //!     result.unwrap()
 //! }
 //!
-//! let (hub, mut seats) = Hub::open(Edition::One, 1, 100).unwrap();
-//! let (sender, receiver) = seats[0].channel(1).unwrap();
-//! value_of(&hub, sender.send(&mut seats[0], 7));
-//! assert_eq!(value_of(&hub, receiver.recv(&mut seats[0])).number(), Some(7));
-//! # let stalled = receiver.recv(&mut seats[0]);
-//! # let failed = std::panic::catch_unwind(std::panic::AssertUnwindSafe(|| value_of(&hub, stalled)));
-//! # let said = failed.unwrap_err().downcast::<String>().unwrap();
-//! # let file = said.strip_prefix("deadlock: run tools/explain.sh ").unwrap();
-//! # assert!(fs::read_to_string(file).unwrap().ends_with("\n0 recv 1\n0 recv 1\n"));
+//! static SAVED: Once = Once::new(); // one for each test
+//! let (hub, mut seats) = Hub::open(Edition::One, 2, 100).unwrap();
+//! let (_, receiver) = seats[0].channel(1).unwrap();
+//! let mut threads = Vec::new();
+//! for mut seat in seats {
+//!     let hub = hub.clone();
+//!     threads.push(thread::spawn(move || value_of(&hub, "two_receivers", &SAVED, receiver.recv(&mut seat))));
+//! }
+//! for thread in threads {
+//!     assert!(thread.join().is_err()); // nobody sends: both calls stall
+//! }
+//! # let file = env::temp_dir().join("two_receivers.journal");
+//! # let journal = fs::read_to_string(&file).unwrap();
+//! # assert!(journal.ends_with("\n0 recv 1\n1 recv 1\n") || journal.ends_with("\n1 recv 1\n0 recv 1\n"));
 //! # fs::remove_file(file).unwrap();
 //! ```
 //!
 //! The crates `loom` and `shuttle` explore many schedules of a test. This crate records one run and explains it.
+//!
+//! [`Once`]: std::sync::Once
 //!
 //! # Limits
 //!
@@ -116,7 +128,7 @@
 //! - A value is a `u64` or, in [`Edition::Two`], a byte string of at most 32 bytes. A [`Table`] holds values of any other type, so
 //!   that channels can pass them by number.
 //! - No call has a timeout. Use a [`select`](Seat::select) with a default, or let another process [`cancel`](Seat::cancel) the
-//!   call.
+//!   call. While that process is outside the hub, its seat prevents reports of deadlocks.
 //!
 //! # Linking
 //!

@@ -9,7 +9,7 @@ use std::sync::{Mutex, MutexGuard, PoisonError};
 /// A channel carries only numbers and byte strings of up to 32 bytes. To pass anything else, [`put`](Table::put) it into a table
 /// that both threads share, and send the number that `put` returns. The receiver passes that number to [`take`](Table::take).
 ///
-/// If a send fails, the thing stays in the table; `take` also gets it back for the sender.
+/// If a send fails, the value stays in the table, and the sender can `take` it back.
 ///
 /// # Examples
 ///
@@ -24,7 +24,7 @@ use std::sync::{Mutex, MutexGuard, PoisonError};
 /// sender.send(&mut seat, table.put(String::from("a long text"))).unwrap();
 /// let number = receiver.recv(&mut seat).unwrap();
 /// assert_eq!(table.take(number).as_deref(), Some("a long text"));
-/// assert_eq!(table.take(number), None); // each thing is taken once
+/// assert_eq!(table.take(number), None); // each value is taken once
 /// ```
 #[derive(Debug)]
 pub struct Table<T> {
@@ -58,7 +58,7 @@ impl<T> Table<T> {
         self.kept.lock().unwrap_or_else(PoisonError::into_inner)
     }
 
-    /// Stores a thing and returns its number, as a value that can be sent.
+    /// Stores a value and returns its number, as a [`Value`] that can be sent.
     pub fn put(&self, thing: T) -> Value {
         let mut kept = self.lock();
         let number = kept.next;
@@ -67,7 +67,7 @@ impl<T> Table<T> {
         Value::Number(number)
     }
 
-    /// Removes and returns the thing with this number. Returns `None` if the table has no such thing.
+    /// Removes and returns the value with this number. Returns `None` if the table has none.
     pub fn take(&self, value: Value) -> Option<T> {
         self.lock().things.remove(&value.number()?)
     }

@@ -1,8 +1,8 @@
 //! Checks a chain of chapters: each of them is the text of a legal journal, and each but the first begins with the
 //! checkpoint of the one before.
 //!
-//! What a chain of chapters is one history of is said in `hub_chapters`. One chapter lies in memory at a time: of those before it a
-//! chain keeps the last checkpoint alone.
+//! Why such chapters are one history is said in `hub_chapters`. One chapter lies in memory at a time: of those before it a
+//! chain keeps only the last checkpoint.
 #![tactic(auto)]
 
 mod beginnings;

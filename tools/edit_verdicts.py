@@ -76,7 +76,8 @@ def goals_of(said):
             waiting.append((note.group(1), kind_of_note(note.group(1), note.group(2)), entry))
         elif answer:
             path, name, text = answer.groups()
-            answered.setdefault(path.replace('/', '::'), []).append((name or '', kind_of_answer(text), entry))
+            # A function that calls itself has a `+` before its name there.
+            answered.setdefault(path.replace('/', '::').replace('+', ''), []).append((name or '', kind_of_answer(text), entry))
         elif verdict:
             if re.match(r'(?:not proved|no proof|could not tell)(?!: it calls)', verdict.group(3)):
                 goals += [Goal(verdict.group(2), *it) for it in waiting]

@@ -123,7 +123,7 @@ pub enum Selected {
 impl Hub {
     /// Opens a hub with 1 to 64 processes. Returns the hub and a seat for each process, in order.
     ///
-    /// The hub makes at most `limit` steps, between 1 and 1,000,000. Exits do not count.
+    /// `limit` (1 to 1,000,000) is the most steps that the hub makes. Exits do not count.
     ///
     /// Drop every seat that no thread uses. As long as you keep it, no deadlock among the other processes is reported.
     ///

@@ -83,7 +83,7 @@ import (
 	"unsafe"
 )
 
-// An Edition determines what the calls on a hub may contain.
+// An Edition determines what the calls on a hub may contain. Use Edition2 unless numbers are enough.
 type Edition int
 
 const (

@@ -68,7 +68,8 @@
 //!
 //! If every process that has not exited is waiting, none of their calls can ever end. Each of these calls then returns
 //! [`Ended::Stalled`]. To see who waited for whom, save [`Hub::journal`] to a file, and run `tools/explain.sh FILE` in this crate's
-//! repository. The picture shows processes and channels by number: [`Seat::pid`] and [`Sender::port`].
+//! repository. The picture shows processes and channels by number: [`Seat::pid`] and [`Sender::port`]. `docs/EXPLAIN.md` says how to
+//! read it. Journals, pictures and error texts call a channel a *port*.
 //!
 //! No deadlock is reported while a process that has not exited is outside the hub: busy, or blocked in a `Mutex`, in I/O or in
 //! [`join`](std::thread::JoinHandle::join). Once it waits in a call or exits, deadlocks are reported again. Drop a seat after its

@@ -9,7 +9,8 @@
 A hub has a fixed number of processes. Each thread acts as one of them, through its seat. Other threads run while a call waits. A call
 that fails raises Closed, Drained, Stalled, Cancelled or Fault.
 
-If every process that has not exited is waiting, none of their calls can ever end. Each of these calls then raises Stalled. A hub
+If every process that has not exited is waiting, none of their calls can ever end. Each of these calls then raises Stalled, and has had
+no effect. A process may call again, but if all repeat their calls, they stall again. A hub
 watches only its own processes, so it can report a deadlock while other threads of the program still run. But no deadlock is reported
 while a process that has not exited is outside the hub, such as in a lock, a join or I/O. Once it waits in a call or exits, deadlocks
 are reported again. Exit a process after its last call: before its thread ends, and before a wait that only other processes can end,
@@ -290,7 +291,7 @@ def _free(handle: ctypes.c_void_p, opener: int) -> None:
 
 
 class Hub:
-    """A hub of `procs` processes, 1 to 64, that makes at most `limit` steps, 1 to 1,000,000. Exits do not count.
+    """A hub of `procs` processes (1 to 64). `limit` (1 to 1,000,000) is the most steps that it makes. Exits do not count.
 
     Open the hub with exactly as many processes as you will run. While one of them neither calls nor exits, no deadlock among the
     others is reported.

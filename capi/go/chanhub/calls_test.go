@@ -31,7 +31,7 @@ func makePort(t *testing.T, seat *chanhub.Seat, capacity int) chanhub.Port {
 	return port
 }
 
-// told fails the test where a call came to another end.
+// told fails the test unless err is wanted.
 func told(t *testing.T, name string, err, wanted error) {
 	t.Helper()
 	if !errors.Is(err, wanted) {
@@ -39,7 +39,7 @@ func told(t *testing.T, name string, err, wanted error) {
 	}
 }
 
-// bytesOf gives the value that is the bytes of this text.
+// bytesOf returns the bytes of this text as a value.
 func bytesOf(t *testing.T, text string) chanhub.Value {
 	t.Helper()
 	value, err := chanhub.Bytes([]byte(text))
@@ -49,7 +49,7 @@ func bytesOf(t *testing.T, text string) chanhub.Value {
 	return value
 }
 
-// untilItStands waits until the journal has this line: the step that it tells is then made.
+// untilItStands waits until the journal has this line, so that its step has been made.
 func untilItStands(t *testing.T, hub *chanhub.Hub, line string) {
 	t.Helper()
 	for {

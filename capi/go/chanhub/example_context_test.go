@@ -4,6 +4,7 @@ import (
 	"context"
 	"errors"
 	"fmt"
+	"log"
 	"time"
 
 	"chanhub/chanhub"
@@ -11,6 +12,11 @@ import (
 
 // A receive that ends when its context is done.
 func Example_recvContext() {
+	check := func(err error) {
+		if err != nil {
+			log.Fatal(err)
+		}
+	}
 	hub, err := chanhub.Open(chanhub.Edition2, 2, 1000)
 	check(err)
 	defer hub.Close()

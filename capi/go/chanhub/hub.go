@@ -16,18 +16,28 @@
 // No deadlock is reported while a process that has not exited is outside the hub, such as in I/O or in a call of [sync.Mutex.Lock]
 // or [sync.WaitGroup.Wait]. Once it waits in a call or exits, deadlocks are reported again. Therefore call [Seat.Exit] after the
 // last call of a process: before its goroutine returns, and before a wait that only other processes can end, such as that of a
-// WaitGroup. If a program hangs, any goroutine can write the journal, since Journal needs no seat. Its picture shows the calls
-// that still wait.
+// WaitGroup.
+//
+// If a program hangs, any goroutine can write the journal, since Journal needs no seat. Its picture shows the calls that still wait:
+//
+//	time.AfterFunc(time.Minute, func() {
+//		journal, _ := hub.Journal()
+//		os.WriteFile("hung.journal", journal, 0o666)
+//	})
 //
 // # Deadlocks in tests
 //
-// A stall ends several calls at once. Each goroutine should handle the error before it calls [Seat.Exit]; the first one saves the
-// journal, and the others wait until it is saved. Here once is a [sync.Once] of the test, and file is a path with the test's name:
+// A stall ends several calls at once. Each goroutine should handle the error before it calls [Seat.Exit], because each exit appends
+// an entry to the journal. The first goroutine saves the journal, and the others wait until it is saved. Here once is a [sync.Once] of
+// the test, and file is a path with the test's name:
 //
 //	if errors.Is(err, chanhub.ErrStalled) {
 //		once.Do(func() { journal, _ := hub.Journal(); os.WriteFile(file, journal, 0o666) })
 //		t.Error("deadlock: run tools/explain.sh " + file)
 //	}
+//
+// A deferred Exit runs after this code, and also after a panic. A stalled call had no effect. A process may call again, but if all
+// repeat their calls, they stall again: let one of them back off, exit or close a port.
 //
 // # Memory order
 //
@@ -73,7 +83,7 @@ import (
 	"unsafe"
 )
 
-// An Edition determines what the calls on a hub may contain.
+// An Edition determines what the calls on a hub may contain. Use Edition2 unless numbers are enough.
 type Edition int
 
 const (
@@ -104,8 +114,8 @@ type Hub struct {
 	calling []int // for each process, the number of its calls in the library
 }
 
-// Open opens a hub with 1 to 64 processes. The hub makes at most limit steps, between 1 and 1,000,000; exits do not count. Call
-// [Hub.Close] to free its memory.
+// Open opens a hub with 1 to 64 processes. The limit (1 to 1,000,000) is the most steps that the hub makes; exits do
+// not count. Call [Hub.Close] to free its memory.
 //
 // If no goroutine calls as one of the processes, call [Seat.Exit] for it. Until then, no deadlock among the others is reported.
 //

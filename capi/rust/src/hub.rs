@@ -10,7 +10,7 @@ use std::ptr;
 use std::sync::atomic::{AtomicU64, Ordering};
 use std::sync::Arc;
 
-/// The edition of a hub, which determines what its calls may contain.
+/// The edition of a hub, which determines what its calls may contain. Use `Two` unless numbers are enough.
 #[derive(Clone, Copy, Debug, PartialEq, Eq)]
 pub enum Edition {
     /// Values are numbers, and a select has up to 8 cases.
@@ -123,7 +123,7 @@ pub enum Selected {
 impl Hub {
     /// Opens a hub with 1 to 64 processes. Returns the hub and a seat for each process, in order.
     ///
-    /// The hub makes at most `limit` steps, between 1 and 1,000,000. Exits do not count.
+    /// `limit` (1 to 1,000,000) is the most steps that the hub makes. Exits do not count.
     ///
     /// Drop every seat that no thread uses. As long as you keep it, no deadlock among the other processes is reported.
     ///

@@ -1,7 +1,8 @@
 //! Go's channels for threads, in a hub that reports deadlocks and keeps a journal of its steps.
 //!
 //! A [`Hub`] has a fixed number of processes. Each thread acts as one process, through its [`Seat`]. A call that has to wait blocks
-//! its thread, so async code should make its calls on a separate thread.
+//! its thread, so async code should make its calls on a separate thread, such as with tokio's `spawn_blocking`. The process counts
+//! as waiting meanwhile.
 //!
 //! A hub watches only its own processes. It can therefore report a deadlock among them while other threads of the program still
 //! run.
@@ -22,7 +23,8 @@
 //! assert_eq!(hub.look_at(&receiver).unwrap().received, 1);
 //! ```
 //!
-//! A call that fails returns an [`Ended`] or a [`Fault`]. The operator `?` converts a `Fault` into an `Ended`:
+//! A call that fails returns an [`Ended`]. [`channel`](Seat::channel) and [`cancel`](Seat::cancel), which never wait, return a
+//! [`Fault`] instead. The operator `?` converts a `Fault` into an `Ended`:
 //!
 //! ```
 //! use chanhub::{Edition, Ended, Hub, Seat};
@@ -66,23 +68,38 @@
 //!
 //! If every process that has not exited is waiting, none of their calls can ever end. Each of these calls then returns
 //! [`Ended::Stalled`]. To see who waited for whom, save [`Hub::journal`] to a file, and run `tools/explain.sh FILE` in this crate's
-//! repository. The picture shows processes and channels by number: [`Seat::pid`] and [`Sender::port`].
+//! repository. The picture shows processes and channels by number: [`Seat::pid`] and [`Sender::port`]. `docs/EXPLAIN.md` says how to
+//! read it. Journals, pictures and error texts call a channel a *port*.
 //!
 //! No deadlock is reported while a process that has not exited is outside the hub: busy, or blocked in a `Mutex`, in I/O or in
 //! [`join`](std::thread::JoinHandle::join). Once it waits in a call or exits, deadlocks are reported again. Drop a seat after its
 //! last call, and before a wait that only other processes can end, such as a join.
 //!
+//! A stalled call had no effect. A process may call again, but if all repeat their calls, they stall again: let one of them back
+//! off, exit or close a channel.
+//!
 //! If a program hangs, save the journal from any thread, through a clone of the [`Hub`]. Its picture shows the calls that still
-//! wait.
+//! wait:
+//!
+//! ```
+//! use std::{fs, thread, time::Duration};
+//!
+//! # let (hub, _seats) = chanhub::Hub::open(chanhub::Edition::One, 1, 100).unwrap();
+//! let watched = hub.clone();
+//! thread::spawn(move || {
+//!     thread::sleep(Duration::from_secs(60));
+//!     fs::write("hung.journal", watched.journal().expect("memory")).expect("a file");
+//! });
+//! ```
 //!
 //! A panic that unwinds drops the seats that its thread owns, and so exits their processes. If every other process is waiting
 //! then, their calls return [`Ended::Stalled`] instead of hanging.
 //!
 //! # Deadlocks in tests
 //!
-//! A test can save the journal when a call stalls, and then fail. A stall ends several calls at once, so a [`Once`] of the test
-//! saves the journal, and the other threads wait until it is saved. They still own their seats then. Do not drop a seat earlier,
-//! because that appends an exit to the journal.
+//! A test can save the journal when a call stalls, and then fail. A stall ends several calls at once, so use one [`Once`] per test:
+//! one thread saves the journal, and the others wait, still owning their seats. Do not drop a seat earlier, because that appends an
+//! exit to the journal.
 //!
 //! ```
 //! use chanhub::{Edition, Ended, Hub};
@@ -133,8 +150,8 @@
 //! # Linking
 //!
 //! The crate requires Rust 1.63 or later. It links the static library `libchanhub.a`. The build looks for it in the folder that
-//! the environment variable `CHANHUB_LIB` names or, if that is not set, in `capi/out` of this repository, where `make -C capi`
-//! builds it.
+//! the environment variable `CHANHUB_LIB` names, by its full path, or, if that is not set, in `capi/out` of this repository, where
+//! `make -C capi` builds it. Without the library, `cargo doc` fails too.
 
 #![warn(missing_docs, missing_debug_implementations)]
 

@@ -162,7 +162,9 @@ def step(fields):
     if word == 'select':
         default = fields[-1] == 'default'
         return 'call', ([case(text) for text in fields[2:len(fields) - default]], default, int(fields[1]))
-    return 'exit', None
+    if word == 'exit':
+        return word, None
+    sys.exit(f'there is no step {word}')
 
 
 def main():

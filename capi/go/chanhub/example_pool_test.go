@@ -41,6 +41,9 @@ func Example_pool() {
 	hub, err := chanhub.Open(chanhub.Edition1, 4, 1000)
 	check := func(err error) {
 		if saving(hub, err) != nil {
+			if errors.Is(err, chanhub.ErrStalled) {
+				log.Fatalf("%v: see stalled.journal", err)
+			}
 			log.Fatal(err)
 		}
 	}

@@ -18,6 +18,7 @@ func saving(hub *chanhub.Hub, err error) error {
 		once.Do(func() {
 			journal, _ := hub.Journal()
 			os.WriteFile("stalled.journal", journal, 0o666)
+			log.Print("deadlock: see stalled.journal")
 		})
 	}
 	return err
@@ -41,9 +42,6 @@ func Example_pool() {
 	hub, err := chanhub.Open(chanhub.Edition1, 4, 1000)
 	check := func(err error) {
 		if saving(hub, err) != nil {
-			if errors.Is(err, chanhub.ErrStalled) {
-				log.Fatalf("%v: see stalled.journal", err)
-			}
 			log.Fatal(err)
 		}
 	}

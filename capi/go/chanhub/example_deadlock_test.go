@@ -4,6 +4,8 @@ import (
 	"errors"
 	"fmt"
 	"log"
+	"os"
+	"path/filepath"
 	"sort"
 	"strings"
 	"sync"
@@ -11,7 +13,7 @@ import (
 	"chanhub/chanhub"
 )
 
-// A deadlock: each of two goroutines waits for the other to send first.
+// A deadlock: each of two goroutines waits for the other to send first. The journal is written to a file for tools/explain.sh.
 func Example_deadlock() {
 	hub, err := chanhub.Open(chanhub.Edition1, 2, 1000)
 	if err != nil {
@@ -37,6 +39,10 @@ func Example_deadlock() {
 	both.Wait()
 	journal, err := hub.Journal()
 	if err != nil {
+		log.Fatal(err)
+	}
+	file := filepath.Join(os.TempDir(), "deadlock.journal")
+	if err := os.WriteFile(file, journal, 0o666); err != nil {
 		log.Fatal(err)
 	}
 	lines := strings.Split(strings.TrimSpace(string(journal)), "\n")

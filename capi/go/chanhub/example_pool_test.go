@@ -18,6 +18,7 @@ func saving(hub *chanhub.Hub, err error) error {
 		once.Do(func() {
 			journal, _ := hub.Journal()
 			os.WriteFile("stalled.journal", journal, 0o666)
+			log.Print("deadlock: see stalled.journal")
 		})
 	}
 	return err

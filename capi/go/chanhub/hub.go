@@ -20,16 +20,18 @@
 //
 // If a program hangs, any goroutine can write the journal, since Journal needs no seat. Its picture shows the calls that still wait:
 //
-//	time.AfterFunc(time.Minute, func() {
-//		journal, _ := hub.Journal()
-//		os.WriteFile("hung.journal", journal, 0o666)
+//	watchdog := time.AfterFunc(time.Minute, func() {
+//		if journal, err := hub.Journal(); err == nil { // it fails once the hub is closed
+//			os.WriteFile("hung.journal", journal, 0o666)
+//		}
 //	})
+//	defer watchdog.Stop()
 //
 // # Deadlocks in tests
 //
-// A stall ends several calls at once. Each goroutine should handle the error before it calls [Seat.Exit], because each exit appends
-// an entry to the journal. The first goroutine saves the journal, and the others wait until it is saved. Here once is a [sync.Once] of
-// the test, and file is a path with the test's name:
+// A stall ends several calls at once. Each goroutine should handle the error before it calls [Seat.Exit], so that the stalled calls
+// are the journal's last entries. The first goroutine saves the journal, and the others wait until it is saved. `once` is the test's
+// [sync.Once], and `file` is a path with the test's name:
 //
 //	if errors.Is(err, chanhub.ErrStalled) {
 //		once.Do(func() { journal, _ := hub.Journal(); os.WriteFile(file, journal, 0o666) })

@@ -1,8 +1,8 @@
-//! A deadlock: each of two threads waits for the other to send first.
+//! A deadlock: each of two threads waits for the other to send first. Writes the journal to the file that it is given, if any.
 
 use chanhub::{Edition, Ended, Hub};
 use std::error::Error;
-use std::thread;
+use std::{env, fs, thread};
 
 fn main() -> Result<(), Box<dyn Error>> {
     let (hub, mut seats) = Hub::open(Edition::One, 2, 1000)?;
@@ -30,6 +30,9 @@ fn main() -> Result<(), Box<dyn Error>> {
     calls.sort();
     for call in calls {
         println!("stalled: {call}");
+    }
+    if let Some(file) = env::args_os().nth(1) {
+        fs::write(file, &journal)?;
     }
     Ok(())
 }

@@ -23,8 +23,8 @@
 //! assert_eq!(hub.look_at(&receiver).unwrap().received, 1);
 //! ```
 //!
-//! A call that fails returns an [`Ended`]. [`channel`](Seat::channel) and [`cancel`](Seat::cancel), which never wait, return a
-//! [`Fault`] instead. The operator `?` converts a `Fault` into an `Ended`:
+//! A call that fails returns an [`Ended`]. [`channel`](Seat::channel) and [`cancel`](Seat::cancel) return a plain [`Fault`]
+//! instead, and [`close`](Sender::close) returns no other error than [`Ended::Fault`]. The operator `?` converts a `Fault` into an `Ended`:
 //!
 //! ```
 //! use chanhub::{Edition, Ended, Hub, Seat};

@@ -36,7 +36,8 @@ func Example_recvContext() {
 }
 
 // recvContext is like Recv, but returns ctx.Err() if it cancelled the receive because ctx was done. It cancels through the seat of
-// another process, which no other goroutine may use meanwhile. If the cancel fails, it returns that error, and the receive still waits.
+// another process, which no other goroutine may use meanwhile. If that is impossible, it returns the
+// error of the cancel, and the receive may still be waiting.
 func recvContext(
 	ctx context.Context, seat, other *chanhub.Seat, port chanhub.Port,
 ) (chanhub.Value, error) {
@@ -47,23 +48,19 @@ func recvContext(
 		value, err = seat.Recv(port)
 		received <- err
 	}()
-	select {
-	case err := <-received:
-		return value, err
-	case <-ctx.Done():
-	}
 	for {
-		err := other.Cancel(seat.Pid())
-		if err != nil && !errors.Is(err, chanhub.FaultNotParked) {
-			return chanhub.Value{}, err // the receive still waits
-		}
 		select {
-		case err = <-received:
-			if errors.Is(err, chanhub.ErrCancelled) {
+		case err := <-received:
+			if errors.Is(err, chanhub.ErrCancelled) && ctx.Err() != nil {
 				err = ctx.Err()
 			}
 			return value, err
-		case <-time.After(time.Millisecond): // the receive was not waiting yet
+		case <-ctx.Done():
+			err := other.Cancel(seat.Pid())
+			if err != nil && !errors.Is(err, chanhub.FaultNotParked) {
+				return chanhub.Value{}, err
+			}
+			time.Sleep(time.Millisecond)
 		}
 	}
 }

@@ -29,28 +29,37 @@ func Example_recvContext() {
 	value, err := recvContext(ctx, seat, other, port)
 	fmt.Println(value, err)
 	_, err = recvContext(ctx, seat, other, port)
-	fmt.Println(errors.Is(err, chanhub.ErrCancelled), ctx.Err())
+	fmt.Println(err)
 	// Output:
 	// 7 <nil>
-	// true context deadline exceeded
+	// context deadline exceeded
 }
 
-// recvContext is like Recv, but returns ErrCancelled once ctx is done. It cancels the receive through the seat of another process,
-// which no other goroutine may use meanwhile.
+// recvContext is like Recv, but returns ctx.Err() if it cancelled the receive because ctx was done. It cancels through the seat of
+// another process, which no other goroutine may use meanwhile. If that is impossible, it returns the
+// error of the cancel, and the receive may still be waiting.
 func recvContext(
 	ctx context.Context, seat, other *chanhub.Seat, port chanhub.Port,
-) (value chanhub.Value, err error) {
-	received := make(chan struct{})
+) (chanhub.Value, error) {
+	var value chanhub.Value
+	received := make(chan error, 1)
 	go func() {
+		var err error
 		value, err = seat.Recv(port)
-		close(received)
+		received <- err
 	}()
 	for {
 		select {
-		case <-received:
+		case err := <-received:
+			if errors.Is(err, chanhub.ErrCancelled) && ctx.Err() != nil {
+				err = ctx.Err()
+			}
 			return value, err
 		case <-ctx.Done():
-			other.Cancel(seat.Pid()) // fails unless the receive is waiting
+			err := other.Cancel(seat.Pid())
+			if err != nil && !errors.Is(err, chanhub.FaultNotParked) {
+				return chanhub.Value{}, err
+			}
 			time.Sleep(time.Millisecond)
 		}
 	}

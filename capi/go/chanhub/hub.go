@@ -43,10 +43,11 @@
 //
 // # Memory order
 //
-// What a goroutine wrote before it sent a value or closed a port is visible to the goroutine that receives the value or learns of
-// the close. What a goroutine wrote before it received a value is visible to the goroutine whose waiting send was ended by that
-// receive. The race detector knows this order, since each call also locks a [sync.Mutex] of the hub. But that mutex orders all
-// calls on the hub, even those that pass no value to each other, so the detector can miss some races.
+// One lock orders all steps. What a goroutine wrote before a send or a close is visible to the goroutine that receives the value or
+// learns of the close. What a goroutine wrote before it received a value from a port is visible to a goroutine whose later send
+// needed the room that this receive made, whether or not that send had to wait. The race detector knows this order, since each call
+// also locks a [sync.Mutex] of the hub. But that mutex orders all calls on the hub, even those that pass no value to each other, so
+// the detector can miss some races.
 //
 // # Errors
 //

@@ -41,7 +41,9 @@ pub enum Ended {
 
 /// The reason why the hub did not carry out a call. The number is the same as in `chanhub.h`.
 ///
-/// Safe Rust never meets faults 1, 2, 3, 5 and 8: the types of this crate rule them out. The library for C reports them.
+/// Safe Rust never meets [`NO_PROCESS`](Fault::NO_PROCESS), [`GONE`](Fault::GONE), [`BUSY`](Fault::BUSY),
+/// [`NO_PORT`](Fault::NO_PORT) and [`NIL_CLOSE`](Fault::NIL_CLOSE): the types of this crate rule them out. The library for C
+/// reports them.
 #[derive(Clone, Copy, Debug, PartialEq, Eq)]
 pub struct Fault(pub u8);
 

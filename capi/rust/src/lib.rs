@@ -73,7 +73,8 @@
 //!
 //! No deadlock is reported while a process that has not exited is outside the hub: busy, or blocked in a `Mutex`, in I/O or in
 //! [`join`](std::thread::JoinHandle::join). Once it waits in a call or exits, deadlocks are reported again. Drop a seat after its
-//! last call, and before a wait that only other processes can end, such as a join.
+//! last call, and before a wait that only other processes can end, such as a join. [`thread::scope`](std::thread::scope) joins its
+//! threads at its end, so drop the main thread's seat inside it.
 //!
 //! A stalled call had no effect. A process may call again, but if all repeat their calls, they stall again: let one of them back
 //! off, exit or close a channel.
@@ -82,14 +83,19 @@
 //! wait:
 //!
 //! ```
-//! use std::{fs, thread, time::Duration};
+//! use std::{fs, sync::mpsc, thread, time::Duration};
 //!
 //! # let (hub, _seats) = chanhub::Hub::open(chanhub::Edition::One, 1, 100).unwrap();
 //! let watched = hub.clone();
-//! thread::spawn(move || {
-//!     thread::sleep(Duration::from_secs(60));
-//!     fs::write("hung.journal", watched.journal().expect("memory")).expect("a file");
+//! let (running, ended) = mpsc::channel::<()>();
+//! let watchdog = thread::spawn(move || {
+//!     if ended.recv_timeout(Duration::from_secs(60)) == Err(mpsc::RecvTimeoutError::Timeout) {
+//!         fs::write("hung.journal", watched.journal().expect("memory")).expect("a file");
+//!     }
 //! });
+//! // The program runs here.
+//! drop(running); // stops the watchdog
+//! # watchdog.join().unwrap();
 //! ```
 //!
 //! A panic that unwinds drops the seats that its thread owns, and so exits their processes. If every other process is waiting
@@ -150,7 +156,9 @@
 //!
 //! # Memory order
 //!
-//! What a thread does before it sends a value happens before what another does after it has received that value.
+//! One lock orders all steps. What a thread wrote before a send or a close is visible to the thread that receives the value or
+//! learns of the close. What a thread wrote before it received a value from a channel is visible to a thread whose later send needed
+//! the room that this receive made, whether or not that send had to wait.
 //!
 //! # Linking
 //!

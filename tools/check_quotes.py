@@ -43,7 +43,11 @@ def what_is_wrong(page):
     if marks != len(found) or page in QUOTES and not found:
         yield '%d quotations are marked, and %d can be read' % (marks, len(found))
     for match in found:
-        if match.group(0) != wanted(match):
+        try:
+            is_right = match.group(0) == wanted(match)
+        except (OSError, ValueError):
+            is_right = False
+        if not is_right:
             yield 'the quotation of %s' % match.group(2)
     for source, row in ROW.findall(text):
         yield from ('%s has no `%s`' % (source, code) for code in CODE.findall(row) if code not in read(source))

@@ -158,10 +158,13 @@ def tests():
     yield 'a record asked anew', verdicts.asked_anew('hub_base', goal.function, '', [goal], record, verdicts.PLAIN[0]) == ASKED
     yield 'an answer asked anew', verdicts.asked_anew('hub_base', goal.function, '', [goal], ANSWERS, verdicts.PLAIN[0]) == ASKED
     yield 'nothing to ask', verdicts.asked_anew('hub_base', goal.function, '', [goal._replace(kind=verdicts.FALSE)], ANSWERS, '') is None
+    itself = verdicts.goals_of('./proofs/svg/bands/+put_between/Answers.antt:43:39: error: `returns`: `search`: no proof of it')
+    yield 'a function that calls itself', [it.function for it in itself] == ['svg::bands::put_between']
     batches = batches_of([Change('one'), Change('two'), Change('one')])
     yield 'edits of one function are apart', [len(it.edits) for it in batches] == [2, 1]
     yield 'or read together', [len(it.edits) for it in batches_of([Change('one'), Change('one')], apart=False)] == [2]
     yield 'an empty batch', Batch().texts == {}
+    yield 'texts of edits', edits_tried.texts([__file__]) != edits_tried.texts([verdicts.__file__])
     clauses = list(edits_tried.clauses(SOURCE))
     yield 'clauses of a source', clauses == ['requires small { x < 9 }', 'ensures { IfOk result (λ r. { r }) }']
 

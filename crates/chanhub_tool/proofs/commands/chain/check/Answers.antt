@@ -1,10 +1,10 @@
-use Rattle.std.proofs.Common.{◌≡◌, ◌∙◌, ℕ, ◌+◌, ◌<◌, List, [], ◌∷◌, ◌++◌, Option, ap, sym, subst, arith, length, take, Bor}
-use Rattle.std.specs.Prelude.{IfSome, get_or}
+use Rattle.std.proofs.Common.{◌≡◌, ◌∙◌, ℕ, ◌+◌, ◌<◌, List, [], Option, ap, sym, subst, arith, length, take, Bor}
+use Rattle.std.specs.Prelude.{get_or}
 use Rattle.std.proofs.lemmas.Option.{slice_get-get_or}
 use Rattle.std.proofs.Math.Seq.{take-length}
 use Rattle.hub_chain.specs.Texts.{AreWhole, IsAt, StandsAt}
 use Rattle.hub_chain.proofs.Wholes.{whole_before}
-use Rattle.chanhub_tool.proofs.Held.{as_many, gives_next}
+use Rattle.chanhub_tool.proofs.Held.{as_many, reads_next}
 use Rattle.chanhub_tool.proofs.commands.chain.check.Goals as goal
 
 pub loop-file-preserved : goal.loop-file-preserved
@@ -13,13 +13,9 @@ loop-file-preserved g c = λ texts all.
     let files = c.args.files.now in
     let gives : Bor (List ℕ) → Option (List ℕ) = λ f. g.S.Shelf.gives c.args.shelf.now f.now in
     let none : Bor (List ℕ) = record { ref_ptr = (0, 0); now = [] } in
-    let at = gives_next gives i files texts (get_or files i none) all (slice_get-get_or files i none c.loop-file-test.true) in
-    let came : c.in_ok-text.text.items ≡ at.text =
-    subst (λ (o : Option (List ℕ)). IfSome o (λ text. c.in_ok-text.text.items ≡ text)) at.gives c.in_ok-text.ensures in
-    let text : c.deref.result.now ≡ at.text = c.deref.ensures.value ∙ came in
-    let next : take (i + 1) texts ≡ take i texts ++ c.deref.result.now ∷ [] =
-    at.next ∙ ap (λ (t : List ℕ). take i texts ++ t ∷ []) (sym text) in
-    subst (λ (ts : List (List ℕ)). StandsAt c.in-Ok.longer ts) (sym next) (c.in-Ok.ensures.ok (take i texts) (c.loop-file.invariant texts all))
+    let at = reads_next gives i files texts (get_or files i none) c.in_ok-text.text.items c.deref.result.now all
+    (slice_get-get_or files i none c.loop-file-test.true) c.in_ok-text.ensures c.deref.ensures.value in
+    subst (λ (ts : List (List ℕ)). StandsAt c.in-Ok.longer ts) (sym at.next) (c.in-Ok.ensures.ok (take i texts) (c.loop-file.invariant texts all))
 
 pub returns-clause-ok : goal.returns-clause-ok
 returns-clause-ok g c = λ texts all.
@@ -35,12 +31,8 @@ returns-in-Err-clause-err g c = λ read texts all whole.
     let files = c.args.files.now in
     let gives : Bor (List ℕ) → Option (List ℕ) = λ f. g.S.Shelf.gives c.args.shelf.now f.now in
     let none : Bor (List ℕ) = record { ref_ptr = (0, 0); now = [] } in
-    let at = gives_next gives i files texts (get_or files i none) all (slice_get-get_or files i none c.loop-file-test.true) in
-    let came : c.in_ok-text.text.items ≡ at.text =
-    subst (λ (o : Option (List ℕ)). IfSome o (λ text. c.in_ok-text.text.items ≡ text)) at.gives c.in_ok-text.ensures in
-    let text : c.deref.result.now ≡ at.text = c.deref.ensures.value ∙ came in
-    let next : take (i + 1) texts ≡ take i texts ++ c.deref.result.now ∷ [] =
-    at.next ∙ ap (λ (t : List ℕ). take i texts ++ t ∷ []) (sym text) in
+    let at = reads_next gives i files texts (get_or files i none) c.in_ok-text.text.items c.deref.result.now all
+    (slice_get-get_or files i none c.loop-file-test.true) c.in_ok-text.ensures c.deref.ensures.value in
     let some : 0 < i + 1 = omega arith in
     c.in-Err.ensures.only (c.broken_at.ensures read) (take i texts) (c.loop-file.invariant texts all)
-    (subst (λ (ts : List (List ℕ)). AreWhole ts) next (whole_before texts (i + 1) whole some (omega (arith, at.within))))
+    (subst (λ (ts : List (List ℕ)). AreWhole ts) at.next (whole_before texts (i + 1) whole some (omega (arith, at.within))))

@@ -6,12 +6,19 @@
  * No wake is lost. A thread that waits has found no answer under the lock, and clears `told` or begins to sleep before it lets go of
  * the lock. So the thread that brings the answer takes the lock later, and sets `told` and signals later still.
  * A wake too many does no harm: a woken thread looks under the lock, and waits again if it finds no answer.
+ *
+ * Each chapter is handed out once, in order. At most one waits in the hub. The thread whose step made it fall out claims it before it
+ * lets go of the lock, so no other thread does. It waits until the chapter before is handed out, and then takes this one out of the hub,
+ * so that the next may fall out.
  */
 #define _POSIX_C_SOURCE 200809L /* for the monotonic clock */
 #include "chanhub.h"
 
+#include "heap.h"
+
 #include <errno.h>
 #include <pthread.h>
+#include <sched.h>
 #include <stdatomic.h>
 #include <stdlib.h>
 #include <string.h>
@@ -20,17 +27,28 @@
 /* What the proved library exports: crates/hub_c/src/lib.rt. */
 uint64_t hub_c_do(void *hub, uint8_t kind, uint8_t pid, uint16_t port, uint64_t value);
 size_t hub_c_size(void);
-void hub_c_open(void *place, uint8_t edition, uint8_t procs, uint32_t limit);
+void hub_c_open(void *place, uint8_t edition, uint8_t procs, uint32_t limit, uint8_t life);
 
-/* What it is asked for: crates/hub_c/src/kind.rt, in the same order. */
+/* The life of a hub: crates/hub_c/src/lib.rt. */
+enum {
+    ENDS,         /* at its limit */
+    CHAPTERS_GO,  /* it never ends, and a chapter that falls out goes */
+    CHAPTERS_WAIT /* it never ends, and a chapter that falls out waits to be read */
+};
+
+/* What it is asked for, by number: crates/hub_c/src/kind.rt. */
 enum {
     MAKE, SEND, SEND_BYTES, RECV, CLOSE, EXIT, CANCEL, SELECT, SELECT_OR_DEFAULT,
     GIVE_BYTE, GIVE_SEND, GIVE_SEND_BYTES, GIVE_RECV,
     TAKE,
-    NUMBER, LENGTH, BYTE, ENDED_PID, PORT, COUNTS, ENTRIES, WORD,
+    NUMBER, LENGTH, BYTE, ENDED_PID, PORT, SENT, ENTRIES, WORD,
     PIECE,
     REFUSAL,
-    END
+    END,
+    RECEIVED,
+    BEFORE_ENTRIES, BEFORE_PIECE,
+    WAITING_ENTRIES, WAITING_PIECE, LET_GO,
+    CUT
 };
 
 /* What it answers: crates/hub_c/src/answer.rt. */
@@ -40,11 +58,18 @@ enum {
     REFUSED = 256,   /* set where the step was refused */
     GOT_BYTES = 512, /* set where bytes were received */
     DETAIL_AT = 16,  /* where the port, the case or the fault of what is told begins */
-    ENDED_AT = 32    /* where the number of calls that the step ended begins */
+    ENDED_AT = 32    /* where the number of calls that the step ended begins, which takes 8 bits */
 };
+
+/* Set in the answer of a step or a cut while a chapter waits to be read. */
+#define CHAPTER ((uint64_t)1 << 40)
+
+/* The answer of a step that would make a chapter fall out while another one waits. */
+#define NO_ROOM (CHAPTER | REFUSED | CHANHUB_NO_MEMORY)
 
 enum {
     MOST_PROCS = 64,
+    NOBODY = MOST_PROCS, /* the number of no process */
     MOST_CASES = 16,
     MOST_BYTES = 32,
     GREATEST_PID = 255,
@@ -56,6 +81,8 @@ enum {
     LOOKS = 1000,         /* how often a thread looks for its answer before it sleeps */
     LOOKS_TAKE = 10000,   /* nanoseconds, roughly */
     MOST_VAIN = 7,        /* after so many looks in vain, those left out grow no more */
+    SLICE = 256,          /* how many pieces of a chapter are read before others are let in */
+    YIELDS = 100,         /* how often a thread yields to let others in */
     BILLION = 1000000000
 };
 
@@ -73,9 +100,17 @@ struct place {
 /* A set of processes is a number with a bit for each, the lowest for process 0. */
 struct chanhub {
     pthread_mutex_t lock;
-    uint64_t open;    /* whose call is open: it has parked, and its answer is not picked up */
-    uint64_t awaited; /* for whose answer a thread waits now */
-    bool has_buffer;  /* whether any port may have one */
+    uint64_t open;              /* whose call is open: it has parked, and its answer is not picked up */
+    uint64_t awaited;           /* for whose answer a thread waits now */
+    atomic_uint sleepers;       /* how many threads sleep for the lock */
+    bool has_buffer;            /* whether any port may have one */
+    bool waits;                 /* whether a chapter waits in the hub; the thread that claimed it hands it out */
+    bool handing;               /* whether a chapter is being handed out */
+    bool was_cut;               /* whether chanhub_cut has cut it */
+    uint64_t taken;             /* how many chapters were taken out of the hub */
+    chanhub_chapters *chapters; /* gets the chapters that fall out; NULL where nobody does */
+    void *pointer;              /* what it gets with them */
+    pthread_cond_t handed;      /* a chapter was taken, or was handed out */
     struct place places[MOST_PROCS];
     _Alignas(16) unsigned char hub[]; /* hub_c_size() bytes */
 };
@@ -85,7 +120,7 @@ static inline uint64_t ask(chanhub *h, uint8_t kind, uint16_t port, uint64_t val
     return hub_c_do(h->hub, kind, 0, port, value);
 }
 
-/* ---- A hub opens and ends. Nobody else has it, so there is no lock to hold. ---- */
+/* ---- A hub opens. Nobody else has it, so there is no lock to hold. ---- */
 
 /* Makes the place that a call of a process waits at. */
 static void init_place(struct place *place) {
@@ -96,28 +131,34 @@ static void init_place(struct place *place) {
     pthread_condattr_destroy(&monotonic);
 }
 
-int chanhub_open(chanhub **hub, unsigned edition, unsigned procs, uint32_t limit) {
+/* Opens a hub with this life. */
+static int open_hub(chanhub **hub, unsigned edition, unsigned procs, uint32_t limit, uint8_t life) {
     *hub = NULL;
     chanhub *h = calloc(1, sizeof *h + hub_c_size());
     if (!h) return 3;
-    hub_c_open(h->hub, edition > 255 ? 0 : (uint8_t)edition, procs > 255 ? 255 : (uint8_t)procs, limit);
+    hub_c_open(h->hub, edition > 255 ? 0 : (uint8_t)edition, procs > 255 ? 255 : (uint8_t)procs, limit, life);
     int refusal = (int)ask(h, REFUSAL, 0, 0);
     if (refusal) {
         free(h);
         return refusal;
     }
     pthread_mutex_init(&h->lock, NULL);
+    pthread_cond_init(&h->handed, NULL);
     for (int pid = 0; pid < MOST_PROCS; pid++) init_place(&h->places[pid]);
     *hub = h;
     return 0;
 }
 
-void chanhub_free(chanhub *h) {
-    if (!h) return;
-    ask(h, END, 0, 0);
-    for (int pid = 0; pid < MOST_PROCS; pid++) pthread_cond_destroy(&h->places[pid].answered);
-    pthread_mutex_destroy(&h->lock);
-    free(h);
+int chanhub_open(chanhub **hub, unsigned edition, unsigned procs, uint32_t limit) {
+    return open_hub(hub, edition, procs, limit, ENDS);
+}
+
+int chanhub_open_endless(chanhub **hub, unsigned edition, unsigned procs, uint32_t keep, chanhub_chapters *chapters, void *pointer) {
+    int refusal = open_hub(hub, edition, procs, keep, chapters ? CHAPTERS_WAIT : CHAPTERS_GO);
+    if (refusal) return refusal;
+    (*hub)->chapters = chapters;
+    (*hub)->pointer = pointer;
+    return 0;
 }
 
 /* ---- Values and answers. ---- */
@@ -170,7 +211,9 @@ static void wait_for_lock(chanhub *h) {
         __builtin_ia32_pause();
         if (pthread_mutex_trylock(&h->lock) == 0) return;
     }
+    h->sleepers++;
     pthread_mutex_lock(&h->lock);
+    h->sleepers--;
 }
 
 static inline void take_lock(chanhub *h) {
@@ -179,6 +222,14 @@ static inline void take_lock(chanhub *h) {
 
 static inline void leave_lock(chanhub *h) {
     pthread_mutex_unlock(&h->lock);
+}
+
+/* Lets go of the lock, and takes it again. Those that sleep for it take longer to wake up than this thread to take it again, so it
+ * lets them be first, unless that takes too long. */
+static void let_others_in(chanhub *h) {
+    leave_lock(h);
+    for (int i = 0; i < YIELDS && h->sleepers; i++) sched_yield();
+    take_lock(h);
 }
 
 /* The set of this process alone; the empty one for a number that no hub has. */
@@ -199,7 +250,7 @@ static inline bool enter(chanhub *h, unsigned pid) {
 /* The processes whose calls the step with this answer ended. Holds the lock since that step. */
 static uint64_t ended_by(chanhub *h, uint64_t answer) {
     uint64_t ended = 0;
-    for (uint64_t i = 0; i < answer >> ENDED_AT; i++) ended |= only((unsigned)ask(h, ENDED_PID, 0, i));
+    for (uint64_t i = 0; i < (uint8_t)(answer >> ENDED_AT); i++) ended |= only((unsigned)ask(h, ENDED_PID, 0, i));
     return ended;
 }
 
@@ -285,48 +336,214 @@ static uint64_t wait_for(chanhub *h, unsigned pid, uint64_t nanoseconds) {
     return answer ? answer : PARKED;
 }
 
+/* ---- The texts of journals. ---- */
+
+/* A journal that is read. */
+struct journal {
+    uint8_t entries, piece; /* the kinds that ask for the number of its entries, and for a piece of its text */
+    bool stays;             /* whether it stays as it is while the lock is let go */
+};
+
+static const struct journal present = { ENTRIES, PIECE, false };
+static const struct journal before = { BEFORE_ENTRIES, BEFORE_PIECE, false };
+static const struct journal waiting = { WAITING_ENTRIES, WAITING_PIECE, true };
+
+/* A text that grows. */
+struct text {
+    char *bytes;
+    size_t length, room;
+};
+
+/* Makes room for so many bytes more; whether memory was there. */
+static bool make_room(struct text *text, size_t more) {
+    if (text->length + more <= text->room) return true;
+    size_t room = 2 * (text->length + more) + 4096;
+    char *bytes = heap_realloc(text->bytes, room);
+    if (!bytes) return false;
+    text->bytes = bytes;
+    text->room = room;
+    return true;
+}
+
+/* Puts a piece of a journal behind the text; whether there is one and memory was there. It is read eight bytes at a time, the first
+ * byte lowest, as this machine keeps it. Holds the lock. */
+static bool add_piece(chanhub *h, struct text *text, uint8_t kind, uint64_t piece) {
+    size_t length = ask(h, kind, 0, piece); /* 0 where memory is refused, and where there is no such journal */
+    if (!length || !make_room(text, length + sizeof(uint64_t))) return false;
+    for (size_t i = 0; i < length; i += sizeof(uint64_t)) {
+        uint64_t word = ask(h, WORD, 0, i);
+        memcpy(text->bytes + text->length + i, &word, sizeof word);
+    }
+    text->length += length;
+    return true;
+}
+
+/* Puts all pieces of a journal behind the text: the head lines, and the line of each entry. Holds the lock; if the journal stays, not
+ * between slices of it. */
+static bool add_pieces(chanhub *h, struct text *text, const struct journal *journal) {
+    uint64_t pieces = ask(h, journal->entries, 0, 0) + 1;
+    for (uint64_t piece = 0; piece < pieces; piece++) {
+        if (!add_piece(h, text, journal->piece, piece)) return false;
+        if (journal->stays && piece % SLICE == SLICE - 1) let_others_in(h);
+    }
+    return true;
+}
+
+/* The text of a journal. NULL, with the length 0, where there is no such journal and where memory is refused. Holds the lock as
+ * above. */
+static char *text_of(chanhub *h, const struct journal *journal, size_t *length) {
+    struct text text = { 0 };
+    if (!add_pieces(h, &text, journal)) {
+        heap_free(text.bytes);
+        text = (struct text){ 0 };
+    }
+    *length = text.length;
+    return text.bytes;
+}
+
+/* ---- Chapters. ---- */
+
+/* Begins a time in which a call lets go of the lock, though not to wait for its answer. No other thread can call as its process then,
+ * and its own is not cancelled. Returns what ends it. Holds the lock. */
+static int begin_pause(chanhub *h, unsigned pid) {
+    int state;
+    pthread_setcancelstate(PTHREAD_CANCEL_DISABLE, &state);
+    h->open |= only(pid);
+    h->awaited |= only(pid);
+    return state;
+}
+
+/* Ends it. Holds the lock. */
+static void end_pause(chanhub *h, unsigned pid, int state) {
+    h->open &= ~only(pid);
+    h->awaited &= ~only(pid);
+    pthread_setcancelstate(state, &state);
+}
+
+/* Waits, in a call of this process, until the chapter that waits in the hub is taken. Holds the lock, but not meanwhile. */
+static void wait_for_room(chanhub *h, unsigned pid) {
+    int state = begin_pause(h, pid);
+    uint64_t taken = h->taken;
+    while (h->taken == taken) pthread_cond_wait(&h->handed, &h->lock);
+    end_pause(h, pid, state);
+}
+
+/* Whether the step with this answer is to be made again, since there was no room for another chapter. There may be when this returns,
+ * unless another thread was faster. Holds the lock, but not while it waits. */
+static inline bool is_to_be_made_again(chanhub *h, unsigned pid, uint64_t answer) {
+    if (answer != NO_ROOM) return false;
+    wait_for_room(h, pid);
+    return true;
+}
+
+/* Whether the step or the cut with this answer made a chapter fall out. Then the caller has to hand it out. Holds the lock since that
+ * step. */
+static inline bool claims_chapter(chanhub *h, uint64_t answer) {
+    if (!(answer & CHAPTER) || h->waits) return false;
+    h->waits = true;
+    return true;
+}
+
+/* Takes the chapter that waits out of the hub: its text, and NULL where memory is refused. Holds the lock, but not all the time. */
+static char *take_chapter(chanhub *h, size_t *length) {
+    char *text = text_of(h, &waiting, length);
+    ask(h, LET_GO, 0, 0);
+    h->waits = false;
+    h->taken++;
+    pthread_cond_broadcast(&h->handed);
+    return text;
+}
+
+/* Gives the text of a chapter to the function. Without the lock. */
+static void give_chapter(chanhub *h, char *text, size_t length) {
+    h->chapters(h->pointer, text, length);
+    heap_free(text);
+}
+
+/* Hands out the chapter that a call of this process claimed, after those before it. Holds the lock, but not while it waits or the
+ * function runs. */
+static void hand_out(chanhub *h, unsigned pid) {
+    int state = begin_pause(h, pid);
+    while (h->handing) pthread_cond_wait(&h->handed, &h->lock);
+    h->handing = true;
+    size_t length;
+    char *text = take_chapter(h, &length);
+    leave_lock(h);
+    give_chapter(h, text, length);
+    take_lock(h);
+    h->handing = false;
+    pthread_cond_broadcast(&h->handed);
+    end_pause(h, pid, state);
+}
+
+/* Hands out the chapters that the hub still keeps. Nobody else has the hub. */
+static void hand_out_rest(chanhub *h) {
+    int state = begin_pause(h, NOBODY);
+    size_t length;
+    if (h->was_cut || ask(h, BEFORE_ENTRIES, 0, 0)) {
+        char *text = text_of(h, &before, &length);
+        give_chapter(h, text, length);
+    }
+    char *text = text_of(h, &present, &length);
+    give_chapter(h, text, length);
+    end_pause(h, NOBODY, state);
+}
+
 /* ---- The calls. ---- */
 
-/* Keeps the parked call of a process open, wakes those whose calls the step ended, and waits. Holds the lock, but not while it
- * waits. */
-static uint64_t park(chanhub *h, uint8_t pid, uint64_t ended, uint64_t nanoseconds) {
-    h->open |= only(pid);
+/* Keeps the call of a process open that parked with this answer, wakes those whose calls it ended, and waits for so many nanoseconds.
+ * Holds the lock, but not while it waits. */
+static uint64_t park(chanhub *h, uint8_t pid, uint64_t answer, uint64_t ended, uint64_t nanoseconds) {
     wake(h, ended);
+    if (claims_chapter(h, answer)) hand_out(h, pid);
+    h->open |= only(pid);
     return wait_for(h, pid, nanoseconds);
 }
 
-/* Makes a step of a process that has no open call; wakes those whose calls it ended; where it parks, waits for so many
- * nanoseconds. Holds the lock, and leaves it. */
-static chanhub_told step(chanhub *h, uint8_t kind, uint8_t pid, uint16_t port, uint64_t value, uint64_t nanoseconds) {
-    uint64_t answer = hub_c_do(h->hub, kind, pid, port, value);
+/* Ends the call of a process whose step came to this answer: wakes those whose calls it ended, hands out the chapter that it made fall
+ * out, and where it parked, waits for so many nanoseconds. Holds the lock since the step, and leaves it. */
+static chanhub_told finish(chanhub *h, uint8_t pid, uint64_t answer, uint64_t nanoseconds) {
     uint64_t ended = ended_by(h, answer);
     if ((answer & (REFUSED | WHAT)) == PARKED) {
-        answer = park(h, pid, ended, nanoseconds);
+        answer = park(h, pid, answer, ended, nanoseconds);
         ended = 0;
     }
     chanhub_told t;
     tell(h, answer, &t);
+    if (claims_chapter(h, answer)) {
+        wake(h, ended);
+        ended = 0;
+        hand_out(h, pid);
+    }
     leave_lock(h);
     wake(h, ended);
     return t;
+}
+
+/* Makes a step, for which nothing is given, of a process that has no open call. Holds the lock, and leaves it. */
+static inline chanhub_told bare_step(chanhub *h, uint8_t kind, uint8_t pid, uint16_t port, uint64_t value, uint64_t nanoseconds) {
+    uint64_t answer;
+    do answer = hub_c_do(h->hub, kind, pid, port, value);
+    while (is_to_be_made_again(h, pid, answer));
+    return finish(h, pid, answer, nanoseconds);
 }
 
 static inline bool is_bad(const chanhub *h, unsigned pid, unsigned port) {
     return !h || pid > GREATEST_PID || port > GREATEST_PORT;
 }
 
-/* A call without cases or bytes to give. */
+/* A call for which nothing is given. */
 static inline chanhub_told plain(chanhub *h, uint8_t kind, unsigned pid, unsigned port, uint64_t value) {
     if (is_bad(h, pid, port)) return fault(CHANHUB_BAD_CALL);
     if (!enter(h, pid)) return fault(CHANHUB_BUSY);
-    return step(h, kind, (uint8_t)pid, (uint16_t)port, value, FOR_EVER);
+    return bare_step(h, kind, (uint8_t)pid, (uint16_t)port, value, FOR_EVER);
 }
 
 chanhub_told chanhub_make(chanhub *h, unsigned pid, uint32_t cap) {
     if (is_bad(h, pid, 0)) return fault(CHANHUB_BAD_CALL);
     if (!enter(h, pid)) return fault(CHANHUB_BUSY);
     if (cap) h->has_buffer = true;
-    return step(h, MAKE, (uint8_t)pid, 0, cap, FOR_EVER);
+    return bare_step(h, MAKE, (uint8_t)pid, 0, cap, FOR_EVER);
 }
 
 chanhub_told chanhub_recv(chanhub *h, unsigned pid, unsigned port) {
@@ -362,10 +579,20 @@ static void give_case(chanhub *h, const chanhub_case *c) {
     ask(h, c->value.is_bytes ? GIVE_SEND_BYTES : GIVE_SEND, c->port, c->value.number);
 }
 
+/* Sends bytes. Holds the lock, and leaves it. */
+static chanhub_told send_bytes_step(chanhub *h, uint8_t pid, uint16_t port, const chanhub_value *value, uint64_t nanoseconds) {
+    uint64_t answer;
+    do {
+        give_bytes(h, value);
+        answer = hub_c_do(h->hub, SEND_BYTES, pid, port, 0);
+    } while (is_to_be_made_again(h, pid, answer));
+    return finish(h, pid, answer, nanoseconds);
+}
+
 /* Sends a value, and waits for at most so many nanoseconds. Holds the lock, and leaves it. */
 static inline chanhub_told send_step(chanhub *h, uint8_t pid, uint16_t port, const chanhub_value *value, uint64_t nanoseconds) {
-    give_bytes(h, value);
-    return step(h, value->is_bytes ? SEND_BYTES : SEND, pid, port, value->number, nanoseconds);
+    if (value->is_bytes) return send_bytes_step(h, pid, port, value, nanoseconds);
+    return bare_step(h, SEND, pid, port, value->number, nanoseconds);
 }
 
 chanhub_told chanhub_send(chanhub *h, unsigned pid, unsigned port, chanhub_value value) {
@@ -387,7 +614,18 @@ static inline bool are_cases(const chanhub_case *cases, size_t count) {
  * it. */
 static chanhub_told one_case_step(chanhub *h, uint8_t pid, const chanhub_case *c, uint64_t nanoseconds) {
     if (c->sends) return send_step(h, pid, c->port, &c->value, nanoseconds);
-    return step(h, RECV, pid, c->port, 0, nanoseconds);
+    return bare_step(h, RECV, pid, c->port, 0, nanoseconds);
+}
+
+/* Does what one of these cases says, and waits as above. Holds the lock, and leaves it. */
+static chanhub_told select_step(chanhub *h, uint8_t pid, const chanhub_case *cases, size_t count, bool has_default, uint64_t word,
+                                uint64_t nanoseconds) {
+    uint64_t answer;
+    do {
+        for (size_t i = 0; i < count; i++) give_case(h, &cases[i]);
+        answer = hub_c_do(h->hub, has_default ? SELECT_OR_DEFAULT : SELECT, pid, 0, word);
+    } while (is_to_be_made_again(h, pid, answer));
+    return finish(h, pid, answer, nanoseconds);
 }
 
 /* A select that waits for at most so many nanoseconds, and stays open then. */
@@ -396,8 +634,7 @@ static chanhub_told select_for(chanhub *h, unsigned pid, const chanhub_case *cas
     if (is_bad(h, pid, 0) || !are_cases(cases, count)) return fault(CHANHUB_BAD_CALL);
     if (!enter(h, pid)) return fault(CHANHUB_BUSY);
     if (count == 1 && !has_default && word == 0) return one_case_step(h, (uint8_t)pid, cases, nanoseconds);
-    for (size_t i = 0; i < count; i++) give_case(h, &cases[i]);
-    return step(h, has_default ? SELECT_OR_DEFAULT : SELECT, (uint8_t)pid, 0, word, nanoseconds);
+    return select_step(h, (uint8_t)pid, cases, count, has_default, word, nanoseconds);
 }
 
 chanhub_told chanhub_select(chanhub *h, unsigned pid, const chanhub_case *cases, size_t count, bool has_default, uint64_t word) {
@@ -421,77 +658,66 @@ chanhub_told chanhub_resume(chanhub *h, unsigned pid, uint64_t nanoseconds) {
     return t;
 }
 
-/* ---- Looks, and the journal. ---- */
+bool chanhub_cut(chanhub *h) {
+    if (!h) return false;
+    take_lock(h);
+    uint64_t answer;
+    while ((answer = ask(h, CUT, 0, 0)) == CHAPTER) wait_for_room(h, NOBODY);
+    bool was_cut = answer & 1;
+    h->was_cut |= was_cut;
+    if (claims_chapter(h, answer)) hand_out(h, NOBODY);
+    leave_lock(h);
+    return was_cut;
+}
+
+/* ---- Looks, and journals. ---- */
 
 chanhub_counts chanhub_look(chanhub *h, unsigned port) {
     if (is_bad(h, 0, port)) return (chanhub_counts){ 0 };
     take_lock(h);
     uint64_t made = ask(h, PORT, (uint16_t)port, 0);
-    uint64_t counts = ask(h, COUNTS, (uint16_t)port, 0);
+    uint64_t sent = ask(h, SENT, (uint16_t)port, 0);
+    uint64_t received = ask(h, RECEIVED, (uint16_t)port, 0);
     leave_lock(h);
     return (chanhub_counts){
         .made = made & 1,
         .closed = made & 2,
         .cap = (uint32_t)(made >> 2),
-        .sent = (uint32_t)counts,
-        .received = (uint32_t)(counts >> 32),
+        .sent = sent,
+        .received = received,
     };
 }
 
-/* A text that grows. */
-struct text {
-    char *bytes;
-    size_t length, room;
-};
-
-/* Makes room for so many bytes more; whether memory was there. */
-static bool make_room(struct text *text, size_t more) {
-    if (text->length + more <= text->room) return true;
-    size_t room = 2 * (text->length + more) + 4096;
-    char *bytes = realloc(text->bytes, room);
-    if (!bytes) return false;
-    text->bytes = bytes;
-    text->room = room;
-    return true;
-}
-
-/* Puts a piece of the journal behind the text; whether memory was there. It is read eight bytes at a time, the first byte lowest,
- * as this machine keeps it. Holds the lock. */
-static bool add_piece(chanhub *h, struct text *text, uint64_t piece) {
-    size_t length = ask(h, PIECE, 0, piece); /* 0 where memory is refused */
-    if (!length || !make_room(text, length + sizeof(uint64_t))) return false;
-    for (size_t i = 0; i < length; i += sizeof(uint64_t)) {
-        uint64_t word = ask(h, WORD, 0, i);
-        memcpy(text->bytes + text->length + i, &word, sizeof word);
-    }
-    text->length += length;
-    return true;
-}
-
-/* Puts all pieces behind the text: the head lines, and the line of each entry. Holds the lock. */
-static bool add_pieces(chanhub *h, struct text *text) {
-    uint64_t pieces = ask(h, ENTRIES, 0, 0) + 1;
-    for (uint64_t piece = 0; piece < pieces; piece++) {
-        if (!add_piece(h, text, piece)) return false;
-    }
-    return true;
+/* The text of a journal. */
+static char *read_journal(chanhub *h, const struct journal *journal, size_t *length) {
+    *length = 0;
+    if (!h) return NULL;
+    take_lock(h);
+    char *text = text_of(h, journal, length);
+    leave_lock(h);
+    return text;
 }
 
 char *chanhub_journal(chanhub *h, size_t *length) {
-    *length = 0;
-    if (!h) return NULL;
-    struct text text = { 0 };
-    take_lock(h);
-    bool is_whole = add_pieces(h, &text);
-    leave_lock(h);
-    if (!is_whole) {
-        free(text.bytes);
-        return NULL;
-    }
-    *length = text.length;
-    return text.bytes;
+    return read_journal(h, &present, length);
+}
+
+char *chanhub_before(chanhub *h, size_t *length) {
+    return read_journal(h, &before, length);
 }
 
 void chanhub_free_text(char *text) {
-    free(text);
+    heap_free(text);
+}
+
+/* ---- A hub ends. Nobody else has it, so there is no lock to hold. ---- */
+
+void chanhub_free(chanhub *h) {
+    if (!h) return;
+    if (h->chapters) hand_out_rest(h);
+    ask(h, END, 0, 0);
+    for (int pid = 0; pid < MOST_PROCS; pid++) pthread_cond_destroy(&h->places[pid].answered);
+    pthread_cond_destroy(&h->handed);
+    pthread_mutex_destroy(&h->lock);
+    free(h);
 }

@@ -21,7 +21,7 @@ trap 'exit 130' INT TERM
 passes() {
     rm -f "$work/refused"
     timeout 60 env LD_PRELOAD="$work/refuse.so" REFUSE="$1" REFUSE_AFTER=$mark REFUSED="$work/refused" \
-        "$tests" "steps::refusals::$2" > "$work/output" 2>&1 &&
+        "$tests" "steps::$2" > "$work/output" 2>&1 &&
         sed -n 's/^refused at //p' "$work/output" >> "$work/places" && return 0
     echo "hub_refusals.sh: $2, with allocation $1 after its mark refused:" >&2
     cat "$work/output" >&2
@@ -29,8 +29,8 @@ passes() {
 }
 
 total=0
-for test in refused_opening_and_steps_are_made_again refused_steps_leave_the_buffer refused_run_is_made_again \
-    refused_reservation_is_made_again; do
+for test in refusals::refused_opening_and_steps_are_made_again refusals::refused_steps_leave_the_buffer \
+    refusals::refused_run_is_made_again refusals::refused_reservation_is_made_again cuts::refused_chapters_are_begun_again; do
     number=1
     passes $number "$test"
     while [ -e "$work/refused" ]; do
@@ -50,7 +50,7 @@ if ! sort -n -c "$work/places" || [ "$(sort -n -u "$work/places" | wc -l)" -lt 2
     exit 1
 fi
 
-for test in reserved_steps_take_no_memory three_reserved_steps_take_no_memory; do
+for test in refusals::reserved_steps_take_no_memory refusals::three_reserved_steps_take_no_memory; do
     passes all "$test"
     if [ ! -e "$work/refused" ]; then
         echo "hub_refusals.sh: $test met no refusal, so nothing was shown" >&2

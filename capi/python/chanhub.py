@@ -27,9 +27,15 @@ A stall ends several calls at once. In a test, the first thread that catches Sta
             file.exists() or file.write_bytes(hub.journal())
         raise
 
-Limits: a hub has at most 64 processes and 64 ports, and a closed port still counts. It makes at most 1,000,000 steps, not counting
-exits, so it suits tests and finite runs; a program that runs longer opens a new hub for each batch of its work. A value is an int of
-64 bits or up to 32 bytes; a Table passes any other object by its number. No call has a timeout.
+Limits: a hub has at most 64 processes and 64 ports, and a closed port still counts. A value is an int of 64 bits or up to 32 bytes; a
+Table passes any other object by its number. No call has a timeout. A hub makes at most 1,000,000 steps, not counting exits, and keeps
+them all. That suits tests and finite runs.
+
+A hub that is opened with `keep` never ends. It keeps its last steps, and cuts its journal into chapters, each of which is a journal of
+its own. Older chapters go, or are written to files, or are given to a function:
+
+    with Hub(procs=9, keep=10_000, chapters='pool') as hub:         # pool.0, pool.1, ..
+        ...
 
 Ctrl-C interrupts a wait of the main thread with KeyboardInterrupt. Nothing is lost: the call stays open, `seat.waits` is true, and
 `seat.resume()` resumes the wait. When a `with Hub` block ends, no new call begins, and each waiting call ends. A hub belongs to the
@@ -38,17 +44,21 @@ operating-system process that opened it: in a forked child, every call on it rai
 from __future__ import annotations
 
 import ctypes
+import errno
 import os
 import struct
 import threading
 import weakref
 from itertools import count, starmap
+from queue import Empty, SimpleQueue
 from threading import get_ident
-from typing import Any, Callable, Dict, Iterable, Iterator, NamedTuple, Optional, Sequence, Set, Tuple, Union
+from typing import Any, Callable, Dict, Iterable, Iterator, List, NamedTuple, Optional, Sequence, Set, Tuple, Union
 
 Value = Union[int, bytes]
 # The types that can be sent. A bool is sent as the number 0 or 1; a bytearray or a memoryview is received as bytes.
 Sendable = Union[int, bytes, bytearray, memoryview]
+# What gets the chapters of a hub that never ends.
+Chapters = Union[Callable[[Optional[bytes]], object], str, bytes, 'os.PathLike[Any]']
 
 MADE, SENT, GOT, DRAINED, CLOSED, DEFAULT, DONE, WAITING, STALLED, FAULT, CANCELLED = range(1, 12)
 
@@ -61,6 +71,7 @@ FAULTS = {
 }
 OPENING = {1: 'the number of processes must be between 1 and 64', 2: 'the step limit must be between 1 and 1,000,000',
            4: 'the edition must be 1 or 2'}
+OPENING_ENDLESS = {**OPENING, 2: 'the number of steps to keep must be between 1 and 900,000'}
 
 
 class Ended(Exception):
@@ -135,7 +146,7 @@ class Fired(NamedTuple):
 
 
 class Counts(NamedTuple):
-    """The state of a port: its capacity, how many values were sent and received, and whether it is closed."""
+    """The state of a port: its capacity, how many values were sent and received since the hub was opened, and whether it is closed."""
     cap: int
     sent: int
     received: int
@@ -158,8 +169,13 @@ _pack_bytes = struct.Struct('=?xH12x?B32s6x').pack
 
 
 class _Counts(ctypes.Structure):
-    _fields_ = [('made', ctypes.c_bool), ('closed', ctypes.c_bool), ('cap', ctypes.c_uint32), ('sent', ctypes.c_uint32),
-                ('received', ctypes.c_uint32)]
+    _fields_ = [('made', ctypes.c_bool), ('closed', ctypes.c_bool), ('cap', ctypes.c_uint32), ('sent', ctypes.c_uint64),
+                ('received', ctypes.c_uint64)]
+
+
+class _Files(ctypes.Structure):
+    """chanhub_files."""
+    _fields_ = [('name', ctypes.c_char_p), ('next', ctypes.c_uint64), ('error', ctypes.c_int)]
 
 
 def _library() -> ctypes.CDLL:
@@ -170,6 +186,7 @@ def _library() -> ctypes.CDLL:
     hub, number, size = ctypes.c_void_p, ctypes.c_uint, ctypes.POINTER(ctypes.c_size_t)
     for name, result, arguments in (
             ('open', ctypes.c_int, [ctypes.POINTER(hub), number, number, ctypes.c_uint32]),
+            ('open_endless', ctypes.c_int, [ctypes.POINTER(hub), number, number, ctypes.c_uint32, ctypes.c_void_p, ctypes.c_void_p]),
             ('free', None, [hub]),
             ('make', _Told, [hub, number, ctypes.c_uint32]),
             ('select', _Told, [hub, number, ctypes.c_char_p, ctypes.c_size_t, ctypes.c_bool, ctypes.c_uint64]),
@@ -178,9 +195,12 @@ def _library() -> ctypes.CDLL:
             ('close', _Told, [hub, number, number]),
             ('exit', _Told, [hub, number]),
             ('cancel', _Told, [hub, number, number]),
+            ('cut', ctypes.c_bool, [hub]),
             ('look', _Counts, [hub, number]),
             ('journal', hub, [hub, size]),
-            ('free_text', None, [hub])):
+            ('before', hub, [hub, size]),
+            ('free_text', None, [hub]),
+            ('write_chapter', None, [ctypes.c_void_p, ctypes.c_char_p, ctypes.c_size_t])):
         function = getattr(library, 'chanhub_' + name)
         function.restype, function.argtypes = result, arguments
     return library
@@ -188,8 +208,8 @@ def _library() -> ctypes.CDLL:
 
 _LIBRARY = _library()
 _select, _begin, _resume = _LIBRARY.chanhub_select, _LIBRARY.chanhub_begin, _LIBRARY.chanhub_resume
-# How many nanoseconds the main thread waits before it checks for signals.
-_SLICE = 50_000_000
+# How many nanoseconds the main thread waits before it checks for signals, and how many the others do.
+_SLICE, _FOR_EVER = 50_000_000, 2 ** 64 - 1
 # The thread that handles signals.
 _main = threading.main_thread().ident
 
@@ -284,14 +304,190 @@ def _done(told: _Told) -> None:
         raise _ended(told)
 
 
-def _free(handle: ctypes.c_void_p, opener: int) -> None:
-    """Frees a hub, except in a forked child, where a thread that does not exist may hold its lock."""
+class _To:
+    """What the chapters of a hub go to."""
+
+    arguments: Tuple[Any, int]  # the last ones of chanhub_open_endless
+    fallen: Optional[SimpleQueue[str]] = None  # the chapters that wait to be given, where they have to wait
+    error: Optional[OSError] = None
+
+    def add(self, text: Optional[bytes]) -> None:
+        """Adds a chapter, as the library does."""
+        raise NotImplementedError
+
+    def shut(self) -> None:
+        """Ignores what the library adds from now on."""
+        raise NotImplementedError
+
+    def give(self) -> None:
+        """Gives the chapters that wait. While another thread gives one, waits too."""
+
+    def finish(self) -> None:
+        """Gives all chapters that are left. None may follow."""
+
+
+class _Reported:
+    """Raises an exception where nobody can catch it, so that the interpreter reports it through sys.unraisablehook."""
+
+    def __init__(self, error: BaseException) -> None:
+        self._error = error
+
+    def __del__(self) -> None:
+        raise self._error
+
+
+# chanhub_chapters, and PyUnicode_FromKindAndData, which takes the same arguments if the pointer is PyUnicode_1BYTE_KIND. It returns the
+# text as a str.
+_CHAPTERS = ctypes.CFUNCTYPE(None, ctypes.c_void_p, ctypes.c_void_p, ctypes.c_ssize_t)
+_STRING = ctypes.PYFUNCTYPE(ctypes.py_object, ctypes.c_int, ctypes.c_void_p, ctypes.c_ssize_t)
+_KIND = 1
+
+
+def _ignore(text: Optional[bytes]) -> None:
+    """Gets chapters that nobody wants."""
+
+
+class _ToFunction(_To):
+    """A function that chapters go to, in order.
+
+    The library does not call it. What the library calls only puts the text into a queue, and has no Python code: there a signal handler
+    could raise an exception, which would be lost with the chapter. After each call a thread gives what it finds in the queue.
+    """
+
+    fallen: SimpleQueue[str]
+
+    def __init__(self, function: Callable[[Optional[bytes]], object]) -> None:
+        self.fallen = SimpleQueue()
+        self._function = function
+        self._giving = threading.RLock()  # held while the function runs
+        self._runs = False
+        self._taken: List[str] = []  # the chapter that it gets, until it has returned
+        self._has_raised = False
+        self._string = _STRING(('PyUnicode_FromKindAndData', ctypes.pythonapi))
+        self._string.errcheck = self.fallen.put
+        self._callback = _CHAPTERS(self._string)
+        self.arguments = ctypes.cast(self._callback, ctypes.c_void_p), _KIND
+
+    def add(self, text: Optional[bytes]) -> None:
+        self.fallen.put((text or b'').decode())
+
+    def shut(self) -> None:
+        del self._string.errcheck
+
+    def give(self) -> None:
+        while not self.fallen.empty():
+            with self._giving:
+                if not self._give_one():
+                    break
+
+    def finish(self) -> None:
+        with self._giving:
+            while self._give_one():
+                pass
+            # It may refer to the hub.
+            self._function = _ignore
+
+    def _give_one(self) -> bool:
+        """Gives the oldest chapter that is left. Returns whether it did: it does not if there is none, nor within the function, where
+        a signal handler may call it. If the function is interrupted, the chapter stays taken. Holds the lock."""
+        if self._runs:
+            return False
+        self._runs = True
+        try:
+            if not self._taken:
+                self._taken.extend(starmap(self.fallen.get_nowait, ((),)))
+            self._call(self._taken[0].encode() or None)
+            self._taken.clear()
+            return True
+        except Empty:
+            return False
+        finally:
+            self._runs = False
+
+    def _call(self, text: Optional[bytes]) -> None:
+        """Calls the function. Reports its first exception, but does not keep it, since its frames may refer to the hub."""
+        try:
+            self._function(text)
+        except Exception as error:
+            if not self._has_raised:
+                self._has_raised = True
+                _Reported(error)
+
+
+class _ToFiles(_To):
+    """Files that chapters go to. The library writes them."""
+
+    def __init__(self, path: Union[str, bytes, os.PathLike[Any]]) -> None:
+        name = os.path.abspath(os.fsencode(path))
+        if b'\0' in name:
+            raise ValueError('embedded null byte')
+        self._files = _Files(os.path.join(name, b'journal') if os.path.isdir(name) else name)
+        self.arguments = ctypes.cast(_LIBRARY.chanhub_write_chapter, ctypes.c_void_p), ctypes.addressof(self._files)
+
+    @property
+    def error(self) -> Optional[OSError]:  # type: ignore[override]
+        number = self._files.error
+        return OSError(number, os.strerror(number), os.fsdecode(self._files.name)) if number else None
+
+    def add(self, text: Optional[bytes]) -> None:
+        _LIBRARY.chanhub_write_chapter(ctypes.byref(self._files), text, len(text or b''))
+
+    def shut(self) -> None:
+        # It cannot write to such a name, and tells only a first error.
+        self._ignored = self._files
+        self._files = _Files(self._ignored.name, self._ignored.next, self._ignored.error)
+        self._ignored.name, self._ignored.error = b'/dev/null/', errno.ENOTDIR
+
+
+def _to(chapters: Chapters) -> _To:
+    if callable(chapters):
+        return _ToFunction(chapters)
+    if isinstance(chapters, (str, bytes, os.PathLike)):
+        return _ToFiles(chapters)
+    raise TypeError(f'chapters must be a function or a path, not {type(chapters).__name__}')
+
+
+# What the chapters of a hub go to stays until the hub is freed, even if the interpreter ends before: a daemon thread may still be in the
+# library then.
+_hold, _let_go = (ctypes.PYFUNCTYPE(None, ctypes.py_object)((name, ctypes.pythonapi)) for name in ('Py_IncRef', 'Py_DecRef'))
+
+
+def _opened(opens: Callable[..., int], edition: int, procs: int, *arguments: Any, causes: Dict[int, str]) -> ctypes.c_void_p:
+    """Returns the handle of a new hub. Raises the exception for the cause if the library refuses to open it."""
+    handle = ctypes.c_void_p()
+    cause = opens(ctypes.byref(handle), _within('edition', edition, 255), _within('procs', procs, 255), *arguments)
+    if cause == 3:
+        raise MemoryError
+    if cause:
+        raise ValueError(causes[cause])
+    return handle
+
+
+def _open(edition: int, procs: int, limit: int) -> ctypes.c_void_p:
+    return _opened(_LIBRARY.chanhub_open, edition, procs, _within('limit', limit, 2 ** 32 - 1), causes=OPENING)
+
+
+def _open_endless(edition: int, procs: int, keep: int, chapters: Optional[_To]) -> ctypes.c_void_p:
+    function, pointer = (None, None) if chapters is None else chapters.arguments
+    handle = _opened(_LIBRARY.chanhub_open_endless, edition, procs, _within('keep', keep, 2 ** 32 - 1), function, pointer,
+                     causes=OPENING_ENDLESS)
+    if chapters is not None:
+        _hold(chapters)
+    return handle
+
+
+def _free(handle: ctypes.c_void_p, opener: int, chapters: Optional[_To]) -> None:
+    """Frees a hub and gives the chapters that are left, except in a forked child, where a thread that does not exist may hold its
+    lock."""
     if os.getpid() == opener:
         _LIBRARY.chanhub_free(handle)
+        if chapters is not None:
+            _let_go(chapters)
+            chapters.finish()
 
 
 class Hub:
-    """A hub of `procs` processes (1 to 64). `limit` (1 to 1,000,000) is the most steps that it makes. Exits do not count.
+    """A hub of `procs` processes (1 to 64).
 
     Open the hub with exactly as many processes as you will run. While one of them neither calls nor exits, no deadlock among the
     others is reported.
@@ -299,29 +495,68 @@ class Hub:
     In edition 1, values are numbers and a select has up to 8 cases. Edition 2, the default, also has bytes as values, up to 16 cases,
     and `cancel`.
 
-    Raises ValueError if an argument is out of range, and MemoryError if memory runs out.
+    Without `keep`, the hub makes at most `limit` steps (1 to 1,000,000, the default), not counting exits. Its journal has them all.
+
+    With `keep` (1 to 900,000), the hub does not end by itself, and its journal is cut into chapters. The present chapter is full once
+    `keep` steps were added to it, not counting exits, or sooner if its text would get too long to be read. The next step then begins a
+    new chapter, unless it is an exit. A chapter begins with some steps that make the ports, the buffered values, the exits and the
+    waiting calls again, so it is a journal of its own. Every answer is the one that the whole history gives. The hub keeps the present
+    chapter and the one before, so the last `keep` steps are always there, or as many as two texts hold.
+
+    When a chapter begins, the chapter before falls out of the hub. If `chapters` is None, it goes. Otherwise `chapters` gets it. Once
+    the hub has ended, `chapters` also gets those that the hub still keeps. So it gets the whole history, in order; `chanhub_tool chain`
+    checks that files of all chapters are one history. `chapters` is one of these:
+
+    - A path, NAME. Chapter k is written to the file NAME.k, from NAME.0 on; if NAME is a folder, to NAME/journal.k. A file of that name
+      is replaced. Each file gets its name once it is whole. If a chapter cannot be written, it is left out. The first time, a line on
+      standard error says why, and `chapters_error` does from then on. No step fails for that. Ctrl-C has to wait while a file is written.
+    - A function. It gets the text, as `journal` returns it, or None if there was no memory for it. It runs in a thread that calls on
+      the hub, as a rule the one whose call made the chapter fall out, before that call returns or waits. Other calls go on meanwhile,
+      until another chapter has fallen out: then they end once the function has returned. The function may look at the hub and read
+      its journals. It must not call through a seat, cut the hub or end it. If it raises an Exception, no step fails for that; the first
+      one is reported by sys.unraisablehook. If Ctrl-C interrupts it, the call in whose thread it ran raises KeyboardInterrupt, and
+      `seat.resume()` returns what the call would have. The function gets that chapter again, before the next one.
+
+    The hub ends when a `with Hub` block ends. Without such a block it ends when it is freed, which it never is if its function refers to
+    it. If it has not ended when the interpreter does, `chapters` does not get the chapters that it keeps.
+
+    Memory: a send or a receive takes 71 bytes. Without `keep`, all of them stay until the hub is freed. With `keep`, at most about
+    2 * (keep + 65,792) steps stay, and twice as many while `chapters` gets one; 65,792 is the most that a chapter begins with. If the
+    function is slow, up to one text for each process waits for it.
+
+    Raises ValueError if an argument is out of range, if `keep` and `limit` are both given, or if `chapters` is given without `keep`.
+    Raises TypeError if `chapters` is neither a path nor a function, and MemoryError if memory runs out.
 
     The hub is freed once no thread calls on it and nothing refers to it or its seats, or when the interpreter's process ends.
     """
 
-    def __init__(self, procs: int, edition: int = 2, limit: int = 1_000_000) -> None:
-        handle = ctypes.c_void_p()
-        refusal = _LIBRARY.chanhub_open(ctypes.byref(handle), _within('edition', edition, 255), _within('procs', procs, 255),
-                                        _within('limit', limit, 2 ** 32 - 1))
-        if refusal == 3:
-            raise MemoryError
-        if refusal:
-            raise ValueError(OPENING[refusal])
+    def __init__(self, procs: int, edition: int = 2, limit: Optional[int] = None, *, keep: Optional[int] = None,
+                 chapters: Optional[Chapters] = None) -> None:
+        if keep is None:
+            if chapters is not None:
+                raise ValueError('only a hub with `keep` has chapters')
+            self._chapters = None
+            handle = _open(edition, procs, 1_000_000 if limit is None else limit)
+        else:
+            if limit is not None:
+                raise ValueError('a hub with `keep` has no limit')
+            self._chapters = None if chapters is None else _to(chapters)
+            handle = _open_endless(edition, procs, keep, self._chapters)
         self._handle = handle
         self._live: Optional[ctypes.c_void_p] = handle  # None once no new call may begin
         self._procs = procs
+        self._is_endless = keep is not None
+        # The chapters that fell out, if they go to a function.
+        self._fallen = None if self._chapters is None else self._chapters.fallen
+        # Set once `chapters` has those that the hub kept when it ended, too.
+        self._has_all = threading.Event()
         self._opener = os.getpid()
         # The open calls that an exception interrupted, by process: the function for each one's result, and its last answer.
         self._left: Dict[int, Tuple[_Gives, _Told]] = {}
         # The processes of those calls for which a thread waits again.
         self._resumed: Set[int] = set()
         self._settling = threading.RLock()
-        self._free = weakref.finalize(self, _free, handle, self._opener)
+        self._free = weakref.finalize(self, _free, handle, self._opener, self._chapters)
         # When the interpreter exits, other threads may still call on the hub.
         self._free.atexit = False
         _hubs.add(self)
@@ -331,10 +566,15 @@ class Hub:
 
     def __exit__(self, *_: object) -> None:
         """Ends the hub. From then on no call begins, except exits. Each process that is not waiting exits. Each waiting call ends,
-        with Stalled if nothing else ends it, and then its process exits too."""
+        with Stalled if nothing else ends it, and then its process exits too.
+
+        If the hub has `chapters`, this returns once all processes have exited and `chapters` has got all chapters."""
         if self._is_here():
             self._live = None
             self._settle()
+            if self._chapters is not None:
+                self._has_all.wait()
+                self._chapters.finish()
 
     def _is_here(self) -> bool:
         """Whether this operating-system process opened the hub. False in a forked child."""
@@ -365,35 +605,90 @@ class Hub:
         return Counts(counts.cap, counts.sent, counts.received, counts.closed) if counts.made else None
 
     def journal(self) -> bytes:
-        """Returns the text of the journal so far. This needs no seat, so it also works while every process waits.
+        """Returns the text of the journal so far, with `keep` that of the present chapter. This needs no seat, so it also works while
+        every process waits.
 
         Other calls on the hub are delayed while the text is made. `chanhub replay` reads a text of at most 67,108,864 bytes.
         Raises MemoryError if memory runs out.
         """
-        length = ctypes.c_size_t()
-        text = _LIBRARY.chanhub_journal(self._owned(), ctypes.byref(length))
-        if not text:
+        text = self._text(_LIBRARY.chanhub_journal)
+        if text is None:
             raise MemoryError
+        return text
+
+    def before(self) -> Optional[bytes]:
+        """Returns the text of the chapter before the present one in the same way, or None if there is none or memory runs out."""
+        return self._text(_LIBRARY.chanhub_before)
+
+    def cut(self) -> None:
+        """Ends the present chapter of a hub with `keep`, as if it were full: it becomes the chapter before, and the one that was before
+        falls out. Waiting calls go on waiting. This needs no seat.
+
+        Raises MemoryError if memory runs out, and ValueError if the hub has no `keep` or has ended. Then nothing has changed.
+        """
+        if not self._is_endless:
+            raise ValueError('only a hub with `keep` has chapters')
+        with self._settling:
+            was_cut = _LIBRARY.chanhub_cut(self.handle)
+        self._give_fallen()
+        if not was_cut:
+            raise MemoryError
+
+    @property
+    def chapters_error(self) -> Optional[OSError]:
+        """Why a chapter was not written to its file, for the first such chapter, with NAME as the file name; ENOMEM if there was no
+        memory for its text. None if there is no such chapter."""
+        return None if self._chapters is None else self._chapters.error
+
+    def _text(self, reads: Callable[..., Any]) -> Optional[bytes]:
+        """Returns the text of a journal, or None if there is none or memory runs out."""
+        length = ctypes.c_size_t()
+        text = reads(self._owned(), ctypes.byref(length))
+        if not text:
+            return None
         try:
             return ctypes.string_at(text, length.value)
         finally:
             _LIBRARY.chanhub_free_text(text)
 
+    def _give_fallen(self) -> None:
+        """Gives the chapters that fell out, if they go to a function."""
+        if self._chapters and self._fallen and not self._fallen.empty():
+            self._chapters.give()
+
     def _settle(self) -> None:
         """Exits all processes that are not waiting, once the hub has ended. An exit may end calls by a stall, so this repeats until
-        no process exits. A call that ends later does the same again."""
+        no process exits. A call that ends later does the same again, and the last one adds the chapters that are left."""
         with self._settling:
-            while any([self._exits(pid) for pid in range(self._procs)]):
-                pass
+            told = self._exit_all()
+            while any(each.what == DONE for each in told):
+                told = self._exit_all()
+            if self._chapters and not self._has_all.is_set() and not any(each.fault == BUSY for each in told):
+                self._add_kept(self._chapters)
+        self._give_fallen()
 
-    def _exits(self, pid: int) -> bool:
-        """Exits the process if it is not waiting. Returns whether it exited now."""
+    def _exit_all(self) -> List[_Told]:
+        """Exits each process that is not waiting. Returns the answers of the exits."""
+        return [self._exit(pid) for pid in range(self._procs)]
+
+    def _exit(self, pid: int) -> _Told:
+        """Exits the process if it is not waiting. Returns the answer."""
         if pid in self._left and pid not in self._resumed:
             gives, told = self._left[pid]
             if told.what == WAITING:
                 told, = starmap(_resume, ((self._handle, pid, 0),))
                 self._left[pid] = gives, told
-        return bool(_LIBRARY.chanhub_exit(self._handle, pid).what == DONE)
+        exited: _Told = _LIBRARY.chanhub_exit(self._handle, pid)
+        return exited
+
+    def _add_kept(self, chapters: _To) -> None:
+        """Adds the chapters that the hub keeps, once no step can follow."""
+        before = self.before()
+        if before is not None:
+            chapters.add(before)
+        chapters.add(self._text(_LIBRARY.chanhub_journal))
+        chapters.shut()
+        self._has_all.set()
 
 
 class Table:
@@ -446,23 +741,26 @@ class Seat:
         """
         hub, pid = self.hub, self.pid
         hub._owned()
-        with hub._settling:
-            if pid not in hub._left:
-                raise Fault(NOT_PARKED)
-            if pid in hub._resumed:
-                raise Fault(BUSY)
-            gives, told = hub._left[pid]
-            hub._resumed.add(pid)
+        is_resumed = False
         try:
+            with hub._settling:
+                if pid not in hub._left:
+                    raise Fault(NOT_PARKED)
+                if pid in hub._resumed:
+                    raise Fault(BUSY)
+                gives, told = hub._left[pid]
+                is_resumed = True
+                hub._resumed.add(pid)
             given: Union[None, Value, Fired] = self._await(gives, (told,))
-            return given
-        finally:
-            hub._resumed.discard(pid)
+        except BaseException:
+            if is_resumed:
+                hub._resumed.discard(pid)
+            raise
+        return given
 
     def make(self, cap: int) -> int:
         """Makes a channel that buffers up to `cap` values, 0 to 1,024, and returns its port. Ports are numbered from 1."""
-        told = _LIBRARY.chanhub_make(self._handle(), self.pid, _within('capacity', cap, 2 ** 32 - 1))
-        port: int = self._give(_made, told)
+        port: int = self._ask(_made, _LIBRARY.chanhub_make, _within('capacity', cap, 2 ** 32 - 1))
         return port
 
     def send(self, port: int, value: Sendable) -> None:
@@ -499,7 +797,7 @@ class Seat:
 
     def close(self, port: int) -> None:
         """Closes a port. Waiting sends raise Closed, and waiting receives raise Drained."""
-        self._give(_done, _LIBRARY.chanhub_close(self._handle(), self.pid, _within('port', port, 65535)))
+        self._ask(_done, _LIBRARY.chanhub_close, _within('port', port, 65535))
 
     def exit(self) -> None:
         """Ends the process, so that a deadlock among the others can be reported. Does nothing if it has already exited.
@@ -518,13 +816,13 @@ class Seat:
 
         Requires edition 2; in edition 1 it raises Fault 13.
         """
-        self._give(_done, _LIBRARY.chanhub_cancel(self._handle(), self.pid, _within('process', other, 255)))
+        self._ask(_done, _LIBRARY.chanhub_cancel, _within('process', other, 255))
 
-    def _handle(self) -> ctypes.c_void_p:
-        """Returns the hub's handle for a new call. Raises Fault 3 if a call of the process is open."""
+    def _ask(self, gives: _Gives, call: Callable[..., _Told], number: int) -> Any:
+        """Makes a call that does not wait. Raises Fault 3 if a call of the process is open."""
         if self.waits:
             raise Fault(BUSY)
-        return self.hub.handle
+        return self._await(gives, starmap(call, ((self.hub.handle, self.pid, number),)))
 
     def _give(self, gives: _Gives, told: _Told) -> Any:
         """Returns the result of a call with this answer. The hub may have ended meanwhile."""
@@ -535,12 +833,13 @@ class Seat:
         return gives(told)
 
     def _call(self, gives: _Gives, cases: bytes, count: int = 1, default: bool = False, word: int = 0) -> Any:
-        """Makes a call of these cases. The main thread waits in short slices, so that it can be interrupted."""
+        """Makes a call of these cases. The main thread waits in short slices, so that it can be interrupted. If a function gets the
+        chapters, each thread gives them before it waits."""
         hub = self.hub
         call = (hub._live or hub.handle, self.pid, cases, count, default, word)
         if hub._left and self.waits:
             raise Fault(BUSY)
-        if get_ident() != _main:
+        if get_ident() != _main and not hub._fallen:
             return self._give(gives, _select(*call))
         return self._await(gives, starmap(_begin, (call,)))
 
@@ -554,10 +853,13 @@ class Seat:
         told: Optional[_Told] = None
         try:
             told, = asked
+            if hub._fallen:
+                hub._give_fallen()
             while told.what == WAITING:
-                told, = starmap(_resume, ((hub._handle, pid, _SLICE),))
+                told, = starmap(_resume, ((hub._handle, pid, _SLICE if get_ident() == _main else _FOR_EVER),))
             if hub._left:
                 hub._left.pop(pid, None)
+                hub._resumed.discard(pid)
             try:
                 return gives(told) if hub._live else self._give(gives, told)
             except (Ended, Fault, ValueError):

@@ -1,9 +1,11 @@
 #!/bin/sh
-# check.sh PROGRAM: the tests and examples of the C library and of what stands over it. PROGRAM is the built chanhub, by whose
-# replays the rigs are judged. `make` comes first. What a machine lacks is named and counted as skipped.
+# check.sh PROGRAM [TOOL]: the tests and examples of the C library and of what stands over it. PROGRAM is the built chanhub, by whose
+# replays the rigs are judged. TOOL is the built chanhub_tool, which checks that chapters are one history; where it is not named, it is
+# this tree's. `make` comes first. What a machine lacks is named and counted as skipped.
 # The last line counts: 'N passed, M failed, K skipped'.
 set -u
 program=$(realpath "$1")
+tool=$(realpath -m "${2:-$(dirname "$0")/../../crates/chanhub_tool/out/chanhub_tool}")
 cd "$(dirname "$0")/.." || exit 2
 library=$PWD/out
 . ../tools/checks.sh
@@ -13,6 +15,7 @@ cc=${CC:-cc}
 flags="-std=c11 -D_DEFAULT_SOURCE -O2 -Wall -Wextra -Werror -I."
 proved="../crates/hub_c/out/libhub_c.a $(dirname "$(rt doc)")/c/liblibc_c.a"
 threads='cancelled second closed stalled handed'
+handing='busy parked woken full cancelled slow inside'
 
 # skip NAME REASON
 skip() {
@@ -32,6 +35,46 @@ crew() {
     mkdir -p "$work/$1-$2" && "$work/$1" "$work/$1-$2" "$2" "$3" && tests/compare.py "$work/$1-$2" ${4+"$4"}
 }
 
+# is_whole NAME: whether NAME.0, NAME.1, .. are the chapters of one history, where the tool is there.
+is_whole() {
+    [ ! -e "$tool" ] || "$tool" chain $(ls -v "$1".*)
+}
+
+# chapters NAME COUNT: whether the chapters of so many random runs tell what their threads were told.
+chapters() {
+    mkdir -p "$work/$1-runs" && "$work/$1" "$work/$1-runs" 1 "$2" || return
+    if [ -e "$tool" ]; then tests/chapters.py "$work/$1-runs" "$program" "$tool"; else tests/chapters.py "$work/$1-runs" "$program"; fi
+}
+
+# soaks NAME SECONDS: whether 16 threads get what they send for so long, and the chapters are whole.
+soaks() {
+    mkdir -p "$work/$1-chapters" && "$work/$1" "$2" --chapters "$work/$1-chapters" && is_whole "$work/$1-chapters/chapter"
+}
+
+# writes_files: whether chapters are written to files.
+writes_files() {
+    mkdir -p "$work/written" && "$work/files" "$work/written"
+}
+
+# is_interrupted: whether forever.c ends when it is interrupted, with its chapters written and its journal saved.
+is_interrupted() {
+    mkdir -p "$work/forever-chapters" &&
+        timeout --preserve-status -s INT 1 "$work/forever" "$work/last" "$work/forever-chapters/chapter" &&
+        "$program" replay < "$work/last" > "$work/replayed" && is_whole "$work/forever-chapters/chapter" &&
+        timeout --preserve-status -s INT 1 "$work/forever" "$work/last" && "$program" replay < "$work/last" > "$work/replayed"
+}
+
+# instructions WORD..: how many the steps of this hub take.
+instructions() {
+    valgrind --tool=callgrind --callgrind-out-file=/dev/null "$work/steps" "$@" 2>&1 | sed -n 's/.*Collected : //p'
+}
+
+# costs_little: whether a hub that never ends takes at most a tenth more of them than another hub, with its cuts.
+costs_little() {
+    ends=$(instructions ends 50000) && endless=$(instructions endless 50000 10000) && echo "$ends and $endless" &&
+        [ "$endless" -le $((ends / 10 * 11)) ]
+}
+
 # chooses COMMAND..: whether the command of a choice prints what it must, in whatever order its words chose.
 chooses() {
     "$@" > "$work/chosen" && sort "$work/chosen" | cmp - "$work/choice-lines" && [ "$(tail -n 1 "$work/chosen")" = neither ]
@@ -46,7 +89,7 @@ keeps_journal() {
 # has_only_names NM..: whether what this lists are the header's names and no other.
 has_only_names() {
     "$@" | sed -n 's/.* [A-Z] //p' | sort > "$work/shown"
-    grep -o '\bchanhub_[a-z_]*(' chanhub.h | tr -d '(' | sort -u > "$work/declared"
+    grep -v '^typedef' chanhub.h | grep -o '\bchanhub_[a-z_]*(' | tr -d '(' | sort -u > "$work/declared"
     cmp "$work/shown" "$work/declared"
 }
 
@@ -105,7 +148,7 @@ printf '%s\n' 9 'chanhub journal 2' 'procs 1' '0 make 1' '0 send 1 9' '0 recv 1'
 printf 'stalled: 0 recv 2\nstalled: 1 recv 1\n' > "$work/stalled"
 printf 'got 5\nneither\nsent\n' > "$work/choice-lines"
 
-for test in calls crew threads memory; do
+for test in calls crew threads memory endless handing chapters files soak steps; do
     check "$test builds" "$cc" $flags "tests/$test.c" out/libchanhub.a -lpthread -o "$work/$test"
 done
 check 'resume builds' "$cc" $flags -Wl,--wrap=clock_gettime tests/resume.c out/libchanhub.a -lpthread -o "$work/resume"
@@ -117,19 +160,33 @@ done
 for test in alone threads; do
     check "begun and resumed: $test" "$work/resume" "$test"
 done
-check 'inside builds' "$cc" $flags -Wl,--wrap=hub_c_do chanhub.c tests/inside.c $proved -lpthread -o "$work/inside"
+check 'inside builds' "$cc" $flags -Wl,--wrap=hub_c_do chanhub.c heap.c tests/inside.c $proved -lpthread -o "$work/inside"
 check 'no two inside of a hub' "$work/inside"
 for cap in 0 1 7 1024; do
     check "64 threads that pass 160,000 values, capacity $cap" crew crew "$cap" 5000 "$program"
 done
 check '64 threads, by the rules' crew crew 2 500
+for test in short long; do
+    check "a hub that never ends: $test" "$work/endless" "$test"
+done
+for test in $handing; do
+    check "chapters that are handed out: $test" "$work/handing" "$test"
+done
+check 'chapters in files' writes_files
+check 'chapters of 200 random runs' chapters chapters 200
+check '16 threads without an end' soaks soak 3
+[ -e "$tool" ] || skip 'chains of chapters' "no $tool"
+heap='-Wl,--wrap=malloc,--wrap=realloc,--wrap=mmap,--wrap=mremap heap.c'
+check 'heap builds' "$cc" $flags $heap tests/heap.c -o "$work/heap"
+check 'large and small blocks' "$work/heap"
 check 'refuse builds' "$cc" $flags -Wl,--wrap=malloc,--wrap=calloc,--wrap=realloc tests/refuse.c out/libchanhub.a -lpthread -o "$work/refuse"
 check 'each allocation refused' "$work/refuse"
-for example in pool deadlock choice; do
+for example in pool deadlock choice forever; do
     check "$example.c builds" "$cc" $flags "examples/$example.c" out/libchanhub.a -lpthread -o "$work/$example"
 done
 check 'pool.c' prints "$work/sum" "$work/pool"
 check 'choice.c' chooses "$work/choice"
+check 'forever.c' is_interrupted
 "$work/deadlock" > "$work/deadlocked"
 check 'deadlock.c: both are told' grep -qx '2 stalled' "$work/deadlocked"
 grep recv "$work/deadlocked" | sort | sed 's/^/stalled: /' > "$work/calls-left"
@@ -145,11 +202,11 @@ fi
 
 if echo 'int main(void) { return 0; }' | "$cc" -fsanitize=thread -x c - -o "$work/empty" 2> "$work/errors" && "$work/empty"; then
     sanitize="$flags -g -fsanitize=thread"
-    for test in crew threads; do
-        check "$test builds for the thread sanitizer" "$cc" $sanitize chanhub.c "tests/$test.c" $proved -lpthread \
+    for test in crew threads handing chapters soak; do
+        check "$test builds for the thread sanitizer" "$cc" $sanitize chanhub.c files.c heap.c "tests/$test.c" $proved -lpthread \
             -o "$work/sanitized-$test"
     done
-    check 'resume builds for the thread sanitizer' "$cc" $sanitize -Wl,--wrap=clock_gettime chanhub.c tests/resume.c $proved \
+    check 'resume builds for the thread sanitizer' "$cc" $sanitize -Wl,--wrap=clock_gettime chanhub.c heap.c tests/resume.c $proved \
         -lpthread -o "$work/sanitized-resume"
     for cap in 0 7; do
         check "64 threads under the thread sanitizer, capacity $cap" crew sanitized-crew "$cap" 200
@@ -160,13 +217,20 @@ if echo 'int main(void) { return 0; }' | "$cc" -fsanitize=thread -x c - -o "$wor
     for test in alone threads; do
         check "begun and resumed under the thread sanitizer: $test" "$work/sanitized-resume" "$test"
     done
+    for test in $handing; do
+        check "chapters that are handed out under the thread sanitizer: $test" "$work/sanitized-handing" "$test"
+    done
+    check 'chapters of 40 random runs under the thread sanitizer' chapters sanitized-chapters 40
+    check '16 threads without an end under the thread sanitizer' soaks sanitized-soak 3
 else
     skip 'the thread sanitizer' "$cc has none"
 fi
 if command -v valgrind > "$work/found"; then
-    for test in calls "crew $work 1 20" pool 'threads cancelled' 'threads second' 'threads closed' 'resume alone' 'resume threads'; do
+    for test in calls "crew $work 1 20" pool 'threads cancelled' 'threads second' 'threads closed' 'resume alone' 'resume threads' \
+        'endless short' 'handing busy' 'handing parked' 'handing woken' 'handing full' 'handing cancelled' "files $(mktemp -d -p "$work")"; do
         check "valgrind: $test" valgrind -q --error-exitcode=9 --leak-check=full --show-leak-kinds=all "$work"/$test
     done
+    check 'the instructions of a hub that never ends' costs_little
 else
     skip 'valgrind' 'not there'
 fi

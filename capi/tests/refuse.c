@@ -1,4 +1,5 @@
-/* Each allocation refused in turn: what wanted it says so and changes nothing, and what comes next succeeds.
+/* Each allocation refused in turn: what wanted it says so and changes nothing, and what comes next succeeds. Of a hub that never ends
+ * each chapter is handed out, or NULL where the allocation was one for its text.
  *
  * Linked with --wrap for malloc, calloc and realloc.
  */
@@ -57,12 +58,86 @@ static int run(long allowed) {
     return 0;
 }
 
-int main(void) {
-    int runs = 0;
+/* The chapters that were handed out. Nothing is allocated for them. */
+static struct { int count, lost; bool are_right; } given;
+
+static const char *const chapters[] = {
+    "chanhub journal 2\nprocs 2\n0 make 1\n1 recv 1\n",
+    "chanhub journal 2\nprocs 2\n0 make 1\n1 recv 1\n0 send 1 #6162\n0 make 0\n",
+    "chanhub journal 2\nprocs 2\n0 make 1\n0 make 0\n0 select 0 s2:#63 s1:#64\n1 recv 1\n",
+    "chanhub journal 2\nprocs 2\n0 make 1\n0 make 0\n1 recv 1\n",
+    "chanhub journal 2\nprocs 2\n0 make 1\n0 make 0\n1 recv 1\n0 exit\n1 exit\n",
+};
+enum { CHAPTERS = sizeof chapters / sizeof *chapters };
+
+static void get(void *unused, const char *text, size_t length) {
+    (void)unused;
+    if (given.count == CHAPTERS) {
+        given.are_right = false;
+        return;
+    }
+    const char *wanted = chapters[given.count++];
+    given.lost += !text;
+    bool is_right = text ? length == strlen(wanted) && memcmp(text, wanted, length) == 0 : length == 0;
+    given.are_right = given.are_right && is_right;
+}
+
+static bool has_text(char *text, size_t length, const char *wanted) {
+    bool has = text && length == strlen(wanted) && memcmp(text, wanted, length) == 0;
+    chanhub_free_text(text);
+    return has;
+}
+
+/* The same of a hub that never ends, in whose chapters a call waits, and an answer. */
+static int run_endless(long allowed) {
+    chanhub *hub;
+    memset(&given, 0, sizeof given);
+    given.are_right = true;
+    refused = 0;
+    left = allowed;
+    int why = chanhub_open_endless(&hub, 2, 2, 2, get, NULL);
+    if (why && (why != 3 || hub || chanhub_open_endless(&hub, 2, 2, 2, get, NULL))) return 1;
+    MADE(chanhub_make(hub, 0, 1), CHANHUB_MADE);
+    chanhub_case receive = { .port = 1 };
+    MADE(chanhub_begin(hub, 1, &receive, 1, false, 0), CHANHUB_WAITING);
+    MADE(chanhub_send(hub, 0, 1, chanhub_bytes("ab", 2)), CHANHUB_SENT);
+    MADE(chanhub_make(hub, 0, 0), CHANHUB_MADE);
+    size_t length;
+    char *text = chanhub_before(hub, &length);
+    if (!text) text = chanhub_before(hub, &length);
+    if (!has_text(text, length, chapters[0])) return 1;
+    chanhub_case cases[2] = { { true, 2, chanhub_bytes("c", 1) }, { true, 1, chanhub_bytes("d", 1) } };
+    MADE(chanhub_select(hub, 0, cases, 2, false, 0), CHANHUB_SENT);
+    chanhub_told t = chanhub_resume(hub, 1, 0);
+    if (t.what != CHANHUB_GOT || t.value.length != 2 || memcmp(t.value.bytes, "ab", 2) != 0) return 1;
+    MADE(chanhub_recv(hub, 1, 1), CHANHUB_GOT);
+    MADE(chanhub_begin(hub, 1, &receive, 1, false, 0), CHANHUB_WAITING);
+    if (!chanhub_cut(hub) && !chanhub_cut(hub)) return 1;
+    MADE(chanhub_exit(hub, 0), CHANHUB_DONE);
+    if (chanhub_resume(hub, 1, 0).what != CHANHUB_STALLED) return 1;
+    MADE(chanhub_exit(hub, 1), CHANHUB_DONE);
+    chanhub_counts c = chanhub_look(hub, 1);
+    if (c.sent != 2 || c.received != 2) return 1;
+    chanhub_free(hub);
+    return given.count != CHAPTERS || !given.are_right || given.lost > refused;
+}
+
+/* Runs with ever later refusals, until none comes. 0 where all went well. */
+static int refuse_each(const char *name, int (*run)(long allowed)) {
+    int runs = 0, lost = 0;
     do {
-        if (run(runs)) { printf("refused %d: wrong\n", runs); return 1; }
+        if (run(runs)) {
+            printf("%s, refused %d: wrong\n", name, runs);
+            return 1;
+        }
+        lost += given.lost;
         runs++;
     } while (refused);
-    printf("refusals: %d\n", runs - 1);
+    printf("%s: %d refusals, %d of them of a chapter's text\n", name, runs - 1, lost);
     return runs < 5;
+}
+
+int main(void) {
+    int failed = refuse_each("a hub", run);
+    return refuse_each("a hub that never ends", run_endless) || failed;
 }

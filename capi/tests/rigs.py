@@ -1,15 +1,18 @@
 #!/usr/bin/env python3
-"""rigs.py PROGRAM [COUNT]: random threads on hubs of both editions. What each was told is compared with what `PROGRAM replay` of
-the journal tells its process. Prints the seed of each rig that differs, and how many were the same.
+"""rigs.py PROGRAM [COUNT]: random threads on hubs of both editions, of which every third never ends. What each was told is compared
+with what `PROGRAM replay` of the journal, or of the chapters, tells its process. Prints the seed of each rig that differs, and how
+many were the same.
 """
 import os
 import random
 import subprocess
 import sys
+import tempfile
 import threading
 
 sys.path.insert(0, os.path.join(os.path.dirname(os.path.abspath(__file__)), '..', 'python'))
 from chanhub import Cancelled, Closed, Drained, Ended, Fault, Hub, Recv, Send, Stalled  # noqa: E402
+from chapters import Chapters  # noqa: E402
 
 PROCS, TURNS = 6, 120
 NOT_IN_JOURNAL = (1, 2, 3, 10, 11, 13)
@@ -83,10 +86,8 @@ class Worker:
         self.told.append('done')
 
 
-def differing(program, seed):
-    """The processes that were told another thing than the replay tells them."""
-    edition = 1 + seed % 2
-    hub = Hub(PROCS, edition, 1_000_000 if seed % 5 else 300)
+def ran(hub, edition, seed):
+    """The workers of a hub, after they have run."""
     workers = [Worker(hub, edition, pid, seed * 100 + pid) for pid in range(PROCS)]
     workers[0].told += ['made %d' % workers[0].seat.make(cap) for cap in (0, 1, 5)]
     threads = [threading.Thread(target=worker.run) for worker in workers]
@@ -94,8 +95,32 @@ def differing(program, seed):
         thread.start()
     for thread in threads:
         thread.join()
-    replayed = subprocess.run([program, 'replay'], input=hub.journal(), stdout=subprocess.PIPE, check=True).stdout.decode()
-    events = [line.split(' ', 1) for line in replayed.splitlines()]
+    return workers
+
+
+def replay(program, journal):
+    return subprocess.run([program, 'replay'], input=journal, stdout=subprocess.PIPE, check=True).stdout.decode().splitlines()
+
+
+def run(program, edition, seed):
+    """The workers of a hub, and what the replay of its journal tells them."""
+    if seed % 3:
+        hub = Hub(PROCS, edition, 1_000_000 if seed % 5 else 300)
+        workers = ran(hub, edition, seed)
+        return workers, replay(program, hub.journal())
+    with tempfile.TemporaryDirectory() as folder:
+        name = os.path.join(folder, 'chapter')
+        with Hub(PROCS, edition, keep=1 + seed % 100, chapters=name) as hub:
+            workers = ran(hub, edition, seed)
+        chapters = Chapters(program, name)
+        chapters.verify()
+        return workers, chapters.events
+
+
+def differing(program, seed):
+    """The processes that were told another thing than the replay tells them."""
+    workers, replayed = run(program, 1 + seed % 2, seed)
+    events = [line.split(' ', 1) for line in replayed]
     return [pid for pid, worker in enumerate(workers)
             if [what for who, what in events if who == str(pid) and what != 'parked'] != [t for t in worker.told if t is not None]]
 

@@ -1,16 +1,29 @@
-"""What the Python module gives and raises. python3 -m unittest test_chanhub"""
+"""What the Python module gives and raises. python3 -m unittest test_chanhub
+
+If TOOL is the path of a built chanhub_tool, chapters are given to it as well.
+"""
+import collections
 import gc
 import os
+import pathlib
 import pickle
 import signal
 import subprocess
 import sys
+import tempfile
 import threading
 import time
 import unittest
 
 import chanhub
 from chanhub import Cancelled, Closed, Counts, Drained, Fault, Fired, Hub, Recv, Send, Stalled, Table
+from rigs import Worker
+
+HERE = pathlib.Path(__file__).resolve().parent
+sys.path.append(str(HERE.parent.parent / 'tools'))
+import model  # noqa: E402
+from compare import by_process  # noqa: E402
+from cuts import checkpoint_of  # noqa: E402
 
 LONG = 20  # seconds after which what should end at once is taken to hang
 
@@ -20,6 +33,57 @@ def ran(script, *arguments):
     done = subprocess.run([sys.executable, '-c', script, *arguments], stdout=subprocess.PIPE, stderr=subprocess.STDOUT, timeout=LONG,
                           env=dict(os.environ, PYTHONPATH=os.pathsep.join(filter(None, sys.path))))
     return done.returncode, done.stdout.decode()
+
+
+def history(chapters):
+    """The head lines and the other lines of the history that these chapters are: the first, and what follows in each later one behind
+    the checkpoint of the one before. Fails where one does not begin with that."""
+    head, lines, checkpoint = [], [], []
+    for number, chapter in enumerate(chapters):
+        read = chapter.decode().splitlines()
+        head, read = read[:2], read[2:]
+        if read[:len(checkpoint)] != checkpoint:
+            raise AssertionError(f'chapter {number} does not begin with the checkpoint')
+        lines += read[len(checkpoint):]
+        checkpoint = checkpoint_of(head, read)
+    if os.environ.get('TOOL'):
+        with tempfile.TemporaryDirectory() as folder:
+            paths = [pathlib.Path(folder, str(number)) for number in range(len(chapters))]
+            for path, chapter in zip(paths, chapters):
+                path.write_bytes(chapter)
+            subprocess.run([os.environ['TOOL'], 'chain', *paths], stdout=subprocess.DEVNULL, check=True)
+    return head, lines
+
+
+def events(head, lines):
+    """What a journal tells, by the rules."""
+    hub = model.Hub(int(head[0].split()[2]), int(head[1].split()[1]))
+    for line in lines:
+        fields = line.split()
+        hub.step(int(fields[0]), *model.step(fields[1:]))
+    return hub.events
+
+
+def written(name):
+    """The chapters that were written to NAME.0, NAME.1, and so on."""
+    name = pathlib.Path(os.fsdecode(name))
+    paths = [name.with_name(f'{name.name}.{number}') for number in range(len(os.listdir(name.parent)))]
+    return [path.read_bytes() for path in paths if path.exists()]
+
+
+def pass_numbers(hub, count):
+    """Makes a port, and sends and receives so many numbers: 1 + 2 * count steps."""
+    seat = hub.seat(0)
+    port = seat.make(2)
+    for number in range(count):
+        seat.send(port, number)
+        seat.recv(port)
+    return port
+
+
+def lines_of(count):
+    """The lines of these steps."""
+    return ['0 make 2', *(line for number in range(count) for line in (f'0 send 1 {number}', '0 recv 1'))]
 
 
 def joined(threads):
@@ -111,6 +175,19 @@ class Calls(unittest.TestCase):
             with self.assertRaises(ValueError):
                 Hub(procs, edition, limit)
 
+    def test_openings_with_keep_are_refused(self):
+        for arguments in (dict(keep=0), dict(keep=-1), dict(keep=900_001), dict(keep=2 ** 32 + 1), dict(procs=0, keep=1),
+                          dict(procs=65, keep=1), dict(edition=3, keep=1), dict(limit=1, keep=1), dict(chapters=print),
+                          dict(limit=1, chapters='name'), dict(keep=1, chapters='a\0b')):
+            for chapters in ({}, dict(chapters=print)):
+                with self.assertRaises(ValueError):
+                    Hub(**{'procs': 1, **chapters, **arguments})
+        for chapters in (5, [], object()):
+            with self.assertRaises(TypeError):
+                Hub(1, keep=1, chapters=chapters)
+        for keep in (1, 900_000):
+            self.assertEqual(Hub(64, keep=keep).journal(), b'chanhub journal 2\nprocs 64\n')
+
     def test_an_ended_hub_takes_no_call(self):
         with Hub(procs=1) as hub:
             seat = hub.seat(0)
@@ -179,6 +256,347 @@ def bare_stage(seat, source, sink):
         seat.send(sink, seat.recv(source))
 
 
+class Chapters(unittest.TestCase):
+    def setUp(self):
+        folder = tempfile.TemporaryDirectory()
+        self.addCleanup(folder.cleanup)
+        self.folder = pathlib.Path(folder.name)
+        self.reported = []
+        self.addCleanup(setattr, sys, 'unraisablehook', sys.unraisablehook)
+        sys.unraisablehook = lambda report: self.reported.append(report.exc_value)
+
+    def test_they_begin_by_themselves_and_by_hand(self):
+        chapters = []
+        with Hub(procs=2, keep=3, chapters=chapters.append) as hub:
+            seat = hub.seat(0)
+            port = seat.make(2)
+            self.assertIsNone(hub.before())
+            seat.send(port, b'ab')
+            seat.send(port, 5)
+            self.assertEqual(hub.seat(1).recv(port), b'ab')
+            first = b'chanhub journal 2\nprocs 2\n0 make 2\n0 send 1 #6162\n0 send 1 5\n'
+            self.assertEqual(hub.before(), first)
+            self.assertEqual(hub.journal(), first + b'1 recv 1\n')
+            hub.cut()
+            self.assertEqual(chapters, [first])
+            self.assertEqual(hub.before(), first + b'1 recv 1\n')
+            self.assertEqual(hub.journal(), b'chanhub journal 2\nprocs 2\n0 make 2\n0 send 1 5\n')
+            self.assertEqual(seat.recv(port), 5)
+            self.assertEqual(hub.look(port), Counts(2, 2, 2, False))
+        self.assertEqual(chapters[1:], [first + b'1 recv 1\n', hub.journal()])
+        self.assertEqual(hub.journal(), b'chanhub journal 2\nprocs 2\n0 make 2\n0 send 1 5\n0 recv 1\n0 exit\n1 exit\n')
+        self.assertEqual(hub.before(), chapters[1])
+        self.assertEqual(hub.look(port), Counts(2, 2, 2, False))
+        with self.assertRaisesRegex(ValueError, 'the hub has ended'):
+            hub.cut()
+        self.assertEqual(len(chapters), 3)
+
+    def test_only_a_hub_with_keep_is_cut(self):
+        with Hub(procs=1) as hub:
+            pass_numbers(hub, 1)
+            with self.assertRaises(ValueError):
+                hub.cut()
+            self.assertIsNone(hub.before())
+            self.assertEqual(hub.journal().decode().splitlines()[2:], lines_of(1))
+
+    def test_without_a_function_they_go(self):
+        with Hub(procs=1, keep=4) as hub:
+            pass_numbers(hub, 20)
+        self.assertEqual(history([hub.before(), hub.journal()])[1], ['0 make 2', *lines_of(20)[-6:], '0 exit'])
+
+    def test_a_waiting_call_goes_on_waiting(self):
+        chapters = []
+        hub = Hub(procs=2, keep=1, chapters=chapters.append)
+        got = []
+        thread = threading.Thread(target=lambda: got.append(hub.seat(1).recv(1)))
+        with hub:
+            seat = hub.seat(0)
+            seat.make(0)
+            thread.start()
+            while '1 recv 1' not in hub.journal().decode():
+                time.sleep(0.001)
+            for _ in range(5):
+                hub.cut()
+            seat.send(1, 7)
+            thread.join(LONG)
+        self.assertEqual(got, [7])
+        self.assertEqual(history(chapters)[1], ['0 make 0', '1 recv 1', '0 send 1 7', '0 exit', '1 exit'])
+
+    def test_more_steps_than_another_hub_makes(self):
+        chapters = collections.Counter()
+        with Hub(procs=1, keep=1000, chapters=lambda text: chapters.update([text])) as hub:
+            seat = hub.seat(0)
+            port = seat.make(1)
+            send, recv = seat.send, seat.recv
+            for _ in range(550_000):
+                send(port, 7)
+                recv(port)
+            self.assertEqual(hub.look(port), Counts(1, 550_000, 550_000, False))
+        steps = ['0 make 1', *['0 send 1 7', '0 recv 1'] * 1000]
+        first, later, last = (history([text])[1] for text in chapters)
+        self.assertEqual((first, later), (steps[:1000], steps[:2] + steps[2:1002]))
+        self.assertEqual(last, [*steps[:3], '0 exit'])
+        self.assertEqual(list(chapters.values()), [1, 1099, 1])
+
+    def test_each_is_given_once_and_in_order_to_a_function_and_to_files(self):
+        for keep in (1, 2, 7, 40, 41, 42, 1000):
+            chapters = []
+            with Hub(procs=1, keep=keep, chapters=chapters.append) as hub:
+                pass_numbers(hub, 20)
+            self.assertEqual(history(chapters)[1], [*lines_of(20), '0 exit'])
+            with Hub(procs=1, keep=keep, chapters=self.folder / str(keep)) as hub:
+                pass_numbers(hub, 20)
+            self.assertEqual(written(self.folder / str(keep)), chapters)
+            self.assertIsNone(hub.chapters_error)
+
+    def test_the_names_of_files(self):
+        folder = str(self.folder)
+        (self.folder / 'there').mkdir()
+        (self.folder / 'replaced.1').write_bytes(b'old')
+        self.addCleanup(os.chdir, os.getcwd())
+        os.chdir(folder)
+        for chapters, name in ((folder + '/text', 'text'), (self.folder / 'path', 'path'), (os.fsencode(folder + '/bytes'), 'bytes'),
+                               ('relative', 'relative'), (folder + '/there', 'there/journal'), ('replaced', 'replaced')):
+            os.chdir(folder)
+            with Hub(procs=1, keep=3, chapters=chapters) as hub:
+                os.chdir('/')
+                pass_numbers(hub, 5)
+            self.assertEqual(history(written(self.folder / name))[1], [*lines_of(5), '0 exit'])
+        del hub
+        gc.collect()
+        self.assertEqual([path for path in self.folder.rglob('*') if path.suffix == '.tmp'], [])
+        self.assertEqual(len(list(self.folder.rglob('*.*'))), 6 * 4)
+
+    def test_a_file_that_cannot_be_written_is_told_once(self):
+        name = self.folder / 'later' / 'log'
+        self.assertEqual(ran(UNWRITTEN, str(name)), (0, f'chanhub: {name}.0: No such file or directory\n' + UNWRITTEN_PRINTS.format(name)))
+        self.assertEqual([number for number in range(9) if name.with_name(f'log.{number}').exists()], [3, 4, 5])
+
+    def test_an_exception_of_the_function_is_reported_once(self):
+        chapters = []
+
+        def fail(text):
+            chapters.append(text)
+            raise OSError(len(chapters))
+        with Hub(procs=1, keep=2, chapters=fail) as hub:
+            port = pass_numbers(hub, 20)
+            self.assertEqual(hub.look(port).received, 20)
+        self.assertEqual(history(chapters)[1], [*lines_of(20), '0 exit'])
+        self.assertEqual([error.args for error in self.reported], [(1,)])
+
+    def test_the_function_looks_at_the_hub(self):
+        looks = []
+
+        def look(text):
+            looks.append((hub.look(1), hub.before(), text, hub.journal()))
+        with Hub(procs=1, keep=2, chapters=look) as hub:
+            pass_numbers(hub, 3)
+            hub.cut()
+            self.assertEqual([counts.sent for counts, *_ in looks], [2, 3, 3])
+            for _, *texts in looks:
+                before, text, journal = texts
+                history([text, before, journal])
+        self.assertEqual(len(looks), 5)
+        self.assertEqual(self.reported, [])
+
+    def test_an_ended_hub_that_its_function_refers_to_is_freed(self):
+        def opened():
+            hub = Hub(procs=1, keep=2, chapters=lambda text: hub.look(1))
+            return hub
+        hub = opened()
+        with hub:
+            pass_numbers(hub, 3)
+        freed = hub._free
+        del hub
+        gc.collect()
+        self.assertFalse(freed.alive)
+        self.assertEqual(self.reported, [])
+
+    def test_a_call_that_waits_gives_a_chapter_first(self):
+        for main_waits in (False, True):
+            chapters = []
+            with Hub(procs=2, keep=1, chapters=chapters.append) as hub:
+                seat = hub.seat(0)
+                seat.make(0), seat.make(0)
+
+                def other():
+                    end = time.monotonic() + LONG
+                    while not chapters and time.monotonic() < end:
+                        time.sleep(0.001)
+                    given.extend(chapters)
+                    hub.seat(1).send(1, 7)
+                given = []
+                calls = [lambda: seat.recv(1), other]
+                thread = threading.Thread(target=calls[main_waits])
+                thread.start()
+                calls[not main_waits]()
+                self.assertTrue(joined([thread]))
+            self.assertEqual(given, chapters[:1])
+            history(chapters)
+
+    def test_a_hub_whose_end_is_interrupted_gives_the_rest_when_it_is_freed(self):
+        chapters, interrupts = [], []
+
+        def interrupted(text):
+            if b'exit' in text and not interrupts:
+                interrupts.append(text)
+                raise KeyboardInterrupt
+            chapters.append(text)
+        with self.assertRaises(KeyboardInterrupt):
+            with Hub(procs=3, keep=1, chapters=interrupted) as hub:
+                pass_numbers(hub, 3)
+        self.assertNotIn(b'exit', chapters[-1])
+        del hub
+        gc.collect()
+        self.assertEqual(history(chapters)[1], [*lines_of(3), '0 exit', '1 exit', '2 exit'])
+
+    def test_the_function_can_be_interrupted(self):
+        """The call has its result nevertheless, and the function gets the chapter again."""
+        chapters, interrupts = [], []
+
+        def interrupted(text):
+            if len(interrupts) < 7 and text not in interrupts:
+                interrupts.append(text)
+                raise KeyboardInterrupt
+            chapters.append(text)
+        with Hub(procs=2, keep=1, chapters=interrupted) as hub:
+            seat, results = hub.seat(0), []
+            seat.make(0), seat.make(3)
+            for call in (lambda: seat.send(2, 7), lambda: seat.select([Recv(1), Recv(2)]), lambda: seat.close(2), lambda: seat.recv(2),
+                         lambda: seat.cancel(1), lambda: seat.make(9), lambda: seat.recv(9)):
+                with self.assertRaises(KeyboardInterrupt):
+                    call()
+                self.assertTrue(seat.waits)
+                try:
+                    results.append(seat.resume())
+                except (Drained, Fault) as error:
+                    results.append(str(error))
+                self.assertFalse(seat.waits)
+            self.assertEqual(chapters, interrupts[:-1])
+        self.assertEqual(results, [None, Fired(1, 7), None, str(Drained()), str(Fault(12)), 3, str(Fault(5))])
+        self.assertEqual(history(chapters)[1], ['0 make 0', '0 make 3', '0 send 2 7', '0 select 0 r1 r2', '0 close 2', '0 recv 2',
+                                                '0 cancel 1', '0 make 9', '0 recv 9', '0 exit', '1 exit'])
+
+    def test_other_calls_go_on_while_the_function_runs(self):
+        chapters, calls = [], []
+        runs, may_return = threading.Event(), threading.Event()
+
+        def wait(text):
+            chapters.append(text)
+            runs.set()
+            self.assertTrue(may_return.wait(LONG))
+
+        def call(seat, count):
+            for _ in range(count):
+                calls.append(seat.select([], default=True))
+        with Hub(procs=2, keep=10, chapters=wait) as hub:
+            first = threading.Thread(target=call, args=(hub.seat(0), 21))
+            first.start()
+            self.assertTrue(runs.wait(LONG))
+            second = threading.Thread(target=call, args=(hub.seat(1), 100))
+            second.start()
+            while len(calls) < 20 + 9:
+                time.sleep(0.001)
+            time.sleep(0.05)
+            self.assertEqual((len(calls), len(chapters)), (20 + 9, 1))
+            may_return.set()
+            self.assertTrue(joined([first, second]))
+        self.assertEqual(len(history(chapters)[1]), 121 + 2)
+
+    def test_threads_are_told_what_their_history_tells(self):
+        for seed in range(12):
+            edition, chapters = 1 + seed % 2, []
+            to = chapters.append if seed % 3 else self.folder / str(seed)
+            with Hub(6, edition, keep=1 + seed * 5, chapters=to) as hub:
+                workers = [Worker(hub, edition, pid, seed * 100 + pid) for pid in range(6)]
+                workers[0].told += [f'made {workers[0].seat.make(cap)}' for cap in (0, 1, 5)]
+                threads = [threading.Thread(target=worker.run) for worker in workers]
+                for thread in threads:
+                    thread.start()
+                self.assertTrue(joined(threads))
+            told = by_process(events(*history(chapters or written(to))))
+            for pid, worker in enumerate(workers):
+                self.assertEqual(told[str(pid)], [what for what in worker.told if what is not None], f'seed {seed}, process {pid}')
+
+    def test_a_hub_that_is_freed_gives_what_is_left(self):
+        for count in (0, 1, 20):
+            chapters = []
+            hub = Hub(procs=1, keep=2, chapters=chapters.append)
+            pass_numbers(hub, count)
+            del hub
+            gc.collect()
+            self.assertEqual(history(chapters)[1], lines_of(count))
+            hub = Hub(procs=1, keep=2, chapters=self.folder / str(count))
+            pass_numbers(hub, count)
+            del hub
+            gc.collect()
+            self.assertEqual(written(self.folder / str(count)), chapters)
+
+    def test_a_call_that_writes_a_chapter_while_the_hub_ends(self):
+        """The file is a pipe, so that it takes as long as nobody reads it."""
+        name = self.folder / 'slow'
+        pipe = self.folder / 'slow.0.tmp'
+        os.mkfifo(pipe)
+        first = []
+
+        def read():
+            time.sleep(0.1)
+            first.append(pipe.read_bytes())
+        with Hub(procs=2, keep=2, chapters=name) as hub:
+            for _ in range(4):
+                hub.seat(0).make(0)
+            threads = [threading.Thread(target=hub.seat(1).make, args=(1,)), threading.Thread(target=read)]
+            threads[0].start()
+            while b'1 make 1' not in hub.journal():
+                time.sleep(0.001)
+            threads[1].start()
+        self.assertTrue(joined(threads))
+        os.remove(self.folder / 'slow.0')
+        (self.folder / 'slow.0').write_bytes(first[0])
+        self.assertEqual(history(written(name))[1], ['0 make 0'] * 4 + ['1 make 1', '0 exit', '1 exit'])
+
+    def test_a_pool_that_never_ends(self):
+        last, name = self.folder / 'last', self.folder / 'chapters' / 'chapter'
+        name.parent.mkdir()
+        # A shell has what it starts in the background ignore Ctrl-C, and that would be passed on.
+        pool = subprocess.Popen([sys.executable, HERE.parent / 'python' / 'forever.py', last, name], stdout=subprocess.PIPE,
+                                preexec_fn=lambda: signal.signal(signal.SIGINT, signal.SIG_DFL))
+        self.addCleanup(pool.kill)
+        while not name.with_name('chapter.1').exists():
+            time.sleep(0.01)
+            self.assertIsNone(pool.poll())
+        pool.send_signal(signal.SIGINT)
+        prints = pool.communicate(timeout=LONG)[0].decode()
+        chapters = written(name)
+        done = sum(line.split()[1:3] == ['send', '2'] for line in history(chapters)[1])
+        self.assertEqual((pool.returncode, prints), (0, f'{done} jobs\n'))
+        self.assertEqual(last.read_bytes(), chapters[-1])
+
+
+UNWRITTEN = """
+import gc, os, sys
+from chanhub import Hub
+name = sys.argv[1]
+hub = Hub(procs=1, keep=1, chapters=name)
+with hub:
+    seat = hub.seat(0)
+    for _ in range(5):
+        seat.make(0)
+    print(repr(hub.chapters_error), hub.chapters_error.filename, flush=True)
+    os.mkdir(os.path.dirname(name))
+    seat.make(0)
+print(repr(hub.chapters_error), flush=True)
+os.rename(os.path.dirname(name), os.path.dirname(name) + '-')
+del hub, seat
+gc.collect()
+os.rename(os.path.dirname(name) + '-', os.path.dirname(name))
+"""
+
+UNWRITTEN_PRINTS = """FileNotFoundError(2, 'No such file or directory') {}
+FileNotFoundError(2, 'No such file or directory')
+"""
+
+
 class Leaving(unittest.TestCase):
     def setUp(self):
         """What a thread does not catch is kept here, and not printed."""
@@ -195,14 +613,31 @@ class Leaving(unittest.TestCase):
                 thread.start()
             time.sleep(0.1)
             raise ZeroDivisionError
+        if self.chapters is not None:
+            self.has_exits(history(self.chapters)[1], len(works) + 1)
         self.assertTrue(joined(threads))
-        exits = sorted(line for line in hub.journal().decode().splitlines() if line.endswith(' exit'))
-        self.assertEqual(exits, sorted(f'{pid} exit' for pid in range(len(works) + 1)))
+        self.has_exits(hub.journal().decode().splitlines(), len(works) + 1)
+
+    def has_exits(self, lines, procs):
+        self.assertEqual(sorted(line for line in lines if line.endswith(' exit')), sorted(f'{pid} exit' for pid in range(procs)))
+
+    def hubs(self, procs, editions=(2,), keeps=(1, 1000)):
+        """Hubs without chapters, and hubs whose chapters are put into a list."""
+        for edition in editions:
+            self.chapters = None
+            yield Hub(procs, edition)
+            for keep in keeps:
+                self.chapters = []
+                yield Hub(procs, edition, keep=keep, chapters=self.append)
+
+    def append(self, text):
+        """Takes its time."""
+        time.sleep(0.001)
+        self.chapters.append(text)
 
     def test_workers_that_wait_for_each_other_end(self):
-        for edition in (1, 2):
-            for work in (stage, bare_stage):
-                hub = Hub(procs=4, edition=edition)
+        for work in (stage, bare_stage):
+            for hub in self.hubs(4, editions=(1, 2)):
                 a, b, c = (hub.seat(0).make(cap) for cap in (0, 2, 0))
                 self.left_by_an_exception(hub, (work, a, b), (work, b, c), (work, c, a))
                 self.assertEqual({type(error) for error in self.raised}, {Stalled})
@@ -210,19 +645,21 @@ class Leaving(unittest.TestCase):
     def test_workers_that_are_busy_end(self):
         for work in (stage, bare_stage):
             for cap in (0, 1, 100):
-                hub = Hub(procs=5)
-                a, b = hub.seat(0).make(cap), hub.seat(0).make(cap)
-                self.left_by_an_exception(hub, (work, a, b), (work, b, a), (lambda seat: seat.send(a, 1),), (lambda seat: seat.send(b, 2),))
-                self.assertEqual({type(error) for error in self.raised} - {Stalled, ValueError}, set())
+                for hub in self.hubs(5, keeps=(3,)):
+                    a, b = hub.seat(0).make(cap), hub.seat(0).make(cap)
+                    self.left_by_an_exception(hub, (work, a, b), (work, b, a), (lambda seat: seat.send(a, 1),),
+                                              (lambda seat: seat.send(b, 2),))
+                    self.assertEqual({type(error) for error in self.raised} - {Stalled, ValueError}, set())
 
     def test_workers_that_compute_end(self):
         def compute(seat, port):
             time.sleep(0.3)
             seat.send(port, 1)
-        hub = Hub(procs=3)
-        port = hub.seat(0).make(0)
-        self.left_by_an_exception(hub, (compute, port), (bare_stage, port, port))
-        self.assertEqual(sorted(type(error).__name__ for error in self.raised), ['Stalled', 'ValueError'])
+        for hub in self.hubs(3, keeps=(2,)):
+            self.raised.clear()
+            port = hub.seat(0).make(0)
+            self.left_by_an_exception(hub, (compute, port), (bare_stage, port, port))
+            self.assertEqual(sorted(type(error).__name__ for error in self.raised), ['Stalled', 'ValueError'])
 
     def test_a_hub_that_is_left_is_joined(self):
         with self.assertRaises(ZeroDivisionError):
@@ -257,13 +694,14 @@ AT_EXIT = """
 import sys, threading, time
 from chanhub import Hub
 kept = []
+options = dict(keep=int(sys.argv[3]), chapters={'function': lambda text: None}.get(sys.argv[4], sys.argv[4])) if sys.argv[3:] else {}
 def waits(seat):
     seat.recv(1)
 def busy(seat):
     while True:
         seat.send(2, 5), seat.recv(2)
 def opened():
-    hub = Hub(procs=4)
+    hub = Hub(procs=4, **options)
     hub.seat(0).make(0), hub.seat(0).make(10)
     for pid in range(1, 4):
         threading.Thread(target=globals()[sys.argv[1]], args=(hub.seat(pid),), daemon=True).start()
@@ -317,6 +755,59 @@ if child:
 """
 
 
+FORKS_WITH_CHAPTERS = """
+import gc, os, sys, threading, time
+from chanhub import Hub
+given = []
+to = given.append if sys.argv[1] == 'function' else sys.argv[1]
+hub = Hub(procs=2, keep=3, chapters=to)
+hub.seat(0).make(1)
+stopped = threading.Event()
+def busy():
+    with hub.seat(1) as other:
+        while not stopped.is_set():
+            other.send(1, 5), other.recv(1)
+thread = threading.Thread(target=busy)
+thread.start()
+quiet = Hub(procs=1, keep=1, chapters=given.append)
+quiet.seat(0).make(0)
+for _ in range(10):
+    time.sleep(0.01)
+    child = os.fork()
+    if child == 0:
+        for call in (hub.cut, hub.before, lambda: hub.seat(0).make(0)):
+            try:
+                call()
+                print('no exception')
+            except RuntimeError:
+                pass
+        count = len(given)
+        with hub:
+            pass
+        del hub, thread, busy, quiet
+        gc.collect()
+        if len(given) != count:
+            print('given in the child')
+        with Hub(procs=1, keep=1, chapters=given.append) as own:
+            own.seat(0).make(0)
+        if len(given) != count + 1:
+            print('no chapters of its own')
+        sys.stdout.flush()
+        os._exit(0)
+    status = os.waitstatus_to_exitcode(os.waitpid(child, 0)[1])
+    if status != 0:
+        print('child', status)
+stopped.set()
+thread.join()
+with hub:
+    pass
+if to != given.append:
+    given = [open(os.path.join(to, 'journal.%d' % number), 'rb').read() for number in range(len(os.listdir(to)))]
+sys.stdout.flush()
+sys.stdout.buffer.write(b'end\\n'.join(given))
+"""
+
+
 class Ends(unittest.TestCase):
     def test_the_interpreter_ends_while_threads_call(self):
         for does in ('waits', 'busy'):
@@ -324,9 +815,24 @@ class Ends(unittest.TestCase):
                 for _ in range(6):
                     self.assertEqual(ran(AT_EXIT, does, where), (0, 'ends\n'))
 
+    def test_the_interpreter_ends_while_threads_make_chapters(self):
+        with tempfile.TemporaryDirectory() as folder:
+            for keep in (1, 10, 900_000):
+                for where, chapters in (('one', 'function'), ('kept', 'function'), ('one', folder)):
+                    self.assertEqual(ran(AT_EXIT, 'busy', where, str(keep), chapters), (0, 'ends\n'))
+
     def test_a_forked_child_leaves_the_hub_alone(self):
         for how in ('ends', 'exits'):
             self.assertEqual(ran(FORKS, how), (0, 'parent ends\n'))
+
+    def test_a_forked_child_gets_no_chapter(self):
+        with tempfile.TemporaryDirectory() as folder:
+            for to in ('function', folder):
+                status, prints = ran(FORKS_WITH_CHAPTERS, to)
+                chapters = prints.encode().split(b'end\n')
+                self.assertEqual(status, 0, prints)
+                self.assertGreater(len(chapters), 20)
+                self.assertEqual(history(chapters)[1][0], '0 make 1')
 
 
 class Interrupts(unittest.TestCase):
@@ -349,9 +855,9 @@ class Interrupts(unittest.TestCase):
             sent.append(time.monotonic())
             os.kill(os.getpid(), signal.SIGINT)
         thread = threading.Thread(target=interrupt)
-        thread.start()
         with self.assertRaises(KeyboardInterrupt):
             self.inside = True
+            thread.start()
             call()
         raised = time.monotonic()
         thread.join()
@@ -366,7 +872,15 @@ class Interrupts(unittest.TestCase):
             self.assertEqual(raised.exception.number, 3)
 
     def test_each_call_that_waits_is_interrupted_and_resumed(self):
-        hub = Hub(procs=2)
+        self.each_call_that_waits(Hub(procs=2))
+
+    def test_each_call_that_waits_is_interrupted_and_resumed_in_each_chapter(self):
+        chapters = []
+        with Hub(procs=2, keep=1, chapters=chapters.append) as hub:
+            self.each_call_that_waits(hub)
+        history(chapters)
+
+    def each_call_that_waits(self, hub):
         seat, other = hub.seat(0), hub.seat(1)
         for cap in (0, 1):
             port = seat.make(cap)
@@ -435,16 +949,78 @@ class Interrupts(unittest.TestCase):
         seat.exit()
 
     def test_an_answer_that_comes_with_an_interrupt_is_not_lost(self):
-        """A thread sends numbers while signals come all the time; a handler raises only within a call of the seat."""
-        count, interrupts = 4000, 0
-        hub = Hub(procs=2)
+        self.numbers_come_with_interrupts(Hub(procs=2))
+
+    def test_a_chapter_that_comes_with_an_interrupt_is_not_lost(self):
+        """One that the function has when it is interrupted comes again."""
+        for keep in (1, 50):
+            chapters = []
+            with Hub(procs=2, keep=keep, chapters=chapters.append) as hub:
+                count = self.numbers_come_with_interrupts(hub)
+            lines = history(list(dict.fromkeys(chapters)))[1]
+            self.assertEqual([line for line in lines if 'send' in line], [f'1 send 1 {number}' for number in range(count)])
+            self.assertEqual(len([line for line in lines if 'recv' in line]), count + 1)
+
+    def test_a_wait_for_another_thread_that_gives_a_chapter_is_interrupted(self):
+        runs, may_return = threading.Event(), threading.Event()
+
+        def wait(text):
+            chapters.append(text)
+            runs.set()
+            may_return.wait(LONG)
+        chapters = []
+        with Hub(procs=2, keep=2, chapters=wait) as hub:
+            other = threading.Thread(target=pass_numbers, args=(hub, 2))
+            other.start()
+            self.assertTrue(runs.wait(LONG))
+            seat = hub.seat(1)
+
+            def call():
+                while True:
+                    ports.append(seat.make(0))
+            ports = []
+            self.assertLess(self.interrupted(call), 0.2)
+            may_return.set()
+            ports.append(seat.resume())
+            self.assertTrue(joined([other]))
+        self.assertEqual(ports, [2, 3, 4][:len(ports)])
+        history(chapters)
+
+    def test_a_signal_handler_cuts_the_hub(self):
+        """Also while the function runs."""
+        chapters, cuts = [], []
+
+        def append(text):
+            time.sleep(0.001)
+            chapters.append(text)
+        with Hub(procs=1, keep=20, chapters=append) as hub:
+            signal.signal(signal.SIGINT, lambda *_: cuts.append(hub.cut()))
+
+            def interrupt():
+                for _ in range(100):
+                    time.sleep(0.001)
+                    os.kill(os.getpid(), signal.SIGINT)
+            thread = threading.Thread(target=interrupt)
+            thread.start()
+            pass_numbers(hub, 2000)
+            thread.join()
+        self.assertEqual(history(chapters)[1], [*lines_of(2000), '0 exit'])
+        self.assertGreater(len(cuts), 10)
+        self.assertGreater(len(chapters), 4001 // 20)
+
+    def numbers_come_with_interrupts(self, hub):
+        """A thread sends numbers while signals come all the time; a handler raises only within a call of the seat. Returns how many
+        numbers came."""
+        sent, interrupts = [], []
         seat = hub.seat(0)
         port = seat.make(0)
 
         def send():
+            end = time.monotonic() + LONG
             with hub.seat(1) as sender:
-                for number in range(count):
-                    sender.send(port, number)
+                while len(sent) < 4000 or len(interrupts) <= 10 and time.monotonic() < end:
+                    sender.send(port, len(sent))
+                    sent.append(len(sent))
                 sender.close(port)
         done = threading.Event()
 
@@ -462,14 +1038,15 @@ class Interrupts(unittest.TestCase):
                 self.inside = False
                 got.append(value)
             except KeyboardInterrupt:
-                interrupts += 1
+                interrupts.append(len(got))
             except Drained:
                 self.inside = False
                 break
         done.set()
         self.assertTrue(joined(threads))
-        self.assertEqual(got, list(range(count)))
-        self.assertGreater(interrupts, 10)
+        self.assertEqual(got, sent)
+        self.assertGreater(len(interrupts), 10)
+        return len(got)
 
 
 if __name__ == '__main__':

@@ -23,10 +23,12 @@ var (
 	ErrHubClosed = errors.New("chanhub: the hub is closed")
 )
 
-// Errors that [Open] returns.
+// Errors that [Open] and [OpenEndless] return.
 var (
 	ErrProcs   = errors.New("chanhub: the number of processes must be between 1 and 64")
 	ErrLimit   = errors.New("chanhub: the step limit must be between 1 and 1,000,000")
+	ErrKeep    = errors.New("chanhub: the number of steps to keep must be between 1 and 900,000")
+	ErrFiles   = errors.New("chanhub: the name of the files has a zero byte")
 	ErrEdition = errors.New("chanhub: the edition must be 1 or 2")
 	ErrMemory  = errors.New("chanhub: out of memory")
 )
@@ -49,9 +51,9 @@ const (
 	FaultNilClose      Fault = C.CHANHUB_NIL_CLOSE      // close of port 0
 	FaultAlreadyClosed Fault = C.CHANHUB_ALREADY_CLOSED // close of a closed port
 	FaultJournalFull   Fault = C.CHANHUB_JOURNAL_FULL   // the hub has reached its step limit; an exit is still possible
-	FaultNoMemory      Fault = C.CHANHUB_NO_MEMORY      // out of memory; an exit is still possible
+	FaultNoMemory      Fault = C.CHANHUB_NO_MEMORY      // out of memory; an exit is still possible, unless a chapter would begin with it
 	FaultNotParked     Fault = C.CHANHUB_NOT_PARKED     // the process has no waiting call to cancel
-	FaultBadCall       Fault = C.CHANHUB_BAD_CALL       // a process number outside 0 to 255, more than 16 cases, or a call that needs Edition2
+	FaultBadCall       Fault = C.CHANHUB_BAD_CALL       // a process number outside 0 to 255, more than 16 cases, a call that needs Edition2, or a cut of a hub of Open
 )
 
 var faultTexts = map[Fault]string{
@@ -67,7 +69,7 @@ var faultTexts = map[Fault]string{
 	FaultJournalFull:   "the hub has reached its step limit",
 	FaultNoMemory:      "out of memory",
 	FaultNotParked:     "the process has no waiting call to cancel",
-	FaultBadCall:       "a process number outside 0 to 255, more than 16 cases, or a call that needs edition 2",
+	FaultBadCall:       "a process number outside 0 to 255, more than 16 cases, a call that needs edition 2, or a cut of a hub that ends",
 }
 
 // Error returns the number of the fault and its meaning.

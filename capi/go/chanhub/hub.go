@@ -56,10 +56,11 @@
 //
 // # Limits
 //
-// A hub has at most 64 ports, and a closed port still counts. It makes at most 1,000,000 steps, not counting exits, so it suits
-// tests and finite runs. A program that runs longer opens a new hub for each batch of its work. No call takes a timeout or a
-// context; the example RecvContext uses [Seat.Cancel] instead. While the process that cancels is outside the hub, no deadlock is
-// reported.
+// A hub of [Open] keeps its whole journal. It makes at most 1,000,000 steps, not counting exits, so it suits tests and finite runs.
+// A hub of [OpenEndless] never ends. It keeps the newest steps, and the older ones go where its [Chapters] say.
+//
+// A hub has at most 64 ports, and a closed port still counts. No call takes a timeout or a context; the example RecvContext uses
+// [Seat.Cancel] instead. While the process that cancels is outside the hub, no deadlock is reported.
 //
 // # Threads
 //
@@ -100,17 +101,21 @@ const (
 // never ready, like a nil channel in Go.
 type Port uint16
 
-// Counts is the state of a port. The port's buffer holds Sent - Received values.
+// Counts is the state of a port. Sent and Received count since the hub was opened. The port's buffer holds Sent - Received values.
 type Counts struct {
-	Capacity, Sent, Received int
-	Closed                   bool
+	Capacity       int
+	Sent, Received uint64
+	Closed         bool
 }
 
 // A Hub is a hub of channels. Several goroutines may call its methods at the same time.
 type Hub struct {
-	at      *C.chanhub
-	freed   sync.Once
-	running sync.WaitGroup // the calls in the library
+	at        *C.chanhub
+	isEndless bool
+	handler   *handler // nil if nothing gets the chapters
+	freed     sync.Once
+	unwritten error          // what Close returns
+	running   sync.WaitGroup // the calls in the library
 
 	lock    sync.Mutex
 	closed  bool
@@ -125,17 +130,24 @@ type Hub struct {
 // Open returns [ErrProcs], [ErrLimit], [ErrEdition] or [ErrMemory] if it fails.
 func Open(edition Edition, procs int, limit int) (*Hub, error) {
 	var at *C.chanhub
-	switch C.chanhub_open(&at, within(int(edition)), within(procs), C.uint32_t(within(limit))) {
-	case 0:
-		return &Hub{at: at, calling: make([]int, procs)}, nil
-	case 1:
-		return nil, ErrProcs
-	case 2:
-		return nil, ErrLimit
-	case 4:
-		return nil, ErrEdition
+	refusal := C.chanhub_open(&at, within(int(edition)), within(procs), C.uint32_t(within(limit)))
+	if refusal != 0 {
+		return nil, refusalOf(refusal, ErrLimit)
 	}
-	return nil, ErrMemory
+	return &Hub{at: at, calling: make([]int, procs)}, nil
+}
+
+// refusalOf returns the error for a hub that was not opened. The error for refusal 2 is given.
+func refusalOf(refusal C.int, second error) error {
+	switch refusal {
+	case 1:
+		return ErrProcs
+	case 2:
+		return second
+	case 4:
+		return ErrEdition
+	}
+	return ErrMemory
 }
 
 // Seat returns the seat of the process with number pid. Processes are numbered from 0. If the hub has no such process, each call
@@ -154,54 +166,89 @@ func (h *Hub) Look(port Port) (Counts, error) {
 	if !counts.made {
 		return Counts{}, FaultNoPort
 	}
-	return Counts{int(counts.cap), int(counts.sent), int(counts.received), bool(counts.closed)}, nil
+	return Counts{int(counts.cap), uint64(counts.sent), uint64(counts.received), bool(counts.closed)}, nil
 }
 
-// Journal returns the text of the journal so far. It needs no seat, so it also works while every process waits. Other calls on the
-// hub are delayed while the text is made. `chanhub replay` reads a text of at most 67,108,864 bytes. Journal returns
-// [FaultNoMemory] if memory runs out.
+// Journal returns the text of the journal so far, and for a hub of [OpenEndless] that of the present chapter. It needs no seat, so it
+// also works while every process waits. Other calls on the hub are delayed while the text is made. `chanhub replay` reads a text of
+// at most 67,108,864 bytes. A chapter is never longer. Journal returns [FaultNoMemory] if memory runs out.
 func (h *Hub) Journal() ([]byte, error) {
+	text, err := h.text(func(hub *C.chanhub, length *C.size_t) *C.char {
+		return C.chanhub_journal(hub, length)
+	})
+	if err == nil && text == nil {
+		err = FaultNoMemory
+	}
+	return text, err
+}
+
+// text returns a text that the library makes, or nil if it makes none.
+func (h *Hub) text(read func(hub *C.chanhub, length *C.size_t) *C.char) ([]byte, error) {
 	if err := h.enter(nobody); err != nil {
 		return nil, err
 	}
 	var length C.size_t
-	text := C.chanhub_journal(h.at, &length)
+	text := read(h.at, &length)
 	h.leave(nobody)
 	if text == nil {
-		return nil, FaultNoMemory
+		return nil, nil
 	}
 	defer C.chanhub_free_text(text)
-	return append([]byte(nil), unsafe.Slice((*byte)(unsafe.Pointer(text)), int(length))...), nil
+	return copyOf(text, length), nil
 }
 
-// Close ends the hub and frees its memory. It always returns nil. It may be called more than once and by several goroutines.
+// copyOf returns the bytes of a text of the library, and nil for NULL, which has length 0.
+func copyOf(text *C.char, length C.size_t) []byte {
+	return append([]byte(nil), unsafe.Slice((*byte)(unsafe.Pointer(text)), int(length))...)
+}
+
+// Close ends the hub and frees its memory. It may be called more than once and by several goroutines.
 //
 // Later calls return [ErrHubClosed], including [Hub.Journal]. Of the calls that are running, those that wait return ErrHubClosed,
 // and those that can proceed return their result. Close returns after all running calls have left the library; none of them waits
 // any longer.
+//
+// The chapters that a hub of [OpenEndless] still keeps go where its [Chapters] say before Close returns. The last one ends with the
+// exits of the processes. If a chapter was not written to its file, Close returns an error that wraps the first [syscall.Errno]. It
+// returns no other error.
 func (h *Hub) Close() error {
 	h.freed.Do(func() {
 		h.shut()
 		h.running.Wait()
 		C.chanhub_free(h.at)
+		h.unwritten = h.handler.end()
 	})
-	return nil
+	return h.unwritten
 }
 
 // shut lets no further call begin, and exits the processes that have no running call. The others exit when their calls leave.
 // Every process has then soon exited or is waiting, so the hub stalls the calls that wait, and none is left.
 func (h *Hub) shut() {
+	for _, pid := range h.refuse() {
+		h.exit(pid)
+	}
+}
+
+// refuse lets no further call begin, and returns the processes that have no running call.
+func (h *Hub) refuse() (idle []int) {
 	h.lock.Lock()
 	defer h.lock.Unlock()
 	h.closed = true
 	for pid, calls := range h.calling {
 		if calls == 0 {
-			C.chanhub_exit(h.at, C.uint(pid))
+			idle = append(idle, pid)
 		}
 	}
+	return idle
 }
 
-// nobody stands for the process of Look and Journal, which have none.
+// exit exits a process of a closed hub. The caller does not hold the lock, since a chapter may fall out, and the function that gets
+// it may call on the hub.
+func (h *Hub) exit(pid int) {
+	C.chanhub_exit(h.at, C.uint(pid))
+}
+
+// nobody stands for the process of Look, Journal, Before and Cut, which have none.
 const nobody = -1
 
 // enter lets a call of a process into the library, or returns ErrHubClosed. The memory is kept until the call leaves.
@@ -221,15 +268,22 @@ func (h *Hub) enter(pid int) error {
 // leave ends a call, and reports whether the hub is closed. If so, the process exits with the last of its calls.
 func (h *Hub) leave(pid int) (closed bool) {
 	defer h.running.Done()
+	closed, isLast := h.end(pid)
+	if closed && isLast {
+		h.exit(pid)
+	}
+	return closed
+}
+
+// end ends the count of a call, and reports whether the hub is closed and whether this was the last call of its process.
+func (h *Hub) end(pid int) (closed, isLast bool) {
 	h.lock.Lock()
 	defer h.lock.Unlock()
 	if h.has(pid) {
 		h.calling[pid]--
-		if h.closed && h.calling[pid] == 0 {
-			C.chanhub_exit(h.at, C.uint(pid))
-		}
+		isLast = h.calling[pid] == 0
 	}
-	return h.closed
+	return h.closed, isLast
 }
 
 func (h *Hub) has(pid int) bool {

@@ -3,7 +3,7 @@
 use std::error::Error;
 use std::fmt;
 
-/// Why [`Hub::open`](crate::Hub::open) failed.
+/// Why [`Hub::open`](crate::Hub::open) or [`Hub::open_endless`](crate::Hub::open_endless) failed.
 #[derive(Clone, Copy, Debug, PartialEq, Eq)]
 #[non_exhaustive]
 pub enum OpenError {
@@ -11,6 +11,8 @@ pub enum OpenError {
     Procs,
     /// The step limit is not between 1 and 1,000,000.
     Limit,
+    /// The number of steps to keep is not between 1 and 900,000.
+    Keep,
     /// Memory ran out.
     Memory,
 }
@@ -68,11 +70,12 @@ impl Fault {
     pub const ALREADY_CLOSED: Fault = Fault(9);
     /// The hub has reached its step limit. Dropping a seat still exits its process.
     pub const JOURNAL_FULL: Fault = Fault(10);
-    /// Memory ran out. Dropping a seat still exits its process.
+    /// Memory ran out. Dropping a seat still exits its process, unless a new chapter would begin with the exit.
     pub const NO_MEMORY: Fault = Fault(11);
     /// The call would have cancelled the call of a process that has no waiting call.
     pub const NOT_PARKED: Fault = Fault(12);
-    /// The call used a channel of another hub, had more than 16 cases, or requires edition 2.
+    /// The call used a channel of another hub, had more than 16 cases, requires edition 2, or would have cut a hub of
+    /// [`Hub::open`](crate::Hub::open).
     pub const BAD_CALL: Fault = Fault(13);
 
     fn text(self) -> &'static str {
@@ -90,7 +93,7 @@ impl Fault {
             Fault::NO_MEMORY => "out of memory",
             Fault::NOT_PARKED => "the process has no waiting call to cancel",
             Fault::BAD_CALL => {
-                "a channel of another hub, more than 16 cases, or a call that needs edition 2"
+                "a channel of another hub, more than 16 cases, a call that needs edition 2, or a cut of a hub that ends"
             }
             _ => "a number that chanhub.h does not define",
         }
@@ -102,6 +105,7 @@ impl fmt::Display for OpenError {
         f.write_str(match self {
             OpenError::Procs => "the number of processes must be between 1 and 64",
             OpenError::Limit => "the step limit must be between 1 and 1,000,000",
+            OpenError::Keep => "the number of steps to keep must be between 1 and 900,000",
             OpenError::Memory => "out of memory",
         })
     }

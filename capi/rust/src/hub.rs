@@ -1,11 +1,13 @@
 //! A hub, and the seats through which its threads call.
 
+use crate::chapters::{self, Chapters, Handler};
 use crate::error::{Ended, Fault, OpenError};
 use crate::sys;
 use crate::value::Value;
 use std::fmt;
 use std::iter::FusedIterator;
-use std::os::raw::c_uint;
+use std::os::raw::{c_char, c_int, c_uint};
+use std::panic::RefUnwindSafe;
 use std::ptr;
 use std::sync::atomic::{AtomicU64, Ordering};
 use std::sync::Arc;
@@ -19,24 +21,43 @@ pub enum Edition {
     Two,
 }
 
+impl Edition {
+    fn number(self) -> c_uint {
+        match self {
+            Edition::One => 1,
+            Edition::Two => 2,
+        }
+    }
+}
+
 /// A hub of the C library. It is freed when this is dropped.
 struct Raw {
     at: *mut sys::Chanhub,
     id: u64,
+    is_endless: bool,
+    /// Is dropped after the hub is freed, which still calls it.
+    _handler: Option<Handler>,
 }
 
-// SAFETY: chanhub.h allows calls from all threads at any time, except for the free, which happens once no `Arc` is left.
+// SAFETY: chanhub.h allows calls from all threads at any time, except for the free, which happens once no `Arc` is left. The
+// handler's closure is `Send`, and only one thread at a time calls or drops it.
 unsafe impl Send for Raw {}
 unsafe impl Sync for Raw {}
 
+// A closure that has panicked is not called again.
+impl RefUnwindSafe for Raw {}
+
 impl Drop for Raw {
     fn drop(&mut self) {
-        // SAFETY: `at` came from chanhub_open, and this is its last use.
+        // SAFETY: `at` came from the library, and this is its last use. The handler still exists.
         unsafe { sys::chanhub_free(self.at) }
     }
 }
 
 /// A hub of channels.
+///
+/// A hub of [`open`](Hub::open) keeps its whole journal, and ends after at most 1,000,000 steps. A hub of
+/// [`open_endless`](Hub::open_endless) keeps the newest steps, and never ends.
 ///
 /// A clone refers to the same hub. The hub is freed when the last clone and the last [`Seat`] are dropped.
 #[derive(Clone)]
@@ -73,10 +94,10 @@ impl fmt::Debug for Seat {
 pub struct Counts {
     /// The capacity of the buffer.
     pub cap: u32,
-    /// The number of values that have been sent.
-    pub sent: u32,
+    /// The number of values that have been sent since the hub was opened.
+    pub sent: u64,
     /// The number of those values that have been received. The others are in the buffer.
-    pub received: u32,
+    pub received: u64,
     /// Whether the channel is closed.
     pub closed: bool,
 }
@@ -120,6 +141,19 @@ pub enum Selected {
     Default,
 }
 
+/// What opening a hub returns. The second refusal is this one.
+fn opened(refusal: c_int, second: OpenError) -> Result<(), OpenError> {
+    match refusal {
+        0 => Ok(()),
+        1 => Err(OpenError::Procs),
+        2 => Err(second),
+        _ => Err(OpenError::Memory),
+    }
+}
+
+/// A function of the library that makes a text.
+type Reading = unsafe extern "C" fn(hub: *mut sys::Chanhub, length: *mut usize) -> *mut c_char;
+
 impl Hub {
     /// Opens a hub with 1 to 64 processes. Returns the hub and a seat for each process, in order.
     ///
@@ -131,28 +165,90 @@ impl Hub {
     ///
     /// Returns an [`OpenError`] if `procs` or `limit` is out of range, or if memory runs out.
     pub fn open(edition: Edition, procs: u8, limit: u32) -> Result<(Hub, Vec<Seat>), OpenError> {
-        static OPENED: AtomicU64 = AtomicU64::new(0);
         let mut at = ptr::null_mut();
-        let edition = match edition {
-            Edition::One => 1,
-            Edition::Two => 2,
-        };
         // SAFETY: the function writes `at` before it returns, and does not keep the pointer to it.
-        match unsafe { sys::chanhub_open(&mut at, edition, procs.into(), limit) } {
-            0 => {}
-            1 => return Err(OpenError::Procs),
-            2 => return Err(OpenError::Limit),
-            _ => return Err(OpenError::Memory),
-        }
-        let id = OPENED.fetch_add(1, Ordering::Relaxed);
-        let hub = Hub(Arc::new(Raw { at, id }));
+        let refusal = unsafe { sys::chanhub_open(&mut at, edition.number(), procs.into(), limit) };
+        opened(refusal, OpenError::Limit)?;
+        Ok(Hub::seated(at, procs, false, None))
+    }
+
+    /// Opens a hub that never ends, with 1 to 64 processes. Returns the hub and a seat for each process, in order.
+    ///
+    /// Its journal is cut into *chapters*. Once the present chapter has `keep` steps (1 to 900,000), or its text would grow too long
+    /// for `chanhub replay`, the next step begins a new chapter. A new chapter begins with a *checkpoint*: steps that make the ports,
+    /// the values in their buffers, the exits and the waiting calls again. So each chapter is a journal of its own, which all tools
+    /// read. Nothing else shows that the journal was cut: every call returns what it would if the hub had kept its whole journal.
+    ///
+    /// The hub keeps the present chapter, which [`journal`](Hub::journal) returns, and the one [`before`](Hub::before) it. So the last
+    /// `keep` steps are always there, or as many as two texts hold. When a chapter begins, the chapter before falls out of the hub:
+    /// `chapters` says what becomes of it. When the hub is freed, the chapters that it still keeps fall out too.
+    ///
+    /// The hub keeps at most about 2 * (`keep` + 65,792) steps in memory, and twice as many while a chapter falls out. 65,792 is the
+    /// most that a checkpoint has, which takes 64 full channels of capacity 1,024.
+    ///
+    /// Drop every seat that no thread uses, as with [`open`](Hub::open).
+    ///
+    /// # Examples
+    ///
+    /// ```
+    /// use chanhub::{Chapters, Edition, Hub};
+    ///
+    /// let (hub, mut seats) = Hub::open_endless(Edition::Two, 1, 1000, Chapters::discard()).unwrap();
+    /// let mut seat = seats.remove(0);
+    /// let (sender, receiver) = seat.channel(1).unwrap();
+    /// for number in 0..600_000u64 {
+    ///     sender.send(&mut seat, number).unwrap();
+    ///     assert_eq!(receiver.recv(&mut seat).unwrap().number(), Some(number));
+    /// }
+    /// assert_eq!(hub.look_at(&receiver).unwrap().received, 600_000);
+    /// assert!(hub.journal().unwrap().lines().count() < 1010);
+    /// ```
+    ///
+    /// # Errors
+    ///
+    /// Returns an [`OpenError`] if `procs` or `keep` is out of range, or if memory runs out.
+    pub fn open_endless(
+        edition: Edition,
+        procs: u8,
+        keep: u32,
+        chapters: Chapters,
+    ) -> Result<(Hub, Vec<Seat>), OpenError> {
+        let mut at = ptr::null_mut();
+        let handler = chapters.into_handler();
+        let (function, pointer) = match &handler {
+            Some(handler) => (Some(chapters::handle as sys::Chapters), handler.pointer()),
+            None => (None, ptr::null_mut()),
+        };
+        // SAFETY: as above. The hub gives one chapter at a time, and the handler is dropped after the hub is freed.
+        let refusal = unsafe {
+            let (edition, procs) = (edition.number(), procs.into());
+            sys::chanhub_open_endless(&mut at, edition, procs, keep, function, pointer)
+        };
+        opened(refusal, OpenError::Keep)?;
+        Ok(Hub::seated(at, procs, true, handler))
+    }
+
+    /// Returns the hub that was opened, and its seats.
+    fn seated(
+        at: *mut sys::Chanhub,
+        procs: u8,
+        is_endless: bool,
+        handler: Option<Handler>,
+    ) -> (Hub, Vec<Seat>) {
+        static OPENED: AtomicU64 = AtomicU64::new(0);
+        let hub = Hub(Arc::new(Raw {
+            at,
+            id: OPENED.fetch_add(1, Ordering::Relaxed),
+            is_endless,
+            _handler: handler,
+        }));
         let seats = (0..procs)
             .map(|pid| Seat {
                 hub: hub.clone(),
                 pid,
             })
             .collect();
-        Ok((hub, seats))
+        (hub, seats)
     }
 
     fn look(&self, port: u16) -> Option<Counts> {
@@ -166,22 +262,51 @@ impl Hub {
         })
     }
 
-    /// Returns the text of the journal so far, or `None` if memory runs out.
+    /// Returns the text of the journal so far, or `None` if memory runs out. In a hub that never ends, this is the text of the
+    /// present chapter.
     ///
     /// This needs no seat, so it also works while every process waits. Other calls on the hub are delayed while the text is made.
-    /// `chanhub replay` reads a text of at most 67,108,864 bytes.
+    /// `chanhub replay` reads a text of at most 67,108,864 bytes. A chapter is never longer.
     pub fn journal(&self) -> Option<String> {
+        self.text(sys::chanhub_journal)
+    }
+
+    /// Returns the text of the chapter before the present one, or `None` if there is none or memory runs out.
+    ///
+    /// Only a hub that never ends has one, once its journal was cut. As with [`journal`](Hub::journal), this needs no seat.
+    pub fn before(&self) -> Option<String> {
+        self.text(sys::chanhub_before)
+    }
+
+    fn text(&self, reading: Reading) -> Option<String> {
         let mut length = 0;
-        // SAFETY: the text is `length` bytes until it is freed.
+        // SAFETY: the hub is open as long as `self.0` is. The text has `length` bytes until it is freed.
         unsafe {
-            let text = sys::chanhub_journal(self.0.at, &mut length);
-            if text.is_null() {
-                return None;
-            }
-            let bytes = std::slice::from_raw_parts(text.cast::<u8>(), length);
-            let journal = String::from_utf8_lossy(bytes).into_owned();
+            let text = reading(self.0.at, &mut length);
+            let copy = sys::text_of(text, length)?.into_owned();
             sys::chanhub_free_text(text);
-            Some(journal)
+            Some(copy)
+        }
+    }
+
+    /// Ends the present chapter of a hub that never ends, as if it were full.
+    ///
+    /// It becomes the chapter [`before`](Hub::before), and the one that was before falls out of the hub. Waiting calls go on waiting.
+    /// This needs no seat. Use it where a chapter should end, such as after a batch of work or once a day.
+    ///
+    /// # Errors
+    ///
+    /// Returns [`Fault::NO_MEMORY`] if memory runs out, and [`Fault::BAD_CALL`] for a hub of [`open`](Hub::open). Nothing has changed
+    /// then.
+    pub fn cut(&self) -> Result<(), Fault> {
+        if !self.0.is_endless {
+            return Err(Fault::BAD_CALL);
+        }
+        // SAFETY: the hub is open as long as `self.0` is.
+        if unsafe { sys::chanhub_cut(self.0.at) } {
+            Ok(())
+        } else {
+            Err(Fault::NO_MEMORY)
         }
     }
 

@@ -7,6 +7,9 @@
 //! A hub watches only its own processes. It can therefore report a deadlock among them while other threads of the program still
 //! run.
 //!
+//! A hub of [`Hub::open`] keeps its whole journal, and ends after at most 1,000,000 steps, so it suits tests and finite runs. A hub of
+//! [`Hub::open_endless`] never ends. It keeps the newest steps, and the older ones go where its [`Chapters`] say.
+//!
 //! # Examples
 //!
 //! ```
@@ -145,14 +148,13 @@
 //! # Limits
 //!
 //! - A hub has at most 64 processes and 64 channels. A closed channel still counts.
-//! - A hub makes at most 1,000,000 steps, not counting exits, so it suits tests and finite runs. A program that runs longer opens
-//!   a new hub for each batch of its work.
+//! - A hub of [`Hub::open`] makes at most 1,000,000 steps, not counting exits. One of [`Hub::open_endless`] makes any number.
 //! - The capacity of a channel is at most 1,024.
 //! - A value is a `u64` or, in [`Edition::Two`], a byte string of at most 32 bytes. A [`Table`] holds values of any other type, so
 //!   that channels can pass them by number.
 //! - No call has a timeout. Use a [`select`](Seat::select) with a default, or let another process [`cancel`](Seat::cancel) the
 //!   call. While that process is outside the hub, its seat prevents reports of deadlocks.
-//! - A send or a receive takes 71 bytes of memory until the hub is dropped.
+//! - A send or a receive takes 71 bytes of memory, in a hub that never ends only until it falls out with its chapter.
 //!
 //! # Memory order
 //!
@@ -168,12 +170,14 @@
 
 #![warn(missing_docs, missing_debug_implementations)]
 
+mod chapters;
 mod error;
 mod hub;
 mod sys;
 mod table;
 mod value;
 
+pub use chapters::{ChapterFiles, Chapters};
 pub use error::{Ended, Fault, OpenError};
 pub use hub::{Case, Counts, Drain, Edition, Hub, Receiver, Seat, Selected, Sender};
 pub use table::Table;

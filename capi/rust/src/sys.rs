@@ -1,6 +1,9 @@
 //! The declarations of `chanhub.h`.
 
+use std::borrow::Cow;
+use std::ffi::c_void;
 use std::os::raw::{c_char, c_int, c_uint};
+use std::slice;
 
 /// The kinds of result.
 pub const SENT: u8 = 2;
@@ -52,8 +55,18 @@ pub struct Counts {
     pub made: bool,
     pub closed: bool,
     pub cap: u32,
-    pub sent: u32,
-    pub received: u32,
+    pub sent: u64,
+    pub received: u64,
+}
+
+/// A function that gets chapters.
+pub type Chapters = unsafe extern "C" fn(pointer: *mut c_void, text: *const c_char, length: usize);
+
+#[repr(C)]
+pub struct Files {
+    pub name: *const c_char,
+    pub next: u64,
+    pub error: c_int,
 }
 
 extern "C" {
@@ -62,6 +75,14 @@ extern "C" {
         edition: c_uint,
         procs: c_uint,
         limit: u32,
+    ) -> c_int;
+    pub fn chanhub_open_endless(
+        hub: *mut *mut Chanhub,
+        edition: c_uint,
+        procs: c_uint,
+        keep: u32,
+        chapters: Option<Chapters>,
+        pointer: *mut c_void,
     ) -> c_int;
     pub fn chanhub_free(hub: *mut Chanhub);
     pub fn chanhub_make(hub: *mut Chanhub, pid: c_uint, cap: u32) -> Told;
@@ -78,7 +99,25 @@ extern "C" {
     pub fn chanhub_close(hub: *mut Chanhub, pid: c_uint, port: c_uint) -> Told;
     pub fn chanhub_exit(hub: *mut Chanhub, pid: c_uint) -> Told;
     pub fn chanhub_cancel(hub: *mut Chanhub, pid: c_uint, other: c_uint) -> Told;
+    pub fn chanhub_cut(hub: *mut Chanhub) -> bool;
     pub fn chanhub_look(hub: *mut Chanhub, port: c_uint) -> Counts;
     pub fn chanhub_journal(hub: *mut Chanhub, length: *mut usize) -> *mut c_char;
+    pub fn chanhub_before(hub: *mut Chanhub, length: *mut usize) -> *mut c_char;
     pub fn chanhub_free_text(text: *mut c_char);
+    pub fn chanhub_write_chapter(files: *mut Files, text: *const c_char, length: usize);
+}
+
+/// Returns a text of the library, or `None` for NULL.
+///
+/// # Safety
+///
+/// Unless it is NULL, the text must have `length` bytes, and must not be freed or changed before what this returns is dropped.
+pub unsafe fn text_of<'a>(text: *const c_char, length: usize) -> Option<Cow<'a, str>> {
+    if text.is_null() {
+        return None;
+    }
+    Some(String::from_utf8_lossy(slice::from_raw_parts(
+        text.cast(),
+        length,
+    )))
 }

@@ -5,7 +5,7 @@ use Rattle.std.proofs.Common.{refl, ap, ◌∙◌, arith}
 use Rattle.hub_base.specs.declared.entry.Entry.{Entry}
 use Rattle.hub_base.specs.Lines.{line}
 use Rattle.hub_base.specs.Reading.{head_lines, text}
-use Rattle.hub_core.specs.HubView.{HubView}
+use Rattle.hub_base.specs.Journal.{JournalView}
 use Rattle.hub_c.specs.Pieces.{all_pieces, line_at, piece_of}
 
 -- what is appended for each number of a range is what is for the next of each that is one less
@@ -30,15 +30,15 @@ lines-by_place (e ∷ es) =
     ∙ flat_map-same (λ k. line_at (e ∷ es) (k + 1)) (line_at es) (line_at-next e es) (range_with_len 0 (length es))
     ∙ lines-by_place es)
 
-piece_of-next : (hub : HubView) (k : ℕ) → piece_of hub (k + 1) ≡ line_at hub.journal k
-piece_of-next hub k =
+piece_of-next : (j : JournalView) (k : ℕ) → piece_of j (k + 1) ≡ line_at j.entries k
+piece_of-next j k =
     let more : ((k + 1) == 0) ≡ false = grind arith in
     let back : k + 1 - 1 ≡ k = omega arith in
     rw (more, back) refl
 
-pub all_pieces_are_text : (hub : HubView) → all_pieces hub ≡ text hub.terms.head hub.journal
-all_pieces_are_text hub =
-    ap (λ (rest : List ℕ). head_lines hub.terms.head ++ rest)
-    (flat_map-next (piece_of hub) 0 (length hub.journal)
-    ∙ flat_map-same (λ k. piece_of hub (k + 1)) (line_at hub.journal) (piece_of-next hub) (range_with_len 0 (length hub.journal))
-    ∙ lines-by_place hub.journal)
+pub all_pieces_are_text : (j : JournalView) → all_pieces j ≡ text j.head j.entries
+all_pieces_are_text j =
+    ap (λ (rest : List ℕ). head_lines j.head ++ rest)
+    (flat_map-next (piece_of j) 0 (length j.entries)
+    ∙ flat_map-same (λ k. piece_of j (k + 1)) (line_at j.entries) (piece_of-next j) (range_with_len 0 (length j.entries))
+    ∙ lines-by_place j.entries)

@@ -1,5 +1,5 @@
 -- The numbers of what is answered, and what is read of it.
-use Rattle.std.specs.Prelude.{ℕ, ◌+◌, ◌*◌, Option, None, Some, Result, Ok, Err}
+use Rattle.std.specs.Prelude.{ℕ, ◌+◌, ◌*◌, Bool, true, false, Option, None, Some, Result, Ok, Err}
 use Rattle.hub_base.specs.declared.event.Event.{Event}
 use Rattle.hub_base.specs.declared.event.Outcome.{Outcome}
 use Rattle.hub_base.specs.declared.event.Outcome.TheVariants.{Sent, Got, Drained, Closed}
@@ -9,7 +9,8 @@ use Rattle.hub_base.specs.declared.fault.Fault as faults
 use Rattle.hub_base.specs.declared.value.Value.{Value}
 use Rattle.hub_base.specs.Faults.{fault_number}
 use Rattle.hub_base.specs.Value.{content, number_in}
-use Rattle.hub_c.specs.declared.answer.TheConstants.{BYTES, DETAIL, ENDED, REFUSED}
+use Rattle.hub_core.specs.HubView.{ShortInMemory}
+use Rattle.hub_c.specs.declared.answer.TheConstants.{BYTES, CHAPTER, DETAIL, ENDED, REFUSED}
 
 -- the number of what was received: another where it is bytes
 abbrev pub got_number : Option ℕ → ℕ
@@ -54,6 +55,20 @@ event_number (Some x) = told_number x
 abbrev pub answer_number : Result Event faults.Fault → ℕ → ℕ
 answer_number (Ok x) ended = told_number x + ENDED * ended
 answer_number (Err f) ended = REFUSED + fault_number f
+
+-- 1 for true
+abbrev pub bit : Bool → ℕ
+bit true = 1
+bit false = 0
+
+-- 1 where a chapter waits to be read
+abbrev pub waits_number : Option ShortInMemory → ℕ
+waits_number None = 0
+waits_number (Some chapter) = 1
+
+-- what an answer is more then
+abbrev pub chapter_number : Option ShortInMemory → ℕ
+chapter_number waiting = CHAPTER * waits_number waiting
 
 -- the value that a communication got
 abbrev pub outcome_value : Outcome → Option Value

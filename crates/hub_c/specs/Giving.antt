@@ -14,7 +14,9 @@ use Rattle.hub_c.specs.declared.session.Session.{Session}
 pub record IsGiven (was now : Session) (bytes : List ℕ) (cases : List Case) (answer : ℕ) : Type 0 where
   pub bytes_given : now.bytes.items ≡ bytes
   pub cases_given : now.cases.items ≡ cases
-  pub hub : now.locked ≡ was.locked
+  pub hub : now.hub ≡ was.hub
+  pub chapter : now.chapter ≡ was.chapter
+  pub hands_out : now.hands_out ≡ was.hands_out
   pub told : now.told ≡ was.told
   pub piece : now.piece ≡ was.piece
   pub number : answer ≡ 1

@@ -4,7 +4,8 @@ use Rattle.hub_c.specs.declared.kind.StepKind.TheVariants as step
 use Rattle.hub_c.specs.declared.kind.GiveKind.TheVariants as give
 use Rattle.hub_c.specs.declared.kind.ReadKind.TheVariants as read
 use Rattle.hub_c.specs.declared.kind.Kind.{Kind}
-use Rattle.hub_c.specs.declared.kind.Kind.TheVariants.{Step, Give, Take, Read, Piece, Refusal, End}
+use Rattle.hub_c.specs.declared.kind.Part.TheVariants.{Present, Before, Waiting}
+use Rattle.hub_c.specs.declared.kind.Kind.TheVariants.{Step, Give, Take, Read, Piece, Refusal, End, Cut, LetGo}
 
 abbrev pub kinds : List Kind
 kinds =
@@ -13,6 +14,9 @@ kinds =
     Give give.Byte ∷ Give give.Send ∷ Give give.SendBytes ∷ Give give.Recv ∷
     Take ∷
     Read read.Number ∷ Read read.Length ∷ Read read.Byte ∷ Read read.EndedPid ∷
-    Read read.Port ∷ Read read.Counts ∷
-    Read read.Entries ∷ Read read.Word ∷
-    Piece ∷ Refusal ∷ End ∷ []
+    Read read.Port ∷ Read read.Sent ∷
+    Read (read.Entries Present) ∷ Read read.Word ∷
+    Piece Present ∷ Refusal ∷ End ∷
+    Read read.Received ∷
+    Read (read.Entries Before) ∷ Piece Before ∷ Read (read.Entries Waiting) ∷ Piece Waiting ∷
+    LetGo ∷ Cut ∷ []

@@ -1,5 +1,7 @@
 pub mod Kinds
 pub mod Answers
+pub mod Hubs
+pub mod Cutting
 pub mod Opens
 pub mod Stepping
 pub mod Giving

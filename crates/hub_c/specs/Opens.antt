@@ -1,12 +1,18 @@
 -- What an opening leaves, and when it is refused.
-use Rattle.std.specs.Prelude.{◌≡◌, ◌<◌, ◌==◌, ℕ, [], Option, None, Some, if◌then◌else◌}
+use Rattle.std.specs.Prelude.{◌≡◌, ◌<◌, ◌==◌, ◌-◌, nat_lt, ℕ, Bool, true, false, [], Option, None, Some, MatchBool, if◌then◌else◌}
 use Rattle.hub_base.specs.declared.head.Edition.{Edition}
 use Rattle.hub_base.specs.declared.head.Edition.TheVariants.{One, Two}
 use Rattle.hub_base.specs.Head.{IsHead, head_of}
 use Rattle.hub_core.specs.HubView.{IsLimit, RefusesOpening, opened_hub, terms_of}
 use Rattle.hub_core.specs.declared.opening.OpenFault.{OpenFault}
 use Rattle.hub_core.specs.declared.opening.OpenFault.TheVariants as fault
+use Rattle.hub_base.specs.declared.limits.TheConstants.{MOST_STEPS}
+use Rattle.hub_chapters.specs.Chapters.Chapters.{First}
+use Rattle.hub_cut.specs.Recorder.{IsKeep}
+use Rattle.hub_endless.specs.Endless.{EndlessView, Explains, NoneWaits}
 use Rattle.hub_live.specs.Locked.{none_waits}
+use Rattle.hub_c.specs.declared.session.Opened.{Opened}
+use Rattle.hub_c.specs.declared.session.Opened.TheVariants.{Limited, Endless}
 use Rattle.hub_c.specs.declared.handle.Handle.{Handle}
 use Rattle.hub_c.specs.declared.session.Session.{Session}
 
@@ -14,12 +20,28 @@ use Rattle.hub_c.specs.declared.session.Session.{Session}
 abbrev pub edition_of : ℕ → Option Edition
 edition_of n = if n == 1 then Some One else if n == 2 then Some Two else None
 
--- a hub at which nothing has happened, with nothing given and nothing told
-pub record IsOpened (edition : Edition) (procs limit : ℕ) (s : Session) : Type 0 where
-  pub hub : s.locked ≡ none_waits (opened_hub (terms_of edition procs limit))
+-- this hub, with nothing given, nothing told, and no chapter that waits
+pub record IsAnew (hub : Opened) (hands_out : Bool) (s : Session) : Type 0 where
+  pub hub_is : s.hub ≡ hub
+  pub waiting : s.chapter ≡ None
+  pub hands_out_is : s.hands_out ≡ hands_out
   pub bytes : s.bytes.items ≡ []
   pub cases : s.cases.items ≡ []
   pub told : s.told ≡ None
+  pub piece : s.piece.items ≡ []
+
+-- a hub at which nothing has happened, with nothing given and nothing told
+abbrev pub IsOpened : Edition → ℕ → ℕ → Session → Type 0
+IsOpened edition procs limit s = IsAnew (Limited (none_waits (opened_hub (terms_of edition procs limit)))) false s
+
+-- a hub that never ends, at which nothing has happened
+pub record IsOpenedEndless (edition : Edition) (procs keep : ℕ) (hands_out : Bool) (s : Session) : Type 0 where
+  pub hub : EndlessView
+  pub anew : IsAnew (Endless hub) hands_out s
+  pub explained : Explains (First []) hub
+  pub none : NoneWaits hub
+  pub terms : hub.recorder.hub.terms ≡ terms_of edition procs MOST_STEPS
+  pub keep_is : hub.recorder.keep ≡ keep
 
 -- there is a hub of this edition, with so many processes and this limit
 pub record CanOpen (edition procs limit : ℕ) : Type 0 where
@@ -32,6 +54,12 @@ pub record CanOpen (edition procs limit : ℕ) : Type 0 where
 pub record IsNew (edition procs limit : ℕ) (s : Session) : Type 0 where
   pub can : CanOpen edition procs limit
   pub new : IsOpened can.is procs limit s
+
+-- the same of one that never ends and keeps so many entries of a chapter
+pub record IsNewEndless (edition procs keep : ℕ) (hands_out : Bool) (s : Session) : Type 0 where
+  pub can : CanOpen edition procs MOST_STEPS
+  pub keeps : IsKeep keep
+  pub new : IsOpenedEndless can.is procs keep hands_out s
 
 -- there is a hub of this edition, but this fault refuses it
 pub record IsRefusedBy (edition procs limit : ℕ) (f : OpenFault) : Type 0 where
@@ -48,11 +76,29 @@ pub record IsRefusedSo (edition procs limit number : ℕ) : Type 0 where
   pub some : 0 < number
   pub few : number < 5
 
+-- the same for a hub that never ends
+pub record IsRefusedEndless (edition procs keep number : ℕ) : Type 0 where
+  pub procs_bad : number ≡ 1 → IsRefusedBy edition procs MOST_STEPS fault.BadProcs
+  pub keep_bad : number ≡ 2 → ¬ IsKeep keep
+  pub memory : number ≡ 3 → CanOpen edition procs MOST_STEPS × IsKeep keep
+  pub edition_bad : number ≡ 4 → edition_of edition ≡ None
+  pub some : 0 < number
+  pub few : number < 5
+
 -- what an opening comes to: a new hub, or none, and the number of what refused it
 abbrev pub OpensSession : ℕ → ℕ → ℕ → Option Session → ℕ → Type 0
 OpensSession edition procs limit None number = IsRefusedSo edition procs limit number
 OpensSession edition procs limit (Some s) number = IsNew edition procs limit s × (number ≡ 0)
 
--- the same of what lies at an address
-abbrev pub Opens : ℕ → ℕ → ℕ → Handle → Type 0
-Opens edition procs limit h = OpensSession edition procs limit h.session h.refusal
+-- the same of a hub that never ends
+abbrev pub OpensEndless : ℕ → ℕ → ℕ → Bool → Option Session → ℕ → Type 0
+OpensEndless edition procs keep hands_out None number = IsRefusedEndless edition procs keep number
+OpensEndless edition procs keep hands_out (Some s) number = IsNewEndless edition procs keep hands_out s × (number ≡ 0)
+
+-- what lies at an address: life 0 is that of a hub with a limit; a hub of a longer life never ends, and hands out its
+-- chapters where that is above 1
+abbrev pub Opens : ℕ → ℕ → ℕ → ℕ → Handle → Type 0
+Opens edition procs limit life h =
+    MatchBool (life == 0)
+    (OpensSession edition procs limit h.session h.refusal)
+    (OpensEndless edition procs limit (nat_lt 1 life) h.session h.refusal)

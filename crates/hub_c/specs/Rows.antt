@@ -6,8 +6,8 @@ use Rattle.hub_base.specs.declared.head.Edition.TheVariants.{Two}
 use Rattle.hub_base.specs.Notation.{case, exit, faulted, make, made, procs_two, r, recv, s, select}
 use Rattle.hub_base.specs.Lines.{line}
 use Rattle.hub_base.specs.Reading.{head_lines}
-use Rattle.hub_core.specs.HubView.{HubView, opened_hub, terms_of}
-use Rattle.hub_c.specs.declared.kind.Kind.TheVariants.{Step, Take, End}
+use Rattle.hub_base.specs.Journal.{JournalView}
+use Rattle.hub_c.specs.declared.kind.Kind.TheVariants.{Step, Take, End, Cut}
 use Rattle.hub_c.specs.declared.kind.StepKind.TheVariants as step
 use Rattle.hub_c.specs.declared.session.Numbers.{Numbers}
 use Rattle.hub_c.specs.Kinds.{kinds}
@@ -24,10 +24,13 @@ first_kind = refl
 pub take_kind : slice_get kinds 13 ≡ Some Take
 take_kind = refl
 
-pub last_kind : slice_get kinds 24 ≡ Some End
-last_kind = refl
+pub end_kind : slice_get kinds 24 ≡ Some End
+end_kind = refl
 
-pub no_kind : slice_get kinds 25 ≡ None
+pub cut_kind : slice_get kinds 31 ≡ Some Cut
+cut_kind = refl
+
+pub no_kind : slice_get kinds 32 ≡ None
 no_kind = refl
 
 -- ---- answers
@@ -77,8 +80,8 @@ no_edition_row = refl
 pub word_row : word_at (7 ∷ 1 ∷ 2 ∷ []) 1 ≡ 513
 word_row = refl
 
-abbrev ended : HubView
-ended = record (opened_hub (terms_of Two 1 10)) { journal = make 0 2 ∷ exit 0 ∷ [] }
+abbrev ended : JournalView
+ended = record { head = procs_two 1; entries = make 0 2 ∷ exit 0 ∷ [] }
 
 pub head_row : piece_of ended 0 ≡ head_lines (procs_two 1)
 head_row = refl

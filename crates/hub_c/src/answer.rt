@@ -14,8 +14,11 @@ pub const BYTES: u16 = 512;
 /// What the detail of an answer is multiplied by.
 pub const DETAIL: u64 = 1 << 16;
 
-/// What the number of calls that a step ended is multiplied by.
+/// What the number of calls that a step ended, which is below 256, is multiplied by.
 pub const ENDED: u64 = 1 << 32;
+
+/// What an answer is more, where a chapter waits to be read.
+pub const CHAPTER: u64 = 1 << 40;
 
 /// The number of how a communication ended.
 fn outcome_number(outcome: Outcome) -> u16
@@ -80,7 +83,8 @@ pub(crate) fn event_number(told: &Option<Event>) -> u64
 
 /// The number of what a step came to: of its answer, and of how many calls it ended; or of the fault that refused it.
 pub(crate) fn answer_number(came: &Result<Event, Fault>, ended: u8) -> u64
-    ensures { result ≡ answer_number came.now ended }
+    ensures is { result ≡ answer_number came.now ended }
+    ensures small { result < CHAPTER }
 {
     match came {
         Ok(event) => told_number(event) + ENDED * u64::from(ended),

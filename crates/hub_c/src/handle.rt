@@ -3,12 +3,13 @@
 ghost use Rattle.std.specs.Prelude.{◌≡◌, IfOk, IfErr};
 ghost use Rattle.hub_core.specs.HubView.{open_fault_number};
 ghost use Rattle.hub_c.specs.Does.{Does, ActsIn};
-ghost use Rattle.hub_c.specs.Opens.{edition_of, IsNew, IsRefusedSo, Opens};
+ghost use Rattle.hub_c.specs.Opens.{IsNew, IsNewEndless, IsRefusedEndless, IsRefusedSo, Opens, edition_of};
 
 use crate::kind::{Kind, kind_of};
 use crate::session::{Numbers, Session};
 use hub_base::Edition;
 use hub_core::OpenFault;
+use hub_cut::MOST_KEEP;
 use std::alloc::Global;
 
 /// A hub until it ends.
@@ -48,7 +49,9 @@ fn refusal_of(fault: OpenFault) -> u8
     }
 }
 
-/// A hub at which nothing has happened, or the number of what refuses it.
+/// A hub at which nothing has happened, or the number of what refuses it. It stands alone, so that the stack has room for one
+/// kind of hub at a time.
+#[inline(never)]
 fn open_session(alloc: Global, edition: u8, procs: u8, limit: u32) -> Result<Session, u8>
     ensures ok { IfOk result (λ s. IsNew edition procs limit s) }
     ensures err { IfErr result (λ number. IsRefusedSo edition procs limit number) }
@@ -62,11 +65,41 @@ fn open_session(alloc: Global, edition: u8, procs: u8, limit: u32) -> Result<Ses
     }
 }
 
-/// A hub at which nothing has happened, or what refuses it.
-pub(crate) fn open_handle(alloc: Global, edition: u8, procs: u8, limit: u32) -> Handle
-    ensures { Opens edition procs limit result }
+/// The same of a hub that never ends and keeps so many steps of a chapter.
+#[inline(never)]
+fn open_endless_session(
+    alloc: Global,
+    edition: u8,
+    procs: u8,
+    keep: u32,
+    hands_out: bool,
+) -> Result<Session, u8>
+    ensures ok { IfOk result (λ s. IsNewEndless edition procs keep hands_out s) }
+    ensures err { IfErr result (λ number. IsRefusedEndless edition procs keep number) }
 {
-    let handle = match open_session(alloc, edition, procs, limit) {
+    let Some(edition) = edition_of(edition) else {
+        return Err(4);
+    };
+    if keep == 0 || keep > MOST_KEEP {
+        return Err(2);
+    }
+    match Session::open_endless(alloc, procs, keep, edition, hands_out) {
+        Ok(session) => Ok(session),
+        Err(fault) => Err(refusal_of(fault)),
+    }
+}
+
+/// A hub at which nothing has happened, or what refuses it: as `life` says, one that ends at a limit, 0, or one that
+/// never ends and keeps so many entries of a chapter, whose older chapters go, 1, or wait to be read, 2 and above.
+pub(crate) fn open_handle(alloc: Global, edition: u8, procs: u8, limit: u32, life: u8) -> Handle
+    ensures { Opens edition procs limit life result }
+{
+    let opened = if life == 0 {
+        open_session(alloc, edition, procs, limit)
+    } else {
+        open_endless_session(alloc, edition, procs, limit, life > 1)
+    };
+    let handle = match opened {
         Ok(session) => Handle {
             session: Some(session),
             refusal: 0,
@@ -89,7 +122,9 @@ impl Session {
             Kind::Give(kind) => self.give(kind, numbers),
             Kind::Take => self.take(numbers.pid),
             Kind::Read(kind) => self.read(kind, numbers),
-            Kind::Piece => self.write_piece(numbers.value),
+            Kind::Piece(part) => self.write_piece(part, numbers.value),
+            Kind::Cut => self.cut(),
+            Kind::LetGo => self.let_go(),
             Kind::Refusal | Kind::End => 0,
         }
     }

@@ -52,12 +52,25 @@ pub enum ReadKind {
     EndedPid,
     /// Whether the port is made, whether it is closed, and its capacity.
     Port,
-    /// How many sends on it completed, and how many values were received from it.
-    Counts,
-    /// How many entries the journal has.
-    Entries,
+    /// How many sends on it completed.
+    Sent,
+    /// How many values were received from it.
+    Received,
+    /// How many entries this journal has.
+    Entries(Part),
     /// Eight bytes of the piece, from place `value` on.
     Word,
+}
+
+/// Which journal is read.
+#[derive(Clone, Copy)]
+pub enum Part {
+    /// The hub's own.
+    Present,
+    /// The chapter before it, of a hub that never ends.
+    Before,
+    /// The chapter that waits to be read and let go.
+    Waiting,
 }
 
 /// What C asks for.
@@ -71,12 +84,16 @@ pub enum Kind {
     Take,
     /// A reading.
     Read(ReadKind),
-    /// Piece `value` of the journal's text.
-    Piece,
+    /// Piece `value` of this journal's text.
+    Piece(Part),
     /// The number of what refused the opening, 0 where the hub was opened.
     Refusal,
     /// The end of the hub: it gives back its memory.
     End,
+    /// A cut of a hub that never ends.
+    Cut,
+    /// The chapter that waits to be read goes.
+    LetGo,
 }
 
 /// The kind of this number.
@@ -103,12 +120,19 @@ pub(crate) fn kind_of(number: u8) -> Option<Kind>
         16 => Kind::Read(ReadKind::Byte),
         17 => Kind::Read(ReadKind::EndedPid),
         18 => Kind::Read(ReadKind::Port),
-        19 => Kind::Read(ReadKind::Counts),
-        20 => Kind::Read(ReadKind::Entries),
+        19 => Kind::Read(ReadKind::Sent),
+        20 => Kind::Read(ReadKind::Entries(Part::Present)),
         21 => Kind::Read(ReadKind::Word),
-        22 => Kind::Piece,
+        22 => Kind::Piece(Part::Present),
         23 => Kind::Refusal,
         24 => Kind::End,
+        25 => Kind::Read(ReadKind::Received),
+        26 => Kind::Read(ReadKind::Entries(Part::Before)),
+        27 => Kind::Piece(Part::Before),
+        28 => Kind::Read(ReadKind::Entries(Part::Waiting)),
+        29 => Kind::Piece(Part::Waiting),
+        30 => Kind::LetGo,
+        31 => Kind::Cut,
         _ => return None,
     };
     Some(kind)

@@ -5,6 +5,7 @@
 #![tactic(auto)]
 
 mod answer;
+mod cutting;
 mod giving;
 mod handle;
 mod kind;
@@ -46,8 +47,12 @@ pub extern "C" fn hub_c_size() -> usize
     size_of::<Handle>()
 }
 
-/// Opens a hub of this edition, 1 or 2, of 1 to `MOST_PROCS` processes, whose journal may hold 1 to `MOST_STEPS` steps, at an
-/// address where there is room for it. What refuses it, if anything does, is then read of it.
+/// Opens a hub of this edition, 1 or 2, of 1 to `MOST_PROCS` processes, at an address where there is room for it. What refuses
+/// it, if anything does, is then read of it.
+///
+/// Where `life` is 0 its journal may hold 1 to `MOST_STEPS` steps, as `limit` says. Else the hub never ends: a chapter is cut
+/// once it has `limit` steps behind its checkpoint, exits not counted, 1 to `MOST_KEEP`. The chapter before it is kept; older ones go where
+/// `life` is 1, and wait to be read where it is more.
 #[unsafe(no_mangle)]
 pub unsafe extern "C" fn hub_c_open(
     alloc: Global,
@@ -55,11 +60,12 @@ pub unsafe extern "C" fn hub_c_open(
     edition: u8,
     procs: u8,
     limit: u32,
+    life: u8,
 )
     requires* { sem 𝓛 (room_at the_row place) }
     ensures* { ∃ₛ (λ (now : Handle). sem 𝓛 (lies_at the_row full_share place now)
-        ∗ ⌜ Opens edition procs limit now ⌝) }
+        ∗ ⌜ Opens edition procs limit life now ⌝) }
 {
-    let handle = open_handle(alloc, edition, procs, limit);
+    let handle = open_handle(alloc, edition, procs, limit, life);
     unsafe { place.cast::<Handle>().write(handle) }
 }

@@ -2,15 +2,15 @@
 
 ghost use Rattle.std.specs.Prelude.{◌≡◌, drop};
 ghost use Rattle.hub_c.specs.Answers.{value_got};
-ghost use Rattle.hub_c.specs.Reading.{number_read, byte_read, pid_read, port_number, counts_number, reading, eight_of, word_at};
+ghost use Rattle.hub_c.specs.Hubs.{IsLook, ended_in, journal_at, len_of, totals_since};
+ghost use Rattle.hub_c.specs.Reading.{Reads, byte_read, eight_of, number_read, pid_read, port_number, received_number, sent_number, word_at};
 
 use crate::answer::value_got;
-use crate::kind::ReadKind;
-use crate::session::{Numbers, Session};
+use crate::kind::{Part, ReadKind};
+use crate::piece::chapter_of;
+use crate::session::{Numbers, Opened, Session};
 use hub_base::{Look, Port, Value};
-
-/// What the number of values that were received is multiplied by.
-pub const RECEIVED: u64 = 1 << 32;
+use hub_cut::Totals;
 
 /// The number that a value is, 0 for none and for bytes.
 fn number_in(got: Option<Value>) -> u64
@@ -36,22 +36,45 @@ fn byte_in(got: Option<Value>, place: u64) -> u64
 }
 
 /// Whether a port is made, whether it is closed, and its capacity.
-fn port_number(look: Option<Look>) -> u64
+fn port_number(look: Option<Totals>) -> u64
     ensures { result ≡ port_number look }
 {
     match look {
-        Some(look) => 1 + 2 * u64::from(look.counts.closed) + 4 * u64::from(look.cap),
+        Some(look) => 1 + 2 * u64::from(look.closed) + 4 * u64::from(look.cap),
         None => 0,
     }
 }
 
-/// How many sends on a port completed, and how many values were received from it.
-fn counts_number(look: Option<Look>) -> u64
-    ensures { result ≡ counts_number look }
+/// How many sends on a port completed.
+fn sent_number(look: Option<Totals>) -> u64
+    ensures { result ≡ sent_number look }
 {
     match look {
-        Some(look) => { u64::from(look.counts.sent) + RECEIVED * u64::from(look.counts.received) }
+        Some(look) => look.sent,
         None => 0,
+    }
+}
+
+/// How many values were received from a port.
+fn received_number(look: Option<Totals>) -> u64
+    ensures { result ≡ received_number look }
+{
+    match look {
+        Some(look) => look.received,
+        None => 0,
+    }
+}
+
+/// What a port holds and has carried, in a hub that was never cut.
+fn totals_since(look: Look) -> Totals
+    ensures { result ≡ totals_since look }
+{
+    Totals {
+        cap: look.cap,
+        len: look.counts.len,
+        sent: look.counts.sent.into(),
+        received: look.counts.received.into(),
+        closed: look.counts.closed,
     }
 }
 
@@ -82,26 +105,50 @@ fn word_at(text: &[u8], place: u64) -> u64
 impl Session {
     /// Whose call the last step ended, at this place of those that it ended; 0 behind the last.
     fn ended_at(&self, place: u64) -> u64
-        ensures { result ≡ pid_read self.now.locked.ended place }
+        ensures { result ≡ pid_read (ended_in self.now.hub) place }
     {
-        match self.locked.ended().as_slice().get(place as usize) {
+        match self.hub.ended().as_slice().get(place as usize) {
             Some(pid) => pid.0.into(),
+            None => 0,
+        }
+    }
+
+    /// What a port holds, and what it has carried since the hub was opened.
+    fn look(&self, port: Port) -> Option<Totals>
+        ensures { IsLook self.now.hub port result }
+    {
+        match &self.hub {
+            Opened::Limited(hub) => hub.look(port).map(totals_since),
+            Opened::Endless(hub) => hub.look(port),
+        }
+    }
+
+    /// How many entries a journal has, 0 where there is no such journal.
+    fn len_of(&self, part: Part) -> u64
+        ensures { result ≡ len_of (journal_at self.now.hub self.now.chapter part) }
+    {
+        if let (Part::Present, Opened::Limited(hub)) = (part, &self.hub) {
+            return hub.len() as u64;
+        }
+        match chapter_of(&self.hub, &self.chapter, part) {
+            Some(hub) => hub.len() as u64,
             None => 0,
         }
     }
 
     /// Reads what this kind says.
     pub(crate) fn read(&self, kind: ReadKind, numbers: Numbers) -> u64
-        ensures { result ≡ reading kind self.now numbers }
+        ensures { Reads kind self.now numbers result }
     {
         match kind {
             ReadKind::Number => number_in(value_got(&self.told)),
             ReadKind::Length => value_got(&self.told).map_or(0, |value| value.len().into()),
             ReadKind::Byte => byte_in(value_got(&self.told), numbers.value),
             ReadKind::EndedPid => self.ended_at(numbers.value),
-            ReadKind::Port => port_number(self.locked.look(Port(numbers.port))),
-            ReadKind::Counts => counts_number(self.locked.look(Port(numbers.port))),
-            ReadKind::Entries => self.locked.len() as u64,
+            ReadKind::Port => port_number(self.look(Port(numbers.port))),
+            ReadKind::Sent => sent_number(self.look(Port(numbers.port))),
+            ReadKind::Received => received_number(self.look(Port(numbers.port))),
+            ReadKind::Entries(part) => self.len_of(part),
             ReadKind::Word => word_at(&self.piece, numbers.value),
         }
     }

@@ -6,12 +6,18 @@ ghost use Rattle.hub_base.specs.Head.{has_case, is_of};
 ghost use Rattle.hub_base.specs.Lines.{by};
 ghost use Rattle.hub_base.specs.Notation.{cancel, close, exit, make, recv, select, send};
 ghost use Rattle.hub_base.specs.declared.limits.TheConstants.{GREATEST_CAP, GREATEST_PID};
-ghost use Rattle.hub_c.specs.Stepping.{Forgets, Stepped, Took, entry_asked, send_bytes};
+ghost use Rattle.hub_cut.specs.Recorder.{head_of_all};
+ghost use Rattle.hub_c.specs.Answers.{chapter_number};
+ghost use Rattle.hub_c.specs.Cutting.{GivenStays, held};
+ghost use Rattle.hub_c.specs.Hubs.{ended_in, head_in};
+ghost use Rattle.hub_c.specs.Stepping.{Forgets, ServesIn, ServesOut, Stepped, Takes, Took, entry_asked, send_bytes};
 
-use crate::answer::{answer_number, event_number};
+use crate::answer::{CHAPTER, answer_number, event_number};
 use crate::kind::StepKind;
-use crate::session::{Numbers, Session};
-use hub_base::{Case, Cases, CasesExt, Entry, Pid, Port, Step, Value, copy_cases};
+use crate::session::{Numbers, Opened, Session};
+use hub_base::{Case, Cases, CasesExt, Entry, Event, Fault, Pid, Port, Step, Value, copy_cases};
+use hub_core::ShortHub;
+use hub_endless::EndlessHub;
 
 /// The capacity of this number, the greatest one for what is above it. Both are refused alike.
 fn capacity(value: u64) -> u32
@@ -44,6 +50,41 @@ fn entry_by(pid: u8, step: Step) -> Entry
     }
 }
 
+/// Lets the chapter go that the hub no longer keeps, where chapters are not handed out.
+pub(crate) fn hold(out: &mut Option<ShortHub>, hands_out: bool)
+    ensures { out.new ≡ held hands_out out.old }
+{
+    if !hands_out && out.is_some() {
+        *out = None;
+    }
+}
+
+/// Makes a step of a hub that never ends. While a chapter waits to be read, no other can follow it: a step that would hand
+/// one out is refused for want of memory.
+fn step_endless(
+    hub: &mut EndlessHub,
+    out: &mut Option<ShortHub>,
+    hands_out: bool,
+    entry: &Entry,
+) -> Result<Event, Fault>
+    requires fits { is_of (head_of_all hub.old.recorder).edition entry.now.step ≡ true }
+    ensures { ServesOut hands_out hub.old out.old entry.now hub.new out.new result }
+{
+    if out.is_some() && hub.begins(&entry.step) {
+        return Err(Fault::NoMemory);
+    }
+    let answer = hub.step(entry, out)?;
+    hold(out, hands_out);
+    Ok(answer)
+}
+
+/// What an answer is more, where a chapter waits to be read.
+pub(crate) fn chapter_number(out: &Option<ShortHub>) -> u64
+    ensures { result ≡ chapter_number out.now }
+{
+    if out.is_some() { CHAPTER } else { 0 }
+}
+
 impl Session {
     /// Forgets what was given.
     fn forget(&mut self)
@@ -55,21 +96,34 @@ impl Session {
 
     /// How many calls the last step ended.
     fn ended(&self) -> u8
-        ensures { result ≡ length self.now.locked.ended }
+        ensures { result ≡ length (ended_in self.now.hub) }
     {
-        self.locked.ended().as_slice().len() as u8
+        self.hub.ended().as_slice().len() as u8
+    }
+
+    /// Makes a step in the hub, of which the edition has it.
+    #[inline(always)]
+    fn serve(&mut self, entry: Entry) -> Result<Event, Fault>
+        requires fits { is_of (head_in self.old.hub).edition entry.step ≡ true }
+        ensures serves { ServesIn self.old entry self.new result }
+        ensures given { GivenStays self.old self.new }
+    {
+        match &mut self.hub {
+            Opened::Limited(locked) => locked.step(entry),
+            Opened::Endless(hub) => { step_endless(hub, &mut self.chapter, self.hands_out, &entry) }
+        }
     }
 
     /// Makes a step that the hub's edition has, and forgets what was given. Answers what it came to. It is inlined, so
     /// that an entry of many places is not copied.
     #[inline(always)]
     fn step_of_edition(&mut self, entry: Entry) -> u64
-        requires fits { is_of self.old.locked.hub.terms.head.edition entry.step ≡ true }
+        requires fits { is_of (head_in self.old.hub).edition entry.step ≡ true }
         ensures { Stepped self.old entry self.new result }
     {
         self.forget();
-        let came = self.locked.step(entry);
-        let answer = answer_number(&came, self.ended());
+        let came = self.serve(entry);
+        let answer = answer_number(&came, self.ended()) + chapter_number(&self.chapter);
         self.told = came.ok();
         answer
     }
@@ -78,7 +132,7 @@ impl Session {
     fn step(&mut self, entry: Entry) -> u64
         ensures { Stepped self.old entry self.new result }
     {
-        if entry.fits(self.locked.head().edition) {
+        if entry.fits(self.hub.head().edition) {
             return self.step_of_edition(entry);
         }
         self.forget();
@@ -89,7 +143,7 @@ impl Session {
     /// Makes a call of one case, which every edition has.
     #[inline(always)]
     fn call_one(&mut self, pid: u8, case: Case) -> u64
-        requires fits { has_case self.old.locked.hub.terms.head.edition case ≡ true }
+        requires fits { has_case (head_in self.old.hub).edition case ≡ true }
         ensures { Stepped self.old (select pid 0 (case ∷ []) false) self.new result }
     {
         let step = Step::Call {
@@ -193,7 +247,19 @@ impl Session {
     pub(crate) fn take(&mut self, pid: u8) -> u64
         ensures { Took self.old pid self.new result }
     {
-        self.told = self.locked.take(Pid(pid));
+        self.told = self.hub.take(pid);
         event_number(&self.told)
+    }
+}
+
+impl Opened {
+    /// Takes out the answer that waits for a process.
+    fn take(&mut self, pid: u8) -> Option<Event>
+        ensures { Takes self.old pid self.new result }
+    {
+        match self {
+            Opened::Limited(locked) => locked.take(Pid(pid)),
+            Opened::Endless(hub) => hub.take(Pid(pid)),
+        }
     }
 }

@@ -1,6 +1,6 @@
 -- The text of a chapter is not longer than a reader takes.
 use Rattle.hub_laws.proofs.Prelude.{◌≡◌, Bool, true, false, List, [], ◌∷◌, ◌++◌, ap, ℕ, zero, suc, ◌+◌, ◌≤◌, ◌<◌, arith, length, map, cond}
-use Rattle.hub_laws.proofs.Prelude.{length-append, Entry, Head, Case, Send, Recv, Step, Make, Call, Close, Exit}
+use Rattle.hub_laws.proofs.Prelude.{length-append, one_step, steps_of, subst, Entry, Head, Case, Send, Recv, Step, Make, Call, Close, Exit}
 use Rattle.hub_laws.proofs.Prelude.{Cancel, Value, Port, Channel, OpenCall, State, state, buffer_of}
 use Rattle.std.specs.Prelude.{codes, decimal, ◌*◌}
 use Rattle.std.specs.List.{AllByRecursion, flat_map, join_with_byte}
@@ -18,6 +18,8 @@ use Rattle.hub_base.specs.Head.{IsHead}
 use Rattle.hub_base.specs.Reading.{head_lines, header}
 use Rattle.hub_base.specs.Text.{Fits, CaseFits, CallFits, StepFits}
 use Rattle.hub_base.specs.Notation.{exit, close}
+use Rattle.hub_laws.specs.Journals.{IsLegal}
+use Rattle.hub_laws.proofs.Limits.{limits-law}
 use Rattle.hub_laws.proofs.States.{count-law}
 use Rattle.hub_laws.proofs.Rules.{state-sound}
 use Rattle.hub_core.specs.HubView.{HubView}
@@ -26,8 +28,8 @@ use Rattle.hub_chapters.proofs.Checkpoints.{checkpoint-law}
 use Rattle.hub_base.specs.declared.limits.TheConstants.{GREATEST_PID, GREATEST_PORT, MOST_VALUE_BYTES}
 use Rattle.hub_core.specs.LogView.{cases_of_step}
 use Rattle.hub_cut.specs.declared.limits.TheConstants.{LINE_BYTES, CASE_BYTES, CHECKPOINT_BYTES, CHAPTER_BYTES, MOST_LINE_BYTES}
-use Rattle.hub_cut.specs.ChapterText.{most_line, most_lines, FitsText}
-use Rattle.hub_cut.proofs.Parts.{procs_same}
+use Rattle.hub_cut.specs.ChapterText.{most_line, most_lines, counted, counted_in, FitsText}
+use Rattle.hub_cut.proofs.Parts.{procs_same, steps-append}
 
 -- Fields
 
@@ -200,7 +202,32 @@ head_size h head = by h.edition
     by One = omega (arith, length-append (decimal h.procs) (codes "\n"), pid_size h.procs (omega (arith, head.1)))
     by Two = omega (arith, length-append (decimal h.procs) (codes "\n"), pid_size h.procs (omega (arith, head.1)))
 
-pub text_fits : (h : HubView) (bytes : ℕ) → IsHead h.terms.head → length (flat_map line h.journal) ≤ CHECKPOINT_BYTES + bytes →
+-- the text of a legal journal, in which each process exits at most once
+pub text_fits : (h : HubView) (bytes : ℕ) → IsHead h.terms.head → IsLegal h.terms.head h.journal →
+    length (flat_map line h.journal) + LINE_BYTES * steps_of h.journal ≤ CHECKPOINT_BYTES + bytes + LINE_BYTES * length h.journal →
     bytes < CHAPTER_BYTES + MOST_LINE_BYTES → FitsText h
-text_fits h bytes head lines few =
-    omega (arith, length-append (head_lines h.terms.head) (flat_map line h.journal), head_size h.terms.head head, lines, few)
+text_fits h bytes head legal lines few =
+    let exits : length h.journal ≤ steps_of h.journal + h.terms.head.procs =
+    subst (λ (j : List Entry). length j ≤ steps_of j + h.terms.head.procs) legal (limits-law h.terms.head h.journal).length in
+    omega (arith, length-append (head_lines h.terms.head) (flat_map line h.journal), head_size h.terms.head head, lines, few, exits, head.1)
+
+pub counted_in-append : (xs ys : List Entry) → counted_in (xs ++ ys) ≡ counted_in xs + counted_in ys
+counted_in-append [] ys = omega arith
+counted_in-append (x ∷ xs) ys = omega (arith, counted_in-append xs ys)
+
+-- the lines of a journal that goes on, against what counts
+pub counts_longer : (es : List Entry) (e : Entry) (ed : Edition) (bytes : ℕ) → Fits ed e →
+    length (flat_map line es) + LINE_BYTES * steps_of es ≤ CHECKPOINT_BYTES + bytes + LINE_BYTES * length es →
+    length (flat_map line (es ++ e ∷ [])) + LINE_BYTES * steps_of (es ++ e ∷ []) ≤ CHECKPOINT_BYTES + (bytes + counted e) + LINE_BYTES * length (es ++ e ∷ [])
+counts_longer es e ed bytes fits lines =
+    omega (arith, longer_by es e ed fits, lines, steps-append es (e ∷ []), length-append es (e ∷ []), share e)
+  where
+    share : (e : Entry) → most_line e + LINE_BYTES * one_step e ≤ counted e + LINE_BYTES
+    share e = by e.step
+      where
+        by : (s : Step) → (let x : Entry = record { pid = e.pid; step = s } in most_line x + LINE_BYTES * one_step x ≤ counted x + LINE_BYTES)
+        by (Make cap) = omega arith
+        by (Call cases default word) = omega arith
+        by (Close p) = omega arith
+        by Exit = omega arith
+        by (Cancel q) = omega arith

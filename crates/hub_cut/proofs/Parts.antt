@@ -1,7 +1,7 @@
 -- A checkpoint that is written part by part.
 use Rattle.hub_laws.proofs.Prelude.{◌≡◌, Bool, true, false, List, [], ◌∷◌, ◌++◌, refl, ap, ◌∙◌, sym, Option, Some, None, ℕ, zero, suc, ◌+◌, ◌≤◌, ◌<◌}
 use Rattle.hub_laws.proofs.Prelude.{◌==◌, ◌-◌, cond, length, arith, map, take, filter, slice_get, option_map_or, add-one, append_assoc, append-nil, get_or}
-use Rattle.hub_laws.proofs.Prelude.{drop, subst, is_exit, one_step, steps_of, and_parts, has_gone, map-append, Entry}
+use Rattle.hub_laws.proofs.Prelude.{drop, steps_of, and_parts, has_gone, map-append, Entry}
 use Rattle.hub_laws.proofs.Prelude.{Port, Channel, State, OpenCall, channel_at, buffer_of}
 use Rattle.hub_laws.proofs.Prelude.{lt-ltb, Pid, Head, refusal, is_waiting, opening, state, MOST_PORTS}
 use Rattle.std.specs.List.{range_with_len, list_all}
@@ -9,7 +9,6 @@ use Rattle.std.proofs.lemmas.List.{take_all}
 use Rattle.hub_base.specs.declared.fault.Fault.TheVariants as fault
 use Rattle.hub_laws.specs.Journals.{IsLegal}
 use Rattle.hub_laws.proofs.Account.{procs-of}
-use Rattle.hub_laws.proofs.Journals.{begins-law}
 use Rattle.hub_laws.proofs.Lasting.{head-after, ports-law}
 use Rattle.hub_laws.proofs.Rules.{state-sound}
 use Rattle.hub_laws.proofs.States.{count-law}
@@ -92,28 +91,16 @@ all_at f (y ∷ ys) (suc i) x a h e = all_at f ys i x (and_parts (f y) (list_all
 pub grown : (base old new part next whole : List Entry) → new ≡ old ++ next → old ≡ base ++ part → whole ≡ part ++ next → new ≡ base ++ whole
 grown base old new part next whole a b c = a ∙ ap (λ xs. xs ++ next) b ∙ append_assoc base part next ∙ ap (λ xs. base ++ xs) (sym c)
 
--- The entries of a legal journal that stays within a limit: each is admitted, and finds room
+-- A list at a place, and how many entries are no exits
 
-parts_at : (es : List Entry) (i : ℕ) (e : Entry) → i < length es → e ≡ get_or es i e → es ≡ take i es ++ e ∷ drop (suc i) es
+pub parts_at : (es : List Entry) (i : ℕ) (e : Entry) → i < length es → e ≡ get_or es i e → es ≡ take i es ++ e ∷ drop (suc i) es
 parts_at [] i e h is = absurd (omega arith)
 parts_at (x ∷ es) zero e h is = ap (λ (y : Entry). y ∷ es) (sym is)
 parts_at (x ∷ es) (suc i) e h is = ap (λ ys. x ∷ ys) (parts_at es i e (omega arith) is)
 
-pub admitted_at : (h : Head) (es : List Entry) (i : ℕ) (e : Entry) → IsLegal h es → i < length es → e ≡ get_or es i e →
-    refusal (state h (take i es)) e.pid ≡ None
-admitted_at h es i e legal below is =
-    (begins-law h (take i es) (drop (suc i) es)).next e (subst (IsLegal h) (parts_at es i e below is) legal)
-
 pub steps-append : (xs ys : List Entry) → steps_of (xs ++ ys) ≡ steps_of xs + steps_of ys
 steps-append [] ys = omega arith
 steps-append (x ∷ xs) ys = omega (arith, steps-append xs ys)
-
-pub room_at : (es : List Entry) (i : ℕ) (e : Entry) (limit : ℕ) → steps_of es ≤ limit → i < length es → e ≡ get_or es i e → is_exit e.step ≡ false →
-    steps_of (take i es) < limit
-room_at es i e limit few below is step =
-    let whole = ap steps_of (parts_at es i e below is) ∙ steps-append (take i es) (e ∷ drop (suc i) es) in
-    let one : one_step e ≡ 1 = ap (λ b. cond b 0 1) step in
-    omega (arith, whole, one, few)
 
 -- Who has gone, from a refusal
 

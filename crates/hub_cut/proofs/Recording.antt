@@ -3,7 +3,8 @@ use Rattle.hub_laws.proofs.Prelude.{◌≡◌, Bool, true, false, List, [], ◌�
 use Rattle.hub_laws.proofs.Prelude.{Some, None, ℕ, ◌+◌, ◌≤◌, ◌<◌, arith, length}
 use Rattle.hub_laws.proofs.Prelude.{append_assoc, append-nil, length-append, option_map, option_map_or, ◌-◌, ◌==◌, nat_lt, inr, inl, slice_get_past}
 use Rattle.hub_laws.proofs.Prelude.{Entry, Event, Fault, Head, Pid, Port, Channel, State, state, moves, refusal, steps_of, channel_at}
-use Rattle.std.specs.Prelude.{min, ◌^◌, slice_index}
+use Rattle.hub_laws.proofs.Prelude.{Step, is_exit, one_step, cond, not, ◌&&◌}
+use Rattle.std.specs.Prelude.{min, ◌^◌, slice_index, Result, Ok, Err, OnOk}
 use Rattle.hub_base.specs.declared.fault.Fault.TheVariants as fault
 use Rattle.hub_base.specs.declared.limits.TheConstants.{MOST_STEPS, MOST_PORTS}
 use Rattle.hub_base.specs.Journal.{JournalView}
@@ -11,13 +12,13 @@ use Rattle.hub_base.specs.Head.{IsHead}
 use Rattle.hub_laws.specs.Journals.{IsLegal}
 use Rattle.hub_laws.proofs.Lasting.{ports-law}
 use Rattle.hub_laws.proofs.Journals.{begins-law}
+use Rattle.hub_laws.proofs.Limits.{limits-law}
 use Rattle.hub_core.specs.HubView.{HubView, Steps, Refuses, with_entry, state_of}
 use Rattle.hub_core.specs.Looks.{look_at, counts_of}
-use Rattle.hub_core.proofs.Reached.{steps-length}
 use Rattle.hub_chapters.specs.Alike.{afresh}
 use Rattle.hub_chapters.specs.Carried.{base_count, received_count}
 use Rattle.hub_chapters.specs.Checkpoint.{checkpoint, most_steps}
-use Rattle.hub_chapters.specs.Chapters.{Chapters, last_chapter, history}
+use Rattle.hub_chapters.specs.Chapters.{AreLegal, Chapters, last_chapter, history}
 use Rattle.hub_chapters.specs.Chapters.Chapters.{First, Cut}
 use Rattle.hub_chapters.proofs.Buffers.{Like, cap-like, closed-like, length-like, at-like}
 use Rattle.hub_chapters.proofs.Steps.{refusal-like}
@@ -25,32 +26,37 @@ use Rattle.hub_chapters.proofs.Checkpoints.{checkpoint-law}
 use Rattle.hub_chapters.proofs.Chapters.{last-alike, chapters-law}
 use Rattle.hub_chapters.proofs.Counts.{carried-law}
 use Rattle.hub_cut.specs.declared.limits.TheConstants.{CHAPTER_BYTES}
-use Rattle.hub_cut.specs.ChapterText.{most_line, most_lines}
-use Rattle.hub_cut.specs.Cut.{CutsAndSteps, Refused}
+use Rattle.hub_cut.specs.ChapterText.{most_line, counted, counted_in}
+use Rattle.hub_cut.specs.Cut.{CutsAndSteps, IsCut, Refused}
 use Rattle.hub_cut.specs.Totals.{in_64_bits, totals_of, totals_at, with_base}
 use Rattle.hub_cut.specs.Recorder.{IsRecorder, IsShort, RecorderView, Records, RecordsStep, RefusesStep, head_of_all, is_full}
-use Rattle.hub_cut.specs.Recorder.{since_cut, with_next, IsKeep, is_full_at}
-use Rattle.hub_cut.proofs.ChapterTexts.{most_lines-append}
+use Rattle.hub_cut.specs.Recorder.{since_cut, with_next, IsKeep, is_full_at, chapter_out, begins, out_or}
+use Rattle.hub_cut.proofs.ChapterTexts.{counted_in-append}
 use Rattle.hub_cut.proofs.Parts.{steps-append}
 
 -- The last chapter, and the history
 
 -- it has no more steps than a checkpoint can have, and what came behind that
-pub chapter_few : (h : Head) (chapters : Chapters) → steps_of (last_chapter h chapters) ≤ most_steps h + length (since_cut chapters)
-chapter_few h (First es) = omega (arith, steps-length es)
+pub chapter_few : (h : Head) (chapters : Chapters) → steps_of (last_chapter h chapters) ≤ most_steps h + steps_of (since_cut chapters)
+chapter_few h (First es) = omega arith
 chapter_few h (Cut chapters later) =
     let checkpoint : List Entry = checkpoint (state h (last_chapter h chapters)) in
-    omega (arith, steps-append checkpoint later, (checkpoint-law h (last_chapter h chapters)).few_steps, steps-length later)
+    omega (arith, steps-append checkpoint later, (checkpoint-law h (last_chapter h chapters)).few_steps)
 
--- nor more entries
-chapter_short : (h : Head) (chapters : Chapters) → length (last_chapter h chapters) ≤ most_steps h + h.procs + length (since_cut chapters)
-chapter_short h (First es) = omega arith
-chapter_short h (Cut chapters later) =
-    let checkpoint : List Entry = checkpoint (state h (last_chapter h chapters)) in
-    omega (arith, length-append checkpoint later, (checkpoint-law h (last_chapter h chapters)).short)
+-- it is legal
+last_legal : (h : Head) (chapters : Chapters) → AreLegal h chapters → IsLegal h (last_chapter h chapters)
+last_legal h (First es) legal = legal
+last_legal h (Cut chapters later) legal = legal.1
+
+pub recorder_legal : (r : RecorderView) → IsRecorder r → IsLegal (head_of_all r) r.hub.journal
+recorder_legal r (chapters, so) = subst (IsLegal (head_of_all r)) (sym so.present) (last_legal (head_of_all r) chapters so.legal)
 
 pub recorder_short : (r : RecorderView) → IsRecorder r → IsShort r
-recorder_short r (chapters, so) = omega (arith, ap length so.present, chapter_short (head_of_all r) chapters, so.fresh, so.few)
+recorder_short r (chapters, so) =
+    let h : Head = head_of_all r in
+    let exits : length r.hub.journal ≤ steps_of r.hub.journal + h.procs =
+    subst (λ (j : List Entry). length j ≤ steps_of j + h.procs) (recorder_legal r (chapters, so)) (limits-law h r.hub.journal).length in
+    omega (arith, exits, ap steps_of so.present, chapter_few h chapters, so.fresh, so.few)
 
 -- a process is refused in both for the same
 pub refused_alike : (h : Head) (chapters : Chapters) (journal : List Entry) (pid : Pid) → journal ≡ last_chapter h chapters →
@@ -81,21 +87,54 @@ with_fresh r e =
       hub = with_entry e r.hub;
       before = r.before;
       keep = r.keep;
-      fresh = r.fresh + 1;
-      bytes = r.bytes + most_line e;
+      fresh = r.fresh + one_step e;
+      bytes = r.bytes + counted e;
+      early = r.early;
       bases = r.bases;
     }
 
-one_more : (n : ℕ) (es : List Entry) (e : Entry) → n ≡ length es → n + 1 ≡ length (es ++ e ∷ [])
-one_more n es e is = omega (arith, is, length-append es (e ∷ []))
+one_more : (n : ℕ) (es : List Entry) (e : Entry) → n ≡ steps_of es → n + one_step e ≡ steps_of (es ++ e ∷ [])
+one_more n es e is = omega (arith, is, steps-append es (e ∷ []))
 
-more_bytes : (n : ℕ) (es : List Entry) (e : Entry) → n ≡ most_lines es → n + most_line e ≡ most_lines (es ++ e ∷ [])
-more_bytes n es e is = omega (arith, is, most_lines-append es (e ∷ []))
+more_bytes : (n : ℕ) (es : List Entry) (e : Entry) → n ≡ counted_in es → n + counted e ≡ counted_in (es ++ e ∷ [])
+more_bytes n es e is = omega (arith, is, counted_in-append es (e ∷ []))
 
-pub below_keep : (keep fresh bytes : ℕ) → is_full_at keep fresh bytes ≡ false → (fresh < keep) × (bytes < CHAPTER_BYTES)
+below_keep : (keep fresh bytes : ℕ) → is_full_at keep fresh bytes ≡ false → (fresh < keep) × (bytes < CHAPTER_BYTES)
 below_keep keep fresh bytes h = (grind arith, grind arith)
 
-pub records_next : (chapters : Chapters) (r : RecorderView) (e : Entry) → Records chapters r → refusal (state_of r.hub) e.pid ≡ None → r.fresh < r.keep →
+-- a step that begins no chapter, and is no exit, finds room
+pub room_of : (r : RecorderView) (step : Step) → begins r step ≡ false → is_exit step ≡ false → (r.fresh < r.keep) × (r.bytes < CHAPTER_BYTES)
+room_of r step none is = below_keep r.keep r.fresh r.bytes (subst (λ b. (not b && is_full r) ≡ false) is none)
+
+no_exit : (b full : Bool) → (not b && full) ≡ true → (b ≡ false) × (full ≡ true)
+no_exit true full is = absurd (let g : ⊥ = cc in g)
+no_exit false full is = (refl, is)
+
+-- one that begins a chapter is no exit, and the present one is full
+pub begins_full : (r : RecorderView) (step : Step) → begins r step ≡ true → (is_exit step ≡ false) × (is_full r ≡ true)
+begins_full r step is = no_exit (is_exit step) (is_full r) is
+
+-- what counts stays within what a chapter may have
+within : (b : Bool) (n most : ℕ) → n ≤ most → (b ≡ false → n < most) → n + cond b 0 1 ≤ most
+within true n most few room = omega (arith, few)
+within false n most few room = omega (arith, room refl)
+
+bytes_within : (b : Bool) (n m few most : ℕ) → n < few + most → m ≤ most → (b ≡ false → n < few) → n + cond b 0 m < few + most
+bytes_within true n m few most below small room = omega (arith, below)
+bytes_within false n m few most below small room = omega (arith, small, room refl)
+
+pub bytes_below : (r : RecorderView) (e : Entry) (bytes most : ℕ) → bytes ≡ counted e → bytes ≤ most → r.bytes < CHAPTER_BYTES + most →
+    begins r e.step ≡ false → r.bytes + bytes < CHAPTER_BYTES + most
+bytes_below r e bytes most is small below none = by (is_exit e.step) refl
+  where
+    by : (b : Bool) → is_exit e.step ≡ b → r.bytes + bytes < CHAPTER_BYTES + most
+    by true exit =
+        let zero : bytes ≡ 0 = is ∙ ap (λ b. cond b 0 (most_line e)) exit in
+        omega (arith, zero, below)
+    by false exit = omega (arith, small, (room_of r e.step none exit).1)
+
+pub records_next : (chapters : Chapters) (r : RecorderView) (e : Entry) → Records chapters r → refusal (state_of r.hub) e.pid ≡ None →
+    begins r e.step ≡ false →
     Records (with_next false chapters e) (with_fresh r e)
 records_next (First es) r e so admitted room =
     let h : Head = head_of_all r in
@@ -105,8 +144,8 @@ records_next (First es) r e so admitted room =
       before = so.before;
       fresh = one_more r.fresh es e so.fresh;
       bytes = more_bytes r.bytes es e so.bytes;
-      few = omega (arith, room);
-      full = tt;
+      few = within (is_exit e.step) r.fresh r.keep so.few (λ exit. (room_of r e.step room exit).0);
+      full = λ waited. tt;
       bases = so.bases;
     }
 records_next (Cut chapters later) r e so admitted room =
@@ -122,24 +161,33 @@ records_next (Cut chapters later) r e so admitted room =
       before = so.before;
       fresh = one_more r.fresh later e so.fresh;
       bytes = more_bytes r.bytes later e so.bytes;
-      few = omega (arith, room);
+      few = within (is_exit e.step) r.fresh r.keep so.few (λ exit. (room_of r e.step room exit).0);
       full = so.full;
       bases = so.bases;
     }
 
-pub goes_next : (r : RecorderView) (e : Entry) (told : List Event) (new : HubView) → is_full r ≡ false → Steps r.hub e new told →
-    RecordsStep r e (record { hub = new; before = r.before; keep = r.keep; fresh = r.fresh + 1; bytes = r.bytes + most_line e; bases = r.bases }) told
+pub goes_next : (r : RecorderView) (e : Entry) (told : List Event) (new : HubView) → begins r e.step ≡ false → Steps r.hub e new told →
+    RecordsStep r e (record {
+      hub = new;
+      before = r.before;
+      keep = r.keep;
+      fresh = r.fresh + one_step e;
+      bytes = r.bytes + counted e;
+      early = r.early;
+      bases = r.bases;
+    }) told
 goes_next r e told new full s =
     let h : Head = head_of_all r in
     record {
       goes_on = λ chapters so. record {
         admitted = sym (refused_alike h chapters r.hub.journal e.pid so.present) ∙ s.admitted;
         events = s.events ∙ told_alike h chapters r.hub.journal e so.present;
-        history = history_next (is_full r) chapters e;
-        records = rw (full, s.journal) (records_next chapters r e so s.admitted (below_keep r.keep r.fresh r.bytes full).0);
+        history = history_next (begins r e.step) chapters e;
+        records = rw (full, s.journal) (records_next chapters r e so s.admitted full);
       };
       terms = ap (λ (x : HubView). x.terms) s.journal;
       keep = refl;
+      early = rw full refl;
     }
 
 -- A step behind a cut
@@ -148,10 +196,10 @@ saturated : (a b x y top : ℕ) → x ≡ min a top → y ≡ min (x + b) top �
 saturated a b x y top e f = grind (arith, e, f)
 
 pub records_cut : (chapters : Chapters) (r : RecorderView) (e : Entry) (new : HubView) (told : List Event) (bases : List ℕ) → Records chapters r →
-    is_full r ≡ true → 1 ≤ r.keep → CutsAndSteps r.hub e new told →
+    begins r e.step ≡ true → 1 ≤ r.keep → CutsAndSteps r.hub e new told →
     ((p : Port) → p.0 ≤ MOST_PORTS → slice_index bases p.0 ≡ in_64_bits (slice_index r.bases p.0 + received_count (state_of r.hub) p)) →
-    Records (Cut chapters (e ∷ [])) (record { hub = new; before = Some r.hub; keep = r.keep; fresh = 1; bytes = most_line e; bases = bases })
-records_cut chapters r e new told bases so full some s added =
+    Records (Cut chapters (e ∷ [])) (record { hub = new; before = Some r.hub; keep = r.keep; fresh = 1; bytes = most_line e; early = false; bases = bases })
+records_cut chapters r e new told bases so step some s added =
     let h : Head = head_of_all r in
     let first : List Entry = checkpoint (state_of r.hub) in
     let same : first ≡ checkpoint (state h (last_chapter h chapters)) = ap (λ j. checkpoint (state h j)) so.present in
@@ -159,47 +207,103 @@ records_cut chapters r e new told bases so full some s added =
     let admitted : refusal (state h first) e.pid ≡ None =
     refusal-like (state h first) (state_of r.hub) e.pid law.alike ∙ s.admitted in
     let legal : IsLegal h (first ++ e ∷ []) = (begins-law h first []).goes_on e law.legal admitted in
+    let full = begins_full r e.step step in
+    let one : steps_of (e ∷ []) ≡ 1 = ap (λ b. cond b 0 1 + 0) full.0 in
+    let weight : counted_in (e ∷ []) ≡ most_line e = ap (λ b. cond b 0 (most_line e) + 0) full.0
+    ∙ (let z : most_line e + 0 ≡ most_line e = omega arith in z) in
     rw s.terms (record {
       legal = (so.legal, subst (λ j. IsLegal h (j ++ e ∷ [])) same legal);
       present = s.journal ∙ ap (λ j. j ++ e ∷ []) same;
       before = ap (λ j. Some (let j : JournalView = record { head = h; entries = j } in j)) so.present;
-      fresh = refl;
-      bytes = omega arith;
+      fresh = sym one;
+      bytes = sym weight;
       few = some;
-      full = rw (← so.fresh, ← so.bytes) full;
+      full = λ waited. rw (← so.fresh, ← so.bytes) full.1;
       bases = λ p few. saturated (base_count h chapters p) (received_count (state h (last_chapter h chapters)) p) (slice_index r.bases p.0)
           (slice_index bases p.0) (2 ^ 64 - 1) (so.bases p few)
           (added p few ∙ ap (λ j. in_64_bits (slice_index r.bases p.0 + received_count (state h j) p)) so.present);
     })
 
-pub goes_cut : (r : RecorderView) (e : Entry) (new : HubView) (told : List Event) (bases : List ℕ) → is_full r ≡ true → 1 ≤ r.keep →
+pub goes_cut : (r : RecorderView) (e : Entry) (new : HubView) (told : List Event) (bases : List ℕ) → begins r e.step ≡ true → 1 ≤ r.keep →
     CutsAndSteps r.hub e new told →
     ((p : Port) → p.0 ≤ MOST_PORTS → slice_index bases p.0 ≡ in_64_bits (slice_index r.bases p.0 + received_count (state_of r.hub) p)) →
-    RecordsStep r e (record { hub = new; before = Some r.hub; keep = r.keep; fresh = 1; bytes = most_line e; bases = bases }) told
+    RecordsStep r e (record { hub = new; before = Some r.hub; keep = r.keep; fresh = 1; bytes = most_line e; early = false; bases = bases }) told
 goes_cut r e new told bases full some s added =
     let h : Head = head_of_all r in
     record {
       goes_on = λ chapters so. record {
         admitted = sym (refused_alike h chapters r.hub.journal e.pid so.present) ∙ s.admitted;
         events = s.events ∙ told_alike h chapters r.hub.journal e so.present;
-        history = history_next (is_full r) chapters e;
+        history = history_next (begins r e.step) chapters e;
         records = rw full (records_cut chapters r e new told bases so full some s added);
       };
       terms = s.terms;
       keep = refl;
+      early = rw full refl;
     }
+
+-- A cut that is asked for
+
+pub records_early : (chapters : Chapters) (r : RecorderView) (new : HubView) (bases : List ℕ) → Records chapters r → IsCut r.hub new →
+    ((p : Port) → p.0 ≤ MOST_PORTS → slice_index bases p.0 ≡ in_64_bits (slice_index r.bases p.0 + received_count (state_of r.hub) p)) →
+    Records (Cut chapters []) (record { hub = new; before = Some r.hub; keep = r.keep; fresh = 0; bytes = 0; early = true; bases = bases })
+records_early chapters r new bases so cut added =
+    let h : Head = head_of_all r in
+    let first : List Entry = checkpoint (state_of r.hub) in
+    let same : first ≡ checkpoint (state h (last_chapter h chapters)) = ap (λ j. checkpoint (state h j)) so.present in
+    let law = checkpoint-law h r.hub.journal in
+    let legal : IsLegal h (first ++ []) = subst (IsLegal h) (sym (append-nil first)) law.legal in
+    rw (ap (λ (x : HubView). x.terms) cut.hub) (record {
+      legal = (so.legal, subst (λ j. IsLegal h (j ++ [])) same legal);
+      present = ap (λ (x : HubView). x.journal) cut.hub ∙ same ∙ sym (append-nil (checkpoint (state h (last_chapter h chapters))));
+      before = ap (λ j. Some (let j : JournalView = record { head = h; entries = j } in j)) so.present;
+      fresh = refl;
+      bytes = refl;
+      few = omega arith;
+      full = λ waited. absurd (let g : ⊥ = cc in g);
+      bases = λ p few. saturated (base_count h chapters p) (received_count (state h (last_chapter h chapters)) p) (slice_index r.bases p.0)
+          (slice_index bases p.0) (2 ^ 64 - 1) (so.bases p few)
+          (added p few ∙ ap (λ j. in_64_bits (slice_index r.bases p.0 + received_count (state h j) p)) so.present);
+    })
+
+-- What is handed out
+
+pub out_full : (r : RecorderView) (step : Step) → begins r step ≡ true → chapter_out r step ≡ r.before
+unfolding chapter_out
+out_full r step full = rw full refl
+
+pub out_none : (r : RecorderView) (step : Step) → begins r step ≡ false → chapter_out r step ≡ None
+unfolding chapter_out
+out_none r step room = rw room refl
+
+-- where nothing was there
+pub handed_full : (r : RecorderView) (step : Step) (there : Option HubView) → begins r step ≡ true → there ≡ None →
+    r.before ≡ out_or (chapter_out r step) there
+handed_full r step there full none = rw (out_full r step full, none) (by r.before)
+  where
+    by : (o : Option HubView) → o ≡ out_or o None
+    by None = refl
+    by (Some chapter) = refl
+
+pub handed_none : (r : RecorderView) (step : Step) (there : Option HubView) → begins r step ≡ false → there ≡ out_or (chapter_out r step) there
+handed_none r step there room = rw (out_none r step room) refl
+
+-- what holds anyway holds after a success
+pub anyway : {E P : Type 0} (r : Result (Unit {0}) E) → P → OnOk r P
+anyway (Ok u) p = p
+anyway (Err e) p = tt
 
 -- Refusals
 
 pub refuses_next : (r : RecorderView) (e : Entry) (f : Fault) → IsHead (head_of_all r) → r.hub.terms.limit ≡ MOST_STEPS → IsKeep r.keep →
-    r.fresh < r.keep → Refuses r.hub e f → RefusesStep r e f
+    begins r e.step ≡ false → Refuses r.hub e f → RefusesStep r e f
 refuses_next r e fault.NoProcess head limit keep room h = λ chapters so. sym (refused_alike (head_of_all r) chapters r.hub.journal e.pid so.present) ∙ h.1
 refuses_next r e fault.Gone head limit keep room h = λ chapters so. sym (refused_alike (head_of_all r) chapters r.hub.journal e.pid so.present) ∙ h.1
 refuses_next r e fault.Busy head limit keep room h = λ chapters so. sym (refused_alike (head_of_all r) chapters r.hub.journal e.pid so.present) ∙ h.1
 refuses_next r e fault.JournalFull head limit keep room h = λ chapters so.
-    let few : steps_of r.hub.journal ≤ most_steps (head_of_all r) + length (since_cut chapters) =
-    subst (λ j. steps_of j ≤ most_steps (head_of_all r) + length (since_cut chapters)) (sym so.present) (chapter_few (head_of_all r) chapters) in
-    absurd (omega (arith, h.1, limit, few, so.fresh, room, keep.1, head.1))
+    let few : steps_of r.hub.journal ≤ most_steps (head_of_all r) + steps_of (since_cut chapters) =
+    subst (λ j. steps_of j ≤ most_steps (head_of_all r) + steps_of (since_cut chapters)) (sym so.present) (chapter_few (head_of_all r) chapters) in
+    absurd (omega (arith, h.1, limit, few, so.fresh, (room_of r e.step room h.0).0, keep.1, head.1))
 refuses_next r e fault.NoMemory head limit keep room h = λ chapters so.
     (sym (refused_alike (head_of_all r) chapters r.hub.journal e.pid so.present) ∙ h.1, inr h.2)
 refuses_next r e fault.TooManyCases head limit keep room h = absurd h
@@ -210,7 +314,7 @@ refuses_next r e fault.NilClose head limit keep room h = absurd h
 refuses_next r e fault.AlreadyClosed head limit keep room h = absurd h
 refuses_next r e fault.NotParked head limit keep room h = absurd h
 
-pub refuses_cut : (r : RecorderView) (e : Entry) (f : Fault) → is_full r ≡ true → Refused (state_of r.hub) (Unit {0}) e f → RefusesStep r e f
+pub refuses_cut : (r : RecorderView) (e : Entry) (f : Fault) → begins r e.step ≡ true → Refused (state_of r.hub) (Unit {0}) e f → RefusesStep r e f
 refuses_cut r e fault.NoProcess over h = λ chapters so. sym (refused_alike (head_of_all r) chapters r.hub.journal e.pid so.present) ∙ h
 refuses_cut r e fault.Gone over h = λ chapters so. sym (refused_alike (head_of_all r) chapters r.hub.journal e.pid so.present) ∙ h
 refuses_cut r e fault.Busy over h = λ chapters so. sym (refused_alike (head_of_all r) chapters r.hub.journal e.pid so.present) ∙ h

@@ -1,8 +1,8 @@
 -- How long a journal's text can be, by the number of its entries and of their cases.
-use Rattle.std.specs.Prelude.{◌≤◌, ◌+◌, ◌*◌, ℕ, List, [], ◌∷◌, length}
+use Rattle.std.specs.Prelude.{◌≤◌, ◌+◌, ◌*◌, ℕ, List, [], ◌∷◌, length, if◌then◌else◌}
 use Rattle.hub_base.specs.declared.entry.Entry.{Entry}
 use Rattle.hub_base.specs.declared.limits.TheConstants.{MOST_BYTES}
-use Rattle.hub_base.specs.Reading.{text}
+use Rattle.hub_base.specs.Reading.{is_exit, text}
 use Rattle.hub_core.specs.HubView.{HubView}
 use Rattle.hub_core.specs.LogView.{cases_of}
 use Rattle.hub_cut.specs.declared.limits.TheConstants.{LINE_BYTES, CASE_BYTES}
@@ -15,6 +15,15 @@ most_line e = LINE_BYTES + CASE_BYTES * length (cases_of e)
 abbrev pub most_lines : List Entry → ℕ
 most_lines [] = 0
 most_lines (e ∷ es) = most_line e + most_lines es
+
+-- so many bytes count towards a full chapter; an exit counts none
+abbrev pub counted : Entry → ℕ
+counted e = if is_exit e.step then 0 else most_line e
+
+-- and so many of these
+abbrev pub counted_in : List Entry → ℕ
+counted_in [] = 0
+counted_in (e ∷ es) = counted e + counted_in es
 
 -- the text of its journal is not longer than a reader takes
 abbrev pub FitsText : HubView → Type 0

@@ -1,12 +1,15 @@
 -- What a cut leaves.
-use Rattle.std.specs.Prelude.{◌≡◌, ℕ, List, [], ◌∷◌, ◌++◌, None, Some}
+use Rattle.std.specs.Prelude.{◌≡◌, ◌≤◌, ℕ, List, [], ◌∷◌, ◌++◌, None, Some}
 use Rattle.hub_base.specs.declared.entry.Entry.{Entry}
 use Rattle.hub_base.specs.declared.event.Event.{Event}
 use Rattle.hub_base.specs.declared.fault.Fault.{Fault}
 use Rattle.hub_base.specs.declared.fault.Fault.TheVariants as fault
+use Rattle.hub_base.specs.Head.{AreOf}
 use Rattle.hub_base.specs.State.{State}
 use Rattle.hub_base.specs.Steps.{refusal}
 use Rattle.hub_base.specs.Runs.{moves}
+use Rattle.hub_base.specs.Text.{steps_of}
+use Rattle.hub_laws.specs.Journals.{IsLegal}
 use Rattle.hub_core.specs.declared.terms.Terms.{Terms}
 use Rattle.hub_core.specs.HubView.{HubView, state_of}
 use Rattle.hub_chapters.specs.Alike.{Alike, GoOnAlike}
@@ -15,6 +18,17 @@ use Rattle.hub_chapters.specs.Checkpoint.{checkpoint}
 -- a hub with these terms, this journal and so many places
 abbrev pub hub_with : Terms → List Entry → ℕ → HubView
 hub_with terms journal places = record { terms = terms; journal = journal; places = places }
+
+-- a hub with these entries behind those that it has
+abbrev pub with_entries : List Entry → HubView → HubView
+with_entries es h = hub_with h.terms (h.journal ++ es) h.places
+
+-- a hub without reserved steps takes these entries: with them its journal is legal and within the limit
+pub record CanMake (h : HubView) (es : List Entry) : Type 0 where
+  pub fits : AreOf h.terms.head.edition es
+  pub legal : IsLegal h.terms.head (h.journal ++ es)
+  pub few : steps_of (h.journal ++ es) ≤ h.terms.limit
+  pub places : h.places ≡ 0
 
 -- a hub that goes on from the checkpoint of this one's state
 abbrev pub renewed_hub : HubView → HubView

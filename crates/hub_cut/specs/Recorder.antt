@@ -1,15 +1,18 @@
 -- What contracts see of a recorder, which chapters it stands for, and what a step of it does.
-use Rattle.std.specs.Prelude.{◌≡◌, ◌≤◌, ◌+◌, ◌⊎◌, ℕ, Bool, true, false, ◌||◌, nat_le, IfSome, List, [], ◌∷◌, ◌++◌, length}
+use Rattle.std.specs.Prelude.{◌≡◌, ◌≤◌, ◌+◌, ◌⊎◌, ℕ, Bool, true, false, not, ◌&&◌, ◌||◌, nat_le, IfSome, List, [], ◌∷◌, ◌++◌, length}
 use Rattle.std.specs.Prelude.{Option, None, Some, slice_index, if◌then◌else◌}
 use Rattle.std.specs.Option.{option_map}
 use Rattle.hub_base.specs.declared.entry.Entry.{Entry}
+use Rattle.hub_base.specs.declared.entry.Step.{Step}
 use Rattle.hub_base.specs.declared.event.Event.{Event}
 use Rattle.hub_base.specs.declared.fault.Fault.{Fault}
 use Rattle.hub_base.specs.declared.head.Head.{Head}
 use Rattle.hub_base.specs.declared.limits.TheConstants.{MOST_PORTS}
 use Rattle.hub_base.specs.declared.value.Port.{Port}
 use Rattle.hub_base.specs.Journal.{JournalView}
+use Rattle.hub_base.specs.Reading.{is_exit}
 use Rattle.hub_base.specs.Steps.{refusal}
+use Rattle.hub_base.specs.Text.{steps_of}
 use Rattle.hub_base.specs.Runs.{state, moves}
 use Rattle.hub_core.specs.HubView.{HubView, ShortInMemory, Grows}
 use Rattle.hub_chapters.specs.Chapters.{Chapters, last_chapter, history, AreLegal}
@@ -17,7 +20,7 @@ use Rattle.hub_chapters.specs.Chapters.Chapters.{First, Cut}
 use Rattle.hub_chapters.specs.Carried.{base_count}
 use Rattle.hub_chapters.specs.Checkpoint.{most_steps}
 use Rattle.hub_cut.specs.declared.limits.TheConstants.{CHAPTER_BYTES, MOST_KEEP}
-use Rattle.hub_cut.specs.ChapterText.{FitsText, most_lines}
+use Rattle.hub_cut.specs.ChapterText.{FitsText, counted_in}
 use Rattle.hub_cut.specs.Cut.{Refused}
 use Rattle.hub_cut.specs.Totals.{in_64_bits}
 
@@ -27,12 +30,14 @@ pub record RecorderView : Type 0 where
   pub hub : HubView
   -- the hub as it was at the last cut, if there was one: its journal is the chapter before
   pub before : Option HubView
-  -- with so many entries behind its checkpoint a chapter is full
+  -- with so many steps behind its checkpoint, exits not counted, a chapter is full
   pub keep : ℕ
   -- so many the present chapter has
   pub fresh : ℕ
   -- and so many bytes their lines have at most
   pub bytes : ℕ
+  -- the last cut was asked for, and did not wait for a full chapter
+  pub early : Bool
   -- by a port's number, how many values were received on it before the present chapter
   pub bases : List ℕ
 
@@ -60,14 +65,14 @@ abbrev pub chapter_before : Head → Chapters → Option JournalView
 chapter_before h (First es) = None
 chapter_before h (Cut chapters later) = Some (record { head = h; entries = last_chapter h chapters })
 
--- a chapter is full with so many entries behind its checkpoint, or where its text might soon be longer than a reader takes
+-- a chapter is full with so many steps behind its checkpoint, or where its text might soon be longer than a reader takes
 abbrev pub is_full_at : ℕ → ℕ → ℕ → Bool
 is_full_at keep fresh bytes = nat_le keep fresh || nat_le CHAPTER_BYTES bytes
 
 -- where there is a chapter before the last, it was cut once it was full
 abbrev pub WasFull : ℕ → Chapters → Type 0
 WasFull keep (First es) = Unit {0}
-WasFull keep (Cut chapters later) = is_full_at keep (length (since_cut chapters)) (most_lines (since_cut chapters)) ≡ true
+WasFull keep (Cut chapters later) = is_full_at keep (steps_of (since_cut chapters)) (counted_in (since_cut chapters)) ≡ true
 
 -- the journal of a hub
 abbrev pub journal_of : HubView → JournalView
@@ -78,18 +83,18 @@ pub record Records (chapters : Chapters) (r : RecorderView) : Type 0 where
   pub legal : AreLegal (head_of_all r) chapters
   pub present : r.hub.journal ≡ last_chapter (head_of_all r) chapters
   pub before : option_map journal_of r.before ≡ chapter_before (head_of_all r) chapters
-  pub fresh : r.fresh ≡ length (since_cut chapters)
-  pub bytes : r.bytes ≡ most_lines (since_cut chapters)
+  pub fresh : r.fresh ≡ steps_of (since_cut chapters)
+  pub bytes : r.bytes ≡ counted_in (since_cut chapters)
   pub few : r.fresh ≤ r.keep
-  -- so the last `keep` entries stand in these two chapters, or as many as two texts hold
-  pub full : WasFull r.keep chapters
+  -- so the last `keep` steps stand in these two chapters, or as many as two texts hold, unless a cut was asked for
+  pub full : r.early ≡ false → WasFull r.keep chapters
   pub bases : (p : Port) → p.0 ≤ MOST_PORTS → slice_index r.bases p.0 ≡ in_64_bits (base_count (head_of_all r) chapters p)
 
 -- it stands at the end of some
 abbrev pub IsRecorder : RecorderView → Type 0
 IsRecorder r = (chapters : Chapters) × Records chapters r
 
--- the present chapter has no more entries than a checkpoint can have, and `keep`
+-- the present chapter has no more steps than a checkpoint can have, and `keep`; and an exit of each process
 abbrev pub IsShort : RecorderView → Type 0
 IsShort r = length r.hub.journal ≤ most_steps (head_of_all r) + (head_of_all r).procs + r.keep
 
@@ -99,9 +104,13 @@ FitTexts r = FitsText r.hub × IfSome r.before FitsText
 
 -- ---- a step
 
--- the present chapter is full: it is cut before the next step
+-- the present chapter is full: it is cut before the next step that is no exit. So no exit asks for memory
 abbrev pub is_full : RecorderView → Bool
 is_full r = is_full_at r.keep r.fresh r.bytes
+
+-- a step begins a chapter
+abbrev pub begins : RecorderView → Step → Bool
+begins r step = not (is_exit step) && is_full r
 
 -- the chapters with this entry behind them, after a cut or without one
 abbrev pub with_next : Bool → Chapters → Entry → Chapters
@@ -113,22 +122,36 @@ with_next false (Cut chapters later) e = Cut chapters (later ++ e ∷ [])
 pub record GoesOn (old : RecorderView) (chapters : Chapters) (e : Entry) (new : RecorderView) (told : List Event) : Type 0 where
   pub admitted : refusal (state (head_of_all old) (history chapters)) e.pid ≡ None
   pub events : told ≡ (moves (state (head_of_all old) (history chapters)) e).events
-  pub history : history (with_next (is_full old) chapters e) ≡ history chapters ++ e ∷ []
-  pub records : Records (with_next (is_full old) chapters e) new
+  pub history : history (with_next (begins old e.step) chapters e) ≡ history chapters ++ e ∷ []
+  pub records : Records (with_next (begins old e.step) chapters e) new
 
 -- what a step that was made leaves and tells
 pub record RecordsStep (old : RecorderView) (e : Entry) (new : RecorderView) (told : List Event) : Type 0 where
   pub goes_on : (chapters : Chapters) → Records chapters old → GoesOn old chapters e new told
   pub terms : new.hub.terms ≡ old.hub.terms
   pub keep : new.keep ≡ old.keep
+  -- a chapter that a step begins was not asked for
+  pub early : new.early ≡ (if begins old e.step then false else old.early)
 
--- a cut hands out the chapter before the one that ends
-unfoldable pub chapter_out : RecorderView → Option HubView
-chapter_out r = if is_full r then r.before else None
+-- what a cut that was asked for leaves: the history is as it was, and the next entry comes behind a checkpoint
+pub record RecordsCut (old new : RecorderView) : Type 0 where
+  pub goes_on : (chapters : Chapters) → Records chapters old → Records (Cut chapters []) new
+  pub terms : new.hub.terms ≡ old.hub.terms
+  pub keep : new.keep ≡ old.keep
+  pub early : new.early ≡ true
+
+-- a step that begins a chapter hands out the one before that which ends
+unfoldable pub chapter_out : RecorderView → Step → Option HubView
+chapter_out r step = if begins r step then r.before else None
+
+-- what a place for chapters then holds: the one that is handed out, or else what was there
+abbrev pub out_or : Option HubView → Option HubView → Option HubView
+out_or None there = there
+out_or (Some chapter) there = Some chapter
 
 -- memory is asked for: by a cut, or because the journal may have to grow
 abbrev pub WantsMemory : RecorderView → Entry → Type 0
-WantsMemory r e = (is_full r ≡ true) ⊎ Grows e.step r.hub.places
+WantsMemory r e = (begins r e.step ≡ true) ⊎ Grows e.step r.hub.places
 
 -- when each refusal of a step comes: the history decides
 abbrev pub RefusesStep : RecorderView → Entry → Fault → Type 0

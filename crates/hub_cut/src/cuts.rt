@@ -1,90 +1,21 @@
 //! A cut: the journal so far is handed out, and the hub goes on from its checkpoint.
 
-ghost use Rattle.std.specs.Prelude.{◌≡◌, ◌≤◌, ◌<◌, ◌+◌, length, IfOk, IfErr, OnOk, OnErr, None, true};
+ghost use Rattle.std.specs.Prelude.{◌≡◌, ◌≤◌, ◌<◌, ◌+◌, length, IfOk, IfErr, OnOk, OnErr, None};
 ghost use Rattle.std.specs.List.{flat_map};
 ghost use Rattle.hub_base.specs.Lines.{line};
 ghost use Rattle.hub_base.specs.Text.{Fits};
-ghost use Rattle.hub_base.specs.Head.{AreOf, IsHead, is_of};
 ghost use Rattle.hub_base.specs.Steps.{refusal};
-ghost use Rattle.hub_base.specs.Text.{steps_of};
-ghost use Rattle.hub_laws.specs.Journals.{IsLegal};
-ghost use Rattle.hub_core.specs.Follows.{IsMake};
-ghost use Rattle.hub_core.specs.HubView.{Grows, HasRoom, HasSpare, IsLimit, Steps, opened_hub, state_of};
+ghost use Rattle.hub_core.specs.HubView.{state_of};
 ghost use Rattle.hub_chapters.specs.Checkpoint.{checkpoint, most_steps};
 ghost use Rattle.hub_cut.specs.ChapterText.{most_line};
-ghost use Rattle.hub_cut.specs.Cut.{CutsAndSteps, IsCut, Refused, hub_with, renewed_hub};
+ghost use Rattle.hub_cut.specs.Cut.{CutsAndSteps, IsCut, Refused};
 
-use crate::checkpoint_of;
 use crate::limits::CHECKPOINT_BYTES;
-use crate::texts::all_fit;
+use crate::renewals::{make_step, renewed};
 use hub_base::{Entry, Events, Fault, Journal, NoMemory};
-use hub_core::{Hub, OpenFault, ShortHub, Terms};
+use hub_core::ShortHub;
 use std::alloc::Global;
 use std::mem;
-
-/// Opens a hub with these terms. It is refused only if an allocation fails.
-fn opened(alloc: Global, terms: Terms) -> Result<ShortHub, NoMemory>
-    requires head { IsHead terms.head }
-    requires limit { IsLimit terms.limit }
-    ensures { IfOk result (λ h. h.memory.hub ≡ opened_hub terms) }
-{
-    match Hub::open(alloc, terms.head.procs, terms.limit, terms.head.edition) {
-        Ok(hub) => Ok(hub.shortened()),
-        Err(OpenFault::NoMemory) => Err(NoMemory),
-        Err(OpenFault::BadProcs | OpenFault::BadLimit) => unreachable!(),
-    }
-}
-
-/// Makes a step of a process that is admitted, in a journal that has room. It is refused only if an allocation fails.
-fn make_step(hub: &mut ShortHub, entry: Entry, events: &mut Events) -> Result<(), NoMemory>
-    requires fits { is_of hub.old.memory.hub.terms.head.edition entry.step ≡ true }
-    requires room { HasRoom hub.old.memory.hub entry }
-    requires admitted { refusal (state_of hub.old.memory.hub) entry.pid ≡ None }
-    ensures ok { OnOk result (Steps hub.old.memory.hub entry hub.new.memory.hub events.new.items) }
-    ensures grows { OnErr result (Grows entry.step hub.old.memory.hub.places) }
-    ensures make { OnErr result (HasSpare hub.old.memory → IsMake entry.step) }
-    ensures unchanged { OnErr result (hub.new.memory.hub ≡ hub.old.memory.hub) }
-{
-    match hub.step_into(entry, events) {
-        Ok(()) => Ok(()),
-        Err(Fault::NoMemory) => Err(NoMemory),
-        Err(_) => unreachable!(),
-    }
-}
-
-/// Opens a hub with these terms and makes these steps. It is refused only if an allocation fails.
-fn hub_of(alloc: Global, terms: Terms, entries: &[Entry]) -> Result<ShortHub, NoMemory>
-    requires head { IsHead terms.head }
-    requires limit { IsLimit terms.limit }
-    requires fits { AreOf terms.head.edition entries.now }
-    requires legal { IsLegal terms.head entries.now }
-    requires few { steps_of entries.now ≤ terms.limit }
-    ensures { IfOk result (λ h. h.memory.hub ≡ hub_with terms entries.now 0) }
-{
-    let mut hub = opened(alloc, terms)?;
-    let mut events = Events::new();
-    for entry in entries {
-        make_step(&mut hub, entry.copy(), &mut events)?;
-    }
-    Ok(hub)
-}
-
-/// A hub with the same terms and as many reserved steps, whose journal is the checkpoint. It is refused only if an
-/// allocation fails.
-fn renewed(alloc: Global, hub: &ShortHub) -> Result<ShortHub, NoMemory>
-    ensures hub { IfOk result (λ h. h.memory.hub ≡ renewed_hub hub.now.memory.hub) }
-    ensures lines { OnOk result (
-        length (flat_map line (checkpoint (state_of hub.now.memory.hub))) ≤ CHECKPOINT_BYTES) }
-{
-    hub.journal_is_legal();
-    let terms = hub.terms();
-    let entries = checkpoint_of(alloc, hub)?;
-    let steps = entries.as_slice();
-    all_fit(terms.head.edition, steps);
-    let mut next = hub_of(alloc, terms, steps)?;
-    next.reserve(hub.places())?;
-    Ok(next)
-}
 
 /// Gives the hub as it was, with its whole journal, and leaves one in its place that goes on from the checkpoint, with
 /// the same limit and as many reserved steps: whatever follows is answered as if nothing had been cut. Nothing is
@@ -93,6 +24,16 @@ fn renewed(alloc: Global, hub: &ShortHub) -> Result<ShortHub, NoMemory>
 pub fn cut(alloc: Global, hub: &mut ShortHub) -> Result<ShortHub, NoMemory>
     ensures whole { IfOk result (λ h. h ≡ hub.old) }
     ensures goes_on { OnOk result (IsCut hub.old.memory.hub hub.new.memory.hub) }
+    ensures unchanged { OnErr result (hub.new ≡ hub.old) }
+{
+    cut_short(alloc, hub)
+}
+
+/// The same, and tells how long the lines of the checkpoint are.
+pub(crate) fn cut_short(alloc: Global, hub: &mut ShortHub) -> Result<ShortHub, NoMemory>
+    ensures whole { IfOk result (λ h. h ≡ hub.old) }
+    ensures goes_on { OnOk result (IsCut hub.old.memory.hub hub.new.memory.hub) }
+    ensures lines { OnOk result (length (flat_map line hub.new.memory.hub.journal) ≤ CHECKPOINT_BYTES) }
     ensures unchanged { OnErr result (hub.new ≡ hub.old) }
 {
     let next = renewed(alloc, hub)?;
@@ -124,7 +65,7 @@ fn renewed_after(
         length (flat_map line h.memory.hub.journal) ≤ CHECKPOINT_BYTES + most_line entry) }
 {
     let mut next = renewed(alloc, hub)?;
-    make_step(&mut next, entry, events)?;
+    make_step(&mut next, &entry, events)?;
     Ok(next)
 }
 

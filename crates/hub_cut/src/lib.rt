@@ -9,6 +9,7 @@ mod checkpoints;
 mod cuts;
 mod limits;
 mod recorder;
+mod renewals;
 mod texts;
 mod totals;
 

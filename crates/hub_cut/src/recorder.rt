@@ -1,28 +1,30 @@
 //! A recorder is a hub that cuts itself, so it never ends.
 //!
-//! The present chapter is cut once it has `keep` entries behind its checkpoint, or once its text might soon be longer than
-//! a reader takes. So the last `keep` entries, or as many as two texts hold, always stand in the present chapter and in
-//! the one before it. Each of these is a journal of its own. Older chapters are handed out. A checkpoint and `keep` entries
+//! The present chapter is cut once it has `keep` steps behind its checkpoint, exits not counted, or once its text might soon be longer than
+//! a reader takes. So the last `keep` steps, or as many as two texts hold, always stand in the present chapter and in
+//! the one before it. Each of these is a journal of its own. Older chapters are handed out. A checkpoint and `keep` steps
 //! stay below the limit of a hub, so no step is refused because the journal is full.
 
-ghost use Rattle.std.specs.Prelude.{◌≡◌, [], IfOk, IfErr, IfSome, OnOk, OnErr, true, false};
+ghost use Rattle.std.specs.Prelude.{◌≡◌, [], IfOk, IfErr, IfSome, OnOk, OnErr, None, true, false};
 ghost use Rattle.std.specs.Option.{option_map};
 ghost use Rattle.hub_base.specs.Head.{is_of};
 ghost use Rattle.hub_base.specs.Runs.{state};
 ghost use Rattle.hub_base.specs.declared.limits.TheConstants.{MOST_STEPS};
-ghost use Rattle.hub_core.specs.HubView.{RefusesOpening, terms_of};
+ghost use Rattle.hub_core.specs.HubView.{RefusesOpening, call_of, terms_of};
 ghost use Rattle.hub_chapters.specs.Chapters.{Chapters, history};
 ghost use Rattle.hub_chapters.specs.Chapters.Chapters.{First};
 ghost use Rattle.hub_cut.specs.ChapterText.{FitsText};
-ghost use Rattle.hub_cut.specs.Recorder.{FitTexts, IsKeep, IsRecorder, IsShort, Records, RecordsStep, RefusesStep, chapter_out, head_of_all, hub_in, is_full};
+ghost use Rattle.hub_cut.specs.Recorder.{FitTexts, IsKeep, IsRecorder, IsShort, Records, RecordsCut, RecordsStep, RefusesStep, chapter_out, head_of_all, begins, hub_in, is_full, out_or};
 ghost use Rattle.hub_cut.specs.Totals.{totals_at};
 
 use crate::Totals;
-use crate::cuts::cut_and_step;
+use crate::cuts::{cut_and_step, cut_short};
 use crate::limits::CHAPTER_BYTES;
-use crate::texts::most_line;
+use crate::texts::{is_exit, most_call_line, most_line, share_of};
 use crate::totals::{PORT_PLACES, add_received, base_of, no_bases, with_base};
-use hub_base::{Edition, Entry, Events, Fault, MOST_STEPS, Port};
+use hub_base::{
+    Cases, Edition, Entry, Events, Fault, MOST_STEPS, NoMemory, Pid, Port, Step, copy_cases,
+};
 use hub_core::{Hub, OpenFault, ShortHub};
 use std::alloc::Global;
 use std::marker::Model;
@@ -36,12 +38,14 @@ pub struct Recorder {
     hub: ShortHub,
     /// The hub as it was at the last cut: its journal is the chapter before.
     before: Option<ShortHub>,
-    /// With so many entries behind its checkpoint a chapter is full.
+    /// With so many steps behind its checkpoint, exits not counted, a chapter is full.
     keep: u32,
     /// How many the present chapter has.
     fresh: u32,
     /// How many bytes their lines have at most.
     bytes: u32,
+    /// Whether the last cut was asked for, and did not wait for a full chapter.
+    early: bool,
     /// By a port's number, how many values were received on it before the present chapter.
     bases: [u64; PORT_PLACES],
 }
@@ -67,8 +71,8 @@ fn keep_last(before: &mut Option<ShortHub>, chapter: ShortHub) -> Option<ShortHu
 }
 
 impl Recorder {
-    /// A recorder of this edition, with 1 to `MOST_PROCS` processes. A chapter is cut once it has `keep` entries behind its
-    /// checkpoint.
+    /// A recorder of this edition, with 1 to `MOST_PROCS` processes. A chapter is cut once it has `keep` steps behind its
+    /// checkpoint, exits not counted.
     ///
     /// The errors are `BadProcs` and `NoMemory`, tested in this order.
     pub fn open(
@@ -81,6 +85,7 @@ impl Recorder {
         ensures ok { IfOk result (λ r. Records (First []) r) }
         ensures terms { IfOk result (λ r. r.hub.terms ≡ terms_of edition procs MOST_STEPS) }
         ensures keep { IfOk result (λ r. r.keep ≡ keep) }
+        ensures early { IfOk result (λ r. r.early ≡ false) }
         ensures err { IfErr result (λ f. RefusesOpening (terms_of edition procs MOST_STEPS) f) }
     {
         let hub = Hub::open(alloc, procs, MOST_STEPS, edition)?;
@@ -91,76 +96,185 @@ impl Recorder {
             keep,
             fresh: 0,
             bytes: 0,
+            early: false,
             bases: no_bases(),
         })
     }
 
     /// Makes a step that the hub's edition has. Its events replace those that were there; after a refusal they may be any.
-    /// If the present chapter is full, it is cut first, and the chapter before it is handed out, if there is one. So each
-    /// chapter is handed out once, in order.
+    /// If the present chapter is full, it is cut first, and the chapter before it is handed out into `out`, if there is one,
+    /// which must be empty then. So each chapter is handed out once, in order.
     ///
-    /// The only refusals are `NoProcess`, `Gone`, `Busy` and `NoMemory`, tested in this order. After a refusal nothing has
-    /// changed.
+    /// The only refusals are `NoProcess`, `Gone`, `Busy` and `NoMemory`, tested in this order; an exit is never refused by
+    /// `NoMemory`. After a refusal nothing has changed.
     pub fn step_into(
         &mut self,
         entry: Entry,
         events: &mut Events,
-    ) -> Result<Option<ShortHub>, Fault>
+        out: &mut Option<ShortHub>,
+    ) -> Result<(), Fault>
         requires fits { is_of (head_of_all self.old).edition entry.step ≡ true }
+        requires empty { begins self.old entry.step ≡ true → out.old ≡ None }
         ensures ok { OnOk result (RecordsStep self.old entry self.new events.new.items) }
-        ensures handed_out { IfOk result (λ chapter. option_map hub_in chapter ≡ chapter_out self.old) }
-        ensures text { IfOk result (λ chapter. IfSome (option_map hub_in chapter) FitsText) }
+        ensures handed_out { OnOk result (option_map hub_in out.new ≡ out_or (chapter_out self.old entry.step) (option_map hub_in out.old)) }
+        ensures text { OnOk result (IfSome (chapter_out self.old entry.step) FitsText) }
         ensures refused { IfErr result (λ f. RefusesStep self.old entry f) }
         ensures unchanged { OnErr result (self.new ≡ self.old) }
+        ensures kept { OnErr result (out.new ≡ out.old) }
     {
-        if self.is_full() {
-            return self.begin_chapter(entry, events);
+        if self.begins(&entry.step) {
+            return self.begin_chapter(entry, events, out);
         }
-        self.go_on(entry, events)?;
-        Ok(None)
+        self.go_on(entry, events)
     }
 
-    /// Whether the present chapter is cut before the next step.
+    /// Makes a call as `step_into` makes its entry, of which only the cases are written that it has.
+    pub fn call_into(
+        &mut self,
+        pid: Pid,
+        cases: &Cases,
+        default: bool,
+        word: u64,
+        events: &mut Events,
+        out: &mut Option<ShortHub>,
+    ) -> Result<(), Fault>
+        requires fits { is_of (head_of_all self.old).edition (call_of pid cases.now.items default word).step ≡ true }
+        requires empty { is_full self.old ≡ true → out.old ≡ None }
+        ensures ok { OnOk result (RecordsStep self.old (call_of pid cases.now.items default word) self.new events.new.items) }
+        ensures handed_out { OnOk result (option_map hub_in out.new ≡ out_or (chapter_out self.old (call_of pid cases.now.items default word).step) (option_map hub_in out.old)) }
+        ensures text { OnOk result (IfSome (chapter_out self.old (call_of pid cases.now.items default word).step) FitsText) }
+        ensures refused { IfErr result (λ f. RefusesStep self.old (call_of pid cases.now.items default word) f) }
+        ensures unchanged { OnErr result (self.new ≡ self.old) }
+        ensures kept { OnErr result (out.new ≡ out.old) }
+    {
+        if self.is_full() {
+            return self.begin_with_call(pid, cases, default, word, events, out);
+        }
+        self.go_on_with_call(pid, cases, default, word, events)
+    }
+
+    /// Whether the present chapter is cut before the next step that is no exit.
     fn is_full(&self) -> bool
         ensures { result ≡ is_full self.now }
     {
         self.fresh >= self.keep || self.bytes >= CHAPTER_BYTES
     }
 
-    /// Makes a step in the present chapter, which is not full.
+    /// Whether this step, if it is made next, begins a chapter.
+    pub fn begins(&self, step: &Step) -> bool
+        ensures { result ≡ begins self.now step.now }
+    {
+        !is_exit(step) && self.is_full()
+    }
+
+    /// Makes a step in the present chapter, which is not full unless it is an exit.
     fn go_on(&mut self, entry: Entry, events: &mut Events) -> Result<(), Fault>
         requires fits { is_of (head_of_all self.old).edition entry.step ≡ true }
-        requires room { is_full self.old ≡ false }
+        requires room { begins self.old entry.step ≡ false }
         ensures ok { OnOk result (RecordsStep self.old entry self.new events.new.items) }
         ensures refused { IfErr result (λ f. RefusesStep self.old entry f) }
         ensures unchanged { OnErr result (self.new ≡ self.old) }
     {
-        let bytes = most_line(self.hub.head().edition, &entry);
+        let share = share_of(self.hub.head().edition, &entry);
         self.hub.step_into(entry, events)?;
+        self.fresh += share.steps;
+        self.bytes += share.bytes;
+        Ok(())
+    }
+
+    /// Makes a call in the present chapter, which is not full.
+    fn go_on_with_call(
+        &mut self,
+        pid: Pid,
+        cases: &Cases,
+        default: bool,
+        word: u64,
+        events: &mut Events,
+    ) -> Result<(), Fault>
+        requires fits { is_of (head_of_all self.old).edition (call_of pid cases.now.items default word).step ≡ true }
+        requires room { is_full self.old ≡ false }
+        ensures ok { OnOk result (RecordsStep self.old (call_of pid cases.now.items default word) self.new events.new.items) }
+        ensures refused { IfErr result (λ f. RefusesStep self.old (call_of pid cases.now.items default word) f) }
+        ensures unchanged { OnErr result (self.new ≡ self.old) }
+    {
+        let bytes = most_call_line(self.hub.head().edition, pid, cases, default, word);
+        self.hub.call_into(pid, cases, default, word, events)?;
         self.fresh += 1;
         self.bytes += bytes;
         Ok(())
     }
 
-    /// Cuts the present chapter, which is full, and makes a step behind its checkpoint. Returns the chapter before it.
+    /// Cuts the present chapter, which is full, and makes a call behind its checkpoint. Hands out the chapter before it. It
+    /// stands alone, so that a call keeps no place for an entry on its stack.
+    #[inline(never)]
+    fn begin_with_call(
+        &mut self,
+        pid: Pid,
+        cases: &Cases,
+        default: bool,
+        word: u64,
+        events: &mut Events,
+        out: &mut Option<ShortHub>,
+    ) -> Result<(), Fault>
+        requires fits { is_of (head_of_all self.old).edition (call_of pid cases.now.items default word).step ≡ true }
+        requires full { is_full self.old ≡ true }
+        requires empty { out.old ≡ None }
+        ensures ok { OnOk result (RecordsStep self.old (call_of pid cases.now.items default word) self.new events.new.items) }
+        ensures handed_out { OnOk result (option_map hub_in out.new ≡ self.old.before) }
+        ensures text { OnOk result (IfSome self.old.before FitsText) }
+        ensures refused { IfErr result (λ f. RefusesStep self.old (call_of pid cases.now.items default word) f) }
+        ensures unchanged { OnErr result (self.new ≡ self.old) }
+        ensures kept { OnErr result (out.new ≡ out.old) }
+    {
+        let step = Step::Call {
+            cases: copy_cases(cases),
+            default,
+            word,
+        };
+        self.begin_chapter(Entry { pid, step }, events, out)
+    }
+
+    /// Cuts the present chapter, which is full, and makes a step that is no exit behind its checkpoint. Hands out the chapter before it.
+    #[inline(never)]
     fn begin_chapter(
         &mut self,
         entry: Entry,
         events: &mut Events,
-    ) -> Result<Option<ShortHub>, Fault>
+        out: &mut Option<ShortHub>,
+    ) -> Result<(), Fault>
         requires fits { is_of (head_of_all self.old).edition entry.step ≡ true }
-        requires full { is_full self.old ≡ true }
+        requires full { begins self.old entry.step ≡ true }
+        requires empty { out.old ≡ None }
         ensures ok { OnOk result (RecordsStep self.old entry self.new events.new.items) }
-        ensures handed_out { IfOk result (λ chapter. option_map hub_in chapter ≡ chapter_out self.old) }
-        ensures text { IfOk result (λ chapter. IfSome (option_map hub_in chapter) FitsText) }
+        ensures handed_out { OnOk result (option_map hub_in out.new ≡ self.old.before) }
+        ensures text { OnOk result (IfSome self.old.before FitsText) }
         ensures refused { IfErr result (λ f. RefusesStep self.old entry f) }
         ensures unchanged { OnErr result (self.new ≡ self.old) }
+        ensures kept { OnErr result (out.new ≡ out.old) }
     {
         let bytes = most_line(self.hub.head().edition, &entry);
         let whole = cut_and_step(self.alloc, &mut self.hub, entry, events)?;
         add_received(&mut self.bases, &whole);
         self.fresh = 1;
         self.bytes = bytes;
+        self.early = false;
+        *out = keep_last(&mut self.before, whole);
+        Ok(())
+    }
+
+    /// Cuts the present chapter, full or not. The chapter before it is handed out, if there is one. It is refused only if
+    /// an allocation fails, and then nothing has changed.
+    pub fn cut(&mut self) -> Result<Option<ShortHub>, NoMemory>
+        ensures ok { OnOk result (RecordsCut self.old self.new) }
+        ensures handed_out { IfOk result (λ chapter. option_map hub_in chapter ≡ self.old.before) }
+        ensures text { IfOk result (λ chapter. IfSome (option_map hub_in chapter) FitsText) }
+        ensures unchanged { OnErr result (self.new ≡ self.old) }
+    {
+        let whole = cut_short(self.alloc, &mut self.hub)?;
+        add_received(&mut self.bases, &whole);
+        self.fresh = 0;
+        self.bytes = 0;
+        self.early = true;
         Ok(keep_last(&mut self.before, whole))
     }
 

@@ -7,6 +7,7 @@ use hub_base::{
 use std::fmt::Debug;
 use std::process::Abort;
 
+mod endless;
 mod locked;
 mod one_thread;
 mod refusals;

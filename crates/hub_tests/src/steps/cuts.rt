@@ -1,11 +1,12 @@
-//! A hub that was cut answers as the one that was not, and so does a hub that cuts itself.
+//! A hub that was cut answers as the one that was not, and so does a hub that cuts itself. The gate has memory;
+//! `tools/hub_refusals.sh` runs the last test with its allocations refused that come after `begin`.
 
 use super::entries::{Ask, DONE, MADE, MADE_SECOND, PARKED, SENT, Told, are_told, entry_of, first};
 use super::hubs::{CLOSED_BEFORE, DRAINED};
-use super::rows::Row;
+use super::rows::{Row, begin};
 use crate::compare::same;
-use hub_base::{Entry, Events, Fault, Pid, Port};
-use hub_core::{Hub, ShortHub};
+use hub_base::{Case, Cases, CasesExt, Edition, Entry, Events, Fault, Pid, Port, Step};
+use hub_core::{Hub, OpenFault, ShortHub};
 use hub_cut::{Recorder, Totals, cut, cut_journal};
 use std::alloc::Global;
 use std::process::Abort;
@@ -84,18 +85,47 @@ fn cut_hub_answers_as_before(rt: HostRuntime) -> Result<(), Fail> {
     cut_twice(&rt, rt.alloc())
 }
 
+/// How many entries a chapter has.
+fn len_of(chapter: Option<ShortHub>) -> Option<usize> {
+    Some(chapter?.len())
+}
+
 /// Makes a step of process 0, and gives how many entries the chapter has that is handed out.
-fn record(rt: &impl Abort, recorder: &mut Recorder, asked: Ask, told: Told) -> Option<usize> {
+fn record(
+    rt: &impl Abort,
+    recorder: &mut Recorder,
+    asked: Ask,
+    told: Told,
+) -> Result<Option<usize>, Fault> {
     let entry = entry_of(0, asked);
     assert!(rt; entry.fits(recorder.present().head().edition));
     let mut events = Events::new();
-    match recorder.step_into(entry, &mut events) {
-        Ok(chapter) => {
-            are_told(rt, events.as_slice(), &[(0, told)]);
-            Some(chapter?.len())
-        }
-        Err(fault) => panic!(rt; "refused: {fault}"),
-    }
+    let mut out = None;
+    recorder.step_into(entry, &mut events, &mut out)?;
+    are_told(rt, events.as_slice(), &[(0, told)]);
+    Ok(len_of(out))
+}
+
+/// Makes a call of one case of process 0, and gives how many entries the chapter has that is handed out.
+fn record_call(
+    rt: &impl Abort,
+    recorder: &mut Recorder,
+    case: Case,
+    told: Told,
+) -> Result<Option<usize>, Fault> {
+    let cases = Cases::one(case);
+    assert!(rt;
+        recorder
+            .present()
+            .head()
+            .edition
+            .has_cases(cases.as_slice())
+    );
+    let mut events = Events::new();
+    let mut out = None;
+    recorder.call_into(Pid(0), &cases, false, 0, &mut events, &mut out)?;
+    are_told(rt, events.as_slice(), &[(0, told)]);
+    Ok(len_of(out))
 }
 
 /// What process 0 asks a recorder for, what it is told, and how many entries the chapter has that is handed out. A chapter
@@ -136,7 +166,7 @@ fn record_all(rt: &impl Abort, alloc: Global) -> Result<(), Fail> {
     for (asked, told, handed) in RECORDED {
         same(
             rt,
-            record(rt, &mut recorder, *asked, *told),
+            record(rt, &mut recorder, *asked, *told)?,
             *handed,
             "chapter",
         );
@@ -150,4 +180,88 @@ fn record_all(rt: &impl Abort, alloc: Global) -> Result<(), Fail> {
 #[test]
 fn recorder_hands_out_chapters(rt: HostRuntime) -> Result<(), Fail> {
     record_all(&rt, rt.alloc())
+}
+
+/// One value was received in two chapters that were cut before they were full, and one entry follows.
+fn cut_by_hand(rt: &impl Abort, alloc: Global) -> Result<(), Fail> {
+    let mut recorder = Recorder::open(alloc, 2, 100, first(2).edition)?;
+    let receive = Case::Recv(Port(1));
+    same(
+        rt,
+        record(rt, &mut recorder, Ask::Make(2), MADE)?,
+        None,
+        "make",
+    );
+    same(
+        rt,
+        record(rt, &mut recorder, Ask::Send(1, 5), SENT)?,
+        None,
+        "send",
+    );
+    same(rt, recorder.begins(&Step::Make(1)), false, "begins");
+    same(rt, len_of(recorder.cut()?), None, "first cut");
+    same(
+        rt,
+        record_call(rt, &mut recorder, receive, Told::Got(0, 5))?,
+        None,
+        "receive",
+    );
+    same(rt, len_of(recorder.cut()?), Some(2), "second cut");
+    let look = recorder.look(Port(1));
+    same(
+        rt,
+        look.map(|t| (t.sent, t.received)),
+        Some((1, 1)),
+        "counts",
+    );
+    same(rt, kept(recorder), (Some(3), 1), "chapters");
+    Ok(())
+}
+
+#[test]
+fn recorder_is_cut_before_it_is_full(rt: HostRuntime) -> Result<(), Fail> {
+    cut_by_hand(&rt, rt.alloc())
+}
+
+/// Opens a recorder and, where memory was refused, another.
+fn open_again(alloc: Global) -> Result<Recorder, OpenFault> {
+    match Recorder::open(alloc, 2, 3, Edition::One) {
+        Err(OpenFault::NoMemory) => Recorder::open(alloc, 2, 3, Edition::One),
+        recorder => recorder,
+    }
+}
+
+/// Makes a step and, where memory was refused, once more. The recorder is as before then.
+fn record_again(
+    rt: &impl Abort,
+    recorder: &mut Recorder,
+    asked: Ask,
+    told: Told,
+) -> Result<Option<usize>, Fault> {
+    let before = (recorder.look(Port(1)), recorder.present().len());
+    match record(rt, recorder, asked, told) {
+        Err(Fault::NoMemory) => {
+            let after = (recorder.look(Port(1)), recorder.present().len());
+            same(rt, after, before, "kept");
+            record(rt, recorder, asked, told)
+        }
+        recorded => recorded,
+    }
+}
+
+#[test]
+fn refused_chapters_are_begun_again(rt: HostRuntime) -> Result<(), Fail> {
+    begin(rt.alloc());
+    let mut recorder = open_again(rt.alloc())?;
+    for (asked, told, handed) in RECORDED {
+        same(
+            &rt,
+            record_again(&rt, &mut recorder, *asked, *told)?,
+            *handed,
+            "chapter",
+        );
+    }
+    same(&rt, recorder.look(Port(1)), Some(CARRIED), "counts");
+    same(&rt, kept(recorder), (Some(6), 4), "chapters");
+    Ok(())
 }

@@ -1,28 +1,29 @@
 use Rattle.std.proofs.Common.{◌≡◌, true, ◌+◌, ◌∙◌, ap, sym, subst, arith, Some, [], ◌∷◌, slice_index}
 use Rattle.std.proofs.lemmas.Result.{err_from_is_err_and}
 use Rattle.hub_core.specs.HubView.{ShortInMemory, state_of}
+use Rattle.hub_core.proofs.Reached.{steps-length}
 use Rattle.hub_chapters.specs.Carried.{received_count}
 use Rattle.hub_chapters.specs.Chapters.Chapters.{Cut}
 use Rattle.hub_cut.specs.Totals.{in_64_bits}
 use Rattle.std.specs.Option.{option_map}
-use Rattle.hub_cut.specs.Recorder.{RecorderView, chapter_out, hub_in, is_full}
+use Rattle.hub_cut.specs.Recorder.{RecorderView, begins, hub_in}
 use Rattle.hub_cut.specs.RecorderKeeps.{shown}
 use Rattle.hub_cut.proofs.ChapterTexts.{text_fits}
-use Rattle.hub_cut.proofs.Recording.{goes_cut, refuses_cut, records_cut}
+use Rattle.hub_cut.proofs.Recording.{goes_cut, refuses_cut, records_cut, recorder_legal}
 use Rattle.hub_cut.proofs.recorder.Recorder.begin_chapter.Goals as goal
 
 pub returns-in_err-whole-clause-refused : goal.returns-in_err-whole-clause-refused
 returns-in_err-whole-clause-refused c =
     let p = err_from_is_err_and c.from_residual.result c.from_residual.ensures.1 in
     let old = shown c.self.inside in
-    let full : is_full old ≡ true = subst (λ (r : RecorderView). is_full r ≡ true) (sym c.self.view_is) c.requires.full in
+    let full : begins old c.args.entry.step ≡ true = subst (λ (r : RecorderView). begins r c.args.entry.step ≡ true) (sym c.self.view_is) c.requires.full in
     rw (p.1, p.2, ← c.self.view_is) (refuses_cut old c.args.entry c.in_err-whole.field-0.0 full c.in_err-whole.ensures.refused)
 
 pub invariant_of-self-2 : goal.invariant_of-self-2
 invariant_of-self-2 c =
     let steps = c.in_ok-whole.ensures.ok in
     let old = shown c.self.inside in
-    let full : is_full old ≡ true = subst (λ (r : RecorderView). is_full r ≡ true) (sym c.self.view_is) c.requires.full in
+    let full : begins old c.args.entry.step ≡ true = subst (λ (r : RecorderView). begins r c.args.entry.step ≡ true) (sym c.self.view_is) c.requires.full in
     let whole = c.in_ok-whole.ensures.whole in
     let handed : option_map hub_in c.keep_last.new.before ≡ Some old.hub =
     ap (option_map hub_in) c.keep_last.ensures.kept ∙ ap (λ (h : ShortInMemory). Some (hub_in h)) whole in
@@ -38,16 +39,22 @@ invariant_of-self-2 c =
             (λ p few. c.add_received.ensures p.0 (omega (arith, c.self.told, few))
             ∙ ap (λ (h : ShortInMemory). in_64_bits (slice_index old.bases p.0 + received_count (state_of h.memory.hub) p)) whole)),
       );
-      lines = omega (arith, c.in_ok-whole.ensures.lines, c.most_line-bytes.ensures.most);
+      lines = omega (
+        arith,
+        c.in_ok-whole.ensures.lines,
+        c.most_line-bytes.ensures.most,
+        steps-length c.cut_and_step.new.hub.memory.hub.journal,
+      );
       bytes = omega (arith, c.most_line-bytes.ensures.few);
-      text_before = rw handed (text_fits old.hub old.bytes c.self.invariant.head c.self.invariant.lines c.self.invariant.bytes);
+      text_before = rw handed (text_fits old.hub old.bytes c.self.invariant.head (recorder_legal old c.self.invariant.recorder)
+          c.self.invariant.lines c.self.invariant.bytes);
     }
 
 pub returns-clause-ok : goal.returns-clause-ok
 returns-clause-ok c =
     let steps = c.in_ok-whole.ensures.ok in
     let old = shown c.self.inside in
-    let full : is_full old ≡ true = subst (λ (r : RecorderView). is_full r ≡ true) (sym c.self.view_is) c.requires.full in
+    let full : begins old c.args.entry.step ≡ true = subst (λ (r : RecorderView). begins r c.args.entry.step ≡ true) (sym c.self.view_is) c.requires.full in
     let whole = c.in_ok-whole.ensures.whole in
     let kept : option_map hub_in c.keep_last.new.before ≡ Some old.hub =
     ap (option_map hub_in) c.keep_last.ensures.kept ∙ ap (λ (h : ShortInMemory). Some (hub_in h)) whole in
@@ -58,13 +65,7 @@ returns-clause-ok c =
     ∙ ap (λ (h : ShortInMemory). in_64_bits (slice_index old.bases p.0 + received_count (state_of h.memory.hub) p)) whole))
 
 pub returns-clause-handed_out : goal.returns-clause-handed_out
-unfolding chapter_out
-returns-clause-handed_out c =
-    let old = shown c.self.inside in
-    let full : is_full old ≡ true = subst (λ (r : RecorderView). is_full r ≡ true) (sym c.self.view_is) c.requires.full in
-    rw (← c.self.view_is, full) (ap (option_map hub_in) c.keep_last.ensures.handed_out)
+returns-clause-handed_out c = rw (← c.self.view_is) (ap (option_map hub_in) c.keep_last.ensures.handed_out)
 
 pub returns-clause-text : goal.returns-clause-text
-returns-clause-text c =
-    let out = ap (option_map hub_in) c.keep_last.ensures.handed_out in
-    rw out c.self.invariant.text_before
+returns-clause-text c = rw (← c.self.view_is) c.self.invariant.text_before

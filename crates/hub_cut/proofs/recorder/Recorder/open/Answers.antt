@@ -21,7 +21,7 @@ invariant_of-result c =
           fresh = refl;
           bytes = refl;
           few = omega arith;
-          full = tt;
+          full = λ waited. tt;
           bases = λ p few. c.no_bases.ensures p.0;
         },
       );

@@ -1,0 +1,71 @@
+/* The memory of hubs and of texts, whose large blocks have pages of their own.
+ *
+ * A hub reserves more than it ever writes to, which takes no memory while it lies in new pages. malloc gives new pages to a large
+ * block, but no longer once one of that size was freed, and then its realloc copies what was reserved. It also keeps what is freed for
+ * each thread. A hub that never ends frees as much as it allocates, so it would hold ten times the memory that it needs.
+ */
+#define _GNU_SOURCE /* for mremap */
+#include "heap.h"
+
+#include <stdbool.h>
+#include <stdint.h>
+#include <stdlib.h>
+#include <string.h>
+#include <sys/mman.h>
+
+/* Stands before a block. */
+struct head {
+    _Alignas(16) size_t size; /* of the block and this */
+};
+
+static const size_t LARGE = 128 * 1024, MOST = PTRDIFF_MAX - sizeof(struct head);
+
+static struct head *head_of(void *at) {
+    return (struct head *)at - 1;
+}
+
+/* The block behind a head, which gets its size. NULL where there is none. */
+static void *block_of(struct head *head, size_t size) {
+    if (!head) return NULL;
+    head->size = size;
+    return head + 1;
+}
+
+/* The head at an address that the system gives. NULL where it gives none. */
+static struct head *mapped(void *at) {
+    return at == MAP_FAILED ? NULL : at;
+}
+
+void *heap_alloc(size_t size) {
+    if (size > MOST) return NULL;
+    size += sizeof(struct head);
+    if (size < LARGE) return block_of(malloc(size), size);
+    return block_of(mapped(mmap(NULL, size, PROT_READ | PROT_WRITE, MAP_PRIVATE | MAP_ANONYMOUS, -1, 0)), size);
+}
+
+/* A block of another kind, large or not, with what this one holds. NULL where memory is refused, and then this one stays. */
+static void *move(void *at, size_t size) {
+    void *moved = heap_alloc(size);
+    if (!moved) return NULL;
+    size_t held = head_of(at)->size - sizeof(struct head);
+    memcpy(moved, at, held < size ? held : size);
+    heap_free(at);
+    return moved;
+}
+
+void *heap_realloc(void *at, size_t size) {
+    if (!at) return heap_alloc(size);
+    if (size > MOST) return NULL;
+    struct head *head = head_of(at);
+    size_t whole = size + sizeof *head;
+    if ((head->size < LARGE) != (whole < LARGE)) return move(at, size);
+    if (whole < LARGE) return block_of(realloc(head, whole), whole);
+    return block_of(mapped(mremap(head, head->size, whole, MREMAP_MAYMOVE)), whole);
+}
+
+void heap_free(void *at) {
+    if (!at) return;
+    struct head *head = head_of(at);
+    if (head->size < LARGE) free(head);
+    else munmap(head, head->size);
+}

@@ -1,0 +1,55 @@
+use Rattle.std.proofs.Common.{◌≡◌, refl, ap, sym, subst, arith, false, length}
+use Rattle.std.specs.List.{flat_map}
+use Rattle.std.proofs.lemmas.Result.{err_from_is_err_and}
+use Rattle.hub_base.specs.declared.entry.Entry.{Entry}
+use Rattle.hub_base.specs.Lines.{line}
+use Rattle.hub_core.specs.HubView.{HubView, call_of}
+use Rattle.hub_cut.specs.declared.limits.TheConstants.{MOST_LINE_BYTES}
+use Rattle.hub_cut.specs.ChapterText.{most_line}
+use Rattle.hub_cut.specs.Recorder.{RecorderView, is_full, with_next}
+use Rattle.hub_cut.specs.RecorderKeeps.{shown}
+use Rattle.hub_cut.proofs.ChapterTexts.{counts_longer}
+use Rattle.hub_cut.proofs.Recording.{bytes_below, goes_next, refuses_next, records_next}
+use Rattle.hub_cut.proofs.recorder.Recorder.go_on_with_call.Goals as goal
+
+pub returns-in_err-call_into-clause-refused : goal.returns-in_err-call_into-clause-refused
+returns-in_err-call_into-clause-refused c =
+    let p = err_from_is_err_and c.from_residual.result c.from_residual.ensures.1 in
+    let old = shown c.self.inside in
+    let e : Entry = call_of c.args.pid c.args.cases.now.items c.args.default c.args.word in
+    let room : is_full old ≡ false = subst (λ (r : RecorderView). is_full r ≡ false) (sym c.self.view_is) c.requires.room in
+    rw (p.1, p.2, ← c.self.view_is)
+    (refuses_next old e c.in_err-call_into.field-0.0 c.self.invariant.head c.self.invariant.limit c.self.invariant.keep
+    room c.in_err-call_into.ensures.rules.refused)
+
+pub invariant_of-self-2 : goal.invariant_of-self-2
+invariant_of-self-2 c =
+    let steps = c.in_ok-call_into.ensures.ok in
+    let old = shown c.self.inside in
+    let e : Entry = call_of c.args.pid c.args.cases.now.items c.args.default c.args.word in
+    let room : is_full old ≡ false = subst (λ (r : RecorderView). is_full r ≡ false) (sym c.self.view_is) c.requires.room in
+    let terms = ap (λ (h : HubView). h.terms) steps.journal in
+    record {
+      head = rw terms c.self.invariant.head;
+      limit = rw terms c.self.invariant.limit;
+      keep = c.self.invariant.keep;
+      recorder = (
+        with_next false c.self.invariant.recorder.0 e,
+        rw (steps.journal, c.most_call_line-bytes.ensures.most)
+            (records_next c.self.invariant.recorder.0 old e c.self.invariant.recorder.1 steps.admitted room),
+      );
+      lines = rw (ap (λ (h : HubView). h.journal) steps.journal, c.most_call_line-bytes.ensures.most)
+          (counts_longer old.hub.journal e c.head.result.edition old.bytes c.most_call_line-bytes.ensures.fits c.self.invariant.lines);
+      bytes = rw c.most_call_line-bytes.ensures.most
+          (bytes_below old e (most_line e) MOST_LINE_BYTES refl (rw c.most_call_line-bytes.ensures.most at c.most_call_line-bytes.ensures.few)
+          c.self.invariant.bytes room);
+      text_before = c.self.invariant.text_before;
+    }
+
+pub returns-clause-ok : goal.returns-clause-ok
+returns-clause-ok c =
+    let old = shown c.self.inside in
+    let e : Entry = call_of c.args.pid c.args.cases.now.items c.args.default c.args.word in
+    let room : is_full old ≡ false = subst (λ (r : RecorderView). is_full r ≡ false) (sym c.self.view_is) c.requires.room in
+    rw (← c.self.view_is, c.most_call_line-bytes.ensures.most)
+    (goes_next old e c.call_into.new.events.items c.call_into.new.self.memory.hub room c.in_ok-call_into.ensures.ok)

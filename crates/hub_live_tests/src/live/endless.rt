@@ -1,0 +1,100 @@
+//! Which answers wait at a hub that never ends, and which chapters it hands out.
+
+use super::{Ask, DONE, MADE, PARKED, SENT, Told, answer, compare, entry_of};
+use crate::compare::same;
+use hub_base::{Edition, Fault, Pid, Port};
+use hub_cut::Totals;
+use hub_endless::EndlessHub;
+use std::alloc::Global;
+use std::process::Abort;
+use std::test::Fail;
+
+/// What happens at the hub.
+#[derive(Clone, Copy)]
+enum Row {
+    /// The process makes a step, and is told. A chapter of so many entries is handed out, or none.
+    Asks(u8, Ask, Told, Option<usize>),
+    /// This answer waits for the process, and is taken.
+    Takes(u8, Told),
+    /// No answer waits for it.
+    FindsNone(u8),
+    /// The step before ended the calls of these.
+    Ended(&'static [Pid]),
+    /// The hub is cut, and a chapter of so many entries is handed out, or none.
+    Cuts(Option<usize>),
+    /// Whether this step would begin a chapter.
+    Begins(Ask, bool),
+    /// How many entries the chapter before has, and the present one.
+    Keeps(Option<usize>, usize),
+}
+
+fn follow_row(rt: &impl Abort, hub: &mut EndlessHub, row: Row, place: usize) -> Result<(), Fail> {
+    match row {
+        Row::Asks(pid, asked, told, handed) => {
+            let entry = entry_of(pid, asked);
+            assert!(rt; entry.fits(hub.head().edition));
+            let mut out = None;
+            compare(rt, hub.step(&entry, &mut out), Pid(pid), told, place);
+            same(rt, out.map(|chapter| chapter.len()), handed, place);
+        }
+        Row::Takes(pid, told) => {
+            let taken = hub.take(Pid(pid));
+            same(rt, taken.map(Ok), Some(answer(Pid(pid), told)), place);
+        }
+        Row::FindsNone(pid) => same(rt, hub.take(Pid(pid)), None, place),
+        Row::Ended(pids) => same(rt, hub.ended().as_slice(), pids, place),
+        Row::Cuts(handed) => same(rt, hub.cut()?.map(|c| c.len()), handed, place),
+        Row::Begins(asked, begins) => {
+            same(rt, hub.begins(&entry_of(0, asked).step), begins, place);
+        }
+        Row::Keeps(before, present) => {
+            let kept = (hub.before().map(|c| c.len()), hub.present().len());
+            same(rt, kept, (before, present), place);
+        }
+    }
+    Ok(())
+}
+
+// Two steps make a chapter full, and an exit may follow. The answer of process 1 waits across two cuts, and the counts go on.
+const WAITING: &[Row] = &[
+    Row::Asks(0, Ask::Make(0), MADE, None),
+    Row::Asks(1, Ask::Recv, PARKED, None),
+    Row::Begins(Ask::Close, true),
+    Row::Begins(Ask::Exit, false),
+    Row::Asks(0, Ask::Send(9), SENT, None),
+    Row::Ended(&[Pid(1)]),
+    Row::Keeps(Some(2), 3),
+    Row::Cuts(Some(2)),
+    Row::Keeps(Some(3), 1),
+    Row::Begins(Ask::Close, false),
+    Row::Cuts(Some(3)),
+    Row::Takes(1, Told::Got(9)),
+    Row::FindsNone(1),
+    Row::Asks(0, Ask::Close, DONE, None),
+    Row::Asks(0, Ask::Close, Told::Fault(Fault::AlreadyClosed), None),
+    Row::Asks(1, Ask::Exit, DONE, None),
+    Row::Ended(&[]),
+    Row::Keeps(Some(1), 4),
+];
+
+const PASSED: Totals = Totals {
+    cap: 0,
+    len: 0,
+    sent: 1,
+    received: 1,
+    closed: true,
+};
+
+fn tell(rt: &impl Abort, alloc: Global) -> Result<(), Fail> {
+    let mut hub = EndlessHub::open(alloc, 2, 2, Edition::Two)?;
+    for (place, row) in WAITING.iter().enumerate() {
+        follow_row(rt, &mut hub, *row, place)?;
+    }
+    same(rt, hub.look(Port(1)), Some(PASSED), "counts");
+    Ok(())
+}
+
+#[test]
+fn answers_wait_across_cuts(rt: HostRuntime) -> Result<(), Fail> {
+    tell(&rt, rt.alloc())
+}

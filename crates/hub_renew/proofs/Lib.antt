@@ -1,0 +1,4 @@
+pub mod Entries
+pub mod Orders
+pub mod Replays
+pub mod Renewals

@@ -1,0 +1,7 @@
+use Rattle.hub_renew.proofs.tests.next_hub_begins_with_the_checkpoint.Given as goal
+
+abbrev pub ghosts-first_chapter : goal.ghosts-first_chapter
+ghosts-first_chapter g a = record { name = a.blank.name }
+
+abbrev pub ghosts-second_chapter : goal.ghosts-second_chapter
+ghosts-second_chapter g a = record { name = a.blank.name }

@@ -90,7 +90,7 @@ fn open_endless_session(
 }
 
 /// A hub at which nothing has happened, or what refuses it: as `life` says, one that ends at a limit, 0, or one that
-/// never ends and keeps so many entries of a chapter, whose older chapters go, 1, or wait to be read, 2 and above.
+/// never ends and keeps so many steps of a chapter, whose older chapters go, 1, or wait to be read, 2 and above.
 pub(crate) fn open_handle(alloc: Global, edition: u8, procs: u8, limit: u32, life: u8) -> Handle
     ensures { Opens edition procs limit life result }
 {

@@ -1,7 +1,7 @@
 -- What a recorder's chapters are after a step, and that the present one never meets the limit.
 use Rattle.hub_laws.proofs.Prelude.{◌≡◌, Bool, true, false, List, [], ◌∷◌, ◌++◌, refl, ap, ◌∙◌, sym, subst, Option}
 use Rattle.hub_laws.proofs.Prelude.{Some, None, ℕ, ◌+◌, ◌≤◌, ◌<◌, arith, length}
-use Rattle.hub_laws.proofs.Prelude.{append_assoc, append-nil, length-append, option_map, option_map_or, ◌-◌, ◌==◌, nat_lt, inr, inl, slice_get_past}
+use Rattle.hub_laws.proofs.Prelude.{append_assoc, append-nil, option_map, option_map_or, ◌-◌, ◌==◌, nat_lt, inr, inl, slice_get_past}
 use Rattle.hub_laws.proofs.Prelude.{Entry, Event, Fault, Head, Pid, Port, Channel, State, state, moves, refusal, steps_of, channel_at}
 use Rattle.hub_laws.proofs.Prelude.{Step, is_exit, one_step, cond, not, ◌&&◌}
 use Rattle.std.specs.Prelude.{min, ◌^◌, slice_index, Result, Ok, Err, OnOk}

@@ -114,11 +114,7 @@ can_port hub n fits legal few =
     ∙ append_assoc (first ++ next) behind (rest_of s))
     (checkpoint-fits hub.terms.head hub.journal fits) (checkpoint-law hub.terms.head hub.journal).legal (checkpoint_within hub legal few)
 
--- the whole checkpoint is made
-pub all_made : (hub : HubView) → with_entries (rest_of (state_of hub)) (hub_with hub.terms (ports_again 1 (state_of hub).channels) 0)
-    ≡ hub_with hub.terms (checkpoint (state_of hub)) 0
-all_made hub = ap (λ es. hub_with hub.terms es 0) (sym (checkpoint_parts (state_of hub)))
-
+-- what holds of its parts holds of all of it
 pub all_fitting : (P : Entry → Type 0) (s : State) → AllByRecursion P (ports_again 1 s.channels) → AllByRecursion P (rest_of s) →
     AllByRecursion P (checkpoint s)
 all_fitting P s a b = subst (AllByRecursion P) (sym (checkpoint_parts s)) (all_joined P (ports_again 1 s.channels) (rest_of s) a b)

@@ -54,18 +54,18 @@ pub fn cut_journal(alloc: Global, hub: &mut ShortHub) -> Result<Journal, NoMemor
 fn renewed_after(
     alloc: Global,
     hub: &ShortHub,
-    entry: Entry,
+    entry: &Entry,
     events: &mut Events,
 ) -> Result<ShortHub, NoMemory>
-    requires fits { Fits hub.now.memory.hub.terms.head.edition entry }
+    requires fits { Fits hub.now.memory.hub.terms.head.edition entry.now }
     requires room { most_steps hub.now.memory.hub.terms.head < hub.now.memory.hub.terms.limit }
-    requires admitted { refusal (state_of hub.now.memory.hub) entry.pid ≡ None }
-    ensures ok { IfOk result (λ h. CutsAndSteps hub.now.memory.hub entry h.memory.hub events.new.items) }
+    requires admitted { refusal (state_of hub.now.memory.hub) entry.now.pid ≡ None }
+    ensures ok { IfOk result (λ h. CutsAndSteps hub.now.memory.hub entry.now h.memory.hub events.new.items) }
     ensures lines { IfOk result (λ h.
-        length (flat_map line h.memory.hub.journal) ≤ CHECKPOINT_BYTES + most_line entry) }
+        length (flat_map line h.memory.hub.journal) ≤ CHECKPOINT_BYTES + most_line entry.now) }
 {
     let mut next = renewed(alloc, hub)?;
-    make_step(&mut next, &entry, events)?;
+    make_step(&mut next, entry, events)?;
     Ok(next)
 }
 
@@ -74,16 +74,16 @@ fn renewed_after(
 pub(crate) fn cut_and_step(
     alloc: Global,
     hub: &mut ShortHub,
-    entry: Entry,
+    entry: &Entry,
     events: &mut Events,
 ) -> Result<ShortHub, Fault>
-    requires fits { Fits hub.old.memory.hub.terms.head.edition entry }
+    requires fits { Fits hub.old.memory.hub.terms.head.edition entry.now }
     requires room { most_steps hub.old.memory.hub.terms.head < hub.old.memory.hub.terms.limit }
     ensures whole { IfOk result (λ h. h ≡ hub.old) }
-    ensures ok { OnOk result (CutsAndSteps hub.old.memory.hub entry hub.new.memory.hub events.new.items) }
+    ensures ok { OnOk result (CutsAndSteps hub.old.memory.hub entry.now hub.new.memory.hub events.new.items) }
     ensures lines { OnOk result (
-        length (flat_map line hub.new.memory.hub.journal) ≤ CHECKPOINT_BYTES + most_line entry) }
-    ensures refused { IfErr result (λ f. Refused (state_of hub.old.memory.hub) (Unit {0}) entry f) }
+        length (flat_map line hub.new.memory.hub.journal) ≤ CHECKPOINT_BYTES + most_line entry.now) }
+    ensures refused { IfErr result (λ f. Refused (state_of hub.old.memory.hub) (Unit {0}) entry.now f) }
     ensures unchanged { OnErr result (hub.new ≡ hub.old) }
 {
     if let Some(fault) = hub.refusal(entry.pid) {

@@ -17,4 +17,5 @@ pub use checkpoints::checkpoint_of;
 pub use cuts::{cut, cut_journal};
 pub use limits::MOST_KEEP;
 pub use recorder::Recorder;
+pub use renewals::hub_after;
 pub use totals::Totals;

@@ -1,16 +1,16 @@
 //! A recorder is a hub that cuts itself, so it never ends.
 //!
-//! The present chapter is cut once it has `keep` steps behind its checkpoint, exits not counted, or once its text might soon be longer than
-//! a reader takes. So the last `keep` steps, or as many as two texts hold, always stand in the present chapter and in
-//! the one before it. Each of these is a journal of its own. Older chapters are handed out. A checkpoint and `keep` steps
-//! stay below the limit of a hub, so no step is refused because the journal is full.
+//! The present chapter is cut once it has `keep` steps behind its checkpoint, exits not counted, or once its text might
+//! soon be longer than a reader takes. So the last `keep` steps, or as many as two texts hold, always stand in the
+//! present chapter and in the one before it. Each of these is a journal of its own. Older chapters are handed out. A
+//! checkpoint and `keep` steps stay below the limit of a hub, so no step is refused because the journal is full.
 
 ghost use Rattle.std.specs.Prelude.{◌≡◌, [], IfOk, IfErr, IfSome, OnOk, OnErr, None, true, false};
 ghost use Rattle.std.specs.Option.{option_map};
 ghost use Rattle.hub_base.specs.Head.{is_of};
 ghost use Rattle.hub_base.specs.Runs.{state};
 ghost use Rattle.hub_base.specs.declared.limits.TheConstants.{MOST_STEPS};
-ghost use Rattle.hub_core.specs.HubView.{RefusesOpening, call_of, terms_of};
+ghost use Rattle.hub_core.specs.HubView.{RefusesOpening, terms_of};
 ghost use Rattle.hub_chapters.specs.Chapters.{Chapters, history};
 ghost use Rattle.hub_chapters.specs.Chapters.Chapters.{First};
 ghost use Rattle.hub_cut.specs.ChapterText.{FitsText};
@@ -20,11 +20,10 @@ ghost use Rattle.hub_cut.specs.Totals.{totals_at};
 use crate::Totals;
 use crate::cuts::{cut_and_step, cut_short};
 use crate::limits::CHAPTER_BYTES;
-use crate::texts::{is_exit, most_call_line, most_line, share_of};
+use crate::renewals::step_by;
+use crate::texts::{is_exit, most_line, share_of};
 use crate::totals::{PORT_PLACES, add_received, base_of, no_bases, with_base};
-use hub_base::{
-    Cases, Edition, Entry, Events, Fault, MOST_STEPS, NoMemory, Pid, Port, Step, copy_cases,
-};
+use hub_base::{Edition, Entry, Events, Fault, MOST_STEPS, NoMemory, Port, Step};
 use hub_core::{Hub, OpenFault, ShortHub};
 use std::alloc::Global;
 use std::marker::Model;
@@ -102,23 +101,24 @@ impl Recorder {
     }
 
     /// Makes a step that the hub's edition has. Its events replace those that were there; after a refusal they may be any.
-    /// If the present chapter is full, it is cut first, and the chapter before it is handed out into `out`, if there is one,
-    /// which must be empty then. So each chapter is handed out once, in order.
+    /// If the present chapter is full, it is cut first, and the chapter before it is handed out into `out`, if there is
+    /// one, which must be empty then. So each chapter is handed out once, in order. The cases of a call stay where they
+    /// are, until they are written into the journal.
     ///
     /// The only refusals are `NoProcess`, `Gone`, `Busy` and `NoMemory`, tested in this order; an exit is never refused by
     /// `NoMemory`. After a refusal nothing has changed.
     pub fn step_into(
         &mut self,
-        entry: Entry,
+        entry: &Entry,
         events: &mut Events,
         out: &mut Option<ShortHub>,
     ) -> Result<(), Fault>
-        requires fits { is_of (head_of_all self.old).edition entry.step ≡ true }
-        requires empty { begins self.old entry.step ≡ true → out.old ≡ None }
-        ensures ok { OnOk result (RecordsStep self.old entry self.new events.new.items) }
-        ensures handed_out { OnOk result (option_map hub_in out.new ≡ out_or (chapter_out self.old entry.step) (option_map hub_in out.old)) }
-        ensures text { OnOk result (IfSome (chapter_out self.old entry.step) FitsText) }
-        ensures refused { IfErr result (λ f. RefusesStep self.old entry f) }
+        requires fits { is_of (head_of_all self.old).edition entry.now.step ≡ true }
+        requires empty { begins self.old entry.now.step ≡ true → out.old ≡ None }
+        ensures ok { OnOk result (RecordsStep self.old entry.now self.new events.new.items) }
+        ensures handed_out { OnOk result (option_map hub_in out.new ≡ out_or (chapter_out self.old entry.now.step) (option_map hub_in out.old)) }
+        ensures text { OnOk result (IfSome (chapter_out self.old entry.now.step) FitsText) }
+        ensures refused { IfErr result (λ f. RefusesStep self.old entry.now f) }
         ensures unchanged { OnErr result (self.new ≡ self.old) }
         ensures kept { OnErr result (out.new ≡ out.old) }
     {
@@ -126,31 +126,6 @@ impl Recorder {
             return self.begin_chapter(entry, events, out);
         }
         self.go_on(entry, events)
-    }
-
-    /// Makes a call as `step_into` makes its entry, of which only the cases are written that it has.
-    pub fn call_into(
-        &mut self,
-        pid: Pid,
-        cases: &Cases,
-        default: bool,
-        word: u64,
-        events: &mut Events,
-        out: &mut Option<ShortHub>,
-    ) -> Result<(), Fault>
-        requires fits { is_of (head_of_all self.old).edition (call_of pid cases.now.items default word).step ≡ true }
-        requires empty { is_full self.old ≡ true → out.old ≡ None }
-        ensures ok { OnOk result (RecordsStep self.old (call_of pid cases.now.items default word) self.new events.new.items) }
-        ensures handed_out { OnOk result (option_map hub_in out.new ≡ out_or (chapter_out self.old (call_of pid cases.now.items default word).step) (option_map hub_in out.old)) }
-        ensures text { OnOk result (IfSome (chapter_out self.old (call_of pid cases.now.items default word).step) FitsText) }
-        ensures refused { IfErr result (λ f. RefusesStep self.old (call_of pid cases.now.items default word) f) }
-        ensures unchanged { OnErr result (self.new ≡ self.old) }
-        ensures kept { OnErr result (out.new ≡ out.old) }
-    {
-        if self.is_full() {
-            return self.begin_with_call(pid, cases, default, word, events, out);
-        }
-        self.go_on_with_call(pid, cases, default, word, events)
     }
 
     /// Whether the present chapter is cut before the next step that is no exit.
@@ -168,91 +143,40 @@ impl Recorder {
     }
 
     /// Makes a step in the present chapter, which is not full unless it is an exit.
-    fn go_on(&mut self, entry: Entry, events: &mut Events) -> Result<(), Fault>
-        requires fits { is_of (head_of_all self.old).edition entry.step ≡ true }
-        requires room { begins self.old entry.step ≡ false }
-        ensures ok { OnOk result (RecordsStep self.old entry self.new events.new.items) }
-        ensures refused { IfErr result (λ f. RefusesStep self.old entry f) }
+    fn go_on(&mut self, entry: &Entry, events: &mut Events) -> Result<(), Fault>
+        requires fits { is_of (head_of_all self.old).edition entry.now.step ≡ true }
+        requires room { begins self.old entry.now.step ≡ false }
+        ensures ok { OnOk result (RecordsStep self.old entry.now self.new events.new.items) }
+        ensures refused { IfErr result (λ f. RefusesStep self.old entry.now f) }
         ensures unchanged { OnErr result (self.new ≡ self.old) }
     {
-        let share = share_of(self.hub.head().edition, &entry);
-        self.hub.step_into(entry, events)?;
+        let share = share_of(self.hub.head().edition, entry);
+        step_by(&mut self.hub, entry, events)?;
         self.fresh += share.steps;
         self.bytes += share.bytes;
         Ok(())
     }
 
-    /// Makes a call in the present chapter, which is not full.
-    fn go_on_with_call(
-        &mut self,
-        pid: Pid,
-        cases: &Cases,
-        default: bool,
-        word: u64,
-        events: &mut Events,
-    ) -> Result<(), Fault>
-        requires fits { is_of (head_of_all self.old).edition (call_of pid cases.now.items default word).step ≡ true }
-        requires room { is_full self.old ≡ false }
-        ensures ok { OnOk result (RecordsStep self.old (call_of pid cases.now.items default word) self.new events.new.items) }
-        ensures refused { IfErr result (λ f. RefusesStep self.old (call_of pid cases.now.items default word) f) }
-        ensures unchanged { OnErr result (self.new ≡ self.old) }
-    {
-        let bytes = most_call_line(self.hub.head().edition, pid, cases, default, word);
-        self.hub.call_into(pid, cases, default, word, events)?;
-        self.fresh += 1;
-        self.bytes += bytes;
-        Ok(())
-    }
-
-    /// Cuts the present chapter, which is full, and makes a call behind its checkpoint. Hands out the chapter before it. It
-    /// stands alone, so that a call keeps no place for an entry on its stack.
-    #[inline(never)]
-    fn begin_with_call(
-        &mut self,
-        pid: Pid,
-        cases: &Cases,
-        default: bool,
-        word: u64,
-        events: &mut Events,
-        out: &mut Option<ShortHub>,
-    ) -> Result<(), Fault>
-        requires fits { is_of (head_of_all self.old).edition (call_of pid cases.now.items default word).step ≡ true }
-        requires full { is_full self.old ≡ true }
-        requires empty { out.old ≡ None }
-        ensures ok { OnOk result (RecordsStep self.old (call_of pid cases.now.items default word) self.new events.new.items) }
-        ensures handed_out { OnOk result (option_map hub_in out.new ≡ self.old.before) }
-        ensures text { OnOk result (IfSome self.old.before FitsText) }
-        ensures refused { IfErr result (λ f. RefusesStep self.old (call_of pid cases.now.items default word) f) }
-        ensures unchanged { OnErr result (self.new ≡ self.old) }
-        ensures kept { OnErr result (out.new ≡ out.old) }
-    {
-        let step = Step::Call {
-            cases: copy_cases(cases),
-            default,
-            word,
-        };
-        self.begin_chapter(Entry { pid, step }, events, out)
-    }
-
-    /// Cuts the present chapter, which is full, and makes a step that is no exit behind its checkpoint. Hands out the chapter before it.
+    /// Cuts the present chapter, which is full, and makes a step that is no exit behind its checkpoint. Hands out the
+    /// chapter before it. It stands alone, so that a step that cuts nothing keeps no place for a hub on its stack.
     #[inline(never)]
     fn begin_chapter(
         &mut self,
-        entry: Entry,
+        entry: &Entry,
         events: &mut Events,
         out: &mut Option<ShortHub>,
     ) -> Result<(), Fault>
-        requires fits { is_of (head_of_all self.old).edition entry.step ≡ true }
-        requires full { begins self.old entry.step ≡ true }
+        requires fits { is_of (head_of_all self.old).edition entry.now.step ≡ true }
+        requires full { begins self.old entry.now.step ≡ true }
         requires empty { out.old ≡ None }
-        ensures ok { OnOk result (RecordsStep self.old entry self.new events.new.items) }
+        ensures ok { OnOk result (RecordsStep self.old entry.now self.new events.new.items) }
         ensures handed_out { OnOk result (option_map hub_in out.new ≡ self.old.before) }
         ensures text { OnOk result (IfSome self.old.before FitsText) }
-        ensures refused { IfErr result (λ f. RefusesStep self.old entry f) }
+        ensures refused { IfErr result (λ f. RefusesStep self.old entry.now f) }
         ensures unchanged { OnErr result (self.new ≡ self.old) }
         ensures kept { OnErr result (out.new ≡ out.old) }
     {
-        let bytes = most_line(self.hub.head().edition, &entry);
+        let bytes = most_line(self.hub.head().edition, entry);
         let whole = cut_and_step(self.alloc, &mut self.hub, entry, events)?;
         add_received(&mut self.bases, &whole);
         self.fresh = 1;

@@ -4,13 +4,14 @@
 
 ghost use Rattle.std.specs.Prelude.{◌≡◌, ◌≤◌, length, map, IfOk, OnOk, OnErr, None, true, ◌++◌};
 ghost use Rattle.std.specs.List.{AllByRecursion, flat_map};
-ghost use Rattle.hub_base.specs.Head.{IsHead, is_of};
+ghost use Rattle.hub_base.specs.Head.{AreOf, IsHead, is_of};
 ghost use Rattle.hub_base.specs.Lines.{line};
 ghost use Rattle.hub_base.specs.Notation.{exit};
 ghost use Rattle.hub_base.specs.Steps.{refusal};
-ghost use Rattle.hub_base.specs.Text.{Fits};
+ghost use Rattle.hub_base.specs.Text.{Fits, steps_of};
+ghost use Rattle.hub_laws.specs.Journals.{IsLegal};
 ghost use Rattle.hub_core.specs.Follows.{IsMake};
-ghost use Rattle.hub_core.specs.HubView.{Grows, HasRoom, HasSpare, IsLimit, Steps, opened_hub, state_of};
+ghost use Rattle.hub_core.specs.HubView.{Grows, HasRoom, HasSpare, IsLimit, StepRules, Steps, opened_hub, state_of};
 ghost use Rattle.hub_chapters.specs.Checkpoint.{call_again, checkpoint, exited, ports_again};
 ghost use Rattle.hub_cut.specs.Cut.{CanMake, hub_with, renewed_hub, with_entries};
 
@@ -34,8 +35,33 @@ fn opened(alloc: Global, terms: Terms) -> Result<ShortHub, NoMemory>
     }
 }
 
-/// Makes a step of a process that is admitted, in a journal that has room. It is refused only if an allocation fails. The
-/// cases of a call stay where they are.
+/// Makes a step as `ShortHub::step_into` does. The cases of a call stay where they are.
+pub(crate) fn step_by(hub: &mut ShortHub, entry: &Entry, events: &mut Events) -> Result<(), Fault>
+    requires fits { is_of hub.old.memory.hub.terms.head.edition entry.now.step ≡ true }
+    ensures ok { OnOk result (Steps hub.old.memory.hub entry.now hub.new.memory.hub events.new.items) }
+    ensures rules { StepRules hub.old.memory entry.now hub.new.memory result }
+{
+    match &entry.step {
+        Step::Call {
+            cases,
+            default,
+            word,
+        } => hub.call_into(entry.pid, cases, *default, *word, events),
+        _ => step_by_copy(hub, entry, events),
+    }
+}
+
+/// The same of any step. It stands alone, so that a call keeps no place for an entry on its stack.
+#[inline(never)]
+fn step_by_copy(hub: &mut ShortHub, entry: &Entry, events: &mut Events) -> Result<(), Fault>
+    requires fits { is_of hub.old.memory.hub.terms.head.edition entry.now.step ≡ true }
+    ensures ok { OnOk result (Steps hub.old.memory.hub entry.now hub.new.memory.hub events.new.items) }
+    ensures rules { StepRules hub.old.memory entry.now hub.new.memory result }
+{
+    hub.step_into(entry.copy(), events)
+}
+
+/// Makes a step of a process that is admitted, in a journal that has room. It is refused only if an allocation fails.
 pub(crate) fn make_step(
     hub: &mut ShortHub,
     entry: &Entry,
@@ -49,15 +75,7 @@ pub(crate) fn make_step(
     ensures make { OnErr result (HasSpare hub.old.memory → IsMake entry.now.step) }
     ensures unchanged { OnErr result (hub.new.memory.hub ≡ hub.old.memory.hub) }
 {
-    let made = match &entry.step {
-        Step::Call {
-            cases,
-            default,
-            word,
-        } => hub.call_into(entry.pid, cases, *default, *word, events),
-        _ => hub.step_into(entry.copy(), events),
-    };
-    match made {
+    match step_by(hub, entry, events) {
         Ok(()) => Ok(()),
         Err(Fault::NoMemory) => Err(NoMemory),
         Err(_) => unreachable!(),
@@ -76,6 +94,20 @@ fn make_all(hub: &mut ShortHub, entries: &[Entry]) -> Result<(), NoMemory>
         make_step(hub, entry, &mut events)?;
     }
     Ok(())
+}
+
+/// A hub with these terms that has made these steps. It is refused only if an allocation fails.
+pub fn hub_after(alloc: Global, terms: Terms, entries: &[Entry]) -> Result<ShortHub, NoMemory>
+    requires head { IsHead terms.head }
+    requires limit { IsLimit terms.limit }
+    requires fits { AreOf terms.head.edition entries.now }
+    requires legal { IsLegal terms.head entries.now }
+    requires few { steps_of entries.now ≤ terms.limit }
+    ensures { IfOk result (λ h. h.memory.hub ≡ hub_with terms entries.now 0) }
+{
+    let mut hub = opened(alloc, terms)?;
+    make_all(&mut hub, entries)?;
+    Ok(hub)
 }
 
 /// Makes the ports of a hub again in one at which nothing has happened, fills them and closes them. It is refused only if an

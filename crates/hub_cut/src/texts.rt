@@ -7,12 +7,11 @@ ghost use Rattle.hub_base.specs.Lines.{line};
 ghost use Rattle.hub_base.specs.Reading.{is_exit};
 ghost use Rattle.hub_base.specs.Text.{Fits, one_step};
 ghost use Rattle.hub_base.specs.declared.limits.TheConstants.{CASE_PLACES};
-ghost use Rattle.hub_core.specs.HubView.{call_of};
 ghost use Rattle.hub_core.specs.LogView.{cases_of_step};
 ghost use Rattle.hub_cut.specs.ChapterText.{counted, most_line};
 
 use crate::limits::{CASE_BYTES, LINE_BYTES, MOST_LINE_BYTES};
-use hub_base::{Cases, Edition, Entry, Pid, Step};
+use hub_base::{Edition, Entry, Step};
 
 /// How many cases a step has, none where it is no call.
 fn case_count(step: &Step) -> u32
@@ -63,25 +62,6 @@ pub(crate) fn share_of(edition: Edition, entry: &Entry) -> Share
         return Share { steps: 0, bytes: 0 };
     }
     Share { steps: 1, bytes }
-}
-
-/// The most bytes that the line of a call can have.
-pub(crate) fn most_call_line(
-    edition: Edition,
-    pid: Pid,
-    cases: &Cases,
-    default: bool,
-    word: u64,
-) -> u32
-    requires fits { is_of edition (call_of pid cases.now.items default word).step ≡ true }
-    ensures most { result ≡ most_line (call_of pid cases.now.items default word) }
-    ensures few { result ≤ MOST_LINE_BYTES }
-    ensures fits { Fits edition (call_of pid cases.now.items default word) }
-{
-    // Each number is read, since its type tells the greatest that it can be.
-    let (_pid, _word, _default) = (pid.0, word, default);
-    let _fits = edition.has_cases(cases.as_slice());
-    LINE_BYTES + CASE_BYTES * cases.len() as u32
 }
 
 /// Shows that a text can have a line of each of these entries. It changes nothing.

@@ -1,24 +1,17 @@
 -- A step of a hub that never ends, as a step of one hub that was never cut.
-use Rattle.std.proofs.Common.{◌≡◌, ◌+◌, ◌<◌, ◌==◌, ℕ, Bool, true, false, cond, inl, inr, List, [], ◌∷◌, ◌++◌, length, refl, ap, ◌∙◌}
-use Rattle.std.proofs.Common.{sym, subst, Option, Some, None, arith, append-nil}
-use Rattle.std.specs.Prelude.{IfSome, slice_set}
-use Rattle.std.proofs.lemmas.Bool.{cases_lt}
-use Rattle.std.proofs.lemmas.List.{get_or_past, length-set}
+use Rattle.std.proofs.Common.{◌≡◌, ◌+◌, ◌<◌, ℕ, List, [], ◌∷◌, length, refl, arith}
 use Rattle.hub_base.specs.declared.entry.Entry.{Entry}
 use Rattle.hub_base.specs.declared.event.Event.{Event}
 use Rattle.hub_base.specs.declared.limits.TheConstants.{MOST_PROCS}
-use Rattle.hub_base.specs.declared.value.Pid.{Pid}
 use Rattle.hub_base.specs.Text.{steps_of}
-use Rattle.hub_base.specs.Runs.{state}
-use Rattle.hub_laws.specs.Replies.{is_parked}
 use Rattle.hub_core.specs.HubView.{HubView, Steps, with_entry}
 use Rattle.hub_chapters.specs.Chapters.{Chapters, history}
-use Rattle.hub_chapters.specs.Chapters.Chapters.{Cut, First}
+use Rattle.hub_chapters.specs.Chapters.Chapters.{First}
 use Rattle.hub_chapters.proofs.Chapters.{chapters-law}
-use Rattle.hub_cut.specs.Recorder.{GoesOn, RecordsCut, RecordsStep, RecorderView, Records, head_of_all}
-use Rattle.hub_live.specs.Locked.{IsLawful, IsReplyTo, LockedView, answer_after, answer_for, pids_of}
-use Rattle.hub_live.proofs.Locks.{answer_for-set, answer_replies, lawful_none, lawful_served, told_some}
-use Rattle.hub_endless.specs.Endless.{EndlessView, Explains, NoneWaits, ServesNext, endless_view, without_answer}
+use Rattle.hub_cut.specs.Recorder.{GoesOn, RecordsStep, RecorderView, Records, head_of_all}
+use Rattle.hub_live.specs.Locked.{IsLawful, LockedView, answer_after, answer_for, pids_of}
+use Rattle.hub_live.proofs.Locks.{answer_replies, lawful_none, lawful_served, told_some}
+use Rattle.hub_endless.specs.Endless.{EndlessView, Explains, NoneWaits, ServesNext}
 
 -- a hub that was never cut, with the whole history as its journal
 abbrev uncut : Chapters → RecorderView → HubView

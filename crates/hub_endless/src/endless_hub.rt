@@ -9,7 +9,7 @@ ghost use Rattle.hub_core.specs.HubView.{RefusesOpening, terms_of};
 ghost use Rattle.hub_chapters.specs.Chapters.{Chapters, history};
 ghost use Rattle.hub_chapters.specs.Chapters.Chapters.{First};
 ghost use Rattle.hub_cut.specs.ChapterText.{FitsText};
-ghost use Rattle.hub_cut.specs.Recorder.{IsKeep, RecordsStep, RefusesStep, begins, chapter_out, head_of_all, hub_in, out_or};
+ghost use Rattle.hub_cut.specs.Recorder.{IsKeep, begins, chapter_out, head_of_all, hub_in, out_or};
 ghost use Rattle.hub_cut.specs.Totals.{totals_at};
 ghost use Rattle.hub_live.specs.Locked.{IsReplyTo, answer_for};
 ghost use Rattle.hub_endless.specs.Endless.{CutsNow, Explains, NoneWaits, ServesOn, without_answer};
@@ -43,52 +43,6 @@ impl Model for EndlessHub {
     ghost invariant = { λ l. EndlessKeeps (endless_view l.recorder l.answers.waiting l.answers.ended.items) };
 }
 
-/// Makes a step. The cases of a call stay where they are, until they are written into the journal.
-fn make_step(
-    recorder: &mut Recorder,
-    entry: &Entry,
-    events: &mut Events,
-    out: &mut Option<ShortHub>,
-) -> Result<(), Fault>
-    requires fits { is_of (head_of_all recorder.old).edition entry.now.step ≡ true }
-    requires empty { begins recorder.old entry.now.step ≡ true → out.old ≡ None }
-    ensures ok { OnOk result (RecordsStep recorder.old entry.now recorder.new events.new.items) }
-    ensures handed_out { OnOk result (option_map hub_in out.new ≡ out_or (chapter_out recorder.old entry.now.step) (option_map hub_in out.old)) }
-    ensures text { OnOk result (IfSome (chapter_out recorder.old entry.now.step) FitsText) }
-    ensures refused { IfErr result (λ f. RefusesStep recorder.old entry.now f) }
-    ensures unchanged { OnErr result (recorder.new ≡ recorder.old) }
-    ensures kept { OnErr result (out.new ≡ out.old) }
-{
-    match &entry.step {
-        Step::Call {
-            cases,
-            default,
-            word,
-        } => recorder.call_into(entry.pid, cases, *default, *word, events, out),
-        _ => make_rare_step(recorder, entry, events, out),
-    }
-}
-
-/// The same of any step. It stands alone, so that a call keeps no place for an entry on its stack.
-#[inline(never)]
-fn make_rare_step(
-    recorder: &mut Recorder,
-    entry: &Entry,
-    events: &mut Events,
-    out: &mut Option<ShortHub>,
-) -> Result<(), Fault>
-    requires fits { is_of (head_of_all recorder.old).edition entry.now.step ≡ true }
-    requires empty { begins recorder.old entry.now.step ≡ true → out.old ≡ None }
-    ensures ok { OnOk result (RecordsStep recorder.old entry.now recorder.new events.new.items) }
-    ensures handed_out { OnOk result (option_map hub_in out.new ≡ out_or (chapter_out recorder.old entry.now.step) (option_map hub_in out.old)) }
-    ensures text { OnOk result (IfSome (chapter_out recorder.old entry.now.step) FitsText) }
-    ensures refused { IfErr result (λ f. RefusesStep recorder.old entry.now f) }
-    ensures unchanged { OnErr result (recorder.new ≡ recorder.old) }
-    ensures kept { OnErr result (out.new ≡ out.old) }
-{
-    recorder.step_into(entry.copy(), events, out)
-}
-
 impl EndlessHub {
     /// A hub of this edition, with 1 to `MOST_PROCS` processes, at which no answer waits. A chapter is cut once it has
     /// `keep` steps behind its checkpoint, exits not counted.
@@ -120,8 +74,8 @@ impl EndlessHub {
     /// dropped. Each event that follows, which ends a call, waits for its process, also a `Stalled` that follows the
     /// caller's own `Parked`.
     ///
-    /// If the step begins a chapter, the present one is cut first, and the chapter before it is handed out into `out`, if there is one,
-    /// which must be empty then. So each chapter is handed out once, in order.
+    /// If the step begins a chapter, the present one is cut first, and the chapter before it is handed out into `out`, if
+    /// there is one, which must be empty then. So each chapter is handed out once, in order.
     ///
     /// The only refusals are `NoProcess`, `Gone`, `Busy` and `NoMemory`, tested in this order; an exit is never refused by
     /// `NoMemory`. After a refusal nothing has changed.
@@ -134,7 +88,7 @@ impl EndlessHub {
         ensures text { OnOk result (IfSome (chapter_out self.old.recorder entry.now.step) FitsText) }
         ensures kept { OnErr result (out.new ≡ out.old) }
     {
-        make_step(&mut self.recorder, entry, &mut self.events, out)?;
+        self.recorder.step_into(entry, &mut self.events, out)?;
         let Some((first, ended)) = self.events.as_slice().split_first() else {
             unreachable!()
         };

@@ -1,4 +1,3 @@
 pub mod Entries
 pub mod Orders
-pub mod Replays
 pub mod Renewals

@@ -5,7 +5,7 @@ use super::entries::{Ask, DONE, MADE, MADE_SECOND, PARKED, SENT, Told, are_told,
 use super::hubs::{CLOSED_BEFORE, DRAINED};
 use super::rows::{Row, begin};
 use crate::compare::same;
-use hub_base::{Case, Cases, CasesExt, Edition, Entry, Events, Fault, Pid, Port, Step};
+use hub_base::{Edition, Entry, Events, Fault, Pid, Port, Step};
 use hub_core::{Hub, OpenFault, ShortHub};
 use hub_cut::{Recorder, Totals, cut, cut_journal};
 use std::alloc::Global;
@@ -101,29 +101,7 @@ fn record(
     assert!(rt; entry.fits(recorder.present().head().edition));
     let mut events = Events::new();
     let mut out = None;
-    recorder.step_into(entry, &mut events, &mut out)?;
-    are_told(rt, events.as_slice(), &[(0, told)]);
-    Ok(len_of(out))
-}
-
-/// Makes a call of one case of process 0, and gives how many entries the chapter has that is handed out.
-fn record_call(
-    rt: &impl Abort,
-    recorder: &mut Recorder,
-    case: Case,
-    told: Told,
-) -> Result<Option<usize>, Fault> {
-    let cases = Cases::one(case);
-    assert!(rt;
-        recorder
-            .present()
-            .head()
-            .edition
-            .has_cases(cases.as_slice())
-    );
-    let mut events = Events::new();
-    let mut out = None;
-    recorder.call_into(Pid(0), &cases, false, 0, &mut events, &mut out)?;
+    recorder.step_into(&entry, &mut events, &mut out)?;
     are_told(rt, events.as_slice(), &[(0, told)]);
     Ok(len_of(out))
 }
@@ -185,7 +163,6 @@ fn recorder_hands_out_chapters(rt: HostRuntime) -> Result<(), Fail> {
 /// One value was received in two chapters that were cut before they were full, and one entry follows.
 fn cut_by_hand(rt: &impl Abort, alloc: Global) -> Result<(), Fail> {
     let mut recorder = Recorder::open(alloc, 2, 100, first(2).edition)?;
-    let receive = Case::Recv(Port(1));
     same(
         rt,
         record(rt, &mut recorder, Ask::Make(2), MADE)?,
@@ -202,7 +179,7 @@ fn cut_by_hand(rt: &impl Abort, alloc: Global) -> Result<(), Fail> {
     same(rt, len_of(recorder.cut()?), None, "first cut");
     same(
         rt,
-        record_call(rt, &mut recorder, receive, Told::Got(0, 5))?,
+        record(rt, &mut recorder, Ask::Recv(1), Told::Got(0, 5))?,
         None,
         "receive",
     );

@@ -15,26 +15,26 @@ make_step-requires c =
     let old = c.args.hub.now.memory.hub in
     let cut = subst (IsCut old) (sym c.in_ok-next.ensures.hub) (cut_law old) in
     record {
-      fits = ap (λ (h : HubView). is_of h.terms.head.edition c.args.entry.step) c.in_ok-next.ensures.hub ∙ c.requires.fits.of_edition;
+      fits = ap (λ (h : HubView). is_of h.terms.head.edition c.args.entry.now.step) c.in_ok-next.ensures.hub ∙ c.requires.fits.of_edition;
       room = λ step. few_behind old c.in_ok-next.next.memory.hub cut c.requires.room;
-      admitted = admitted_behind old c.in_ok-next.next.memory.hub c.args.entry cut c.requires.admitted;
+      admitted = admitted_behind old c.in_ok-next.next.memory.hub c.args.entry.now cut c.requires.admitted;
     }
 
 pub returns-clause-ok : goal.returns-clause-ok
 returns-clause-ok c =
     let old = c.args.hub.now.memory.hub in
     let cut = subst (IsCut old) (sym c.in_ok-next.ensures.hub) (cut_law old) in
-    steps_behind old c.in_ok-next.next.memory.hub c.make_step.new.hub.memory.hub c.args.entry c.make_step.new.events.items cut c.in_ok-make_step.ensures.ok
+    steps_behind old c.in_ok-next.next.memory.hub c.make_step.new.hub.memory.hub c.args.entry.now c.make_step.new.events.items cut c.in_ok-make_step.ensures.ok
 
 pub returns-clause-lines : goal.returns-clause-lines
 returns-clause-lines c =
     let old = c.args.hub.now.memory.hub in
     let cut = subst (IsCut old) (sym c.in_ok-next.ensures.hub) (cut_law old) in
-    let steps = steps_behind old c.in_ok-next.next.memory.hub c.make_step.new.hub.memory.hub c.args.entry c.make_step.new.events.items cut
+    let steps = steps_behind old c.in_ok-next.next.memory.hub c.make_step.new.hub.memory.hub c.args.entry.now c.make_step.new.events.items cut
     c.in_ok-make_step.ensures.ok in
     omega (
       arith,
       ap (λ j. length (flat_map line j)) steps.journal,
-      longer_by (checkpoint (state_of old)) c.args.entry old.terms.head.edition c.requires.fits,
+      longer_by (checkpoint (state_of old)) c.args.entry.now old.terms.head.edition c.requires.fits,
       c.in_ok-next.ensures.lines,
     )

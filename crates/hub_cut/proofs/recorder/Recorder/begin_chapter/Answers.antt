@@ -16,14 +16,16 @@ pub returns-in_err-whole-clause-refused : goal.returns-in_err-whole-clause-refus
 returns-in_err-whole-clause-refused c =
     let p = err_from_is_err_and c.from_residual.result c.from_residual.ensures.1 in
     let old = shown c.self.inside in
-    let full : begins old c.args.entry.step ≡ true = subst (λ (r : RecorderView). begins r c.args.entry.step ≡ true) (sym c.self.view_is) c.requires.full in
-    rw (p.1, p.2, ← c.self.view_is) (refuses_cut old c.args.entry c.in_err-whole.field-0.0 full c.in_err-whole.ensures.refused)
+    let e = c.args.entry.now in
+    let full : begins old e.step ≡ true = subst (λ (r : RecorderView). begins r e.step ≡ true) (sym c.self.view_is) c.requires.full in
+    rw (p.1, p.2, ← c.self.view_is) (refuses_cut old e c.in_err-whole.field-0.0 full c.in_err-whole.ensures.refused)
 
 pub invariant_of-self-2 : goal.invariant_of-self-2
 invariant_of-self-2 c =
     let steps = c.in_ok-whole.ensures.ok in
     let old = shown c.self.inside in
-    let full : begins old c.args.entry.step ≡ true = subst (λ (r : RecorderView). begins r c.args.entry.step ≡ true) (sym c.self.view_is) c.requires.full in
+    let e = c.args.entry.now in
+    let full : begins old e.step ≡ true = subst (λ (r : RecorderView). begins r e.step ≡ true) (sym c.self.view_is) c.requires.full in
     let whole = c.in_ok-whole.ensures.whole in
     let handed : option_map hub_in c.keep_last.new.before ≡ Some old.hub =
     ap (option_map hub_in) c.keep_last.ensures.kept ∙ ap (λ (h : ShortInMemory). Some (hub_in h)) whole in
@@ -32,9 +34,9 @@ invariant_of-self-2 c =
       limit = rw steps.terms c.self.invariant.limit;
       keep = c.self.invariant.keep;
       recorder = (
-        Cut c.self.invariant.recorder.0 (c.args.entry ∷ []),
+        Cut c.self.invariant.recorder.0 (e ∷ []),
         rw (handed, c.most_line-bytes.ensures.most)
-            (records_cut c.self.invariant.recorder.0 old c.args.entry c.cut_and_step.new.hub.memory.hub c.cut_and_step.new.events.items
+            (records_cut c.self.invariant.recorder.0 old e c.cut_and_step.new.hub.memory.hub c.cut_and_step.new.events.items
             c.add_received.new.bases c.self.invariant.recorder.1 full c.self.invariant.keep.0 steps
             (λ p few. c.add_received.ensures p.0 (omega (arith, c.self.told, few))
             ∙ ap (λ (h : ShortInMemory). in_64_bits (slice_index old.bases p.0 + received_count (state_of h.memory.hub) p)) whole)),
@@ -54,12 +56,13 @@ pub returns-clause-ok : goal.returns-clause-ok
 returns-clause-ok c =
     let steps = c.in_ok-whole.ensures.ok in
     let old = shown c.self.inside in
-    let full : begins old c.args.entry.step ≡ true = subst (λ (r : RecorderView). begins r c.args.entry.step ≡ true) (sym c.self.view_is) c.requires.full in
+    let e = c.args.entry.now in
+    let full : begins old e.step ≡ true = subst (λ (r : RecorderView). begins r e.step ≡ true) (sym c.self.view_is) c.requires.full in
     let whole = c.in_ok-whole.ensures.whole in
     let kept : option_map hub_in c.keep_last.new.before ≡ Some old.hub =
     ap (option_map hub_in) c.keep_last.ensures.kept ∙ ap (λ (h : ShortInMemory). Some (hub_in h)) whole in
     rw (← c.self.view_is, kept, c.most_line-bytes.ensures.most)
-    (goes_cut old c.args.entry c.cut_and_step.new.hub.memory.hub c.cut_and_step.new.events.items
+    (goes_cut old e c.cut_and_step.new.hub.memory.hub c.cut_and_step.new.events.items
     c.add_received.new.bases full c.self.invariant.keep.0 steps
     (λ p few. c.add_received.ensures p.0 (omega (arith, c.self.told, few))
     ∙ ap (λ (h : ShortInMemory). in_64_bits (slice_index old.bases p.0 + received_count (state_of h.memory.hub) p)) whole))

@@ -22,7 +22,7 @@ class Count:
             self.passed += 1
         except Exception as fault:
             self.failed += 1
-            print(f'{name}: {fault}')
+            print(f'failed: {name}: {fault}', flush=True)
 
     def end(self):
         """Prints how many there were, and answers the status."""

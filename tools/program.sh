@@ -7,7 +7,8 @@
 # refuse bad arguments; tries the words of the built chanhub_tool, converses with it, and compares its stories and pictures
 # with second readings; sees that who waits sleeps, by sleeps.py; tries the scripts that build, by builds_test.py, and those
 # that look at scenarios, by scenarios_test.py; compares replays with Go's own channels; and builds and tries the C library.
-# The last line counts: 'N passed, M failed', and how many were skipped, if any, for what the machine lacks.
+# The last line counts: 'N passed, M failed', and how many were skipped, if any, for what the machine lacks. Before it stands
+# once more what failed.
 set -u
 root=$(cd "$(dirname "$0")/.." && pwd)
 program=${1:-$root/crates/chanhub/out/chanhub}
@@ -24,7 +25,7 @@ count() {
         passed=$((passed + 1))
     else
         failed=$((failed + 1))
-        echo "failed: $2"
+        echo "failed: $2" | tee -a "$work/failures"
     fi
 }
 
@@ -232,7 +233,7 @@ count $? "scenarios: $(cat "$work/scenarios")"
 make -C "$root/capi" > "$work/capi" 2>&1 &&
     "$root/capi/tests/check.sh" "$program" > "$work/capi" 2>&1
 status=$?
-cat "$work/capi"
+tee -a "$work/failures" < "$work/capi"
 count "$status" "the C library"
 skipped=$((skipped + $(skipped_in "$work/capi")))
 
@@ -261,6 +262,7 @@ fi
 grep 'skipped: ' "$work/stalls"
 count_or_skip "$status" "the pool that stalls: $(cat "$work/stalls")"
 
+grep '^failed: ' "$work/failures"
 if [ "$skipped" -eq 0 ]; then
     echo "$passed passed, $failed failed"
 else

@@ -21,6 +21,9 @@ from counting import Count
 
 TREE = os.path.abspath(sys.argv[1] if len(sys.argv) > 1 else os.path.join(os.path.dirname(os.path.abspath(__file__)), '..'))
 
+# after so many seconds what should end at once, on a slow machine too, is taken to hang; and for how long what is slow here sleeps
+LONG, SLEEP = 120, 180
+
 LINES = {'low': 'low: arrayvec', 'high': 'high: low', 'hub_c': 'hub_c staticlib: low', 'chanhub': 'chanhub: low high', 'chanhub_tool': 'chanhub_tool: low'}
 PROGRAMS = ('chanhub', 'chanhub_tool')
 
@@ -35,8 +38,8 @@ case $1 in
         echo half > crates/hub_c/out/libhub_c.a
         mktemp -d
         echo rt >> "$LOG"
-        setsid sleep 60 &
-        sleep 60
+        setsid sleep SECONDS &
+        sleep SECONDS
         ;;
 esac
 '''
@@ -52,8 +55,8 @@ echo half > "$place"
 echo "$name" >> "$LOG"
 if [ "$(cat "$KIT/slow")" = "$name" ]; then
     mktemp -d > /dev/null
-    setsid sleep 60 &
-    sleep 60
+    setsid sleep SECONDS &
+    sleep SECONDS
 fi
 case $to in
     *.a) cp "$KIT/one.a" "$place" ;;
@@ -109,8 +112,8 @@ class Room:
         write(self.path('capi', 'chanhub.h'), 'int chanhub_open(void);\n')
         for crate in LINES:
             write(self.path('crates', crate, 'src', 'main.rt' if crate in PROGRAMS else 'lib.rt'), '//! A crate.\n')
-        write(os.path.join(self.kit, 'path', 'rt'), RT, True)
-        write(os.path.join(self.kit, 'bin', 'rattle'), RATTLE, True)
+        write(os.path.join(self.kit, 'path', 'rt'), RT.replace('SECONDS', str(SLEEP)), True)
+        write(os.path.join(self.kit, 'bin', 'rattle'), RATTLE.replace('SECONDS', str(SLEEP)), True)
         write(os.path.join(self.kit, 'bin', 'rattle-link'), LINK, True)
         write(os.path.join(self.kit, 'slow'), '')
         self.archives()
@@ -147,7 +150,7 @@ class Room:
     def run(self, *words, has_rt=True):
         try:
             done = subprocess.run(
-                words, cwd=self.top, env=self.env(has_rt), stdin=subprocess.DEVNULL, capture_output=True, text=True, timeout=60,
+                words, cwd=self.top, env=self.env(has_rt), stdin=subprocess.DEVNULL, capture_output=True, text=True, timeout=LONG,
             )
         except FileNotFoundError:
             return None, '', 'there is no such script'
@@ -177,7 +180,7 @@ class Room:
 
     def wait_for(self, word):
         """Waits until a check of this crate has begun."""
-        until = time.monotonic() + 20
+        until = time.monotonic() + LONG
         while word not in (read(self.log) or '').split():
             if time.monotonic() > until:
                 raise TimeoutError('nobody began with ' + word)
@@ -241,8 +244,9 @@ def by_another(tests, room):
 
 def wrapper(tests, room):
     tests.same('./chanhub runs the program with its words', room.run('./chanhub', 'run', 'a b'), (0, 'ran run a b\n', ''))
+    # At some time: where the machine does other things, each may have to wait for the processor.
     spent = []
-    for _ in range(5):
+    while not spent or min(spent) >= 0.15 and len(spent) < 100:
         began = time.monotonic()
         room.run('./chanhub')
         spent.append(time.monotonic() - began)
@@ -274,10 +278,10 @@ def locked(room, crate):
 
 
 def heard(child):
-    """The first line that it says, and has not ended; after ten seconds what there is of it."""
+    """The first line that it says, and has not ended; where it says none for long, what there is of it."""
     os.set_blocking(child.stderr.fileno(), False)
     said = ''
-    until = time.monotonic() + 10
+    until = time.monotonic() + LONG
     while '\n' not in said and time.monotonic() < until:
         time.sleep(0.05)
         with contextlib.suppress(BlockingIOError):
@@ -294,7 +298,7 @@ def waits(tests, room):
         with locked(room, 'low'):
             child = room.start(*words)
             told = heard(child)
-        child.communicate(timeout=60)
+        child.communicate(timeout=LONG)
         # What explain.sh explains stays.
         end(*room.left())
         tests.test('%s says for what it waits' % name, told.count('\n') == 1 and 'waiting for another build' in told and 'crates/low' in told, told)
@@ -302,7 +306,7 @@ def waits(tests, room):
     with locked(room, 'low'):
         child = room.start('tools/build.py', 'chanhub')
         try:
-            child.communicate(timeout=5)
+            child.communicate(timeout=LONG)
         except subprocess.TimeoutExpired:
             child.kill()
             child.communicate()
@@ -321,13 +325,13 @@ def interrupt(tests, room, number, *words, to_all=False):
     began = time.monotonic()
     (os.killpg if to_all else os.kill)(child.pid, number)
     try:
-        told, errors = child.communicate(timeout=20)
+        told, errors = child.communicate(timeout=SLEEP / 2)
     except subprocess.TimeoutExpired:
         os.killpg(child.pid, signal.SIGKILL)
         told, errors = child.communicate()
     spent = time.monotonic() - began
     ran, left = room.left()
-    tests.test(name + ', with its status', (child.returncode, told) == (128 + number, '') and spent < 10, (child.returncode, told, '%d s' % spent))
+    tests.test(name + ', with its status', (child.returncode, told) == (128 + number, '') and spent < SLEEP / 2, (child.returncode, told, '%d s' % spent))
     tests.test(name + ', without a traceback', 'Traceback' not in errors and 'not built' not in errors, errors[-200:])
     tests.same(name + ', with all that it started', ran, [])
     tests.same(name + ', and leaves no folder', left, [])
@@ -380,7 +384,7 @@ def gate(tests, room):
         room.wait_for('rt')
         (os.killpg if to_all else os.kill)(child.pid, number)
         try:
-            _, errors = child.communicate(timeout=20)
+            _, errors = child.communicate(timeout=SLEEP / 2)
         except subprocess.TimeoutExpired:
             os.killpg(child.pid, signal.SIGKILL)
             _, errors = child.communicate()
@@ -398,7 +402,7 @@ def makes_at_once(tests, room):
     write(os.path.join(room.kit, 'path', 'slow-ar'), '#!/bin/sh\nar "$@"\nsleep 0.5\n', True)
     makes = [room.start('make', '-C', 'capi', 'AR=slow-ar') for _ in range(2)]
     for make in makes:
-        _, errors = make.communicate(timeout=60)
+        _, errors = make.communicate(timeout=LONG)
         tests.test('two of make -C capi at once', make.returncode == 0, errors)
     shutil.rmtree(room.path('capi', 'out'))
 

@@ -15,7 +15,7 @@ sys.dont_write_bytecode = True
 from counting import Count
 
 ROOT = pathlib.Path(__file__).resolve().parent.parent
-WAIT = 10
+WAIT = 60
 
 
 class Conversation:

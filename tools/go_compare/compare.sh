@@ -48,7 +48,7 @@ if ! command -v go > "$work/found"; then
 fi
 check 'go vet' go vet .
 check 'gofmt' is_formatted
-check 'go test' go test -count=1 -timeout 120s .
+check 'go test' go test -count=1 -timeout 600s .
 check 'go build' go build -o "$work/go_compare" .
 "$root/tools/random_journal.py" 1 $((2 * of_each_edition)) "$work/journals"
 mkdir "$work/examples"

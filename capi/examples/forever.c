@@ -28,11 +28,13 @@ static void *work(void *at) {
 /* Sends the next job or receives a result, whichever can proceed. */
 static void *hand_out(void *unused) {
     uint64_t sent = 0, done = 0;
-    while (!stopped || done < sent) {
+    bool ends = false;
+    while (!ends || done < sent) {
         chanhub_case cases[] = { { .port = results }, { .sends = true, .port = jobs, .value = chanhub_number(sent) } };
-        chanhub_told told = chanhub_select(hub, 0, cases, stopped ? 1 : 2, false, sent);
+        chanhub_told told = chanhub_select(hub, 0, cases, ends ? 1 : 2, false, sent);
         sent += told.what == CHANHUB_SENT;
         done += told.what == CHANHUB_GOT;
+        ends = stopped;
     }
     chanhub_close(hub, 0, jobs);
     chanhub_exit(hub, 0);

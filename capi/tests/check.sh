@@ -56,12 +56,22 @@ writes_files() {
     mkdir -p "$work/written" && "$work/files" "$work/written"
 }
 
+# interrupt COMMAND..: interrupts the command after a second, or later where it had not yet begun to wait for that: then it was ended by it,
+# with status 130. Returns its status.
+interrupt() {
+    for seconds in 1 10 60; do
+        timeout --preserve-status -s INT "$seconds" "$@"
+        status=$?
+        [ "$status" -eq 130 ] || break
+    done
+    return "$status"
+}
+
 # is_interrupted: whether forever.c ends when it is interrupted, with its chapters written and its journal saved.
 is_interrupted() {
-    mkdir -p "$work/forever-chapters" &&
-        timeout --preserve-status -s INT 1 "$work/forever" "$work/last" "$work/forever-chapters/chapter" &&
+    mkdir -p "$work/forever-chapters" && interrupt "$work/forever" "$work/last" "$work/forever-chapters/chapter" &&
         "$program" replay < "$work/last" > "$work/replayed" && is_whole "$work/forever-chapters/chapter" &&
-        timeout --preserve-status -s INT 1 "$work/forever" "$work/last" && "$program" replay < "$work/last" > "$work/replayed"
+        interrupt "$work/forever" "$work/last" && "$program" replay < "$work/last" > "$work/replayed"
 }
 
 # instructions WORD..: how many the steps of this hub take.
@@ -264,7 +274,7 @@ else
 fi
 if command -v go > "$work/found"; then
     check 'go vet' offline_go vet ./...
-    check 'go test' offline_go test -count=1 -timeout 120s ./...
+    check 'go test' offline_go test -count=1 -timeout 600s ./...
     check 'gofmt' is_formatted
     check 'the Go package elsewhere' is_used_elsewhere
 else

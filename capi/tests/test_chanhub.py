@@ -25,7 +25,7 @@ import model  # noqa: E402
 from compare import by_process  # noqa: E402
 from cuts import checkpoint_of  # noqa: E402
 
-LONG = 20  # seconds after which what should end at once is taken to hang
+LONG = 120  # seconds after which what should end at once, on a slow machine too, is taken to hang
 
 
 def ran(script, *arguments):
@@ -254,6 +254,15 @@ def stage(seat, source, sink):
 def bare_stage(seat, source, sink):
     while True:
         seat.send(sink, seat.recv(source))
+
+
+def until(is_so):
+    """Returns once this is so; fails where that takes too long."""
+    end = time.monotonic() + LONG
+    while not is_so():
+        if time.monotonic() > end:
+            raise AssertionError('it takes too long')
+        time.sleep(0.001)
 
 
 class Chapters(unittest.TestCase):
@@ -562,7 +571,8 @@ class Chapters(unittest.TestCase):
         pool = subprocess.Popen([sys.executable, HERE.parent / 'python' / 'forever.py', last, name], stdout=subprocess.PIPE,
                                 preexec_fn=lambda: signal.signal(signal.SIGINT, signal.SIG_DFL))
         self.addCleanup(pool.kill)
-        while not name.with_name('chapter.1').exists():
+        # By then its main thread has started all others, and waits.
+        while not name.with_name('chapter.5').exists():
             time.sleep(0.01)
             self.assertIsNone(pool.poll())
         pool.send_signal(signal.SIGINT)
@@ -601,18 +611,27 @@ class Leaving(unittest.TestCase):
     def setUp(self):
         """What a thread does not catch is kept here, and not printed."""
         self.raised = []
+        self.has_left = threading.Event()
         before = threading.excepthook
         threading.excepthook = lambda args: self.raised.append(args.exc_value)
         self.addCleanup(setattr, threading, 'excepthook', before)
 
-    def left_by_an_exception(self, hub, *works):
-        """Starts these, in the names of processes 1 and on, and leaves the hub by an exception of the main thread."""
+    def left_by_an_exception(self, hub, *works, step=None):
+        """Starts these, in the names of processes 1 and on, and leaves the hub by an exception of the main thread, once the chapters that
+        it keeps have steps of so many of them."""
         threads = [threading.Thread(target=work[0], args=(hub.seat(pid), *work[1:]), daemon=True) for pid, work in enumerate(works, 1)]
+        step = len(works) if step is None else step
+
+        def have_stepped():
+            lines = ((hub.before() or b'') + hub.journal()).decode().splitlines()
+            return len({line.split()[0] for line in lines} & set(map(str, range(1, 1 + len(works))))) >= step
         with self.assertRaises(ZeroDivisionError), hub:
             for thread in threads:
                 thread.start()
+            until(have_stepped)
             time.sleep(0.1)
             raise ZeroDivisionError
+        self.has_left.set()
         if self.chapters is not None:
             self.has_exits(history(self.chapters)[1], len(works) + 1)
         self.assertTrue(joined(threads))
@@ -648,15 +667,18 @@ class Leaving(unittest.TestCase):
                 for hub in self.hubs(5, keeps=(3,)):
                     a, b = hub.seat(0).make(cap), hub.seat(0).make(cap)
                     self.left_by_an_exception(hub, (work, a, b), (work, b, a), (lambda seat: seat.send(a, 1),),
-                                              (lambda seat: seat.send(b, 2),))
+                                              (lambda seat: seat.send(b, 2),), step=1)
                     self.assertEqual({type(error) for error in self.raised} - {Stalled, ValueError}, set())
 
     def test_workers_that_compute_end(self):
+        """One of them makes its next call after the hub was left."""
         def compute(seat, port):
-            time.sleep(0.3)
+            seat.select([], default=True)
+            self.has_left.wait(LONG)
             seat.send(port, 1)
         for hub in self.hubs(3, keeps=(2,)):
             self.raised.clear()
+            self.has_left.clear()
             port = hub.seat(0).make(0)
             self.left_by_an_exception(hub, (compute, port), (bare_stage, port, port))
             self.assertEqual(sorted(type(error).__name__ for error in self.raised), ['Stalled', 'ValueError'])
@@ -797,6 +819,8 @@ for _ in range(10):
     status = os.waitstatus_to_exitcode(os.waitpid(child, 0)[1])
     if status != 0:
         print('child', status)
+while len(given if to == given.append else os.listdir(to)) <= 20:
+    time.sleep(0.001)
 stopped.set()
 thread.join()
 with hub:
@@ -846,11 +870,12 @@ class Interrupts(unittest.TestCase):
             self.inside = False
             raise KeyboardInterrupt
 
-    def interrupted(self, call):
-        """How long it took from Ctrl-C to the exception."""
+    def interrupted(self, call, has_begun=lambda: True):
+        """How long it took from Ctrl-C, which comes once the call has begun, to the exception."""
         sent = []
 
         def interrupt():
+            until(has_begun)
             time.sleep(0.12)
             sent.append(time.monotonic())
             os.kill(os.getpid(), signal.SIGINT)
@@ -862,6 +887,10 @@ class Interrupts(unittest.TestCase):
         raised = time.monotonic()
         thread.join()
         return raised - sent[0]
+
+    def is_soon(self, seat):
+        """Whether Ctrl-C is soon heard while the open call is resumed: at some time, since a slow machine takes its time."""
+        return any(self.interrupted(seat.resume) < 0.2 for _ in range(50))
 
     def is_busy(self, seat):
         self.assertTrue(seat.waits)
@@ -882,28 +911,34 @@ class Interrupts(unittest.TestCase):
 
     def each_call_that_waits(self, hub):
         seat, other = hub.seat(0), hub.seat(1)
+
+        def stands(line):
+            return lambda: hub.journal().endswith(b'\n' + line.encode() + b'\n')
         for cap in (0, 1):
             port = seat.make(cap)
-            took = [self.interrupted(lambda: seat.recv(port))]
+            self.interrupted(lambda: seat.recv(port), stands(f'0 recv {port}'))
             self.is_busy(seat)
             self.is_busy(hub.seat(0))
-            took += [self.interrupted(seat.resume) for _ in range(3)]
-            self.assertLess(min(took), 0.2)
+            for _ in range(3):
+                self.interrupted(seat.resume)
+            self.assertTrue(self.is_soon(seat))
             other.send(port, 7)
             self.is_busy(seat)
             self.assertEqual(seat.resume(), 7)
             self.assertFalse(seat.waits)
             for _ in range(cap):
                 seat.send(port, 5)
-            self.assertLess(min(self.interrupted(lambda: seat.send(port, b'x')), self.interrupted(seat.resume)), 0.2)
+            self.interrupted(lambda: seat.send(port, b'x'), stands(f'0 send {port} #78'))
+            self.assertTrue(self.is_soon(seat))
             self.is_busy(seat)
             self.assertEqual([other.recv(port) for _ in range(cap + 1)], [5] * cap + [b'x'])
             self.assertIsNone(seat.resume())
             cases = [Recv(0), Recv(port)]
-            self.assertLess(min(self.interrupted(lambda: seat.select(cases)), self.interrupted(seat.resume)), 0.2)
+            self.interrupted(lambda: seat.select(cases), stands(f'0 select 0 r0 r{port}'))
+            self.assertTrue(self.is_soon(seat))
             other.send(port, 8)
             self.assertEqual(seat.resume(), Fired(1, 8))
-        self.interrupted(lambda: seat.recv(port))
+        self.interrupted(lambda: seat.recv(port), stands(f'0 recv {port}'))
         other.close(port)
         with self.assertRaises(Drained):
             seat.resume()
@@ -919,7 +954,7 @@ class Interrupts(unittest.TestCase):
         def waits():
             with hub.seat(0) as seat:
                 seat.recv(seat.make(0))
-        self.interrupted(waits)
+        self.interrupted(waits, lambda: hub.journal().endswith(b'\n0 recv 1\n'))
         self.assertTrue(hub.seat(0).waits)
 
     def test_a_hub_that_is_left_by_an_interrupt_ends_its_threads(self):
@@ -941,7 +976,7 @@ class Interrupts(unittest.TestCase):
         def waits():
             with hub, seat:
                 seat.recv(1)
-        self.interrupted(waits)
+        self.interrupted(waits, lambda: hub.journal().count(b' recv 1\n') == 4)
         self.assertTrue(joined(workers[:3]))
         self.assertEqual(sorted(stalled), [1, 2, 3])
         with self.assertRaises(Stalled):
@@ -979,7 +1014,9 @@ class Interrupts(unittest.TestCase):
                 while True:
                     ports.append(seat.make(0))
             ports = []
-            self.assertLess(self.interrupted(call), 0.2)
+            # Its second port begins a chapter more.
+            self.interrupted(call, lambda: hub.look(3))
+            self.assertTrue(self.is_soon(seat))
             may_return.set()
             ports.append(seat.resume())
             self.assertTrue(joined([other]))
@@ -997,9 +1034,12 @@ class Interrupts(unittest.TestCase):
             signal.signal(signal.SIGINT, lambda *_: cuts.append(hub.cut()))
 
             def interrupt():
-                for _ in range(100):
+                """Signals that come while a handler is still to run are one."""
+                end, sent = time.monotonic() + LONG, 0
+                while sent < 100 or len(cuts) <= 10 and time.monotonic() < end:
                     time.sleep(0.001)
                     os.kill(os.getpid(), signal.SIGINT)
+                    sent += 1
             thread = threading.Thread(target=interrupt)
             thread.start()
             pass_numbers(hub, 2000)

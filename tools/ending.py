@@ -81,7 +81,7 @@ def run(words, **how):
 
 
 def below():
-    """The processes below this one that still run."""
+    """The processes below this one that still run, as they are met one after the other."""
     children = {}
     for name in filter(str.isdigit, os.listdir('/proc')):
         try:
@@ -113,7 +113,8 @@ def end_all():
     """Ends all processes below this one, and returns once none runs. Each is asked first, and soon killed."""
     began = time.monotonic()
     asked = set()
-    while left := below():
+    # One whose parent ends meanwhile may be missed: it is met in a second look, as a child of this one.
+    while left := below() or below():
         passed = time.monotonic() - began
         if passed > LAST_PATIENCE:
             return

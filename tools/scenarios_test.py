@@ -62,8 +62,12 @@ PIECES = [
 ]
 
 
+# after so many seconds what should end, on a slow machine too, is taken to hang
+LONG = 120
+
+
 def run(words, **how):
-    done = subprocess.run(words, stdin=subprocess.DEVNULL, capture_output=True, timeout=120, **how)
+    done = subprocess.run(words, stdin=subprocess.DEVNULL, capture_output=True, timeout=LONG, **how)
     return done.returncode, done.stdout.decode(), done.stderr.decode()
 
 
@@ -287,13 +291,13 @@ class Tests(Count):
             self.test(what, False)
             return
         with child:
-            # Its folder shows that it has begun.
-            until = time.monotonic() + 20
-            while self.left() == before and time.monotonic() < until:
+            # What lies in its folder shows that it has begun with its runs.
+            until = time.monotonic() + LONG
+            while not any(os.listdir(os.path.join(self.folder, it)) for it in self.left() - before) and time.monotonic() < until:
                 time.sleep(0.05)
             time.sleep(0.5)
             os.killpg(child.pid, number)
-            said, _ = child.communicate(timeout=20)
+            said, _ = child.communicate(timeout=LONG)
         # The shell says of a program that it waited for how that ended.
         self.test(what, child.returncode == 128 + number and set(said.split()) <= {b'Terminated'} and self.left() == before)
 

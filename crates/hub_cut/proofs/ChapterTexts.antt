@@ -16,7 +16,7 @@ use Rattle.hub_base.specs.Value.{IsValue, content, field_of, value_field}
 use Rattle.hub_base.specs.Lines.{line, call_fields, case_field, default_field, select_fields, step_fields}
 use Rattle.hub_base.specs.Head.{IsHead}
 use Rattle.hub_base.specs.Reading.{head_lines, header}
-use Rattle.hub_base.specs.Text.{Fits, CaseFits, CallFits, StepFits}
+use Rattle.hub_base.specs.Text.{Fits, CaseFits, CallFits, StepFits, IsText}
 use Rattle.hub_base.specs.Notation.{exit, close}
 use Rattle.hub_laws.specs.Journals.{IsLegal}
 use Rattle.hub_laws.proofs.Limits.{limits-law}
@@ -201,6 +201,24 @@ head_size h head = by h.edition
     by : (ed : Edition) → length (header ed ++ (codes "\n" ++ ((codes "procs " ++ decimal h.procs) ++ codes "\n"))) ≤ 100
     by One = omega (arith, length-append (decimal h.procs) (codes "\n"), pid_size h.procs (omega (arith, head.1)))
     by Two = omega (arith, length-append (decimal h.procs) (codes "\n"), pid_size h.procs (omega (arith, head.1)))
+
+-- the text of a checkpoint
+pub checkpoint_is_text : (h : Head) (es : List Entry) (bytes : List ℕ) → IsHead h → AllByRecursion (Fits h.edition) (checkpoint (state h es)) →
+    bytes ≡ head_lines h ++ flat_map line (checkpoint (state h es)) → IsText bytes h (checkpoint (state h es))
+checkpoint_is_text h es bytes head fits spelled = record {
+  spelled = spelled;
+  head = head;
+  fits = fits;
+  bytes_fit = omega (
+    arith,
+    ap length spelled,
+    length-append (head_lines h) (flat_map line (checkpoint (state h es))),
+    head_size h head,
+    checkpoint_fits h
+        es head fits,
+  );
+  steps_fit = omega (arith, (checkpoint-law h es).few_steps, head.1);
+}
 
 -- the text of a legal journal, in which each process exits at most once
 pub text_fits : (h : HubView) (bytes : ℕ) → IsHead h.terms.head → IsLegal h.terms.head h.journal →

@@ -5,6 +5,7 @@
 //! itself, so it never ends.
 #![tactic(auto)]
 
+mod checkpoint_texts;
 mod checkpoints;
 mod cuts;
 mod limits;
@@ -13,9 +14,10 @@ mod renewals;
 mod texts;
 mod totals;
 
+pub use checkpoint_texts::checkpoint_text;
 pub use checkpoints::checkpoint_of;
 pub use cuts::{cut, cut_journal};
 pub use limits::MOST_KEEP;
 pub use recorder::Recorder;
-pub use renewals::hub_after;
+pub use renewals::{hub_after, make_step};
 pub use totals::Totals;

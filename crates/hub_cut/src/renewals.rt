@@ -62,11 +62,7 @@ fn step_by_copy(hub: &mut ShortHub, entry: &Entry, events: &mut Events) -> Resul
 }
 
 /// Makes a step of a process that is admitted, in a journal that has room. It is refused only if an allocation fails.
-pub(crate) fn make_step(
-    hub: &mut ShortHub,
-    entry: &Entry,
-    events: &mut Events,
-) -> Result<(), NoMemory>
+pub fn make_step(hub: &mut ShortHub, entry: &Entry, events: &mut Events) -> Result<(), NoMemory>
     requires fits { is_of hub.old.memory.hub.terms.head.edition entry.now.step ≡ true }
     requires room { HasRoom hub.old.memory.hub entry.now }
     requires admitted { refusal (state_of hub.old.memory.hub) entry.now.pid ≡ None }

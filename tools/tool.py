@@ -1,6 +1,6 @@
 #!/usr/bin/env python3
 """tool.py TOOL: tries the words of the built chanhub_tool (TOOL) by the rows of tests/tool.toml: steps, files that take the place of
-standard input and output, those that are refused, chains of chapters, and help; with each allocation refused too, which needs a C compiler. The last
+standard input and output, those that are refused, chains of chapters, runs of scenarios, and help; with each allocation refused too, which needs a C compiler. The last
 line counts: 'N passed, M failed'."""
 import pathlib
 import re
@@ -110,6 +110,45 @@ def chains(program, work):
     yield "refused allocations", survives_refusals(program, ["chain", *full, "-"], ROWS["chapters"]["third"].encode(), build_refuse(work))
 
 
+def stalls(program, path, entries):
+    """Whether this file is a journal of so many entries that ends in a stall, by its story too."""
+    text = path.read_text()
+    status, story, errors = program.run(["story", path.name], b"", path.parent)
+    told = Story(text)
+    return len(told.entries) == entries and (status, story, errors) == (0, told.text(1, entries), b"") and b"stall: everyone who is left waits" in story
+
+
+def explorations(program, work):
+    """What is said of all runs of scenarios, and the journals that are found."""
+    path = pathlib.Path(work) / "scenarios"
+    path.mkdir(exist_ok=True)
+    for name, text in ROWS["scenarios"].items():
+        (path / name).write_text(text)
+    given = ROWS["scenarios"]["idle"].encode()
+    for status, rows in ROWS["explore"].items():
+        for line, several in rows.items():
+            wanted = refused(line) if status == "2" else (int(status), f"{line}\n".encode(), b"")
+            for words in several:
+                yield " ".join(words), program.run(["explore", *words], given, path) == wanted
+    too_long = b"#" * 1048575 + b"\n" + given
+    yield "a scenario that is too long", program.run(["explore"], too_long, path) == refused("scenario: too long")
+    found = path / "found"
+    for row in ROWS["found"]:
+        line = f"stall after {row['steps']} steps\n".encode()
+        asked = ["explore", row["scenario"], "--journal"]
+        done = program.run([*asked, "found"], b"", path)
+        yield f"{row['scenario']}: its journal", done == (4, line, b"") and stalls(program, found, row["ports"] + row["steps"])
+        yield f"{row['scenario']}: its journal behind the line", program.run([*asked, "-"], b"", path) == (4, line + found.read_bytes(), b"")
+        for out in ("missing/out", "/dev/full", "."):
+            yield f"{row['scenario']}: no journal to {out}", program.run([*asked, out], b"", path) == (1, line, b"chanhub: write failed\n")
+        found.unlink()
+    for name in ("idle", "alone"):
+        yield f"{name} for a full device", program.run_to_full(["explore", str(path / name)]) == (1, b"chanhub: write failed\n")
+    refuse = build_refuse(work)
+    for name in ("polls", "alone", "bad_script"):
+        yield f"{name}: refused allocations", survives_refusals(program, ["explore", str(path / name), "--journal", "-"], b"", refuse)
+
+
 def help_texts(program, work):
     folder = Folder(program, work)
     for beginning, several in ROWS["help"].items():
@@ -134,7 +173,7 @@ def refused_allocations(program, work):
 
 
 def main():
-    parts = told, written, pictures, not_written, faulty_journals, chains, help_texts, versions, refused_allocations
+    parts = told, written, pictures, not_written, faulty_journals, chains, explorations, help_texts, versions, refused_allocations
     return count(Program(sys.argv[1]), *parts)
 
 

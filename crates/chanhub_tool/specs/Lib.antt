@@ -3,3 +3,4 @@ pub mod Explains
 pub mod Faults
 pub mod Promises
 pub mod Files
+pub mod Explores

@@ -1,6 +1,7 @@
 //! The commands. Each has a file, which says what `clap` reads of it and what it does.
 
 mod chain;
+mod explore;
 mod picture;
 mod serve;
 mod story;
@@ -10,6 +11,7 @@ use crate::explain::explain_given;
 use crate::given::{Given, read_given};
 use chain::{check_files, read_files};
 use clap::ArgMatches;
+use explore::{Exploring, explore_given, read_exploring};
 use hub_replay::Sink;
 pub(crate) use picture::picture_of;
 use serve::serve_streams;
@@ -27,6 +29,8 @@ pub(crate) enum Command<'a> {
     Serve,
     /// `chain`: to check that these files are the chapters of one journal.
     Chain(Vec<&'a str>),
+    /// `explore`: to go through all runs of a scenario.
+    Explore(Exploring<'a>),
 }
 
 /// The program's name, whatever its file is called.
@@ -36,11 +40,12 @@ const NAME: &str = "chanhub_tool";
 const VERSION: &str = "1.0.0";
 
 const ABOUT: &str =
-    "Tells, draws and checks journals of a hub of channels, and answers the steps of one as its lines come.";
+    "Tells, draws and checks journals of a hub of channels, answers the steps of one as its lines come, and goes through all runs of a scenario.";
 
 const STATUSES: &str = "\
-Status 0: done. 1: a device or memory failed. 2: a malformed journal, steps that it does not have, or bad\n\
-arguments. Standard error says which. 3: the chapters are no chain.";
+Status 0: done. 1: a device or memory failed. 2: a malformed journal or scenario, steps that a journal does not have,\n\
+or bad arguments. Standard error says which. 3: the chapters are no chain. 4: some run of the scenario stalls. 5: it has\n\
+too many states.";
 
 /// All commands, in `clap`'s words.
 pub(crate) fn grammar<'a>(alloc: Global) -> Result<clap::Command<'a>, AllocError> {
@@ -53,7 +58,8 @@ pub(crate) fn grammar<'a>(alloc: Global) -> Result<clap::Command<'a>, AllocError
         .subcommand(story::grammar(alloc)?)?
         .subcommand(picture::grammar(alloc)?)?
         .subcommand(serve::grammar(alloc))?
-        .subcommand(chain::grammar(alloc)?)
+        .subcommand(chain::grammar(alloc)?)?
+        .subcommand(explore::grammar(alloc)?)
 }
 
 /// The command that `clap` found.
@@ -69,6 +75,7 @@ pub(crate) fn command_of<'a>(
         "picture" => Ok(read_given(found).map(Command::Picture)),
         "serve" => Ok(Some(Command::Serve)),
         "chain" => Ok(Some(Command::Chain(read_files(alloc, found)?))),
+        "explore" => Ok(read_exploring(found).map(Command::Explore)),
         _ => Ok(None),
     }
 }
@@ -80,5 +87,6 @@ pub(crate) fn carry_out<X: Sink>(rt: &HostRuntime, command: Command<'_>, errors:
         Command::Picture(given) => explain_given(rt, Form::Picture, given, errors),
         Command::Serve => serve_streams(rt, errors),
         Command::Chain(files) => check_files(rt, &files, errors),
+        Command::Explore(given) => explore_given(rt, given, errors),
     }
 }

@@ -18,7 +18,7 @@ pub(crate) struct Given<'a> {
 }
 
 /// An argument with one value, which may be left out.
-fn optional<'a>(alloc: Global, id: &'a str, name: &'a str, help: &'a str) -> Arg<'a> {
+pub(crate) fn optional<'a>(alloc: Global, id: &'a str, name: &'a str, help: &'a str) -> Arg<'a> {
     Arg::new(alloc, id)
         .action(ArgAction::Set)
         .value_name(name)

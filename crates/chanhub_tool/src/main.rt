@@ -1,4 +1,5 @@
-//! `chanhub_tool`: tells and draws journals, and answers the steps of one as its lines come.
+//! `chanhub_tool`: tells and draws journals, answers the steps of one as its lines come, and goes through all runs of a
+//! scenario.
 #![tactic(auto)]
 
 mod asked;
@@ -8,6 +9,7 @@ mod explanation;
 mod fault;
 mod files;
 mod given;
+mod limits;
 mod request;
 mod writing;
 

@@ -1,6 +1,7 @@
 #!/bin/sh
 # program.sh [PROGRAM [TOOL]]: runs the built program on the examples, journals and scenarios; on the rows of tests/; on
-# random journals beside the events that model.py makes of them, also cut, by cuts.py; and with each of its allocations refused. Runs a hub's
+# random journals beside the events that model.py makes of them, also cut, by cuts.py; on all schedules of scenarios, by explorations.py;
+# and with each of its allocations refused. Runs a hub's
 # tests and the live hub's, which `./test` has built, with theirs refused; compares model.py, CLAIMS, CHANGING, the links of pages and the quotations of
 # README with what they speak of; looks for limits that are written as numbers, and for definitions and proofs that are too
 # wide; counts the instructions of replays, where valgrind is there; tries a close by an end that receives; has each program
@@ -168,6 +169,9 @@ done
 
 "$root/tools/cuts.py" "$program" "$tool" > "$work/cuts" 2>&1
 count $? "journals that are cut: $(cat "$work/cuts")"
+
+"$root/tools/explorations.py" "$program" "$tool" > "$work/explorations" 2>&1
+count $? "all schedules of scenarios: $(cat "$work/explorations")"
 
 "$root/tools/arguments.py" "$program" "$tool" > "$work/arguments" 2>&1
 count $? "arguments: $(cat "$work/arguments")"

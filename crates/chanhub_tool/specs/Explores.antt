@@ -9,6 +9,7 @@ use Rattle.hub_scenario.specs.declared.fault.ScenarioFault.{ScenarioFault}
 use Rattle.hub_scenario.specs.declared.limits.TheConstants.{MOST_FILE_BYTES}
 use Rattle.hub_scenario.specs.Scenario.{ScenarioData, reading}
 use Rattle.hub_schedules.specs.Never.{NeverTells, NoRunTells}
+use Rattle.hub_explore.specs.Answers.{HasMany}
 use Rattle.hub_explore.specs.Runs.{Shows}
 use Rattle.chanhub_tool.specs.declared.commands.explore.Verdict.{Verdict}
 use Rattle.chanhub_tool.specs.declared.commands.explore.Verdict.TheVariants.{NoStall, Stall, GaveUp}
@@ -67,10 +68,11 @@ pub record Stalls (s : ScenarioData) (keeps : Bool) (Prints Writes : List ℕ �
   pub printed : Prints (stall_line steps)
   pub written : Writes (kept keeps journal)
 
+-- what is found, printed and written: nothing is written but the journal of a run that stalls
 abbrev pub Finds : Verdict → ScenarioData → ℕ → Bool → (Prints Writes : List ℕ → Type 0) → (WritesNone : Type 0) → Type 0
 Finds NoStall s most keeps Prints Writes WritesNone = NeverStalls s Prints × WritesNone
 Finds Stall s most keeps Prints Writes WritesNone = Stalls s keeps Prints Writes
-Finds GaveUp s most keeps Prints Writes WritesNone = Prints (gave_up_line most) × WritesNone
+Finds GaveUp s most keeps Prints Writes WritesNone = HasMany is_stalled s most × Prints (gave_up_line most) × WritesNone
 
 -- ---- why it says nothing
 -- why these bytes are not explored

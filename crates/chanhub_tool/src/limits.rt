@@ -1,7 +1,7 @@
 //! How many states of a scenario are gone through.
 
-/// So many where nothing is said of it.
+/// The number without `--states`.
 pub(crate) const DEFAULT_STATES: u32 = 1_000_000;
 
-/// The most that can be asked for.
+/// The greatest that `--states` takes.
 pub(crate) const MOST_STATES: u32 = 100_000_000;

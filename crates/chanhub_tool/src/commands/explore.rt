@@ -95,7 +95,7 @@ enum Verdict {
     NoStall,
     /// Some run does.
     Stall,
-    /// There are too many states.
+    /// There are too many states, or the run found is too long for a journal.
     GaveUp,
 }
 
@@ -248,7 +248,8 @@ fn tell_malformed<X: Sink>(alloc: Global, fault: ScenarioFault, errors: &mut X) 
 
 /// Goes through the runs of the scenario that `input` holds, prints what was found, and answers the status: 0 where no run
 /// stalls; 1 for a device or memory; 2 for a malformed scenario; 4 where some run stalls, the text of whose journal is
-/// written to `journal` if it is to be kept; 5 where there are more states than were to be gone through.
+/// written to `journal` if it is to be kept; 5 where there are more states than were to be gone through, or the run found is
+/// longer than a journal may be.
 pub fn explore_scenario<S: Source, W: Sink, J: Sink, X: Sink>(
     alloc: Global,
     most_states: u32,
@@ -259,6 +260,7 @@ pub fn explore_scenario<S: Source, W: Sink, J: Sink, X: Sink>(
     errors: &mut X,
 ) -> u8
     ensures statuses { result ≤ 5 }
+    ensures other { result ≡ 3 → ⊥ }
     ensures no_stall { result ≡ 0 → (s : ScenarioData)
         × ReadsScenario (S.remaining input.old) (S.remaining input.new) s
         × Finds NoStall s most_states keeps (Appends (W.contents output.old) (W.contents output.new))

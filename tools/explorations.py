@@ -1,6 +1,6 @@
 #!/usr/bin/env python3
 """explorations.py PROGRAM TOOL [RUNS [SEED]]: has the built chanhub_tool (TOOL) go through all schedules of random scenarios, and of the
-examples, and compares what it says with the search of explore.py, which reads no definition.
+examples, and compares what it says with the search of explore.py, which shares no code with the proofs.
 
 A scenario has two to four processes of up to four steps, and up to three ports. Where a run stalls, the journal that the tool writes is as
 short as the search's shortest; each of its lines is the next one of its process, and the last alone is told a stall, by model.py. Where

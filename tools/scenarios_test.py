@@ -261,6 +261,27 @@ class Tests(Count):
         status, told, errors = self.script('explain.sh', self.path('faulty'))
         self.test('explain.sh leaves nothing of a faulty journal', (status, told, self.left()) == (2, '', before) and errors == 'chanhub: line 2: bad procs\n')
 
+    def explains_every_run(self):
+        stalls, ends = (os.path.join(EXAMPLES, it) for it in ('philosophers', os.path.join('scenarios', 'mutual_exclusion')))
+        status, told, errors = self.script('explain.sh', '--every', stalls)
+        said, *names = told.splitlines()
+        # Process 0 makes four steps, and each of three philosophers takes a fork and asks for another; the ports are made before.
+        self.test('explain.sh --every says after how many steps a run stalls', (status, said, errors, len(names)) == (0, 'stall after 10 steps', '', 2))
+        story, picture = (read(it).decode() for it in names)
+        is_drawn = story.count('stall: everyone who is left waits') == 1 and '     13  P' in story and '     14  P' not in story
+        self.test('explain.sh --every explains that run', is_drawn and picture.endswith('</svg>\n'))
+        status, told, errors = self.script('explain.sh', '--every', stalls, '13')
+        one = read(told.splitlines()[1]).decode()
+        self.test('explain.sh --every explains one step of that run', status == 0 and '     13  P' in one and '     11  P' not in one)
+        before = self.left()
+        status, told, errors = self.script('explain.sh', '--every', ends)
+        self.test('explain.sh --every says that no run stalls', (status, errors, self.left()) == (0, '', before) and re.fullmatch(r'no stall: \d+ states, \d+ steps between them\n', told))
+        write(self.path('faulty'), b'ports = [x]\n')
+        status, told, errors = self.script('explain.sh', '--every', self.path('faulty'))
+        self.test('explain.sh --every leaves nothing of a faulty scenario', (status, told, self.left()) == (2, '', before) and errors.startswith('chanhub: scenario: '))
+        status, told, errors = self.script('explain.sh', '--every')
+        self.test('explain.sh --every says how it is used', status == 2 and told == '' and errors.startswith('usage: '))
+
     def stalls(self):
         stalls, ends = (os.path.join(EXAMPLES, 'scenarios', it) for it in ('everyone_stalls', 'hand_over'))
         status, told, errors = self.script('until_stall.sh', stalls)
@@ -337,7 +358,7 @@ def main():
     signal.signal(signal.SIGINT, signal.default_int_handler)
     with tempfile.TemporaryDirectory() as folder:
         tests = Tests(program, tool, folder)
-        for part in (lambda: tests.lint_agrees(mutations), tests.lint_says_where, tests.explains, tests.stalls, tests.counts, tests.reports):
+        for part in (lambda: tests.lint_agrees(mutations), tests.lint_says_where, tests.explains, tests.explains_every_run, tests.stalls, tests.counts, tests.reports):
             try:
                 part()
             except ImportError as error:

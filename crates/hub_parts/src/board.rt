@@ -12,6 +12,7 @@ ghost use Rattle.std.specs.List.{list_any};
 ghost use Rattle.hub_base.specs.Ready.{first_with, is_on};
 ghost use Rattle.hub_parts.specs.Lists.{open_calls, parked, with_new, IsMade, port_at, with_port, pushed, popped, closed_now, passes, ending_of, after_taking, after_stop, ended_by, opened, shown_call};
 ghost use Rattle.hub_parts.specs.Keeps.{AllMade};
+ghost use Rattle.hub_parts.specs.Shapes.{HaveOneShape, IsShapeOf, caps_of};
 ghost use Rattle.hub_parts.specs.declared.wait_queue.TheConstants.{PLACES};
 
 mod parking;
@@ -19,7 +20,7 @@ mod parking;
 use crate::{Channel, Ended, Side, Tickets};
 use hub_base::{CASE_PLACES, Case, Cases, MOST_PORTS, NoMemory, Pid, Port, Value};
 use parking::{join, make_room};
-use std::alloc::Global;
+use std::alloc::{AllocError, Global};
 use std::marker::Model;
 use std::slice;
 
@@ -47,6 +48,42 @@ impl Model for Board {
     ghost invariant = { λ b. BoardKeeps b.calls b.ports.items };
 }
 
+/// The same channels, in the same order.
+fn copy_channels(alloc: Global, channels: &[Channel]) -> Result<Vec<Channel>, AllocError>
+    ensures { IfOk result (λ v. v.items ≡ channels.now) }
+{
+    let mut copy = Vec::with_capacity(alloc, channels.len())?;
+    for channel in channels {
+        copy.push(channel.copy(alloc)?)?;
+    }
+    Ok(copy)
+}
+
+/// Whether these channels have the capacities of those, in order.
+fn have_caps_of(channels: &[Channel], others: &[Channel]) -> bool
+    ensures { result ≡ true → caps_of channels.now ≡ caps_of others.now }
+{
+    if channels.len() != others.len() {
+        return false;
+    }
+    for place in 0..others.len() {
+        if channels[place].cap() != others[place].cap() {
+            return false;
+        }
+    }
+    true
+}
+
+/// Makes these channels the same in all as those, each of which has as much room as the one in its place.
+fn copy_channels_over(channels: &mut [Channel], others: &[Channel])
+    requires { HaveOneShape channels.old others.now }
+    ensures { channels.new ≡ others.now }
+{
+    for place in 0..others.len() {
+        channels[place].copy_from(&others[place]);
+    }
+}
+
 impl Board {
     /// A board without ports and open calls. It takes the memory for an open call of each process.
     pub fn new(alloc: Global, procs: u8) -> Result<Board, NoMemory>
@@ -56,6 +93,32 @@ impl Board {
             ports: Vec::new(alloc),
             calls: Tickets::new(alloc, procs)?,
         })
+    }
+
+    /// A board with the same ports and the same open calls, which takes as much memory.
+    pub fn copy(&self, alloc: Global) -> Result<Board, NoMemory>
+        ensures { IfOk result (λ b. b ≡ self.now) }
+    {
+        Ok(Board {
+            ports: copy_channels(alloc, &self.ports)?,
+            calls: self.calls.copy(alloc)?,
+        })
+    }
+
+    /// Whether it has as many processes as another, and ports of the same capacities.
+    pub fn has_shape_of(&self, other: &Board) -> bool
+        ensures { result ≡ true → IsShapeOf self.now other.now }
+    {
+        self.calls.procs() == other.calls.procs() && have_caps_of(&self.ports, &other.ports)
+    }
+
+    /// Takes what is buffered and closed, and who waits, from another of its shape. It takes no memory.
+    pub fn copy_from(&mut self, other: &Board)
+        requires { IsShapeOf self.old other.now }
+        ensures { self.new ≡ other.now }
+    {
+        copy_channels_over(&mut self.ports, &other.ports);
+        self.calls.copy_from(&other.calls);
     }
 
     /// Makes the next port, empty and open. It takes all the memory that the port will ever need; after an error

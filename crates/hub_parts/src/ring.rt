@@ -28,6 +28,34 @@ impl Model for Ring {
     ghost invariant = { λ r. length r.values.items ≤ r.values.capacity };
 }
 
+/// Puts the items of another buffer of the same capacity in place of those that are there.
+pub(crate) fn copy_over<T: Copy + Drop>(
+    buffer: &mut HeapCircularBuffer<T>,
+    other: &HeapCircularBuffer<T>,
+)
+    requires { buffer.old.capacity ≡ other.now.capacity }
+    ensures { buffer.new ≡ other.now }
+{
+    // Its contract says that the items fit.
+    let _capacity = other.capacity();
+    buffer.clear();
+    let (front, back) = other.as_slices();
+    let _front = buffer.fill_from_slice(front);
+    let _back = buffer.fill_from_slice(back);
+}
+
+/// A buffer of the same capacity with the same items.
+pub(crate) fn copy_of<T: Copy + Drop>(
+    alloc: Global,
+    buffer: &HeapCircularBuffer<T>,
+) -> Result<HeapCircularBuffer<T>, AllocError>
+    ensures { IfOk result (λ b. b ≡ buffer.now) }
+{
+    let mut copy = HeapCircularBuffer::with_capacity(alloc, buffer.capacity())?;
+    copy_over(&mut copy, buffer);
+    Ok(copy)
+}
+
 impl Ring {
     /// An empty ring. It takes the memory for all of its values.
     pub fn new(alloc: Global, cap: u32) -> Result<Ring, AllocError>
@@ -36,6 +64,23 @@ impl Ring {
         Ok(Ring {
             values: HeapCircularBuffer::with_capacity(alloc, cap as usize)?,
         })
+    }
+
+    /// A ring with room for as many values, and with the same ones.
+    pub(crate) fn copy(&self, alloc: Global) -> Result<Ring, AllocError>
+        ensures { IfOk result (λ r. r ≡ self.now) }
+    {
+        Ok(Ring {
+            values: copy_of(alloc, &self.values)?,
+        })
+    }
+
+    /// Puts the values of another ring with as much room in place of those that are there.
+    pub(crate) fn copy_from(&mut self, other: &Ring)
+        requires { self.old.capacity ≡ other.now.capacity }
+        ensures { self.new ≡ other.now }
+    {
+        copy_over(&mut self.values, &other.values);
     }
 
     /// Adds the newest value. There must be room.

@@ -60,6 +60,24 @@ impl CaseCounts {
         }
     }
 
+    /// The same counts.
+    pub(crate) fn copy(&self) -> CaseCounts
+        ensures { result ≡ self.now }
+    {
+        CaseCounts {
+            sends: self.sends,
+            recvs: self.recvs,
+        }
+    }
+
+    /// Takes the counts of another.
+    pub(crate) fn copy_from(&mut self, other: &CaseCounts)
+        ensures { self.new ≡ other.now }
+    {
+        self.sends = other.sends;
+        self.recvs = other.recvs;
+    }
+
     /// Changes the count of each of these cases.
     #[inline(always)]
     fn change_each(&mut self, cases: &[Case], by: Change)

@@ -6,35 +6,43 @@ use Rattle.std.proofs.lemmas.List.{take-append-le, drop-append-le, drop-drop, le
 use Rattle.std.proofs.lemmas.Option.{none-some, same_Some, slice_get_past, slice_get_read}
 use Rattle.std.proofs.Math.Seq.{take-length, drop-length, drop-cons}
 use Rattle.hub_base.specs.declared.case.Case.{Case}
-use Rattle.hub_base.specs.declared.entry.Step.{Step}
-use Rattle.hub_base.specs.declared.entry.Step.TheVariants.{Make, Call, Close, Exit, Cancel}
 use Rattle.hub_base.specs.declared.entry.Entry.{Entry}
 use Rattle.hub_base.specs.declared.limits.TheConstants.{CASE_PLACES}
+use Rattle.hub_base.specs.declared.value.Value.{Value}
+use Rattle.hub_base.specs.Content.{Content}
+use Rattle.hub_base.specs.Content.Content.{Num, Bytes}
+use Rattle.hub_base.specs.Value.{content, number_in, saying, value_of}
+use Rattle.hub_base.proofs.Values.{every_value}
 use Rattle.hub_core.specs.declared.log.Brief.{Brief}
-use Rattle.hub_core.specs.LogView.{AreBriefs, StandFrom, brief_of, brief_step, case_count, cases_of, cases_of_step, count_of_step}
-use Rattle.hub_core.specs.LogView.{entry_of, step_of_brief, written}
+use Rattle.hub_core.specs.declared.log.Brief.TheVariants as brief
+use Rattle.hub_core.specs.LogView.{AreBriefs, BeginsAt, IsBriefOf, StandFrom, case_count, cases_beside, entry_of, first_of, own_of, written}
 
-step_again : (s : Step) → step_of_brief (brief_step s) (cases_of_step s) ≡ s
-step_again (Make cap) = refl
-step_again (Call cases default word) = refl
-step_again (Close p) = refl
-step_again Exit = refl
-step_again (Cancel q) = refl
+-- a value that is a number
+pub number_again : (v : Value) (n : ℕ) → number_in (content v) ≡ Some n → value_of n ≡ v
+number_again v n is = by (content v) refl
+  where
+    by : (c : Content) → c ≡ content v → value_of n ≡ v
+    by (Num m) said =
+        let same : m ≡ n = same_Some m n (ap number_in said ∙ is) in
+        ap (λ k. saying (Num k)) (sym same) ∙ ap saying said ∙ (every_value v).one
+    by (Bytes bs) said = absurd (none-some n (ap number_in said ∙ is))
 
--- an entry is what is kept of it, with its cases
-pub entry_again : (e : Entry) (first : ℕ) → entry_of (brief_of e first) (cases_of e) ≡ e
-entry_again e first = ap (λ (s : Step). record { pid = e.pid; step = s }) (step_again e.step)
+-- its cases, with where they stand
+pub record Own (b : Brief) (n : ℕ) (all : List Case) : Type 0 where
+  pub own : take (case_count b) (drop n all) ≡ own_of b all
+  pub within : n + case_count b ≤ length all → first_of b + case_count b ≤ length all
 
-counted_step : (s : Step) → count_of_step (brief_step s) ≡ length (cases_of_step s)
-counted_step (Make cap) = refl
-counted_step (Call cases default word) = refl
-counted_step (Close p) = refl
-counted_step Exit = refl
-counted_step (Cancel q) = refl
-
--- as many as it counts
-pub counted : (e : Entry) (first : ℕ) → case_count (brief_of e first) ≡ length (cases_of e)
-counted e first = counted_step e.step
+pub own_there : (b : Brief) (n : ℕ) (all : List Case) → BeginsAt n b → Own b n all
+own_there (brief.Send pid p number) n all begins = record { own = refl; within = λ fits. omega arith }
+own_there (brief.Recv pid p) n all begins = record { own = refl; within = λ fits. omega arith }
+own_there (brief.Call pid default count first word) n all begins = record {
+  own = ap (λ k. take count (drop k all)) (sym begins);
+  within = λ fits. omega (arith, begins, fits);
+}
+own_there (brief.Make pid cap) n all begins = record { own = refl; within = λ fits. omega arith }
+own_there (brief.Close pid p) n all begins = record { own = refl; within = λ fits. omega arith }
+own_there (brief.Exit pid) n all begins = record { own = refl; within = λ fits. omega arith }
+own_there (brief.Cancel pid q) n all begins = record { own = refl; within = λ fits. omega arith }
 
 take_all : (n : ℕ) (cs ds : List Case) → cs ≡ [] → n ≡ length ds → take n (cs ++ ds) ≡ ds
 take_all n cs ds none is = (λ i. take (is i) (none i ++ ds)) ∙ take-length ds
@@ -91,12 +99,15 @@ unfolding StandFrom
 none_begins bs none = subst (StandFrom 0) (sym none) tt
 
 -- one more, whose cases begin behind the others'
-begin_more : (n : ℕ) (bs : List Brief) (cs : List Case) (b : Brief) → AreBriefs bs cs → StandFrom n bs → b.first ≡ n + length cs → StandFrom n (bs ++ b ∷ [])
+begin_more : (n : ℕ) (bs : List Brief) (cs : List Case) (b : Brief) → AreBriefs bs cs → StandFrom n bs → BeginsAt (n + length cs) b
+    → StandFrom n (bs ++ b ∷ [])
 unfolding AreBriefs StandFrom
-begin_more n [] cs b none stand is = (is ∙ (let z : n + length cs ≡ n = omega (arith, ap length none) in z), tt)
+begin_more n [] cs b none stand is =
+    let here : n + length cs ≡ n = omega (arith, ap length none) in (subst (λ k. BeginsAt k b) here is, tt)
 begin_more n (x ∷ bs) cs b (few, within, rest) (first, stand) is =
     let k = case_count x in
-    (first, begin_more (n + k) bs (drop k cs) b rest stand (omega (arith, is, within, length-drop k cs)))
+    let there : n + length cs ≡ (n + k) + length (drop k cs) = omega (arith, within, length-drop k cs) in
+    (first, begin_more (n + k) bs (drop k cs) b rest stand (subst (λ m. BeginsAt m b) there is))
 
 -- ---- an entry more is kept short
 
@@ -107,18 +118,17 @@ pub record Gains (bs more : List Brief) (cs cs' : List Case) (e : Entry) : Type 
   pub items : (whole : List Entry) → whole ++ written more cs' ≡ (whole ++ written bs cs) ++ e ∷ []
 
 pub gains : {bs more grown : List Brief} {cs cs' ds : List Case} {b : Brief} {first : ℕ} (e : Entry) → AreBriefs bs cs → grown ≡ bs ++ b ∷ []
-    → b ≡ brief_of e first → first ≡ length cs → more ≡ grown → ds ≡ cases_of e → length ds ≤ CASE_PLACES → cs' ≡ cs ++ ds → Gains bs more cs cs' e
+    → IsBriefOf e first b → first ≡ length cs → more ≡ grown → ds ≡ cases_beside e b → length ds ≤ CASE_PLACES → cs' ≡ cs ++ ds → Gains bs more cs cs' e
 gains {bs} {more} {grown} {cs} {cs'} {ds} {b} {first} e are grown_is kept behind more_is own few longer =
-    let count : case_count b ≡ length ds = ap case_count kept ∙ counted e first ∙ ap length (sym own) in
+    let count : case_count b ≡ length ds = kept.count ∙ ap length (sym own) in
     let all : more ≡ bs ++ b ∷ [] = more_is ∙ grown_is in
-    let again : entry_of b ds ≡ e = (λ i. entry_of (kept i) (own i)) ∙ entry_again e first in
+    let again : entry_of b ds ≡ e = ap (entry_of b) own ∙ kept.again in
+    let start : first ≡ 0 + length cs = omega (arith, behind) in
     let spelled : written more cs' ≡ written bs cs ++ e ∷ [] =
     (λ i. written (all i) (longer i)) ∙ written_more bs cs b ds are count ∙ ap (λ x. written bs cs ++ x ∷ []) again in
     record {
       briefs = subst (λ (x : List Brief × List Case). AreBriefs x.0 x.1) (λ i. (sym all i, sym longer i)) (briefs_more bs cs b ds are count few);
-      begin = λ stand.
-          let start : b.first ≡ 0 + length cs = omega (arith, ap (λ (x : Brief). x.first) kept, behind) in
-          subst (StandFrom 0) (sym all) (begin_more 0 bs cs b are stand start);
+      begin = λ stand. subst (StandFrom 0) (sym all) (begin_more 0 bs cs b are stand (subst (λ n. BeginsAt n b) start kept.begins));
       one = ap length all ∙ length-append bs (b ∷ []);
       items = λ whole. ap (λ (es : List Entry). whole ++ es) spelled ∙ sym (append_assoc whole (written bs cs) (e ∷ []));
     }
@@ -170,8 +180,8 @@ none_written bs cs i past = slice_get_past (written bs cs) i (omega (arith, past
 -- a brief with its cases
 pub record Stands (bs : List Brief) (left all : List Case) (i : ℕ) (b : Brief) : Type 0 where
   pub few : case_count b ≤ CASE_PLACES
-  pub within : b.first + case_count b ≤ length all
-  pub is : slice_get (written bs left) i ≡ Some (entry_of b (take (case_count b) (drop b.first all)))
+  pub within : first_of b + case_count b ≤ length all
+  pub is : slice_get (written bs left) i ≡ Some (entry_of b (own_of b all))
 
 stands_behind : (n : ℕ) (bs : List Brief) (all : List Case) (i : ℕ) (b : Brief) → n ≤ length all → AreBriefs bs (drop n all) → StandFrom n bs
     → slice_get bs i ≡ Some b → Stands bs (drop n all) all i b
@@ -179,12 +189,12 @@ unfolding AreBriefs StandFrom written
 stands_behind n [] all i b low are stand at = absurd (none-some b at)
 stands_behind n (x ∷ bs) all zero b low (few, within, rest) (first, stand) at =
     let same : x ≡ b = same_Some x b at in
-    let begins : b.first ≡ n = ap (λ (y : Brief). y.first) (sym same) ∙ first in
+    let own = own_there b n all (subst (BeginsAt n) same first) in
     record {
       few = subst (λ (y : Brief). case_count y ≤ CASE_PLACES) same few;
-      within = omega (arith, low, begins, ap case_count same, within, length-drop n all);
+      within = own.within (omega (arith, low, ap case_count same, within, length-drop n all));
       is = ap (λ (y : Brief). Some (entry_of y (take (case_count y) (drop n all)))) same
-          ∙ ap (λ k. Some (entry_of b (take (case_count b) (drop k all)))) (sym begins);
+          ∙ ap (λ (cs : List Case). Some (entry_of b cs)) own.own;
     }
 stands_behind n (x ∷ bs) all (suc i) b low (few, within, rest) (first, stand) at =
     let k = case_count x in

@@ -1,15 +1,16 @@
 -- What contracts see of a journal whose newest entries may be kept short, and how such are written out.
-use Rattle.std.specs.Prelude.{◌≡◌, ◌≤◌, ◌+◌, ℕ, List, [], ◌∷◌, length, take, drop, if◌then◌else◌}
+use Rattle.std.specs.Prelude.{◌≡◌, ◌≤◌, ◌<◌, ◌+◌, ◌^◌, ℕ, false, List, [], ◌∷◌, length, take, drop, if◌then◌else◌}
 use Rattle.hub_base.specs.declared.case.Case.{Case}
+use Rattle.hub_base.specs.declared.case.Case.TheVariants.{Send, Recv}
 use Rattle.hub_base.specs.declared.entry.Step.{Step}
 use Rattle.hub_base.specs.declared.entry.Step.TheVariants as step
 use Rattle.hub_base.specs.declared.entry.Entry.{Entry}
 use Rattle.hub_base.specs.declared.limits.TheConstants.{CASE_PLACES, MOST_PROCS}
-use Rattle.hub_base.specs.Lines.{call}
+use Rattle.hub_base.specs.Lines.{by, call}
 use Rattle.hub_base.specs.Reading.{is_exit}
+use Rattle.hub_base.specs.Value.{value_of}
 use Rattle.hub_core.specs.declared.log.Brief.{Brief}
-use Rattle.hub_core.specs.declared.log.BriefStep.{BriefStep}
-use Rattle.hub_core.specs.declared.log.BriefStep.TheVariants as brief
+use Rattle.hub_core.specs.declared.log.Brief.TheVariants as brief
 
 -- a journal
 pub record LogView : Type 0 where
@@ -38,48 +39,77 @@ cases_of_step (step.Cancel q) = []
 abbrev pub cases_of : Entry → List Case
 cases_of e = cases_of_step e.step
 
--- what is kept of it beside them
-abbrev pub brief_step : Step → BriefStep
-brief_step (step.Make cap) = brief.Make cap
-brief_step (step.Call cases default word) = brief.Call (length cases.items) default word
-brief_step (step.Close p) = brief.Close p
-brief_step step.Exit = brief.Exit
-brief_step (step.Cancel q) = brief.Cancel q
-
 -- how many places it asks for among those that are kept short: behind any step there is one for the exit of each process
 abbrev pub places_asked : Step → ℕ
 places_asked s = if is_exit s then 1 else MOST_PROCS + 1
+
+-- ---- what is kept of an entry
+
+-- how many cases are not kept with it
+abbrev pub case_count : Brief → ℕ
+case_count (brief.Send pid p number) = 0
+case_count (brief.Recv pid p) = 0
+case_count (brief.Call pid default count first word) = count
+case_count (brief.Make pid cap) = 0
+case_count (brief.Close pid p) = 0
+case_count (brief.Exit pid) = 0
+case_count (brief.Cancel pid q) = 0
+
+-- where these begin among those of all entries
+abbrev pub first_of : Brief → ℕ
+first_of (brief.Send pid p number) = 0
+first_of (brief.Recv pid p) = 0
+first_of (brief.Call pid default count first word) = first
+first_of (brief.Make pid cap) = 0
+first_of (brief.Close pid p) = 0
+first_of (brief.Exit pid) = 0
+first_of (brief.Cancel pid q) = 0
+
+-- they begin there
+abbrev pub BeginsAt : ℕ → Brief → Type 0
+BeginsAt n (brief.Call pid default count first word) = first ≡ n
+BeginsAt n other = Unit {0}
+
+-- these of the cases of all entries
+abbrev pub own_of : Brief → List Case → List Case
+own_of b all = take (case_count b) (drop (first_of b) all)
+
+-- the entry again, with these cases where they are not kept with it
+abbrev pub entry_of : Brief → List Case → Entry
+entry_of (brief.Send pid p number) cases = by pid.0 (call (Send p (value_of number) ∷ []) false 0)
+entry_of (brief.Recv pid p) cases = by pid.0 (call (Recv p ∷ []) false 0)
+entry_of (brief.Call pid default count first word) cases = by pid.0 (call cases default word)
+entry_of (brief.Make pid cap) cases = by pid.0 (step.Make cap)
+entry_of (brief.Close pid p) cases = by pid.0 (step.Close p)
+entry_of (brief.Exit pid) cases = by pid.0 step.Exit
+entry_of (brief.Cancel pid q) cases = by pid.0 (step.Cancel q)
+
+-- the cases of the entry, where they are not kept with it
+abbrev pub cases_beside : Entry → Brief → List Case
+cases_beside e (brief.Call pid default count first word) = cases_of e
+cases_beside e other = []
+
+-- this is kept of the entry; its cases, where they are not kept with it, begin there
+pub record IsBriefOf (e : Entry) (first : ℕ) (b : Brief) : Type 0 where
+  pub again : entry_of b (cases_beside e b) ≡ e
+  pub count : case_count b ≡ length (cases_beside e b)
+  pub begins : BeginsAt first b
+
+-- this is all of the entry
+abbrev pub IsWhole : Entry → Brief → Type 0
+IsWhole e b = (first : ℕ) → IsBriefOf e first b
 
 -- there is room for it there, and for its cases
 pub record FitsShort (log : LogView) (e : Entry) : Type 0 where
   pub places : log.short + places_asked e.step ≤ log.short_room
   pub cases : log.cases + length (cases_of e) ≤ log.case_room
+  pub few : log.cases < 2 ^ 32
 
--- what is kept of an entry beside its cases, with where they begin
-abbrev pub brief_of : Entry → ℕ → Brief
-brief_of e first = record { pid = e.pid; step = brief_step e.step; first = first }
-
--- how many cases it has
-abbrev pub count_of_step : BriefStep → ℕ
-count_of_step (brief.Make cap) = 0
-count_of_step (brief.Call count default word) = count
-count_of_step (brief.Close p) = 0
-count_of_step brief.Exit = 0
-count_of_step (brief.Cancel q) = 0
-
-abbrev pub case_count : Brief → ℕ
-case_count b = count_of_step b.step
-
--- the entry again, with its cases
-abbrev pub step_of_brief : BriefStep → List Case → Step
-step_of_brief (brief.Make cap) cases = step.Make cap
-step_of_brief (brief.Call count default word) cases = call cases default word
-step_of_brief (brief.Close p) cases = step.Close p
-step_of_brief brief.Exit cases = step.Exit
-step_of_brief (brief.Cancel q) cases = step.Cancel q
-
-abbrev pub entry_of : Brief → List Case → Entry
-entry_of b cases = record { pid = b.pid; step = step_of_brief b.step cases }
+-- there is room for all entries of another, kept as they are there
+pub record HasRoomFor (log other : LogView) : Type 0 where
+  pub whole : other.capacity ≤ log.capacity
+  pub short : other.short ≤ log.short_room
+  pub cases : other.cases ≤ log.case_room
 
 -- ---- entries in order
 
@@ -91,7 +121,7 @@ written (b ∷ bs) cases = entry_of b (take (case_count b) cases) ∷ written bs
 -- the cases of each stand behind those of the ones before it; those of the first, behind so many
 unfoldable pub StandFrom : ℕ → List Brief → Type 0
 StandFrom n [] = Unit {0}
-StandFrom n (b ∷ bs) = (b.first ≡ n) × StandFrom (n + case_count b) bs
+StandFrom n (b ∷ bs) = BeginsAt n b × StandFrom (n + case_count b) bs
 
 -- these are all their cases, and none has more than an entry has places for
 unfoldable pub AreBriefs : List Brief → List Case → Type 0

@@ -1,16 +1,18 @@
 //! How a case fires: the caller is told, and then the waiting call that ended with it. Go: "Send statements", "Receive operator".
 
-ghost use Rattle.std.specs.Prelude.{◌≡◌, ◌<◌, ◌∷◌, [], true};
+ghost use Rattle.std.specs.Prelude.{IfOk, ◌≡◌, ◌<◌, ◌∷◌, [], true};
 ghost use Rattle.hub_parts.specs.declared.side.Side.TheVariants as side;
 ghost use Rattle.hub_core.specs.Prelude.{ending_of, fired, passes};
+ghost use Rattle.hub_parts.specs.Shapes.{IsShapeOf};
 ghost use Rattle.hub_core.specs.ListReady.{SendFits, can_on};
 ghost use Rattle.hub_core.specs.ListKeeps.{PortsKeep, MayFire, IsNamed};
 ghost use Rattle.hub_core.specs.Hearing.{Heard};
 ghost use Rattle.hub_core.specs.ListFirings.{Fires, HearsFiring, send_on, take_on, let_in, recv_on, fire_on};
 
 use crate::tally::{Carried, Tallies};
-use hub_base::{Case, Event, Hears, Outcome, Pid, Port, Value, What};
+use hub_base::{Case, Event, Hears, NoMemory, Outcome, Pid, Port, Value, What};
 use hub_parts::{Board, Ended, Side};
+use std::alloc::Global;
 
 /// Whose case fires.
 #[derive(Clone, Copy)]
@@ -43,6 +45,25 @@ pub(crate) struct CountedBoard {
 }
 
 impl CountedBoard {
+    /// Takes all from another of its shape. It takes no memory.
+    pub(crate) fn copy_from(&mut self, other: &CountedBoard)
+        requires { IsShapeOf self.old.board other.now.board }
+        ensures { self.new ≡ other.now }
+    {
+        self.board.copy_from(&other.board);
+        self.tallies.copy_from(&other.tallies);
+    }
+
+    /// The same, which takes as much memory.
+    pub(crate) fn copy(&self, alloc: Global) -> Result<CountedBoard, NoMemory>
+        ensures { IfOk result (λ b. b ≡ self.now) }
+    {
+        Ok(CountedBoard {
+            board: self.board.copy(alloc)?,
+            tallies: self.tallies.copy(),
+        })
+    }
+
     /// A send that can proceed: to the oldest receiver that waits, or else into the buffer.
     #[inline]
     fn send<E: Hears>(&mut self, events: &mut E, caller: Caller, port: Port, value: &Value)

@@ -1,41 +1,63 @@
 //! The journal of a hub, whose newest entries may be kept short.
 //!
 //! An entry has places for 16 cases, and a call mostly has one. Written out, entries take more new pages than all else
-//! that steps do, and a new page takes longer than a step. So a hub that threads share keeps of each entry the cases that
-//! it has, and a few bytes beside them; the entries are written out when they are asked for. Their places are reserved
-//! as if they were written, so that this takes no memory.
+//! that steps do, and a new page takes longer than a step. So a hub that threads share keeps each entry in 16 bytes, and
+//! beside them only the cases of a call that has several, or sends bytes; the entries are written out when they are asked
+//! for. Their places are reserved as if they were written, so that this takes no memory.
 
-ghost use Rattle.std.specs.Prelude.{◌≡◌, ◌≤◌, ◌<◌, ◌+◌, ◌++◌, ◌∷◌, [], ℕ, IsTrue, ◌↔◌, true, false, IfOk, OnOk, OnErr, length, slice_get, vec_len};
+ghost use Rattle.std.specs.Prelude.{◌≡◌, ◌≤◌, ◌<◌, ◌+◌, ◌++◌, ◌∷◌, [], IsTrue, ◌↔◌, true, false, IfOk, IfSome, OnOk, OnErr, length, slice_get, vec_len};
 ghost use Rattle.std.specs.Vec.{vec_capacity};
 ghost use Rattle.hub_base.specs.declared.limits.TheConstants.{CASE_PLACES};
-ghost use Rattle.hub_core.specs.LogView.{brief_of, case_count, cases_of, entry_of, written, AreBriefs, FitsShort, StandFrom, places_asked};
+ghost use Rattle.hub_base.specs.Lines.{by, call};
+ghost use Rattle.hub_core.specs.LogView.{case_count, cases_beside, cases_of, entry_of, first_of, own_of, written, places_asked};
+ghost use Rattle.hub_core.specs.LogView.{AreBriefs, FitsShort, HasRoomFor, IsBriefOf, IsWhole, StandFrom};
 
-use hub_base::{Case, Entry, MOST_PROCS, Pid, Port, Step, cases_from};
+use hub_base::{Case, Cases, CasesExt, Entry, MOST_PROCS, Pid, Port, Step, Value, cases_from};
 use std::alloc::{AllocError, Global};
 use std::marker::Model;
 
-/// A step without the cases that it may have.
+/// An entry without a list of cases.
+///
+/// A call of one case with which no choice goes is kept whole, unless it sends bytes. The cases of any other call stand in
+/// a list beside.
 #[derive(Clone, Copy)]
-pub(crate) enum BriefStep {
-    Make(u32),
+pub(crate) enum Brief {
+    /// A call that sends a number.
+    Send {
+        pid: Pid,
+        port: Port,
+        number: u64,
+    },
+    /// A call that receives.
+    Recv {
+        pid: Pid,
+        port: Port,
+    },
+    /// Any other call.
     Call {
+        pid: Pid,
+        default: bool,
         /// How many cases it has.
         count: u8,
-        default: bool,
+        /// Where they begin among those of all entries that are kept short.
+        first: u32,
         word: u64,
     },
-    Close(Port),
-    Exit,
-    Cancel(Pid),
-}
-
-/// An entry without the cases that it may have.
-#[derive(Clone, Copy)]
-pub(crate) struct Brief {
-    pid: Pid,
-    step: BriefStep,
-    /// Where its cases begin among those of all entries that are kept short.
-    first: usize,
+    Make {
+        pid: Pid,
+        cap: u32,
+    },
+    Close {
+        pid: Pid,
+        port: Port,
+    },
+    Exit {
+        pid: Pid,
+    },
+    Cancel {
+        pid: Pid,
+        other: Pid,
+    },
 }
 
 /// The entries of a journal, in order. The newest may be kept short.
@@ -45,7 +67,7 @@ pub(crate) struct Log {
     whole: Vec<Entry>,
     /// Those that are kept short.
     briefs: Vec<Brief>,
-    /// The cases of these, one entry's after the other's.
+    /// The cases that are not kept there, one entry's after the other's.
     cases: Vec<Case>,
 }
 
@@ -60,36 +82,68 @@ impl Model for Log {
     ghost invariant = { λ l. LogKeeps l };
 }
 
-/// What is kept of an entry beside its cases, which begin there.
-pub(crate) fn brief_of(entry: &Entry, first: usize) -> Brief
-    ensures { result ≡ brief_of entry.now first }
+/// What is kept of a call with this case alone, no default and word 0, where that is all of it.
+fn brief_of_one(pid: Pid, case: Case) -> Option<Brief>
+    ensures { IfSome result (IsWhole (by pid.0 (call (case ∷ []) false 0))) }
 {
-    let step = match entry.step {
-        Step::Make(cap) => BriefStep::Make(cap),
+    match case {
+        Case::Recv(port) => Some(Brief::Recv { pid, port }),
+        Case::Send(port, value) => match value.as_num() {
+            Some(number) => Some(Brief::Send { pid, port, number }),
+            None => None,
+        },
+    }
+}
+
+/// What is kept of a call, where that is all of it.
+fn brief_of_plain(pid: Pid, cases: &[Case], default: bool, word: u64) -> Option<Brief>
+    ensures { IfSome result (IsWhole (by pid.0 (call cases.now default word))) }
+{
+    if cases.len() == 1 && !default && word == 0 {
+        brief_of_one(pid, cases[0])
+    } else {
+        None
+    }
+}
+
+/// What is kept of a call whose cases, where they are not kept with it, begin there.
+fn brief_of_call(pid: Pid, cases: &[Case], default: bool, word: u64, first: u32) -> Brief
+    requires { length cases.now ≤ CASE_PLACES }
+    ensures { IsBriefOf (by pid.0 (call cases.now default word)) first result }
+{
+    match brief_of_plain(pid, cases, default, word) {
+        Some(brief) => brief,
+        None => Brief::Call {
+            pid,
+            default,
+            count: cases.len() as u8,
+            first,
+            word,
+        },
+    }
+}
+
+/// What is kept of an entry whose cases, where they are not kept with it, begin there.
+pub(crate) fn brief_of(entry: &Entry, first: u32) -> Brief
+    ensures { IsBriefOf entry.now first result }
+{
+    let pid = entry.pid;
+    match entry.step {
+        Step::Make(cap) => Brief::Make { pid, cap },
         Step::Call {
             ref cases,
             default,
             word,
-        } => BriefStep::Call {
-            count: cases.len() as u8,
-            default,
-            word,
-        },
-        Step::Close(port) => BriefStep::Close(port),
-        Step::Exit => BriefStep::Exit,
-        Step::Cancel(pid) => BriefStep::Cancel(pid),
-    };
-    Brief {
-        pid: entry.pid,
-        step,
-        first,
+        } => brief_of_call(pid, cases.as_slice(), default, word, first),
+        Step::Close(port) => Brief::Close { pid, port },
+        Step::Exit => Brief::Exit { pid },
+        Step::Cancel(other) => Brief::Cancel { pid, other },
     }
 }
 
 /// The cases of an entry; none where it is no call.
-pub(crate) fn cases_of(entry: &Entry) -> &[Case]
+fn cases_of(entry: &Entry) -> &[Case]
     ensures cases { result.now ≡ cases_of entry.now }
-    ensures count { (first : ℕ) → length result.now ≡ case_count (brief_of entry.now first) }
     ensures few { length result.now ≤ CASE_PLACES }
 {
     match entry.step {
@@ -98,43 +152,102 @@ pub(crate) fn cases_of(entry: &Entry) -> &[Case]
     }
 }
 
-impl Brief {
-    /// Where its cases begin among those of all entries that are kept short.
-    pub(crate) fn first(self) -> usize
-        ensures { result ≡ self.first }
-    {
-        self.first
+/// The cases of the entry that are not kept with this, which is kept of it.
+pub(crate) fn cases_beside<'a>(entry: &'a Entry, brief: Brief) -> &'a [Case]
+    ensures cases { result.now ≡ cases_beside entry.now brief }
+    ensures few { length result.now ≤ CASE_PLACES }
+{
+    match brief {
+        Brief::Call { .. } => cases_of(entry),
+        _ => &[],
     }
+}
 
-    /// How many cases its entry has.
-    pub(crate) fn count(self) -> usize
-        ensures { result ≡ case_count self }
+/// A call of one case.
+fn call_of_one(pid: Pid, case: Case) -> Entry
+    ensures { result ≡ by pid.0 (call (case ∷ []) false 0) }
+{
+    Entry {
+        pid,
+        step: Step::Call {
+            cases: Cases::one(case),
+            default: false,
+            word: 0,
+        },
+    }
+}
+
+impl Brief {
+    /// Where the cases that are not kept with it begin among those of all entries.
+    fn first(self) -> usize
+        ensures { result ≡ first_of self }
     {
-        match self.step {
-            BriefStep::Call { count, .. } => usize::from(count),
+        match self {
+            Brief::Call { first, .. } => first as usize,
             _ => 0,
         }
     }
 
-    /// Its entry, which has these cases.
+    /// How many cases are not kept with it.
+    fn count(self) -> usize
+        ensures { result ≡ case_count self }
+    {
+        match self {
+            Brief::Call { count, .. } => usize::from(count),
+            _ => 0,
+        }
+    }
+
+    /// The cases that are not kept with it, of those of all entries.
+    pub(crate) fn own(self, cases: &[Case]) -> &[Case]
+        requires { first_of self + case_count self ≤ length cases.now }
+        ensures own { result.now ≡ own_of self cases.now }
+        ensures count { length result.now ≡ case_count self }
+    {
+        let (_others, from) = cases.split_at(self.first());
+        let (own, _rest) = from.split_at(self.count());
+        own
+    }
+
+    /// Its entry, with these cases where they are not kept with it.
     fn entry(self, cases: &[Case]) -> Entry
         requires { length cases.now ≤ CASE_PLACES }
         ensures { result ≡ entry_of self cases.now }
     {
-        let step = match self.step {
-            BriefStep::Make(cap) => Step::Make(cap),
-            BriefStep::Call { default, word, .. } => Step::Call {
-                cases: cases_from(cases),
+        match self {
+            Brief::Send { pid, port, number } => {
+                call_of_one(pid, Case::Send(port, Value::num(number)))
+            }
+            Brief::Recv { pid, port } => call_of_one(pid, Case::Recv(port)),
+            Brief::Call {
+                pid,
                 default,
                 word,
+                ..
+            } => Entry {
+                pid,
+                step: Step::Call {
+                    cases: cases_from(cases),
+                    default,
+                    word,
+                },
             },
-            BriefStep::Close(port) => Step::Close(port),
-            BriefStep::Exit => Step::Exit,
-            BriefStep::Cancel(pid) => Step::Cancel(pid),
-        };
-        Entry {
-            pid: self.pid,
-            step,
+            Brief::Make { pid, cap } => Entry {
+                pid,
+                step: Step::Make(cap),
+            },
+            Brief::Close { pid, port } => Entry {
+                pid,
+                step: Step::Close(port),
+            },
+            Brief::Exit { pid } => Entry {
+                pid,
+                step: Step::Exit,
+            },
+            Brief::Cancel { pid, other } => Entry {
+                pid,
+                step: Step::Cancel(other),
+            },
         }
     }
 }
@@ -178,9 +291,53 @@ pub(crate) fn short_at(briefs: &[Brief], cases: &[Case], place: usize) -> Option
     let Some(brief) = briefs.get(place) else {
         return None;
     };
-    let (_others, from) = cases.split_at(brief.first);
-    let (own, _rest) = from.split_at(brief.count());
-    Some(brief.entry(own))
+    Some(brief.entry(brief.own(cases)))
+}
+
+/// The same entries, written out, with room for so many.
+fn copy_whole(alloc: Global, entries: &[Entry], capacity: usize) -> Result<Vec<Entry>, AllocError>
+    requires { length entries.now ≤ capacity }
+    ensures items { IfOk result (λ v. v.items ≡ entries.now) }
+    ensures capacity { IfOk result (λ v. vec_capacity v ≡ capacity) }
+{
+    let mut copy = Vec::with_capacity(alloc, capacity)?;
+    for entry in entries {
+        copy.push_reserved(entry.copy());
+    }
+    Ok(copy)
+}
+
+/// Puts these entries in place of those that are there. There is room for them.
+fn copy_whole_over(entries: &mut Vec<Entry>, others: &[Entry])
+    requires { length others.now ≤ vec_capacity entries.old }
+    ensures items { entries.new.items ≡ others.now }
+    ensures capacity { vec_capacity entries.new ≡ vec_capacity entries.old }
+{
+    entries.clear();
+    for entry in others {
+        entries.push_reserved(entry.copy());
+    }
+}
+
+/// Puts these items in place of those that are there. There is room for them.
+fn copy_list_over<T: Copy + Drop>(items: &mut Vec<T>, others: &[T])
+    requires { length others.now ≤ vec_capacity items.old }
+    ensures { items.new.items ≡ others.now }
+{
+    items.clear();
+    match items.extend_from_slice(others) {
+        Ok(()) => {}
+        Err(AllocError) => unreachable!(),
+    }
+}
+
+/// The same list.
+fn copy_list<T: Copy>(alloc: Global, items: &[T]) -> Result<Vec<T>, AllocError>
+    ensures { IfOk result (λ v. v.items ≡ items.now) }
+{
+    let mut copy = Vec::new(alloc);
+    copy.extend_from_slice(items)?;
+    Ok(copy)
 }
 
 impl Log {
@@ -195,6 +352,43 @@ impl Log {
             briefs: Vec::new(alloc),
             cases: Vec::new(alloc),
         })
+    }
+
+    /// The same entries, as many of them kept short, with as much room.
+    pub(crate) fn copy(&self, alloc: Global) -> Result<Log, AllocError>
+        ensures items { IfOk result (λ l. l.items ≡ self.now.items) }
+        ensures short { IfOk result (λ l. l.short ≡ self.now.short) }
+        ensures capacity { IfOk result (λ l. l.capacity ≡ self.now.capacity) }
+    {
+        Ok(Log {
+            whole: copy_whole(alloc, &self.whole, self.whole.capacity())?,
+            briefs: copy_list(alloc, &self.briefs)?,
+            cases: copy_list(alloc, &self.cases)?,
+        })
+    }
+
+    /// Makes room for the entries of another. After a refusal there is no less than before.
+    pub(crate) fn reserve_for(&mut self, other: &Log) -> Result<(), AllocError>
+        ensures items { self.new.items ≡ self.old.items }
+        ensures short { self.new.short ≡ self.old.short }
+        ensures capacity { self.old.capacity ≤ self.new.capacity }
+        ensures ok { OnOk result (HasRoomFor self.new other.now) }
+    {
+        self.whole.reserve(other.whole.capacity())?;
+        self.briefs.reserve(other.briefs.len())?;
+        self.cases.reserve(other.cases.len())
+    }
+
+    /// Puts the entries of another in place of those that are there, as many of them kept short.
+    pub(crate) fn copy_from(&mut self, other: &Log)
+        requires { HasRoomFor self.old other.now }
+        ensures items { self.new.items ≡ other.now.items }
+        ensures short { self.new.short ≡ other.now.short }
+        ensures capacity { other.now.capacity ≤ self.new.capacity }
+    {
+        copy_whole_over(&mut self.whole, &other.whole);
+        copy_list_over(&mut self.briefs, &other.briefs);
+        copy_list_over(&mut self.cases, &other.cases);
     }
 
     /// Makes room for so many entries more, where there is not as much.
@@ -260,15 +454,17 @@ impl Log {
         ensures short { result ≡ true → self.new.short ≡ self.old.short + 1 }
         ensures had_room { FitsShort self.old entry.now → result ≡ true }
     {
+        let Ok(first) = u32::try_from(self.cases.len()) else {
+            return false;
+        };
         if !has_room(&mut self.briefs, entry) {
             return false;
         }
-        let first = self.cases.len();
-        let cases = cases_of(entry);
-        let Ok(()) = self.cases.extend_from_slice(cases) else {
+        let brief = brief_of(entry, first);
+        let Ok(()) = self.cases.extend_from_slice(cases_beside(entry, brief)) else {
             return false;
         };
-        self.briefs.push_reserved(brief_of(entry, first));
+        self.briefs.push_reserved(brief);
         true
     }
 

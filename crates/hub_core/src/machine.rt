@@ -56,6 +56,29 @@ impl Machine {
         })
     }
 
+    /// A machine that what came so far has led to too, and which takes as much memory.
+    pub fn copy(&self, alloc: Global) -> Result<Machine, NoMemory>
+        ensures { IfOk result (λ m. m ≡ self.now) }
+    {
+        Ok(Machine {
+            state: self.state.copy(alloc)?,
+        })
+    }
+
+    /// Makes it what led to another has led to. It takes no memory where both have as many processes, and ports of the same
+    /// capacities. After a refusal it is as before.
+    pub fn copy_from(&mut self, alloc: Global, other: &Machine) -> Result<(), NoMemory>
+        ensures ok { OnOk result (self.new ≡ other.now) }
+        ensures unchanged { OnErr result (self.new ≡ self.old) }
+    {
+        if self.state.has_shape_of(&other.state) {
+            self.state.copy_from(&other.state);
+        } else {
+            self.state = other.state.copy(alloc)?;
+        }
+        Ok(())
+    }
+
     /// Makes a step. On `Ok`, `events` are the caller's answer and then the calls that ended, in
     /// order of arrival.
     ///

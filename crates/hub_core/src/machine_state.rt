@@ -1,8 +1,9 @@
 //! What a machine holds, also in the midst of a step, and what a step does to it.
 
-ghost use Rattle.std.specs.Prelude.{◌≡◌, ◌≤◌, ◌<◌, ◌-◌, ◌^◌, None, false, replicate, length, slice_get, IfOk, OnOk, OnErr};
+ghost use Rattle.std.specs.Prelude.{◌≡◌, ◌≤◌, ◌<◌, ◌-◌, ◌^◌, None, false, true, replicate, length, slice_get, IfOk, OnOk, OnErr};
 ghost use Rattle.std.specs.Option.{option_map};
 ghost use Rattle.hub_parts.specs.Lists.{open_calls, shown_call};
+ghost use Rattle.hub_parts.specs.Shapes.{IsShapeOf};
 ghost use Rattle.hub_core.specs.Prelude.{AllMade, MOST_EVENTS, is_call, tells};
 ghost use Rattle.hub_core.specs.ListSteps.{call_on, effect_on, turn_on, refusal_of, fault_on, open_on};
 ghost use Rattle.hub_core.specs.ListKeeps.{PortsKeep};
@@ -88,6 +89,38 @@ impl MachineState {
             gone: none_gone(),
             left: 0,
             steps: 0,
+        })
+    }
+
+    /// Whether it has as many processes as another, and ports of the same capacities.
+    pub(crate) fn has_shape_of(&self, other: &MachineState) -> bool
+        ensures { result ≡ true → IsShapeOf self.now.board other.now.board }
+    {
+        self.counted.board.has_shape_of(&other.counted.board)
+    }
+
+    /// Takes all from another of its shape. It takes no memory.
+    pub(crate) fn copy_from(&mut self, other: &MachineState)
+        requires { IsShapeOf self.old.board other.now.board }
+        ensures { self.new ≡ other.now }
+    {
+        self.head = other.head;
+        self.counted.copy_from(&other.counted);
+        self.gone = other.gone;
+        self.left = other.left;
+        self.steps = other.steps;
+    }
+
+    /// What holds the same, and takes as much memory.
+    pub(crate) fn copy(&self, alloc: Global) -> Result<MachineState, NoMemory>
+        ensures { IfOk result (λ s. s ≡ self.now) }
+    {
+        Ok(MachineState {
+            head: self.head,
+            counted: self.counted.copy(alloc)?,
+            gone: self.gone,
+            left: self.left,
+            steps: self.steps,
         })
     }
 

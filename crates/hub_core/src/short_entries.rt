@@ -1,21 +1,21 @@
-//! Entries that are kept short: of each the cases that it has, and a few bytes beside them.
+//! Entries that are kept short.
 
-ghost use Rattle.std.specs.Prelude.{◌≡◌, ◌<◌, ◌++◌, ◌∷◌, [], IfOk, OnOk, Some, length, slice_get};
+ghost use Rattle.std.specs.Prelude.{◌≡◌, ◌<◌, ◌≤◌, ◌+◌, ◌++◌, ◌∷◌, [], IfOk, OnOk, Some, length, slice_get};
 ghost use Rattle.std.specs.Option.{option_map_or};
 ghost use Rattle.hub_base.specs.Values.{cases_or};
-ghost use Rattle.hub_core.specs.LogView.{AreBriefs, StandFrom, written};
+ghost use Rattle.hub_core.specs.LogView.{AreBriefs, StandFrom, case_count, entry_of, first_of, own_of, written};
 
-use crate::log::{Brief, brief_of, cases_of, short_at, write_out};
-use hub_base::{Case, Entry};
+use crate::log::{Brief, brief_of, cases_beside, short_at, write_out};
+use hub_base::{Case, Cases, Entry, Step, Value};
 use std::alloc::{AllocError, Global};
 use std::marker::Model;
 
-/// Entries in order: some 70 bytes for a call of one case, in place of those of an `Entry`.
+/// Entries in order, in less memory: each in 16 bytes, but for the cases of a call that has several, or sends bytes.
 #[derive(Drop)]
 pub struct ShortEntries {
-    /// What is kept of each beside its cases.
+    /// What is kept of each.
     briefs: Vec<Brief>,
-    /// The cases, one entry's after the other's.
+    /// The cases that are not kept there, one entry's after the other's.
     cases: Vec<Case>,
 }
 
@@ -31,18 +31,49 @@ impl Model for ShortEntries {
     ghost invariant = { λ s. AreBriefs s.briefs.items s.cases.items × StandFrom 0 s.briefs.items };
 }
 
-/// The cases of the entry at this place of those that are kept short; none where it is no call.
-fn short_cases<'a>(briefs: &[Brief], cases: &'a [Case], place: usize) -> &'a [Case]
+/// The cases of a step; none where it is no call.
+fn cases_in(step: Step) -> Cases
+    ensures { result.items ≡ cases_or step [] }
+{
+    match step {
+        Step::Call { cases, .. } => cases,
+        _ => Cases::new(),
+    }
+}
+
+/// The case of this number of a call that has one case.
+fn one_of(case: Case, number: u8) -> Option<Case>
+    ensures { result ≡ slice_get (case ∷ []) number }
+{
+    if number == 0 { Some(case) } else { None }
+}
+
+/// The case of this number of the entry of which this is kept, beside these cases of all.
+fn case_of(brief: Brief, cases: &[Case], number: u8) -> Option<Case>
+    requires { first_of brief + case_count brief ≤ length cases.now }
+    ensures { result ≡ slice_get (cases_or (entry_of brief (own_of brief cases.now)).step []) number }
+{
+    match brief {
+        Brief::Send {
+            port,
+            number: sent,
+            ..
+        } => one_of(Case::Send(port, Value::num(sent)), number),
+        Brief::Recv { port, .. } => one_of(Case::Recv(port), number),
+        _ => brief.own(cases).get(usize::from(number)).copied(),
+    }
+}
+
+/// The case of this number of the entry at this place of those that are kept short, if there is one.
+fn short_case(briefs: &[Brief], cases: &[Case], place: usize, number: u8) -> Option<Case>
     requires briefs { AreBriefs briefs.now cases.now }
     requires begin { StandFrom 0 briefs.now }
-    ensures { result.now ≡ option_map_or (λ e. cases_or e.step []) (slice_get (written briefs.now cases.now) place) [] }
+    ensures { result ≡ slice_get (option_map_or (λ e. cases_or e.step []) (slice_get (written briefs.now cases.now) place) []) number }
 {
-    let Some(brief) = briefs.get(place) else {
-        return &[];
-    };
-    let (_others, from) = cases.split_at(brief.first());
-    let (own, _rest) = from.split_at(brief.count());
-    own
+    match briefs.get(place) {
+        Some(brief) => case_of(*brief, cases, number),
+        None => None,
+    }
 }
 
 impl ShortEntries {
@@ -60,11 +91,13 @@ impl ShortEntries {
     pub fn push(&mut self, entry: &Entry) -> Result<(), AllocError>
         ensures { OnOk result (self.new ≡ self.old ++ entry.now ∷ []) }
     {
+        let Ok(first) = u32::try_from(self.cases.len()) else {
+            return Err(AllocError);
+        };
         self.briefs.reserve(1)?;
-        let first = self.cases.len();
-        let cases = cases_of(entry);
-        self.cases.extend_from_slice(cases)?;
-        self.briefs.push_reserved(brief_of(entry, first));
+        let brief = brief_of(entry, first);
+        self.cases.extend_from_slice(cases_beside(entry, brief))?;
+        self.briefs.push_reserved(brief);
         Ok(())
     }
 
@@ -94,17 +127,20 @@ impl ShortEntries {
     }
 
     /// The cases of the entry at this place; none where it is no call.
-    pub fn cases_at(&self, place: usize) -> &[Case]
-        ensures { result.now ≡ option_map_or (λ e. cases_or e.step []) (slice_get self.now place) [] }
+    pub fn cases_at(&self, place: usize) -> Cases
+        ensures { result.items ≡ option_map_or (λ e. cases_or e.step []) (slice_get self.now place) [] }
     {
-        short_cases(&self.briefs, &self.cases, place)
+        match self.get(place) {
+            Some(entry) => cases_in(entry.step),
+            None => Cases::new(),
+        }
     }
 
     /// The case of this number of the entry at this place, if there is one.
     pub fn case_at(&self, place: usize, number: u8) -> Option<Case>
         ensures { result ≡ slice_get (option_map_or (λ e. cases_or e.step []) (slice_get self.now place) []) number }
     {
-        self.cases_at(place).get(usize::from(number)).copied()
+        short_case(&self.briefs, &self.cases, place, number)
     }
 
     /// All of them, written out.

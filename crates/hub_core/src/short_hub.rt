@@ -38,8 +38,8 @@ pub(crate) enum Form {
     Short,
 }
 
-/// A hub whose journal is kept short until it is asked for: some 70 bytes for a call of one case, in place of those of an
-/// `Entry`. All else is as of a `Hub`.
+/// A hub whose journal is kept short until it is asked for: 16 bytes for most entries, in place of those of an `Entry`. All
+/// else is as of a `Hub`.
 #[derive(Drop)]
 pub struct ShortHub {
     /// What it was opened with.
@@ -188,6 +188,36 @@ impl ShortHub {
             entries,
             newest,
         })
+    }
+
+    /// A hub with the same journal, at which all has happened that has at this one. An error is memory.
+    pub fn copy(&self, alloc: Global) -> Result<ShortHub, NoMemory>
+        ensures { IfOk result (λ h. h.memory.hub ≡ self.now.memory.hub) }
+    {
+        Ok(ShortHub {
+            terms: self.terms,
+            places: self.places,
+            count: self.count,
+            machine: self.machine.copy(alloc)?,
+            entries: self.entries.copy(alloc)?,
+            newest: self.newest.copy(),
+        })
+    }
+
+    /// Makes it a hub with the journal of another, at which all has happened that has at that one. It takes no memory where
+    /// it has as much as that one has. After a refusal, which is memory, it is as before.
+    pub fn copy_from(&mut self, alloc: Global, other: &ShortHub) -> Result<(), NoMemory>
+        ensures ok { OnOk result (self.new.memory.hub ≡ other.now.memory.hub) }
+        ensures unchanged { OnErr result (self.new.memory.hub ≡ self.old.memory.hub) }
+    {
+        self.entries.reserve_for(&other.entries)?;
+        self.machine.copy_from(alloc, &other.machine)?;
+        self.entries.copy_from(&other.entries);
+        self.terms = other.terms;
+        self.places = other.places;
+        self.count = other.count;
+        self.newest = other.newest.copy();
+        Ok(())
     }
 
     /// Makes a step as `Hub::step` does, and leaves its events in place of those that were there. After a

@@ -54,6 +54,23 @@ impl Tallies {
         }
     }
 
+    /// The same tallies.
+    pub(crate) fn copy(&self) -> Tallies
+        ensures { result ≡ self.now }
+    {
+        let mut list = ArrayVec::new();
+        let _full = list.try_extend_from_slice(self.list.as_slice());
+        Tallies { list }
+    }
+
+    /// Takes the tallies of another.
+    pub(crate) fn copy_from(&mut self, other: &Tallies)
+        ensures { self.new ≡ other.now }
+    {
+        self.list.clear();
+        let _full = self.list.try_extend_from_slice(other.list.as_slice());
+    }
+
     /// A port more, which has carried nothing.
     pub(crate) fn add(&mut self)
         requires { length self.old < MOST_PORTS }

@@ -97,7 +97,7 @@ fn put_waiter(
         ++ waiter_words entries.now (mover_at moves.now.sent.items) (mover_at moves.now.received.items) told.now) }
 {
     put_who(out, b" waits since step ", told)?;
-    put_cases(out, moves, entries.cases_at(told.asked as usize))
+    put_cases(out, moves, &entries.cases_at(told.asked as usize))
 }
 
 /// Appends these calls.

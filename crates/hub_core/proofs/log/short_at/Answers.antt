@@ -1,4 +1,4 @@
-use Rattle.std.proofs.Common.{◌∙◌, Some, ap, arith, sym, take}
+use Rattle.std.proofs.Common.{◌∙◌, Some, ap, arith, sym}
 use Rattle.hub_core.specs.LogView.{entry_of}
 use Rattle.hub_core.proofs.Logs.{none_written, stands_at}
 use Rattle.hub_core.proofs.log.short_at.Goals as goal
@@ -6,23 +6,17 @@ use Rattle.hub_core.proofs.log.short_at.Goals as goal
 pub returns-in_default : goal.returns-in_default
 returns-in_default c = sym (none_written c.args.briefs.now c.args.cases.now c.args.place c.in_default.ensures.lookup.3)
 
-pub split_at-requires : goal.split_at-requires
-split_at-requires c =
-    let here = stands_at c.args.briefs.now c.args.cases.now c.args.place c.in-Some.brief.now c.requires.briefs c.requires.begin c.in-Some.ensures.lookup.3 in
-    omega (arith, here.within)
-
-pub split_at-requires-2 : goal.split_at-requires-2
-split_at-requires-2 c =
-    let here = stands_at c.args.briefs.now c.args.cases.now c.args.place c.in-Some.brief.now c.requires.briefs c.requires.begin c.in-Some.ensures.lookup.3 in
-    omega (arith, here.within, c.split_at.ensures.back_len, c.count.ensures)
+pub own-requires : goal.own-requires
+own-requires c =
+    (stands_at c.args.briefs.now c.args.cases.now c.args.place c.in-Some.brief.now c.requires.briefs c.requires.begin c.in-Some.ensures.lookup.3).within
 
 pub entry-requires : goal.entry-requires
 entry-requires c =
     let here = stands_at c.args.briefs.now c.args.cases.now c.args.place c.in-Some.brief.now c.requires.briefs c.requires.begin c.in-Some.ensures.lookup.3 in
-    omega (arith, here.few, c.count.ensures, c.split_at-2.ensures.front_len)
+    omega (arith, here.few, c.own.ensures.count)
 
 pub returns : goal.returns
 returns c =
     let b = c.in-Some.brief.now in
     let here = stands_at c.args.briefs.now c.args.cases.now c.args.place b c.requires.briefs c.requires.begin c.in-Some.ensures.lookup.3 in
-    ap Some (c.entry.ensures ∙ ap (entry_of b) (c.split_at-2.ensures.front ∙ (λ i. take (c.count.ensures i) (c.split_at.ensures.back i)))) ∙ sym here.is
+    ap Some (c.entry.ensures ∙ ap (entry_of b) c.own.ensures.own) ∙ sym here.is

@@ -1,7 +1,7 @@
 use Rattle.std.proofs.Common.{◌≡◌, ◌∙◌, ◌-◌, sym, refl, arith, length, drop}
 use Rattle.std.proofs.lemmas.List.{length-drop}
 use Rattle.hub_core.specs.declared.log.Brief.{Brief}
-use Rattle.hub_core.specs.declared.log.BriefStep.TheVariants.{Make}
+use Rattle.hub_core.specs.declared.log.Brief.TheVariants.{Send}
 use Rattle.hub_core.proofs.Logs.{all_whole, next_left, one_out}
 use Rattle.hub_core.proofs.log.write_out.Goals as goal
 
@@ -9,7 +9,7 @@ pub loop-brief-init : goal.loop-brief-init
 loop-brief-init c = record { briefs = c.requires.briefs; items = refl; room = c.requires.room; capacity = refl }
 
 abbrev blank : Brief
-blank = record { pid = record { 0 = 0 }; step = Make 0; first = 0 }
+blank = Send (record { 0 = 0 }) (record { 0 = 0 }) 0
 
 pub split_at-requires : goal.split_at-requires
 split_at-requires c =

@@ -7,9 +7,10 @@ use Rattle.hub_core.proofs.log.Log.keeps_short.Goals as goal
 pub invariant_of-self-2 : goal.invariant_of-self-2
 invariant_of-self-2 c =
     let v = c.self.view_is in
-    let behind : c.len-first.result ≡ length c.self.inside.cases.items = omega (arith, c.len-first.ensures, c.self.inside.cases.ok) in
-    let more = gains c.args.entry.now c.self.invariant.briefs (ap (λ bs. bs ++ c.brief_of.result ∷ []) c.has_room.ensures.same) c.brief_of.ensures behind
-    c.push_reserved.ensures.items c.cases_of-cases.ensures.cases c.cases_of-cases.ensures.few c.in-Ok.ensures.items in
+    let behind : c.in-Ok.first ≡ length c.self.inside.cases.items = grind (arith, c.in-Ok.ensures, c.len.ensures, c.self.inside.cases.ok) in
+    let more = gains c.args.entry.now c.self.invariant.briefs (ap (λ bs. bs ++ c.brief_of-brief.result ∷ []) c.has_room.ensures.same)
+    c.brief_of-brief.ensures behind c.push_reserved.ensures.items c.cases_beside.ensures.cases c.cases_beside.ensures.few
+    c.in-Ok-extend_from_slice.ensures.items in
     record {
       briefs = more.briefs;
       begin = more.begin c.self.invariant.begin;
@@ -26,7 +27,8 @@ invariant_of-self-2 c =
 
 pub returns-clause-items : goal.returns-clause-items
 returns-clause-items c = λ yes.
-    let behind : c.len-first.result ≡ length c.self.inside.cases.items = omega (arith, c.len-first.ensures, c.self.inside.cases.ok) in
-    let more = gains c.args.entry.now c.self.invariant.briefs (ap (λ bs. bs ++ c.brief_of.result ∷ []) c.has_room.ensures.same) c.brief_of.ensures behind
-    c.push_reserved.ensures.items c.cases_of-cases.ensures.cases c.cases_of-cases.ensures.few c.in-Ok.ensures.items in
+    let behind : c.in-Ok.first ≡ length c.self.inside.cases.items = grind (arith, c.in-Ok.ensures, c.len.ensures, c.self.inside.cases.ok) in
+    let more = gains c.args.entry.now c.self.invariant.briefs (ap (λ bs. bs ++ c.brief_of-brief.result ∷ []) c.has_room.ensures.same)
+    c.brief_of-brief.ensures behind c.push_reserved.ensures.items c.cases_beside.ensures.cases c.cases_beside.ensures.few
+    c.in-Ok-extend_from_slice.ensures.items in
     more.items c.self.inside.whole.items ∙ ap (λ (es : List Entry). es ++ c.args.entry.now ∷ []) (ap (λ (v : LogView). v.items) c.self.view_is)

@@ -1,0 +1,10 @@
+-- The entries so far are copied.
+use Rattle.std.proofs.Common.{◌≡◌, take}
+use Rattle.std.specs.Vec.{vec_capacity}
+use Rattle.hub_core.proofs.log.copy_whole.Given as goal
+
+abbrev pub invariant-loop-entry : goal.invariant-loop-entry
+invariant-loop-entry l = record {
+  items : l.copy.items ≡ take l.entry-index l.entries;
+  capacity : vec_capacity l.copy ≡ l.fn.capacity;
+}

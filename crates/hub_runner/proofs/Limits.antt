@@ -1,6 +1,6 @@
 -- The one journal of a run that its limit cuts short.
 use Rattle.std.proofs.Common.{◌≡◌, ◌≢◌, ℕ, ◌<◌, ◌≤◌, ◌==◌, ◌||◌, ◌⊎◌, inl, inr, Bool, true, false, List, [], ◌∷◌, ◌++◌, length, get_or, map, refl, ap}
-use Rattle.std.proofs.Common.{◌∙◌, subst, Option, Some, All, arith}
+use Rattle.std.proofs.Common.{◌∙◌, subst, Option, None, Some, All, arith}
 use Rattle.std.specs.List.{list_any}
 use Rattle.std.proofs.lemmas.List.{length-map}
 use Rattle.std.proofs.lemmas.List.Elements.{filter-append}
@@ -25,9 +25,13 @@ use Rattle.hub_runner.specs.declared.fault.RunFault.{RunFault}
 use Rattle.hub_runner.specs.declared.fault.RunFault.TheVariants as run
 use Rattle.hub_runner.specs.Asked.{asked}
 use Rattle.hub_runner.specs.CutShort.{ComesTo, LeavesLast, AllCome, OneGoesOn, IsCutShort}
-use Rattle.hub_runner.specs.Running.{SawFull, HasCome, MeetsLimit, HaveEnded}
+use Rattle.hub_runner.specs.Ports.{makes_of, BeginsWithPorts}
+use Rattle.hub_runner.specs.Running.{AreMakes, SawFull, HasCome, MeetsLimit, HaveEnded, ShowPorts}
+use Rattle.hub_runner.specs.Scripts.{made_by}
 use Rattle.hub_runner.specs.Working.{asked_of, has_exited}
 use Rattle.hub_runner.proofs.Stops.{steps_of-append, steps_grow}
+use Rattle.hub_runner.proofs.Ports.{asked_none, makes_begin, no_makes, only_makes, ports_first}
+use Rattle.hub_runner.proofs.Beginnings.{made_by_none}
 use Rattle.hub_runner.proofs.Runs.{in_journal, pid_at, all_processes}
 
 -- ---- exits
@@ -119,11 +123,51 @@ all_come name sc before done journal head many seats pids hubs come stands few =
       λ is_step. leaves_last s journal st (omega (arith, few, ap (λ (m : Name). m.terms.limit) hub)) (h.2 is_step),
     ))
 
+-- the ports are made first, where the seats of all its processes say so; or nothing else is
+pub shows_ports : (name : Name) (sc : ScenarioData) (before done : List SeatView) (journal : JournalView) (told : Option RunFault)
+    → name.terms.head ≡ run_head sc → length before ≡ length sc.scripts → 0 < length before → AreSeats name 0 before
+    → HaveEnded sc name (map (λ s. s.pid) before) done told → EndsIn name done journal → ShowPorts sc done told
+    → BeginsWithPorts sc journal.entries ⊎ (told ≢ None) × IsPrefix journal.entries (makes_of sc)
+shows_ports name sc before done journal told head many some seats h ends shown =
+    let h_some : 0 < length done =
+    omega (arith, length-map done (λ (s : SeatView). s.pid), ap length h.pids, length-map before (λ (s : SeatView). s.pid)) in
+    elim shown [
+      | inl ports ↦ inl (ports_first sc done journal.entries h_some ports ends.seats)
+      | inr only ↦
+          let made = only.1.made in
+          let asks : (q : ℕ) → q < length sc.scripts → AreMakes (made_by q made) (asked q (run_head sc) journal.entries) =
+          λ q low. all_processes
+          (λ s script. AreMakes (made_by s.pid.0 made) (asked_of s))
+          (λ q script. AreMakes (made_by q made) (asked q (run_head sc) journal.entries))
+          name sc before done journal.entries many seats h.pids h.hubs ends.seats (λ k d below script at. only.1.each k d below)
+          (λ s script hub st makes.
+          in_journal (AreMakes (made_by s.pid.0 made)) sc s journal.entries (ap (λ (m : Name). m.terms.head) hub ∙ head) st makes)
+          q (get_or sc.scripts q []) (slice_get-get_or sc.scripts q [] low) in
+          let legal : IsLegal (run_head sc) journal.entries = subst (λ (hd : Head). IsLegal hd journal.entries) (ends.head ∙ head) ends.legal in
+          inr (
+            only.0,
+            makes_begin sc made journal.entries only.1.begins (only_makes (run_head sc) made journal.entries legal (asks 0 (omega arith))
+                (λ q more low. asked_none q (run_head sc) journal.entries (no_makes (asked q (run_head sc) journal.entries)
+                (subst (λ (caps : List ℕ). AreMakes caps (asked q (run_head sc) journal.entries)) (made_by_none q made more) (asks q low))))),
+          )
+    ]
+
+pub all_ports : (name : Name) (sc : ScenarioData) (before done : List SeatView) (journal : JournalView) (told : Option RunFault) → told ≡ None
+    → name.terms.head ≡ run_head sc → length before ≡ length sc.scripts → 0 < length before → AreSeats name 0 before
+    → HaveEnded sc name (map (λ s. s.pid) before) done told → EndsIn name done journal → ShowPorts sc done told
+    → BeginsWithPorts sc journal.entries
+all_ports name sc before done journal told ok head many some seats h ends shown =
+    elim (shows_ports name sc before done journal told head many some seats h ends shown) [
+      | inl ports ↦ ports
+      | inr only ↦ absurd (only.0 ok)
+    ]
+
 -- the limit cut the run short, where the seats of all its processes say so
 pub cut_short : (name : Name) (sc : ScenarioData) (before done : List SeatView) (journal : JournalView) (told : Option RunFault)
     → name.terms.head ≡ run_head sc → name.terms.limit ≡ sc.limit → length before ≡ length sc.scripts → AreSeats name 0 before
-    → HaveEnded sc name (map (λ s. s.pid) before) done told → EndsIn name done journal → told ≡ Some run.JournalFull → IsCutShort sc journal.entries
-cut_short name sc before done journal told head limit many seats h ends full =
+    → HaveEnded sc name (map (λ s. s.pid) before) done told → EndsIn name done journal → ShowPorts sc done told → told ≡ Some run.JournalFull
+    → IsCutShort sc journal.entries
+cut_short name sc before done journal told head limit many seats h ends shown full =
     let met = h.full full in
     let s = met.1 in
     let saw = met.4.saw in
@@ -138,6 +182,10 @@ cut_short name sc before done journal told head limit many seats h ends full =
     let no_memory : told ≢ Some run.NoMemory = λ e. let g : ⊥ = cc in g in
     record {
       legal = subst (λ (hd : Head). IsLegal hd journal.entries) (ends.head ∙ head) ends.legal;
+      ports = elim (shows_ports name sc before done journal told head many (omega (arith, low)) seats h ends shown) [
+        | inl ports ↦ inl ports
+        | inr only ↦ inr only.1
+      ];
       full = omega (arith, ends.few, limit, saw.full, ap (λ (m : Name). m.terms.limit) hub, steps_grow saw.early journal.entries begins);
       each = all_come name sc before done journal.entries head many seats h.pids h.hubs (h.come no_memory) ends.seats ends.few;
       one = one_goes_on sc s journal.entries same_head low met.4 st;

@@ -1,7 +1,7 @@
 -- What the threads of a run told, and where all its processes came to.
 use Rattle.std.proofs.Common.{◌≡◌, ◌≢◌, ℕ, ◌+◌, ◌<◌, ◌⊎◌, inl, inr, List, [], ◌∷◌, ◌++◌, length, get_or, map, refl, ap, ◌∙◌, sym, subst}
 use Rattle.std.proofs.Common.{Option, None, Some, Result, Ok, Err, IfErr, OnOk, append_assoc, take, drop, arith}
-use Rattle.std.specs.Prelude.{slice_get, slice_set, IsOk, IsErr, Any}
+use Rattle.std.specs.Prelude.{slice_get, IsOk, IsErr, Any}
 use Rattle.std.proofs.lemmas.List.{map-append, take-append-drop}
 use Rattle.std.proofs.lemmas.List.Quantifiers.{Any-push, any-set}
 use Rattle.std.proofs.lemmas.Grind.{common_steps}
@@ -14,7 +14,7 @@ use Rattle.hub_base.specs.declared.fault.Fault.TheVariants as fault
 use Rattle.hub_live.specs.Name.{Name}
 use Rattle.hub_live.specs.SeatView.{SeatView}
 use Rattle.hub_live.specs.Calls.{Later, Refused, Shows, AreSeats}
-use Rattle.hub_live.proofs.Prefixes.{prefix_self}
+use Rattle.hub_live.proofs.Prefixes.{prefix_self, prefix_trans}
 use Rattle.hub_base.proofs.Loops.{all_snoc}
 use Rattle.hub_scenario.specs.declared.script.ScriptStep.{ScriptStep}
 use Rattle.hub_scenario.specs.Scenario.{ScenarioData}
@@ -24,13 +24,14 @@ use Rattle.hub_runner.specs.declared.fault.RunFault.TheVariants as run
 use Rattle.hub_runner.specs.Asked.{Asked}
 use Rattle.hub_runner.specs.Scripts.{MakesThenFollows, FollowsScript, made_by}
 use Rattle.hub_runner.specs.CutShort.{steps_asked, ComesTo}
-use Rattle.hub_runner.specs.Running.{AreMakes, MakesStopped, IsReady, HasFollowed, HasCome, MeetsLimit, IsOutcome, HaveEnded}
+use Rattle.hub_runner.specs.Ports.{makes_of}
+use Rattle.hub_runner.specs.Running.{AreMakes, MakesStopped, IsReady, HasFollowed, HasCome, MeetsLimit, IsOutcome, HaveEnded, ShowPorts}
 use Rattle.hub_runner.specs.Working.{asked_of, Onward, Followed, next_of, WasStopped}
 use Rattle.hub_runner.proofs.Askings.{answered}
 use Rattle.hub_runner.proofs.Workers.{at_place, refused_asks}
 use Rattle.hub_runner.proofs.Stops.{can_follow, can_make, makes_on, followed_comes, StopsAt, stop_no_exit, own_no_exit, stop_comes, stop_shows}
 use Rattle.hub_runner.proofs.Runs.{makes_then, one_script, has_followed, from_ok}
-use Rattle.hub_runner.proofs.Runs.{blank_seat, asked-nil, all_but_first, first_kept}
+use Rattle.hub_runner.proofs.Beginnings.{blank_seat, asked-nil, all_but_first, first_kept, later_makes}
 
 -- ---- one thread
 
@@ -65,12 +66,17 @@ outcome_by : (r : Result (Unit {0}) Fault) (sc : ScenarioData) (s t : SeatView) 
     → slice_get sc.scripts s.pid.0 ≡ Some script → OnOk r (Followed (asked_of s) (asked_of t) (words_of_process sc.seed s.pid.0) script)
     → IfErr r (λ f. WasStopped (asked_of s) t (words_of_process sc.seed s.pid.0) script f) → IsOutcome sc t r
 outcome_by (Ok x) sc s t script ready on at ok err =
-    record { ok = has_followed {E = Fault} (Ok x) sc s t script ready on at ok; err = tt }
+    record {
+      ports = prefix_trans (makes_of sc) s.seen t.seen ready.ports on.begins;
+      ok = has_followed {E = Fault} (Ok x) sc s t script ready on at ok;
+      err = tt;
+    }
 outcome_by (Err f) sc s t script ready on at ok w =
     let next = next_of w.stopped.rest (words_of_process sc.seed s.pid.0) w.stopped.k in
     let st = stopped_at sc s t script f ready w in
     let come = has_come sc s t script next on.pid at (stop_comes sc s.pid.0 script w.at t next f st w.same) in
     record {
+      ports = prefix_trans (makes_of sc) s.seen t.seen ready.ports on.begins;
       ok = tt;
       err = elim (stop_shows sc s.pid.0 script w.at t next f st w.onward) [
         | inl memory ↦ inl memory
@@ -135,23 +141,21 @@ blank_comes sc name k script at =
       λ is_step. inl refl,
     )
 
-same_pids : (ss : List SeatView) (d t : SeatView) → t.pid ≡ (get_or ss 0 d).pid → map (λ s. s.pid) (slice_set ss 0 t) ≡ map (λ s. s.pid) ss
-same_pids [] d t pid = refl
-same_pids (s ∷ ss) d t pid = (λ i. pid i ∷ map (λ s. s.pid) ss)
-
 -- a run that ends where a make was refused
-pub makes_end : (name : Name) (sc : ScenarioData) (ss : List SeatView) (d t : SeatView) (f : Fault) (told : RunFault) → AreSeats name 0 ss → 0 < length ss
-    → Onward (get_or ss 0 d) t → MakesStopped sc.ports t f → (f ≡ fault.NoMemory → told ≡ run.NoMemory)
-    → HaveEnded sc name (map (λ s. s.pid) ss) (slice_set ss 0 t) (Some told)
-makes_end name sc ss d t f told h some on m memory_told =
-    let kept = first_kept name ss d t h some on in
+pub makes_end : (name : Name) (sc : ScenarioData) (s t : SeatView) (others : List SeatView) (f : Fault) (told : RunFault) → AreSeats name 0 (s ∷ others)
+    → Onward s t → MakesStopped sc.ports t f → (f ≡ fault.NoMemory → told ≡ run.NoMemory)
+    → HaveEnded sc name (map (λ s. s.pid) (s ∷ others)) (t ∷ others) (Some told)
+makes_end name sc s t others f told h on m memory_told =
+    let ss : List SeatView = s ∷ others in
+    let some : 0 < length ss = omega arith in
+    let kept = first_kept name ss s t h some on in
     let make = step.Make m.cap in
     let stop = λ (script : List ScriptStep). makes_stop_at sc t script f kept.1 m in
     let come : (script : List ScriptStep) → ComesTo sc t.pid.0 script (asked_of t) make =
     λ script. stop_comes sc t.pid.0 script t t make f (stop script) refl in
     let stays = own_no_exit t (stop_no_exit sc t.pid.0 [] t make f (stop [])) in
     record {
-      pids = same_pids ss d t on.pid;
+      pids = λ i. on.pid i ∷ map (λ s. s.pid) others;
       hubs = all_but_first (λ s. s.hub ≡ name) name ss t h some kept.0 (λ k. refl);
       none = λ e. absurd (let g : ⊥ = cc in g);
       come = λ no_memory.
@@ -162,6 +166,24 @@ makes_end name sc ss d t f told h some on m memory_told =
             | inr shown ↦ record { saw = shown.1; goes_on = λ script is. (make, come script, shown.0) }
           ]);
     }
+
+-- in which nothing was asked but makes
+pub makes_show : (name : Name) (sc : ScenarioData) (s t : SeatView) (others : List SeatView) (f : Fault) (told : RunFault) → AreSeats name 0 (s ∷ others)
+    → Onward s t → MakesStopped sc.ports t f → ShowPorts sc (t ∷ others) (Some told)
+makes_show name sc s t others f told h on m =
+    let ss : List SeatView = s ∷ others in
+    let some : 0 < length ss = omega arith in
+    let kept = first_kept name ss s t h some on in
+    inr (
+      λ e. let g : ⊥ = cc in g,
+      record {
+        made = m.made;
+        begins = (m.cap ∷ m.more, sym m.whole);
+        each = all_but_first (λ s. AreMakes (made_by s.pid.0 m.made) (asked_of s)) name ss t h some
+            (subst (λ (n : ℕ). AreMakes (made_by n m.made) (asked_of t)) (sym kept.1) m.makes)
+            (λ k. later_makes name.terms.head (1 + k) m.made (omega arith));
+      },
+    )
 
 -- ---- all threads
 

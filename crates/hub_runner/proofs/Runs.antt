@@ -1,11 +1,10 @@
 -- All seats of a run, and the one journal.
 use Rattle.std.proofs.Common.{◌≡◌, ℕ, ◌+◌, ◌<◌, List, [], ◌∷◌, ◌++◌, length, get_or, map, refl, ap, ◌∙◌, sym, subst}
-use Rattle.std.proofs.Common.{Option, Some, Result, Ok, Err, OnOk, All, take, zero, suc, arith, ◌==◌, true, false, Bool, cond}
-use Rattle.std.specs.Prelude.{slice_get, IsOk, slice_set, Vec, vec_len, vec_items}
+use Rattle.std.proofs.Common.{Option, Some, Result, Ok, Err, OnOk, All, take, zero, suc, arith, true}
+use Rattle.std.specs.Prelude.{slice_get, IsOk, Vec, vec_len, vec_items}
 use Rattle.std.specs.List.{list_all}
 use Rattle.std.specs.declared.alloc.Global.{Global}
 use Rattle.std.proofs.lemmas.List.{take_more, get_or-map, length-map}
-use Rattle.std.proofs.lemmas.Grind.{common_steps}
 use Rattle.std.specs.Option.{option_map}
 use Rattle.std.proofs.lemmas.Option.{slice_get_within, slice_get-map}
 use Rattle.hub_base.specs.declared.head.Edition.{Edition}
@@ -163,54 +162,3 @@ all_follow name sc before done journal head many seats pids hubs followed stands
 pub from_ok : {T E : Type 0} (r : Result T E) (P : Type 0) → IsOk r → OnOk r P → P
 from_ok (Ok x) P ok h = h
 from_ok (Err e) P ok h = absurd (let g : ⊥ = cc in g)
-
--- ---- the seats once the ports are made
-
-pub asked-nil : (q : ℕ) (head : Head) → asked q head [] ≡ []
-unfolding asked
-asked-nil q head = refl
-
-pub asked_blank : (name : Name) (ss : List SeatView) (k : ℕ) (d : SeatView) → AreSeats name 0 ss → k < length ss → asked_of (get_or ss k d) ≡ []
-asked_blank name ss k d h low = ap asked_of (blank_at name 0 ss k d h low) ∙ asked-nil (0 + k) name.terms.head
-
--- a seat that has seen nothing
-abbrev pub blank_seat : Name → ℕ → SeatView
-blank_seat name k = record { hub = name; pid = record { 0 = k }; seen = [] }
-
-first_or_later : (P : SeatView → Type 0) (name : Name) (s : SeatView) (ss : List SeatView) (t : SeatView) (k : ℕ) (e : SeatView) → AreSeats name 0 (s ∷ ss)
-    → P t → ((i : ℕ) → P (blank_seat name (1 + i))) → k < length (t ∷ ss) → P (get_or (t ∷ ss) k e)
-first_or_later P name s ss t zero e h here later low = here
-first_or_later P name s ss t (suc k) e h here later low = subst P (sym (blank_at name 1 ss k e h.1 (omega arith))) (later k)
-
--- where the first of the seats is another one now: what holds of it and of blank seats holds of all
-pub all_but_first : (P : SeatView → Type 0) (name : Name) (ss : List SeatView) (t : SeatView) → AreSeats name 0 ss → 0 < length ss
-    → P t → ((i : ℕ) → P (blank_seat name (1 + i))) → All P (slice_set ss 0 t)
-all_but_first P name [] t h some here later = absurd (omega arith)
-all_but_first P name (s ∷ ss) t h some here later = λ k e low. first_or_later P name s ss t k e h here later low
-
--- the first seat is still one of this hub, and of process 0
-pub first_kept : (name : Name) (ss : List SeatView) (d t : SeatView) → AreSeats name 0 ss → 0 < length ss → Onward (get_or ss 0 d) t
-    → (t.hub ≡ name) × (t.pid.0 ≡ 0)
-first_kept name ss d t h some on =
-    let blank = blank_at name 0 ss 0 d h some in
-    (on.hub ∙ ap (λ (s : SeatView). s.hub) blank, ap (λ (p : Pid). p.0) on.pid ∙ ap (λ (s : SeatView). s.pid.0) blank)
-
-ready_later : (name : Name) (sc : ScenarioData) (k : ℕ) → name.terms.head ≡ run_head sc → IsReady sc (blank_seat name (1 + k))
-ready_later name sc k head = record {
-  head = head;
-  makes =
-      let z : ((1 + k) == 0) ≡ false = grind (arith, common_steps) in
-      subst (λ (zs : List Asked). AreMakes (made_by (1 + k) sc.ports) zs) (sym (asked-nil (1 + k) name.terms.head))
-      (subst (λ (b : Bool). AreMakes (cond b sc.ports []) []) (sym z) tt);
-}
-
-pub all_ready : (name : Name) (sc : ScenarioData) (ss : List SeatView) (d t : SeatView) → name.terms.head ≡ run_head sc → AreSeats name 0 ss
-    → 0 < length ss → Onward (get_or ss 0 d) t → AreMakes sc.ports (asked_of t) → All (IsReady sc) (slice_set ss 0 t)
-all_ready name sc ss d t head h some on made =
-    let kept = first_kept name ss d t h some on in
-    all_but_first (IsReady sc) name ss t h some
-    (record {
-      head = ap (λ (m : Name). m.terms.head) kept.0 ∙ head;
-      makes = subst (λ (n : ℕ). AreMakes (made_by n sc.ports) (asked_of t)) (sym kept.1) made;
-    })
-    (λ k. ready_later name sc k head)

@@ -15,7 +15,7 @@ use Rattle.hub_base.specs.declared.fault.Fault.{Fault}
 use Rattle.hub_base.specs.Lines.{call}
 use Rattle.hub_laws.specs.Replies.{own, reply}
 use Rattle.hub_live.specs.SeatView.{SeatView, IsFree}
-use Rattle.hub_live.specs.Calls.{Later, Made, Refused, Shows, entry_of}
+use Rattle.hub_live.specs.Calls.{AskedNothing, Later, Made, Refused, Shows, entry_of}
 use Rattle.hub_live.proofs.Prefixes.{prefix_self, prefix_trans}
 use Rattle.hub_scenario.specs.declared.script.ScriptStep.{ScriptStep}
 use Rattle.hub_scenario.specs.declared.script.ScriptStep.TheVariants.{Send, Recv, Select, Close, Range}
@@ -155,10 +155,13 @@ at_place xs i x low is = drop-cons xs i x low ∙ (λ k. sym is k ∷ drop (sym 
 -- ---- refused entries of a seat
 
 -- what the process asked stays as it was
-pub refused_asks : (s t : SeatView) (asking : Step) (f : Fault) → Later s t → Refused s t asking f → asked_of t ≡ asked_of s
-refused_asks s t asking f later refused =
+pub nothing_asked : (s t : SeatView) → Later s t → AskedNothing s t → asked_of t ≡ asked_of s
+nothing_asked s t later same =
     (λ i. asked (later.pid i).0 (later.hub i).terms.head t.seen)
-    ∙ asked-same s.pid.0 s.hub.terms.head s.seen t.seen later.begins refused.same.own refused.same.reply
+    ∙ asked-same s.pid.0 s.hub.terms.head s.seen t.seen later.begins same.own same.reply
+
+pub refused_asks : (s t : SeatView) (asking : Step) (f : Fault) → Later s t → Refused s t asking f → asked_of t ≡ asked_of s
+refused_asks s t asking f later refused = nothing_asked s t later refused.same
 
 -- the same refusal, by what the script's step asks
 pub refused_as : (s t : SeatView) (asking wanted : Step) (r : Result Event Fault) → asking ≡ wanted → IfErr r (λ f. Refused s t asking f)

@@ -2,7 +2,8 @@
 --
 -- An exit is no step. In a legal journal it is the last entry of its process, so that what a process asked, exits
 -- left aside, is all that it asked before its exit.
-use Rattle.std.specs.Prelude.{◌≡◌, ℕ, true, false, not, List, ◌∷◌, ◌++◌, Option, Some, filter, slice_get}
+use Rattle.std.specs.Prelude.{◌≡◌, ◌⊎◌, ℕ, true, false, not, List, ◌∷◌, ◌++◌, Option, Some, filter, slice_get}
+use mathlib.Core.List.{IsPrefix}
 use Rattle.hub_base.specs.declared.entry.Step.{Step}
 use Rattle.hub_base.specs.declared.entry.Entry.{Entry}
 use Rattle.hub_base.specs.declared.event.Event.{Event}
@@ -12,6 +13,7 @@ use Rattle.hub_laws.specs.Journals.{IsLegal}
 use Rattle.hub_scenario.specs.declared.script.ScriptStep.{ScriptStep}
 use Rattle.hub_scenario.specs.Scenario.{ScenarioData, run_head}
 use Rattle.hub_runner.specs.Asked.{Asked, asked}
+use Rattle.hub_runner.specs.Ports.{makes_of, BeginsWithPorts}
 use Rattle.hub_runner.specs.Scripts.{FollowsScript}
 
 -- ---- one process
@@ -53,9 +55,11 @@ pub record OneGoesOn (s : ScenarioData) (journal : List Entry) : Type 0 where
   pub is_step : is_exit next ≡ false
 
 -- the limit cuts a run short in this journal, which is legal: it has as many steps as the limit allows, the
--- processes made them as their scripts say, and one of them has a step to make still
+-- processes made them as their scripts say, and one of them has a step to make still. The ports are made first;
+-- where not all of them are, there is nothing else in it
 pub record IsCutShort (s : ScenarioData) (journal : List Entry) : Type 0 where
   pub legal : IsLegal (run_head s) journal
+  pub ports : BeginsWithPorts s journal ⊎ IsPrefix journal (makes_of s)
   pub full : steps_of journal ≡ s.limit
   pub each : AllCome s journal
   pub one : OneGoesOn s journal

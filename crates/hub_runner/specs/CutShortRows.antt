@@ -1,6 +1,6 @@
 -- Worked rows: a run that its limit cuts short, and processes that do not follow their scripts.
 use Rattle.std.specs.Prelude.{◌≡◌, ℕ, zero, suc, List, [], ◌∷◌, None, refl}
-use mathlib.Core.Path.{subst}
+use mathlib.Core.Path.{subst, sym}
 use Rattle.hub_base.specs.declared.entry.Entry.{Entry}
 use Rattle.hub_base.specs.declared.entry.Step.{Step}
 use Rattle.hub_base.specs.declared.entry.Step.TheVariants as step
@@ -14,6 +14,7 @@ use Rattle.hub_scenario.specs.declared.script.ScriptStep.TheVariants.{Send, Rang
 use Rattle.hub_scenario.specs.Scenario.{ScenarioData}
 use Rattle.hub_runner.specs.Asked.{asked}
 use Rattle.hub_runner.specs.CutShort.{ComesTo, LeavesLast}
+use Rattle.hub_runner.specs.Ports.{BeginsWithPorts}
 
 -- process 0 makes a port, sends 4 and 5 on it and closes it; process 1 ranges over it. Three steps are allowed
 abbrev sends : List ScriptStep
@@ -52,6 +53,9 @@ short_is_legal = refl
 pub short_is_full : steps_of short ≡ scenario.limit
 short_is_full = refl
 
+pub short_begins_with_ports : BeginsWithPorts scenario short
+short_begins_with_ports = (recv 1 1 ∷ send 0 1 4 ∷ exit 1 ∷ exit 0 ∷ [], refl)
+
 -- a process that closes the port first has come to no place of this script
 abbrev IsClose : Step → Type 0
 IsClose (step.Close p) = Unit {0}
@@ -68,3 +72,11 @@ Some_steps (suc n) = Unit {0}
 
 pub close_behind_an_exit : LeavesLast 1 (make 0 0 ∷ exit 1 ∷ close 0 1 ∷ exit 0 ∷ []) → ⊥
 close_behind_an_exit h = subst Some_steps (h (make 0 0 ∷ []) (exit 1) (close 0 1 ∷ exit 0 ∷ []) refl refl refl) tt
+
+-- where process 1 exits before the port is made, the journal does not begin with it
+abbrev BeginsWithAnother : List Entry → Type 0
+BeginsWithAnother [] = ⊥
+BeginsWithAnother (e ∷ es) = Some_steps e.pid.0
+
+pub exit_comes_first : BeginsWithPorts scenario (exit 1 ∷ make 0 0 ∷ exit 0 ∷ []) → ⊥
+exit_comes_first h = subst BeginsWithAnother (sym h.1) tt

@@ -1,5 +1,6 @@
 pub mod Asked
 pub mod Scripts
+pub mod Ports
 pub mod ScriptRows
 pub mod CutShort
 pub mod CutShortRows

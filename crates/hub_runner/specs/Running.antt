@@ -19,6 +19,7 @@ use Rattle.hub_runner.specs.declared.fault.RunFault.{RunFault}
 use Rattle.hub_runner.specs.declared.fault.RunFault.TheVariants as run
 use Rattle.hub_runner.specs.Asked.{Asked}
 use Rattle.hub_runner.specs.CutShort.{ComesTo}
+use Rattle.hub_runner.specs.Ports.{BeginsWithPorts}
 use Rattle.hub_runner.specs.Scripts.{FollowsScript, made_by}
 use Rattle.hub_runner.specs.Working.{asked_of, has_exited}
 
@@ -30,10 +31,11 @@ AreMakes (c ∷ cs) [] = ⊥
 AreMakes (c ∷ cs) (a ∷ more) = (a.step ≡ step.Make c) × AreMakes cs more
 
 -- a seat of a hub with the scenario's head, whose process has made the ports, if
--- that is its task, and asked nothing else
+-- that is its task, and asked nothing else. It has seen that the ports were made first
 pub record IsReady (scenario : ScenarioData) (s : SeatView) : Type 0 where
   pub head : s.hub.terms.head ≡ run_head scenario
   pub makes : AreMakes (made_by s.pid.0 scenario.ports) (asked_of s)
+  pub ports : BeginsWithPorts scenario s.seen
 
 -- a seat whose process has followed its script
 abbrev pub HasFollowed : ScenarioData → SeatView → Type 0
@@ -75,8 +77,9 @@ pub record MeetsLimit (scenario : ScenarioData) (s : SeatView) : Type 0 where
       (next : Step) × ComesTo scenario s.pid.0 script (asked_of s) next × (is_exit next ≡ false)
 
 -- what a thread told in the end, and its seat: the process has followed its script, or was stopped on the way, by
--- want of memory or by the limit
+-- want of memory or by the limit. The seat has seen that the ports were made first
 pub record IsOutcome (scenario : ScenarioData) (s : SeatView) (told : Result (Unit {0}) Fault) : Type 0 where
+  pub ports : BeginsWithPorts scenario s.seen
   pub ok : OnOk told (HasFollowed scenario s)
   pub err : IfErr told (λ f. (f ≡ fault.NoMemory) ⊎ MeetsLimit scenario s)
 
@@ -89,3 +92,16 @@ pub record HaveEnded
   pub none : told ≡ None → All (HasFollowed scenario) seats
   pub come : told ≢ Some run.NoMemory → All (HasCome scenario) seats
   pub full : told ≡ Some run.JournalFull → Any (MeetsLimit scenario) seats
+
+-- the seats of a run that ended before all ports were made: process 0 made those of the first capacities, and
+-- nothing else was asked
+pub record OnlyMakes (scenario : ScenarioData) (seats : List SeatView) : Type 0 where
+  pub made : List ℕ
+  pub begins : IsPrefix made scenario.ports
+  pub each : All (λ s. AreMakes (made_by s.pid.0 made) (asked_of s)) seats
+
+-- what the seats of a run that has ended show of the ports: they were made first; or there is a fault, and not
+-- all of them were made
+abbrev pub ShowPorts : ScenarioData → List SeatView → Option RunFault → Type 0
+ShowPorts scenario seats told =
+    All (λ s. BeginsWithPorts scenario s.seen) seats ⊎ (told ≢ None) × OnlyMakes scenario seats

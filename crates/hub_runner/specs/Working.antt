@@ -2,12 +2,14 @@
 use Rattle.std.specs.Prelude.{◌≡◌, ℕ, Bool, true, List, [], ◌∷◌, ◌++◌, if◌then◌else◌}
 use Rattle.std.specs.List.{list_any}
 use mathlib.Core.List.{IsPrefix}
+use Rattle.hub_base.specs.declared.value.Pid.{Pid}
 use Rattle.hub_base.specs.declared.entry.Entry.{Entry}
 use Rattle.hub_base.specs.declared.entry.Step.{Step}
 use Rattle.hub_base.specs.declared.entry.Step.TheVariants.{Exit}
 use Rattle.hub_base.specs.declared.fault.Fault.{Fault}
 use Rattle.hub_base.specs.Reading.{is_exit}
 use Rattle.hub_laws.specs.Replies.{own}
+use Rattle.hub_live.specs.Name.{Name}
 use Rattle.hub_live.specs.SeatView.{SeatView}
 use Rattle.hub_live.specs.Calls.{Shows, entry_of}
 use Rattle.hub_scenario.specs.declared.script.ScriptStep.{ScriptStep}
@@ -18,6 +20,15 @@ use Rattle.hub_runner.specs.CutShort.{steps_asked}
 -- what the process of a seat asked, in what the seat has seen
 abbrev pub asked_of : SeatView → List Asked
 asked_of s = asked s.pid.0 s.hub.terms.head s.seen
+
+-- the process of a seat: its hub, its number, and what it asked
+pub record Asker : Type 0 where
+  pub hub : Name
+  pub pid : Pid
+  pub asked : List Asked
+
+abbrev pub asker_of : SeatView → Asker
+asker_of s = record { hub = s.hub; pid = s.pid; asked = asked_of s }
 
 -- the same seat, which has seen no less
 pub record Onward (s t : SeatView) : Type 0 where

@@ -1,16 +1,18 @@
 //! Runs of scenarios.
 
 ghost use Rattle.std.specs.Prelude.{◌≡◌, ◌≤◌, ◌<◌, [], List, IfOk, IfErr, IsErrOf, OnOk, All, length, map, vec_len};
+ghost use mathlib.Core.List.{IsPrefix};
 ghost use Rattle.hub_base.specs.declared.entry.Entry.{Entry};
 ghost use Rattle.hub_base.specs.Text.{steps_of};
 ghost use Rattle.hub_laws.specs.Journals.{IsLegal};
-ghost use Rattle.hub_live.specs.Calls.{AreSeats};
+ghost use Rattle.hub_live.specs.Calls.{AreSeats, Later};
 ghost use Rattle.hub_scenario.specs.Scenario.{scenario_view, run_head};
 ghost use Rattle.hub_report.specs.Reports.{IsReportOf};
 ghost use Rattle.hub_runner.specs.CutShort.{IsCutShort};
-ghost use Rattle.hub_runner.specs.Running.{AreMakes, MakesStopped, IsReady, IsOutcome, HaveEnded};
+ghost use Rattle.hub_runner.specs.Ports.{BeginsWithPorts};
+ghost use Rattle.hub_runner.specs.Running.{AreMakes, MakesStopped, IsReady, IsOutcome, HaveEnded, ShowPorts};
 ghost use Rattle.hub_runner.specs.Scripts.{AllFollow};
-ghost use Rattle.hub_runner.specs.Working.{asked_of, Onward};
+ghost use Rattle.hub_runner.specs.Working.{asked_of, asker_of, Onward};
 
 use crate::fault::{RunFault, with_outcome};
 use crate::following::Following;
@@ -52,7 +54,22 @@ fn make_ports<K: HubName, R: Wait>(
     Ok(())
 }
 
-/// The seats, once process 0 has made the ports; or as they are where a make was refused.
+/// Shows all other seats what the first one has seen, while nobody asks anything.
+fn show_all<K: HubName>(hub: &LiveHub<K>, first: &mut Held<K>, others: &mut [Held<K>])
+    ensures later { Later first.old first.new }
+    ensures same { asker_of first.new ≡ asker_of first.old }
+    ensures others { map asker_of others.new ≡ map asker_of others.old }
+    ensures shown { All (λ s. IsPrefix first.old.seen s.seen) others.new }
+{
+    // Its contract says that the seat is idle, also where there are no others.
+    let _pid = first.pid();
+    for other in others.iter_mut() {
+        first.meet(hub, other);
+    }
+}
+
+/// The seats, once process 0 has made the ports and all have seen them; or as they are where a make was
+/// refused.
 fn make_ready<K: HubName, R: Wait>(
     rt: &R,
     hub: &LiveHub<K>,
@@ -61,15 +78,25 @@ fn make_ready<K: HubName, R: Wait>(
 ) -> Result<Vec<Held<K>>, Ended<K>>
     requires head { K.name.terms.head ≡ run_head (scenario_view scenario.now) }
     requires some { 0 < vec_len seats }
+    requires count { vec_len seats ≡ vec_len scenario.now.scripts }
     requires seats { AreSeats K.name 0 seats.items }
     ensures pids { IfOk result (λ r. map (λ s. s.pid) r.items ≡ map (λ s. s.pid) seats.items) }
     ensures ready { IfOk result (λ r. All (IsReady (scenario_view scenario.now)) r.items) }
     ensures err { IfErr result (λ h. HaveEnded (scenario_view scenario.now) K.name
         (map (λ s. s.pid) seats.items) h.seats.items h.fault) }
+    ensures ports { IfErr result (λ h. ShowPorts (scenario_view scenario.now) h.seats.items h.fault) }
 {
     let mut seats = seats;
-    match make_ports(rt, hub, &mut seats[0], &scenario.ports) {
-        Ok(()) => Ok(seats),
+    let Some((first, others)) = seats.split_first_mut() else {
+        unreachable!()
+    };
+    match make_ports(rt, hub, first, &scenario.ports) {
+        Ok(()) => {
+            // Each of the others knows that its process has asked nothing. So once they see these makes, there
+            // is nothing else before them.
+            show_all(hub, first, others);
+            Ok(seats)
+        }
         Err(fault) => Err(Ended {
             seats,
             fault: Some(RunFault::from(fault)),
@@ -84,8 +111,9 @@ fn end_of<K: HubName>(
     members: Vec<Member<Held<K>, Result<(), Fault>>>,
 ) -> Result<Ended<K>, AllocError>
     requires { All (λ m. IsOutcome (scenario_view scenario.now) m.seat m.report) members.items }
-    ensures { IfOk result (λ h. HaveEnded (scenario_view scenario.now) K.name
+    ensures ended { IfOk result (λ h. HaveEnded (scenario_view scenario.now) K.name
         (map (λ m. m.seat.pid) members.items) h.seats.items h.fault) }
+    ensures ports { IfOk result (λ h. ShowPorts (scenario_view scenario.now) h.seats.items h.fault) }
 {
     let mut seats = Vec::new(alloc);
     let mut fault = None;
@@ -113,10 +141,12 @@ fn follow_all<K: HubName + Send + Sync, R: Threads + Wait + Sync, G: Gate + Sync
 ) -> Result<Ended<K>, AllocError>
     requires head { K.name.terms.head ≡ run_head (scenario_view scenario.now) }
     requires some { 0 < vec_len seats }
+    requires count { vec_len seats ≡ vec_len scenario.now.scripts }
     requires seats { AreSeats K.name 0 seats.items }
     requires hubs { All (λ s. s.hub ≡ K.name) seats.items }
-    ensures { IfOk result (λ h. HaveEnded (scenario_view scenario.now) K.name
+    ensures ended { IfOk result (λ h. HaveEnded (scenario_view scenario.now) K.name
         (map (λ s. s.pid) seats.items) h.seats.items h.fault) }
+    ensures ports { IfOk result (λ h. ShowPorts (scenario_view scenario.now) h.seats.items h.fault) }
 {
     let held = hold_all(alloc, seats)?;
     match make_ready(rt, hub, held, scenario) {
@@ -146,6 +176,7 @@ fn run_named<K: HubName + Send + Sync, R: Threads + Wait + Sync, G: Gate + Sync>
     ensures head { IfOk result (λ j. j.head ≡ run_head (scenario_view scenario.now)) }
     ensures legal { IfOk result (λ j. IsLegal j.head j.entries) }
     ensures few { IfOk result (λ j. steps_of j.entries ≤ K.name.terms.limit) }
+    ensures ports { IfOk result (λ j. BeginsWithPorts (scenario_view scenario.now) j.entries) }
     ensures follows { IfOk result (λ j. AllFollow (scenario_view scenario.now) j.entries) }
     ensures full { IsErrOf result RunFault.JournalFull
         → (journal : List Entry) × IsCutShort (scenario_view scenario.now) journal }
@@ -170,6 +201,7 @@ fn run_journal<R: Threads + Wait + Sync, G: Gate + Sync>(
     ensures head { IfOk result (λ j. j.head ≡ run_head (scenario_view scenario.now)) }
     ensures legal { IfOk result (λ j. IsLegal j.head j.entries) }
     ensures few { IfOk result (λ j. steps_of j.entries ≤ MOST_STEPS) }
+    ensures ports { IfOk result (λ j. BeginsWithPorts (scenario_view scenario.now) j.entries) }
     ensures follows { IfOk result (λ j. AllFollow (scenario_view scenario.now) j.entries) }
     ensures full { IsErrOf result RunFault.JournalFull
         → (journal : List Entry) × IsCutShort (scenario_view scenario.now) journal }
@@ -184,10 +216,11 @@ fn run_journal<R: Threads + Wait + Sync, G: Gate + Sync>(
 /// Runs a scenario: process 0 makes the ports, and then each process follows its script in a thread
 /// of its own. None begins before all are started. The report says what happened.
 ///
-/// In its journal every process has followed its script. Refused by `JournalFull` where the limit cut
-/// the run short: the processes made as many steps as it allows, as their scripts say, and one asked for a
-/// step more. Refused by `NoMemory` where an allocation or the start of a thread was refused. It returns
-/// once all threads have ended; that they do end is not promised.
+/// Its journal begins with the makes of the ports, and in it every process has followed its script.
+/// Refused by `JournalFull` where the limit cut the run short: the processes made as many steps as it
+/// allows, as their scripts say, and one asked for a step more. Refused by `NoMemory` where an allocation
+/// or the start of a thread was refused. It returns once all threads have ended; that they do end is not
+/// promised.
 pub fn run_scenario<R: Threads + Wait + Sync, G: Gate + Sync>(
     rt: &R,
     alloc: Global,
@@ -196,6 +229,7 @@ pub fn run_scenario<R: Threads + Wait + Sync, G: Gate + Sync>(
 ) -> Result<Report, RunFault>
     ensures head { IfOk result (λ r. r.journal.head ≡ run_head (scenario_view scenario.now)) }
     ensures legal { IfOk result (λ r. IsLegal r.journal.head r.journal.entries) }
+    ensures ports { IfOk result (λ r. BeginsWithPorts (scenario_view scenario.now) r.journal.entries) }
     ensures follows { IfOk result (λ r. AllFollow (scenario_view scenario.now) r.journal.entries) }
     ensures report { IfOk result (λ r. IsReportOf r.journal r) }
     ensures full { IsErrOf result RunFault.JournalFull

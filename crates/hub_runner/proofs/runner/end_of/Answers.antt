@@ -2,8 +2,9 @@ use Rattle.std.proofs.Common.{◌∷◌, [], sym, map, subst, List}
 use Rattle.std.proofs.lemmas.List.{map-append}
 use Rattle.hub_base.specs.declared.value.Pid.{Pid}
 use Rattle.hub_scenario.specs.Scenario.{scenario_view}
+use Rattle.hub_runner.specs.Ports.{BeginsWithPorts}
 use Rattle.hub_runner.specs.Running.{IsOutcome, HaveEnded}
-use Rattle.hub_base.proofs.Loops.{one_further, all_next}
+use Rattle.hub_base.proofs.Loops.{one_further, all_next, all_snoc}
 use Rattle.hub_runner.proofs.Outcomes.{ended_more}
 use Rattle.hub_runner.proofs.runner.end_of.Goals as goal
 
@@ -21,4 +22,5 @@ loop-member-preserved g c =
           (sym (map-append (λ m. m.seat.pid) c.loop-member.yielded (m ∷ []))) more,
       one_further c.loop-member.yielded c.loop-member.member-iterator.rest.items c.next.new.self.rest.items c.args.members.items m
           c.in-Some.ensures.steps.0 i.1,
+      all_snoc c.loop-member.seats.items c.push.new.self.items m.seat (λ s. BeginsWithPorts sc s.seen) c.in-Ok.ensures.items i.2 out.ports,
     )

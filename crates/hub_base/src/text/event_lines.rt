@@ -59,7 +59,6 @@ fn put_pair(out: &mut [u8], at: usize, n: u64) -> usize
 
 /// Puts a number of one or two digits.
 #[inline(always)]
-#[tactic(auto, using(std::proofs::lemmas::Fmt::decimal_digit, itoa::proofs::Decimal::decimal_two))]
 fn put_first(out: &mut [u8], at: usize, n: u64) -> usize
     requires below { n < 100 }
     requires room { at + 2 ≤ length out.old }
@@ -196,7 +195,6 @@ pub fn put_bytes(out: &mut [u8], at: usize, value: &Value) -> usize
 
 /// Puts a value.
 #[inline(always)]
-#[tactic(auto, using(crate::proofs::Values::field_number, crate::proofs::Values::field_bytes))]
 fn put_value(out: &mut [u8], at: usize, value: &Value) -> usize
     requires { at + MOST_VALUE ≤ length out.old }
     ensures { Puts out.old out.new at (value_field value.now) MOST_VALUE result }

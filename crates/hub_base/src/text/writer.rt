@@ -47,7 +47,6 @@ fn put_before_number(out: &mut Vec<u8>, before: &[u8], n: u64) -> Result<(), All
 }
 
 /// Appends a value.
-#[tactic(auto, using(crate::proofs::Values::field_number, crate::proofs::Values::field_bytes))]
 fn put_value(out: &mut Vec<u8>, value: Value) -> Result<(), AllocError>
     ensures { Appends out.old out.new (value_field value) result }
 {

@@ -5,11 +5,13 @@ examples, and compares what it says with the search of explore.py, which shares 
 A scenario has two to four processes of up to four steps, and up to three ports. Where a run stalls, the journal that the tool writes is as
 short as the search's shortest; each of its lines is the next one of its process, and the last alone is told a stall, by model.py. Where
 none does, so many runs by threads (THREADS), by the built chanhub (PROGRAM), do not stall either. RUNS scenarios are tried (60), from SEED
-on (1). The last line counts: 'N passed, M failed'.
+on (1). And a search that takes seconds shows how far it has come, on a terminal alone. The last line counts: 'N passed, M failed'.
 """
 import os
 import pathlib
+import pty
 import random
+import re
 import subprocess
 import sys
 import tempfile
@@ -124,6 +126,45 @@ def what_fails(program, tool, path, folder, runs):
     return None
 
 
+def independent(procs):
+    """A scenario of processes with a port each: it has five states to the power of their number."""
+    lines = [f'ports = {[1] * procs}']
+    return '\n'.join(lines + [f"[[process]]\nsteps = ['send {it} 7', 'recv {it}', 'send {it} 8']" for it in range(1, procs + 1)]) + '\n'
+
+
+def read_terminal(terminal):
+    """All that is written to a terminal."""
+    said = b''
+    try:
+        while piece := os.read(terminal, 4096):
+            said += piece
+    except OSError:  # the last that wrote there has ended
+        pass
+    return said.decode()
+
+
+def shown_by(tool, path, states):
+    """What the tool shows on a terminal while it goes through so many states, and what it prints."""
+    terminal, errors = pty.openpty()
+    with subprocess.Popen([tool, 'explore', path, '--states', str(states)], stdout=subprocess.PIPE, stderr=errors, text=True) as child:
+        os.close(errors)
+        shown = read_terminal(terminal)
+        os.close(terminal)
+        return shown, child.stdout.read()
+
+
+def tells_progress(tool, path, states=80_000):
+    """Whether a long search shows lines in which both numbers grow, each over the one before, and clears the last."""
+    with open(path, 'w') as file:
+        file.write(independent(10))
+    shown, printed = shown_by(tool, path, states)
+    lines = [tuple(map(int, it)) for it in re.findall(r'\r\x1b\[K(\d+) states found, (\d+) gone through', shown)]
+    quiet = subprocess.run([tool, 'explore', path, '--states', str(states)], capture_output=True, text=True, timeout=MINUTE)
+    grow = all(a < b and c < d for (a, c), (b, d) in zip(lines, lines[1:])) and all(gone < found <= states for found, gone in lines)
+    gave_up = f'gave up after {states} states\n'
+    return len(lines) > 0 and grow and shown.endswith('\r\x1b[K') and printed == gave_up == quiet.stdout and quiet.stderr == ''
+
+
 def main(program, tool, runs=RUNS, seed=1, threads=THREADS):
     count = Count()
     with tempfile.TemporaryDirectory() as folder:
@@ -137,6 +178,7 @@ def main(program, tool, runs=RUNS, seed=1, threads=THREADS):
                 file.write(Draw(number).text())
             why = what_fails(program, tool, path, folder, threads)
             count.test(f'all schedules of the random scenario {number}', why is None, why or '')
+        count.test('a long search on a terminal', tells_progress(tool, path))
     return count.end()
 
 

@@ -10,6 +10,7 @@ mod fault;
 mod files;
 mod given;
 mod limits;
+mod progress;
 mod request;
 mod writing;
 

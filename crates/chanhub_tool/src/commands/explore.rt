@@ -12,9 +12,10 @@ ghost use Rattle.chanhub_tool.specs.Explores.{gave_up_line, kept, never_line, st
 use crate::files::{Input, Output, file_of};
 use crate::given::optional;
 use crate::limits::{DEFAULT_STATES, MOST_STATES};
+use crate::progress::Progress;
 use clap::{ArgMatches, Command};
 use hub_base::{Journal, NoMemory, number, write_journal};
-use hub_explore::{Explored, Question, explore};
+use hub_explore::{Explored, Question, Watch, explore_watched};
 use hub_replay::{
     Counted, ReplayFault, Sink, Source, WriteFailed, read_up_to, tell_fault, write_pieces,
     write_whole,
@@ -199,13 +200,14 @@ fn steps_of(scenario: &Scenario, journal: &Journal) -> u64
 }
 
 /// Goes through the runs of the scenario that `input` holds, and prints what was found.
-fn explore_from<S: Source, W: Sink, J: Sink>(
+fn explore_from<S: Source, W: Sink, J: Sink, P: Watch>(
     alloc: Global,
     most_states: u32,
     keeps: bool,
     input: &mut S,
     output: &mut W,
     journal: &mut J,
+    progress: &mut P,
 ) -> Result<Verdict, Unexplored>
     ensures ok { IfOk result (λ verdict. (s : ScenarioData)
         × ReadsScenario (S.remaining input.old) (S.remaining input.new) s
@@ -215,7 +217,8 @@ fn explore_from<S: Source, W: Sink, J: Sink>(
         ((output.new ≡ output.old) × (journal.new ≡ journal.old))) }
 {
     let scenario = read_from(alloc, input)?;
-    match explore(alloc, &scenario, Question::Stall, most_states)? {
+    let explored = explore_watched(alloc, &scenario, Question::Stall, most_states, progress)?;
+    match explored {
         Explored::Never { states, steps } => {
             write_never(output, states, steps)?;
             Ok(Verdict::NoStall)
@@ -249,14 +252,15 @@ fn tell_malformed<X: Sink>(alloc: Global, fault: ScenarioFault, errors: &mut X) 
 /// Goes through the runs of the scenario that `input` holds, prints what was found, and answers the status: 0 where no run
 /// stalls; 1 for a device or memory; 2 for a malformed scenario; 4 where some run stalls, the text of whose journal is
 /// written to `journal` if it is to be kept; 5 where there are more states than were to be gone through, or the run found is
-/// longer than a journal may be.
-pub fn explore_scenario<S: Source, W: Sink, J: Sink, X: Sink>(
+/// longer than a journal may be. `progress` is told how far the search has come.
+pub fn explore_scenario<S: Source, W: Sink, J: Sink, P: Watch, X: Sink>(
     alloc: Global,
     most_states: u32,
     keeps: bool,
     input: &mut S,
     output: &mut W,
     journal: &mut J,
+    progress: &mut P,
     errors: &mut X,
 ) -> u8
     ensures statuses { result ≤ 5 }
@@ -279,7 +283,7 @@ pub fn explore_scenario<S: Source, W: Sink, J: Sink, X: Sink>(
     ensures malformed { result ≡ 2 → ReadsMalformed (S.remaining input.old) (S.remaining input.new)
         × (output.new ≡ output.old) × (journal.new ≡ journal.old) }
 {
-    match explore_from(alloc, most_states, keeps, input, output, journal) {
+    match explore_from(alloc, most_states, keeps, input, output, journal, progress) {
         Ok(Verdict::NoStall) => 0,
         Ok(Verdict::Stall) => 4,
         Ok(Verdict::GaveUp) => 5,
@@ -304,6 +308,7 @@ pub(super) fn explore_given<X: Sink>(rt: &HostRuntime, given: Exploring<'_>, err
                 &mut input,
                 &mut output,
                 &mut journal,
+                &mut Progress::new(rt),
                 errors,
             )
         }

@@ -18,7 +18,7 @@ NUMBERS = ['63', '64', '65', '66', '1024', '1000000', '67108864', '67108865', '6
 LIMIT = re.compile(r'(?<![\w.])(?:%s)(?![\w])' % '|'.join(NUMBERS))
 TEXT = re.compile(r'"(?:[^"\\]|\\.)*"')
 WIDTH = re.compile(r'2 ?\^ ?6[34]|1 << 63|\b64[- ]bits?\b|digits_onto 64')
-TEST_CRATES = ('hub_live_tests', 'hub_tests', 'hub_trials')
+TEST_CRATES = ('hub_explore_tests', 'hub_live_tests', 'hub_tests', 'hub_trials')
 
 
 def may_have_numbers(path):

@@ -11,4 +11,6 @@ mod gates;
 #[cfg(test)]
 mod live;
 #[cfg(test)]
+mod renewals;
+#[cfg(test)]
 mod uses;

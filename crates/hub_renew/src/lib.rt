@@ -8,7 +8,5 @@ mod making;
 mod renewing;
 mod replaying;
 mod seats;
-#[cfg(test)]
-mod tests;
 
 pub use renewing::{are_all, finish_idle, make_again};

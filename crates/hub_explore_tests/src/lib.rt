@@ -1,0 +1,7 @@
+//! Tests of the search through all schedules, by its public calls.
+#![tactic(auto)]
+
+#[cfg(test)]
+mod lists;
+#[cfg(test)]
+mod searches;

@@ -50,7 +50,14 @@ replays() {
         cmp -s "$work/events" "$2" && [ ! -s "$work/errors" ]
 }
 
+# checks_capi: builds the C library over what the gate has proved, and tries it.
+checks_capi() {
+    make -C "$root/capi" > "$work/capi" 2>&1 && "$root/capi/tests/check.sh" "$program" > "$work/capi" 2>&1
+}
+
 # These take longest, and go on beside the others.
+checks_capi &
+capi=$!
 "$root/tools/refusals.sh" "$program" > "$work/refusals" 2>&1 &
 refusals=$!
 "$root/tools/live_refusals.sh" > "$work/live_refusals" 2>&1 &
@@ -233,9 +240,8 @@ count $? "builds: $(cat "$work/builds")"
 wait "$scenarios"
 count $? "scenarios: $(cat "$work/scenarios")"
 
-# Built over what the gate has proved; the last line counts with what was skipped.
-make -C "$root/capi" > "$work/capi" 2>&1 &&
-    "$root/capi/tests/check.sh" "$program" > "$work/capi" 2>&1
+# Its last line counts with what was skipped.
+wait "$capi"
 status=$?
 tee -a "$work/failures" < "$work/capi"
 count "$status" "the C library"

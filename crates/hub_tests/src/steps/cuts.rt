@@ -5,7 +5,7 @@ use super::entries::{Ask, DONE, MADE, MADE_SECOND, PARKED, SENT, Told, are_told,
 use super::hubs::{CLOSED_BEFORE, DRAINED};
 use super::rows::{Row, begin};
 use crate::compare::same;
-use hub_base::{Edition, Entry, Events, Fault, Pid, Port, Step};
+use hub_base::{Edition, Entry, Events, Fault, NoMemory, Pid, Port, Step};
 use hub_core::{Hub, OpenFault, ShortHub};
 use hub_cut::{Recorder, Totals, cut, cut_journal};
 use std::alloc::Global;
@@ -38,11 +38,17 @@ const AFTER: &[Row] = &[
     Row::Steps(0, Ask::Send(3, 9), &[(0, SENT), (2, Told::Got(0, 9))]),
 ];
 
-fn step(rt: &impl Abort, hub: &mut ShortHub, entry: Entry, told: &[(u8, Told)]) {
+/// Makes a step, which the hub's edition must have.
+fn make_step(rt: &impl Abort, hub: &mut ShortHub, entry: Entry) -> Result<Events, Fault> {
     assert!(rt; entry.fits(hub.head().edition));
     let mut events = Events::new();
-    match hub.step_into(entry, &mut events) {
-        Ok(()) => are_told(rt, events.as_slice(), told),
+    hub.step_into(entry, &mut events)?;
+    Ok(events)
+}
+
+fn step(rt: &impl Abort, hub: &mut ShortHub, entry: Entry, told: &[(u8, Told)]) {
+    match make_step(rt, hub, entry) {
+        Ok(events) => are_told(rt, events.as_slice(), told),
         Err(fault) => panic!(rt; "refused: {fault}"),
     }
 }
@@ -160,37 +166,61 @@ fn recorder_hands_out_chapters(rt: HostRuntime) -> Result<(), Fail> {
     record_all(&rt, rt.alloc())
 }
 
+/// What happens to a recorder.
+#[derive(Clone, Copy)]
+enum Act {
+    /// Process 0 makes a step that cuts nothing, and is told this.
+    Step(Ask, Told),
+    /// It is cut, and hands out a chapter of so many entries, or none.
+    Cut(Option<usize>),
+}
+
+/// A value is received in the second of two chapters that are cut before they are full.
+const CUT_BY_HAND: &[Act] = &[
+    Act::Step(Ask::Make(2), MADE),
+    Act::Step(Ask::Send(1, 5), SENT),
+    Act::Cut(None),
+    Act::Step(Ask::Recv(1), Told::Got(0, 5)),
+    Act::Cut(Some(2)),
+];
+
+/// How many values have come through port 1, and are in it.
+const ONE_CAME_THROUGH: Totals = Totals {
+    cap: 2,
+    len: 0,
+    sent: 1,
+    received: 1,
+    closed: false,
+};
+
+/// How many entries the chapter has that is handed out.
+fn handed_out(rt: &impl Abort, recorder: &mut Recorder, act: Act) -> Result<Option<usize>, Fault> {
+    match act {
+        Act::Step(asked, told) => record(rt, recorder, asked, told),
+        Act::Cut(_) => match recorder.cut() {
+            Ok(chapter) => Ok(len_of(chapter)),
+            Err(NoMemory) => Err(Fault::NoMemory),
+        },
+    }
+}
+
+/// How many entries are to be handed out.
+fn wanted(act: Act) -> Option<usize> {
+    match act {
+        Act::Step(_, _) => None,
+        Act::Cut(handed) => handed,
+    }
+}
+
 /// One value was received in two chapters that were cut before they were full, and one entry follows.
 fn cut_by_hand(rt: &impl Abort, alloc: Global) -> Result<(), Fail> {
     let mut recorder = Recorder::open(alloc, 2, 100, first(2).edition)?;
-    same(
-        rt,
-        record(rt, &mut recorder, Ask::Make(2), MADE)?,
-        None,
-        "make",
-    );
-    same(
-        rt,
-        record(rt, &mut recorder, Ask::Send(1, 5), SENT)?,
-        None,
-        "send",
-    );
+    for act in CUT_BY_HAND {
+        let handed = handed_out(rt, &mut recorder, *act)?;
+        same(rt, handed, wanted(*act), "chapter");
+    }
     same(rt, recorder.begins(&Step::Make(1)), false, "begins");
-    same(rt, len_of(recorder.cut()?), None, "first cut");
-    same(
-        rt,
-        record(rt, &mut recorder, Ask::Recv(1), Told::Got(0, 5))?,
-        None,
-        "receive",
-    );
-    same(rt, len_of(recorder.cut()?), Some(2), "second cut");
-    let look = recorder.look(Port(1));
-    same(
-        rt,
-        look.map(|t| (t.sent, t.received)),
-        Some((1, 1)),
-        "counts",
-    );
+    same(rt, recorder.look(Port(1)), Some(ONE_CAME_THROUGH), "counts");
     same(rt, kept(recorder), (Some(3), 1), "chapters");
     Ok(())
 }

@@ -31,8 +31,8 @@ pub struct Counts {
     made: bool,
     closed: bool,
     capacity: u32,
-    sent: u32,
-    received: u32,
+    sent: u64,
+    received: u64,
 }
 
 impl From<What> for Told {
@@ -143,8 +143,8 @@ pub unsafe extern "C" fn chanhub_look(hub: *const LiveHub, port: c_uint) -> Coun
             made: true,
             closed: counts.closed,
             capacity: 0,
-            sent: counts.sent,
-            received: counts.received,
+            sent: counts.sent.into(),
+            received: counts.received.into(),
         },
         None => Counts::default(),
     }

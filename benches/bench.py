@@ -4,17 +4,18 @@
 replay      `chanhub replay` beside OTHER, the command of another program that reads a journal and writes its events
 growth      the same on the journals of make_growth.py, in which much waits or has waited: instructions alone
 verify      `chanhub verify` beside `chanhub replay`
-live        `hub_trials` beside live_peer, which is built where there is cargo
+live        `hub_trials` beside the plain hubs of live_peer, and beside channels without a journal, of crossbeam and of Go
 scenarios   `hub_trials` beside `chanhub run`
 capi        the C library beside the plain hub of live_peer, called from C: c_times.c, linked with each
 
-Journals and scenarios are made in FOLDER, where they are not there. RUNS (10, or what the environment says) is how often
-each program runs, in turn with the other. A replay runs REPEATS times as often (8), and its user time is the least of the
-means of REPEATS runs, since a kernel tells user from system time by ticks, of which one run has few. What can't be measured is
-said to be skipped.
+live_peer, crossbeam_peer and go_peer are built, each where its tools are. Journals and scenarios are made in FOLDER, where
+they are not there. RUNS (10, or what the environment says) is how often each program runs, in turn with the others. A replay
+runs REPEATS times as often (8), and its user time is the least of the means of REPEATS runs, since a kernel tells user from
+system time by ticks, of which one run has few. What can't be measured is said to be skipped.
 """
 import argparse
 import collections
+import glob
 import hashlib
 import os
 import shlex
@@ -32,10 +33,8 @@ from check_instructions import LINES, has_valgrind, instructions, make_beginning
 
 CHANHUB = os.path.join(ROOT, 'crates', 'chanhub', 'out', 'chanhub')
 TRIALS = os.path.join(ROOT, 'crates', 'hub_trials', 'out', 'hub_trials')
-PEER = os.path.join(HERE, 'live_peer', 'target', 'release', 'live_peer')
 LIBRARY = os.path.join(ROOT, 'capi', 'out', 'libchanhub.a')
 C_TIMES = os.path.join(HERE, 'c_times.c')
-PEER_BYTES = os.path.join(HERE, 'live_peer', 'target', 'bytes', 'release', 'live_peer')
 PEER_LIBRARY = os.path.join(HERE, 'live_peer', 'target', 'release', 'liblive_peer.a')
 PEER_BYTES_LIBRARY = os.path.join(HERE, 'live_peer', 'target', 'bytes', 'release', 'liblive_peer.a')
 RUNS = int(os.environ.get('RUNS', '10'))
@@ -55,8 +54,22 @@ SCENARIOS = {'pool': 99994, 'pipeline': 69994}
 Job = collections.namedtuple('Job', 'words input')
 # in milliseconds, and in megabytes; `processor` is user and system time together
 Usage = collections.namedtuple('Usage', 'user processor wall peak')
-# a value of each of the two that stand beside one another, or of the first alone
+# a value of each program that stands in a table, or of the first alone; None where a program has none
 Row = collections.namedtuple('Row', 'name values')
+# a program to compare with: in which folder and by which words it is built, and a pattern of what that takes beside the tool
+Peer = collections.namedtuple('Peer', 'name folder program build sources', defaults=[''])
+
+CARGO = ['cargo', 'build', '--release', '--offline', '--quiet', '--target-dir']
+NUMBERS = Peer('live_peer', 'live_peer', 'target/release/live_peer', [*CARGO, 'target'])
+BYTES = Peer('live_peer with bytes', 'live_peer', 'target/bytes/release/live_peer', [*CARGO, 'target/bytes', '--features', 'bytes'])
+COMPACT = Peer('compact live_peer', 'live_peer', 'target/compact/release/live_peer',
+               [*CARGO, 'target/compact', '--features', 'compact'])
+# of Debian's package librust-crossbeam-channel-dev, where crossbeam_peer/.cargo/config.toml looks for it too
+CROSSBEAM = Peer('crossbeam_peer', 'crossbeam_peer', 'target/release/crossbeam_peer', [*CARGO, 'target'],
+                 '/usr/share/cargo/registry/crossbeam-channel-*')
+# go would ask git for the state of the repository, which git may refuse to tell
+GO = Peer('go_peer', 'go_peer', 'out/go_peer', ['go', 'build', '-buildvcs=false', '-o', 'out/go_peer', '.'])
+PEERS = (NUMBERS, BYTES, COMPACT, CROSSBEAM, GO)
 
 
 def skip(what):
@@ -72,8 +85,13 @@ def cells(row):
     return [row.name, *[shown(value) for value in row.values], '-'][:3] + [ratio]
 
 
-def print_table(title, ours, other, rows):
-    lines = [['', ours, other, 'Ratio']] + [cells(row) for row in rows]
+def cell_beside(own, value):
+    """What another program's cell says: its value, and the ratio of ours to it."""
+    return '-' if value is None else '%s (%.2f)' % (shown(value), own / value)
+
+
+def print_lines(title, lines):
+    """A table of these cells, of which the first line has the headings."""
     widths = [max(map(len, column)) for column in zip(*lines)]
     lines.insert(1, ['-' * widths[0]] + ['-' * (width - 1) + ':' for width in widths[1:]])
     print('\n%s\n' % title)
@@ -81,6 +99,20 @@ def print_table(title, ours, other, rows):
         padded = [name.ljust(widths[0])] + [value.rjust(width) for value, width in zip(values, widths[1:])]
         print('| %s |' % ' | '.join(padded), flush=True)
     print()
+
+
+def print_table(title, ours, other, rows):
+    print_lines(title, [['', ours, other, 'Ratio']] + [cells(row) for row in rows])
+
+
+def print_beside(title, ours, others, rows):
+    """A table in which several programs stand beside ours."""
+    lines = [['', ours, *others]]
+    for row in rows:
+        own, *values = row.values
+        values += [None] * (len(others) - len(values))
+        lines.append([row.name, shown(own), *[cell_beside(own, value) for value in values]])
+    print_lines('%s, with the ratio of %s to each' % (title, ours), lines)
 
 
 def run(job, status=0):
@@ -177,46 +209,53 @@ def verify(folder, _):
     print_table('Comparisons', 'chanhub verify', 'chanhub replay', journal_costs(folder, jobs_of))
 
 
+def median_rate(name, sets):
+    """The median of what these sets of rates have under this name, in thousands, or None where they have nothing."""
+    rates = [rates[name] for rates in sets if name in rates]
+    return statistics.median(rates) / 1000 if rates else None
+
+
 def rate_rows(names, makers):
     """For each name the medians of sets of rates, in thousands."""
     sets = list(in_turns(SETS, makers))
     for name in names:
-        yield Row(name, [statistics.median(rates[name] for rates in of_one) / 1000 for of_one in sets])
+        yield Row(name, [median_rate(name, of_one) for of_one in sets])
 
 
 def rates_of(program):
-    """The median rate of each workload, of RUNS runs."""
+    """The median rate of each workload, of RUNS runs; none where there is no program."""
+    if program is None:
+        return {}
     done = subprocess.run([program, 'times', '200000', str(RUNS)], stdout=subprocess.PIPE, text=True, check=True)
     fields = [line.split() for line in done.stdout.splitlines()]
     return {name: int(median) for name, _, _, _, median in fields}
 
 
-def build_peer(target='target', *words):
-    words = ['cargo', 'build', '--release', '--offline', '--quiet', '--target-dir', target, *words]
-    subprocess.run(words, cwd=os.path.join(HERE, 'live_peer'), check=True)
+def missing_of(peer):
+    """What is not there of what a peer is built with, or None."""
+    tool = peer.build[0]
+    if not shutil.which(tool):
+        return tool
+    return peer.sources if peer.sources and not glob.glob(peer.sources) else None
 
 
-def build_peers():
-    """The plain hub of numbers, and the one whose values have room for bytes."""
-    build_peer()
-    build_peer('target/bytes', '--features', 'bytes')
-
-
-def print_beside(title, ours, rows):
-    """A table beside each of the plain hubs, of rows that have a value of each."""
-    others = ['live_peer', 'live_peer with bytes'][:max(1, len(rows[0].values) - 1)]
-    for place, other in enumerate(others, 1):
-        print_table(title, ours, other, [Row(row.name, [row.values[0], *row.values[place:place + 1]]) for row in rows])
+def build(peer):
+    """The path of a peer, which is built, or None where it can't be."""
+    missing = missing_of(peer)
+    if missing:
+        skip('%s: %s is not there' % (peer.name, missing))
+        return None
+    folder = os.path.join(HERE, peer.folder)
+    subprocess.run(peer.build, cwd=folder, check=True)
+    return os.path.join(folder, peer.program)
 
 
 def live(*_):
-    makers = [lambda: rates_of(TRIALS)]
-    if shutil.which('cargo'):
-        build_peers()
-        makers += [lambda: rates_of(PEER), lambda: rates_of(PEER_BYTES)]
-    else:
-        skip('live_peer: cargo is not there')
-    print_beside('The live hub, in thousands a second', 'hub_trials', list(rate_rows(WORKLOADS, makers)))
+    # all are built before the first is timed
+    programs = [TRIALS, *[build(peer) for peer in PEERS]]
+    makers = [lambda program=program: rates_of(program) for program in programs]
+    title = 'The live hub, in thousands a second'
+    print_beside(title, 'hub_trials', [peer.name for peer in PEERS], rate_rows(WORKLOADS, makers))
 
 
 def rates_of_runs(folder):
@@ -272,13 +311,10 @@ def c_rows(programs):
 def capi(folder, _):
     os.makedirs(folder, exist_ok=True)
     programs = [c_times('chanhub', LIBRARY, folder)]
-    if shutil.which('cargo'):
-        build_peers()
+    if build(NUMBERS) and build(BYTES):
         programs += [c_times('numbers', PEER_LIBRARY, folder), c_times('bytes', PEER_BYTES_LIBRARY, folder)]
-    else:
-        skip('live_peer: cargo is not there')
     title = 'The C library, in thousands of calls a second, and of bytes of the journal a second'
-    print_beside(title, 'libchanhub', list(c_rows(programs)))
+    print_beside(title, 'libchanhub', [NUMBERS.name, BYTES.name], c_rows(programs))
 
 
 # each part, and what has to be built for it

@@ -1,5 +1,7 @@
 //! A hub of Go's channels with its journal, and the same hub under one lock, for threads to share.
 
+#[cfg(feature = "compact")]
+pub use crate::compact::Journal;
 use crate::value::Value;
 use std::collections::VecDeque;
 use std::sync::{Condvar, Mutex};
@@ -64,6 +66,9 @@ pub struct Entry {
     pub pid: Pid,
     pub step: Step,
 }
+
+#[cfg(not(feature = "compact"))]
+pub type Journal = Vec<Entry>;
 
 #[derive(Clone, Copy, Debug, PartialEq)]
 pub enum Fault {
@@ -150,7 +155,7 @@ pub struct Hub {
     processes: Vec<Process>,
     /// By port. Port 0 is the nil channel, on which nothing ever waits.
     channels: Vec<Channel>,
-    journal: Vec<Entry>,
+    journal: Journal,
     /// How many entries that are no exits the journal may still take.
     room: usize,
     /// The calls that the last step ended, in order of arrival.
@@ -200,7 +205,11 @@ impl Hub {
             }
         }
         self.room -= usize::from(takes_room);
+        #[cfg(not(feature = "compact"))]
         self.journal.push(Entry { pid, step });
+        // A step is large, and little of it is kept: it is not moved.
+        #[cfg(feature = "compact")]
+        self.journal.push(pid, &step);
         answer
     }
 
@@ -335,7 +344,8 @@ impl Hub {
             Some(channel) => channel.counts.closed = true,
         }
         for (ticket, pid) in self.open_calls() {
-            let mut cases = (0..).zip(self.journal[ticket].step.cases());
+            let entry = self.journal.get(ticket).expect("an entry of its own");
+            let mut cases = (0..).zip(entry.step.cases());
             match cases.find(|(_, case)| case.port() == port) {
                 Some((index, Case::Send(..))) => self.end(pid, What::Closed(index)),
                 Some((index, Case::Recv(_))) => self.end(pid, What::Drained(index)),
@@ -403,12 +413,12 @@ impl LiveHub {
     }
 
     /// What this makes of the number of processes and the journal so far.
-    pub(crate) fn with_journal<T>(&self, make: impl FnOnce(usize, &[Entry]) -> T) -> T {
+    pub(crate) fn with_journal<T>(&self, make: impl FnOnce(usize, &Journal) -> T) -> T {
         let hub = self.hub.lock().unwrap();
         make(hub.processes.len(), &hub.journal)
     }
 
-    pub fn into_journal(self) -> Vec<Entry> {
+    pub fn into_journal(self) -> Journal {
         self.hub.into_inner().unwrap().journal
     }
 }

@@ -1,6 +1,6 @@
 -- What a `?` hands over, and what a replay's fault is to the program.
 use Rattle.std.proofs.Common.{◌≡◌, ℕ, List, Option, refl, sym, subst, Result, Ok, Err, IfErr, IsErr, IsErrAnd}
-use Rattle.hub_base.specs.declared.text.faults.TextFault.{TextFault}
+use Rattle.hub_base.specs.declared.read_fault.TextFault.{TextFault}
 use Rattle.hub_replay.specs.declared.fault.ReplayFault.{ReplayFault}
 use Rattle.hub_replay.specs.declared.fault.ReplayFault.TheVariants as fault
 use Rattle.hub_replay.specs.Replay.{ReadsFaulty}

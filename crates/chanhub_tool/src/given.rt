@@ -3,7 +3,7 @@
 use crate::asked::Shown;
 use crate::files::file_of;
 use clap::{Arg, ArgAction, ArgMatches, Command};
-use hub_base::number;
+use hub_text::number;
 use std::alloc::{AllocError, Global};
 
 /// What a command over a journal is given.

@@ -3,8 +3,8 @@ use Rattle.std.specs.Prelude.{ℕ, List, codes}
 use Rattle.hub_base.specs.declared.fault.Fault.{Fault}
 use Rattle.hub_base.specs.declared.fault.Fault.TheVariants.{NoProcess, Gone, Busy, TooManyCases, NoPort, BadCap}
 use Rattle.hub_base.specs.declared.fault.Fault.TheVariants.{TooManyPorts, NilClose, AlreadyClosed, JournalFull, NoMemory, NotParked}
-use Rattle.hub_base.specs.declared.text.faults.Kind.{Kind}
-use Rattle.hub_base.specs.declared.text.faults.Kind.TheVariants as kind
+use Rattle.hub_base.specs.declared.read_fault.Kind.{Kind}
+use Rattle.hub_base.specs.declared.read_fault.Kind.TheVariants as kind
 
 -- the number of a fault
 abbrev pub fault_number : Fault → ℕ

@@ -14,11 +14,4 @@ pub mod Reading
 pub mod Text
 pub mod TextRows
 pub mod Journal
-pub mod Fields
-pub mod Writing
-pub mod ReadJournal
-pub mod Filling
 pub mod Head
-pub mod Reader
-pub mod ReaderKeeps
-pub mod Quick

@@ -19,10 +19,10 @@ use Rattle.hub_base.specs.declared.value.Value.{Value}
 use Rattle.hub_base.specs.Content.{Content}
 use Rattle.hub_base.specs.Value.{saying, value_field}
 use Rattle.hub_base.specs.Content.Content.{Num, Bytes}
-use Rattle.hub_base.specs.declared.text.faults.Kind.{Kind}
+use Rattle.hub_base.specs.declared.read_fault.Kind.{Kind}
 use Rattle.hub_base.specs.declared.limits.TheConstants.{CASE_PLACES, GREATEST_PID, GREATEST_PORT, GREATEST_CAP, GREATEST_VALUE, GREATEST_WORD}
 use Rattle.hub_base.specs.declared.limits.TheConstants.{MOST_VALUE_BYTES}
-use Rattle.hub_base.specs.declared.text.faults.Kind.TheVariants.{BadStep, BadNumber}
+use Rattle.hub_base.specs.declared.read_fault.Kind.TheVariants.{BadStep, BadNumber}
 
 -- ---- writing
 -- a case of a select: `s1:7` or `r1`; 58 is the colon

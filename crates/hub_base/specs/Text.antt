@@ -12,10 +12,10 @@ use Rattle.hub_base.specs.declared.entry.Entry.{Entry}
 use Rattle.hub_base.specs.declared.head.Edition.{Edition}
 use Rattle.hub_base.specs.declared.head.Head.{Head}
 use Rattle.hub_base.specs.Value.{IsValue}
-use Rattle.hub_base.specs.declared.text.faults.Kind.{Kind}
+use Rattle.hub_base.specs.declared.read_fault.Kind.{Kind}
 use Rattle.hub_base.specs.declared.limits.TheConstants.{CASE_PLACES, MOST_STEPS, MOST_BYTES, GREATEST_PID}
 use Rattle.hub_base.specs.declared.limits.TheConstants.{GREATEST_PORT, GREATEST_CAP, GREATEST_WORD}
-use Rattle.hub_base.specs.declared.text.faults.Kind.TheVariants.{BadHeader, BadProcs, TooLong}
+use Rattle.hub_base.specs.declared.read_fault.Kind.TheVariants.{BadHeader, BadProcs, TooLong}
 use Rattle.hub_base.specs.Lines.{line, step_fields, pieces, read_fields}
 use Rattle.hub_base.specs.Head.{IsHead, is_of}
 use Rattle.hub_base.specs.Reading.{text, header, head_lines, procs_line, Row, rows, is_exit, row_fault, end_of, over}

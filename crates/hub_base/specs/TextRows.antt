@@ -3,8 +3,8 @@
 use Rattle.std.specs.Prelude.{◌≡◌, List, ℕ, [], ◌∷◌, ◌++◌, codes, map, replicate, refl, true, false}
 use Rattle.std.specs.List.{flat_map, range_with_len}
 use Rattle.hex.specs.Hex.{decode_pairs}
-use Rattle.hub_base.specs.declared.text.faults.Kind.{Kind}
-use Rattle.hub_base.specs.declared.text.faults.Kind.TheVariants.{BadHeader, BadProcs, BadStep, BadNumber, CutLine}
+use Rattle.hub_base.specs.declared.read_fault.Kind.{Kind}
+use Rattle.hub_base.specs.declared.read_fault.Kind.TheVariants.{BadHeader, BadProcs, BadStep, BadNumber, CutLine}
 use Rattle.hub_base.specs.Notation.{procs, procs_two, s, r, make, send, recv, select, close, cancel, exit}
 use Rattle.hub_base.specs.Reading.{read_text, Reads, Faulty}
 

@@ -51,28 +51,6 @@ pub struct Event {
     pub what: What,
 }
 
-impl Event {
-    ghost use Rattle.hub_base.specs.EventText.{EventFits};
-
-    /// That its parts are such as a line can spell. Each number is read, since its type tells the greatest that it can be.
-    #[inline(always)]
-    #[tactic(auto, using(crate::proofs::Values::every_value))]
-    pub(crate) fn parts_fit(self)
-        ensures { EventFits self }
-    {
-        let _pid = self.pid.0;
-        match self.what {
-            What::Made(port) => {
-                let _port = port.0;
-            }
-            What::Fired { case, .. } => {
-                let _case = case;
-            }
-            _ => {}
-        }
-    }
-}
-
 /// That process 0 is told `Done`. It fills the places of a list of events that hold none yet.
 impl Default for Event {
     ghost use Rattle.std.specs.Prelude.{◌≡◌};

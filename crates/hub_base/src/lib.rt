@@ -16,7 +16,7 @@ mod has_pid;
 mod head;
 mod journal;
 mod limits;
-mod text;
+mod read_fault;
 mod value;
 
 pub use case::{Case, Cases, CasesExt};
@@ -32,13 +32,5 @@ pub use limits::{
     GREATEST_WORD, MOST_BYTES, MOST_CAP, MOST_CASES, MOST_EVENTS, MOST_PORTS, MOST_PROCS,
     MOST_STEPS, MOST_VALUE_BYTES,
 };
-pub use text::event_text::EventText;
-pub use text::faults::{Kind, NoMemory, ReadFault, TextFault};
-pub use text::fields::Fields;
-pub use text::numbers::number;
-pub use text::reader::{Reader, one_event_spelling, one_reading, one_spelling, read_journal};
-pub use text::selects::read_case;
-pub use text::steps::same_text;
-pub use text::values::read_value;
-pub use text::writer::{undo_if_refused, write_entry, write_event, write_head, write_journal};
+pub use read_fault::{Kind, NoMemory, ReadFault, TextFault};
 pub use value::{Pid, Port, Value};

@@ -28,14 +28,6 @@ pub const MOST_BYTES: usize = 67_108_864;
 /// The most events of a step: its answer, and one for each process whose call it ends.
 pub const MOST_EVENTS: usize = MOST_PROCS + 1;
 
-/// The most bytes of an event's line: ` case `, ` got `, two numbers, a value of `MOST_VALUE_BYTES` bytes and the
-/// newline.
-pub const MOST_LINE: usize = 83;
-
-/// How many bytes a text of events grows by, beside those that it needs at once. They are set to zero, so they are
-/// few: the lines that follow find them in the nearest memory.
-pub const TEXT_GROWTH: usize = 1_024;
-
 /// The greatest number that an entry can give a process. It may pass those of any hub.
 pub const GREATEST_PID: u8 = u8::MAX;
 

@@ -64,7 +64,7 @@ impl Value {
 
     /// The value that is the first of these bytes, where zeros stand behind them.
     #[inline]
-    pub(crate) fn of_places(len: usize, places: [u8; MOST_VALUE_BYTES]) -> Value
+    fn of_places(len: usize, places: [u8; MOST_VALUE_BYTES]) -> Value
         requires few { len ≤ MOST_VALUE_BYTES }
         requires stored { is_stored (len + 1) places ≡ true }
         ensures { (bs : List ℕ) → length bs ≡ len → places ≡ padded bs → result ≡ bytes_of bs }
@@ -94,7 +94,7 @@ impl Value {
     }
 
     /// The bytes that it is; none for a number.
-    pub(crate) fn as_slice(&self) -> &[u8]
+    pub fn as_bytes(&self) -> &[u8]
         ensures bytes { result.now ≡ bytes_in (content self.now) }
         ensures few { length result.now ≤ MOST_VALUE_BYTES }
     {
@@ -110,14 +110,14 @@ impl Value {
     pub fn len(self) -> u8
         ensures { result ≡ length (bytes_in (content self)) }
     {
-        self.as_slice().len() as u8
+        self.as_bytes().len() as u8
     }
 
     /// Its byte of this number, counted from 0; `None` behind the last, and for a number.
     pub fn byte(self, i: u8) -> Option<u8>
         ensures { result ≡ slice_get (bytes_in (content self)) i }
     {
-        self.as_slice().get(usize::from(i)).copied()
+        self.as_bytes().get(usize::from(i)).copied()
     }
 }
 

@@ -10,9 +10,10 @@ ghost use Rattle.hub_c.specs.Pieces.{OnlyPiece, WritesPiece, piece_in, piece_of}
 
 use crate::kind::Part;
 use crate::session::{Opened, Session};
-use hub_base::{Edition, Head, MOST_PROCS, NoMemory, write_entry, write_head};
+use hub_base::{Edition, Head, MOST_PROCS, NoMemory};
 use hub_core::ShortHub;
 use hub_live::under_lock::Locked;
+use hub_text::{write_entry, write_head};
 
 /// Appends the head lines; `Err` where memory is refused, with nothing appended.
 fn write_first(out: &mut Vec<u8>, edition: Edition, procs: u8) -> Result<(), NoMemory>

@@ -4,8 +4,8 @@ use Rattle.hub_base.specs.declared.entry.Entry.{Entry}
 use Rattle.hub_base.specs.declared.fault.Fault.{Fault}
 use Rattle.hub_base.specs.declared.fault.Fault.TheVariants as fault
 use Rattle.hub_base.specs.declared.head.Head.{Head}
-use Rattle.hub_base.specs.declared.text.faults.ReadFault.{ReadFault}
-use Rattle.hub_base.specs.declared.text.faults.ReadFault.TheVariants as read
+use Rattle.hub_base.specs.declared.read_fault.ReadFault.{ReadFault}
+use Rattle.hub_base.specs.declared.read_fault.ReadFault.TheVariants as read
 use Rattle.hub_base.specs.Journal.{JournalView}
 use Rattle.hub_base.specs.Runs.{state}
 use Rattle.hub_base.specs.Steps.{refusal}

@@ -3,11 +3,12 @@
 ghost use Rattle.std.specs.Prelude.{◌≡◌, IfOk, IfErr};
 ghost use Rattle.hub_base.specs.Head.{AreOf};
 ghost use Rattle.hub_base.specs.Reading.{read_text};
-ghost use Rattle.hub_base.specs.ReadJournal.{Gives, IsFaultOf};
+ghost use Rattle.hub_text.specs.ReadJournal.{Gives, IsFaultOf};
 ghost use Rattle.hub_base.specs.Text.{IsText};
 
 use crate::ShortEntries;
-use hub_base::{Entry, Head, Journal, NoMemory, Pid, ReadFault, Reader, Step};
+use hub_base::{Entry, Head, Journal, NoMemory, Pid, ReadFault, Step};
+use hub_text::Reader;
 use std::alloc::Global;
 use std::marker::Model;
 

@@ -10,8 +10,9 @@ ghost use Rattle.hub_chapters.specs.Checkpoint.{checkpoint};
 
 use crate::checkpoints::checkpoint_of;
 use crate::texts::all_fit;
-use hub_base::{Edition, Entry, NoMemory, write_entry, write_head};
+use hub_base::{Edition, Entry, NoMemory};
 use hub_core::ShortHub;
+use hub_text::{write_entry, write_head};
 use std::alloc::Global;
 
 /// Appends the line of each entry.

@@ -7,9 +7,10 @@ ghost use Rattle.hub_core.specs.HubView.{IsLimit, terms_of};
 ghost use Rattle.hub_live.specs.Prelude.{AreSeats};
 ghost use Rattle.hub_renew.specs.Renewed.{EndsIdle};
 
-use hub_base::{Edition, Journal, Port, Value, write_journal};
+use hub_base::{Edition, Journal, Port, Value};
 use hub_live::{Blank, Chan, Held, HubName, LiveHub, Seat, hold_all};
 use hub_renew::{are_all, finish_idle, make_again};
+use hub_text::write_journal;
 use std::marker::Brand;
 use std::sync::Wait;
 use std::test::Fail;

@@ -10,10 +10,9 @@ ghost use Rattle.hub_picture.specs.Pieces.{Appends, aim_text, behind_text, end_t
 
 use crate::label::{Label, end_class};
 use crate::pen::{Pen, put_each};
-use hub_base::{
-    Case, Edition, Entry, Event, NoMemory, Port, Value, What, write_entry, write_event,
-};
+use hub_base::{Case, Edition, Entry, Event, NoMemory, Port, Value, What};
 use hub_story::Told;
+use hub_text::{write_entry, write_event};
 use itoa::Buffer;
 use std::alloc::AllocError;
 

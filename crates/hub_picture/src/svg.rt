@@ -26,7 +26,8 @@ mod whom;
 use self::bands::put_bands;
 use self::page::{put_foot, put_top};
 use crate::Drawing;
-use hub_base::{NoMemory, undo_if_refused};
+use hub_base::NoMemory;
+use hub_text::undo_if_refused;
 use std::alloc::AllocError;
 
 /// Appends the whole picture.

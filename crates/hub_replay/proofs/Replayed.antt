@@ -8,7 +8,7 @@ use Rattle.hub_base.specs.declared.entry.Entry.{Entry}
 use Rattle.hub_base.specs.declared.event.Event.{Event}
 use Rattle.hub_base.specs.declared.limits.TheConstants.{MOST_EVENTS}
 use Rattle.hub_base.specs.EventText.{event_line}
-use Rattle.hub_base.specs.Reader.{ReaderView, Continues}
+use Rattle.hub_text.specs.Reader.{ReaderView, Continues}
 use Rattle.hub_base.specs.Reading.{Reading, Reads, Faulty, read_text, with_entry, behind}
 use Rattle.hub_base.specs.Runs.{moves, state_after, state, events_after, events}
 use Rattle.hub_base.specs.State.{State, opening}

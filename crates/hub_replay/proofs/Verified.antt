@@ -3,7 +3,7 @@ use Rattle.std.proofs.Common.{◌≡◌, ℕ, ◌-◌, ◌^◌, ◌<◌, Bool, L
 use Rattle.std.specs.Prelude.{IfErr, IsErrAnd}
 use Rattle.hub_base.specs.declared.head.Head.{Head}
 use Rattle.hub_base.specs.declared.entry.Entry.{Entry}
-use Rattle.hub_base.specs.Reader.{ReaderView}
+use Rattle.hub_text.specs.Reader.{ReaderView}
 use Rattle.hub_base.specs.Text.{IsText}
 use Rattle.hub_core.specs.Records.{MachineLists}
 use Rattle.hub_replay.specs.declared.fault.ReplayFault.{ReplayFault}

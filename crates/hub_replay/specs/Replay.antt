@@ -5,9 +5,9 @@ use Rattle.std.specs.List.{flat_map}
 use Rattle.std.specs.Io.KnownBytes.{Consumes, IsAtEnd}
 use Rattle.hub_base.specs.declared.head.Head.{Head}
 use Rattle.hub_base.specs.declared.entry.Entry.{Entry}
-use Rattle.hub_base.specs.declared.text.faults.ReadFault.{ReadFault}
-use Rattle.hub_base.specs.declared.text.faults.ReadFault.TheVariants as read
-use Rattle.hub_base.specs.declared.text.faults.TextFault.{TextFault}
+use Rattle.hub_base.specs.declared.read_fault.ReadFault.{ReadFault}
+use Rattle.hub_base.specs.declared.read_fault.ReadFault.TheVariants as read
+use Rattle.hub_base.specs.declared.read_fault.TextFault.{TextFault}
 use Rattle.hub_base.specs.declared.limits.TheConstants.{MOST_BYTES}
 use Rattle.hub_base.specs.EventText.{event_line}
 use Rattle.hub_base.specs.Runs.{events}

@@ -2,7 +2,7 @@
 use Rattle.std.specs.Prelude.{◌≡◌, ℕ, ◌-◌, ◌*◌, ◌≤◌, ◌<◌, ◌^◌, Bool, true, false, List, ◌++◌, length}
 use Rattle.hub_base.specs.declared.entry.Entry.{Entry}
 use Rattle.hub_base.specs.declared.limits.TheConstants.{MOST_EVENTS}
-use Rattle.hub_base.specs.Reader.{ReaderView}
+use Rattle.hub_text.specs.Reader.{ReaderView}
 use Rattle.hub_base.specs.Reading.{read_text, behind}
 use Rattle.hub_base.specs.Runs.{events}
 use Rattle.hub_core.specs.Follows.{Follows}

@@ -4,7 +4,7 @@
 //! entries are stepped as they are read, and none is kept.
 
 ghost use Rattle.std.specs.Prelude.{◌≡◌, ◌+◌, IfOk, IfErr, OnOk, IsErrOf};
-ghost use Rattle.hub_base.specs.declared.text.faults.TextFault.{TextFault};
+ghost use Rattle.hub_base.specs.declared.read_fault.TextFault.{TextFault};
 ghost use Rattle.std.specs.Io.KnownBytes.{Appends};
 ghost use Rattle.hub_replay.specs.Devices.{Failed, AppendsBeginning, ConsumesAtMost};
 ghost use Rattle.hub_replay.specs.Replay.{IsEventText, HasNone, Replays, ReadsFaulty};
@@ -12,7 +12,8 @@ ghost use Rattle.hub_replay.specs.Replay.{IsEventText, HasNone, Replays, ReadsFa
 use crate::pieces::{read_up_to, write_whole};
 use crate::steps::Steps;
 use crate::{ReplayFault, Sink, Source};
-use hub_base::{EventText, MOST_BYTES};
+use hub_base::MOST_BYTES;
+use hub_text::EventText;
 use std::alloc::Global;
 
 /// The event text of the journal that these bytes are the text of.

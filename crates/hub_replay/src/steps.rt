@@ -10,8 +10,9 @@ ghost use Rattle.hub_replay.specs.Replay.{HasNone};
 ghost use Rattle.hub_replay.specs.Replayed.{Replayed, GoesOn};
 
 use crate::ReplayFault;
-use hub_base::{Entry, EventText, MOST_BYTES, Pid, Reader, Step, one_reading};
+use hub_base::{Entry, MOST_BYTES, Pid, Step};
 use hub_core::Machine;
+use hub_text::{EventText, Reader, one_reading};
 use std::alloc::Global;
 
 /// The bytes that decide what a text says: of a text of too many bytes the first that is one too many

@@ -10,7 +10,7 @@ ghost use Rattle.hub_replay.specs.Verify.{Compares};
 use crate::ReplayFault;
 use crate::comparison::Comparison;
 use crate::steps::Steps;
-use hub_base::{EventText, one_reading};
+use hub_text::{EventText, one_reading};
 use std::alloc::Global;
 
 /// How many bytes of lines are compared at once, or a few more.

@@ -5,7 +5,8 @@ ghost use Rattle.std.specs.Prelude.{◌≡◌, ◌++◌, ◌+◌, ◌<◌, ℕ, 
 ghost use Rattle.hub_report.specs.ReportText.{field, ending, port_line, port_lines, count_line, report_text};
 
 use crate::{PortReport, Report};
-use hub_base::{NoMemory, undo_if_refused};
+use hub_base::NoMemory;
+use hub_text::undo_if_refused;
 use itoa::Buffer;
 use std::alloc::AllocError;
 

@@ -10,8 +10,8 @@ use Rattle.hub_base.specs.declared.case.Case.TheVariants.{Send, Recv}
 use Rattle.hub_base.specs.declared.head.Edition.{Edition}
 use Rattle.hub_base.specs.declared.head.Edition.TheVariants.{One, Two}
 use Rattle.hub_base.specs.declared.limits.TheConstants.{CASE_PLACES, GREATEST_PORT, GREATEST_VALUE}
-use Rattle.hub_base.specs.declared.text.faults.Kind.{Kind}
-use Rattle.hub_base.specs.declared.text.faults.Kind.TheVariants.{BadNumber}
+use Rattle.hub_base.specs.declared.read_fault.Kind.{Kind}
+use Rattle.hub_base.specs.declared.read_fault.Kind.TheVariants.{BadNumber}
 use Rattle.hub_base.specs.declared.value.Port.{Port}
 use Rattle.hub_base.specs.declared.value.Value.{Value}
 use Rattle.hub_base.specs.Head.{has_content, has_value, has_case}

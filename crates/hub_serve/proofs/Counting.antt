@@ -2,8 +2,8 @@
 use Rattle.std.proofs.Common.{◌≡◌, ℕ, ◌+◌, Bool, true, false, cond, List, [], ◌∷◌, ◌++◌, refl, ap, ◌∙◌, sym, arith, Some}
 use Rattle.std.proofs.Common.{None, Result, Ok}
 use Rattle.hub_base.specs.declared.entry.Entry.{Entry}
-use Rattle.hub_base.specs.declared.text.faults.Kind.{Kind}
-use Rattle.hub_base.specs.declared.text.faults.Kind.TheVariants.{TooLong}
+use Rattle.hub_base.specs.declared.read_fault.Kind.{Kind}
+use Rattle.hub_base.specs.declared.read_fault.Kind.TheVariants.{TooLong}
 use Rattle.hub_base.specs.Reading.{over, counted, is_exit}
 use Rattle.hub_base.specs.Text.{fault_of_entry, steps_of, one_step}
 use Rattle.hub_serve.specs.Running.{steps_after}

@@ -7,18 +7,18 @@ use Rattle.hub_base.specs.declared.head.Head.{Head}
 use Rattle.hub_base.specs.declared.head.Edition.{Edition}
 use Rattle.hub_base.specs.declared.head.Edition.TheVariants.{One, Two}
 use Rattle.hub_base.specs.declared.limits.TheConstants.{MOST_BYTES}
-use Rattle.hub_base.specs.declared.text.faults.Kind.{Kind}
-use Rattle.hub_base.specs.declared.text.faults.Kind.TheVariants.{TooLong}
+use Rattle.hub_base.specs.declared.read_fault.Kind.{Kind}
+use Rattle.hub_base.specs.declared.read_fault.Kind.TheVariants.{TooLong}
 use Rattle.hub_base.specs.Head.{IsHead}
 use Rattle.hub_base.specs.Lines.{pieces, read_fields}
 use Rattle.hub_base.specs.Reading.{Reading, Reads, Faulty, Row, rows, reading, read_text, faulty_or, entry_says}
 use Rattle.hub_base.specs.Reading.{with_entry, behind, is_exit}
 use Rattle.hub_base.specs.Reading.{header, head_lines, procs_line}
 use Rattle.hub_base.specs.Text.{header_row, procs_row}
-use Rattle.hub_base.proofs.Bodies.{rows-line}
-use Rattle.hub_base.proofs.Heads.{heads-again}
-use Rattle.hub_base.proofs.NextLine.{row-fine}
-use Rattle.hub_base.proofs.Numerals.{lacks, lacks-append, decimal-lacks}
+use Rattle.hub_text.proofs.Bodies.{rows-line}
+use Rattle.hub_text.proofs.Heads.{heads-again}
+use Rattle.hub_text.proofs.NextLine.{row-fine}
+use Rattle.hub_text.proofs.Numerals.{lacks, lacks-append, decimal-lacks}
 use Rattle.hub_serve.specs.Lines.{IsEntryLine, Says, first_line, says_one}
 use Rattle.hub_serve.proofs.Newlines.{rows-of-line}
 use Rattle.std.specs.Fmt.{decimal}

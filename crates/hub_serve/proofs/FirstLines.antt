@@ -5,14 +5,14 @@ use Rattle.std.specs.Prelude.{drop}
 use Rattle.hub_base.specs.declared.head.Edition.{Edition}
 use Rattle.hub_base.specs.declared.head.Edition.TheVariants.{One, Two}
 use Rattle.hub_base.specs.declared.head.Head.{Head}
-use Rattle.hub_base.specs.declared.text.faults.Kind.{Kind}
-use Rattle.hub_base.specs.declared.text.faults.Kind.TheVariants.{BadProcs}
-use Rattle.hub_base.specs.Reader.{edition_said, procs_said}
+use Rattle.hub_base.specs.declared.read_fault.Kind.{Kind}
+use Rattle.hub_base.specs.declared.read_fault.Kind.TheVariants.{BadProcs}
+use Rattle.hub_text.specs.Reader.{edition_said, procs_said}
 use Rattle.hub_base.specs.Reading.{Faulty, Row, rows, row_fault, end_of, faulty_or, edition_of, edition_says, procs_number}
 use Rattle.hub_base.specs.Reading.{procs_say}
 use Rattle.hub_base.specs.Reading.{reading, read_text, header, head_lines, procs_line}
 use Rattle.hub_base.specs.Text.{header_row}
-use Rattle.hub_base.proofs.Heads.{edition-take, procs-take, header-again}
+use Rattle.hub_text.proofs.Heads.{edition-take, procs-take, header-again}
 use Rattle.hub_serve.specs.Lines.{IsLine, IsSecond, first_line}
 use Rattle.hub_serve.proofs.Newlines.{rows-of-line}
 

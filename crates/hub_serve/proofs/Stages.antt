@@ -10,17 +10,17 @@ use Rattle.hub_base.specs.declared.head.Edition.{Edition}
 use Rattle.hub_base.specs.declared.head.Edition.TheVariants.{One, Two}
 use Rattle.hub_base.specs.declared.head.Head.{Head}
 use Rattle.hub_base.specs.declared.limits.TheConstants.{MOST_BYTES}
-use Rattle.hub_base.specs.declared.text.faults.Kind.{Kind}
-use Rattle.hub_base.specs.declared.text.faults.Kind.TheVariants.{TooLong, CutLine}
+use Rattle.hub_base.specs.declared.read_fault.Kind.{Kind}
+use Rattle.hub_base.specs.declared.read_fault.Kind.TheVariants.{TooLong, CutLine}
 use Rattle.hub_base.specs.Lines.{line, pieces, read_fields}
 use Rattle.hub_base.specs.Reading.{Reading, Reads, Faulty, Row, rows, reading, read_text, end_of, row_fault, faulty_or, entry_says}
 use Rattle.hub_base.specs.Reading.{entries_from, with_entry}
 use Rattle.hub_base.specs.Reading.{behind, over, counted, head_lines}
 use Rattle.hub_base.specs.Text.{IsText, header_row, procs_row, row_of, steps_of, fault_of_entry}
-use Rattle.hub_base.proofs.Bodies.{rows-entries}
-use Rattle.hub_base.proofs.Heads.{heads-again, header-again, text-take}
-use Rattle.hub_base.proofs.NextLine.{row-fine}
-use Rattle.hub_base.proofs.Running.{entries-again}
+use Rattle.hub_text.proofs.Bodies.{rows-entries}
+use Rattle.hub_text.proofs.Heads.{heads-again, header-again, text-take}
+use Rattle.hub_text.proofs.NextLine.{row-fine}
+use Rattle.hub_text.proofs.Running.{entries-again}
 use Rattle.hub_serve.specs.declared.running.Running.{Running}
 use Rattle.hub_serve.specs.Lines.{IsLine, first_line}
 use Rattle.hub_serve.specs.Stands.{InHead, IsAt}

@@ -2,8 +2,8 @@
 use Rattle.std.proofs.Common.{◌≡◌, ℕ, ◌+◌, ◌≤◌, refl, inl, inr, List, [], ◌++◌, length, ap, ◌∙◌, sym, subst, arith, append_assoc}
 use Rattle.std.proofs.Common.{append-nil, length-append, Option, Some, None}
 use Rattle.hub_base.specs.declared.limits.TheConstants.{MOST_BYTES}
-use Rattle.hub_base.specs.declared.text.faults.Kind.{Kind}
-use Rattle.hub_base.specs.declared.text.faults.TextFault.{TextFault}
+use Rattle.hub_base.specs.declared.read_fault.Kind.{Kind}
+use Rattle.hub_base.specs.declared.read_fault.TextFault.{TextFault}
 use Rattle.hub_base.specs.Reading.{Faulty, read_text}
 use Rattle.hub_base.specs.Text.{IsFaulty}
 use Rattle.hub_replay.specs.Replay.{IsEventText}

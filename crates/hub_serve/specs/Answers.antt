@@ -3,7 +3,7 @@
 -- how any of them is computed.
 use Rattle.std.specs.Prelude.{◌≡◌, ◌⊎◌, ℕ, ◌+◌, List, [], ◌++◌, codes}
 use Rattle.hub_base.specs.declared.head.Edition.{Edition}
-use Rattle.hub_base.specs.declared.text.faults.TextFault.{TextFault}
+use Rattle.hub_base.specs.declared.read_fault.TextFault.{TextFault}
 use Rattle.hub_base.specs.Reading.{header}
 use Rattle.hub_base.specs.Text.{IsFaulty}
 use Rattle.hub_replay.specs.Replay.{IsEventText}

@@ -1,7 +1,7 @@
 -- What a conversation comes to.
 use Rattle.std.specs.Prelude.{◌≡◌, ◌⊎◌, ℕ, ◌+◌, ◌≤◌, List, ◌++◌, length, Result, OnOk, IsErrOf}
 use Rattle.hub_base.specs.declared.limits.TheConstants.{MOST_BYTES}
-use Rattle.hub_base.specs.declared.text.faults.TextFault.{TextFault}
+use Rattle.hub_base.specs.declared.read_fault.TextFault.{TextFault}
 use Rattle.hub_base.specs.Text.{IsFaulty}
 use Rattle.hub_replay.specs.declared.fault.ReplayFault.{ReplayFault}
 use Rattle.hub_replay.specs.declared.fault.ReplayFault.TheVariants.{Text, Read, Write, NoMemory}

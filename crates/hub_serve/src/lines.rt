@@ -13,7 +13,8 @@ ghost use Rattle.hub_base.specs.declared.limits.TheConstants.{MOST_BYTES};
 ghost use Rattle.hub_replay.specs.Verify.{newlines_in};
 ghost use Rattle.hub_serve.specs.Lines.{IsCut, IsLine, IsSecond, IsEntryLine, Says, first_line, says_one};
 
-use hub_base::{Entry, Head, Kind, Reader};
+use hub_base::{Entry, Head, Kind};
+use hub_text::Reader;
 use memchr::memchr;
 
 /// The first line with its newline, and what stands behind it; `None` where there is no newline.

@@ -9,8 +9,9 @@ ghost use Rattle.hub_serve.specs.Lines.{IsEntryLine};
 ghost use Rattle.hub_serve.specs.Running.{Goes, RunsTo, steps_after};
 
 use crate::lines::read_entry;
-use hub_base::{Entry, EventText, Head, Kind, MOST_STEPS, NoMemory, Pid, Step};
+use hub_base::{Entry, Head, Kind, MOST_STEPS, NoMemory, Pid, Step};
 use hub_core::Machine;
+use hub_text::EventText;
 use std::alloc::Global;
 
 /// A machine that stands where the entries so far have led. An entry takes some 600 bytes, so each is read into

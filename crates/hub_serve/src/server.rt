@@ -2,7 +2,7 @@
 
 ghost use Rattle.std.specs.Prelude.{◌≡◌, ◌+◌, ◌++◌, List, ℕ, [], length, OnOk, OnErr, IsErrOf};
 ghost use Rattle.hub_base.specs.declared.limits.TheConstants.{MOST_BYTES};
-ghost use Rattle.hub_base.specs.declared.text.faults.TextFault.{TextFault};
+ghost use Rattle.hub_base.specs.declared.read_fault.TextFault.{TextFault};
 ghost use Rattle.hub_replay.specs.Devices.{Failed};
 ghost use Rattle.hub_serve.specs.Conversing.{Conversing};
 ghost use Rattle.hub_serve.specs.Serve.{HasConversed, HasNamed, HasBegun, HasEnded, HasStopped, HasHeardAtMost};
@@ -10,8 +10,9 @@ ghost use Rattle.hub_serve.specs.Talks.{Stays, Grows, HasAnswered, IsAnswer};
 
 use crate::Talk;
 use crate::conversation::Conversation;
-use hub_base::{EventText, MOST_BYTES, one_reading};
+use hub_base::MOST_BYTES;
 use hub_replay::{CHUNK, ReplayFault, WriteFailed};
+use hub_text::{EventText, one_reading};
 use std::alloc::Global;
 
 /// Says all of the answer that is left, and stops at the first write that fails or takes none.

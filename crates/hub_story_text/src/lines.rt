@@ -11,9 +11,10 @@ use crate::answers::{fault_words, put_answer};
 use crate::cells::{ANSWER, ASKS, VALUE, WAITED, close_cell, open_cell, put_right};
 use crate::ends::{Ending, ends_cell};
 use crate::numbers::{number_of, put_number};
-use hub_base::{Case, Edition, Entry, NoMemory, Outcome, Port, What, write_entry};
+use hub_base::{Case, Edition, Entry, NoMemory, Outcome, Port, What};
 use hub_core::ShortEntries;
 use hub_story::{Told, cases_of};
+use hub_text::write_entry;
 use std::alloc::AllocError;
 
 /// Appends who asks what.

@@ -4,7 +4,8 @@ ghost use Rattle.std.specs.Prelude.{◌≡◌, ◌+◌, ◌++◌, codes, decimal
 ghost use Rattle.hub_base.specs.EventText.{event_line};
 ghost use Rattle.hub_base.specs.Value.{value_field};
 
-use hub_base::{Event, NoMemory, Outcome, Pid, Value, What, write_event};
+use hub_base::{Event, NoMemory, Outcome, Pid, Value, What};
+use hub_text::write_event;
 use itoa::Buffer;
 use std::alloc::{AllocError, Global};
 

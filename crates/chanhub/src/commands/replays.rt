@@ -1,7 +1,7 @@
 //! `chanhub replay`.
 
 ghost use Rattle.std.specs.Prelude.{◌≡◌, IfOk, IfErr, IsErrOf};
-ghost use Rattle.hub_base.specs.declared.text.faults.TextFault.{TextFault};
+ghost use Rattle.hub_base.specs.declared.read_fault.TextFault.{TextFault};
 ghost use Rattle.std.specs.Io.KnownBytes.{Appends};
 ghost use Rattle.hub_replay.specs.Devices.{Failed, AppendsBeginning};
 ghost use Rattle.hub_replay.specs.Replay.{Replays, ReadsFaulty};

@@ -10,11 +10,12 @@ ghost use Rattle.chanhub.specs.Promises.{RunsScenario, ReadsScenario, TakesScena
 use crate::files::read_file;
 use crate::outcome::Outcome;
 use crate::refusal::Refusal;
-use hub_base::{NoMemory, write_journal};
+use hub_base::NoMemory;
 use hub_replay::{Sink, Source, SourceFault, read_up_to, write_whole};
 use hub_report::{Report, write_report};
 use hub_runner::{NoGate, run_scenario};
 use hub_scenario::{MOST_FILE_BYTES, read_scenario};
+use hub_text::write_journal;
 use std::alloc::Global;
 use std::rt::Files;
 use std::sync::Wait;

@@ -14,13 +14,14 @@ use crate::given::optional;
 use crate::limits::{DEFAULT_STATES, MOST_STATES};
 use crate::progress::Progress;
 use clap::{ArgMatches, Command};
-use hub_base::{Journal, NoMemory, number, write_journal};
+use hub_base::{Journal, NoMemory};
 use hub_explore::{Explored, Question, Watch, explore_watched};
 use hub_replay::{
     Counted, ReplayFault, Sink, Source, WriteFailed, read_up_to, tell_fault, write_pieces,
     write_whole,
 };
 use hub_scenario::{MOST_FILE_BYTES, Scenario, ScenarioFault, read_scenario};
+use hub_text::{number, write_journal};
 use itoa::Buffer;
 use std::alloc::{AllocError, Global};
 

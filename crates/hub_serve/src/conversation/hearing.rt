@@ -11,7 +11,8 @@ ghost use Rattle.hub_serve.specs.Stands.{Stands, Ends, Hears, FailsHere};
 use super::Conversation;
 use crate::lines::{cut_line, read_first, read_second};
 use crate::running::Running;
-use hub_base::{EventText, Kind, MOST_BYTES, NoMemory, TextFault};
+use hub_base::{Kind, MOST_BYTES, NoMemory, TextFault};
+use hub_text::EventText;
 use std::alloc::{AllocError, Global};
 
 impl Conversation {

@@ -2,7 +2,8 @@
 
 use crate::compare::same;
 use crate::steps::entries::{Ask, entry_of};
-use hub_base::{Kind, Reader, TextFault, write_entry};
+use hub_base::{Kind, TextFault};
+use hub_text::{Reader, write_entry};
 use std::process::Abort;
 use std::test::Fail;
 

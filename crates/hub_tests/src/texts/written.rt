@@ -2,10 +2,8 @@
 
 use crate::compare::same;
 use crate::steps::entries::{SENT, Told, event_of};
-use hub_base::{
-    Event, EventText, Fault, Hears, Journal, read_journal, write_entry, write_event, write_head,
-    write_journal,
-};
+use hub_base::{Event, Fault, Hears, Journal};
+use hub_text::{EventText, read_journal, write_entry, write_event, write_head, write_journal};
 use std::alloc::Global;
 use std::process::Abort;
 use std::test::Fail;

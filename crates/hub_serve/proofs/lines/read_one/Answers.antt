@@ -1,5 +1,5 @@
 use Rattle.std.proofs.Common.{◌∙◌, sym, subst, Bool, Ok}
-use Rattle.hub_base.specs.Reader.{FillsOn}
+use Rattle.hub_text.specs.Reader.{FillsOn}
 use Rattle.hub_serve.proofs.EntryLines.{read-on, some-said, fault-said}
 use Rattle.hub_serve.proofs.lines.read_one.Goals as goal
 

@@ -1,6 +1,6 @@
 use Rattle.std.proofs.Common.{◌++◌, ◌∷◌, [], ◌∙◌, ap, subst, Bool, Ok}
 use Rattle.hub_base.specs.Reading.{behind}
-use Rattle.hub_base.specs.Reader.{FillsOn}
+use Rattle.hub_text.specs.Reader.{FillsOn}
 use Rattle.hub_serve.proofs.EntryLines.{behind-more}
 use Rattle.hub_serve.proofs.lines.read_out.Goals as goal
 

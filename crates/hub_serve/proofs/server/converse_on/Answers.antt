@@ -1,7 +1,7 @@
 use Rattle.std.proofs.Common.{ℕ, List, ◌<◌, ◌+◌, sym, subst, arith, rules, length, refl, take}
 use Rattle.std.proofs.lemmas.Grind.{common_steps}
 use Rattle.hub_base.specs.declared.limits.TheConstants.{MOST_BYTES}
-use Rattle.hub_base.specs.declared.text.faults.TextFault.{TextFault}
+use Rattle.hub_base.specs.declared.read_fault.TextFault.{TextFault}
 use Rattle.hub_serve.specs.Serve.{HasConversed, HasNamed, HasStopped, HasHeardAtMost}
 use Rattle.hub_serve.specs.Talks.{Grows, HasAnswered, IsAnswer}
 use Rattle.hub_serve.proofs.Talking.{conversing-answered, conversing-silent, conversing-stays, ended-whole, ended-faulty, came-few}

@@ -1,7 +1,7 @@
 use Rattle.std.proofs.Common.{◌∙◌, ◌++◌, ℕ, List, [], ap, append-nil, subst, sym, Bool, Ok}
 use Rattle.std.specs.List.{flat_map}
 use Rattle.hub_base.specs.EventText.{event_line}
-use Rattle.hub_base.specs.Reader.{FillsOn}
+use Rattle.hub_text.specs.Reader.{FillsOn}
 use Rattle.hub_replay.specs.Replayed.{ReplayedWhole}
 use Rattle.hub_replay.proofs.Replayed.{one-more-replayed, all-replayed}
 use Rattle.hub_replay.proofs.steps.Steps.step.Goals as goal

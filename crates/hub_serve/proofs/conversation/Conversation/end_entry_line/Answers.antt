@@ -1,5 +1,5 @@
 use Rattle.std.proofs.Common.{ap, subst, refl, Option, ◌+◌, ◌-◌}
-use Rattle.hub_base.specs.declared.text.faults.Kind.{Kind}
+use Rattle.hub_base.specs.declared.read_fault.Kind.{Kind}
 use Rattle.hub_serve.specs.Running.{Goes}
 use Rattle.hub_serve.proofs.Ending.{at-entries, entry-line, entry-ends, entry-fails}
 use Rattle.hub_serve.proofs.conversation.Conversation.end_entry_line.Goals as goal

@@ -1,5 +1,5 @@
 use Rattle.std.proofs.Common.{subst, Option, arith, ◌++◌}
-use Rattle.hub_base.specs.declared.text.faults.TextFault.{TextFault}
+use Rattle.hub_base.specs.declared.read_fault.TextFault.{TextFault}
 use Rattle.hub_serve.specs.Stands.{Ends}
 use Rattle.hub_serve.proofs.Hearing.{is-line, line-answered, line-faulty, piece-heard, piece-long}
 use Rattle.hub_serve.proofs.conversation.Conversation.hear.Goals as goal

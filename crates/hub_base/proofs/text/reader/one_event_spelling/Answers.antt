@@ -1,5 +1,0 @@
-use Rattle.hub_base.proofs.EventLines.{one-line, one-events, begins}
-use Rattle.hub_base.proofs.text.reader.one_event_spelling.Goals as goal
-
-pub returns : goal.returns
-returns c = record { line = one-line; text = one-events; begins = begins }

@@ -1,5 +1,0 @@
-use Rattle.hub_base.proofs.OneReading.{one-spelling}
-use Rattle.hub_base.proofs.text.reader.one_spelling.Goals as goal
-
-pub returns : goal.returns
-returns c = one-spelling

@@ -1,7 +1,0 @@
--- the search that a check tries first fails at these, at some length
-use Rattle.std.proofs.Common.{arith}
-use Rattle.std.proofs.lemmas.Grind.{common_steps}
-use Rattle.hub_base.proofs.text.reader.open_entries.Goals as goal
-
-pub returns-then-is_empty : goal.returns-then-is_empty
-returns-then-is_empty c = grind (arith, common_steps)

@@ -1,0 +1,5 @@
+use Rattle.hub_text.proofs.OneReading.{one-spelling}
+use Rattle.hub_text.proofs.reader.one_spelling.Goals as goal
+
+pub returns : goal.returns
+returns c = one-spelling

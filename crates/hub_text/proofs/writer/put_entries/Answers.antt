@@ -1,0 +1,19 @@
+use Rattle.std.proofs.Common.{refl, Err}
+use Rattle.hub_base.specs.Lines.{line}
+use Rattle.hub_text.proofs.Appending.{each-more, each-done, each-part}
+use Rattle.hub_text.proofs.writer.put_entries.Goals as goal
+
+pub returns : goal.returns
+returns c = each-done line c.args.entries.now c.loop-entry.entry-index c.loop-entry-test.false c.loop-entry.invariant
+
+pub returns-in-Err : goal.returns-in-Err
+returns-in-Err c =
+    let entries = c.args.entries.now in
+    let i = c.loop-entry.entry-index in
+    let here = each-more line entries i c.entry-item.result c.loop-entry-test.true c.entry-item.is c.loop-entry.invariant c.in-Err.ensures in
+    each-part line entries i (Err c.in-Err.field-0) here refl
+
+pub loop-entry-preserved : goal.loop-entry-preserved
+loop-entry-preserved c =
+    each-more line c.args.entries.now c.loop-entry.entry-index c.entry-item.result c.loop-entry-test.true c.entry-item.is c.loop-entry.invariant
+    c.in-Ok.ensures

@@ -1,0 +1,7 @@
+pub mod Fields
+pub mod Writing
+pub mod ReadJournal
+pub mod Filling
+pub mod Reader
+pub mod ReaderKeeps
+pub mod Quick

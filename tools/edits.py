@@ -19,15 +19,16 @@ stopped at its limit, or an answer's line does not fit, the goals are asked anew
 crate and, where an answer stood, in the unchanged one: only what a search proves there and not here counts. What is left is no
 refusal, and fails: by a limit, by a name that is gone, by an answer's line, by a goal of safety alone (an index, a sum).
 One that is not refused beside others is tried alone. Prints a line for each edit, then how many by each kind, and last how many were
-refused: `N passed, M failed`. Status 0 where none failed, and something was tried. Where all edits of a crate were tried, writes
-so to edits_tried.toml.
+refused: `N passed, M failed`. Status 0 where none failed, and something was tried. After --further writes to edits_tried.toml which
+were tried, and over which contracts.
 
 After --read none is tried: all edits of the crates, further ones too, are made on copies and read by the compiler's front end, which
-checks names and types. A crate fails if edits_tried.toml does not say that all its edits were tried over its present contracts, and
-were refused.
+checks names and types; but not where edits_tried.toml says that it has read the same edits with the same sources. What was read is
+written there. A crate fails if the record does not say that all its edits were tried over its present contracts, and were refused.
 """
 import argparse
 import collections
+import functools
 import os
 import re
 import shutil
@@ -46,6 +47,8 @@ from edit_files import FOLDERS, BadEdit, Batch, batches_of, copy_of, read_edits
 
 # as many checks at a time as main says
 turns = threading.Semaphore()
+
+PROVED = re.compile(r'^(?:rt: )?(\w+) (?:proved$|is kept: )', re.M)
 
 Told = collections.namedtuple('Told', 'edit kind said')
 
@@ -228,16 +231,23 @@ def prove_unchanged(crate, edits, kept):
     print('%s: what its edits change is proved unchanged, in %d s' % (crate, ran.seconds), flush=True)
 
 
+@functools.lru_cache(maxsize=1)
+def proved_in(log, size):
+    """The crates that `rt ci` has told in its log, of this size now, to be proved, in this run or an earlier one, and whether it has ended."""
+    with open(log, errors='replace') as file:
+        told = file.read(size)
+    return set(PROVED.findall(told)), re.search(r'^\d+ passed, \d+ failed$', told, re.M) is not None
+
+
 def wait_for(crate, log):
-    """Returns once `rt ci` has told in its log that the crate is proved, in this run or an earlier one."""
+    """Returns once the crate is proved."""
     while True:
-        with open(log, errors='replace') as file:
-            told = file.read()
-        if re.search(r'^(?:rt: )?%s (?:proved$|is kept: )' % crate, told, re.M):
+        proved, has_ended = proved_in(log, os.path.getsize(log))
+        if crate in proved:
             return
-        if re.search(r'^\d+ passed, \d+ failed$', told, re.M):
+        if has_ended:
             raise BadEdit('rt ci did not prove it')
-        time.sleep(1)
+        time.sleep(2)
 
 
 def try_all(by_crate, log, bad):
@@ -280,21 +290,18 @@ def read_batch(batch):
     return [it for half in halves(batch) for it in read_batch(half)]
 
 
-def read_all(by_crate, log, bad):
-    """Has the front end read all edits, and returns how many it took."""
+def read_all(by_crate, log):
+    """Has the front end read all edits, and returns what it says against those of each crate."""
     def read_crate(crate):
-        if log:
-            wait_for(crate, log)
-        return [it for batch in batches_of(by_crate[crate], apart=False) for it in read_batch(batch)]
+        try:
+            if log:
+                wait_for(crate, log)
+            return [it for batch in batches_of(by_crate[crate], apart=False) for it in read_batch(batch)]
+        except BadEdit as error:
+            return ['%s: its edits were not read: %s' % (crate, error)]
 
     with ThreadPoolExecutor(len(by_crate) + 1) as pool:
-        found = {crate: pool.submit(read_crate, crate) for crate in by_crate}
-        for crate, it in found.items():
-            try:
-                bad += it.result()
-            except BadEdit as error:
-                bad.append('%s: its edits were not read: %s' % (crate, error))
-    return sum(map(len, by_crate.values()))
+        return dict(zip(by_crate, pool.map(read_crate, by_crate)))
 
 
 def count_kinds(told):
@@ -324,7 +331,11 @@ def main():
         bad.append('there are no edits')
     whole = [it for it in by_crate if not words.asked or it in words.asked]
     if words.read:
-        passed = read_all(by_crate, words.proved_in, bad)
+        unread = {it: edits for it, edits in by_crate.items() if not edits_tried.are_read(it, edits)}
+        passed = sum(map(len, by_crate.values()))
+        wrong = read_all(unread, words.proved_in)
+        bad += [it for told in wrong.values() for it in told]
+        edits_tried.record_read({it: unread[it] for it in unread if it in whole and not wrong[it]})
         bad += edits_tried.lacks({it: by_crate[it] for it in whole})
     else:
         told = try_all(by_crate, words.proved_in, bad)
@@ -332,7 +343,7 @@ def main():
         bad += [it.said for it in told if it.kind not in verdicts.REFUSED]
         print(count_kinds(told))
         if words.further:
-            edits_tried.write({crate: [it for it in told if it.edit.crate == crate] for crate in whole}, verdicts.REFUSED)
+            edits_tried.record_tried({crate: [it for it in told if it.edit.crate == crate] for crate in by_crate}, whole, verdicts.REFUSED)
     print(''.join('failed: %s\n' % it for it in bad), end='')
     print('%d passed, %d failed' % (passed, len(bad)))
     return 1 if bad else 0

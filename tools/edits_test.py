@@ -3,7 +3,9 @@
 
 A line for each test that fails; the last line counts: 'N passed, M failed'.
 """
+import datetime
 import sys
+import tomllib
 
 sys.dont_write_bytecode = True
 import edit_verdicts as verdicts
@@ -129,6 +131,10 @@ pub fn one(x: u8) -> u8
 '''
 
 
+RECORDED = {'date': datetime.date(2026, 1, 2), 'commit': '12ab', 'read': '34cd', 'kinds': {verdicts.FALSE: 2}, 'left': ['second'],
+            'contracts': ['%02x' % it for it in range(90)], 'tried': ['1a', '2b']}
+
+
 class Change:
     """An edit of one function, as far as batches look at it."""
 
@@ -164,7 +170,11 @@ def tests():
     yield 'edits of one function are apart', [len(it.edits) for it in batches] == [2, 1]
     yield 'or read together', [len(it.edits) for it in batches_of([Change('one'), Change('one')], apart=False)] == [2]
     yield 'an empty batch', Batch().texts == {}
-    yield 'texts of edits', edits_tried.texts([__file__]) != edits_tried.texts([verdicts.__file__])
+    yield 'sums of edits', edits_tried.text_sum(__file__) != edits_tried.text_sum(verdicts.__file__)
+    yield 'imports say nothing', edits_tried.IMPORT.sub('', 'use A.{b}\npub use C.{d}\nuse_it = b\n') == 'use_it = b\n'
+    yield 'a record that is read back', tomllib.loads(edits_tried.part('one', RECORDED))['one'] == RECORDED
+    more = edits_tried.beside(RECORDED, {**RECORDED, 'tried': {'3c'}, 'left': set()}, {'second'})
+    yield 'edits beside others', (more['tried'], more['left']) == ({'1a', '2b', '3c'}, set())
     clauses = list(edits_tried.clauses(SOURCE))
     yield 'clauses of a source', clauses == ['requires small { x < 9 }', 'ensures { IfOk result (λ r. { r }) }']
 

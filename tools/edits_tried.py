@@ -7,14 +7,18 @@ import re
 import subprocess
 import tomllib
 
-from crates import ROOT, folder
+from crates import ROOT, below, folder, read_crates
 
 RECORD = os.path.join(ROOT, 'tools', 'edits_tried.toml')
-HEAD = """# Per crate, the last time that all its edits were tried, further ones too: by `tools/edits.py --further CRATE`, which writes this.
-# `contracts` is a sum over the crate's specs and the clauses of its sources, `texts` one over its edits. `left` names the edits that were
-# not shown false or left open. `tools/edits.py --read` fails if there is one, or if the contracts or the edits have changed since.
+HEAD = """# Per crate, when edits were tried last: by `tools/edits.py --further CRATE`, or of single edits CRATE/NAME, which write this. `contracts`
+# has a sum for each file of specs or sources that says anything, `tried` one for each edit, with its name; `left` names those that were
+# tried and not refused. `read` is a sum over edits and sources that the compiler has read together. `tools/edits.py --read` says what
+# it makes of these.
 """
 CLAUSE = re.compile(r'^\s*(?:requires|ensures|follows\w*|ghost(?! use)|invariant)\b', re.M)
+# Where the names of a definition come from.
+IMPORT = re.compile(r'^(?:pub )?use [^\n]*\n', re.M)
+COLUMNS = 140
 
 
 def files(place, ending):
@@ -35,29 +39,42 @@ def clauses(text):
         yield ' '.join(text[found.start():end].split())
 
 
+def sum_of(texts, length=8):
+    total = hashlib.sha256()
+    for text in texts:
+        total.update(text.encode() + b'\n')
+    return total.hexdigest()[:length]
+
+
+def read_text(path):
+    with open(path) as file:
+        return file.read()
+
+
 def contracts(crate):
-    """A sum over the crate's specs and clauses."""
-    total = hashlib.sha256()
-    for path in files(os.path.join(folder(ROOT, crate), 'specs'), '.antt'):
-        with open(path, 'rb') as file:
-            total.update(file.read())
-    for path in files(os.path.join(folder(ROOT, crate), 'src'), '.rt'):
-        with open(path) as file:
-            for clause in clauses(file.read()):
-                total.update(clause.encode() + b'\n')
-    return total.hexdigest()[:16]
+    """The sums of the crate's files of definitions, without their imports, and of the clauses of its sources."""
+    said = [[IMPORT.sub('', read_text(it))] for it in files(os.path.join(folder(ROOT, crate), 'specs'), '.antt')]
+    said += [list(clauses(read_text(it))) for it in files(os.path.join(folder(ROOT, crate), 'src'), '.rt')]
+    return {sum_of(it) for it in said if it}
 
 
-def texts(paths):
-    """A sum over the names and texts of edits, in whichever folder they stand."""
-    total = hashlib.sha256()
-    for path in sorted(paths, key=os.path.basename):
-        with open(path, 'rb') as file:
-            total.update(os.path.basename(path).encode() + b'\n' + file.read())
-    return total.hexdigest()[:16]
+def text_sum(path):
+    """The sum of an edit: of its name and its text, in whichever folder it stands."""
+    return sum_of([os.path.basename(path), read_text(path)])
 
 
-def read():
+def name_of(path):
+    return os.path.basename(path).removesuffix('.edit')
+
+
+def sources_sum(crate, paths):
+    """A sum over the crate's edits, its sources, and those below it."""
+    crates = read_crates()
+    sources = [it for name in sorted({crate} | below(crate, crates)) for it in files(os.path.join(folder(ROOT, name), 'src'), '.rt')]
+    return sum_of((read_text(it) for it in sources + sorted(paths)), 16)
+
+
+def read_record():
     if not os.path.exists(RECORD):
         return {}
     with open(RECORD, 'rb') as file:
@@ -65,14 +82,16 @@ def read():
 
 
 def what_lacks(crate, paths):
-    """Why the record does not say of this crate that all its edits are refused over its present contracts; or nothing."""
-    tried = read().get(crate)
+    """Why the record does not say of this crate that all its edits are refused over its present contracts; or nothing. What came since in
+    files of its own takes nothing from what the others say."""
+    tried = read_record().get(crate)
     if tried is None:
-        return 'no run of all its edits is recorded'
-    if tried['contracts'] != contracts(crate):
-        return 'its contracts have changed since all its edits were tried on %s' % tried['date']
-    if tried['texts'] != texts(paths):
-        return 'its edits have changed since all were tried on %s' % tried['date']
+        return 'no run of its edits is recorded'
+    if not set(tried['contracts']) <= contracts(crate):
+        return 'its contracts have changed since its edits were tried on %s' % tried['date']
+    new = sorted(name_of(it) for it in paths if text_sum(it) not in tried['tried'])
+    if new:
+        return 'not tried: ' + ', '.join(new)
     return 'not refused: ' + ', '.join(tried['left']) if tried['left'] else None
 
 
@@ -84,30 +103,70 @@ def lacks(by_crate):
             yield '%s: %s: tools/edits.py --further %s' % (crate, why, crate)
 
 
+def are_read(crate, edits):
+    """Whether the compiler has read these edits with the sources that stand now."""
+    return read_record().get(crate, {}).get('read') == sources_sum(crate, [it.path for it in edits])
+
+
+def list_of(name, words):
+    """A list over as many lines as it needs."""
+    if not words:
+        return ['%s = []' % name]
+    lines = ['%s = [' % name]
+    for word in words:
+        if len(lines) == 1 or len(lines[-1]) + len(word) + 4 > COLUMNS:
+            lines.append('   ')
+        lines[-1] += ' "%s",' % word
+    return lines + [']']
+
+
+def part(crate, tried):
+    """What the record has of a crate, in its own lines."""
+    lines = ['[%s]' % crate, 'date = %s' % tried['date']]
+    lines += ['%s = "%s"' % (it, tried[it]) for it in ('commit', 'read') if it in tried]
+    lines.append('kinds = { %s }' % ', '.join('"%s" = %d' % it for it in sorted(tried['kinds'].items())))
+    return '\n'.join(lines + [line for it in ('left', 'contracts', 'tried') for line in list_of(it, sorted(tried[it]))]) + '\n'
+
+
+def write_record(record):
+    with open(RECORD, 'w') as file:
+        file.write(HEAD + ''.join('\n' + part(*it) for it in sorted(record.items())))
+
+
+def record_read(by_crate):
+    """Records of these crates that the compiler has read all their edits with the sources that stand now."""
+    record = read_record()
+    for crate, edits in by_crate.items():
+        if crate in record:
+            record[crate]['read'] = sources_sum(crate, [it.path for it in edits])
+    write_record(record)
+
+
 def entry(crate, told, refused):
+    """What a run says of a crate of which these edits were tried."""
     commit = subprocess.run(['git', 'rev-parse', '--short', 'HEAD'], cwd=ROOT, stdout=subprocess.PIPE, text=True).stdout.strip()
-    counts = collections.Counter(it.kind or 'not refused' for it in told)
-    lines = ['date = %s' % datetime.date.today(), 'commit = "%s"' % commit, 'contracts = "%s"' % contracts(crate)]
-    lines += ['texts = "%s"' % texts(it.edit.path for it in told), 'edits = %d' % len(told)]
-    lines += ['"%s" = %d' % it for it in sorted(counts.items())]
-    left = sorted(os.path.basename(it.edit.path).removesuffix('.edit') for it in told if it.kind not in refused)
-    lines.append('left = [%s]' % ', '.join('"%s"' % it for it in left))
-    return '\n'.join(lines)
+    return {'date': datetime.date.today(), 'commit': commit, 'contracts': contracts(crate),
+            'kinds': collections.Counter(it.kind or 'not refused' for it in told),
+            'tried': {text_sum(it.edit.path) for it in told},
+            'left': {name_of(it.edit.path) for it in told if it.kind not in refused}}
 
 
-def write(by_crate, refused):
-    """Puts what was told of all edits of these crates in place of what stood there."""
-    if not any(by_crate.values()):
-        return
-    parts = {}
-    if os.path.exists(RECORD):
-        with open(RECORD) as file:
-            for part in re.split(r'^\[(?=\w+\]$)', file.read(), flags=re.M)[1:]:
-                crate, text = part.split(']\n', 1)
-                parts[crate] = text.strip()
+def beside(old, new, names):
+    """The same with what an earlier run says of other edits. How many there are by each kind is what the last run of all told."""
+    return {**old, **new, 'kinds': old['kinds'], 'tried': {*old['tried'], *new['tried']}, 'left': {*old['left']} - names | new['left']}
+
+
+def record_tried(by_crate, whole, refused):
+    """Records what was told of edits: of all of these whole crates, or of some of a crate, unless its contracts have changed since the
+    others were tried."""
+    record = read_record()
     for crate, told in by_crate.items():
         # Where a crate's own check failed, none of its edits was tried.
-        if told:
-            parts[crate] = entry(crate, told, refused)
-    with open(RECORD, 'w') as file:
-        file.write(HEAD + ''.join('\n[%s]\n%s\n' % it for it in sorted(parts.items())))
+        if not told:
+            continue
+        new, old = entry(crate, told, refused), record.get(crate)
+        if crate in whole:
+            record[crate] = new
+        elif old is not None and set(old['contracts']) <= new['contracts']:
+            record[crate] = beside(old, new, {name_of(it.edit.path) for it in told})
+    write_record(record)

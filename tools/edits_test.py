@@ -173,8 +173,9 @@ def tests():
     yield 'sums of edits', edits_tried.text_sum(__file__) != edits_tried.text_sum(verdicts.__file__)
     yield 'imports say nothing', edits_tried.IMPORT.sub('', 'use A.{b}\npub use C.{d}\nuse_it = b\n') == 'use_it = b\n'
     yield 'a record that is read back', tomllib.loads(edits_tried.part('one', RECORDED))['one'] == RECORDED
-    more = edits_tried.beside(RECORDED, {**RECORDED, 'tried': {'3c'}, 'left': set()}, {'second'})
-    yield 'edits beside others', (more['tried'], more['left']) == ({'1a', '2b', '3c'}, set())
+    left = {**RECORDED, 'left': ['first', 'gone', 'second']}
+    more = edits_tried.beside(left, {**RECORDED, 'tried': {'3c'}, 'left': {'third'}}, {'second', 'third'}, {'first', 'second', 'third'})
+    yield 'edits beside others', (more['tried'], more['left']) == ({'1a', '2b', '3c'}, {'first', 'third'})
     clauses = list(edits_tried.clauses(SOURCE))
     yield 'clauses of a source', clauses == ['requires small { x < 9 }', 'ensures { IfOk result (λ r. { r }) }']
 

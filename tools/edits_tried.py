@@ -8,6 +8,7 @@ import subprocess
 import tomllib
 
 from crates import ROOT, below, folder, read_crates
+from edit_files import FOLDERS
 
 RECORD = os.path.join(ROOT, 'tools', 'edits_tried.toml')
 HEAD = """# Per crate, when edits were tried last: by `tools/edits.py --further CRATE`, or of single edits CRATE/NAME, which write this. `contracts`
@@ -151,9 +152,11 @@ def entry(crate, told, refused):
             'left': {name_of(it.edit.path) for it in told if it.kind not in refused}}
 
 
-def beside(old, new, names):
-    """The same with what an earlier run says of other edits. How many there are by each kind is what the last run of all told."""
-    return {**old, **new, 'kinds': old['kinds'], 'tried': {*old['tried'], *new['tried']}, 'left': {*old['left']} - names | new['left']}
+def beside(old, new, names, there):
+    """The same with what an earlier run says of other edits that are still there. How many there are by each kind is what the last run of
+    all told."""
+    left = ({*old['left']} - names) & there | new['left']
+    return {**old, **new, 'kinds': old['kinds'], 'tried': {*old['tried'], *new['tried']}, 'left': left}
 
 
 def record_tried(by_crate, whole, refused):
@@ -168,5 +171,6 @@ def record_tried(by_crate, whole, refused):
         if crate in whole:
             record[crate] = new
         elif old is not None and set(old['contracts']) <= new['contracts']:
-            record[crate] = beside(old, new, {name_of(it.edit.path) for it in told})
+            there = {name_of(it) for part in FOLDERS for it in files(os.path.join(folder(ROOT, crate), part), '.edit')}
+            record[crate] = beside(old, new, {name_of(it.edit.path) for it in told}, there)
     write_record(record)

@@ -7,7 +7,7 @@ work=$(mktemp -d)
 trap 'rm -rf "$work"' EXIT
 mkdir "$work/crates"
 cp "$root/HANDLES" "$work"
-for crate in hub_base hub_laws hub_parts hub_core hub_live hub_crew hub_uses; do
+for crate in hub_base hub_text hub_laws hub_parts hub_core hub_live hub_crew hub_uses; do
     cp -a "$root/crates/$crate" "$work/crates"
     grep "^$crate:" "$root/crates.txt" >> "$work/crates.txt"
 done

@@ -13,8 +13,8 @@ from edit_files import FOLDERS
 RECORD = os.path.join(ROOT, 'tools', 'edits_tried.toml')
 HEAD = """# Per crate, when edits were tried last: by `tools/edits.py --further CRATE`, or of single edits CRATE/NAME, which write this. `contracts`
 # has a sum for each file of specs or sources that says anything, `tried` one for each edit, with its name; `left` names those that were
-# tried and not refused. `read` is a sum over edits and sources that the compiler has read together. `tools/edits.py --read` says what
-# it makes of these.
+# tried and not refused. `read` is a sum over edits and sources that the compiler has read together. `tools/edits.py --read` fails unless
+# each edit was tried and refused, and each of these contracts still stands; imports and proofs have no sums.
 """
 CLAUSE = re.compile(r'^\s*(?:requires|ensures|follows\w*|ghost(?! use)|invariant)\b', re.M)
 # Where the names of a definition come from.
@@ -136,6 +136,8 @@ def write_record(record):
 
 def record_read(by_crate):
     """Records of these crates that the compiler has read all their edits with the sources that stand now."""
+    if not by_crate:
+        return
     record = read_record()
     for crate, edits in by_crate.items():
         if crate in record:

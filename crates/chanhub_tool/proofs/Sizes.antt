@@ -1,7 +1,7 @@
 -- A text has few entries.
 use Rattle.std.proofs.Common.{◌<◌, ◌-◌, ◌^◌, ℕ, List, length, arith}
 use Rattle.hub_base.specs.declared.head.Head.{Head}
-use Rattle.hub_base.specs.declared.entry.Entry.{Entry}
+use Rattle.hub_base.specs.Entry.{Entry}
 use Rattle.hub_base.specs.Text.{IsText}
 use Rattle.hub_chain.proofs.Steps.{few_entries}
 

@@ -1,7 +1,7 @@
 -- What the program writes of a journal, and why it does not.
 use Rattle.std.specs.Prelude.{◌≡◌, ℕ, List, length, Option, Ok, Err}
 use Rattle.hub_base.specs.declared.head.Head.{Head}
-use Rattle.hub_base.specs.declared.entry.Entry.{Entry}
+use Rattle.hub_base.specs.Entry.{Entry}
 use Rattle.hub_base.specs.Journal.{JournalView}
 use Rattle.hub_base.specs.Text.{IsText, IsFaulty}
 use Rattle.hub_replay.specs.declared.fault.ReplayFault.TheVariants as replay

@@ -1,3 +1,4 @@
+pub mod Entry
 pub mod Content
 pub mod Value
 pub mod Faults

@@ -1,7 +1,7 @@
 -- Lists of entries: the state after them, the events that they give, and which of them are
 -- admitted.
 use Rattle.std.specs.Prelude.{List, [], ◌∷◌, ◌++◌, Option, None, Some}
-use Rattle.hub_base.specs.declared.entry.Entry.{Entry}
+use Rattle.hub_base.specs.Entry.{Entry}
 use Rattle.hub_base.specs.declared.fault.Fault.{Fault}
 use Rattle.hub_base.specs.declared.event.Event.{Event}
 use Rattle.hub_base.specs.declared.head.Head.{Head}

@@ -1,6 +1,6 @@
 //! The communications of a call.
 
-ghost use Rattle.std.specs.Prelude.{◌≡◌, ◌∷◌, []};
+ghost use Rattle.std.specs.Prelude.{◌≡◌, ◌≤◌, ◌∷◌, [], length};
 ghost use Rattle.hub_base.specs.Head.{has_case};
 ghost use Rattle.hub_base.specs.Ready.{port_of};
 ghost use Rattle.hub_base.specs.Text.{CaseFits};
@@ -8,6 +8,8 @@ ghost use Rattle.hub_base.specs.Text.{CaseFits};
 use crate::limits::CASE_PLACES;
 use crate::{Edition, Port, Value};
 use arrayvec::ArrayVec;
+use std::marker::Model;
+use std::slice;
 
 /// One communication of a call. Go: "Send statements", "Receive operator", "Select statements".
 #[derive(Clone, Copy, Debug, PartialEq, Eq)]
@@ -71,5 +73,65 @@ impl CasesExt for Cases {
         let mut cases = Cases::new();
         cases.push(case);
         cases
+    }
+}
+
+/// What a `Cases` holds, where it lies: up to `CASE_PLACES` cases in order.
+#[derive(Drop)]
+pub struct CaseSlice<'a> {
+    /// The cases.
+    cases: &'a [Case],
+}
+
+impl<'a> Model for CaseSlice<'a> {
+    ghost use Rattle.std.specs.Prelude.{◌≤◌, length};
+    ghost use Rattle.arrayvec.specs.ArrayVec.{ArrayVec};
+    ghost use Rattle.hub_base.specs.declared.case.Case.{Case};
+    ghost use Rattle.hub_base.specs.declared.limits.TheConstants.{CASE_PLACES};
+
+    ghost Value = { ArrayVec Case };
+
+    ghost view = { λ s. record { items = s.cases.now } };
+
+    ghost invariant = { λ s. length s.cases.now ≤ CASE_PLACES };
+}
+
+impl<'a> CaseSlice<'a> {
+    /// The cases that are held there.
+    #[inline(always)]
+    pub fn of(cases: &'a Cases) -> CaseSlice<'a>
+        ensures { result ≡ cases.now }
+    {
+        CaseSlice {
+            cases: cases.as_slice(),
+        }
+    }
+
+    /// This case alone.
+    #[inline(always)]
+    pub fn one(case: &'a Case) -> CaseSlice<'a>
+        ensures { result ≡ record { items = case.now ∷ [] } }
+    {
+        CaseSlice {
+            cases: slice::from_ref(case),
+        }
+    }
+
+    /// These cases, which are few enough.
+    #[inline(always)]
+    pub fn few(cases: &'a [Case]) -> CaseSlice<'a>
+        requires { length cases.now ≤ CASE_PLACES }
+        ensures { result ≡ record { items = cases.now } }
+    {
+        CaseSlice { cases }
+    }
+
+    /// The cases.
+    #[inline(always)]
+    pub fn as_slice(&self) -> &'a [Case]
+        ensures cases { result.now ≡ self.now.items }
+        ensures few { length result.now ≤ CASE_PLACES }
+    {
+        self.cases
     }
 }

@@ -1,12 +1,13 @@
 //! What a process asks of a hub.
 
-ghost use Rattle.std.specs.Prelude.{◌≡◌, ◌≤◌, length};
+ghost use Rattle.std.specs.Prelude.{◌≡◌, ◌≤◌, [], length};
 
-use crate::{CASE_PLACES, Case, Cases, Edition, Pid, Port};
+use crate::{CASE_PLACES, Case, CaseSlice, Cases, Edition, Pid, Port};
 
-/// One step of a process.
+/// One step of a process. `C` says how the cases of a call are held: a step of an entry has its own, and one that is only
+/// passed on or looked at has a slice of them.
 #[derive(Debug, Drop, PartialEq, Eq)]
-pub enum Step {
+pub enum Step<C = Cases> {
     /// Makes a port of this capacity, 0 for an unbuffered one. Above `MOST_CAP` the answer
     /// is `Fault::BadCap`.
     Make(u32),
@@ -15,7 +16,7 @@ pub enum Step {
     /// Go: "Select statements".
     Call {
         /// The communications, in order.
-        cases: Cases,
+        cases: C,
         /// Whether there is a default.
         default: bool,
         /// Of `k` cases that can proceed, number `word mod k` fires, counted from 0 in case order.
@@ -32,30 +33,79 @@ pub enum Step {
 
 /// A step and the process that makes it.
 #[derive(Debug, Drop, PartialEq, Eq)]
-pub struct Entry {
+pub struct Entry<C = Cases> {
     /// Whose step it is.
     pub pid: Pid,
     /// The step.
-    pub step: Step,
+    pub step: Step<C>,
 }
+
+/// A step whose cases lie elsewhere.
+pub type StepRef<'a> = Step<CaseSlice<'a>>;
+
+/// An entry whose cases lie elsewhere, as one is passed to a hub and looked at.
+pub type EntryRef<'a> = Entry<CaseSlice<'a>>;
 
 impl Entry {
     ghost use Rattle.std.specs.Prelude.{IsTrue};
     ghost use Rattle.hub_base.specs.Head.{is_of};
+    ghost use Rattle.hub_base.specs.Notation.{exit};
     ghost use Rattle.hub_base.specs.Text.{Fits};
+
+    /// An exit of process 0, as a place that an entry is then read into.
+    pub fn blank() -> Entry
+        ensures { result ≡ exit 0 }
+    {
+        Entry {
+            pid: Pid(0),
+            step: Step::Exit,
+        }
+    }
+
+    /// The same entry, whose cases stay where they are.
+    #[inline(always)]
+    pub fn by_slice(&self) -> EntryRef<'_>
+        ensures { result ≡ self.now }
+    {
+        Entry {
+            pid: self.pid,
+            step: self.step.by_slice(),
+        }
+    }
 
     /// An equal entry. It takes no memory.
     pub fn copy(&self) -> Entry
         ensures { result ≡ self.now }
     {
-        Entry {
-            pid: self.pid,
-            step: self.step.copy(),
-        }
+        self.by_slice().to_owned()
     }
 
     /// Whether a journal of this edition can have the entry: one of the first edition has no cancel, and no value that
     /// is bytes.
+    pub fn fits(&self, edition: Edition) -> bool
+        ensures is { result ≡ is_of edition self.now.step }
+        ensures fits { IsTrue result → Fits edition self.now }
+    {
+        self.by_slice().fits(edition)
+    }
+}
+
+impl EntryRef<'_> {
+    ghost use Rattle.std.specs.Prelude.{IsTrue};
+    ghost use Rattle.hub_base.specs.Head.{is_of};
+    ghost use Rattle.hub_base.specs.Text.{Fits};
+
+    /// The same entry, which has its cases itself. It takes no memory.
+    pub fn to_owned(&self) -> Entry
+        ensures { result ≡ self.now }
+    {
+        Entry {
+            pid: self.pid,
+            step: self.step.to_owned(),
+        }
+    }
+
+    /// Whether a journal of this edition can have the entry, as `Entry::fits` says.
     pub fn fits(&self, edition: Edition) -> bool
         ensures is { result ≡ is_of edition self.now.step }
         ensures fits { IsTrue result → Fits edition self.now }
@@ -85,7 +135,9 @@ impl Entry {
 }
 
 impl Step {
-    fn copy(&self) -> Step
+    /// The same step, whose cases stay where they are.
+    #[inline(always)]
+    pub fn by_slice(&self) -> StepRef<'_>
         ensures { result ≡ self.now }
     {
         match self {
@@ -95,13 +147,59 @@ impl Step {
                 default,
                 word,
             } => Step::Call {
-                cases: copy_cases(cases),
+                cases: CaseSlice::of(cases),
                 default: *default,
                 word: *word,
             },
             Step::Close(port) => Step::Close(*port),
             Step::Exit => Step::Exit,
             Step::Cancel(pid) => Step::Cancel(*pid),
+        }
+    }
+}
+
+impl<'a> StepRef<'a> {
+    ghost use Rattle.hub_base.specs.Reading.{is_exit};
+    ghost use Rattle.hub_base.specs.Values.{cases_or};
+
+    /// The same step, which has its cases itself. It takes no memory.
+    pub fn to_owned(&self) -> Step
+        ensures { result ≡ self.now }
+    {
+        match self {
+            Step::Make(cap) => Step::Make(*cap),
+            Step::Call {
+                cases,
+                default,
+                word,
+            } => Step::Call {
+                cases: cases_from(cases.as_slice()),
+                default: *default,
+                word: *word,
+            },
+            Step::Close(port) => Step::Close(*port),
+            Step::Exit => Step::Exit,
+            Step::Cancel(pid) => Step::Cancel(*pid),
+        }
+    }
+
+    /// Whether it ends its process. An exit counts towards no limit.
+    #[inline(always)]
+    pub fn is_exit(&self) -> bool
+        ensures { result ≡ is_exit self.now }
+    {
+        matches!(self, Step::Exit)
+    }
+
+    /// The cases of a call; none where it is no call.
+    #[inline(always)]
+    pub fn cases(&self) -> &'a [Case]
+        ensures cases { result.now ≡ cases_or self.now [] }
+        ensures few { length result.now ≤ CASE_PLACES }
+    {
+        match self {
+            Step::Call { cases, .. } => cases.as_slice(),
+            _ => &[],
         }
     }
 }

@@ -19,9 +19,9 @@ mod limits;
 mod read_fault;
 mod value;
 
-pub use case::{Case, Cases, CasesExt};
+pub use case::{Case, CaseSlice, Cases, CasesExt};
 pub use counts::{Counts, Look};
-pub use entry::{Entry, Step, cases_from, copy_cases};
+pub use entry::{Entry, EntryRef, Step, StepRef, cases_from, copy_cases};
 pub use event::{Event, Events, Hears, Outcome, What};
 pub use fault::Fault;
 pub use has_pid::HasPid;

@@ -40,7 +40,7 @@ fn put_of_locked(piece: &mut Vec<u8>, hub: &Locked, number: u64) -> Result<(), N
         return write_first(piece, edition, procs);
     };
     match hub.entry(place as usize) {
-        Some(entry) => write_entry(piece, edition, &entry),
+        Some(entry) => write_entry(piece, edition, &entry.by_slice()),
         None => Ok(()),
     }
 }
@@ -57,7 +57,7 @@ fn put_of_chapter(piece: &mut Vec<u8>, hub: &ShortHub, number: u64) -> Result<()
         return write_first(piece, edition, procs);
     };
     match hub.entry(place as usize) {
-        Some(entry) => write_entry(piece, edition, &entry),
+        Some(entry) => write_entry(piece, edition, &entry.by_slice()),
         None => Ok(()),
     }
 }

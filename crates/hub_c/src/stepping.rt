@@ -15,7 +15,9 @@ ghost use Rattle.hub_c.specs.Stepping.{Forgets, ServesIn, ServesOut, Stepped, Ta
 use crate::answer::{CHAPTER, answer_number, event_number};
 use crate::kind::StepKind;
 use crate::session::{Numbers, Opened, Session};
-use hub_base::{Case, Cases, CasesExt, Entry, Event, Fault, Pid, Port, Step, Value, copy_cases};
+use hub_base::{
+    Case, CaseSlice, Entry, EntryRef, Event, Fault, Pid, Port, Step, StepRef, Value, copy_cases,
+};
 use hub_core::ShortHub;
 use hub_endless::EndlessHub;
 
@@ -39,10 +41,10 @@ fn process(value: u64) -> Pid
     }
 }
 
-/// The entry of a process that makes this step. It is inlined, so that a step of many places is not copied.
+/// The entry of a process that makes this step.
 #[inline(always)]
-fn entry_by(pid: u8, step: Step) -> Entry
-    ensures { result ≡ by pid step }
+fn entry_by(pid: u8, step: StepRef<'_>) -> EntryRef<'_>
+    ensures { result ≡ by pid step.entry }
 {
     Entry {
         pid: Pid(pid),
@@ -50,7 +52,8 @@ fn entry_by(pid: u8, step: Step) -> Entry
     }
 }
 
-/// Lets the chapter go that the hub no longer keeps, where chapters are not handed out.
+/// Lets the chapter go that the hub no longer keeps, where chapters are not handed out. Mostly there is none.
+#[inline(always)]
 pub(crate) fn hold(out: &mut Option<ShortHub>, hands_out: bool)
     ensures { out.new ≡ held hands_out out.old }
 {
@@ -61,11 +64,12 @@ pub(crate) fn hold(out: &mut Option<ShortHub>, hands_out: bool)
 
 /// Makes a step of a hub that never ends. While a chapter waits to be read, no other can follow it: a step that would hand
 /// one out is refused for want of memory.
+#[inline(always)]
 fn step_endless(
     hub: &mut EndlessHub,
     out: &mut Option<ShortHub>,
     hands_out: bool,
-    entry: &Entry,
+    entry: &EntryRef<'_>,
 ) -> Result<Event, Fault>
     requires fits { is_of (head_of_all hub.old.recorder).edition entry.now.step ≡ true }
     ensures { ServesOut hands_out hub.old out.old entry.now hub.new out.new result }
@@ -103,23 +107,22 @@ impl Session {
 
     /// Makes a step in the hub, of which the edition has it.
     #[inline(always)]
-    fn serve(&mut self, entry: Entry) -> Result<Event, Fault>
-        requires fits { is_of (head_in self.old.hub).edition entry.step ≡ true }
-        ensures serves { ServesIn self.old entry self.new result }
+    fn serve(&mut self, entry: &EntryRef<'_>) -> Result<Event, Fault>
+        requires fits { is_of (head_in self.old.hub).edition entry.now.step ≡ true }
+        ensures serves { ServesIn self.old entry.now self.new result }
         ensures given { GivenStays self.old self.new }
     {
         match &mut self.hub {
             Opened::Limited(locked) => locked.step(entry),
-            Opened::Endless(hub) => { step_endless(hub, &mut self.chapter, self.hands_out, &entry) }
+            Opened::Endless(hub) => step_endless(hub, &mut self.chapter, self.hands_out, entry),
         }
     }
 
-    /// Makes a step that the hub's edition has, and forgets what was given. Answers what it came to. It is inlined, so
-    /// that an entry of many places is not copied.
+    /// Makes a step that the hub's edition has, and forgets what was given. Answers what it came to.
     #[inline(always)]
-    fn step_of_edition(&mut self, entry: Entry) -> u64
-        requires fits { is_of (head_in self.old.hub).edition entry.step ≡ true }
-        ensures { Stepped self.old entry self.new result }
+    fn step_of_edition(&mut self, entry: &EntryRef<'_>) -> u64
+        requires fits { is_of (head_in self.old.hub).edition entry.now.step ≡ true }
+        ensures { Stepped self.old entry.now self.new result }
     {
         self.forget();
         let came = self.serve(entry);
@@ -129,8 +132,8 @@ impl Session {
     }
 
     /// The same of any step, and 0 for one that the edition has not.
-    fn step(&mut self, entry: Entry) -> u64
-        ensures { Stepped self.old entry self.new result }
+    fn step(&mut self, entry: &EntryRef<'_>) -> u64
+        ensures { Stepped self.old entry.now self.new result }
     {
         if entry.fits(self.hub.head().edition) {
             return self.step_of_edition(entry);
@@ -147,30 +150,30 @@ impl Session {
         ensures { Stepped self.old (select pid 0 (case ∷ []) false) self.new result }
     {
         let step = Step::Call {
-            cases: Cases::one(case),
+            cases: CaseSlice::one(&case),
             default: false,
             word: 0,
         };
-        self.step_of_edition(entry_by(pid, step))
+        self.step_of_edition(&entry_by(pid, step))
     }
 
     /// The same, of a call.
-    fn call(&mut self, pid: u8, cases: Cases, default: bool, word: u64) -> u64
-        ensures { Stepped self.old (select pid word cases.items default) self.new result }
+    fn call(&mut self, pid: u8, cases: CaseSlice<'_>, default: bool, word: u64) -> u64
+        ensures { Stepped self.old (select pid word cases.entry.items default) self.new result }
     {
         let step = Step::Call {
             cases,
             default,
             word,
         };
-        self.step(entry_by(pid, step))
+        self.step(&entry_by(pid, step))
     }
 
     #[inline(never)]
     fn make(&mut self, numbers: Numbers) -> u64
         ensures { Stepped self.old (make numbers.pid (min numbers.value GREATEST_CAP)) self.new result }
     {
-        self.step(entry_by(numbers.pid, Step::Make(capacity(numbers.value))))
+        self.step(&entry_by(numbers.pid, Step::Make(capacity(numbers.value))))
     }
 
     #[inline(never)]
@@ -186,7 +189,7 @@ impl Session {
         ensures { Stepped self.old (send_bytes numbers.pid numbers.port self.old.bytes.items) self.new result }
     {
         let case = Case::Send(Port(numbers.port), self.value());
-        self.call(numbers.pid, Cases::one(case), false, 0)
+        self.call(numbers.pid, CaseSlice::one(&case), false, 0)
     }
 
     #[inline(never)]
@@ -201,21 +204,21 @@ impl Session {
     fn close(&mut self, numbers: Numbers) -> u64
         ensures { Stepped self.old (close numbers.pid numbers.port) self.new result }
     {
-        self.step(entry_by(numbers.pid, Step::Close(Port(numbers.port))))
+        self.step(&entry_by(numbers.pid, Step::Close(Port(numbers.port))))
     }
 
     #[inline(never)]
     fn exit(&mut self, numbers: Numbers) -> u64
         ensures { Stepped self.old (exit numbers.pid) self.new result }
     {
-        self.step(entry_by(numbers.pid, Step::Exit))
+        self.step(&entry_by(numbers.pid, Step::Exit))
     }
 
     #[inline(never)]
     fn cancel(&mut self, numbers: Numbers) -> u64
         ensures { Stepped self.old (cancel numbers.pid (min numbers.value GREATEST_PID)) self.new result }
     {
-        self.step(entry_by(numbers.pid, Step::Cancel(process(numbers.value))))
+        self.step(&entry_by(numbers.pid, Step::Cancel(process(numbers.value))))
     }
 
     #[inline(never)]
@@ -223,7 +226,7 @@ impl Session {
         ensures { Stepped self.old (select numbers.pid numbers.value self.old.cases.items default) self.new result }
     {
         let cases = copy_cases(&self.cases);
-        self.call(numbers.pid, cases, default, numbers.value)
+        self.call(numbers.pid, CaseSlice::of(&cases), default, numbers.value)
     }
 
     /// Makes the step of this kind.

@@ -1,16 +1,12 @@
--- `==` of two entries says whether they are equal.
+-- `==` of two lists of cases says whether they are equal.
 use Rattle.std.proofs.Common.{◌≡◌, ◌≢◌, ◌⊎◌, inl, inr, ℕ, Bool, List, true, false, refl, ap, subst, rules, arith}
 use Rattle.std.specs.Bool.{Decides}
 use Rattle.std.specs.Cmp.Lexicographic.{pointwise}
 use Rattle.std.proofs.lemmas.Slice.Eq.{slice_eq-Decides}
 use Rattle.std.proofs.Math.Bool.{Bool-set}
 use Rattle.hub_base.specs.declared.case.Case.{Case}
-use Rattle.hub_base.specs.declared.entry.Entry.{Entry}
-use Rattle.hub_base.specs.declared.entry.Step.{Step}
 use Rattle.hub_base.specs.declared.value.Value.{Value}
 use Rattle.hub_base.specs.contracts.case.CasePartialEq as of_case
-use Rattle.hub_base.specs.contracts.entry.EntryPartialEq as of_entry
-use Rattle.hub_base.specs.contracts.entry.StepPartialEq as of_step
 use Rattle.hub_base.specs.contracts.value.ValuePartialEq as of_value
 use Rattle.hub_base.specs.Content.{is_stored}
 
@@ -48,13 +44,5 @@ tells v w = by (equal v w) refl where
 decides-case : (a b : Case) → Decides ((of_case.TheImpl.ghosts).eq a b) (a ≡ b)
 decides-case a b = (search (rules, tells, arith), search (rules, tells, arith))
 
-decides-cases : (a b : List Case) → Decides (pointwise (of_case.TheImpl.ghosts).eq a b) (a ≡ b)
-decides-cases a b = slice_eq-Decides decides-case a b (pointwise (of_case.TheImpl.ghosts).eq a b) refl
-
--- of steps
-decides-step : (a b : Step) → Decides ((of_step.TheImpl.ghosts).eq a b) (a ≡ b)
-decides-step a b = (search (rules, decides-cases, arith), search (rules, decides-cases, arith))
-
--- and of entries
-pub decides-entry : (a b : Entry) → Decides ((of_entry.TheImpl.ghosts).eq a b) (a ≡ b)
-decides-entry a b = (search (rules, decides-step, arith), search (rules, decides-step, arith))
+pub decides_cases : (a b : List Case) → Decides (pointwise (of_case.TheImpl.ghosts).eq a b) (a ≡ b)
+decides_cases a b = slice_eq-Decides decides-case a b (pointwise (of_case.TheImpl.ghosts).eq a b) refl

@@ -1,7 +1,7 @@
 -- Why a chapter is none, or does not follow.
 use Rattle.std.proofs.Common.{◌≡◌, ◌∙◌, ℕ, List, ◌∷◌, ◌++◌, Some, None, refl, ap, sym, subst, suc, take, drop}
 use Rattle.std.specs.Prelude.{slice_get, Result, Ok, Err, IfErr}
-use Rattle.hub_base.specs.declared.entry.Entry.{Entry}
+use Rattle.hub_base.specs.Entry.{Entry}
 use Rattle.hub_base.specs.declared.fault.Fault.{Fault}
 use Rattle.hub_base.specs.declared.head.Head.{Head}
 use Rattle.hub_base.specs.Journal.{JournalView}

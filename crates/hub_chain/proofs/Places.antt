@@ -7,7 +7,7 @@ use Rattle.std.proofs.lemmas.List.{length-take, take-append-drop}
 use Rattle.std.proofs.lemmas.Option.{slice_get_within}
 use Rattle.std.proofs.Math.Seq.{take-length}
 use Rattle.hub_laws.proofs.Totals.{take_next}
-use Rattle.hub_base.specs.declared.entry.Entry.{Entry}
+use Rattle.hub_base.specs.Entry.{Entry}
 use Rattle.hub_base.specs.Text.{one_step, steps_of}
 
 -- where one of two lists has an entry at a place, and both are the same before it, the other has so many

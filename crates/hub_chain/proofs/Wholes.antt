@@ -4,7 +4,7 @@ use Rattle.std.specs.Prelude.{Result, Ok, Err, IfErr}
 use Rattle.std.proofs.lemmas.Bool.{cases_lt}
 use Rattle.std.proofs.lemmas.List.{append_cancel_left, length_push, take-append-le}
 use Rattle.std.proofs.Math.Seq.{take-length}
-use Rattle.hub_base.specs.declared.entry.Entry.{Entry}
+use Rattle.hub_base.specs.Entry.{Entry}
 use Rattle.hub_base.specs.declared.head.Head.{Head}
 use Rattle.hub_base.specs.Journal.{JournalView}
 use Rattle.hub_base.specs.Runs.{state}

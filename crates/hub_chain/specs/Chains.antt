@@ -1,6 +1,6 @@
 -- Chains of chapters: what the texts of chapters are, and where a chain stands behind them.
 use Rattle.std.specs.Prelude.{◌≡◌, ℕ, List}
-use Rattle.hub_base.specs.declared.entry.Entry.{Entry}
+use Rattle.hub_base.specs.Entry.{Entry}
 use Rattle.hub_base.specs.declared.head.Head.{Head}
 use Rattle.hub_base.specs.Journal.{JournalView}
 use Rattle.hub_base.specs.Runs.{state, events}

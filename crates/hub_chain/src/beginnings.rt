@@ -1,12 +1,12 @@
 //! What a chapter begins with.
 
 ghost use Rattle.std.specs.Prelude.{◌≡◌, ◌≤◌, ◌↔◌, ◌++◌, IfErr, IsTrue, OnOk, Some, List, length, slice_get};
-ghost use Rattle.hub_base.specs.declared.entry.Entry.{Entry};
+ghost use Rattle.hub_base.specs.Entry.{Entry};
 ghost use Rattle.hub_chain.specs.Faults.{IsOtherHead, IsOtherBeginning};
 
 use crate::ChainFault;
 use crate::fault::line_of;
-use hub_base::{Entry, Head, MOST_BYTES};
+use hub_base::{Case, EntryRef, Head, MOST_BYTES, Step, StepRef};
 use hub_core::ShortEntries;
 
 /// Whether a chapter's head is that of the chapter before.
@@ -23,18 +23,55 @@ pub(crate) fn has_head(chapter: Head, head: Head) -> Result<(), ChainFault>
     Ok(())
 }
 
+/// Whether both are one step.
+#[tactic(auto, using(crate::proofs::Entries::decides_cases))]
+fn is_same_step(step: &StepRef<'_>, other: &StepRef<'_>) -> bool
+    ensures { IsTrue result ↔ (step.now ≡ other.now) }
+{
+    match (step, other) {
+        (Step::Make(cap), Step::Make(given)) => cap == given,
+        (
+            Step::Call {
+                cases,
+                default,
+                word,
+            },
+            Step::Call {
+                cases: given,
+                default: has_default,
+                word: choice,
+            },
+        ) => default == has_default && word == choice && cases.as_slice() == given.as_slice(),
+        (Step::Close(port), Step::Close(given)) => port.0 == given.0,
+        (Step::Exit, Step::Exit) => true,
+        (Step::Cancel(pid), Step::Cancel(given)) => pid.0 == given.0,
+        _ => false,
+    }
+}
+
+/// Whether both are one entry.
+fn is_same(entry: &EntryRef<'_>, other: &EntryRef<'_>) -> bool
+    ensures { IsTrue result ↔ (entry.now ≡ other.now) }
+{
+    entry.pid.0 == other.pid.0 && is_same_step(&entry.step, &other.step)
+}
+
 /// Whether this entry stands at this place.
-fn stands_at(entries: &ShortEntries, place: usize, entry: &Entry) -> bool
+fn stands_at(entries: &ShortEntries, place: usize, entry: &hub_base::Entry) -> bool
     ensures { IsTrue result ↔ (slice_get entries.now place ≡ Some entry.now) }
 {
-    match entries.get(place) {
-        Some(other) => other == *entry,
+    let mut one = Case::default();
+    match entries.get(place, &mut one) {
+        Some(other) => is_same(&other, &entry.by_slice()),
         None => false,
     }
 }
 
 /// Whether a chapter begins with this checkpoint.
-pub(crate) fn begins_with(entries: &ShortEntries, checkpoint: &[Entry]) -> Result<(), ChainFault>
+pub(crate) fn begins_with(
+    entries: &ShortEntries,
+    checkpoint: &[hub_base::Entry],
+) -> Result<(), ChainFault>
     requires { length entries.now ≤ MOST_BYTES }
     ensures ok { OnOk result ((later : List Entry) × (entries.now ≡ checkpoint.now ++ later)) }
     ensures err { IfErr result (IsOtherBeginning entries.now checkpoint.now) }

@@ -1,7 +1,7 @@
 //! A chain of chapters that is checked.
 
 ghost use Rattle.std.specs.Prelude.{◌≡◌, ◌++◌, ◌∷◌, [], ℕ, List, IfOk, IfErr, OnOk, OnErr};
-ghost use Rattle.hub_base.specs.declared.entry.Entry.{Entry};
+ghost use Rattle.hub_base.specs.Entry.{Entry};
 ghost use Rattle.hub_base.specs.declared.head.Head.{Head};
 ghost use Rattle.hub_chapters.specs.Chapters.{Chapters};
 ghost use Rattle.hub_chapters.specs.Chapters.Chapters.{First, Cut};

@@ -6,7 +6,7 @@ ghost use Rattle.hub_chain.specs.Faults.{IsRefused};
 
 use crate::ChainFault;
 use crate::fault::refused_at;
-use hub_base::{Events, MOST_STEPS};
+use hub_base::{Case, Events, MOST_STEPS};
 use hub_core::{Hub, ShortHub, ShortJournal};
 use std::alloc::Global;
 
@@ -22,9 +22,10 @@ pub(crate) fn hub_of(alloc: Global, journal: &ShortJournal) -> Result<ShortHub, 
     };
     let mut hub = opened.shortened();
     let mut events = Events::new();
+    let mut one = Case::default();
     for place in 0..journal.entries().len() {
-        let entry = journal.entries().entry(place);
-        match hub.step_into(entry, &mut events) {
+        let entry = journal.entries().entry(place, &mut one);
+        match hub.step_into(&entry, &mut events) {
             Ok(()) => {}
             Err(fault) => {
                 hub.journal_is_legal();

@@ -1,7 +1,7 @@
 -- States that answer alike, whatever follows: what was received before makes no difference, nor the order of
 -- exits.
 use Rattle.std.specs.Prelude.{◌≡◌, ℕ, List, map}
-use Rattle.hub_base.specs.declared.entry.Entry.{Entry}
+use Rattle.hub_base.specs.Entry.{Entry}
 use Rattle.hub_base.specs.declared.head.Head.{Head}
 use Rattle.hub_base.specs.State.{State, Channel, buffer_of}
 use Rattle.hub_base.specs.Steps.{has_gone}

@@ -1,7 +1,7 @@
 -- A journal that was cut, as often as one likes: each chapter but the first begins with the checkpoint of the
 -- state at the end of the one before.
 use Rattle.std.specs.Prelude.{◌≡◌, ◌++◌, List}
-use Rattle.hub_base.specs.declared.entry.Entry.{Entry}
+use Rattle.hub_base.specs.Entry.{Entry}
 use Rattle.hub_base.specs.declared.event.Event.{Event}
 use Rattle.hub_base.specs.declared.head.Head.{Head}
 use Rattle.hub_base.specs.Runs.{state, events, events_after}

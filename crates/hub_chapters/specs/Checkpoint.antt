@@ -2,7 +2,7 @@
 use Rattle.std.specs.Prelude.{◌≡◌, ◌+◌, ◌*◌, ◌≤◌, ℕ, false, List, [], ◌∷◌, ◌++◌, map, filter, length, if◌then◌else◌}
 use Rattle.std.specs.List.{range_with_len}
 use Rattle.hub_base.specs.declared.case.Case.TheVariants.{Send}
-use Rattle.hub_base.specs.declared.entry.Entry.{Entry}
+use Rattle.hub_base.specs.Entry.{Entry}
 use Rattle.hub_base.specs.declared.head.Head.{Head}
 use Rattle.hub_base.specs.declared.limits.TheConstants.{MOST_CAP, MOST_PORTS}
 use Rattle.hub_base.specs.declared.value.Value.{Value}

@@ -1,22 +1,18 @@
 -- The journal of a hub has room for its places and for the exit of each process, and what a step leaves of a hub.
 use Rattle.std.proofs.Common.{◌≡◌, ℕ, zero, suc, ◌+◌, ◌-◌, ◌≤◌, ◌<◌, ◌^◌, Bool, true, false, cond, List, [], ◌∷◌}
 use Rattle.std.proofs.Common.{◌++◌, length, refl, ap, ◌∙◌, sym, subst, ◌&&◌, None, arith, length-append}
-use Rattle.std.specs.Prelude.{◌==◌, ◌↔◌, IsTrue, slice_index_or, Result, Ok, Err, IsErr, IsErrAnd}
+use Rattle.std.specs.Prelude.{Result, Ok, Err, IsErr, IsErrAnd}
 use Rattle.std.specs.List.{list_all}
 use Rattle.std.proofs.lemmas.List.Folds.{list_all-append}
-use Rattle.std.proofs.Math.Seq.{get_or-append_seam}
-use Rattle.std.proofs.lemmas.Bool.{eqb-true}
 use Rattle.hub_base.specs.declared.head.Head.{Head}
 use Rattle.hub_base.specs.declared.value.Pid.{Pid}
-use Rattle.hub_base.specs.declared.case.Case.{Case}
 use Rattle.hub_base.specs.declared.event.Event.{Event}
 use Rattle.hub_base.specs.declared.fault.Fault.{Fault}
 use Rattle.hub_base.specs.declared.fault.Fault.TheVariants.{NoMemory}
-use Rattle.hub_base.specs.declared.entry.Step.{Step}
+use Rattle.hub_base.specs.Entry.{Entry, Step}
 use Rattle.hub_base.specs.declared.entry.Step.TheVariants.{Make, Call, Close, Exit, Cancel}
-use Rattle.hub_base.specs.declared.entry.Entry.{Entry}
 use Rattle.hub_base.specs.declared.limits.TheConstants.{MOST_PROCS, MOST_STEPS}
-use Rattle.hub_base.specs.Head.{AreOf, is_of}
+use Rattle.hub_base.specs.Head.{is_of}
 use Rattle.hub_base.specs.Steps.{refusal}
 use Rattle.hub_base.specs.Runs.{state, kept}
 use Rattle.hub_base.specs.Reading.{is_exit}
@@ -27,8 +23,8 @@ use Rattle.hub_core.specs.declared.short_hub.ShortHub.TheInside.{Inside}
 use Rattle.hub_core.specs.LogView.{LogView}
 use Rattle.hub_core.specs.Follows.{Follows, IsFine, IsMake, RefusesMake, Turns}
 use Rattle.hub_core.specs.ListSteps.{refusal_of}
-use Rattle.hub_core.specs.HubView.{HubInMemory, HubView, ShortInMemory, Grows, Refuses, Steps, StepRules, call_of, places_after, state_of, with_entry}
-use Rattle.hub_core.specs.HubKeeps.{HubKeeps, IsSuch, Takes, count_after, shown, shown_short}
+use Rattle.hub_core.specs.HubView.{HubInMemory, HubView, Grows, Refuses, Steps, StepRules, places_after, state_of, with_entry}
+use Rattle.hub_core.specs.HubKeeps.{HubKeeps, Takes, count_after, shown}
 use Rattle.hub_core.proofs.Following.{kept-admitted}
 use Rattle.hub_core.proofs.Reached.{steps-length}
 use Rattle.hub_core.proofs.Stalls.{refusal_of-as}
@@ -111,21 +107,12 @@ has_place h e k takes =
     entry_fits h.terms.head h.entries.items e h.count (places_after e.step h.places) (h.entries.capacity) k.legal takes.admitted k.count
     (made_room h e k takes)
 
-pub last_at : (xs ys : List Entry) (e d : Entry) (place : ℕ) → ys ≡ xs ++ e ∷ [] → place ≡ length xs → slice_index_or ys place d ≡ e
-last_at xs ys e d place is at = (λ i. slice_index_or (is i) (at i) d) ∙ get_or-append_seam xs e [] d
-
--- a list has one last
-pub one_last : (xs ys : List Entry) (a b : Entry) → xs ++ a ∷ [] ≡ ys ++ b ∷ [] → a ≡ b
-one_last xs ys a b same =
-    let long : length xs ≡ length ys = omega (arith, ap length same, length-append xs (a ∷ []), length-append ys (b ∷ [])) in
-    sym (last_at xs (xs ++ a ∷ []) a a (length xs) refl refl) ∙ last_at ys (xs ++ a ∷ []) b a (length xs) same long
-
-pub keeps_made : (h : Inside) (e : Entry) (entries : LogView) (machine : MachineLists) (told : List Event) (count places : ℕ) (newest : Entry) → HubKeeps h
+pub keeps_made : (h : Inside) (e : Entry) (entries : LogView) (machine : MachineLists) (told : List Event) (count places : ℕ) → HubKeeps h
     → Takes (shown h) e → is_of h.terms.head.edition e.step ≡ true → Turns h.machine e machine told
     → entries.items ≡ h.entries.items ++ e ∷ [] → entries.capacity ≡ h.entries.capacity
-    → count ≡ count_after e.step h.count → places ≡ places_after e.step h.places → (¬ entries.short ≡ 0 → newest ≡ e)
-    → HubKeeps (record { terms = h.terms; places = places; count = count; machine = machine; entries = entries; newest = newest })
-keeps_made h e entries machine told count places newest k takes fits turns grown same counted placed last = record {
+    → count ≡ count_after e.step h.count → places ≡ places_after e.step h.places
+    → HubKeeps (record { terms = h.terms; places = places; count = count; machine = machine; entries = entries })
+keeps_made h e entries machine told count places k takes fits turns grown same counted placed = record {
   head = k.head;
   limit = k.limit;
   legal = ap (kept h.terms.head) grown ∙ legal_longer h.terms.head h.entries.items e k.legal takes.admitted ∙ sym grown;
@@ -136,52 +123,7 @@ keeps_made h e entries machine told count places newest k takes fits turns grown
   count = counted ∙ count-snoc h.entries.items e h.count k.count ∙ ap steps_of (sym grown);
   within = omega (arith, counted, count_within e.step h.count h.terms.limit k.within (λ exit. omega (arith, takes.room exit, k.count)));
   room = omega (arith, made_room h e k takes, counted, placed, same);
-  newest = λ short es x is. last short ∙ one_last h.entries.items es e x (sym grown ∙ is);
 }
-
--- a hub whose journal holds the same, and is written out
-pub keeps_whole : (h : Inside) (entries : LogView) → HubKeeps h → entries.items ≡ h.entries.items → entries.capacity ≡ h.entries.capacity
-    → entries.short ≡ 0
-    → HubKeeps (record { terms = h.terms; places = h.places; count = h.count; machine = h.machine; entries = entries; newest = h.newest })
-keeps_whole h entries k same room whole = record {
-  head = k.head;
-  limit = k.limit;
-  legal = ap (kept h.terms.head) same ∙ k.legal ∙ sym same;
-  fits = subst (AreOf h.terms.head.edition) (sym same) k.fits;
-  follows = subst (λ (es : List Entry). Follows h.terms.head es h.machine) (sym same) k.follows;
-  count = k.count ∙ ap steps_of (sym same);
-  within = k.within;
-  room = omega (arith, k.room, room);
-  newest = λ short. absurd (short whole);
-}
-
--- what an entry is to a hub that shows this
-pub such : (h : Inside) {old : ShortInMemory} (e : Entry) {exit grows : Bool} → shown_short h ≡ old → is_exit e.step ≡ exit
-    → (IsTrue grows ↔ Grows e.step h.places) → IsSuch old.memory.hub e.pid exit grows e
-such h e {exit} {grows} was ends more =
-    subst (λ (m : ShortInMemory). IsSuch m.memory.hub e.pid exit grows e) was (record { own = refl; ends = ends; more = more })
-
--- what a hub takes, by what it shows
-pub taken : (h h' : Inside) {old new : ShortInMemory} (e : Entry) {exit grows : Bool} → shown_short h ≡ old → shown_short h' ≡ new
-    → is_exit e.step ≡ exit → (IsTrue grows ↔ Grows e.step h.places)
-    → ((x : Entry) → IsSuch old.memory.hub e.pid exit grows x → Takes new.memory x) → Takes (shown h') e
-taken h h' e {exit} {grows} was is ends more takes =
-    subst (λ (m : ShortInMemory). Takes m.memory e) (sym is) (takes e (such h e was ends more))
-
--- ---- a call
-
-none_left : (places : ℕ) → IsTrue (places == 0) ↔ (places ≡ 0)
-none_left places = (eqb-true places 0, λ (none : places ≡ 0). rw none refl)
-
-pub such_call : (h : Inside) {now : ShortInMemory} (pid : Pid) (cases : List Case) (default : Bool) (word : ℕ) → shown_short h ≡ now
-    → IsSuch now.memory.hub pid false (h.places == 0) (call_of pid cases default word)
-such_call h pid cases default word is = such h (call_of pid cases default word) is refl (none_left h.places)
-
-pub taken_call : (h h' : Inside) {old new : ShortInMemory} (pid : Pid) (cases : List Case) (default : Bool) (word : ℕ) → shown_short h ≡ old
-    → shown_short h' ≡ new → ((x : Entry) → IsSuch old.memory.hub pid false (h.places == 0) x → Takes new.memory x)
-    → Takes (shown h') (call_of pid cases default word)
-taken_call h h' pid cases default word was is takes =
-    taken h h' (call_of pid cases default word) {exit = false} {grows = h.places == 0} was is refl (none_left h.places) takes
 
 pub steps_made : {h : Inside} {old new : HubView} (e : Entry) {machine : MachineLists} {told : List Event} → HubKeeps h → Takes (shown h) e
     → Turns h.machine e machine told → (shown h).hub ≡ old → new ≡ with_entry e (shown h).hub → Steps old e new told

@@ -6,9 +6,8 @@ use Rattle.hub_base.specs.declared.value.Port.{Port}
 use Rattle.hub_base.specs.declared.value.Value.{Value}
 use Rattle.hub_base.specs.declared.case.Case.{Case}
 use Rattle.hub_base.specs.declared.case.Case.TheVariants.{Send, Recv}
-use Rattle.hub_base.specs.declared.entry.Step.{Step}
+use Rattle.hub_base.specs.Entry.{Entry, Step}
 use Rattle.hub_base.specs.declared.entry.Step.TheVariants.{Make, Call, Close, Exit, Cancel}
-use Rattle.hub_base.specs.declared.entry.Entry.{Entry}
 use Rattle.hub_base.specs.declared.fault.Fault.{Fault}
 use Rattle.hub_base.specs.declared.event.Outcome.TheVariants.{Closed}
 use Rattle.hub_base.specs.Ready.{Ending, first_with, is_recv_on, is_send_on}

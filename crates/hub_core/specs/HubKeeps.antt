@@ -1,9 +1,7 @@
 -- What every hub keeps: its journal is legal, its machine follows the journal, and there is room in
 -- the journal for its places and for the exit of each process.
-use Rattle.std.specs.Prelude.{◌≡◌, ◌≤◌, ◌+◌, ◌++◌, ◌∷◌, ◌↔◌, [], ℕ, Bool, IsTrue, List, None, if◌then◌else◌}
-use Rattle.hub_base.specs.declared.value.Pid.{Pid}
-use Rattle.hub_base.specs.declared.entry.Step.{Step}
-use Rattle.hub_base.specs.declared.entry.Entry.{Entry}
+use Rattle.std.specs.Prelude.{◌≡◌, ◌≤◌, ◌+◌, ℕ, None, if◌then◌else◌}
+use Rattle.hub_base.specs.Entry.{Entry, Step}
 use Rattle.hub_base.specs.Steps.{refusal}
 use Rattle.hub_base.specs.Head.{IsHead, AreOf}
 use Rattle.hub_base.specs.Reading.{is_exit}
@@ -11,7 +9,7 @@ use Rattle.hub_base.specs.Runs.{kept}
 use Rattle.hub_base.specs.Text.{steps_of}
 use Rattle.hub_core.specs.declared.short_hub.ShortHub.TheInside.{Inside}
 use Rattle.hub_core.specs.Follows.{Follows}
-use Rattle.hub_core.specs.HubView.{HubInMemory, HubView, ShortInMemory, Grows, HasRoom, HasSpare, IsLimit, state_of}
+use Rattle.hub_core.specs.HubView.{HubInMemory, ShortInMemory, Grows, HasRoom, HasSpare, IsLimit, state_of}
 
 -- what contracts see of a hub
 abbrev pub shown : Inside → HubInMemory
@@ -42,16 +40,8 @@ pub record HubKeeps (h : Inside) : Type 0 where
   pub within : h.count ≤ h.terms.limit
   -- the entries that are no exits, the places, and an exit of each process
   pub room : h.count + h.places + h.terms.head.procs ≤ h.entries.capacity
-  -- where entries are kept short, the newest stands beside them as it is
-  pub newest : ¬ h.entries.short ≡ 0 → (es : List Entry) (e : Entry) → h.entries.items ≡ es ++ e ∷ [] → h.newest ≡ e
 
 -- ---- a step is admitted
-
--- an entry of this process, an exit or not, for which the journal may have to grow or not
-pub record IsSuch (h : HubView) (pid : Pid) (exit grows : Bool) (e : Entry) : Type 0 where
-  pub own : e.pid ≡ pid
-  pub ends : is_exit e.step ≡ exit
-  pub more : IsTrue grows ↔ Grows e.step h.places
 
 -- the entry is not refused, and where the journal may have to grow there is room for it
 pub record Takes (m : HubInMemory) (e : Entry) : Type 0 where

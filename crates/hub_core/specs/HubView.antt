@@ -1,11 +1,8 @@
 -- What contracts see of a hub, and what a step of it does. All else that a hub shows is a function
 -- of `state terms.head journal`.
-use Rattle.std.specs.Prelude.{◌≡◌, ◌≤◌, ◌<◌, ◌+◌, ◌-◌, ◌⊎◌, ℕ, Bool, false, List, [], ◌∷◌, ◌++◌, length, None, Some, Result, IfErr, OnErr, IsErrOf}
-use Rattle.hub_base.specs.declared.entry.Step.{Step}
+use Rattle.std.specs.Prelude.{◌≡◌, ◌≤◌, ◌<◌, ◌+◌, ◌-◌, ◌⊎◌, ℕ, false, List, [], ◌∷◌, ◌++◌, length, None, Some, Result, IfErr, OnErr, IsErrOf}
+use Rattle.hub_base.specs.Entry.{Entry, Step}
 use Rattle.hub_base.specs.declared.entry.Step.TheVariants.{Make, Call, Close, Exit, Cancel}
-use Rattle.hub_base.specs.declared.entry.Entry.{Entry}
-use Rattle.hub_base.specs.declared.case.Case.{Case}
-use Rattle.hub_base.specs.declared.value.Pid.{Pid}
 use Rattle.hub_base.specs.declared.event.Event.{Event}
 use Rattle.hub_base.specs.declared.fault.Fault.{Fault}
 use Rattle.hub_base.specs.declared.fault.Fault.TheVariants as fault
@@ -16,7 +13,6 @@ use Rattle.hub_base.specs.Runs.{state, moves}
 use Rattle.hub_base.specs.declared.head.Edition.{Edition}
 use Rattle.hub_base.specs.Head.{IsHead, head_of}
 use Rattle.hub_base.specs.Reading.{is_exit}
-use Rattle.hub_base.specs.Lines.{call}
 use Rattle.hub_base.specs.Text.{steps_of}
 use Rattle.hub_core.specs.Follows.{IsMake, IsFine}
 use Rattle.hub_core.specs.declared.terms.Terms.{Terms}
@@ -43,10 +39,6 @@ pub record ShortInMemory : Type 0 where
   pub memory : HubInMemory
   -- how many of its entries are kept short
   pub short : ℕ
-
--- the entry of a call of this process
-abbrev pub call_of : Pid → List Case → Bool → ℕ → Entry
-call_of pid cases default word = record { pid = pid; step = call cases default word }
 
 -- the state that its journal leads to
 abbrev pub state_of : HubView → State

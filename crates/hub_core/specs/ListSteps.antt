@@ -6,9 +6,8 @@ use Rattle.std.specs.List.{list_any, list_all, filter_map, range_with_len}
 use Rattle.hub_base.specs.declared.value.Pid.{Pid}
 use Rattle.hub_base.specs.declared.value.Port.{Port}
 use Rattle.hub_base.specs.declared.case.Case.{Case}
-use Rattle.hub_base.specs.declared.entry.Step.{Step}
+use Rattle.hub_base.specs.Entry.{Entry, Step}
 use Rattle.hub_base.specs.declared.entry.Step.TheVariants.{Make, Call, Close, Exit, Cancel}
-use Rattle.hub_base.specs.declared.entry.Entry.{Entry}
 use Rattle.hub_base.specs.declared.fault.Fault.{Fault}
 use Rattle.hub_base.specs.declared.fault.Fault.TheVariants as fault
 use Rattle.hub_base.specs.declared.event.What.{What}

@@ -2,13 +2,13 @@
 use Rattle.std.specs.Prelude.{◌≡◌, ◌≤◌, ◌<◌, ◌+◌, ◌^◌, ℕ, false, List, [], ◌∷◌, length, take, drop, if◌then◌else◌}
 use Rattle.hub_base.specs.declared.case.Case.{Case}
 use Rattle.hub_base.specs.declared.case.Case.TheVariants.{Send, Recv}
-use Rattle.hub_base.specs.declared.entry.Step.{Step}
+use Rattle.hub_base.specs.Entry.{Entry, Step}
 use Rattle.hub_base.specs.declared.entry.Step.TheVariants as step
-use Rattle.hub_base.specs.declared.entry.Entry.{Entry}
 use Rattle.hub_base.specs.declared.limits.TheConstants.{CASE_PLACES, MOST_PROCS}
 use Rattle.hub_base.specs.Lines.{by, call}
 use Rattle.hub_base.specs.Reading.{is_exit}
 use Rattle.hub_base.specs.Value.{value_of}
+use Rattle.hub_base.specs.Values.{cases_or}
 use Rattle.hub_core.specs.declared.log.Brief.{Brief}
 use Rattle.hub_core.specs.declared.log.Brief.TheVariants as brief
 
@@ -29,15 +29,8 @@ pub record LogView : Type 0 where
 -- ---- one entry
 
 -- the cases of an entry, none where it is no call
-abbrev pub cases_of_step : Step → List Case
-cases_of_step (step.Make cap) = []
-cases_of_step (step.Call cases default word) = cases.items
-cases_of_step (step.Close p) = []
-cases_of_step step.Exit = []
-cases_of_step (step.Cancel q) = []
-
 abbrev pub cases_of : Entry → List Case
-cases_of e = cases_of_step e.step
+cases_of e = cases_or e.step []
 
 -- how many places it asks for among those that are kept short: behind any step there is one for the exit of each process
 abbrev pub places_asked : Step → ℕ

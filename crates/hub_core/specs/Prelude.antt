@@ -1,5 +1,5 @@
 -- Words of the crates below that this crate's clauses cite, passed on from one place.
-pub use Rattle.hub_base.specs.declared.entry.Entry.{Entry}
+pub use Rattle.hub_base.specs.Entry.{Entry}
 pub use Rattle.hub_base.specs.declared.head.Edition.{Edition}
 pub use Rattle.hub_base.specs.declared.head.Head.{Head}
 pub use Rattle.hub_base.specs.declared.limits.TheConstants.{MOST_EVENTS}

@@ -8,7 +8,9 @@ ghost use Rattle.hub_core.specs.HubView.{Steps, StepRules, RefusesOpening, opene
 
 use crate::short_hub::Form;
 use crate::{OpenFault, ShortHub};
-use hub_base::{Edition, Entry, Events, Fault, Head, Journal, Look, NoMemory, Port, Value};
+use hub_base::{
+    Edition, Entry, EntryRef, Events, Fault, Head, Journal, Look, NoMemory, Port, Value,
+};
 use std::alloc::Global;
 use std::marker::Model;
 
@@ -59,16 +61,16 @@ impl Hub {
         ensures rules { StepRules self.old entry self.new result }
     {
         let mut events = Events::new();
-        self.step_into(entry, &mut events)?;
+        self.step_into(&entry.by_slice(), &mut events)?;
         Ok(events)
     }
 
     /// Makes a step as `step` does, and leaves its events in place of those that were there. After a
     /// refusal these may be any.
-    pub fn step_into(&mut self, entry: Entry, events: &mut Events) -> Result<(), Fault>
-        requires fits { is_of self.old.hub.terms.head.edition entry.step ≡ true }
-        ensures ok { OnOk result (Steps self.old.hub entry self.new.hub events.new.items) }
-        ensures rules { StepRules self.old entry self.new result }
+    pub fn step_into(&mut self, entry: &EntryRef<'_>, events: &mut Events) -> Result<(), Fault>
+        requires fits { is_of self.old.hub.terms.head.edition entry.now.step ≡ true }
+        ensures ok { OnOk result (Steps self.old.hub entry.now self.new.hub events.new.items) }
+        ensures rules { StepRules self.old entry.now self.new result }
     {
         self.kept.make(entry, Form::Whole, events)
     }

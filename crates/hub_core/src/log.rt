@@ -9,10 +9,10 @@ ghost use Rattle.std.specs.Prelude.{◌≡◌, ◌≤◌, ◌<◌, ◌+◌, ◌+
 ghost use Rattle.std.specs.Vec.{vec_capacity};
 ghost use Rattle.hub_base.specs.declared.limits.TheConstants.{CASE_PLACES};
 ghost use Rattle.hub_base.specs.Lines.{by, call};
-ghost use Rattle.hub_core.specs.LogView.{case_count, cases_beside, cases_of, entry_of, first_of, own_of, written, places_asked};
+ghost use Rattle.hub_core.specs.LogView.{case_count, cases_beside, entry_of, first_of, own_of, written, places_asked};
 ghost use Rattle.hub_core.specs.LogView.{AreBriefs, FitsShort, HasRoomFor, IsBriefOf, IsWhole, StandFrom};
 
-use hub_base::{Case, Cases, CasesExt, Entry, MOST_PROCS, Pid, Port, Step, Value, cases_from};
+use hub_base::{Case, CaseSlice, Entry, EntryRef, MOST_PROCS, Pid, Port, Step, Value};
 use std::alloc::{AllocError, Global};
 use std::marker::Model;
 
@@ -124,7 +124,7 @@ fn brief_of_call(pid: Pid, cases: &[Case], default: bool, word: u64, first: u32)
 }
 
 /// What is kept of an entry whose cases, where they are not kept with it, begin there.
-pub(crate) fn brief_of(entry: &Entry, first: u32) -> Brief
+pub(crate) fn brief_of(entry: &EntryRef<'_>, first: u32) -> Brief
     ensures { IsBriefOf entry.now first result }
 {
     let pid = entry.pid;
@@ -141,36 +141,25 @@ pub(crate) fn brief_of(entry: &Entry, first: u32) -> Brief
     }
 }
 
-/// The cases of an entry; none where it is no call.
-fn cases_of(entry: &Entry) -> &[Case]
-    ensures cases { result.now ≡ cases_of entry.now }
-    ensures few { length result.now ≤ CASE_PLACES }
-{
-    match entry.step {
-        Step::Call { ref cases, .. } => cases.as_slice(),
-        _ => &[],
-    }
-}
-
 /// The cases of the entry that are not kept with this, which is kept of it.
-pub(crate) fn cases_beside<'a>(entry: &'a Entry, brief: Brief) -> &'a [Case]
+pub(crate) fn cases_beside<'a>(entry: &EntryRef<'a>, brief: Brief) -> &'a [Case]
     ensures cases { result.now ≡ cases_beside entry.now brief }
     ensures few { length result.now ≤ CASE_PLACES }
 {
     match brief {
-        Brief::Call { .. } => cases_of(entry),
+        Brief::Call { .. } => entry.step.cases(),
         _ => &[],
     }
 }
 
-/// A call of one case.
-fn call_of_one(pid: Pid, case: Case) -> Entry
-    ensures { result ≡ by pid.0 (call (case ∷ []) false 0) }
+/// A call of one case, which lies there.
+fn call_of_one(pid: Pid, case: &Case) -> EntryRef<'_>
+    ensures { result ≡ by pid.0 (call (case.now ∷ []) false 0) }
 {
     Entry {
         pid,
         step: Step::Call {
-            cases: Cases::one(case),
+            cases: CaseSlice::one(case),
             default: false,
             word: 0,
         },
@@ -209,16 +198,21 @@ impl Brief {
         own
     }
 
-    /// Its entry, with these cases where they are not kept with it.
-    fn entry(self, cases: &[Case]) -> Entry
+    /// Its entry, with these cases where they are not kept with it. The case of a call that has one is put in the place for
+    /// it.
+    fn by_slice<'a>(self, cases: &'a [Case], one: &'a mut Case) -> EntryRef<'a>
         requires { length cases.now ≤ CASE_PLACES }
         ensures { result ≡ entry_of self cases.now }
     {
         match self {
             Brief::Send { pid, port, number } => {
-                call_of_one(pid, Case::Send(port, Value::num(number)))
+                *one = Case::Send(port, Value::num(number));
+                call_of_one(pid, one)
             }
-            Brief::Recv { pid, port } => call_of_one(pid, Case::Recv(port)),
+            Brief::Recv { pid, port } => {
+                *one = Case::Recv(port);
+                call_of_one(pid, one)
+            }
             Brief::Call {
                 pid,
                 default,
@@ -227,7 +221,7 @@ impl Brief {
             } => Entry {
                 pid,
                 step: Step::Call {
-                    cases: cases_from(cases),
+                    cases: CaseSlice::few(cases),
                     default,
                     word,
                 },
@@ -250,12 +244,21 @@ impl Brief {
             },
         }
     }
+
+    /// Its entry, written out.
+    fn entry(self, cases: &[Case]) -> Entry
+        requires { length cases.now ≤ CASE_PLACES }
+        ensures { result ≡ entry_of self cases.now }
+    {
+        let mut one = Case::default();
+        self.by_slice(cases, &mut one).to_owned()
+    }
 }
 
 /// Whether there is a place for one entry more that is kept short. An exit asks for no memory: any other step leaves room
 /// for the exit of each process.
 #[inline(always)]
-fn has_room(briefs: &mut Vec<Brief>, entry: &Entry) -> bool
+fn has_room(briefs: &mut Vec<Brief>, entry: &EntryRef<'_>) -> bool
     ensures same { briefs.new.items ≡ briefs.old.items }
     ensures room { result ≡ true → vec_len briefs.new < vec_capacity briefs.new }
     ensures had_room { vec_len briefs.old + places_asked entry.now.step ≤ vec_capacity briefs.old
@@ -282,8 +285,14 @@ pub(crate) fn write_out(whole: &mut Vec<Entry>, briefs: &[Brief], cases: &[Case]
     }
 }
 
-/// The entry at this place of those that are kept short; `None` behind the last.
-pub(crate) fn short_at(briefs: &[Brief], cases: &[Case], place: usize) -> Option<Entry>
+/// The entry at this place of those that are kept short; `None` behind the last. The case of a call that has one is put in the
+/// place for it.
+pub(crate) fn short_at<'a>(
+    briefs: &'a [Brief],
+    cases: &'a [Case],
+    place: usize,
+    one: &'a mut Case,
+) -> Option<EntryRef<'a>>
     requires briefs { AreBriefs briefs.now cases.now }
     requires begin { StandFrom 0 briefs.now }
     ensures { result ≡ slice_get (written briefs.now cases.now) place }
@@ -291,7 +300,7 @@ pub(crate) fn short_at(briefs: &[Brief], cases: &[Case], place: usize) -> Option
     let Some(brief) = briefs.get(place) else {
         return None;
     };
-    Some(brief.entry(brief.own(cases)))
+    Some(brief.by_slice(brief.own(cases), one))
 }
 
 /// The same entries, written out, with room for so many.
@@ -421,7 +430,7 @@ impl Log {
     }
 
     /// Appends an entry, which is kept short where there is memory for that. An exit asks for none.
-    pub(crate) fn push_short(&mut self, entry: &Entry)
+    pub(crate) fn push_short(&mut self, entry: &EntryRef<'_>)
         requires room { length self.old.items < self.old.capacity }
         ensures items { self.new.items ≡ self.old.items ++ entry.now ∷ [] }
         ensures capacity { self.new.capacity ≡ self.old.capacity }
@@ -435,18 +444,18 @@ impl Log {
     /// Appends an entry, written out as all before it are then too. It stands in a function of its own, so that a step
     /// whose entry is kept short does not pay for the place of the copy.
     #[inline(never)]
-    fn push_whole(&mut self, entry: &Entry)
+    fn push_whole(&mut self, entry: &EntryRef<'_>)
         requires room { length self.old.items < self.old.capacity }
         ensures items { self.new.items ≡ self.old.items ++ entry.now ∷ [] }
         ensures capacity { self.new.capacity ≡ self.old.capacity }
     {
         self.write_out();
-        self.push(entry.copy());
+        self.push(entry.to_owned());
     }
 
     /// Appends an entry and keeps it short, if there is memory for that.
     #[inline(always)]
-    fn keeps_short(&mut self, entry: &Entry) -> bool
+    fn keeps_short(&mut self, entry: &EntryRef<'_>) -> bool
         requires room { length self.old.items < self.old.capacity }
         ensures items { result ≡ true → self.new.items ≡ self.old.items ++ entry.now ∷ [] }
         ensures same { result ≡ false → self.new.items ≡ self.old.items }
@@ -509,7 +518,12 @@ impl Log {
     {
         match self.whole.get(place) {
             Some(entry) => Some(entry.copy()),
-            None => short_at(&self.briefs, &self.cases, place - self.whole.len()),
+            None => {
+                let mut one = Case::default();
+                let place = place - self.whole.len();
+                let entry = short_at(&self.briefs, &self.cases, place, &mut one)?;
+                Some(entry.to_owned())
+            }
         }
     }
 

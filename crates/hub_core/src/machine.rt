@@ -14,7 +14,9 @@ ghost use Rattle.hub_core.specs.Looks.{look_at, value_at};
 ghost use Rattle.hub_core.specs.Follows.{Follows, Admits, Answers, Tells, IsMake, IsFine, RefusesFor, Turns, RefusesMake};
 
 use crate::machine_state::{MachineState, tells};
-use hub_base::{Cases, Entry, Events, Fault, Head, Hears, Look, NoMemory, Pid, Port, Value, What};
+use hub_base::{
+    Cases, EntryRef, Events, Fault, Head, Hears, Look, NoMemory, Pid, Port, Value, What,
+};
 use std::alloc::Global;
 use std::marker::Model;
 
@@ -85,7 +87,7 @@ impl Machine {
     /// Refused by `NoProcess`, `Gone` or `Busy`, tested in this order, where the process does not
     /// exist, has exited or has an open call, and by `NoMemory` where a make was refused a growth.
     /// The machine is then as before, and `events` are empty.
-    pub fn step(&mut self, entry: &Entry, events: &mut Events) -> Result<(), Fault>
+    pub fn step(&mut self, entry: &EntryRef<'_>, events: &mut Events) -> Result<(), Fault>
         requires { self.old.steps < 2 ^ 32 - 1 }
 
         ensures ok { OnOk result ((h : Head) (es : List Entry) → Follows h es self.old
@@ -113,7 +115,7 @@ impl Machine {
     /// Makes a step, and tells what follows: a refusal by `NoProcess`, `Gone` or `Busy` is told as
     /// one event. Memory is refused to a make alone; the machine is then as before, and `events` are
     /// empty.
-    pub fn answer(&mut self, entry: &Entry, events: &mut Events) -> Result<(), NoMemory>
+    pub fn answer(&mut self, entry: &EntryRef<'_>, events: &mut Events) -> Result<(), NoMemory>
         requires { self.old.steps < 2 ^ 32 - 1 }
 
         ensures ok { OnOk result ((h : Head) (es : List Entry) → Follows h es self.old
@@ -133,7 +135,11 @@ impl Machine {
     /// As `answer`, to whoever hears the events behind those that it has heard before; there must be room for those
     /// of any step. Where memory is refused nothing is told.
     #[inline(always)]
-    pub fn step_into<E: Hears>(&mut self, entry: &Entry, events: &mut E) -> Result<(), NoMemory>
+    pub fn step_into<E: Hears>(
+        &mut self,
+        entry: &EntryRef<'_>,
+        events: &mut E,
+    ) -> Result<(), NoMemory>
         requires steps { self.old.steps < 2 ^ 32 - 1 }
         requires room { MOST_EVENTS ≤ E.room events.old }
 
@@ -156,7 +162,7 @@ impl Machine {
 
     /// Makes an admitted step, where there are no events yet. After a refusal there are none either, and
     /// the machine is as before.
-    pub(crate) fn turn(&mut self, entry: &Entry, events: &mut Events) -> Result<(), NoMemory>
+    pub(crate) fn turn(&mut self, entry: &EntryRef<'_>, events: &mut Events) -> Result<(), NoMemory>
         requires steps { self.old.steps < 2 ^ 32 - 1 }
         requires admitted { refusal_of self.old.board self.old.gone entry.now.pid ≡ None }
         requires empty { events.old.items ≡ [] }
@@ -168,7 +174,11 @@ impl Machine {
 
     /// Makes an admitted step, and tells what follows. After a refusal nothing is told, and the machine is as
     /// before.
-    fn step_admitted<E: Hears>(&mut self, entry: &Entry, events: &mut E) -> Result<(), NoMemory>
+    fn step_admitted<E: Hears>(
+        &mut self,
+        entry: &EntryRef<'_>,
+        events: &mut E,
+    ) -> Result<(), NoMemory>
         requires steps { self.old.steps < 2 ^ 32 - 1 }
         requires admitted { refusal_of self.old.board self.old.gone entry.now.pid ≡ None }
         requires room { MOST_EVENTS ≤ E.room events.old }

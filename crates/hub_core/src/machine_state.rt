@@ -20,8 +20,8 @@ use crate::select::{choose, park_or_default};
 use crate::stalling::{all_wait, stop_all};
 use crate::tally::Tallies;
 use hub_base::{
-    Cases, Entry, Event, Fault, Head, Hears, Look, MOST_PROCS, NoMemory, Pid, Port, Step, Value,
-    What,
+    CaseSlice, Cases, EntryRef, Event, Fault, Head, Hears, Look, MOST_PROCS, NoMemory, Pid, Port,
+    Step, StepRef, Value, What,
 };
 use hub_parts::Board;
 use std::alloc::Global;
@@ -132,7 +132,14 @@ impl MachineState {
     }
 
     /// A call of a process that has none open, and what follows it.
-    fn call<E: Hears>(&mut self, pid: Pid, cases: &Cases, default: bool, word: u64, events: &mut E)
+    fn call<E: Hears>(
+        &mut self,
+        pid: Pid,
+        cases: &CaseSlice<'_>,
+        default: bool,
+        word: u64,
+        events: &mut E,
+    )
         requires below { pid.0 < self.old.board.procs }
         requires free { open_on self.old.board.waiting pid.0 ≡ false }
         requires named { AllMade (length self.old.board.ports) cases.now.items }
@@ -167,7 +174,7 @@ impl MachineState {
     fn rare_effect<E: Hears>(
         &mut self,
         pid: Pid,
-        step: &Step,
+        step: &StepRef<'_>,
         events: &mut E,
     ) -> Result<(), NoMemory>
         requires rare { is_call step.now ≡ false }
@@ -203,7 +210,12 @@ impl MachineState {
 
     /// What a step without a fault does. A make that is refused memory changes nothing.
     #[inline(always)]
-    fn effect<E: Hears>(&mut self, pid: Pid, step: &Step, events: &mut E) -> Result<(), NoMemory>
+    fn effect<E: Hears>(
+        &mut self,
+        pid: Pid,
+        step: &StepRef<'_>,
+        events: &mut E,
+    ) -> Result<(), NoMemory>
         requires may { MayTakeEffect self.old pid step.now }
         requires room { MOST_EVENTS ≤ E.room events.old }
         ensures { TakesEffect E.heard E.room self.old pid step.now
@@ -223,7 +235,11 @@ impl MachineState {
     }
 
     /// An admitted step: its fault, or what it does and the stall rule behind it.
-    pub(crate) fn turn<E: Hears>(&mut self, entry: &Entry, events: &mut E) -> Result<(), NoMemory>
+    pub(crate) fn turn<E: Hears>(
+        &mut self,
+        entry: &EntryRef<'_>,
+        events: &mut E,
+    ) -> Result<(), NoMemory>
         requires reached { IsReached self.old }
         requires admitted { refusal_of self.old.board self.old.gone entry.now.pid ≡ None }
         requires steps { self.old.steps < 2 ^ 32 - 1 }

@@ -6,7 +6,7 @@ ghost use Rattle.hub_core.specs.Prelude.{Edition, is_call, port_of};
 ghost use Rattle.hub_core.specs.ListSteps.{refusal_of, fault_on, call_fault_on, is_unmade_on};
 
 use crate::stalling::has_gone;
-use hub_base::{Case, Edition, Fault, MOST_CAP, MOST_PORTS, MOST_PROCS, Pid, Port, Step};
+use hub_base::{Case, Edition, Fault, MOST_CAP, MOST_PORTS, MOST_PROCS, Pid, Port, Step, StepRef};
 use hub_parts::Board;
 
 /// Why a step of this process is not admitted.
@@ -66,7 +66,7 @@ fn call_fault(edition: Edition, board: &Board, cases: &[Case]) -> Option<Fault>
 
 /// The fault of a step that is no call. It stands apart, since nearly all steps are calls.
 #[inline(never)]
-fn rare_fault(board: &Board, step: &Step) -> Option<Fault>
+fn rare_fault(board: &Board, step: &StepRef<'_>) -> Option<Fault>
     requires { is_call step.now ≡ false }
     ensures { (edition : Edition) → result ≡ fault_on edition board.now step.now }
 {
@@ -103,7 +103,7 @@ fn rare_fault(board: &Board, step: &Step) -> Option<Fault>
 
 /// The fault that an admitted step is answered with, the lowest that applies.
 #[inline(always)]
-pub(crate) fn fault_of(edition: Edition, board: &Board, step: &Step) -> Option<Fault>
+pub(crate) fn fault_of(edition: Edition, board: &Board, step: &StepRef<'_>) -> Option<Fault>
     ensures { result ≡ fault_on edition board.now step.now }
 {
     match step {

@@ -11,7 +11,7 @@ ghost use Rattle.hub_core.specs.Hearing.{Heard};
 ghost use Rattle.hub_core.specs.ListSteps.{wait_on, told_to_wait, open_on, placed};
 
 use crate::ready_cases::{can_proceed, find_ready};
-use hub_base::{CASE_PLACES, Case, Cases, Event, Hears, Pid, What};
+use hub_base::{CASE_PLACES, Case, CaseSlice, Event, Hears, Pid, What};
 use hub_parts::Board;
 
 /// A case that was chosen.
@@ -76,7 +76,7 @@ pub(crate) fn park_or_default<E: Hears>(
     events: &mut E,
     ticket: u32,
     pid: Pid,
-    cases: &Cases,
+    cases: &CaseSlice<'_>,
     default: bool,
 )
     requires below { pid.0 < board.old.procs }

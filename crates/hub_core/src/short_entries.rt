@@ -3,10 +3,9 @@
 ghost use Rattle.std.specs.Prelude.{◌≡◌, ◌<◌, ◌≤◌, ◌+◌, ◌++◌, ◌∷◌, [], IfOk, OnOk, Some, length, slice_get};
 ghost use Rattle.std.specs.Option.{option_map_or};
 ghost use Rattle.hub_base.specs.Values.{cases_or};
-ghost use Rattle.hub_core.specs.LogView.{AreBriefs, StandFrom, case_count, entry_of, first_of, own_of, written};
 
 use crate::log::{Brief, brief_of, cases_beside, short_at, write_out};
-use hub_base::{Case, Cases, Entry, Step, Value};
+use hub_base::{Case, EntryRef};
 use std::alloc::{AllocError, Global};
 use std::marker::Model;
 
@@ -21,7 +20,7 @@ pub struct ShortEntries {
 
 impl Model for ShortEntries {
     ghost use Rattle.std.specs.Prelude.{List};
-    ghost use Rattle.hub_base.specs.declared.entry.Entry.{Entry};
+    ghost use Rattle.hub_base.specs.Entry.{Entry};
     ghost use Rattle.hub_core.specs.LogView.{AreBriefs, StandFrom, written};
 
     ghost Value = { List Entry };
@@ -29,51 +28,6 @@ impl Model for ShortEntries {
     ghost view = { λ s. written s.briefs.items s.cases.items };
 
     ghost invariant = { λ s. AreBriefs s.briefs.items s.cases.items × StandFrom 0 s.briefs.items };
-}
-
-/// The cases of a step; none where it is no call.
-fn cases_in(step: Step) -> Cases
-    ensures { result.items ≡ cases_or step [] }
-{
-    match step {
-        Step::Call { cases, .. } => cases,
-        _ => Cases::new(),
-    }
-}
-
-/// The case of this number of a call that has one case.
-fn one_of(case: Case, number: u8) -> Option<Case>
-    ensures { result ≡ slice_get (case ∷ []) number }
-{
-    if number == 0 { Some(case) } else { None }
-}
-
-/// The case of this number of the entry of which this is kept, beside these cases of all.
-fn case_of(brief: Brief, cases: &[Case], number: u8) -> Option<Case>
-    requires { first_of brief + case_count brief ≤ length cases.now }
-    ensures { result ≡ slice_get (cases_or (entry_of brief (own_of brief cases.now)).step []) number }
-{
-    match brief {
-        Brief::Send {
-            port,
-            number: sent,
-            ..
-        } => one_of(Case::Send(port, Value::num(sent)), number),
-        Brief::Recv { port, .. } => one_of(Case::Recv(port), number),
-        _ => brief.own(cases).get(usize::from(number)).copied(),
-    }
-}
-
-/// The case of this number of the entry at this place of those that are kept short, if there is one.
-fn short_case(briefs: &[Brief], cases: &[Case], place: usize, number: u8) -> Option<Case>
-    requires briefs { AreBriefs briefs.now cases.now }
-    requires begin { StandFrom 0 briefs.now }
-    ensures { result ≡ slice_get (option_map_or (λ e. cases_or e.step []) (slice_get (written briefs.now cases.now) place) []) number }
-{
-    match briefs.get(place) {
-        Some(brief) => case_of(*brief, cases, number),
-        None => None,
-    }
 }
 
 impl ShortEntries {
@@ -88,7 +42,7 @@ impl ShortEntries {
     }
 
     /// Appends an entry. An `Err` is memory.
-    pub fn push(&mut self, entry: &Entry) -> Result<(), AllocError>
+    pub fn push(&mut self, entry: &EntryRef<'_>) -> Result<(), AllocError>
         ensures { OnOk result (self.new ≡ self.old ++ entry.now ∷ []) }
     {
         let Ok(first) = u32::try_from(self.cases.len()) else {
@@ -108,31 +62,32 @@ impl ShortEntries {
         self.briefs.len()
     }
 
-    /// The entry at this place; `None` behind the last.
-    pub fn get(&self, place: usize) -> Option<Entry>
+    /// The entry at this place, whose cases stay where they are, but that of a call that has one: it is put in the place for
+    /// it. `None` behind the last.
+    pub fn get<'a>(&'a self, place: usize, one: &'a mut Case) -> Option<EntryRef<'a>>
         ensures { result ≡ slice_get self.now place }
     {
-        short_at(&self.briefs, &self.cases, place)
+        short_at(&self.briefs, &self.cases, place, one)
     }
 
-    /// The entry at this place.
-    pub fn entry(&self, place: usize) -> Entry
+    /// The entry at this place, as `get` gives it.
+    pub fn entry<'a>(&'a self, place: usize, one: &'a mut Case) -> EntryRef<'a>
         requires { place < length self.now }
         ensures { slice_get self.now place ≡ Some result }
     {
-        match self.get(place) {
+        match self.get(place, one) {
             Some(entry) => entry,
             None => unreachable!(),
         }
     }
 
-    /// The cases of the entry at this place; none where it is no call.
-    pub fn cases_at(&self, place: usize) -> Cases
-        ensures { result.items ≡ option_map_or (λ e. cases_or e.step []) (slice_get self.now place) [] }
+    /// The cases of the entry at this place, as `get` gives it; none where it is no call, and behind the last.
+    pub fn cases_at<'a>(&'a self, place: usize, one: &'a mut Case) -> &'a [Case]
+        ensures { result.now ≡ option_map_or (λ e. cases_or e.step []) (slice_get self.now place) [] }
     {
-        match self.get(place) {
-            Some(entry) => cases_in(entry.step),
-            None => Cases::new(),
+        match self.get(place, one) {
+            Some(entry) => entry.step.cases(),
+            None => &[],
         }
     }
 
@@ -140,11 +95,14 @@ impl ShortEntries {
     pub fn case_at(&self, place: usize, number: u8) -> Option<Case>
         ensures { result ≡ slice_get (option_map_or (λ e. cases_or e.step []) (slice_get self.now place) []) number }
     {
-        short_case(&self.briefs, &self.cases, place, number)
+        let mut one = Case::default();
+        self.cases_at(place, &mut one)
+            .get(usize::from(number))
+            .copied()
     }
 
     /// All of them, written out.
-    pub fn write_out(&self, alloc: Global) -> Result<Vec<Entry>, AllocError>
+    pub fn write_out(&self, alloc: Global) -> Result<Vec<hub_base::Entry>, AllocError>
         ensures { IfOk result (λ entries. entries.items ≡ self.now) }
     {
         let mut entries = Vec::with_capacity(alloc, self.len())?;

@@ -5,26 +5,25 @@
 //! exit nor a reserved step asks for memory.
 
 ghost use Rattle.std.specs.Prelude.{◌≡◌, ◌≤◌, ◌<◌, ◌+◌, ◌-◌, ◌^◌, ◌↔◌, ◌++◌, ◌∷◌, ℕ, Bool, List, [], IsTrue, IfOk, IfErr, OnOk, OnErr, length, max, slice_get, true};
-ghost use Rattle.hub_base.specs.declared.entry.Entry.{Entry};
+ghost use Rattle.hub_base.specs.Entry.{Entry};
 ghost use Rattle.hub_base.specs.declared.value.Pid.{Pid};
 ghost use Rattle.hub_base.specs.Head.{IsHead, AreOf, head_of, is_of};
-ghost use Rattle.hub_base.specs.Reading.{is_exit};
 ghost use Rattle.std.specs.Option.{option_map};
 ghost use Rattle.hub_base.specs.Runs.{kept};
 ghost use Rattle.hub_base.specs.Steps.{refusal};
 ghost use Rattle.hub_base.specs.Text.{steps_of};
 ghost use Rattle.hub_parts.specs.Lists.{shown_call};
 ghost use Rattle.hub_core.specs.Looks.{look_at, value_at};
-ghost use Rattle.hub_core.specs.HubView.{HubInMemory, ShortInMemory, Steps, StepRules, Grows, RefusesOpening, call_of, opened_hub, places_after, state_of, terms_of, IsLimit};
-ghost use Rattle.hub_core.specs.HubKeeps.{count_after, IsSuch, Takes};
+ghost use Rattle.hub_core.specs.HubView.{HubInMemory, ShortInMemory, Steps, StepRules, Grows, RefusesOpening, opened_hub, places_after, state_of, terms_of, IsLimit};
+ghost use Rattle.hub_core.specs.HubKeeps.{count_after, Takes};
 ghost use Rattle.hub_core.specs.declared.short_hub.Form.TheVariants.{Whole};
 
 use crate::log::Log;
 use crate::machine::empty;
 use crate::{Machine, OpenFault, Terms};
 use hub_base::{
-    Cases, Edition, Entry, Events, Fault, Head, Journal, Look, MOST_PROCS, MOST_STEPS, NoMemory,
-    Pid, Port, Step, Value, copy_cases,
+    Cases, Edition, Entry, EntryRef, Events, Fault, Head, Journal, Look, MOST_PROCS, MOST_STEPS,
+    NoMemory, Pid, Port, Step, StepRef, Value,
 };
 use std::alloc::Global;
 use std::marker::Model;
@@ -52,8 +51,6 @@ pub struct ShortHub {
     machine: Machine,
     /// The journal: the admitted entries, in order.
     entries: Log,
-    /// The newest entry, where entries are kept short.
-    newest: Entry,
 }
 
 impl Model for ShortHub {
@@ -68,22 +65,16 @@ impl Model for ShortHub {
     ghost invariant = { λ h. HubKeeps h };
 }
 
-fn is_exit(step: &Step) -> bool
-    ensures { result ≡ is_exit step.now }
-{
-    matches!(step, Step::Exit)
-}
-
 /// How many entries are no exits, after this one.
-fn count_after(step: &Step, count: u32) -> u32
+fn count_after(step: &StepRef<'_>, count: u32) -> u32
     requires { count < 2 ^ 32 - 1 }
     ensures { result ≡ count_after step.now count }
 {
-    if is_exit(step) { count } else { count + 1 }
+    if step.is_exit() { count } else { count + 1 }
 }
 
 /// How many steps other than makes take no memory after this one.
-fn places_after(step: &Step, places: u32) -> u32
+fn places_after(step: &StepRef<'_>, places: u32) -> u32
     ensures { result ≡ places_after step.now places }
 {
     match step {
@@ -93,7 +84,7 @@ fn places_after(step: &Step, places: u32) -> u32
 }
 
 /// Whether the journal may have to grow for the step.
-fn grows(step: &Step, places: u32) -> bool
+fn grows(step: &StepRef<'_>, places: u32) -> bool
     ensures { IsTrue result ↔ Grows step.now places }
 {
     match step {
@@ -103,47 +94,18 @@ fn grows(step: &Step, places: u32) -> bool
     }
 }
 
-/// Writes a call in place of an entry. Only the cases that it has are written, where that was a call too.
-fn write_call(entry: &mut Entry, pid: Pid, cases: &Cases, default: bool, word: u64)
-    ensures { entry.new ≡ call_of pid cases.now.items default word }
-{
-    entry.pid = pid;
-    match &mut entry.step {
-        Step::Call {
-            cases: places,
-            default: has_default,
-            word: choice,
-        } => {
-            places.clear();
-            let _full = places.try_extend_from_slice(cases.as_slice());
-            *has_default = default;
-            *choice = word;
-        }
-        other => {
-            *other = Step::Call {
-                cases: copy_cases(cases),
-                default,
-                word,
-            }
-        }
-    }
-}
-
-/// Appends an entry in this form. Where entries are then kept short, it is the newest that stands beside them.
-fn append(entries: &mut Log, newest: &mut Entry, entry: Entry, form: Form)
+/// Appends an entry in this form.
+#[inline(always)]
+fn append(entries: &mut Log, entry: &EntryRef<'_>, form: Form)
     requires whole { form ≡ Whole → entries.old.short ≡ 0 }
     requires room { length entries.old.items < entries.old.capacity }
-    ensures items { entries.new.items ≡ entries.old.items ++ entry ∷ [] }
+    ensures items { entries.new.items ≡ entries.old.items ++ entry.now ∷ [] }
     ensures capacity { entries.new.capacity ≡ entries.old.capacity }
     ensures whole { form ≡ Whole → entries.new.short ≡ 0 }
-    ensures newest { ¬ entries.new.short ≡ 0 → newest.new ≡ entry }
 {
     match form {
-        Form::Whole => entries.push(entry),
-        Form::Short => {
-            entries.push_short(&entry);
-            *newest = entry;
-        }
+        Form::Whole => entries.push(entry.to_owned()),
+        Form::Short => entries.push_short(entry),
     }
 }
 
@@ -176,17 +138,12 @@ impl ShortHub {
         };
         let machine = Machine::new(alloc, terms.head)?;
         let entries = Log::with_capacity(alloc, procs.into())?;
-        let newest = Entry {
-            pid: Pid(0),
-            step: Step::Exit,
-        };
         Ok(ShortHub {
             terms,
             places: 0,
             count: 0,
             machine,
             entries,
-            newest,
         })
     }
 
@@ -200,7 +157,6 @@ impl ShortHub {
             count: self.count,
             machine: self.machine.copy(alloc)?,
             entries: self.entries.copy(alloc)?,
-            newest: self.newest.copy(),
         })
     }
 
@@ -216,87 +172,61 @@ impl ShortHub {
         self.terms = other.terms;
         self.places = other.places;
         self.count = other.count;
-        self.newest = other.newest.copy();
         Ok(())
     }
 
     /// Makes a step as `Hub::step` does, and leaves its events in place of those that were there. After a
     /// refusal these may be any.
-    pub fn step_into(&mut self, entry: Entry, events: &mut Events) -> Result<(), Fault>
-        requires fits { is_of self.old.memory.hub.terms.head.edition entry.step ≡ true }
-        ensures ok { OnOk result (Steps self.old.memory.hub entry self.new.memory.hub events.new.items) }
-        ensures rules { StepRules self.old.memory entry self.new.memory result }
+    pub fn step_into(&mut self, entry: &EntryRef<'_>, events: &mut Events) -> Result<(), Fault>
+        requires fits { is_of self.old.memory.hub.terms.head.edition entry.now.step ≡ true }
+        ensures ok { OnOk result (Steps self.old.memory.hub entry.now self.new.memory.hub events.new.items) }
+        ensures rules { StepRules self.old.memory entry.now self.new.memory result }
     {
         self.make(entry, Form::Short, events)
     }
 
-    /// The same, and keeps its entry in this form.
+    /// The same, and keeps its entry in this form. The machine comes first, since memory may be refused to it; room for the
+    /// entry is made before, so that behind it nothing is refused.
+    #[inline(always)]
     pub(crate) fn make(
         &mut self,
-        entry: Entry,
+        entry: &EntryRef<'_>,
         form: Form,
         events: &mut Events,
     ) -> Result<(), Fault>
-        requires fits { is_of self.old.memory.hub.terms.head.edition entry.step ≡ true }
+        requires fits { is_of self.old.memory.hub.terms.head.edition entry.now.step ≡ true }
         requires whole { form ≡ Whole → self.old.short ≡ 0 }
-        ensures ok { OnOk result (Steps self.old.memory.hub entry self.new.memory.hub events.new.items) }
-        ensures rules { StepRules self.old.memory entry self.new.memory result }
+        ensures ok { OnOk result (Steps self.old.memory.hub entry.now self.new.memory.hub events.new.items) }
+        ensures rules { StepRules self.old.memory entry.now self.new.memory result }
         ensures whole { form ≡ Whole → self.new.short ≡ 0 }
     {
-        let (exit, grows) = (is_exit(&entry.step), grows(&entry.step, self.places));
-        self.admit(entry.pid, exit, grows)?;
+        self.admit(entry)?;
         empty(events);
-        let Ok(()) = self.machine.turn(&entry, events) else {
+        let Ok(()) = self.machine.turn(entry, events) else {
             return Err(Fault::NoMemory);
         };
         self.count = count_after(&entry.step, self.count);
         self.places = places_after(&entry.step, self.places);
-        append(&mut self.entries, &mut self.newest, entry, form);
+        append(&mut self.entries, entry, form);
         Ok(())
     }
 
-    /// Makes a call as `step_into` makes its entry, of which only the cases are written that it has.
-    pub fn call_into(
-        &mut self,
-        pid: Pid,
-        cases: &Cases,
-        default: bool,
-        word: u64,
-        events: &mut Events,
-    ) -> Result<(), Fault>
-        requires fits { is_of self.old.memory.hub.terms.head.edition (call_of pid cases.now.items default word).step ≡ true }
-        ensures ok { OnOk result (
-            Steps self.old.memory.hub (call_of pid cases.now.items default word) self.new.memory.hub events.new.items) }
-        ensures rules { StepRules self.old.memory (call_of pid cases.now.items default word) self.new.memory result }
-    {
-        self.admit(pid, false, self.places == 0)?;
-        write_call(&mut self.newest, pid, cases, default, word);
-        self.entries.push_short(&self.newest);
-        empty(events);
-        let Ok(()) = self.machine.turn(&self.newest, events) else {
-            unreachable!()
-        };
-        self.count += 1;
-        self.places = self.places.saturating_sub(1);
-        Ok(())
-    }
-
-    /// Looks whether the journal takes an entry of this process, an exit or not, and makes room for it where the
-    /// journal may have to grow. The tests stand in the order of the refusals.
+    /// Looks whether the journal takes the entry, and makes room for it where the journal may have to grow. The tests stand in
+    /// the order of the refusals.
     #[inline(always)]
-    fn admit(&mut self, pid: Pid, exit: bool, grows: bool) -> Result<(), Fault>
+    fn admit(&mut self, entry: &EntryRef<'_>) -> Result<(), Fault>
         ensures same { self.new.memory.hub ≡ self.old.memory.hub }
-        ensures ok { OnOk result ((e : Entry) → IsSuch self.old.memory.hub pid exit grows e → Takes self.new.memory e) }
-        ensures rules { (e : Entry) → IsSuch self.old.memory.hub pid exit grows e → StepRules self.old.memory e self.new.memory result }
+        ensures ok { OnOk result (Takes self.new.memory entry.now) }
+        ensures rules { StepRules self.old.memory entry.now self.new.memory result }
         ensures short { self.new.short ≡ self.old.short }
     {
-        if !exit && self.count >= self.terms.limit {
+        if !entry.step.is_exit() && self.count >= self.terms.limit {
             return Err(Fault::JournalFull);
         }
-        if let Some(fault) = self.machine.refusal(pid) {
+        if let Some(fault) = self.machine.refusal(entry.pid) {
             return Err(fault);
         }
-        if grows {
+        if grows(&entry.step, self.places) {
             let more = self.places as usize + self.terms.head.procs as usize + 1;
             let Ok(()) = self.entries.reserve_more(more) else {
                 return Err(Fault::NoMemory);
@@ -388,18 +318,6 @@ impl ShortHub {
         ensures range { IsHead result }
     {
         self.terms.head
-    }
-
-    /// The newest entry of the journal, which has one.
-    pub fn newest(&self) -> &Entry
-        requires { 0 < length self.now.memory.hub.journal }
-        ensures { (es : List Entry) (e : Entry) → self.now.memory.hub.journal ≡ es ++ e ∷ [] → result.now ≡ e }
-    {
-        if !self.entries.is_whole() {
-            return &self.newest;
-        }
-        let entries = self.entries.as_slice();
-        &entries[entries.len() - 1]
     }
 
     /// How many entries the journal has.

@@ -7,7 +7,7 @@ ghost use Rattle.hub_text.specs.ReadJournal.{Gives, IsFaultOf};
 ghost use Rattle.hub_base.specs.Text.{IsText};
 
 use crate::ShortEntries;
-use hub_base::{Entry, Head, Journal, NoMemory, Pid, ReadFault, Step};
+use hub_base::{Entry, Head, Journal, NoMemory, ReadFault};
 use hub_text::Reader;
 use std::alloc::Global;
 use std::marker::Model;
@@ -58,14 +58,11 @@ fn collect_entries(alloc: Global, mut reader: Reader) -> Result<ShortJournal, Re
     ensures { Gives result reader.entry.left }
 {
     let mut list = ShortEntries::new(alloc);
-    let mut entry = Entry {
-        pid: Pid(0),
-        step: Step::Exit,
-    };
+    let mut entry = Entry::blank();
     loop {
         match reader.read_into(&mut entry) {
             Ok(true) => {
-                if list.push(&entry).is_err() {
+                if list.push(&entry.by_slice()).is_err() {
                     return Err(ReadFault::NoMemory);
                 }
             }

@@ -3,12 +3,12 @@
 ghost use Rattle.std.specs.Prelude.{◌≡◌};
 ghost use Rattle.hub_core.specs.Prelude.{found_closed, port_changed_by, port_touched_by};
 
-use hub_base::{Outcome, Port, Step, What};
+use hub_base::{Outcome, Port, Step, StepRef, What};
 
 /// The one port whose channel a step with this answer may have changed: the port that was made or
 /// closed, or that of the case that fired. `None` for any other answer, as of a call that waits or
 /// takes its default, of an exit and of a fault.
-pub fn port_touched(step: &Step, answer: What) -> Option<Port>
+pub fn port_touched(step: &StepRef<'_>, answer: What) -> Option<Port>
     ensures { result ≡ port_touched_by step.now answer }
 {
     match (step, answer) {
@@ -37,7 +37,7 @@ fn found_closed(answer: What) -> bool
 
 /// The one port whose channel a step with this answer changed: as `port_touched`, but `None` where a
 /// case fired that found its port closed, so a send there or a receive from it when drained.
-pub fn port_changed(step: &Step, answer: What) -> Option<Port>
+pub fn port_changed(step: &StepRef<'_>, answer: What) -> Option<Port>
     ensures { result ≡ port_changed_by step.now answer }
 {
     if found_closed(answer) {

@@ -26,7 +26,7 @@ use Rattle.hub_core.specs.HubView.{HubView}
 use Rattle.hub_chapters.specs.Checkpoint.{checkpoint, send_again, port_again, ports_again, call_again, exited}
 use Rattle.hub_chapters.proofs.Checkpoints.{checkpoint-law}
 use Rattle.hub_base.specs.declared.limits.TheConstants.{GREATEST_PID, GREATEST_PORT, MOST_VALUE_BYTES}
-use Rattle.hub_core.specs.LogView.{cases_of_step}
+use Rattle.hub_base.specs.Values.{cases_or}
 use Rattle.hub_cut.specs.declared.limits.TheConstants.{LINE_BYTES, CASE_BYTES, CHECKPOINT_BYTES, CHAPTER_BYTES, MOST_LINE_BYTES}
 use Rattle.hub_cut.specs.ChapterText.{most_line, most_lines, counted, counted_in, FitsText}
 use Rattle.hub_cut.proofs.Parts.{procs_same, steps-append}
@@ -98,11 +98,11 @@ call_size (Recv p ∷ d ∷ cs) default word fits = select_size (Recv p ∷ d �
 
 -- Lines
 
-step_size : (ed : Edition) (e : Entry) → Fits ed e → fields_size (step_fields e.step) ≤ 36 + 73 * length (cases_of_step e.step)
+step_size : (ed : Edition) (e : Entry) → Fits ed e → fields_size (step_fields e.step) ≤ 36 + 73 * length (cases_or e.step [])
 unfolding fields_size
 step_size ed e fits = by e.step fits.step
   where
-    by : (s : Step) → StepFits s → fields_size (step_fields s) ≤ 36 + 73 * length (cases_of_step s)
+    by : (s : Step) → StepFits s → fields_size (step_fields s) ≤ 36 + 73 * length (cases_or s [])
     by (Make cap) few =
         let l : length (decimal cap) ≤ 10 = length-decimal-le 10 cap (omega arith) (omega (arith, few)) (omega (arith, few)) in
         omega (arith, l)

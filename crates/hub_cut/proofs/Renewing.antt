@@ -11,7 +11,7 @@ use Rattle.hub_laws.specs.Journals.{IsLegal}
 use Rattle.hub_laws.proofs.Journals.{begins-law}
 use Rattle.hub_core.specs.HubView.{HubView, Steps, state_of, with_entry, places_after}
 use Rattle.hub_core.specs.declared.terms.Terms.{Terms}
-use Rattle.hub_base.specs.declared.entry.Step.{Step}
+use Rattle.hub_base.specs.Entry.{Step}
 use Rattle.hub_base.specs.declared.entry.Step.TheVariants as step
 use Rattle.hub_chapters.specs.Checkpoint.{call_again, checkpoint, exited, port_again, ports_again}
 use Rattle.hub_chapters.proofs.Checkpoints.{checkpoint-law}

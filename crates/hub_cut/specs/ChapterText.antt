@@ -1,6 +1,6 @@
 -- How long a journal's text can be, by the number of its entries and of their cases.
 use Rattle.std.specs.Prelude.{◌≤◌, ◌+◌, ◌*◌, ℕ, List, [], ◌∷◌, length, if◌then◌else◌}
-use Rattle.hub_base.specs.declared.entry.Entry.{Entry}
+use Rattle.hub_base.specs.Entry.{Entry}
 use Rattle.hub_base.specs.declared.limits.TheConstants.{MOST_BYTES}
 use Rattle.hub_base.specs.Reading.{is_exit, text}
 use Rattle.hub_core.specs.HubView.{HubView}

@@ -21,7 +21,7 @@ fn write_lines(out: &mut Vec<u8>, edition: Edition, entries: &[Entry]) -> Result
     ensures { OnOk result (out.new.items ≡ out.old.items ++ flat_map line entries.now) }
 {
     for entry in entries {
-        write_entry(out, edition, entry)?;
+        write_entry(out, edition, &entry.by_slice())?;
     }
     Ok(())
 }

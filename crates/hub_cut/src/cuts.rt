@@ -12,7 +12,7 @@ ghost use Rattle.hub_cut.specs.Cut.{CutsAndSteps, IsCut, Refused};
 
 use crate::limits::CHECKPOINT_BYTES;
 use crate::renewals::{make_step, renewed};
-use hub_base::{Entry, Events, Fault, Journal, NoMemory};
+use hub_base::{EntryRef, Events, Fault, Journal, NoMemory};
 use hub_core::ShortHub;
 use std::alloc::Global;
 use std::mem;
@@ -54,7 +54,7 @@ pub fn cut_journal(alloc: Global, hub: &mut ShortHub) -> Result<Journal, NoMemor
 fn renewed_after(
     alloc: Global,
     hub: &ShortHub,
-    entry: &Entry,
+    entry: &EntryRef<'_>,
     events: &mut Events,
 ) -> Result<ShortHub, NoMemory>
     requires fits { Fits hub.now.memory.hub.terms.head.edition entry.now }
@@ -74,7 +74,7 @@ fn renewed_after(
 pub(crate) fn cut_and_step(
     alloc: Global,
     hub: &mut ShortHub,
-    entry: &Entry,
+    entry: &EntryRef<'_>,
     events: &mut Events,
 ) -> Result<ShortHub, Fault>
     requires fits { Fits hub.old.memory.hub.terms.head.edition entry.now }

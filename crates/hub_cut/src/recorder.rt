@@ -20,10 +20,9 @@ ghost use Rattle.hub_cut.specs.Totals.{totals_at};
 use crate::Totals;
 use crate::cuts::{cut_and_step, cut_short};
 use crate::limits::CHAPTER_BYTES;
-use crate::renewals::step_by;
-use crate::texts::{is_exit, most_line, share_of};
+use crate::texts::{most_line, share_of};
 use crate::totals::{PORT_PLACES, add_received, base_of, no_bases, with_base};
-use hub_base::{Edition, Entry, Events, Fault, MOST_STEPS, NoMemory, Port, Step};
+use hub_base::{Edition, EntryRef, Events, Fault, MOST_STEPS, NoMemory, Port, StepRef};
 use hub_core::{Hub, OpenFault, ShortHub};
 use std::alloc::Global;
 use std::marker::Model;
@@ -109,7 +108,7 @@ impl Recorder {
     /// `NoMemory`. After a refusal nothing has changed.
     pub fn step_into(
         &mut self,
-        entry: &Entry,
+        entry: &EntryRef<'_>,
         events: &mut Events,
         out: &mut Option<ShortHub>,
     ) -> Result<(), Fault>
@@ -136,14 +135,14 @@ impl Recorder {
     }
 
     /// Whether this step, if it is made next, begins a chapter.
-    pub fn begins(&self, step: &Step) -> bool
+    pub fn begins(&self, step: &StepRef<'_>) -> bool
         ensures { result ≡ begins self.now step.now }
     {
-        !is_exit(step) && self.is_full()
+        !step.is_exit() && self.is_full()
     }
 
     /// Makes a step in the present chapter, which is not full unless it is an exit.
-    fn go_on(&mut self, entry: &Entry, events: &mut Events) -> Result<(), Fault>
+    fn go_on(&mut self, entry: &EntryRef<'_>, events: &mut Events) -> Result<(), Fault>
         requires fits { is_of (head_of_all self.old).edition entry.now.step ≡ true }
         requires room { begins self.old entry.now.step ≡ false }
         ensures ok { OnOk result (RecordsStep self.old entry.now self.new events.new.items) }
@@ -151,7 +150,7 @@ impl Recorder {
         ensures unchanged { OnErr result (self.new ≡ self.old) }
     {
         let share = share_of(self.hub.head().edition, entry);
-        step_by(&mut self.hub, entry, events)?;
+        self.hub.step_into(entry, events)?;
         self.fresh += share.steps;
         self.bytes += share.bytes;
         Ok(())
@@ -162,7 +161,7 @@ impl Recorder {
     #[inline(never)]
     fn begin_chapter(
         &mut self,
-        entry: &Entry,
+        entry: &EntryRef<'_>,
         events: &mut Events,
         out: &mut Option<ShortHub>,
     ) -> Result<(), Fault>

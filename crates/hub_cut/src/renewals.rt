@@ -18,7 +18,7 @@ ghost use Rattle.hub_cut.specs.Cut.{CanMake, hub_with, renewed_hub, with_entries
 use crate::checkpoints::{write_calls, write_exits, write_port};
 use crate::limits::CHECKPOINT_BYTES;
 use crate::texts::all_fit;
-use hub_base::{Entry, Events, Fault, MOST_PORTS, NoMemory, Port, Step};
+use hub_base::{Entry, EntryRef, Events, Fault, MOST_PORTS, NoMemory, Port};
 use hub_core::{Hub, OpenFault, ShortHub, Terms};
 use std::alloc::Global;
 
@@ -35,34 +35,12 @@ fn opened(alloc: Global, terms: Terms) -> Result<ShortHub, NoMemory>
     }
 }
 
-/// Makes a step as `ShortHub::step_into` does. The cases of a call stay where they are.
-pub(crate) fn step_by(hub: &mut ShortHub, entry: &Entry, events: &mut Events) -> Result<(), Fault>
-    requires fits { is_of hub.old.memory.hub.terms.head.edition entry.now.step ≡ true }
-    ensures ok { OnOk result (Steps hub.old.memory.hub entry.now hub.new.memory.hub events.new.items) }
-    ensures rules { StepRules hub.old.memory entry.now hub.new.memory result }
-{
-    match &entry.step {
-        Step::Call {
-            cases,
-            default,
-            word,
-        } => hub.call_into(entry.pid, cases, *default, *word, events),
-        _ => step_by_copy(hub, entry, events),
-    }
-}
-
-/// The same of any step. It stands alone, so that a call keeps no place for an entry on its stack.
-#[inline(never)]
-fn step_by_copy(hub: &mut ShortHub, entry: &Entry, events: &mut Events) -> Result<(), Fault>
-    requires fits { is_of hub.old.memory.hub.terms.head.edition entry.now.step ≡ true }
-    ensures ok { OnOk result (Steps hub.old.memory.hub entry.now hub.new.memory.hub events.new.items) }
-    ensures rules { StepRules hub.old.memory entry.now hub.new.memory result }
-{
-    hub.step_into(entry.copy(), events)
-}
-
 /// Makes a step of a process that is admitted, in a journal that has room. It is refused only if an allocation fails.
-pub fn make_step(hub: &mut ShortHub, entry: &Entry, events: &mut Events) -> Result<(), NoMemory>
+pub fn make_step(
+    hub: &mut ShortHub,
+    entry: &EntryRef<'_>,
+    events: &mut Events,
+) -> Result<(), NoMemory>
     requires fits { is_of hub.old.memory.hub.terms.head.edition entry.now.step ≡ true }
     requires room { HasRoom hub.old.memory.hub entry.now }
     requires admitted { refusal (state_of hub.old.memory.hub) entry.now.pid ≡ None }
@@ -71,7 +49,7 @@ pub fn make_step(hub: &mut ShortHub, entry: &Entry, events: &mut Events) -> Resu
     ensures make { OnErr result (HasSpare hub.old.memory → IsMake entry.now.step) }
     ensures unchanged { OnErr result (hub.new.memory.hub ≡ hub.old.memory.hub) }
 {
-    match step_by(hub, entry, events) {
+    match hub.step_into(entry, events) {
         Ok(()) => Ok(()),
         Err(Fault::NoMemory) => Err(NoMemory),
         Err(_) => unreachable!(),
@@ -87,7 +65,7 @@ fn make_all(hub: &mut ShortHub, entries: &[Entry]) -> Result<(), NoMemory>
     all_fit(hub.head().edition, entries);
     let mut events = Events::new();
     for entry in entries {
-        make_step(hub, entry, &mut events)?;
+        make_step(hub, &entry.by_slice(), &mut events)?;
     }
     Ok(())
 }

@@ -1,7 +1,7 @@
 -- What contracts see of a hub that never ends, which chapters explain it, and what a step of it does.
 use Rattle.std.specs.Prelude.{◌≡◌, ◌<◌, ℕ, false, List, [], ◌∷◌, ◌++◌, length}
 use Rattle.std.specs.Prelude.{Option, None, IfSome, Result, IfOk, IfErr, OnErr, true, replicate, slice_set, if◌then◌else◌}
-use Rattle.hub_base.specs.declared.entry.Entry.{Entry}
+use Rattle.hub_base.specs.Entry.{Entry}
 use Rattle.hub_base.specs.declared.event.Event.{Event}
 use Rattle.hub_base.specs.declared.fault.Fault.{Fault}
 use Rattle.hub_base.specs.declared.limits.TheConstants.{MOST_PROCS}

@@ -15,7 +15,7 @@ ghost use Rattle.hub_live.specs.Locked.{IsReplyTo, answer_for};
 ghost use Rattle.hub_endless.specs.Endless.{CutsNow, Explains, NoneWaits, ServesOn, without_answer};
 
 use crate::answers::Answers;
-use hub_base::{Edition, Entry, Event, Events, Fault, Head, NoMemory, Pid, Port, Step};
+use hub_base::{Edition, EntryRef, Event, Events, Fault, Head, NoMemory, Pid, Port, StepRef};
 use hub_core::{OpenFault, ShortHub};
 use hub_cut::{Recorder, Totals};
 use hub_live::under_lock::Pids;
@@ -79,7 +79,7 @@ impl EndlessHub {
     ///
     /// The only refusals are `NoProcess`, `Gone`, `Busy` and `NoMemory`, tested in this order; an exit is never refused by
     /// `NoMemory`. After a refusal nothing has changed.
-    pub fn step(&mut self, entry: &Entry, out: &mut Option<ShortHub>) -> Result<Event, Fault>
+    pub fn step(&mut self, entry: &EntryRef<'_>, out: &mut Option<ShortHub>) -> Result<Event, Fault>
         requires fits { is_of (head_of_all self.old.recorder).edition entry.now.step ≡ true }
         requires empty { begins self.old.recorder entry.now.step ≡ true → out.old ≡ None }
         ensures rules { ServesOn self.old entry.now self.new result }
@@ -122,7 +122,7 @@ impl EndlessHub {
     }
 
     /// Whether this step, if it is made next, begins a chapter. An exit never does.
-    pub fn begins(&self, step: &Step) -> bool
+    pub fn begins(&self, step: &StepRef<'_>) -> bool
         ensures { result ≡ begins self.now.recorder step.now }
     {
         self.recorder.begins(step)

@@ -20,8 +20,7 @@ pub use Rattle.std.specs.Prelude.{slice_get, is_some, slice_set, get_or}
 pub use Rattle.hub_base.proofs.Lists.{all_snoc, all_append, all_more}
 pub use Rattle.hub_base.specs.declared.case.Case.{Case}
 pub use Rattle.hub_base.specs.declared.case.Case.TheVariants.{Send, Recv}
-pub use Rattle.hub_base.specs.declared.entry.Entry.{Entry}
-pub use Rattle.hub_base.specs.declared.entry.Step.{Step}
+pub use Rattle.hub_base.specs.Entry.{Entry, Step}
 pub use Rattle.hub_base.specs.declared.entry.Step.TheVariants.{Close, Exit, Make, Call, Cancel}
 pub use Rattle.hub_base.specs.declared.event.Event.{Event}
 pub use Rattle.hub_base.specs.declared.event.Outcome.{Outcome}

@@ -2,7 +2,7 @@
 -- are no exits. So no count passes the limit of a journal.
 use Rattle.std.specs.Prelude.{◌≡◌, ◌≤◌, ℕ, List, length, Some}
 use Rattle.hub_base.specs.declared.value.Port.{Port}
-use Rattle.hub_base.specs.declared.entry.Entry.{Entry}
+use Rattle.hub_base.specs.Entry.{Entry}
 use Rattle.hub_base.specs.declared.head.Head.{Head}
 use Rattle.hub_base.specs.State.{Channel, channel_at}
 use Rattle.hub_base.specs.Runs.{state, kept}

@@ -1,6 +1,6 @@
 -- The faults that answer an entry: of one that is not admitted, and of one that is.
 use Rattle.std.specs.Prelude.{Bool, true, false}
-use Rattle.hub_base.specs.declared.entry.Step.{Step}
+use Rattle.hub_base.specs.Entry.{Step}
 use Rattle.hub_base.specs.declared.entry.Step.TheVariants.{Make, Call, Close, Cancel}
 use Rattle.hub_base.specs.declared.fault.Fault.{Fault}
 use Rattle.hub_base.specs.declared.fault.Fault.TheVariants as fault

@@ -1,7 +1,7 @@
 -- The journal of a run holds the run's admitted entries, and is legal: a replay of it leaves the same
 -- state and tells the same events, but for the faults of entries that were not admitted.
 use Rattle.std.specs.Prelude.{◌≡◌, ◌++◌, not, List, [], ◌∷◌, filter, Some, None}
-use Rattle.hub_base.specs.declared.entry.Entry.{Entry}
+use Rattle.hub_base.specs.Entry.{Entry}
 use Rattle.hub_base.specs.declared.head.Head.{Head}
 use Rattle.hub_base.specs.declared.fault.Fault.{Fault}
 use Rattle.hub_base.specs.Steps.{refusal}

@@ -3,7 +3,7 @@
 -- processes.
 use Rattle.std.specs.Prelude.{◌≤◌, ◌<◌, ◌+◌, ◌==◌, ◌&&◌, ℕ, List, length, filter}
 use Rattle.std.specs.List.{AllByRecursion}
-use Rattle.hub_base.specs.declared.entry.Entry.{Entry}
+use Rattle.hub_base.specs.Entry.{Entry}
 use Rattle.hub_base.specs.declared.head.Head.{Head}
 use Rattle.hub_base.specs.Reading.{is_exit}
 use Rattle.hub_base.specs.Runs.{kept}

@@ -3,7 +3,7 @@
 -- at a time, so each sender's values come in its own order.
 use Rattle.std.specs.Prelude.{◌≡◌, ◌++◌, List, Some}
 use Rattle.hub_base.specs.declared.value.Port.{Port}
-use Rattle.hub_base.specs.declared.entry.Entry.{Entry}
+use Rattle.hub_base.specs.Entry.{Entry}
 use Rattle.hub_base.specs.declared.head.Head.{Head}
 use Rattle.hub_base.specs.State.{Channel, channel_at, buffer_of}
 use Rattle.hub_base.specs.Runs.{state}

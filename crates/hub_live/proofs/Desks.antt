@@ -7,8 +7,6 @@ use Rattle.hub_laws.proofs.Journals.{begins-law}
 use Rattle.hub_laws.proofs.Replies.{own-mine}
 use Rattle.hub_live.specs.Moves.{IsNext}
 use Rattle.hub_live.specs.Seated.{IsDesk}
-use Rattle.hub_live.specs.Request.{entry_by}
-use Rattle.hub_live.specs.declared.request.Request.{Request}
 use Rattle.hub_live.specs.Prelude.{IsPrefix, Seat, Pid, Port, Fault, Entry, Event, MOST_PORTS, refusal, is_waiting, state, is_exit, steps_of, IsLegal, changed}
 use Rattle.hub_live.specs.Prelude.{port_changed, number_of, own, HubView, Steps, Refuses, state_of, Terms, View, LockedView, Serves, IsReplyTo, mark, mark_at}
 use Rattle.hub_live.specs.Prelude.{port_numbered, MarksOne, IsOther, Name, IsHistory, Sees, SeesBoth, grown, with_joined, parted, given_back, IsToken}
@@ -54,20 +52,6 @@ refusal_seen {name} {l} {hub} {mine} {s} {pid} back e f d o k seen named same fr
     let idle : is_waiting (state l.hub.terms.head l.hub.journal) e.pid.0 ≡ false =
     (λ i. is_waiting (state ((is.terms ∙ ap (λ (n : Name). n.terms) (sym named)) i).head (sym seen i)) (sym same i).0) ∙ (asked_nothing k free).free in
     subst (λ (es : List Entry). Shows name.terms e es f) (sym seen) (shows name.terms l.hub e f is below idle refused)
-
--- ---- what a process asks for by its seat
-
-asked_by : {name : Name} {s : SeatView} {pid : Pid} {mine : Seat (Unit {0}) View} (request : Request) (P : Entry → Type 0) → IsSeatOf name s pid mine
-    → P (entry_by pid request) → P (entry_by s.pid request)
-asked_by request P o = subst (λ (p : Pid). P (entry_by p request)) (ap (λ (y : SeatView). y.pid) o.shows)
-
-pub served_by : {name : Name} {s : SeatView} {pid : Pid} {mine : Seat (Unit {0}) View} {l l' : LockedView} {x : Event} (request : Request)
-    → IsSeatOf name s pid mine → Serves l (entry_by pid request) l' x → Serves l (entry_by s.pid request) l' x
-served_by {l = l} {l' = l'} {x = x} request = asked_by request (λ (e : Entry). Serves l e l' x)
-
-pub refused_by : {name : Name} {s : SeatView} {pid : Pid} {mine : Seat (Unit {0}) View} (request : Request) (h : HubView) (f : Fault)
-    → IsSeatOf name s pid mine → Refuses h (entry_by pid request) f → Refuses h (entry_by s.pid request) f
-refused_by request h f = asked_by request (λ (e : Entry). Refuses h e f)
 
 -- ---- the hub after a step
 
@@ -134,17 +118,16 @@ pub record Stepped
   pub begins : IsPrefix s.seen back.me.0.seen
   pub own : own pid.0 back.me.0.seen ≡ own_of s ++ e ∷ []
 
-pub stepped : {name : Name} {l l' : LockedView} {hub hub' mine back : Seat (Unit {0}) View} {s : SeatView} {pid : Pid} {u v : View} {e made : Entry}
+pub stepped : {name : Name} {l l' : LockedView} {hub hub' mine back : Seat (Unit {0}) View} {s : SeatView} {pid : Pid} {u v : View} {e : Entry}
     {x : Event} → IsDesk name l hub → IsSeatOf name s pid mine → s.pid ≡ e.pid → SeesBoth (with_joined hub.me.0 mine.me.0) u → Serves l e l' x
-    → ((es : List Entry) (y : Entry) → l'.hub.journal ≡ es ++ y ∷ [] → made ≡ y) → v ≡ grown u made → IsToken name hub' → hub'.me.0 ≡ parted v
+    → v ≡ grown u e → IsToken name hub' → hub'.me.0 ≡ parted v
     → IsToken name back → back.me.0 ≡ given_back v → Stepped name s e l' hub' pid back
-stepped {name} {l} {l'} {hub} {hub'} {mine} {back} {s} {pid} {u} {v} {e} {made} {x} d o same sees served newest view token left given right =
+stepped {name} {l} {l'} {hub} {hub'} {mine} {back} {s} {pid} {u} {v} {e} {x} d o same sees served view token left given right =
     let j = joined_desk d o.alone sees in
     let after = hub_steps name.terms l.hub l'.hub e (x ∷ served.ended) d.hub served.step in
     let journal : l'.hub.journal ≡ l.hub.journal ++ e ∷ [] = ap (λ (h : HubView). h.journal) served.step.journal in
-    let published : v ≡ grown u e = view ∙ ap (grown u) (newest l.hub.journal e journal) in
-    let hm : hub'.me.0 ≡ parted (grown u e) = left ∙ ap parted published in
-    let bm : back.me.0 ≡ given_back (grown u e) = right ∙ ap given_back published in
+    let hm : hub'.me.0 ≡ parted (grown u e) = left ∙ ap parted view in
+    let bm : back.me.0 ≡ given_back (grown u e) = right ∙ ap given_back view in
     let whole : u.seen ++ e ∷ [] ≡ l'.hub.journal = ap (λ (es : List Entry). es ++ e ∷ []) j.whole ∙ sym journal in
     let seen : back.me.0.seen ≡ l'.hub.journal = ap (λ (w : View). w.seen) bm ∙ whole in
     let terms : back.me.0.terms ≡ name.terms = ap (λ (w : View). w.terms) bm ∙ j.terms in
@@ -175,31 +158,29 @@ stepped {name} {l} {l'} {hub} {hub'} {mine} {back} {s} {pid} {u} {v} {e} {made} 
           ∙ ap (λ (es : List Entry). es ++ e ∷ []) j.own;
     })
 
--- what the joined seat may publish: the newest entry, which is the one that was made, and the mark of its port
-pub next_served : {name : Name} {l l' : LockedView} {hub mine : Seat (Unit {0}) View} {s : SeatView} {pid : Pid} {u : View} {e made : Entry} {x : Event}
+-- what the joined seat may publish: the entry that was made, and the mark of its port
+pub next_served : {name : Name} {l l' : LockedView} {hub mine : Seat (Unit {0}) View} {s : SeatView} {pid : Pid} {u : View} {e : Entry} {x : Event}
     {port : Port} {n new : ℕ} → IsDesk name l hub → IsSeatOf name s pid mine → s.pid ≡ e.pid → SeesBoth (with_joined hub.me.0 mine.me.0) u
-    → Serves l e l' x → ((es : List Entry) (y : Entry) → l'.hub.journal ≡ es ++ y ∷ [] → made ≡ y) → port.0 ≡ number_of (port_changed_by made.step x.what)
-    → n ≡ port.0 → new ≡ mark_at (state_of l'.hub) port → IsNext name.terms u n new made
-next_served {name} {l} {l'} {hub} {mine} {s} {pid} {u} {e} {made} {x} {port} {n} {new} d o same sees served newest changes number marks =
+    → Serves l e l' x → port.0 ≡ number_of (port_changed_by e.step x.what)
+    → n ≡ port.0 → new ≡ mark_at (state_of l'.hub) port → IsNext name.terms u n new e
+next_served {name} {l} {l'} {hub} {mine} {s} {pid} {u} {e} {x} {port} {n} {new} d o same sees served changes number marks =
     let t = name.terms in
     let j = joined_desk d o.alone sees in
     let after = hub_steps t l.hub l'.hub e (x ∷ served.ended) d.hub served.step in
     let journal = ap (λ (h : HubView). h.journal) served.step.journal in
     let grows : l'.hub.journal ≡ u.seen ++ e ∷ [] = journal ∙ ap (λ (es : List Entry). es ++ e ∷ []) (sym j.whole) in
-    let is : made ≡ e = newest l.hub.journal e journal in
     let before : IsHistory t u.seen = subst (IsHistory t) (sym j.whole) d.hub.history in
     let history : IsHistory t (u.seen ++ e ∷ []) = subst (IsHistory t) grows after.history in
     let at : n ≡ number_of (changed t.head u.seen e) =
-    number ∙ changes ∙ ap (λ (y : Entry). number_of (port_changed_by y.step x.what)) is
-    ∙ ap (λ (xs : List Event). number_of (port_changed e.step xs)) served.step.events
+    number ∙ changes ∙ ap (λ (xs : List Event). number_of (port_changed e.step xs)) served.step.events
     ∙ (λ i. number_of (changed (d.hub.terms i).head (sym j.whole i) e)) in
     let marked : mark t.head (u.seen ++ e ∷ []) n ≡ new =
     (λ i. mark_at (state (sym after.terms i).head (sym grows i)) (port_numbered (number i))) ∙ sym marks in
-    subst (IsNext t u n new) (sym is) (record {
+    record {
       hub = j.number;
       caller = j.joined ∙ ap (λ (p : Pid). Some (p.0 + 1)) (ap (λ (y : SeatView). y.pid) o.shows ∙ same);
       history = history;
       word = subst (λ (k : ℕ). k ≤ MOST_PORTS) (sym at) (changed-few t.head u.seen e);
       mark = subst (MarksOne t.head u.seen e n) marked (marks_one t.head u.seen e n at);
       other = subst (IsOther t.head u.seen n) marked (mark_other t.head u.seen e n before.legal before.few history.legal history.few at);
-    })
+    }

@@ -7,12 +7,10 @@ use Rattle.std.proofs.lemmas.Bool.{and_parts}
 use Rattle.hub_base.specs.Runs.{events}
 use Rattle.hub_live.specs.Moves.{Knew}
 use Rattle.hub_live.specs.Seated.{IsSeated}
-use Rattle.hub_live.specs.Calls.{AskedNothing}
-use Rattle.hub_live.specs.Request.{step_of}
-use Rattle.hub_live.specs.declared.request.Request.{Request}
+use Rattle.hub_live.specs.Calls.{AskedNothing, entry_of}
 use Rattle.hub_live.specs.Prelude.{IsPrefix, Seat, Head, Pid, Entry, Event, is_waiting, state, own, reply, last_from, is_parked, Terms, View, IsReplyTo, Name}
 use Rattle.hub_live.specs.Prelude.{name_of, IsHistory, Knows, Sees, SeesBoth, Met, with_joined, parted, given_back, SeatView, IsIdle, IsFree, own_of, IsToken}
-use Rattle.hub_live.specs.Prelude.{IsSingle, IsAlone, seat_of, StandsIn, Later, MadeEntry, AreSeats, LockedView, entry_by, ServesSeat}
+use Rattle.hub_live.specs.Prelude.{IsSingle, IsAlone, seat_of, StandsIn, Later, MadeEntry, AreSeats, LockedView, Made, ServesSeat}
 use Rattle.hub_live.specs.Prelude.{Answers, AnswersNoCall, HasEnded, Step}
 use Rattle.hub_live.proofs.Prefixes.{prefix_self, prefix_trans}
 use Rattle.hub_live.proofs.Locks.{served_answers, answers_no_call, parked_call}
@@ -174,25 +172,25 @@ pub ended_at_once : {name : Name} {s : SeatView} {x : Event} → IsHistory name.
 ended_at_once {s = s} history told = record { same = (refl, refl); told = told; history = history; begins = prefix_self s.seen; own = refl }
 
 -- what a call that was answered leaves in its seat
-pub record Answered (s t : SeatView) (request : Request) (x : Event) : Type 0 where
+pub record Answered (s t : SeatView) (step : Step) (x : Event) : Type 0 where
   pub later : Later s t
-  pub made : MadeEntry s t (entry_by s.pid request) x
-  pub answer : AnswersNoCall s.pid (step_of request) x
+  pub made : Made s t step x
+  pub answer : AnswersNoCall s.pid step x
 
 -- its step was answered, maybe by `Parked`, and then ended, while its seat came from t to u; by the same answer where
 -- it did not park
-pub answered : {name : Name} {old new : LockedView} {s t u : SeatView} {first x : Event} (request : Request) → s.hub ≡ name
-    → ServesSeat name old s (entry_by s.pid request) new t (Ok first) → HasEnded name t u x → (is_parked first.what ≡ false → x ≡ first)
-    → Answered s u request x
-answered {name} {old} {new} {s} {t} {u} {first} {x} request hub served ended same =
+pub answered : {name : Name} {old new : LockedView} {s t u : SeatView} {first x : Event} (step : Step) → s.hub ≡ name
+    → ServesSeat name old s (entry_of s step) new t (Ok first) → HasEnded name t u x → (is_parked first.what ≡ false → x ≡ first)
+    → Answered s u step x
+answered {name} {old} {new} {s} {t} {u} {first} {x} step hub served ended same =
     let told = subst (λ (p : Pid). IsReplyTo name.terms.head p.0 u.seen x) served.same.1 ended.told in
-    let by = served_answers old new (entry_by s.pid request) first served.ok in
+    let by = served_answers old new (entry_of s step) first served.ok in
     record {
       later = later_told hub (ended.same.0 ∙ served.same.0, ended.same.1 ∙ served.same.1)
           (prefix_trans s.seen t.seen u.seen served.begins ended.begins) ended.history told;
-      made = made_later name.terms s t u (entry_by s.pid request) x (ap (λ (n : Name). n.terms) hub) served.same.0 served.own ended.same.0 ended.same.1
+      made = made_later name.terms s t u (entry_of s step) x (ap (λ (n : Name). n.terms) hub) served.same.0 served.own ended.same.0 ended.same.1
           ended.own ended.told;
-      answer = answered_so s.pid (step_of request) first x by same (is_parked first.what) refl;
+      answer = answered_so s.pid step first x by same (is_parked first.what) refl;
     }
 
 -- ---- the seats of a new hub

@@ -5,7 +5,6 @@ pub mod Rule
 pub mod Moves
 pub mod Named
 pub mod SeatView
-pub mod Request
 pub mod Seated
 pub mod Calls
 pub mod Values

@@ -2,10 +2,10 @@
 -- up. Where a step ends the call of another process, the answer waits until that process takes it.
 use Rattle.std.specs.Prelude.{◌≡◌, ◌<◌, ◌==◌, ℕ, false, List, [], ◌∷◌, length, map, replicate, filter}
 use Rattle.std.specs.Prelude.{Option, None, Some, IfSome, slice_index_or, slice_set, if◌then◌else◌}
-use Rattle.std.specs.Prelude.{Result, IfOk, IfErr, OnOk, OnErr}
+use Rattle.std.specs.Prelude.{Result, IfOk, IfErr, OnErr}
 use Rattle.hub_base.specs.declared.head.Head.{Head}
 use Rattle.hub_base.specs.declared.value.Pid.{Pid}
-use Rattle.hub_base.specs.declared.entry.Entry.{Entry}
+use Rattle.hub_base.specs.Entry.{Entry}
 use Rattle.hub_base.specs.declared.event.Event.{Event}
 use Rattle.hub_base.specs.declared.fault.Fault.{Fault}
 use Rattle.hub_base.specs.declared.limits.TheConstants.{MOST_PROCS}
@@ -70,12 +70,6 @@ pub record Serves (old : LockedView) (e : Entry) (new : LockedView) (answer : Ev
   pub answers :
       (q : ℕ) → q < MOST_PROCS → answer_for new.answers q ≡ answer_after old.answers e.pid ended q
   pub pids : new.ended ≡ pids_of ended
-
--- a step of the hub that was made or refused: what it leaves in the hub, and what it tells
-pub record MakesStep {A : Type 0} (old : HubView) (e : Entry) (new : HubView) (xs : List Event) (result : Result A Fault) : Type 0 where
-  pub ok : OnOk result (Steps old e new xs)
-  pub refused : IfErr result (λ f. Refuses old e f)
-  pub unchanged : OnErr result (new ≡ old)
 
 -- a step of the locked hub that was made or refused, and what is answered. An answer that is not `Parked` is
 -- the process's reply

@@ -4,7 +4,6 @@ pub use mathlib.Core.List.{IsPrefix}
 pub use lib.ListN.{get_elem?}
 pub use Rattle.atomic_table.specs.Table.{Allows, Me, step}
 pub use Rattle.atomic_table.specs.declared.shared.Seat.{Seat}
-pub use Rattle.hub_base.specs.declared.entry.Entry.{Entry}
 pub use Rattle.hub_base.specs.State.{Channel}
 pub use Rattle.hub_base.specs.declared.value.Pid.{Pid}
 pub use Rattle.hub_base.specs.declared.value.Port.{Port}
@@ -16,7 +15,7 @@ pub use Rattle.hub_base.specs.Runs.{moves, state}
 pub use Rattle.hub_base.specs.Reading.{is_exit}
 pub use Rattle.hub_base.specs.Text.{steps_of}
 pub use Rattle.hub_base.specs.declared.head.Head.{Head}
-pub use Rattle.hub_base.specs.declared.entry.Step.{Step}
+pub use Rattle.hub_base.specs.Entry.{Entry, Step}
 pub use Rattle.hub_base.specs.declared.entry.Step.TheVariants.{Call, Close, Exit, Make, Cancel}
 pub use Rattle.hub_base.specs.Head.{is_of, has_case, has_value, AreOf}
 pub use Rattle.hub_base.specs.declared.head.Edition.TheVariants.{Two}
@@ -33,11 +32,10 @@ pub use Rattle.hub_live.specs.declared.rule.View.{View}
 pub use Rattle.hub_live.specs.Mark.{IsOther, MarksOne, mark, mark_at, mark_of, port_numbered, read_back, counts_at}
 pub use Rattle.hub_live.specs.Rule.{Fits, Holds, IsHistory, Kept, Knows, blank, next_word}
 pub use Rattle.hub_live.specs.Moves.{Met, Published, Sees, SeesBoth, given_back, grown, parted, with_joined}
-pub use Rattle.hub_live.specs.Locked.{IsReplyTo, LockedView, Serves, MakesStep, ServesStep, pids_of, answer_for, without_answer}
+pub use Rattle.hub_live.specs.Locked.{IsReplyTo, LockedView, Serves, ServesStep, pids_of, answer_for, without_answer}
 pub use Rattle.hub_live.specs.Name.{Name, name_of}
 pub use Rattle.hub_live.specs.Named.{IsSingle, IsToken}
 pub use Rattle.hub_live.specs.SeatView.{IsFree, IsIdle, SeatView, own_of, state_seen}
-pub use Rattle.hub_live.specs.Request.{entry_by}
 pub use Rattle.hub_live.specs.Seated.{IsAlone, IsHub, seat_of, IsDesk}
 pub use Rattle.hub_live.specs.Calls.{AreSeats, Later, MadeEntry, Shows, StandsIn, Made, Refused, RefusedEntry, Answers, AnswersNoCall}
 pub use Rattle.hub_live.specs.Calls.{AskedNothing, HasEnded, Tells, Told, ServesSeat, EndsIn}

@@ -4,7 +4,7 @@ use mathlib.Core.Option.{some}
 use mathlib.Core.List.{IsPrefix}
 use lib.ListN.{get_elem?}
 use Rattle.atomic_table.specs.Table.{State}
-use Rattle.hub_base.specs.declared.entry.Entry.{Entry}
+use Rattle.hub_base.specs.Entry.{Entry}
 use Rattle.hub_base.specs.declared.limits.TheConstants.{MOST_PORTS, MOST_STEPS}
 use Rattle.hub_base.specs.Text.{steps_of}
 use Rattle.hub_base.specs.declared.head.Edition.TheVariants.{One}

@@ -2,7 +2,7 @@
 -- seen.
 use Rattle.std.specs.Prelude.{◌≡◌, false, List, Option}
 use Rattle.hub_base.specs.declared.value.Pid.{Pid}
-use Rattle.hub_base.specs.declared.entry.Entry.{Entry}
+use Rattle.hub_base.specs.Entry.{Entry}
 use Rattle.hub_base.specs.declared.event.Event.{Event}
 use Rattle.hub_base.specs.State.{State}
 use Rattle.hub_base.specs.Steps.{is_waiting}

@@ -1,7 +1,7 @@
 -- What a call was told, where a caller gets no event.
 use Rattle.std.specs.Prelude.{◌≡◌, ◌++◌, ◌∷◌, [], Option, Some}
 use Rattle.std.specs.Option.{option_map}
-use Rattle.hub_base.specs.declared.entry.Step.{Step}
+use Rattle.hub_base.specs.Entry.{Step}
 use Rattle.hub_base.specs.declared.event.What.{What}
 use Rattle.hub_live.specs.Calls.{Refused, entry_of}
 use Rattle.hub_live.specs.SeatView.{SeatView, own_of, reply_to}

@@ -5,19 +5,17 @@
 //! since a store is judged by what the seat that stores knows.
 
 ghost use Rattle.std.specs.Prelude.{◌≡◌, ◌≤◌, ◌<◌, ◌+◌, ◌↔◌, IsTrue, ◌++◌, ◌∷◌, [], List, length, Some, None, true, false, IfSome, IfNone, OnSome, All};
-ghost use Rattle.hub_live.specs.Request.{step_of};
 ghost use Rattle.hub_live.specs.Prelude.{AreOf, is_of, IsPrefix, Entry, steps_of, IsLegal, number_of, port_changed_by, state_of, mark_at};
 ghost use Rattle.hub_live.specs.Prelude.{answer_for, without_answer, IsReplyTo, IsHistory, IsFree, own_of, IsDesk};
-ghost use Rattle.hub_live.specs.Prelude.{ServesSeat, StandsIn, entry_by};
+ghost use Rattle.hub_live.specs.Prelude.{ServesSeat, StandsIn};
 
 use crate::locked::{Locked, Pids};
 use crate::mark::mark_of;
 use crate::name::HubName;
-use crate::request::Request;
 use crate::rule::Token;
 use crate::seat::{InnerSeat, Seat};
 use crate::words::Words;
-use hub_base::{Entry, Event, Fault, Journal, MOST_STEPS, Pid, Port, Step, What};
+use hub_base::{EntryRef, Event, Fault, Journal, MOST_STEPS, Pid, Port, StepRef, What};
 use hub_core::port_changed;
 use std::marker::{Model, PhantomData};
 
@@ -45,7 +43,7 @@ impl<K: HubName> Model for Desk<K> {
 }
 
 /// The port that a step with this answer changed, port 0 for none.
-fn changed(step: &Step, answer: What) -> Port
+fn changed(step: &StepRef<'_>, answer: What) -> Port
     ensures { result.0 ≡ number_of (port_changed_by step.now answer) }
 {
     port_changed(step, answer).unwrap_or(Port(0))
@@ -82,39 +80,23 @@ impl<K: HubName> Desk<K> {
         &mut self,
         words: &Words<K>,
         seat: &mut InnerSeat,
-        entry: Entry,
+        entry: &EntryRef<'_>,
     ) -> Result<Event, Fault>
         requires hub { seat.old.hub ≡ K.name }
-        requires pid { seat.old.pid ≡ entry.pid }
+        requires pid { seat.old.pid ≡ entry.now.pid }
         requires free { IsFree seat.old }
-        requires fits { is_of K.name.terms.head.edition entry.step ≡ true }
-        ensures rules { ServesSeat K.name self.old seat.old entry self.new seat.new result }
-    {
-        self.serve(words, seat, &Request::of(&entry.step))
-    }
-
-    /// Makes and publishes the step that the seat's process asks for, as `step` does.
-    pub(crate) fn serve(
-        &mut self,
-        words: &Words<K>,
-        seat: &mut InnerSeat,
-        request: &Request<'_>,
-    ) -> Result<Event, Fault>
-        requires hub { seat.old.hub ≡ K.name }
-        requires free { IsFree seat.old }
-        requires fits { is_of K.name.terms.head.edition (step_of request.now) ≡ true }
-        ensures { ServesSeat K.name self.old seat.old (entry_by seat.old.pid request.now) self.new seat.new result }
+        requires fits { is_of K.name.terms.head.edition entry.now.step ≡ true }
+        ensures rules { ServesSeat K.name self.old seat.old entry.now self.new seat.new result }
     {
         let Some(mine) = seat.token.take() else {
             unreachable!()
         };
         words.join(&mut self.token, mine);
-        match self.locked.serve(seat.pid, request) {
+        match self.locked.step(entry) {
             Ok(answer) => {
-                let made = self.locked.newest();
-                let port = changed(&made.step, answer.what);
+                let port = changed(&entry.step, answer.what);
                 let mark = mark_at(&self.locked, port);
-                words.publish(&mut self.token, usize::from(port.0), mark, made);
+                words.publish(&mut self.token, usize::from(port.0), mark, entry);
                 seat.token = Some(words.split(&mut self.token));
                 Ok(answer)
             }

@@ -11,7 +11,6 @@ mod locked;
 mod mark;
 mod name;
 mod parker;
-mod request;
 mod rule;
 mod seat;
 pub mod under_lock;

@@ -3,8 +3,7 @@
 ghost use Rattle.std.specs.Prelude.{◌≡◌, ◌∷◌, ◌⊎◌, [], true, false, IfOk, IfErr, All, vec_len};
 ghost use Rattle.hub_base.specs.declared.event.What.TheVariants as what;
 ghost use Rattle.hub_live.specs.Prelude.{Send, Recv, Make, Call, Close, Exit, Cancel, Two, is_of, has_case, has_value, call, is_parked, counts_at, state_seen, Later};
-ghost use Rattle.hub_live.specs.Request.{step_of};
-ghost use Rattle.hub_live.specs.Prelude.{entry_by, Made, Refused, MadeEntry, RefusedEntry, Answers, AnswersNoCall, AskedNothing, Tells, Told, EndsIn, HasEnded, IsHistory};
+ghost use Rattle.hub_live.specs.Prelude.{Made, Refused, Answers, AnswersNoCall, AskedNothing, Tells, Told, EndsIn, HasEnded, IsHistory};
 
 use crate::desk::Desk;
 use crate::ends::{Chan, RecvPort, SendPort};
@@ -12,11 +11,11 @@ use crate::locked::Pids;
 use crate::mark::read_back;
 use crate::name::HubName;
 use crate::parker::Parker;
-use crate::request::Request;
 use crate::seat::{InnerSeat, Seat};
 use crate::words::Words;
 use hub_base::{
-    Case, Cases, CasesExt, Counts, Event, Fault, Head, Journal, MOST_PORTS, Pid, Port, Value, What,
+    Case, CaseSlice, Cases, Counts, Entry, Event, Fault, Head, Journal, MOST_PORTS, Pid, Port,
+    Step, StepRef, Value, What,
 };
 use std::sync::{Mutex, MutexGuard, Wait};
 
@@ -81,19 +80,21 @@ impl<K: HubName> LiveHub<K> {
     }
 
     /// Makes a step, and waits where it parks.
-    fn ask<R: Wait>(&self, rt: &R, seat: &mut Seat, request: &Request<'_>) -> Result<Event, Fault>
+    fn ask<R: Wait>(&self, rt: &R, seat: &mut Seat, step: StepRef<'_>) -> Result<Event, Fault>
         requires hub { seat.old.hub ≡ K.name }
-        requires fits { is_of K.name.terms.head.edition (step_of request.now) ≡ true }
+        requires fits { is_of K.name.terms.head.edition step ≡ true }
         ensures later { Later seat.old seat.new }
-        ensures ok { IfOk result (λ x.
-            MadeEntry seat.old seat.new (entry_by seat.old.pid request.now) x) }
-        ensures answer { IfOk result (λ x. AnswersNoCall seat.old.pid (step_of request.now) x) }
-        ensures err { IfErr result (λ f.
-            RefusedEntry seat.old seat.new (entry_by seat.old.pid request.now) f) }
+        ensures ok { IfOk result (λ x. Made seat.old seat.new step.entry x) }
+        ensures answer { IfOk result (λ x. AnswersNoCall seat.old.pid step.entry x) }
+        ensures err { IfErr result (λ f. Refused seat.old seat.new step.entry f) }
     {
-        let waker = &self.wakers[usize::from(seat.pid().0)];
+        let entry = Entry {
+            pid: seat.pid(),
+            step,
+        };
+        let waker = &self.wakers[usize::from(entry.pid.0)];
         let mut desk = self.lock(rt, waker);
-        let answer = desk.serve(&self.words, &mut seat.inner, request)?;
+        let answer = desk.step(&self.words, &mut seat.inner, &entry)?;
         Ok(self.end_step(rt, desk, &mut seat.inner, answer))
     }
 
@@ -204,12 +205,12 @@ impl<K: HubName> LiveHub<K> {
         ensures ok { IfOk result (λ x. Made seat.old seat.new (Call cases default word) x) }
         ensures err { IfErr result (λ f. Refused seat.old seat.new (Call cases default word) f) }
     {
-        let request = Request::Call {
-            cases: &cases,
+        let step = Step::Call {
+            cases: CaseSlice::of(&cases),
             default,
             word,
         };
-        self.ask(rt, seat, &request)
+        self.ask(rt, seat, step)
     }
 
     /// Makes a call of this one case, without default and with word 0.
@@ -220,12 +221,12 @@ impl<K: HubName> LiveHub<K> {
         ensures ok { IfOk result (λ x. Made seat.old seat.new (call (case ∷ []) false 0) x) }
         ensures err { IfErr result (λ f. Refused seat.old seat.new (call (case ∷ []) false 0) f) }
     {
-        let request = Request::Call {
-            cases: &Cases::one(case),
+        let step = Step::Call {
+            cases: CaseSlice::one(&case),
             default: false,
             word: 0,
         };
-        self.ask(rt, seat, &request)
+        self.ask(rt, seat, step)
     }
 
     /// Sends the value, as a call of this one case without default, and waits until it is sent. Answered
@@ -286,7 +287,7 @@ impl<K: HubName> LiveHub<K> {
         ensures answer { IfOk result (λ x. Answers seat.old.pid (Make cap) x) }
         ensures err { IfErr result (λ f. Refused seat.old seat.new (Make cap) f) }
     {
-        self.ask(rt, seat, &Request::Make(cap))
+        self.ask(rt, seat, Step::Make(cap))
     }
 
     /// Makes a channel as `make` does, and gives it. Err: with no entry made by what refuses a make, and
@@ -319,7 +320,7 @@ impl<K: HubName> LiveHub<K> {
         ensures answer { IfOk result (λ x. Answers seat.old.pid (Close sender.now) x) }
         ensures err { IfErr result (λ f. Refused seat.old seat.new (Close sender.now) f) }
     {
-        self.ask(rt, seat, &Request::Close(sender.port()))
+        self.ask(rt, seat, Step::Close(sender.port()))
     }
 
     /// Ends the process. Answered `Done`; its later steps are refused by `Gone`. It takes the lock and
@@ -335,7 +336,7 @@ impl<K: HubName> LiveHub<K> {
         ensures answer { IfOk result (λ x. Answers seat.old.pid Exit x) }
         ensures err { IfErr result (λ f. Refused seat.old seat.new Exit f) }
     {
-        self.ask(rt, seat, &Request::Exit)
+        self.ask(rt, seat, Step::Exit)
     }
 
     /// Cancels the open call of another process: it ends with `Cancelled`, no value moves, and no port
@@ -352,7 +353,7 @@ impl<K: HubName> LiveHub<K> {
         ensures answer { IfOk result (λ x. Answers seat.old.pid (Cancel pid) x) }
         ensures err { IfErr result (λ f. Refused seat.old seat.new (Cancel pid) f) }
     {
-        self.ask(rt, seat, &Request::Cancel(pid))
+        self.ask(rt, seat, Step::Cancel(pid))
     }
 
     /// The counts of a port in the journal that the seat has then seen: by at most one load, with no

@@ -8,12 +8,10 @@
 ghost use Rattle.std.specs.Prelude.{◌≡◌, ◌≤◌, ◌<◌, ◌++◌, ◌∷◌, ◌↔◌, [], ℕ, List, IsTrue, Some, true, length, slice_get, slice_set, IfSome, IfNone};
 ghost use Rattle.hub_core.specs.Looks.{look_at};
 ghost use Rattle.hub_live.specs.Locked.{none_waits, last_told};
-ghost use Rattle.hub_live.specs.Request.{step_of};
-ghost use Rattle.hub_live.specs.Prelude.{AreOf, is_of, IsLegal, state_of, answer_for, entry_by, IsReplyTo, pids_of, MakesStep, ServesStep, without_answer};
+ghost use Rattle.hub_live.specs.Prelude.{AreOf, is_of, IsLegal, state_of, answer_for, IsReplyTo, pids_of, ServesStep, without_answer};
 
-use crate::request::Request;
 use arrayvec::ArrayVec;
-use hub_base::{Entry, Event, Events, Fault, Head, Journal, Look, MOST_PROCS, Pid, Port};
+use hub_base::{Entry, EntryRef, Event, Events, Fault, Head, Journal, Look, MOST_PROCS, Pid, Port};
 use hub_core::{Hub, ShortHub};
 use std::marker::Model;
 
@@ -42,42 +40,6 @@ impl Model for Locked {
         record { hub = l.hub.memory.hub; answers = l.answers; ended = l.ended.items } };
 
     ghost invariant = { λ l. IsLawful l.hub.memory.hub l.answers };
-}
-
-/// Makes the step that the process asks for.
-fn make_step(
-    hub: &mut ShortHub,
-    pid: Pid,
-    asked: &Request<'_>,
-    events: &mut Events,
-) -> Result<(), Fault>
-    requires fits { is_of hub.old.memory.hub.terms.head.edition (step_of asked.now) ≡ true }
-    ensures { MakesStep hub.old.memory.hub (entry_by pid asked.now) hub.new.memory.hub events.new.items result }
-{
-    match *asked {
-        Request::Call {
-            cases,
-            default,
-            word,
-        } => hub.call_into(pid, cases, default, word, events),
-        _ => make_rare_step(hub, pid, asked, events),
-    }
-}
-
-/// Makes the step by an entry that is moved into the journal. It stands alone, so that a call keeps no place for
-/// such an entry on its stack.
-#[inline(never)]
-fn make_rare_step(
-    hub: &mut ShortHub,
-    pid: Pid,
-    asked: &Request<'_>,
-    events: &mut Events,
-) -> Result<(), Fault>
-    requires fits { is_of hub.old.memory.hub.terms.head.edition (step_of asked.now) ≡ true }
-    ensures { MakesStep hub.old.memory.hub (entry_by pid asked.now) hub.new.memory.hub events.new.items result }
-{
-    let step = asked.step();
-    hub.step_into(Entry { pid, step }, events)
 }
 
 /// Puts an answer, or none, into the place of a process, where it has one.
@@ -134,24 +96,16 @@ impl Locked {
     ///
     /// Refused as the hub refuses it, and then nothing changes: an exit never by `JournalFull` or
     /// `NoMemory`.
-    pub fn step(&mut self, entry: Entry) -> Result<Event, Fault>
-        requires fits { is_of self.old.hub.terms.head.edition entry.step ≡ true }
-        ensures rules { ServesStep self.old entry self.new result }
+    pub fn step(&mut self, entry: &EntryRef<'_>) -> Result<Event, Fault>
+        requires fits { is_of self.old.hub.terms.head.edition entry.now.step ≡ true }
+        ensures rules { ServesStep self.old entry.now self.new result }
     {
-        self.serve(entry.pid, &Request::of(&entry.step))
-    }
-
-    /// Makes the step that a process asks for, as `step` does.
-    pub(crate) fn serve(&mut self, pid: Pid, request: &Request<'_>) -> Result<Event, Fault>
-        requires fits { is_of self.old.hub.terms.head.edition (step_of request.now) ≡ true }
-        ensures { ServesStep self.old (entry_by pid request.now) self.new result }
-    {
-        make_step(&mut self.hub, pid, request, &mut self.events)?;
+        self.hub.step_into(entry, &mut self.events)?;
         let Some((first, ended)) = self.events.as_slice().split_first() else {
             unreachable!()
         };
         let answer = *first;
-        put(&mut self.answers, pid, None);
+        put(&mut self.answers, entry.pid, None);
         put_all(&mut self.answers, ended);
         put_pids(&mut self.ended, ended);
         Ok(answer)
@@ -221,14 +175,6 @@ impl Locked {
         ensures fits { AreOf self.now.hub.terms.head.edition self.now.hub.journal }
     {
         self.hub.entry(place)
-    }
-
-    /// The newest entry of the journal, which has one.
-    pub(crate) fn newest(&self) -> &Entry
-        requires { 0 < length self.now.hub.journal }
-        ensures { (es : List Entry) (e : Entry) → self.now.hub.journal ≡ es ++ e ∷ [] → result.now ≡ e }
-    {
-        self.hub.newest()
     }
 
     /// The journal. Answers that wait are dropped.

@@ -5,7 +5,6 @@
 //! with every entry of that process.
 
 use atomic_table::{Join, Play, Seat, Split, Table, TableRule};
-use hub_base::Entry;
 use hub_core::Terms;
 use std::alloc::Global;
 use std::collections::LinkedList;
@@ -19,10 +18,10 @@ pub(crate) struct View {
     /// `p`.
     pub number: Option<u64>,
     /// The beginning of the journal that it has seen.
-    pub seen: LinkedList<Entry>,
+    pub seen: LinkedList<hub_base::Entry>,
     /// The number of the seat that it took in, and what that had seen.
     pub joined: Option<u64>,
-    pub joined_seen: LinkedList<Entry>,
+    pub joined_seen: LinkedList<hub_base::Entry>,
 }
 
 /// The rule of the words.
@@ -65,7 +64,7 @@ impl Play<(), View> for DrawStep {
 
 /// Names the entry that a store adds to the journal.
 pub(crate) trait NamesEntry {
-    ghost use Rattle.hub_base.specs.declared.entry.Entry.{Entry};
+    ghost use Rattle.hub_base.specs.Entry.{Entry};
 
     ghost entry: { Entry };
 }

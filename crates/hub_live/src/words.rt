@@ -10,7 +10,7 @@ use crate::name::HubName;
 use crate::rule::{
     DrawStep, EnterStep, HubTable, LookStep, NamesEntry, PublishStep, TakesIn, Token,
 };
-use hub_base::{Entry, MOST_PORTS};
+use hub_base::{EntryRef, MOST_PORTS};
 use hub_core::Terms;
 use std::alloc::{AllocError, Global};
 use std::marker::{Brand, PhantomData};
@@ -41,7 +41,13 @@ impl<K: HubName> Words<K> {
         }
     }
 
-    fn publish_as<E: NamesEntry>(&self, token: &mut Token, word: usize, mark: u64, entry: &Entry)
+    fn publish_as<E: NamesEntry>(
+        &self,
+        token: &mut Token,
+        word: usize,
+        mark: u64,
+        entry: &EntryRef<'_>,
+    )
         requires named { entry.now ≡ E.entry }
         requires token { IsToken K.name token.old }
         requires next { IsNext K.name.terms token.old.me.0 word mark entry.now }
@@ -53,7 +59,7 @@ impl<K: HubName> Words<K> {
 
     /// Publishes an entry by one store: of the mark of the port that it changes, or to word 0 where it
     /// changes none. The seat is the hub's, joined to that of the entry's process.
-    pub(crate) fn publish(&self, token: &mut Token, word: usize, mark: u64, entry: &Entry)
+    pub(crate) fn publish(&self, token: &mut Token, word: usize, mark: u64, entry: &EntryRef<'_>)
         requires token { IsToken K.name token.old }
         requires next { IsNext K.name.terms token.old.me.0 word mark entry.now }
         ensures token { IsToken K.name token.new }

@@ -18,11 +18,10 @@ ghost use Rattle.hub_parts.specs.declared.wait_queue.TheConstants.{PLACES};
 mod parking;
 
 use crate::{Channel, Ended, Side, Tickets};
-use hub_base::{CASE_PLACES, Case, Cases, MOST_PORTS, NoMemory, Pid, Port, Value};
+use hub_base::{CASE_PLACES, Case, CaseSlice, Cases, MOST_PORTS, NoMemory, Pid, Port, Value};
 use parking::{join, make_room};
 use std::alloc::{AllocError, Global};
 use std::marker::Model;
-use std::slice;
 
 /// The ports of a hub and its open calls.
 ///
@@ -144,7 +143,7 @@ impl Board {
     }
 
     /// Opens a call, the newest, which waits on all of its cases. A case on port 0 is never served.
-    pub fn park(&mut self, pid: Pid, ticket: u32, cases: &Cases)
+    pub fn park(&mut self, pid: Pid, ticket: u32, cases: &CaseSlice<'_>)
         requires below { pid.0 < self.old.procs }
         requires free { list_any (λ w. w.call.pid.0 == pid.0) self.old.waiting ≡ false }
         requires made { AllMade (length self.old.ports) cases.now.items }
@@ -152,27 +151,28 @@ impl Board {
         ensures { self.new ≡ parked pid ticket cases.now.items self.old }
     {
         // Most calls have one case. Where the list is known to be of one, no loop over it is left in the program.
-        if cases.len() == 1 {
-            let case = cases[0];
-            self.park_on(pid, ticket, slice::from_ref(&case));
+        let list = cases.as_slice();
+        if list.len() == 1 {
+            let case = list[0];
+            self.park_on(pid, ticket, &CaseSlice::one(&case));
         } else {
-            self.park_on(pid, ticket, cases.as_slice());
+            self.park_on(pid, ticket, cases);
         }
     }
 
-    /// Opens a call, the newest, which waits on each of these cases.
+    /// The same, written out for each way that its cases are known.
     #[inline(always)]
-    fn park_on(&mut self, pid: Pid, ticket: u32, cases: &[Case])
+    fn park_on(&mut self, pid: Pid, ticket: u32, cases: &CaseSlice<'_>)
         requires below { pid.0 < self.old.procs }
         requires free { list_any (λ w. w.call.pid.0 == pid.0) self.old.waiting ≡ false }
-        requires few { length cases.now ≤ CASE_PLACES }
-        requires made { AllMade (length self.old.ports) cases.now }
+        requires made { AllMade (length self.old.ports) cases.now.items }
         requires later { self.old.next_ticket ≤ ticket }
-        ensures { self.new ≡ parked pid ticket cases.now self.old }
+        ensures { self.new ≡ parked pid ticket cases.now.items self.old }
     {
-        make_room(&mut self.ports, &self.calls, cases);
-        join(&mut self.ports, pid, ticket, cases);
-        self.calls.open_on(pid, ticket, cases);
+        let list = cases.as_slice();
+        make_room(&mut self.ports, &self.calls, list);
+        join(&mut self.ports, pid, ticket, list);
+        self.calls.open(pid, ticket, cases);
     }
 
     /// Whether some open call has a case on this side of the port. It looks at no call and no queue.

@@ -8,7 +8,7 @@ use Rattle.std.proofs.Math.Seq.{take-suc}
 use Rattle.std.proofs.lemmas.Bool.{eqb-true, eqb-false}
 use Rattle.std.proofs.lemmas.List.{get_or-replicate, get_or-set_same, get_or-set_other, length-replicate}
 use Rattle.std.proofs.lemmas.List.Folds.{find-append}
-use Rattle.hub_base.specs.declared.entry.Entry.{Entry}
+use Rattle.hub_base.specs.Entry.{Entry}
 use Rattle.hub_story.specs.declared.told.Told.{Told}
 use Rattle.hub_picture.specs.Exits.{AreExits, with_exit}
 use Rattle.hub_picture.specs.Lanes.{exit_of, exits}

@@ -1,6 +1,6 @@
 -- By which step each process exits, kept by its number.
 use Rattle.std.specs.Prelude.{◌≡◌, ◌<◌, ◌&&◌, ℕ, not, List, length, Option, None, Some, is_some, slice_index_or, slice_set, if◌then◌else◌}
-use Rattle.hub_base.specs.declared.entry.Entry.{Entry}
+use Rattle.hub_base.specs.Entry.{Entry}
 use Rattle.hub_story.specs.declared.told.Told.{Told}
 use Rattle.hub_picture.specs.Lanes.{exit_of, exits}
 

@@ -1,17 +1,12 @@
 -- The lanes of a picture: the processes, each until it exits.
 use Rattle.std.specs.Prelude.{ℕ, zero, suc, ◌==◌, ◌&&◌, Bool, true, false, List, [], ◌∷◌, ◌++◌, Option, find, slice_get}
 use Rattle.std.specs.Option.{option_map, option_map_or}
-use Rattle.hub_base.specs.declared.entry.Entry.{Entry}
-use Rattle.hub_base.specs.declared.entry.Step.{Step}
-use Rattle.hub_base.specs.declared.entry.Step.TheVariants.{Exit}
+use Rattle.hub_base.specs.Entry.{Entry}
 use Rattle.hub_base.specs.declared.event.What.{What}
 use Rattle.hub_base.specs.declared.event.What.TheVariants as what
+use Rattle.hub_base.specs.Reading.{is_exit}
 use Rattle.hub_story.specs.declared.told.Told.{Told}
 use Rattle.hub_picture.specs.declared.lanes.Lane.{Lane}
-
-abbrev pub is_exit : Step → Bool
-is_exit Exit = true
-is_exit s = false
 
 abbrev pub is_done : What → Bool
 is_done what.Done = true

@@ -1,7 +1,7 @@
 -- Who was the last at each port by a step, kept by the port's number.
 use Rattle.std.specs.Prelude.{◌≡◌, ◌<◌, ℕ, List, length, slice_index_or}
 use Rattle.hub_base.specs.declared.value.Port.{Port}
-use Rattle.hub_base.specs.declared.entry.Entry.{Entry}
+use Rattle.hub_base.specs.Entry.{Entry}
 use Rattle.hub_story.specs.declared.told.Told.{Told}
 use Rattle.hub_picture.specs.declared.waiters.Lasts.{Lasts}
 use Rattle.hub_picture.specs.declared.waiters.Side.TheVariants.{Sends, Receives}

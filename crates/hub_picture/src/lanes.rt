@@ -2,9 +2,9 @@
 
 ghost use Rattle.std.specs.Prelude.{◌≡◌, IfOk, None, replicate};
 ghost use Rattle.hub_picture.specs.Exits.{AreExits, with_exit};
-ghost use Rattle.hub_picture.specs.Lanes.{exits, is_exit, lanes_of};
+ghost use Rattle.hub_picture.specs.Lanes.{exits, lanes_of};
 
-use hub_base::{Entry, Step, What};
+use hub_base::{Entry, What};
 use hub_story::Told;
 use std::alloc::{AllocError, Global};
 
@@ -17,13 +17,6 @@ pub struct Lane {
     pub exited: Option<u32>,
 }
 
-/// Whether a step is an exit.
-fn is_exit(step: &Step) -> bool
-    ensures { result ≡ is_exit step.now }
-{
-    matches!(step, Step::Exit)
-}
-
 /// Whether it answers the exit of this process.
 fn exits(entries: &[Entry], pid: u8, told: &Told) -> bool
     ensures { result ≡ exits entries.now pid told.now }
@@ -31,7 +24,7 @@ fn exits(entries: &[Entry], pid: u8, told: &Told) -> bool
     told.event.pid.0 == pid
         && matches!(told.event.what, What::Done)
         && match entries.get(told.asked as usize) {
-            Some(entry) => is_exit(&entry.step),
+            Some(entry) => entry.step.by_slice().is_exit(),
             None => false,
         }
 }

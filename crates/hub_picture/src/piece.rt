@@ -85,7 +85,7 @@ fn put_numbered(out: &mut Vec<u8>, word: &[u8], number: u64) -> Result<(), Alloc
 fn put_entry(out: &mut Vec<u8>, entry: &Entry) -> Result<(), AllocError>
     ensures { Appends out.old out.new (line entry.now) result }
 {
-    match write_entry(out, Edition::Two, entry) {
+    match write_entry(out, Edition::Two, &entry.by_slice()) {
         Ok(()) => Ok(()),
         Err(NoMemory) => Err(AllocError),
     }

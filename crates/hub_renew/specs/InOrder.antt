@@ -1,6 +1,6 @@
 -- The seats of a hub in the order of their processes.
 use Rattle.std.specs.Prelude.{◌≡◌, ◌+◌, ℕ, List, [], ◌∷◌, length}
-use Rattle.hub_base.specs.declared.entry.Entry.{Entry}
+use Rattle.hub_base.specs.Entry.{Entry}
 use Rattle.hub_live.specs.Calls.{AskedNothing, Later}
 use Rattle.hub_live.specs.Name.{Name}
 use Rattle.hub_live.specs.SeatView.{SeatView}

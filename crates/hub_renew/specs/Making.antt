@@ -1,7 +1,7 @@
 -- Seats of a hub while entries are made by one and shown to all.
 use Rattle.std.specs.Prelude.{◌≡◌, ℕ, List, ◌∷◌, ◌++◌, All}
 use mathlib.Core.List.{IsPrefix}
-use Rattle.hub_base.specs.declared.entry.Entry.{Entry}
+use Rattle.hub_base.specs.Entry.{Entry}
 use Rattle.hub_laws.specs.Replies.{own}
 use Rattle.hub_live.specs.Calls.{AskedNothing, Later}
 use Rattle.hub_live.specs.Name.{Name}

@@ -1,6 +1,6 @@
 -- A hub that goes on where another has ended.
 use Rattle.std.specs.Prelude.{◌≡◌, ◌≤◌, ◌<◌, ◌++◌, ℕ, false, List}
-use Rattle.hub_base.specs.declared.entry.Entry.{Entry}
+use Rattle.hub_base.specs.Entry.{Entry}
 use Rattle.hub_base.specs.Head.{AreOf}
 use Rattle.hub_base.specs.Journal.{JournalView}
 use Rattle.hub_base.specs.State.{State}

@@ -9,7 +9,7 @@ ghost use Rattle.hub_live.specs.Prelude.{Entry, AreOf, AskedNothing, IsLegal, is
 ghost use Rattle.hub_renew.specs.Making.{AreAt, HaveMore, Sees};
 
 use crate::making::{make_each, make_step};
-use hub_base::{Entry, Fault};
+use hub_base::Fault;
 use hub_live::{Held, HubName, LiveHub};
 use std::sync::Wait;
 
@@ -36,7 +36,7 @@ fn show_all<K: HubName>(hub: &LiveHub<K>, first: &mut Held<K>, others: &mut Vec<
 }
 
 /// How many entries at the beginning are of process 0.
-fn count_first(entries: &[Entry]) -> usize
+fn count_first(entries: &[hub_base::Entry]) -> usize
     ensures within { result ≤ length entries.now }
     ensures by { All (λ e. e.pid.0 ≡ 0) (take result entries.now) }
 {
@@ -89,7 +89,7 @@ impl<K: HubName> Seats<K> {
         &mut self,
         rt: &R,
         hub: &LiveHub<K>,
-        entries: &[Entry],
+        entries: &[hub_base::Entry],
     ) -> Result<(), Fault>
         requires fits { AreOf K.name.terms.head.edition entries.now }
         requires by { All (λ e. e.pid.0 ≡ 0) entries.now }
@@ -104,7 +104,12 @@ impl<K: HubName> Seats<K> {
     }
 
     /// Makes an entry of any process, and shows it to process 0.
-    fn make_one<R: Wait>(&mut self, rt: &R, hub: &LiveHub<K>, entry: Entry) -> Result<(), Fault>
+    fn make_one<R: Wait>(
+        &mut self,
+        rt: &R,
+        hub: &LiveHub<K>,
+        entry: hub_base::Entry,
+    ) -> Result<(), Fault>
         requires fits { is_of K.name.terms.head.edition entry.step ≡ true }
         requires pid { entry.pid.0 ≤ vec_len self.old.others }
         ensures count { vec_len self.new.others ≡ vec_len self.old.others }
@@ -127,7 +132,7 @@ impl<K: HubName> Seats<K> {
         &mut self,
         rt: &R,
         hub: &LiveHub<K>,
-        entries: &[Entry],
+        entries: &[hub_base::Entry],
     ) -> Result<(), Fault>
         requires fits { AreOf K.name.terms.head.edition entries.now }
         requires pids { All (λ e. e.pid.0 < K.name.terms.head.procs) entries.now }
@@ -149,7 +154,7 @@ impl<K: HubName> Seats<K> {
         &mut self,
         rt: &R,
         hub: &LiveHub<K>,
-        entries: &[Entry],
+        entries: &[hub_base::Entry],
     ) -> Result<(), Fault>
         requires fits { AreOf K.name.terms.head.edition entries.now }
         requires legal { IsLegal K.name.terms.head entries.now }

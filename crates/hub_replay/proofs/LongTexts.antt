@@ -5,7 +5,7 @@ use Rattle.std.proofs.lemmas.Bool.{lt-ltb}
 use Rattle.std.specs.Prelude.{nat_lt, if◌then◌else◌}
 use Rattle.hub_base.specs.declared.head.Edition.{Edition}
 use Rattle.hub_base.specs.declared.head.Head.{Head}
-use Rattle.hub_base.specs.declared.entry.Entry.{Entry}
+use Rattle.hub_base.specs.Entry.{Entry}
 use Rattle.hub_base.specs.declared.read_fault.Kind.{Kind}
 use Rattle.hub_base.specs.declared.read_fault.Kind.TheVariants.{TooLong}
 use Rattle.hub_base.specs.declared.limits.TheConstants.{MOST_BYTES}

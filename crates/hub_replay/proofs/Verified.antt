@@ -2,7 +2,7 @@
 use Rattle.std.proofs.Common.{◌≡◌, ℕ, ◌-◌, ◌^◌, ◌<◌, Bool, List, ◌++◌, take, Result, Ok, Err, sym, ap, subst, ◌∙◌, arith}
 use Rattle.std.specs.Prelude.{IfErr, IsErrAnd}
 use Rattle.hub_base.specs.declared.head.Head.{Head}
-use Rattle.hub_base.specs.declared.entry.Entry.{Entry}
+use Rattle.hub_base.specs.Entry.{Entry}
 use Rattle.hub_text.specs.Reader.{ReaderView}
 use Rattle.hub_base.specs.Text.{IsText}
 use Rattle.hub_core.specs.Records.{MachineLists}

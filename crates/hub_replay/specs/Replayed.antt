@@ -1,6 +1,6 @@
 -- What the entries that were read so far have led to.
 use Rattle.std.specs.Prelude.{◌≡◌, ℕ, ◌-◌, ◌*◌, ◌≤◌, ◌<◌, ◌^◌, Bool, true, false, List, ◌++◌, length}
-use Rattle.hub_base.specs.declared.entry.Entry.{Entry}
+use Rattle.hub_base.specs.Entry.{Entry}
 use Rattle.hub_base.specs.declared.limits.TheConstants.{MOST_EVENTS}
 use Rattle.hub_text.specs.Reader.{ReaderView}
 use Rattle.hub_base.specs.Reading.{read_text, behind}

@@ -10,7 +10,7 @@ ghost use Rattle.hub_replay.specs.Replay.{HasNone};
 ghost use Rattle.hub_replay.specs.Replayed.{Replayed, GoesOn};
 
 use crate::ReplayFault;
-use hub_base::{Entry, MOST_BYTES, Pid, Step};
+use hub_base::{Entry, MOST_BYTES};
 use hub_core::Machine;
 use hub_text::{EventText, Reader, one_reading};
 use std::alloc::Global;
@@ -55,10 +55,7 @@ impl<'a> Steps<'a> {
         Ok(Steps {
             reader,
             machine,
-            entry: Entry {
-                pid: Pid(0),
-                step: Step::Exit,
-            },
+            entry: Entry::blank(),
         })
     }
 
@@ -79,7 +76,7 @@ impl<'a> Steps<'a> {
             return Ok(false);
         }
         lines.make_step_room()?;
-        self.machine.step_into(&self.entry, lines)?;
+        self.machine.step_into(&self.entry.by_slice(), lines)?;
         Ok(true)
     }
 

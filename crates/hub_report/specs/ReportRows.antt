@@ -1,6 +1,6 @@
 -- Worked rows of reports.
 use Rattle.std.specs.Prelude.{◌≡◌, true, false, List, [], ◌∷◌, slice_get, Some, refl}
-use Rattle.hub_base.specs.declared.entry.Entry.{Entry}
+use Rattle.hub_base.specs.Entry.{Entry}
 use Rattle.hub_base.specs.Notation.{procs, make, send, recv, close, exit, select, r}
 use Rattle.hub_base.specs.Value.{saying}
 use Rattle.hub_report.specs.Reports.{ports_told, stalled_told, faults_told}

@@ -5,7 +5,7 @@ ghost use Rattle.std.specs.Prelude.{◌≡◌, ◌≤◌, length};
 ghost use Rattle.std.specs.List.{sum_by};
 ghost use Rattle.hub_report.specs.Prelude.{how_many, is_fault, is_stalled, most_got, number_told, port_touched};
 
-use hub_base::{Event, MOST_EVENTS, Outcome, Port, Step, What};
+use hub_base::{Event, MOST_EVENTS, Outcome, Port, StepRef, What};
 use hub_core::port_touched;
 
 /// The number that the process is told it got, 0 where it got none.
@@ -55,7 +55,7 @@ pub(crate) fn tell(events: &[Event]) -> Told
 }
 
 /// The port that the answer of a step names; the answer is the first of its events.
-pub(crate) fn port_named(step: &Step, events: &[Event]) -> Option<Port>
+pub(crate) fn port_named(step: &StepRef<'_>, events: &[Event]) -> Option<Port>
     ensures { result ≡ port_touched step.now events.now }
 {
     let answer = events.first()?;

@@ -10,7 +10,7 @@ ghost use Rattle.hub_report.specs.Prelude.{HasRoom, OfTold, Tells, Within, most_
 use crate::PortReport;
 use crate::counting::{port_named, tell};
 use hub_base::{
-    Event, Events, Head, Journal, MOST_EVENTS, MOST_PORTS, MOST_STEPS, NoMemory, Port, Step,
+    Event, Events, Head, Journal, MOST_EVENTS, MOST_PORTS, MOST_STEPS, NoMemory, Port, StepRef,
 };
 use hub_core::Machine;
 use std::alloc::{AllocError, Global};
@@ -62,7 +62,7 @@ impl Replayed {
     }
 
     /// Adds what the events of a step tell.
-    fn add(&mut self, step: &Step, events: &[Event])
+    fn add(&mut self, step: &StepRef<'_>, events: &[Event])
         requires few { length events.now ≤ MOST_EVENTS }
         requires made { (p : Port) → port_touched step.now events.now ≡ Some p → IsMade p MOST_PORTS }
         requires room { HasRoom self.old }
@@ -117,8 +117,9 @@ pub(crate) fn replay(alloc: Global, journal: &Journal) -> Result<Replayed, NoMem
 {
     let mut replayed = Replayed::new(alloc, journal.head())?;
     let mut events = Events::new();
-    for entry in journal.entries() {
-        replayed.machine.answer(entry, &mut events)?;
+    for whole in journal.entries() {
+        let entry = whole.by_slice();
+        replayed.machine.answer(&entry, &mut events)?;
         replayed.add(&entry.step, &events);
     }
     Ok(replayed)

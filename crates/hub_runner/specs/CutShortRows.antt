@@ -1,8 +1,7 @@
 -- Worked rows: a run that its limit cuts short, and processes that do not follow their scripts.
 use Rattle.std.specs.Prelude.{◌≡◌, ℕ, zero, suc, List, [], ◌∷◌, None, refl}
 use mathlib.Core.Path.{subst, sym}
-use Rattle.hub_base.specs.declared.entry.Entry.{Entry}
-use Rattle.hub_base.specs.declared.entry.Step.{Step}
+use Rattle.hub_base.specs.Entry.{Entry, Step}
 use Rattle.hub_base.specs.declared.entry.Step.TheVariants as step
 use Rattle.hub_base.specs.declared.head.Edition.TheVariants.{One}
 use Rattle.hub_base.specs.Notation.{procs, port, make, send, recv, close, exit}

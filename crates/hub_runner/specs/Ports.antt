@@ -1,7 +1,7 @@
 -- Where the journal of a run begins: with the makes of the scenario's ports.
 use Rattle.std.specs.Prelude.{List, map}
 use mathlib.Core.List.{IsPrefix}
-use Rattle.hub_base.specs.declared.entry.Entry.{Entry}
+use Rattle.hub_base.specs.Entry.{Entry}
 use Rattle.hub_base.specs.declared.entry.Step.TheVariants.{Make}
 use Rattle.hub_base.specs.Lines.{by}
 use Rattle.hub_scenario.specs.Scenario.{ScenarioData}

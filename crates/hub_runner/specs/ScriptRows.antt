@@ -1,7 +1,7 @@
 -- Worked rows: what processes asked in some journals, and that it follows their scripts.
 use Rattle.std.specs.Prelude.{◌≡◌, ℕ, ◌+◌, true, List, [], ◌∷◌, Some, refl}
 use Rattle.hub_base.specs.declared.event.Outcome.TheVariants.{Drained}
-use Rattle.hub_base.specs.declared.entry.Entry.{Entry}
+use Rattle.hub_base.specs.Entry.{Entry}
 use Rattle.hub_base.specs.Notation.{procs, port, s, r, make, send, recv, close, exit, select, case, got, done}
 use Rattle.hub_base.specs.Value.{value_of}
 use Rattle.hub_scenario.specs.declared.script.ScriptStep.TheVariants.{Send, Recv, Select, Close, Range}

@@ -6,9 +6,8 @@
 -- `Stalled`, the rest of the script is left out and the exit follows at once.
 use Rattle.std.specs.Prelude.{◌≡◌, ℕ, ◌+◌, ◌==◌, ◌&&◌, Bool, true, false, List, [], ◌∷◌, Option, None, Some, is_some, slice_get, if◌then◌else◌}
 use Rattle.hub_base.specs.declared.case.Case.TheVariants as case
-use Rattle.hub_base.specs.declared.entry.Step.{Step}
+use Rattle.hub_base.specs.Entry.{Entry, Step}
 use Rattle.hub_base.specs.declared.entry.Step.TheVariants as step
-use Rattle.hub_base.specs.declared.entry.Entry.{Entry}
 use Rattle.hub_base.specs.declared.event.Event.{Event}
 use Rattle.hub_base.specs.declared.event.What.{What}
 use Rattle.hub_base.specs.Lines.{call}

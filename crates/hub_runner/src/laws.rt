@@ -1,7 +1,7 @@
 //! A law of the definitions alone. This function has no effect.
 
 ghost use Rattle.std.specs.Prelude.{◌≡◌, ◌++◌, ◌∷◌, [], ℕ, List, map};
-ghost use Rattle.hub_base.specs.declared.entry.Entry.{Entry};
+ghost use Rattle.hub_base.specs.Entry.{Entry};
 ghost use Rattle.hub_base.specs.declared.head.Head.{Head};
 ghost use Rattle.hub_laws.specs.Replies.{own, reply};
 ghost use Rattle.hub_runner.specs.Asked.{asked};

@@ -1,7 +1,7 @@
 -- How entries are counted, and how one goes on from those before it.
 use Rattle.std.proofs.Common.{◌≡◌, ℕ, ◌+◌, Bool, true, false, cond, List, [], ◌∷◌, ◌++◌, refl, ap, ◌∙◌, sym, arith, Some}
 use Rattle.std.proofs.Common.{None, Result, Ok}
-use Rattle.hub_base.specs.declared.entry.Entry.{Entry}
+use Rattle.hub_base.specs.Entry.{Entry}
 use Rattle.hub_base.specs.declared.read_fault.Kind.{Kind}
 use Rattle.hub_base.specs.declared.read_fault.Kind.TheVariants.{TooLong}
 use Rattle.hub_base.specs.Reading.{over, counted, is_exit}

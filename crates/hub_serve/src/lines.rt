@@ -6,14 +6,14 @@ ghost use Rattle.hub_base.specs.Head.{IsHead};
 ghost use Rattle.hub_base.specs.Lines.{pieces, read_fields};
 ghost use Rattle.hub_base.specs.Reading.{read_text, head_lines};
 ghost use Rattle.hub_base.specs.Reading.Reading.{Reads, Faulty};
-ghost use Rattle.hub_base.specs.declared.entry.Entry.{Entry};
+ghost use Rattle.hub_base.specs.Entry.{Entry};
 ghost use Rattle.hub_base.specs.declared.head.Edition.{Edition};
 ghost use Rattle.hub_base.specs.declared.head.Head.{Head};
 ghost use Rattle.hub_base.specs.declared.limits.TheConstants.{MOST_BYTES};
 ghost use Rattle.hub_replay.specs.Verify.{newlines_in};
 ghost use Rattle.hub_serve.specs.Lines.{IsCut, IsLine, IsSecond, IsEntryLine, Says, first_line, says_one};
 
-use hub_base::{Entry, Head, Kind};
+use hub_base::{Head, Kind};
 use hub_text::Reader;
 use memchr::memchr;
 
@@ -63,7 +63,7 @@ pub(crate) fn read_second(text: &[u8]) -> Result<Head, Kind>
 }
 
 /// Reads what is left of a text, each entry into the place of this one.
-fn read_out(mut reader: Reader, entry: &mut Entry) -> Result<(), Kind>
+fn read_out(mut reader: Reader, entry: &mut hub_base::Entry) -> Result<(), Kind>
     ensures ok { OnOk result ((head : Head) × (more : List Entry)
         × (reader.entry.left ≡ Reads head more)) }
     ensures err { IfErr result (λ kind. (k : ℕ) × (reader.entry.left ≡ Faulty k kind)) }
@@ -79,7 +79,11 @@ fn read_out(mut reader: Reader, entry: &mut Entry) -> Result<(), Kind>
 
 /// Reads the one entry that is left of a text; an `Err` is the fault of its line. The other entry may then be
 /// any.
-fn read_one(mut reader: Reader, entry: &mut Entry, other: &mut Entry) -> Result<(), Kind>
+fn read_one(
+    mut reader: Reader,
+    entry: &mut hub_base::Entry,
+    other: &mut hub_base::Entry,
+) -> Result<(), Kind>
     ensures { (head : Head) (body : List ℕ)
         → reader.entry.left ≡ says_one head (read_fields head.edition (pieces 32 body))
         → Says head.edition body entry.new result }
@@ -94,7 +98,11 @@ fn read_one(mut reader: Reader, entry: &mut Entry, other: &mut Entry) -> Result<
 
 /// Reads the line behind both head lines into the entry; an `Err` is what is wrong with the line itself.
 /// The other entry may then be any.
-pub(crate) fn read_entry(text: &[u8], entry: &mut Entry, other: &mut Entry) -> Result<(), Kind>
+pub(crate) fn read_entry(
+    text: &[u8],
+    entry: &mut hub_base::Entry,
+    other: &mut hub_base::Entry,
+) -> Result<(), Kind>
     requires fits { length text.now ≤ MOST_BYTES }
     ensures { (head : Head) (line body : List ℕ) → IsEntryLine text.now head line body
         → Says head.edition body entry.new result }

@@ -2,14 +2,14 @@
 
 ghost use Rattle.std.specs.Prelude.{◌≡◌, ◌≤◌, ◌<◌, ◌+◌, ◌-◌, ◌^◌, ℕ, List, [], length, IfOk};
 ghost use Rattle.hub_base.specs.Head.{IsHead};
-ghost use Rattle.hub_base.specs.declared.entry.Entry.{Entry};
+ghost use Rattle.hub_base.specs.Entry.{Entry};
 ghost use Rattle.hub_base.specs.declared.head.Head.{Head};
 ghost use Rattle.hub_base.specs.declared.limits.TheConstants.{MOST_BYTES};
 ghost use Rattle.hub_serve.specs.Lines.{IsEntryLine};
 ghost use Rattle.hub_serve.specs.Running.{Goes, RunsTo, steps_after};
 
 use crate::lines::read_entry;
-use hub_base::{Entry, Head, Kind, MOST_STEPS, NoMemory, Pid, Step};
+use hub_base::{Head, Kind, MOST_STEPS, NoMemory};
 use hub_core::Machine;
 use hub_text::EventText;
 use std::alloc::Global;
@@ -23,23 +23,16 @@ pub(crate) struct Running {
     /// How many of them are no exits.
     steps: u32,
     /// The last of them.
-    entry: Entry,
+    entry: hub_base::Entry,
     /// A place for what is read behind it, where that is looked for.
-    other: Entry,
-}
-
-fn no_entry() -> Entry {
-    Entry {
-        pid: Pid(0),
-        step: Step::Exit,
-    }
+    other: hub_base::Entry,
 }
 
 /// How many entries are no exits with this one; `None` where it is one too many.
-fn steps_after(entry: &Entry, steps: u32) -> Option<u32>
+fn steps_after(entry: &hub_base::Entry, steps: u32) -> Option<u32>
     ensures { result ≡ steps_after steps entry.now }
 {
-    if matches!(&entry.step, Step::Exit) {
+    if entry.step.by_slice().is_exit() {
         Some(steps)
     } else if steps >= MOST_STEPS {
         None
@@ -57,8 +50,8 @@ impl Running {
         Ok(Running {
             machine: Machine::new(alloc, head)?,
             steps: 0,
-            entry: no_entry(),
-            other: no_entry(),
+            entry: hub_base::Entry::blank(),
+            other: hub_base::Entry::blank(),
         })
     }
 
@@ -84,7 +77,7 @@ impl Running {
             return Ok(Some(Kind::TooLong));
         };
         answers.make_step_room()?;
-        self.machine.step_into(&self.entry, answers)?;
+        self.machine.step_into(&self.entry.by_slice(), answers)?;
         self.steps = steps;
         Ok(None)
     }

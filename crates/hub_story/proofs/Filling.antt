@@ -6,7 +6,7 @@ use Rattle.std.specs.List.{AllByRecursion, filter_map}
 use Rattle.std.proofs.lemmas.List.{length-take-le, take_all}
 use Rattle.std.proofs.lemmas.List.Elements.{filter-append}
 use Rattle.hub_base.specs.declared.head.Head.{Head}
-use Rattle.hub_base.specs.declared.entry.Entry.{Entry}
+use Rattle.hub_base.specs.Entry.{Entry}
 use Rattle.hub_base.specs.State.{State, opening}
 use Rattle.hub_base.specs.Runs.{state_after, moves}
 use Rattle.hub_base.specs.Values.{Turned, turns_after, sent_on, got_on}

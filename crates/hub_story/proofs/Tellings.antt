@@ -10,9 +10,8 @@ use Rattle.std.proofs.lemmas.Bool.{eqb-true, eqb-false}
 use Rattle.std.proofs.lemmas.List.{get_or-set_same, get_or-set_other, length-take-le}
 use Rattle.hub_base.specs.declared.head.Head.{Head}
 use Rattle.hub_base.specs.declared.value.Pid.{Pid}
-use Rattle.hub_base.specs.declared.entry.Step.{Step}
+use Rattle.hub_base.specs.Entry.{Entry, Step}
 use Rattle.hub_base.specs.declared.entry.Step.TheVariants.{Make, Call, Close, Exit, Cancel}
-use Rattle.hub_base.specs.declared.entry.Entry.{Entry}
 use Rattle.hub_base.specs.declared.event.Event.{Event}
 use Rattle.hub_base.specs.State.{State, opening}
 use Rattle.hub_base.specs.Runs.{state, moves}

@@ -2,7 +2,7 @@
 -- counted from what they tell.
 use Rattle.std.specs.Prelude.{ℕ, nat_lt, List, filter, length}
 use Rattle.hub_base.specs.declared.value.Port.{Port}
-use Rattle.hub_base.specs.declared.entry.Entry.{Entry}
+use Rattle.hub_base.specs.Entry.{Entry}
 use Rattle.hub_story.specs.declared.told.Told.{Told}
 use Rattle.hub_story.specs.Passing.{sends, receives}
 

@@ -1,7 +1,7 @@
 -- Worked rows of what journals tell.
 use Rattle.std.specs.Prelude.{◌≡◌, ℕ, false, List, [], ◌∷◌, map, Option, Some, refl}
 use Rattle.std.specs.Option.{option_map}
-use Rattle.hub_base.specs.declared.entry.Entry.{Entry}
+use Rattle.hub_base.specs.Entry.{Entry}
 use Rattle.hub_base.specs.declared.case.Case.TheVariants.{Send}
 use Rattle.hub_base.specs.declared.value.Value.{Value}
 use Rattle.hub_base.specs.Value.{bytes_of}

@@ -1,27 +1,16 @@
 //! What the calls of a journal ask.
 
-ghost use Rattle.std.specs.Prelude.{◌≡◌, [], slice_get};
-ghost use Rattle.hub_base.specs.Values.{cases_or};
+ghost use Rattle.std.specs.Prelude.{◌≡◌, slice_get};
 ghost use Rattle.hub_story.specs.Passing.{cases_at};
 
-use hub_base::{Case, Entry, Step};
-
-/// The cases of a step; none where it is no call.
-pub fn cases_of(step: &Step) -> &[Case]
-    ensures { result.now ≡ cases_or step.now [] }
-{
-    match step {
-        Step::Call { cases, .. } => cases.as_slice(),
-        _ => &[],
-    }
-}
+use hub_base::{Case, Entry};
 
 /// The cases of the entry at this place; none where it is no call.
 pub fn cases_at(entries: &[Entry], place: u32) -> &[Case]
     ensures { result.now ≡ cases_at entries.now place }
 {
     match entries.get(place as usize) {
-        Some(entry) => cases_of(&entry.step),
+        Some(entry) => entry.step.by_slice().cases(),
         None => &[],
     }
 }

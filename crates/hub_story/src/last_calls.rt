@@ -6,7 +6,7 @@ ghost use Rattle.hub_base.specs.Values.{refused};
 ghost use Rattle.hub_story.specs.Told.{may_end};
 ghost use Rattle.hub_story.specs.LastCalls.{asked_of, with_call};
 
-use hub_base::{Entry, Event, Step, What};
+use hub_base::{EntryRef, Event, Step, What};
 
 /// How many numbers an entry can give a process.
 pub(crate) const PID_NUMBERS: usize = 256;
@@ -39,7 +39,7 @@ pub(crate) fn no_calls() -> LastCalls
 }
 
 /// Takes in the entry at this place, which gave these events.
-pub(crate) fn note_call(calls: &mut LastCalls, place: u32, entry: &Entry, events: &[Event])
+pub(crate) fn note_call(calls: &mut LastCalls, place: u32, entry: &EntryRef<'_>, events: &[Event])
     ensures calls { calls.new ≡ with_call calls.old place (record { entry = entry.now; events = events.now }) }
     ensures pid { entry.now.pid.0 < PID_NUMBERS }
 {

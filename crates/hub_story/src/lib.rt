@@ -17,7 +17,7 @@ mod telling;
 mod told;
 mod window;
 
-pub use cases::{case_at, cases_at, cases_of};
+pub use cases::{case_at, cases_at};
 pub use laws::{
     entries_end_once, events_are_told, levels_are_told, passages_are_in_time, passages_are_told,
     sends_are_told, waiting_is_told,

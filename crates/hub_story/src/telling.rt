@@ -8,7 +8,7 @@ ghost use Rattle.hub_story.specs.LastCalls.{tells_of};
 
 use crate::Told;
 use crate::last_calls::{LastCalls, asked_of, no_calls, note_call};
-use hub_base::{Event, Events, NoMemory};
+use hub_base::{Case, Event, Events, NoMemory};
 use hub_core::{Machine, ShortJournal};
 use std::alloc::{AllocError, Global};
 
@@ -46,8 +46,9 @@ pub(crate) fn tell_all(alloc: Global, journal: &ShortJournal) -> Result<Vec<Told
     // Most steps have one event.
     let mut told = Vec::with_capacity(alloc, entries.len())?;
     let mut events = Events::new();
+    let mut one = Case::default();
     for place in 0..entries.len() {
-        let entry = entries.entry(place);
+        let entry = entries.entry(place, &mut one);
         machine.answer(&entry, &mut events)?;
         note_call(&mut calls, place as u32, &entry, &events);
         tell(&mut told, &calls, place as u32, &events)?;

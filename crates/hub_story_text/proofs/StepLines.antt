@@ -12,7 +12,7 @@ use Rattle.hub_base.specs.declared.event.What.{What}
 use Rattle.hub_base.specs.declared.event.What.TheVariants.{Made, Fired, Default, Done, Parked, Stalled, Fault, Cancelled}
 use Rattle.hub_base.specs.declared.value.Port.{Port}
 use Rattle.hub_base.specs.declared.value.Value.{Value}
-use Rattle.hub_base.specs.declared.entry.Entry.{Entry}
+use Rattle.hub_base.specs.Entry.{Entry}
 use Rattle.hub_base.specs.EventText.{event_line}
 use Rattle.hub_base.specs.Value.{value_field}
 use Rattle.hub_story.specs.declared.told.Told.{Told}

@@ -2,8 +2,7 @@
 use Rattle.std.specs.Prelude.{◌==◌, Bool, false, List, Option, None, Some, find, is_some, slice_get, if◌then◌else◌}
 use Rattle.std.specs.Option.{option_and_then, option_map_or}
 use Rattle.hub_base.specs.declared.value.Port.{Port}
-use Rattle.hub_base.specs.declared.entry.Entry.{Entry}
-use Rattle.hub_base.specs.declared.entry.Step.{Step}
+use Rattle.hub_base.specs.Entry.{Entry, Step}
 use Rattle.hub_base.specs.declared.entry.Step.TheVariants.{Close}
 use Rattle.hub_story.specs.declared.told.Told.{Told}
 use Rattle.hub_story_text.specs.Leavers.{is_done}

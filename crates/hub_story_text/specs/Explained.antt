@@ -1,6 +1,6 @@
 -- A journal with what is known of its entries.
 use Rattle.std.specs.Prelude.{◌<◌, ◌-◌, ◌^◌, List, length}
-use Rattle.hub_base.specs.declared.entry.Entry.{Entry}
+use Rattle.hub_base.specs.Entry.{Entry}
 use Rattle.hub_story.specs.declared.told.Told.{Told}
 use Rattle.hub_story.specs.Stories.{IsShortStoryOf}
 use Rattle.hub_story_text.specs.declared.explained.Explained.{Explained}

@@ -1,8 +1,7 @@
 -- Who has left: the processes whose exits were done, in order.
 use Rattle.std.specs.Prelude.{◌&&◌, Bool, true, false, List, filter, slice_get}
 use Rattle.std.specs.Option.{option_map_or}
-use Rattle.hub_base.specs.declared.entry.Entry.{Entry}
-use Rattle.hub_base.specs.declared.entry.Step.{Step}
+use Rattle.hub_base.specs.Entry.{Entry, Step}
 use Rattle.hub_base.specs.declared.entry.Step.TheVariants.{Exit}
 use Rattle.hub_base.specs.declared.event.What.{What}
 use Rattle.hub_base.specs.declared.event.What.TheVariants as what

@@ -2,7 +2,7 @@
 -- ports carried, which calls waited longest, and who waits in the end.
 use Rattle.std.specs.Prelude.{ℕ, ◌+◌, ◌==◌, List, [], ◌∷◌, ◌++◌, codes, filter, length, if◌then◌else◌}
 use Rattle.std.specs.List.{flat_map}
-use Rattle.hub_base.specs.declared.entry.Entry.{Entry}
+use Rattle.hub_base.specs.Entry.{Entry}
 use Rattle.hub_story.specs.declared.told.Told.{Told}
 use Rattle.hub_story.specs.Levels.{told_by}
 use Rattle.hub_story.specs.Waiting.{stalled_by, still_waiting}

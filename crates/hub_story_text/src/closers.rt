@@ -3,13 +3,13 @@
 ghost use Rattle.std.specs.Prelude.{◌≡◌, IfOk, filter};
 ghost use Rattle.hub_story_text.specs.Closers.{closed_port, closer_of, closes, is_close, port_closed};
 
-use hub_base::{Port, Step, What};
+use hub_base::{Case, Port, Step, StepRef, What};
 use hub_core::ShortEntries;
 use hub_story::Told;
 use std::alloc::{AllocError, Global};
 
 /// The port that the step closes.
-fn port_closed(step: &Step) -> Option<Port>
+fn port_closed(step: &StepRef<'_>) -> Option<Port>
     ensures { result ≡ port_closed step.now }
 {
     match step {
@@ -25,7 +25,8 @@ fn closed_port(entries: &ShortEntries, told: &Told) -> Option<Port>
     if !matches!(told.event.what, What::Done) {
         return None;
     }
-    match entries.get(told.asked as usize) {
+    let mut one = Case::default();
+    match entries.get(told.asked as usize, &mut one) {
         Some(entry) => port_closed(&entry.step),
         None => None,
     }

@@ -7,7 +7,7 @@ ghost use Rattle.hub_story_text.specs.LineText.{told_line};
 ghost use Rattle.hub_story_text.specs.Partners.{partner_of};
 
 use crate::lines::put_line;
-use hub_base::{Entry, NoMemory};
+use hub_base::{EntryRef, NoMemory};
 use hub_core::ShortJournal;
 use hub_story::{ShortStory, Told};
 
@@ -55,7 +55,7 @@ pub(crate) fn put_told_line(
     out: &mut Vec<u8>,
     explained: &Explained,
     place: u32,
-    entry: &Entry,
+    entry: &EntryRef<'_>,
     came: &[Told],
 ) -> Result<(), NoMemory>
     requires explained { IsExplained explained.now }

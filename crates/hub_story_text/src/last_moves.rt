@@ -1,7 +1,7 @@
 //! Who was the last to send on a port, and to receive from it; and beside it who has left.
 
 ghost use Rattle.std.specs.Prelude.{◌≡◌, ◌<◌, ◌∷◌, ◌++◌, List, [], filter, length, IfOk, IfSome, OnOk};
-ghost use Rattle.hub_base.specs.declared.entry.Entry.{Entry};
+ghost use Rattle.hub_base.specs.Entry.{Entry};
 ghost use Rattle.hub_story.specs.declared.told.Told.{Told};
 ghost use Rattle.hub_story_text.specs.LastMoves.{AreLast, AreNext, IsWhole, got_port, mover_at, sent_port, with_mover};
 ghost use Rattle.hub_story_text.specs.Leavers.{leaves};

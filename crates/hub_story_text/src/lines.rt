@@ -11,14 +11,14 @@ use crate::answers::{fault_words, put_answer};
 use crate::cells::{ANSWER, ASKS, VALUE, WAITED, close_cell, open_cell, put_right};
 use crate::ends::{Ending, ends_cell};
 use crate::numbers::{number_of, put_number};
-use hub_base::{Case, Edition, Entry, NoMemory, Outcome, Port, What};
+use hub_base::{Case, Edition, EntryRef, NoMemory, Outcome, Port, What};
 use hub_core::ShortEntries;
-use hub_story::{Told, cases_of};
+use hub_story::Told;
 use hub_text::write_entry;
 use std::alloc::AllocError;
 
 /// Appends who asks what.
-fn put_asks(out: &mut Vec<u8>, entry: &Entry) -> Result<(), NoMemory>
+fn put_asks(out: &mut Vec<u8>, entry: &EntryRef<'_>) -> Result<(), NoMemory>
     ensures { OnOk result (out.new.items ≡ out.old.items ++ asks entry.now) }
 {
     out.extend_from_slice(b"P")?;
@@ -50,7 +50,8 @@ fn put_still(out: &mut Vec<u8>, place: u32, count: usize) -> Result<(), AllocErr
 fn put_step(out: &mut Vec<u8>, entries: &ShortEntries, place: u32) -> Result<(), AllocError>
     ensures { OnOk result (out.new.items ≡ out.old.items ++ step_words entries.now place) }
 {
-    if let Some(entry) = entries.get(place as usize) {
+    let mut one = Case::default();
+    if let Some(entry) = entries.get(place as usize, &mut one) {
         put_number(out, b"P", entry.pid.0.into())?;
     }
     put_number(out, b", step ", number_of(place))
@@ -127,7 +128,7 @@ fn put_moved(
 }
 
 /// Who asks what, in its column.
-fn asks_cell(out: &mut Vec<u8>, start: usize, entry: &Entry) -> Result<(), NoMemory>
+fn asks_cell(out: &mut Vec<u8>, start: usize, entry: &EntryRef<'_>) -> Result<(), NoMemory>
     ensures { OnOk result (LineBecomes start out.old.items out.new.items (λ line. with_cell ASKS line (asks entry.now))) }
 {
     let cell = open_cell(out, start, ASKS)?;
@@ -203,7 +204,7 @@ fn put_end(
     start: usize,
     entries: &ShortEntries,
     place: u32,
-    entry: &Entry,
+    entry: &EntryRef<'_>,
     partner: Option<u32>,
     end: Option<Told>,
 ) -> Result<(), NoMemory>
@@ -213,7 +214,7 @@ fn put_end(
     let Some(end) = end else {
         return put_waits(out, start, place, entries.len());
     };
-    let cases = cases_of(&entry.step);
+    let cases = entry.step.cases();
     answer_cell(out, start, cases, end.event.what)?;
     waited_cell(out, start, place, &end)?;
     value_cell(out, start, entries, cases, partner, end.event.what)?;
@@ -225,7 +226,7 @@ pub(crate) fn put_line(
     out: &mut Vec<u8>,
     entries: &ShortEntries,
     place: u32,
-    entry: &Entry,
+    entry: &EntryRef<'_>,
     partner: Option<u32>,
     end: Option<Told>,
     came: &[Told],

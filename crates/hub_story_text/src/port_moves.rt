@@ -3,7 +3,7 @@
 ghost use Rattle.std.specs.Prelude.{◌≡◌, ◌++◌, List, [], IfOk, OnOk, length};
 ghost use Rattle.std.specs.List.{cons_option};
 ghost use Rattle.std.specs.Option.{option_map};
-ghost use Rattle.hub_base.specs.declared.entry.Entry.{Entry};
+ghost use Rattle.hub_base.specs.Entry.{Entry};
 ghost use Rattle.hub_story.specs.declared.told.Told.{Told};
 ghost use Rattle.hub_story.specs.Passing.{receives, sends};
 ghost use Rattle.hub_story_text.specs.Fullest.{IsUp, fullest_of};

@@ -14,7 +14,7 @@ use crate::explained::{Explained, put_told_line};
 use crate::last_moves::LastMoves;
 use crate::packed_text::PackedText;
 use crate::waiters::put_waiters;
-use hub_base::{NoMemory, What};
+use hub_base::{Case, NoMemory, What};
 use hub_story::Told;
 use std::alloc::{AllocError, Global};
 
@@ -86,11 +86,12 @@ pub(crate) fn put_steps(
 {
     let entries = explained.journal.entries();
     let mut line = Vec::new(*moves.left.allocator());
+    let mut one = Case::default();
     let mut rest: &[Told] = &explained.story.told;
     for place in 0..entries.len() {
         let (came, later) = rest.split_at(count_of(rest, place as u32));
         moves.note_all(entries, came)?;
-        let entry = entries.entry(place);
+        let entry = entries.entry(place, &mut one);
         if window.has(place as u32) {
             line.clear();
             put_told_line(&mut line, explained, place as u32, &entry, came)?;

@@ -97,7 +97,8 @@ fn put_waiter(
         ++ waiter_words entries.now (mover_at moves.now.sent.items) (mover_at moves.now.received.items) told.now) }
 {
     put_who(out, b" waits since step ", told)?;
-    put_cases(out, moves, &entries.cases_at(told.asked as usize))
+    let mut one = Case::default();
+    put_cases(out, moves, entries.cases_at(told.asked as usize, &mut one))
 }
 
 /// Appends these calls.

@@ -8,7 +8,7 @@ ghost use Rattle.hub_story_text.specs.Waits.{AreWaits, is_call, line_at, wait_of
 
 use crate::explained::{Explained, put_told_line};
 use crate::numbers::put_number;
-use hub_base::{NoMemory, Step};
+use hub_base::{Case, NoMemory, Step, StepRef};
 use hub_core::ShortEntries;
 use hub_story::Told;
 use std::alloc::{AllocError, Global};
@@ -110,7 +110,7 @@ impl Waits {
 }
 
 /// Whether the step is a call.
-fn is_call(step: &Step) -> bool
+fn is_call(step: &StepRef<'_>) -> bool
     ensures { result ≡ is_call step.now }
 {
     matches!(step, Step::Call { .. })
@@ -121,8 +121,9 @@ fn calls_of(entries: &ShortEntries) -> usize
     ensures { result ≡ count_by (λ e. is_call e.step) entries.now }
 {
     let mut calls = 0;
+    let mut one = Case::default();
     for place in 0..entries.len() {
-        calls += usize::from(is_call(&entries.entry(place).step));
+        calls += usize::from(is_call(&entries.entry(place, &mut one).step));
     }
     calls
 }
@@ -133,7 +134,9 @@ fn put_wait(out: &mut Vec<u8>, explained: &Explained, wait: Wait) -> Result<(), 
     ensures { OnOk result (out.new.items ≡
         out.old.items ++ line_at (entries_of explained.now) (told_of explained.now) wait) }
 {
-    let Some(entry) = explained.journal.entries().get(wait.place as usize) else {
+    let mut one = Case::default();
+    let entries = explained.journal.entries();
+    let Some(entry) = entries.get(wait.place as usize, &mut one) else {
         return Ok(());
     };
     put_told_line(out, explained, wait.place, &entry, &[])

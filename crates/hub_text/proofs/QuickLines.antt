@@ -15,13 +15,12 @@ use Rattle.std.specs.List.{AllByRecursion, list_all, flat_map, refill}
 use Rattle.std.specs.Str.Parse.{digits_value}
 use Rattle.std.specs.Int.{from_le_bytes, w32}
 use Rattle.std.proofs.lemmas.Nat.{le_bytes_4}
-use Rattle.hub_base.specs.declared.entry.Entry.{Entry}
 use Rattle.hub_base.specs.declared.head.Edition.{Edition}
 use Rattle.hub_base.specs.declared.head.Head.{Head}
 use Rattle.hub_base.specs.declared.limits.TheConstants.{CASE_PLACES, GREATEST_PID, GREATEST_PORT, GREATEST_WORD, MOST_BYTES, MOST_STEPS}
 use Rattle.hub_base.specs.declared.case.Case.{Case}
 use Rattle.hub_base.specs.declared.case.Case.TheVariants.{Send, Recv}
-use Rattle.hub_base.specs.declared.entry.Step.{Step}
+use Rattle.hub_base.specs.Entry.{Entry, Step}
 use Rattle.hub_base.specs.declared.entry.Step.TheVariants.{Exit}
 use Rattle.hub_base.specs.Head.{has_bytes, has_content, has_case, is_of}
 use Rattle.hub_base.specs.declared.value.Port.{Port}

@@ -1,6 +1,6 @@
 -- What the parts of a reader do that read into a given entry.
 use Rattle.std.specs.Prelude.{◌≡◌, ℕ, List, Result, Ok, Err}
-use Rattle.hub_base.specs.declared.entry.Entry.{Entry}
+use Rattle.hub_base.specs.Entry.{Entry}
 use Rattle.hub_base.specs.declared.read_fault.Kind.{Kind}
 use Rattle.hub_text.specs.declared.steps.OneNumber.{OneNumber}
 use Rattle.hub_text.specs.declared.steps.OneNumber.TheVariants.{Make, Recv, Close, Cancel}

@@ -1,7 +1,7 @@
 -- What contracts see of a reader: the head, what the rest of the text says, and in how many bytes it
 -- stands.
 use Rattle.std.specs.Prelude.{ℕ, ◌<◌, ◌≡◌, List, [], ◌∷◌, Option, None, Some, Result, Ok, Err, Bool, true, false}
-use Rattle.hub_base.specs.declared.entry.Entry.{Entry}
+use Rattle.hub_base.specs.Entry.{Entry}
 use Rattle.hub_base.specs.declared.head.Edition.{Edition}
 use Rattle.hub_base.specs.declared.head.Head.{Head}
 use Rattle.hub_base.specs.declared.read_fault.TextFault.{TextFault}

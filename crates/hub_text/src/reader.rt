@@ -11,12 +11,12 @@ ghost use mathlib.Core.List.{IsPrefix};
 ghost use Rattle.hub_base.specs.EventText.{event_line, EventFits};
 ghost use Rattle.hub_base.specs.Head.{IsHead, AreOf};
 ghost use Rattle.hub_base.specs.Lines.{line};
-ghost use Rattle.hub_base.specs.Reading.{read_text, edition_of, procs_number, procs_from, rows, is_exit, HasEntry};
+ghost use Rattle.hub_base.specs.Reading.{read_text, edition_of, procs_number, procs_from, rows, HasEntry};
 ghost use Rattle.hub_text.specs.ReadJournal.{Gives, IsFaultOf};
 ghost use Rattle.hub_base.specs.Text.{IsText, IsFaulty, IsEither, Fits};
 ghost use Rattle.hub_base.specs.Reading.Reading.{Reads, Faulty};
 ghost use Rattle.hub_text.specs.Reader.{ReadsOn, FillsOn, edition_said, procs_said};
-ghost use Rattle.hub_base.specs.declared.entry.Entry.{Entry};
+ghost use Rattle.hub_base.specs.Entry.{Entry};
 ghost use Rattle.hub_base.specs.declared.event.Event.{Event};
 ghost use Rattle.hub_base.specs.declared.head.Edition.{Edition};
 ghost use Rattle.hub_base.specs.declared.head.Head.{Head};
@@ -29,18 +29,10 @@ use crate::quick::{quick_exit, quick_line};
 use crate::steps::{read_line, same_text};
 use crate::writer::header;
 use hub_base::{
-    Edition, Entry, Head, Journal, Kind, MOST_BYTES, MOST_PROCS, MOST_STEPS, Pid, ReadFault, Step,
-    TextFault,
+    Edition, Head, Journal, Kind, MOST_BYTES, MOST_PROCS, MOST_STEPS, ReadFault, TextFault,
 };
 use std::alloc::Global;
 use std::marker::Model;
-
-/// Whether the entry is an exit.
-fn is_exit(entry: &Entry) -> bool
-    ensures { result ≡ is_exit entry.now.step }
-{
-    matches!(&entry.step, Step::Exit)
-}
 
 /// The edition that the first line says.
 fn edition_of(line: &[u8]) -> Option<Edition>
@@ -179,7 +171,7 @@ impl<'a> Reader<'a> {
     ///
     /// An entry takes some 650 bytes, so a loop over a long text reads them all into one.
     #[inline(always)]
-    pub fn read_into(&mut self, entry: &mut Entry) -> Result<bool, TextFault>
+    pub fn read_into(&mut self, entry: &mut hub_base::Entry) -> Result<bool, TextFault>
         ensures reads { FillsOn self.old self.new entry.new result }
         ensures some { IfOk result (λ more. OnTrue more (HasEntry self.old.left)) }
     {
@@ -195,7 +187,7 @@ impl<'a> Reader<'a> {
     /// Reads the next line where it is one that `quick_line` knows, and within the limits. Where it answers
     /// `false`, the entry may be any.
     #[inline]
-    fn read_quickly(&mut self, entry: &mut Entry) -> bool
+    fn read_quickly(&mut self, entry: &mut hub_base::Entry) -> bool
         requires some { 0 < self.old.bytes }
         ensures reads { OnTrue result (FillsOn self.old self.new entry.new (Ok true)) }
         ensures some { OnTrue result (HasEntry self.old.left) }
@@ -219,7 +211,7 @@ impl<'a> Reader<'a> {
     /// Reads the next line where it is an exit that `quick_exit` knows, and within the limits. Where it answers `false`,
     /// the entry may be any.
     #[inline(never)]
-    fn read_exit(&mut self, entry: &mut Entry) -> bool
+    fn read_exit(&mut self, entry: &mut hub_base::Entry) -> bool
         requires some { 0 < self.old.bytes }
         ensures reads { OnTrue result (FillsOn self.old self.new entry.new (Ok true)) }
         ensures some { OnTrue result (HasEntry self.old.left) }
@@ -242,7 +234,7 @@ impl<'a> Reader<'a> {
 
     /// Reads any next line: its end is looked for, then its fields, and then their numbers.
     #[inline(never)]
-    fn read_slowly(&mut self, entry: &mut Entry) -> Result<bool, TextFault>
+    fn read_slowly(&mut self, entry: &mut hub_base::Entry) -> Result<bool, TextFault>
         requires some { 0 < self.old.bytes }
         ensures reads { FillsOn self.old self.new entry.new result }
         ensures some { IfOk result (λ more. OnTrue more (HasEntry self.old.left)) }
@@ -261,7 +253,7 @@ impl<'a> Reader<'a> {
                 kind,
             }),
         }
-        if !is_exit(entry) {
+        if !entry.step.by_slice().is_exit() {
             if self.steps == MOST_STEPS {
                 return Err(TextFault {
                     line: self.line,
@@ -278,14 +270,11 @@ impl<'a> Reader<'a> {
 
     /// The next entry, or `None` at the end of the text. At the end and at a fault the reader stays
     /// where it is, so that each further call answers the same.
-    pub fn next_entry(&mut self) -> Result<Option<Entry>, TextFault>
+    pub fn next_entry(&mut self) -> Result<Option<hub_base::Entry>, TextFault>
         ensures reads { ReadsOn self.old self.new result }
         ensures some { IfOk result (λ next. OnSome next (HasEntry self.old.left)) }
     {
-        let mut entry = Entry {
-            pid: Pid(0),
-            step: Step::Exit,
-        };
+        let mut entry = hub_base::Entry::blank();
         match self.read_into(&mut entry) {
             Ok(true) => Ok(Some(entry)),
             Ok(false) => Ok(None),

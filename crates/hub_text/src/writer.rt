@@ -15,7 +15,8 @@ ghost use Rattle.hub_base.specs.Value.{value_field};
 use crate::event_lines::{MOST_VALUE, put_bytes, put_event};
 use crate::limits::MOST_LINE;
 use hub_base::{
-    Case, Edition, Entry, Event, Head, Journal, MOST_PROCS, NoMemory, Port, Step, Value, What,
+    Case, Edition, Entry, EntryRef, Event, Head, Journal, MOST_PROCS, NoMemory, Port, Step,
+    StepRef, Value, What,
 };
 use itoa::Buffer;
 use std::alloc::AllocError;
@@ -180,7 +181,7 @@ fn put_call(out: &mut Vec<u8>, cases: &[Case], default: bool, word: u64) -> Resu
 }
 
 /// Appends a step, behind a space.
-fn put_step(out: &mut Vec<u8>, step: &Step) -> Result<(), AllocError>
+fn put_step(out: &mut Vec<u8>, step: &StepRef<'_>) -> Result<(), AllocError>
     ensures { Appends out.old out.new (spaced (step_fields step.now)) result }
 {
     match step {
@@ -197,7 +198,7 @@ fn put_step(out: &mut Vec<u8>, step: &Step) -> Result<(), AllocError>
 }
 
 /// Appends a line.
-fn put_entry(out: &mut Vec<u8>, entry: &Entry) -> Result<(), AllocError>
+fn put_entry(out: &mut Vec<u8>, entry: &EntryRef<'_>) -> Result<(), AllocError>
     ensures { Appends out.old out.new (line entry.now) result }
 {
     put_number(out, entry.pid.0.into())?;
@@ -207,7 +208,11 @@ fn put_entry(out: &mut Vec<u8>, entry: &Entry) -> Result<(), AllocError>
 
 /// Appends the one spelling, a line, of an entry that this edition has; `Err` where a growth was refused, with
 /// nothing appended. It is read again as this entry.
-pub fn write_entry(out: &mut Vec<u8>, edition: Edition, entry: &Entry) -> Result<(), NoMemory>
+pub fn write_entry(
+    out: &mut Vec<u8>,
+    edition: Edition,
+    entry: &EntryRef<'_>,
+) -> Result<(), NoMemory>
     requires fits { is_of edition entry.now.step ≡ true }
     ensures ok { OnOk result (out.new.items ≡ out.old.items ++ line entry.now) }
     ensures err { OnErr result (out.new.items ≡ out.old.items) }
@@ -260,7 +265,7 @@ fn put_entries(out: &mut Vec<u8>, entries: &[Entry]) -> Result<(), AllocError>
     ensures { Appends out.old out.new (flat_map line entries.now) result }
 {
     for entry in entries {
-        match put_entry(out, entry) {
+        match put_entry(out, &entry.by_slice()) {
             Ok(()) => {}
             Err(AllocError) => return Err(AllocError),
         }

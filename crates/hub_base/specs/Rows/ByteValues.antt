@@ -3,7 +3,7 @@ use Rattle.std.specs.Prelude.{◌≡◌, ℕ, List, true, false, [], ◌∷◌, 
 use Rattle.std.specs.List.{range_with_len}
 use Rattle.hub_base.specs.declared.case.Case.{Case}
 use Rattle.hub_base.specs.declared.case.Case.TheVariants.{Send}
-use Rattle.hub_base.specs.declared.entry.Entry.{Entry}
+use Rattle.hub_base.specs.Entry.{Entry}
 use Rattle.hub_base.specs.declared.event.Event.{Event}
 use Rattle.hub_base.specs.declared.event.Outcome.TheVariants.{Sent, Got}
 use Rattle.hub_base.specs.Notation.{procs_two, port, s, r, make, select, recv, cancel, made, case, got, defaulted, parked, done, cancelled}

@@ -1,7 +1,7 @@
 -- What a close does: to values, to calls that wait, and to later calls.
 -- Go: "Close", "Receive operator", "Send statements".
 use Rattle.std.specs.Prelude.{◌≡◌, true, false, List, [], ◌∷◌, Some, refl}
-use Rattle.hub_base.specs.declared.entry.Entry.{Entry}
+use Rattle.hub_base.specs.Entry.{Entry}
 use Rattle.hub_base.specs.declared.event.Outcome.TheVariants.{Sent, Drained, Closed}
 use Rattle.hub_base.specs.declared.fault.Fault.TheVariants.{AlreadyClosed}
 use Rattle.hub_base.specs.Value.{value_of}

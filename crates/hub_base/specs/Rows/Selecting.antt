@@ -2,7 +2,7 @@
 -- chooses, and that a waiting call fires at its lowest case that fits, is this project's choice.
 use Rattle.std.specs.Prelude.{◌≡◌, true, false, List, [], ◌∷◌, ◌++◌, flat_map, map, refl}
 use Rattle.std.specs.List.{range_with_len}
-use Rattle.hub_base.specs.declared.entry.Entry.{Entry}
+use Rattle.hub_base.specs.Entry.{Entry}
 use Rattle.hub_base.specs.declared.event.Outcome.TheVariants.{Sent}
 use Rattle.hub_base.specs.declared.fault.Fault.TheVariants.{TooManyCases}
 use Rattle.hub_base.specs.Value.{value_of}

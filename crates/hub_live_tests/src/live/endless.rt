@@ -34,7 +34,13 @@ fn follow_row(rt: &impl Abort, hub: &mut EndlessHub, row: Row, place: usize) -> 
             let entry = entry_of(pid, asked);
             assert!(rt; entry.fits(hub.head().edition));
             let mut out = None;
-            compare(rt, hub.step(&entry, &mut out), Pid(pid), told, place);
+            compare(
+                rt,
+                hub.step(&entry.by_slice(), &mut out),
+                Pid(pid),
+                told,
+                place,
+            );
             same(rt, out.map(|chapter| chapter.len()), handed, place);
         }
         Row::Takes(pid, told) => {
@@ -45,7 +51,12 @@ fn follow_row(rt: &impl Abort, hub: &mut EndlessHub, row: Row, place: usize) -> 
         Row::Ended(pids) => same(rt, hub.ended().as_slice(), pids, place),
         Row::Cuts(handed) => same(rt, hub.cut()?.map(|c| c.len()), handed, place),
         Row::Begins(asked, begins) => {
-            same(rt, hub.begins(&entry_of(0, asked).step), begins, place);
+            same(
+                rt,
+                hub.begins(&entry_of(0, asked).step.by_slice()),
+                begins,
+                place,
+            );
         }
         Row::Keeps(before, present) => {
             let kept = (hub.before().map(|c| c.len()), hub.present().len());

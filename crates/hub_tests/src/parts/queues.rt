@@ -3,7 +3,7 @@
 ghost use Rattle.std.specs.Prelude.{◌≡◌, ◌≤◌, ◌<◌, ◌+◌, ◌∷◌, [], length};
 
 use crate::compare::same;
-use hub_base::{Case, Cases, Pid, Port};
+use hub_base::{Case, CaseSlice, Cases, Pid, Port};
 use hub_parts::{Board, Side};
 use std::process::Abort;
 
@@ -38,7 +38,7 @@ fn select(rt: &impl Abort, board: &mut Board, ticket: u32)
 {
     assert!(rt; !board.open(Pid(1)), "it waits no more");
     let cases = cases_of(Case::Recv(Port(1)), Case::Recv(Port(2)));
-    board.park(Pid(1), ticket, &cases);
+    board.park(Pid(1), ticket, &CaseSlice::of(&cases));
 }
 
 /// A select is served at the port of one of its two cases.

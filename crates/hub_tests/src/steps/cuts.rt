@@ -42,7 +42,7 @@ const AFTER: &[Row] = &[
 fn make_step(rt: &impl Abort, hub: &mut ShortHub, entry: Entry) -> Result<Events, Fault> {
     assert!(rt; entry.fits(hub.head().edition));
     let mut events = Events::new();
-    hub.step_into(entry, &mut events)?;
+    hub.step_into(&entry.by_slice(), &mut events)?;
     Ok(events)
 }
 
@@ -107,7 +107,7 @@ fn record(
     assert!(rt; entry.fits(recorder.present().head().edition));
     let mut events = Events::new();
     let mut out = None;
-    recorder.step_into(&entry, &mut events, &mut out)?;
+    recorder.step_into(&entry.by_slice(), &mut events, &mut out)?;
     are_told(rt, events.as_slice(), &[(0, told)]);
     Ok(len_of(out))
 }

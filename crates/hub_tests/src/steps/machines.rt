@@ -13,7 +13,7 @@ use std::test::Fail;
 fn refused_steps_are_told(rt: HostRuntime) -> Result<(), Fail> {
     let mut machine = Machine::new(rt.alloc(), first(2))?;
     tell_all(&rt, &mut machine);
-    let refused = machine.step(&entry_of(0, Ask::Make(0)), &mut Events::new());
+    let refused = machine.step(&entry_of(0, Ask::Make(0)).by_slice(), &mut Events::new());
     same(&rt, refused.err(), Some(Fault::Gone), "gone");
     Ok(())
 }
@@ -44,7 +44,7 @@ fn tell(rt: &impl Abort, machine: &mut Machine, pid: u8, asked: Ask, told: &[(u8
     ensures { machine.new.steps ≤ machine.old.steps + 1 }
 {
     let mut events = Events::new();
-    let answered = machine.answer(&entry_of(pid, asked), &mut events);
+    let answered = machine.answer(&entry_of(pid, asked).by_slice(), &mut events);
     same(rt, answered.is_ok(), true, pid);
     are_told(rt, events.as_slice(), told);
 }

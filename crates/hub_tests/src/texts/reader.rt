@@ -28,7 +28,7 @@ fn read_all(rt: &impl Abort, written: &mut Vec<u8>) -> Result<(), Fail> {
     for place in 0..6 {
         same(rt, reader.read_into(&mut entry)?, true, place);
         assert!(rt; entry.fits(reader.head().edition));
-        write_entry(written, reader.head().edition, &entry)?;
+        write_entry(written, reader.head().edition, &entry.by_slice())?;
     }
     same(rt, reader.read_into(&mut entry)?, false, "behind the last");
     Ok(())

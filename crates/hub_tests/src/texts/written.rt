@@ -72,7 +72,7 @@ fn is_text(rt: &impl Abort, alloc: Global, journal: &Journal, text: &[u8]) -> Re
 fn write_entries(rt: &impl Abort, out: &mut Vec<u8>, journal: &Journal) -> Result<(), Fail> {
     for entry in journal.entries() {
         assert!(rt; entry.fits(journal.edition()));
-        write_entry(out, journal.edition(), entry)?;
+        write_entry(out, journal.edition(), &entry.by_slice())?;
     }
     Ok(())
 }

@@ -1,6 +1,6 @@
 use Rattle.std.proofs.Common.{◌≡◌, ◌∙◌, Some, List, ◌++◌, ◌∷◌, [], ap, sym, subst, refl, arith, take, length, ◌+◌, ◌≤◌}
 use Rattle.std.specs.Prelude.{slice_get}
-use Rattle.hub_base.specs.declared.entry.Entry.{Entry}
+use Rattle.hub_base.specs.Entry.{Entry}
 use Rattle.hub_base.specs.declared.limits.TheConstants.{MOST_STEPS}
 use Rattle.hub_base.specs.Head.{is_of}
 use Rattle.hub_base.specs.Text.{one_step, steps_of}

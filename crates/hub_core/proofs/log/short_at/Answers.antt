@@ -10,8 +10,8 @@ pub own-requires : goal.own-requires
 own-requires c =
     (stands_at c.args.briefs.now c.args.cases.now c.args.place c.in-Some.brief.now c.requires.briefs c.requires.begin c.in-Some.ensures.lookup.3).within
 
-pub entry-requires : goal.entry-requires
-entry-requires c =
+pub by_slice-requires : goal.by_slice-requires
+by_slice-requires c =
     let here = stands_at c.args.briefs.now c.args.cases.now c.args.place c.in-Some.brief.now c.requires.briefs c.requires.begin c.in-Some.ensures.lookup.3 in
     omega (arith, here.few, c.own.ensures.count)
 
@@ -19,4 +19,4 @@ pub returns : goal.returns
 returns c =
     let b = c.in-Some.brief.now in
     let here = stands_at c.args.briefs.now c.args.cases.now c.args.place b c.requires.briefs c.requires.begin c.in-Some.ensures.lookup.3 in
-    ap Some (c.entry.ensures ∙ ap (entry_of b) c.own.ensures.own) ∙ sym here.is
+    ap Some (c.by_slice.ensures ∙ ap (entry_of b) c.own.ensures.own) ∙ sym here.is

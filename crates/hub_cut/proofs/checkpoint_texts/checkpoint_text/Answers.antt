@@ -1,6 +1,6 @@
 use Rattle.std.proofs.Common.{◌≡◌, ◌++◌, ◌∙◌, sym, ap, subst, List, ℕ}
 use Rattle.std.specs.List.{AllByRecursion, flat_map}
-use Rattle.hub_base.specs.declared.entry.Entry.{Entry}
+use Rattle.hub_base.specs.Entry.{Entry}
 use Rattle.hub_base.specs.declared.head.Head.{Head}
 use Rattle.hub_base.specs.Head.{AreOf, IsHead}
 use Rattle.hub_base.specs.Lines.{line}

@@ -1,5 +1,5 @@
 use Rattle.std.proofs.Common.{◌∙◌, ap}
-use Rattle.hub_base.specs.declared.entry.Entry.{Entry}
+use Rattle.hub_base.specs.Entry.{Entry}
 use Rattle.hub_base.specs.Head.{is_of}
 use Rattle.hub_base.specs.Steps.{refusal}
 use Rattle.hub_core.specs.HubView.{HubView, state_of}
@@ -14,16 +14,16 @@ make_step-requires c =
     let i = c.loop-entry.entry-index in
     let e = c.entry-item.result in
     let so = c.loop-entry.invariant in
-    record {
+    rw c.by_slice.ensures (record {
       fits = ap (λ (h : HubView). is_of h.terms.head.edition e.step) so
           ∙ all_at (λ (x : Entry). is_of base.terms.head.edition x.step) es i e c.requires.can.fits c.loop-entry-test.true c.entry-item.is;
       room = λ step. rw so (room_behind_at base.journal es i e base.terms.limit c.requires.can.few c.loop-entry-test.true c.entry-item.is step);
       admitted = ap (λ (h : HubView). refusal (state_of h) e.pid) so
           ∙ admitted_behind_at base.terms.head base.journal es i e c.requires.can.legal c.loop-entry-test.true c.entry-item.is;
-    }
+    })
 
 pub loop-entry-preserved : goal.loop-entry-preserved
 loop-entry-preserved c =
     one_more_made c.args.hub.now.memory.hub c.loop-entry.hub.memory.hub c.make_step.new.hub.memory.hub c.args.entries.now c.loop-entry.entry-index
     c.entry-item.result c.make_step.new.events.items c.requires.can.places c.loop-entry-test.true c.entry-item.is c.loop-entry.invariant
-    c.in_ok-make_step.ensures.ok
+    (rw c.by_slice.ensures at c.in_ok-make_step.ensures.ok)

@@ -1,6 +1,6 @@
 -- What is left of the text stands behind entries that were read.
 use Rattle.std.proofs.Common.{◌≡◌, List}
-use Rattle.hub_base.specs.declared.entry.Entry.{Entry}
+use Rattle.hub_base.specs.Entry.{Entry}
 use Rattle.hub_base.specs.Reading.{behind}
 use Rattle.hub_serve.proofs.lines.read_out.Given as goal
 

@@ -1,5 +1,5 @@
 use Rattle.std.proofs.Common.{◌∙◌, sym, ap, map, List}
-use Rattle.hub_base.specs.declared.entry.Entry.{Entry}
+use Rattle.hub_base.specs.Entry.{Entry}
 use Rattle.hub_story.specs.Waiting.{still_waiting, open_call}
 use Rattle.hub_story.proofs.Ordered.{in-order}
 use Rattle.hub_story.proofs.Ending.{places-below, waits-still}

@@ -1,6 +1,6 @@
 use Rattle.std.proofs.Common.{◌≡◌, ◌∙◌, ◌++◌, ap, subst, sym, codes, decimal, length, slice_get, []}
 use Rattle.std.specs.Option.{option_map_or}
-use Rattle.hub_base.specs.declared.entry.Entry.{Entry}
+use Rattle.hub_base.specs.Entry.{Entry}
 use Rattle.hub_story.specs.Levels.{received_by, sent_by}
 use Rattle.hub_story.specs.Passing.{receives, sends}
 use Rattle.hub_story_text.specs.Closers.{closer_of}

@@ -1,4 +1,4 @@
-use Rattle.std.proofs.Common.{◌∙◌, codes}
+use Rattle.std.proofs.Common.{codes}
 use Rattle.std.specs.List.{flat_map}
 use Rattle.hub_story_text.specs.LastMoves.{mover_at}
 use Rattle.hub_story_text.specs.WaiterText.{case_words, who_words}
@@ -12,4 +12,4 @@ returns c =
     (one-more c.args.out.now.items c.put_who.new.out.items c.put_cases.new.out.items (who_words (codes " waits since step ") c.args.told.now)
     (flat_map (case_words (mover_at c.args.moves.now.sent.items) (mover_at c.args.moves.now.received.items))
     (cases_at c.args.entries.now c.args.told.now.asked)) c.in_ok-put_who.ensures)
-    (rw (c.deref.ensures.0 ∙ c.cases_at.ensures) at c.put_cases.ensures)
+    (rw c.cases_at.ensures at c.put_cases.ensures)

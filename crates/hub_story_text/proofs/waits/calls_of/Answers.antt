@@ -1,5 +1,5 @@
 use Rattle.std.proofs.Common.{◌<◌, arith, length}
-use Rattle.hub_base.specs.declared.entry.Entry.{Entry}
+use Rattle.hub_base.specs.Entry.{Entry}
 use Rattle.hub_story_text.specs.Waits.{is_call}
 use Rattle.hub_story_text.proofs.Ranks.{count-next, one-at-most}
 use Rattle.hub_story_text.proofs.waits.calls_of.Goals as goal

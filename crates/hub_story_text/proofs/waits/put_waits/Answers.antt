@@ -1,6 +1,6 @@
 use Rattle.std.proofs.Common.{◌++◌, [], codes, count_by, decimal, length}
 use Rattle.std.specs.List.{flat_map}
-use Rattle.hub_base.specs.declared.entry.Entry.{Entry}
+use Rattle.hub_base.specs.Entry.{Entry}
 use Rattle.hub_story_text.specs.Explained.{entries_of, told_of}
 use Rattle.hub_story_text.specs.Waits.{is_call, line_at, longest, waits}
 use Rattle.hub_story_text.proofs.Chains.{on-ok, two, one-more, two-more}

@@ -1,6 +1,6 @@
 use Rattle.std.proofs.Common.{subst, sym}
 use Rattle.hub_text.specs.Quick.{Begins}
-use Rattle.hub_base.specs.declared.entry.Entry.{Entry}
+use Rattle.hub_base.specs.Entry.{Entry}
 use Rattle.hub_text.proofs.QuickLines.{begins-line}
 use Rattle.hub_text.proofs.quick.quick_line.Goals as goal
 

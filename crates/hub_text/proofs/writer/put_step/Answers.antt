@@ -12,7 +12,7 @@ returns-in-Make c =
 pub returns-in-Call : goal.returns-in-Call
 returns-in-Call c =
     subst (λ text. Appends c.args.out.now c.put_call.new.out text c.put_call.result)
-    (ap (λ cs. spaced (call_fields cs c.in-Call.default c.in-Call.word)) c.as_slice.ensures.value
+    (ap (λ cs. spaced (call_fields cs c.in-Call.default c.in-Call.word)) c.as_slice.ensures.cases
     ∙ ap (λ s. spaced (step_fields s)) (sym c.in-Call.is)) c.put_call.ensures
 
 pub returns-in-Close : goal.returns-in-Close

@@ -1,5 +1,5 @@
 use Rattle.std.proofs.Common.{ℕ, ◌∙◌, ap, subst}
-use Rattle.hub_base.specs.declared.entry.Entry.{Entry}
+use Rattle.hub_base.specs.Entry.{Entry}
 use Rattle.hub_base.specs.Notation.{cancel}
 use Rattle.hub_c.specs.Stepping.{Stepped}
 use Rattle.hub_c.proofs.session.Session.cancel.Goals as goal

@@ -1,5 +1,5 @@
 use Rattle.std.proofs.Common.{◌∙◌, ◌++◌, ◌∷◌, [], List, ap, sym}
-use Rattle.hub_base.specs.declared.entry.Entry.{Entry}
+use Rattle.hub_base.specs.Entry.{Entry}
 use Rattle.hub_core.specs.LogView.{LogView}
 use Rattle.hub_core.proofs.Logs.{all_whole}
 use Rattle.hub_core.proofs.log.Log.push.Goals as goal

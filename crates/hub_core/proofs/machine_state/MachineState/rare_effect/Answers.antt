@@ -4,7 +4,7 @@ use Rattle.hub_parts.specs.Lists.{open_calls}
 use Rattle.hub_core.specs.Records.{MachineLists}
 use Rattle.hub_base.specs.declared.event.Event.{Event}
 use Rattle.hub_base.specs.declared.event.What.TheVariants as what
-use Rattle.hub_base.specs.declared.entry.Step.{Step}
+use Rattle.hub_base.specs.Entry.{Step}
 use Rattle.hub_base.specs.declared.entry.Step.TheVariants.{Close}
 use Rattle.hub_base.specs.Steps.{tells}
 use Rattle.hub_core.specs.ListSteps.{effect_on, closing_events, refusal_of}

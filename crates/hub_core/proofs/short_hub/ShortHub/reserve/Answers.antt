@@ -1,5 +1,5 @@
 use Rattle.std.proofs.Common.{◌∙◌, ap, sym, subst, arith, length, List}
-use Rattle.hub_base.specs.declared.entry.Entry.{Entry}
+use Rattle.hub_base.specs.Entry.{Entry}
 use Rattle.hub_base.specs.Head.{AreOf}
 use Rattle.hub_base.specs.Runs.{kept}
 use Rattle.hub_base.specs.Text.{steps_of}
@@ -20,5 +20,4 @@ invariant_of-self-then-k-self c =
       count = c.self.invariant.count ∙ ap steps_of (sym same);
       within = c.self.invariant.within;
       room = omega (arith, few, c.in_ok-reserve_more.ensures.ok, ap (λ (es : List Entry). length es) same, c.self.invariant.count);
-      newest = λ short es e is. c.self.invariant.newest (λ none. short (c.in_ok-reserve_more.ensures.short ∙ none)) es e (sym same ∙ is);
     }

@@ -8,19 +8,19 @@ use Rattle.hub_cut.proofs.ChapterTexts.{counts_longer}
 use Rattle.hub_cut.proofs.Recording.{bytes_below, goes_next, refuses_next, records_next}
 use Rattle.hub_cut.proofs.recorder.Recorder.go_on.Goals as goal
 
-pub returns-in_err-step_by-clause-refused : goal.returns-in_err-step_by-clause-refused
-returns-in_err-step_by-clause-refused c =
+pub returns-in_err-step_into-clause-refused : goal.returns-in_err-step_into-clause-refused
+returns-in_err-step_into-clause-refused c =
     let p = err_from_is_err_and c.from_residual.result c.from_residual.ensures.1 in
     let old = shown c.self.inside in
     let e = c.args.entry.now in
     let room : begins old e.step ≡ false = subst (λ (r : RecorderView). begins r e.step ≡ false) (sym c.self.view_is) c.requires.room in
     rw (p.1, p.2, ← c.self.view_is)
-    (refuses_next old e c.in_err-step_by.field-0.0 c.self.invariant.head c.self.invariant.limit c.self.invariant.keep
-    room c.in_err-step_by.ensures.rules.refused)
+    (refuses_next old e c.in_err-step_into.field-0.0 c.self.invariant.head c.self.invariant.limit c.self.invariant.keep
+    room c.in_err-step_into.ensures.rules.refused)
 
 pub invariant_of-self-2 : goal.invariant_of-self-2
 invariant_of-self-2 c =
-    let steps = c.in_ok-step_by.ensures.ok in
+    let steps = c.in_ok-step_into.ensures.ok in
     let old = shown c.self.inside in
     let e = c.args.entry.now in
     let room : begins old e.step ≡ false = subst (λ (r : RecorderView). begins r e.step ≡ false) (sym c.self.view_is) c.requires.room in
@@ -47,4 +47,4 @@ returns-clause-ok c =
     let e = c.args.entry.now in
     let room : begins old e.step ≡ false = subst (λ (r : RecorderView). begins r e.step ≡ false) (sym c.self.view_is) c.requires.room in
     rw (← c.self.view_is, c.share_of-share.ensures.steps, c.share_of-share.ensures.bytes)
-    (goes_next old e c.step_by.new.events.items c.step_by.new.hub.memory.hub room c.in_ok-step_by.ensures.ok)
+    (goes_next old e c.step_into.new.events.items c.step_into.new.self.memory.hub room c.in_ok-step_into.ensures.ok)

@@ -1,6 +1,6 @@
 use Rattle.std.proofs.Common.{◌≡◌, ◌+◌, ◌≤◌, ℕ, true, List, length, refl, ap, sym, ◌∙◌, subst, arith, Err, Ok}
 use Rattle.std.specs.Borrow.{Bor}
-use Rattle.hub_base.specs.declared.entry.Entry.{Entry}
+use Rattle.hub_base.specs.Entry.{Entry}
 use Rattle.hub_base.specs.declared.head.Head.{Head}
 use Rattle.hub_base.specs.declared.limits.TheConstants.{MOST_BYTES}
 use Rattle.hub_text.specs.declared.reader.Reader.TheInside.{Inside}
@@ -8,7 +8,7 @@ use Rattle.hub_base.specs.Head.{is_of}
 use Rattle.hub_base.specs.Lines.{pieces}
 use Rattle.hub_text.specs.Reader.{ReaderView}
 use Rattle.hub_text.specs.ReaderKeeps.{left_of}
-use Rattle.hub_base.specs.Reading.{rows, entries_from, counted, HasEntry}
+use Rattle.hub_base.specs.Reading.{rows, entries_from, counted, HasEntry, is_exit}
 use Rattle.hub_text.proofs.NextLine.{line-says, too-many, step-counts, exit-counts, entry-next, Next}
 use Rattle.hub_text.proofs.Running.{has-entry}
 use Rattle.hub_text.proofs.Takes.{fields-take}
@@ -24,15 +24,17 @@ returns-in-Err-read_line-clause-reads c = record {
 }
 
 pub returns-then-self-eq-MOST_STEPS-clause-reads : goal.returns-then-self-eq-MOST_STEPS-clause-reads
-returns-then-self-eq-MOST_STEPS-clause-reads c = record {
-  fault = ap (λ (r : ReaderView). r.left) (sym c.self.view_is)
-      ∙ line-says c.self.inside c.in-Ok.parts.0.now (rows c.in-Ok.parts.1.now) (Ok c.read_line.new.entry) c.in-Ok.ensures.line c.in-Ok.ensures.fits
-      c.in-Ok-read_line.ensures
-      ∙ too-many c.self.inside.line c.self.inside.steps c.read_line.new.entry
-      (λ e. entries_from c.self.inside.head (c.self.inside.line + 1) (c.self.inside.place + length c.in-Ok.parts.0.now + 1)
-      (counted c.self.inside.steps e) (rows c.in-Ok.parts.1.now)) (sym c.is_exit.ensures ∙ c.if-not-is_exit.true) (omega arith);
-  unchanged = refl;
-}
+returns-then-self-eq-MOST_STEPS-clause-reads c =
+    let exit = ap is_exit (sym c.by_slice.ensures) ∙ sym c.is_exit.ensures in
+    record {
+      fault = ap (λ (r : ReaderView). r.left) (sym c.self.view_is)
+          ∙ line-says c.self.inside c.in-Ok.parts.0.now (rows c.in-Ok.parts.1.now) (Ok c.read_line.new.entry) c.in-Ok.ensures.line c.in-Ok.ensures.fits
+          c.in-Ok-read_line.ensures
+          ∙ too-many c.self.inside.line c.self.inside.steps c.read_line.new.entry
+          (λ e. entries_from c.self.inside.head (c.self.inside.line + 1) (c.self.inside.place + length c.in-Ok.parts.0.now + 1)
+          (counted c.self.inside.steps e) (rows c.in-Ok.parts.1.now)) (exit ∙ c.if-not-is_exit.true) (omega arith);
+      unchanged = refl;
+    }
 
 next-some : (r s : Inside) (e : Entry) (text : List ℕ) (rest : Bor (List ℕ)) → 3 ≤ r.line → r.place + length text + 1 ≤ MOST_BYTES → Next r s e text rest
     → HasEntry (left_of r)
@@ -41,16 +43,17 @@ next-some r s e text rest behind_head fits next = has-entry s.head s.line (s.pla
 
 pub returns : goal.returns
 returns c =
+    let exit = ap is_exit (sym c.by_slice.ensures) ∙ sym c.is_exit.ensures in
     let next : Next c.self.inside c.if-not-is_exit.self-inside c.read_line.new.entry c.in-Ok.parts.0.now c.in-Ok.parts.1 =
     elim c.if-not-is_exit.branch [
       | then-not-is_exit+else-self-eq-MOST_STEPS w ↦
           entry-next c.self.inside c.if-not-is_exit.self-inside c.read_line.new.entry c.in-Ok.parts.0.now c.in-Ok.parts.1 (c.self.inside.steps + 1)
           c.in-Ok.ensures.line c.in-Ok.ensures.fits c.in-Ok-read_line.ensures
-          (step-counts c.self.inside.steps c.read_line.new.entry (sym c.is_exit.ensures ∙ w.if-not-is_exit.true) (omega arith)) w.self-inside-is
+          (step-counts c.self.inside.steps c.read_line.new.entry (exit ∙ w.if-not-is_exit.true) (omega arith)) w.self-inside-is
       | else-not-is_exit w ↦
           entry-next c.self.inside c.if-not-is_exit.self-inside c.read_line.new.entry c.in-Ok.parts.0.now c.in-Ok.parts.1 c.self.inside.steps
           c.in-Ok.ensures.line c.in-Ok.ensures.fits c.in-Ok-read_line.ensures
-          (exit-counts c.self.inside.steps c.read_line.new.entry (sym c.is_exit.ensures ∙ w.if-not-is_exit.false) c.self.invariant.steps) w.self-inside-is
+          (exit-counts c.self.inside.steps c.read_line.new.entry (exit ∙ w.if-not-is_exit.false) c.self.invariant.steps) w.self-inside-is
     ] in
     let left = ap (λ (r : ReaderView). r.left) (sym c.self.view_is) in
     record {

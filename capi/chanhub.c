@@ -103,6 +103,8 @@ struct chanhub {
     uint64_t open;              /* whose call is open: it has parked, and its answer is not picked up */
     uint64_t awaited;           /* for whose answer a thread waits now */
     atomic_uint sleepers;       /* how many threads sleep for the lock */
+    uint32_t limit;             /* the most steps that are no exits; 0 where the hub never ends */
+    uint32_t exits;             /* how many processes have exited */
     bool has_buffer;            /* whether any port may have one */
     bool waits;                 /* whether a chapter waits in the hub; the thread that claimed it hands it out */
     bool handing;               /* whether a chapter is being handed out */
@@ -142,6 +144,7 @@ static int open_hub(chanhub **hub, unsigned edition, unsigned procs, uint32_t li
         free(h);
         return refusal;
     }
+    h->limit = life == ENDS ? limit : 0;
     pthread_mutex_init(&h->lock, NULL);
     pthread_cond_init(&h->handed, NULL);
     for (int pid = 0; pid < MOST_PROCS; pid++) init_place(&h->places[pid]);
@@ -159,6 +162,69 @@ int chanhub_open_endless(chanhub **hub, unsigned edition, unsigned procs, uint32
     (*hub)->chapters = chapters;
     (*hub)->pointer = pointer;
     return 0;
+}
+
+/* ---- Texts. ---- */
+
+#define TEXT_OF(number) #number
+#define VERSION_OF(major, minor) TEXT_OF(major) "." TEXT_OF(minor)
+
+const char *chanhub_version(void) {
+    return VERSION_OF(CHANHUB_VERSION_MAJOR, CHANHUB_VERSION_MINOR);
+}
+
+/* The text with this number in a table of so many. */
+static const char *text_at(const char *const *texts, size_t count, int number) {
+    bool is_there = number >= 0 && (size_t)number < count && texts[number];
+    return is_there ? texts[number] : "a number that chanhub.h does not define";
+}
+
+const char *chanhub_strerror(int error) {
+    static const char *const texts[] = {
+        "no error",
+        "the number of processes must be between 1 and 64",
+        "the step limit must be between 1 and 1,000,000, and the number of steps to keep between 1 and 900,000",
+        "out of memory",
+        "the edition must be 1 or 2",
+    };
+    return text_at(texts, sizeof texts / sizeof *texts, error);
+}
+
+const char *chanhub_strfault(int fault) {
+    static const char *const texts[] = {
+        "no fault",
+        [CHANHUB_NO_PROCESS] = "no such process",
+        [CHANHUB_GONE] = "the process has exited",
+        [CHANHUB_BUSY] = "a call of the process is still open",
+        [CHANHUB_TOO_MANY_CASES] = "more than 8 cases in edition 1",
+        [CHANHUB_NO_PORT] = "no such port",
+        [CHANHUB_BAD_CAP] = "the capacity is above 1,024",
+        [CHANHUB_TOO_MANY_PORTS] = "the hub already has 64 ports",
+        [CHANHUB_NIL_CLOSE] = "close of port 0",
+        [CHANHUB_ALREADY_CLOSED] = "close of a closed port",
+        [CHANHUB_JOURNAL_FULL] = "the hub has reached its step limit",
+        [CHANHUB_NO_MEMORY] = "out of memory",
+        [CHANHUB_NOT_PARKED] = "the process has no waiting call",
+        [CHANHUB_BAD_CALL] = "no hub, a number out of range, more than 16 cases or 32 bytes, or a call that needs edition 2",
+    };
+    return text_at(texts, sizeof texts / sizeof *texts, fault);
+}
+
+const char *chanhub_what_name(int what) {
+    static const char *const names[] = {
+        [CHANHUB_MADE] = "made",
+        [CHANHUB_SENT] = "sent",
+        [CHANHUB_GOT] = "got",
+        [CHANHUB_DRAINED] = "drained",
+        [CHANHUB_CLOSED] = "closed",
+        [CHANHUB_DEFAULT] = "default",
+        [CHANHUB_DONE] = "done",
+        [CHANHUB_WAITING] = "parked",
+        [CHANHUB_STALLED] = "stalled",
+        [CHANHUB_FAULT] = "fault",
+        [CHANHUB_CANCELLED] = "cancelled",
+    };
+    return text_at(names, sizeof names / sizeof *names, what);
 }
 
 /* ---- Values and answers. ---- */
@@ -525,6 +591,7 @@ static inline chanhub_told bare_step(chanhub *h, uint8_t kind, uint8_t pid, uint
     uint64_t answer;
     do answer = hub_c_do(h->hub, kind, pid, port, value);
     while (is_to_be_made_again(h, pid, answer));
+    if (kind == EXIT && !(answer & REFUSED)) h->exits++;
     return finish(h, pid, answer, nanoseconds);
 }
 
@@ -641,6 +708,21 @@ chanhub_told chanhub_select(chanhub *h, unsigned pid, const chanhub_case *cases,
     return select_for(h, pid, cases, count, has_default, word, FOR_EVER);
 }
 
+/* A select of this one case, with a default. */
+static chanhub_told try_case(chanhub *h, unsigned pid, unsigned port, bool sends, chanhub_value value) {
+    if (port > GREATEST_PORT) return fault(CHANHUB_BAD_CALL);
+    chanhub_case one = { .sends = sends, .port = (uint16_t)port, .value = value };
+    return chanhub_select(h, pid, &one, 1, true, 0);
+}
+
+chanhub_told chanhub_try_send(chanhub *h, unsigned pid, unsigned port, chanhub_value value) {
+    return try_case(h, pid, port, true, value);
+}
+
+chanhub_told chanhub_try_recv(chanhub *h, unsigned pid, unsigned port) {
+    return try_case(h, pid, port, false, (chanhub_value){ 0 });
+}
+
 chanhub_told chanhub_begin(chanhub *h, unsigned pid, const chanhub_case *cases, size_t count, bool has_default, uint64_t word) {
     return select_for(h, pid, cases, count, has_default, word, 0);
 }
@@ -686,6 +768,16 @@ chanhub_counts chanhub_look(chanhub *h, unsigned port) {
         .sent = sent,
         .received = received,
     };
+}
+
+/* All entries but the exits count. A refused step makes no entry. */
+uint64_t chanhub_steps_left(chanhub *h) {
+    if (!h) return 0;
+    if (!h->limit) return UINT64_MAX;
+    take_lock(h);
+    uint64_t steps = ask(h, ENTRIES, 0, 0) - h->exits;
+    leave_lock(h);
+    return h->limit - steps;
 }
 
 /* The text of a journal. */

@@ -179,9 +179,11 @@ class _Files(ctypes.Structure):
 
 
 def _library() -> ctypes.CDLL:
-    """Loads libchanhub.so: the file that CHANHUB_LIBRARY names, or the one that make builds, or the installed one."""
-    built = os.path.join(os.path.dirname(os.path.abspath(__file__)), '..', 'out', 'libchanhub.so')
-    path = os.environ.get('CHANHUB_LIBRARY') or (built if os.path.exists(built) else 'libchanhub.so.1')
+    """Loads libchanhub.so: the file that CHANHUB_LIBRARY names, or the one that pip put beside this file, or the one that make builds,
+    or the installed one."""
+    here = os.path.dirname(os.path.abspath(__file__))
+    places = [os.path.join(here, 'libchanhub.so'), os.path.join(here, '..', 'out', 'libchanhub.so')]
+    path = os.environ.get('CHANHUB_LIBRARY') or next(filter(os.path.exists, places), 'libchanhub.so.1')
     library = ctypes.CDLL(path)
     hub, number, size = ctypes.c_void_p, ctypes.c_uint, ctypes.POINTER(ctypes.c_size_t)
     for name, result, arguments in (

@@ -12,6 +12,9 @@ library=$PWD/out
 skipped=0
 export CHANHUB_LIBRARY="$library/libchanhub.so" CHANHUB_LIB="$library" CARGO_TARGET_DIR="$work/target" PYTHONDONTWRITEBYTECODE=1
 cc=${CC:-cc}
+cxx=${CXX:-c++}
+cxxflags='-std=c++17 -O2 -Wall -Wextra -Werror -I.'
+by_cxx=
 flags="-std=c11 -D_DEFAULT_SOURCE -O2 -Wall -Wextra -Werror -I."
 proved="../crates/hub_c/out/libhub_c.a $(dirname "$(rt doc)")/c/liblibc_c.a"
 threads='cancelled second closed stalled handed'
@@ -81,7 +84,7 @@ instructions() {
 
 # costs_little: whether a hub that never ends takes at most a tenth more of them than another hub, with its cuts.
 costs_little() {
-    ends=$(instructions ends 50000) && endless=$(instructions endless 50000 10000) && echo "$ends and $endless" &&
+    ends=$(instructions ends 200000) && endless=$(instructions endless 200000 100000) && echo "$ends and $endless" &&
         [ "$endless" -le $((ends / 10 * 11)) ]
 }
 
@@ -101,6 +104,11 @@ has_only_names() {
     "$@" | sed -n 's/.* [A-Z] //p' | sort > "$work/shown"
     grep -v '^typedef' chanhub.h | grep -o '\bchanhub_[a-z_]*(' | tr -d '(' | sort -u > "$work/declared"
     cmp "$work/shown" "$work/declared"
+}
+
+# is_packaged: whether the library is installed, found and used as packages are, and removed again.
+is_packaged() {
+    tests/package.sh > "$work/package"
 }
 
 # is_installed: whether an installed library is found by pkg-config and used.
@@ -158,11 +166,12 @@ printf '%s\n' 9 'chanhub journal 2' 'procs 1' '0 make 1' '0 send 1 9' '0 recv 1'
 printf 'stalled: 0 recv 2\nstalled: 1 recv 1\n' > "$work/stalled"
 printf 'got 5\nneither\nsent\n' > "$work/choice-lines"
 
-for test in calls crew threads memory endless handing chapters files soak steps; do
+for test in calls conveniences crew threads memory endless handing chapters files soak steps; do
     check "$test builds" "$cc" $flags "tests/$test.c" out/libchanhub.a -lpthread -o "$work/$test"
 done
 check 'resume builds' "$cc" $flags -Wl,--wrap=clock_gettime tests/resume.c out/libchanhub.a -lpthread -o "$work/resume"
 check 'each call' "$work/calls"
+check 'calls that never wait, texts, and the steps that are left' "$work/conveniences"
 check 'a million steps in little memory' "$work/memory"
 for test in $threads; do
     check "threads: $test" "$work/threads" "$test"
@@ -202,10 +211,24 @@ check 'deadlock.c: both are told' grep -qx '2 stalled' "$work/deadlocked"
 grep recv "$work/deadlocked" | sort | sed 's/^/stalled: /' > "$work/calls-left"
 check 'deadlock.c: the journal shows who waited' cmp "$work/calls-left" "$work/stalled"
 check 'the header by C++' "$cc" -x c++ -fsyntax-only -Wall -Wextra -Werror chanhub.h
+if command -v "$cxx" > "$work/found"; then
+    by_cxx=cpp
+    check 'chanhub.hpp alone' "$cxx" -x c++ -fsyntax-only $cxxflags chanhub.hpp
+    check 'cpp builds' "$cxx" $cxxflags tests/cpp.cpp out/libchanhub.a -lpthread -o "$work/cpp"
+    check 'each call from C++' "$work/cpp"
+    check 'an exception ends the program and does not go through C' "$work/cpp" throws
+    check 'pool.cpp builds' "$cxx" $cxxflags examples/pool.cpp out/libchanhub.a -lpthread -o "$work/pool-cpp"
+    check 'pool.cpp' prints "$work/sum" "$work/pool-cpp"
+else
+    skip 'C++' "no $cxx"
+fi
 check 'the names of libchanhub.so' has_only_names nm -D --defined-only "$library/libchanhub.so"
 check 'the names of libchanhub.a' has_only_names nm -g --defined-only "$library/libchanhub.a"
 if command -v pkg-config > "$work/found"; then
     check 'installed' is_installed
+    check 'installed as a package' is_packaged
+    sed -n 's/^skipped: //p' "$work/package" > "$work/lacks"
+    while read -r reason; do skip 'installed as a package' "$reason"; done < "$work/lacks"
 else
     skip 'installed' 'no pkg-config'
 fi
@@ -232,12 +255,19 @@ if echo 'int main(void) { return 0; }' | "$cc" -fsanitize=thread -x c - -o "$wor
     done
     check 'chapters of 40 random runs under the thread sanitizer' chapters sanitized-chapters 40
     check '16 threads without an end under the thread sanitizer' soaks sanitized-soak 3
+    if [ -n "$by_cxx" ]; then
+        check 'the library builds for the thread sanitizer' "$cc" $sanitize -r -nostdlib chanhub.c files.c heap.c -o "$work/sanitized.o"
+        check 'cpp builds for the thread sanitizer' "$cxx" $cxxflags -g -fsanitize=thread tests/cpp.cpp "$work/sanitized.o" $proved \
+            -lpthread -o "$work/sanitized-cpp"
+        check 'each call from C++ under the thread sanitizer' "$work/sanitized-cpp"
+    fi
 else
     skip 'the thread sanitizer' "$cc has none"
 fi
 if command -v valgrind > "$work/found"; then
-    for test in calls "crew $work 1 20" pool 'threads cancelled' 'threads second' 'threads closed' 'resume alone' 'resume threads' \
-        'endless short' 'handing busy' 'handing parked' 'handing woken' 'handing full' 'handing cancelled' "files $(mktemp -d -p "$work")"; do
+    for test in calls conveniences $by_cxx "crew $work 1 20" pool 'threads cancelled' 'threads second' 'threads closed' 'resume alone' \
+        'resume threads' 'endless short' 'handing busy' 'handing parked' 'handing woken' 'handing full' 'handing cancelled' \
+        "files $(mktemp -d -p "$work")"; do
         check "valgrind: $test" valgrind -q --error-exitcode=9 --leak-check=full --show-leak-kinds=all "$work"/$test
     done
     check 'the instructions of a hub that never ends' costs_little

@@ -15,7 +15,8 @@ picture of all its steps, of step FROM, or of steps FROM to TO. Prints the path 
 opens the picture. A run that stalls is explained too.
 With --every, the journal is a shortest run of the scenario that stalls, and what `chanhub_tool explore` says is printed first.
 If no run stalls, that is all, with status 0; if there are too many states, likewise, with status 5.
-The command in OPENER opens the picture, or xdg-open if OPENER is not set. If there is no such command, nothing is opened.
+The command in OPENER opens the picture, or xdg-open if OPENER is not set. If there is no such command, or xdg-open finds no viewer,
+nothing is opened.
 END
 }
 
@@ -63,7 +64,9 @@ echo "$folder/story.txt"
 echo "$folder/picture.svg"
 trap - EXIT
 
-opener=${OPENER:-xdg-open}
-if command -v "$opener" > /dev/null; then
-    "$opener" "$folder/picture.svg"
+# xdg-open fails on a machine without a viewer. The paths are printed, so that is no failure of this script.
+if [ -n "${OPENER-}" ]; then
+    if command -v "$OPENER" > /dev/null; then "$OPENER" "$folder/picture.svg"; fi
+elif command -v xdg-open > /dev/null; then
+    xdg-open "$folder/picture.svg" > /dev/null 2>&1 || true
 fi

@@ -13,8 +13,8 @@ use Rattle.hub_base.specs.Content.{Content}
 use Rattle.hub_base.specs.Content.Content.{Num, Bytes}
 use Rattle.hub_base.specs.Value.{content, number_in, saying, value_of}
 use Rattle.hub_base.proofs.Values.{every_value}
-use Rattle.hub_core.specs.declared.log.Brief.{Brief}
-use Rattle.hub_core.specs.declared.log.Brief.TheVariants as brief
+use Rattle.hub_core.specs.declared.brief.Brief.{Brief}
+use Rattle.hub_core.specs.declared.brief.Brief.TheVariants as brief
 use Rattle.hub_core.specs.LogView.{AreBriefs, BeginsAt, IsBriefOf, StandFrom, case_count, cases_beside, entry_of, first_of, own_of, written}
 
 -- a value that is a number

@@ -9,8 +9,8 @@ use Rattle.hub_base.specs.Lines.{by, call}
 use Rattle.hub_base.specs.Reading.{is_exit}
 use Rattle.hub_base.specs.Value.{value_of}
 use Rattle.hub_base.specs.Values.{cases_or}
-use Rattle.hub_core.specs.declared.log.Brief.{Brief}
-use Rattle.hub_core.specs.declared.log.Brief.TheVariants as brief
+use Rattle.hub_core.specs.declared.brief.Brief.{Brief}
+use Rattle.hub_core.specs.declared.brief.Brief.TheVariants as brief
 
 -- a journal
 pub record LogView : Type 0 where

@@ -4,8 +4,9 @@ ghost use Rattle.std.specs.Prelude.{◌≡◌, ◌≤◌, ◌<◌, ◌-◌, ◌^
 ghost use Rattle.std.specs.Option.{option_map};
 ghost use Rattle.hub_parts.specs.Lists.{open_calls, shown_call};
 ghost use Rattle.hub_parts.specs.Shapes.{IsShapeOf};
-ghost use Rattle.hub_core.specs.Prelude.{AllMade, MOST_EVENTS, is_call, tells};
-ghost use Rattle.hub_core.specs.ListSteps.{call_on, effect_on, turn_on, refusal_of, fault_on, open_on};
+ghost use Rattle.hub_base.specs.declared.entry.Step.TheVariants.{Make, Close, Exit, Cancel};
+ghost use Rattle.hub_core.specs.Prelude.{AllMade, MOST_EVENTS, tells};
+ghost use Rattle.hub_core.specs.ListSteps.{call_on, makes_on, closes_on, exits_on, cancels_on, turn_on, refusal_of, fault_on, open_on};
 ghost use Rattle.hub_core.specs.ListKeeps.{PortsKeep};
 ghost use Rattle.hub_core.specs.Hearing.{Heard};
 ghost use Rattle.hub_core.specs.Looks.{look_on, value_on};
@@ -169,43 +170,59 @@ impl MachineState {
         }
     }
 
-    /// What a step without a fault does that is no call. A make that is refused memory changes nothing.
+    /// Makes a port. Where memory is refused nothing changes.
     #[inline(never)]
-    fn rare_effect<E: Hears>(
-        &mut self,
-        pid: Pid,
-        step: &StepRef<'_>,
-        events: &mut E,
-    ) -> Result<(), NoMemory>
-        requires rare { is_call step.now ≡ false }
-        requires may { MayTakeEffect self.old pid step.now }
+    fn make<E: Hears>(&mut self, pid: Pid, cap: u32, events: &mut E) -> Result<(), NoMemory>
+        requires may { MayTakeEffect self.old pid (Make cap) }
         requires room { MOST_EVENTS ≤ E.room events.old }
-        ensures { TakesEffect E.heard E.room self.old pid step.now
-            self.new events.old events.new result }
+        ensures machine { OnOk result (self.new ≡ (makes_on self.old pid cap).machine) }
+        ensures told { OnOk result (
+            Heard E.heard E.room events.old events.new (makes_on self.old pid cap).events) }
+        ensures unchanged { OnErr result (self.new ≡ self.old) }
+        ensures silent { OnErr result (events.new ≡ events.old) }
     {
-        match step {
-            Step::Make(cap) => {
-                let port = self.counted.board.make(*cap)?;
-                self.counted.tallies.add();
-                events.hear(tells(pid, What::Made(port)));
-            }
-            Step::Call { .. } => unreachable!(),
-            Step::Close(port) => {
-                events.hear(tells(pid, What::Done));
-                close(&mut self.counted.board, events, *port);
-            }
-            Step::Exit => {
-                self.gone[pid.0 as usize] = true;
-                self.left += 1;
-                events.hear(tells(pid, What::Done));
-            }
-            Step::Cancel(other) => {
-                self.counted.board.withdraw(*other);
-                events.hear(tells(pid, What::Done));
-                events.hear(tells(*other, What::Cancelled));
-            }
-        }
+        let port = self.counted.board.make(cap)?;
+        self.counted.tallies.add();
+        events.hear(tells(pid, What::Made(port)));
         Ok(())
+    }
+
+    /// Closes a port: each open call with a case on it ends.
+    #[inline(never)]
+    fn close<E: Hears>(&mut self, pid: Pid, port: Port, events: &mut E)
+        requires may { MayTakeEffect self.old pid (Close port) }
+        requires room { MOST_EVENTS ≤ E.room events.old }
+        ensures machine { self.new ≡ (closes_on self.old pid port).machine }
+        ensures told { Heard E.heard E.room events.old events.new (closes_on self.old pid port).events }
+    {
+        events.hear(tells(pid, What::Done));
+        close(&mut self.counted.board, events, port);
+    }
+
+    /// The process exits.
+    #[inline(never)]
+    fn exit<E: Hears>(&mut self, pid: Pid, events: &mut E)
+        requires may { MayTakeEffect self.old pid Exit }
+        requires room { MOST_EVENTS ≤ E.room events.old }
+        ensures machine { self.new ≡ (exits_on self.old pid).machine }
+        ensures told { Heard E.heard E.room events.old events.new (exits_on self.old pid).events }
+    {
+        self.gone[pid.0 as usize] = true;
+        self.left += 1;
+        events.hear(tells(pid, What::Done));
+    }
+
+    /// Ends the open call of another process, or of itself.
+    #[inline(never)]
+    fn cancel<E: Hears>(&mut self, pid: Pid, other: Pid, events: &mut E)
+        requires may { MayTakeEffect self.old pid (Cancel other) }
+        requires room { MOST_EVENTS ≤ E.room events.old }
+        ensures machine { self.new ≡ (cancels_on self.old pid other).machine }
+        ensures told { Heard E.heard E.room events.old events.new (cancels_on self.old pid other).events }
+    {
+        self.counted.board.withdraw(other);
+        events.hear(tells(pid, What::Done));
+        events.hear(tells(other, What::Cancelled));
     }
 
     /// What a step without a fault does. A make that is refused memory changes nothing.
@@ -222,16 +239,17 @@ impl MachineState {
             self.new events.old events.new result }
     {
         match step {
+            Step::Make(cap) => return self.make(pid, *cap, events),
             Step::Call {
                 cases,
                 default,
                 word,
-            } => {
-                self.call(pid, cases, *default, *word, events);
-                Ok(())
-            }
-            _ => self.rare_effect(pid, step, events),
+            } => self.call(pid, cases, *default, *word, events),
+            Step::Close(port) => self.close(pid, *port, events),
+            Step::Exit => self.exit(pid, events),
+            Step::Cancel(other) => self.cancel(pid, *other, events),
         }
+        Ok(())
     }
 
     /// An admitted step: its fault, or what it does and the stall rule behind it.

@@ -2,7 +2,8 @@
 
 ghost use Rattle.std.specs.Prelude.{◌≡◌, ◌≤◌, ◌<◌, false};
 ghost use Rattle.std.specs.List.{list_any};
-ghost use Rattle.hub_core.specs.Prelude.{Edition, is_call, port_of};
+ghost use Rattle.hub_base.specs.declared.entry.Step.TheVariants.{Make, Close, Cancel};
+ghost use Rattle.hub_core.specs.Prelude.{Edition, port_of};
 ghost use Rattle.hub_core.specs.ListSteps.{refusal_of, fault_on, call_fault_on, is_unmade_on};
 
 use crate::stalling::has_gone;
@@ -64,40 +65,42 @@ fn call_fault(edition: Edition, board: &Board, cases: &[Case]) -> Option<Fault>
     }
 }
 
-/// The fault of a step that is no call. It stands apart, since nearly all steps are calls.
-#[inline(never)]
-fn rare_fault(board: &Board, step: &StepRef<'_>) -> Option<Fault>
-    requires { is_call step.now ≡ false }
-    ensures { (edition : Edition) → result ≡ fault_on edition board.now step.now }
+/// The fault of a make.
+fn make_fault(board: &Board, cap: u32) -> Option<Fault>
+    ensures { (edition : Edition) → result ≡ fault_on edition board.now (Make cap) }
 {
-    match step {
-        Step::Make(cap) => {
-            if *cap > MOST_CAP {
-                Some(Fault::BadCap)
-            } else if board.ports() >= MOST_PORTS {
-                Some(Fault::TooManyPorts)
-            } else {
-                None
-            }
-        }
-        Step::Call { .. } => unreachable!(),
-        Step::Close(port) => {
-            if is_unmade(board, *port) {
-                Some(Fault::NoPort)
-            } else if port.0 == 0 {
-                Some(Fault::NilClose)
-            } else if board.closed(*port) {
-                Some(Fault::AlreadyClosed)
-            } else {
-                None
-            }
-        }
-        Step::Exit => None,
-        Step::Cancel(other) => if board.open(*other) {
-            None
-        } else {
-            Some(Fault::NotParked)
-        },
+    if cap > MOST_CAP {
+        Some(Fault::BadCap)
+    } else if board.ports() >= MOST_PORTS {
+        Some(Fault::TooManyPorts)
+    } else {
+        None
+    }
+}
+
+/// The fault of a close.
+fn close_fault(board: &Board, port: Port) -> Option<Fault>
+    ensures { (edition : Edition) → result ≡ fault_on edition board.now (Close port) }
+{
+    if is_unmade(board, port) {
+        Some(Fault::NoPort)
+    } else if port.0 == 0 {
+        Some(Fault::NilClose)
+    } else if board.closed(port) {
+        Some(Fault::AlreadyClosed)
+    } else {
+        None
+    }
+}
+
+/// The fault of a cancel.
+fn cancel_fault(board: &Board, other: Pid) -> Option<Fault>
+    ensures { (edition : Edition) → result ≡ fault_on edition board.now (Cancel other) }
+{
+    if board.open(other) {
+        None
+    } else {
+        Some(Fault::NotParked)
     }
 }
 
@@ -107,7 +110,10 @@ pub(crate) fn fault_of(edition: Edition, board: &Board, step: &StepRef<'_>) -> O
     ensures { result ≡ fault_on edition board.now step.now }
 {
     match step {
+        Step::Make(cap) => make_fault(board, *cap),
         Step::Call { cases, .. } => call_fault(edition, board, cases.as_slice()),
-        _ => rare_fault(board, step),
+        Step::Close(port) => close_fault(board, *port),
+        Step::Exit => None,
+        Step::Cancel(other) => cancel_fault(board, *other),
     }
 }

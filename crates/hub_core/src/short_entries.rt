@@ -4,7 +4,7 @@ ghost use Rattle.std.specs.Prelude.{◌≡◌, ◌<◌, ◌≤◌, ◌+◌, ◌+
 ghost use Rattle.std.specs.Option.{option_map_or};
 ghost use Rattle.hub_base.specs.Values.{cases_or};
 
-use crate::log::{Brief, brief_of, cases_beside, short_at, write_out};
+use crate::brief::{Brief, append_cases, brief_of, cases_beside, short_at, write_out};
 use hub_base::{Case, EntryRef};
 use std::alloc::{AllocError, Global};
 use std::marker::Model;
@@ -50,7 +50,7 @@ impl ShortEntries {
         };
         self.briefs.reserve(1)?;
         let brief = brief_of(entry, first);
-        self.cases.extend_from_slice(cases_beside(entry, brief))?;
+        append_cases(&mut self.cases, cases_beside(entry, brief))?;
         self.briefs.push_reserved(brief);
         Ok(())
     }

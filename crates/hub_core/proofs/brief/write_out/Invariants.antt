@@ -2,7 +2,7 @@
 use Rattle.std.proofs.Common.{◌≡◌, ◌≤◌, ◌+◌, ◌++◌, length, drop, vec_len}
 use Rattle.std.specs.Vec.{vec_capacity}
 use Rattle.hub_core.specs.LogView.{AreBriefs, written}
-use Rattle.hub_core.proofs.log.write_out.Given as goal
+use Rattle.hub_core.proofs.brief.write_out.Given as goal
 
 abbrev pub invariant-loop-brief : goal.invariant-loop-brief
 invariant-loop-brief l = record {

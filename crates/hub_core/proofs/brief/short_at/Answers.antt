@@ -1,7 +1,7 @@
 use Rattle.std.proofs.Common.{◌∙◌, Some, ap, arith, sym}
 use Rattle.hub_core.specs.LogView.{entry_of}
 use Rattle.hub_core.proofs.Logs.{none_written, stands_at}
-use Rattle.hub_core.proofs.log.short_at.Goals as goal
+use Rattle.hub_core.proofs.brief.short_at.Goals as goal
 
 pub returns-in_default : goal.returns-in_default
 returns-in_default c = sym (none_written c.args.briefs.now c.args.cases.now c.args.place c.in_default.ensures.lookup.3)

@@ -3,10 +3,10 @@ use Rattle.hub_base.specs.declared.case.Case.{Case}
 use Rattle.hub_base.specs.declared.case.Case.TheVariants.{Send}
 use Rattle.hub_base.specs.Lines.{by, call}
 use Rattle.hub_base.specs.Value.{content, number_in}
-use Rattle.hub_core.specs.declared.log.Brief.TheVariants as brief
+use Rattle.hub_core.specs.declared.brief.Brief.TheVariants as brief
 use Rattle.hub_core.specs.LogView.{IsWhole}
 use Rattle.hub_core.proofs.Logs.{number_again}
-use Rattle.hub_core.proofs.log.brief_of_one.Goals as goal
+use Rattle.hub_core.proofs.brief.brief_of_one.Goals as goal
 
 pub returns-in-Some : goal.returns-in-Some
 returns-in-Some c =

@@ -1,9 +1,9 @@
 use Rattle.std.proofs.Common.{◌≡◌, ◌∙◌, ◌-◌, sym, refl, arith, length, drop}
 use Rattle.std.proofs.lemmas.List.{length-drop}
-use Rattle.hub_core.specs.declared.log.Brief.{Brief}
-use Rattle.hub_core.specs.declared.log.Brief.TheVariants.{Send}
+use Rattle.hub_core.specs.declared.brief.Brief.{Brief}
+use Rattle.hub_core.specs.declared.brief.Brief.TheVariants.{Send}
 use Rattle.hub_core.proofs.Logs.{all_whole, next_left, one_out}
-use Rattle.hub_core.proofs.log.write_out.Goals as goal
+use Rattle.hub_core.proofs.brief.write_out.Goals as goal
 
 pub loop-brief-init : goal.loop-brief-init
 loop-brief-init c = record { briefs = c.requires.briefs; items = refl; room = c.requires.room; capacity = refl }

@@ -1,6 +1,6 @@
 //! For each process the answer that may wait to be picked up, and whose calls the last step ended.
 
-ghost use Rattle.std.specs.Prelude.{◌≡◌, ◌≤◌, ◌<◌, ℕ, None, length, replicate, slice_set};
+ghost use Rattle.std.specs.Prelude.{◌≡◌, ◌≤◌, ◌<◌, ◌↔◌, IsTrue, ℕ, None, length, replicate, slice_set};
 ghost use Rattle.hub_base.specs.declared.limits.TheConstants.{MOST_PROCS};
 ghost use Rattle.hub_live.specs.Locked.{answer_after, answer_for, last_told, pids_of};
 
@@ -87,6 +87,13 @@ impl Answers {
         } else {
             None
         }
+    }
+
+    /// Whether the last step that was made ended any call.
+    pub(crate) fn has_ended(&self) -> bool
+        ensures { IsTrue result ↔ 0 < length self.now.ended.items }
+    {
+        !self.ended.is_empty()
     }
 
     /// Whose calls the last step that was made ended.

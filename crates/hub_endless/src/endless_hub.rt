@@ -1,6 +1,6 @@
 //! A hub that never ends, with the answers that wait.
 
-ghost use Rattle.std.specs.Prelude.{◌≡◌, [], IfOk, IfErr, IfSome, IfNone, OnOk, OnErr, None, false, true};
+ghost use Rattle.std.specs.Prelude.{◌≡◌, ◌<◌, ◌↔◌, [], IsTrue, length, IfOk, IfErr, IfSome, IfNone, OnOk, OnErr, None, false, true};
 ghost use Rattle.std.specs.Option.{option_map};
 ghost use Rattle.hub_base.specs.Head.{is_of};
 ghost use Rattle.hub_base.specs.Runs.{state};
@@ -126,6 +126,13 @@ impl EndlessHub {
         ensures { result ≡ begins self.now.recorder step.now }
     {
         self.recorder.begins(step)
+    }
+
+    /// Whether the last step that was made ended any call. Mostly none did.
+    pub fn has_ended(&self) -> bool
+        ensures { IsTrue result ↔ 0 < length self.now.ended }
+    {
+        self.answers.has_ended()
     }
 
     /// Whose calls the last step that was made ended: they are to be woken. A wake is only a hint: no clause says that one

@@ -128,7 +128,7 @@ impl Locked {
     }
 
     /// Whether the last step that was made ended any call. Mostly none did.
-    pub(crate) fn has_ended(&self) -> bool
+    pub fn has_ended(&self) -> bool
         ensures { IsTrue result ↔ 0 < length self.now.ended }
     {
         !self.ended.is_empty()

@@ -162,6 +162,7 @@ is_used_elsewhere() {
 }
 
 echo 385 > "$work/sum"
+echo '10 jobs 385' > "$work/report"
 printf '%s\n' 9 'chanhub journal 2' 'procs 1' '0 make 1' '0 send 1 9' '0 recv 1' '0 recv 1' > "$work/first"
 printf 'stalled: 0 recv 2\nstalled: 1 recv 1\n' > "$work/stalled"
 printf 'got 5\nneither\nsent\n' > "$work/choice-lines"
@@ -291,6 +292,7 @@ if command -v cargo > "$work/found"; then
     check 'first.rs' prints "$work/first" cargo run --offline --quiet --manifest-path rust/Cargo.toml --example first
     check 'deadlock.rs' prints "$work/stalled" cargo run --offline --quiet --manifest-path rust/Cargo.toml --example deadlock
     check 'choice.rs' chooses cargo run --offline --quiet --manifest-path rust/Cargo.toml --example choice
+    check 'typed.rs' prints "$work/report" cargo run --offline --quiet --manifest-path rust/Cargo.toml --example typed
     check 'cargo doc' env RUSTDOCFLAGS='-D warnings' cargo doc --offline --quiet --no-deps --manifest-path rust/Cargo.toml
     check 'build.rs says what to do without the library' says_what_to_do
     check 'build.rs sees a new library' links_anew

@@ -34,9 +34,9 @@ impl Chapters {
     /// the closure at the same time.
     ///
     /// Other calls go on while the closure runs, but a call that makes another chapter fall out waits until it has returned. So the
-    /// closure must not wait for such a call. It must not use a seat of the hub or [`cut`](crate::Hub::cut) the hub either, since
-    /// that could wait for the closure itself. It may look at the hub and read its journal. But if the closure owns a clone of the
-    /// hub, the hub is never freed.
+    /// closure must not wait for such a call. It must not use a seat of the hub, drop the last end of a [`typed`](crate::typed)
+    /// channel or [`cut`](crate::Hub::cut) the hub either, since that could wait for the closure itself. It may look at the hub and
+    /// read its journal. But if the closure owns a clone of the hub or an end of such a channel, the hub is never freed.
     ///
     /// # Panics
     ///

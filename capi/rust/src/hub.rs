@@ -4,13 +4,16 @@ use crate::chapters::{self, Chapters, Handler};
 use crate::error::{Ended, Fault, OpenError};
 use crate::sys;
 use crate::value::Value;
+use std::cell::Cell;
 use std::fmt;
 use std::iter::FusedIterator;
+use std::marker::PhantomData;
+use std::mem;
 use std::os::raw::{c_char, c_int, c_uint};
 use std::panic::RefUnwindSafe;
 use std::ptr;
-use std::sync::atomic::{AtomicU64, Ordering};
-use std::sync::Arc;
+use std::sync::atomic::{fence, AtomicBool, AtomicU64, Ordering};
+use std::sync::{Arc, Mutex, MutexGuard, PoisonError};
 
 /// The edition of a hub, which determines what its calls may contain. Use `Two` unless numbers are enough.
 #[derive(Clone, Copy, Debug, PartialEq, Eq)]
@@ -35,8 +38,44 @@ struct Raw {
     at: *mut sys::Chanhub,
     id: u64,
     is_endless: bool,
+    /// For each process, whether it has exited. Its lock is held while a call as the process runs.
+    exited: Vec<Mutex<bool>>,
+    abandoned: Abandoned,
     /// Is dropped after the hub is freed, which still calls it.
     _handler: Option<Handler>,
+}
+
+/// The ports that no typed sender or receiver is left for, until a process closes them.
+#[derive(Default)]
+struct Abandoned {
+    ports: Mutex<Vec<u16>>,
+    /// Whether there are any.
+    some: AtomicBool,
+}
+
+impl Abandoned {
+    fn add(&self, port: u16) {
+        let mut ports = lock(&self.ports);
+        ports.push(port);
+        self.some.store(true, Ordering::Relaxed);
+    }
+
+    fn take(&self) -> Vec<u16> {
+        let mut ports = lock(&self.ports);
+        self.some.store(false, Ordering::Relaxed);
+        mem::take(&mut ports)
+    }
+
+    /// Returns whether there are any. A thread that adds a port and then finds a process busy, and the thread that frees this process
+    /// and then calls this, cannot both miss the other's write.
+    fn are_some(&self) -> bool {
+        fence(Ordering::SeqCst);
+        self.some.load(Ordering::Relaxed)
+    }
+}
+
+fn lock<T>(mutex: &Mutex<T>) -> MutexGuard<'_, T> {
+    mutex.lock().unwrap_or_else(PoisonError::into_inner)
 }
 
 // SAFETY: chanhub.h allows calls from all threads at any time, except for the free, which happens once no `Arc` is left. The
@@ -46,6 +85,54 @@ unsafe impl Sync for Raw {}
 
 // A closure that has panicked is not called again.
 impl RefUnwindSafe for Raw {}
+
+impl Raw {
+    /// Makes a call as a process, and then closes the abandoned ports.
+    fn call<R>(&self, pid: u8, call: impl FnOnce(*mut sys::Chanhub, c_uint) -> R) -> R {
+        let process = lock(&self.exited[usize::from(pid)]);
+        let answer = call(self.at, pid.into());
+        drop(process);
+        self.close_abandoned(Some(pid));
+        answer
+    }
+
+    /// Exits a process.
+    fn exit(&self, pid: u8) {
+        let mut has_exited = lock(&self.exited[usize::from(pid)]);
+        *has_exited = true;
+        // SAFETY: the hub is open as long as this exists.
+        unsafe { sys::chanhub_exit(self.at, pid.into()) };
+    }
+
+    /// Closes the abandoned ports as this process or, if that is in a call, as any that is not. If all are, the first call to return
+    /// does so.
+    fn close_abandoned(&self, pid: Option<u8>) {
+        while self.abandoned.are_some() {
+            let mut processes = pid.into_iter().chain(0..self.procs());
+            if !processes.any(|pid| self.close_as(pid)) {
+                return;
+            }
+        }
+    }
+
+    /// Closes the abandoned ports as this process. Returns false if it is in a call or has exited.
+    fn close_as(&self, pid: u8) -> bool {
+        let has_exited = match self.exited[usize::from(pid)].try_lock() {
+            Ok(has_exited) if !*has_exited => has_exited,
+            _ => return false,
+        };
+        for port in self.abandoned.take() {
+            // SAFETY: the hub is open as long as this exists, and the lock keeps other calls of the process out.
+            unsafe { sys::chanhub_close(self.at, pid.into(), port.into()) };
+        }
+        drop(has_exited);
+        true
+    }
+
+    fn procs(&self) -> u8 {
+        self.exited.len() as u8
+    }
+}
 
 impl Drop for Raw {
     fn drop(&mut self) {
@@ -65,12 +152,18 @@ pub struct Hub(Arc<Raw>);
 
 /// A handle to a process of a hub.
 ///
-/// Each call takes the seat by `&mut`, so only one thread at a time calls as the process. Dropping the seat exits the process, and
-/// so does a panic that unwinds the thread that owns it. Once a process has exited, a deadlock among the others can be reported.
+/// A seat goes from thread to thread, but no two threads can use it at the same time, so only one thread at a time calls as the
+/// process. Dropping the seat exits the process, and so does a panic that unwinds the thread that owns it. Once a process has
+/// exited, a deadlock among the others can be reported.
 pub struct Seat {
     hub: Hub,
     pid: u8,
+    /// Two threads could use a seat that is `Sync`.
+    _of_one_thread: PhantomData<Cell<()>>,
 }
+
+// A seat has no state that a panic could leave broken.
+impl RefUnwindSafe for Seat {}
 
 /// Shows the number of the hub. A [`Sender`] and a [`Receiver`] show the number of the hub to which they belong.
 impl fmt::Debug for Hub {
@@ -240,18 +333,21 @@ impl Hub {
             at,
             id: OPENED.fetch_add(1, Ordering::Relaxed),
             is_endless,
+            exited: (0..procs).map(|_| Mutex::default()).collect(),
+            abandoned: Abandoned::default(),
             _handler: handler,
         }));
         let seats = (0..procs)
             .map(|pid| Seat {
                 hub: hub.clone(),
                 pid,
+                _of_one_thread: PhantomData,
             })
             .collect();
         (hub, seats)
     }
 
-    fn look(&self, port: u16) -> Option<Counts> {
+    pub(crate) fn look(&self, port: u16) -> Option<Counts> {
         // SAFETY: the hub is open as long as `self.0` is.
         let counts = unsafe { sys::chanhub_look(self.0.at, port.into()) };
         counts.made.then_some(Counts {
@@ -310,6 +406,16 @@ impl Hub {
         }
     }
 
+    /// Closes an abandoned port: as this process or, if that is in a call, as any other that is not.
+    pub(crate) fn abandon(&self, port: u16, pid: Option<u8>) {
+        self.0.abandoned.add(port);
+        self.0.close_abandoned(pid);
+    }
+
+    pub(crate) fn id(&self) -> u64 {
+        self.0.id
+    }
+
     /// Returns the present state of a channel, or `None` if the channel belongs to another hub.
     pub fn look_at(&self, receiver: &Receiver) -> Option<Counts> {
         if receiver.hub == self.0.id {
@@ -335,6 +441,22 @@ fn selected(told: sys::Told) -> Result<Selected, Ended> {
     }
 }
 
+pub(crate) fn send_case(port: u16, value: Value) -> sys::Case {
+    sys::Case {
+        sends: true,
+        port,
+        value: value.raw(),
+    }
+}
+
+pub(crate) fn recv_case(port: u16) -> sys::Case {
+    sys::Case {
+        sends: false,
+        port,
+        value: sys::Value::default(),
+    }
+}
+
 fn done(told: sys::Told) -> Result<(), Fault> {
     if told.what == sys::FAULT {
         Err(Fault(told.fault))
@@ -349,8 +471,13 @@ impl Seat {
         self.pid
     }
 
-    fn at(&self) -> (*mut sys::Chanhub, c_uint) {
-        (self.hub.0.at, self.pid.into())
+    pub(crate) fn hub(&self) -> &Hub {
+        &self.hub
+    }
+
+    /// Makes a call as the process.
+    fn call<R>(&self, call: impl FnOnce(*mut sys::Chanhub, c_uint) -> R) -> R {
+        self.hub.0.call(self.pid, call)
     }
 
     fn is_mine(&self, hub: u64) -> Result<(), Fault> {
@@ -370,12 +497,47 @@ impl Seat {
     /// Returns [`Fault::BAD_CAP`] if `cap` is above 1,024, [`Fault::TOO_MANY_PORTS`] if the hub already has 64 channels,
     /// [`Fault::JOURNAL_FULL`] if the hub has reached its step limit, and [`Fault::NO_MEMORY`] if memory runs out.
     pub fn channel(&mut self, cap: u32) -> Result<(Sender, Receiver), Fault> {
-        let (hub, pid) = self.at();
-        // SAFETY: the hub is open as long as `self.hub` exists, and no other call uses this seat. This holds for all calls below.
-        let told = unsafe { sys::chanhub_make(hub, pid, cap) };
-        done(told)?;
-        let (hub, port) = (self.hub.0.id, told.port);
+        let port = self.make(cap)?;
+        let hub = self.hub.0.id;
         Ok((Sender { hub, port }, Receiver { hub, port }))
+    }
+
+    /// Makes a channel and returns its port.
+    pub(crate) fn make(&self, cap: u32) -> Result<u16, Fault> {
+        // SAFETY: the hub is open as long as `self.hub` exists, and no other call of the process runs meanwhile. This holds for all
+        // calls below.
+        let told = self.call(|hub, pid| unsafe { sys::chanhub_make(hub, pid, cap) });
+        done(told).map(|()| told.port)
+    }
+
+    pub(crate) fn send(&self, port: u16, value: Value) -> Result<Selected, Ended> {
+        let value = value.raw();
+        selected(self.call(|hub, pid| unsafe { sys::chanhub_send(hub, pid, port.into(), value) }))
+    }
+
+    pub(crate) fn recv(&self, port: u16) -> Result<Value, Ended> {
+        match selected(self.call(|hub, pid| unsafe { sys::chanhub_recv(hub, pid, port.into()) }))? {
+            Selected::Got(_, value) => Ok(value),
+            Selected::Sent(_) | Selected::Default => {
+                unreachable!("a receive gets a value, or ends without one")
+            }
+        }
+    }
+
+    pub(crate) fn close(&self, port: u16) -> Result<(), Fault> {
+        done(self.call(|hub, pid| unsafe { sys::chanhub_close(hub, pid, port.into()) }))
+    }
+
+    pub(crate) fn select_of(
+        &self,
+        cases: &[sys::Case],
+        has_default: bool,
+        word: u64,
+    ) -> Result<Selected, Ended> {
+        let (first, count) = (cases.as_ptr(), cases.len());
+        selected(self.call(|hub, pid| unsafe {
+            sys::chanhub_select(hub, pid, first, count, has_default, word)
+        }))
     }
 
     /// Fires one of the cases that can proceed.
@@ -418,24 +580,15 @@ impl Seat {
             .iter()
             .map(|case| self.raw(case))
             .collect::<Result<Vec<_>, _>>()?;
-        let (hub, pid) = self.at();
-        selected(unsafe {
-            sys::chanhub_select(hub, pid, raw.as_ptr(), raw.len(), has_default, word)
-        })
+        self.select_of(&raw, has_default, word)
     }
 
     fn raw(&self, case: &Case) -> Result<sys::Case, Fault> {
         match *case {
-            Case::Send(Sender { hub, port }, value) => self.is_mine(hub).map(|()| sys::Case {
-                sends: true,
-                port,
-                value: value.raw(),
-            }),
-            Case::Recv(Receiver { hub, port }) => self.is_mine(hub).map(|()| sys::Case {
-                sends: false,
-                port,
-                value: sys::Value::default(),
-            }),
+            Case::Send(Sender { hub, port }, value) => {
+                self.is_mine(hub).map(|()| send_case(port, value))
+            }
+            Case::Recv(Receiver { hub, port }) => self.is_mine(hub).map(|()| recv_case(port)),
         }
     }
 
@@ -446,8 +599,7 @@ impl Seat {
     /// Returns [`Fault::NOT_PARKED`] if the process has no waiting call or does not exist, and [`Fault::BAD_CALL`] in a hub of
     /// [`Edition::One`]. Returns another [`Fault`] if the hub refuses the call.
     pub fn cancel(&mut self, other: u8) -> Result<(), Fault> {
-        let (hub, pid) = self.at();
-        done(unsafe { sys::chanhub_cancel(hub, pid, other.into()) })
+        done(self.call(|hub, pid| unsafe { sys::chanhub_cancel(hub, pid, other.into()) }))
     }
 
     /// Exits the process. Dropping the seat does the same.
@@ -456,8 +608,7 @@ impl Seat {
 
 impl Drop for Seat {
     fn drop(&mut self) {
-        let (hub, pid) = self.at();
-        unsafe { sys::chanhub_exit(hub, pid) };
+        self.hub.0.exit(self.pid);
     }
 }
 
@@ -477,9 +628,7 @@ impl Sender {
     /// wait, and [`Ended::Fault`] if the hub did not carry out the call.
     pub fn send(&self, seat: &mut Seat, value: impl Into<Value>) -> Result<(), Ended> {
         seat.is_mine(self.hub)?;
-        let (hub, pid) = seat.at();
-        selected(unsafe { sys::chanhub_send(hub, pid, self.port.into(), value.into().raw()) })
-            .map(|_sent| ())
+        seat.send(self.port, value.into()).map(|_sent| ())
     }
 
     /// Closes the channel. Waiting sends return [`Ended::Closed`], and waiting receives return [`Ended::Drained`].
@@ -489,9 +638,7 @@ impl Sender {
     /// Returns [`Ended::Fault`] if the channel is already closed or the hub refuses the call. It returns no other error.
     pub fn close(&self, seat: &mut Seat) -> Result<(), Ended> {
         seat.is_mine(self.hub)?;
-        let (hub, pid) = seat.at();
-        done(unsafe { sys::chanhub_close(hub, pid, self.port.into()) })?;
-        Ok(())
+        Ok(seat.close(self.port)?)
     }
 }
 
@@ -509,13 +656,7 @@ impl Receiver {
     /// ended the wait, and [`Ended::Fault`] if the hub did not carry out the call.
     pub fn recv(&self, seat: &mut Seat) -> Result<Value, Ended> {
         seat.is_mine(self.hub)?;
-        let (hub, pid) = seat.at();
-        match selected(unsafe { sys::chanhub_recv(hub, pid, self.port.into()) })? {
-            Selected::Got(_, value) => Ok(value),
-            Selected::Sent(_) | Selected::Default => {
-                unreachable!("a receive gets a value, or ends without one")
-            }
-        }
+        seat.recv(self.port)
     }
 
     /// Receives the next value, or returns `None` once the channel is closed and empty.

@@ -47,6 +47,9 @@
 //! }
 //! ```
 //!
+//! Values are numbers or short byte strings. The channels of [`typed`] carry values of any type: they have ends and a select as in
+//! `std::sync::mpsc` and crossbeam, and close when the last sender is dropped.
+//!
 //! A program that uses a hub after dropping it does not compile:
 //!
 //! ```compile_fail,E0382
@@ -64,6 +67,14 @@
 //! std::thread::scope(|s| {
 //!     s.spawn(|| seat.channel(0));
 //!     s.spawn(|| seat.channel(0));
+//! });
+//! ```
+//!
+//! ```compile_fail,E0277
+//! let (_hub, seats) = chanhub::Hub::open(chanhub::Edition::One, 1, 100).unwrap();
+//! let seat = &seats[0];
+//! std::thread::scope(|s| {
+//!     s.spawn(|| chanhub::typed::channel::<u64>(seat, 0).is_ok());
 //! });
 //! ```
 //!
@@ -150,11 +161,12 @@
 //! - A hub has at most 64 processes and 64 channels. A closed channel still counts.
 //! - A hub of [`Hub::open`] makes at most 1,000,000 steps, not counting exits. One of [`Hub::open_endless`] makes any number.
 //! - The capacity of a channel is at most 1,024.
-//! - A value is a `u64` or, in [`Edition::Two`], a byte string of at most 32 bytes. A [`Table`] holds values of any other type, so
-//!   that channels can pass them by number.
+//! - A value is a `u64` or, in [`Edition::Two`], a byte string of at most 32 bytes. The channels of [`typed`] carry values of any
+//!   type, of which the hub has only numbers.
 //! - No call has a timeout. Use a [`select`](Seat::select) with a default, or let another process [`cancel`](Seat::cancel) the
 //!   call. While that process is outside the hub, its seat prevents reports of deadlocks.
-//! - A send or a receive takes 71 bytes of memory, in a hub that never ends only until it falls out with its chapter.
+//! - A send or a receive takes 16 bytes of memory, in a hub that never ends only until it falls out with its chapter. A select takes
+//!   more for its cases, and so does a send of bytes.
 //!
 //! # Memory order
 //!
@@ -175,6 +187,7 @@ mod error;
 mod hub;
 mod sys;
 mod table;
+pub mod typed;
 mod value;
 
 pub use chapters::{ChapterFiles, Chapters};

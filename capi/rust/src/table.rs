@@ -11,6 +11,8 @@ use std::sync::{Mutex, MutexGuard, PoisonError};
 ///
 /// If a send fails, the value stays in the table, and the sender can `take` it back.
 ///
+/// The channels of [`typed`](crate::typed) have such a table inside, so their callers need none.
+///
 /// # Examples
 ///
 /// ```

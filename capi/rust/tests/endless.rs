@@ -499,6 +499,6 @@ fn hubs_go_where_they_went() {
     may_go::<Chapters>();
     may_be_shared::<ChapterFiles>();
     may_be_shared::<Hub>();
-    may_be_shared::<Seat>();
+    may_go::<Seat>();
     assert_eq!(format!("{:?}", Chapters::discard()), "Chapters { .. }");
 }

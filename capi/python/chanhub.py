@@ -27,9 +27,18 @@ A stall ends several calls at once. In a test, the first thread that catches Sta
             file.exists() or file.write_bytes(hub.journal())
         raise
 
-Limits: a hub has at most 64 processes and 64 ports, and a closed port still counts. A value is an int of 64 bits or up to 32 bytes; a
-Table passes any other object by its number. No call has a timeout. A hub makes at most 1,000,000 steps, not counting exits, and keeps
-them all. That suits tests and finite runs.
+A value is an int of 64 bits or up to 32 bytes. A hub that is opened with `objects=True` passes any object instead. A port has the names
+of queue.Queue, can be iterated, and can be awaited:
+
+    with Hub(procs=2, objects=True) as hub:
+        jobs = hub.seat(0).make(1)                  # a Port, through which process 0 acts
+        jobs.put({'any': 'object'})
+        jobs.close()
+        for job in hub.seat(1).port(jobs):          # the same port, for process 1
+            ...
+
+Limits: a hub has at most 64 processes and 64 ports, and a closed port still counts. No call has a timeout. A hub makes at most 1,000,000
+steps, not counting exits, and keeps them all. That suits tests and finite runs.
 
 A hub that is opened with `keep` never ends. It keeps its last steps, and cuts its journal into chapters, each of which is a journal of
 its own. Older chapters go, or are written to files, or are given to a function:
@@ -49,10 +58,13 @@ import os
 import struct
 import threading
 import weakref
+from collections import defaultdict, deque
+from concurrent.futures import Future, ThreadPoolExecutor
 from itertools import count, starmap
-from queue import Empty, SimpleQueue
+from queue import Empty, Full, SimpleQueue
 from threading import get_ident
-from typing import Any, Callable, Dict, Iterable, Iterator, List, NamedTuple, Optional, Sequence, Set, Tuple, Union
+from typing import (Any, AsyncIterator, Callable, DefaultDict, Deque, Dict, Iterable, Iterator, List, NamedTuple, Optional, Sequence, Set,
+                    Tuple, Union)
 
 Value = Union[int, bytes]
 # The types that can be sent. A bool is sent as the number 0 or 1; a bytearray or a memoryview is received as bytes.
@@ -129,9 +141,9 @@ class Fault(Exception):
 
 
 class Send(NamedTuple):
-    """A case of a select that sends a value on a port."""
+    """A case of a select that sends a value on a port: a Sendable, or any object if the hub has `objects`."""
     port: int
-    value: Sendable
+    value: Any
 
 
 class Recv(NamedTuple):
@@ -142,7 +154,7 @@ class Recv(NamedTuple):
 class Fired(NamedTuple):
     """The result of a select: the index of the case that fired and, for a receive, the value. `value` is None for a send."""
     index: int
-    value: Optional[Value] = None
+    value: Any = None
 
 
 class Counts(NamedTuple):
@@ -293,6 +305,39 @@ def _fired(told: _Told) -> Optional[Fired]:
     if told.what == DEFAULT:
         return None
     raise _ended(told)
+
+
+def _received(things: Dict[int, Any], told: _Told) -> Any:
+    """Takes the object with the number that was received, and returns it. An interrupt may follow, and then this is called again."""
+    if not hasattr(told, 'thing'):
+        told.thing, = starmap(things.pop, ((told.number,),))
+    return told.thing
+
+
+def _sent_thing(things: Dict[int, Any], number: int) -> _Gives:
+    """Returns the function for the result of a send of the object with this number. If it was not sent, the table forgets it."""
+    def gives(told: _Told) -> None:
+        if told.what != SENT:
+            things.pop(number, None)
+        _sent(told)
+    return gives
+
+
+def _got_thing(things: Dict[int, Any]) -> _Gives:
+    """Returns the function for the result of a receive of an object."""
+    def gives(told: _Told) -> Any:
+        return _received(things, told) if told.what == GOT else _got(told)
+    return gives
+
+
+def _fired_thing(things: Dict[int, Any], numbers: Dict[int, int]) -> _Gives:
+    """Returns the function for the result of a select, the cases of which send the objects with these numbers."""
+    def gives(told: _Told) -> Optional[Fired]:
+        for index, number in numbers.items():
+            if told.what != SENT or told.index != index:
+                things.pop(number, None)
+        return Fired(told.index, _received(things, told)) if told.what == GOT else _fired(told)
+    return gives
 
 
 def _made(told: _Told) -> int:
@@ -497,6 +542,11 @@ class Hub:
     In edition 1, values are numbers and a select has up to 8 cases. Edition 2, the default, also has bytes as values, up to 16 cases,
     and `cancel`.
 
+    With `objects`, a value is any object, and whoever receives it gets this object itself. The hub carries a number for it, which the
+    journal shows: the first object that is given to a send has number 0, and so on. The object stays in a table until it is received.
+    If nobody receives it, it goes with the hub. If its send raises an exception of the hub, it was not sent, and the table has it no
+    longer.
+
     Without `keep`, the hub makes at most `limit` steps (1 to 1,000,000, the default), not counting exits. Its journal has them all.
 
     With `keep` (1 to 900,000), the hub does not end by itself, and its journal is cut into chapters. The present chapter is full once
@@ -522,7 +572,7 @@ class Hub:
     The hub ends when a `with Hub` block ends. Without such a block it ends when it is freed, which it never is if its function refers to
     it. If it has not ended when the interpreter does, `chapters` does not get the chapters that it keeps.
 
-    Memory: a send or a receive takes 71 bytes. Without `keep`, all of them stay until the hub is freed. With `keep`, at most about
+    Memory: a send or a receive takes 16 bytes, and a select or a send of bytes more. Without `keep`, all of them stay until the hub is freed. With `keep`, at most about
     2 * (keep + 65,792) steps stay, and twice as many while `chapters` gets one; 65,792 is the most that a chapter begins with. If the
     function is slow, up to one text for each process waits for it.
 
@@ -533,7 +583,7 @@ class Hub:
     """
 
     def __init__(self, procs: int, edition: int = 2, limit: Optional[int] = None, *, keep: Optional[int] = None,
-                 chapters: Optional[Chapters] = None) -> None:
+                 chapters: Optional[Chapters] = None, objects: bool = False) -> None:
         if keep is None:
             if chapters is not None:
                 raise ValueError('only a hub with `keep` has chapters')
@@ -558,6 +608,13 @@ class Hub:
         # The processes of those calls for which a thread waits again.
         self._resumed: Set[int] = set()
         self._settling = threading.RLock()
+        # The objects whose numbers are in the hub, if it has `objects`, and the numbers to come.
+        self._things: Optional[Dict[int, Any]] = {} if objects else None
+        self._numbers = count()
+        # For each process that is awaited, the thread that makes its calls.
+        self._executors: Dict[int, ThreadPoolExecutor] = {}
+        # For each process and port, the receives that were begun for a task that was cancelled.
+        self._unclaimed: DefaultDict[Tuple[int, int], Deque[Future[Any]]] = defaultdict(deque)
         self._free = weakref.finalize(self, _free, handle, self._opener, self._chapters)
         # When the interpreter exits, other threads may still call on the hub.
         self._free.atexit = False
@@ -574,6 +631,8 @@ class Hub:
         if self._is_here():
             self._live = None
             self._settle()
+            for executor in self._executors.values():
+                executor.shutdown(wait=False)
             if self._chapters is not None:
                 self._has_all.wait()
                 self._chapters.finish()
@@ -760,24 +819,33 @@ class Seat:
             raise
         return given
 
-    def make(self, cap: int) -> int:
+    def make(self, cap: int) -> Port:
         """Makes a channel that buffers up to `cap` values, 0 to 1,024, and returns its port. Ports are numbered from 1."""
-        port: int = self._ask(_made, _LIBRARY.chanhub_make, _within('capacity', cap, 2 ** 32 - 1))
-        return port
+        return Port(self._ask(_made, _LIBRARY.chanhub_make, _within('capacity', cap, 2 ** 32 - 1)), self)
 
-    def send(self, port: int, value: Sendable) -> None:
+    def port(self, port: int) -> Port:
+        """Returns this port as one through which this process acts."""
+        return Port(port, self)
+
+    def send(self, port: int, value: Any) -> None:
         """Sends a value. Waits until a receiver takes it or the buffer has room for it.
 
-        Raises TypeError if the value is neither an int nor bytes, and ValueError if it does not fit into 64 bits or 32 bytes.
+        Unless the hub has `objects`, raises TypeError if the value is neither an int nor bytes, and ValueError if it does not fit into
+        64 bits or 32 bytes.
         """
-        self._call(_sent, _send_case(port, value))
+        hub = self.hub
+        if hub._things is None:
+            self._call(_sent, _send_case(port, value))
+        else:
+            number = next(hub._numbers)
+            self._call(_sent_thing(hub._things, number), _send_case(port, number), offered={number: value})
 
-    def recv(self, port: int) -> Value:
+    def recv(self, port: int) -> Any:
         """Receives a value and returns it. Waits until there is one."""
-        value: Value = self._call(_got, _recv_case(port))
-        return value
+        things = self.hub._things
+        return self._call(_got if things is None else _got_thing(things), _recv_case(port))
 
-    def drain(self, port: int) -> Iterator[Value]:
+    def drain(self, port: int) -> Iterator[Any]:
         """Receives values and yields them, until the port is closed and empty."""
         while True:
             try:
@@ -793,8 +861,15 @@ class Seat:
         `random.getrandbits(64)` for a fair choice. If no case can proceed, `select` returns None if `default` is true, and
         otherwise waits.
         """
+        gives: _Gives = _fired
+        offered: Dict[int, Any] = {}
+        if self.hub._things is not None:
+            numbers = {index: next(self.hub._numbers) for index, case in enumerate(cases) if isinstance(case, Send)}
+            offered = {number: cases[index].value for index, number in numbers.items()}
+            cases = [Send(case.port, numbers[index]) if index in numbers else case for index, case in enumerate(cases)]
+            gives = _fired_thing(self.hub._things, numbers)
         packed = b''.join(map(_case, cases))
-        fired: Optional[Fired] = self._call(_fired, packed, len(cases), default, _within('word', word, 2 ** 64 - 1))
+        fired: Optional[Fired] = self._call(gives, packed, len(cases), default, _within('word', word, 2 ** 64 - 1), offered)
         return fired
 
     def close(self, port: int) -> None:
@@ -828,19 +903,26 @@ class Seat:
 
     def _give(self, gives: _Gives, told: _Told) -> Any:
         """Returns the result of a call with this answer. The hub may have ended meanwhile."""
-        if self.hub._live is None:
-            self.hub._settle()
-            if told.fault == GONE:
-                raise ValueError('the hub has ended')
-        return gives(told)
+        if self.hub._live is not None:
+            return gives(told)
+        self.hub._settle()
+        try:
+            return gives(told)
+        except Fault as fault:
+            if fault.number == GONE:
+                raise ValueError('the hub has ended') from None
+            raise
 
-    def _call(self, gives: _Gives, cases: bytes, count: int = 1, default: bool = False, word: int = 0) -> Any:
+    def _call(self, gives: _Gives, cases: bytes, count: int = 1, default: bool = False, word: int = 0,
+              offered: Optional[Dict[int, Any]] = None) -> Any:
         """Makes a call of these cases. The main thread waits in short slices, so that it can be interrupted. If a function gets the
-        chapters, each thread gives them before it waits."""
+        chapters, each thread gives them before it waits. The hub's table gets the objects that are offered, by their numbers."""
         hub = self.hub
         call = (hub._live or hub.handle, self.pid, cases, count, default, word)
         if hub._left and self.waits:
             raise Fault(BUSY)
+        if offered and hub._things is not None:
+            hub._things.update(offered)
         if get_ident() != _main and not hub._fallen:
             return self._give(gives, _select(*call))
         return self._await(gives, starmap(_begin, (call,)))
@@ -871,3 +953,113 @@ class Seat:
             if told is not None:
                 hub._left[pid] = gives, told
             raise
+
+    def _submit(self, call: Callable[..., Any], *arguments: Any) -> Future[Any]:
+        """Has the thread that makes the awaited calls of the process make this one."""
+        executors = self.hub._executors
+        if self.pid not in executors:
+            executors.setdefault(self.pid, ThreadPoolExecutor(1, f'chanhub-process-{self.pid}'))
+        return executors[self.pid].submit(call, *arguments)
+
+
+class Port(int):
+    """The number of a port, with a seat: each call is one of the seat's process. `seat.make` and `seat.port` return one.
+
+    A Port has the methods of queue.Queue, without timeouts, and can be iterated:
+
+        for value in port:                                  # until the port is closed and empty
+            ...
+
+    A call that fails raises Closed, Drained, Stalled, Cancelled or Fault, as those of a Seat.
+
+    In asyncio, `await port.aput(value)` and `await port.aget()` make these calls in another thread, as the process of the port's seat,
+    and `async for value in port` receives until the end. Each process has one such thread, named chanhub-process-PID, which makes its
+    calls one after the other. So give each task that waits a process of its own. The process counts as waiting as long as its call
+    waits. While the task does something else, the process is outside the hub, and no deadlock is reported. End the hub by a `with`
+    block, which ends the calls that wait: the interpreter waits for them when it exits.
+    """
+
+    seat: Seat
+
+    def __new__(cls, number: int, seat: Seat) -> Port:
+        port = super().__new__(cls, number)
+        port.seat = seat
+        return port
+
+    def __reduce__(self) -> Tuple[Any, ...]:
+        """A copy or a pickle is the plain number."""
+        return int, (int(self),)
+
+    def put(self, item: Any, block: bool = True) -> None:
+        """Sends a value. If `block` is false, raises queue.Full where this would have to wait."""
+        if block:
+            self.seat.send(self, item)
+        elif self.seat.select([Send(self, item)], default=True) is None:
+            raise Full
+
+    def put_nowait(self, item: Any) -> None:
+        """Sends a value if that needs no wait, and raises queue.Full otherwise."""
+        self.put(item, block=False)
+
+    def get(self, block: bool = True) -> Any:
+        """Receives a value and returns it. If `block` is false, raises queue.Empty where this would have to wait."""
+        if block:
+            return self.seat.recv(self)
+        fired = self.seat.select([Recv(self)], default=True)
+        if fired is None:
+            raise Empty
+        return fired.value
+
+    def get_nowait(self) -> Any:
+        """Receives a value if that needs no wait, and raises queue.Empty otherwise."""
+        return self.get(block=False)
+
+    def close(self) -> None:
+        """Closes the port. Waiting sends raise Closed, and waiting receives raise Drained."""
+        self.seat.close(self)
+
+    def qsize(self) -> int:
+        """Returns how many values are in the buffer."""
+        counts = self._counts()
+        return counts.sent - counts.received
+
+    def empty(self) -> bool:
+        """Returns whether no value is in the buffer."""
+        return self.qsize() == 0
+
+    def full(self) -> bool:
+        """Returns whether the buffer has no room. A port of capacity 0 is always full."""
+        counts = self._counts()
+        return counts.sent - counts.received >= counts.cap
+
+    def _counts(self) -> Counts:
+        return self.seat.hub.look(self) or Counts(0, 0, 0, False)
+
+    def __iter__(self) -> Iterator[Any]:
+        return self.seat.drain(self)
+
+    async def aput(self, item: Any) -> None:
+        """Sends a value, without blocking the event loop. If the task is cancelled meanwhile, the value may still be sent."""
+        from asyncio import wrap_future
+        await wrap_future(self.seat._submit(self.put, item))
+
+    async def aget(self) -> Any:
+        """Receives a value and returns it, without blocking the event loop. If the task is cancelled meanwhile, no value is lost: the
+        call goes on, and the next `aget` of this process on this port gets its result."""
+        from asyncio import CancelledError, wrap_future
+        unclaimed = self.seat.hub._unclaimed[self.seat.pid, int(self)]
+        got = unclaimed.popleft() if unclaimed else self.seat._submit(self.get)
+        try:
+            return await wrap_future(got)
+        except CancelledError:
+            if not got.cancel():  # it has begun
+                unclaimed.append(got)
+            raise
+
+    async def __aiter__(self) -> AsyncIterator[Any]:
+        while True:
+            try:
+                value = await self.aget()
+            except Drained:
+                return
+            yield value

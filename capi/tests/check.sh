@@ -277,11 +277,14 @@ else
 fi
 
 check 'the Python module' env PYTHONPATH=python:tests python3 -m unittest -q test_chanhub
+check 'the Python module with any object' env PYTHONPATH=python:tests python3 -m unittest -q test_objects
 check 'pool.py' prints "$work/sum" python3 python/pool.py
 check 'first.py' prints "$work/first" python3 python/first.py
 check 'deadlock.py' prints "$work/stalled" python3 python/deadlock.py
 check 'deadlock.py keeps its journal' keeps_journal
 check 'choice.py' chooses python3 python/choice.py
+check 'objects.py' prints "$work/report" python3 python/objects.py
+check 'tasks.py' prints "$work/sum" python3 python/tasks.py
 check '50 random rigs' tests/rigs.py "$program" 50
 
 if command -v cargo > "$work/found"; then

@@ -49,6 +49,10 @@
 // also locks a [sync.Mutex] of the hub. But that mutex orders all calls on the hub, even those that pass no value to each other, so
 // the detector can miss some races.
 //
+// # Values of any type
+//
+// A [Seat] sends and receives numbers or short byte strings, each a [Value]. A [Chan] carries values of any type instead.
+//
 // # Errors
 //
 // A call that fails returns [ErrClosed], [ErrDrained], [ErrStalled], [ErrCancelled] or [ErrHubClosed], or a [Fault] if the hub did

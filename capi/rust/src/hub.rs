@@ -12,8 +12,9 @@ use std::mem;
 use std::os::raw::{c_char, c_int, c_uint};
 use std::panic::RefUnwindSafe;
 use std::ptr;
-use std::sync::atomic::{fence, AtomicBool, AtomicU64, Ordering};
+use std::sync::atomic::{AtomicBool, AtomicU64, AtomicU8, Ordering};
 use std::sync::{Arc, Mutex, MutexGuard, PoisonError};
+use std::thread;
 
 /// The edition of a hub, which determines what its calls may contain. Use `Two` unless numbers are enough.
 #[derive(Clone, Copy, Debug, PartialEq, Eq)]
@@ -38,44 +39,83 @@ struct Raw {
     at: *mut sys::Chanhub,
     id: u64,
     is_endless: bool,
-    /// For each process, whether it has exited. Its lock is held while a call as the process runs.
-    exited: Vec<Mutex<bool>>,
+    /// Whether the calls of processes are watched, because there are typed channels. It stays so.
+    is_watched: AtomicBool,
+    processes: Vec<Process>,
     abandoned: Abandoned,
     /// Is dropped after the hub is freed, which still calls it.
     _handler: Option<Handler>,
+}
+
+/// Whether a call as a process runs: one of the thread that has its seat or, for the time of a close, of another one.
+///
+/// All operations on this and on `Abandoned::are_some` have one order. So a thread that abandons a port and then finds the process in
+/// a call, and the thread that ends this call and then looks for abandoned ports, cannot miss each other.
+#[repr(align(64))] // each in a line of the cache of its own
+struct Process(AtomicU8);
+
+impl Process {
+    /// Its seat made no call since the hub is watched. A call from before may still run.
+    const UNKNOWN: u8 = 0;
+    const IDLE: u8 = 1;
+    const CALLING: u8 = 2;
+    const EXITED: u8 = 3;
+
+    fn new() -> Process {
+        Process(AtomicU8::new(Process::UNKNOWN))
+    }
+
+    /// Begins a call of the thread that has the seat.
+    fn begin(&self) {
+        while self.0.swap(Process::CALLING, Ordering::SeqCst) == Process::CALLING {
+            thread::yield_now(); // another thread closes a port as this process
+        }
+    }
+
+    /// Begins a call of another thread, if the process is idle.
+    fn try_begin(&self) -> bool {
+        let order = Ordering::SeqCst;
+        let was_idle = self
+            .0
+            .compare_exchange(Process::IDLE, Process::CALLING, order, order);
+        was_idle.is_ok()
+    }
+
+    fn end(&self, next: u8) {
+        self.0.store(next, Ordering::SeqCst);
+    }
 }
 
 /// The ports that no typed sender or receiver is left for, until a process closes them.
 #[derive(Default)]
 struct Abandoned {
     ports: Mutex<Vec<u16>>,
-    /// Whether there are any.
-    some: AtomicBool,
+    are_some: AtomicBool,
 }
 
 impl Abandoned {
+    fn lock(&self) -> MutexGuard<'_, Vec<u16>> {
+        self.ports.lock().unwrap_or_else(PoisonError::into_inner)
+    }
+
     fn add(&self, port: u16) {
-        let mut ports = lock(&self.ports);
+        let mut ports = self.lock();
         ports.push(port);
-        self.some.store(true, Ordering::Relaxed);
+        self.are_some.store(true, Ordering::SeqCst);
     }
 
     fn take(&self) -> Vec<u16> {
-        let mut ports = lock(&self.ports);
-        self.some.store(false, Ordering::Relaxed);
+        if !self.are_some() {
+            return Vec::new();
+        }
+        let mut ports = self.lock();
+        self.are_some.store(false, Ordering::SeqCst);
         mem::take(&mut ports)
     }
 
-    /// Returns whether there are any. A thread that adds a port and then finds a process busy, and the thread that frees this process
-    /// and then calls this, cannot both miss the other's write.
     fn are_some(&self) -> bool {
-        fence(Ordering::SeqCst);
-        self.some.load(Ordering::Relaxed)
+        self.are_some.load(Ordering::SeqCst)
     }
-}
-
-fn lock<T>(mutex: &Mutex<T>) -> MutexGuard<'_, T> {
-    mutex.lock().unwrap_or_else(PoisonError::into_inner)
 }
 
 // SAFETY: chanhub.h allows calls from all threads at any time, except for the free, which happens once no `Arc` is left. The
@@ -87,50 +127,63 @@ unsafe impl Sync for Raw {}
 impl RefUnwindSafe for Raw {}
 
 impl Raw {
-    /// Makes a call as a process, and then closes the abandoned ports.
+    /// Makes a call of the thread that has the seat.
     fn call<R>(&self, pid: u8, call: impl FnOnce(*mut sys::Chanhub, c_uint) -> R) -> R {
-        let process = lock(&self.exited[usize::from(pid)]);
+        self.call_then(pid, Process::IDLE, call)
+    }
+
+    fn exit(&self, pid: u8) {
+        // SAFETY: the hub is open as long as this exists.
+        self.call_then(pid, Process::EXITED, |hub, pid| unsafe {
+            sys::chanhub_exit(hub, pid)
+        });
+    }
+
+    /// Makes a call of the thread that has the seat, after which the process is in this state. If the hub is watched, also closes the
+    /// abandoned ports: those that are known before, and those that came while the call kept others from closing them.
+    fn call_then<R>(
+        &self,
+        pid: u8,
+        next: u8,
+        call: impl FnOnce(*mut sys::Chanhub, c_uint) -> R,
+    ) -> R {
+        if !self.is_watched.load(Ordering::Relaxed) {
+            return call(self.at, pid.into());
+        }
+        let process = self.process(pid);
+        process.begin();
+        self.close_as(pid);
         let answer = call(self.at, pid.into());
-        drop(process);
+        process.end(next);
         self.close_abandoned(Some(pid));
         answer
     }
 
-    /// Exits a process.
-    fn exit(&self, pid: u8) {
-        let mut has_exited = lock(&self.exited[usize::from(pid)]);
-        *has_exited = true;
-        // SAFETY: the hub is open as long as this exists.
-        unsafe { sys::chanhub_exit(self.at, pid.into()) };
-    }
-
-    /// Closes the abandoned ports as this process or, if that is in a call, as any that is not. If all are, the first call to return
+    /// Closes the abandoned ports as this process or, if it is not idle, as any that is. If none is, the next call to begin or to end
     /// does so.
     fn close_abandoned(&self, pid: Option<u8>) {
         while self.abandoned.are_some() {
-            let mut processes = pid.into_iter().chain(0..self.procs());
-            if !processes.any(|pid| self.close_as(pid)) {
-                return;
+            let mut processes = pid.into_iter().chain(0..self.processes.len() as u8);
+            match processes.find(|&pid| self.process(pid).try_begin()) {
+                Some(pid) => {
+                    self.close_as(pid);
+                    self.process(pid).end(Process::IDLE);
+                }
+                None => return,
             }
         }
     }
 
-    /// Closes the abandoned ports as this process. Returns false if it is in a call or has exited.
-    fn close_as(&self, pid: u8) -> bool {
-        let has_exited = match self.exited[usize::from(pid)].try_lock() {
-            Ok(has_exited) if !*has_exited => has_exited,
-            _ => return false,
-        };
+    /// Closes the abandoned ports as this process, whose call has begun.
+    fn close_as(&self, pid: u8) {
         for port in self.abandoned.take() {
-            // SAFETY: the hub is open as long as this exists, and the lock keeps other calls of the process out.
+            // SAFETY: the hub is open as long as this exists, and no other call of the process runs meanwhile.
             unsafe { sys::chanhub_close(self.at, pid.into(), port.into()) };
         }
-        drop(has_exited);
-        true
     }
 
-    fn procs(&self) -> u8 {
-        self.exited.len() as u8
+    fn process(&self, pid: u8) -> &Process {
+        &self.processes[usize::from(pid)]
     }
 }
 
@@ -333,7 +386,8 @@ impl Hub {
             at,
             id: OPENED.fetch_add(1, Ordering::Relaxed),
             is_endless,
-            exited: (0..procs).map(|_| Mutex::default()).collect(),
+            is_watched: AtomicBool::new(false),
+            processes: (0..procs).map(|_| Process::new()).collect(),
             abandoned: Abandoned::default(),
             _handler: handler,
         }));
@@ -406,10 +460,18 @@ impl Hub {
         }
     }
 
-    /// Closes an abandoned port: as this process or, if that is in a call, as any other that is not.
+    /// Has the calls of processes watched from now on, as `abandon` needs.
+    pub(crate) fn watch(&self) {
+        self.0.is_watched.store(true, Ordering::Relaxed);
+    }
+
+    /// Closes an abandoned port: as this process, whose seat the thread has, or as any that is idle.
     pub(crate) fn abandon(&self, port: u16, pid: Option<u8>) {
         self.0.abandoned.add(port);
-        self.0.close_abandoned(pid);
+        match pid {
+            Some(pid) => self.0.call(pid, |_hub, _pid| ()),
+            None => self.0.close_abandoned(None),
+        }
     }
 
     pub(crate) fn id(&self) -> u64 {

@@ -35,9 +35,9 @@
 //! sent before can still be received. [`Sender::keep_open`] turns this off: the channel then stays open until it is [closed by
 //! hand](BoundSender::close).
 //!
-//! The journal shows the close as a step of the process to whose seat the dropped end was bound. An end that is dropped unbound,
-//! such as the original after it was cloned for each thread, is closed by a process that is in no call just then. If all are, the
-//! first one whose call returns does it.
+//! The journal shows the close as a step of the process to whose seat the dropped end was bound. If the last end is dropped unbound,
+//! such as the original after it was cloned for each thread, the step is one of some process that has called before and is in no
+//! call just then. If there is none, it is one of the next process that begins or ends a call, or exits.
 //!
 //! An end that is bound borrows the seat, so it is dropped before the seat exits its process. An end that was not bound when its
 //! thread dropped the seat could still be the last sender, but none of the processes could know: if they all wait, they stall.
@@ -73,6 +73,7 @@ pub use select::{Select, SelectedOperation};
 ///
 /// Returns the same errors as [`Seat::channel`].
 pub fn channel<T>(seat: &Seat, cap: u32) -> Result<(Sender<T>, Receiver<T>), Fault> {
+    seat.hub().watch();
     let channel = Arc::new(Channel {
         port: seat.make(cap)?,
         hub: seat.hub().clone(),
@@ -122,7 +123,7 @@ impl<T> Channel<T> {
         value.expect("a number of the channel is taken once")
     }
 
-    /// Closes the channel, as this process if it can be, unless it is closed or stays open.
+    /// Closes the channel, as this process or any other, unless it is closed or stays open.
     fn abandon(&self, pid: Option<u8>) {
         let stays = self.stays_open.load(Ordering::Relaxed);
         if !stays && !self.is_closed.swap(true, Ordering::Relaxed) {

@@ -255,7 +255,7 @@ fn the_last_sender_of_threads_closes_before_their_seats_exit() {
 #[test]
 fn a_sender_that_is_dropped_without_a_seat_closes_as_a_process_that_is_free() {
     let (hub, [waits, free]) = seats();
-    let (sender, receiver) = channel::<u64>(&waits, 0).unwrap();
+    let (sender, receiver) = channel::<u64>(&free, 0).unwrap();
     let thread = thread::spawn(move || receiver.bind(&waits).recv());
     until_it_stands(&hub, "0 recv 1");
     drop(sender);
@@ -263,8 +263,29 @@ fn a_sender_that_is_dropped_without_a_seat_closes_as_a_process_that_is_free() {
     drop(free);
     assert_eq!(
         hub.journal().unwrap(),
-        "chanhub journal 2\nprocs 2\n0 make 0\n0 recv 1\n1 close 1\n0 exit\n1 exit\n"
+        "chanhub journal 2\nprocs 2\n1 make 0\n0 recv 1\n1 close 1\n0 exit\n1 exit\n"
     );
+}
+
+#[test]
+fn a_sender_that_is_dropped_without_a_seat_is_closed_by_a_first_call_or_an_exit() {
+    for exits in [false, true] {
+        let (hub, [waits, unused]) = seats();
+        let (sender, receiver) = channel::<u64>(&waits, 0).unwrap();
+        let other = receiver.clone();
+        let thread = thread::spawn(move || receiver.bind(&waits).recv());
+        until_it_stands(&hub, "0 recv 1");
+        drop(sender);
+        if exits {
+            drop(unused);
+        } else {
+            assert_eq!(other.bind(&unused).recv(), Err(Ended::Drained(0)));
+        }
+        assert_eq!(thread.join().unwrap(), Err(Ended::Drained(0)));
+        let journal = hub.journal().unwrap();
+        let steps: Vec<_> = journal.lines().skip(2).take(3).collect();
+        assert_eq!(steps, ["0 make 0", "0 recv 1", "1 close 1"]);
+    }
 }
 
 #[test]

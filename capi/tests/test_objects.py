@@ -206,6 +206,7 @@ class Objects(unittest.TestCase):
     def test_no_object_is_lost_to_an_interrupt(self):
         port = self.seat.make(0)
         inside, interrupts, got, done = [False], [], [], threading.Event()
+        self.addCleanup(done.set)
 
         def handle(*_):
             if inside[0]:

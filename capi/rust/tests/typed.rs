@@ -232,6 +232,19 @@ fn the_last_sender_closes() {
 }
 
 #[test]
+fn the_process_of_the_last_end_closes() {
+    let (hub, [first, second]) = seats();
+    let (sender, receiver) = channel::<u64>(&first, 0).unwrap();
+    let (other, last) = channel::<u64>(&first, 0).unwrap();
+    drop(sender.bind(&second));
+    drop(last.bind(&second));
+    drop((receiver, other));
+    let journal = hub.journal().unwrap();
+    let steps: Vec<_> = journal.lines().skip(4).collect();
+    assert_eq!(steps, ["1 close 1", "1 close 2"]);
+}
+
+#[test]
 fn the_last_sender_of_threads_closes_before_their_seats_exit() {
     for _ in 0..200 {
         let (_hub, [boss, workers @ ..]) = seats::<4>();
@@ -265,6 +278,42 @@ fn a_sender_that_is_dropped_without_a_seat_closes_as_a_process_that_is_free() {
         hub.journal().unwrap(),
         "chanhub journal 2\nprocs 2\n1 make 0\n0 recv 1\n1 close 1\n0 exit\n1 exit\n"
     );
+}
+
+#[test]
+fn a_process_that_has_exited_closes_nothing() {
+    let (hub, [first, second]) = seats();
+    let (sender, receiver) = channel::<u64>(&first, 0).unwrap();
+    let receiver = receiver.bind(&second);
+    assert_eq!(receiver.try_recv(), Err(TryRecvError::Empty));
+    drop((first, sender));
+    assert_eq!(
+        receiver.try_recv(),
+        Err(TryRecvError::Ended(Ended::Drained(0)))
+    );
+    assert!(hub
+        .journal()
+        .unwrap()
+        .lines()
+        .any(|line| line == "1 close 1"));
+}
+
+#[test]
+fn a_process_that_waits_since_before_the_first_channel_closes_nothing() {
+    let (hub, [mut waits, makes]) = seats();
+    let (_, numbers) = waits.channel(0).unwrap();
+    let thread = thread::spawn(move || numbers.recv(&mut waits));
+    until_it_stands(&hub, "0 recv 1");
+    let (sender, receiver) = channel::<u64>(&makes, 0).unwrap();
+    drop(sender);
+    assert_eq!(receiver.bind(&makes).recv(), Err(Ended::Drained(0)));
+    assert!(hub
+        .journal()
+        .unwrap()
+        .lines()
+        .any(|line| line == "1 close 2"));
+    drop(makes);
+    assert_eq!(thread.join().unwrap(), Err(Ended::Stalled));
 }
 
 #[test]
@@ -482,6 +531,15 @@ fn iterators_end_with_their_error() {
     drop(sender);
     assert_eq!((&receiver).into_iter().collect::<Vec<_>>(), [Ok(5)]);
     assert_eq!(receiver.try_iter().next(), None);
+
+    let (_hub, mut few) = Hub::open(Edition::Two, 1, 1).unwrap();
+    let full = few.remove(0);
+    let (_sender, receiver) = channel::<u64>(&full, 1).unwrap();
+    let refused = Err(Ended::Fault(Fault::JOURNAL_FULL));
+    assert_eq!(
+        receiver.bind(&full).try_iter().collect::<Vec<_>>(),
+        [refused]
+    );
 }
 
 fn words_and_numbers(

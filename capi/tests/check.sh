@@ -126,6 +126,15 @@ build_rust() {
     CHANHUB_LIB=$folder cargo build --offline --manifest-path rust/Cargo.toml "$@"
 }
 
+# with_crossbeam: runs the program of typed.rs that is written with crossbeam.
+with_crossbeam() {
+    mkdir -p "$work/crossbeam/src" && cp -R ../benches/crossbeam_peer/.cargo "$work/crossbeam" &&
+        cp rust/examples/crossbeam/typed.rs "$work/crossbeam/src/main.rs" &&
+        printf '%s\n' '[package]' 'name = "with_crossbeam"' 'version = "0.1.0"' 'edition = "2021"' '[dependencies]' \
+            'crossbeam-channel = "0.5"' > "$work/crossbeam/Cargo.toml" &&
+        env -C "$work/crossbeam" cargo run --offline --quiet
+}
+
 # says_what_to_do: whether a build over a folder without the library says so, where it looked, and what to do.
 says_what_to_do() {
     mkdir -p "$work/nothing" && ! build_rust "$work/nothing" > "$work/said" 2>&1 && cat "$work/said" &&
@@ -296,6 +305,11 @@ if command -v cargo > "$work/found"; then
     check 'deadlock.rs' prints "$work/stalled" cargo run --offline --quiet --manifest-path rust/Cargo.toml --example deadlock
     check 'choice.rs' chooses cargo run --offline --quiet --manifest-path rust/Cargo.toml --example choice
     check 'typed.rs' prints "$work/report" cargo run --offline --quiet --manifest-path rust/Cargo.toml --example typed
+    if ls -d /usr/share/cargo/registry/crossbeam-channel-* > "$work/found" 2>&1; then
+        check 'crossbeam/typed.rs' prints "$work/report" with_crossbeam
+    else
+        skip 'crossbeam/typed.rs' 'no librust-crossbeam-channel-dev'
+    fi
     check 'cargo doc' env RUSTDOCFLAGS='-D warnings' cargo doc --offline --quiet --no-deps --manifest-path rust/Cargo.toml
     check 'build.rs says what to do without the library' says_what_to_do
     check 'build.rs sees a new library' links_anew

@@ -1,4 +1,4 @@
-//! The program of ../typed.rs with crossbeam's channels. Cargo does not build this file, since the crate has no dependencies.
+//! The program of ../typed.rs with crossbeam's channels. Cargo does not build this file here, since the crate has no dependencies.
 
 use crossbeam_channel::{bounded, Select};
 use std::error::Error;

@@ -15,6 +15,7 @@
 #include "chanhub.h"
 
 #include "heap.h"
+#include "hub_c.h"
 
 #include <errno.h>
 #include <pthread.h>
@@ -24,54 +25,11 @@
 #include <string.h>
 #include <time.h>
 
-/* What the proved library exports: crates/hub_c/src/lib.rt. */
-uint64_t hub_c_do(void *hub, uint8_t kind, uint8_t pid, uint16_t port, uint64_t value);
-size_t hub_c_size(void);
-void hub_c_open(void *place, uint8_t edition, uint8_t procs, uint32_t limit, uint8_t life);
-
-/* The life of a hub: crates/hub_c/src/lib.rt. */
-enum {
-    ENDS,         /* at its limit */
-    CHAPTERS_GO,  /* it never ends, and a chapter that falls out goes */
-    CHAPTERS_WAIT /* it never ends, and a chapter that falls out waits to be read */
-};
-
-/* What it is asked for, by number: crates/hub_c/src/kind.rt. */
-enum {
-    MAKE, SEND, SEND_BYTES, RECV, CLOSE, EXIT, CANCEL, SELECT, SELECT_OR_DEFAULT,
-    GIVE_BYTE, GIVE_SEND, GIVE_SEND_BYTES, GIVE_RECV,
-    TAKE,
-    NUMBER, LENGTH, BYTE, ENDED_PID, PORT, SENT, ENTRIES, WORD,
-    PIECE,
-    REFUSAL,
-    END,
-    RECEIVED,
-    BEFORE_ENTRIES, BEFORE_PIECE,
-    WAITING_ENTRIES, WAITING_PIECE, LET_GO,
-    CUT
-};
-
-/* What it answers: crates/hub_c/src/answer.rt. */
-enum {
-    PARKED = CHANHUB_WAITING,
-    WHAT = 255,      /* the bits of what is told, or of the fault */
-    REFUSED = 256,   /* set where the step was refused */
-    GOT_BYTES = 512, /* set where bytes were received */
-    DETAIL_AT = 16,  /* where the port, the case or the fault of what is told begins */
-    ENDED_AT = 32    /* where the number of calls that the step ended begins, which takes 8 bits */
-};
-
-/* Set in the answer of a step or a cut while a chapter waits to be read. */
-#define CHAPTER ((uint64_t)1 << 40)
-
-/* The answer of a step that would make a chapter fall out while another one waits. */
-#define NO_ROOM (CHAPTER | REFUSED | CHANHUB_NO_MEMORY)
-
 enum {
     MOST_PROCS = 64,
     NOBODY = MOST_PROCS, /* the number of no process */
-    MOST_CASES = 16,
     MOST_BYTES = 32,
+    GREATEST_EDITION = 255,
     GREATEST_PID = 255,
     GREATEST_PORT = 65535
 };
@@ -108,19 +66,13 @@ struct chanhub {
     bool has_buffer;            /* whether any port may have one */
     bool waits;                 /* whether a chapter waits in the hub; the thread that claimed it hands it out */
     bool handing;               /* whether a chapter is being handed out */
-    bool was_cut;               /* whether chanhub_cut has cut it */
     uint64_t taken;             /* how many chapters were taken out of the hub */
     chanhub_chapters *chapters; /* gets the chapters that fall out; NULL where nobody does */
     void *pointer;              /* what it gets with them */
     pthread_cond_t handed;      /* a chapter was taken, or was handed out */
     struct place places[MOST_PROCS];
-    _Alignas(16) unsigned char hub[]; /* hub_c_size() bytes */
+    struct hub hub;
 };
-
-/* Asks for a reading, or gives a byte or a case: what belongs to no process. Holds the lock. */
-static inline uint64_t ask(chanhub *h, uint8_t kind, uint16_t port, uint64_t value) {
-    return hub_c_do(h->hub, kind, 0, port, value);
-}
 
 /* ---- A hub opens. Nobody else has it, so there is no lock to hold. ---- */
 
@@ -133,18 +85,12 @@ static void init_place(struct place *place) {
     pthread_condattr_destroy(&monotonic);
 }
 
-/* Opens a hub with this life. */
-static int open_hub(chanhub **hub, unsigned edition, unsigned procs, uint32_t limit, uint8_t life) {
-    *hub = NULL;
-    chanhub *h = calloc(1, sizeof *h + hub_c_size());
-    if (!h) return 3;
-    hub_c_open(h->hub, edition > 255 ? 0 : (uint8_t)edition, procs > 255 ? 255 : (uint8_t)procs, limit, life);
-    int refusal = (int)ask(h, REFUSAL, 0, 0);
+/* The hub that was opened, or why it was not. */
+static int opened(chanhub **hub, chanhub *h, int refusal) {
     if (refusal) {
         free(h);
         return refusal;
     }
-    h->limit = life == ENDS ? limit : 0;
     pthread_mutex_init(&h->lock, NULL);
     pthread_cond_init(&h->handed, NULL);
     for (int pid = 0; pid < MOST_PROCS; pid++) init_place(&h->places[pid]);
@@ -152,16 +98,25 @@ static int open_hub(chanhub **hub, unsigned edition, unsigned procs, uint32_t li
     return 0;
 }
 
+/* A number that no hub has, if it is too great. */
+static uint8_t edition_of(unsigned edition) { return edition > GREATEST_EDITION ? 0 : (uint8_t)edition; }
+static uint8_t procs_of(unsigned procs) { return procs > GREATEST_PID ? GREATEST_PID : (uint8_t)procs; }
+
 int chanhub_open(chanhub **hub, unsigned edition, unsigned procs, uint32_t limit) {
-    return open_hub(hub, edition, procs, limit, ENDS);
+    *hub = NULL;
+    chanhub *h = calloc(1, sizeof *h);
+    if (!h) return 3;
+    h->limit = limit;
+    return opened(hub, h, hub_c_open(&h->hub, edition_of(edition), procs_of(procs), limit));
 }
 
 int chanhub_open_endless(chanhub **hub, unsigned edition, unsigned procs, uint32_t keep, chanhub_chapters *chapters, void *pointer) {
-    int refusal = open_hub(hub, edition, procs, keep, chapters ? CHAPTERS_WAIT : CHAPTERS_GO);
-    if (refusal) return refusal;
-    (*hub)->chapters = chapters;
-    (*hub)->pointer = pointer;
-    return 0;
+    *hub = NULL;
+    chanhub *h = calloc(1, sizeof *h);
+    if (!h) return 3;
+    h->chapters = chapters;
+    h->pointer = pointer;
+    return opened(hub, h, hub_c_open_endless(&h->hub, edition_of(edition), procs_of(procs), keep, chapters != NULL));
 }
 
 /* ---- Texts. ---- */
@@ -239,34 +194,8 @@ chanhub_value chanhub_bytes(const void *bytes, size_t length) {
     return value;
 }
 
-static chanhub_told fault(uint64_t number) {
-    return (chanhub_told){ .what = CHANHUB_FAULT, .fault = (uint8_t)number };
-}
-
-/* Puts the bytes that were received into a value. Holds the lock. */
-static void read_bytes(chanhub *h, chanhub_value *value) {
-    uint8_t length = (uint8_t)ask(h, LENGTH, 0, 0);
-    value->is_bytes = true;
-    value->length = length;
-    for (unsigned i = 0; i < length; i++) value->bytes[i] = (uint8_t)ask(h, BYTE, 0, i);
-}
-
-/* Writes into t what the last answer says. 0 answers what the edition does not have. Holds the lock. */
-static void tell(chanhub *h, uint64_t answer, chanhub_told *t) {
-    uint8_t what = answer & WHAT;
-    uint16_t detail = (uint16_t)(answer >> DETAIL_AT);
-    memset(t, 0, sizeof *t);
-    if (answer & REFUSED || !answer) {
-        t->what = CHANHUB_FAULT;
-        t->fault = answer ? what : CHANHUB_BAD_CALL;
-        return;
-    }
-    t->what = what;
-    if (what == CHANHUB_FAULT) t->fault = (uint8_t)detail;
-    else if (what == CHANHUB_MADE) t->port = detail;
-    else t->index = (uint8_t)detail;
-    if (answer & GOT_BYTES) read_bytes(h, &t->value);
-    else if (what == CHANHUB_GOT) t->value.number = ask(h, NUMBER, 0, 0);
+static chanhub_told fault(uint8_t number) {
+    return (chanhub_told){ .what = CHANHUB_FAULT, .fault = number };
 }
 
 /* ---- The lock. ---- */
@@ -312,13 +241,6 @@ static inline bool enter(chanhub *h, unsigned pid) {
 }
 
 /* ---- Wakes and waits. ---- */
-
-/* The processes whose calls the step with this answer ended. Holds the lock since that step. */
-static uint64_t ended_by(chanhub *h, uint64_t answer) {
-    uint64_t ended = 0;
-    for (uint64_t i = 0; i < (uint8_t)(answer >> ENDED_AT); i++) ended |= only((unsigned)ask(h, ENDED_PID, 0, i));
-    return ended;
-}
 
 /* Wakes these processes. With the lock or without. */
 static void wake(chanhub *h, uint64_t pids) {
@@ -373,46 +295,38 @@ static bool sleep_until(chanhub *h, struct place *mine, const struct timespec *e
     return why != ETIMEDOUT;
 }
 
-/* Picks up the answer of the open call of this process, 0 where there is none. Holds the lock. */
-static uint64_t pick_up(chanhub *h, unsigned pid) {
-    uint64_t answer = hub_c_do(h->hub, TAKE, (uint8_t)pid, 0, 0);
-    if (answer) h->open &= ~only(pid);
-    return answer;
+/* Picks up the answer of the open call of this process. Its kind is 0 where there is none. Holds the lock. */
+static chanhub_told pick_up(chanhub *h, unsigned pid) {
+    struct told t = { 0 };
+    hub_c_take(&h->hub, (uint8_t)pid, &t);
+    if (t.it.what) h->open &= ~only(pid);
+    return t.it;
 }
 
-/* Waits for the answer of the open call of this process, for which no other thread waits, and picks it up. PARKED where it has
+/* Waits for the answer of the open call of this process, for which no other thread waits, and picks it up. WAITING where it has
  * not come in so many nanoseconds; the call is open then. Holds the lock, but not while it waits. */
-static uint64_t wait_for(chanhub *h, unsigned pid, uint64_t nanoseconds) {
-    uint64_t answer = pick_up(h, pid);
-    if (answer) return answer;
-    if (nanoseconds == 0) return PARKED;
-    struct timespec end = nanoseconds == FOR_EVER ? (struct timespec){ 0 } : time_in(nanoseconds);
-    struct place *mine = &h->places[pid];
-    bool has_time = true;
-    h->awaited |= only(pid);
-    if (begins_with_looks(h, mine, nanoseconds)) {
-        look_for_wake(h, mine);
-        answer = pick_up(h, pid);
+static chanhub_told wait_for(chanhub *h, unsigned pid, uint64_t nanoseconds) {
+    chanhub_told t = pick_up(h, pid);
+    if (!t.what && nanoseconds) {
+        struct timespec end = nanoseconds == FOR_EVER ? (struct timespec){ 0 } : time_in(nanoseconds);
+        struct place *mine = &h->places[pid];
+        bool has_time = true;
+        h->awaited |= only(pid);
+        if (begins_with_looks(h, mine, nanoseconds)) {
+            look_for_wake(h, mine);
+            t = pick_up(h, pid);
+        }
+        while (!t.what && has_time) {
+            has_time = sleep_until(h, mine, nanoseconds == FOR_EVER ? NULL : &end);
+            t = pick_up(h, pid);
+        }
+        h->awaited &= ~only(pid);
     }
-    while (!answer && has_time) {
-        has_time = sleep_until(h, mine, nanoseconds == FOR_EVER ? NULL : &end);
-        answer = pick_up(h, pid);
-    }
-    h->awaited &= ~only(pid);
-    return answer ? answer : PARKED;
+    if (!t.what) t.what = CHANHUB_WAITING;
+    return t;
 }
 
 /* ---- The texts of journals. ---- */
-
-/* A journal that is read. */
-struct journal {
-    uint8_t entries, piece; /* the kinds that ask for the number of its entries, and for a piece of its text */
-    bool stays;             /* whether it stays as it is while the lock is let go */
-};
-
-static const struct journal present = { ENTRIES, PIECE, false };
-static const struct journal before = { BEFORE_ENTRIES, BEFORE_PIECE, false };
-static const struct journal waiting = { WAITING_ENTRIES, WAITING_PIECE, true };
 
 /* A text that grows. */
 struct text {
@@ -422,7 +336,6 @@ struct text {
 
 /* Makes room for so many bytes more; whether memory was there. */
 static bool make_room(struct text *text, size_t more) {
-    if (text->length + more <= text->room) return true;
     size_t room = 2 * (text->length + more) + 4096;
     char *bytes = heap_realloc(text->bytes, room);
     if (!bytes) return false;
@@ -431,40 +344,31 @@ static bool make_room(struct text *text, size_t more) {
     return true;
 }
 
-/* Puts a piece of a journal behind the text; whether there is one and memory was there. It is read eight bytes at a time, the first
- * byte lowest, as this machine keeps it. Holds the lock. */
-static bool add_piece(chanhub *h, struct text *text, uint8_t kind, uint64_t piece) {
-    size_t length = ask(h, kind, 0, piece); /* 0 where memory is refused, and where there is no such journal */
-    if (!length || !make_room(text, length + sizeof(uint64_t))) return false;
-    for (size_t i = 0; i < length; i += sizeof(uint64_t)) {
-        uint64_t word = ask(h, WORD, 0, i);
-        memcpy(text->bytes + text->length + i, &word, sizeof word);
+/* Puts a piece of a journal behind the text. Returns WRITTEN, NO_PIECE or NO_MEMORY. Holds the lock. */
+static int add_piece(chanhub *h, struct text *text, reader *read, uint64_t number) {
+    for (;;) {
+        uint8_t *place = text->bytes ? (uint8_t *)text->bytes + text->length : NULL;
+        struct piece piece = read(&h->hub, number, place, text->room - text->length);
+        if (piece.what == WRITTEN) text->length += piece.length;
+        if (piece.what != NO_ROOM) return piece.what;
+        if (!make_room(text, piece.length)) return NO_MEMORY;
     }
-    text->length += length;
-    return true;
 }
 
-/* Puts all pieces of a journal behind the text: the head lines, and the line of each entry. Holds the lock; if the journal stays, not
- * between slices of it. */
-static bool add_pieces(chanhub *h, struct text *text, const struct journal *journal) {
-    uint64_t pieces = ask(h, journal->entries, 0, 0) + 1;
-    for (uint64_t piece = 0; piece < pieces; piece++) {
-        if (!add_piece(h, text, journal->piece, piece)) return false;
-        if (journal->stays && piece % SLICE == SLICE - 1) let_others_in(h);
+/* Puts all pieces of a journal together. Returns whether there is such a journal; the text has no bytes if memory is refused. Holds the
+ * lock; if the journal stays as it is meanwhile, not between slices of it. */
+static bool read_text(chanhub *h, struct text *text, reader *read, bool stays) {
+    uint64_t number = 0;
+    int what;
+    *text = (struct text){ 0 };
+    while ((what = add_piece(h, text, read, number)) == WRITTEN) {
+        if (++number % SLICE == 0 && stays) let_others_in(h);
     }
-    return true;
-}
-
-/* The text of a journal. NULL, with the length 0, where there is no such journal and where memory is refused. Holds the lock as
- * above. */
-static char *text_of(chanhub *h, const struct journal *journal, size_t *length) {
-    struct text text = { 0 };
-    if (!add_pieces(h, &text, journal)) {
-        heap_free(text.bytes);
-        text = (struct text){ 0 };
+    if (what == NO_MEMORY) {
+        heap_free(text->bytes);
+        *text = (struct text){ 0 };
     }
-    *length = text.length;
-    return text.bytes;
+    return number || what == NO_MEMORY;
 }
 
 /* ---- Chapters. ---- */
@@ -494,36 +398,38 @@ static void wait_for_room(chanhub *h, unsigned pid) {
     end_pause(h, pid, state);
 }
 
-/* Whether the step with this answer is to be made again, since there was no room for another chapter. There may be when this returns,
+/* Whether the step that came to this is to be made again, since there was no room for another chapter. There may be when this returns,
  * unless another thread was faster. Holds the lock, but not while it waits. */
-static inline bool is_to_be_made_again(chanhub *h, unsigned pid, uint64_t answer) {
-    if (answer != NO_ROOM) return false;
+static inline bool is_to_be_made_again(chanhub *h, unsigned pid, const struct told *t) {
+    if (!t->chapter || t->it.fault != CHANHUB_NO_MEMORY) return false;
     wait_for_room(h, pid);
     return true;
 }
 
-/* Whether the step or the cut with this answer made a chapter fall out. Then the caller has to hand it out. Holds the lock since that
- * step. */
-static inline bool claims_chapter(chanhub *h, uint64_t answer) {
-    if (!(answer & CHAPTER) || h->waits) return false;
+/* Makes a step, and again while it is to be. Holds the lock, but not while it waits. */
+#define STEP(h, pid, t, call) do call; while (is_to_be_made_again(h, pid, t))
+
+/* Whether the step or the cut after which a chapter waits, or not, made it fall out. Then the caller has to hand it out. Holds the lock
+ * since that step. */
+static inline bool claims_chapter(chanhub *h, bool chapter) {
+    if (!chapter || h->waits) return false;
     h->waits = true;
     return true;
 }
 
-/* Takes the chapter that waits out of the hub: its text, and NULL where memory is refused. Holds the lock, but not all the time. */
-static char *take_chapter(chanhub *h, size_t *length) {
-    char *text = text_of(h, &waiting, length);
-    ask(h, LET_GO, 0, 0);
+/* Takes the chapter that waits out of the hub: its text, without bytes if memory is refused. Holds the lock, but not all the time. */
+static void take_chapter(chanhub *h, struct text *text) {
+    read_text(h, text, hub_c_waiting, true);
+    hub_c_let_go(&h->hub);
     h->waits = false;
     h->taken++;
     pthread_cond_broadcast(&h->handed);
-    return text;
 }
 
 /* Gives the text of a chapter to the function. Without the lock. */
-static void give_chapter(chanhub *h, char *text, size_t length) {
-    h->chapters(h->pointer, text, length);
-    heap_free(text);
+static void give_chapter(chanhub *h, struct text *text) {
+    h->chapters(h->pointer, text->bytes, text->length);
+    heap_free(text->bytes);
 }
 
 /* Hands out the chapter that a call of this process claimed, after those before it. Holds the lock, but not while it waits or the
@@ -532,10 +438,10 @@ static void hand_out(chanhub *h, unsigned pid) {
     int state = begin_pause(h, pid);
     while (h->handing) pthread_cond_wait(&h->handed, &h->lock);
     h->handing = true;
-    size_t length;
-    char *text = take_chapter(h, &length);
+    struct text text;
+    take_chapter(h, &text);
     leave_lock(h);
-    give_chapter(h, text, length);
+    give_chapter(h, &text);
     take_lock(h);
     h->handing = false;
     pthread_cond_broadcast(&h->handed);
@@ -545,163 +451,113 @@ static void hand_out(chanhub *h, unsigned pid) {
 /* Hands out the chapters that the hub still keeps. Nobody else has the hub. */
 static void hand_out_rest(chanhub *h) {
     int state = begin_pause(h, NOBODY);
-    size_t length;
-    if (h->was_cut || ask(h, BEFORE_ENTRIES, 0, 0)) {
-        char *text = text_of(h, &before, &length);
-        give_chapter(h, text, length);
-    }
-    char *text = text_of(h, &present, &length);
-    give_chapter(h, text, length);
+    struct text text;
+    if (read_text(h, &text, hub_c_before, false)) give_chapter(h, &text);
+    read_text(h, &text, hub_c_present, false);
+    give_chapter(h, &text);
     end_pause(h, NOBODY, state);
 }
 
 /* ---- The calls. ---- */
 
-/* Keeps the call of a process open that parked with this answer, wakes those whose calls it ended, and waits for so many nanoseconds.
- * Holds the lock, but not while it waits. */
-static uint64_t park(chanhub *h, uint8_t pid, uint64_t answer, uint64_t ended, uint64_t nanoseconds) {
-    wake(h, ended);
-    if (claims_chapter(h, answer)) hand_out(h, pid);
+/* Keeps the call of a process open that parked, hands out the chapter that it made fall out, and waits for so many nanoseconds. Holds the
+ * lock since the step, but not while it waits. */
+static chanhub_told park(chanhub *h, uint8_t pid, const struct told *t, uint64_t nanoseconds) {
+    wake(h, t->ended);
+    if (claims_chapter(h, t->chapter)) hand_out(h, pid);
     h->open |= only(pid);
     return wait_for(h, pid, nanoseconds);
 }
 
-/* Ends the call of a process whose step came to this answer: wakes those whose calls it ended, hands out the chapter that it made fall
- * out, and where it parked, waits for so many nanoseconds. Holds the lock since the step, and leaves it. */
-static chanhub_told finish(chanhub *h, uint8_t pid, uint64_t answer, uint64_t nanoseconds) {
-    uint64_t ended = ended_by(h, answer);
-    if ((answer & (REFUSED | WHAT)) == PARKED) {
-        answer = park(h, pid, answer, ended, nanoseconds);
-        ended = 0;
+/* Ends the call of a process whose step parked, ended calls, or left a chapter to be read: wakes those whose calls it ended, hands out the
+ * chapter that it made fall out, and where it parked, waits for so many nanoseconds. Holds the lock since the step, and leaves it. */
+static chanhub_told finish_by_waking(chanhub *h, uint8_t pid, const struct told *t, uint64_t nanoseconds) {
+    if (t->it.what == CHANHUB_WAITING) {
+        chanhub_told answer = park(h, pid, t, nanoseconds);
+        leave_lock(h);
+        return answer;
     }
-    chanhub_told t;
-    tell(h, answer, &t);
-    if (claims_chapter(h, answer)) {
+    uint64_t ended = t->ended;
+    if (claims_chapter(h, t->chapter)) {
         wake(h, ended);
         ended = 0;
         hand_out(h, pid);
     }
     leave_lock(h);
     wake(h, ended);
-    return t;
+    return t->it;
 }
 
-/* Makes a step, for which nothing is given, of a process that has no open call. Holds the lock, and leaves it. */
-static inline chanhub_told bare_step(chanhub *h, uint8_t kind, uint8_t pid, uint16_t port, uint64_t value, uint64_t nanoseconds) {
-    uint64_t answer;
-    do answer = hub_c_do(h->hub, kind, pid, port, value);
-    while (is_to_be_made_again(h, pid, answer));
-    if (kind == EXIT && !(answer & REFUSED)) h->exits++;
-    return finish(h, pid, answer, nanoseconds);
+/* Ends the call of a process whose step came to this, which mostly needs no more than the lock. Holds the lock since the step, and leaves
+ * it. */
+static inline chanhub_told finish(chanhub *h, uint8_t pid, const struct told *t, uint64_t nanoseconds) {
+    if (t->it.what == CHANHUB_WAITING || t->ended || t->chapter) return finish_by_waking(h, pid, t, nanoseconds);
+    leave_lock(h);
+    return t->it;
 }
 
 static inline bool is_bad(const chanhub *h, unsigned pid, unsigned port) {
     return !h || pid > GREATEST_PID || port > GREATEST_PORT;
 }
 
-/* A call for which nothing is given. */
-static inline chanhub_told plain(chanhub *h, uint8_t kind, unsigned pid, unsigned port, uint64_t value) {
-    if (is_bad(h, pid, port)) return fault(CHANHUB_BAD_CALL);
-    if (!enter(h, pid)) return fault(CHANHUB_BUSY);
-    return bare_step(h, kind, (uint8_t)pid, (uint16_t)port, value, FOR_EVER);
-}
-
 chanhub_told chanhub_make(chanhub *h, unsigned pid, uint32_t cap) {
+    struct told t = { 0 };
     if (is_bad(h, pid, 0)) return fault(CHANHUB_BAD_CALL);
     if (!enter(h, pid)) return fault(CHANHUB_BUSY);
     if (cap) h->has_buffer = true;
-    return bare_step(h, MAKE, (uint8_t)pid, 0, cap, FOR_EVER);
-}
-
-chanhub_told chanhub_recv(chanhub *h, unsigned pid, unsigned port) {
-    return plain(h, RECV, pid, port, 0);
-}
-
-chanhub_told chanhub_close(chanhub *h, unsigned pid, unsigned port) {
-    return plain(h, CLOSE, pid, port, 0);
-}
-
-chanhub_told chanhub_exit(chanhub *h, unsigned pid) {
-    return plain(h, EXIT, pid, 0, 0);
-}
-
-chanhub_told chanhub_cancel(chanhub *h, unsigned pid, unsigned other) {
-    if (other > GREATEST_PID) return fault(CHANHUB_BAD_CALL);
-    return plain(h, CANCEL, pid, 0, other);
-}
-
-/* Gives the bytes of a value that is bytes. A send takes them, and so does a case. Holds the lock. */
-static void give_bytes(chanhub *h, const chanhub_value *value) {
-    if (!value->is_bytes) return;
-    for (unsigned i = 0; i < value->length; i++) ask(h, GIVE_BYTE, 0, value->bytes[i]);
-}
-
-/* Gives a case for the next select. Holds the lock. */
-static void give_case(chanhub *h, const chanhub_case *c) {
-    if (!c->sends) {
-        ask(h, GIVE_RECV, c->port, 0);
-        return;
-    }
-    give_bytes(h, &c->value);
-    ask(h, c->value.is_bytes ? GIVE_SEND_BYTES : GIVE_SEND, c->port, c->value.number);
-}
-
-/* Sends bytes. Holds the lock, and leaves it. */
-static chanhub_told send_bytes_step(chanhub *h, uint8_t pid, uint16_t port, const chanhub_value *value, uint64_t nanoseconds) {
-    uint64_t answer;
-    do {
-        give_bytes(h, value);
-        answer = hub_c_do(h->hub, SEND_BYTES, pid, port, 0);
-    } while (is_to_be_made_again(h, pid, answer));
-    return finish(h, pid, answer, nanoseconds);
-}
-
-/* Sends a value, and waits for at most so many nanoseconds. Holds the lock, and leaves it. */
-static inline chanhub_told send_step(chanhub *h, uint8_t pid, uint16_t port, const chanhub_value *value, uint64_t nanoseconds) {
-    if (value->is_bytes) return send_bytes_step(h, pid, port, value, nanoseconds);
-    return bare_step(h, SEND, pid, port, value->number, nanoseconds);
+    STEP(h, pid, &t, hub_c_make(&h->hub, (uint8_t)pid, cap, &t));
+    return finish(h, (uint8_t)pid, &t, FOR_EVER);
 }
 
 chanhub_told chanhub_send(chanhub *h, unsigned pid, unsigned port, chanhub_value value) {
-    if (is_bad(h, pid, port) || value.length > MOST_BYTES) return fault(CHANHUB_BAD_CALL);
+    struct told t = { 0 };
+    if (is_bad(h, pid, port)) return fault(CHANHUB_BAD_CALL);
     if (!enter(h, pid)) return fault(CHANHUB_BUSY);
-    return send_step(h, (uint8_t)pid, (uint16_t)port, &value, FOR_EVER);
+    STEP(h, pid, &t, hub_c_send(&h->hub, (uint8_t)pid, (uint16_t)port, &value, &t));
+    return finish(h, (uint8_t)pid, &t, FOR_EVER);
 }
 
-/* Whether these are cases as the library takes them. The value of a receive is not looked at. */
-static inline bool are_cases(const chanhub_case *cases, size_t count) {
-    if (count > MOST_CASES) return false;
-    for (size_t i = 0; i < count; i++) {
-        if (cases[i].sends && cases[i].value.length > MOST_BYTES) return false;
-    }
-    return true;
+chanhub_told chanhub_recv(chanhub *h, unsigned pid, unsigned port) {
+    struct told t = { 0 };
+    if (is_bad(h, pid, port)) return fault(CHANHUB_BAD_CALL);
+    if (!enter(h, pid)) return fault(CHANHUB_BUSY);
+    STEP(h, pid, &t, hub_c_recv(&h->hub, (uint8_t)pid, (uint16_t)port, &t));
+    return finish(h, (uint8_t)pid, &t, FOR_EVER);
 }
 
-/* Does what this case says, and waits as above. It makes the same entry as a select of it, at less cost. Holds the lock, and leaves
- * it. */
-static chanhub_told one_case_step(chanhub *h, uint8_t pid, const chanhub_case *c, uint64_t nanoseconds) {
-    if (c->sends) return send_step(h, pid, c->port, &c->value, nanoseconds);
-    return bare_step(h, RECV, pid, c->port, 0, nanoseconds);
+chanhub_told chanhub_close(chanhub *h, unsigned pid, unsigned port) {
+    struct told t = { 0 };
+    if (is_bad(h, pid, port)) return fault(CHANHUB_BAD_CALL);
+    if (!enter(h, pid)) return fault(CHANHUB_BUSY);
+    STEP(h, pid, &t, hub_c_close(&h->hub, (uint8_t)pid, (uint16_t)port, &t));
+    return finish(h, (uint8_t)pid, &t, FOR_EVER);
 }
 
-/* Does what one of these cases says, and waits as above. Holds the lock, and leaves it. */
-static chanhub_told select_step(chanhub *h, uint8_t pid, const chanhub_case *cases, size_t count, bool has_default, uint64_t word,
-                                uint64_t nanoseconds) {
-    uint64_t answer;
-    do {
-        for (size_t i = 0; i < count; i++) give_case(h, &cases[i]);
-        answer = hub_c_do(h->hub, has_default ? SELECT_OR_DEFAULT : SELECT, pid, 0, word);
-    } while (is_to_be_made_again(h, pid, answer));
-    return finish(h, pid, answer, nanoseconds);
+chanhub_told chanhub_exit(chanhub *h, unsigned pid) {
+    struct told t = { 0 };
+    if (is_bad(h, pid, 0)) return fault(CHANHUB_BAD_CALL);
+    if (!enter(h, pid)) return fault(CHANHUB_BUSY);
+    STEP(h, pid, &t, hub_c_exit(&h->hub, (uint8_t)pid, &t));
+    h->exits += t.it.what == CHANHUB_DONE;
+    return finish(h, (uint8_t)pid, &t, FOR_EVER);
+}
+
+chanhub_told chanhub_cancel(chanhub *h, unsigned pid, unsigned other) {
+    struct told t = { 0 };
+    if (is_bad(h, pid, 0) || other > GREATEST_PID) return fault(CHANHUB_BAD_CALL);
+    if (!enter(h, pid)) return fault(CHANHUB_BUSY);
+    STEP(h, pid, &t, hub_c_cancel(&h->hub, (uint8_t)pid, (uint8_t)other, &t));
+    return finish(h, (uint8_t)pid, &t, FOR_EVER);
 }
 
 /* A select that waits for at most so many nanoseconds, and stays open then. */
 static chanhub_told select_for(chanhub *h, unsigned pid, const chanhub_case *cases, size_t count, bool has_default, uint64_t word,
                                uint64_t nanoseconds) {
-    if (is_bad(h, pid, 0) || !are_cases(cases, count)) return fault(CHANHUB_BAD_CALL);
+    struct told t = { 0 };
+    if (is_bad(h, pid, 0)) return fault(CHANHUB_BAD_CALL);
     if (!enter(h, pid)) return fault(CHANHUB_BUSY);
-    if (count == 1 && !has_default && word == 0) return one_case_step(h, (uint8_t)pid, cases, nanoseconds);
-    return select_step(h, (uint8_t)pid, cases, count, has_default, word, nanoseconds);
+    STEP(h, pid, &t, hub_c_call(&h->hub, (uint8_t)pid, cases, count, has_default, word, &t));
+    return finish(h, (uint8_t)pid, &t, nanoseconds);
 }
 
 chanhub_told chanhub_select(chanhub *h, unsigned pid, const chanhub_case *cases, size_t count, bool has_default, uint64_t word) {
@@ -730,12 +586,10 @@ chanhub_told chanhub_begin(chanhub *h, unsigned pid, const chanhub_case *cases, 
 chanhub_told chanhub_resume(chanhub *h, unsigned pid, uint64_t nanoseconds) {
     if (is_bad(h, pid, 0)) return fault(CHANHUB_BAD_CALL);
     take_lock(h);
-    uint64_t answer;
-    if (!(h->open & only(pid))) answer = REFUSED + CHANHUB_NOT_PARKED;
-    else if (h->awaited & only(pid)) answer = REFUSED + CHANHUB_BUSY;
-    else answer = wait_for(h, pid, nanoseconds);
     chanhub_told t;
-    tell(h, answer, &t);
+    if (!(h->open & only(pid))) t = fault(CHANHUB_NOT_PARKED);
+    else if (h->awaited & only(pid)) t = fault(CHANHUB_BUSY);
+    else t = wait_for(h, pid, nanoseconds);
     leave_lock(h);
     return t;
 }
@@ -743,13 +597,11 @@ chanhub_told chanhub_resume(chanhub *h, unsigned pid, uint64_t nanoseconds) {
 bool chanhub_cut(chanhub *h) {
     if (!h) return false;
     take_lock(h);
-    uint64_t answer;
-    while ((answer = ask(h, CUT, 0, 0)) == CHAPTER) wait_for_room(h, NOBODY);
-    bool was_cut = answer & 1;
-    h->was_cut |= was_cut;
-    if (claims_chapter(h, answer)) hand_out(h, NOBODY);
+    struct cut c;
+    while (!(c = hub_c_cut(&h->hub)).cut && c.chapter) wait_for_room(h, NOBODY);
+    if (claims_chapter(h, c.chapter)) hand_out(h, NOBODY);
     leave_lock(h);
-    return was_cut;
+    return c.cut;
 }
 
 /* ---- Looks, and journals. ---- */
@@ -757,17 +609,9 @@ bool chanhub_cut(chanhub *h) {
 chanhub_counts chanhub_look(chanhub *h, unsigned port) {
     if (is_bad(h, 0, port)) return (chanhub_counts){ 0 };
     take_lock(h);
-    uint64_t made = ask(h, PORT, (uint16_t)port, 0);
-    uint64_t sent = ask(h, SENT, (uint16_t)port, 0);
-    uint64_t received = ask(h, RECEIVED, (uint16_t)port, 0);
+    chanhub_counts counts = hub_c_look(&h->hub, (uint16_t)port);
     leave_lock(h);
-    return (chanhub_counts){
-        .made = made & 1,
-        .closed = made & 2,
-        .cap = (uint32_t)(made >> 2),
-        .sent = sent,
-        .received = received,
-    };
+    return counts;
 }
 
 /* All entries but the exits count. A refused step makes no entry. */
@@ -775,27 +619,29 @@ uint64_t chanhub_steps_left(chanhub *h) {
     if (!h) return 0;
     if (!h->limit) return UINT64_MAX;
     take_lock(h);
-    uint64_t steps = ask(h, ENTRIES, 0, 0) - h->exits;
+    uint64_t steps = hub_c_entries(&h->hub) - h->exits;
     leave_lock(h);
     return h->limit - steps;
 }
 
 /* The text of a journal. */
-static char *read_journal(chanhub *h, const struct journal *journal, size_t *length) {
+static char *read_journal(chanhub *h, reader *read, size_t *length) {
     *length = 0;
     if (!h) return NULL;
+    struct text text;
     take_lock(h);
-    char *text = text_of(h, journal, length);
+    read_text(h, &text, read, false);
     leave_lock(h);
-    return text;
+    *length = text.length;
+    return text.bytes;
 }
 
 char *chanhub_journal(chanhub *h, size_t *length) {
-    return read_journal(h, &present, length);
+    return read_journal(h, hub_c_present, length);
 }
 
 char *chanhub_before(chanhub *h, size_t *length) {
-    return read_journal(h, &before, length);
+    return read_journal(h, hub_c_before, length);
 }
 
 void chanhub_free_text(char *text) {
@@ -807,7 +653,7 @@ void chanhub_free_text(char *text) {
 void chanhub_free(chanhub *h) {
     if (!h) return;
     if (h->chapters) hand_out_rest(h);
-    ask(h, END, 0, 0);
+    hub_c_end(&h->hub);
     for (int pid = 0; pid < MOST_PROCS; pid++) pthread_cond_destroy(&h->places[pid].answered);
     pthread_cond_destroy(&h->handed);
     pthread_mutex_destroy(&h->lock);

@@ -189,7 +189,9 @@ done
 for test in alone threads; do
     check "begun and resumed: $test" "$work/resume" "$test"
 done
-check 'inside builds' "$cc" $flags -Wl,--wrap=hub_c_do chanhub.c heap.c tests/inside.c $proved -lpthread -o "$work/inside"
+wrapped=
+for name in make send recv call take look present; do wrapped="$wrapped -Wl,--wrap=hub_c_$name"; done
+check 'inside builds' "$cc" $flags $wrapped chanhub.c heap.c tests/inside.c $proved -lpthread -o "$work/inside"
 check 'no two inside of a hub' "$work/inside"
 for cap in 0 1 7 1024; do
     check "64 threads that pass 160,000 values, capacity $cap" crew crew "$cap" 5000 "$program"

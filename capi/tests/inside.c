@@ -1,8 +1,9 @@
 /* No two threads are inside of a hub at once, and none reads what another was told: threads that pass bytes and numbers, look, read the
  * journal, begin and resume, with every entry into the proved library counted.
  *
- * Linked with chanhub.c itself and with --wrap for hub_c_do.
+ * Linked with chanhub.c itself and with --wrap for each function of the library that it calls.
  */
+#include "hub_c.h"
 #include "tally.h"
 
 #include <pthread.h>
@@ -15,16 +16,42 @@ static chanhub *hub;
 static atomic_int inside, entries, overlaps, mixed, torn;
 static atomic_bool done;
 
-uint64_t __real_hub_c_do(void *at, uint8_t kind, uint8_t pid, uint16_t port, uint64_t value);
-
 /* Now and then it lets others run, who would find somebody inside. */
-uint64_t __wrap_hub_c_do(void *at, uint8_t kind, uint8_t pid, uint16_t port, uint64_t value) {
+static void come_in(void) {
     overlaps += atomic_fetch_add(&inside, 1) != 0;
     if (++entries % 128 == 0) sched_yield();
-    uint64_t answer = __real_hub_c_do(at, kind, pid, port, value);
-    inside--;
-    return answer;
 }
+
+/* A function, with those inside counted. */
+#define COUNTED(name, parameters, arguments) \
+    void __real_##name parameters; \
+    void __wrap_##name parameters; \
+    void __wrap_##name parameters { \
+        come_in(); \
+        __real_##name arguments; \
+        inside--; \
+    }
+
+/* The same of one that answers by its result. */
+#define ANSWERED(result, name, parameters, arguments) \
+    result __real_##name parameters; \
+    result __wrap_##name parameters; \
+    result __wrap_##name parameters { \
+        come_in(); \
+        result r = __real_##name arguments; \
+        inside--; \
+        return r; \
+    }
+
+COUNTED(hub_c_make, (struct hub *h, uint8_t pid, uint32_t cap, struct told *told), (h, pid, cap, told))
+COUNTED(hub_c_send, (struct hub *h, uint8_t pid, uint16_t port, const chanhub_value *value, struct told *told), (h, pid, port, value, told))
+COUNTED(hub_c_recv, (struct hub *h, uint8_t pid, uint16_t port, struct told *told), (h, pid, port, told))
+COUNTED(hub_c_call,
+        (struct hub *h, uint8_t pid, const chanhub_case *cases, size_t count, uint8_t has_default, uint64_t word, struct told *told),
+        (h, pid, cases, count, has_default, word, told))
+COUNTED(hub_c_take, (struct hub *h, uint8_t pid, struct told *told), (h, pid, told))
+ANSWERED(chanhub_counts, hub_c_look, (struct hub *h, uint16_t port), (h, port))
+ANSWERED(struct piece, hub_c_present, (struct hub *h, uint64_t number, uint8_t *place, size_t room), (h, number, place, room))
 
 /* Bytes that tell whose they are, of a length that does too. */
 static chanhub_value value_of(unsigned pid) {
@@ -108,7 +135,7 @@ int main(void) {
     done = true;
     for (size_t i = 2 * SENDERS + 2; i < 2 * SENDERS + OTHERS; i++) pthread_join(threads[i], NULL);
     chanhub_free(hub);
-    is("entries are counted", entries > 10 * COUNT, 1);
+    is("entries are counted", entries > (2 * SENDERS + 2) * COUNT, 1);
     is("two at once", overlaps, 0);
     is("mixed values", mixed, 0);
     is("torn looks and journals", torn, 0);

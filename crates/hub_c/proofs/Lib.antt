@@ -1,2 +1,4 @@
-mod Fitting
-mod Wholes
+pub mod Fitting
+pub mod Texts
+mod Values
+mod HubValues

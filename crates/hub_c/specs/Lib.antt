@@ -1,11 +1,10 @@
-pub mod Kinds
-pub mod Answers
+pub mod Structs
+pub mod Tells
 pub mod Hubs
-pub mod Cutting
 pub mod Opens
-pub mod Stepping
-pub mod Giving
-pub mod Reading
+pub mod Steps
+pub mod Cuts
 pub mod Pieces
-pub mod Does
+pub mod Looks
+pub mod Held
 pub mod Rows

@@ -1,5 +1,5 @@
 -- What an opening leaves, and when it is refused.
-use Rattle.std.specs.Prelude.{◌≡◌, ◌<◌, ◌==◌, ◌-◌, nat_lt, ℕ, Bool, true, false, [], Option, None, Some, MatchBool, if◌then◌else◌}
+use Rattle.std.specs.Prelude.{◌≡◌, ◌<◌, ◌==◌, ℕ, Bool, false, [], Option, None, Some, if◌then◌else◌}
 use Rattle.hub_base.specs.declared.head.Edition.{Edition}
 use Rattle.hub_base.specs.declared.head.Edition.TheVariants.{One, Two}
 use Rattle.hub_base.specs.Head.{IsHead, head_of}
@@ -13,24 +13,19 @@ use Rattle.hub_endless.specs.Endless.{EndlessView, Explains, NoneWaits}
 use Rattle.hub_live.specs.Locked.{none_waits}
 use Rattle.hub_c.specs.declared.session.Opened.{Opened}
 use Rattle.hub_c.specs.declared.session.Opened.TheVariants.{Limited, Endless}
-use Rattle.hub_c.specs.declared.handle.Handle.{Handle}
 use Rattle.hub_c.specs.declared.session.Session.{Session}
 
 -- the edition of this number
 abbrev pub edition_of : ℕ → Option Edition
 edition_of n = if n == 1 then Some One else if n == 2 then Some Two else None
 
--- this hub, with nothing given, nothing told, and no chapter that waits
+-- this hub, and no chapter that waits
 pub record IsAnew (hub : Opened) (hands_out : Bool) (s : Session) : Type 0 where
   pub hub_is : s.hub ≡ hub
   pub waiting : s.chapter ≡ None
   pub hands_out_is : s.hands_out ≡ hands_out
-  pub bytes : s.bytes.items ≡ []
-  pub cases : s.cases.items ≡ []
-  pub told : s.told ≡ None
-  pub piece : s.piece.items ≡ []
 
--- a hub at which nothing has happened, with nothing given and nothing told
+-- a hub at which nothing has happened
 abbrev pub IsOpened : Edition → ℕ → ℕ → Session → Type 0
 IsOpened edition procs limit s = IsAnew (Limited (none_waits (opened_hub (terms_of edition procs limit)))) false s
 
@@ -94,11 +89,3 @@ OpensSession edition procs limit (Some s) number = IsNew edition procs limit s �
 abbrev pub OpensEndless : ℕ → ℕ → ℕ → Bool → Option Session → ℕ → Type 0
 OpensEndless edition procs keep hands_out None number = IsRefusedEndless edition procs keep number
 OpensEndless edition procs keep hands_out (Some s) number = IsNewEndless edition procs keep hands_out s × (number ≡ 0)
-
--- what lies at an address: life 0 is that of a hub with a limit; a hub of a longer life never ends, and hands out its
--- chapters where that is above 1
-abbrev pub Opens : ℕ → ℕ → ℕ → ℕ → Handle → Type 0
-Opens edition procs limit life h =
-    MatchBool (life == 0)
-    (OpensSession edition procs limit h.session h.refusal)
-    (OpensEndless edition procs limit (nat_lt 1 life) h.session h.refusal)

@@ -1,74 +1,48 @@
--- Worked rows: the numbers of kinds and of answers, what is asked for, and what is read.
-use Rattle.std.specs.Prelude.{◌≡◌, true, [], ◌∷◌, slice_get, None, Some, Ok, Err, refl}
+-- Worked rows: what structs say, what is told, and the pieces of a text. The numbers are those of capi/chanhub.h.
+use Rattle.std.specs.Prelude.{◌≡◌, true, false, [], ◌∷◌, replicate, None, Some, Ok, Err, refl}
 use Rattle.hub_base.specs.declared.event.Outcome.TheVariants.{Drained}
 use Rattle.hub_base.specs.declared.fault.Fault.TheVariants.{Busy}
 use Rattle.hub_base.specs.declared.head.Edition.TheVariants.{Two}
-use Rattle.hub_base.specs.Notation.{case, exit, faulted, make, made, procs_two, r, recv, s, select}
-use Rattle.hub_base.specs.Lines.{line}
-use Rattle.hub_base.specs.Reading.{head_lines}
 use Rattle.hub_base.specs.Journal.{JournalView}
-use Rattle.hub_c.specs.declared.kind.Kind.TheVariants.{Step, Take, End, Cut}
-use Rattle.hub_c.specs.declared.kind.StepKind.TheVariants as step
-use Rattle.hub_c.specs.declared.session.Numbers.{Numbers}
-use Rattle.hub_c.specs.Kinds.{kinds}
-use Rattle.hub_c.specs.Answers.{answer_number, detail_of, event_number}
+use Rattle.hub_base.specs.Lines.{line}
+use Rattle.hub_base.specs.Notation.{case, exit, faulted, made, make, procs_two, r, s, select, told}
+use Rattle.hub_base.specs.Reading.{head_lines}
+use Rattle.hub_base.specs.declared.event.What.TheVariants as what
+use Rattle.hub_c.specs.declared.structs.CaseC.{CaseC}
+use Rattle.hub_c.specs.declared.structs.ToldC.{ToldC}
+use Rattle.hub_c.specs.declared.structs.ValueC.{ValueC}
 use Rattle.hub_c.specs.Opens.{edition_of}
-use Rattle.hub_c.specs.Stepping.{entry_asked}
-use Rattle.hub_c.specs.Reading.{word_at}
-use Rattle.hub_c.specs.Pieces.{piece_of}
+use Rattle.hub_c.specs.Pieces.{piece_in, piece_told, put_piece}
+use Rattle.hub_c.specs.Structs.{call_of, send_of}
+use Rattle.hub_c.specs.Tells.{answer_told, bad_call, bits_of, came_told}
 
--- ---- kinds
-pub first_kind : slice_get kinds 0 ≡ Some (Step step.Make)
-first_kind = refl
+-- ---- what structs say
+abbrev zeros : ValueC
+zeros = record { number = 0; is_bytes = 0; length = 0; bytes = replicate 32 0 }
 
-pub take_kind : slice_get kinds 13 ≡ Some Take
-take_kind = refl
+abbrev seven : ValueC
+seven = record zeros { number = 7 }
 
-pub end_kind : slice_get kinds 24 ≡ Some End
-end_kind = refl
+-- more bytes than a value has
+abbrev long : ValueC
+long = record zeros { is_bytes = 1; length = 33 }
 
-pub cut_kind : slice_get kinds 31 ≡ Some Cut
-cut_kind = refl
+-- any number but 0 is true
+abbrev sends_seven : CaseC
+sends_seven = record { sends = 2; port = 1; value = seven }
 
-pub no_kind : slice_get kinds 32 ≡ None
-no_kind = refl
+-- what a receive would send is not looked at
+abbrev receives : CaseC
+receives = record { sends = 0; port = 3; value = long }
 
--- ---- answers
--- case 2 is drained, and a step that is so answered has ended no call; a step that made port 3 would have ended one
-pub drained_row : answer_number (Ok (case 0 2 Drained)) 0 ≡ 131076
-drained_row = refl
+pub call_row : call_of 5 (sends_seven ∷ receives ∷ []) 1 9 ≡ Some (select 5 9 (s 1 7 ∷ r 3 ∷ []) true)
+call_row = refl
 
-pub ended_row : answer_number (Ok (made 0 3)) 1 ≡ 4295163905
-ended_row = refl
+pub long_row : send_of 5 1 long ≡ None
+long_row = refl
 
-pub refused_row : answer_number (Err Busy) 1 ≡ 259
-refused_row = refl
-
-pub none_waits_row : event_number None ≡ 0
-none_waits_row = refl
-
-pub port_row : detail_of (made 0 3).what ≡ 3
-port_row = refl
-
-pub case_row : detail_of (case 0 2 Drained).what ≡ 2
-case_row = refl
-
-pub fault_row : detail_of (faulted 0 Busy).what ≡ 3
-fault_row = refl
-
--- ---- what is asked for
-abbrev numbers : Numbers
-numbers = record { pid = 3; port = 1; value = 5000000000 }
-
-pub receive_row : entry_asked step.Recv [] [] numbers ≡ recv 3 1
-receive_row = refl
-
--- a capacity that a make cannot ask for is the greatest one that it can, and refused like it
-pub capacity_row : entry_asked step.Make [] [] numbers ≡ make 3 4294967295
-capacity_row = refl
-
-pub select_row : entry_asked step.SelectOrDefault [] (r 1 ∷ s 2 7 ∷ []) numbers ≡ select 3 5000000000 (r 1 ∷ s 2 7 ∷ []) true
-select_row = refl
+pub many_row : call_of 5 (replicate 17 receives) 0 0 ≡ None
+many_row = refl
 
 pub edition_row : edition_of 2 ≡ Some Two
 edition_row = refl
@@ -76,18 +50,56 @@ edition_row = refl
 pub no_edition_row : edition_of 3 ≡ None
 no_edition_row = refl
 
--- ---- what is read
-pub word_row : word_at (7 ∷ 1 ∷ 2 ∷ []) 1 ≡ 513
-word_row = refl
+-- ---- what is told
+abbrev nothing : ToldC
+nothing = record { what = 0; fault = 0; index = 0; port = 0; value = zeros; ended = 0; chapter = 0 }
 
+pub made_row : came_told (Ok (made 0 3)) 0 false ≡ record nothing { what = 1; port = 3 }
+made_row = refl
+
+pub drained_row : came_told (Ok (case 0 2 Drained)) 0 false ≡ record nothing { what = 4; index = 2 }
+drained_row = refl
+
+-- processes 0 and 5 are woken, and a chapter waits to be read
+pub ended_row : came_told (Ok (told 1 what.Done)) (bits_of (record { 0 = 5 } ∷ record { 0 = 0 } ∷ [])) true
+    ≡ record nothing { what = 7; ended = 33; chapter = 1 }
+ended_row = refl
+
+-- a refused step, and a fault that the hub answers
+pub refused_row : came_told (Err Busy) 32 true ≡ record nothing { what = 10; fault = 3; chapter = 1 }
+refused_row = refl
+
+pub fault_row : answer_told (Some (faulted 0 Busy)) ≡ record nothing { what = 10; fault = 3 }
+fault_row = refl
+
+pub bad_call_row : bad_call ≡ record nothing { what = 10; fault = 13 }
+bad_call_row = refl
+
+pub none_waits_row : answer_told None ≡ nothing
+none_waits_row = refl
+
+-- ---- texts
 abbrev ended : JournalView
 ended = record { head = procs_two 1; entries = make 0 2 ∷ exit 0 ∷ [] }
 
-pub head_row : piece_of ended 0 ≡ head_lines (procs_two 1)
+pub head_row : piece_in (Some ended) 0 ≡ Some (head_lines (procs_two 1))
 head_row = refl
 
-pub line_row : piece_of ended 2 ≡ line (exit 0)
+pub line_row : piece_in (Some ended) 2 ≡ Some (line (exit 0))
 line_row = refl
 
-pub behind_row : piece_of ended 3 ≡ []
+pub behind_row : piece_in (Some ended) 3 ≡ None
 behind_row = refl
+
+-- the end, a piece that is written, and one that wants more room are three answers
+pub end_row : piece_told None 9 ≡ record { what = 0; length = 0 }
+end_row = refl
+
+pub written_row : piece_told (Some (7 ∷ 8 ∷ [])) 2 ≡ record { what = 1; length = 2 }
+written_row = refl
+
+pub no_room_row : piece_told (Some (7 ∷ 8 ∷ [])) 1 ≡ record { what = 2; length = 2 }
+no_room_row = refl
+
+pub put_row : put_piece (Some (7 ∷ 8 ∷ [])) (1 ∷ 2 ∷ 3 ∷ []) ≡ 7 ∷ 8 ∷ 3 ∷ []
+put_row = refl

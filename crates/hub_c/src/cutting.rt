@@ -1,9 +1,10 @@
 //! Cuts that C asks for, and the chapter that waits to be read.
 
-ghost use Rattle.hub_c.specs.Cutting.{CutsOut, Cuts, LetsGo};
+ghost use Rattle.hub_c.specs.Cuts.{CutsIn, CutsOut, LetsGoIn};
 
 use crate::session::{Opened, Session};
-use crate::stepping::{chapter_number, hold};
+use crate::stepping::hold;
+use crate::structs::CutC;
 use hub_base::NoMemory;
 use hub_core::ShortHub;
 use hub_endless::EndlessHub;
@@ -26,23 +27,26 @@ fn cut_endless(hub: &mut EndlessHub, out: &mut Option<ShortHub>, hands_out: bool
 }
 
 impl Session {
-    /// Cuts a hub that never ends, and answers 1, or 0 where nothing was cut.
+    /// Cuts a hub that never ends.
     #[inline(never)]
-    pub(crate) fn cut(&mut self) -> u64
-        ensures { Cuts self.old self.new result }
+    pub(crate) fn cut(&mut self) -> CutC
+        ensures { CutsIn self.old self.new result }
     {
         let cut = match &mut self.hub {
             Opened::Limited(_) => false,
             Opened::Endless(hub) => cut_endless(hub, &mut self.chapter, self.hands_out),
         };
-        u64::from(cut) + chapter_number(&self.chapter)
+        CutC {
+            cut,
+            chapter: self.chapter.is_some(),
+        }
     }
 
-    /// Lets the chapter go that waits to be read: 1, or 0 where none waits.
+    /// Lets the chapter go that waits to be read: whether one did.
     #[inline(never)]
-    pub(crate) fn let_go(&mut self) -> u64
-        ensures { LetsGo self.old self.new result }
+    pub(crate) fn let_go(&mut self) -> bool
+        ensures { LetsGoIn self.old self.new result }
     {
-        u64::from(self.chapter.take().is_some())
+        self.chapter.take().is_some()
     }
 }

@@ -1,71 +1,326 @@
-//! A hub for C: a function that opens a hub at an address, and one that does what its numbers say on the hub there.
+//! A hub for C: functions by name, over structs that C has too.
 //!
-//! Numbers go in and a number comes out, so that whatever numbers come are answered. What each number asks for stands
-//! in `kind`, what it does in `specs/Does`. The calls on one hub are ordered by a lock that is the caller's.
+//! A struct of C's owns the hub, and each function tells all that came of it at once. No function is unsafe, and none requires
+//! anything: whatever numbers come are answered, also where no hub is open. The calls on one hub are ordered by a lock that is
+//! the caller's.
 #![tactic(auto)]
 
-mod answer;
+mod asking;
 mod cutting;
-mod giving;
-mod handle;
-mod kind;
-mod piece;
+mod hold;
+mod loose;
+mod opening;
 mod reading;
 mod session;
 mod stepping;
+mod structs;
+mod telling;
 
-ghost use Rattle.std.specs.Prelude.{◌≡◌};
-ghost use Rattle.std.specs.Borrow.{full_share, sem};
-ghost use Rattle.std.specs.Mem.{type_size};
-ghost use Rattle.std.specs.Ptr.{lies_at, room_at};
-ghost use Rattle.hub_c.specs.declared.handle.Handle.{Handle};
-ghost use Rattle.hub_c.specs.contracts.handle.Handle.{the_row};
-ghost use Rattle.hub_c.specs.Does.{Does};
-ghost use Rattle.hub_c.specs.Opens.{Opens};
+ghost use Rattle.std.specs.Prelude.{◌≡◌, None, Some};
+ghost use Rattle.hub_base.specs.Notation.{cancel, close, exit, make, recv};
+ghost use Rattle.hub_c.specs.Cuts.{Cuts, LetsGo};
+ghost use Rattle.hub_c.specs.Looks.{Looks, ReadsPiece, before_of, entries_of, present_of, waiting_of};
+ghost use Rattle.hub_c.specs.Opens.{OpensEndless, OpensSession};
+ghost use Rattle.hub_c.specs.Steps.{Steps, Takes};
+ghost use Rattle.hub_c.specs.Structs.{call_of, is_true, send_of};
 
-use handle::{Handle, act, open_handle};
+use asking::is_true;
+use hold::HubC;
+use hub_base::{Pid, Port, Step};
+use opening::{open_box, open_endless_box};
+use reading::no_piece;
 use std::alloc::Global;
-use std::mem::size_of;
+use structs::{CaseC, CountsC, CutC, PieceC, ToldC, ValueC};
+use telling::{counts_told, tell_bad_call};
 
-/// Does what the number of this kind says, on the hub at this address, with these numbers. Answers a number.
+/// Opens a hub of this edition, 1 or 2, of 1 to `MOST_PROCS` processes, whose journal may hold 1 to `MOST_STEPS` steps, as
+/// `limit` says. Answers 0, or what refuses it: 1 the processes, 2 the limit, 3 memory, 4 the edition. A hub that was held
+/// before ends.
 #[unsafe(no_mangle)]
-pub unsafe extern "C" fn hub_c_do(hub: *mut u8, kind: u8, pid: u8, port: u16, value: u64) -> u64
-    ghost was: { Handle }
-    requires* { sem 𝓛 (lies_at the_row full_share hub was) }
-    ensures* { ∃ₛ (λ (now : Handle). sem 𝓛 (lies_at the_row full_share hub now)
-        ∗ ⌜ Does was kind pid port value now result ⌝) }
-{
-    let hub = unsafe { &mut *hub.cast::<Handle>() };
-    act(hub, kind, pid, port, value)
-}
-
-/// How many bytes a hub takes at its address. `malloc` gives such a place.
-#[unsafe(no_mangle)]
-pub extern "C" fn hub_c_size() -> usize
-    ensures { result ≡ type_size the_row }
-{
-    size_of::<Handle>()
-}
-
-/// Opens a hub of this edition, 1 or 2, of 1 to `MOST_PROCS` processes, at an address where there is room for it. What refuses
-/// it, if anything does, is then read of it.
-///
-/// Where `life` is 0 its journal may hold 1 to `MOST_STEPS` steps, as `limit` says. Else the hub never ends: a chapter is cut
-/// once it has `limit` steps behind its checkpoint, exits not counted, 1 to `MOST_KEEP`. The chapter before it is kept; older ones go where
-/// `life` is 1, and wait to be read where it is more.
-#[unsafe(no_mangle)]
-pub unsafe extern "C" fn hub_c_open(
+pub extern "C" fn hub_c_open(
     alloc: Global,
-    place: *mut u8,
+    hub: &mut HubC,
     edition: u8,
     procs: u8,
     limit: u32,
-    life: u8,
-)
-    requires* { sem 𝓛 (room_at the_row place) }
-    ensures* { ∃ₛ (λ (now : Handle). sem 𝓛 (lies_at the_row full_share place now)
-        ∗ ⌜ Opens edition procs limit life now ⌝) }
+) -> u8
+    ensures { OpensSession edition procs limit hub.new.session result }
 {
-    let handle = open_handle(alloc, edition, procs, limit, life);
-    unsafe { place.cast::<Handle>().write(handle) }
+    match open_box(alloc, edition, procs, limit) {
+        Ok(session) => {
+            hub.put_in(session);
+            0
+        }
+        Err(refusal) => {
+            hub.end(alloc);
+            refusal
+        }
+    }
+}
+
+/// The same, but the hub never ends: a chapter is cut once it has `keep` steps behind its checkpoint, exits not counted, 1 to
+/// `MOST_KEEP`. The chapter before it is kept; older ones go, or wait to be read where they are handed out.
+#[unsafe(no_mangle)]
+pub extern "C" fn hub_c_open_endless(
+    alloc: Global,
+    hub: &mut HubC,
+    edition: u8,
+    procs: u8,
+    keep: u32,
+    hands_out: u8,
+) -> u8
+    ensures { OpensEndless edition procs keep (is_true hands_out) hub.new.session result }
+{
+    match open_endless_box(alloc, edition, procs, keep, is_true(hands_out)) {
+        Ok(session) => {
+            hub.put_in(session);
+            0
+        }
+        Err(refusal) => {
+            hub.end(alloc);
+            refusal
+        }
+    }
+}
+
+/// Ends the hub: it gives back its memory.
+#[unsafe(no_mangle)]
+pub extern "C" fn hub_c_end(alloc: Global, hub: &mut HubC)
+    ensures { hub.new.session ≡ None }
+{
+    hub.end(alloc);
+}
+
+/// Makes a port of this capacity.
+#[unsafe(no_mangle)]
+pub extern "C" fn hub_c_make(alloc: Global, hub: &mut HubC, pid: u8, cap: u32, told: &mut ToldC)
+    ensures { Steps hub.old.session (Some (make pid cap)) hub.new.session told.new }
+{
+    let Some(mut session) = hub.take_out(alloc) else {
+        tell_bad_call(told);
+        return;
+    };
+    session.plain(pid, Step::Make(cap), told);
+    hub.put_in(session);
+}
+
+/// Sends a value on a port.
+#[unsafe(no_mangle)]
+pub extern "C" fn hub_c_send(
+    alloc: Global,
+    hub: &mut HubC,
+    pid: u8,
+    port: u16,
+    value: &ValueC,
+    told: &mut ToldC,
+)
+    ensures { Steps hub.old.session (send_of pid port value.now) hub.new.session told.new }
+{
+    let Some(mut session) = hub.take_out(alloc) else {
+        tell_bad_call(told);
+        return;
+    };
+    session.send(pid, port, value, told);
+    hub.put_in(session);
+}
+
+/// Receives from a port.
+#[unsafe(no_mangle)]
+pub extern "C" fn hub_c_recv(alloc: Global, hub: &mut HubC, pid: u8, port: u16, told: &mut ToldC)
+    ensures { Steps hub.old.session (Some (recv pid port)) hub.new.session told.new }
+{
+    let Some(mut session) = hub.take_out(alloc) else {
+        tell_bad_call(told);
+        return;
+    };
+    session.receive(pid, port, told);
+    hub.put_in(session);
+}
+
+/// Calls these cases, perhaps with a default.
+#[unsafe(no_mangle)]
+pub extern "C" fn hub_c_call(
+    alloc: Global,
+    hub: &mut HubC,
+    pid: u8,
+    cases: &[CaseC],
+    has_default: u8,
+    word: u64,
+    told: &mut ToldC,
+)
+    ensures { Steps hub.old.session (call_of pid cases.now has_default word) hub.new.session told.new }
+{
+    let Some(mut session) = hub.take_out(alloc) else {
+        tell_bad_call(told);
+        return;
+    };
+    session.call(pid, cases, has_default, word, told);
+    hub.put_in(session);
+}
+
+/// Closes a port.
+#[unsafe(no_mangle)]
+pub extern "C" fn hub_c_close(alloc: Global, hub: &mut HubC, pid: u8, port: u16, told: &mut ToldC)
+    ensures { Steps hub.old.session (Some (close pid port)) hub.new.session told.new }
+{
+    let Some(mut session) = hub.take_out(alloc) else {
+        tell_bad_call(told);
+        return;
+    };
+    session.plain(pid, Step::Close(Port(port)), told);
+    hub.put_in(session);
+}
+
+/// Ends a process.
+#[unsafe(no_mangle)]
+pub extern "C" fn hub_c_exit(alloc: Global, hub: &mut HubC, pid: u8, told: &mut ToldC)
+    ensures { Steps hub.old.session (Some (exit pid)) hub.new.session told.new }
+{
+    let Some(mut session) = hub.take_out(alloc) else {
+        tell_bad_call(told);
+        return;
+    };
+    session.plain(pid, Step::Exit, told);
+    hub.put_in(session);
+}
+
+/// Ends the open call of another process.
+#[unsafe(no_mangle)]
+pub extern "C" fn hub_c_cancel(alloc: Global, hub: &mut HubC, pid: u8, other: u8, told: &mut ToldC)
+    ensures { Steps hub.old.session (Some (cancel pid other)) hub.new.session told.new }
+{
+    let Some(mut session) = hub.take_out(alloc) else {
+        tell_bad_call(told);
+        return;
+    };
+    session.plain(pid, Step::Cancel(Pid(other)), told);
+    hub.put_in(session);
+}
+
+/// Takes the answer that waits for a process. `what` is 0 where none waits.
+#[unsafe(no_mangle)]
+pub extern "C" fn hub_c_take(alloc: Global, hub: &mut HubC, pid: u8, told: &mut ToldC)
+    ensures { Takes hub.old.session pid hub.new.session told.new }
+{
+    let Some(mut session) = hub.take_out(alloc) else {
+        tell_bad_call(told);
+        return;
+    };
+    session.take(pid, told);
+    hub.put_in(session);
+}
+
+/// Looks at a port.
+#[unsafe(no_mangle)]
+pub extern "C" fn hub_c_look(alloc: Global, hub: &mut HubC, port: u16) -> CountsC
+    ensures looks { Looks hub.old.session port result }
+    ensures unchanged { hub.new.session ≡ hub.old.session }
+{
+    let Some(session) = hub.take_out(alloc) else {
+        return counts_told(None);
+    };
+    let counts = session.look(port);
+    hub.put_in(session);
+    counts
+}
+
+/// How many entries the journal has. Of a hub that never ends it is the present chapter.
+#[unsafe(no_mangle)]
+pub extern "C" fn hub_c_entries(alloc: Global, hub: &mut HubC) -> u64
+    ensures entries { result ≡ entries_of hub.old.session }
+    ensures unchanged { hub.new.session ≡ hub.old.session }
+{
+    let Some(session) = hub.take_out(alloc) else {
+        return 0;
+    };
+    let entries = session.len();
+    hub.put_in(session);
+    entries
+}
+
+/// Writes piece `number` of the journal's text at the head of `place`: piece 0 is the head lines, and piece k + 1 the line of
+/// entry k. Where it has no room there, nothing is written, and it is told how much it wants.
+#[unsafe(no_mangle)]
+#[tactic(auto, using(crate::proofs::Texts::pieces_are_text))]
+pub extern "C" fn hub_c_present(
+    alloc: Global,
+    hub: &mut HubC,
+    number: u64,
+    place: &mut [u8],
+) -> PieceC
+    ensures { ReadsPiece hub.old.session (present_of hub.old.session) number hub.new.session place.old place.new result }
+{
+    let Some(mut session) = hub.take_out(alloc) else {
+        return no_piece();
+    };
+    let told = session.read_present(number, place);
+    hub.put_in(session);
+    told
+}
+
+/// The same of the chapter before the present one.
+#[unsafe(no_mangle)]
+#[tactic(auto, using(crate::proofs::Texts::pieces_are_text))]
+pub extern "C" fn hub_c_before(
+    alloc: Global,
+    hub: &mut HubC,
+    number: u64,
+    place: &mut [u8],
+) -> PieceC
+    ensures { ReadsPiece hub.old.session (before_of hub.old.session) number hub.new.session place.old place.new result }
+{
+    let Some(mut session) = hub.take_out(alloc) else {
+        return no_piece();
+    };
+    let told = session.read_before(number, place);
+    hub.put_in(session);
+    told
+}
+
+/// The same of the chapter that waits to be read.
+#[unsafe(no_mangle)]
+#[tactic(auto, using(crate::proofs::Texts::pieces_are_text))]
+pub extern "C" fn hub_c_waiting(
+    alloc: Global,
+    hub: &mut HubC,
+    number: u64,
+    place: &mut [u8],
+) -> PieceC
+    ensures { ReadsPiece hub.old.session (waiting_of hub.old.session) number hub.new.session place.old place.new result }
+{
+    let Some(mut session) = hub.take_out(alloc) else {
+        return no_piece();
+    };
+    let told = session.read_waiting(number, place);
+    hub.put_in(session);
+    told
+}
+
+/// Cuts a hub that never ends. Not while a chapter waits to be read, and not if memory is refused.
+#[unsafe(no_mangle)]
+pub extern "C" fn hub_c_cut(alloc: Global, hub: &mut HubC) -> CutC
+    ensures { Cuts hub.old.session hub.new.session result }
+{
+    let Some(mut session) = hub.take_out(alloc) else {
+        return CutC {
+            cut: false,
+            chapter: false,
+        };
+    };
+    let told = session.cut();
+    hub.put_in(session);
+    told
+}
+
+/// Lets the chapter go that waits to be read: whether one did.
+#[unsafe(no_mangle)]
+pub extern "C" fn hub_c_let_go(alloc: Global, hub: &mut HubC) -> bool
+    ensures { LetsGo hub.old.session hub.new.session result }
+{
+    let Some(mut session) = hub.take_out(alloc) else {
+        return false;
+    };
+    let gone = session.let_go();
+    hub.put_in(session);
+    gone
 }

@@ -1,69 +1,21 @@
-//! What is read of the last answer, of the calls that the last step ended, of a port, and of the journal.
+//! What is read of a hub: its ports, and the texts of its journals, a piece at a time.
 
-ghost use Rattle.std.specs.Prelude.{◌≡◌, drop};
-ghost use Rattle.hub_c.specs.Answers.{value_got};
-ghost use Rattle.hub_c.specs.Hubs.{IsLook, ended_in, journal_at, len_of, totals_since};
-ghost use Rattle.hub_c.specs.Reading.{Reads, byte_read, eight_of, number_read, pid_read, port_number, received_number, sent_number, word_at};
+ghost use Rattle.std.specs.Prelude.{◌≡◌, ◌++◌, [], Some, IfOk, OnErr, OnOk, length, option_map};
+ghost use Rattle.hub_base.specs.Head.{head_of};
+ghost use Rattle.hub_base.specs.Reading.{head_lines};
+ghost use Rattle.hub_cut.specs.Recorder.{hub_in, journal_of};
+ghost use Rattle.hub_c.specs.Hubs.{IsLook, before_in, present_in, totals_since, waiting_in};
+ghost use Rattle.hub_c.specs.Looks.{LooksIn, StaysIn};
+ghost use Rattle.hub_c.specs.Pieces.{Gives, Reads, piece_in, piece_told, put_piece, some_if};
 
-use crate::answer::value_got;
-use crate::kind::{Part, ReadKind};
-use crate::piece::chapter_of;
-use crate::session::{Numbers, Opened, Session};
-use hub_base::{Look, Port, Value};
+use crate::session::{Opened, Session};
+use crate::structs::{CountsC, NO_MEMORY, NO_PIECE, NO_ROOM, PieceC, WRITTEN};
+use crate::telling::counts_told;
+use hub_base::{Edition, Head, Look, MOST_PROCS, NoMemory, Port};
+use hub_core::ShortHub;
 use hub_cut::Totals;
-
-/// The number that a value is, 0 for none and for bytes.
-fn number_in(got: Option<Value>) -> u64
-    ensures { result ≡ number_read got }
-{
-    match got {
-        Some(value) => value.as_num().unwrap_or(0),
-        None => 0,
-    }
-}
-
-/// The byte of a value at this place, 0 where there is none.
-fn byte_in(got: Option<Value>, place: u64) -> u64
-    ensures { result ≡ byte_read got place }
-{
-    let (Some(value), Ok(place)) = (got, u8::try_from(place)) else {
-        return 0;
-    };
-    match value.byte(place) {
-        Some(byte) => byte.into(),
-        None => 0,
-    }
-}
-
-/// Whether a port is made, whether it is closed, and its capacity.
-fn port_number(look: Option<Totals>) -> u64
-    ensures { result ≡ port_number look }
-{
-    match look {
-        Some(look) => 1 + 2 * u64::from(look.closed) + 4 * u64::from(look.cap),
-        None => 0,
-    }
-}
-
-/// How many sends on a port completed.
-fn sent_number(look: Option<Totals>) -> u64
-    ensures { result ≡ sent_number look }
-{
-    match look {
-        Some(look) => look.sent,
-        None => 0,
-    }
-}
-
-/// How many values were received from a port.
-fn received_number(look: Option<Totals>) -> u64
-    ensures { result ≡ received_number look }
-{
-    match look {
-        Some(look) => look.received,
-        None => 0,
-    }
-}
+use hub_live::under_lock::Locked;
+use hub_text::{write_entry, write_head};
 
 /// What a port holds and has carried, in a hub that was never cut.
 fn totals_since(look: Look) -> Totals
@@ -78,78 +30,196 @@ fn totals_since(look: Look) -> Totals
     }
 }
 
-/// The first eight of these bytes, with zeros behind the last.
-fn eight(bytes: &[u8]) -> [u8; 8]
-    ensures { result ≡ eight_of bytes.now }
+/// Appends the head lines; `Err` where memory is refused, with nothing appended.
+fn write_first(out: &mut Vec<u8>, edition: Edition, procs: u8) -> Result<(), NoMemory>
+    ensures ok { OnOk result (out.new.items ≡ out.old.items ++ head_lines (head_of edition procs)) }
+    ensures err { OnErr result (out.new.items ≡ out.old.items) }
 {
-    let len = bytes.len().min(8);
-    let mut eight = [0; 8];
-    eight[..len].copy_from_slice(&bytes[..len]);
-    eight
-}
-
-/// The bytes of a text from this place on.
-fn rest_of(text: &[u8], place: u64) -> &[u8]
-    ensures { result.now ≡ drop place text.now }
-{
-    text.get(place as usize..).unwrap_or(&[])
-}
-
-/// Eight bytes of a text from this place on, the first lowest; zeros stand behind its end.
-fn word_at(text: &[u8], place: u64) -> u64
-    ensures { result ≡ word_at text.now place }
-{
-    u64::from_le_bytes(eight(rest_of(text, place)))
-}
-
-impl Session {
-    /// Whose call the last step ended, at this place of those that it ended; 0 behind the last.
-    fn ended_at(&self, place: u64) -> u64
-        ensures { result ≡ pid_read (ended_in self.now.hub) place }
-    {
-        match self.hub.ended().as_slice().get(place as usize) {
-            Some(pid) => pid.0.into(),
-            None => 0,
-        }
+    // A hub has so many processes, and this passes always.
+    if procs == 0 || usize::from(procs) > MOST_PROCS {
+        return Err(NoMemory);
     }
+    write_head(out, edition, procs)
+}
 
+/// Puts a piece together in place of the one that is there: whether there is such a piece. Refused if memory is.
+#[tactic(auto, using(crate::proofs::Fitting::fits_at))]
+fn put_of_locked(piece: &mut Vec<u8>, hub: &Locked, number: u64) -> Result<bool, NoMemory>
+    ensures { IfOk result (λ there. some_if there piece.new.items ≡ piece_in (Some (journal_of hub.now.hub)) number) }
+{
+    piece.clear();
+    let Head { edition, procs } = hub.head();
+    let Some(place) = number.checked_sub(1) else {
+        write_first(piece, edition, procs)?;
+        return Ok(true);
+    };
+    match hub.entry(place as usize) {
+        Some(entry) => {
+            write_entry(piece, edition, &entry.by_slice())?;
+            Ok(true)
+        }
+        None => Ok(false),
+    }
+}
+
+/// The same of a chapter.
+#[tactic(auto, using(crate::proofs::Fitting::fits_at))]
+fn put_of_chapter(piece: &mut Vec<u8>, hub: &ShortHub, number: u64) -> Result<bool, NoMemory>
+    ensures { IfOk result (λ there. some_if there piece.new.items ≡ piece_in (Some (journal_of hub.now.memory.hub)) number) }
+{
+    piece.clear();
+    let Head { edition, procs } = hub.head();
+    let Some(place) = number.checked_sub(1) else {
+        write_first(piece, edition, procs)?;
+        return Ok(true);
+    };
+    match hub.entry(place as usize) {
+        Some(entry) => {
+            write_entry(piece, edition, &entry.by_slice())?;
+            Ok(true)
+        }
+        None => Ok(false),
+    }
+}
+
+/// The same of a chapter that there may be.
+fn put_of_any(piece: &mut Vec<u8>, hub: Option<&ShortHub>, number: u64) -> Result<bool, NoMemory>
+    ensures { IfOk result (λ there. some_if there piece.new.items
+        ≡ piece_in (option_map (λ h. journal_of (hub_in h.now)) hub.entry) number) }
+{
+    match hub {
+        Some(hub) => put_of_chapter(piece, hub, number),
+        None => Ok(false),
+    }
+}
+
+/// Writes a piece at the head of a place, if it has room there.
+fn write_out(piece: &[u8], place: &mut [u8]) -> PieceC
+    ensures told { result ≡ piece_told (Some piece.now) (length place.old) }
+    ensures written { place.new ≡ put_piece (Some piece.now) place.old }
+{
+    let len = piece.len();
+    if place.len() < len {
+        return PieceC {
+            what: NO_ROOM,
+            length: len as u64,
+        };
+    }
+    place[..len].copy_from_slice(piece);
+    PieceC {
+        what: WRITTEN,
+        length: len as u64,
+    }
+}
+
+/// There is no such piece.
+pub(crate) fn no_piece() -> PieceC
+    ensures { result ≡ record { what = NO_PIECE; length = 0 } }
+{
+    PieceC {
+        what: NO_PIECE,
+        length: 0,
+    }
+}
+
+/// Gives C the piece that was put together, if one was.
+fn give(put: Result<bool, NoMemory>, piece: &[u8], place: &mut [u8]) -> PieceC
+    ensures { Gives put piece.now place.old place.new result }
+{
+    match put {
+        Ok(true) => write_out(piece, place),
+        Ok(false) => no_piece(),
+        Err(NoMemory) => PieceC {
+            what: NO_MEMORY,
+            length: 0,
+        },
+    }
+}
+
+impl Opened {
     /// What a port holds, and what it has carried since the hub was opened.
     fn look(&self, port: Port) -> Option<Totals>
-        ensures { IsLook self.now.hub port result }
+        ensures { IsLook self.now port result }
     {
-        match &self.hub {
+        match self {
             Opened::Limited(hub) => hub.look(port).map(totals_since),
             Opened::Endless(hub) => hub.look(port),
         }
     }
 
-    /// How many entries a journal has, 0 where there is no such journal.
-    fn len_of(&self, part: Part) -> u64
-        ensures { result ≡ len_of (journal_at self.now.hub self.now.chapter part) }
+    /// How many entries the journal has.
+    fn len(&self) -> usize
+        ensures { result ≡ length (present_in self.now).entries }
     {
-        if let (Part::Present, Opened::Limited(hub)) = (part, &self.hub) {
-            return hub.len() as u64;
-        }
-        match chapter_of(&self.hub, &self.chapter, part) {
-            Some(hub) => hub.len() as u64,
-            None => 0,
+        match self {
+            Opened::Limited(hub) => hub.len(),
+            Opened::Endless(hub) => hub.present().len(),
         }
     }
 
-    /// Reads what this kind says.
-    pub(crate) fn read(&self, kind: ReadKind, numbers: Numbers) -> u64
-        ensures { Reads kind self.now numbers result }
+    /// Puts a piece of the journal together.
+    fn put_present(&self, piece: &mut Vec<u8>, number: u64) -> Result<bool, NoMemory>
+        ensures { IfOk result (λ there. some_if there piece.new.items ≡ piece_in (Some (present_in self.now)) number) }
     {
-        match kind {
-            ReadKind::Number => number_in(value_got(&self.told)),
-            ReadKind::Length => value_got(&self.told).map_or(0, |value| value.len().into()),
-            ReadKind::Byte => byte_in(value_got(&self.told), numbers.value),
-            ReadKind::EndedPid => self.ended_at(numbers.value),
-            ReadKind::Port => port_number(self.look(Port(numbers.port))),
-            ReadKind::Sent => sent_number(self.look(Port(numbers.port))),
-            ReadKind::Received => received_number(self.look(Port(numbers.port))),
-            ReadKind::Entries(part) => self.len_of(part),
-            ReadKind::Word => word_at(&self.piece, numbers.value),
+        match self {
+            Opened::Limited(hub) => put_of_locked(piece, hub, number),
+            Opened::Endless(hub) => put_of_chapter(piece, hub.present(), number),
         }
+    }
+
+    /// The same of the chapter before.
+    fn put_before(&self, piece: &mut Vec<u8>, number: u64) -> Result<bool, NoMemory>
+        ensures { IfOk result (λ there. some_if there piece.new.items ≡ piece_in (before_in self.now) number) }
+    {
+        match self {
+            Opened::Limited(_) => Ok(false),
+            Opened::Endless(hub) => put_of_any(piece, hub.before(), number),
+        }
+    }
+}
+
+impl Session {
+    /// Looks at a port.
+    pub(crate) fn look(&self, port: u16) -> CountsC
+        ensures { LooksIn self.now port result }
+    {
+        counts_told(self.hub.look(Port(port)))
+    }
+
+    /// How many entries the journal has.
+    pub(crate) fn len(&self) -> u64
+        ensures { result ≡ length (present_in self.now.hub).entries }
+    {
+        self.hub.len() as u64
+    }
+
+    /// Reads a piece of the journal.
+    #[inline(never)]
+    pub(crate) fn read_present(&mut self, number: u64, place: &mut [u8]) -> PieceC
+        ensures reads { Reads (piece_in (Some (present_in self.old.hub)) number) place.old place.new result }
+        ensures stays { StaysIn self.old self.new }
+    {
+        let put = self.hub.put_present(&mut self.piece, number);
+        give(put, &self.piece, place)
+    }
+
+    /// Reads a piece of the chapter before.
+    #[inline(never)]
+    pub(crate) fn read_before(&mut self, number: u64, place: &mut [u8]) -> PieceC
+        ensures reads { Reads (piece_in (before_in self.old.hub) number) place.old place.new result }
+        ensures stays { StaysIn self.old self.new }
+    {
+        let put = self.hub.put_before(&mut self.piece, number);
+        give(put, &self.piece, place)
+    }
+
+    /// Reads a piece of the chapter that waits to be read.
+    #[inline(never)]
+    pub(crate) fn read_waiting(&mut self, number: u64, place: &mut [u8]) -> PieceC
+        ensures reads { Reads (piece_in (waiting_in self.old.chapter) number) place.old place.new result }
+        ensures stays { StaysIn self.old self.new }
+    {
+        let put = put_of_any(&mut self.piece, self.chapter.as_ref(), number);
+        give(put, &self.piece, place)
     }
 }

@@ -1,33 +1,18 @@
-//! A hub as C holds it, with what was given for the next step and what is read.
+//! A hub as C holds it.
 
 ghost use Rattle.std.specs.Prelude.{◌≡◌, IfOk, IfErr, OnOk};
 ghost use Rattle.hub_base.specs.Head.{IsHead, head_of};
 ghost use Rattle.hub_base.specs.declared.limits.TheConstants.{MOST_STEPS};
 ghost use Rattle.hub_core.specs.HubView.{RefusesOpening, IsLimit, terms_of};
 ghost use Rattle.hub_cut.specs.Recorder.{IsKeep};
-ghost use Rattle.hub_c.specs.Hubs.{head_in, ended_in};
+ghost use Rattle.hub_c.specs.Hubs.{head_in};
 ghost use Rattle.hub_c.specs.Opens.{IsAnew, IsOpened, IsOpenedEndless};
 
-use arrayvec::ArrayVec;
-use hub_base::{Cases, Edition, Event, Head, MOST_VALUE_BYTES};
+use hub_base::{Edition, Head};
 use hub_core::{Hub, OpenFault, ShortHub};
 use hub_endless::EndlessHub;
-use hub_live::under_lock::{Locked, Pids};
+use hub_live::under_lock::Locked;
 use std::alloc::Global;
-
-/// The bytes of a value that is put together.
-pub type Bytes = ArrayVec<u8, MOST_VALUE_BYTES>;
-
-/// The numbers that come with what is asked for.
-#[derive(Clone, Copy)]
-pub struct Numbers {
-    /// A process.
-    pub pid: u8,
-    /// A port.
-    pub port: u16,
-    /// A value, a capacity, a choice word, a process or a place.
-    pub value: u64,
-}
 
 /// A hub as it was opened, and the answers that wait.
 #[derive(Drop)]
@@ -48,19 +33,9 @@ impl Opened {
             Opened::Endless(endless) => endless.head(),
         }
     }
-
-    /// Whose calls the last step that was made ended.
-    pub(crate) fn ended(&self) -> Pids
-        ensures { result.items ≡ ended_in self.now }
-    {
-        match self {
-            Opened::Limited(locked) => locked.ended(),
-            Opened::Endless(endless) => endless.ended(),
-        }
-    }
 }
 
-/// A hub, and what C gives and reads piece by piece.
+/// A hub, and what C reads of it.
 #[derive(Drop)]
 pub struct Session {
     /// The hub, and the answers that wait.
@@ -69,13 +44,7 @@ pub struct Session {
     pub(crate) chapter: Option<ShortHub>,
     /// Whether chapters that are no longer kept wait to be read. Else they go.
     pub(crate) hands_out: bool,
-    /// The bytes that were given.
-    pub(crate) bytes: Bytes,
-    /// The cases that were given.
-    pub(crate) cases: Cases,
-    /// What was told last: by a step, unless it was refused, or by a take.
-    pub(crate) told: Option<Event>,
-    /// A piece of the journal's text.
+    /// Where a piece of a text is put together.
     pub(crate) piece: Vec<u8>,
 }
 
@@ -114,7 +83,7 @@ impl Session {
         Ok(Session::of(alloc, Opened::Endless(hub), hands_out))
     }
 
-    /// A hub with nothing given and nothing told.
+    /// A hub, and no chapter that waits.
     fn of(alloc: Global, hub: Opened, hands_out: bool) -> Session
         ensures { IsAnew hub hands_out result }
     {
@@ -122,9 +91,6 @@ impl Session {
             hub,
             chapter: None,
             hands_out,
-            bytes: Bytes::new(),
-            cases: Cases::new(),
-            told: None,
             piece: Vec::new(alloc),
         }
     }

@@ -1,45 +1,27 @@
 //! The steps, and the answers that wait. Each step stands in a function of its own that is not inlined: a function pays
-//! at entry for the size of its locals, and an entry has room for many cases.
+//! at entry for the size of its locals, and a call of many cases has room for them.
 
-ghost use Rattle.std.specs.Prelude.{◌≡◌, ◌∷◌, [], false, length, min, true};
+ghost use Rattle.std.specs.Prelude.{◌≡◌, ◌∷◌, [], Some, false, true};
 ghost use Rattle.hub_base.specs.Head.{has_case, is_of};
 ghost use Rattle.hub_base.specs.Lines.{by};
-ghost use Rattle.hub_base.specs.Notation.{cancel, close, exit, make, recv, select, send};
-ghost use Rattle.hub_base.specs.declared.limits.TheConstants.{GREATEST_CAP, GREATEST_PID};
+ghost use Rattle.hub_base.specs.Notation.{recv, select, send};
+ghost use Rattle.hub_base.specs.declared.case.Case.TheVariants.{Send};
 ghost use Rattle.hub_cut.specs.Recorder.{head_of_all};
-ghost use Rattle.hub_c.specs.Answers.{chapter_number};
-ghost use Rattle.hub_c.specs.Cutting.{GivenStays, held};
-ghost use Rattle.hub_c.specs.Hubs.{ended_in, head_in};
-ghost use Rattle.hub_c.specs.Stepping.{Forgets, ServesIn, ServesOut, Stepped, Takes, Took, entry_asked, send_bytes};
+ghost use Rattle.hub_c.specs.Hubs.{head_in};
+ghost use Rattle.hub_c.specs.declared.session.Opened.TheVariants.{Endless};
+ghost use Rattle.hub_c.specs.Steps.{Serves, ServesIn, StepsIn, StepsSaid, TakesHub, TakesIn, held};
+ghost use Rattle.hub_c.specs.Structs.{call_of, send_of, value_in};
+ghost use Rattle.hub_c.specs.Tells.{bits_of};
 
-use crate::answer::{CHAPTER, answer_number, event_number};
-use crate::kind::StepKind;
-use crate::session::{Numbers, Opened, Session};
+use crate::asking::{are_cases, case_in, is_case, is_true, is_value, put_cases, value_in};
+use crate::session::{Opened, Session};
+use crate::structs::{CaseC, ToldC, ValueC};
+use crate::telling::{bits_of, tell_bad_call, tell_made, tell_nothing, tell_refused, tell_what};
 use hub_base::{
-    Case, CaseSlice, Entry, EntryRef, Event, Fault, Pid, Port, Step, StepRef, Value, copy_cases,
+    Case, CaseSlice, Cases, Entry, EntryRef, Event, Fault, Pid, Port, Step, StepRef, Value,
 };
 use hub_core::ShortHub;
 use hub_endless::EndlessHub;
-
-/// The capacity of this number, the greatest one for what is above it. Both are refused alike.
-fn capacity(value: u64) -> u32
-    ensures { result ≡ min value GREATEST_CAP }
-{
-    match u32::try_from(value) {
-        Ok(cap) => cap,
-        Err(_) => u32::MAX,
-    }
-}
-
-/// The process of this number, the greatest one for what is above it. Neither is one of a hub.
-fn process(value: u64) -> Pid
-    ensures { result.0 ≡ min value GREATEST_PID }
-{
-    match u8::try_from(value) {
-        Ok(pid) => Pid(pid),
-        Err(_) => Pid(u8::MAX),
-    }
-}
 
 /// The entry of a process that makes this step.
 #[inline(always)]
@@ -62,207 +44,228 @@ pub(crate) fn hold(out: &mut Option<ShortHub>, hands_out: bool)
     }
 }
 
-/// Makes a step of a hub that never ends. While a chapter waits to be read, no other can follow it: a step that would hand
-/// one out is refused for want of memory.
-#[inline(always)]
+/// Makes a step of a hub that never ends, and tells what it came to. While a chapter waits to be read, no other can follow
+/// it: a step that would hand one out is refused for want of memory.
+#[inline(never)]
 fn step_endless(
     hub: &mut EndlessHub,
     out: &mut Option<ShortHub>,
     hands_out: bool,
     entry: &EntryRef<'_>,
-) -> Result<Event, Fault>
+    told: &mut ToldC,
+)
     requires fits { is_of (head_of_all hub.old.recorder).edition entry.now.step ≡ true }
-    ensures { ServesOut hands_out hub.old out.old entry.now hub.new out.new result }
+    ensures { Serves hands_out (Endless hub.old) out.old entry.now (Endless hub.new) out.new told.new }
 {
     if out.is_some() && hub.begins(&entry.step) {
-        return Err(Fault::NoMemory);
+        tell_refused(Fault::NoMemory, true, told);
+        return;
     }
-    let answer = hub.step(entry, out)?;
-    hold(out, hands_out);
-    Ok(answer)
-}
-
-/// What an answer is more, where a chapter waits to be read.
-pub(crate) fn chapter_number(out: &Option<ShortHub>) -> u64
-    ensures { result ≡ chapter_number out.now }
-{
-    if out.is_some() { CHAPTER } else { 0 }
-}
-
-impl Session {
-    /// Forgets what was given.
-    fn forget(&mut self)
-        ensures { Forgets self.old self.new }
-    {
-        self.bytes.clear();
-        self.cases.clear();
-    }
-
-    /// How many calls the last step ended.
-    fn ended(&self) -> u8
-        ensures { result ≡ length (ended_in self.now.hub) }
-    {
-        self.hub.ended().as_slice().len() as u8
-    }
-
-    /// Makes a step in the hub, of which the edition has it.
-    #[inline(always)]
-    fn serve(&mut self, entry: &EntryRef<'_>) -> Result<Event, Fault>
-        requires fits { is_of (head_in self.old.hub).edition entry.now.step ≡ true }
-        ensures serves { ServesIn self.old entry.now self.new result }
-        ensures given { GivenStays self.old self.new }
-    {
-        match &mut self.hub {
-            Opened::Limited(locked) => locked.step(entry),
-            Opened::Endless(hub) => step_endless(hub, &mut self.chapter, self.hands_out, entry),
+    match hub.step(entry, out) {
+        Ok(answer) => {
+            hold(out, hands_out);
+            tell_made(
+                &answer,
+                bits_of(hub.ended().as_slice()),
+                out.is_some(),
+                told,
+            );
         }
-    }
-
-    /// Makes a step that the hub's edition has, and forgets what was given. Answers what it came to.
-    #[inline(always)]
-    fn step_of_edition(&mut self, entry: &EntryRef<'_>) -> u64
-        requires fits { is_of (head_in self.old.hub).edition entry.now.step ≡ true }
-        ensures { Stepped self.old entry.now self.new result }
-    {
-        self.forget();
-        let came = self.serve(entry);
-        let answer = answer_number(&came, self.ended()) + chapter_number(&self.chapter);
-        self.told = came.ok();
-        answer
-    }
-
-    /// The same of any step, and 0 for one that the edition has not.
-    fn step(&mut self, entry: &EntryRef<'_>) -> u64
-        ensures { Stepped self.old entry.now self.new result }
-    {
-        if entry.fits(self.hub.head().edition) {
-            return self.step_of_edition(entry);
-        }
-        self.forget();
-        self.told = None;
-        0
-    }
-
-    /// Makes a call of one case, which every edition has.
-    #[inline(always)]
-    fn call_one(&mut self, pid: u8, case: Case) -> u64
-        requires fits { has_case (head_in self.old.hub).edition case ≡ true }
-        ensures { Stepped self.old (select pid 0 (case ∷ []) false) self.new result }
-    {
-        let step = Step::Call {
-            cases: CaseSlice::one(&case),
-            default: false,
-            word: 0,
-        };
-        self.step_of_edition(&entry_by(pid, step))
-    }
-
-    /// The same, of a call.
-    fn call(&mut self, pid: u8, cases: CaseSlice<'_>, default: bool, word: u64) -> u64
-        ensures { Stepped self.old (select pid word cases.entry.items default) self.new result }
-    {
-        let step = Step::Call {
-            cases,
-            default,
-            word,
-        };
-        self.step(&entry_by(pid, step))
-    }
-
-    #[inline(never)]
-    fn make(&mut self, numbers: Numbers) -> u64
-        ensures { Stepped self.old (make numbers.pid (min numbers.value GREATEST_CAP)) self.new result }
-    {
-        self.step(&entry_by(numbers.pid, Step::Make(capacity(numbers.value))))
-    }
-
-    #[inline(never)]
-    fn send(&mut self, numbers: Numbers) -> u64
-        ensures { Stepped self.old (send numbers.pid numbers.port numbers.value) self.new result }
-    {
-        let case = Case::Send(Port(numbers.port), Value::num(numbers.value));
-        self.call_one(numbers.pid, case)
-    }
-
-    #[inline(never)]
-    fn send_bytes(&mut self, numbers: Numbers) -> u64
-        ensures { Stepped self.old (send_bytes numbers.pid numbers.port self.old.bytes.items) self.new result }
-    {
-        let case = Case::Send(Port(numbers.port), self.value());
-        self.call(numbers.pid, CaseSlice::one(&case), false, 0)
-    }
-
-    #[inline(never)]
-    fn receive(&mut self, numbers: Numbers) -> u64
-        ensures { Stepped self.old (recv numbers.pid numbers.port) self.new result }
-    {
-        let case = Case::Recv(Port(numbers.port));
-        self.call_one(numbers.pid, case)
-    }
-
-    #[inline(never)]
-    fn close(&mut self, numbers: Numbers) -> u64
-        ensures { Stepped self.old (close numbers.pid numbers.port) self.new result }
-    {
-        self.step(&entry_by(numbers.pid, Step::Close(Port(numbers.port))))
-    }
-
-    #[inline(never)]
-    fn exit(&mut self, numbers: Numbers) -> u64
-        ensures { Stepped self.old (exit numbers.pid) self.new result }
-    {
-        self.step(&entry_by(numbers.pid, Step::Exit))
-    }
-
-    #[inline(never)]
-    fn cancel(&mut self, numbers: Numbers) -> u64
-        ensures { Stepped self.old (cancel numbers.pid (min numbers.value GREATEST_PID)) self.new result }
-    {
-        self.step(&entry_by(numbers.pid, Step::Cancel(process(numbers.value))))
-    }
-
-    #[inline(never)]
-    fn select(&mut self, numbers: Numbers, default: bool) -> u64
-        ensures { Stepped self.old (select numbers.pid numbers.value self.old.cases.items default) self.new result }
-    {
-        let cases = copy_cases(&self.cases);
-        self.call(numbers.pid, CaseSlice::of(&cases), default, numbers.value)
-    }
-
-    /// Makes the step of this kind.
-    pub(crate) fn step_of_kind(&mut self, kind: StepKind, numbers: Numbers) -> u64
-        ensures { Stepped self.old (entry_asked kind self.old.bytes.items self.old.cases.items numbers) self.new result }
-    {
-        match kind {
-            StepKind::Make => self.make(numbers),
-            StepKind::Send => self.send(numbers),
-            StepKind::SendBytes => self.send_bytes(numbers),
-            StepKind::Recv => self.receive(numbers),
-            StepKind::Close => self.close(numbers),
-            StepKind::Exit => self.exit(numbers),
-            StepKind::Cancel => self.cancel(numbers),
-            StepKind::Select => self.select(numbers, false),
-            StepKind::SelectOrDefault => self.select(numbers, true),
-        }
-    }
-
-    /// Takes out the answer that waits for a process, and answers its number, 0 where none waits.
-    pub(crate) fn take(&mut self, pid: u8) -> u64
-        ensures { Took self.old pid self.new result }
-    {
-        self.told = self.hub.take(pid);
-        event_number(&self.told)
+        Err(fault) => tell_refused(fault, out.is_some(), told),
     }
 }
 
 impl Opened {
+    /// Makes a step, which the hub's edition has, and tells what it came to.
+    #[inline(always)]
+    fn step(
+        &mut self,
+        out: &mut Option<ShortHub>,
+        hands_out: bool,
+        entry: &EntryRef<'_>,
+        told: &mut ToldC,
+    )
+        requires fits { is_of (head_in self.old).edition entry.now.step ≡ true }
+        ensures { Serves hands_out self.old out.old entry.now self.new out.new told.new }
+    {
+        match self {
+            Opened::Limited(hub) => match hub.step(entry) {
+                Ok(answer) => {
+                    tell_made(
+                        &answer,
+                        bits_of(hub.ended().as_slice()),
+                        out.is_some(),
+                        told,
+                    );
+                }
+                Err(fault) => tell_refused(fault, out.is_some(), told),
+            },
+            Opened::Endless(hub) => step_endless(hub, out, hands_out, entry, told),
+        }
+    }
+
     /// Takes out the answer that waits for a process.
     fn take(&mut self, pid: u8) -> Option<Event>
-        ensures { Takes self.old pid self.new result }
+        ensures { TakesHub self.old pid self.new result }
     {
         match self {
             Opened::Limited(locked) => locked.take(Pid(pid)),
             Opened::Endless(hub) => hub.take(Pid(pid)),
+        }
+    }
+}
+
+impl Session {
+    /// Makes a step that the hub's edition has.
+    #[inline(always)]
+    fn serve(&mut self, entry: &EntryRef<'_>, told: &mut ToldC)
+        requires fits { is_of (head_in self.old.hub).edition entry.now.step ≡ true }
+        ensures { ServesIn self.old entry.now self.new told.new }
+    {
+        self.hub
+            .step(&mut self.chapter, self.hands_out, entry, told);
+    }
+
+    /// Makes a step, where the hub's edition has it.
+    #[inline(always)]
+    fn step(&mut self, entry: &EntryRef<'_>, told: &mut ToldC)
+        ensures { StepsIn self.old entry.now self.new told.new }
+    {
+        if entry.fits(self.hub.head().edition) {
+            self.serve(entry, told);
+        } else {
+            tell_bad_call(told);
+        }
+    }
+
+    /// Makes a call of one case, which the hub's edition has.
+    #[inline(always)]
+    fn call_case(&mut self, pid: u8, case: &Case, default: bool, word: u64, told: &mut ToldC)
+        requires fits { has_case (head_in self.old.hub).edition case.now ≡ true }
+        ensures { ServesIn self.old (select pid word (case.now ∷ []) default) self.new told.new }
+    {
+        let step = Step::Call {
+            cases: CaseSlice::one(case),
+            default,
+            word,
+        };
+        self.serve(&entry_by(pid, step), told);
+    }
+
+    /// The same, where the hub's edition has it.
+    #[inline(always)]
+    fn call_any(&mut self, pid: u8, case: &Case, default: bool, word: u64, told: &mut ToldC)
+        ensures { StepsIn self.old (select pid word (case.now ∷ []) default) self.new told.new }
+    {
+        if case.fits(self.hub.head().edition) {
+            self.call_case(pid, case, default, word, told);
+        } else {
+            tell_bad_call(told);
+        }
+    }
+
+    /// Makes a call of one case.
+    #[inline(never)]
+    fn call_one(&mut self, pid: u8, case: &CaseC, default: u8, word: u64, told: &mut ToldC)
+        ensures { StepsSaid self.old (call_of pid (case.now ∷ []) default word) self.new told.new }
+    {
+        if is_case(case) {
+            self.call_any(pid, &case_in(case), is_true(default), word, told);
+        } else {
+            tell_bad_call(told);
+        }
+    }
+
+    /// Makes a call of several cases, or of none.
+    #[inline(never)]
+    fn call_many(&mut self, pid: u8, cases: &[CaseC], default: u8, word: u64, told: &mut ToldC)
+        ensures { StepsSaid self.old (call_of pid cases.now default word) self.new told.new }
+    {
+        if !are_cases(cases) {
+            tell_bad_call(told);
+            return;
+        }
+        let mut list = Cases::new();
+        put_cases(cases, &mut list);
+        let step = Step::Call {
+            cases: CaseSlice::of(&list),
+            default: is_true(default),
+            word,
+        };
+        self.step(&entry_by(pid, step), told);
+    }
+
+    /// Makes a call. No list is made for one case.
+    pub(crate) fn call(
+        &mut self,
+        pid: u8,
+        cases: &[CaseC],
+        default: u8,
+        word: u64,
+        told: &mut ToldC,
+    )
+        ensures { StepsSaid self.old (call_of pid cases.now default word) self.new told.new }
+    {
+        match cases {
+            [case] => self.call_one(pid, case, default, word, told),
+            _ => self.call_many(pid, cases, default, word, told),
+        }
+    }
+
+    /// Sends a number on a port, which every edition has.
+    #[inline(never)]
+    fn send_number(&mut self, pid: u8, port: u16, number: u64, told: &mut ToldC)
+        ensures { StepsIn self.old (send pid port number) self.new told.new }
+    {
+        let case = Case::Send(Port(port), Value::num(number));
+        self.call_case(pid, &case, false, 0, told);
+    }
+
+    /// Sends bytes on a port.
+    #[inline(never)]
+    fn send_bytes(&mut self, pid: u8, port: u16, value: &ValueC, told: &mut ToldC)
+        ensures { StepsIn self.old (select pid 0 (Send (record { 0 = port }) (value_in value.now) ∷ []) false) self.new told.new }
+    {
+        let case = Case::Send(Port(port), value_in(value));
+        self.call_any(pid, &case, false, 0, told);
+    }
+
+    /// Sends a value on a port.
+    pub(crate) fn send(&mut self, pid: u8, port: u16, value: &ValueC, told: &mut ToldC)
+        ensures { StepsSaid self.old (send_of pid port value.now) self.new told.new }
+    {
+        if !is_value(value) {
+            tell_bad_call(told);
+        } else if is_true(value.is_bytes) {
+            self.send_bytes(pid, port, value, told);
+        } else {
+            self.send_number(pid, port, value.number, told);
+        }
+    }
+
+    /// Receives from a port, which every edition has.
+    #[inline(never)]
+    pub(crate) fn receive(&mut self, pid: u8, port: u16, told: &mut ToldC)
+        ensures { StepsIn self.old (recv pid port) self.new told.new }
+    {
+        self.call_case(pid, &Case::Recv(Port(port)), false, 0, told);
+    }
+
+    /// Makes a step that is no call.
+    #[inline(never)]
+    pub(crate) fn plain(&mut self, pid: u8, step: StepRef<'_>, told: &mut ToldC)
+        ensures { StepsIn self.old (by pid step.entry) self.new told.new }
+    {
+        self.step(&entry_by(pid, step), told);
+    }
+
+    /// Takes out the answer that waits for a process.
+    pub(crate) fn take(&mut self, pid: u8, told: &mut ToldC)
+        ensures { TakesIn pid self.old self.new told.new }
+    {
+        match self.hub.take(pid) {
+            Some(answer) => tell_what(&answer.what, told),
+            None => tell_nothing(told),
         }
     }
 }

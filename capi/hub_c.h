@@ -1,0 +1,65 @@
+/* hub_c.h: what the proved library exports, and the structs that it shares with C: crates/hub_c/src/lib.rt and structs.rt.
+ *
+ * A struct hub of zeros is not open. Once it is open it owns the hub, so it is never copied, and its members are left alone. The calls on
+ * one hub are ordered by a lock. Whatever else is passed, the answers are proved, if the pointers point to what they say and what is
+ * written overlaps with nothing else. No bool is passed to the library: a number that is not 0 is true.
+ */
+#ifndef HUB_C_H
+#define HUB_C_H
+
+#include "chanhub.h"
+
+struct hub {
+    void *at;
+    bool is_open;
+};
+
+/* What a step or a take came to. Its members are written, and what lies between them stays. */
+struct told {
+    chanhub_told it;
+    uint64_t ended; /* the processes whose calls the step ended */
+    bool chapter;   /* whether a chapter waits to be read */
+};
+
+struct cut {
+    bool cut, chapter; /* whether it was made; whether a chapter waits to be read */
+};
+
+/* What a reading of a piece of a text came to, by number. */
+enum { NO_PIECE, WRITTEN, NO_ROOM, NO_MEMORY };
+
+struct piece {
+    uint8_t what;
+    uint64_t length; /* how many bytes were written; if there was no room, how many it wants */
+};
+
+/* Reads a piece of the text of a journal. */
+typedef struct piece reader(struct hub *hub, uint64_t number, uint8_t *place, size_t room);
+
+uint8_t hub_c_open(struct hub *hub, uint8_t edition, uint8_t procs, uint32_t limit);
+uint8_t hub_c_open_endless(struct hub *hub, uint8_t edition, uint8_t procs, uint32_t keep, uint8_t hands_out);
+void hub_c_end(struct hub *hub);
+void hub_c_make(struct hub *hub, uint8_t pid, uint32_t cap, struct told *told);
+void hub_c_send(struct hub *hub, uint8_t pid, uint16_t port, const chanhub_value *value, struct told *told);
+void hub_c_recv(struct hub *hub, uint8_t pid, uint16_t port, struct told *told);
+void hub_c_call(struct hub *hub, uint8_t pid, const chanhub_case *cases, size_t count, uint8_t has_default, uint64_t word,
+                struct told *told);
+void hub_c_close(struct hub *hub, uint8_t pid, uint16_t port, struct told *told);
+void hub_c_exit(struct hub *hub, uint8_t pid, struct told *told);
+void hub_c_cancel(struct hub *hub, uint8_t pid, uint8_t other, struct told *told);
+void hub_c_take(struct hub *hub, uint8_t pid, struct told *told);
+chanhub_counts hub_c_look(struct hub *hub, uint16_t port);
+uint64_t hub_c_entries(struct hub *hub);
+reader hub_c_present, hub_c_before, hub_c_waiting;
+struct cut hub_c_cut(struct hub *hub);
+bool hub_c_let_go(struct hub *hub);
+
+/* The layouts that crates/hub_c has. */
+_Static_assert(sizeof(struct hub) == 16 && sizeof(struct piece) == 16 && sizeof(struct cut) == 2, "");
+_Static_assert(sizeof(chanhub_value) == 48 && offsetof(chanhub_value, is_bytes) == 8 && offsetof(chanhub_value, bytes) == 10, "");
+_Static_assert(sizeof(chanhub_case) == 56 && offsetof(chanhub_case, port) == 2 && offsetof(chanhub_case, value) == 8, "");
+_Static_assert(sizeof(chanhub_told) == 56 && offsetof(chanhub_told, port) == 4 && offsetof(chanhub_told, value) == 8, "");
+_Static_assert(sizeof(struct told) == 72 && offsetof(struct told, ended) == 56 && offsetof(struct told, chapter) == 64, "");
+_Static_assert(sizeof(chanhub_counts) == 24 && offsetof(chanhub_counts, cap) == 4 && offsetof(chanhub_counts, sent) == 8, "");
+
+#endif

@@ -1,0 +1,91 @@
+//! What C asks for: the values and the cases that structs say.
+
+ghost use Rattle.std.specs.Prelude.{◌≡◌, ◌≤◌, [], length, map, take};
+ghost use Rattle.std.specs.List.{list_all};
+ghost use Rattle.hub_base.specs.declared.limits.TheConstants.{CASE_PLACES};
+ghost use Rattle.hub_c.specs.Structs.{are_cases, case_in, is_case, is_true, is_value, value_in};
+
+use crate::structs::{CaseC, ValueC};
+use hub_base::{CASE_PLACES, Case, Cases, MOST_VALUE_BYTES, Port, Value};
+
+/// Whether a number that comes from C is true.
+#[inline(always)]
+pub(crate) fn is_true(flag: u8) -> bool
+    ensures { result ≡ is_true flag }
+{
+    flag != 0
+}
+
+/// Whether it is a value: bytes are no more than there are places for.
+#[inline(always)]
+pub(crate) fn is_value(value: &ValueC) -> bool
+    ensures { result ≡ is_value value.now }
+{
+    usize::from(value.length) <= MOST_VALUE_BYTES
+}
+
+/// The bytes of a struct.
+#[inline(always)]
+fn bytes_in(value: &ValueC) -> &[u8]
+    ensures { result.now ≡ take value.now.length value.now.bytes }
+{
+    &value.bytes[..usize::from(value.length).min(MOST_VALUE_BYTES)]
+}
+
+/// The value that a struct says.
+pub(crate) fn value_in(value: &ValueC) -> Value
+    ensures { result ≡ value_in value.now }
+{
+    if !is_true(value.is_bytes) {
+        return Value::num(value.number);
+    }
+    match Value::bytes(bytes_in(value)) {
+        Some(value) => value,
+        None => unreachable!(),
+    }
+}
+
+/// Whether it is a case. The value of a receive is not looked at.
+pub(crate) fn is_case(case: &CaseC) -> bool
+    ensures { result ≡ is_case case.now }
+{
+    !is_true(case.sends) || is_value(&case.value)
+}
+
+/// The case that a struct says.
+pub(crate) fn case_in(case: &CaseC) -> Case
+    ensures { result ≡ case_in case.now }
+{
+    let port = Port(case.port);
+    if is_true(case.sends) {
+        Case::Send(port, value_in(&case.value))
+    } else {
+        Case::Recv(port)
+    }
+}
+
+/// Whether each of them is a case.
+#[inline(always)]
+fn all_cases(cases: &[CaseC]) -> bool
+    ensures { result ≡ list_all is_case cases.now }
+{
+    cases.iter().all(|case| is_case(case))
+}
+
+/// Whether they are the cases of one call.
+pub(crate) fn are_cases(cases: &[CaseC]) -> bool
+    ensures { result ≡ are_cases cases.now }
+{
+    cases.len() <= CASE_PLACES && all_cases(cases)
+}
+
+/// Puts the cases that these structs say into an empty list.
+pub(crate) fn put_cases(cases: &[CaseC], list: &mut Cases)
+    requires few { length cases.now ≤ CASE_PLACES }
+    requires empty { list.old.items ≡ [] }
+    ensures { list.new.items ≡ map case_in cases.now }
+{
+    for case in cases {
+        list.push(case_in(case));
+    }
+}

@@ -1,0 +1,119 @@
+//! How a hub is opened, and what refuses it.
+
+ghost use Rattle.std.specs.Prelude.{◌≡◌, IfOk, IfErr};
+ghost use Rattle.hub_core.specs.HubView.{open_fault_number};
+ghost use Rattle.hub_c.specs.Opens.{IsNew, IsNewEndless, IsRefusedEndless, IsRefusedSo, edition_of};
+
+use crate::session::Session;
+use hub_base::Edition;
+use hub_core::OpenFault;
+use hub_cut::MOST_KEEP;
+use std::alloc::Global;
+
+/// The number of refused memory, which `OpenFault::NoMemory` has too.
+const REFUSED_MEMORY: u8 = 3;
+
+/// A value that may be used by one thread and then by another.
+fn crossing<T: Send>(value: T) -> T
+    ensures { result ≡ value }
+{
+    value
+}
+
+fn edition_of(number: u8) -> Option<Edition>
+    ensures { result ≡ edition_of number }
+{
+    match number {
+        1 => Some(Edition::One),
+        2 => Some(Edition::Two),
+        _ => None,
+    }
+}
+
+/// The number of what refuses an opening.
+fn refusal_of(fault: OpenFault) -> u8
+    ensures { result ≡ open_fault_number fault }
+{
+    match fault {
+        OpenFault::BadProcs => 1,
+        OpenFault::BadLimit => 2,
+        OpenFault::NoMemory => REFUSED_MEMORY,
+    }
+}
+
+/// A hub at which nothing has happened, or the number of what refuses it. It stands alone, so that the stack has room for one
+/// kind of hub at a time.
+#[inline(never)]
+fn open_session(alloc: Global, edition: u8, procs: u8, limit: u32) -> Result<Session, u8>
+    ensures ok { IfOk result (λ s. IsNew edition procs limit s) }
+    ensures err { IfErr result (λ number. IsRefusedSo edition procs limit number) }
+{
+    let Some(edition) = edition_of(edition) else {
+        return Err(4);
+    };
+    match Session::open(alloc, procs, limit, edition) {
+        Ok(session) => Ok(session),
+        Err(fault) => Err(refusal_of(fault)),
+    }
+}
+
+/// The same of a hub that never ends and keeps so many steps of a chapter.
+#[inline(never)]
+fn open_endless_session(
+    alloc: Global,
+    edition: u8,
+    procs: u8,
+    keep: u32,
+    hands_out: bool,
+) -> Result<Session, u8>
+    ensures ok { IfOk result (λ s. IsNewEndless edition procs keep hands_out s) }
+    ensures err { IfErr result (λ number. IsRefusedEndless edition procs keep number) }
+{
+    let Some(edition) = edition_of(edition) else {
+        return Err(4);
+    };
+    if keep == 0 || keep > MOST_KEEP {
+        return Err(2);
+    }
+    match Session::open_endless(alloc, procs, keep, edition, hands_out) {
+        Ok(session) => Ok(session),
+        Err(fault) => Err(refusal_of(fault)),
+    }
+}
+
+/// A hub on the heap at which nothing has happened, or the number of what refuses it.
+#[inline(never)]
+pub(crate) fn open_box(
+    alloc: Global,
+    edition: u8,
+    procs: u8,
+    limit: u32,
+) -> Result<Box<Session>, u8>
+    ensures ok { IfOk result (λ b. IsNew edition procs limit b.value) }
+    ensures err { IfErr result (λ number. IsRefusedSo edition procs limit number) }
+{
+    let session = open_session(alloc, edition, procs, limit)?;
+    match Box::new(alloc, session) {
+        Ok(place) => Ok(crossing(place)),
+        Err(_refused) => Err(REFUSED_MEMORY),
+    }
+}
+
+/// The same of a hub that never ends.
+#[inline(never)]
+pub(crate) fn open_endless_box(
+    alloc: Global,
+    edition: u8,
+    procs: u8,
+    keep: u32,
+    hands_out: bool,
+) -> Result<Box<Session>, u8>
+    ensures ok { IfOk result (λ b. IsNewEndless edition procs keep hands_out b.value) }
+    ensures err { IfErr result (λ number. IsRefusedEndless edition procs keep number) }
+{
+    let session = open_endless_session(alloc, edition, procs, keep, hands_out)?;
+    match Box::new(alloc, session) {
+        Ok(place) => Ok(crossing(place)),
+        Err(_refused) => Err(REFUSED_MEMORY),
+    }
+}

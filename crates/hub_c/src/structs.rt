@@ -1,0 +1,122 @@
+//! The structs that cross. C has the same ones: capi/chanhub.h, and capi/chanhub.c.
+//!
+//! What comes from C may be any bytes, so a truth that comes is a number: 0 is false, and every other one is true.
+
+use hub_base::MOST_VALUE_BYTES;
+
+/// A port was made.
+pub const MADE: u8 = 1;
+/// A case sent its value.
+pub const SENT: u8 = 2;
+/// A case received a value.
+pub const GOT: u8 = 3;
+/// A case is a receive from a port that is closed and empty.
+pub const DRAINED: u8 = 4;
+/// A case is a send on a closed port.
+pub const CLOSED: u8 = 5;
+/// The default was taken.
+pub const DEFAULT: u8 = 6;
+/// The close, the exit or the cancel is done.
+pub const DONE: u8 = 7;
+/// The call waits.
+pub const PARKED: u8 = 8;
+/// Everyone waited, so the call ended.
+pub const STALLED: u8 = 9;
+/// The step was refused, or had no effect.
+pub const FAULT: u8 = 10;
+/// Another process cancelled the call.
+pub const CANCELLED: u8 = 11;
+
+/// The fault of what is not asked of a hub, or not of one of its edition. The numbers below it are those of `Fault`.
+pub const BAD_CALL: u8 = 13;
+
+/// There is no such piece of a text: the last one stands before it.
+pub const NO_PIECE: u8 = 0;
+/// The piece was written.
+pub const WRITTEN: u8 = 1;
+/// The piece is longer than the place for it.
+pub const NO_ROOM: u8 = 2;
+/// Memory was refused.
+pub const NO_MEMORY: u8 = 3;
+
+/// A number, or bytes.
+#[repr(C)]
+#[derive(Clone, Copy)]
+pub struct ValueC {
+    /// The number; 0 where it is bytes.
+    pub number: u64,
+    /// Whether it is bytes.
+    pub is_bytes: u8,
+    /// How many bytes it is.
+    pub length: u8,
+    /// The bytes, and zeros behind them.
+    pub bytes: [u8; MOST_VALUE_BYTES],
+}
+
+/// A case: it sends the value on the port, or receives from it.
+#[repr(C)]
+#[derive(Clone, Copy)]
+pub struct CaseC {
+    /// Whether it sends.
+    pub sends: u8,
+    /// The port.
+    pub port: u16,
+    /// What it sends.
+    pub value: ValueC,
+}
+
+/// What a call came to. The members that what is told has nothing for are 0.
+#[repr(C)]
+#[derive(Clone, Copy)]
+pub struct ToldC {
+    /// What is told, `MADE` to `CANCELLED`; 0 where no answer waits.
+    pub what: u8,
+    /// The number of the fault.
+    pub fault: u8,
+    /// The index of the case.
+    pub index: u8,
+    /// The port that was made.
+    pub port: u16,
+    /// The value that was received.
+    pub value: ValueC,
+    /// A bit for each process whose call the step ended, the lowest for process 0.
+    pub ended: u64,
+    /// 1 where a chapter waits to be read, else 0.
+    pub chapter: u8,
+}
+
+/// What a look at a port shows. All is 0 for one that was not made.
+#[repr(C)]
+#[derive(Clone, Copy)]
+pub struct CountsC {
+    /// Whether it was made.
+    pub made: bool,
+    /// Whether it is closed.
+    pub closed: bool,
+    /// Its capacity.
+    pub cap: u32,
+    /// How many sends on it completed.
+    pub sent: u64,
+    /// How many values were received from it.
+    pub received: u64,
+}
+
+/// What a reading of a piece of a text came to.
+#[repr(C)]
+#[derive(Clone, Copy)]
+pub struct PieceC {
+    /// `NO_PIECE`, `WRITTEN`, `NO_ROOM` or `NO_MEMORY`.
+    pub what: u8,
+    /// How many bytes were written, or how many there has to be room for; else 0.
+    pub length: u64,
+}
+
+/// What a cut came to.
+#[repr(C)]
+#[derive(Clone, Copy)]
+pub struct CutC {
+    /// Whether the hub was cut.
+    pub cut: bool,
+    /// Whether a chapter waits to be read.
+    pub chapter: bool,
+}

@@ -410,9 +410,9 @@ STEPS_OF = {n: 3 + 6 * (n - 100) for n in range(100, 140)}  # the place of the f
 
 def longest_wait():
     asked = picture.Journal(PIPE.encode()).asked()
-    waits = {one: (one.ended.by if one.ended else len(asked) - 1) - one.place for one in asked if one.ended is None or one.ended.by > one.place}
-    one = max(waits, key=lambda one: (waits[one], -one.place))
-    return f"P{one.line.split()[0]}, step {one.place + 1} waited {waits[one]} steps"
+    waits = [((one.ended.by if one.ended else len(asked) - 1) - one.place, -one.place) for one in asked if one.ended is None or one.ended.by > one.place]
+    steps, place = max(waits)
+    return f"P{asked[-place].line.split()[0]}, step {1 - place} waited {steps} steps"
 
 
 def title(browser):

@@ -3,10 +3,8 @@
 const NONE = 0xffffffff, LINE_END = 10, SPACE = 32, SEMICOLON = 59;
 const WORDS = { m: "make ", s: "send ", r: "recv ", "?": "select ", c: "close ", x: "cancel ", e: "exit" };
 const ENDS = { s: "sent", g: "got", d: "drained", c: "closed", D: "default", k: "done", S: "stalled", x: "cancelled" };
-const FAULTS = ["no such process", "the process has exited", "the process still waits in a call", "too many cases", "no such port",
-    "the capacity is too large", "too many ports", "close of the nil port", "close of a closed port", "the journal is full", "out of memory",
-    "that process does not wait"];
-
+const FAULTS = ["no such process", "the process has exited", "the process still waits in a call", "too many cases", "no such port", "the capacity is too large",
+    "too many ports", "close of the nil port", "close of a closed port", "the journal is full", "out of memory", "that process does not wait"];
 class Journal {
     constructor(text) {
         this.text = text;
@@ -20,10 +18,7 @@ class Journal {
         this.exits = new Map();
         this.sketches = [];
         this.makeArrays();
-        for (this.count = 0; this.at < text.length;) {
-            if (text[this.at] === "~") this.readSketch();
-            else this.readStep(this.count++);
-        }
+        for (this.count = 0; this.at < text.length;) text[this.at] === "~" ? this.readSketch() : this.readStep(this.count++);
         for (let step = 0; step < this.count; step++) if (this.hasWaited(step)) this.waits[this.pid[step]].push(step);
         if (this.pid.some((pid) => pid >= this.procs)) this.waits.push([]);
     }
@@ -31,7 +26,7 @@ class Journal {
     // it; side and port of the case that is shown; the call at the other end of its value's way; and where its text stands.
     makeArrays() {
         let most = 0;
-        for (let at = this.at; at > 0 && at < this.text.length; at = this.text.indexOf("\n", at) + 1) most++;
+        for (let at = this.at; at > 0; at = this.text.indexOf("\n", at) + 1) most++;
         for (const name of ["pid", "word", "end", "side"]) this[name] = new Uint8Array(most);
         for (const name of ["number", "port"]) this[name] = new Uint16Array(most);
         for (const name of ["begin", "until", "by", "partner"]) this[name] = new Uint32Array(most).fill(NONE);
@@ -50,7 +45,7 @@ class Journal {
         let next, spaces = 0;
         for (; (next = this.text.charCodeAt(this.at)) !== SEMICOLON && next !== LINE_END; this.at++) if (next === SPACE) spaces++;
         this.until[step] = this.at;
-        if (word === "s" || word === "r") this.side[step] = this.word[step];
+        if ("sr".includes(word)) this.side[step] = this.word[step];
         if (word === "?" && spaces === 1) this.showCase(step, 0);
         else if (word === "?") this.port[step] = 0;
         while (this.text.charCodeAt(this.at++) === SEMICOLON) this.readItem(step);
@@ -66,23 +61,18 @@ class Journal {
         [this.by[call], this.end[call], this.number[call]] = [step, letter.charCodeAt(0), number];
         if (word === "?" && "sgdc".includes(letter)) this.showCase(call, number);
         if (word === "?" && "Df".includes(letter)) this.side[call] = this.port[call] = 0;
-        if (letter === "m") this.ports[number] = { number, room: this.port[call], closer: NONE, steps: [], counts: [], most: 0 };
+        if (letter === "m") this.ports[number] = { number, room: this.port[call], closer: NONE, steps: [], counts: [], most: 0, full: 0 };
         if (letter === "k" && word === "c") this.ports[this.port[call]].closer = call;
         if (letter === "k" && word === "e") this.exits.set(this.pid[call], call);
         if (letter === "S" && this.stalls.at(-1)?.step !== step) this.stalls.push({ step, calls: [], guesses: [] });
         if (letter === "S") this.stalls.at(-1).calls.push(call);
         if ("Sfc".includes(letter)) this.troubles.push(call);
         if (letter === "s" || letter === "g") this.moves.push(call);
-        if (this.text[this.at] === "<") this.readArrow(call, step);
-    }
-    readArrow(call, step) {
-        this.at++;
-        const sender = step - this.readNumber();
-        [this.partner[call], this.partner[sender]] = [sender, call];
+        if (this.text[this.at] === "<") this.partner[this.partner[call] = step - this.readNumber(this.at++)] = call;
     }
     addLevel(port, step, count) {
-        port.steps.push(step);
-        port.counts.push(count);
+        port.full += port.counts.at(-1) === port.room ? step - port.steps.at(-1) : 0;
+        port.counts.push(count) && port.steps.push(step);
         if (count > port.most) [port.most, port.fullest] = [count, step];
     }
     readSketch() {
@@ -98,12 +88,10 @@ class Journal {
         this.side[call] = this.text.charCodeAt(at);
         this.port[call] = parseInt(this.text.slice(at + 1, at + 6), 10);
     }
-
     // ---- what is told of a step: the letters of its word, and whether it came to one of these ends
     letter(step) { return String.fromCharCode(this.word[step]); }
     isAt(step, letters) { return this.end[step] > 0 && letters.includes(String.fromCharCode(this.end[step])); }
-    isSend(step) { return this.side[step] === 115 && !this.isAt(step, "f"); }
-    isReceive(step) { return this.side[step] === 114 && !this.isAt(step, "f"); }
+    isOn(step, side) { return this.side[step] === side.charCodeAt(0) && !this.isAt(step, "f"); }
     hasTrouble(step) { return this.isAt(step, "Sfc"); }
     hasWaited(step) { return this.by[step] > step; }
     entry(step) { return this.text.slice(this.begin[step], this.until[step]); }
@@ -146,22 +134,15 @@ class Journal {
         return { m: "m" + this.number[step], "?": "?", e: "exit" }[this.letter(step)] ?? this.letter(step) + this.port[step];
     }
 }
-
 // The place of the first of these, in order, that is not below a number.
 function firstFrom(count, at, number) {
-    let low = 0, high = count;
-    while (low < high) {
-        const middle = (low + high) >> 1;
-        if (at(middle) < number) low = middle + 1;
-        else high = middle;
-    }
+    let low = 0;
+    for (let high = count; low < high;) { const middle = (low + high) >> 1; [low, high] = at(middle) < number ? [middle + 1, high] : [low, middle]; }
     return low;
 }
-
 // Bytes as text where they are UTF-8 without control characters; else as they are spelled.
 function readable(value) {
     if (value === null || value[0] !== "#") return value;
-    const bytes = Uint8Array.from({ length: (value.length - 1) / 2 }, (_, at) => parseInt(value.slice(1 + 2 * at, 3 + 2 * at), 16));
-    const text = new TextDecoder("utf-8", { ignoreBOM: true }).decode(bytes);
+    const bytes = value.slice(1).match(/../g) ?? [], text = new TextDecoder("utf-8", { ignoreBOM: true }).decode(Uint8Array.from(bytes, (two) => parseInt(two, 16)));
     return /[\p{C}\p{Zl}\p{Zp}\ufffd]/u.test(text) ? value : `\u201c${text}\u201d`;
 }

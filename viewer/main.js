@@ -1,6 +1,5 @@
 // The page: what is chosen, and what search, links, wheel, mouse and keys do.
 const byId = (id) => document.getElementById(id);
-
 class Page {
     constructor(journal) {
         Object.assign(this, { journal, view: new View(journal), found: [], words: "", ordered: "by number" });
@@ -24,12 +23,7 @@ class Page {
         this.painter.paintAxis(byId("axis"), this.found);
         this.painter.paintWhole(byId("strip"), this.found);
     }
-    setTheme(theme) {
-        document.documentElement.dataset.theme = theme;
-        this.painter = new Painter(this.view, coloursOf(document.body));
-        this.draw();
-    }
-
+    setTheme(theme) { document.documentElement.dataset.theme = theme; this.painter = new Painter(this.view, coloursOf(document.body)); this.draw(); }
     // ---- what is chosen, and how it is shown
     choose(step, keepsWay = false) {
         if (!keepsWay) Object.assign(this.chosen, { arrows: new Set(), steps: new Set(), stages: null });
@@ -60,7 +54,6 @@ class Page {
         this.choose(this.chosen.step, true);
     }
     waited(pid) { return this.journal.waits[pid].reduce((sum, call) => sum + this.journal.waited(call), 0); }
-
     // ---- search
     find(words) {
         const tests = (words.match(/port \d+|step \d+|P\d+|=\S+|\S+/gi) ?? []).map((word) => this.testOf(word));
@@ -81,10 +74,8 @@ class Page {
         const { found, words } = this, from = (this.chosen.step ?? -1) + (direction > 0), at = firstFrom(found.length, (at) => found[at], from) - (direction < 0);
         const place = (at + found.length) % found.length;
         byId("count").textContent = found.length ? `${place + 1} of ${found.length}` : words && "none";
-        if (found.length) this.choose(found[place]);
-        else this.draw();
+        found.length ? this.choose(found[place]) : this.draw();
     }
-
     // ---- links: #step=60&find=P3&from=1&to=100
     writeLink() {
         const { first, steps } = this.view, { step } = this.chosen;
@@ -99,7 +90,6 @@ class Page {
         if (from <= to) this.view.show(from - 1, to - from + 1);
         this.choose(isThere ? step - 1 : this.chosen.step);
     }
-
     // ---- mouse, wheel and keys
     // What stands at a point: a box, a bar, or a value's way by its receiver.
     at(x, y) {
@@ -137,25 +127,20 @@ class Page {
     click(event) {
         const { box, bar, arrow } = this.at(event.offsetX, event.offsetY), { by } = this.journal;
         if (this.dragged > 4) return;
-        if (arrow !== undefined) this.follow(arrow);
-        else this.choose(box ?? (bar === undefined ? null : by[bar] === NONE ? bar : by[bar]));
+        arrow === undefined ? this.choose(box ?? (bar === undefined ? null : by[bar] === NONE ? bar : by[bar])) : this.follow(arrow);
     }
     wheel(event) {
         const sideways = event.shiftKey ? event.deltaX + event.deltaY : Math.abs(event.deltaX) > Math.abs(event.deltaY) && event.deltaX;
         event.preventDefault();
-        if (sideways) this.view.pan(sideways / this.view.dots);
-        else this.view.zoom(Math.exp(event.deltaY * 0.0018), event.offsetX);
+        sideways ? this.view.pan(sideways / this.view.dots) : this.view.zoom(Math.exp(event.deltaY * 0.0018), event.offsetX);
         this.moved();
     }
     moveWhole(event) {
-        if (event.buttons) this.view.show(event.offsetX / byId("strip").clientWidth * this.journal.count - this.view.steps / 2, this.view.steps);
-        if (event.buttons) this.moved();
+        if (!event.buttons) return;
+        this.view.show(event.offsetX / byId("strip").clientWidth * this.journal.count - this.view.steps / 2, this.view.steps);
+        this.moved();
     }
-    moved() {
-        this.draw();
-        clearTimeout(this.writing);
-        this.writing = setTimeout(() => this.writeLink(), 200);
-    }
+    moved() { this.draw(); clearTimeout(this.writing); this.writing = setTimeout(() => this.writeLink(), 200); }
     key(event) {
         const { view, journal, chosen: { step } } = this, isChosen = step !== null, go = (to) => to >= 0 && to < journal.count && this.choose(to);
         const does = {
@@ -186,5 +171,4 @@ class Page {
         for (const [id, does] of Object.entries(buttons)) on(byId(id), { click: () => (does(), this.moved()) });
     }
 }
-
 var page = new Page(new Journal(byId("data").textContent.trimStart()));

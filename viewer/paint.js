@@ -1,13 +1,11 @@
 // Draws what is in view, from back to front: lanes, stalls, levels, arrows, bars, boxes. Colours are those of style.css.
 const COLOURS = ["paper", "text", "dim", "rule", "grey", "edge", "trouble", "on", "h0", "h1", "h2", "h3", "h4", "h5", "h6", "h7"], HUES = 8;
-
 function coloursOf(body) {
     const probe = body.appendChild(document.createElement("i"));
     const pairs = COLOURS.map((name) => [name, (probe.style.color = `var(--${name})`, getComputedStyle(probe).color)]);
     probe.remove();
     return Object.fromEntries(pairs);
 }
-
 // Makes a canvas as fine as the screen, and answers what draws on it.
 function penOf(canvas, width, height) {
     const fine = devicePixelRatio || 1, pen = canvas.getContext("2d");
@@ -15,7 +13,6 @@ function penOf(canvas, width, height) {
     pen.scale(fine, fine);
     return Object.assign(pen, { font: "11px system-ui, sans-serif", textBaseline: "middle" });
 }
-
 class Painter {
     constructor(view, colours) { Object.assign(this, { view, colours, journal: view.journal }); }
     place(step) { return this.view.place.get(this.journal.lane(step)); }
@@ -32,10 +29,11 @@ class Painter {
         pen.clip();
         view.stalls().forEach((stall) => this.paintStall(stall));
         view.levels().forEach((level) => this.paintLevel(level));
+        if (isNear) view.arrows().forEach((to) => this.paintArrow(to));
         if (view.isDense) this.paintColumns();
-        if (!view.isDense && isNear) view.arrows().forEach((to) => this.paintArrow(to));
-        if (!view.isDense) view.bars().forEach((call) => this.paintBar(call));
-        if (!view.isDense) view.boxes().forEach((step) => this.paintBox(step));
+        else for (const call of view.bars()) this.paintBar(call);
+        if (!view.isDense) for (const step of view.boxes()) this.paintBox(step);
+        pen.globalAlpha = 1;
         for (const to of chosen.arrows) if (this.place(to) && this.place(journal.partner[to])) this.paintArrow(to);
         if (isNear) for (const { step, guesses } of view.stalls()) guesses.forEach((pair) => this.paintGuess(step, ...pair));
         if (chosen.step !== null && this.place(chosen.step)) this.paintRing(chosen.step);
@@ -47,16 +45,16 @@ class Painter {
         this.pen.stroke();
         this.pen.setLineDash([]);
     }
-    tip(...points) {
-        this.pen.beginPath();
-        points.forEach((point) => this.pen.lineTo(...point));
-        this.pen.fill();
-    }
-    curve(colour, width, from, ...points) {
-        Object.assign(this.pen, { strokeStyle: colour, fillStyle: colour, lineWidth: width }).beginPath();
-        this.pen.moveTo(...from);
-        this.pen.bezierCurveTo(...points.flat());
-        this.pen.stroke();
+    // A curve with a tip whose base lies so far from it.
+    curve(colour, lineWidth, [from, ...points], [right, down]) {
+        const { pen } = this, [x, y] = points.at(-1);
+        Object.assign(pen, { strokeStyle: colour, fillStyle: colour, lineWidth }).beginPath();
+        pen.moveTo(...from);
+        pen.bezierCurveTo(...points.flat());
+        pen.stroke();
+        pen.beginPath();
+        [[x, y], [x + right - down / 2, y + down - right / 2], [x + right + down / 2, y + down + right / 2]].forEach((point) => pen.lineTo(...point));
+        pen.fill();
     }
     paintNames() {
         const { view, pen, colours, journal } = this;
@@ -90,11 +88,9 @@ class Painter {
         const { view, journal } = this, from = journal.partner[to], isOn = this.chosen.arrows.has(to);
         const [x, y, toX, toY] = [view.x(journal.by[from]), this.place(from).y, view.x(journal.by[to]), this.place(to).y], side = Math.sign(toY - y);
         const start = y + (side || -1) * this.size(from) / 2, end = toY - (side || 1) * this.size(to) / 2;
-        const bend = side ? (start + end) / 2 : start - 14, back = end - 7 * (side || 1);
+        const bend = side ? (start + end) / 2 : start - 14, points = [[x, start], [x, bend], [toX, bend], [toX, end]];
         this.fade(to);
-        this.curve(isOn ? this.colours.on : this.hue(journal.port[to]), isOn ? 3 : 1.5, [x, start], [x, bend], [toX, bend], [toX, end]);
-        this.tip([toX, end], [toX - 4, back], [toX + 4, back]);
-        this.pen.globalAlpha = 1;
+        this.curve(isOn ? this.colours.on : this.hue(journal.port[to]), isOn ? 3 : 1.5, points, [0, -8 * (side || 1)]);
     }
     paintBar(call) {
         const { view, pen, colours, journal } = this, { y } = this.place(call), thick = this.size(call) * 0.45, isOpen = journal.by[call] === NONE;
@@ -103,33 +99,29 @@ class Painter {
         this.fade(call);
         Object.assign(pen, { fillStyle: colours.paper, strokeStyle: colour, lineWidth: 1.5 }).fillRect(...place);
         const alpha = pen.globalAlpha;
-        if (journal.isSend(call)) Object.assign(pen, { fillStyle: colour, globalAlpha: alpha * 0.4 }).fillRect(...place);
+        if (journal.isOn(call, "s")) Object.assign(pen, { fillStyle: colour, globalAlpha: alpha * 0.4 }).fillRect(...place);
         Object.assign(pen, { globalAlpha: alpha }).setLineDash(isOpen ? [4, 3] : []);
         pen.strokeRect(...place);
         pen.setLineDash([]);
-        if (!isOpen && view.dots >= 2.5) this.paintKnob(call, right, y, Math.min(5, thick * 0.6), colour);
-        pen.globalAlpha = 1;
-    }
-    paintKnob(call, x, y, size, colour) {
-        const { pen, colours, journal } = this, edge = journal.hasTrouble(call) ? colours.trouble : colour;
+        if (isOpen || view.dots < 2.5) return;
+        const edge = journal.hasTrouble(call) ? colours.trouble : colour;
         pen.beginPath();
-        pen.arc(x, y, size, 0, 7);
-        Object.assign(pen, { strokeStyle: edge, fillStyle: journal.isSend(call) || journal.hasTrouble(call) ? edge : colours.paper }).fill();
+        pen.arc(right, y, Math.min(5, thick * 0.6), 0, 7);
+        Object.assign(pen, { strokeStyle: edge, fillStyle: journal.isOn(call, "s") || journal.hasTrouble(call) ? edge : colours.paper }).fill();
         pen.stroke();
     }
     paintBox(step) {
         const { view, pen, colours, journal } = this, size = this.size(step), width = view.boxWidth, { y } = this.place(step);
         const colour = this.hue(journal.hue(step)), isBad = journal.hasTrouble(step), place = [view.x(step) - width / 2, y - size / 2, width, size];
-        const inside = journal.isSend(step) ? colour : journal.isReceive(step) ? colours.paper : colours.grey;
+        const isSend = journal.isOn(step, "s"), inside = isSend ? colour : journal.isOn(step, "r") ? colours.paper : colours.grey;
         this.fade(step);
         Object.assign(pen, { fillStyle: view.dots >= 5 ? inside : isBad ? colours.trouble : colour }).fillRect(...place);
         Object.assign(pen, { strokeStyle: isBad ? colours.trouble : colour, lineWidth: isBad || "mc".includes(journal.letter(step)) ? 2.5 : 1.5 });
         pen.setLineDash(isBad ? [6, 2] : journal.by[step] === NONE ? [4, 3] : journal.isAt(step, "d") ? [2, 3] : journal.isAt(step, "x") ? [1, 2] : []);
         if (view.dots >= 5) pen.strokeRect(...place);
         pen.setLineDash([]);
-        pen.fillStyle = journal.isSend(step) ? colours.paper : colours.text;
-        if (view.dots >= 26 && size > 9) this.paintLabel(step, width - 4, y);
-        pen.globalAlpha = 1;
+        pen.fillStyle = isSend ? colours.paper : colours.text;
+        if (view.dots >= 16 && size > 9) this.paintLabel(step, width - 3, y);
     }
     // The value too, where there is room.
     paintLabel(step, room, y) {
@@ -138,22 +130,19 @@ class Painter {
         Object.assign(pen, { textAlign: "center" }).fillText(text ?? "", this.view.x(step), y + 0.5);
     }
     paintRing(step) {
-        const width = this.view.boxWidth + 8, size = this.size(step) + 8, { pen } = this;
-        Object.assign(pen, { strokeStyle: this.colours.on, lineWidth: 2.5 });
-        pen.strokeRect(this.view.x(step) - width / 2, this.place(step).y - size / 2, width, size);
+        const width = this.view.boxWidth + 8, size = this.size(step) + 8, place = [this.view.x(step) - width / 2, this.place(step).y - size / 2, width, size];
+        Object.assign(this.pen, { strokeStyle: this.colours.on, lineWidth: 2.5 }).strokeRect(...place);
     }
     // Who perhaps waits for whom, on the right of the stall.
     paintGuess(step, pid, other) {
         const { view } = this, [from, to] = [view.place.get(pid), view.place.get(other)];
         const x = view.x(step) + view.boxWidth / 2 + 3, far = x + (pid < other ? 20 : 40);
-        if (!from || !to) return;
-        this.curve(this.colours.trouble, 2, [x, from.y], [far, from.y], [far, to.y], [x + 6, to.y]);
-        this.tip([x, to.y], [x + 8, to.y - 4], [x + 8, to.y + 4]);
+        if (from && to) this.curve(this.colours.trouble, 2, [[x, from.y], [far, from.y], [far, to.y], [x, to.y]], [8, 0]);
     }
     // The waits as a band as high as their share of the column, and the steps as a thinner one on it.
     paintColumns() {
         const { view, pen, colours } = this, width = Math.floor(view.width - LEFT - RIGHT), columns = view.columns(view.first, view.first + view.steps, width);
-        for (const [name, colour, share, weight] of [["waited", colours.h1, 0.8, 1], ["asked", colours.text, 0.4, 4], ["troubles", colours.trouble, 1, 1e9]])
+        for (const [name, colour, share, weight] of [["waited", colours.h1, 0.8, 1], ["asked", colours.edge, 0.3, 4], ["troubles", colours.trouble, 1, 1e9]])
             for (const [lane, { y, height }] of view.place) for (let column = 0; column < width; column++) {
                 const size = Math.min(1, columns[name][lane * width + column] * weight) * share * (height - 2);
                 pen.fillStyle = colour;

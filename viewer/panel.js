@@ -19,18 +19,16 @@ const tableOf = (heads, rows) => element("table", { className: "lines" }, [heads
 const choiceOf = (label, choices, chosen, does) => element("select", { ariaLabel: label, onchange: (event) => does(event.target.value) },
     choices.map((choice) => element("option", { selected: choice === chosen }, choice)));
 const buttonOf = (text, does, more = {}) => element("button", { onclick: does, ...more }, text);
-
 class Panel {
     constructor(place, page) { Object.assign(this, { place, page, journal: page.journal }); }
     show(step) { this.place.replaceChildren(element("div", {}, step === null ? this.whole() : this.step(step))); }
     link(step, words = `step ${step + 1}`) { return buttonOf(words, () => this.page.choose(step), { className: "link" }); }
     who(step) { return [`P${this.journal.pid[step]}, `, this.link(step)]; }
     short(step) { return [this.link(step, String(step + 1)), " ", element("code", {}, this.journal.line(step)), dim(` ${this.journal.answer(step)}`)]; }
-
     // ---- a step
     step(step) {
         const { journal, page } = this, { stages, value } = page.chosen, stall = journal.stalls.find((stall) => stall.step === step);
-        const before = Array.from({ length: Math.min(6, step) }, (_, back) => step - Math.min(6, step) + back);
+        const before = numbers(Math.max(0, step - 6), step);
         return [
             element("h2", {}, `Step ${step + 1} of P${journal.pid[step]}`),
             element("p", {}, element("code", {}, journal.line(step)), dim(` line ${step + 3}`)),
@@ -54,9 +52,9 @@ class Panel {
         ];
     }
     value(step) {
-        const { journal } = this, partner = journal.partner[step], word = journal.isAt(step, "g") ? " from " : " to ";
-        return [element("b", {}, readable(journal.value(step))), partner === NONE ? `, stays in port ${journal.port[step]}` : [word, this.who(partner)],
-            element("div", {}, buttonOf("Follow it", () => this.page.follow(step)))];
+        const { journal, page } = this, partner = journal.partner[step], word = journal.isAt(step, "g") ? " from " : " to ";
+        const way = partner === NONE ? `, stays in port ${journal.port[step]}` : [word, this.who(partner)];
+        return [element("b", {}, readable(journal.value(step))), way, element("div", {}, buttonOf("Follow it", () => page.follow(step)))];
     }
     stage(call) {
         const from = this.journal.sender(call);
@@ -66,7 +64,6 @@ class Panel {
         const [port, value] = text.slice(1).split(":");
         return text[0] === "s" ? `send ${readable(value)} on port ${port}` : `receive from port ${port}`;
     }
-
     // ---- who waits for whom
     stall(step, calls, guesses) {
         const { journal } = this, { moves, side, port, by } = journal, last = new Map(), key = (call) => String.fromCharCode(side[call]) + port[call];
@@ -91,7 +88,6 @@ class Panel {
         const words = guesses.map(([from, to]) => `P${from} perhaps waits for P${to}`).join(", ");
         return svgElement("svg", { viewBox: `0 0 ${2 * middle} ${2 * middle}`, class: "graph", role: "img", "aria-label": words }, ...guesses.map(arrow), ...nodes);
     }
-
     // ---- the whole
     whole() {
         const { journal } = this, { stalls, by } = journal, waits = journal.waits.flat().sort((one, other) => journal.waited(other) - journal.waited(one) || one - other);
@@ -110,10 +106,11 @@ class Panel {
     ports() {
         const { journal, page } = this, counts = journal.ports.map(() => ({ s: 0, r: 0 }));
         for (const call of journal.moves) counts[journal.port[call]][String.fromCharCode(journal.side[call])]++;
-        return tableOf(["", "room", "sent", "got", "left", "most"], journal.ports.filter(Boolean).map(({ number, steps, room, closer, most, fullest }) => {
+        return tableOf(["", "room", "sent", "got", "left", "most", "full for"], journal.ports.filter(Boolean).map(({ number, steps, room, closer, most, fullest, ...port }) => {
             const shown = steps.length > 0 && element("input", { type: "checkbox", checked: !page.view.hidden.has(number), onchange: () => page.togglePort(number) });
-            const full = most > 0 && [element("span", { className: most === room ? "trouble" : "" }, `${most}${most === room ? " (full)" : ""} at `), this.link(fullest)];
-            return [element("label", {}, shown, `${number}${closer === NONE ? "" : " closed"}`), room, counts[number].s, counts[number].r, counts[number].s - counts[number].r, full];
+            const full = port.full + (room && port.counts.at(-1) === room ? journal.count - steps.at(-1) : 0), filled = most > 0 && [`${most}, `, this.link(fullest)];
+            return [element("label", {}, shown, `${number}${closer === NONE ? "" : " closed"}`), room, counts[number].s, counts[number].r, counts[number].s - counts[number].r, filled,
+                full > 0 && element("span", { className: "trouble" }, counted(full, "step"))];
         }));
     }
     processes() {

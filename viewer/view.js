@@ -2,7 +2,7 @@
 const LEFT = 64, RIGHT = 44, AXIS = 26, PORT = 24, FOLDED = 8, LEAST_LANE = 16, MOST_LANE = 40, NEAREST = 90;
 const MOST_SHAPES = 6000;  // of more steps is drawn what they have in common in each column of dots
 const SKETCHED = 64;       // from so many steps in a column on that is taken from the sketches
-
+const numbers = (first, end) => Array.from({ length: Math.max(0, end - first) }, (_, at) => first + at);
 class View {
     constructor(journal) {
         this.journal = journal;
@@ -49,12 +49,8 @@ class View {
     }
     // Brings a step into view, no nearer than it is.
     reveal(step) { if (Math.abs(step - this.first - this.steps / 2) > this.steps * 0.42) this.show(step + 0.5 - this.steps / 2, this.steps); }
-
     // ---- what stands there
-    boxes() {
-        const [first, end] = this.range(), steps = Array.from({ length: Math.max(0, end - first) }, (_, at) => first + at);
-        return steps.filter((step) => this.place.has(this.journal.lane(step)));
-    }
+    boxes() { return numbers(...this.range()).filter((step) => this.place.has(this.journal.lane(step))); }
     bars() { return [...this.place.keys()].flatMap((pid) => this.waitsOf(pid, ...this.range())); }
     // The calls of a process that wait among these steps: one at most began before them.
     waitsOf(pid, first, end) {
@@ -71,30 +67,26 @@ class View {
     // What ports hold in view: each count from one step until another.
     levels() { return this.strips().flatMap((port, row) => this.levelsOf(port).map((level) => ({ ...level, row, port }))); }
     levelsOf({ steps, counts }) {
-        const [first, end] = this.range(), [from, until] = [first, end].map((step) => firstFrom(steps.length, (at) => steps[at], step));
-        const places = Array.from({ length: until - Math.max(0, from - 1) }, (_, at) => Math.max(0, from - 1) + at);
+        const [from, until] = this.range().map((step) => firstFrom(steps.length, (at) => steps[at], step)), places = numbers(Math.max(0, from - 1), until);
         const levels = places.map((at) => ({ from: steps[at], until: steps[at + 1] ?? this.journal.count, count: counts[at] }));
-        return levels.filter((level) => level.count && level.until >= first);
+        return levels.filter((level) => level.count && level.until >= Math.floor(this.first));
     }
     stalls() {
-        const { stalls } = this.journal, [from, until] = this.range().map((step) => firstFrom(stalls.length, (at) => stalls[at].step, step));
-        return stalls.slice(from, until);
+        const { stalls } = this.journal;
+        return stalls.slice(...this.range().map((step) => firstFrom(stalls.length, (at) => stalls[at].step, step)));
     }
-
     // ---- columns of dots: in what share of a column each process waits and asks, and what troubles it has
     columns(first, end, width) {
         const columns = { width, first, scale: width / (end - first) };
         for (const name of ["waited", "asked", "troubles"]) columns[name] = new Float32Array(width * this.lanes.length);
-        if (1 / columns.scale >= SKETCHED) this.fillFromSketches(columns, first, end);
-        else this.fillFromSteps(columns, Math.floor(first), Math.min(Math.ceil(end), this.journal.count));
+        this[1 / columns.scale >= SKETCHED ? "fillFromSketches" : "fillFromSteps"](columns, Math.floor(first), Math.min(Math.ceil(end), this.journal.count));
         return columns;
     }
     fillFromSketches(columns, first, end) {
         const { sketches, procs } = this.journal;
         for (let at = firstFrom(sketches.length, (at) => sketches[at].until, first); sketches[at]?.first < end; at++)
-            for (const [pid, waited, asked, troubles] of sketches[at].lanes)
-                for (const [name, count] of Object.entries({ waited, asked, troubles }))
-                    this.spread(columns, columns[name], Math.min(pid, procs), sketches[at].first, sketches[at].until, count);
+            for (const [pid, ...counts] of sketches[at].lanes) ["waited", "asked", "troubles"].forEach((name, place) =>
+                this.spread(columns, columns[name], Math.min(pid, procs), sketches[at].first, sketches[at].until, counts[place]));
     }
     fillFromSteps(columns, first, end) {
         const { journal } = this, { troubles, by } = journal, add = (name, call, from, until) =>

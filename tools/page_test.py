@@ -531,7 +531,7 @@ def check_links(browser, count, path):
 
 # ---- bytes, contrasts, a million
 
-NASTY = ["</script>", "<!--<script>", "<img src=x onerror=alert(1)>", "&amp;&lt;", "\"'`\\u0041", "${1}\\n", "a\u2028b", "\u202eabc", "é∷ℕ", "\x00", " ", "x\ufffdy", "]]>"]
+NASTY = ["</script>", "<!--<script>", "<img src=x onerror=throw(1)>", "&amp;&lt;", "\"'`\\u0041", "${1}\\n", "a\u2028b", "\u202eabc", "é∷ℕ", "\x00", " ", "x\ufffdy", "]]>"]
 
 
 def check_nasty(browser, count, work):

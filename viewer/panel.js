@@ -68,7 +68,8 @@ class Panel {
     stall(step, calls, guesses) {
         const { journal } = this, { moves, side, port, by } = journal, last = new Map(), key = (call) => String.fromCharCode(side[call]) + port[call];
         for (let at = 0; at < moves.length && by[moves[at]] <= step; at++) last.set(key(moves[at]), moves[at]);
-        const mover = (side, port) => (last.has(side + port) ? this.who(last.get(side + port)) : "nobody");
+        const hasLeft = (call) => journal.exits.get(journal.pid[call]) <= step && " (who has left)";
+        const mover = (side, port) => (last.has(side + port) ? [this.who(last.get(side + port)), hasLeft(last.get(side + port))] : "nobody");
         const told = (text, port) => [text[0] === "s" ? " to send on" : " to receive from", ` port ${port}; last sent there by `, mover("s", port), ", last received by ", mover("r", port)];
         const rows = calls.flatMap((call) => journal.cases(call).map((text) => [call, told(text, parseInt(text.slice(1), 10))]).concat(journal.cases(call).length ? [] : [[call, ", and has no case"]]));
         return [heading(step < journal.count ? "A deadlock: everyone who is left waits" : "These wait to the end"),

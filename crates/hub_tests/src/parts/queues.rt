@@ -54,6 +54,22 @@ fn serve(rt: &impl Abort, board: &mut Board, case: u8)
     same(rt, served, Some((Pid(1), case)), case);
 }
 
+/// Process 1 selects 101 times, and is served at the second port but for the last time.
+fn select_and_serve(rt: &impl Abort, board: &mut Board)
+    requires procs { board.old.procs ≡ 2 }
+    requires ports { length board.old.ports ≡ 2 }
+    requires later { board.old.next_ticket ≤ 1 }
+    ensures ports { length board.new.ports ≡ 2 }
+{
+    for selects in 1..102 {
+        select(rt, board, selects);
+        if let Some(entries) = entries_after(selects) {
+            same(rt, board.stored(Port(1), Side::Recv), entries, selects);
+        }
+        serve(rt, board, if selects == 101 { 0 } else { 1 });
+    }
+}
+
 // A select that waits on two ports and is served on the second leaves a dead entry on the first. Two processes have
 // 64 places there; the 50th select finds fewer than 16 of them free, and so does the 99th.
 #[test]
@@ -61,18 +77,8 @@ fn dead_entries_go_when_room_is_short(rt: HostRuntime) {
     let mut board = Board::new(rt.alloc(), 2).expect(&rt, "memory for a board");
     board.make(0).expect(&rt, "memory for a port");
     board.make(0).expect(&rt, "memory for a port");
-    for selects in 1..102 {
-        select(&rt, &mut board, selects);
-        if let Some(entries) = entries_after(selects) {
-            same(&rt, board.stored(Port(1), Side::Recv), entries, selects);
-        }
-        serve(&rt, &mut board, if selects == 101 { 0 } else { 1 });
-    }
-    same(
-        &rt,
-        board.take(Port(1), Side::Recv).is_none(),
-        true,
-        "in the end",
-    );
+    select_and_serve(&rt, &mut board);
+    let is_empty = board.take(Port(1), Side::Recv).is_none();
+    same(&rt, is_empty, true, "in the end");
     same(&rt, board.stored(Port(1), Side::Recv), 0, "in the end");
 }

@@ -1,16 +1,20 @@
 //! A hub that was cut answers as the one that was not, and so does a hub that cuts itself. The gate has memory;
-//! `tools/hub_refusals.sh` runs the last test with its allocations refused that come after `begin`.
+//! `tools/hub_refusals.sh` runs `refused_chapters_are_begun_again` with its allocations refused that come after `begin`.
 
-use super::entries::{Ask, DONE, MADE, MADE_SECOND, PARKED, SENT, Told, are_told, entry_of, first};
+use super::entries::{
+    Ask, DONE, MADE, MADE_SECOND, PARKED, SENT, Told, are_told, entry_of, is_made,
+};
 use super::hubs::{CLOSED_BEFORE, DRAINED};
 use super::rows::{Row, begin};
 use crate::compare::same;
-use hub_base::{Edition, Entry, Events, Fault, NoMemory, Pid, Port, Step};
+use hub_base::{Edition, Entry, Events, Fault, Journal, NoMemory, Pid, Port, Step};
 use hub_core::{Hub, OpenFault, ShortHub};
 use hub_cut::{Recorder, Totals, cut, cut_journal};
 use std::alloc::Global;
 use std::process::Abort;
-use std::test::Fail;
+
+/// The name of a story, and the place of a row of it.
+type Place<'a> = (&'a str, usize);
 
 const MADE_THIRD: Told = Told::Made(3);
 
@@ -42,22 +46,22 @@ const AFTER: &[Row] = &[
 fn make_step(rt: &impl Abort, hub: &mut ShortHub, entry: Entry) -> Result<Events, Fault> {
     assert!(rt; entry.fits(hub.head().edition));
     let mut events = Events::new();
-    hub.step_into(&entry.by_slice(), &mut events)?;
-    Ok(events)
-}
-
-fn step(rt: &impl Abort, hub: &mut ShortHub, entry: Entry, told: &[(u8, Told)]) {
-    match make_step(rt, hub, entry) {
-        Ok(events) => are_told(rt, events.as_slice(), told),
-        Err(fault) => panic!(rt; "refused: {fault}"),
+    match hub.step_into(&entry.by_slice(), &mut events) {
+        Ok(()) => Ok(events),
+        Err(fault) => Err(fault),
     }
 }
 
 /// Makes the steps of these rows.
-fn follow(rt: &impl Abort, hub: &mut ShortHub, rows: &[Row]) {
-    for row in rows {
-        if let Row::Steps(pid, asked, told) = row {
-            step(rt, hub, entry_of(*pid, *asked), told);
+fn follow(rt: &impl Abort, hub: &mut ShortHub, name: &str, rows: &[Row]) {
+    for (place, row) in rows.iter().enumerate() {
+        if let Row::Steps(pid, asked, told) = *row {
+            is_made(
+                rt,
+                make_step(rt, hub, entry_of(pid, asked)),
+                told,
+                (name, place),
+            );
         }
     }
 }
@@ -65,35 +69,76 @@ fn follow(rt: &impl Abort, hub: &mut ShortHub, rows: &[Row]) {
 /// The second process has gone, and the hub answers what follows.
 fn goes_on(rt: &impl Abort, hub: &mut ShortHub) {
     same(rt, hub.refusal(Pid(1)), Some(Fault::Gone), "refusal");
-    follow(rt, hub, AFTER);
+    follow(rt, hub, "after", AFTER);
 }
 
-/// The hub is cut before what follows, and again behind it.
-fn cut_twice(rt: &impl Abort, alloc: Global) -> Result<(), Fail> {
-    let mut hub = Hub::open(alloc, 3, 100, first(3).edition)?.shortened();
-    follow(rt, &mut hub, BEFORE);
-    let mut whole = cut(alloc, &mut hub)?;
+/// Both hubs, of which the second has been cut, answer what follows.
+fn both_go_on(rt: &impl Abort, whole: ShortHub, hub: &mut ShortHub) {
+    let mut whole = whole;
     same(rt, (whole.len(), hub.len()), (11, 9), "first cut");
     goes_on(rt, &mut whole);
-    goes_on(rt, &mut hub);
-    let journal = cut_journal(alloc, &mut hub)?;
-    same(
-        rt,
-        (journal.entries().len(), hub.len()),
-        (15, 5),
-        "second cut",
-    );
-    Ok(())
+    goes_on(rt, hub);
+}
+
+/// The hub is cut before what follows.
+fn cut_before(rt: &impl Abort, alloc: Global, hub: &mut ShortHub) {
+    match cut(alloc, hub) {
+        Ok(whole) => both_go_on(rt, whole, hub),
+        Err(NoMemory) => same(rt, false, true, "memory for a cut"),
+    }
+}
+
+/// The hub is cut behind what followed.
+fn cut_behind(rt: &impl Abort, alloc: Global, hub: &mut ShortHub) {
+    match cut_journal(alloc, hub) {
+        Ok(journal) => has_entries(rt, journal),
+        Err(NoMemory) => same(rt, false, true, "memory for a journal"),
+    }
+    same(rt, hub.len(), 5, "second cut");
+}
+
+fn has_entries(rt: &impl Abort, journal: Journal) {
+    same(rt, journal.entries().len(), 15, "second cut");
+}
+
+fn cut_twice(rt: &impl Abort, alloc: Global, hub: ShortHub) {
+    let mut hub = hub;
+    follow(rt, &mut hub, "before", BEFORE);
+    cut_before(rt, alloc, &mut hub);
+    cut_behind(rt, alloc, &mut hub);
 }
 
 #[test]
-fn cut_hub_answers_as_before(rt: HostRuntime) -> Result<(), Fail> {
-    cut_twice(&rt, rt.alloc())
+fn cut_hub_answers_as_before(rt: HostRuntime) {
+    match Hub::open(rt.alloc(), 3, 100, Edition::One) {
+        Ok(hub) => cut_twice(&rt, rt.alloc(), hub.shortened()),
+        Err(fault) => same(&rt, Some(fault), None, "opening"),
+    }
 }
 
-/// How many entries a chapter has.
+/// How many entries a chapter has, if there is one.
 fn len_of(chapter: Option<ShortHub>) -> Option<usize> {
-    Some(chapter?.len())
+    match chapter {
+        Some(chapter) => Some(count(chapter)),
+        None => None,
+    }
+}
+
+fn count(chapter: ShortHub) -> usize {
+    chapter.len()
+}
+
+/// Makes a step, and tells how many entries the chapter has that is handed out.
+fn step_on(
+    rt: &impl Abort,
+    recorder: &mut Recorder,
+    entry: &Entry,
+    events: &mut Events,
+) -> (Result<(), Fault>, Option<usize>) {
+    assert!(rt; entry.fits(recorder.present().head().edition));
+    let mut out = None;
+    let recorded = recorder.step_into(&entry.by_slice(), events, &mut out);
+    (recorded, len_of(out))
 }
 
 /// Makes a step of process 0, and gives how many entries the chapter has that is handed out.
@@ -102,27 +147,59 @@ fn record(
     recorder: &mut Recorder,
     asked: Ask,
     told: Told,
+    place: Place,
 ) -> Result<Option<usize>, Fault> {
-    let entry = entry_of(0, asked);
-    assert!(rt; entry.fits(recorder.present().head().edition));
     let mut events = Events::new();
-    let mut out = None;
-    recorder.step_into(&entry.by_slice(), &mut events, &mut out)?;
-    are_told(rt, events.as_slice(), &[(0, told)]);
-    Ok(len_of(out))
+    let (recorded, handed) = step_on(rt, recorder, &entry_of(0, asked), &mut events);
+    recorded?;
+    are_told(rt, events.as_slice(), &[(0, told)], place);
+    Ok(handed)
 }
 
-/// What process 0 asks a recorder for, what it is told, and how many entries the chapter has that is handed out. A chapter
-/// has three entries behind its checkpoint, so the fourth and the seventh step cut.
-const RECORDED: &[(Ask, Told, Option<usize>)] = &[
-    (Ask::Make(2), MADE, None),
-    (Ask::Send(1, 5), SENT, None),
-    (Ask::Send(1, 6), SENT, None),
-    (Ask::Recv(1), Told::Got(0, 5), None),
-    (Ask::Recv(1), Told::Got(0, 6), None),
-    (Ask::Send(1, 7), SENT, None),
-    (Ask::Recv(1), Told::Got(0, 7), Some(3)),
-    (Ask::Send(1, 8), SENT, None),
+/// What a recorder shows: its counts of port 1, and how many entries the present chapter has.
+fn shown_by(recorder: &Recorder) -> (Option<Totals>, usize) {
+    (recorder.look(Port(1)), recorder.present().len())
+}
+
+/// Makes a step and, where memory was refused, once more. The recorder is as before then.
+fn record_again(
+    rt: &impl Abort,
+    recorder: &mut Recorder,
+    asked: Ask,
+    told: Told,
+    place: Place,
+) -> Result<Option<usize>, Fault> {
+    let before = shown_by(recorder);
+    match record(rt, recorder, asked, told, place) {
+        Err(Fault::NoMemory) => {
+            same(rt, shown_by(recorder), before, place);
+            record(rt, recorder, asked, told, place)
+        }
+        recorded => recorded,
+    }
+}
+
+/// What happens to a recorder.
+#[derive(Clone, Copy)]
+enum Act {
+    /// Process 0 makes a step, and is told this. A chapter of so many entries is handed out, or none.
+    Step(Ask, Told, Option<usize>),
+    /// It is cut, and hands out a chapter of so many entries, or none.
+    Cut(Option<usize>),
+    /// Whether the make of a port would begin a chapter.
+    Begins(bool),
+}
+
+/// A chapter has three entries behind its checkpoint, so the fourth and the seventh step cut.
+const RECORDED: &[Act] = &[
+    Act::Step(Ask::Make(2), MADE, None),
+    Act::Step(Ask::Send(1, 5), SENT, None),
+    Act::Step(Ask::Send(1, 6), SENT, None),
+    Act::Step(Ask::Recv(1), Told::Got(0, 5), None),
+    Act::Step(Ask::Recv(1), Told::Got(0, 6), None),
+    Act::Step(Ask::Send(1, 7), SENT, None),
+    Act::Step(Ask::Recv(1), Told::Got(0, 7), Some(3)),
+    Act::Step(Ask::Send(1, 8), SENT, None),
 ];
 
 /// Three values were received and one is left, in three chapters.
@@ -134,54 +211,14 @@ const CARRIED: Totals = Totals {
     closed: false,
 };
 
-/// How many entries the chapters have that it still keeps.
-fn kept(recorder: Recorder) -> (Option<usize>, usize) {
-    let before = match recorder.before() {
-        Some(chapter) => Some(chapter.len()),
-        None => None,
-    };
-    let (_before, present) = recorder.into_chapters();
-    (before, present.len())
-}
-
-/// The first chapter has three entries, the second three behind a checkpoint of three, the last two behind one of two.
-fn record_all(rt: &impl Abort, alloc: Global) -> Result<(), Fail> {
-    let mut recorder = Recorder::open(alloc, 2, 3, first(2).edition)?;
-    for (asked, told, handed) in RECORDED {
-        same(
-            rt,
-            record(rt, &mut recorder, *asked, *told)?,
-            *handed,
-            "chapter",
-        );
-    }
-    same(rt, recorder.look(Port(1)), Some(CARRIED), "counts");
-    same(rt, recorder.look(Port(2)), None, "no port");
-    same(rt, kept(recorder), (Some(6), 4), "chapters");
-    Ok(())
-}
-
-#[test]
-fn recorder_hands_out_chapters(rt: HostRuntime) -> Result<(), Fail> {
-    record_all(&rt, rt.alloc())
-}
-
-/// What happens to a recorder.
-#[derive(Clone, Copy)]
-enum Act {
-    /// Process 0 makes a step that cuts nothing, and is told this.
-    Step(Ask, Told),
-    /// It is cut, and hands out a chapter of so many entries, or none.
-    Cut(Option<usize>),
-}
-
 /// A value is received in the second of two chapters that are cut before they are full.
 const CUT_BY_HAND: &[Act] = &[
-    Act::Step(Ask::Make(2), MADE),
-    Act::Step(Ask::Send(1, 5), SENT),
+    Act::Step(Ask::Make(2), MADE, None),
+    Act::Step(Ask::Send(1, 5), SENT, None),
     Act::Cut(None),
-    Act::Step(Ask::Recv(1), Told::Got(0, 5)),
+    Act::Step(Ask::Recv(1), Told::Got(0, 5), None),
     Act::Cut(Some(2)),
+    Act::Begins(false),
 ];
 
 /// How many values have come through port 1, and are in it.
@@ -193,82 +230,93 @@ const ONE_CAME_THROUGH: Totals = Totals {
     closed: false,
 };
 
-/// How many entries the chapter has that is handed out.
-fn handed_out(rt: &impl Abort, recorder: &mut Recorder, act: Act) -> Result<Option<usize>, Fault> {
+/// How many entries the chapter has that a cut hands out.
+fn cut_off(recorder: &mut Recorder) -> Result<Option<usize>, Fault> {
+    match recorder.cut() {
+        Ok(chapter) => Ok(len_of(chapter)),
+        Err(NoMemory) => Err(Fault::NoMemory),
+    }
+}
+
+fn act_on(rt: &impl Abort, recorder: &mut Recorder, act: Act, place: Place) {
     match act {
-        Act::Step(asked, told) => record(rt, recorder, asked, told),
-        Act::Cut(_) => match recorder.cut() {
-            Ok(chapter) => Ok(len_of(chapter)),
-            Err(NoMemory) => Err(Fault::NoMemory),
-        },
+        Act::Step(asked, told, handed) => {
+            let found = record_again(rt, recorder, asked, told, place);
+            same(rt, found, Ok(handed), place);
+        }
+        Act::Cut(handed) => same(rt, cut_off(recorder), Ok(handed), place),
+        Act::Begins(begins) => same(rt, recorder.begins(&Step::Make(1)), begins, place),
     }
 }
 
-/// How many entries are to be handed out.
-fn wanted(act: Act) -> Option<usize> {
-    match act {
-        Act::Step(_, _) => None,
-        Act::Cut(handed) => handed,
-    }
+/// How many entries the chapters have that it still keeps.
+fn kept(recorder: Recorder) -> (Option<usize>, usize) {
+    let before = match recorder.before() {
+        Some(chapter) => Some(chapter.len()),
+        None => None,
+    };
+    (before, count_present(recorder.into_chapters()))
 }
 
-/// One value was received in two chapters that were cut before they were full, and one entry follows.
-fn cut_by_hand(rt: &impl Abort, alloc: Global) -> Result<(), Fail> {
-    let mut recorder = Recorder::open(alloc, 2, 100, first(2).edition)?;
-    for act in CUT_BY_HAND {
-        let handed = handed_out(rt, &mut recorder, *act)?;
-        same(rt, handed, wanted(*act), "chapter");
-    }
-    same(rt, recorder.begins(&Step::Make(1)), false, "begins");
-    same(rt, recorder.look(Port(1)), Some(ONE_CAME_THROUGH), "counts");
-    same(rt, kept(recorder), (Some(3), 1), "chapters");
-    Ok(())
+fn count_present(chapters: (Option<ShortHub>, ShortHub)) -> usize {
+    chapters.1.len()
 }
 
-#[test]
-fn recorder_is_cut_before_it_is_full(rt: HostRuntime) -> Result<(), Fail> {
-    cut_by_hand(&rt, rt.alloc())
+fn open(rt: &impl Abort, alloc: Global, limit: u32) -> Result<Recorder, OpenFault> {
+    assert!(rt; 1 <= limit && limit <= 900_000);
+    Recorder::open(alloc, 2, limit, Edition::One)
 }
 
-/// Opens a recorder and, where memory was refused, another.
-fn open_again(alloc: Global) -> Result<Recorder, OpenFault> {
-    match Recorder::open(alloc, 2, 3, Edition::One) {
-        Err(OpenFault::NoMemory) => Recorder::open(alloc, 2, 3, Edition::One),
+/// Opens a recorder of two processes with chapters of this limit and, where memory was refused, another.
+fn open_again(rt: &impl Abort, alloc: Global, limit: u32) -> Result<Recorder, OpenFault> {
+    match open(rt, alloc, limit) {
+        Err(OpenFault::NoMemory) => open(rt, alloc, limit),
         recorder => recorder,
     }
 }
 
-/// Makes a step and, where memory was refused, once more. The recorder is as before then.
-fn record_again(
-    rt: &impl Abort,
-    recorder: &mut Recorder,
-    asked: Ask,
-    told: Told,
-) -> Result<Option<usize>, Fault> {
-    let before = (recorder.look(Port(1)), recorder.present().len());
-    match record(rt, recorder, asked, told) {
-        Err(Fault::NoMemory) => {
-            let after = (recorder.look(Port(1)), recorder.present().len());
-            same(rt, after, before, "kept");
-            record(rt, recorder, asked, told)
-        }
-        recorded => recorded,
+/// What happens to a recorder: a name, its chapters' limit, what happens, the counts of port 1 in the end, and how many
+/// entries the chapters have then that it keeps.
+type Story<'a> = (&'a str, u32, &'a [Act], Totals, (Option<usize>, usize));
+
+/// Has this happen. Port 2 is not made.
+fn act_all(rt: &impl Abort, recorder: &mut Recorder, story: &Story) {
+    let (name, _, acts, counts, _) = *story;
+    for (place, act) in acts.iter().enumerate() {
+        act_on(rt, recorder, *act, (name, place));
+    }
+    let looks = (recorder.look(Port(1)), recorder.look(Port(2)));
+    same(rt, looks, (Some(counts), None), name);
+}
+
+fn tell_of(rt: &impl Abort, recorder: Recorder, story: &Story) {
+    let mut recorder = recorder;
+    act_all(rt, &mut recorder, story);
+    same(rt, kept(recorder), story.4, story.0);
+}
+
+/// Tells the story, all of it where memory may be refused.
+fn tell(rt: &impl Abort, alloc: Global, story: &Story) {
+    begin(alloc);
+    match open_again(rt, alloc, story.1) {
+        Ok(recorder) => tell_of(rt, recorder, story),
+        Err(fault) => same(rt, Some(fault), None, story.0),
     }
 }
 
+// The first chapter has three entries, the second three behind a checkpoint of three, the last two behind one of two.
 #[test]
-fn refused_chapters_are_begun_again(rt: HostRuntime) -> Result<(), Fail> {
-    begin(rt.alloc());
-    let mut recorder = open_again(rt.alloc())?;
-    for (asked, told, handed) in RECORDED {
-        same(
-            &rt,
-            record_again(&rt, &mut recorder, *asked, *told)?,
-            *handed,
-            "chapter",
-        );
-    }
-    same(&rt, recorder.look(Port(1)), Some(CARRIED), "counts");
-    same(&rt, kept(recorder), (Some(6), 4), "chapters");
-    Ok(())
+fn refused_chapters_are_begun_again(rt: HostRuntime) {
+    tell(
+        &rt,
+        rt.alloc(),
+        &("full", 3, RECORDED, CARRIED, (Some(6), 4)),
+    );
+}
+
+// One value was received in two chapters that were cut before they were full, and one entry follows.
+#[test]
+fn recorder_is_cut_before_it_is_full(rt: HostRuntime) {
+    let story = ("by hand", 100, CUT_BY_HAND, ONE_CAME_THROUGH, (Some(3), 1));
+    tell(&rt, rt.alloc(), &story);
 }

@@ -110,10 +110,28 @@ pub(crate) const PARKED: Told = Told::Parked;
 pub(crate) const STALLED: Told = Told::Stalled;
 
 /// These are told, in order.
-pub(crate) fn are_told(rt: &impl Abort, events: &[Event], told: &[(u8, Told)]) {
-    same(rt, events.len(), told.len(), "how many are told");
-    for (event, (pid, told)) in events.iter().zip(told) {
-        same(rt, *event, event_of(*pid, *told), "event");
+pub(crate) fn are_told(
+    rt: &impl Abort,
+    events: &[Event],
+    told: &[(u8, Told)],
+    place: (&str, usize),
+) {
+    same(rt, events.len(), told.len(), place);
+    for (at, (pid, told)) in told.iter().enumerate() {
+        same(rt, events.get(at), Some(&event_of(*pid, *told)), place);
+    }
+}
+
+/// A step was not refused, and these were told of it, in order.
+pub(crate) fn is_made(
+    rt: &impl Abort,
+    made: Result<Events, Fault>,
+    told: &[(u8, Told)],
+    place: (&str, usize),
+) {
+    match made {
+        Ok(events) => are_told(rt, events.as_slice(), told, place),
+        Err(fault) => same(rt, Some(fault), None, place),
     }
 }
 

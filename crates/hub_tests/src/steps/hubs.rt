@@ -1,13 +1,47 @@
 //! A hub, step by step: what it shows, full journals, and reservations.
 
-use super::entries::{Ask, DONE, MADE, MADE_SECOND, PARKED, SENT, STALLED, Told, first};
-use super::rows::{Row, entries_of, tell};
+use super::entries::{Ask, DONE, MADE, MADE_SECOND, PARKED, SENT, STALLED, Told};
+use super::rows::{Row, Story, count_run, entries_of, tell};
 use crate::compare::same;
-use hub_base::{Counts, Edition, Entry, Fault, Head, Look};
-use hub_core::{ListFault, run};
+use hub_base::{Counts, Edition, Entry, Fault, Look};
+use hub_core::ListFault;
 use std::alloc::Global;
 use std::process::Abort;
 use std::test::Fail;
+
+const STORIES: &[Story] = &[
+    (
+        "closed_port_shows_its_counts",
+        Edition::One,
+        1,
+        100,
+        USED_UP,
+    ),
+    ("buffer_shows_its_values", Edition::One, 2, 100, BUFFERED),
+    ("open_call_is_cancelled", Edition::Two, 3, 100, CANCELLING),
+    (
+        "full_journal_takes_exits_alone",
+        Edition::One,
+        2,
+        1,
+        FILLING,
+    ),
+    (
+        "hub_of_one_process_makes_one_step",
+        Edition::One,
+        1,
+        1,
+        ONE_STEP,
+    ),
+    ("reserved_steps_are_made", Edition::One, 1, 100, RESERVING),
+];
+
+#[test]
+fn each_story_is_told(rt: HostRuntime) {
+    for story in STORIES {
+        tell(&rt, rt.alloc(), story);
+    }
+}
 
 /// A value goes through port 1, which is closed and drained; then a send and a close come too late.
 pub(super) const USED_UP: &[Row] = &[
@@ -42,12 +76,6 @@ const CLOSED: Told = Told::Closed(0);
 
 pub(super) const CLOSED_BEFORE: Told = Told::Fault(Fault::AlreadyClosed);
 
-/// A value is sent and received, and the closed port is drained.
-#[test]
-fn closed_port_shows_its_counts(rt: HostRuntime) -> Result<(), Fail> {
-    tell(&rt, rt.alloc(), first(1), 100, USED_UP)
-}
-
 const BUFFERED: &[Row] = &[
     Row::Steps(0, Ask::Make(2), &[(0, MADE)]),
     Row::Steps(0, Ask::Send(1, 5), &[(0, SENT)]),
@@ -63,15 +91,12 @@ const BUFFERED: &[Row] = &[
     Row::Holds(2, 0, None),
 ];
 
-#[test]
-fn buffer_shows_its_values(rt: HostRuntime) -> Result<(), Fail> {
-    tell(&rt, rt.alloc(), first(2), 100, BUFFERED)
-}
-
 const NOBODY: &[(u8, Told)] = &[(0, Told::Fault(Fault::NotParked))];
 
 const CANCELLED: Told = Told::Cancelled;
 
+// A call that waits on two ports is cancelled: it waits on neither. Nobody else has an open call, and what is
+// answered so is journaled.
 const CANCELLING: &[Row] = &[
     Row::Steps(0, Ask::Make(0), &[(0, MADE)]),
     Row::Steps(0, Ask::Make(1), &[(0, MADE_SECOND)]),
@@ -89,17 +114,6 @@ const CANCELLING: &[Row] = &[
     Row::Keeps(11),
 ];
 
-// A call that waits on two ports is cancelled: it waits on neither. Nobody else has an open call, and what is
-// answered so is journaled.
-#[test]
-fn open_call_is_cancelled(rt: HostRuntime) -> Result<(), Fail> {
-    let head = Head {
-        edition: Edition::Two,
-        procs: 3,
-    };
-    tell(&rt, rt.alloc(), head, 100, CANCELLING)
-}
-
 // No step but an exit is made once the journal is full.
 const FILLING: &[Row] = &[
     Row::Steps(0, Ask::Make(0), &[(0, MADE)]),
@@ -115,11 +129,6 @@ const FILLING: &[Row] = &[
     Row::Refuses(1, Ask::Make(0), Fault::JournalFull),
 ];
 
-#[test]
-fn full_journal_takes_exits_alone(rt: HostRuntime) -> Result<(), Fail> {
-    tell(&rt, rt.alloc(), first(2), 1, FILLING)
-}
-
 // The second exit is refused, and not kept. What is told of these steps is not compared.
 const RUNNING: &[Row] = &[
     Row::Steps(0, Ask::Make(0), &[]),
@@ -131,23 +140,20 @@ const RUNNING: &[Row] = &[
 
 #[test]
 fn run_ends_where_the_journal_is_full(rt: HostRuntime) -> Result<(), Fail> {
-    let entries = entries_of(rt.alloc(), RUNNING)?;
-    run_both(&rt, rt.alloc(), &entries)
+    run_both(&rt, rt.alloc(), &entries_of(rt.alloc(), RUNNING)?);
+    Ok(())
 }
 
-/// With a limit of two steps the last is refused, and with three it is made.
-fn run_both(rt: &impl Abort, alloc: Global, entries: &[Entry]) -> Result<(), Fail> {
-    assert!(rt; Edition::One.has_all(entries));
-    let full = ListFault::At {
-        index: 4,
-        fault: Fault::JournalFull,
-    };
-    let stopped = run(alloc, 3, 2, Edition::One, entries).err();
-    same(rt, stopped, Some(full), "full");
-    let (hub, events) = run(alloc, 3, 3, Edition::One, entries)?;
-    let counts = (hub.entries().len(), events.len());
-    same(rt, counts, (4, 5), "entries and events");
-    Ok(())
+const FULL: ListFault = ListFault::At {
+    index: 4,
+    fault: Fault::JournalFull,
+};
+
+/// With a limit of two steps the last is refused, and with three it is made: four entries are kept of five answers.
+fn run_both(rt: &impl Abort, alloc: Global, entries: &[Entry]) {
+    for (limit, counts) in [(2, Err(FULL)), (3, Ok((4, 5)))] {
+        same(rt, count_run(rt, alloc, 3, limit, entries), counts, limit);
+    }
 }
 
 // The one step of a hub is made, and all but its exit are refused.
@@ -159,11 +165,6 @@ const ONE_STEP: &[Row] = &[
     Row::Keeps(2),
 ];
 
-#[test]
-fn hub_of_one_process_makes_one_step(rt: HostRuntime) -> Result<(), Fail> {
-    tell(&rt, rt.alloc(), first(1), 1, ONE_STEP)
-}
-
 const RESERVING: &[Row] = &[
     Row::Steps(0, Ask::Make(1), &[(0, MADE)]),
     Row::Reserves(3),
@@ -172,8 +173,3 @@ const RESERVING: &[Row] = &[
     Row::Steps(0, Ask::Recv(1), &[(0, Told::Got(0, 5))]),
     Row::Steps(0, Ask::Recv(1), &[(0, PARKED), (0, STALLED)]),
 ];
-
-#[test]
-fn reserved_steps_are_made(rt: HostRuntime) -> Result<(), Fail> {
-    tell(&rt, rt.alloc(), first(1), 100, RESERVING)
-}

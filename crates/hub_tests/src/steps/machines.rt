@@ -7,21 +7,25 @@ use crate::compare::same;
 use hub_base::{Events, Fault, Pid};
 use hub_core::Machine;
 use std::process::Abort;
-use std::test::Fail;
 
 #[test]
-fn refused_steps_are_told(rt: HostRuntime) -> Result<(), Fail> {
-    let mut machine = Machine::new(rt.alloc(), first(2))?;
-    tell_all(&rt, &mut machine);
-    let refused = machine.step(&entry_of(0, Ask::Make(0)).by_slice(), &mut Events::new());
-    same(&rt, refused.err(), Some(Fault::Gone), "gone");
-    Ok(())
+fn refused_steps_are_told(rt: HostRuntime) {
+    match Machine::new(rt.alloc(), first(2)) {
+        Ok(machine) => tell_new(&rt, machine),
+        Err(_) => same(&rt, false, true, "memory for a machine"),
+    }
+}
+
+fn tell_new(rt: &impl Abort, machine: Machine)
+    requires { machine.steps ≤ 1 }
+{
+    let mut machine = machine;
+    tell_all(rt, &mut machine);
 }
 
 /// Process 1 waits, and asks once more; then process 0 exits.
 fn tell_all(rt: &impl Abort, machine: &mut Machine)
     requires { machine.old.steps ≤ 1 }
-    ensures { machine.new.steps ≤ machine.old.steps + 4 }
 {
     tell(rt, machine, 0, Ask::Make(3), &[(0, MADE)]);
     tell(rt, machine, 1, Ask::Recv(1), &[(1, PARKED)]);
@@ -34,6 +38,15 @@ fn tell_all(rt: &impl Abort, machine: &mut Machine)
         same(rt, machine.refusal(Pid(pid)), fault, pid);
     }
     tell(rt, machine, 0, Ask::Exit, &[(0, DONE), (1, STALLED)]);
+    is_gone(rt, machine);
+}
+
+/// Process 0 has exited.
+fn is_gone(rt: &impl Abort, machine: &mut Machine)
+    requires { machine.old.steps < 2 ^ 32 - 1 }
+{
+    let refused = machine.step(&entry_of(0, Ask::Make(0)).by_slice(), &mut Events::new());
+    same(rt, refused.err(), Some(Fault::Gone), "gone");
 }
 
 const BUSY: &[(u8, Told)] = &[(1, Told::Fault(Fault::Busy))];
@@ -46,5 +59,5 @@ fn tell(rt: &impl Abort, machine: &mut Machine, pid: u8, asked: Ask, told: &[(u8
     let mut events = Events::new();
     let answered = machine.answer(&entry_of(pid, asked).by_slice(), &mut events);
     same(rt, answered.is_ok(), true, pid);
-    are_told(rt, events.as_slice(), told);
+    are_told(rt, events.as_slice(), told, ("machine", usize::from(pid)));
 }

@@ -1,78 +1,15 @@
 //! What stays of a hub where memory is refused. The gate has memory; `tools/hub_refusals.sh` runs these tests with
 //! their allocations refused that come after `begin`.
 
-use super::entries::{
-    Ask, DONE, MADE, MADE_SECOND, PARKED, SENT, STALLED, Told, are_told, entry_of, first, make_step,
-};
+use super::entries::{Ask, DONE, MADE, MADE_SECOND, PARKED, SENT, STALLED, Told, event_of};
 use super::hubs::USED_UP;
-use super::rows::{Row, are_kept, begin, entries_of, step, tell};
+use super::rows::{Row, are_kept, begin, entries_of, run_all, tell};
 use crate::compare::same;
-use hub_base::{Edition, Entry, Event, Fault, Look, NoMemory, Port, Value};
-use hub_core::{Hub, ListFault, OpenFault, run};
+use hub_base::{Edition, Entry, Event, Fault};
+use hub_core::{Hub, ListFault, OpenFault};
 use std::alloc::Global;
 use std::process::Abort;
 use std::test::Fail;
-
-/// What a hub shows of a port: its counts, and the two oldest values in its buffer.
-type Shown = (Option<Look>, Option<Value>, Option<Value>);
-
-fn shown_at(hub: &Hub, port: u16) -> Shown {
-    let port = Port(port);
-    (hub.look(port), hub.buffered(port, 0), hub.buffered(port, 1))
-}
-
-/// Of ports 0 to 2.
-fn look_at(hub: &Hub) -> [Shown; 3] {
-    [shown_at(hub, 0), shown_at(hub, 1), shown_at(hub, 2)]
-}
-
-/// Opens a hub and, where memory was refused, another.
-fn open_again(alloc: Global, procs: u8) -> Result<Hub, OpenFault> {
-    match Hub::open(alloc, procs, 100, Edition::One) {
-        Err(OpenFault::NoMemory) => Hub::open(alloc, procs, 100, Edition::One),
-        hub => hub,
-    }
-}
-
-/// Makes a step behind those of these rows. Where memory was refused the hub is as before, and the step is made again.
-fn step_again(
-    rt: &impl Abort,
-    hub: &mut Hub,
-    before: &[Row],
-    (pid, asked): (u8, Ask),
-    told: &[(u8, Told)],
-) {
-    let looked = look_at(hub);
-    match make_step(rt, hub, entry_of(pid, asked)) {
-        Ok(events) => are_told(rt, events.as_slice(), told),
-        Err(fault) => {
-            same(rt, fault, Fault::NoMemory, "fault");
-            are_kept(rt, hub.entries(), before);
-            same(rt, look_at(hub), looked, "looks");
-            step(rt, hub, entry_of(pid, asked), told);
-        }
-    }
-}
-
-/// Makes the steps of these rows in order, each again where memory was refused.
-fn steps_again(rt: &impl Abort, hub: &mut Hub, rows: &[Row]) {
-    for (i, row) in rows.iter().enumerate() {
-        if let Row::Steps(pid, asked, told) = row
-            && let Some(before) = rows.get(..i)
-        {
-            step_again(rt, hub, before, (*pid, *asked), told);
-        }
-    }
-    are_kept(rt, hub.entries(), rows);
-}
-
-/// Opens a hub of so many processes and makes these steps, all of it where memory may be refused.
-fn hub_again(rt: &impl Abort, alloc: Global, procs: u8, rows: &[Row]) -> Result<(), Fail> {
-    begin(alloc);
-    let mut hub = open_again(alloc, procs)?;
-    steps_again(rt, &mut hub, rows);
-    Ok(())
-}
 
 const ON_TWO_PORTS: &[Row] = &[
     Row::Steps(0, Ask::Make(0), &[(0, MADE)]),
@@ -85,8 +22,13 @@ const ON_TWO_PORTS: &[Row] = &[
 
 // A call that waits on two ports ends at the second, and then another on the first.
 #[test]
-fn refused_opening_and_steps_are_made_again(rt: HostRuntime) -> Result<(), Fail> {
-    hub_again(&rt, rt.alloc(), 3, ON_TWO_PORTS)
+fn refused_opening_and_steps_are_made_again(rt: HostRuntime) {
+    begin(rt.alloc());
+    tell(
+        &rt,
+        rt.alloc(),
+        &("two ports", Edition::One, 3, 100, ON_TWO_PORTS),
+    );
 }
 
 const BUFFERED: &[Row] = &[
@@ -101,8 +43,9 @@ const BUFFERED: &[Row] = &[
 
 // Values in a buffer stay where a step is refused.
 #[test]
-fn refused_steps_leave_the_buffer(rt: HostRuntime) -> Result<(), Fail> {
-    hub_again(&rt, rt.alloc(), 1, BUFFERED)
+fn refused_steps_leave_the_buffer(rt: HostRuntime) {
+    begin(rt.alloc());
+    tell(&rt, rt.alloc(), &("buffer", Edition::One, 1, 100, BUFFERED));
 }
 
 /// Runs these entries and, where memory was refused, once more. Tells the place of the entry at which it was.
@@ -110,64 +53,78 @@ fn run_again<R: Abort + Print>(
     rt: &R,
     alloc: Global,
     entries: &[Entry],
-) -> Result<(Hub, Vec<Event>), Fail> {
-    assert!(rt; Edition::One.has_all(entries));
-    match run(alloc, 1, 100, Edition::One, entries) {
-        Err(ListFault::Open(OpenFault::NoMemory)) => {}
-        Err(
-            ListFault::At {
-                index,
-                fault: Fault::NoMemory,
-            },
-        ) => println!(rt; "refused at {index}")?,
-        ran => return Ok(ran?),
+) -> Result<(Hub, Vec<Event>), ListFault> {
+    match run_all(rt, alloc, 1, 100, entries) {
+        Err(fault) if is_refused_memory(rt, fault) => run_all(rt, alloc, 1, 100, entries),
+        ran => ran,
     }
-    Ok(run(alloc, 1, 100, Edition::One, entries)?)
+}
+
+/// Whether memory was refused. Tells at which entry, if it was there.
+fn is_refused_memory(rt: &impl Print, fault: ListFault) -> bool {
+    match fault {
+        ListFault::Open(fault) => fault == OpenFault::NoMemory,
+        ListFault::At { index, fault } => {
+            let is_refused = fault == Fault::NoMemory;
+            if is_refused {
+                let _ = println!(rt; "refused at {index}");
+            }
+            is_refused
+        }
+    }
 }
 
 #[test]
 fn refused_run_is_made_again(rt: HostRuntime) -> Result<(), Fail> {
-    let entries = entries_of(rt.alloc(), USED_UP)?;
-    begin(rt.alloc());
-    let (hub, events) = run_again(&rt, rt.alloc(), &entries)?;
-    are_kept(&rt, hub.entries(), USED_UP);
-    each_is_told(&rt, &events, USED_UP);
+    compare_run(&rt, rt.alloc(), &entries_of(rt.alloc(), USED_UP)?);
     Ok(())
+}
+
+/// The steps of a port that is used up are kept, and an event is told of each, where memory may be refused.
+fn compare_run<R: Abort + Print>(rt: &R, alloc: Global, entries: &[Entry]) {
+    begin(alloc);
+    match run_again(rt, alloc, entries) {
+        Ok(ran) => is_used_up(rt, ran),
+        Err(fault) => same(rt, Some(fault), None, "run"),
+    }
+}
+
+fn is_used_up(rt: &impl Abort, ran: (Hub, Vec<Event>)) {
+    are_kept(rt, "run", ran.0.entries(), USED_UP);
+    each_is_told(rt, &ran.1, USED_UP);
+}
+
+/// What is told of the step at this place, if that is one event.
+fn told_at(rows: &[Row], place: usize) -> Option<Event> {
+    match rows.get(place) {
+        Some(Row::Steps(_, _, [(pid, told)])) => Some(event_of(*pid, *told)),
+        _ => None,
+    }
 }
 
 /// An event is told of each step of these rows.
 fn each_is_told(rt: &impl Abort, events: &[Event], rows: &[Row]) {
     same(rt, events.len(), 7, "events");
-    for (event, row) in events.chunks(1).zip(rows) {
-        if let Row::Steps(_, _, told) = row {
-            are_told(rt, event, told);
-        }
+    for (place, event) in events.iter().enumerate() {
+        same(rt, Some(*event), told_at(rows, place), place);
     }
 }
 
 const RESERVED: &[Row] = &[
+    Row::Reserves(5),
     Row::Steps(0, Ask::Make(1), &[(0, MADE)]),
     Row::Steps(0, Ask::Send(1, 5), &[(0, SENT)]),
     Row::Steps(1, Ask::Recv(1), &[(1, Told::Got(0, 5))]),
 ];
 
 #[test]
-fn refused_reservation_is_made_again(rt: HostRuntime) -> Result<(), Fail> {
-    let mut hub = Hub::open(rt.alloc(), 3, 100, Edition::One)?;
+fn refused_reservation_is_made_again(rt: HostRuntime) {
     begin(rt.alloc());
-    reserve_again(&rt, &mut hub);
-    steps_again(&rt, &mut hub, RESERVED);
-    Ok(())
-}
-
-/// Reserves five steps. Where memory was refused the hub is as before, and they are reserved again.
-fn reserve_again(rt: &impl Abort, hub: &mut Hub) {
-    let before = look_at(hub);
-    if hub.reserve(5) == Err(NoMemory) {
-        same(rt, hub.entries().len(), 0, "entries");
-        same(rt, look_at(hub), before, "looks");
-        same(rt, hub.reserve(5).is_ok(), true, "reserved again");
-    }
+    tell(
+        &rt,
+        rt.alloc(),
+        &("reserved", Edition::One, 3, 100, RESERVED),
+    );
 }
 
 const WITHOUT_MEMORY: &[Row] = &[
@@ -196,12 +153,20 @@ const THREE_WITHOUT_MEMORY: &[Row] = &[
 
 // As many steps as were reserved, by the only process.
 #[test]
-fn three_reserved_steps_take_no_memory(rt: HostRuntime) -> Result<(), Fail> {
-    tell(&rt, rt.alloc(), first(1), 10, THREE_WITHOUT_MEMORY)
+fn three_reserved_steps_take_no_memory(rt: HostRuntime) {
+    tell(
+        &rt,
+        rt.alloc(),
+        &("three", Edition::One, 1, 10, THREE_WITHOUT_MEMORY),
+    );
 }
 
 // A wait on the nil channel, a send, a receive, a wait on a port and a stall.
 #[test]
-fn reserved_steps_take_no_memory(rt: HostRuntime) -> Result<(), Fail> {
-    tell(&rt, rt.alloc(), first(3), 1_000_000, WITHOUT_MEMORY)
+fn reserved_steps_take_no_memory(rt: HostRuntime) {
+    tell(
+        &rt,
+        rt.alloc(),
+        &("all", Edition::One, 3, 1_000_000, WITHOUT_MEMORY),
+    );
 }

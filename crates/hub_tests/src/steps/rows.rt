@@ -1,9 +1,9 @@
 //! What happens to a hub, row by row.
 
-use super::entries::{Ask, Told, are_told, entry_of, make_step};
+use super::entries::{Ask, Told, entry_of, is_made, make_step};
 use crate::compare::same;
-use hub_base::{Edition, Entry, Fault, Head, Look, Port, Value};
-use hub_core::Hub;
+use hub_base::{Edition, Entry, Event, Events, Fault, Head, Look, Port, Value};
+use hub_core::{Hub, ListFault, OpenFault, run};
 use std::alloc::Global;
 use std::process::Abort;
 use std::test::Fail;
@@ -40,29 +40,72 @@ fn allocate(alloc: Global) {
     let _refused: Result<Vec<u8>, _> = Vec::with_capacity(alloc, 1);
 }
 
-/// Makes the step, and compares what the processes are told.
-pub(super) fn step(rt: &impl Abort, hub: &mut Hub, entry: Entry, told: &[(u8, Told)]) {
-    match make_step(rt, hub, entry) {
-        Ok(events) => are_told(rt, events.as_slice(), told),
-        Err(fault) => panic!(rt; "refused: {fault}"),
+/// What a hub shows of a port: its counts, and the two oldest values in its buffer.
+type Shown = (Option<Look>, Option<Value>, Option<Value>);
+
+fn shown_at(hub: &Hub, port: u16) -> Shown {
+    let port = Port(port);
+    (hub.look(port), hub.buffered(port, 0), hub.buffered(port, 1))
+}
+
+/// Of ports 0 to 2.
+fn look_at(hub: &Hub) -> [Shown; 3] {
+    [shown_at(hub, 0), shown_at(hub, 1), shown_at(hub, 2)]
+}
+
+/// The hub has the steps of these rows and shows this, as before.
+fn is_as_before(rt: &impl Abort, hub: &Hub, before: &[Row], looked: [Shown; 3]) {
+    are_kept(rt, "before", hub.entries(), before);
+    same(rt, look_at(hub), looked, "looks");
+}
+
+/// Makes a step behind those of these rows. Where memory was refused the hub is as before, and the step is made again.
+fn step(
+    rt: &impl Abort,
+    hub: &mut Hub,
+    before: &[Row],
+    pid: u8,
+    asked: Ask,
+) -> Result<Events, Fault> {
+    let looked = look_at(hub);
+    let made = make_step(rt, hub, entry_of(pid, asked));
+    if let Err(Fault::NoMemory) = made {
+        is_as_before(rt, hub, before, looked);
+        return make_step(rt, hub, entry_of(pid, asked));
+    }
+    made
+}
+
+/// Reserves steps. Where memory was refused the hub is as before, and they are reserved again.
+fn reserve(rt: &impl Abort, hub: &mut Hub, before: &[Row], steps: u32) {
+    let looked = look_at(hub);
+    if hub.reserve(steps).is_err() {
+        is_as_before(rt, hub, before, looked);
+        same(rt, hub.reserve(steps).is_ok(), true, "reserved again");
     }
 }
 
-/// Sees that the step is refused, for this.
-fn refuse(rt: &impl Abort, hub: &mut Hub, entry: Entry, fault: Fault) {
-    same(rt, make_step(rt, hub, entry).err(), Some(fault), "fault");
-}
-
-fn follow_row(rt: &impl Abort, alloc: Global, hub: &mut Hub, row: Row, place: usize) {
+/// Has this happen to a hub, behind those rows.
+fn follow_row(
+    rt: &impl Abort,
+    alloc: Global,
+    hub: &mut Hub,
+    before: &[Row],
+    row: Row,
+    place: (&str, usize),
+) {
     match row {
-        Row::Steps(pid, asked, told) => step(rt, hub, entry_of(pid, asked), told),
-        Row::Refuses(pid, asked, fault) => refuse(rt, hub, entry_of(pid, asked), fault),
+        Row::Steps(pid, asked, told) => is_made(rt, step(rt, hub, before, pid, asked), told, place),
+        Row::Refuses(pid, asked, fault) => {
+            let refused = make_step(rt, hub, entry_of(pid, asked)).err();
+            same(rt, refused, Some(fault), place);
+        }
         Row::Shows(port, look) => same(rt, hub.look(Port(port)), look, place),
         Row::Holds(port, at, number) => {
             let value = hub.buffered(Port(port), at);
             same(rt, value, number.map(Value::num), place);
         }
-        Row::Reserves(steps) => same(rt, hub.reserve(steps).is_ok(), true, place),
+        Row::Reserves(steps) => reserve(rt, hub, before, steps),
         Row::Keeps(count) => same(rt, hub.entries().len(), count, place),
         Row::Begins => {
             begin(alloc);
@@ -71,9 +114,10 @@ fn follow_row(rt: &impl Abort, alloc: Global, hub: &mut Hub, row: Row, place: us
     }
 }
 
-fn follow(rt: &impl Abort, alloc: Global, hub: &mut Hub, rows: &[Row]) {
+fn follow(rt: &impl Abort, alloc: Global, hub: &mut Hub, name: &str, rows: &[Row]) {
     for (place, row) in rows.iter().enumerate() {
-        follow_row(rt, alloc, hub, *row, place);
+        let before = rows.get(..place).unwrap_or_default();
+        follow_row(rt, alloc, hub, before, *row, (name, place));
     }
 }
 
@@ -89,31 +133,84 @@ pub(super) fn entries_of(alloc: Global, rows: &[Row]) -> Result<Vec<Entry>, Fail
 }
 
 /// The entries are the steps of these rows that were not refused, in order.
-pub(super) fn are_kept(rt: &impl Abort, entries: &[Entry], rows: &[Row]) {
+pub(super) fn are_kept(rt: &impl Abort, name: &str, entries: &[Entry], rows: &[Row]) {
     let mut place = 0usize;
     for row in rows {
         if let Row::Steps(pid, asked, _) = row {
             let entry = entry_of(*pid, *asked);
-            same(rt, entries.get(place), Some(&entry), place);
+            same(rt, entries.get(place), Some(&entry), (name, place));
             place = place.saturating_add(1);
         }
     }
-    same(rt, entries.len(), place, "entries");
+    same(rt, entries.len(), place, name);
 }
 
-/// A new hub of this edition and limit, with so many processes, to which this happens. What is left is its journal.
-pub(super) fn tell(
+/// A hub of this edition and limit, with so many processes.
+pub(super) fn open(
+    alloc: Global,
+    edition: Edition,
+    procs: u8,
+    limit: u32,
+) -> Result<Hub, OpenFault> {
+    Hub::open(alloc, procs, limit, edition)
+}
+
+/// Opens a hub and, where memory was refused, another.
+fn open_again(alloc: Global, edition: Edition, procs: u8, limit: u32) -> Result<Hub, OpenFault> {
+    match open(alloc, edition, procs, limit) {
+        Err(OpenFault::NoMemory) => open(alloc, edition, procs, limit),
+        hub => hub,
+    }
+}
+
+/// Runs these entries at a hub of the first edition, which must have them.
+pub(super) fn run_all(
     rt: &impl Abort,
     alloc: Global,
-    head: Head,
+    procs: u8,
     limit: u32,
-    rows: &[Row],
-) -> Result<(), Fail> {
-    let mut hub = Hub::open(alloc, head.procs, limit, head.edition)?;
-    follow(rt, alloc, &mut hub, rows);
-    same(rt, hub.head(), head, "head");
+    entries: &[Entry],
+) -> Result<(Hub, Vec<Event>), ListFault> {
+    assert!(rt; Edition::One.has_all(entries));
+    run(alloc, procs, limit, Edition::One, entries)
+}
+
+/// How many entries such a run keeps, and how many events it tells.
+pub(super) fn count_run(
+    rt: &impl Abort,
+    alloc: Global,
+    procs: u8,
+    limit: u32,
+    entries: &[Entry],
+) -> Result<(usize, usize), ListFault> {
+    match run_all(rt, alloc, procs, limit, entries) {
+        Ok(ran) => Ok(counts_of(ran)),
+        Err(fault) => Err(fault),
+    }
+}
+
+fn counts_of(ran: (Hub, Vec<Event>)) -> (usize, usize) {
+    (ran.0.entries().len(), ran.1.len())
+}
+
+/// A story of a hub: its name, the hub's edition, how many processes the hub has, its limit, and what happens to it.
+pub(super) type Story<'a> = (&'a str, Edition, u8, u32, &'a [Row]);
+
+/// Opens the hub, and has this happen, each time again where memory was refused. What is left is its journal.
+pub(super) fn tell(rt: &impl Abort, alloc: Global, story: &Story) {
+    let (name, edition, procs, limit, _) = *story;
+    match open_again(alloc, edition, procs, limit) {
+        Ok(hub) => tell_of(rt, alloc, hub, story),
+        Err(fault) => same(rt, Some(fault), None, name),
+    }
+}
+
+fn tell_of(rt: &impl Abort, alloc: Global, hub: Hub, story: &Story) {
+    let (name, edition, procs, _, rows) = *story;
+    let mut hub = hub;
+    follow(rt, alloc, &mut hub, name, rows);
+    same(rt, hub.head(), Head { edition, procs }, name);
     let journal = hub.into_journal();
-    same(rt, journal.head(), head, "head of the journal");
-    are_kept(rt, journal.entries(), rows);
-    Ok(())
+    same(rt, journal.head(), Head { edition, procs }, name);
+    are_kept(rt, name, journal.entries(), rows);
 }

@@ -3,7 +3,6 @@
 use crate::compare::has_text;
 use hub_base::{Kind, NoMemory, TextFault};
 use hub_replay::{ReplayFault, SourceFault, WriteFailed};
-use std::test::Fail;
 
 const REPLAYS: &[(ReplayFault, &str)] = &[
     (
@@ -19,17 +18,16 @@ const REPLAYS: &[(ReplayFault, &str)] = &[
 ];
 
 #[test]
-fn replays_end_with_texts(rt: HostRuntime) -> Result<(), Fail> {
+fn replays_end_with_texts(rt: HostRuntime) {
     for (fault, text) in REPLAYS {
-        has_text(&rt, rt.alloc(), *fault, text)?;
+        has_text(&rt, rt.alloc(), *fault, text);
     }
-    Ok(())
 }
 
 #[test]
-fn devices_fail_with_texts(rt: HostRuntime) -> Result<(), Fail> {
-    has_text(&rt, rt.alloc(), SourceFault::Read, "read failed")?;
-    has_text(&rt, rt.alloc(), SourceFault::NoMemory, "out of memory")?;
-    has_text(&rt, rt.alloc(), WriteFailed, "write failed")?;
-    has_text(&rt, rt.alloc(), NoMemory, "out of memory")
+fn devices_fail_with_texts(rt: HostRuntime) {
+    has_text(&rt, rt.alloc(), SourceFault::Read, "read failed");
+    has_text(&rt, rt.alloc(), SourceFault::NoMemory, "out of memory");
+    has_text(&rt, rt.alloc(), WriteFailed, "write failed");
+    has_text(&rt, rt.alloc(), NoMemory, "out of memory");
 }

@@ -2,7 +2,7 @@
 
 use crate::compare::same;
 use crate::steps::entries::{SENT, Told, event_of};
-use hub_base::{Event, Fault, Hears, Journal};
+use hub_base::{Edition, Entry, Event, Fault, Hears, Journal, NoMemory, ReadFault};
 use hub_text::{EventText, read_journal, write_entry, write_event, write_head, write_journal};
 use std::alloc::Global;
 use std::process::Abort;
@@ -39,42 +39,64 @@ const SECOND_EDITION: &[u8] = b"chanhub journal 2\n\
 #[test]
 fn what_is_read_is_written_again(rt: HostRuntime) -> Result<(), Fail> {
     for text in [EVERY_LINE, SECOND_EDITION] {
-        let journal = read_journal(rt.alloc(), text)?;
-        is_text(&rt, rt.alloc(), &journal, text)?;
-        is_text(&rt, rt.alloc(), &copy_of(rt.alloc(), &journal)?, text)?;
+        is_written_again(&rt, &read(rt.alloc(), text)?, text);
     }
     Ok(())
 }
 
+fn read(alloc: Global, text: &[u8]) -> Result<Journal, ReadFault> {
+    read_journal(alloc, text)
+}
+
+/// The journal is written as this text, and so is its copy.
+fn is_written_again<R: Abort + AllocGlobal>(rt: &R, journal: &Journal, text: &[u8]) {
+    is_text(rt, rt.alloc(), journal, text);
+    match copy_of(rt.alloc(), journal) {
+        Ok(copy) => is_text(rt, rt.alloc(), &copy, text),
+        Err(NoMemory) => same(rt, false, true, "memory"),
+    }
+}
+
 /// A journal with copies of these entries.
-fn copy_of(alloc: Global, journal: &Journal) -> Result<Journal, Fail> {
+fn copy_of(alloc: Global, journal: &Journal) -> Result<Journal, NoMemory> {
     let mut copies = Vec::new(alloc);
     for entry in journal.entries() {
-        copies.push(entry.copy())?;
+        if copies.push(entry.copy()).is_err() {
+            return Err(NoMemory);
+        }
     }
     Ok(Journal::of(journal.edition(), journal.procs(), copies))
 }
 
 /// The journal is written so, line by line, and then as a whole behind that.
-fn is_text(rt: &impl Abort, alloc: Global, journal: &Journal, text: &[u8]) -> Result<(), Fail> {
+fn is_text(rt: &impl Abort, alloc: Global, journal: &Journal, text: &[u8]) {
     let mut out = Vec::new(alloc);
-    let procs = journal.procs();
-    assert!(rt; 1 <= procs && procs <= 64);
-    write_head(&mut out, journal.edition(), procs)?;
-    write_entries(rt, &mut out, journal)?;
-    same(rt, out.as_slice(), text, "line by line");
-    write_journal(&mut out, journal)?;
-    same(rt, out.len(), text.len().saturating_mul(2), "length");
-    same(rt, out.ends_with(text), true, "whole");
-    Ok(())
+    same(rt, write_twice(rt, &mut out, journal), true, "memory");
+    same(rt, out.get(..text.len()), Some(text), "line by line");
+    same(rt, out.get(text.len()..), Some(text), "whole");
 }
 
-fn write_entries(rt: &impl Abort, out: &mut Vec<u8>, journal: &Journal) -> Result<(), Fail> {
+/// Writes the journal line by line, and then as a whole; whether memory sufficed.
+fn write_twice(rt: &impl Abort, out: &mut Vec<u8>, journal: &Journal) -> bool {
+    let procs = journal.procs();
+    assert!(rt; 1 <= procs && procs <= 64);
+    write_head(out, journal.edition(), procs).is_ok()
+        && write_entries(rt, out, journal)
+        && write_journal(out, journal).is_ok()
+}
+
+fn write_entries(rt: &impl Abort, out: &mut Vec<u8>, journal: &Journal) -> bool {
+    let mut is_written = true;
     for entry in journal.entries() {
-        assert!(rt; entry.fits(journal.edition()));
-        write_entry(out, journal.edition(), &entry.by_slice())?;
+        is_written &= write(rt, out, journal.edition(), entry);
     }
-    Ok(())
+    is_written
+}
+
+/// Writes an entry, which the edition must have; whether memory sufficed.
+pub(super) fn write(rt: &impl Abort, out: &mut Vec<u8>, edition: Edition, entry: &Entry) -> bool {
+    assert!(rt; entry.fits(edition));
+    write_entry(out, edition, &entry.by_slice()).is_ok()
 }
 
 const LINES: &[(u8, Told, &str)] = &[
@@ -100,21 +122,18 @@ const LINES: &[(u8, Told, &str)] = &[
 ];
 
 #[test]
-fn each_event_has_its_line(rt: HostRuntime) -> Result<(), Fail> {
+fn each_event_has_its_line(rt: HostRuntime) {
+    let mut out = Vec::new(rt.alloc());
     for (pid, told, line) in LINES {
-        has_line(&rt, rt.alloc(), event_of(*pid, *told), line)?;
+        has_line(&rt, &mut out, event_of(*pid, *told), line);
     }
-    Ok(())
 }
 
-/// The event is written as this line, and once more behind it.
-fn has_line(rt: &impl Abort, alloc: Global, event: Event, line: &str) -> Result<(), Fail> {
-    let mut out = Vec::new(alloc);
-    write_event(&mut out, &event)?;
-    same(rt, out.as_slice(), line.as_bytes(), line);
-    write_event(&mut out, &event)?;
-    same(rt, out.len(), 2 * line.len(), line);
-    Ok(())
+/// The event is written as this line, behind what was written.
+fn has_line(rt: &impl Abort, out: &mut Vec<u8>, event: Event, line: &str) {
+    let before = out.len();
+    same(rt, write_event(out, &event).is_ok(), true, line);
+    same(rt, out.get(before..), Some(line.as_bytes()), line);
 }
 
 #[test]
@@ -128,9 +147,8 @@ fn lines_of_events_join_into_one_text(rt: HostRuntime) -> Result<(), Fail> {
 /// Three events behind a text without any.
 fn join(rt: &impl Abort, text: &mut EventText) -> Result<(), Fail> {
     same(rt, text.text(), b"", "new");
-    let parked = event_of(9, Told::Parked);
     text.make_step_room()?;
-    text.hear(parked);
+    text.hear(event_of(9, Told::Parked));
     text.hear(event_of(10, Told::Got(99, 100)));
     text.hear(event_of(100, Told::Got(9, 9_999_999_999_999_999_999)));
     let expected = "9 parked\n10 case 99 got 100\n100 case 9 got 9999999999999999999\n";
@@ -141,9 +159,15 @@ fn join(rt: &impl Abort, text: &mut EventText) -> Result<(), Fail> {
 /// An event in a text that was cleared.
 fn write_anew(rt: &impl Abort, text: &mut EventText) -> Result<(), Fail> {
     same(rt, text.text(), b"", "cleared");
-    text.make_step_room()?;
-    text.hear(event_of(0, Told::Stalled));
+    hear(text, event_of(0, Told::Stalled))?;
     same(rt, text.text(), b"0 stalled\n", "written anew");
+    Ok(())
+}
+
+/// An event, for which room is made.
+fn hear(text: &mut EventText, event: Event) -> Result<(), NoMemory> {
+    text.make_step_room()?;
+    text.hear(event);
     Ok(())
 }
 
@@ -151,10 +175,8 @@ fn write_anew(rt: &impl Abort, text: &mut EventText) -> Result<(), Fail> {
 fn text_of_events_grows(rt: HostRuntime) -> Result<(), Fail> {
     let longest = event_of(255, Told::Got(255, 18446744073709551615));
     let mut text = EventText::new(rt.alloc());
-    for _ in 0..2000 {
-        text.make_step_room()?;
-        text.hear(longest);
-        text.hear(longest);
+    for _ in 0..4000 {
+        hear(&mut text, longest)?;
     }
     are_all(&rt, text.text(), b"255 case 255 got 18446744073709551615\n");
     Ok(())

@@ -1,5 +1,5 @@
 use Rattle.std.proofs.Common.{◌≡◌, ◌≤◌, length}
-use Rattle.hub_tests.proofs.parts.queues.dead_entries_go_when_room_is_short.Given as goal
+use Rattle.hub_tests.proofs.parts.queues.select_and_serve.Given as goal
 
 abbrev pub invariant-loop-selects : goal.invariant-loop-selects
 invariant-loop-selects g l = (l.board.procs ≡ 2) × (length l.board.ports ≡ 2) × (l.board.next_ticket ≤ l.selects)

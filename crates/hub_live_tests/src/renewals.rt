@@ -30,6 +30,17 @@ fn make_ports<K: HubName, R: Wait>(
 }
 
 /// Process 0 makes two ports, process 1 receives a value, and process 2 exits.
+fn begin<K: HubName, R: Wait>(rt: &R, hub: &LiveHub<K>, seats: &mut [Held<K>]) -> Result<(), Fail> {
+    let [zero, one, two] = seats else {
+        return Err("three seats".into());
+    };
+    let chan = make_ports(rt, hub, zero)?;
+    one.recv_value(rt, hub, &chan.receiver())?;
+    two.exit(rt, hub)?;
+    Ok(())
+}
+
+/// What they then have done.
 fn first_chapter<K: HubName, R: Wait + AllocGlobal>(
     rt: &R,
     blank: Blank,
@@ -42,11 +53,7 @@ fn first_chapter<K: HubName, R: Wait + AllocGlobal>(
 {
     let hub = blank.named::<K>();
     let mut held = hold_all::<K>(rt.alloc(), seats)?;
-    let chan = make_ports(rt, &hub, held.first_mut().ok_or("no seat")?)?;
-    let one = held.get_mut(1).ok_or("no seat")?;
-    one.recv_value(rt, &hub, &chan.receiver())?;
-    let two = held.get_mut(2).ok_or("no seat")?;
-    two.exit(rt, &hub)?;
+    begin(rt, &hub, &mut held)?;
     if !are_all(&hub, &held) {
         return Err("a seat is missing".into());
     }

@@ -9,7 +9,6 @@ use hub_core::Hub;
 use hub_live::under_lock::Locked;
 use std::alloc::Global;
 use std::process::Abort;
-use std::test::Fail;
 
 /// What happens under the lock.
 #[derive(Clone, Copy)]
@@ -41,16 +40,22 @@ fn follow_row(rt: &impl Abort, locked: &mut Locked, row: Row, place: (&str, usiz
             compare(rt, answer, Pid(pid), told, place);
         }
         Row::Takes(pid, told) => {
-            let taken = locked.take(Pid(pid));
-            same(rt, taken.map(Ok), Some(answer(Pid(pid), told)), place);
+            let taken = locked.take(Pid(pid)).ok_or(Fault::NotParked);
+            same(rt, taken, answer(Pid(pid), told), place);
         }
         Row::FindsNone(pid) => same(rt, locked.take(Pid(pid)), None, place),
         Row::Ended(pids) => same(rt, locked.ended().as_slice(), pids, place),
         Row::OneWaits => same(rt, locked.look(Port(1)), Some(ONE_VALUE), place),
-        Row::HasEntry(at, asked) => {
-            let wanted = asked.map(|(pid, asked)| entry_of(pid, asked));
-            same(rt, locked.entry(at) == wanted, true, place);
-        }
+        Row::HasEntry(at, asked) => same(rt, has_entry(locked, at, asked), true, place),
+    }
+}
+
+/// Whether this process asked for this at this place of the journal, or nothing stands there.
+fn has_entry(locked: &Locked, at: usize, asked: Option<(u8, Ask)>) -> bool {
+    match (locked.entry(at), asked) {
+        (Some(entry), Some((pid, asked))) => entry == entry_of(pid, asked),
+        (None, None) => true,
+        _ => false,
     }
 }
 
@@ -69,15 +74,22 @@ fn follow(rt: &impl Abort, locked: &mut Locked, name: &str, rows: &[Row]) {
 /// entries its journal has in the end.
 type Story<'a> = (&'a str, u8, u32, &'a [Row], usize);
 
-fn tell(rt: &impl Abort, alloc: Global, story: &Story) -> Result<(), Fail> {
-    let (name, procs, limit, rows, entries) = *story;
-    let mut locked = Locked::of(Hub::open(alloc, procs, limit, Edition::Two)?);
+fn tell(rt: &impl Abort, alloc: Global, story: &Story) {
+    let (name, procs, limit, _, _) = *story;
+    match Hub::open(alloc, procs, limit, Edition::Two) {
+        Ok(hub) => tell_of(rt, Locked::of(hub), story),
+        Err(fault) => same(rt, Some(fault), None, (name, "opening")),
+    }
+}
+
+fn tell_of(rt: &impl Abort, locked: Locked, story: &Story) {
+    let (name, procs, _, rows, entries) = *story;
+    let mut locked = locked;
     follow(rt, &mut locked, name, rows);
     same(rt, locked.len(), entries, (name, "entries"));
     let journal = locked.into_journal();
     let found = (journal.procs(), journal.entries().len());
     same(rt, found, (procs, entries), (name, "journal"));
-    Ok(())
 }
 
 const STORIES: &[Story] = &[
@@ -93,11 +105,10 @@ const STORIES: &[Story] = &[
 ];
 
 #[test]
-fn each_story_is_told(rt: HostRuntime) -> Result<(), Fail> {
+fn each_story_is_told(rt: HostRuntime) {
     for story in STORIES {
-        tell(&rt, rt.alloc(), story)?;
+        tell(&rt, rt.alloc(), story);
     }
-    Ok(())
 }
 
 // A receiver parks, a sender's step ends its call, and the value waits for the receiver.

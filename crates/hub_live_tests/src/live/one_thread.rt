@@ -8,9 +8,9 @@ use crate::compare::same;
 use hub_base::{Counts, Edition, Event, Fault, Pid, Port, Value};
 use hub_core::OpenFault;
 use hub_live::{Blank, Chan, Held, HubName, LiveHub, Seat, mark_of};
+use std::alloc::Global;
 use std::process::Abort;
 use std::sync::Wait;
-use std::test::Fail;
 
 /// One value was sent and received, and the port is closed.
 const USED_UP: Counts = Counts {
@@ -25,31 +25,48 @@ fn mark_of_a_drained_port(rt: HostRuntime) {
     same(&rt, mark_of(&USED_UP), 13_835_058_057_429_647_361, "mark");
 }
 
-// In the order of the tests: the processes, then the limit.
+/// How many processes, which limit, and whether a hub is refused. The processes are tested before the limit.
+const OPENINGS: &[(u8, u32, Option<OpenFault>)] = &[
+    (0, 1, Some(OpenFault::BadProcs)),
+    (65, 0, Some(OpenFault::BadProcs)),
+    (1, 0, Some(OpenFault::BadLimit)),
+    (1, 1_000_001, Some(OpenFault::BadLimit)),
+    (64, 1_000_001, Some(OpenFault::BadLimit)),
+    (1, 1, None),
+    (33, 1_000, None),
+    (64, 1_000_000, None),
+];
+
 #[test]
-fn openings_are_refused(rt: HostRuntime) {
-    for (procs, limit, fault) in [
-        (0, 1, OpenFault::BadProcs),
-        (65, 0, OpenFault::BadProcs),
-        (1, 0, OpenFault::BadLimit),
-        (1, 1_000_001, OpenFault::BadLimit),
-        (64, 1_000_001, OpenFault::BadLimit),
-    ] {
-        let refused = Blank::open(rt.alloc(), procs, limit, Edition::One).err();
-        same(&rt, refused, Some(fault), (procs, limit));
+fn openings_are_made_or_refused(rt: HostRuntime) {
+    for (procs, limit, fault) in OPENINGS {
+        opens(&rt, rt.alloc(), Edition::One, *procs, *limit, *fault);
+        opens(&rt, rt.alloc(), Edition::Two, *procs, *limit, *fault);
     }
 }
 
-// The least and the most of each edition.
-#[test]
-fn openings_are_made(rt: HostRuntime) -> Result<(), Fail> {
-    for edition in [Edition::One, Edition::Two] {
-        for (procs, limit) in [(1, 1), (33, 1_000), (64, 1_000_000)] {
-            let (_blank, seats) = Blank::open(rt.alloc(), procs, limit, edition)?;
-            same(&rt, seats.len(), usize::from(procs), (procs, limit));
-        }
-    }
-    Ok(())
+fn seats_in(opened: (Blank, Vec<Seat>)) -> usize {
+    opened.1.len()
+}
+
+/// A hub is opened with a seat for each process, or refused.
+fn opens(
+    rt: &impl Abort,
+    alloc: Global,
+    edition: Edition,
+    procs: u8,
+    limit: u32,
+    fault: Option<OpenFault>,
+) {
+    let opened = match Blank::open(alloc, procs, limit, edition) {
+        Ok(opened) => Ok(seats_in(opened)),
+        Err(fault) => Err(fault),
+    };
+    let wanted = match fault {
+        Some(fault) => Err(fault),
+        None => Ok(usize::from(procs)),
+    };
+    same(rt, opened, wanted, (procs, limit));
 }
 
 /// A value goes through a channel that is then closed, and drained, by a seat whose hub no type says. It is not given
@@ -72,14 +89,21 @@ fn drain<K: HubName, R: Wait + Abort>(rt: &R, hub: &LiveHub<K>, seat: &mut Seat)
 {
     let chan = Ok(Chan::of(Port(1)));
     same(rt, hub.make_chan(rt, seat, 2), chan, "channel");
-    for (place, (asked, told)) in DRAINING.iter().enumerate() {
-        let answer = ask(rt, hub, seat, *asked);
-        compare(rt, answer, Pid(0), *told, ("draining", place));
-    }
+    follow_plainly(rt, hub, seat);
     same(rt, hub.look(seat, Port(1)), Some(USED_UP), "look");
     let refused = Err(Fault::BadCap);
     same(rt, hub.make_chan(rt, seat, 1025), refused, "capacity");
     compare(rt, hub.exit(rt, seat), Pid(0), DONE, "exit");
+}
+
+fn follow_plainly<K: HubName, R: Wait + Abort>(rt: &R, hub: &LiveHub<K>, seat: &mut Seat)
+    requires { seat.old.hub ≡ K.name }
+    ensures { seat.new.hub ≡ K.name }
+{
+    for (place, (asked, told)) in DRAINING.iter().enumerate() {
+        let answer = ask(rt, hub, seat, *asked);
+        compare(rt, answer, Pid(0), *told, ("draining", place));
+    }
 }
 
 const DRAINING: [(Ask, Told); 4] = [

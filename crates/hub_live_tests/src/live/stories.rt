@@ -81,13 +81,17 @@ fn tell_named<K: HubName + Send + Sync, R: Runtime>(
     let held = hold_all::<K>(rt.alloc(), seats)?;
     let held = tell_held(rt, &hub, held, story)?;
     same(rt, hub.head(), story.head(), (story.name, "head"));
-    let journal = if held.is_empty() {
+    compare(rt, &finish(rt, hub, held), story);
+    Ok(())
+}
+
+/// The journal of a hub that ends, with these seats or none.
+fn finish<K: HubName, R: AllocGlobal>(rt: &R, hub: LiveHub<K>, held: Vec<Held<K>>) -> Journal {
+    if held.is_empty() {
         hub.finish(Vec::new(rt.alloc()))
     } else {
         hub.finish_held(held)
-    };
-    compare(rt, &journal, story);
-    Ok(())
+    }
 }
 
 /// The journal has so many entries, those of its crew.

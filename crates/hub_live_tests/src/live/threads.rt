@@ -34,8 +34,18 @@ pub(super) fn in_threads<K: HubName + Send + Sync, R: Runtime>(
         begun: &begun,
         capacities: &CAPACITIES,
     };
+    seats_of(rt, hub, run_crew(rt, rt.alloc(), hub, seats, job)?, crew)
+}
+
+/// The seats of a crew, once what each of its threads told is compared.
+fn seats_of<K: HubName, R: Runtime>(
+    rt: &R,
+    hub: &LiveHub<K>,
+    members: Vec<Member<Held<K>, Option<Result<Event, Fault>>>>,
+    crew: Crew,
+) -> Result<Vec<Held<K>>, Fail> {
     let mut held = Vec::new(rt.alloc());
-    for member in run_crew(rt, rt.alloc(), hub, seats, job)? {
+    for member in members {
         let Member { mut seat, report } = member;
         compare(rt, hub, &mut seat, report, crew);
         held.push(seat)?;

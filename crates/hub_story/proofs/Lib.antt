@@ -11,3 +11,4 @@ pub mod Once
 pub mod Waits
 pub mod Filling
 pub mod Editions
+pub mod OfPorts

@@ -8,4 +8,5 @@ pub mod Sides
 pub mod Windows
 pub mod Stories
 pub mod Laws
+pub mod OfPorts
 pub mod StoryRows

@@ -4,6 +4,7 @@
 //! with the entry by whose step it came; all else is a filter of that list.
 #![tactic(auto)]
 
+mod by_port;
 mod cases;
 mod ends;
 mod last_calls;
@@ -17,6 +18,7 @@ mod telling;
 mod told;
 mod window;
 
+pub use by_port::ByPort;
 pub use cases::{case_at, cases_at};
 pub use laws::{
     entries_end_once, events_are_told, levels_are_told, passages_are_in_time, passages_are_told,

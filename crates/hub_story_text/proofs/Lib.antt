@@ -10,3 +10,4 @@ pub mod Levels
 pub mod Places
 pub mod Ranks
 pub mod Packs
+pub mod OwnEnds

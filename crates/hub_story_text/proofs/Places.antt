@@ -1,12 +1,12 @@
 -- Which calls moved values through a port: their places, one by one, are those of the port's sends and receives.
-use Rattle.std.proofs.Common.{◌≡◌, ◌≤◌, ◌<◌, ◌+◌, ◌==◌, ℕ, zero, suc, zero-le, Bool, true, false, List, [], ◌∷◌, ◌++◌, length, map, min}
+use Rattle.std.proofs.Common.{◌≡◌, ◌≤◌, ◌<◌, ◌+◌, ◌==◌, ℕ, zero, suc, zero-le, Bool, true, false, List, [], ◌∷◌, ◌++◌, filter, length, map, min}
 use Rattle.std.proofs.Common.{refl, ap, ◌∙◌, sym, arith, Option, Some, None, get_or, take, drop, add-one, append-nil, slice_get}
 use Rattle.std.specs.Prelude.{cond}
 use Rattle.std.specs.List.{filter_map, flat_map, cons_option}
 use Rattle.std.specs.Option.{option_map, option_and_then}
 use Rattle.std.proofs.Math.Seq.{drop-cons}
 use Rattle.std.proofs.lemmas.List.{drop_all, length-map}
-use Rattle.std.proofs.lemmas.List.Elements.{filter_map-append}
+use Rattle.std.proofs.lemmas.List.Elements.{filter-append, filter_map-append}
 use Rattle.hub_base.specs.declared.value.Port.{Port}
 use Rattle.hub_base.specs.declared.value.Value.{Value}
 use Rattle.hub_base.specs.declared.case.Case.{Case}
@@ -19,27 +19,32 @@ use Rattle.hub_base.specs.declared.event.What.TheVariants as what
 use Rattle.hub_base.specs.Values.{of_what, sent_on, got_on}
 use Rattle.hub_story.specs.declared.told.Told.{Told}
 use Rattle.hub_story.specs.declared.moved.Moved.{Moved}
+use Rattle.hub_story.specs.OfPorts.{things_on}
 use Rattle.hub_story.specs.Passing.{beside, cases_at, moved_by, receives, sends}
 use Rattle.hub_story_text.specs.declared.port_moves.PortMove.{PortMove}
 use Rattle.hub_story_text.specs.declared.port_moves.PortMoves.{PortMoves}
 use Rattle.hub_story_text.specs.LastMoves.{got_port, sent_port}
 use Rattle.hub_story_text.specs.Partners.{both_ways, ways_of}
-use Rattle.hub_story_text.specs.PortMoves.{AreMore, AreMoves, move_at, move_of, on_port, paired, places_on, port_of, steps_on}
+use Rattle.hub_story_text.specs.PortMoves.{AreMore, AreMoves, is_on, move_at, move_of, moves_on, on_port, paired, places_on, port_of, steps_on}
 use Rattle.hub_story_text.proofs.Levels.{steps_of}
 use Rattle.hub_story_text.proofs.StepLines.{taken-next}
 
 -- ---- one event more
+side-next : (pick : Case → Outcome → Option Port) (es : List Entry) (p : Port) (told : List Told) (i : ℕ) (d : Told) (old new : List PortMove) →
+    i < length told → old ≡ moves_on pick es p (take i told) → new ≡ old ++ moves_on pick es p (get_or told i d ∷ []) →
+    new ≡ moves_on pick es p (take (i + 1) told)
+side-next pick es p told i d old new below was more =
+    let one : List PortMove = filter_map (move_of pick es) (get_or told i d ∷ []) in
+    more ∙ ap (λ l. l ++ moves_on pick es p (get_or told i d ∷ [])) was
+    ∙ sym (filter-append (is_on p) (filter_map (move_of pick es) (take i told)) one)
+    ∙ sym (ap (moves_on pick es p) (taken-next told i d below)
+    ∙ ap (filter (is_on p)) (filter_map-append (move_of pick es) (take i told) (get_or told i d ∷ [])))
+
 pub moves-next : (es : List Entry) (told : List Told) (i : ℕ) (d : Told) (old new : PortMoves) → i < length told → AreMoves es (take i told) old →
     AreMore es (get_or told i d) old new → AreMoves es (take (i + 1) told) new
 moves-next es told i d old new below was more = record {
-  sent =
-      more.sent ∙ ap (λ l. l ++ filter_map (move_of sent_port es) (get_or told i d ∷ [])) was.sent
-      ∙ sym (ap (filter_map (move_of sent_port es)) (taken-next told i d below)
-      ∙ filter_map-append (move_of sent_port es) (take i told) (get_or told i d ∷ []));
-  received =
-      more.received ∙ ap (λ l. l ++ filter_map (move_of got_port es) (get_or told i d ∷ [])) was.received
-      ∙ sym (ap (filter_map (move_of got_port es)) (taken-next told i d below)
-      ∙ filter_map-append (move_of got_port es) (take i told) (get_or told i d ∷ []));
+  sent = λ p. side-next sent_port es p told i d (things_on old.sent p) (things_on new.sent p) below (was.sent p) (more.sent p);
+  received = λ p. side-next got_port es p told i d (things_on old.received p) (things_on new.received p) below (was.received p) (more.received p);
 }
 
 -- ---- what is read of a port's moves
@@ -116,50 +121,61 @@ all-read read seen port value es p one (t ∷ ts) =
     more-read read seen p (move_of port es t) (moved_by value es t) (filter_map (move_of port es) ts) (filter_map (moved_by value es) ts) (one t)
     (all-read read seen port value es p one ts)
 
+-- those of other ports count for nothing
+own-read : (read : PortMove → ℕ) (p : Port) (ms : List PortMove) → filter_map (on_port read p) (filter (is_on p) ms) ≡ filter_map (on_port read p) ms
+own-read read p [] = refl
+own-read read p (m ∷ ms) = by (is_on p m) refl (own-read read p ms)
+  where
+    by : (b : Bool) → b ≡ is_on p m → filter_map (on_port read p) (filter (is_on p) ms) ≡ filter_map (on_port read p) ms →
+        filter_map (on_port read p) (cond b (m ∷ filter (is_on p) ms) (filter (is_on p) ms))
+        ≡ cons_option (cond b (Some (read m)) None) (filter_map (on_port read p) ms)
+    by true is rest = rw (sym is) (ap (λ l. read m ∷ l) rest)
+    by false is rest = rest
+
 -- of one side: what is read of the moves is what is seen of their values
 side-read : (read : PortMove → ℕ) (seen : Moved → ℕ) (port : Case → Outcome → Option Port) (value : Option Case → Outcome → Option Value)
     (es : List Entry) (all : List Told) (p : Port) (ms : List PortMove) → ((t : Told) (c : Option Case) (o : Outcome) →
     option_and_then (on_port read p) (option_map (move_at t) (port_of port c o)) ≡ option_map seen (option_map (moved t) (value c o))) →
-    ms ≡ filter_map (move_of port es) all → filter_map (on_port read p) ms ≡ map seen (filter_map (moved_by value es) all)
+    ms ≡ moves_on port es p all → filter_map (on_port read p) ms ≡ map seen (filter_map (moved_by value es) all)
 side-read read seen port value es all p ms one is =
-    ap (filter_map (on_port read p)) is
+    ap (filter_map (on_port read p)) is ∙ own-read read p (filter_map (move_of port es) all)
     ∙ all-read read seen port value es p (λ t. any-what read seen port value p t (one t) (cases_at es t.asked) t.event.what) all
 
 sent-read : (read : PortMove → ℕ) (seen : Moved → ℕ) → IsSeen read seen → (es : List Entry) (all : List Told) (moves : PortMoves) →
-    AreMoves es all moves → (p : Port) → filter_map (on_port read p) moves.sent.items ≡ map seen (sends es all p)
+    AreMoves es all moves → (p : Port) → filter_map (on_port read p) (things_on moves.sent p) ≡ map seen (sends es all p)
 sent-read read seen same es all moves so p =
-    side-read read seen sent_port (sent_on p) es all p moves.sent.items (sent-case read seen same p) so.sent
+    side-read read seen sent_port (sent_on p) es all p (things_on moves.sent p) (sent-case read seen same p) (so.sent p)
 
 received-read : (read : PortMove → ℕ) (seen : Moved → ℕ) → IsSeen read seen → (es : List Entry) (all : List Told) (moves : PortMoves) →
-    AreMoves es all moves → (p : Port) → filter_map (on_port read p) moves.received.items ≡ map seen (receives es all p)
+    AreMoves es all moves → (p : Port) → filter_map (on_port read p) (things_on moves.received p) ≡ map seen (receives es all p)
 received-read read seen same es all moves so p =
-    side-read read seen got_port (got_on p) es all p moves.received.items (got-case read seen same p) so.received
+    side-read read seen got_port (got_on p) es all p (things_on moves.received p) (got-case read seen same p) (so.received p)
 
 -- their places
 sent-places : (es : List Entry) (all : List Told) (moves : PortMoves) → AreMoves es all moves → (p : Port) →
-    places_on p moves.sent.items ≡ map asked (sends es all p)
+    places_on p (things_on moves.sent p) ≡ map asked (sends es all p)
 sent-places = sent-read (λ m. m.place) asked (λ t q v. refl)
 
 received-places : (es : List Entry) (all : List Told) (moves : PortMoves) → AreMoves es all moves → (p : Port) →
-    places_on p moves.received.items ≡ map asked (receives es all p)
+    places_on p (things_on moves.received p) ≡ map asked (receives es all p)
 received-places = received-read (λ m. m.place) asked (λ t q v. refl)
 
 -- and their steps
 pub sent-steps : (es : List Entry) (all : List Told) (moves : PortMoves) → AreMoves es all moves → (p : Port) →
-    steps_on p moves.sent.items ≡ steps_of (sends es all p)
+    steps_on p (things_on moves.sent p) ≡ steps_of (sends es all p)
 sent-steps = sent-read (λ m. m.by) (λ m. m.told.by) (λ t q v. refl)
 
 pub received-steps : (es : List Entry) (all : List Told) (moves : PortMoves) → AreMoves es all moves → (p : Port) →
-    steps_on p moves.received.items ≡ steps_of (receives es all p)
+    steps_on p (things_on moves.received p) ≡ steps_of (receives es all p)
 received-steps = received-read (λ m. m.by) (λ m. m.told.by) (λ t q v. refl)
 
 -- so they are as many
 pub sent-many : (es : List Entry) (all : List Told) (moves : PortMoves) → AreMoves es all moves → (p : Port) →
-    length (places_on p moves.sent.items) ≡ length (sends es all p)
+    length (places_on p (things_on moves.sent p)) ≡ length (sends es all p)
 sent-many es all moves so p = ap length (sent-places es all moves so p) ∙ length-map (sends es all p) asked
 
 pub received-many : (es : List Entry) (all : List Told) (moves : PortMoves) → AreMoves es all moves → (p : Port) →
-    length (places_on p moves.received.items) ≡ length (receives es all p)
+    length (places_on p (things_on moves.received p)) ≡ length (receives es all p)
 received-many es all moves so p = ap length (received-places es all moves so p) ∙ length-map (receives es all p) asked
 
 -- ---- places beside places
@@ -170,10 +186,10 @@ pairs-beside (x ∷ xs) (y ∷ ys) =
     ap (λ l. (x.told.asked, y.told.asked) ∷ (y.told.asked, x.told.asked) ∷ l) (pairs-beside xs ys)
 
 pub ways-paired : (es : List Entry) (all : List Told) (moves : PortMoves) → AreMoves es all moves → (number : ℕ) →
-    paired (places_on (record { 0 = number }) moves.sent.items) (places_on (record { 0 = number }) moves.received.items) ≡ ways_of es all number
+    paired (places_on (record { 0 = number }) (things_on moves.sent (record { 0 = number }))) (places_on (record { 0 = number }) (things_on moves.received (record { 0 = number }))) ≡ ways_of es all number
 ways-paired es all moves so number =
     let p : Port = record { 0 = number } in
-    ap (λ l. paired l (places_on p moves.received.items)) (sent-places es all moves so p)
+    ap (λ l. paired l (places_on p (things_on moves.received p))) (sent-places es all moves so p)
     ∙ ap (paired (map asked (sends es all p))) (received-places es all moves so p) ∙ sym (pairs-beside (sends es all p) (receives es all p))
 
 -- two more
@@ -203,15 +219,19 @@ fired-move pick es t i o c fired is =
 pub no-move : (es : List Entry) (t : Told) (i : ℕ) (o : Outcome) (moves : PortMoves) → t.event.what ≡ what.Fired i o →
     slice_get (cases_at es t.asked) i ≡ None → AreMore es t moves moves
 no-move es t i o moves fired is = record {
-  sent = sym (ap (λ l. moves.sent.items ++ l) (fired-move sent_port es t i o None fired is) ∙ append-nil moves.sent.items);
-  received = sym (ap (λ l. moves.received.items ++ l) (fired-move got_port es t i o None fired is) ∙ append-nil moves.received.items);
+  sent = λ p.
+      sym (ap (λ l. things_on moves.sent p ++ filter (is_on p) l) (fired-move sent_port es t i o None fired is) ∙ append-nil (things_on moves.sent p));
+  received = λ p.
+      sym (ap (λ l. things_on moves.received p ++ filter (is_on p) l) (fired-move got_port es t i o None fired is)
+      ∙ append-nil (things_on moves.received p));
 }
 
 pub one-move : (es : List Entry) (t : Told) (i : ℕ) (o : Outcome) (c : Case) (old new : PortMoves) → t.event.what ≡ what.Fired i o →
     slice_get (cases_at es t.asked) i ≡ Some c →
-    new.sent.items ≡ old.sent.items ++ cons_option (option_map (move_at t) (sent_port c o)) [] →
-    new.received.items ≡ old.received.items ++ cons_option (option_map (move_at t) (got_port c o)) [] → AreMore es t old new
+    ((p : Port) → things_on new.sent p ≡ things_on old.sent p ++ filter (is_on p) (cons_option (option_map (move_at t) (sent_port c o)) [])) →
+    ((p : Port) → things_on new.received p ≡ things_on old.received p ++ filter (is_on p) (cons_option (option_map (move_at t) (got_port c o)) [])) →
+    AreMore es t old new
 one-move es t i o c old new fired is sent received = record {
-  sent = sent ∙ ap (λ l. old.sent.items ++ l) (sym (fired-move sent_port es t i o (Some c) fired is));
-  received = received ∙ ap (λ l. old.received.items ++ l) (sym (fired-move got_port es t i o (Some c) fired is));
+  sent = λ p. sent p ∙ ap (λ l. things_on old.sent p ++ filter (is_on p) l) (sym (fired-move sent_port es t i o (Some c) fired is));
+  received = λ p. received p ∙ ap (λ l. things_on old.received p ++ filter (is_on p) l) (sym (fired-move got_port es t i o (Some c) fired is));
 }

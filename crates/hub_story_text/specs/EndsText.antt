@@ -40,3 +40,7 @@ with_ended ending (c ∷ cs) t = c ∷ cs ++ step_number t
 -- behind a line the steps that so ended by the step at this place, in the last column
 abbrev pub with_ends : Ending → ℕ → List Told → List ℕ → List ℕ
 with_ends ending place came line = with_cell ENDS line (ends_words ending (filter (ends_other ending place) came))
+
+-- so in each way
+abbrev pub with_all_ends : ℕ → List Told → List ℕ → List ℕ
+with_all_ends place came line = with_ends Stalls place came (with_ends Cancels place came (with_ends Frees place came line))

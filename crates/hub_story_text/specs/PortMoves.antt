@@ -1,5 +1,5 @@
 -- Which calls moved values through which ports, by the places of their entries.
-use Rattle.std.specs.Prelude.{◌≡◌, ℕ, ◌==◌, List, [], ◌∷◌, ◌++◌, Option, None, Some, if◌then◌else◌}
+use Rattle.std.specs.Prelude.{◌≡◌, ℕ, ◌==◌, Bool, List, [], ◌∷◌, ◌++◌, filter, Option, None, Some, if◌then◌else◌}
 use Rattle.std.specs.List.{filter_map}
 use Rattle.std.specs.Option.{option_map}
 use Rattle.hub_base.specs.declared.value.Port.{Port}
@@ -8,6 +8,7 @@ use Rattle.hub_base.specs.Entry.{Entry}
 use Rattle.hub_base.specs.declared.event.Outcome.{Outcome}
 use Rattle.hub_base.specs.Values.{of_what}
 use Rattle.hub_story.specs.declared.told.Told.{Told}
+use Rattle.hub_story.specs.OfPorts.{things_on}
 use Rattle.hub_story.specs.Passing.{cases_at}
 use Rattle.hub_story_text.specs.declared.port_moves.PortMove.{PortMove}
 use Rattle.hub_story_text.specs.declared.port_moves.PortMoves.{PortMoves}
@@ -26,15 +27,23 @@ move_at t p = record { port = p; place = t.asked; by = t.by }
 abbrev pub move_of : (Case → Outcome → Option Port) → List Entry → Told → Option PortMove
 move_of pick es t = option_map (move_at t) (of_what (port_of pick) (cases_at es t.asked) t.event.what)
 
--- all that are told, in order
+-- the call moved its value through this port
+abbrev pub is_on : Port → PortMove → Bool
+is_on p m = m.port.0 == p.0
+
+-- those through this port that are told, in order
+abbrev pub moves_on : (Case → Outcome → Option Port) → List Entry → Port → List Told → List PortMove
+moves_on pick es p all = filter (is_on p) (filter_map (move_of pick es) all)
+
+-- all that are told, port by port
 pub record AreMoves (es : List Entry) (all : List Told) (moves : PortMoves) : Type 0 where
-  pub sent : moves.sent.items ≡ filter_map (move_of sent_port es) all
-  pub received : moves.received.items ≡ filter_map (move_of got_port es) all
+  pub sent : (p : Port) → things_on moves.sent p ≡ moves_on sent_port es p all
+  pub received : (p : Port) → things_on moves.received p ≡ moves_on got_port es p all
 
 -- with those of one event more
 pub record AreMore (es : List Entry) (t : Told) (old new : PortMoves) : Type 0 where
-  pub sent : new.sent.items ≡ old.sent.items ++ filter_map (move_of sent_port es) (t ∷ [])
-  pub received : new.received.items ≡ old.received.items ++ filter_map (move_of got_port es) (t ∷ [])
+  pub sent : (p : Port) → things_on new.sent p ≡ things_on old.sent p ++ moves_on sent_port es p (t ∷ [])
+  pub received : (p : Port) → things_on new.received p ≡ things_on old.received p ++ moves_on got_port es p (t ∷ [])
 
 -- what is read of the call, where it moved its value through this port
 abbrev pub on_port : (PortMove → ℕ) → Port → PortMove → Option ℕ

@@ -1,7 +1,9 @@
 //! What a step did to calls that waited.
 
 ghost use Rattle.std.specs.Prelude.{◌≡◌, ◌++◌, filter, OnOk};
-ghost use Rattle.hub_story_text.specs.EndsText.{ending_word, ends_other, ends_so, ends_words, with_ended, with_ends};
+ghost use Rattle.std.specs.Bool.{OnTrue};
+ghost use Rattle.std.specs.List.{AllByRecursion};
+ghost use Rattle.hub_story_text.specs.EndsText.{ending_word, ends_other, ends_so, ends_words, with_all_ends, with_ended, with_ends};
 ghost use Rattle.hub_story_text.specs.Writing.{LineBecomes};
 
 use crate::cells::{ENDS, close_cell, open_cell};
@@ -76,7 +78,7 @@ fn put_ends(out: &mut Vec<u8>, ending: Ending, place: u32, came: &[Told]) -> Res
 }
 
 /// Which other steps so ended by the step at this place, in the last column.
-pub(crate) fn ends_cell(
+fn ends_cell(
     out: &mut Vec<u8>,
     start: usize,
     ending: Ending,
@@ -89,5 +91,36 @@ pub(crate) fn ends_cell(
     let cell = open_cell(out, start, ENDS)?;
     put_ends(out, ending, place, came)?;
     close_cell(out, cell);
+    Ok(())
+}
+
+/// Whether all that came is told of the step at this place.
+fn are_own(place: u32, came: &[Told]) -> bool
+    ensures { OnTrue result (AllByRecursion (λ t. t.asked ≡ place) came.now) }
+{
+    for told in came {
+        if told.asked != place {
+            return false;
+        }
+    }
+    true
+}
+
+/// Which other steps ended by the step at this place, in the last column. Most steps end no other.
+pub(crate) fn ends_cells(
+    out: &mut Vec<u8>,
+    start: usize,
+    place: u32,
+    came: &[Told],
+) -> Result<(), AllocError>
+    ensures { OnOk result (
+        LineBecomes start out.old.items out.new.items (λ line. with_all_ends place came.now line)) }
+{
+    if are_own(place, came) {
+        return Ok(());
+    }
+    ends_cell(out, start, Ending::Frees, place, came)?;
+    ends_cell(out, start, Ending::Cancels, place, came)?;
+    ends_cell(out, start, Ending::Stalls, place, came)?;
     Ok(())
 }

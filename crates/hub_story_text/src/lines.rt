@@ -9,7 +9,7 @@ ghost use Rattle.hub_story_text.specs.LineText.{step_words, value_words, waited_
 
 use crate::answers::{fault_words, put_answer};
 use crate::cells::{ANSWER, ASKS, VALUE, WAITED, close_cell, open_cell, put_right};
-use crate::ends::{Ending, ends_cell};
+use crate::ends::ends_cells;
 use crate::numbers::{number_of, put_number};
 use hub_base::{Case, Edition, EntryRef, NoMemory, Outcome, Port, What};
 use hub_core::ShortEntries;
@@ -237,9 +237,7 @@ pub(crate) fn put_line(
     put_right(out, number_of(place))?;
     asks_cell(out, start, entry)?;
     put_end(out, start, entries, place, entry, partner, end)?;
-    ends_cell(out, start, Ending::Frees, place, came)?;
-    ends_cell(out, start, Ending::Cancels, place, came)?;
-    ends_cell(out, start, Ending::Stalls, place, came)?;
+    ends_cells(out, start, place, came)?;
     out.extend_from_slice(b"\n")?;
     Ok(())
 }

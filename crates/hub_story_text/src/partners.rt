@@ -63,8 +63,8 @@ pub(crate) fn partners_of(
     let mut table = vec![in alloc; None; journal.entries().len()]?;
     for place in 0..ports_made(&story.told).min(MOST_PORTS) {
         let port = Port(place as u16 + 1);
-        let sent = places_on(alloc, &moves.sent, port)?;
-        let received = places_on(alloc, &moves.received, port)?;
+        let sent = places_on(alloc, moves.sent.on(port), port)?;
+        let received = places_on(alloc, moves.received.on(port), port)?;
         note_pairs(&mut table, &sent, &received);
     }
     Ok(table)

@@ -1,19 +1,22 @@
-//! Which calls moved values, and through which ports: all of them in one pass over what is told, in 12 bytes each.
+//! Which calls moved values, and through which ports: all of them in one pass over what is told, in 12 bytes each. Those of a
+//! port stand together.
 
-ghost use Rattle.std.specs.Prelude.{◌≡◌, ◌++◌, List, [], IfOk, OnOk, length};
+ghost use Rattle.std.specs.Prelude.{◌≡◌, ◌++◌, List, [], filter, IfOk, OnOk, length};
 ghost use Rattle.std.specs.List.{cons_option};
 ghost use Rattle.std.specs.Option.{option_map};
+ghost use Rattle.hub_base.specs.declared.value.Port.{Port as PortNumber};
 ghost use Rattle.hub_base.specs.Entry.{Entry};
 ghost use Rattle.hub_story.specs.declared.told.Told.{Told};
+ghost use Rattle.hub_story.specs.OfPorts.{things_on};
 ghost use Rattle.hub_story.specs.Passing.{receives, sends};
 ghost use Rattle.hub_story_text.specs.Fullest.{IsUp, fullest_of};
-ghost use Rattle.hub_story_text.specs.PortMoves.{AreMore, AreMoves, move_at, places_on, steps_on};
+ghost use Rattle.hub_story_text.specs.PortMoves.{AreMore, AreMoves, is_on, move_at, places_on, steps_on};
 
 use crate::fullest::{Fullest, fullest_of};
 use crate::last_moves::{got_port, sent_port};
 use hub_base::{Port, What};
 use hub_core::ShortEntries;
-use hub_story::{Level, Told};
+use hub_story::{ByPort, Level, Told};
 use std::alloc::{AllocError, Global};
 
 /// A call that moved a value.
@@ -27,27 +30,33 @@ pub(crate) struct PortMove {
     pub(crate) by: u32,
 }
 
-/// The calls that moved values, in the order in which the values moved.
+/// The calls that moved values, port by port, in the order in which the values moved.
 #[derive(Drop)]
 pub(crate) struct PortMoves {
     /// Those that sent one.
-    pub(crate) sent: Vec<PortMove>,
+    pub(crate) sent: ByPort<PortMove>,
     /// Those that received one.
-    pub(crate) received: Vec<PortMove>,
+    pub(crate) received: ByPort<PortMove>,
 }
 
 /// Takes in that a call is told to have moved a value through the port, if there is one.
-fn push_move(moves: &mut Vec<PortMove>, port: Option<Port>, told: &Told) -> Result<(), AllocError>
-    ensures { OnOk result (moves.new.items ≡ moves.old.items ++ cons_option (option_map (move_at told.now) port) []) }
+fn push_move(
+    moves: &mut ByPort<PortMove>,
+    port: Option<Port>,
+    told: &Told,
+) -> Result<(), AllocError>
+    ensures { OnOk result ((q : PortNumber) → things_on moves.new q
+        ≡ things_on moves.old q ++ filter (is_on q) (cons_option (option_map (move_at told.now) port) [])) }
 {
-    if let Some(port) = port {
-        moves.push(PortMove {
-            port,
-            place: told.asked,
-            by: told.by,
-        })?;
-    }
-    Ok(())
+    let Some(port) = port else {
+        return Ok(());
+    };
+    let moved = PortMove {
+        port,
+        place: told.asked,
+        by: told.by,
+    };
+    moves.push(port, moved)
 }
 
 impl PortMoves {
@@ -74,8 +83,8 @@ impl PortMoves {
         ensures { IfOk result (AreMoves entries.now told.now) }
     {
         let mut moves = PortMoves {
-            sent: Vec::new(alloc),
-            received: Vec::new(alloc),
+            sent: ByPort::new(alloc)?,
+            received: ByPort::new(alloc)?,
         };
         for told in told {
             moves.note(entries, told)?;
@@ -91,20 +100,20 @@ impl PortMoves {
             → result.received ≡ length (receives es all port) }
     {
         Level {
-            sent: count_on(&self.sent, port),
-            received: count_on(&self.received, port),
+            sent: count_on(self.sent.on(port), port),
+            received: count_on(self.received.on(port), port),
         }
     }
 
     /// What the port held at most, and after which step first.
     pub(crate) fn fullest(&self, alloc: Global, port: Port) -> Result<Fullest, AllocError>
-        requires sent { IsUp 0 (steps_on port self.now.sent.items) }
-        requires received { IsUp 0 (steps_on port self.now.received.items) }
+        requires sent { IsUp 0 (steps_on port (things_on self.now.sent port)) }
+        requires received { IsUp 0 (steps_on port (things_on self.now.received port)) }
         ensures { IfOk result (λ full.
-            full ≡ fullest_of (steps_on port self.now.sent.items) (steps_on port self.now.received.items)) }
+            full ≡ fullest_of (steps_on port (things_on self.now.sent port)) (steps_on port (things_on self.now.received port))) }
     {
-        let sent = steps_on(alloc, &self.sent, port)?;
-        let received = steps_on(alloc, &self.received, port)?;
+        let sent = steps_on(alloc, self.sent.on(port), port)?;
+        let received = steps_on(alloc, self.received.on(port), port)?;
         Ok(fullest_of(&sent, &received))
     }
 }

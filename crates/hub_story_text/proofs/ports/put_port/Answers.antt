@@ -2,6 +2,7 @@ use Rattle.std.proofs.Common.{◌≡◌, ◌∙◌, ◌++◌, ap, subst, sym, co
 use Rattle.std.specs.Option.{option_map_or}
 use Rattle.hub_base.specs.Entry.{Entry}
 use Rattle.hub_story.specs.Levels.{received_by, sent_by}
+use Rattle.hub_story.specs.OfPorts.{things_on}
 use Rattle.hub_story.specs.Passing.{receives, sends}
 use Rattle.hub_story_text.specs.Closers.{closer_of}
 use Rattle.hub_story_text.specs.Fullest.{IsUp, fullest, fullest_of}
@@ -40,7 +41,7 @@ returns c =
     let counts = counts_words (sent_by es told p (length es)) (received_by es told p (length es)) in
     let full = fullest es told p (length es) in
     let is-full : c.in_ok-fullest.field-0 ≡ full =
-    c.in_ok-fullest.ensures ∙ ap (λ l. fullest_of l (steps_on p c.args.moves.now.received.items)) (sent-steps es told c.args.moves.now c.requires.moves p)
+    c.in_ok-fullest.ensures ∙ ap (λ l. fullest_of l (steps_on p (things_on c.args.moves.now.received p))) (sent-steps es told c.args.moves.now c.requires.moves p)
     ∙ ap (fullest_of (steps_of (sends es told p))) (received-steps es told c.args.moves.now c.requires.moves p)
     ∙ fullest-is es told p (length es) c.requires.order c.requires.whole in
     let closer : c.closer_of.result ≡ closer_of es told p =

@@ -186,7 +186,9 @@ pairs-beside (x ∷ xs) (y ∷ ys) =
     ap (λ l. (x.told.asked, y.told.asked) ∷ (y.told.asked, x.told.asked) ∷ l) (pairs-beside xs ys)
 
 pub ways-paired : (es : List Entry) (all : List Told) (moves : PortMoves) → AreMoves es all moves → (number : ℕ) →
-    paired (places_on (record { 0 = number }) (things_on moves.sent (record { 0 = number }))) (places_on (record { 0 = number }) (things_on moves.received (record { 0 = number }))) ≡ ways_of es all number
+    paired (places_on (record { 0 = number }) (things_on moves.sent (record { 0 = number })))
+    (places_on (record { 0 = number }) (things_on moves.received (record { 0 = number })))
+    ≡ ways_of es all number
 ways-paired es all moves so number =
     let p : Port = record { 0 = number } in
     ap (λ l. paired l (places_on p (things_on moves.received p))) (sent-places es all moves so p)

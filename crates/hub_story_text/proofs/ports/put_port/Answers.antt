@@ -41,7 +41,8 @@ returns c =
     let counts = counts_words (sent_by es told p (length es)) (received_by es told p (length es)) in
     let full = fullest es told p (length es) in
     let is-full : c.in_ok-fullest.field-0 ≡ full =
-    c.in_ok-fullest.ensures ∙ ap (λ l. fullest_of l (steps_on p (things_on c.args.moves.now.received p))) (sent-steps es told c.args.moves.now c.requires.moves p)
+    c.in_ok-fullest.ensures
+    ∙ ap (λ l. fullest_of l (steps_on p (things_on c.args.moves.now.received p))) (sent-steps es told c.args.moves.now c.requires.moves p)
     ∙ ap (fullest_of (steps_of (sends es told p))) (received-steps es told c.args.moves.now c.requires.moves p)
     ∙ fullest-is es told p (length es) c.requires.order c.requires.whole in
     let closer : c.closer_of.result ≡ closer_of es told p =

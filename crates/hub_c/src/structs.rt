@@ -1,4 +1,4 @@
-//! The structs that cross. C has the same ones: capi/chanhub.h, and capi/chanhub.c.
+//! The structs that cross. C has the same ones: capi/chanhub.h and capi/hub_c.h.
 //!
 //! What comes from C may be any bytes, so a truth that comes is a number: 0 is false, and every other one is true.
 

@@ -1,4 +1,6 @@
 mod Appended
+mod ArrowsLeft
+mod Askings
 pub mod Plain
 mod Exits
 mod Halves

@@ -1,9 +1,8 @@
 -- What is told of other ports counts for nothing on this one.
-use Rattle.std.proofs.Common.{◌≡◌, ◌<◌, ◌+◌, ◌∙◌, ◌&&◌, ℕ, append-nil, get_or, length, map, take, Bool, true, false}
+use Rattle.std.proofs.Common.{◌≡◌, ◌<◌, ◌+◌, ◌∙◌, ◌&&◌, ℕ, append-nil, get_or, length, take, Bool, true, false}
 use Rattle.std.proofs.Common.{cond, List, [], ◌∷◌, ◌++◌, filter, refl, ap, sym, Option, None, Some, slice_get, arith, nat_le}
 use Rattle.std.specs.List.{filter_map}
 use Rattle.std.specs.Option.{option_map}
-use Rattle.std.proofs.lemmas.List.{get_or-map, length-map}
 use Rattle.std.proofs.lemmas.List.Elements.{filter_more}
 use Rattle.hub_base.specs.declared.value.Port.{Port}
 use Rattle.hub_base.specs.declared.value.Value.{Value}
@@ -18,6 +17,7 @@ use Rattle.hub_base.specs.Values.{of_what, sent_on, got_on}
 use Rattle.hub_story.specs.declared.levels.Level.{Level}
 use Rattle.hub_story.specs.declared.told.Told.{Told}
 use Rattle.hub_story.specs.declared.window.Window.{Window}
+use Rattle.hub_story.specs.OfPorts.{one_of}
 use Rattle.hub_story.specs.Passing.{beside, cases_at, moved_by, passages, receives, sends}
 use Rattle.hub_picture.specs.declared.strips.Strip.{Strip}
 use Rattle.hub_picture.specs.declared.waiters.Side.{Side}
@@ -136,29 +136,16 @@ same-last side es all p step =
     last-kept (passed_until side es p step) (is_told_on es p) None all (λ t other. not-passed side es p step t other)
 
 -- ---- what is told of a port, one thing more
-tested : (es : List Entry) (all : List Told) (p : Port) (ports : List (Option Port)) (i : ℕ) (d : Told) → ports ≡ map (port_told es) all →
-    i < length ports → (i < length all) × (is_port p (get_or ports i None) ≡ is_told_on es p (get_or all i d))
-tested es all p ports i d made below =
-    let inside : i < length all = omega (arith, ap length made, length-map all (port_told es)) in
-    (inside, rw made (ap (is_port p) (get_or-map (port_told es) all i d None inside)))
+pub told-next : (es : List Entry) (all : List Told) (p : Port) (i : ℕ) (d : Told) (old new : List Told) → i < length all →
+    old ≡ filter (is_told_on es p) (take i all) → new ≡ old ++ filter (is_told_on es p) (get_or all i d ∷ []) →
+    new ≡ filter (is_told_on es p) (take (i + 1) all)
+told-next es all p i d old new below so is =
+    is ∙ ap (λ l. l ++ filter (is_told_on es p) (get_or all i d ∷ [])) so ∙ sym (filter_more (is_told_on es p) all i d below)
 
-pub told-more : (es : List Entry) (all : List Told) (p : Port) (ports : List (Option Port)) (i : ℕ) (d : Told) (old new : List Told) →
-    ports ≡ map (port_told es) all → i < length ports → is_port p (get_or ports i None) ≡ true → old ≡ filter (is_told_on es p) (take i all) →
-    new ≡ old ++ get_or all i d ∷ [] → new ≡ filter (is_told_on es p) (take (i + 1) all)
-told-more es all p ports i d old new made below here so is =
-    let test = tested es all p ports i d made below in
-    let yes : is_told_on es p (get_or all i d) ≡ true = sym test.1 ∙ here in
-    let more = filter_more (is_told_on es p) all i d test.0 in
-    is ∙ ap (λ l. l ++ get_or all i d ∷ []) so ∙ sym (rw yes at more)
+-- what is told of no port
+pub told-none : (es : List Entry) (q : Port) (t : Told) (old : List Told) → port_told es t ≡ None → old ≡ old ++ filter (is_told_on es q) (t ∷ [])
+told-none es q t old none = sym (ap (λ o. old ++ cond (is_port q o) (t ∷ []) []) none ∙ append-nil old)
 
-anything : Told
-anything = record { asked = 0; by = 0; event = record { pid = record { 0 = 0 }; what = what.Done } }
-
-pub told-less : (es : List Entry) (all : List Told) (p : Port) (ports : List (Option Port)) (i : ℕ) (old : List Told) →
-    ports ≡ map (port_told es) all → i < length ports → is_port p (get_or ports i None) ≡ false → old ≡ filter (is_told_on es p) (take i all) →
-    old ≡ filter (is_told_on es p) (take (i + 1) all)
-told-less es all p ports i old made below other so =
-    let test = tested es all p ports i anything made below in
-    let no : is_told_on es p (get_or all i anything) ≡ false = sym test.1 ∙ other in
-    let more = filter_more (is_told_on es p) all i anything test.0 in
-    so ∙ sym (append-nil (filter (is_told_on es p) (take i all))) ∙ sym (rw no at more)
+-- and of this one
+pub told-one : (es : List Entry) (q p : Port) (t : Told) → port_told es t ≡ Some p → one_of p q t ≡ filter (is_told_on es q) (t ∷ [])
+told-one es q p t is = sym (ap (λ o. cond (is_port q o) (t ∷ []) []) is)

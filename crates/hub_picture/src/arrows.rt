@@ -1,13 +1,15 @@
 //! Values on their way: the arrows of a drawing.
 
-ghost use Rattle.std.specs.Prelude.{◌≡◌, ◌≤◌, ◌++◌, IfOk, OnOk};
-ghost use Rattle.hub_picture.specs.Drawings.{all_arrows, arrows_on, crosses, makes_port, ports_of};
-ghost use Rattle.hub_story.specs.Passing.{passages};
+ghost use Rattle.std.specs.Prelude.{◌≡◌, ◌<◌, ◌≤◌, ◌+◌, ◌++◌, ◌∷◌, [], drop, filter, length, map, IfNone, IfOk, IfSome, OnOk, Some};
+ghost use Rattle.hub_base.specs.Values.{got_on, sent_on};
+ghost use Rattle.hub_picture.specs.Drawings.{all_arrows, arrow_on, arrows_on, crosses, makes_port, ports_of};
+ghost use Rattle.hub_story.specs.Passing.{moved_by, passages, sends};
 
 use crate::Window;
 use crate::moves::Moves;
-use hub_base::{Journal, MOST_PORTS, Port, What};
-use hub_story::{Passage, Story, Told};
+use hub_base::{Case, MOST_PORTS, Outcome, Port, Value, What};
+use hub_core::ShortEntries;
+use hub_story::{Moved, Passage, Told};
 use std::alloc::{AllocError, Global};
 
 /// The passage of a value through a port.
@@ -45,62 +47,150 @@ fn ports_of(told: &[Told]) -> usize
     count.min(MOST_PORTS)
 }
 
-/// Adds the arrows of a port.
+/// The value that a case sent on the port, by its outcome.
+fn sent_on(port: Port, case: Case, outcome: Outcome) -> Option<Value>
+    ensures { result ≡ sent_on port (Some case) outcome }
+{
+    match (case, outcome) {
+        (Case::Send(on, value), Outcome::Sent) if on.0 == port.0 => Some(value),
+        _ => None,
+    }
+}
+
+/// The value that a case received from the port, by its outcome.
+fn got_on(port: Port, case: Case, outcome: Outcome) -> Option<Value>
+    ensures { result ≡ got_on port (Some case) outcome }
+{
+    match (case, outcome) {
+        (Case::Recv(on), Outcome::Got(value)) if on.0 == port.0 => Some(value),
+        _ => None,
+    }
+}
+
+/// The send on the port that is told so.
+fn sent_by(entries: &ShortEntries, port: Port, told: &Told) -> Option<Moved>
+    ensures { result ≡ moved_by (sent_on port) entries.now told.now }
+{
+    let What::Fired { case, outcome } = told.event.what else {
+        return None;
+    };
+    let case = entries.case_at(told.asked as usize, case)?;
+    let value = sent_on(port, case, outcome)?;
+    Some(Moved { told: *told, value })
+}
+
+/// The receive from the port that is told so.
+fn got_by(entries: &ShortEntries, port: Port, told: &Told) -> Option<Moved>
+    ensures { result ≡ moved_by (got_on port) entries.now told.now }
+{
+    let What::Fired { case, outcome } = told.event.what else {
+        return None;
+    };
+    let case = entries.case_at(told.asked as usize, case)?;
+    let value = got_on(port, case, outcome)?;
+    Some(Moved { told: *told, value })
+}
+
+/// A send, and where the next one is looked for.
+#[derive(Clone, Copy)]
+struct Sent {
+    /// The send.
+    moved: Moved,
+    /// The place behind it.
+    behind: usize,
+}
+
+/// The next send on the port that is told from this place on.
+fn next_sent(entries: &ShortEntries, port: Port, told: &[Told], from: usize) -> Option<Sent>
+    ensures found { IfSome result (λ sent. sends entries.now (drop from told.now) port
+        ≡ sent.moved ∷ sends entries.now (drop sent.behind told.now) port) }
+    ensures none { IfNone result (sends entries.now (drop from told.now) port ≡ []) }
+{
+    for place in from..told.len() {
+        if let Some(moved) = sent_by(entries, port, &told[place]) {
+            return Some(Sent {
+                moved,
+                behind: place + 1,
+            });
+        }
+    }
+    None
+}
+
+/// Adds the arrow of a passage, where it is shown.
+fn add_arrow(
+    arrows: &mut Vec<Arrow>,
+    window: Window,
+    port: Port,
+    passage: Passage,
+) -> Result<(), AllocError>
+    ensures { OnOk result (arrows.new.items ≡ arrows.old.items ++ arrows_on window port (passage ∷ [])) }
+{
+    if crosses(window, &passage) {
+        arrows.push(Arrow { port, passage })?;
+    }
+    Ok(())
+}
+
+/// Adds the arrows of a port, by what is told of it: from each send to the receive that stands in its place.
 fn add_arrows(
     arrows: &mut Vec<Arrow>,
     window: Window,
     port: Port,
-    passages: &[Passage],
+    entries: &ShortEntries,
+    told: &[Told],
 ) -> Result<(), AllocError>
     ensures { OnOk result (
-        arrows.new.items ≡ arrows.old.items ++ arrows_on window port passages.now) }
+        arrows.new.items ≡ arrows.old.items ++ arrows_on window port (passages entries.now told.now port)) }
 {
-    for passage in passages {
-        if crosses(window, passage) {
-            arrows.push(Arrow {
+    let mut from = 0;
+    for told_of in told {
+        if let Some(received) = got_by(entries, port, told_of) {
+            let Some(sent) = next_sent(entries, port, told, from) else {
+                return Ok(());
+            };
+            from = sent.behind;
+            add_arrow(
+                arrows,
+                window,
                 port,
-                passage: *passage,
-            })?;
+                Passage {
+                    sent: sent.moved,
+                    received,
+                },
+            )?;
         }
     }
     Ok(())
 }
 
-/// The passages of values through a port, by a story of nothing else.
-fn passages_on(
-    alloc: Global,
-    journal: &Journal,
+/// Adds the arrows of a port.
+fn add_port(
+    arrows: &mut Vec<Arrow>,
+    window: Window,
     moves: &Moves<'_>,
     port: Port,
-) -> Result<Vec<Passage>, AllocError>
-    requires of { moves.now.entries.now ≡ journal.now.entries }
-    ensures { IfOk result (λ all.
-        all.items ≡ passages journal.now.entries moves.now.told.now port) }
+) -> Result<(), AllocError>
+    ensures { OnOk result (arrows.new.items ≡ arrows.old.items
+        ++ arrows_on window port (passages moves.now.entries.now moves.now.told.now port)) }
 {
-    let story = Story {
-        told: moves.on(alloc, port)?,
-        ends: Vec::new(alloc),
-        waiting: Vec::new(alloc),
-    };
-    story.passages(alloc, journal, port)
+    add_arrows(arrows, window, port, moves.entries, moves.on(port))?;
+    Ok(())
 }
 
 /// The arrows of all ports, by the number of the port, and oldest first.
 pub(crate) fn arrows_in(
     alloc: Global,
     window: Window,
-    journal: &Journal,
     moves: &Moves<'_>,
 ) -> Result<Vec<Arrow>, AllocError>
-    requires of { moves.now.entries.now ≡ journal.now.entries }
     ensures { IfOk result (λ all.
-        all.items ≡ all_arrows window journal.now.entries moves.now.told.now) }
+        all.items ≡ all_arrows window moves.now.entries.now moves.now.told.now) }
 {
     let mut all = Vec::new(alloc);
     for before in 0..ports_of(moves.told) as u16 {
         let port = Port(before + 1);
-        let passages = passages_on(alloc, journal, moves, port)?;
-        add_arrows(&mut all, window, port, &passages)?;
+        add_port(&mut all, window, moves, port)?;
     }
     Ok(all)
 }

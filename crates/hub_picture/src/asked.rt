@@ -4,7 +4,8 @@ ghost use Rattle.std.specs.Prelude.{◌≡◌, ◌<◌, ◌-◌, ◌^◌, None, 
 ghost use Rattle.hub_picture.specs.Drawings.{asked, ended_by, is_shown, shows};
 
 use crate::Window;
-use hub_base::{Entry, Journal};
+use hub_base::{Case, Entry};
+use hub_core::ShortEntries;
 use hub_story::{Story, Told};
 use std::alloc::{AllocError, Global};
 
@@ -63,25 +64,25 @@ pub(crate) fn asked_in(
     alloc: Global,
     shown: Shown,
     window: Window,
-    journal: &Journal,
+    entries: &ShortEntries,
     story: &Story,
 ) -> Result<Vec<Asked>, AllocError>
-    requires few { length journal.now.entries < 2 ^ 32 - 1 }
+    requires few { length entries.now < 2 ^ 32 - 1 }
     ensures { IfOk result (λ all.
-        all.items ≡ filter (is_shown shown window) (asked story.now 0 journal.now.entries)) }
+        all.items ≡ filter (is_shown shown window) (asked story.now 0 entries.now)) }
 {
     let mut all = Vec::new(alloc);
-    let mut place = 0;
-    for entry in journal.entries() {
+    let mut one = Case::default();
+    for number in 0..entries.len() {
+        let place = number as u32;
         let ended = end_at(story, place);
         if shows(shown, window, place, ended) {
             all.push(Asked {
                 place,
-                entry: entry.copy(),
+                entry: entries.entry(number, &mut one).to_owned(),
                 ended,
             })?;
         }
-        place += 1;
     }
     Ok(all)
 }

@@ -12,7 +12,8 @@ use crate::stalls::all_stalled;
 use crate::strips::strips_of;
 use crate::waiters::waiters_in;
 use crate::{Arrow, Asked, Held, Lane, Strip, Waiter, Window};
-use hub_base::{Journal, NoMemory};
+use hub_base::NoMemory;
+use hub_core::ShortJournal;
 use hub_story::{Story, Told};
 use std::alloc::Global;
 
@@ -44,26 +45,27 @@ pub struct Drawing {
 /// The drawing of a journal by its story, as far as the window shows it. `Err` where memory was refused.
 pub fn drawing_of(
     alloc: Global,
-    journal: &Journal,
+    journal: &ShortJournal,
     story: &Story,
     window: Window,
 ) -> Result<Drawing, NoMemory>
     requires few { length journal.now.entries < 2 ^ 32 - 1 }
     ensures { IfOk result (λ drawing. IsDrawingOf journal.now story.now window drawing) }
 {
+    let procs = journal.head().procs;
     let entries = journal.entries();
-    let lanes = lanes_of(alloc, journal.procs(), entries, &story.told)?;
+    let lanes = lanes_of(alloc, procs, entries, &story.told)?;
     let made = strips_of(alloc, entries, &story.told)?;
-    let boxes = asked_in(alloc, Shown::Boxes, window, journal, story)?;
-    let bars = asked_in(alloc, Shown::Bars, window, journal, story)?;
+    let boxes = asked_in(alloc, Shown::Boxes, window, entries, story)?;
+    let bars = asked_in(alloc, Shown::Bars, window, entries, story)?;
     let moves = Moves::new(alloc, entries, &story.told)?;
     let strips = shown_strips(alloc, window, &moves, &made)?;
-    let arrows = arrows_in(alloc, window, journal, &moves)?;
+    let arrows = arrows_in(alloc, window, &moves)?;
     let levels = levels_in(alloc, window, &moves, &strips)?;
     let stalls = all_stalled(alloc, window, &story.told)?;
     let waiters = waiters_in(alloc, window, &moves, &stalls, &story.waiting)?;
     Ok(Drawing {
-        procs: journal.procs(),
+        procs,
         window: window.within(entries.len() as u32),
         lanes,
         strips,

@@ -4,7 +4,8 @@ ghost use Rattle.std.specs.Prelude.{◌≡◌, IfOk, None, replicate};
 ghost use Rattle.hub_picture.specs.Exits.{AreExits, with_exit};
 ghost use Rattle.hub_picture.specs.Lanes.{exits, lanes_of};
 
-use hub_base::{Entry, What};
+use hub_base::{Case, What};
+use hub_core::ShortEntries;
 use hub_story::Told;
 use std::alloc::{AllocError, Global};
 
@@ -18,13 +19,14 @@ pub struct Lane {
 }
 
 /// Whether it answers the exit of this process.
-fn exits(entries: &[Entry], pid: u8, told: &Told) -> bool
+fn exits(entries: &ShortEntries, pid: u8, told: &Told) -> bool
     ensures { result ≡ exits entries.now pid told.now }
 {
+    let mut one = Case::default();
     told.event.pid.0 == pid
         && matches!(told.event.what, What::Done)
-        && match entries.get(told.asked as usize) {
-            Some(entry) => entry.step.by_slice().is_exit(),
+        && match entries.get(told.asked as usize, &mut one) {
+            Some(entry) => entry.step.is_exit(),
             None => false,
         }
 }
@@ -36,7 +38,7 @@ const PID_NUMBERS: usize = 256;
 type Exits = [Option<u32>; PID_NUMBERS];
 
 /// Takes in what is told next. The first exit of a process counts.
-fn note_exit(all: &mut Exits, entries: &[Entry], told: &Told)
+fn note_exit(all: &mut Exits, entries: &ShortEntries, told: &Told)
     ensures { all.new ≡ with_exit entries.now all.old told.now }
 {
     let pid = told.event.pid.0;
@@ -53,7 +55,7 @@ fn no_exits() -> Exits
 }
 
 /// By which step each process exits, if it does.
-fn exits_of(entries: &[Entry], told: &[Told]) -> Exits
+fn exits_of(entries: &ShortEntries, told: &[Told]) -> Exits
     ensures { AreExits entries.now told.now result }
 {
     let mut all = no_exits();
@@ -67,7 +69,7 @@ fn exits_of(entries: &[Entry], told: &[Told]) -> Exits
 pub(crate) fn lanes_of(
     alloc: Global,
     procs: u8,
-    entries: &[Entry],
+    entries: &ShortEntries,
     told: &[Told],
 ) -> Result<Vec<Lane>, AllocError>
     ensures { IfOk result (λ lanes. lanes.items ≡ lanes_of procs entries.now told.now) }

@@ -6,8 +6,9 @@ ghost use Rattle.hub_picture.specs.Levels.{after, empty, holds_any, is_same, lev
 
 use crate::moves::Moves;
 use crate::{Strip, Window};
-use hub_base::{Case, Entry, Outcome, Port, What};
-use hub_story::{Level, Told, case_at};
+use hub_base::{Case, Outcome, Port, What};
+use hub_core::ShortEntries;
+use hub_story::{Level, Told};
 use std::alloc::{AllocError, Global};
 
 /// How full a port was from one step until another.
@@ -43,7 +44,7 @@ fn with_case(port: Port, level: Level, case: Case, outcome: Outcome) -> Level
 }
 
 /// The level with what is told here.
-pub(crate) fn after(entries: &[Entry], port: Port, level: Level, told: &Told) -> Level
+pub(crate) fn after(entries: &ShortEntries, port: Port, level: Level, told: &Told) -> Level
     requires sent { level.sent < 2 ^ 64 - 1 }
     requires received { level.received < 2 ^ 64 - 1 }
     ensures value { result ≡ after entries.now port level told.now }
@@ -53,7 +54,7 @@ pub(crate) fn after(entries: &[Entry], port: Port, level: Level, told: &Told) ->
     let What::Fired { case, outcome } = told.event.what else {
         return level;
     };
-    match case_at(entries, told.asked, case) {
+    match entries.case_at(told.asked as usize, case) {
         Some(case) => with_case(port, level, case, outcome),
         None => level,
     }
@@ -97,7 +98,7 @@ fn add_shown(levels: &mut Vec<Held>, window: Window, held: Held) -> Result<(), A
 fn add_levels(
     levels: &mut Vec<Held>,
     window: Window,
-    entries: &[Entry],
+    entries: &ShortEntries,
     told: &[Told],
     strip: Strip,
 ) -> Result<(), AllocError>
@@ -133,8 +134,8 @@ fn holds_any(
         any ≡ holds_any window moves.now.entries.now moves.now.told.now strip) }
 {
     let mut levels = Vec::new(alloc);
-    let told = moves.on(alloc, strip.port)?;
-    add_levels(&mut levels, window, moves.entries, &told, strip)?;
+    let told = moves.on(strip.port);
+    add_levels(&mut levels, window, moves.entries, told, strip)?;
     Ok(!levels.is_empty())
 }
 
@@ -170,8 +171,8 @@ pub(crate) fn levels_in(
 {
     let mut all = Vec::new(alloc);
     for strip in strips {
-        let told = moves.on(alloc, strip.port)?;
-        add_levels(&mut all, window, moves.entries, &told, *strip)?;
+        let told = moves.on(strip.port);
+        add_levels(&mut all, window, moves.entries, told, *strip)?;
     }
     Ok(all)
 }

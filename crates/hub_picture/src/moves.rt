@@ -1,10 +1,13 @@
 //! What is told of one port, without a look at every entry for each port.
 
-ghost use Rattle.std.specs.Prelude.{◌≡◌, IfOk, map};
-ghost use Rattle.hub_picture.specs.Moves.{is_port, port_of, port_told};
+ghost use Rattle.std.specs.Prelude.{◌≡◌, ◌++◌, ◌∷◌, [], filter, IfOk, OnOk};
+ghost use Rattle.hub_base.specs.declared.value.Port.{Port as PortNumber};
+ghost use Rattle.hub_story.specs.OfPorts.{things_on};
+ghost use Rattle.hub_picture.specs.Moves.{is_told_on, port_of, port_told};
 
-use hub_base::{Case, Entry, Port, What};
-use hub_story::{Told, case_at};
+use hub_base::{Case, Port, What};
+use hub_core::ShortEntries;
+use hub_story::{ByPort, Told};
 use std::alloc::{AllocError, Global};
 
 /// The port of a case.
@@ -18,11 +21,11 @@ pub(crate) fn port_of(case: Case) -> Port
 }
 
 /// The port of the case that fired, if one did.
-fn port_told(entries: &[Entry], told: &Told) -> Option<Port>
+fn port_told(entries: &ShortEntries, told: &Told) -> Option<Port>
     ensures { result ≡ port_told entries.now told.now }
 {
     match told.event.what {
-        What::Fired { case, .. } => match case_at(entries, told.asked, case) {
+        What::Fired { case, .. } => match entries.case_at(told.asked as usize, case) {
             Some(case) => Some(port_of(case)),
             None => None,
         },
@@ -30,41 +33,43 @@ fn port_told(entries: &[Entry], told: &Told) -> Option<Port>
     }
 }
 
-/// The same of all that is told, in order.
-fn ports_told(
+/// Takes in what is told next, where it is told of a port.
+fn note(all: &mut ByPort<Told>, entries: &ShortEntries, told: &Told) -> Result<(), AllocError>
+    ensures { OnOk result ((q : PortNumber) → things_on all.new q
+        ≡ things_on all.old q ++ filter (is_told_on entries.now q) (told.now ∷ [])) }
+{
+    let Some(port) = port_told(entries, told) else {
+        return Ok(());
+    };
+    all.push(port, *told)?;
+    Ok(())
+}
+
+/// What is told of each port, in order.
+fn all_by_port(
     alloc: Global,
-    entries: &[Entry],
+    entries: &ShortEntries,
     told: &[Told],
-) -> Result<Vec<Option<Port>>, AllocError>
-    ensures { IfOk result (λ ports. ports.items ≡ map (port_told entries.now) told.now) }
+) -> Result<ByPort<Told>, AllocError>
+    ensures { IfOk result (λ all. (q : PortNumber) → things_on all q ≡ filter (is_told_on entries.now q) told.now) }
 {
-    let mut ports = Vec::new(alloc);
+    let mut all = ByPort::new(alloc)?;
     for told in told {
-        ports.push(port_told(entries, told))?;
+        note(&mut all, entries, told)?;
     }
-    Ok(ports)
+    Ok(all)
 }
 
-/// Whether it is this port.
-fn is_port(port: Port, found: Option<Port>) -> bool
-    ensures { result ≡ is_port port found }
-{
-    match found {
-        Some(found) => found.0 == port.0,
-        None => false,
-    }
-}
-
-/// What is told, and on which port each of it may have moved a value. Of an entry, which is large, that is asked once.
+/// What is told, and apart from it what is told of each port.
 #[derive(Drop)]
 pub(crate) struct Moves<'a> {
     /// The entries of the journal.
-    pub entries: &'a [Entry],
+    pub entries: &'a ShortEntries,
     /// All that is told.
     pub told: &'a [Told],
-    /// The port of each.
-    ports: Vec<Option<Port>>,
-    ghost each: { ports.items ≡ map (port_told entries.now) told.now },
+    /// What is told of each port, in order.
+    by_port: ByPort<Told>,
+    ghost each: { (q : PortNumber) → things_on by_port q ≡ filter (is_told_on entries.now q) told.now },
 }
 
 impl<'a> Moves<'a> {
@@ -74,31 +79,24 @@ impl<'a> Moves<'a> {
     /// Of these entries.
     pub fn new(
         alloc: Global,
-        entries: &'a [Entry],
+        entries: &'a ShortEntries,
         told: &'a [Told],
     ) -> Result<Moves<'a>, AllocError>
         ensures entries { IfOk result (λ moves. moves.entries.now ≡ entries.entry.now) }
         ensures told { IfOk result (λ moves. moves.told.now ≡ told.entry.now) }
     {
-        let ports = ports_told(alloc, entries, told)?;
+        let by_port = all_by_port(alloc, entries, told)?;
         Ok(Moves {
             entries,
             told,
-            ports,
+            by_port,
         })
     }
 
     /// What is told of a port, in order.
-    pub fn on(&self, alloc: Global, port: Port) -> Result<Vec<Told>, AllocError>
-        ensures { IfOk result (λ all.
-            all.items ≡ filter (is_told_on self.now.entries.now port) self.now.told.now) }
+    pub fn on(&self, port: Port) -> &[Told]
+        ensures { result.now ≡ filter (is_told_on self.now.entries.now port) self.now.told.now }
     {
-        let mut all = Vec::new(alloc);
-        for (place, found) in self.ports.iter().enumerate() {
-            if is_port(port, *found) {
-                all.push(self.told[place])?;
-            }
-        }
-        Ok(all)
+        self.by_port.on(port)
     }
 }

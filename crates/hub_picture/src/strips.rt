@@ -3,7 +3,8 @@
 ghost use Rattle.std.specs.Prelude.{◌≡◌, IfOk};
 ghost use Rattle.hub_picture.specs.Levels.{all_strips, room_at, room_of, strip_of, with_room};
 
-use hub_base::{Entry, Port, Step, What};
+use hub_base::{Case, Port, Step, StepRef, What};
+use hub_core::ShortEntries;
 use hub_story::Told;
 use std::alloc::{AllocError, Global};
 
@@ -19,7 +20,7 @@ pub struct Strip {
 }
 
 /// How many values the port has room for that this step makes.
-fn room_of(step: &Step) -> u32
+fn room_of(step: &StepRef<'_>) -> u32
     ensures { result ≡ room_of step.now }
 {
     match step {
@@ -29,10 +30,11 @@ fn room_of(step: &Step) -> u32
 }
 
 /// The same of the entry at this place.
-fn room_at(entries: &[Entry], place: u32) -> u32
+fn room_at(entries: &ShortEntries, place: u32) -> u32
     ensures { result ≡ room_at entries.now place }
 {
-    match entries.get(place as usize) {
+    let mut one = Case::default();
+    match entries.get(place as usize, &mut one) {
         Some(entry) => room_of(&entry.step),
         None => 0,
     }
@@ -50,7 +52,7 @@ fn with_room(row: usize, port: Port, room: u32) -> Option<Strip>
 }
 
 /// The strip of the port that is told to be made.
-fn strip_of(entries: &[Entry], row: usize, told: &Told) -> Option<Strip>
+fn strip_of(entries: &ShortEntries, row: usize, told: &Told) -> Option<Strip>
     ensures { result ≡ strip_of entries.now row told.now }
 {
     match told.event.what {
@@ -62,7 +64,7 @@ fn strip_of(entries: &[Entry], row: usize, told: &Told) -> Option<Strip>
 /// The strips of the ports that were made, in order, a row each.
 pub(crate) fn strips_of(
     alloc: Global,
-    entries: &[Entry],
+    entries: &ShortEntries,
     told: &[Told],
 ) -> Result<Vec<Strip>, AllocError>
     ensures { IfOk result (λ strips. strips.items ≡ all_strips entries.now told.now) }

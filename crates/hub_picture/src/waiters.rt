@@ -9,8 +9,9 @@ ghost use Rattle.hub_picture.specs.Waiters.{waiters_of, waits_for};
 use crate::Window;
 use crate::levels::{after, empty};
 use crate::moves::{Moves, port_of};
-use hub_base::{Case, Entry, MOST_PORTS, Port};
-use hub_story::{Level, Told, cases_at};
+use hub_base::{Case, MOST_PORTS, Port};
+use hub_core::ShortEntries;
+use hub_story::{Level, Told};
 use std::alloc::{AllocError, Global};
 
 /// A call that waits, one of its cases, and who was the last at its port.
@@ -46,7 +47,7 @@ fn count_on(side: Side, level: Level) -> usize
 }
 
 /// Whether a value passed it by this step or an earlier one.
-fn passed_until(side: Side, entries: &[Entry], port: Port, step: u32, told: &Told) -> bool
+fn passed_until(side: Side, entries: &ShortEntries, port: Port, step: u32, told: &Told) -> bool
     ensures { result ≡ passed_until side entries.now port step told.now }
 {
     told.by <= step && count_on(side, after(entries, port, empty(), told)) > 0
@@ -60,7 +61,7 @@ fn later(so: bool, told: &Told, before: Option<Told>) -> Option<Told>
 }
 
 /// The last who let a value pass by this step.
-fn last_on(side: Side, entries: &[Entry], told: &[Told], port: Port, step: u32) -> Option<Told>
+fn last_on(side: Side, entries: &ShortEntries, told: &[Told], port: Port, step: u32) -> Option<Told>
     ensures { result ≡ last_on side entries.now told.now port step }
 {
     let mut last = None;
@@ -80,7 +81,7 @@ struct Lasts {
 }
 
 /// Who was the last at a port by this step.
-fn lasts_on(entries: &[Entry], told: &[Told], step: u32, port: Port) -> Lasts
+fn lasts_on(entries: &ShortEntries, told: &[Told], step: u32, port: Port) -> Lasts
     ensures { result ≡ lasts_on entries.now told.now step port }
 {
     Lasts {
@@ -100,8 +101,8 @@ fn all_lasts(alloc: Global, moves: &Moves<'_>, step: u32) -> Result<Vec<Lasts>, 
     let mut all = Vec::new(alloc);
     for number in 0..PORT_NUMBERS {
         let port = Port(number);
-        let told = moves.on(alloc, port)?;
-        all.push(lasts_on(moves.entries, &told, step, port))?;
+        let told = moves.on(port);
+        all.push(lasts_on(moves.entries, told, step, port))?;
     }
     Ok(all)
 }
@@ -110,7 +111,7 @@ fn all_lasts(alloc: Global, moves: &Moves<'_>, step: u32) -> Result<Vec<Lasts>, 
 #[derive(Clone, Copy)]
 struct Standing<'a> {
     /// The entries of the journal.
-    entries: &'a [Entry],
+    entries: &'a ShortEntries,
     /// All that is told.
     told: &'a [Told],
     /// The step.
@@ -173,8 +174,10 @@ fn add_calls(
     ensures { OnOk result (all.new.items ≡ all.old.items
         ++ flat_map (waiters_of standing.now.entries.now standing.now.told.now standing.now.step) calls.now) }
 {
+    let mut one = Case::default();
     for call in calls {
-        add_cases(all, standing, call, cases_at(standing.entries, call.asked))?;
+        let cases = standing.entries.cases_at(call.asked as usize, &mut one);
+        add_cases(all, standing, call, cases)?;
     }
     Ok(())
 }

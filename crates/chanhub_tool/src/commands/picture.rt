@@ -43,7 +43,6 @@ pub(crate) fn picture_of(
     ensures { IfOk result (λ text. IsPicture window journal.now text.items) }
 {
     let story = story_of(alloc, journal)?;
-    let whole = journal.write_out(alloc)?;
-    let drawing = drawing_of(alloc, &whole, &story, window)?;
+    let drawing = drawing_of(alloc, journal, &story, window)?;
     Ok(PackedText::plain(svg_of(alloc, &drawing)?))
 }

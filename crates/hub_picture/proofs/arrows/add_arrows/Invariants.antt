@@ -1,8 +1,10 @@
 use Rattle.std.proofs.Common.{◌≡◌, ◌++◌, drop}
+use Rattle.hub_story.specs.Passing.{beside, passages, receives, sends}
 use Rattle.hub_picture.specs.Drawings.{arrows_on}
 use Rattle.hub_picture.proofs.arrows.add_arrows.Given as goal
 
-abbrev pub invariant-loop-passage : goal.invariant-loop-passage
-invariant-loop-passage l =
-    l.arrows.items ++ arrows_on l.window l.port (drop l.passage-index l.passages)
-    ≡ l.fn.arrows.items ++ arrows_on l.window l.port l.passages
+abbrev pub invariant-loop-told_of : goal.invariant-loop-told_of
+invariant-loop-told_of l =
+    l.arrows.items ++ arrows_on l.window l.port
+    (beside (sends l.entries (drop l.from l.told) l.port) (receives l.entries (drop l.told_of-index l.told) l.port))
+    ≡ l.fn.arrows.items ++ arrows_on l.window l.port (passages l.entries l.told l.port)

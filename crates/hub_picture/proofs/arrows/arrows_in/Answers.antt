@@ -5,6 +5,6 @@ pub returns : goal.returns
 returns c =
     let ports = c.ports_of-before-end in
     let drawn =
-    all-drawn c.args.window c.args.journal.now.entries c.args.moves.now.told.now c.loop-before.before ports.result _
+    all-drawn c.args.window c.args.moves.now.entries.now c.args.moves.now.told.now c.loop-before.before ports.result _
     c.loop-before.auto.before-end c.loop-before-test.false c.loop-before.invariant in
     rw ports.ensures.value at drawn

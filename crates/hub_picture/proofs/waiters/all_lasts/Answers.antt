@@ -14,7 +14,7 @@ loop-number-preserved c =
     record {
       many = grind (arith, common_steps);
       lasts = lasts-next es all c.args.step c.loop-number.all.items c.push.new.self.items c.loop-number.number c.lasts_on.result lasts.lasts lasts.many
-          (c.lasts_on.ensures ∙ ap (λ ts. lasts_on es ts c.args.step port) (c.deref.ensures.value ∙ c.in_ok-told.ensures)
+          (c.lasts_on.ensures ∙ ap (λ ts. lasts_on es ts c.args.step port) c.on-told.ensures
           ∙ same-lasts es all c.args.step port)
           c.in_ok-push.ensures.items;
     }

@@ -1,15 +1,12 @@
 use Rattle.std.proofs.Common.{◌∙◌}
 use Rattle.chanhub_tool.proofs.commands.picture.picture_of.Goals as goal
 
-pub drawing_of-requires : goal.drawing_of-requires
-drawing_of-requires c = rw c.in_ok-whole.ensures (record { few = c.requires.few })
-
 pub returns : goal.returns
 returns c =
     record {
       story = c.in_ok-story.story;
       drawing = c.in_ok-drawing.drawing;
       told = c.in_ok-story.ensures;
-      draws = rw c.in_ok-whole.ensures at c.in_ok-drawing.ensures;
+      draws = c.in_ok-drawing.ensures;
       is = c.plain.ensures ∙ c.in_ok-svg_of.ensures;
     }

@@ -22,6 +22,7 @@ use hub_base::{
 };
 use hub_core::ShortHub;
 use hub_endless::EndlessHub;
+use hub_live::under_lock::Locked;
 
 /// The entry of a process that makes this step.
 #[inline(always)]
@@ -31,6 +32,30 @@ fn entry_by(pid: u8, step: StepRef<'_>) -> EntryRef<'_>
     Entry {
         pid: Pid(pid),
         step,
+    }
+}
+
+/// The bits of the processes whose calls the last step ended. Mostly it ended none, and then their list is not copied.
+#[inline(always)]
+fn bits_ended(hub: &Locked) -> u64
+    ensures { result ≡ bits_of hub.now.ended }
+{
+    if hub.has_ended() {
+        bits_of(hub.ended().as_slice())
+    } else {
+        0
+    }
+}
+
+/// The same of a hub that never ends.
+#[inline(always)]
+fn bits_ended_in_all(hub: &EndlessHub) -> u64
+    ensures { result ≡ bits_of hub.now.ended }
+{
+    if hub.has_ended() {
+        bits_of(hub.ended().as_slice())
+    } else {
+        0
     }
 }
 
@@ -64,12 +89,7 @@ fn step_endless(
     match hub.step(entry, out) {
         Ok(answer) => {
             hold(out, hands_out);
-            tell_made(
-                &answer,
-                bits_of(hub.ended().as_slice()),
-                out.is_some(),
-                told,
-            );
+            tell_made(&answer, bits_ended_in_all(hub), out.is_some(), told);
         }
         Err(fault) => tell_refused(fault, out.is_some(), told),
     }
@@ -90,14 +110,7 @@ impl Opened {
     {
         match self {
             Opened::Limited(hub) => match hub.step(entry) {
-                Ok(answer) => {
-                    tell_made(
-                        &answer,
-                        bits_of(hub.ended().as_slice()),
-                        out.is_some(),
-                        told,
-                    );
-                }
+                Ok(answer) => tell_made(&answer, bits_ended(hub), out.is_some(), told),
                 Err(fault) => tell_refused(fault, out.is_some(), told),
             },
             Opened::Endless(hub) => step_endless(hub, out, hands_out, entry, told),

@@ -6,20 +6,12 @@
 //! sleep ends by it.
 
 use std::sync::Wait;
-use std::sync::atomic::{AtomicBool, AtomicU32, Ordering};
+use std::sync::atomic::{AtomicBool, Ordering};
 use std::thread;
 
-/// How often a thread looks at first before it sleeps: for some 3 microseconds, a part of what a sleep and a wake take. It is
-/// a number of loads, since std's `spin_loop` emits no instruction: a loop of those takes no time.
-const FIRST_LOOKS: u32 = 5_000;
-
-/// A thread that slept looks half as often the next time, where it may be that no processor is free for whoever would tell
-/// it, but so often at least that it sees an answer which comes at once.
-const FEWEST_LOOKS: u32 = 1_000;
-
-/// One that was told while it looked looks a quarter longer the next time, up to some 30 microseconds. So looks grow only where
-/// three of four bring an answer.
-const MOST_LOOKS: u32 = 60_000;
+/// How often a thread looks before it sleeps: for some 3 microseconds, a part of what a sleep and a wake take. It is a
+/// number of loads, since std's `spin_loop` emits no instruction: a loop of those takes no time.
+const LOOKS: u32 = 5_000;
 
 /// Where one thread waits.
 #[derive(Drop)]
@@ -29,8 +21,6 @@ pub(crate) struct Parker {
     told: AtomicBool,
     /// Where the thread sleeps. To wake it takes a system call only while it does.
     sleeper: thread::Parker,
-    /// How often its thread looks the next time.
-    looks: AtomicU32,
     /// Keeps the words of two processes off one line of the cache.
     _apart: [u64; 6],
 }
@@ -40,7 +30,6 @@ impl Parker {
         Parker {
             told: AtomicBool::new(false),
             sleeper: thread::Parker::new(),
-            looks: AtomicU32::new(FIRST_LOOKS),
             _apart: [0; 6],
         }
     }
@@ -58,20 +47,14 @@ impl Parker {
 
     /// Waits until it is told, by looks at first. It may return for nothing.
     pub(crate) fn wait<R: Wait>(&self, rt: &R) {
-        let looks = self.looks.load(Ordering::SeqCst);
-        if self.was_told(looks) {
-            let more = looks.saturating_add(looks / 4);
-            self.looks.store(more.min(MOST_LOOKS), Ordering::SeqCst);
-        } else {
-            self.looks
-                .store((looks / 2).max(FEWEST_LOOKS), Ordering::SeqCst);
+        if !self.was_told() {
             self.sleeper.park(rt);
         }
     }
 
-    /// Looks so often whether it was told.
-    fn was_told(&self, looks: u32) -> bool {
-        for _ in 0..looks {
+    /// Looks for a while whether it was told.
+    fn was_told(&self) -> bool {
+        for _ in 0..LOOKS {
             if self.told.load(Ordering::SeqCst) {
                 return true;
             }

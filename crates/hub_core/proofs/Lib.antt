@@ -6,6 +6,7 @@ pub mod Choices
 pub mod Ports
 pub mod Firings
 pub mod Readiness
+pub mod Acting
 pub mod Answering
 pub mod Effects
 pub mod Stalls

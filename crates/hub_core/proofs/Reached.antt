@@ -1,7 +1,9 @@
 -- What is known of a machine that some run leads to.
-use Rattle.std.proofs.Common.{◌≡◌, ℕ, ◌+◌, ◌-◌, ◌==◌, ◌≤◌, ◌<◌, ◌^◌, Bool, true, false, cond, nat_lt}
+use Rattle.std.proofs.Common.{◌≡◌, ℕ, ◌+◌, ◌-◌, ◌==◌, ◌≤◌, ◌<◌, ◌^◌, ◌||◌, ◌&&◌, not, Bool, true, false, cond, nat_lt}
 use Rattle.std.proofs.Common.{List, [], ◌∷◌, length, length-append, ap, refl, ◌∙◌, sym, subst, Option, Some, None, arith}
-use Rattle.std.specs.List.{list_any}
+use Rattle.std.specs.List.{list_any, range_with_len}
+use Rattle.std.proofs.lemmas.List.Folds.{list_all_at}
+use Rattle.std.proofs.lemmas.List.FromFn.{length-range_with_len, get_or-range_with_len}
 use Rattle.std.proofs.lemmas.Grind.{common_steps}
 use Rattle.std.proofs.lemmas.List.{length-map}
 use Rattle.hub_base.specs.declared.head.Head.{Head}
@@ -35,7 +37,8 @@ use Rattle.hub_core.specs.Records.{MachineLists, tally_at}
 use Rattle.hub_core.specs.ListReady.{BufferFits}
 use Rattle.hub_core.specs.ListKeeps.{CanCount, PortsKeep}
 use Rattle.hub_core.specs.ListSteps.{ListChange, ArePresent, effect_on, fault_on, call_fault_on, is_unmade_on, refusal_of}
-use Rattle.hub_core.specs.ListSteps.{all_wait_on, stalls_on, stalled_events, answers_on, turn_on}
+use Rattle.hub_core.specs.ListSteps.{gone_on, open_on, each_gone_or_open_on, all_wait_on, stalls_on, stalled_events}
+use Rattle.hub_core.specs.ListSteps.{acts_by, acts_on, answers_on, turn_on}
 use Rattle.hub_core.specs.Follows.{tally_of, Matches, Follows, IsReached}
 use Rattle.hub_core.proofs.Ports.{port-lists_of, tally-tally_of}
 use Rattle.hub_core.proofs.Readiness.{count-ports, get_within, length-buffer_of}
@@ -126,11 +129,45 @@ before_stall m pid step r h fine few places =
       );
     }
 
+present_of : (m : MachineLists) → IsReached m → ArePresent m.board.waiting m.gone m.board.procs
+present_of m r q waits =
+    let s = state r.0 r.1 in
+    let there = (state-sound r.0 r.1).present q (sym (open_on-as s m q r.2.matches) ∙ waits) in
+    (omega (arith, there.0, r.2.matches.procs), r.2.matches.gone q there.0 ∙ there.1)
+
+acts_before_stall : (m : MachineLists) (pid : Pid) (step : Step) (o : Option Fault) → o ≡ fault_on m.edition m.board step → IsReached m
+    → refusal_of m.board m.gone pid ≡ None → m.board.procs ≤ MOST_PROCS → length m.gone ≡ MOST_PROCS
+    → BeforeStall (acts_by m pid step o).machine (acts_by m pid step o).events
+acts_before_stall m pid step None is r h few places = before_stall m pid step r h (sym is) few places
+acts_before_stall m pid step (Some f) is r h few places =
+    record { apart = calls_apart m r; present = present_of m r; room = omega (arith, room_left m pid r h few) }
+
 -- the same, of the machine that a step left
 pub before_stall_of : (m next : MachineLists) (pid : Pid) (step : Step) → IsReached m → refusal_of m.board m.gone pid ≡ None →
-    fault_on m.edition m.board step ≡ None → m.board.procs ≤ MOST_PROCS → length m.gone ≡ MOST_PROCS →
-    next ≡ (effect_on m pid step).machine → BeforeStall next (effect_on m pid step).events
-before_stall_of m next pid step r h fine few places machine = rw machine (before_stall m pid step r h fine few places)
+    m.board.procs ≤ MOST_PROCS → length m.gone ≡ MOST_PROCS → next ≡ (acts_on m pid step).machine → BeforeStall next (acts_on m pid step).events
+before_stall_of m next pid step r h few places machine =
+    rw machine (acts_before_stall m pid step (fault_on m.edition m.board step) refl r h few places)
+
+-- ---- where a process may step, not all wait
+zero-left : (n : ℕ) → 0 + n ≡ n
+zero-left n = omega arith
+
+and_false : (b : Bool) → (b && false) ≡ false
+and_false true = refl
+and_false false = refl
+
+pub awake : (b : Lists) (gone : List Bool) (pid : Pid) → refusal_of b gone pid ≡ None → all_wait_on b gone ≡ false
+awake b gone pid h =
+    let there = none_false (not (nat_lt pid.0 b.procs)) fault.NoProcess _ h in
+    let stays = none_false (gone_on gone pid.0) fault.Gone _ there.1 in
+    let free = none_false (open_on b.waiting pid.0) fault.Busy None stays.1 in
+    let below : pid.0 < b.procs = grind (arith, common_steps, there.0) in
+    let each : each_gone_or_open_on b gone b.procs ≡ false =
+    list_all_at (λ q. gone_on gone q || open_on b.waiting q) (range_with_len 0 b.procs) pid.0 0
+    (omega (arith, below, length-range_with_len 0 b.procs))
+    (ap (λ q. gone_on gone q || open_on b.waiting q) (get_or-range_with_len 0 b.procs pid.0 0 below ∙ zero-left pid.0)
+    ∙ ap (λ g. g || open_on b.waiting pid.0) stays.0 ∙ free.0) in
+    ap (λ e. not (length b.waiting == 0) && e) each ∙ and_false (not (length b.waiting == 0))
 
 -- with those that end in a stall
 stalls_few : (c : ListChange) → (waits : Bool) → waits ≡ all_wait_on c.machine.board c.machine.gone

@@ -18,7 +18,7 @@ use Rattle.hub_parts.specs.Lists.{open_calls}
 use Rattle.hub_core.specs.declared.tally.Tally.{Tally}
 use Rattle.hub_core.specs.Hearing.{Heard}
 use Rattle.hub_core.specs.Records.{MachineLists}
-use Rattle.hub_core.specs.ListSteps.{gone_on, refusal_of, fault_on, effect_on}
+use Rattle.hub_core.specs.ListSteps.{gone_on, refusal_of, fault_on, acts_on}
 
 -- what a board shows of a channel: its buffer is what was sent and not yet received
 abbrev pub lists_of : Channel → PortLists
@@ -98,12 +98,19 @@ pub record MayTakeEffect (m : MachineLists) (pid : Pid) (step : Step) : Type 0 w
   pub fault : fault_on m.edition m.board step ≡ None
   pub steps : m.steps < 2 ^ 32 - 1
 
--- it has taken effect, or was a make that was refused memory and has changed nothing
-pub record TakesEffect {E S : Type 0} (heard : S → List Event → S → Type 0) (room : S → ℕ) (old : MachineLists) (pid : Pid) (step : Step)
+-- an admitted step, of whose fault nothing is known
+pub record MayAct (m : MachineLists) (pid : Pid) : Type 0 where
+  pub reached : IsReached m
+  pub admitted : refusal_of m.board m.gone pid ≡ None
+  pub steps : m.steps < 2 ^ 32 - 1
+
+-- it was told its fault or has taken effect, or was a make that was refused memory and has changed nothing
+pub record Acts {E S : Type 0} (heard : S → List Event → S → Type 0) (room : S → ℕ) (old : MachineLists) (pid : Pid) (step : Step)
     (new : MachineLists) (before after : S) (result : Result (Unit {0}) E) : Type 0 where
-  pub machine : OnOk result (new ≡ (effect_on old pid step).machine)
-  pub told : OnOk result (Heard heard room before after (effect_on old pid step).events)
+  pub machine : OnOk result (new ≡ (acts_on old pid step).machine)
+  pub told : OnOk result (Heard heard room before after (acts_on old pid step).events)
   pub make : OnErr result (IsMake step)
+  pub fine : OnErr result (fault_on old.edition old.board step ≡ None)
   pub unchanged : OnErr result (new ≡ old)
   pub silent : OnErr result (after ≡ before)
 

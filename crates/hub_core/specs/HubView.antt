@@ -76,6 +76,12 @@ pub record Steps (old : HubView) (e : Entry) (new : HubView) (told : List Event)
   pub events : told ≡ (moves (state_of old) e).events
   pub journal : new ≡ with_entry e old
 
+-- the same, and its events were heard
+pub record StepsHeard {S : Type 0} (old : HubView) (e : Entry) (new : HubView) (Heard : List Event → S → Type 0) (now : S) : Type 0 where
+  pub told : List Event
+  pub heard : Heard told now
+  pub steps : Steps old e new told
+
 -- a growth is asked for by a make, and by a call, a close or a cancel where no place is left
 abbrev pub Grows : Step → ℕ → Type 0
 Grows (Make cap) places = Unit {0}

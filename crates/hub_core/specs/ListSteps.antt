@@ -185,15 +185,17 @@ none_open b = record b { waiting = [] }
 abbrev pub stalled_events : List Ticketed → List Event
 stalled_events ws = map (λ w. tells w.call.pid what.Stalled) ws
 
--- the stall rule
-abbrev pub stalls_on : ListChange → ListChange
-stalls_on c =
-    if all_wait_on c.machine.board c.machine.gone
-    then record {
+-- all stall behind a step
+abbrev pub all_stalled : ListChange → ListChange
+all_stalled c =
+    record {
       machine = with_board c.machine (none_open c.machine.board) c.machine.counts;
       events = c.events ++ stalled_events c.machine.board.waiting;
     }
-    else c
+
+-- the stall rule
+abbrev pub stalls_on : ListChange → ListChange
+stalls_on c = if all_wait_on c.machine.board c.machine.gone then all_stalled c else c
 
 -- ---- the faults that are answers to admitted steps
 -- a port other than 0 that was not made
@@ -223,10 +225,22 @@ fault_on edition b Exit = None
 fault_on edition b (Cancel q) = if open_on b.waiting q.0 then None else Some fault.NotParked
 
 -- ---- one admitted entry
+-- the process is told why its step has no effect
+abbrev pub told_fault : MachineLists → Pid → Fault → ListChange
+told_fault m pid f = record { machine = m; events = tells pid (what.Fault f) ∷ [] }
+
+-- the fault, or else what the step does, before the stall rule
+abbrev pub acts_by : MachineLists → Pid → Step → Option Fault → ListChange
+acts_by m pid step None = effect_on m pid step
+acts_by m pid step (Some f) = told_fault m pid f
+
+abbrev pub acts_on : MachineLists → Pid → Step → ListChange
+acts_on m pid step = acts_by m pid step (fault_on m.edition m.board step)
+
 -- the fault, or else what the step does and the stall rule
 abbrev pub answers_on : MachineLists → Entry → Option Fault → ListChange
 answers_on m e None = stalls_on (effect_on m e.pid e.step)
-answers_on m e (Some f) = record { machine = m; events = tells e.pid (what.Fault f) ∷ [] }
+answers_on m e (Some f) = told_fault m e.pid f
 
 -- the same machine after n entries
 abbrev pub with_steps : ℕ → MachineLists → MachineLists

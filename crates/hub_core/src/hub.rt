@@ -6,6 +6,7 @@ ghost use Rattle.hub_base.specs.Runs.{kept};
 ghost use Rattle.hub_core.specs.Looks.{look_at, value_at};
 ghost use Rattle.hub_core.specs.HubView.{Steps, StepRules, RefusesOpening, opened_hub, state_of, terms_of, IsLimit};
 
+use crate::machine::empty;
 use crate::short_hub::Form;
 use crate::{OpenFault, ShortHub};
 use hub_base::{
@@ -72,6 +73,7 @@ impl Hub {
         ensures ok { OnOk result (Steps self.old.hub entry.now self.new.hub events.new.items) }
         ensures rules { StepRules self.old entry.now self.new result }
     {
+        empty(events);
         self.kept.make(entry, Form::Whole, events)
     }
 

@@ -106,7 +106,7 @@ impl Machine {
         if let Some(fault) = self.state.refusal(entry.pid) {
             return Err(fault);
         }
-        match self.turn(entry, events) {
+        match self.step_admitted(entry, events) {
             Ok(()) => Ok(()),
             Err(NoMemory) => Err(Fault::NoMemory),
         }
@@ -129,7 +129,13 @@ impl Machine {
         ensures empty { OnErr result (events.new.items ≡ []) }
     {
         empty(events);
-        self.step_into(entry, events)
+        match self.state.refusal(entry.pid) {
+            None => self.step_admitted(entry, events),
+            Some(fault) => {
+                events.hear(tells(entry.pid, What::Fault(fault)));
+                Ok(())
+            }
+        }
     }
 
     /// As `answer`, to whoever hears the events behind those that it has heard before; there must be room for those
@@ -137,7 +143,7 @@ impl Machine {
     #[inline(always)]
     pub fn step_into<E: Hears>(
         &mut self,
-        entry: &EntryRef<'_>,
+        entry: &hub_base::Entry,
         events: &mut E,
     ) -> Result<(), NoMemory>
         requires steps { self.old.steps < 2 ^ 32 - 1 }
@@ -157,24 +163,13 @@ impl Machine {
             events.hear(tells(entry.pid, What::Fault(fault)));
             return Ok(());
         }
-        self.step_admitted(entry, events)
-    }
-
-    /// Makes an admitted step, where there are no events yet. After a refusal there are none either, and
-    /// the machine is as before.
-    pub(crate) fn turn(&mut self, entry: &EntryRef<'_>, events: &mut Events) -> Result<(), NoMemory>
-        requires steps { self.old.steps < 2 ^ 32 - 1 }
-        requires admitted { refusal_of self.old.board self.old.gone entry.now.pid ≡ None }
-        requires empty { events.old.items ≡ [] }
-        ensures ok { OnOk result (Turns self.old entry.now self.new events.new.items) }
-        ensures err { OnErr result (RefusesMake self.old entry.now self.new events.new.items) }
-    {
-        self.step_admitted(entry, events)
+        // Only now, so that the compiler asks once which step it is.
+        self.step_admitted(&entry.by_slice(), events)
     }
 
     /// Makes an admitted step, and tells what follows. After a refusal nothing is told, and the machine is as
     /// before.
-    fn step_admitted<E: Hears>(
+    pub(crate) fn step_admitted<E: Hears>(
         &mut self,
         entry: &EntryRef<'_>,
         events: &mut E,

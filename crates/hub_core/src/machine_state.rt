@@ -1,22 +1,23 @@
 //! What a machine holds, also in the midst of a step, and what a step does to it.
 
-ghost use Rattle.std.specs.Prelude.{◌≡◌, ◌≤◌, ◌<◌, ◌-◌, ◌^◌, None, false, true, replicate, length, slice_get, IfOk, OnOk, OnErr};
+ghost use Rattle.std.specs.Prelude.{◌≡◌, ◌≤◌, ◌<◌, ◌-◌, ◌^◌, ◌∷◌, [], None, false, true, replicate, length, slice_get, IfOk, OnOk, OnErr};
 ghost use Rattle.std.specs.Option.{option_map};
 ghost use Rattle.hub_parts.specs.Lists.{open_calls, shown_call};
 ghost use Rattle.hub_parts.specs.Shapes.{IsShapeOf};
 ghost use Rattle.hub_base.specs.declared.entry.Step.TheVariants.{Make, Close, Exit, Cancel};
+ghost use Rattle.hub_base.specs.declared.event.What.TheVariants as what;
 ghost use Rattle.hub_core.specs.Prelude.{AllMade, MOST_EVENTS, tells};
 ghost use Rattle.hub_core.specs.ListSteps.{call_on, makes_on, closes_on, exits_on, cancels_on, turn_on, refusal_of, fault_on, open_on};
 ghost use Rattle.hub_core.specs.ListKeeps.{PortsKeep};
 ghost use Rattle.hub_core.specs.Hearing.{Heard};
 ghost use Rattle.hub_core.specs.Looks.{look_on, value_on};
 ghost use Rattle.hub_core.specs.Records.{opened_machine};
-ghost use Rattle.hub_core.specs.Follows.{IsMake, IsReached, MayTakeEffect, TakesEffect};
+ghost use Rattle.hub_core.specs.Follows.{IsMake, IsReached, MayAct, MayTakeEffect, Acts};
 
 use crate::closing::close;
 use crate::firing::{Caller, CountedBoard};
 use crate::looking::{buffered, look};
-use crate::refusals::{fault_of, refusal};
+use crate::refusals::{call_fault, cancel_fault, close_fault, make_fault, refusal};
 use crate::select::{choose, park_or_default};
 use crate::stalling::{all_wait, stop_all};
 use crate::tally::Tallies;
@@ -73,6 +74,14 @@ pub(crate) fn tells(pid: Pid, what: What) -> Event
     ensures { result ≡ tells pid what }
 {
     Event { pid, what }
+}
+
+/// Tells a process why its step had no effect.
+fn tell_fault<E: Hears>(pid: Pid, fault: Fault, events: &mut E)
+    requires room { 0 < E.room events.old }
+    ensures { Heard E.heard E.room events.old events.new (tells pid (what.Fault fault) ∷ []) }
+{
+    events.hear(tells(pid, What::Fault(fault)));
 }
 
 impl MachineState {
@@ -225,34 +234,49 @@ impl MachineState {
         events.hear(tells(other, What::Cancelled));
     }
 
-    /// What a step without a fault does. A make that is refused memory changes nothing.
+    /// What an admitted step does, or the fault that it is told instead. A make that is refused memory changes nothing.
     #[inline(always)]
-    fn effect<E: Hears>(
+    fn act<E: Hears>(
         &mut self,
         pid: Pid,
         step: &StepRef<'_>,
         events: &mut E,
     ) -> Result<(), NoMemory>
-        requires may { MayTakeEffect self.old pid step.now }
+        requires may { MayAct self.old pid }
         requires room { MOST_EVENTS ≤ E.room events.old }
-        ensures { TakesEffect E.heard E.room self.old pid step.now
-            self.new events.old events.new result }
+        ensures acts { Acts E.heard E.room self.old pid step.now self.new events.old events.new result }
+        ensures places { length self.old.gone ≡ MOST_PROCS }
+        ensures few { self.old.board.procs ≤ MOST_PROCS }
     {
+        let board = &self.counted.board;
         match step {
-            Step::Make(cap) => return self.make(pid, *cap, events),
+            Step::Make(cap) => match make_fault(board, *cap) {
+                None => return self.make(pid, *cap, events),
+                Some(fault) => tell_fault(pid, fault, events),
+            },
             Step::Call {
                 cases,
                 default,
                 word,
-            } => self.call(pid, cases, *default, *word, events),
-            Step::Close(port) => self.close(pid, *port, events),
+            } => match call_fault(self.head.edition, board, cases.as_slice()) {
+                None => self.call(pid, cases, *default, *word, events),
+                Some(fault) => tell_fault(pid, fault, events),
+            },
+            Step::Close(port) => match close_fault(board, *port) {
+                None => self.close(pid, *port, events),
+                Some(fault) => tell_fault(pid, fault, events),
+            },
             Step::Exit => self.exit(pid, events),
-            Step::Cancel(other) => self.cancel(pid, *other, events),
+            Step::Cancel(other) => match cancel_fault(board, *other) {
+                None => self.cancel(pid, *other, events),
+                Some(fault) => tell_fault(pid, fault, events),
+            },
         }
         Ok(())
     }
 
-    /// An admitted step: its fault, or what it does and the stall rule behind it.
+    /// An admitted step: its fault, or what it does, and the stall rule behind it. Behind a fault the caller does not wait, so
+    /// that nothing stalls.
     pub(crate) fn turn<E: Hears>(
         &mut self,
         entry: &EntryRef<'_>,
@@ -272,13 +296,9 @@ impl MachineState {
         ensures places { length self.old.gone ≡ MOST_PROCS }
         ensures few { self.old.board.procs ≤ MOST_PROCS }
     {
-        if let Some(fault) = fault_of(self.head.edition, &self.counted.board, &entry.step) {
-            events.hear(tells(entry.pid, What::Fault(fault)));
-        } else {
-            self.effect(entry.pid, &entry.step, events)?;
-            if all_wait(&self.counted.board, &self.gone, self.left, self.head.procs) {
-                stop_all(&mut self.counted.board, events);
-            }
+        self.act(entry.pid, &entry.step, events)?;
+        if all_wait(&self.counted.board, &self.gone, self.left, self.head.procs) {
+            stop_all(&mut self.counted.board, events);
         }
         self.steps += 1;
         Ok(())

@@ -7,7 +7,7 @@ ghost use Rattle.hub_core.specs.Prelude.{Edition, port_of};
 ghost use Rattle.hub_core.specs.ListSteps.{refusal_of, fault_on, call_fault_on, is_unmade_on};
 
 use crate::stalling::has_gone;
-use hub_base::{Case, Edition, Fault, MOST_CAP, MOST_PORTS, MOST_PROCS, Pid, Port, Step, StepRef};
+use hub_base::{Case, Edition, Fault, MOST_CAP, MOST_PORTS, MOST_PROCS, Pid, Port};
 use hub_parts::Board;
 
 /// Why a step of this process is not admitted.
@@ -45,7 +45,7 @@ fn names_unmade(board: &Board, cases: &[Case]) -> bool
 }
 
 /// The fault of a call of these cases, in a hub of this edition.
-fn call_fault(edition: Edition, board: &Board, cases: &[Case]) -> Option<Fault>
+pub(crate) fn call_fault(edition: Edition, board: &Board, cases: &[Case]) -> Option<Fault>
     ensures { result ≡ call_fault_on edition board.now cases.now }
 {
     // Most calls have one case, which no edition refuses, and which is looked at without a loop.
@@ -66,7 +66,7 @@ fn call_fault(edition: Edition, board: &Board, cases: &[Case]) -> Option<Fault>
 }
 
 /// The fault of a make.
-fn make_fault(board: &Board, cap: u32) -> Option<Fault>
+pub(crate) fn make_fault(board: &Board, cap: u32) -> Option<Fault>
     ensures { (edition : Edition) → result ≡ fault_on edition board.now (Make cap) }
 {
     if cap > MOST_CAP {
@@ -79,7 +79,7 @@ fn make_fault(board: &Board, cap: u32) -> Option<Fault>
 }
 
 /// The fault of a close.
-fn close_fault(board: &Board, port: Port) -> Option<Fault>
+pub(crate) fn close_fault(board: &Board, port: Port) -> Option<Fault>
     ensures { (edition : Edition) → result ≡ fault_on edition board.now (Close port) }
 {
     if is_unmade(board, port) {
@@ -94,26 +94,12 @@ fn close_fault(board: &Board, port: Port) -> Option<Fault>
 }
 
 /// The fault of a cancel.
-fn cancel_fault(board: &Board, other: Pid) -> Option<Fault>
+pub(crate) fn cancel_fault(board: &Board, other: Pid) -> Option<Fault>
     ensures { (edition : Edition) → result ≡ fault_on edition board.now (Cancel other) }
 {
     if board.open(other) {
         None
     } else {
         Some(Fault::NotParked)
-    }
-}
-
-/// The fault that an admitted step is answered with, the lowest that applies.
-#[inline(always)]
-pub(crate) fn fault_of(edition: Edition, board: &Board, step: &StepRef<'_>) -> Option<Fault>
-    ensures { result ≡ fault_on edition board.now step.now }
-{
-    match step {
-        Step::Make(cap) => make_fault(board, *cap),
-        Step::Call { cases, .. } => call_fault(edition, board, cases.as_slice()),
-        Step::Close(port) => close_fault(board, *port),
-        Step::Exit => None,
-        Step::Cancel(other) => cancel_fault(board, *other),
     }
 }

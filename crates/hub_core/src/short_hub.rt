@@ -14,16 +14,17 @@ ghost use Rattle.hub_base.specs.Steps.{refusal};
 ghost use Rattle.hub_base.specs.Text.{steps_of};
 ghost use Rattle.hub_parts.specs.Lists.{shown_call};
 ghost use Rattle.hub_core.specs.Looks.{look_at, value_at};
-ghost use Rattle.hub_core.specs.HubView.{HubInMemory, ShortInMemory, Steps, StepRules, Grows, RefusesOpening, opened_hub, places_after, state_of, terms_of, IsLimit};
+ghost use Rattle.hub_core.specs.HubView.{HubInMemory, ShortInMemory, Steps, StepsHeard, StepRules, Grows, RefusesOpening, opened_hub, places_after, state_of, terms_of, IsLimit};
 ghost use Rattle.hub_core.specs.HubKeeps.{count_after, Takes};
+ghost use Rattle.hub_core.specs.Prelude.{MOST_EVENTS};
 ghost use Rattle.hub_core.specs.declared.short_hub.Form.TheVariants.{Whole};
 
 use crate::log::Log;
 use crate::machine::empty;
 use crate::{Machine, OpenFault, Terms};
 use hub_base::{
-    Cases, Edition, Entry, EntryRef, Events, Fault, Head, Journal, Look, MOST_PROCS, MOST_STEPS,
-    NoMemory, Pid, Port, Step, StepRef, Value,
+    Cases, Edition, Entry, EntryRef, Events, Fault, Head, Hears, Journal, Look, MOST_PROCS,
+    MOST_STEPS, NoMemory, Pid, Port, Step, StepRef, Value,
 };
 use std::alloc::Global;
 use std::marker::Model;
@@ -182,27 +183,46 @@ impl ShortHub {
         ensures ok { OnOk result (Steps self.old.memory.hub entry.now self.new.memory.hub events.new.items) }
         ensures rules { StepRules self.old.memory entry.now self.new.memory result }
     {
+        empty(events);
+        self.step_heard(entry, events)
+    }
+
+    /// The same, and its events are heard by whoever has room for those of any step. After a refusal none was.
+    pub fn step_heard<E: Hears>(
+        &mut self,
+        entry: &EntryRef<'_>,
+        events: &mut E,
+    ) -> Result<(), Fault>
+        requires fits { is_of self.old.memory.hub.terms.head.edition entry.now.step ≡ true }
+        requires room { MOST_EVENTS ≤ E.room events.old }
+        ensures ok { OnOk result (
+            StepsHeard self.old.memory.hub entry.now self.new.memory.hub (E.heard events.old) events.new) }
+        ensures rules { StepRules self.old.memory entry.now self.new.memory result }
+        ensures silent { OnErr result (events.new ≡ events.old) }
+    {
         self.make(entry, Form::Short, events)
     }
 
     /// The same, and keeps its entry in this form. The machine comes first, since memory may be refused to it; room for the
     /// entry is made before, so that behind it nothing is refused.
     #[inline(always)]
-    pub(crate) fn make(
+    pub(crate) fn make<E: Hears>(
         &mut self,
         entry: &EntryRef<'_>,
         form: Form,
-        events: &mut Events,
+        events: &mut E,
     ) -> Result<(), Fault>
         requires fits { is_of self.old.memory.hub.terms.head.edition entry.now.step ≡ true }
+        requires room { MOST_EVENTS ≤ E.room events.old }
         requires whole { form ≡ Whole → self.old.short ≡ 0 }
-        ensures ok { OnOk result (Steps self.old.memory.hub entry.now self.new.memory.hub events.new.items) }
+        ensures ok { OnOk result (
+            StepsHeard self.old.memory.hub entry.now self.new.memory.hub (E.heard events.old) events.new) }
         ensures rules { StepRules self.old.memory entry.now self.new.memory result }
+        ensures silent { OnErr result (events.new ≡ events.old) }
         ensures whole { form ≡ Whole → self.new.short ≡ 0 }
     {
         self.admit(entry)?;
-        empty(events);
-        let Ok(()) = self.machine.turn(entry, events) else {
+        let Ok(()) = self.machine.step_admitted(entry, events) else {
             return Err(Fault::NoMemory);
         };
         self.count = count_after(&entry.step, self.count);

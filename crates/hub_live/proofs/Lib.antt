@@ -1,4 +1,5 @@
 pub mod Locks
+pub mod Hearing
 pub mod Marks
 pub mod Openings
 pub mod Prefixes

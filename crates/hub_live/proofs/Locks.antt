@@ -31,40 +31,13 @@ answer_for-set ws i q o lt = by (i == q) refl
     by false e = get_or-set_other ws i q o None (λ same. eqb-false i q e (sym same))
 
 -- one event before the others
-last_told-cons : (q : ℕ) (o : Option Event) (y : Event) (ys : List Event) → last_told q o (y ∷ ys) ≡ last_told q (cond (y.pid.0 == q) (Some y) o) ys
+pub last_told-cons : (q : ℕ) (o : Option Event) (y : Event) (ys : List Event) → last_told q o (y ∷ ys) ≡ last_told q (cond (y.pid.0 == q) (Some y) o) ys
 last_told-cons q o y ys = by (y.pid.0 == q)
   where
     by : (b : Bool) → last_from o (cond b (y ∷ filter (λ x. x.pid.0 == q) ys) (filter (λ x. x.pid.0 == q) ys))
         ≡ last_from (cond b (Some y) o) (filter (λ x. x.pid.0 == q) ys)
     by true = refl
     by false = refl
-
--- one event more
-last_told-snoc : (q : ℕ) (o : Option Event) (xs : List Event) (x : Event) → last_told q o (xs ++ x ∷ []) ≡ cond (x.pid.0 == q) (Some x) (last_told q o xs)
-last_told-snoc q o [] x = last_told-cons q o x []
-last_told-snoc q o (y ∷ ys) x =
-    last_told-cons q o y (ys ++ x ∷ [])
-    ∙ last_told-snoc q (cond (y.pid.0 == q) (Some y) o) ys x
-    ∙ ap (λ (r : Option Event). cond (x.pid.0 == q) (Some x) r) (sym (last_told-cons q o y ys))
-
--- the first i of these events were put, and all else is as at the start
-pub record PutSoFar (start now : List (Option Event)) (xs : List Event) (i : ℕ) : Type 0 where
-  pub places : length now ≡ length start
-  pub each : (q : ℕ) → q < length start → answer_for now q ≡ last_told q (answer_for start q) (take i xs)
-
-pub put_next : (start before after : List (Option Event)) (xs : List Event) (i : ℕ) (d : Event) → i < length xs →
-    after ≡ slice_set before (get_or xs i d).pid.0 (Some (get_or xs i d)) → PutSoFar start before xs i → PutSoFar start after xs (i + 1)
-put_next start before after xs i d here is h =
-    let x : Event = get_or xs i d in
-    record {
-      places = ap length is ∙ length-set before x.pid.0 (Some x) ∙ h.places;
-      each = λ q lt.
-          ap (λ (ws : List (Option Event)). answer_for ws q) is
-          ∙ answer_for-set before x.pid.0 q (Some x) (omega (arith, h.places))
-          ∙ ap (λ (o : Option Event). cond (x.pid.0 == q) (Some x) o) (h.each q lt)
-          ∙ sym (last_told-snoc q (answer_for start q) (take i xs) x)
-          ∙ ap (last_told q (answer_for start q)) (sym (take_more xs i d here));
-    }
 
 -- ---- replies
 
@@ -101,6 +74,10 @@ told_some old new e (x ∷ told) s none = omega arith
 replied : (old new : HubView) (e : Entry) (answer : Event) (ended : List Event) → Steps old e new (answer ∷ ended)
     → Replied old.terms.head old.journal e answer ended
 replied old new e answer ended s = subst (AreReplied old.terms.head old.journal e) (sym s.events) (replied-law old.terms.head old.journal e s.admitted)
+
+-- the first is the caller's
+pub told_caller : (old new : HubView) (e : Entry) (answer : Event) (ended : List Event) → Steps old e new (answer ∷ ended) → answer.pid ≡ e.pid
+told_caller old new e answer ended s = (replied old new e answer ended s).caller
 
 -- the answer is the caller's reply, unless its call waits
 pub answer_replies : (old new : HubView) (e : Entry) (answer : Event) (ended : List Event) → Steps old e new (answer ∷ ended)

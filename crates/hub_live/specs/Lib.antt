@@ -1,4 +1,5 @@
 pub mod Mark
+pub mod Answers
 pub mod Locked
 pub mod Name
 pub mod Rule

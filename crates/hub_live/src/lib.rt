@@ -2,6 +2,7 @@
 #![tactic(auto)]
 
 mod answer;
+mod answers;
 mod blank;
 mod desk;
 mod ends;

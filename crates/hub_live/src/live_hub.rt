@@ -5,9 +5,9 @@ ghost use Rattle.hub_base.specs.declared.event.What.TheVariants as what;
 ghost use Rattle.hub_live.specs.Prelude.{Send, Recv, Make, Call, Close, Exit, Cancel, Two, is_of, has_case, has_value, call, is_parked, counts_at, state_seen, Later};
 ghost use Rattle.hub_live.specs.Prelude.{Made, Refused, Answers, AnswersNoCall, AskedNothing, Tells, Told, EndsIn, HasEnded, IsHistory};
 
+use crate::answers::Pids;
 use crate::desk::Desk;
 use crate::ends::{Chan, RecvPort, SendPort};
-use crate::locked::Pids;
 use crate::mark::read_back;
 use crate::name::HubName;
 use crate::parker::Parker;

@@ -10,25 +10,18 @@ ghost use Rattle.hub_core.specs.Looks.{look_at};
 ghost use Rattle.hub_live.specs.Locked.{none_waits, last_told};
 ghost use Rattle.hub_live.specs.Prelude.{AreOf, is_of, IsLegal, state_of, answer_for, IsReplyTo, pids_of, ServesStep, without_answer};
 
-use arrayvec::ArrayVec;
+use crate::answers::{Answers, Pids};
 use hub_base::{Entry, EntryRef, Event, Events, Fault, Head, Journal, Look, MOST_PROCS, Pid, Port};
 use hub_core::{Hub, ShortHub};
 use std::marker::Model;
-
-/// Processes of a hub.
-pub type Pids = ArrayVec<Pid, MOST_PROCS>;
 
 /// A hub, and for each process an answer that may wait to be picked up.
 #[derive(Drop)]
 pub struct Locked {
     /// The hub, whose journal is kept short until it is asked for.
     hub: ShortHub,
-    /// The answer that waits for each process, by its number.
-    answers: [Option<Event>; MOST_PROCS],
-    /// Whose calls the last step that was made ended.
-    ended: Pids,
-    /// Where the hub leaves the events of a step. Contracts do not see them.
-    events: Events,
+    /// The answers that wait, and whose calls the last step that was made ended.
+    answers: Answers,
 }
 
 impl Model for Locked {
@@ -37,41 +30,9 @@ impl Model for Locked {
     ghost Value = { LockedView };
 
     ghost view = { λ l.
-        record { hub = l.hub.memory.hub; answers = l.answers; ended = l.ended.items } };
+        record { hub = l.hub.memory.hub; answers = l.answers.waiting; ended = l.answers.ended } };
 
-    ghost invariant = { λ l. IsLawful l.hub.memory.hub l.answers };
-}
-
-/// Puts an answer, or none, into the place of a process, where it has one.
-fn put(answers: &mut [Option<Event>], pid: Pid, answer: Option<Event>)
-    ensures { answers.new ≡ slice_set answers.old pid.0 answer }
-{
-    let place = usize::from(pid.0);
-    if place < answers.len() {
-        answers[place] = answer;
-    }
-}
-
-/// Puts each event into the place of its process, in order.
-#[tactic(auto, using(crate::proofs::Locks::put_next))]
-fn put_all(answers: &mut [Option<Event>], events: &[Event])
-    ensures { (q : ℕ) → q < length answers.old →
-        answer_for answers.new q ≡ last_told q (answer_for answers.old q) events.now }
-{
-    for event in events {
-        put(answers, event.pid, Some(*event));
-    }
-}
-
-/// Puts the processes of these events in place of those that were there.
-fn put_pids(pids: &mut Pids, events: &[Event])
-    requires { length events.now ≤ MOST_PROCS }
-    ensures { pids.new.items ≡ pids_of events.now }
-{
-    pids.clear();
-    for event in events {
-        pids.push(event.pid);
-    }
+    ghost invariant = { λ l. IsLawful l.hub.memory.hub l.answers.waiting };
 }
 
 impl Locked {
@@ -84,9 +45,7 @@ impl Locked {
         let _journal = hub.entries();
         Locked {
             hub: hub.shortened(),
-            answers: [None; MOST_PROCS],
-            ended: Pids::new(),
-            events: Events::new(),
+            answers: Answers::new(),
         }
     }
 
@@ -100,15 +59,12 @@ impl Locked {
         requires fits { is_of self.old.hub.terms.head.edition entry.now.step ≡ true }
         ensures rules { ServesStep self.old entry.now self.new result }
     {
-        self.hub.step_into(entry, &mut self.events)?;
-        let Some((first, ended)) = self.events.as_slice().split_first() else {
-            unreachable!()
-        };
-        let answer = *first;
-        put(&mut self.answers, entry.pid, None);
-        put_all(&mut self.answers, ended);
-        put_pids(&mut self.ended, ended);
-        Ok(answer)
+        self.answers.begin();
+        self.hub.step_heard(entry, &mut self.answers)?;
+        match self.answers.own() {
+            Some(answer) => Ok(answer),
+            None => unreachable!(),
+        }
     }
 
     /// Takes out the answer that waits for a process: the process's reply, and the process has no open
@@ -119,19 +75,14 @@ impl Locked {
         ensures reply { IfSome result (IsReplyTo self.old.hub.terms.head pid.0 self.old.hub.journal) }
         ensures none { IfNone result (self.new ≡ self.old) }
     {
-        let place = usize::from(pid.0);
-        if place < self.answers.len() {
-            self.answers[place].take()
-        } else {
-            None
-        }
+        self.answers.take(pid)
     }
 
     /// Whether the last step that was made ended any call. Mostly none did.
     pub fn has_ended(&self) -> bool
         ensures { IsTrue result ↔ 0 < length self.now.ended }
     {
-        !self.ended.is_empty()
+        self.answers.has_ended()
     }
 
     /// Whose calls the last step that was made ended: they are to be woken. A wake is only a hint: no
@@ -139,11 +90,7 @@ impl Locked {
     pub fn ended(&self) -> Pids
         ensures { result.items ≡ self.now.ended }
     {
-        let mut pids = Pids::new();
-        match pids.try_extend_from_slice(self.ended.as_slice()) {
-            Ok(()) => pids,
-            Err(_full) => unreachable!(),
-        }
+        self.answers.ended()
     }
 
     /// The capacity and the counts of a port, or `None` for port 0 and for a port that was not made.
@@ -183,12 +130,7 @@ impl Locked {
         ensures legal { IsLegal self.hub.terms.head self.hub.journal }
         ensures fits { AreOf self.hub.terms.head.edition self.hub.journal }
     {
-        let Locked {
-            hub,
-            answers: _,
-            ended: _,
-            events: _,
-        } = self;
+        let Locked { hub, answers: _ } = self;
         hub.into_journal()
     }
 }

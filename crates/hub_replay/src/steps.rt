@@ -76,7 +76,7 @@ impl<'a> Steps<'a> {
             return Ok(false);
         }
         lines.make_step_room()?;
-        self.machine.step_into(&self.entry.by_slice(), lines)?;
+        self.machine.step_into(&self.entry, lines)?;
         Ok(true)
     }
 

@@ -77,7 +77,7 @@ impl Running {
             return Ok(Some(Kind::TooLong));
         };
         answers.make_step_room()?;
-        self.machine.step_into(&self.entry.by_slice(), answers)?;
+        self.machine.step_into(&self.entry, answers)?;
         self.steps = steps;
         Ok(None)
     }

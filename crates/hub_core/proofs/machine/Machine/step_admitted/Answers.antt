@@ -1,10 +1,10 @@
-use Rattle.std.proofs.Common.{◌≤◌, length, refl, sym, subst, rules, ◌∙◌, Result, Ok, Err}
-use Rattle.std.specs.Prelude.{OnErr}
+use Rattle.std.proofs.Common.{◌≤◌, length, refl, sym, subst, rules, ◌∙◌}
 use Rattle.hub_base.specs.declared.limits.TheConstants.{MOST_EVENTS}
 use Rattle.hub_base.specs.Runs.{state}
 use Rattle.hub_core.specs.Follows.{Follows}
 use Rattle.hub_core.specs.ListSteps.{turn_on}
 use Rattle.hub_core.specs.Records.{MachineLists}
+use Rattle.hub_core.proofs.Acting.{on_err}
 use Rattle.hub_core.proofs.Effects.{fault_on-as}
 use Rattle.hub_core.proofs.Following.{admits_on, reached_next}
 use Rattle.hub_core.proofs.Reached.{turn_few}
@@ -27,10 +27,6 @@ pub returns-clause-few : goal.returns-clause-few
 returns-clause-few g c =
     subst (λ (m : MachineLists). length (turn_on m c.args.entry.now).events ≤ MOST_EVENTS) c.self.view_is
     (turn_few c.self.inside.state c.args.entry.now c.self.invariant (search rules) c.in_ok-turn.ensures.few c.in_ok-turn.ensures.places)
-
-on_err : {E : Type 0} {P : Type 0} (r : Result (Unit {0}) E) → P → OnErr r P
-on_err (Ok done) holds = tt
-on_err (Err e) holds = holds
 
 pub returns-in_err-turn-clause-err : goal.returns-in_err-turn-clause-err
 returns-in_err-turn-clause-err g c =

@@ -27,8 +27,8 @@ on_ok (Err e) so p q r = tt
 
 pub returns-clause-ok : goal.returns-clause-ok
 returns-clause-ok g c =
-    on_ok c.step_admitted.result
+    rw (← c.by_slice.ensures) (on_ok c.step_admitted.result
     (λ turns heard few. λ head es h.
     let admits = turns.ok head es h in
     record { told = _; heard = heard.events; answers = record { events = admits.events; follows = admits.follows }; few = few })
-    c.step_admitted.ensures.ok c.step_admitted.ensures.told c.step_admitted.ensures.few
+    c.step_admitted.ensures.ok c.step_admitted.ensures.told c.step_admitted.ensures.few)

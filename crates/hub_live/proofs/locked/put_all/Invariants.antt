@@ -1,5 +1,0 @@
-use Rattle.hub_live.proofs.Locks.{PutSoFar}
-use Rattle.hub_live.proofs.locked.put_all.Given as goal
-
-abbrev pub invariant-loop-event : goal.invariant-loop-event
-invariant-loop-event l = PutSoFar l.initial.answers l.answers l.events l.event-index

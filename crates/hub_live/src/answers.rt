@@ -1,0 +1,136 @@
+//! The answers that wait for processes.
+//!
+//! They hear the events of a step. The first is the answer to the step, and whatever waited for its caller is dropped. Each that
+//! follows ends the call of a process, and waits in that process's place until it is picked up.
+
+ghost use Rattle.std.specs.Prelude.{◌≡◌, ◌-◌, ◌<◌, ◌↔◌, IsTrue, None, Some, length, slice_set};
+ghost use Rattle.hub_live.specs.Locked.{answer_for};
+ghost use Rattle.hub_live.specs.Answers.{AnswersView, begun, no_answers, without_answer_for};
+
+use arrayvec::ArrayVec;
+use hub_base::{Event, Hears, MOST_PROCS, Pid};
+use std::marker::Model;
+
+/// Processes of a hub.
+pub type Pids = ArrayVec<Pid, MOST_PROCS>;
+
+/// The answers that wait, and what the last step told.
+#[derive(Drop)]
+pub(crate) struct Answers {
+    /// The answer that waits for each process, by its number.
+    waiting: [Option<Event>; MOST_PROCS],
+    /// The answer to the step that is being made, once it was heard.
+    own: Option<Event>,
+    /// Whose calls the last step that was made ended.
+    ended: Pids,
+}
+
+impl Model for Answers {
+    ghost use Rattle.std.specs.Prelude.{◌≡◌, length};
+    ghost use Rattle.hub_base.specs.declared.limits.TheConstants.{MOST_PROCS};
+    ghost use Rattle.hub_live.specs.Answers.{AnswersView};
+
+    ghost Value = { AnswersView };
+
+    ghost view = { λ a. record { waiting = a.waiting; own = a.own; ended = a.ended.items } };
+
+    ghost invariant = { λ a. length a.waiting ≡ MOST_PROCS };
+}
+
+/// Puts an answer, or none, into the place of a process, where it has one.
+#[inline(always)]
+fn put(waiting: &mut [Option<Event>], pid: Pid, answer: Option<Event>)
+    ensures { waiting.new ≡ slice_set waiting.old pid.0 answer }
+{
+    let place = usize::from(pid.0);
+    if place < waiting.len() {
+        waiting[place] = answer;
+    }
+}
+
+impl Answers {
+    /// None waits.
+    pub(crate) fn new() -> Answers
+        ensures { result ≡ no_answers }
+    {
+        Answers {
+            waiting: [None; MOST_PROCS],
+            own: None,
+            ended: Pids::new(),
+        }
+    }
+
+    /// Before a step.
+    #[inline(always)]
+    pub(crate) fn begin(&mut self)
+        ensures { self.new ≡ begun self.old }
+    {
+        self.own = None;
+    }
+
+    /// The answer to the last step, if one was heard.
+    #[inline(always)]
+    pub(crate) fn own(&self) -> Option<Event>
+        ensures { result ≡ self.now.own }
+    {
+        self.own
+    }
+
+    /// Takes out the answer that waits for a process. `None` where none does, and where there is no such process.
+    pub(crate) fn take(&mut self, pid: Pid) -> Option<Event>
+        ensures answer { result ≡ answer_for self.old.waiting pid.0 }
+        ensures taken { self.new ≡ without_answer_for self.old pid.0 }
+    {
+        let place = usize::from(pid.0);
+        if place < self.waiting.len() {
+            self.waiting[place].take()
+        } else {
+            None
+        }
+    }
+
+    /// Whether the last step that was made ended any call. Mostly none did.
+    pub(crate) fn has_ended(&self) -> bool
+        ensures { IsTrue result ↔ 0 < length self.now.ended }
+    {
+        !self.ended.is_empty()
+    }
+
+    /// Whose calls the last step that was made ended.
+    pub(crate) fn ended(&self) -> Pids
+        ensures { result.items ≡ self.now.ended }
+    {
+        let mut pids = Pids::new();
+        match pids.try_extend_from_slice(self.ended.as_slice()) {
+            Ok(()) => pids,
+            Err(_full) => unreachable!(),
+        }
+    }
+}
+
+impl Hears for Answers {
+    ghost use Rattle.std.proofs.Common.{◌∙◌, ap, refl, sym};
+    ghost use Rattle.std.proofs.lemmas.List.Sums.{fold-append};
+    ghost use Rattle.hub_live.specs.Answers.{hears, hears_all, room_by};
+
+    ghost heard = { λ old told new. new ≡ hears_all old told };
+
+    ghost room = { λ a. room_by a.ended a.own };
+
+    ghost begins = { λ a. refl };
+
+    ghost goes_on = { λ a b c xs ys first then.
+        then ∙ ap (λ m. hears_all m ys) first ∙ sym (fold-append hears a xs ys) };
+
+    #[inline(always)]
+    fn hear(&mut self, event: Event) {
+        if self.own.is_none() {
+            put(&mut self.waiting, event.pid, None);
+            self.ended.clear();
+            self.own = Some(event);
+        } else {
+            put(&mut self.waiting, event.pid, Some(event));
+            self.ended.push(event.pid);
+        }
+    }
+}

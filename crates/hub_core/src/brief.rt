@@ -125,7 +125,7 @@ pub(crate) fn cases_beside<'a>(entry: &EntryRef<'a>, brief: Brief) -> &'a [Case]
 }
 
 /// Appends the cases that are not kept with what is kept of an entry. Mostly there are none, and to append none would take a
-/// tenth of a call's instructions.
+/// fifteenth of a call's instructions.
 #[inline(always)]
 pub(crate) fn append_cases(cases: &mut Vec<Case>, beside: &[Case]) -> Result<(), AllocError>
     ensures items { cases.new.items ≡ (if is_ok result then cases.old.items ++ beside.now else cases.old.items) }

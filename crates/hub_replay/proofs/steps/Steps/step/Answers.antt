@@ -17,7 +17,7 @@ returns-then-not-branch-clause-ok c = λ bytes text so_far. record {
 
 pub returns-clause-ok : goal.returns-clause-ok
 returns-clause-ok c = λ bytes text so_far.
-    let tells = rw c.by_slice.ensures at (c.in_ok-step_into.ensures.ok _ _ so_far.follows) in
+    let tells = c.in_ok-step_into.ensures.ok _ _ so_far.follows in
     record {
       more = flat_map event_line tells.told;
       written = tells.heard ∙ ap (λ l. l ++ flat_map event_line tells.told) c.in_ok-make_step_room.ensures.lines;

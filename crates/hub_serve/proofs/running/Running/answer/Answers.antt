@@ -11,7 +11,7 @@ returns-in_default-steps_after-clause-goes c = λ head entries line body runs at
 pub returns-clause-goes : goal.returns-clause-goes
 returns-clause-goes c = λ head entries line body runs at_line.
     let count = entry-counts entries c.read_entry.new.entry _ c.in-Some.steps runs.counted (sym c.in-Some.ensures) in
-    let tells = rw c.by_slice.ensures at (c.in_ok-step_into.ensures.ok head entries runs.follows) in
+    let tells = c.in_ok-step_into.ensures.ok head entries runs.follows in
     record {
       entry = c.read_entry.new.entry;
       read = c.in_default.ensures head line body at_line;

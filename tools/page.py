@@ -3,171 +3,337 @@
 
     page.py JOURNAL > page.html
 
-It takes well-formed journals only. A page is the file viewer/head.html, the data, and then viewer/middle.html with the other
-files of viewer/ (the order is in PARTS). Only the data depend on the journal. They are ASCII text, in which nothing needs to be
-escaped: they hold no value but as the journal spells it, and never `</`, `<!` or `<s`.
-
-The data are the two lines of the journal's head, and then a line for each step, in order. A line is the entry and then its items:
-
-    data  = head steps
-    step  = entry *(";" item) newline
-    entry = process word more         word and more are as in the journal, with m for `make `, s for `send `, r for `recv `, c for
-                                      `close `, x for `cancel `, e for `exit`, ? for `select `, and ! for ` default`
-    item  = [back] end                a call or another step has come to this end by this step: the one that was asked `back`
-                                      steps before (0, where it is left out: this step itself). Until then it waits: its bar
-                                      goes from the step that asked to this one
-          | port ":" count            from this step on the port holds so many values
-          | process ">" process       this step stalls both, and the first one perhaps waits for the second
-    end   = "m" port | "s" [case] | "g" [case] ["<" back] | "d" [case] | "c" [case] | "D" | "k" | "S" | "x" | "f" fault
-
-The ends are: made, sent, got, drained, closed, default, done, stalled, cancelled, fault. A case that is left out is case 0. The
-`back` behind `<` is the arrow: the value is that of the send that was asked so many steps before this one.
-
-After each 256 steps, and after the last one, stands a line that tells of the steps since the line before it, for views in which
-a step is smaller than a dot:
-
-    sketch = "~" *(";" process ":" waited ":" asked ":" troubles) *(";p" port ":" most) newline
-
-waited: in how many of these steps the process waited; asked: how many of them are its own; troubles: how many of its steps were
-stalled, were refused by a fault or met a closed port by one of them; most: how many values the port held at most. What would be
-all 0 is left out.
-
-So each line follows from the steps up to it, and can be written as it goes.
+It takes well-formed journals only. A page is viewer/head.html with viewer/style.css in it, then the data, and then viewer/tail.html
+with the scripts of viewer/ in it. Only the data depend on the journal; viewer/README.md defines them, byte by byte. They are written
+as the journal is read: what is kept of a step are the calls that wait and the values that lie in ports.
 """
+import collections
+import heapq
+import json
 import pathlib
 import sys
 
 sys.dont_write_bytecode = True
-import story_model
+import model
 
 VIEWER = pathlib.Path(__file__).resolve().parent.parent / "viewer"
-HEAD = ["head.html"]
-PARTS = ["data.js", "view.js", "paint.js", "panel.js", "main.js"]
-BLOCK = 256
-SHORT = {"make": "m", "send": "s", "recv": "r", "select": "?", "close": "c", "cancel": "x", "exit": "e"}
+SCRIPTS = ["data.js", "view.js", "paint.js", "panel.js", "main.js"]
+BLOCK = 64  # steps
+LONGEST = 5  # how many of the longest waits are told
+MOST_STALLS = 5  # how many of the last stalls
+LETTERS = {"make": "m", "send": "s", "recv": "r", "select": "?", "close": "c", "cancel": "x", "exit": "e"}
 ENDS = {"sent": "s", "got": "g", "drained": "d", "closed": "c", "default": "D", "done": "k", "stalled": "S", "cancelled": "x"}
-TROUBLES = ("stalled", "fault", "closed")
+TROUBLES = "Sfc"
 
 
-def short(line):
-    """A journal's line with short words."""
-    pid, word, *more = line.split(" ")
-    default = "!" if more and more[-1] == "default" else ""
-    return pid + SHORT[word] + " ".join(more[:-1] if default else more) + default
+class Step:
+    """A step that was asked, while something later may tell of it."""
+
+    __slots__ = ("place", "pid", "short", "word", "asked", "cases")
+
+    def __init__(self, place, line):
+        pid, word, *more = line.split(" ")
+        self.place, self.pid = place, int(pid)
+        self.word, self.asked = model.step([word, *more])
+        self.cases = self.asked[0] if self.word == "call" else ()
+        text = ":".join(more) if word == "send" else "".join("!" if part == "default" else part for part in more)
+        self.short = pid + LETTERS[word] + text
 
 
-def case_number(words):
-    """How a case is spelled; none is said of the first."""
-    return "" if words == "0" else words
+class End:
+    """How a step ended: a letter, and the number that belongs to it; and for a value that was received, who sent it."""
+
+    __slots__ = ("step", "letter", "number", "sender")
+
+    def __init__(self, step, words):
+        first, *more = words.split(" ")
+        self.step, self.sender = step, None
+        if first == "case":
+            self.letter, self.number = ENDS[more[1]], int(more[0])
+        else:
+            self.letter, self.number = {"made": "m", "fault": "f"}.get(first) or ENDS[first], int(more[0]) if more else 0
+
+    def moves(self):
+        return self.letter in "sg"
+
+    def port(self):
+        return self.step.cases[self.number][1]
+
+    def item(self, by):
+        back = str(by - self.step.place) if by != self.step.place else ""
+        number = str(self.number) if self.number else ""
+        return back + self.letter + number + ("" if self.sender is None else f"<{by - self.sender}")
 
 
-def end_of(words):
-    """How the words of an event are spelled."""
-    first, *more = words.split(" ")
-    if first == "case":
-        return ENDS[more[1]] + case_number(more[0])
-    return {"made": "m", "fault": "f"}[first] + more[0] if more else ENDS[first]
+class Port:
+    def __init__(self, room, made):
+        self.room, self.made, self.closed = room, made, None
+        self.sent = self.received = self.most = self.full = 0
+        self.fullest = self.full_since = None
+        self.sender = self.receiver = None  # the steps that moved a value last
+        self.written = 0  # the level that was written last
+        # What is told of at one end only: where a value was sent, and by which step; and who received one before its sender is told.
+        self.not_received, self.not_sent = collections.deque(), collections.deque()
 
+    def level(self):
+        return self.sent - self.received
 
-def is_trouble(words):
-    """Whether a step that came to this end is marked: it was stalled, refused, or met a closed port."""
-    return words.startswith(TROUBLES) or words.endswith(" closed")
+    def move(self, end, by):
+        """Takes in that a value moved by this step; the first that was sent is the first that is received."""
+        if end.letter == "s":
+            self.sent, self.sender = self.sent + 1, end.step
+            if self.not_sent:
+                self.not_sent.popleft().sender = end.step.place
+            else:
+                self.not_received.append((end.step.place, by))
+        else:
+            self.received, self.receiver = self.received + 1, end.step
+            if self.not_received:
+                end.sender = self.not_received.popleft()[0]
+            else:
+                self.not_sent.append(end)
+
+    def note_level(self, place):
+        """Takes in how much it holds after the step at this place."""
+        if self.level() > self.most:
+            self.most, self.fullest = self.level(), place
+        if self.room and self.level() == self.room:
+            self.full_since = place if self.full_since is None else self.full_since
+        elif self.full_since is not None:
+            self.full, self.full_since = self.full + place - self.full_since, None
+
+    def full_until(self, count):
+        """For how many steps it was full."""
+        return self.full + (0 if self.full_since is None else count - self.full_since)
 
 
 class Sketch:
     """What the steps of a block have in common, so far."""
 
-    def __init__(self, first, levels):
+    def __init__(self, first):
         self.first = first
-        self.waited, self.asked, self.troubles = {}, {}, {}
-        self.most = {port: count for port, count in levels.items() if count}
+        self.waited, self.asked, self.troubles = collections.Counter(), collections.Counter(), collections.Counter()
+        self.most = {}
+        self.stalls = []
 
-    def add_wait(self, pid, since, until):
-        self.waited[pid] = self.waited.get(pid, 0) + until - max(since, self.first)
+    def add_wait(self, lane, since, until):
+        self.waited[lane] += until - max(since, self.first)
 
-    def line(self):
-        words = ["~"]
-        for pid in sorted({*self.waited, *self.asked, *self.troubles}):
-            numbers = [counts.get(pid, 0) for counts in (self.waited, self.asked, self.troubles)]
-            if any(numbers):
-                words.append(":".join(str(number) for number in (pid, *numbers)))
-        words += [f"p{port}:{count}" for port, count in sorted(self.most.items())]
-        return ";".join(words)
+    def text(self, until, waiting, ports):
+        """The line; `waiting` tells since when processes wait in the end."""
+        parts = ["~"]
+        for lane in sorted(lane for lane in {*self.waited, *self.asked, *self.troubles} if self.waited[lane] or self.asked[lane] or self.troubles[lane]):
+            parts.append(f"P{lane}")
+            parts += [f"{letter}{counts[lane]}" for letter, counts in (("w", self.waited), ("a", self.asked), ("t", self.troubles)) if counts[lane]]
+            parts += [f"o{until - waiting[lane].place}"] if lane in waiting else []
+        for port in sorted(self.most):
+            held = ports[port - 1].not_received
+            parts.append(f"p{port}m{self.most[port]}" + (f"h{len(held)}q{until - held[0][1]}" if held else "h0"))
+        return "".join(parts + [f"S{until - place}" for place in self.stalls]) + "\n"
 
 
-class Data(story_model.Story):
-    """A story that writes each step's line as soon as it knows what the step ended."""
+class Data:
+    """Writes the data of a journal, line by line."""
 
-    def __init__(self, journal, write):
+    def __init__(self, lines, write):
+        lines = iter(lines)
+        head, procs = next(lines), next(lines)
+        self.procs = int(procs.split()[1])
+        self.hub = model.Hub(int(head.split()[2]), self.procs)
         self.write = write
-        self.levels = {}  # of each port that has room, as it was written last
-        self.last = {}  # of each port: who sent there last, and who received
-        self.sketch = Sketch(0, {})
-        write("\n".join(journal.split("\n", 2)[:2]) + "\n")
-        super().__init__(journal)
-        if len(self.entries) % BLOCK:
-            self.end_block(len(self.entries))
+        self.ports, self.waiting = [], {}  # the calls that wait, by process, in the order of their arrival
+        self.sketch = Sketch(0)
+        self.count = self.waits = 0
+        self.longest = []  # a heap
+        self.stalls = collections.deque(maxlen=MOST_STALLS)
+        self.asked, self.waited, self.exits = collections.Counter(), collections.Counter(), {}
+        write(head.rstrip("\n") + "\n" + procs.rstrip("\n") + "\n")
+        for line in lines:
+            self.take(line.rstrip("\n"))
+        if self.count % BLOCK:
+            self.end_block()
+        write(self.end())
 
-    def take(self, by, events):
-        ports = super().take(by, events)
-        ended = [by] if self.entries[by].until == by else []
-        ended += [place for places in self.entries[by].ended.values() for place in places]
-        items = [short(self.entries[by].line)]
-        items += [self.end_item(by, place) for place in ended]
-        items += self.level_items({story_model.fired(self.entries[place])[1] for place in ended if story_model.moves(self.entries[place])})
-        items += self.guesses([place for place in ended if self.entries[place].end == "stalled"])
+    def lane(self, step):
+        return min(step.pid, self.procs)
+
+    def take(self, line):
+        step = Step(self.count, line)
+        self.hub.step(step.pid, step.word, step.asked)
+        events, self.hub.events = self.hub.events, []
+        ends = []
+        for number, event in enumerate(events):
+            pid, words = event.split(" ", 1)
+            asked = self.waiting.pop(int(pid)) if number else step
+            if words == "parked":
+                self.waiting[asked.pid] = asked
+            else:
+                ends.append(End(asked, words))
+                self.finish(ends[-1], step)
+        levels = list(self.level_items(ends))
+        stalled = [end.step for end in ends if end.letter == "S"]
+        if stalled:
+            self.stalls.append((step, stalled))
+            self.sketch.stalls.append(self.count)
+        items = [step.short, *(end.item(self.count) for end in ends), *levels, *self.guesses(stalled), *self.last_items(stalled)]
         self.write(";".join(items) + "\n")
-        self.note(by, ended)
-        return ports
+        self.asked[self.lane(step)] += 1
+        self.sketch.asked[self.lane(step)] += 1
+        self.count += 1
+        if self.count % BLOCK == 0:
+            self.end_block()
 
-    def end_item(self, by, place):
-        entry = self.entries[place]
-        back = "" if place == by else str(by - place)
-        arrow = f"<{by - entry.partner}" if entry.end.startswith("case") and story_model.outcome(entry).startswith("got") else ""
-        return back + end_of(entry.end) + arrow
+    def finish(self, end, by):
+        """Takes in that a step ended by the present one."""
+        step, lane = end.step, self.lane(end.step)
+        if step.place < self.count:
+            self.sketch.add_wait(lane, step.place, self.count)
+            self.add_wait(step, self.count - step.place, by)
+        if end.letter in TROUBLES:
+            self.sketch.troubles[lane] += 1
+        if end.letter == "m":
+            self.ports.append(Port(step.asked, step.place))
+        elif end.letter == "k" and step.word == "close":
+            self.ports[step.asked - 1].closed = step.place
+        elif end.letter == "k" and step.word == "exit":
+            self.exits[step.pid] = step.place
+        elif end.moves():
+            self.ports[end.port() - 1].move(end, self.count)
 
-    def level_items(self, ports):
-        for port in sorted(ports):
-            count = self.ports[port - 1].sent - self.ports[port - 1].received
-            if count != self.levels.get(port, 0):
-                self.levels[port] = count
-                self.sketch.most[port] = max(count, self.sketch.most.get(port, 0))
-                yield f"{port}:{count}"
+    def add_wait(self, step, steps, by=None):
+        """Takes in that a call waited so many steps, and who ended that."""
+        self.waits += 1
+        self.waited[step.pid] += steps
+        wait = (steps, -step.place, step, by)
+        (heapq.heappush if len(self.longest) < LONGEST else heapq.heappushpop)(self.longest, wait)
+
+    def level_items(self, ends):
+        """How much the ports with room hold on which values moved, where that is not what was written last."""
+        for number in sorted({end.port() for end in ends if end.moves()}):
+            port = self.ports[number - 1]
+            port.note_level(self.count)
+            if port.room:
+                before = port.written if self.count > self.sketch.first else 0
+                self.sketch.most[number] = max(self.sketch.most.get(number, before), port.level())
+            if port.room and port.level() != port.written:
+                port.written = port.level()
+                yield f"{number}:{port.written}"
 
     def guesses(self, stalled):
         """For whom each of these calls perhaps waits, as docs/EXPLAIN.md says it."""
-        offers = {self.entries[place].pid: {case[:2] for case in self.entries[place].cases} for place in stalled}
+        offers = {step.pid: {case[:2] for case in step.cases} for step in stalled}
         told = {}
-        for place in stalled:
-            pid = self.entries[place].pid
-            for case in self.entries[place].cases:
-                sender, receiver = self.last.get(case[1], (None, None))
-                movers = (sender, receiver) if case[0] == "r" else (receiver, sender)
-                others = [other for other in movers if other in offers and other != pid and case[:2] not in offers[other]]
-                told.update({f"{pid}>{other}": None for other in others[:1]})
-        return list(told)
+        for step in stalled:
+            for side, port in (case[:2] for case in step.cases):
+                movers = (self.ports[port - 1].sender, self.ports[port - 1].receiver) if port else ()
+                for mover in movers if side == "r" else reversed(movers):
+                    if mover and mover.pid in offers and mover.pid != step.pid and (side, port) not in offers[mover.pid]:
+                        told[f"{step.pid}>{mover.pid}"] = None
+                        break
+        return told
 
-    def note(self, by, ended):
-        """Takes in what a step did, for later lines."""
-        self.sketch.asked[self.entries[by].pid] = self.sketch.asked.get(self.entries[by].pid, 0) + 1
-        for place in ended:
-            entry = self.entries[place]
-            if place != by:
-                self.sketch.add_wait(entry.pid, place, by)
-            if is_trouble(entry.end):
-                self.sketch.troubles[entry.pid] = self.sketch.troubles.get(entry.pid, 0) + 1
-            if story_model.moves(entry):
-                side, port = story_model.fired(entry)[:2]
-                sender, receiver = self.last.get(port, (None, None))
-                self.last[port] = (entry.pid, receiver) if side == "s" else (sender, entry.pid)
-        if (by + 1) % BLOCK == 0:
-            self.end_block(by + 1)
+    def last_movers(self, calls):
+        """Who moved values last on each port where these calls wait."""
+        for number in sorted({case[1] for step in calls for case in step.cases if case[1]}):
+            yield number, self.ports[number - 1].sender, self.ports[number - 1].receiver
 
-    def end_block(self, until):
-        for pid, since in self.waiting.items():
-            self.sketch.add_wait(pid, since, until)
-        self.write(self.sketch.line() + "\n")
-        self.sketch = Sketch(until, self.levels)
+    def last_items(self, stalled):
+        for number, *movers in self.last_movers(stalled):
+            yield f"{number}L" + ",".join(str(self.count - mover.place if mover else 0) for mover in movers)
+
+    def end_block(self):
+        for step in self.waiting.values():
+            self.sketch.add_wait(step.pid, step.place, self.count)
+        self.write(self.sketch.text(self.count, self.waiting, self.ports))
+        self.sketch = Sketch(self.count)
+
+    def end(self):
+        """The last line, and what tells of the whole in words."""
+        for step in self.waiting.values():
+            self.add_wait(step, self.count - 1 - step.place)
+        lanes = range(max(self.procs, max(self.asked, default=0) + 1))
+        rooms = [port.room if port.most else 0 for port in self.ports]
+        exits, waited = [self.exits.get(lane) for lane in lanes], [self.waited[lane] for lane in lanes]
+        numbers = {"steps": self.count, "procs": self.procs, "rooms": rooms, "waits": waited, "exits": exits}
+        return "=" + json.dumps(numbers, separators=(",", ":")) + "\n</script>\n" + "".join(line + "\n" for line in self.whole(exits, waited))
+
+    def whole(self, exits, waited):
+        yield '<section id="whole">'
+        yield f"<h2>The whole</h2><p>{counted(self.count, 'step')} of {self.procs} processes on {counted(len(self.ports), 'port')}. {counted(self.waits, 'call')} waited.</p>"
+        yield "<h3>The last deadlocks</h3>" if self.stalls else "<h3>No deadlock</h3>"
+        yield from list_of(f"{link(by)} stalls {', '.join(f'P{step.pid}' for step in stalled)}" for by, stalled in reversed(self.stalls))
+        if self.waiting:
+            yield "<h3>These wait to the end</h3>"
+            yield from list_of(f"{who(step)} waits{cases_text(step)}" for step in self.waiting.values())
+            yield "<h3>Who was there last</h3>"
+            yield from table_of(["port", "sent by", "received by"], ([number, *map(who, movers)] for number, *movers in self.last_movers(self.waiting.values())))
+        yield "<h3>The longest waits</h3>"
+        yield from list_of(
+            f"{who(step)} waited {counted(steps, 'step')}, " + (f"until {who(by)}" if by else "to the end") for steps, _, step, by in sorted(self.longest, key=lambda wait: wait[:2], reverse=True))
+        yield "<h3>Ports</h3>"
+        yield from table_of(["shown", "room", "sent", "got", "left", "most", "full for"], (self.port_row(number, port) for number, port in enumerate(self.ports, 1)))
+        yield "<h3>Processes</h3>"
+        yield f"<p>{ORDER} {shown_as('all')}</p>"
+        yield from table_of(["", "waited", "exit", "shown"], ([lane_name(lane, self.procs), waited[lane], link_to(exits[lane]), shown_as(lane)] for lane in range(len(exits))))
+        yield "</section>"
+
+    def port_row(self, number, port):
+        name = f"{number}{'' if port.closed is None else ' closed'}"
+        shown = f'<label><input type="checkbox" data-port="{number}" checked> {name}</label>' if port.room and port.most else name
+        full = port.full_until(self.count)
+        most = f"{port.most}, {link_to(port.fullest)}" if port.most else ""
+        return [shown, port.room, port.sent, port.received, port.level(), most, f'<b class="trouble">{counted(full, "step")}</b>' if full else ""]
+
+
+# ---- what tells of the whole, in HTML
+
+ORDER = '<select id="order" aria-label="order of the processes"><option>by number<option>by time waited</select>'
+
+
+def counted(count, word):
+    return f"{count} {word}{'' if count == 1 else 's'}"
+
+
+def link_to(place):
+    return "" if place is None else f'<a href="#step={place + 1}">step {place + 1}</a>'
+
+
+def link(step):
+    return link_to(step.place)
+
+
+def who(step):
+    return f"P{step.pid}, {link(step)}" if step else "nobody"
+
+
+def cases_text(step):
+    texts = [f"send {spelled(case[2])} on port {case[1]}" if case[0] == "s" else f"receive from port {case[1]}" for case in step.cases]
+    return " to " + " or to ".join(texts) if texts else ""
+
+
+def spelled(value):
+    return str(value)
+
+
+def lane_name(lane, procs):
+    return f"P{lane}" if lane < procs else "unknown"
+
+
+def shown_as(lane):
+    first = f"<option>{lane}" if lane == "all" else ""
+    return f'<select data-process="{lane}" aria-label="{lane} shown as">{first}<option>open<option>folded<option>hidden<option>on top</select>'
+
+
+def list_of(items):
+    yield "<ul>"
+    yield from (f"<li>{item}</li>" for item in items)
+    yield "</ul>"
+
+
+def table_of(heads, rows):
+    yield '<table class="lines"><tr>' + "".join(f"<th>{head}</th>" for head in heads) + "</tr>"
+    yield from ("<tr>" + "".join(f"<td>{cell}</td>" for cell in row) + "</tr>" for row in rows)
+    yield "</table>"
 
 
 def text_of(name):
@@ -179,19 +345,20 @@ def before_data():
 
 
 def after_data():
-    return text_of("tail.html").replace("/* the scripts */", "".join(text_of(name) for name in PARTS))
+    return text_of("tail.html").replace("/* the scripts */", "".join(text_of(name) for name in SCRIPTS))
 
 
-def write_page(journal, write):
+def write_page(lines, write):
     write(before_data())
-    Data(journal, write)
+    Data(lines, write)
     write(after_data())
 
 
 def main():
     if len(sys.argv) != 2 or sys.argv[1].startswith("-"):
         sys.exit(__doc__.split("\n\n")[1])
-    write_page(pathlib.Path(sys.argv[1]).read_text(encoding="ascii"), sys.stdout.write)
+    with open(sys.argv[1], encoding="ascii") as journal:
+        write_page(journal, sys.stdout.write)
 
 
 if __name__ == "__main__":

@@ -1,11 +1,16 @@
 #!/usr/bin/env python3
 """page_test.py [N]: checks the pages of tools/page.py in a headless Chromium. What a page has to show is worked out here from the journal
-and the events that model.py tells of it, by tools/picture.py, and not by the page or its data. What it draws is taken from the calls to
-its canvas: each box stands in the column of its step on the axis and in the row of its process's name, and so on for bars, arrows,
-levels, stalls and guesses, of N random journals (50) at three zooms: all expected shapes, and no others. Search, following, links, mouse
-and keys are tried; the contrasts of all colours are computed on light and on dark; bytes that HTML would take for its own are shown;
-no error may stand in the console; the data of journals of benches/ have at most 60 bytes a step; and a page of a million steps has to
-open, and be drawn at any zoom, in little time of the processor. Status 77 without Chromium. The last line counts."""
+and the events that model.py tells of it, by tools/picture.py, and not by the page or its data. The shapes of N random journals (50) at
+three zooms are compared with that: each box stands in the column of its step on the axis and in the row of its process's name, and so
+on for bars, arrows, levels, stalls and guesses: all expected shapes, and no others. Those of longer journals are drawn on a canvas, and
+are taken from the calls to it. The sketches in the data are counted again. Search, following, links, mouse and keys are tried; the
+contrasts of all colours are computed on light and on dark; bytes that HTML would take for its own are shown; no error may stand in the
+console; the data of journals of benches/ have at most 60 bytes a step; and a page of a million steps has to open, and be drawn at any
+zoom, in little time of the processor. Status 77 without Chromium. The last line counts.
+
+page_test.py --long [FOLDER] makes the pages of the four journals of benches/, a million steps each, in FOLDER or a temporary one, and
+prints how long they took to open and to move, and their bytes a step.
+"""
 import collections
 import fcntl
 import json
@@ -22,29 +27,47 @@ import urllib.parse
 sys.dont_write_bytecode = True
 import page
 import picture
+import story_model
 from counting import Count
 from random_journal import Journal as RandomJournal
 
 ROOT = pathlib.Path(__file__).resolve().parent.parent
 RANDOM = 50
 MOST_BYTES = 60
+VIEWER_LINES, VIEWER_WIDTH = 600, 160
 # a million steps: seconds of the processor until they are open, and for a view of them
-MILLION, MOST_OPENING, MOST_VIEW = 1000000, 6, 0.5
+MILLION, MOST_OPENING, MOST_VIEW = 1000000, 3, 0.25
+LONG = [(101, 3000), (102, 3000), (103, 2000)]  # seeds of longer journals, and how many steps they have
 WIDTH, HEIGHT = 1440, 860
 NAMES = {"sent": "s", "got": "r"}
+COLOURS = "paper text dim rule grey edge trouble on words link h0 h1 h2 h3 h4 h5 h6 h7".split()
 
 # keeps each call to a canvas, with the colours that it has then
 RECORDER = """
 window.drawn = [];
-for (const name of ["fillRect", "strokeRect", "fillText", "moveTo", "bezierCurveTo", "arc"]) {
+for (const name of ["fillRect", "fillText"]) {
     const draw = CanvasRenderingContext2D.prototype[name];
     CanvasRenderingContext2D.prototype[name] = function (...words) {
-        if (window.drawn) window.drawn.push([this.canvas.id, name, words, this.fillStyle, this.strokeStyle, this.globalAlpha]);
+        if (window.drawn) window.drawn.push([this.canvas.id, name, words, this.fillStyle]);
         return draw.apply(this, words);
     };
 }
 """
-Call = collections.namedtuple("Call", "canvas name words fill stroke alpha")
+# what stands in the page as shapes, each with the numbers of its path
+SHAPES = """[...document.querySelectorAll("#lanes :is(rect, circle, path, text)")].map((shape) => {
+    const of = (name) => Number(shape.getAttribute(name)), look = getComputedStyle(shape);
+    return { tag: shape.tagName, kind: shape.getAttribute("class").split(" "), x: of("x"), y: of("y"), width: of("width"), height: of("height"),
+        cx: of("cx"), cy: of("cy"), way: (shape.getAttribute("d") ?? "").match(/-?[0-9.]+/g)?.map(Number), fill: look.fill, stroke: look.stroke,
+        dash: look.strokeDasharray, told: shape.querySelector("title")?.textContent, text: shape.tagName === "text" ? shape.textContent : "" };
+})"""
+PROBE = """Object.fromEntries(%s.map((name) => {
+    const probe = document.body.appendChild(document.createElement("i"));
+    probe.style.color = `var(--${name})`;
+    const colour = getComputedStyle(probe).color;
+    probe.remove();
+    return [name, colour];
+}))""" % json.dumps(COLOURS)
+Call = collections.namedtuple("Call", "canvas name words fill")
 
 
 class Browser:
@@ -198,20 +221,36 @@ def guesses(journal):
 # ---- what it draws
 
 
-class Drawn:
-    """The calls to the canvases, and the scales that their names tell: where a step and where a process stands."""
+class Shape:
+    def __init__(self, told):
+        self.__dict__.update(told)
 
-    def __init__(self, calls, procs, hues, width):
-        self.calls = [Call(*call) for call in calls if call[0] == "lanes"]
-        axis = [Call(*call) for call in calls if call[0] == "axis"]
-        ticks = sorted((int(call.words[0]), call.words[1]) for call in axis if call.name == "fillText" and call.words[0].isdigit())
+    def right(self):
+        return self.x + self.width
+
+    def middle(self):
+        return self.y + self.height / 2
+
+
+class Drawn:
+    """The shapes in the page, the calls to the canvas, and the scales that names tell: where a step and where a process stands."""
+
+    def __init__(self, browser, procs):
+        self.shapes = [Shape(told) for told in browser.value(SHAPES)]
+        calls = [Call(*call) for call in browser.value("window.drawn")]
+        self.colours = browser.value(PROBE)
+        self.width = browser.value("document.getElementById('lanes').clientWidth")
+        self.calls = [call for call in calls if call.canvas == "far"]
+        ticks = sorted((int(call.words[0]), call.words[1]) for call in calls if call.canvas == "axis" and str(call.words[0]).isdigit())
         self.dots = (ticks[-1][1] - ticks[0][1]) / (ticks[-1][0] - ticks[0][0])
         self.zero = ticks[0][1] - ticks[0][0] * self.dots
-        names = {call.words[0]: call.words[2] for call in self.calls if call.name == "fillText" and call.words[1] < 64}
+        names = {shape.text: shape.y for shape in self.kind("name")}
         self.lanes = {pid: names["P%d" % pid] for pid in range(procs)} | ({procs: names["unknown"]} if "unknown" in names else {})
         self.ports = {int(name[5:]): y for name, y in names.items() if name.startswith("port ")}
-        self.bottom = max(self.lanes.values()) + 8
-        self.procs, self.hues, self.width = procs, hues, width
+        self.procs = procs
+
+    def kind(self, name):
+        return [shape for shape in self.shapes if name in shape.kind]
 
     def x(self, place):
         return self.zero + (place + 1) * self.dots
@@ -219,22 +258,11 @@ class Drawn:
     def lane(self, y):
         return min(self.lanes, key=lambda pid: abs(self.lanes[pid] - y))
 
+    def port(self, y):
+        return min(self.ports, key=lambda port: abs(self.ports[port] - y))
+
     def pid(self, line):
         return min(int(line.split()[0]), self.procs)
-
-    def rects(self, name, test):
-        return [call for call in self.calls if call.name == name and test(*call.words)]
-
-    def column(self, x):
-        return round((x - self.zero) / self.dots - 1, 2)
-
-    def beziers(self):
-        start = None
-        for call in self.calls:
-            if call.name == "moveTo":
-                start = call.words
-            if call.name == "bezierCurveTo":
-                yield call, start, call.words[4:]
 
 
 def close(one, other, by=1.0):
@@ -251,74 +279,115 @@ def agree(name, drawn, wanted, by=1.0):
     assert not left, f"{name} too many: {left[:4]}"
 
 
-def check_shapes(drawn, journal, first, end):
-    asked = journal.asked()
-    colours, dots = drawn.hues, drawn.dots
-    boxes = drawn.rects("fillRect", lambda x, y, w, h: y < drawn.bottom and h > 7)
-    boxes = [call for call in boxes if call.alpha != 0.16 and call.fill != "" and abs(call.words[2] - min(66, max(1, dots * 0.9))) < 0.01]
-    agree("box", [(round(call.words[0] + call.words[2] / 2, 2), drawn.lane(call.words[1] + call.words[3] / 2)) for call in boxes],
-          [(drawn.x(one.place), drawn.pid(one.line)) for one in asked[first:end]])
-    if dots >= 5:
-        fills = {round((call.words[0] + call.words[2] / 2 - drawn.zero) / dots - 1): call.fill for call in boxes}
-        for one in asked[first:end]:
-            label = label_of(one)
-            kind = colours["h%d" % (int(label[1:]) % 8)] if re.fullmatch(r"s\d+", label) and label != "s0" else colours["edge"] if label == "s0" else colours["paper"] if re.fullmatch(r"r\d+", label) else colours["grey"]
-            assert fills[one.place] == kind, f"step {one.place + 1} has colour {fills[one.place]} and not {kind}"
-    if dots >= 60:
-        texts = {round((call.words[1] - drawn.zero) / dots - 1): call.words[0] for call in drawn.calls if call.name == "fillText" and call.words[1] >= 64}
-        for one in asked[first:end]:
-            label, value = label_of(one), value_of(one)
-            allowed = {label} if value is None else {f"{label}:{readable(value)}", label + ":..", label}
-            assert texts.get(one.place) in allowed, f"box {one.place + 1}: {texts.get(one.place)} and not {allowed}"
-            assert value is None or len(label + value) > 6 or texts[one.place] == f"{label}:{readable(value)}", f"no value at step {one.place + 1}: {texts[one.place]}"
+def title_of(one, count):
+    """What the mouse on a box is told."""
+    words = words_of(one)
+    fault = re.fullmatch(r"fault (\d+)", words)
+    told = "waits to the end" if one.ended is None else f"{words}: {story_model.FAULTS[int(fault[1]) - 1]}" if fault else words
+    told = re.sub(r"^case \d+ ", "", told)
+    got = re.fullmatch(r"got (.*)", told)
+    told = f"got {readable(got[1])}" if got else told
+    steps = (one.ended.by if one.ended else count - 1) - one.place
+    waits = one.ended is None or steps > 0
+    return f"step {one.place + 1}: {one.line}\n{told}" + (f", waited {steps} step{'' if steps == 1 else 's'}" if waits else "")
+
+
+def bars_of(drawn, asked, first, end, left):
+    """Each call that waits, from where to where, and whether it ends."""
     edge = drawn.width + 2
-    bars = [call.words for call in drawn.rects("strokeRect", lambda x, y, w, h: y < drawn.bottom and (h < 9.5))]
-    wanted = []
     for one in asked:
         until = len(asked) if one.ended is None else one.ended.by
         if one.place < until and one.place < end and until >= first:
-            wanted.append((max(62.0, drawn.x(one.place)), min(edge, drawn.x(until)), drawn.pid(one.line)))
-    agree("bar", [(float(x), float(x + w), drawn.lane(y + h / 2)) for x, y, w, h in bars], wanted)
-    knobs = [(float(call.words[0]), drawn.lane(call.words[1])) for call in drawn.calls if call.name == "arc"]
-    agree("knob", knobs, [(min(edge, drawn.x(one.ended.by)), drawn.pid(one.line)) for one in asked if one.ended and one.ended.by > one.place and one.place < end and one.ended.by >= first])
-    arrows = [(float(a[0]), float(b[0]), drawn.lane(a[1]), drawn.lane(b[1]), call.stroke) for call, a, b in drawn.beziers() if call.stroke != colours["trouble"]]
-    agree("arrow", arrows, [
-        (drawn.x(sent[1]), drawn.x(received[1]), drawn.pid(sent[2]), drawn.pid(received[2]), colours["h%d" % (port % 8)])
-        for port, sent, received in journal.passages() if first <= sent[1] < end or first <= received[1] < end])
-    levels = [(float(x), float(x + w), min(drawn.ports, key=lambda port: abs(drawn.ports[port] - (y + h - 8))), float(h)) for x, y, w, h in (call.words for call in drawn.rects("fillRect", lambda x, y, w, h: y > drawn.bottom - 4 and h <= 16 and w >= 1) if call.alpha == 1 and call not in boxes)]
-    wanted = []
+            yield one, max(left, drawn.x(one.place)), min(edge, drawn.x(until)), drawn.pid(one.line)
+
+
+def levels_of(drawn, journal, first, end):
     for level in held(journal):
-        until = len(asked) if level.until is None else level.until
+        until = len(journal.lines) if level.until is None else level.until
         if level.first < end and until >= first:
             left = max(64.0, drawn.x(level.first))
-            wanted.append((left, max(left + 1, min(edge - 2, drawn.x(until))), level.port, 16.0 * level.count / journal.room[level.port]))
-    agree("level", levels, wanted, 0.6)
-    stalls = [(float(x + w / 2), drawn.lane(y + h / 2)) for x, y, w, h in (call.words for call in drawn.calls if call.name == "fillRect" and abs(call.alpha - 0.16) < 0.01)]
-    agree("stall", stalls, [(drawn.x(by), pid) for by, pid, _ in journal.stalls if first <= by < end])
-    told = {(round(a[0]), drawn.lane(a[1]), drawn.lane(b[1])) for call, a, b in drawn.beziers() if call.stroke == colours["trouble"]}
-    wanted = {(round(drawn.x(by) + min(66, dots * 0.9) / 2 + 3), pid, other) for by, pid, other in guesses(journal) if first <= by < end}
-    assert told == wanted or close(sorted(told), sorted(wanted)) or all(any(abs(a[0] - b[0]) <= 1 and a[1:] == b[1:] for b in told) for a in wanted) and len(told) == len(wanted), f"guesses: {told} and not {wanted}"
+            yield left, max(left + 1, min(float(drawn.width), drawn.x(until))), level.port, 16.0 * level.count / journal.room[level.port]
+
+
+def fill_of(colours, label):
+    """How the box of this label is filled."""
+    if re.fullmatch(r"[sr]\d+", label):
+        return colours["paper"] if label[0] == "r" else colours["h%d" % (int(label[1:]) % 8)] if label != "s0" else colours["edge"]
+    return colours["grey"]
+
+
+def dash_of(one):
+    """How the edge of a box is dashed."""
+    end = words_of(one)
+    if end == "stalled" or end.startswith("fault") or end.endswith(" closed"):
+        return "6px, 2px"
+    return "4px, 3px" if one.ended is None else "2px, 3px" if end.endswith(" drained") else "1px, 2px" if end == "cancelled" else "none"
+
+
+def check_boxes(drawn, asked, first, end):
+    boxes = {one.place: one for one in asked[first:end]}
+    agree("box", [(shape.x + shape.width / 2, drawn.lane(shape.middle())) for shape in drawn.kind("box")],
+          [(drawn.x(one.place), drawn.pid(one.line)) for one in boxes.values()])
+    for shape in drawn.kind("box"):
+        one = boxes[round((shape.x + shape.width / 2 - drawn.zero) / drawn.dots) - 1]
+        assert shape.told == title_of(one, len(asked)), f"{shape.told!r} and not {title_of(one, len(asked))!r}"
+        if drawn.dots >= 5:
+            wanted = fill_of(drawn.colours, label_of(one)), dash_of(one)
+            assert (shape.fill, shape.dash) == wanted, f"step {one.place + 1} has {shape.fill} {shape.dash} and not {wanted}"
+    texts = {round((shape.x - drawn.zero) / drawn.dots) - 1: shape.text for shape in drawn.kind("label")}
+    for one in boxes.values() if drawn.dots >= 60 else ():
+        label, value = label_of(one), value_of(one)
+        allowed = {label} if value is None else {f"{label}:{readable(value)}", label}
+        assert texts.get(one.place) in allowed, f"box {one.place + 1}: {texts.get(one.place)} and not {allowed}"
+        assert value is None or len(label + value) > 6 or texts[one.place] == f"{label}:{readable(value)}", f"no value at step {one.place + 1}: {texts[one.place]}"
+
+
+def check_shapes(drawn, journal, first, end):
+    asked, colours, dots = journal.asked(), drawn.colours, drawn.dots
+    check_boxes(drawn, asked, first, end)
+    bars = list(bars_of(drawn, asked, first, end, 62.0))
+    agree("bar", [(float(shape.x), float(shape.right()), drawn.lane(shape.middle())) for shape in drawn.kind("bar")], [bar[1:] for bar in bars])
+    agree("knob", [(float(shape.cx), drawn.lane(shape.cy)) for shape in drawn.kind("knob")], [(right, lane) for one, _, right, lane in bars if one.ended])
+    agree("arrow", [(shape.way[0], shape.way[-2], drawn.lane(shape.way[1]), drawn.lane(shape.way[-1]), shape.stroke) for shape in drawn.kind("arrow")], [
+        (drawn.x(sent[1]), drawn.x(received[1]), drawn.pid(sent[2]), drawn.pid(received[2]), colours["h%d" % (port % 8)])
+        for port, sent, received in journal.passages() if first <= sent[1] < end or first <= received[1] < end])
+    agree("level", [(float(shape.x), float(shape.right()), drawn.port(shape.y + shape.height - 8), float(shape.height)) for shape in drawn.kind("level")],
+          list(levels_of(drawn, journal, first, end)), 0.6)
+    agree("stall", [(shape.x + shape.width / 2, drawn.lane(shape.middle())) for shape in drawn.kind("field")], [
+        (drawn.x(by), pid) for by, pid, _ in journal.stalls if first <= by < end])
+    told = {(shape.way[0], drawn.lane(shape.way[1]), drawn.lane(shape.way[-1])) for shape in drawn.kind("guess")}
+    agree("guess", told, {(drawn.x(by) + min(66, dots * 0.9) / 2 + 3, pid, other) for by, pid, other in guesses(journal) if first <= by < end})
+
+
+def check_canvas(drawn, journal, first, end):
+    """The same of more steps, where a box is a rectangle without an edge, and there are no arrows."""
+    asked, rects = journal.asked(), [call for call in drawn.calls if call.name == "fillRect"]
+    bottom, width = max(drawn.lanes.values()) + 8, max(1, drawn.dots * 0.9)
+    lanes = [call.words for call in rects if call.words[1] < bottom]
+    boxes = [words for words in lanes if abs(words[2] - width) < 0.01 and words[3] >= 4 and words[3] == max(one[3] for one in lanes if abs(one[2] - width) < 0.01)]
+    agree("box", [(x + w / 2, drawn.lane(y + h / 2)) for x, y, w, h in boxes], [(drawn.x(one.place), drawn.pid(one.line)) for one in asked[first:end]])
+    thin = min((words[3] for words in lanes), default=0)
+    bars = [words for words in lanes if words[3] == thin and words not in boxes]
+    agree("bar", [(float(x), float(x + w), drawn.lane(y + h / 2)) for x, y, w, h in bars], [bar[1:] for bar in bars_of(drawn, asked, first, end, 62.0)])
+    levels = [call.words for call in rects if call.words[1] >= bottom]
+    agree("level", [(float(x), float(x + w), drawn.port(y + h - 8), float(h)) for x, y, w, h in levels], list(levels_of(drawn, journal, first, end)), 0.6)
 
 
 def drawn_at(browser, journal, first, steps):
     browser.value(f"page.view.show({first}, {steps}); window.drawn = []; page.paint()")
-    calls, hues = browser.value("window.drawn"), browser.value("page.painter.hex")
-    at = browser.value("page.view.range()")
-    return Drawn(calls, journal.procs, hues, browser.value("document.getElementById('lanes').clientWidth")), at
+    return Drawn(browser, journal.procs), browser.value("page.view.range()")
 
 
-HEX = """page.painter.hex = Object.fromEntries(Object.entries(page.painter.colours).map(([name, colour]) => {
-    const pen = document.createElement("canvas").getContext("2d"); pen.fillStyle = colour; return [name, pen.fillStyle]; })); 0"""
+def open_page(browser, text, path):
+    with open(path, "w") as file:
+        page.write_page(text.splitlines(), file.write)
+    browser.open(path)
 
 
 def check_random(browser, count, work, seed):
     text = RandomJournal(seed, 0).text()
     journal = picture.Journal(text.encode())
-    path = work / "random.html"
-    with open(path, "w") as file:
-        page.write_page(text, file.write)
-    browser.open(path)
-    browser.value(HEX)
+    open_page(browser, text, work / "random.html")
     draw, total = random.Random(seed).randrange, len(journal.lines)
     for steps in (total, 40, 12):
         first = draw(total - steps + 1)
@@ -328,8 +397,26 @@ def check_random(browser, count, work, seed):
             check_shapes(drawn, journal, *at)
 
         count.run(f"random journal {seed}, {steps} steps from {first + 1} on", test)
-    count.run(f"sketches of random journal {seed}", lambda: check_sketches(text, journal))
+    count.run(f"data of random journal {seed}", lambda: check_data(text, journal))
     count.run(f"search in random journal {seed}", lambda: check_search(browser, journal))
+
+
+def check_long(browser, count, work, seed, total):
+    """A journal of many blocks: what a window shows began and ends in other ones."""
+    text = RandomJournal(seed, total).text()
+    journal = picture.Journal(text.encode())
+    open_page(browser, text, work / "random.html")
+    draw = random.Random(seed).randrange
+    for steps in (total, 900, 450, 100, 100, 30, 30):
+        first = draw(total - steps + 1)
+
+        def test():
+            drawn, at = drawn_at(browser, journal, first, steps)
+            (check_shapes if steps <= 500 else check_canvas)(drawn, journal, *at)
+
+        count.run(f"long journal {seed}, {steps} steps from {first + 1} on", test)
+    count.run(f"data of long journal {seed}", lambda: check_data(text, journal))
+    count.run(f"search in long journal {seed}", lambda: check_search(browser, journal))
 
 
 # ---- the data
@@ -337,31 +424,51 @@ def check_random(browser, count, work, seed):
 
 def data_of(text):
     lines = []
-    page.Data(text, lines.append)
+    page.Data(text.splitlines(), lines.append)
     return "".join(lines)
 
 
-def check_sketches(text, journal):
-    """The waits, steps, troubles and levels of each 256 steps, counted step by step."""
-    told = [line for line in data_of(text).splitlines() if line.startswith("~")]
-    asked = journal.asked()
+def sketch_of(journal, asked, first, until):
+    """The sketch of these steps, counted step by step."""
+    waited, own, troubles, since, most, oldest = (collections.Counter() for _ in range(6))
+    lane = lambda one: min(int(one.line.split()[0]), journal.procs)
+    for one in asked:
+        by, end = one.ended.by if one.ended else len(asked), words_of(one)
+        own[lane(one)] += first <= one.place < until
+        waited[lane(one)] += max(0, min(by, until) - max(one.place, first))
+        troubles[lane(one)] += first <= by < until and (end == "stalled" or end.startswith("fault") or end.endswith(" closed"))
+        if one.place < until <= by and one.place < by:
+            since[lane(one)] = until - one.place
+    text = "~"
+    for pid in sorted({*waited, *own, *troubles}):
+        counts = [("w", waited[pid]), ("a", own[pid]), ("t", troubles[pid])]
+        told = "".join(f"{letter}{number}" for letter, number in counts if number) + (f"o{since[pid]}" if pid in since else "")
+        text += f"P{pid}{told}" if told else ""
+    for port in journal.room:
+        ways = [[by for _, by, _ in journal.moved[side][port]] for side in "sr"]
+        if not any(first <= by < until for way in ways for by in way):
+            continue
+        sent, received = (sum(by < until for by in way) for way in ways)
+        most = max((level.count for level in journal.levels() if level.port == port and level.first < until and (level.until is None or level.until > first)), default=0)
+        text += f"p{port}m{most}" + (f"h{sent - received}q{until - sorted(ways[0])[received]}" if sent > received else "h0")
+    return text + "".join(f"S{until - by}" for by in sorted({by for by, _, _ in journal.stalls if first <= by < until}))
+
+
+def check_data(text, journal):
+    """The sketches, and the numbers of the whole."""
+    data, asked = data_of(text), journal.asked()
+    told = [line for line in data.splitlines() if line.startswith("~")]
     blocks = range(0, len(asked), page.BLOCK)
-    assert len(told) == len(blocks), "so many sketches: %d" % len(told)
+    assert len(told) == len(blocks), f"so many sketches: {len(told)}"
     for line, first in zip(told, blocks):
-        until = min(len(asked), first + page.BLOCK)
-        waited, own, troubles, most = (collections.Counter() for _ in range(4))
-        for one in asked:
-            pid, by = int(one.line.split()[0]), one.ended.by if one.ended else len(asked)
-            own[pid] += first <= one.place < until
-            waited[pid] += max(0, min(by, until) - max(one.place, first))
-            end = words_of(one)
-            troubles[pid] += first <= by < until and (end == "stalled" or end.startswith("fault") or end.endswith(" closed"))
-        for level in journal.levels():
-            if level.first < until and (level.until is None or level.until > first):
-                most[level.port] = max(most[level.port], level.count)
-        words = [f"{pid}:{waited[pid]}:{own[pid]}:{troubles[pid]}" for pid in sorted({*waited, *own, *troubles}) if waited[pid] or own[pid] or troubles[pid]]
-        wanted = ";".join(["~", *words, *(f"p{port}:{most[port]}" for port in sorted(most))])
+        wanted = sketch_of(journal, asked, first, min(len(asked), first + page.BLOCK))
         assert line == wanted, f"{line} and not {wanted}"
+    numbers = json.loads(re.search("^=(.*)$", data, re.M)[1])
+    held_in = {level.port for level in journal.levels()}
+    made = sum(words_of(one).startswith("made") for one in asked)
+    assert numbers["steps"] == len(asked) and numbers["procs"] == journal.procs
+    assert numbers["rooms"] == [journal.room[port] if port in held_in else 0 for port in range(1, made + 1)], numbers["rooms"]
+    assert numbers["exits"][: journal.procs] == [journal.exited.get(pid) for pid in range(journal.procs)], numbers["exits"]
 
 
 def check_bytes(count, work):
@@ -416,7 +523,7 @@ def longest_wait():
 
 
 def title(browser):
-    return browser.value("document.querySelector('#panel h2').textContent")
+    return browser.value("[...document.querySelectorAll('#panel h2')].find((one) => one.checkVisibility()).textContent")
 
 
 def at(browser, step, lane):
@@ -426,54 +533,101 @@ def at(browser, step, lane):
 
 
 def check_follow(browser, count, path):
-    """The value 120 goes through three ports: by its own number, by keys, by an arrow that is clicked."""
+    """The value 120 goes through three ports: it is followed by keys, by an arrow that is clicked, and by a link in the panel."""
     first = STEPS_OF[120]
-    ways = [first, first + 3, first + 5]  # the receivers, in order
-    browser.open(path, f"#step={first + 2}")
+    ways = list(range(first, first + 6))
+    stages = [f"P{pid}, step {first + 1 + at} {word} port {port}" for at, (pid, word, port) in enumerate(
+        [(1, "got it from", 1), (0, "sent it on", 1), (1, "sent it on", 2), (2, "got it from", 2), (2, "sent it on", 3), (3, "got it from", 3)])]
+    browser.open(path, f"#step={first + 3}")
     browser.key("f")
-    count.test("f follows a value", browser.value("page.chosen.stages") == ways, browser.value("page.chosen.stages"))
-    told = browser.value("document.getElementById('panel').textContent")
-    wanted = [f"P{a}, step {first + 1 + s} on port {port} to P{b}, step {first + 1 + r}" for a, s, port, b, r in ((0, 1, 1, 1, 0), (1, 2, 2, 2, 3), (2, 4, 3, 3, 5))]
-    places = [told.find(words) for words in wanted]
-    count.test("the stages of a value are told in order", -1 not in places and places == sorted(places), told[:400])
-    browser.key(".")
+    count.test("f follows a value", browser.value("page.found") == ways, browser.value("page.found"))
+    count.test("the step that is followed stays chosen", title(browser) == f"Step {first + 3} of P1", title(browser))
+    told = browser.value("document.getElementById('step').textContent")
+    places = [told.find(words) for words in stages]
+    count.test("the stages of a value are told in order", -1 not in places and places == sorted(places), told[:500])
+    browser.key("n")
     count.test("the next stage", title(browser) == f"Step {first + 4} of P2", title(browser))
-    browser.key(",")
-    count.test("the stage before", title(browser) == f"Step {first + 1} of P1", title(browser))
+    browser.key("p")
+    browser.key("p")
+    count.test("the stages before", title(browser) == f"Step {first + 2} of P0", title(browser))
+    pale = browser.value("[...document.querySelectorAll('#lanes .box')].filter((box) => getComputedStyle(box).opacity === '1').map((box) => Number(box.dataset.step))")
+    count.test("all else is paler", sorted(pale) == ways, pale)
     browser.key("Escape")
-    browser.value(f"page.view.show({first - 4}, 14)")
+    browser.value(f"page.find(''); page.view.show({first - 4}, 14); page.draw()")
     browser.settle()
     (x, y), (toX, toY) = at(browser, first + 5, 2), at(browser, first + 5, 3)
     browser.mouse((x + toX) / 2, (y + toY) / 2, "mouseMoved", "mousePressed", "mouseReleased")
-    count.test("a click on an arrow follows its value", browser.value("page.chosen.stages") == ways, browser.value("page.chosen.stages"))
+    browser.settle()
+    count.test("a click on an arrow follows its value", browser.value("page.found") == ways, browser.value("page.found"))
+    browser.open(path, f"#step={first + 3}")
+    browser.value("[...document.querySelectorAll('#step a')].find((one) => one.textContent === 'Follow it').click()")
+    browser.settle()
+    count.test("a link follows its value", browser.value("page.found") == ways, browser.value("page.found"))
 
 
 def check_mouse(browser, count, path):
     first = STEPS_OF[110]
     browser.open(path)
-    browser.value(f"page.view.show({first - 4}, 14)")
+    browser.value(f"page.view.show({first - 4}, 14); page.draw()")
     browser.settle()
     browser.mouse(*at(browser, first + 2, 1), "mouseMoved", "mousePressed", "mouseReleased")
     count.test("a click on a box chooses it", title(browser) == f"Step {first + 3} of P1", title(browser))
-    told = browser.value("document.getElementById('tip').textContent")
+    told = browser.value(f"document.querySelector('[data-step=\"{first + 2}\"] title').textContent")
     count.test("hovering tells the journal's line", told == f"step {first + 3}: 1 send 2 110\nsent", told)
-    browser.mouse(*at(browser, first + 0.7, 1), "mouseMoved", "mousePressed", "mouseReleased")
-    count.test("a click on a bar goes to who ended it", title(browser) in (f"Step {first + 2} of P0", f"Step {first + 1} of P1"), title(browser))
-    browser.value("page.setForm(page.view.lanes.filter((lane) => lane.pid === 0), 'hidden')")
+    browser.mouse(*at(browser, first + 0.6, 1), "mouseMoved", "mousePressed", "mouseReleased")
+    count.test("a click on a bar goes to who ended it", title(browser) == f"Step {first + 2} of P0", title(browser))
+    browser.mouse(*at(browser, first + 2, 3), "mouseMoved", "mousePressed")
+    browser.ask("Input.dispatchMouseEvent", type="mouseMoved", x=at(browser, first + 2, 3)[0] - 200, y=at(browser, first + 2, 3)[1], button="left", buttons=1)
     browser.settle()
-    count.test("a hidden process has no lane", not browser.value("page.view.place.has(0)"))
-    browser.value("page.setForm(page.view.lanes, 'folded'); page.order('by time waited')")
-    browser.settle()
-    waited = browser.value("page.view.lanes.map((lane) => page.waited(lane.pid))")
-    count.test("processes by time waited", waited == sorted(waited, reverse=True), waited)
+    browser.ask("Input.dispatchMouseEvent", type="mouseReleased", x=200, y=300, button="left", clickCount=1)
+    count.test("a drag moves the window", browser.value("page.view.first") > first - 3, browser.value("page.view.first"))
+    steps = browser.value("page.view.steps")
     browser.ask("Input.dispatchMouseEvent", type="mouseWheel", x=400, y=200, deltaX=0, deltaY=-200)
     browser.settle()
-    count.test("the wheel zooms", browser.value("page.view.steps") < 14 or browser.value("page.view.steps") < 20)
+    count.test("the wheel zooms", browser.value("page.view.steps") < steps or steps < 20, browser.value("page.view.steps"))
+    browser.ask("Input.dispatchMouseEvent", type="mouseWheel", x=400, y=200, deltaX=0, deltaY=2000)
+    browser.settle()
+    count.test("and back", browser.value("page.view.steps") > steps, browser.value("page.view.steps"))
+    x, y = browser.value("(({ x, y, width }) => [x + width * 0.75, y + 30])(document.getElementById('strip').getBoundingClientRect())")
+    browser.value("page.view.show(0, 20)")
+    browser.mouse(x, y, "mouseMoved", "mousePressed", "mouseReleased")
+    middle = browser.value("(page.view.first + page.view.steps / 2) / page.journal.steps")
+    count.test("a click on the strip goes there", abs(middle - 0.75) < 0.02, middle)
+
+
+def check_lanes(browser, count, path):
+    """Processes folded, hidden and ordered, and ports hidden, by the panel's tables."""
+    browser.open(path)
+    names = lambda: browser.value("[...document.querySelectorAll('#lanes .name')].filter((one) => one.textContent).sort((a, b) => a.getAttribute('y') - b.getAttribute('y')).map((one) => one.textContent)")
+
+    def choose(what, choice):
+        browser.value(f"(({{ target }}) => {{ target.value = '{choice}'; target.dispatchEvent(new Event('change', {{ bubbles: true }})); }})({{ target: document.querySelector('{what}') }})")
+        browser.settle()
+
+    count.test("all processes and the port with room", names() == ["P0", "P1", "P2", "P3", "port 2"], names())
+    choose('[data-process="0"]', "hidden")
+    count.test("a hidden process has no lane", names() == ["P1", "P2", "P3", "port 2"], names())
+    choose('[data-process="2"]', "folded")
+    count.test("a folded process has no name", names() == ["P1", "P3", "port 2"], names())
+    choose('[data-process="3"]', "on top")
+    count.test("a process on top", names() == ["P3", "P1", "port 2"], names())
+    choose('[data-process="all"]', "open")
+    choose("#order", "by time waited")
+    asked = picture.Journal(PIPE.encode()).asked()
+    waited = collections.Counter()
+    for one in asked:
+        waited[int(one.line.split()[0])] += (one.ended.by if one.ended else len(asked) - 1) - one.place
+    wanted = [f"P{pid}" for pid in sorted(range(4), key=lambda pid: (-waited[pid], pid))]
+    count.test("processes by time waited", names()[:4] == wanted, (names(), waited))
+    choose("#order", "by number")
+    browser.value("document.querySelector('[data-port]').click()")
+    browser.settle()
+    count.test("a hidden port has no strip", names() == ["P0", "P1", "P2", "P3"], names())
 
 
 def check_keys(browser, count, path):
     browser.open(path)
-    total = browser.value("page.journal.count")
+    total = browser.value("page.journal.steps")
     shown = lambda: (round(browser.value("page.view.first"), 3), round(browser.value("page.view.steps"), 3))
     browser.key("+")
     count.test("+ zooms", abs(shown()[1] - total * 0.7) < 0.01, shown())
@@ -508,9 +662,9 @@ def check_keys(browser, count, path):
     browser.value("document.getElementById('help').close()")
     browser.key("Escape")
     count.test("Escape shows the whole", title(browser) == "The whole", title(browser))
-    told = browser.value("document.getElementById('panel').textContent")
+    told = browser.value("document.getElementById('whole').textContent")
     count.test("the longest wait is told", longest_wait() in told, told[:300])
-    count.test("what is chosen is told to a screen reader", browser.value("document.getElementById('panel').ariaLive") == "polite" and browser.value("[...document.querySelectorAll('canvas[role=img]')].every((one) => one.ariaLabel)"))
+    count.test("what is chosen is told to a screen reader", browser.value("document.getElementById('step').ariaLive") == "polite" and browser.value("[...document.querySelectorAll('[role=img]')].every((one) => one.ariaLabel)"))
     nameless = browser.value("""[...document.querySelectorAll("button, input, select")].filter((one) => !(one.ariaLabel || one.textContent.trim() && one.tagName === "BUTTON" || one.closest("label"))).length""")
     count.test("each button has a name", nameless == 0, nameless)
 
@@ -537,20 +691,18 @@ NASTY = ["</script>", "<!--<script>", "<img src=x onerror=throw(1)>", "&amp;&lt;
 def check_nasty(browser, count, work):
     values = ["#" + text.encode().hex() for text in NASTY] + ["#ff00", "#", "#c328", "18446744073709551615"]
     text = "chanhub journal 2\nprocs 2\n0 make 0\n" + "".join(f"0 send 1 {value}\n1 recv 1\n" for value in values)
-    path = work / "a <b> & 'c' %41#.html"
-    with open(path, "w") as file:
-        page.write_page(text, file.write)
-    browser.open(path)
-    count.test("the page's name", "<b> & 'c'" in urllib.parse.unquote(browser.value("document.title")) or "_b_" in browser.value("document.title"), browser.value("document.title"))
+    name = "a <b> & 'c' %41#"
+    open_page(browser, text, work / f"{name}.html")
+    count.test("the page's name", browser.value("document.title") == re.sub(r"\W", "_", name), browser.value("document.title"))
     for place, value in enumerate(values):
         for step in 1 + 2 * place, 2 + 2 * place:
             browser.value(f"page.choose({step}); page.paint()")
-            told = browser.value("[...document.querySelectorAll('#panel td b')].at(-1).textContent")
+            told = browser.value("[...document.querySelectorAll('#step td b')].at(-1).textContent")
             count.test(f"value {value} at step {step + 1}", told == readable(value), told)
-            line = browser.value("document.querySelector('#panel code').textContent")
+            line = browser.value("document.querySelector('#step code').textContent")
             count.test(f"line of step {step + 1}", line == text.splitlines()[2 + step], line)
         count.test(f"search for {value}", found(browser, "=" + value) == [1 + 2 * place, 2 + 2 * place])
-    count.test("nothing of a value is taken for HTML", browser.value("document.querySelectorAll('#panel img, #panel script, h1 b').length") == 0)
+    count.test("nothing of a value is taken for HTML", browser.value("document.querySelectorAll('#step img, #step script, h1 b').length") == 0)
     count.test("a part of bytes is found", found(browser, "=</script>") == [1, 2])
 
 
@@ -558,76 +710,130 @@ CONTRASTS = """(() => {
     const channel = (part) => (part /= 255) <= 0.03928 ? part / 12.92 : ((part + 0.055) / 1.055) ** 2.4;
     const colour = (text) => text.match(/[\\d.]+/g).map(Number), light = ([r, g, b]) => 0.2126 * channel(r) + 0.7152 * channel(g) + 0.0722 * channel(b);
     const contrast = (one, other) => { const [a, b] = [light(colour(one)), light(colour(other))].sort((x, y) => y - x); return (a + 0.05) / (b + 0.05); };
-    const c = page.painter.colours, faults = [];
+    const c = PROBE, faults = [];
     const least = (name, one, other, bound) => { if (contrast(one, other) < bound) faults.push(`${name} ${contrast(one, other).toFixed(2)}`); };
     for (const name of ["rule", "edge", "trouble", "on", "h0", "h1", "h2", "h3", "h4", "h5", "h6", "h7"]) least(name, c[name], c.paper, 3);
     for (const name of ["text", "dim", "h0", "h1", "h2", "h3", "h4", "h5", "h6", "h7", "edge"]) least(name + " as text or under it", c[name], c.paper, 4.5);
     least("text on grey", c.text, c.grey, 4.5);
-    for (const element of document.querySelectorAll("body *")) {
+    for (const element of document.querySelectorAll("body *:not(svg, svg *, option, select)")) {
         if (![...element.childNodes].some((node) => node.nodeType === 3 && node.textContent.trim()) || !element.checkVisibility()) continue;
         let ground = element;
         while (ground && /, 0\\)|transparent/.test(getComputedStyle(ground).backgroundColor)) ground = ground.parentElement;
-        const look = getComputedStyle(element), ink = element.namespaceURI.includes("svg") ? look.fill : look.color;
-        least(element.tagName + " " + element.textContent.slice(0, 20), ink, getComputedStyle(ground ?? document.body).backgroundColor, 4.5);
+        least(element.tagName + " " + element.textContent.slice(0, 20), getComputedStyle(element).color, getComputedStyle(ground ?? document.body).backgroundColor, 4.5);
     }
     return faults;
-})()"""
+})()""".replace("PROBE", PROBE)
 
 
 def check_contrasts(browser, count, path):
+    papers = []
     for theme in "light", "dark":
         browser.open(path)
-        browser.value(f"page.setTheme('{theme}')")
+        if theme == "dark":
+            browser.value("document.getElementById('theme').click()")
         for hash in "whole", "step":
-            browser.value("page.choose(%s); page.paint()" % ("null" if hash == "whole" else "page.journal.stalls.at(-1)?.step ?? 9"))
+            browser.value("page.choose(%s); page.paint()" % ("null" if hash == "whole" else "page.journal.stalls.at(-1) ?? 9"))
             faults = browser.value(CONTRASTS)
             count.test(f"contrasts on {theme}, {hash}", faults == [], faults)
+        papers.append(browser.value("getComputedStyle(document.body).backgroundColor"))
+    count.test("the other light is another one", papers == ["rgb(255, 255, 255)", "rgb(22, 24, 28)"], papers)
 
 
-def million():
-    """A page of a million steps, written here: two processes hand values over, and each 256 steps have a sketch."""
-    block = "0s1 7\n1r1;g<1;1s\n" * (page.BLOCK // 2) + "~;0:%d:%d:0;1:0:%d:0\n" % (page.BLOCK // 2, page.BLOCK // 2, page.BLOCK // 2)
-    return page.before_data() + "chanhub journal 1\nprocs 2\n" + "0m0;m1\n0m4;m2\n" + block * (MILLION // page.BLOCK) + page.after_data()
+def million(steps):
+    """A page of so many steps, written here: process 1 receives what process 0 has sent, who waits for that."""
+    first = "0m0;m1\n0m4;m2\n" + "0s1:7\n1r1;g<1;1s\n" * (page.BLOCK // 2 - 1) + "~P0w31a33P1a31\n"
+    block = "0s1:7\n1r1;g<1;1s\n" * (page.BLOCK // 2) + "~P0w32a32P1a32\n"
+    blocks = steps // page.BLOCK
+    numbers = {"steps": blocks * page.BLOCK, "procs": 2, "rooms": [0, 0], "waits": [steps // 2, 0], "exits": [None, None]}
+    data = "chanhub journal 1\nprocs 2\n" + first + block * (blocks - 1) + "=" + json.dumps(numbers)
+    return page.before_data() + data + '\n</script>\n<section id="whole"><h2>The whole</h2></section>\n' + page.after_data()
 
 
 def check_million(browser, count, work):
     path = work / "million.html"
-    path.write_text(million())
+    path.write_text(million(MILLION))
     browser.open(path)
     took = browser.seconds()
     count.test(f"a million steps are open after {took:.2f} s of the processor", took <= MOST_OPENING)
-    steps = browser.value("page.journal.count")
-    count.test(f"{steps} steps", steps == 2 + MILLION // page.BLOCK * page.BLOCK)
-    for share in 1, 0.5, 0.1, 0.01, 0.001:
+    steps = browser.value("page.journal.steps")
+    for share in 1, 0.5, 0.1, 0.01, 0.001, 0.0001:
         before = browser.seconds()
         browser.value(f"page.view.show({steps} * 0.3, {steps} * {share}); page.paint()")
         took = browser.seconds() - before
         count.test(f"{share} of them are drawn in {took:.2f} s", took <= MOST_VIEW)
     for share in 1, 0.02:
         browser.value(f"page.view.show(1000, {steps} * {share}); window.drawn = []; page.paint()")
-        calls = [Call(*call) for call in browser.value("window.drawn") if call[0] == "lanes" and call[1] == "fillRect"]
-        waits = [call.words[3] for call in calls if call.fill == browser.value(HEX + ", page.painter.hex.h1")]
-        width = int(browser.value("page.view.width")) - 108
-        lane = browser.value("page.view.place.get(0).height") - 2
-        whole = sum(waits) / (width * lane * 0.8)
+        calls = [Call(*call) for call in browser.value("window.drawn") if call[0] == "far" and call[1] == "fillRect"]
+        blue = browser.value("((pen) => (pen.fillStyle = page.painter.colour('h1'), pen.fillStyle))(document.createElement('canvas').getContext('2d'))")
+        waits = sum(call.words[2] * call.words[3] for call in calls if call.fill == blue)
+        height = browser.value("page.view.place.get(0).height") - 2
+        whole = waits / ((browser.value("page.view.width") - 108) * height * 0.8)
         count.test(f"process 0 waits half of the time, in {share} of them: {whole:.3f}", abs(whole - 0.5) < 0.02)
+
+
+def check_viewer(count):
+    lines = [line for name in page.SCRIPTS for line in page.text_of(name).splitlines()]
+    count.test(f"the viewer has {len(lines)} lines", len(lines) <= VIEWER_LINES)
+    count.test("its lines are as wide as can be read", max(map(len, lines)) < VIEWER_WIDTH)
+
+
+# ---- the journals of benches/, by hand
+
+PAN = """(() => {
+    const took = [];
+    for (let at = 0; at < 20; at++) {
+        const begin = performance.now();
+        page.view.pan(page.view.steps / 20);
+        page.paint();
+        document.body.offsetHeight;
+        took.push(performance.now() - begin);
+    }
+    return took.sort((one, other) => one - other);
+})()"""
+
+
+def measure(folder):
+    """Prints what the pages of the journals of benches/ cost."""
+    subprocess.run([sys.executable, str(ROOT / "benches" / "make_journals.py"), folder], check=True, stdout=subprocess.DEVNULL)
+    for name in "hand_overs", "bursts", "selects", "bytes":
+        path = pathlib.Path(folder) / f"{name}.html"
+        with open(pathlib.Path(folder) / name) as journal, open(path, "w") as file:
+            page.write_page(journal, file.write)
+        with tempfile.TemporaryDirectory() as user:
+            browser = Browser(user)
+            browser.open(path)
+            opened, steps = browser.seconds(), browser.value("page.journal.steps")
+            print(f"{name}: {path.stat().st_size / steps:.1f} bytes a step, open after {opened:.2f} s")
+            for share in 1, 0.1, 0.01, 0.005, 0.0005, 0.0001:
+                browser.value(f"page.view.show({steps} * 0.3, {steps} * {share}); page.paint()")
+                took = browser.value(PAN)
+                print(f"  {int(steps * share)} steps: a move takes {took[10]:.0f} ms, at most {took[-1]:.0f}")
+            before = browser.seconds()
+            browser.value("page.find('P3')")
+            print(f"  P3 is found in {browser.seconds() - before:.1f} s")
+            browser.end()
 
 
 def main():
     if picture.browser() is None:
         print("0 passed, 0 failed, 1 skipped")
         sys.exit(77)
+    if sys.argv[1:2] == ["--long"]:
+        with tempfile.TemporaryDirectory() as folder:
+            return measure(sys.argv[2] if sys.argv[2:] else folder)
     count = Count()
+    check_viewer(count)
     with tempfile.TemporaryDirectory() as folder:
         work = pathlib.Path(folder)
         browser = Browser(folder)
         browser.ask("Page.addScriptToEvaluateOnNewDocument", source=RECORDER)
         for seed in range(1, int(sys.argv[1]) + 1 if sys.argv[1:] else RANDOM + 1):
             check_random(browser, count, work, seed)
+        for seed, total in LONG:
+            check_long(browser, count, work, seed, total)
         path = work / "pipe.html"
-        with open(path, "w") as file:
-            page.write_page(PIPE, file.write)
-        for check in check_follow, check_mouse, check_keys, check_links, check_contrasts:
+        open_page(browser, PIPE, path)
+        for check in check_follow, check_mouse, check_lanes, check_keys, check_links, check_contrasts:
             count.run(check.__name__, lambda: check(browser, count, path))
         count.run("bytes that HTML would take for its own", lambda: check_nasty(browser, count, work))
         count.run("bytes a step", lambda: check_bytes(count, work))

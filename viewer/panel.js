@@ -1,126 +1,50 @@
-// Tells in words of a step, or of the whole. All texts are set as texts, so that nothing of a value is taken for HTML.
-function element(tag, properties, ...inside) {
-    const made = Object.assign(document.createElement(tag), properties);
-    made.append(...inside.flat(9).filter((part) => part !== null && part !== undefined && part !== false));
-    return made;
+// Tells of a step in words. What tells of the whole stands in the page.
+// HTML in which each value is text, unless it is HTML or a list of it.
+function html(parts, ...values) {
+    const escaped = (value) => String(value || value === 0 ? value : "").replace(/[&<>"]/g, (letter) => `&#${letter.charCodeAt()};`);
+    const inside = (value) => (Array.isArray(value) ? value.map(inside).join("") : value?.html ?? escaped(value));
+    return { html: String.raw({ raw: parts }, ...values.map(inside)) };
 }
-function svgElement(tag, attributes, ...inside) {
-    const made = document.createElementNS("http://www.w3.org/2000/svg", tag);
-    Object.entries(attributes).forEach((pair) => made.setAttribute(...pair));
-    made.append(...inside);
-    return made;
+const listOf = (items) => html`<ul>${items.map((item) => html`<li>${item}</li>`)}</ul>`;
+const link = (place, words = `step ${place + 1}`) => html`<a href="#step=${place + 1}">${words}</a>`;
+const who = (step) => (step ? html`P${step.pid}, ${link(step.place)}` : "nobody");
+const short = (step) => html`${link(step.place, step.place + 1)} <code>${step.line}</code> <span class="dim">${step.answer}</span>`;
+function caseText(text) {
+    const [port, value] = text.slice(1).split(":");
+    return value === undefined ? `receive from port ${port}` : `send ${readable(value)} on port ${port}`;
 }
-const heading = (...inside) => element("h3", {}, inside), dim = (text) => element("span", { className: "dim" }, text);
-const counted = (count, word) => `${count} ${word}${count === 1 ? "" : "s"}`;
-const listOf = (most, items, told) => element("ul", {}, items.slice(0, most).map((item) => element("li", {}, told(item))),
-    items.length > most && element("li", { className: "dim" }, `and ${items.length - most} more`));
-const tableOf = (heads, rows) => element("table", { className: "lines" }, [heads, ...rows].map((row, at) =>
-    element("tr", {}, row.map((cell) => element(at ? "td" : "th", {}, cell)))));
-const choiceOf = (label, choices, chosen, does) => element("select", { ariaLabel: label, onchange: (event) => does(event.target.value) },
-    choices.map((choice) => element("option", { selected: choice === chosen }, choice)));
-const buttonOf = (text, does, more = {}) => element("button", { onclick: does, ...more }, text);
-class Panel {
-    constructor(place, page) { Object.assign(this, { place, page, journal: page.journal }); }
-    show(step) { this.place.replaceChildren(element("div", {}, step === null ? this.whole() : this.step(step))); }
-    link(step, words = `step ${step + 1}`) { return buttonOf(words, () => this.page.choose(step), { className: "link" }); }
-    who(step) { return [`P${this.journal.pid[step]}, `, this.link(step)]; }
-    short(step) { return [this.link(step, String(step + 1)), " ", element("code", {}, this.journal.line(step)), dim(` ${this.journal.answer(step)}`)]; }
-    // ---- a step
-    step(step) {
-        const { journal, page } = this, { stages, value } = page.chosen, stall = journal.stalls.find((stall) => stall.step === step);
-        const before = numbers(Math.max(0, step - 6), step);
-        return [
-            element("h2", {}, `Step ${step + 1} of P${journal.pid[step]}`),
-            element("p", {}, element("code", {}, journal.line(step)), dim(` line ${step + 3}`)),
-            element("table", {}, this.facts(step).filter((row) => row && row[1] && row[1].length).map(([name, ...cell]) =>
-                element("tr", {}, element("th", { scope: "row" }, name), element("td", {}, cell)))),
-            stages && [heading(`The way of ${readable(value)}`), listOf(40, stages, (call) => this.stage(call))],
-            stall && this.stall(step, stall.calls, stall.guesses),
-            before.length > 0 && [heading("Before it"), listOf(6, before, (one) => this.short(one))],
-            element("p", {}, buttonOf("The whole", () => page.choose(null))),
-        ];
-    }
-    facts(step) {
-        const { journal } = this, { by } = journal, calls = journal.waits.flatMap((waits) => waits[firstFrom(waits.length, (at) => waits[at], step) - 1] ?? []);
-        const isFired = (at) => journal.isAt(step, "sgdc") && at === journal.number[step], cases = journal.cases(step);
-        return [
-            ["answer", [element("b", { className: journal.hasTrouble(step) ? "trouble" : "" }, journal.answer(step))]],
-            journal.hasWaited(step) && ["waited", counted(journal.waited(step), "step"), by[step] === NONE ? "" : ["; ended by ", this.who(by[step])]],
-            journal.value(step) !== null && ["value", this.value(step)],
-            ["ended", calls.filter((call) => by[call] === step).map((call) => element("div", {}, "the wait of ", this.who(call), `, ${counted(step - call, "step")}`))],
-            cases.length > 1 && ["cases", cases.map((text, at) => element("div", { className: isFired(at) ? "fired" : "" }, this.caseText(text)))],
-        ];
-    }
-    value(step) {
-        const { journal, page } = this, partner = journal.partner[step], word = journal.isAt(step, "g") ? " from " : " to ";
-        const way = partner === NONE ? `, stays in port ${journal.port[step]}` : [word, this.who(partner)];
-        return [element("b", {}, readable(journal.value(step))), way, element("div", {}, buttonOf("Follow it", () => page.follow(step)))];
-    }
-    stage(call) {
-        const from = this.journal.sender(call);
-        return [this.who(from), ` on port ${this.journal.port[from]}`, call === from ? ", where it stays" : [" to ", this.who(call)]];
-    }
-    caseText(text) {
-        const [port, value] = text.slice(1).split(":");
-        return text[0] === "s" ? `send ${readable(value)} on port ${port}` : `receive from port ${port}`;
-    }
-    // ---- who waits for whom
-    stall(step, calls, guesses) {
-        const { journal } = this, { moves, side, port, by } = journal, last = new Map(), key = (call) => String.fromCharCode(side[call]) + port[call];
-        for (let at = 0; at < moves.length && by[moves[at]] <= step; at++) last.set(key(moves[at]), moves[at]);
-        const hasLeft = (call) => journal.exits.get(journal.pid[call]) <= step && " (who has left)";
-        const mover = (side, port) => (last.has(side + port) ? [this.who(last.get(side + port)), hasLeft(last.get(side + port))] : "nobody");
-        const told = (text, port) => [text[0] === "s" ? " to send on" : " to receive from", ` port ${port}; last sent there by `, mover("s", port), ", last received by ", mover("r", port)];
-        const rows = calls.flatMap((call) => journal.cases(call).map((text) => [call, told(text, parseInt(text.slice(1), 10))]).concat(journal.cases(call).length ? [] : [[call, ", and has no case"]]));
-        return [heading(step < journal.count ? "A deadlock: everyone who is left waits" : "These wait to the end"),
-            guesses.length > 0 && this.graph(calls.map((call) => journal.pid[call]).sort((one, other) => one - other), guesses),
-            listOf(64, rows, ([call, words]) => [this.who(call), " waits", words])];
-    }
-    // The processes of a stall in a circle, and an arrow from each to the one for whom it perhaps waits.
-    graph(pids, guesses) {
-        const middle = Math.min(140, 55 + 4 * pids.length), at = (pid) => [Math.sin, (angle) => -Math.cos(angle)].map((part) =>
-            middle + (middle - 16) * part(2 * Math.PI * pids.indexOf(pid) / pids.length));
-        const arrow = ([from, to]) => {
-            const [[x, y], [toX, toY]] = [at(from), at(to)], length = Math.hypot(toX - x, toY - y), [dx, dy] = [(toX - x) / length, (toY - y) / length];
-            const end = `${toX - 14 * dx},${toY - 14 * dy}`, tips = [4, -4].map((side) => `M${end}l${-6 * dx - side * dy},${-6 * dy + side * dx}`);
-            return svgElement("path", { d: `M${x},${y}L${end}${tips.join("")}` });
-        };
-        const nodes = pids.flatMap((pid) => [svgElement("circle", { cx: at(pid)[0], cy: at(pid)[1], r: 12 }), svgElement("text", { x: at(pid)[0], y: at(pid)[1] + 4 }, "P" + pid)]);
-        const words = guesses.map(([from, to]) => `P${from} perhaps waits for P${to}`).join(", ");
-        return svgElement("svg", { viewBox: `0 0 ${2 * middle} ${2 * middle}`, class: "graph", role: "img", "aria-label": words }, ...guesses.map(arrow), ...nodes);
-    }
-    // ---- the whole
-    whole() {
-        const { journal } = this, { stalls, by } = journal, waits = journal.waits.flat().sort((one, other) => journal.waited(other) - journal.waited(one) || one - other);
-        const open = waits.filter((call) => by[call] === NONE), faults = journal.troubles.filter((step) => journal.isAt(step, "f"));
-        return [
-            element("h2", {}, "The whole"),
-            element("p", {}, `${counted(journal.count, "step")} of ${journal.procs} processes on ${Math.max(0, journal.ports.length - 1)} ports. ${waits.length} calls waited.`),
-            heading(stalls.length ? `Deadlocks: ${stalls.length}` : "No deadlock"),
-            listOf(4, stalls.slice(-5).reverse(), (stall) => [this.link(stall.step), " stalls ", stall.calls.map((call) => "P" + journal.pid[call]).join(", ")]),
-            open.length ? this.stall(journal.count, open, []) : element("p", {}, "In the end no call waits."),
-            heading("The longest waits"), listOf(5, waits, (call) => [this.who(call), ` waited ${counted(journal.waited(call), "step")}, `, by[call] === NONE ? "to the end" : ["until ", this.who(by[call])]]),
-            faults.length > 0 && [heading(`Refused steps: ${faults.length}`), listOf(3, faults, (step) => this.short(step))],
-            heading("Ports"), this.ports(), heading("Processes"), this.processes(),
-        ];
-    }
-    ports() {
-        const { journal, page } = this, counts = journal.ports.map(() => ({ s: 0, r: 0 }));
-        for (const call of journal.moves) counts[journal.port[call]][String.fromCharCode(journal.side[call])]++;
-        return tableOf(["", "room", "sent", "got", "left", "most", "full for"], journal.ports.filter(Boolean).map(({ number, steps, room, closer, most, fullest, ...port }) => {
-            const shown = steps.length > 0 && element("input", { type: "checkbox", checked: !page.view.hidden.has(number), onchange: () => page.togglePort(number) });
-            const full = port.full + (room && port.counts.at(-1) === room ? journal.count - steps.at(-1) : 0), filled = most > 0 && [`${most}, `, this.link(fullest)];
-            return [element("label", {}, shown, `${number}${closer === NONE ? "" : " closed"}`), room, counts[number].s, counts[number].r, counts[number].s - counts[number].r, filled,
-                full > 0 && element("span", { className: "trouble" }, counted(full, "step"))];
-        }));
-    }
-    processes() {
-        const { journal, page } = this, forms = ["open", "folded", "hidden"], rows = page.view.lanes.map((lane, at) => {
-            const name = lane.pid < journal.procs ? "P" + lane.pid : "unknown", exit = journal.exits.get(lane.pid);
-            const up = at > 0 && buttonOf("\u2191", () => page.moveUp(at), { ariaLabel: `${name} one up` });
-            return [name, page.waited(lane.pid), exit !== undefined && this.link(exit), [choiceOf(`${name} is shown`, forms, lane.form, (form) => page.setForm([lane], form)), up]];
-        });
-        return [choiceOf("order of the processes", ["by hand", ...Object.keys(page.orders)], page.ordered, (name) => page.order(name)),
-            choiceOf("all processes are", ["all", ...forms], "all", (form) => page.setForm(page.view.lanes, form)), tableOf(["", "waited", "exit", "shown"], rows)];
-    }
+function valueText(step) {
+    const { partner, value } = step, way = partner ? html`${step.endsBy("g") ? "from" : "to"} ${who(partner)}` : `stays in port ${step.port}`;
+    return html`<b>${readable(value)}</b> ${way}<br><a href="#${new URLSearchParams({ step: step.place + 1, find: "=" + value })}">Follow it</a>`;
+}
+// Rows of a name and what is told by it; those that tell nothing are left out.
+function factsOf(step, journal) {
+    const { place, end, cases } = step, fired = step.endsBy("sgdc") ? end.number : -1;
+    const ended = journal.endsOf(place, place + 1).filter((call) => call.place < place);
+    return [
+        ["answer", html`<b class="${step.isTrouble ? "trouble" : ""}">${step.answer}</b>`],
+        ["waited", step.waits && html`${step.waited}${end.letter && html`; ended by ${who(journal.step(end.by))}`}`],
+        ["value", step.value !== null && valueText(step)],
+        ["ended", ended.length > 0 && listOf(ended.map((call) => html`the wait of ${who(call)}`))],
+        ["cases", cases.length > 1 && listOf(cases.map((text, at) => html`<span class="${at === fired ? "fired" : ""}">${caseText(text)}</span>`))],
+    ].filter(([, told]) => told);
+}
+function stepText(step, { journal, found, words, isFollowing }) {
+    const { place } = step, stall = journal.stallAt(place), way = isFollowing ? found.slice(0, 60).map((one) => journal.step(one)) : [];
+    return html`<h2>Step ${place + 1} of P${step.pid}</h2>
+        <p><code>${step.line}</code> <span class="dim">line ${place + 3} of the journal</span></p>
+        <table>${factsOf(step, journal).map(([name, told]) => html`<tr><th scope="row">${name}</th><td>${told}</td></tr>`)}</table>
+        ${isFollowing && html`<h3>The way of ${readable(words.slice(1))}</h3>`}
+        ${listOf(way.map((one) => html`${who(one)} ${one.endsBy("s") ? "sent it on" : "got it from"} port ${one.port}`))}
+        ${stall ? stallText(stall, journal) : ""}
+        <h3>Before it</h3>${listOf(journal.stepsOf(Math.max(0, place - 6), place).map(short))}
+        <p><a href="#">The whole</a></p>`;
+}
+function stallText({ calls, last, guesses }, journal) {
+    const steps = calls.map((call) => journal.step(call)), mover = (place) => who(place !== null && journal.step(place));
+    return html`<h3>A deadlock: everyone who is left waits</h3>
+        ${listOf(steps.map((step) => html`${who(step)} waits to ${step.cases.map(caseText).join(" or to ")}`))}
+        <p>${guesses.map(([pid, other]) => `P${pid} perhaps waits for P${other}. `)}</p>
+        <h3>Who was there last</h3><table class="lines"><tr><th>port<th>sent by<th>received by</tr>
+        ${last.map(([port, ...ends]) => html`<tr><td>${port}</td>${ends.map((place) => html`<td>${mover(place)}</td>`)}</tr>`)}</table>`;
 }

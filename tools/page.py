@@ -20,7 +20,8 @@ VIEWER = pathlib.Path(__file__).resolve().parent.parent / "viewer"
 SCRIPTS = ["data.js", "view.js", "paint.js", "panel.js", "main.js"]
 BLOCK = 64  # steps
 LONGEST = 5  # how many of the longest waits are told
-MOST_STALLS = 5  # how many of the last stalls
+MOST_STALLS = 4  # how many of the last stalls, beside the first one
+FEW = 8  # so many calls that wait are told without a click
 LETTERS = {"make": "m", "send": "s", "recv": "r", "select": "?", "close": "c", "cancel": "x", "exit": "e"}
 ENDS = {"sent": "s", "got": "g", "drained": "d", "closed": "c", "default": "D", "done": "k", "stalled": "S", "cancelled": "x"}
 TROUBLES = "Sfc"
@@ -145,7 +146,7 @@ class Data:
         self.sketch = Sketch(0)
         self.count = self.waits = 0
         self.longest = []  # a heap
-        self.stalls = collections.deque(maxlen=MOST_STALLS)
+        self.stall_count, self.first_stalls, self.last_stalls = 0, [], collections.deque(maxlen=MOST_STALLS)
         self.asked, self.waited, self.exits = collections.Counter(), collections.Counter(), {}
         write(head.rstrip("\n") + "\n" + procs.rstrip("\n") + "\n")
         for line in lines:
@@ -173,7 +174,8 @@ class Data:
         levels = list(self.level_items(ends))
         stalled = [end.step for end in ends if end.letter == "S"]
         if stalled:
-            self.stalls.append((step, stalled))
+            self.stall_count += 1
+            (self.last_stalls if self.first_stalls else self.first_stalls).append((step, stalled))
             self.sketch.stalls.append(self.count)
         items = [step.short, *(end.item(self.count) for end in ends), *levels, *self.guesses(stalled), *self.last_items(stalled)]
         self.write(";".join(items) + "\n")
@@ -260,22 +262,30 @@ class Data:
     def whole(self, exits, waited):
         yield '<section id="whole">'
         yield f"<h2>The whole</h2><p>{counted(self.count, 'step')} of {self.procs} processes on {counted(len(self.ports), 'port')}. {counted(self.waits, 'call')} waited.</p>"
-        yield "<h3>The last deadlocks</h3>" if self.stalls else "<h3>No deadlock</h3>"
-        yield from list_of(f"{link(by)} stalls {', '.join(f'P{step.pid}' for step in stalled)}" for by, stalled in reversed(self.stalls))
-        if self.waiting:
-            yield "<h3>These wait to the end</h3>"
-            yield from list_of(f"{who(step)} waits{cases_text(step)}" for step in self.waiting.values())
-            yield "<h3>Who was there last</h3>"
-            yield from table_of(["port", "sent by", "received by"], ([number, *map(who, movers)] for number, *movers in self.last_movers(self.waiting.values())))
+        yield f"<h3>{counted(self.stall_count, 'deadlock')}</h3>"
+        if self.stall_count > 1 + MOST_STALLS:
+            yield f"<p>The first one and the last {MOST_STALLS}:</p>"
+        yield from list_of(f"{link(by)} stalls {', '.join(f'P{step.pid}' for step in stalled)}" for by, stalled in [*self.first_stalls, *self.last_stalls])
         yield "<h3>The longest waits</h3>"
         yield from list_of(
             f"{who(step)} waited {counted(steps, 'step')}, " + (f"until {who(by)}" if by else "to the end") for steps, _, step, by in sorted(self.longest, key=lambda wait: wait[:2], reverse=True))
+        yield from self.waiters()
         yield "<h3>Ports</h3>"
         yield from table_of(["shown", "room", "sent", "got", "left", "most", "full for"], (self.port_row(number, port) for number, port in enumerate(self.ports, 1)))
         yield "<h3>Processes</h3>"
         yield f"<p>{ORDER} {shown_as('all')}</p>"
-        yield from table_of(["", "waited", "exit", "shown"], ([lane_name(lane, self.procs), waited[lane], link_to(exits[lane]), shown_as(lane)] for lane in range(len(exits))))
+        yield from table_of(["", "steps", "waited", "exit", "shown"], ([lane_name(lane, self.procs), self.asked[lane], waited[lane], link_to(exits[lane]), shown_as(lane)] for lane in range(len(exits))))
         yield "</section>"
+
+    def waiters(self):
+        """Who waits to the end; folded where there are many."""
+        if not self.waiting:
+            return
+        yield f"<details{' open' if len(self.waiting) <= FEW else ''}><summary>{counted(len(self.waiting), 'call')} {'waits' if len(self.waiting) == 1 else 'wait'} to the end</summary>"
+        yield from list_of(f"{who(step)} waits{cases_text(step)}" for step in self.waiting.values())
+        yield "<h3>Who was there last</h3>"
+        yield from table_of(["port", "sent by", "received by"], ([number, *map(who, movers)] for number, *movers in self.last_movers(self.waiting.values())))
+        yield "</details>"
 
     def port_row(self, number, port):
         name = f"{number}{'' if port.closed is None else ' closed'}"

@@ -472,7 +472,7 @@ def check_data(text, journal):
 
 
 def check_bytes(count, work):
-    subprocess.run([sys.executable, str(ROOT / "benches" / "make_journals.py"), str(work), "10000"], check=True)
+    subprocess.run([sys.executable, str(ROOT / "benches" / "make_journals.py"), str(work), "10000"], check=True, stdout=subprocess.DEVNULL)
     for name in "hand_overs", "bursts", "selects", "bytes":
         text = (work / name).read_text()
         size = len(data_of(text)) / (text.count("\n") - 2)
@@ -772,6 +772,10 @@ def check_million(browser, count, work):
 
 
 def check_viewer(count):
+    """The viewer is short, and the page in docs/pictures is the one that page.py makes."""
+    kept, made = ROOT / "docs" / "pictures" / "stalling_pool.html", []
+    page.write_page(kept.with_suffix(".journal").read_text().splitlines(), made.append)
+    count.test("docs/pictures/stalling_pool.html is as tools/page.py makes it", kept.read_text() == "".join(made), "run tools/page.py docs/pictures/stalling_pool.journal > docs/pictures/stalling_pool.html")
     lines = [line for name in page.SCRIPTS for line in page.text_of(name).splitlines()]
     count.test(f"the viewer has {len(lines)} lines", len(lines) <= VIEWER_LINES)
     count.test("its lines are as wide as can be read", max(map(len, lines)) < VIEWER_WIDTH)

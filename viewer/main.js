@@ -117,7 +117,7 @@ class Page {
         if (follow) this.follow(journal.step(Number(follow)));
         else if (call) this.choose(call.end.letter ? call.end.by : call.place);
         else if (step) this.choose(Number(step));
-        else if (view.steps > MOST_NEAR) view.show(view.stepAt(offsetX) - 60, 120);
+        else if (view.steps > MOST_NEAR) view.reveal(view.stepAt(offsetX));
     }
     wheel(event) {
         const { shiftKey, deltaX, deltaY, offsetX } = event;

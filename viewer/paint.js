@@ -1,6 +1,5 @@
 // Draws what is in view: from near by shapes that tell what they are, from farther off on a canvas. Colours are those of style.css.
-const HUES = 8, COLUMN = 2;
-const hueOf = (port) => (port ? "h" + port % HUES : "edge");
+const HUES = 8, COLUMN = 2, hueOf = (port) => (port ? "h" + port % HUES : "edge");
 function node(tag, attributes, ...inside) {
     const made = document.createElementNS("http://www.w3.org/2000/svg", tag);
     for (const [name, value] of Object.entries(attributes)) made.setAttribute(name, value);

@@ -30,11 +30,12 @@ function factsOf(step, journal) {
     ].filter(([, told]) => told);
 }
 function stepText(step, { journal, found, words, isFollowing }) {
-    const { place } = step, stall = journal.stallAt(place), way = isFollowing ? found.slice(0, 60).map((one) => journal.step(one)) : [];
+    const { place } = step, stall = journal.stallAt(place), at = found.findLastIndex((one) => one <= place);
+    const way = isFollowing ? found.slice(Math.max(0, at - 20), at + 21).map((one) => journal.step(one)) : [];
     return html`<h2>Step ${place + 1} of P${step.pid}</h2>
         <p><code>${step.line}</code> <span class="dim">line ${place + 3} of the journal</span></p>
         <table>${factsOf(step, journal).map(([name, told]) => html`<tr><th scope="row">${name}</th><td>${told}</td></tr>`)}</table>
-        ${isFollowing && html`<h3>The way of ${readable(words.slice(1))}</h3>`}
+        ${isFollowing && html`<h3>The way of ${readable(words.slice(1))}: ${way.length} of ${counted(found.length, "move")}</h3>`}
         ${listOf(way.map((one) => html`${who(one)} ${one.endsBy("s") ? "sent it on" : "got it from"} port ${one.port}`))}
         ${stall ? stallText(stall, journal) : ""}
         <h3>Before it</h3>${listOf(journal.stepsOf(Math.max(0, place - 6), place).map(short))}

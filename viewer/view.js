@@ -1,5 +1,5 @@
 // What is in view: a window of steps, lanes of processes, strips of ports, and what stands there.
-const LEFT = 64, RIGHT = 44, AXIS = 26, STRIP = 24, FOLDED = 8, LEAST_LANE = 16, MOST_LANE = 40, NEAREST = 90;
+const LEFT = 64, RIGHT = 44, AXIS = 26, STRIP = 24, FOLDED = 8, LEAST_LANE = 16, MOST_LANE = 40, NEAREST = 90, CLOSE = 60;
 const MOST_NEAR = 500;     // so many steps have arrows, and tell what they are
 const MOST_SHAPES = 6000;  // so many are drawn one by one; of more is drawn what the sketches tell
 class View {
@@ -45,7 +45,7 @@ class View {
     }
     // Brings a step into view, so near that it can be seen.
     reveal(step) {
-        const steps = this.steps > MOST_NEAR ? 120 : this.steps, isOff = Math.abs(step - this.first - steps / 2) > steps * 0.42;
+        const steps = this.steps > MOST_NEAR ? CLOSE : this.steps, isOff = Math.abs(step - this.first - steps / 2) > steps * 0.42;
         if (isOff || this.steps > MOST_NEAR) this.show(step + 0.5 - steps / 2, steps);
     }
     boxes() { return this.journal.stepsOf(...this.range()).filter((step) => this.isShown(step)); }

@@ -10,12 +10,13 @@ usage: explain.sh SCENARIO [FROM [TO]]
        explain.sh --every SCENARIO [FROM [TO]]
        explain.sh JOURNAL [FROM [TO]]
 
-Takes a journal, which is a file that begins with `chanhub journal `, or runs a scenario to get one. Writes the story and the
-picture of all its steps, of step FROM, or of steps FROM to TO. Prints the path of the story and then that of the picture, and
-opens the picture. A run that stalls is explained too.
+Takes a journal, which is a file that begins with `chanhub journal `, or runs a scenario to get one. Writes its page, and the story
+and the picture of all its steps, of step FROM, or of steps FROM to TO. Prints the paths of the story, the picture and the page, and
+opens the page. A run that stalls is explained too. If all of more than 300 steps are to be drawn, there are pictures of the steps
+round stalls and round both ends of the longest waits instead.
 With --every, the journal is a shortest run of the scenario that stalls, and what `chanhub_tool explore` says is printed first.
 If no run stalls, that is all, with status 0; if there are too many states, likewise, with status 5.
-The command in OPENER opens the picture, or xdg-open if OPENER is not set. If there is no such command, or xdg-open finds no viewer,
+The command in OPENER opens the page, or xdg-open if OPENER is not set. If there is no such command, or xdg-open finds no viewer,
 nothing is opened.
 END
 }
@@ -59,14 +60,24 @@ else
     case $status in 0 | 4) ;; *) exit "$status" ;; esac
 fi
 "$tool" story "$@" "$folder/journal" -o "$folder/story.txt"
-"$tool" picture "$@" "$folder/journal" -o "$folder/picture.svg"
+"$root/tools/page.py" "$folder/journal" > "$folder/page.html"
 echo "$folder/story.txt"
-echo "$folder/picture.svg"
+if [ $# = 0 ] && [ "$(wc -l < "$folder/journal")" -gt 302 ]; then
+    "$root/tools/windows.py" "$folder/journal" > "$folder/windows"
+    while read -r first last; do
+        "$tool" picture "$first" "$last" "$folder/journal" -o "$folder/picture-$first-$last.svg"
+        echo "$folder/picture-$first-$last.svg"
+    done < "$folder/windows"
+else
+    "$tool" picture "$@" "$folder/journal" -o "$folder/picture.svg"
+    echo "$folder/picture.svg"
+fi
+echo "$folder/page.html"
 trap - EXIT
 
 # xdg-open fails on a machine without a viewer. The paths are printed, so that is no failure of this script.
 if [ -n "${OPENER-}" ]; then
-    if command -v "$OPENER" > /dev/null; then "$OPENER" "$folder/picture.svg"; fi
+    if command -v "$OPENER" > /dev/null; then "$OPENER" "$folder/page.html"; fi
 elif command -v xdg-open > /dev/null; then
-    xdg-open "$folder/picture.svg" > /dev/null 2>&1 || true
+    xdg-open "$folder/page.html" > /dev/null 2>&1 || true
 fi

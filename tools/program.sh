@@ -227,7 +227,7 @@ if [ "$program" = "$root/crates/chanhub/out/chanhub" ]; then
 fi
 
 CHANHUB=$program TOOL=$tool OPENER=cat TMPDIR=$work "$root/tools/explain.sh" "$root/examples/scenarios/hand_over" > "$work/told" 2> "$work/errors" &&
-    grep -q '^</svg>$' "$work/told" && [ ! -s "$work/errors" ]
+    grep -q '^</html>$' "$work/told" && grep -q '/picture\.svg$' "$work/told" && [ ! -s "$work/errors" ]
 count $? "a scenario explained"
 "$root/tools/picture.py" "$tool" > "$work/pictures" 2>&1
 count $? "pictures: $(cat "$work/pictures")"

@@ -243,8 +243,14 @@ class Tests(Count):
         journal = os.path.join(EXAMPLES, 'journals', 'hand_over')
         status, told, errors = self.script('explain.sh', journal)
         names = told.splitlines()
-        is_well = status == 0 and errors == '' and len(names) == 2
+        is_well = status == 0 and errors == '' and len(names) == 3
         self.test('explain.sh explains a journal', is_well and read(names[1]).endswith(b'</svg>\n') and b'recv 1' in read(names[0]))
+        self.test('explain.sh makes its page', is_well and read(names[2]).endswith(b'</html>\n'))
+        write(self.path('long'), b'chanhub journal 1\nprocs 2\n0 make 0\n1 recv 1\n' + b'0 make 5000\n' * 400 + b'0 send 1 9\n' + b'0 make 5000\n' * 200)
+        status, told, errors = self.script('explain.sh', self.path('long'))
+        names = [os.path.basename(path) for path in told.splitlines()]
+        windows = ['picture-1-31.svg', 'picture-373-432.svg']
+        self.test('explain.sh draws windows of a long journal', (status, errors, names) == (0, '', ['story.txt', *windows, 'page.html']), names)
         status, told, errors = self.script('explain.sh', journal, '1', '2')
         self.test('explain.sh explains some steps of a journal', status == 0 and errors == '' and b'      3  P0 send 1 9' not in read(told.splitlines()[0]))
         for word in ('-h', '--help'):
@@ -266,8 +272,8 @@ class Tests(Count):
         status, told, errors = self.script('explain.sh', '--every', stalls)
         said, *names = told.splitlines()
         # Process 0 makes four steps, and each of three philosophers takes a fork and asks for another; the ports are made before.
-        self.test('explain.sh --every says after how many steps a run stalls', (status, said, errors, len(names)) == (0, 'stall after 10 steps', '', 2))
-        story, picture = (read(it).decode() for it in names)
+        self.test('explain.sh --every says after how many steps a run stalls', (status, said, errors, len(names)) == (0, 'stall after 10 steps', '', 3))
+        story, picture, _ = (read(it).decode() for it in names)
         is_drawn = story.count('stall: everyone who is left waits') == 1 and '     13  P' in story and '     14  P' not in story
         self.test('explain.sh --every explains that run', is_drawn and picture.endswith('</svg>\n'))
         status, told, errors = self.script('explain.sh', '--every', stalls, '13')

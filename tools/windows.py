@@ -1,0 +1,48 @@
+#!/usr/bin/env python3
+"""Which steps of a long journal to draw: those round its stalls, and round both ends of its longest waits.
+
+    windows.py JOURNAL
+
+Prints the first and the last step of each window, in order. There are at most five stalls, the first one and the last four, and five
+waits, as tools/page.py tells them. A window has 60 steps, where the journal has them; what overlaps is one.
+"""
+import sys
+
+sys.dont_write_bytecode = True
+import page
+
+STEPS = 60
+
+
+def places_of(data):
+    """The places in the middle of windows."""
+    for by, _ in [*data.first_stalls, *data.last_stalls]:
+        yield by.place
+    for steps, negative, _, _ in data.longest:
+        yield -negative
+        yield steps - negative
+
+
+def windows(data):
+    """The first and the last place of each window, in order."""
+    found = []
+    for place in sorted(places_of(data)):
+        first, last = max(0, place - STEPS // 2), min(data.count, place + STEPS // 2) - 1
+        if found and first <= found[-1][1] + 1 and last - found[-1][0] < 2 * STEPS:
+            found[-1][1] = last
+        elif not found or last > found[-1][1]:
+            found.append([first, last])
+    return found
+
+
+def main():
+    if len(sys.argv) != 2 or sys.argv[1].startswith("-"):
+        sys.exit(__doc__.split("\n\n")[1])
+    with open(sys.argv[1], encoding="ascii") as journal:
+        data = page.Data(journal, lambda text: None)
+    for first, last in windows(data):
+        print(first + 1, last + 1)
+
+
+if __name__ == "__main__":
+    main()

@@ -12,8 +12,8 @@ usage: explain.sh SCENARIO [FROM [TO]]
 
 Takes a journal, which is a file that begins with `chanhub journal `, or runs a scenario to get one. Writes its page, and the story
 and the picture of all its steps, of step FROM, or of steps FROM to TO. Prints the paths of the story, the picture and the page, and
-opens the page. A run that stalls is explained too. If all of more than 300 steps are to be drawn, there are pictures of the steps
-round stalls and round both ends of the longest waits instead.
+opens the page. A run that stalls is explained too. If all of more than 300 steps are to be drawn, there are an overview and pictures
+of the steps round stalls and round both ends of the longest waits instead.
 With --every, the journal is a shortest run of the scenario that stalls, and what `chanhub_tool explore` says is printed first.
 If no run stalls, that is all, with status 0; if there are too many states, likewise, with status 5.
 The command in OPENER opens the page, or xdg-open if OPENER is not set. If there is no such command, or xdg-open finds no viewer,
@@ -63,6 +63,8 @@ fi
 "$root/tools/page.py" "$folder/journal" > "$folder/page.html"
 echo "$folder/story.txt"
 if [ $# = 0 ] && [ "$(wc -l < "$folder/journal")" -gt 302 ]; then
+    "$root/tools/overview.py" "$folder/journal" > "$folder/overview.svg"
+    echo "$folder/overview.svg"
     "$root/tools/windows.py" "$folder/journal" > "$folder/windows"
     while read -r first last; do
         "$tool" picture "$first" "$last" "$folder/journal" -o "$folder/picture-$first-$last.svg"

@@ -25,6 +25,7 @@ import unicodedata
 import urllib.parse
 
 sys.dont_write_bytecode = True
+import overview
 import page
 import picture
 import story_model
@@ -416,7 +417,53 @@ def check_long(browser, count, work, seed, total):
 
         count.run(f"long journal {seed}, {steps} steps from {first + 1} on", test)
     count.run(f"data of long journal {seed}", lambda: check_data(text, journal))
+    count.run(f"overview of long journal {seed}", lambda: check_overview(text, journal))
     count.run(f"search in long journal {seed}", lambda: check_search(browser, journal))
+
+
+# ---- whether this test would notice
+
+# what is wrong in the data of a page: what stands there, and what is put there; the first place counts
+WRONG = {
+    "an arrow is left out": (r"g1?<\d+", "D"),
+    "an arrow comes from an earlier step": (r"(?<=g<)2(?=;|\n)", "3"),
+    "a bar ends a step early": (r"(0s1:\d+;s;1:1)\n2r2;g<2;2s", r"\1;1s\n2r2;g<2"),
+    "a bar begins a step late": (r"(?<=;)2(?=s)", "1"),
+    "a level is off by one": (r"(?<=;\d:)1(?=;|\n)", "2"),
+    "a level is not told": (r";\d:\d+", ""),
+    "a stall is not told": (r";S(?=;|\n)", ";x"),
+    "a guess is not told": (r";\d>\d", ""),
+    "a call waits on at the end of a block": (r"(?<=o)(\d+)", lambda found: str(int(found[1]) + 1)),
+    "a step is another process's": (r"(?m)^1(?=[rs])", "0"),
+}
+WORKERS = "chanhub journal 2\nprocs 4\n0 make 2\n0 make 0\n0 make 0\n3 recv 3\n" + "".join(
+    f"0 send 1 {n}\n1 recv 1\n1 send 2 {n}\n0 send 1 {n + 1}\n2 recv 2\n1 recv 1\n2 recv 2\n1 send 2 {n + 1}\n" for n in range(100, 130)) + "2 recv 1\n1 recv 1\n0 send 3 7\n3 recv 1\n0 recv 2\n"
+
+
+def check_notices(browser, count, work):
+    """Each of these wrong data makes the shapes of some window differ from those expected."""
+    path, made = work / "wrong.html", []
+    page.write_page(WORKERS.splitlines(), made.append)
+    text, journal = "".join(made), picture.Journal(WORKERS.encode())
+    begin = text.index('id="data">') + len('id="data">')
+    end = text.index("\n=", begin)
+
+    def is_right(data):
+        path.write_text(text[:begin] + data + text[end:])
+        browser.open(path)
+        try:
+            for first in 0, 40, 170, len(journal.lines) - 60:
+                drawn, at = drawn_at(browser, journal, first, 60)
+                check_shapes(drawn, journal, *at)
+        except AssertionError:
+            return False
+        return True
+
+    count.test("the right data are right", is_right(text[begin:end]))
+    for name, (old, new) in WRONG.items():
+        wrong = re.sub(old, new, text[begin:end], count=1)
+        count.test(f"it is noticed that {name}", wrong != text[begin:end] and not is_right(wrong))
+    del browser.errors[:]
 
 
 # ---- the data
@@ -469,6 +516,25 @@ def check_data(text, journal):
     assert numbers["steps"] == len(asked) and numbers["procs"] == journal.procs
     assert numbers["rooms"] == [journal.room[port] if port in held_in else 0 for port in range(1, made + 1)], numbers["rooms"]
     assert numbers["exits"][: journal.procs] == [journal.exited.get(pid) for pid in range(journal.procs)], numbers["exits"]
+
+
+def check_overview(text, journal):
+    """The bars of tools/overview.py, counted step by step."""
+    data, asked = overview.Overview(text.splitlines()), journal.asked()
+    drawn = "\n".join(overview.drawing(data))
+    blocks = [(first, min(len(asked), first + page.BLOCK)) for first in range(0, len(asked), page.BLOCK)]
+    x = lambda place: overview.LEFT + overview.WIDTH * place / len(asked)
+    for kind, count in ("waited", lambda one, first, until: max(0, min(one.ended.by if one.ended else len(asked), until) - max(one.place, first))), (
+            "asked", lambda one, first, until: first <= one.place < until):
+        paths = re.findall(f'<path class="{kind}" d="([^"]*)">', drawn)
+        assert len(paths) == journal.procs, f"{len(paths)} lanes"
+        for pid, path in enumerate(paths):
+            own, floor = [one for one in asked if int(one.line.split()[0]) == pid], overview.TOP + (pid + 1) * overview.LANE
+            shares = [(first, until, sum(count(one, first, until) for one in own) / (until - first)) for first, until in blocks]
+            wanted = [(x(first), floor - share * (overview.LANE - 4), x(until)) for first, until, share in shares if share]
+            agree(f"{kind} bar of P{pid}", [tuple(map(float, bar)) for bar in re.findall(r"M([\d.]+),\d+V([\d.]+)H([\d.]+)V", path)], wanted, 0.06)
+    stalls = [float(at) for at in re.findall(r'class="stall" d="M([\d.]+),', drawn)]
+    agree("stall", [(at,) for at in stalls], [(x(by),) for by in sorted({by for by, _, _ in journal.stalls})], 0.06)
 
 
 def check_bytes(count, work):
@@ -835,6 +901,8 @@ def main():
             check_random(browser, count, work, seed)
         for seed, total in LONG:
             check_long(browser, count, work, seed, total)
+        count.test("no error in the console of right pages", not browser.errors, browser.errors[:2])
+        count.run("wrong data", lambda: check_notices(browser, count, work))
         path = work / "pipe.html"
         open_page(browser, PIPE, path)
         for check in check_follow, check_mouse, check_lanes, check_keys, check_links, check_contrasts:

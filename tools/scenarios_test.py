@@ -250,7 +250,7 @@ class Tests(Count):
         status, told, errors = self.script('explain.sh', self.path('long'))
         names = [os.path.basename(path) for path in told.splitlines()]
         windows = ['picture-1-31.svg', 'picture-373-432.svg']
-        self.test('explain.sh draws windows of a long journal', (status, errors, names) == (0, '', ['story.txt', *windows, 'page.html']), names)
+        self.test('explain.sh draws windows of a long journal', (status, errors, names) == (0, '', ['story.txt', 'overview.svg', *windows, 'page.html']), names)
         status, told, errors = self.script('explain.sh', journal, '1', '2')
         self.test('explain.sh explains some steps of a journal', status == 0 and errors == '' and b'      3  P0 send 1 9' not in read(told.splitlines()[0]))
         for word in ('-h', '--help'):

@@ -10,6 +10,12 @@
  * Each chapter is handed out once, in order. At most one waits in the hub. The thread whose step made it fall out claims it before it
  * lets go of the lock, so no other thread does. It waits until the chapter before is handed out, and then takes this one out of the hub,
  * so that the next may fall out.
+ *
+ * The clock is a process that no thread has: whoever holds the lock makes its steps. It waits on the nil port, where it holds up no
+ * stall, unless a call with a deadline waits or is about to. Before such a call waits, its process wakes the clock. If its deadline
+ * passes first, the thread that waits for it has the clock cancel it. Once the last such call has ended, the clock is due to wait again:
+ * in the next step under the same lock, unless a chapter has to be handed out before. If the clock waits later, no stall is missed, since
+ * the hub looks for one at each call that parks. While the clock is awake, a call first looks whether it is due.
  */
 #define _POSIX_C_SOURCE 200809L /* for the monotonic clock */
 #include "chanhub.h"
@@ -29,6 +35,7 @@ enum {
     MOST_PROCS = 64,
     NOBODY = MOST_PROCS, /* the number of no process */
     MOST_BYTES = 32,
+    MOST_STEPS = 1000000,
     GREATEST_EDITION = 255,
     GREATEST_PID = 255,
     GREATEST_PORT = 65535
@@ -44,12 +51,22 @@ enum {
     BILLION = 1000000000
 };
 
-/* A wait that has no end but the answer. */
-#define FOR_EVER UINT64_MAX
+/* A wait that has no end but the answer, and the set of all processes. */
+#define FOR_EVER CHANHUB_NEVER
+#define EVERYBODY UINT64_MAX
+
+/* What a process that ends calls whose deadlines pass is at. */
+enum clock {
+    NO_CLOCK, /* the hub has none */
+    ASLEEP,   /* it waits on the nil port */
+    AWAKE,    /* it holds up each stall */
+    GONE      /* it has exited, as have all others, or since memory was refused or the journal is full */
+};
 
 /* Where the call of one process waits. */
 struct place {
     pthread_cond_t answered;
+    uint64_t deadline; /* of the call, if it is in `timed` */
     atomic_bool told; /* whether it was woken since it was cleared; read without the lock */
     uint8_t vain;     /* how many times running it looked in vain */
     uint8_t sleeps;   /* how many times it sleeps at once before it looks again */
@@ -60,6 +77,10 @@ struct chanhub {
     pthread_mutex_t lock;
     uint64_t open;              /* whose call is open: it has parked, and its answer is not picked up */
     uint64_t awaited;           /* for whose answer a thread waits now */
+    uint64_t timed;             /* whose call with a deadline waits in the hub, or is about to */
+    uint64_t watched;           /* whose calls look at the clock first: its own, or while it is awake all */
+    uint8_t clock;              /* the number of the clock; NOBODY where there is none */
+    enum clock clock_is;
     atomic_uint sleepers;       /* how many threads sleep for the lock */
     uint32_t limit;             /* the most steps that are no exits; 0 where the hub never ends */
     uint32_t exits;             /* how many processes have exited */
@@ -73,6 +94,17 @@ struct chanhub {
     struct place places[MOST_PROCS];
     struct hub hub;
 };
+
+/* The set of this process alone; the empty one for a number that no hub has. */
+static inline uint64_t only(unsigned pid) {
+    return pid < MOST_PROCS ? (uint64_t)1 << pid : 0;
+}
+
+/* Notes what the clock is at. Holds the lock. */
+static void set_clock(chanhub *h, enum clock clock_is) {
+    h->clock_is = clock_is;
+    h->watched = clock_is == AWAKE ? EVERYBODY : only(h->clock);
+}
 
 /* ---- A hub opens. Nobody else has it, so there is no lock to hold. ---- */
 
@@ -91,6 +123,7 @@ static int opened(chanhub **hub, chanhub *h, int refusal) {
         free(h);
         return refusal;
     }
+    h->clock = NOBODY;
     pthread_mutex_init(&h->lock, NULL);
     pthread_cond_init(&h->handed, NULL);
     for (int pid = 0; pid < MOST_PROCS; pid++) init_place(&h->places[pid]);
@@ -119,6 +152,35 @@ int chanhub_open_endless(chanhub **hub, unsigned edition, unsigned procs, uint32
     return opened(hub, h, hub_c_open_endless(&h->hub, edition_of(edition), procs_of(procs), keep, chapters != NULL));
 }
 
+/* The clock of a hub that has just been opened waits. Where memory is refused for that, the hub is freed. */
+static int start_clock(chanhub **hub, uint8_t clock) {
+    chanhub *h = *hub;
+    struct told t = { 0 };
+    hub_c_recv(&h->hub, clock, 0, &t);
+    if (t.it.what == CHANHUB_WAITING) {
+        h->clock = clock;
+        set_clock(h, ASLEEP);
+        return 0;
+    }
+    h->chapters = NULL; /* nobody has seen the hub, so nobody gets one */
+    chanhub_free(h);
+    *hub = NULL;
+    return 3;
+}
+
+int chanhub_open_with(chanhub **hub, const chanhub_options *options) {
+    const chanhub_options *o = options;
+    unsigned edition = o->edition ? o->edition : 2, procs = o->procs;
+    *hub = NULL;
+    if (o->clock && (procs < 1 || procs >= MOST_PROCS)) return 1;
+    if (o->clock && edition == 1) return 4;
+    if (o->keep ? o->limit != 0 : o->chapters != NULL) return 2;
+    procs += o->clock;
+    int why = o->keep ? chanhub_open_endless(hub, edition, procs, o->keep, o->chapters, o->pointer)
+                      : chanhub_open(hub, edition, procs, o->limit ? o->limit : MOST_STEPS);
+    return why || !o->clock ? why : start_clock(hub, (uint8_t)o->procs);
+}
+
 /* ---- Texts. ---- */
 
 #define TEXT_OF(number) #number
@@ -137,10 +199,10 @@ static const char *text_at(const char *const *texts, size_t count, int number) {
 const char *chanhub_strerror(int error) {
     static const char *const texts[] = {
         "no error",
-        "the number of processes must be between 1 and 64",
-        "the step limit must be between 1 and 1,000,000, and the number of steps to keep between 1 and 900,000",
+        "the number of processes must be between 1 and 64, or 63 with a clock",
+        "the step limit must be between 1 and 1,000,000, or the number of steps to keep between 1 and 900,000",
         "out of memory",
-        "the edition must be 1 or 2",
+        "the edition must be 1 or 2, and 2 with a clock",
     };
     return text_at(texts, sizeof texts / sizeof *texts, error);
 }
@@ -160,7 +222,7 @@ const char *chanhub_strfault(int fault) {
         [CHANHUB_JOURNAL_FULL] = "the hub has reached its step limit",
         [CHANHUB_NO_MEMORY] = "out of memory",
         [CHANHUB_NOT_PARKED] = "the process has no waiting call",
-        [CHANHUB_BAD_CALL] = "no hub, a number out of range, more than 16 cases or 32 bytes, or a call that needs edition 2",
+        [CHANHUB_BAD_CALL] = "no hub, a number out of range, more than 16 cases or 32 bytes, or a call that needs edition 2 or a clock",
     };
     return text_at(texts, sizeof texts / sizeof *texts, fault);
 }
@@ -178,6 +240,7 @@ const char *chanhub_what_name(int what) {
         [CHANHUB_STALLED] = "stalled",
         [CHANHUB_FAULT] = "fault",
         [CHANHUB_CANCELLED] = "cancelled",
+        [CHANHUB_TIMED_OUT] = "timed out",
     };
     return text_at(names, sizeof names / sizeof *names, what);
 }
@@ -227,19 +290,6 @@ static void let_others_in(chanhub *h) {
     take_lock(h);
 }
 
-/* The set of this process alone; the empty one for a number that no hub has. */
-static inline uint64_t only(unsigned pid) {
-    return pid < MOST_PROCS ? (uint64_t)1 << pid : 0;
-}
-
-/* Takes the lock for a call in the name of this process. Where one is open, it leaves the lock and says no. */
-static inline bool enter(chanhub *h, unsigned pid) {
-    take_lock(h);
-    if (!(h->open & only(pid))) return true;
-    leave_lock(h);
-    return false;
-}
-
 /* ---- Wakes and waits. ---- */
 
 /* Wakes these processes. With the lock or without. */
@@ -251,23 +301,32 @@ static void wake(chanhub *h, uint64_t pids) {
     }
 }
 
-/* The time so many nanoseconds from now. */
-static struct timespec time_in(uint64_t nanoseconds) {
+/* Times are nanoseconds of the monotonic clock. FOR_EVER is none. */
+static uint64_t now(void) {
     struct timespec time;
     clock_gettime(CLOCK_MONOTONIC, &time);
-    time.tv_sec += (time_t)(nanoseconds / BILLION);
-    time.tv_nsec += (long)(nanoseconds % BILLION);
-    if (time.tv_nsec >= BILLION) {
-        time.tv_nsec -= BILLION;
-        time.tv_sec++;
-    }
-    return time;
+    return (uint64_t)time.tv_sec * BILLION + (uint64_t)time.tv_nsec;
 }
 
-/* Whether a wait of so many nanoseconds begins with looks. They pay if no port has a buffer, since answers then come soon. After
+uint64_t chanhub_in(uint64_t nanoseconds) {
+    if (nanoseconds == FOR_EVER) return FOR_EVER;
+    uint64_t present = now();
+    return nanoseconds < FOR_EVER - present ? present + nanoseconds : FOR_EVER;
+}
+
+static bool has_passed(uint64_t time) {
+    return time != FOR_EVER && time <= now();
+}
+
+/* When the deadline of this process's open call passes. Holds the lock. */
+static uint64_t deadline_of(const chanhub *h, unsigned pid) {
+    return h->timed & only(pid) ? h->places[pid].deadline : FOR_EVER;
+}
+
+/* Whether a wait until this time begins with looks. They pay if no port has a buffer, since answers then come soon. After
  * each that was in vain twice as many waits go without. Holds the lock. */
-static bool begins_with_looks(const chanhub *h, struct place *mine, uint64_t nanoseconds) {
-    if (h->has_buffer || nanoseconds < LOOKS_TAKE) return false;
+static bool begins_with_looks(const chanhub *h, struct place *mine, uint64_t end) {
+    if (h->has_buffer || (end != FOR_EVER && end < chanhub_in(LOOKS_TAKE))) return false;
     if (mine->sleeps == 0) return true;
     mine->sleeps--;
     return false;
@@ -285,12 +344,13 @@ static void look_for_wake(chanhub *h, struct place *mine) {
     mine->sleeps = (uint8_t)((1 << mine->vain) - 1);
 }
 
-/* Sleeps until the process is woken, at latest until the end, where there is one: then it says no. Holds the lock, but not
- * meanwhile. A thread that is cancelled would keep it for ever, so none is cancelled here. */
-static bool sleep_until(chanhub *h, struct place *mine, const struct timespec *end) {
+/* Sleeps until the process is woken, at latest until the end: then it says no. Holds the lock, but not meanwhile. A thread that is
+ * cancelled would keep it for ever, so none is cancelled here. */
+static bool sleep_until(chanhub *h, struct place *mine, uint64_t end) {
+    struct timespec time = { .tv_sec = (time_t)(end / BILLION), .tv_nsec = (long)(end % BILLION) };
     int state;
     pthread_setcancelstate(PTHREAD_CANCEL_DISABLE, &state);
-    int why = end ? pthread_cond_timedwait(&mine->answered, &h->lock, end) : pthread_cond_wait(&mine->answered, &h->lock);
+    int why = end == FOR_EVER ? pthread_cond_wait(&mine->answered, &h->lock) : pthread_cond_timedwait(&mine->answered, &h->lock, &time);
     pthread_setcancelstate(state, &state);
     return why != ETIMEDOUT;
 }
@@ -303,26 +363,23 @@ static chanhub_told pick_up(chanhub *h, unsigned pid) {
     return t.it;
 }
 
-/* Waits for the answer of the open call of this process, for which no other thread waits, and picks it up. WAITING where it has
- * not come in so many nanoseconds; the call is open then. Holds the lock, but not while it waits. */
-static chanhub_told wait_for(chanhub *h, unsigned pid, uint64_t nanoseconds) {
-    chanhub_told t = pick_up(h, pid);
-    if (!t.what && nanoseconds) {
-        struct timespec end = nanoseconds == FOR_EVER ? (struct timespec){ 0 } : time_in(nanoseconds);
-        struct place *mine = &h->places[pid];
-        bool has_time = true;
-        h->awaited |= only(pid);
-        if (begins_with_looks(h, mine, nanoseconds)) {
-            look_for_wake(h, mine);
-            t = pick_up(h, pid);
-        }
-        while (!t.what && has_time) {
-            has_time = sleep_until(h, mine, nanoseconds == FOR_EVER ? NULL : &end);
-            t = pick_up(h, pid);
-        }
-        h->awaited &= ~only(pid);
+/* Waits until this time, or the call's deadline, for the answer of the open call of this process, for which no other thread waits, and
+ * picks it up. Its kind is 0 where it has not come. Holds the lock, but not while it waits. */
+static chanhub_told wait_until(chanhub *h, unsigned pid, uint64_t end) {
+    struct place *mine = &h->places[pid];
+    chanhub_told t = { 0 };
+    bool has_time = true;
+    h->awaited |= only(pid);
+    if (begins_with_looks(h, mine, end)) {
+        look_for_wake(h, mine);
+        t = pick_up(h, pid);
     }
-    if (!t.what) t.what = CHANHUB_WAITING;
+    while (!t.what && has_time) {
+        uint64_t deadline = deadline_of(h, pid);
+        has_time = sleep_until(h, mine, deadline < end ? deadline : end);
+        t = pick_up(h, pid);
+    }
+    h->awaited &= ~only(pid);
     return t;
 }
 
@@ -373,29 +430,35 @@ static bool read_text(chanhub *h, struct text *text, reader *read, bool stays) {
 
 /* ---- Chapters. ---- */
 
-/* Begins a time in which a call lets go of the lock, though not to wait for its answer. No other thread can call as its process then,
- * and its own is not cancelled. Returns what ends it. Holds the lock. */
-static int begin_pause(chanhub *h, unsigned pid) {
-    int state;
-    pthread_setcancelstate(PTHREAD_CANCEL_DISABLE, &state);
+/* A time in which a call lets go of the lock, though not to wait for its answer. No other thread can call as its process then, and its
+ * own is not cancelled. */
+struct pause {
+    int state;               /* whether the thread could be cancelled */
+    uint64_t open, awaited; /* the process, where it is to leave these sets again */
+};
+
+/* Begins it. Holds the lock. */
+static struct pause begin_pause(chanhub *h, unsigned pid) {
+    struct pause pause = { .open = only(pid) & ~h->open, .awaited = only(pid) & ~h->awaited };
+    pthread_setcancelstate(PTHREAD_CANCEL_DISABLE, &pause.state);
     h->open |= only(pid);
     h->awaited |= only(pid);
-    return state;
+    return pause;
 }
 
 /* Ends it. Holds the lock. */
-static void end_pause(chanhub *h, unsigned pid, int state) {
-    h->open &= ~only(pid);
-    h->awaited &= ~only(pid);
-    pthread_setcancelstate(state, &state);
+static void end_pause(chanhub *h, struct pause pause) {
+    h->open &= ~pause.open;
+    h->awaited &= ~pause.awaited;
+    pthread_setcancelstate(pause.state, &pause.state);
 }
 
 /* Waits, in a call of this process, until the chapter that waits in the hub is taken. Holds the lock, but not meanwhile. */
 static void wait_for_room(chanhub *h, unsigned pid) {
-    int state = begin_pause(h, pid);
+    struct pause pause = begin_pause(h, pid);
     uint64_t taken = h->taken;
     while (h->taken == taken) pthread_cond_wait(&h->handed, &h->lock);
-    end_pause(h, pid, state);
+    end_pause(h, pause);
 }
 
 /* Whether the step that came to this is to be made again, since there was no room for another chapter. There may be when this returns,
@@ -435,7 +498,7 @@ static void give_chapter(chanhub *h, struct text *text) {
 /* Hands out the chapter that a call of this process claimed, after those before it. Holds the lock, but not while it waits or the
  * function runs. */
 static void hand_out(chanhub *h, unsigned pid) {
-    int state = begin_pause(h, pid);
+    struct pause pause = begin_pause(h, pid);
     while (h->handing) pthread_cond_wait(&h->handed, &h->lock);
     h->handing = true;
     struct text text;
@@ -445,47 +508,182 @@ static void hand_out(chanhub *h, unsigned pid) {
     take_lock(h);
     h->handing = false;
     pthread_cond_broadcast(&h->handed);
-    end_pause(h, pid, state);
+    end_pause(h, pause);
 }
 
 /* Hands out the chapters that the hub still keeps. Nobody else has the hub. */
 static void hand_out_rest(chanhub *h) {
-    int state = begin_pause(h, NOBODY);
+    struct pause pause = begin_pause(h, NOBODY);
     struct text text;
     if (read_text(h, &text, hub_c_before, false)) give_chapter(h, &text);
     read_text(h, &text, hub_c_present, false);
     give_chapter(h, &text);
-    end_pause(h, NOBODY, state);
+    end_pause(h, pause);
+}
+
+/* ---- The clock. Each of these holds the lock; in a hub that never ends, not while it waits or hands out a chapter. ---- */
+
+/* Whether the clock is to wait, or to exit. */
+static inline bool is_clock_due(const chanhub *h) {
+    return h->clock_is == AWAKE && !h->timed;
+}
+
+/* Notes whose calls a step ended. If the clock's is among them, it is awake. Holds the lock since that step, as does the next. */
+static void note_ended(chanhub *h, uint64_t ended) {
+    h->timed &= ~ended;
+    if (!(ended & only(h->clock))) return;
+    struct told unused = { 0 };
+    hub_c_take(&h->hub, h->clock, &unused);
+    set_clock(h, AWAKE);
+}
+
+/* Does what follows from a step that was made within a call of this process: wakes those whose calls it ended, and hands out the chapter
+ * that it made fall out. */
+static void follow_up(chanhub *h, unsigned pid, const struct told *t) {
+    note_ended(h, t->ended);
+    wake(h, t->ended);
+    if (claims_chapter(h, t->chapter)) hand_out(h, pid);
+}
+
+/* The clock exits, which nothing refuses. */
+static void exit_clock(chanhub *h, struct told *t) {
+    hub_c_exit(&h->hub, h->clock, t);
+    h->exits++;
+    set_clock(h, GONE);
+}
+
+/* The clock waits, or exits if nobody is left for it, or no step. */
+static void step_clock(chanhub *h, struct told *t) {
+    if (h->exits < h->clock) {
+        hub_c_recv(&h->hub, h->clock, 0, t);
+        if (t->it.what == CHANHUB_WAITING) set_clock(h, ASLEEP);
+        if (t->it.fault != CHANHUB_JOURNAL_FULL) return;
+    }
+    exit_clock(h, t);
+}
+
+/* Makes the steps that the clock is due, within a call of this process: more than one if it stalls. It is still due afterwards if
+ * memory was refused. */
+static void settle_clock(chanhub *h, unsigned pid) {
+    while (is_clock_due(h)) {
+        struct told t = { 0 };
+        step_clock(h, &t);
+        if (is_to_be_made_again(h, pid, &t)) continue;
+        if (t.it.what == CHANHUB_FAULT) return;
+        follow_up(h, pid, &t);
+    }
+}
+
+/* How many steps the hub makes before it is full. All entries but the exits count; a refused step makes none. One step is kept for each
+ * call with a deadline, to end it. */
+static uint64_t steps_left(chanhub *h) {
+    if (!h->limit) return UINT64_MAX;
+    return h->limit - (hub_c_entries(&h->hub) - h->exits) - (uint64_t)__builtin_popcountll(h->timed);
+}
+
+/* What the clock refuses a process that begins a call with, or 0. A stall can come due with any step, so the clock waits before. An exit
+ * is not refused: then the clock exits before. */
+static uint8_t refusal_by_clock(chanhub *h, unsigned pid, bool exits) {
+    if (pid == h->clock) return CHANHUB_NO_PROCESS;
+    settle_clock(h, pid);
+    if (exits) {
+        struct told t = { 0 };
+        if (is_clock_due(h)) exit_clock(h, &t);
+        return 0;
+    }
+    if (is_clock_due(h)) return CHANHUB_NO_MEMORY;
+    return steps_left(h) ? 0 : CHANHUB_JOURNAL_FULL;
+}
+
+/* Wakes the clock, where it waits, within a call of this process. Returns why it is not awake, or 0. */
+static uint8_t wake_clock(chanhub *h, unsigned pid) {
+    while (h->clock_is == ASLEEP) {
+        struct told t = { 0 };
+        hub_c_cancel(&h->hub, (uint8_t)pid, h->clock, &t);
+        if (is_to_be_made_again(h, pid, &t)) continue;
+        if (t.it.what != CHANHUB_DONE) return t.it.fault;
+        follow_up(h, pid, &t);
+    }
+    return h->clock_is == AWAKE ? 0 : CHANHUB_NO_MEMORY;
+}
+
+/* Gets ready for a call of this process that is to wait until this deadline. Returns what refuses it, or 0: then there is a step for the
+ * call and one to end it, and the clock is awake. */
+static uint8_t begin_deadline(chanhub *h, unsigned pid, uint64_t deadline) {
+    uint64_t steps = h->clock_is == ASLEEP ? 3 : 2;
+    if (steps_left(h) < steps) return CHANHUB_JOURNAL_FULL;
+    h->places[pid].deadline = deadline;
+    h->timed |= only(pid);
+    return wake_clock(h, pid);
+}
+
+/* Has the clock cancel the open call of this process, unless that is answered before, and picks up its answer. WAITING with the fault
+ * where the clock was refused memory. */
+static chanhub_told time_out(chanhub *h, unsigned pid) {
+    struct told t = { 0 };
+    bool is_done = false;
+    while (h->timed & only(pid)) {
+        hub_c_cancel(&h->hub, h->clock, (uint8_t)pid, &t);
+        if (is_to_be_made_again(h, pid, &t)) continue;
+        if (t.it.what != CHANHUB_DONE) return (chanhub_told){ .what = CHANHUB_WAITING, .fault = t.it.fault };
+        is_done = true;
+        follow_up(h, pid, &t);
+        settle_clock(h, pid);
+    }
+    chanhub_told answer = pick_up(h, pid);
+    if (is_done) answer.what = CHANHUB_TIMED_OUT;
+    return answer;
 }
 
 /* ---- The calls. ---- */
 
-/* Keeps the call of a process open that parked, hands out the chapter that it made fall out, and waits for so many nanoseconds. Holds the
- * lock since the step, but not while it waits. */
-static chanhub_told park(chanhub *h, uint8_t pid, const struct told *t, uint64_t nanoseconds) {
-    wake(h, t->ended);
-    if (claims_chapter(h, t->chapter)) hand_out(h, pid);
-    h->open |= only(pid);
-    return wait_for(h, pid, nanoseconds);
+/* Lets go of the lock where a call of this process is refused: it is open, or the clock refuses it. Returns the fault, or 0. */
+static uint8_t look_closer(chanhub *h, unsigned pid, bool exits) {
+    uint8_t why = h->open & only(pid) ? CHANHUB_BUSY : refusal_by_clock(h, pid, exits);
+    if (why) leave_lock(h);
+    return why;
+}
+
+/* Takes the lock for a call in the name of this process, or for its exit. Where it is refused, leaves the lock, and returns the fault. */
+static inline uint8_t enter_for(chanhub *h, unsigned pid, bool exits) {
+    take_lock(h);
+    return (h->open | h->watched) & only(pid) ? look_closer(h, pid, exits) : 0;
+}
+
+static inline uint8_t enter(chanhub *h, unsigned pid) {
+    return enter_for(h, pid, false);
+}
+
+/* Waits for the answer of the open call of this process, for which no other thread waits, and picks it up. WAITING where it has
+ * not come in so many nanoseconds; the call is open then. Holds the lock, but not while it waits. */
+static chanhub_told wait_for(chanhub *h, unsigned pid, uint64_t nanoseconds) {
+    chanhub_told t = pick_up(h, pid);
+    if (!t.what && nanoseconds) t = wait_until(h, pid, chanhub_in(nanoseconds));
+    if (!t.what && has_passed(deadline_of(h, pid))) t = time_out(h, pid);
+    if (!t.what) t.what = CHANHUB_WAITING;
+    return t;
 }
 
 /* Ends the call of a process whose step parked, ended calls, or left a chapter to be read: wakes those whose calls it ended, hands out the
- * chapter that it made fall out, and where it parked, waits for so many nanoseconds. Holds the lock since the step, and leaves it. */
+ * chapter that it made fall out, sees to the clock, and where it parked, waits for so many nanoseconds. Holds the lock since the step, and
+ * leaves it. */
 static chanhub_told finish_by_waking(chanhub *h, uint8_t pid, const struct told *t, uint64_t nanoseconds) {
-    if (t->it.what == CHANHUB_WAITING) {
-        chanhub_told answer = park(h, pid, t, nanoseconds);
-        leave_lock(h);
-        return answer;
-    }
+    chanhub_told answer = t->it;
     uint64_t ended = t->ended;
-    if (claims_chapter(h, t->chapter)) {
+    bool has_parked = answer.what == CHANHUB_WAITING;
+    if (has_parked) h->open |= only(pid);
+    note_ended(h, ended);
+    bool claimed = claims_chapter(h, t->chapter);
+    if (has_parked || claimed || is_clock_due(h)) {
         wake(h, ended);
         ended = 0;
-        hand_out(h, pid);
+        if (claimed) hand_out(h, pid);
+        settle_clock(h, pid);
     }
+    if (has_parked) answer = wait_for(h, pid, nanoseconds);
     leave_lock(h);
     wake(h, ended);
-    return t->it;
+    return answer;
 }
 
 /* Ends the call of a process whose step came to this, which mostly needs no more than the lock. Holds the lock since the step, and leaves
@@ -503,7 +701,8 @@ static inline bool is_bad(const chanhub *h, unsigned pid, unsigned port) {
 chanhub_told chanhub_make(chanhub *h, unsigned pid, uint32_t cap) {
     struct told t = { 0 };
     if (is_bad(h, pid, 0)) return fault(CHANHUB_BAD_CALL);
-    if (!enter(h, pid)) return fault(CHANHUB_BUSY);
+    uint8_t why = enter(h, pid);
+    if (why) return fault(why);
     if (cap) h->has_buffer = true;
     STEP(h, pid, &t, hub_c_make(&h->hub, (uint8_t)pid, cap, &t));
     return finish(h, (uint8_t)pid, &t, FOR_EVER);
@@ -512,7 +711,8 @@ chanhub_told chanhub_make(chanhub *h, unsigned pid, uint32_t cap) {
 chanhub_told chanhub_send(chanhub *h, unsigned pid, unsigned port, chanhub_value value) {
     struct told t = { 0 };
     if (is_bad(h, pid, port)) return fault(CHANHUB_BAD_CALL);
-    if (!enter(h, pid)) return fault(CHANHUB_BUSY);
+    uint8_t why = enter(h, pid);
+    if (why) return fault(why);
     STEP(h, pid, &t, hub_c_send(&h->hub, (uint8_t)pid, (uint16_t)port, &value, &t));
     return finish(h, (uint8_t)pid, &t, FOR_EVER);
 }
@@ -520,7 +720,8 @@ chanhub_told chanhub_send(chanhub *h, unsigned pid, unsigned port, chanhub_value
 chanhub_told chanhub_recv(chanhub *h, unsigned pid, unsigned port) {
     struct told t = { 0 };
     if (is_bad(h, pid, port)) return fault(CHANHUB_BAD_CALL);
-    if (!enter(h, pid)) return fault(CHANHUB_BUSY);
+    uint8_t why = enter(h, pid);
+    if (why) return fault(why);
     STEP(h, pid, &t, hub_c_recv(&h->hub, (uint8_t)pid, (uint16_t)port, &t));
     return finish(h, (uint8_t)pid, &t, FOR_EVER);
 }
@@ -528,7 +729,8 @@ chanhub_told chanhub_recv(chanhub *h, unsigned pid, unsigned port) {
 chanhub_told chanhub_close(chanhub *h, unsigned pid, unsigned port) {
     struct told t = { 0 };
     if (is_bad(h, pid, port)) return fault(CHANHUB_BAD_CALL);
-    if (!enter(h, pid)) return fault(CHANHUB_BUSY);
+    uint8_t why = enter(h, pid);
+    if (why) return fault(why);
     STEP(h, pid, &t, hub_c_close(&h->hub, (uint8_t)pid, (uint16_t)port, &t));
     return finish(h, (uint8_t)pid, &t, FOR_EVER);
 }
@@ -536,7 +738,8 @@ chanhub_told chanhub_close(chanhub *h, unsigned pid, unsigned port) {
 chanhub_told chanhub_exit(chanhub *h, unsigned pid) {
     struct told t = { 0 };
     if (is_bad(h, pid, 0)) return fault(CHANHUB_BAD_CALL);
-    if (!enter(h, pid)) return fault(CHANHUB_BUSY);
+    uint8_t why = enter_for(h, pid, true);
+    if (why) return fault(why);
     STEP(h, pid, &t, hub_c_exit(&h->hub, (uint8_t)pid, &t));
     h->exits += t.it.what == CHANHUB_DONE;
     return finish(h, (uint8_t)pid, &t, FOR_EVER);
@@ -545,7 +748,9 @@ chanhub_told chanhub_exit(chanhub *h, unsigned pid) {
 chanhub_told chanhub_cancel(chanhub *h, unsigned pid, unsigned other) {
     struct told t = { 0 };
     if (is_bad(h, pid, 0) || other > GREATEST_PID) return fault(CHANHUB_BAD_CALL);
-    if (!enter(h, pid)) return fault(CHANHUB_BUSY);
+    if (other == h->clock && other != NOBODY) return fault(CHANHUB_NO_PROCESS);
+    uint8_t why = enter(h, pid);
+    if (why) return fault(why);
     STEP(h, pid, &t, hub_c_cancel(&h->hub, (uint8_t)pid, (uint8_t)other, &t));
     return finish(h, (uint8_t)pid, &t, FOR_EVER);
 }
@@ -555,7 +760,8 @@ static chanhub_told select_for(chanhub *h, unsigned pid, const chanhub_case *cas
                                uint64_t nanoseconds) {
     struct told t = { 0 };
     if (is_bad(h, pid, 0)) return fault(CHANHUB_BAD_CALL);
-    if (!enter(h, pid)) return fault(CHANHUB_BUSY);
+    uint8_t why = enter(h, pid);
+    if (why) return fault(why);
     STEP(h, pid, &t, hub_c_call(&h->hub, (uint8_t)pid, cases, count, has_default, word, &t));
     return finish(h, (uint8_t)pid, &t, nanoseconds);
 }
@@ -581,6 +787,72 @@ chanhub_told chanhub_try_recv(chanhub *h, unsigned pid, unsigned port) {
 
 chanhub_told chanhub_begin(chanhub *h, unsigned pid, const chanhub_case *cases, size_t count, bool has_default, uint64_t word) {
     return select_for(h, pid, cases, count, has_default, word, 0);
+}
+
+/* Makes a call that has to wait, with a deadline. Holds the lock, and leaves it. */
+static chanhub_told wait_with_deadline(chanhub *h, unsigned pid, const chanhub_case *cases, size_t count, uint64_t word,
+                                       uint64_t deadline, uint64_t nanoseconds) {
+    struct told t = { 0 };
+    uint8_t why = begin_deadline(h, pid, deadline);
+    if (why) t.it = fault(why);
+    else STEP(h, pid, &t, hub_c_call(&h->hub, (uint8_t)pid, cases, count, false, word, &t));
+    if (t.it.what != CHANHUB_WAITING) h->timed &= ~only(pid);
+    return finish_by_waking(h, (uint8_t)pid, &t, nanoseconds);
+}
+
+/* A select with a deadline. It is tried first, with a default. */
+static chanhub_told select_until(chanhub *h, unsigned pid, const chanhub_case *cases, size_t count, bool has_default, uint64_t word,
+                                 uint64_t deadline, uint64_t nanoseconds) {
+    struct told t = { 0 };
+    if (is_bad(h, pid, 0) || h->clock == NOBODY) return fault(CHANHUB_BAD_CALL);
+    if (has_default || deadline == FOR_EVER) return select_for(h, pid, cases, count, has_default, word, nanoseconds);
+    uint8_t why = enter(h, pid);
+    if (why) return fault(why);
+    STEP(h, pid, &t, hub_c_call(&h->hub, (uint8_t)pid, cases, count, true, word, &t));
+    if (t.it.what == CHANHUB_DEFAULT) {
+        if (!has_passed(deadline)) {
+            follow_up(h, pid, &t);
+            return wait_with_deadline(h, pid, cases, count, word, deadline, nanoseconds);
+        }
+        t.it.what = CHANHUB_TIMED_OUT;
+    }
+    return finish(h, (uint8_t)pid, &t, FOR_EVER);
+}
+
+/* The same, of this one case. */
+static chanhub_told case_until(chanhub *h, unsigned pid, unsigned port, bool sends, chanhub_value value, uint64_t deadline) {
+    if (port > GREATEST_PORT) return fault(CHANHUB_BAD_CALL);
+    chanhub_case one = { .sends = sends, .port = (uint16_t)port, .value = value };
+    return select_until(h, pid, &one, 1, false, 0, deadline, FOR_EVER);
+}
+
+chanhub_told chanhub_send_until(chanhub *h, unsigned pid, unsigned port, chanhub_value value, uint64_t deadline) {
+    return case_until(h, pid, port, true, value, deadline);
+}
+
+chanhub_told chanhub_recv_until(chanhub *h, unsigned pid, unsigned port, uint64_t deadline) {
+    return case_until(h, pid, port, false, (chanhub_value){ 0 }, deadline);
+}
+
+chanhub_told chanhub_select_until(chanhub *h, unsigned pid, const chanhub_case *cases, size_t count, bool has_default, uint64_t word,
+                                  uint64_t deadline) {
+    return select_until(h, pid, cases, count, has_default, word, deadline, FOR_EVER);
+}
+
+chanhub_told chanhub_begin_until(chanhub *h, unsigned pid, const chanhub_case *cases, size_t count, bool has_default, uint64_t word,
+                                 uint64_t deadline) {
+    return select_until(h, pid, cases, count, has_default, word, deadline, 0);
+}
+
+/* The deadline becomes a time that has passed. The thread that waits for the call sees to it once it is woken. */
+bool chanhub_expire(chanhub *h, unsigned pid) {
+    if (is_bad(h, pid, 0)) return false;
+    take_lock(h);
+    bool is_timed = h->timed & only(pid);
+    if (is_timed) h->places[pid].deadline = 0;
+    leave_lock(h);
+    if (is_timed) wake(h, only(pid));
+    return is_timed;
 }
 
 chanhub_told chanhub_resume(chanhub *h, unsigned pid, uint64_t nanoseconds) {
@@ -614,14 +886,12 @@ chanhub_counts chanhub_look(chanhub *h, unsigned port) {
     return counts;
 }
 
-/* All entries but the exits count. A refused step makes no entry. */
 uint64_t chanhub_steps_left(chanhub *h) {
     if (!h) return 0;
-    if (!h->limit) return UINT64_MAX;
     take_lock(h);
-    uint64_t steps = hub_c_entries(&h->hub) - h->exits;
+    uint64_t left = steps_left(h);
     leave_lock(h);
-    return h->limit - steps;
+    return left;
 }
 
 /* The text of a journal. */

@@ -49,6 +49,12 @@ chapters() {
     if [ -e "$tool" ]; then tests/chapters.py "$work/$1-runs" "$program" "$tool"; else tests/chapters.py "$work/$1-runs" "$program"; fi
 }
 
+# deadlines NAME load|chapters: whether 16 threads whose calls have deadlines are told what a replay tells.
+deadlines() {
+    mkdir -p "$work/$1-$2" && "$work/$1" "$2" "$work/$1-$2" || return
+    if [ -e "$tool" ]; then tests/deadlines.py "$work/$1-$2" "$program" "$tool"; else tests/deadlines.py "$work/$1-$2" "$program"; fi
+}
+
 # soaks NAME SECONDS: whether 16 threads get what they send for so long, and the chapters are whole.
 soaks() {
     mkdir -p "$work/$1-chapters" && "$work/$1" "$2" --chapters "$work/$1-chapters" && is_whole "$work/$1-chapters/chapter"
@@ -173,10 +179,11 @@ is_used_elsewhere() {
 echo 385 > "$work/sum"
 echo '10 jobs 385' > "$work/report"
 printf '%s\n' 9 'chanhub journal 2' 'procs 1' '0 make 1' '0 send 1 9' '0 recv 1' '0 recv 1' > "$work/first"
+printf 'timed out\ngot 9\n' > "$work/times"
 printf 'stalled: 0 recv 2\nstalled: 1 recv 1\n' > "$work/stalled"
 printf 'got 5\nneither\nsent\n' > "$work/choice-lines"
 
-for test in calls conveniences crew threads memory endless handing chapters files soak steps; do
+for test in calls conveniences crew threads memory endless handing chapters files soak steps deadlines; do
     check "$test builds" "$cc" $flags "tests/$test.c" out/libchanhub.a -lpthread -o "$work/$test"
 done
 check 'resume builds' "$cc" $flags -Wl,--wrap=clock_gettime tests/resume.c out/libchanhub.a -lpthread -o "$work/resume"
@@ -193,6 +200,16 @@ wrapped=
 for name in make send recv call take look present; do wrapped="$wrapped -Wl,--wrap=hub_c_$name"; done
 check 'inside builds' "$cc" $flags $wrapped chanhub.c heap.c tests/inside.c $proved -lpthread -o "$work/inside"
 check 'no two inside of a hub' "$work/inside"
+for test in alone threads; do
+    check "deadlines: $test" "$work/deadlines" "$test"
+done
+for test in load chapters; do
+    check "deadlines of 16 threads: $test" deadlines deadlines "$test"
+done
+wrapped=
+for name in recv call cancel; do wrapped="$wrapped -Wl,--wrap=hub_c_$name"; done
+check 'clock builds' "$cc" $flags $wrapped chanhub.c heap.c tests/clock.c $proved -lpthread -o "$work/clock"
+check 'each step refused while deadlines pass' "$work/clock"
 for cap in 0 1 7 1024; do
     check "64 threads that pass 160,000 values, capacity $cap" crew crew "$cap" 5000 "$program"
 done
@@ -212,11 +229,12 @@ check 'heap builds' "$cc" $flags $heap tests/heap.c -o "$work/heap"
 check 'large and small blocks' "$work/heap"
 check 'refuse builds' "$cc" $flags -Wl,--wrap=malloc,--wrap=calloc,--wrap=realloc tests/refuse.c out/libchanhub.a -lpthread -o "$work/refuse"
 check 'each allocation refused' "$work/refuse"
-for example in pool deadlock choice forever; do
+for example in pool deadlock choice forever timeout; do
     check "$example.c builds" "$cc" $flags "examples/$example.c" out/libchanhub.a -lpthread -o "$work/$example"
 done
 check 'pool.c' prints "$work/sum" "$work/pool"
 check 'choice.c' chooses "$work/choice"
+check 'timeout.c' prints "$work/times" "$work/timeout"
 check 'forever.c' is_interrupted
 "$work/deadlock" > "$work/deadlocked"
 check 'deadlock.c: both are told' grep -qx '2 stalled' "$work/deadlocked"
@@ -247,7 +265,7 @@ fi
 
 if echo 'int main(void) { return 0; }' | "$cc" -fsanitize=thread -x c - -o "$work/empty" 2> "$work/errors" && "$work/empty"; then
     sanitize="$flags -g -fsanitize=thread"
-    for test in crew threads handing chapters soak; do
+    for test in crew threads handing chapters soak deadlines; do
         check "$test builds for the thread sanitizer" "$cc" $sanitize chanhub.c files.c heap.c "tests/$test.c" $proved -lpthread \
             -o "$work/sanitized-$test"
     done
@@ -262,6 +280,8 @@ if echo 'int main(void) { return 0; }' | "$cc" -fsanitize=thread -x c - -o "$wor
     for test in alone threads; do
         check "begun and resumed under the thread sanitizer: $test" "$work/sanitized-resume" "$test"
     done
+    check 'deadlines under the thread sanitizer: threads' "$work/sanitized-deadlines" threads
+    check 'deadlines under the thread sanitizer: chapters' deadlines sanitized-deadlines chapters
     for test in $handing; do
         check "chapters that are handed out under the thread sanitizer: $test" "$work/sanitized-handing" "$test"
     done
@@ -278,7 +298,7 @@ else
 fi
 if command -v valgrind > "$work/found"; then
     for test in calls conveniences $by_cxx "crew $work 1 20" pool 'threads cancelled' 'threads second' 'threads closed' 'resume alone' \
-        'resume threads' 'endless short' 'handing busy' 'handing parked' 'handing woken' 'handing full' 'handing cancelled' \
+        'resume threads' 'deadlines alone' 'endless short' 'handing busy' 'handing parked' 'handing woken' 'handing full' 'handing cancelled' \
         "files $(mktemp -d -p "$work")"; do
         check "valgrind: $test" valgrind -q --error-exitcode=9 --leak-check=full --show-leak-kinds=all "$work"/$test
     done
@@ -289,6 +309,7 @@ fi
 
 check 'the Python module' env PYTHONPATH=python:tests python3 -m unittest -q test_chanhub
 check 'the Python module with any object' env PYTHONPATH=python:tests python3 -m unittest -q test_objects
+check 'the Python module with timeouts' env PYTHONPATH=python:tests python3 -m unittest -q test_timeouts
 check 'pool.py' prints "$work/sum" python3 python/pool.py
 check 'first.py' prints "$work/first" python3 python/first.py
 check 'deadlock.py' prints "$work/stalled" python3 python/deadlock.py

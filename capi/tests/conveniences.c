@@ -72,19 +72,19 @@ static void are_texts(const char *name, const char *(*text_of)(int), int first, 
 
 static void texts(void) {
     static const char *const names[] = {
-        "made", "sent", "got", "drained", "closed", "default", "done", "parked", "stalled", "fault", "cancelled",
+        "made", "sent", "got", "drained", "closed", "default", "done", "parked", "stalled", "fault", "cancelled", "timed out",
     };
     are_texts("errors", chanhub_strerror, 0, 4);
     are_texts("faults", chanhub_strfault, 0, CHANHUB_BAD_CALL);
-    are_texts("kinds", chanhub_what_name, CHANHUB_MADE, CHANHUB_CANCELLED);
-    for (int what = CHANHUB_MADE; what <= CHANHUB_CANCELLED; what++) has_text("kind", chanhub_what_name(what), names[what - 1]);
+    are_texts("kinds", chanhub_what_name, CHANHUB_MADE, CHANHUB_TIMED_OUT);
+    for (int what = CHANHUB_MADE; what <= CHANHUB_TIMED_OUT; what++) has_text("kind", chanhub_what_name(what), names[what - 1]);
     has_text("no kind", chanhub_what_name(0), chanhub_what_name(99));
     has_text("no port", chanhub_strfault(CHANHUB_NO_PORT), "no such port");
     has_text("a full journal", chanhub_strfault(CHANHUB_JOURNAL_FULL), "the hub has reached its step limit");
     chanhub *hub;
     has_text("memory", chanhub_strerror(3), "out of memory");
-    has_text("procs", chanhub_strerror(chanhub_open(&hub, 1, 0, 1)), "the number of processes must be between 1 and 64");
-    has_text("edition", chanhub_strerror(chanhub_open(&hub, 3, 1, 1)), "the edition must be 1 or 2");
+    has_text("procs", chanhub_strerror(chanhub_open(&hub, 1, 0, 1)), "the number of processes must be between 1 and 64, or 63 with a clock");
+    has_text("edition", chanhub_strerror(chanhub_open(&hub, 3, 1, 1)), "the edition must be 1 or 2, and 2 with a clock");
 }
 
 static void version(void) {

@@ -4,7 +4,7 @@
 //
 // Most calls have two forms. `recv` returns what is usual, a value or that no more will come, and throws chanhub::Error for the rest: a
 // stall, a cancel, a fault. `recv_told` returns a chanhub::Told, which has all that C returns, and throws nothing. So do the calls that
-// have several usual results: try_send, try_recv, select, try_select, begin and resume. The compiler warns where a result is not used.
+// have several usual results: try_send, send_for, select, begin, resume and so on. The compiler warns where a result is not used.
 //
 // The rules for callers are those of chanhub.h, which also explains each call.
 #ifndef CHANHUB_HPP
@@ -47,6 +47,7 @@ struct chanhub {
         Stalled = CHANHUB_STALLED,
         Fault = CHANHUB_FAULT,
         Cancelled = CHANHUB_CANCELLED,
+        TimedOut = CHANHUB_TIMED_OUT,
     };
 
     // The reasons why the hub did not carry out a call. A full journal is one of them.
@@ -239,6 +240,14 @@ public:
         return Told(chanhub_try_recv(hub_, pid_, static_cast<unsigned>(port)));
     }
 
+    // They wait for at most this time: the outcome is TimedOut then. They need a hub with a clock (Hub::Options).
+    [[nodiscard]] Told send_for(Port port, const Value &value, std::chrono::nanoseconds time) const noexcept {
+        return Told(chanhub_send_until(hub_, pid_, static_cast<unsigned>(port), value.c(), deadline_in(time)));
+    }
+    [[nodiscard]] Told recv_for(Port port, std::chrono::nanoseconds time) const noexcept {
+        return Told(chanhub_recv_until(hub_, pid_, static_cast<unsigned>(port), deadline_in(time)));
+    }
+
     // seat.select({chanhub::recv(jobs), chanhub::send(results, 7)}) waits until one of the cases can proceed. If several can, a random word
     // makes a fair choice, and word 0 picks the first.
     [[nodiscard]] Told select(std::initializer_list<Case> cases, std::uint64_t word = 0) const noexcept {
@@ -246,6 +255,15 @@ public:
     }
     [[nodiscard]] Told select(const Case *cases, std::size_t count, std::uint64_t word = 0) const noexcept {
         return Told(chanhub_select(hub_, pid_, cases, count, false, word));
+    }
+
+    // The same, for at most this time, as send_for.
+    [[nodiscard]] Told select_for(std::chrono::nanoseconds time, std::initializer_list<Case> cases, std::uint64_t word = 0) const noexcept {
+        return select_for(time, cases.begin(), cases.size(), word);
+    }
+    [[nodiscard]] Told select_for(std::chrono::nanoseconds time, const Case *cases, std::size_t count,
+                                  std::uint64_t word = 0) const noexcept {
+        return Told(chanhub_select_until(hub_, pid_, cases, count, false, word, deadline_in(time)));
     }
 
     // The same with a default.
@@ -264,10 +282,15 @@ public:
     // Waits for that answer, without a limit or for this time. The outcome is Waiting if the time is up.
     [[nodiscard]] Told resume() const noexcept { return Told(chanhub_resume(hub_, pid_, UINT64_MAX)); }
     [[nodiscard]] Told resume(std::chrono::nanoseconds time) const noexcept {
-        return Told(chanhub_resume(hub_, pid_, time.count() > 0 ? static_cast<std::uint64_t>(time.count()) : 0));
+        return Told(chanhub_resume(hub_, pid_, number_of(time)));
     }
 
 private:
+    static std::uint64_t number_of(std::chrono::nanoseconds time) noexcept {
+        return time.count() > 0 ? static_cast<std::uint64_t>(time.count()) : 0;
+    }
+    static std::uint64_t deadline_in(std::chrono::nanoseconds time) noexcept { return chanhub_in(number_of(time)); }
+
     static const Told &wanted(const Told &told, Outcome outcome) {
         if (told.outcome != outcome) throw Error(told);
         return told;
@@ -346,6 +369,16 @@ public:
 
     static constexpr std::uint32_t most_steps = 1'000'000;
 
+    // How `with` opens a hub. What is left as it is here has its usual meaning, as in chanhub_options.
+    struct Options {
+        unsigned procs = 0;
+        Edition edition = Edition::Two;
+        std::uint32_t limit = 0;
+        std::uint32_t keep = 0;
+        Chapters chapters = nullptr;
+        bool clock = false; // whether calls may wait for a limited time
+    };
+
     // A hub that makes at most `limit` steps, not counting exits. Throws Error if it cannot be opened.
     explicit Hub(unsigned procs, std::uint32_t limit = most_steps, Edition edition = Edition::Two) {
         int error = 0;
@@ -362,6 +395,14 @@ public:
         return *std::move(hub);
     }
 
+    // A hub with these options. Throws Error if it cannot be opened.
+    [[nodiscard]] static Hub with(Options options) {
+        int error = 0;
+        std::optional<Hub> hub = open_with(std::move(options), &error);
+        if (!hub) throw Error(error);
+        return *std::move(hub);
+    }
+
     // The same without exceptions: nothing if it cannot be opened, and then *error is the cause, for chanhub_strerror.
     [[nodiscard]] static std::optional<Hub> open(unsigned procs, std::uint32_t limit = most_steps, Edition edition = Edition::Two,
                                                  int *error = nullptr) noexcept {
@@ -373,18 +414,22 @@ public:
     }
     [[nodiscard]] static std::optional<Hub> open_endless(unsigned procs, std::uint32_t keep, Chapters chapters = nullptr,
                                                          Edition edition = Edition::Two, int *error = nullptr) noexcept {
-        const bool hands_out = static_cast<bool>(chapters);
-        Free free;
-        if (hands_out) free.chapters.reset(new (std::nothrow) Chapters(std::move(chapters)));
-        chanhub *hub = nullptr;
-        int cause = no_memory;
-        if (!hands_out || free.chapters) {
-            cause = chanhub_open_endless(&hub, static_cast<unsigned>(edition), procs, keep, hands_out ? hand_out : nullptr,
-                                         free.chapters.get());
-        }
-        if (error) *error = cause;
-        if (cause) return std::nullopt;
-        return Hub(hub, std::move(free));
+        return opened(std::move(chapters), error, [=](chanhub **hub, chanhub_chapters *function, void *pointer) {
+            return chanhub_open_endless(hub, static_cast<unsigned>(edition), procs, keep, function, pointer);
+        });
+    }
+    [[nodiscard]] static std::optional<Hub> open_with(Options options, int *error = nullptr) noexcept {
+        chanhub_options c = {};
+        c.edition = static_cast<unsigned>(options.edition);
+        c.procs = options.procs;
+        c.limit = options.limit;
+        c.keep = options.keep;
+        c.clock = options.clock;
+        return opened(std::move(options.chapters), error, [&c](chanhub **hub, chanhub_chapters *function, void *pointer) {
+            c.chapters = function;
+            c.pointer = pointer;
+            return chanhub_open_with(hub, &c);
+        });
     }
 
     [[nodiscard]] Seat seat(unsigned pid) const noexcept { return {hub_.get(), pid}; }
@@ -403,6 +448,9 @@ public:
     // Nothing if there is no chapter before, or no memory.
     [[nodiscard]] std::optional<std::string> before() const { return text_by(chanhub_before); }
 
+    // Has the time of the process's waiting call be up. Returns false if it has no waiting call with such a time.
+    bool expire(unsigned pid) const noexcept { return chanhub_expire(hub_.get(), pid); }
+
     // Whether it was cut.
     [[nodiscard]] bool cut() const noexcept { return chanhub_cut(hub_.get()); }
 
@@ -419,6 +467,19 @@ private:
     };
 
     Hub(chanhub *hub, Free free) noexcept : hub_(hub, std::move(free)) {}
+
+    // A hub that this function of C's hub, chapters and pointer opens.
+    template <class Open> static std::optional<Hub> opened(Chapters chapters, int *error, Open open) noexcept {
+        const bool hands_out = static_cast<bool>(chapters);
+        Free free;
+        if (hands_out) free.chapters.reset(new (std::nothrow) Chapters(std::move(chapters)));
+        chanhub *hub = nullptr;
+        int cause = no_memory;
+        if (!hands_out || free.chapters) cause = open(&hub, hands_out ? hand_out : nullptr, free.chapters.get());
+        if (error) *error = cause;
+        if (cause) return std::nullopt;
+        return Hub(hub, std::move(free));
+    }
 
     static void hand_out(void *chapters, const char *text, std::size_t length) noexcept {
         (*static_cast<Chapters *>(chapters))({text, length});

@@ -423,6 +423,68 @@ static void chapters_that_throw() {
     for (int i = 0; i < 3; i++) static_cast<void>(hub.seat(0).make_told(0));
 }
 
+// Calls that wait for a limited time, on a hub of these options.
+static void times() {
+    using namespace std::chrono_literals;
+    Hub::Options options;
+    options.procs = 1;
+    options.clock = true;
+    const Hub hub = Hub::with(options);
+    const Seat seat = hub.seat(0);
+    const Port port = seat.make(1);
+    const auto began = std::chrono::steady_clock::now();
+    is("received in time", seat.recv_for(port, 5ms).outcome == Outcome::TimedOut);
+    is("it waited", std::chrono::steady_clock::now() - began >= 5ms);
+    is("sent in time", seat.send_for(port, 7, 5ms).outcome == Outcome::Sent);
+    is("no room", seat.send_for(port, "ab", 1ms).outcome == Outcome::TimedOut);
+    is("no room", seat.send_for(port, 8, -1ms).outcome == Outcome::TimedOut);
+    is("no case", seat.select_for(1ms, {chanhub::send(port, 8), chanhub::recv(Port{})}).text() == "timed out");
+    const Told got = seat.select_for(1h, {chanhub::send(port, 8), chanhub::recv(port)});
+    is("a case", got.outcome == Outcome::Got && got.index == 1 && got.value == Value(7));
+    is("nothing waits", !hub.expire(0));
+    std::thread other([&] {
+        while (!hub.expire(0)) std::this_thread::yield();
+    });
+    is("made to pass", seat.recv_for(port, 1h).outcome == Outcome::TimedOut);
+    other.join();
+    is("stalled", seat.recv_told(port).outcome == Outcome::Stalled);
+    is_fault("no clock", Hub(1).seat(0).recv_for(Port{}, 1ms), Fault::BadCall);
+}
+
+// What no hub has, and one with a limit, a clock and chapters.
+static void options() {
+    int error = 0;
+    Hub::Options none;
+    is("no processes", !Hub::open_with(none, &error) && error == 1);
+    Hub::Options old;
+    old.procs = 1;
+    old.edition = Edition::One;
+    is("edition 1", Hub::open_with(old).has_value());
+    old.clock = true;
+    is("edition 1 with a clock", !Hub::open_with(old, &error) && error == 4);
+    std::string text;
+    Hub::Options endless;
+    endless.procs = 1;
+    endless.keep = 5;
+    endless.clock = true;
+    endless.chapters = [&text](std::string_view chapter) { text += chapter; };
+    {
+        const std::optional<Hub> hub = Hub::open_with(endless, &error);
+        is("opened", hub && error == 0);
+        is("no step limit", hub->steps_left() == UINT64_MAX);
+        is("exit", hub->seat(0).exit_told().outcome == Outcome::Done);
+    }
+    is("the chapter", text == "chanhub journal 2\nprocs 2\n1 recv 0\n0 exit\n1 exit\n");
+    bool thrown = false;
+    try {
+        endless.limit = 5;
+        static_cast<void>(Hub::with(endless));
+    } catch (const chanhub::Error &refused) {
+        thrown = refused.opening() == 2;
+    }
+    is("both a limit and an endless hub", thrown);
+}
+
 int main(int argc, char **argv) {
     alarm(SECONDS);
     if (argc == 2 && std::strcmp(argv[1], "throws") == 0) {
@@ -441,6 +503,8 @@ int main(int argc, char **argv) {
     stalls();
     cancels();
     resumes();
+    times();
+    options();
     exits();
     chapters();
     chapters_of_threads();

@@ -7,7 +7,7 @@
         print(bob.recv(port))
 
 A hub has a fixed number of processes. Each thread acts as one of them, through its seat. Other threads run while a call waits. A call
-that fails raises Closed, Drained, Stalled, Cancelled or Fault.
+that fails raises Closed, Drained, Stalled, Cancelled, TimedOut or Fault.
 
 If every process that has not exited is waiting, none of their calls can ever end. Each of these calls then raises Stalled, and has had
 no effect. A process may call again, but if all repeat their calls, they stall again. A hub
@@ -37,7 +37,15 @@ of queue.Queue, can be iterated, and can be awaited:
         for job in hub.seat(1).port(jobs):          # the same port, for process 1
             ...
 
-Limits: a hub has at most 64 processes and 64 ports, and a closed port still counts. No call has a timeout. A hub makes at most 1,000,000
+If a hub is opened with `timeouts=True`, calls take a timeout in seconds:
+
+    with Hub(procs=2, timeouts=True) as hub, hub.seat(0) as seat:
+        port = seat.make(1)
+        seat.recv(port, timeout=0.5)                # raises TimedOut after half a second
+
+While a call with a timeout waits, no deadlock is reported, since something can still happen.
+
+Limits: a hub has at most 64 processes (63 with timeouts) and 64 ports, and a closed port still counts. A hub makes at most 1,000,000
 steps, not counting exits, and keeps them all. That suits tests and finite runs.
 
 A hub that is opened with `keep` never ends. It keeps its last steps, and cuts its journal into chapters, each of which is a journal of
@@ -63,6 +71,7 @@ from concurrent.futures import Future, ThreadPoolExecutor
 from itertools import count, starmap
 from queue import Empty, Full, SimpleQueue
 from threading import get_ident
+from time import monotonic_ns
 from typing import (Any, AsyncIterator, Callable, DefaultDict, Deque, Dict, Iterable, Iterator, List, NamedTuple, Optional, Sequence, Set,
                     Tuple, Union)
 
@@ -72,7 +81,7 @@ Sendable = Union[int, bytes, bytearray, memoryview]
 # What gets the chapters of a hub that never ends.
 Chapters = Union[Callable[[Optional[bytes]], object], str, bytes, 'os.PathLike[Any]']
 
-MADE, SENT, GOT, DRAINED, CLOSED, DEFAULT, DONE, WAITING, STALLED, FAULT, CANCELLED = range(1, 12)
+MADE, SENT, GOT, DRAINED, CLOSED, DEFAULT, DONE, WAITING, STALLED, FAULT, CANCELLED, TIMED_OUT = range(1, 13)
 
 GONE, BUSY, NOT_PARKED = 2, 3, 12
 FAULTS = {
@@ -84,6 +93,7 @@ FAULTS = {
 OPENING = {1: 'the number of processes must be between 1 and 64', 2: 'the step limit must be between 1 and 1,000,000',
            4: 'the edition must be 1 or 2'}
 OPENING_ENDLESS = {**OPENING, 2: 'the number of steps to keep must be between 1 and 900,000'}
+OPENING_TIMED = {1: 'the number of processes must be between 1 and 63, since timeouts need one more', 4: 'timeouts need edition 2'}
 
 
 class Ended(Exception):
@@ -127,6 +137,12 @@ class Cancelled(Ended):
     """Raised by a call that another process cancelled. The call had no effect."""
 
     words = 'another process cancelled the call'
+
+
+class TimedOut(Ended):
+    """Raised by a call whose timeout passed before it was answered. The call had no effect."""
+
+    words = 'the timeout passed'
 
 
 class Fault(Exception):
@@ -185,6 +201,12 @@ class _Counts(ctypes.Structure):
                 ('received', ctypes.c_uint64)]
 
 
+class _Options(ctypes.Structure):
+    """chanhub_options."""
+    _fields_ = [('edition', ctypes.c_uint), ('procs', ctypes.c_uint), ('limit', ctypes.c_uint32), ('keep', ctypes.c_uint32),
+                ('chapters', ctypes.c_void_p), ('pointer', ctypes.c_void_p), ('clock', ctypes.c_bool), ('reserved', ctypes.c_void_p * 8)]
+
+
 class _Files(ctypes.Structure):
     """chanhub_files."""
     _fields_ = [('name', ctypes.c_char_p), ('next', ctypes.c_uint64), ('error', ctypes.c_int)]
@@ -201,10 +223,13 @@ def _library() -> ctypes.CDLL:
     for name, result, arguments in (
             ('open', ctypes.c_int, [ctypes.POINTER(hub), number, number, ctypes.c_uint32]),
             ('open_endless', ctypes.c_int, [ctypes.POINTER(hub), number, number, ctypes.c_uint32, ctypes.c_void_p, ctypes.c_void_p]),
+            ('open_with', ctypes.c_int, [ctypes.POINTER(hub), ctypes.POINTER(_Options)]),
             ('free', None, [hub]),
             ('make', _Told, [hub, number, ctypes.c_uint32]),
             ('select', _Told, [hub, number, ctypes.c_char_p, ctypes.c_size_t, ctypes.c_bool, ctypes.c_uint64]),
             ('begin', _Told, [hub, number, ctypes.c_char_p, ctypes.c_size_t, ctypes.c_bool, ctypes.c_uint64]),
+            ('begin_until', _Told, [hub, number, ctypes.c_char_p, ctypes.c_size_t, ctypes.c_bool, ctypes.c_uint64, ctypes.c_uint64]),
+            ('expire', ctypes.c_bool, [hub, number]),
             ('resume', _Told, [hub, number, ctypes.c_uint64]),
             ('close', _Told, [hub, number, number]),
             ('exit', _Told, [hub, number]),
@@ -222,8 +247,11 @@ def _library() -> ctypes.CDLL:
 
 _LIBRARY = _library()
 _select, _begin, _resume = _LIBRARY.chanhub_select, _LIBRARY.chanhub_begin, _LIBRARY.chanhub_resume
+_begin_until = _LIBRARY.chanhub_begin_until
 # How many nanoseconds the main thread waits before it checks for signals, and how many the others do.
 _SLICE, _FOR_EVER = 50_000_000, 2 ** 64 - 1
+# The longest timeout in seconds, some 30 years. A longer one is this one.
+_LONGEST = 10 ** 9
 # The thread that handles signals.
 _main = threading.main_thread().ident
 
@@ -273,7 +301,7 @@ def _case(case: Union[Send, Recv]) -> bytes:
     return _send_case(case.port, case.value) if isinstance(case, Send) else _recv_case(case.port)
 
 
-_ENDED = {CLOSED: Closed, DRAINED: Drained, STALLED: Stalled, CANCELLED: Cancelled}
+_ENDED = {CLOSED: Closed, DRAINED: Drained, STALLED: Stalled, CANCELLED: Cancelled, TIMED_OUT: TimedOut}
 
 
 def _ended(told: _Told) -> Exception:
@@ -523,6 +551,20 @@ def _open_endless(edition: int, procs: int, keep: int, chapters: Optional[_To]) 
     return handle
 
 
+def _open_timed(edition: int, procs: int, limit: int, keep: int, chapters: Optional[_To]) -> ctypes.c_void_p:
+    """Opens a hub whose calls take timeouts, with a limit or, if `keep` is not 0, without an end."""
+    causes = {**(OPENING_ENDLESS if keep else OPENING), **OPENING_TIMED}
+    if edition == 0 or limit == keep == 0:  # the library takes 0 for what is usual
+        raise ValueError(causes[2 if edition else 4])
+    function, pointer = (None, None) if chapters is None else chapters.arguments
+    options = _Options(_within('edition', edition, 255), _within('procs', procs, 255), _within('limit', limit, 2 ** 32 - 1),
+                       _within('keep', keep, 2 ** 32 - 1), function, pointer, True)
+    handle = _opened(lambda at, *_: _LIBRARY.chanhub_open_with(at, options), edition, procs, causes=causes)
+    if chapters is not None:
+        _hold(chapters)
+    return handle
+
+
 def _free(handle: ctypes.c_void_p, opener: int, chapters: Optional[_To]) -> None:
     """Frees a hub and gives the chapters that are left, except in a forked child, where a thread that does not exist may hold its
     lock."""
@@ -548,6 +590,10 @@ class Hub:
     longer.
 
     Without `keep`, the hub makes at most `limit` steps (1 to 1,000,000, the default), not counting exits. Its journal has them all.
+
+    With `timeouts`, calls take a timeout. This needs edition 2 and at most 63 processes: the library has one more, the clock, whose number
+    is `procs`. The journal shows its steps: `cancel`, where a call has timed out. A call that waits with a timeout makes at most 5 steps.
+    They count towards the limit, and a step is kept for each call that waits with a timeout, so that a full journal delays none.
 
     With `keep` (1 to 900,000), the hub does not end by itself, and its journal is cut into chapters. The present chapter is full once
     `keep` steps were added to it, not counting exits, or sooner if its text would get too long to be read. The next step then begins a
@@ -583,21 +629,24 @@ class Hub:
     """
 
     def __init__(self, procs: int, edition: int = 2, limit: Optional[int] = None, *, keep: Optional[int] = None,
-                 chapters: Optional[Chapters] = None, objects: bool = False) -> None:
+                 chapters: Optional[Chapters] = None, objects: bool = False, timeouts: bool = False) -> None:
         if keep is None:
             if chapters is not None:
                 raise ValueError('only a hub with `keep` has chapters')
             self._chapters = None
-            handle = _open(edition, procs, 1_000_000 if limit is None else limit)
+            limit = 1_000_000 if limit is None else limit
+            handle = _open_timed(edition, procs, limit, 0, None) if timeouts else _open(edition, procs, limit)
         else:
             if limit is not None:
                 raise ValueError('a hub with `keep` has no limit')
             self._chapters = None if chapters is None else _to(chapters)
-            handle = _open_endless(edition, procs, keep, self._chapters)
+            handle = (_open_timed(edition, procs, 0, keep, self._chapters) if timeouts
+                      else _open_endless(edition, procs, keep, self._chapters))
         self._handle = handle
         self._live: Optional[ctypes.c_void_p] = handle  # None once no new call may begin
         self._procs = procs
         self._is_endless = keep is not None
+        self._has_timeouts = timeouts
         # The chapters that fell out, if they go to a function.
         self._fallen = None if self._chapters is None else self._chapters.fallen
         # Set once `chapters` has those that the hub kept when it ended, too.
@@ -625,7 +674,7 @@ class Hub:
 
     def __exit__(self, *_: object) -> None:
         """Ends the hub. From then on no call begins, except exits. Each process that is not waiting exits. Each waiting call ends,
-        with Stalled if nothing else ends it, and then its process exits too.
+        with TimedOut if it has a timeout, or Stalled if nothing else ends it, and then its process exits too.
 
         If the hub has `chapters`, this returns once all processes have exited and `chapters` has got all chapters."""
         if self._is_here():
@@ -733,7 +782,8 @@ class Hub:
         return [self._exit(pid) for pid in range(self._procs)]
 
     def _exit(self, pid: int) -> _Told:
-        """Exits the process if it is not waiting. Returns the answer."""
+        """Exits the process if it is not waiting. If it waits with a timeout, that passes. Returns the answer."""
+        self._expire(pid)
         if pid in self._left and pid not in self._resumed:
             gives, told = self._left[pid]
             if told.what == WAITING:
@@ -741,6 +791,11 @@ class Hub:
                 self._left[pid] = gives, told
         exited: _Told = _LIBRARY.chanhub_exit(self._handle, pid)
         return exited
+
+    def _expire(self, pid: int) -> None:
+        """Has the timeout of the process's waiting call pass, if it has one."""
+        if self._has_timeouts:
+            _LIBRARY.chanhub_expire(self._handle, pid)
 
     def _add_kept(self, chapters: _To) -> None:
         """Adds the chapters that the hub keeps, once no step can follow."""
@@ -827,23 +882,26 @@ class Seat:
         """Returns this port as one through which this process acts."""
         return Port(port, self)
 
-    def send(self, port: int, value: Any) -> None:
+    def send(self, port: int, value: Any, timeout: Optional[float] = None) -> None:
         """Sends a value. Waits until a receiver takes it or the buffer has room for it.
+
+        With a timeout, raises TimedOut if that takes longer than so many seconds. A timeout of 0 does not wait. Only a hub with
+        `timeouts` takes one.
 
         Unless the hub has `objects`, raises TypeError if the value is neither an int nor bytes, and ValueError if it does not fit into
         64 bits or 32 bytes.
         """
         hub = self.hub
         if hub._things is None:
-            self._call(_sent, _send_case(port, value))
+            self._call(_sent, _send_case(port, value), timeout=timeout)
         else:
             number = next(hub._numbers)
-            self._call(_sent_thing(hub._things, number), _send_case(port, number), offered={number: value})
+            self._call(_sent_thing(hub._things, number), _send_case(port, number), offered={number: value}, timeout=timeout)
 
-    def recv(self, port: int) -> Any:
-        """Receives a value and returns it. Waits until there is one."""
+    def recv(self, port: int, timeout: Optional[float] = None) -> Any:
+        """Receives a value and returns it. Waits until there is one. With a timeout, as `send`."""
         things = self.hub._things
-        return self._call(_got if things is None else _got_thing(things), _recv_case(port))
+        return self._call(_got if things is None else _got_thing(things), _recv_case(port), timeout=timeout)
 
     def drain(self, port: int) -> Iterator[Any]:
         """Receives values and yields them, until the port is closed and empty."""
@@ -854,12 +912,13 @@ class Seat:
                 return
             yield value
 
-    def select(self, cases: Sequence[Union[Send, Recv]], default: bool = False, word: int = 0) -> Optional[Fired]:
+    def select(self, cases: Sequence[Union[Send, Recv]], default: bool = False, word: int = 0,
+               timeout: Optional[float] = None) -> Optional[Fired]:
         """Fires one of the cases that can proceed, and returns its index and, for a receive, the value.
 
         If k cases can proceed, the one with index `word % k` among them fires. Word 0 always picks the first; pass
         `random.getrandbits(64)` for a fair choice. If no case can proceed, `select` returns None if `default` is true, and
-        otherwise waits.
+        otherwise waits. With a timeout, as `send`.
         """
         gives: _Gives = _fired
         offered: Dict[int, Any] = {}
@@ -869,7 +928,7 @@ class Seat:
             cases = [Send(case.port, numbers[index]) if index in numbers else case for index, case in enumerate(cases)]
             gives = _fired_thing(self.hub._things, numbers)
         packed = b''.join(map(_case, cases))
-        fired: Optional[Fired] = self._call(gives, packed, len(cases), default, _within('word', word, 2 ** 64 - 1), offered)
+        fired: Optional[Fired] = self._call(gives, packed, len(cases), default, _within('word', word, 2 ** 64 - 1), offered, timeout)
         return fired
 
     def close(self, port: int) -> None:
@@ -914,18 +973,28 @@ class Seat:
             raise
 
     def _call(self, gives: _Gives, cases: bytes, count: int = 1, default: bool = False, word: int = 0,
-              offered: Optional[Dict[int, Any]] = None) -> Any:
+              offered: Optional[Dict[int, Any]] = None, timeout: Optional[float] = None) -> Any:
         """Makes a call of these cases. The main thread waits in short slices, so that it can be interrupted. If a function gets the
         chapters, each thread gives them before it waits. The hub's table gets the objects that are offered, by their numbers."""
         hub = self.hub
         call = (hub._live or hub.handle, self.pid, cases, count, default, word)
+        if timeout is not None:
+            call += self._deadline(timeout),
         if hub._left and self.waits:
             raise Fault(BUSY)
         if offered and hub._things is not None:
             hub._things.update(offered)
-        if get_ident() != _main and not hub._fallen:
+        if timeout is None and get_ident() != _main and not hub._fallen:
             return self._give(gives, _select(*call))
-        return self._await(gives, starmap(_begin, (call,)))
+        return self._await(gives, starmap(_begin if timeout is None else _begin_until, (call,)))
+
+    def _deadline(self, timeout: float) -> int:
+        """Returns the time on the library's clock at which this timeout passes."""
+        if not self.hub._has_timeouts:
+            raise ValueError('only a hub with `timeouts` takes a timeout')
+        if not timeout >= 0:
+            raise ValueError('a timeout must not be negative')
+        return monotonic_ns() + int(min(timeout, _LONGEST) * 10 ** 9)
 
     def _await(self, gives: _Gives, asked: Iterable[_Told]) -> Any:
         """Waits for the final answer of a call, of which `asked` yields the first one, and returns the call's result.
@@ -940,7 +1009,11 @@ class Seat:
             if hub._fallen:
                 hub._give_fallen()
             while told.what == WAITING:
+                if hub._live is None:
+                    hub._expire(pid)  # it began to wait when the hub had ended
                 told, = starmap(_resume, ((hub._handle, pid, _SLICE if get_ident() == _main else _FOR_EVER),))
+                if told.fault and told.what == WAITING:  # it has timed out, but there is no memory to end it
+                    raise Fault(told.fault)
             if hub._left:
                 hub._left.pop(pid, None)
                 hub._resumed.discard(pid)
@@ -965,12 +1038,12 @@ class Seat:
 class Port(int):
     """The number of a port, with a seat: each call is one of the seat's process. `seat.make` and `seat.port` return one.
 
-    A Port has the methods of queue.Queue, without timeouts, and can be iterated:
+    A Port has the methods of queue.Queue, and can be iterated:
 
         for value in port:                                  # until the port is closed and empty
             ...
 
-    A call that fails raises Closed, Drained, Stalled, Cancelled or Fault, as those of a Seat.
+    A call that fails raises Closed, Drained, Stalled, Cancelled or Fault, as those of a Seat. Only a hub with `timeouts` takes a timeout.
 
     In asyncio, `await port.aput(value)` and `await port.aget()` make these calls in another thread, as the process of the port's seat,
     and `async for value in port` receives until the end. Each process has one such thread, named chanhub-process-PID, which makes its
@@ -990,10 +1063,13 @@ class Port(int):
         """A copy or a pickle is the plain number."""
         return int, (int(self),)
 
-    def put(self, item: Any, block: bool = True) -> None:
-        """Sends a value. If `block` is false, raises queue.Full where this would have to wait."""
+    def put(self, item: Any, block: bool = True, timeout: Optional[float] = None) -> None:
+        """Sends a value. Raises queue.Full where this would have to wait, if `block` is false, or longer than `timeout` seconds."""
         if block:
-            self.seat.send(self, item)
+            try:
+                self.seat.send(self, item, timeout)
+            except TimedOut:
+                raise Full from None
         elif self.seat.select([Send(self, item)], default=True) is None:
             raise Full
 
@@ -1001,10 +1077,14 @@ class Port(int):
         """Sends a value if that needs no wait, and raises queue.Full otherwise."""
         self.put(item, block=False)
 
-    def get(self, block: bool = True) -> Any:
-        """Receives a value and returns it. If `block` is false, raises queue.Empty where this would have to wait."""
+    def get(self, block: bool = True, timeout: Optional[float] = None) -> Any:
+        """Receives a value and returns it. Raises queue.Empty where this would have to wait, if `block` is false, or longer than `timeout`
+        seconds."""
         if block:
-            return self.seat.recv(self)
+            try:
+                return self.seat.recv(self, timeout)
+            except TimedOut:
+                raise Empty from None
         fired = self.seat.select([Recv(self)], default=True)
         if fired is None:
             raise Empty

@@ -3,11 +3,12 @@
 use std::error::Error;
 use std::fmt;
 
-/// Why [`Hub::open`](crate::Hub::open) or [`Hub::open_endless`](crate::Hub::open_endless) failed.
+/// Why [`Hub::open`](crate::Hub::open), [`Hub::open_endless`](crate::Hub::open_endless) or [`Builder::open`](crate::Builder::open)
+/// failed.
 #[derive(Clone, Copy, Debug, PartialEq, Eq)]
 #[non_exhaustive]
 pub enum OpenError {
-    /// The number of processes is not between 1 and 64.
+    /// The number of processes is not between 1 and 64, or 63 with [timeouts](crate::Builder::timeouts).
     Procs,
     /// The step limit is not between 1 and 1,000,000.
     Limit,
@@ -15,6 +16,8 @@ pub enum OpenError {
     Keep,
     /// Memory ran out.
     Memory,
+    /// [Timeouts](crate::Builder::timeouts) need [`Edition::Two`](crate::Edition::Two).
+    Edition,
 }
 
 /// Why a call failed.
@@ -37,6 +40,8 @@ pub enum Ended {
     Stalled,
     /// Another process cancelled the call. The call had no effect.
     Cancelled,
+    /// The timeout of the call passed before it was answered. The call had no effect.
+    TimedOut,
     /// The hub did not carry out the call; the [`Fault`] says why.
     Fault(Fault),
 }
@@ -74,8 +79,8 @@ impl Fault {
     pub const NO_MEMORY: Fault = Fault(11);
     /// The call would have cancelled the call of a process that has no waiting call.
     pub const NOT_PARKED: Fault = Fault(12);
-    /// The call used a channel of another hub, had more than 16 cases, requires edition 2, or would have cut a hub of
-    /// [`Hub::open`](crate::Hub::open).
+    /// The call used a channel of another hub, had more than 16 cases, requires edition 2 or [timeouts](crate::Builder::timeouts), or
+    /// would have cut a hub of [`Hub::open`](crate::Hub::open).
     pub const BAD_CALL: Fault = Fault(13);
 
     fn text(self) -> &'static str {
@@ -93,7 +98,7 @@ impl Fault {
             Fault::NO_MEMORY => "out of memory",
             Fault::NOT_PARKED => "the process has no waiting call to cancel",
             Fault::BAD_CALL => {
-                "a channel of another hub, more than 16 cases, a call that needs edition 2, or a cut of a hub that ends"
+                "a channel of another hub, more than 16 cases, a call that needs edition 2 or timeouts, or a cut of a hub that ends"
             }
             _ => "a number that chanhub.h does not define",
         }
@@ -103,10 +108,13 @@ impl Fault {
 impl fmt::Display for OpenError {
     fn fmt(&self, f: &mut fmt::Formatter<'_>) -> fmt::Result {
         f.write_str(match self {
-            OpenError::Procs => "the number of processes must be between 1 and 64",
+            OpenError::Procs => {
+                "the number of processes must be between 1 and 64, or 63 with timeouts"
+            }
             OpenError::Limit => "the step limit must be between 1 and 1,000,000",
             OpenError::Keep => "the number of steps to keep must be between 1 and 900,000",
             OpenError::Memory => "out of memory",
+            OpenError::Edition => "timeouts need edition 2",
         })
     }
 }
@@ -118,6 +126,7 @@ impl fmt::Display for Ended {
             Ended::Drained(_) => f.write_str("receive from a port that is closed and empty"),
             Ended::Stalled => f.write_str("every process was waiting"),
             Ended::Cancelled => f.write_str("another process cancelled the call"),
+            Ended::TimedOut => f.write_str("the timeout passed"),
             Ended::Fault(fault) => fault.fmt(f),
         }
     }

@@ -15,6 +15,10 @@ use std::ptr;
 use std::sync::atomic::{AtomicBool, AtomicU64, AtomicU8, Ordering};
 use std::sync::{Arc, Mutex, MutexGuard, PoisonError};
 use std::thread;
+use std::time::Duration;
+
+/// How long a call sleeps before it tries again to time out, if there was no memory for that.
+const MEMORY_PAUSE: Duration = Duration::from_millis(1);
 
 /// The edition of a hub, which determines what its calls may contain. Use `Two` unless numbers are enough.
 #[derive(Clone, Copy, Debug, PartialEq, Eq)]
@@ -26,7 +30,7 @@ pub enum Edition {
 }
 
 impl Edition {
-    fn number(self) -> c_uint {
+    pub(crate) fn number(self) -> c_uint {
         match self {
             Edition::One => 1,
             Edition::Two => 2,
@@ -293,6 +297,7 @@ fn opened(refusal: c_int, second: OpenError) -> Result<(), OpenError> {
         0 => Ok(()),
         1 => Err(OpenError::Procs),
         2 => Err(second),
+        4 => Err(OpenError::Edition),
         _ => Err(OpenError::Memory),
     }
 }
@@ -372,6 +377,24 @@ impl Hub {
         };
         opened(refusal, OpenError::Keep)?;
         Ok(Hub::seated(at, procs, true, handler))
+    }
+
+    /// Opens a hub as these options say, except for who gets the chapters: that is the handler.
+    pub(crate) fn open_with(
+        mut options: sys::Options,
+        handler: Option<Handler>,
+        second: OpenError,
+    ) -> Result<(Hub, Vec<Seat>), OpenError> {
+        let mut at = ptr::null_mut();
+        if let Some(handler) = &handler {
+            options.chapters = Some(chapters::handle);
+            options.pointer = handler.pointer();
+        }
+        // SAFETY: as in `open_endless`.
+        let refusal = unsafe { sys::chanhub_open_with(&mut at, &options) };
+        opened(refusal, second)?;
+        let procs = options.procs as u8; // the library has opened it, so there are at most 64
+        Ok(Hub::seated(at, procs, options.keep != 0, handler))
     }
 
     /// Returns the hub that was opened, and its seats.
@@ -497,6 +520,7 @@ fn selected(told: sys::Told) -> Result<Selected, Ended> {
         sys::CLOSED => Err(Ended::Closed(told.index)),
         sys::STALLED => Err(Ended::Stalled),
         sys::CANCELLED => Err(Ended::Cancelled),
+        sys::TIMED_OUT => Err(Ended::TimedOut),
         sys::FAULT => Err(Ended::Fault(Fault(told.fault))),
         sys::WAITING => Err(Ended::Fault(Fault::BUSY)),
         what => unreachable!("chanhub.h has no answer {what} to a send, a receive or a select"),
@@ -516,6 +540,16 @@ pub(crate) fn recv_case(port: u16) -> sys::Case {
         sends: false,
         port,
         value: sys::Value::default(),
+    }
+}
+
+/// The value that a receive got.
+fn value_got(selected: Selected) -> Value {
+    match selected {
+        Selected::Got(_, value) => value,
+        Selected::Sent(_) | Selected::Default => {
+            unreachable!("a receive gets a value, or ends without one")
+        }
     }
 }
 
@@ -578,12 +612,14 @@ impl Seat {
     }
 
     pub(crate) fn recv(&self, port: u16) -> Result<Value, Ended> {
-        match selected(self.call(|hub, pid| unsafe { sys::chanhub_recv(hub, pid, port.into()) }))? {
-            Selected::Got(_, value) => Ok(value),
-            Selected::Sent(_) | Selected::Default => {
-                unreachable!("a receive gets a value, or ends without one")
-            }
-        }
+        let told = self.call(|hub, pid| unsafe { sys::chanhub_recv(hub, pid, port.into()) });
+        selected(told).map(value_got)
+    }
+
+    /// Receives a value, and waits for it at most so long.
+    pub(crate) fn recv_for(&self, port: u16, timeout: Duration) -> Result<Value, Ended> {
+        self.select_for(&[recv_case(port)], 0, timeout)
+            .map(value_got)
     }
 
     pub(crate) fn close(&self, port: u16) -> Result<(), Fault> {
@@ -599,6 +635,26 @@ impl Seat {
         let (first, count) = (cases.as_ptr(), cases.len());
         selected(self.call(|hub, pid| unsafe {
             sys::chanhub_select(hub, pid, first, count, has_default, word)
+        }))
+    }
+
+    /// Makes a call that waits for at most so long. If there is no memory to time it out, it waits until there is, or for its answer.
+    pub(crate) fn select_for(
+        &self,
+        cases: &[sys::Case],
+        word: u64,
+        timeout: Duration,
+    ) -> Result<Selected, Ended> {
+        let (first, count) = (cases.as_ptr(), cases.len());
+        let nanoseconds = u64::try_from(timeout.as_nanos()).unwrap_or(u64::MAX);
+        selected(self.call(|hub, pid| unsafe {
+            let deadline = sys::chanhub_in(nanoseconds);
+            let mut told = sys::chanhub_select_until(hub, pid, first, count, false, word, deadline);
+            while told.what == sys::WAITING {
+                thread::sleep(MEMORY_PAUSE);
+                told = sys::chanhub_resume(hub, pid, u64::MAX);
+            }
+            told
         }))
     }
 
@@ -643,6 +699,25 @@ impl Seat {
             .map(|case| self.raw(case))
             .collect::<Result<Vec<_>, _>>()?;
         self.select_of(&raw, has_default, word)
+    }
+
+    /// Fires one of the cases that can proceed, and waits for at most so long until one can. Never returns [`Selected::Default`].
+    ///
+    /// # Errors
+    ///
+    /// Returns [`Ended::TimedOut`] if no case fired in time, and [`Fault::BAD_CALL`] unless the hub was opened with
+    /// [timeouts](crate::Builder::timeouts). Otherwise same as [`select`](Seat::select).
+    pub fn select_timeout(
+        &mut self,
+        cases: &[Case],
+        word: u64,
+        timeout: Duration,
+    ) -> Result<Selected, Ended> {
+        let raw = cases
+            .iter()
+            .map(|case| self.raw(case))
+            .collect::<Result<Vec<_>, _>>()?;
+        self.select_for(&raw, word, timeout)
     }
 
     fn raw(&self, case: &Case) -> Result<sys::Case, Fault> {
@@ -693,6 +768,23 @@ impl Sender {
         seat.send(self.port, value.into()).map(|_sent| ())
     }
 
+    /// Sends a value, and waits for that at most so long. A timeout of zero does not wait.
+    ///
+    /// # Errors
+    ///
+    /// Returns [`Ended::TimedOut`] if the value was not sent in time, and [`Fault::BAD_CALL`] unless the hub was opened with
+    /// [timeouts](crate::Builder::timeouts). Otherwise same as [`send`](Sender::send).
+    pub fn send_timeout(
+        &self,
+        seat: &mut Seat,
+        value: impl Into<Value>,
+        timeout: Duration,
+    ) -> Result<(), Ended> {
+        seat.is_mine(self.hub)?;
+        let case = send_case(self.port, value.into());
+        seat.select_for(&[case], 0, timeout).map(|_sent| ())
+    }
+
     /// Closes the channel. Waiting sends return [`Ended::Closed`], and waiting receives return [`Ended::Drained`].
     ///
     /// # Errors
@@ -719,6 +811,17 @@ impl Receiver {
     pub fn recv(&self, seat: &mut Seat) -> Result<Value, Ended> {
         seat.is_mine(self.hub)?;
         seat.recv(self.port)
+    }
+
+    /// Receives a value, and waits for it at most so long. A timeout of zero does not wait.
+    ///
+    /// # Errors
+    ///
+    /// Returns [`Ended::TimedOut`] if no value came in time, and [`Fault::BAD_CALL`] unless the hub was opened with
+    /// [timeouts](crate::Builder::timeouts). Otherwise same as [`recv`](Receiver::recv).
+    pub fn recv_timeout(&self, seat: &mut Seat, timeout: Duration) -> Result<Value, Ended> {
+        seat.is_mine(self.hub)?;
+        seat.recv_for(self.port, timeout)
     }
 
     /// Receives the next value, or returns `None` once the channel is closed and empty.

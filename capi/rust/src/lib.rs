@@ -115,6 +115,12 @@
 //! A panic that unwinds drops the seats that its thread owns, and so exits their processes. If every other process is waiting
 //! then, their calls return [`Ended::Stalled`] instead of hanging.
 //!
+//! # Timeouts
+//!
+//! A hub that is opened with [timeouts](Builder::timeouts) has calls that wait for at most a [`Duration`](std::time::Duration):
+//! [`send_timeout`](Sender::send_timeout), [`recv_timeout`](Receiver::recv_timeout) and [`select_timeout`](Seat::select_timeout). They
+//! return [`Ended::TimedOut`], or a [typed] error. While one of them waits, no deadlock is reported, since something can still happen.
+//!
 //! # Deadlocks in tests
 //!
 //! A test can save the journal when a call stalls, and then fail. A stall ends several calls at once, so use one [`Once`] per test:
@@ -158,13 +164,11 @@
 //!
 //! # Limits
 //!
-//! - A hub has at most 64 processes and 64 channels. A closed channel still counts.
+//! - A hub has at most 64 processes, or 63 with timeouts, and 64 channels. A closed channel still counts.
 //! - A hub of [`Hub::open`] makes at most 1,000,000 steps, not counting exits. One of [`Hub::open_endless`] makes any number.
 //! - The capacity of a channel is at most 1,024.
 //! - A value is a `u64` or, in [`Edition::Two`], a byte string of at most 32 bytes. The channels of [`typed`] carry values of any
 //!   type, of which the hub has only numbers.
-//! - No call has a timeout. Use a [`select`](Seat::select) with a default, or let another process [`cancel`](Seat::cancel) the
-//!   call. While that process is outside the hub, its seat prevents reports of deadlocks.
 //! - A send or a receive takes 16 bytes of memory, in a hub that never ends only until it falls out with its chapter. A select takes
 //!   more for its cases, and so does a send of bytes.
 //!
@@ -182,6 +186,7 @@
 
 #![warn(missing_docs, missing_debug_implementations)]
 
+mod builder;
 mod chapters;
 mod error;
 mod hub;
@@ -190,6 +195,7 @@ mod table;
 pub mod typed;
 mod value;
 
+pub use builder::Builder;
 pub use chapters::{ChapterFiles, Chapters};
 pub use error::{Ended, Fault, OpenError};
 pub use hub::{Case, Counts, Drain, Edition, Hub, Receiver, Seat, Selected, Sender};

@@ -16,6 +16,7 @@ pub const WAITING: u8 = 8;
 pub const STALLED: u8 = 9;
 pub const FAULT: u8 = 10;
 pub const CANCELLED: u8 = 11;
+pub const TIMED_OUT: u8 = 12;
 
 #[repr(C)]
 pub struct Chanhub {
@@ -63,6 +64,18 @@ pub struct Counts {
 pub type Chapters = unsafe extern "C" fn(pointer: *mut c_void, text: *const c_char, length: usize);
 
 #[repr(C)]
+pub struct Options {
+    pub edition: c_uint,
+    pub procs: c_uint,
+    pub limit: u32,
+    pub keep: u32,
+    pub chapters: Option<Chapters>,
+    pub pointer: *mut c_void,
+    pub clock: bool,
+    pub reserved: [*mut c_void; 8],
+}
+
+#[repr(C)]
 pub struct Files {
     pub name: *const c_char,
     pub next: u64,
@@ -84,6 +97,7 @@ extern "C" {
         chapters: Option<Chapters>,
         pointer: *mut c_void,
     ) -> c_int;
+    pub fn chanhub_open_with(hub: *mut *mut Chanhub, options: *const Options) -> c_int;
     pub fn chanhub_free(hub: *mut Chanhub);
     pub fn chanhub_make(hub: *mut Chanhub, pid: c_uint, cap: u32) -> Told;
     pub fn chanhub_send(hub: *mut Chanhub, pid: c_uint, port: c_uint, value: Value) -> Told;
@@ -96,6 +110,17 @@ extern "C" {
         has_default: bool,
         word: u64,
     ) -> Told;
+    pub fn chanhub_select_until(
+        hub: *mut Chanhub,
+        pid: c_uint,
+        cases: *const Case,
+        count: usize,
+        has_default: bool,
+        word: u64,
+        deadline: u64,
+    ) -> Told;
+    pub fn chanhub_in(nanoseconds: u64) -> u64;
+    pub fn chanhub_resume(hub: *mut Chanhub, pid: c_uint, nanoseconds: u64) -> Told;
     pub fn chanhub_close(hub: *mut Chanhub, pid: c_uint, port: c_uint) -> Told;
     pub fn chanhub_exit(hub: *mut Chanhub, pid: c_uint) -> Told;
     pub fn chanhub_cancel(hub: *mut Chanhub, pid: c_uint, other: c_uint) -> Told;

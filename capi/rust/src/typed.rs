@@ -47,7 +47,11 @@
 //! A call that waits in vain returns [`Ended::Stalled`], as [everywhere](crate#deadlocks). That includes the receiver that waits
 //! because some thread forgot to drop its sender, once all other processes wait or have exited.
 //!
-//! No call has a timeout yet.
+//! # Timeouts
+//!
+//! In a hub with [timeouts](crate::Builder::timeouts), [`send_timeout`](BoundSender::send_timeout),
+//! [`recv_timeout`](BoundReceiver::recv_timeout) and [`select_timeout`](Select::select_timeout) wait for at most a [`Duration`]. As long
+//! as one of them waits, no deadlock is reported.
 
 use crate::error::{Ended, Fault};
 use crate::hub::{recv_case, send_case, Counts, Hub, Seat, Selected};
@@ -59,10 +63,11 @@ use std::iter::FusedIterator;
 use std::ops::Deref;
 use std::sync::atomic::{AtomicBool, AtomicUsize, Ordering};
 use std::sync::Arc;
+use std::time::Duration;
 
 mod select;
 
-pub use select::{Select, SelectedOperation};
+pub use select::{Select, SelectTimeoutError, SelectedOperation};
 
 /// Makes a channel that buffers up to `cap` values of type `T`, and returns its two ends. The seat is that of the process which
 /// makes it.
@@ -406,6 +411,25 @@ impl<T> BoundSender<'_, T> {
         }
     }
 
+    /// Sends a value, and waits for that at most so long. A timeout of zero does not wait.
+    ///
+    /// # Errors
+    ///
+    /// Returns the value: as [`SendTimeoutError::Timeout`] if it was not sent in time, and otherwise with the reason, as
+    /// [`send`](BoundSender::send) does. The reason is [`Fault::BAD_CALL`] unless the hub was opened with
+    /// [timeouts](crate::Builder::timeouts).
+    pub fn send_timeout(&self, value: T, timeout: Duration) -> Result<(), SendTimeoutError<T>> {
+        let try_for = |number| {
+            let case = send_case(self.port(), number);
+            self.seat.select_for(&[case], 0, timeout)
+        };
+        match self.offer(value, try_for) {
+            Ok(_sent) => Ok(()),
+            Err((value, Ended::TimedOut)) => Err(SendTimeoutError::Timeout(value)),
+            Err((value, ended)) => Err(SendTimeoutError::Ended(value, ended)),
+        }
+    }
+
     /// Puts a value into the table, and makes a call that sends its number. Returns the value if it was not sent.
     fn offer(
         &self,
@@ -471,6 +495,19 @@ impl<'a, T> BoundReceiver<'a, T> {
             Selected::Got(_, number) => Ok(channel.take(number)),
             Selected::Sent(_) | Selected::Default => Err(TryRecvError::Empty),
         }
+    }
+
+    /// Receives a value, and waits for it at most so long. A timeout of zero does not wait.
+    ///
+    /// # Errors
+    ///
+    /// Returns [`RecvTimeoutError::Timeout`] if no value came in time, and otherwise what [`recv`](BoundReceiver::recv) returns, or
+    /// [`Fault::BAD_CALL`] unless the hub was opened with [timeouts](crate::Builder::timeouts).
+    pub fn recv_timeout(&self, timeout: Duration) -> Result<T, RecvTimeoutError> {
+        let channel = &self.channel;
+        channel.is_for(self.seat).map_err(Ended::from)?;
+        let number = self.seat.recv_for(channel.port, timeout)?;
+        Ok(channel.take(number))
     }
 
     /// Returns an iterator that receives values until the channel is closed and empty. If a receive ends in another way, such as by
@@ -601,6 +638,26 @@ pub enum TryRecvError {
     Ended(Ended),
 }
 
+/// The error of a send with a timeout. It has the value that was not sent.
+#[derive(Clone, Copy, PartialEq, Eq)]
+#[non_exhaustive]
+pub enum SendTimeoutError<T> {
+    /// The timeout passed first.
+    Timeout(T),
+    /// The send failed, for this reason.
+    Ended(T, Ended),
+}
+
+/// The error of a receive with a timeout.
+#[derive(Clone, Copy, Debug, PartialEq, Eq)]
+#[non_exhaustive]
+pub enum RecvTimeoutError {
+    /// The timeout passed first.
+    Timeout,
+    /// The receive failed, for this reason: [`Ended::Drained`] if the channel is closed and empty.
+    Ended(Ended),
+}
+
 impl<T> SendError<T> {
     /// Returns the value that was not sent.
     pub fn into_inner(self) -> T {
@@ -613,6 +670,15 @@ impl<T> TrySendError<T> {
     pub fn into_inner(self) -> T {
         match self {
             TrySendError::Full(value) | TrySendError::Ended(value, _) => value,
+        }
+    }
+}
+
+impl<T> SendTimeoutError<T> {
+    /// Returns the value that was not sent.
+    pub fn into_inner(self) -> T {
+        match self {
+            SendTimeoutError::Timeout(value) | SendTimeoutError::Ended(value, _) => value,
         }
     }
 }
@@ -630,6 +696,15 @@ impl<T> fmt::Debug for TrySendError<T> {
         match self {
             TrySendError::Full(_) => f.write_str("Full(..)"),
             TrySendError::Ended(_, ended) => write!(f, "Ended(.., {ended:?})"),
+        }
+    }
+}
+
+impl<T> fmt::Debug for SendTimeoutError<T> {
+    fn fmt(&self, f: &mut fmt::Formatter<'_>) -> fmt::Result {
+        match self {
+            SendTimeoutError::Timeout(_) => f.write_str("Timeout(..)"),
+            SendTimeoutError::Ended(_, ended) => write!(f, "Ended(.., {ended:?})"),
         }
     }
 }
@@ -658,9 +733,29 @@ impl fmt::Display for TryRecvError {
     }
 }
 
+impl<T> fmt::Display for SendTimeoutError<T> {
+    fn fmt(&self, f: &mut fmt::Formatter<'_>) -> fmt::Result {
+        match self {
+            SendTimeoutError::Timeout(_) => Ended::TimedOut.fmt(f),
+            SendTimeoutError::Ended(_, ended) => ended.fmt(f),
+        }
+    }
+}
+
+impl fmt::Display for RecvTimeoutError {
+    fn fmt(&self, f: &mut fmt::Formatter<'_>) -> fmt::Result {
+        match self {
+            RecvTimeoutError::Timeout => Ended::TimedOut.fmt(f),
+            RecvTimeoutError::Ended(ended) => ended.fmt(f),
+        }
+    }
+}
+
 impl<T> Error for SendError<T> {}
 impl<T> Error for TrySendError<T> {}
 impl Error for TryRecvError {}
+impl<T> Error for SendTimeoutError<T> {}
+impl Error for RecvTimeoutError {}
 
 /// Drops the value, so that `?` passes the reason on.
 impl<T> From<SendError<T>> for Ended {
@@ -672,5 +767,14 @@ impl<T> From<SendError<T>> for Ended {
 impl From<Ended> for TryRecvError {
     fn from(ended: Ended) -> TryRecvError {
         TryRecvError::Ended(ended)
+    }
+}
+
+impl From<Ended> for RecvTimeoutError {
+    fn from(ended: Ended) -> RecvTimeoutError {
+        match ended {
+            Ended::TimedOut => RecvTimeoutError::Timeout,
+            ended => RecvTimeoutError::Ended(ended),
+        }
     }
 }

@@ -23,7 +23,7 @@ fn faults_say_what_their_numbers_mean() {
         "fault 10: the hub has reached its step limit",
         "fault 11: out of memory",
         "fault 12: the process has no waiting call to cancel",
-        "fault 13: a channel of another hub, more than 16 cases, a call that needs edition 2, or a cut of a hub that ends",
+        "fault 13: a channel of another hub, more than 16 cases, a call that needs edition 2 or timeouts, or a cut of a hub that ends",
         "fault 14: a number that chanhub.h does not define",
     ];
     for (number, said) in (1..).zip(said) {
@@ -46,7 +46,7 @@ fn ends_and_refusals_say_what_happened() {
     );
     assert_eq!(
         OpenError::Procs.to_string(),
-        "the number of processes must be between 1 and 64"
+        "the number of processes must be between 1 and 64, or 63 with timeouts"
     );
     assert_eq!(
         OpenError::Limit.to_string(),

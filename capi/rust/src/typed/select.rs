@@ -6,11 +6,16 @@ use crate::hub::{recv_case, send_case, Seat, Selected};
 use crate::sys;
 use crate::value::Value;
 use std::collections::hash_map::RandomState;
+use std::error::Error;
 use std::fmt;
 use std::hash::{BuildHasher, Hasher};
+use std::time::Duration;
 
 /// A port whose cases never proceed.
 const NEVER: u16 = 0;
+
+/// What the library promises of the others.
+const FIRES: &str = "a select without a default fires a case, or ends";
 
 /// Waits on several sends and receives, and makes one of them.
 ///
@@ -138,8 +143,22 @@ impl<'a> Select<'a> {
     /// Returns [`Ended::Stalled`] or [`Ended::Cancelled`] if that ended the wait, and [`Ended::Fault`] if the hub did not carry out
     /// the call. Then no value was sent. A case that fires on a closed channel is no such error, but the result of that case.
     pub fn select(self) -> Result<SelectedOperation, Ended> {
-        let fired = self.run(false)?;
-        Ok(fired.expect("a select without a default fires a case, or ends"))
+        let fired = self.run(|seat, cases, word| seat.select_of(cases, false, word))?;
+        Ok(fired.expect(FIRES))
+    }
+
+    /// Waits at most so long until one of the cases can proceed, and fires it. A timeout of zero does not wait.
+    ///
+    /// # Errors
+    ///
+    /// Returns [`SelectTimeoutError::Timeout`] if no case fired in time, and otherwise what [`select`](Select::select) returns, or
+    /// [`Fault::BAD_CALL`] unless the hub was opened with [timeouts](crate::Builder::timeouts). Then no value was sent.
+    pub fn select_timeout(
+        self,
+        timeout: Duration,
+    ) -> Result<SelectedOperation, SelectTimeoutError> {
+        let fired = self.run(|seat, cases, word| seat.select_for(cases, word, timeout))?;
+        Ok(fired.expect(FIRES))
     }
 
     /// Fires one of the cases that can proceed at once. Returns `None` if none can.
@@ -148,16 +167,20 @@ impl<'a> Select<'a> {
     ///
     /// Returns [`Ended::Fault`] if the hub did not carry out the call.
     pub fn try_select(self) -> Result<Option<SelectedOperation>, Ended> {
-        self.run(true)
+        self.run(|seat, cases, word| seat.select_of(cases, true, word))
     }
 
-    fn run(mut self, has_default: bool) -> Result<Option<SelectedOperation>, Ended> {
+    /// Makes this call of the cases.
+    fn run(
+        mut self,
+        call: impl FnOnce(&Seat, &[sys::Case], u64) -> Result<Selected, Ended>,
+    ) -> Result<Option<SelectedOperation>, Ended> {
         if !self.is_of_one_hub {
             return Err(Fault::BAD_CALL.into());
         }
         let cases: Vec<_> = self.cases.iter_mut().map(Case::put).collect();
         let word = self.word.unwrap_or_else(random_word);
-        let told = self.seat.select_of(&cases, has_default, word);
+        let told = call(self.seat, &cases, word);
         let sent = match told {
             Ok(Selected::Sent(index)) => Some(index),
             _ => None,
@@ -210,6 +233,36 @@ impl fmt::Debug for Select<'_> {
             .field("seat", &self.seat)
             .field("cases", &self.cases.len())
             .finish_non_exhaustive()
+    }
+}
+
+/// The error of a select with a timeout.
+#[derive(Clone, Copy, Debug, PartialEq, Eq)]
+#[non_exhaustive]
+pub enum SelectTimeoutError {
+    /// The timeout passed first.
+    Timeout,
+    /// The select failed, for this reason.
+    Ended(Ended),
+}
+
+impl fmt::Display for SelectTimeoutError {
+    fn fmt(&self, f: &mut fmt::Formatter<'_>) -> fmt::Result {
+        match self {
+            SelectTimeoutError::Timeout => Ended::TimedOut.fmt(f),
+            SelectTimeoutError::Ended(ended) => ended.fmt(f),
+        }
+    }
+}
+
+impl Error for SelectTimeoutError {}
+
+impl From<Ended> for SelectTimeoutError {
+    fn from(ended: Ended) -> SelectTimeoutError {
+        match ended {
+            Ended::TimedOut => SelectTimeoutError::Timeout,
+            ended => SelectTimeoutError::Ended(ended),
+        }
     }
 }
 

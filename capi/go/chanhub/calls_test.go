@@ -1,7 +1,6 @@
 package chanhub_test
 
 import (
-	"context"
 	"errors"
 	"math"
 	"strings"
@@ -339,25 +338,5 @@ func TestManyGoroutinesPassValues(t *testing.T) {
 	}
 	if wanted := uint64(pairs * values * (values + 1) / 2); sum != wanted {
 		t.Errorf("received %d, and not %d", sum, wanted)
-	}
-}
-
-// A cancel that can never succeed ends the wait for a context: in edition 1, and if the journal is full.
-func TestRecvContextStops(t *testing.T) {
-	for name, of := range map[string]struct {
-		edition chanhub.Edition
-		limit   int
-		wanted  error
-	}{
-		"edition 1":    {chanhub.Edition1, 1000, chanhub.FaultBadCall},
-		"full journal": {chanhub.Edition2, 2, chanhub.FaultJournalFull},
-		"neither":      {chanhub.Edition2, 1000, context.DeadlineExceeded},
-	} {
-		hub := open(t, of.edition, 2, of.limit)
-		port := makePort(t, hub.Seat(0), 0)
-		ctx, stop := context.WithTimeout(context.Background(), 20*time.Millisecond)
-		_, err := recvContext(ctx, hub.Seat(0), hub.Seat(1), port)
-		stop()
-		told(t, name, err, of.wanted)
 	}
 }

@@ -11,8 +11,6 @@ import (
 //
 // The hub carries a number for each value, which the journal shows: the first value that a Chan is given has number 0, and so on.
 // The value itself waits in the Chan until whoever receives the number takes it out. A value that is not sent does not stay there.
-//
-// No call has a timeout yet.
 type Chan[T any] struct {
 	hub      *Hub
 	port     Port
@@ -52,11 +50,18 @@ func (c *Chan[T]) Len() int {
 // Send sends a value. It waits until a receiver takes the value or the buffer has room for it. It returns [ErrClosed] if the
 // channel is closed. With any error, the value was not sent.
 func (c *Chan[T]) Send(seat *Seat, value T) error {
+	return c.send(seat, value, func(number Value) error {
+		return seat.Send(c.port, number)
+	})
+}
+
+// send sends a value by a call that sends its number.
+func (c *Chan[T]) send(seat *Seat, value T, call func(number Value) error) error {
 	if err := c.isFor(seat); err != nil {
 		return err
 	}
 	number := c.put(value)
-	err := seat.Send(c.port, number)
+	err := call(number)
 	if err != nil {
 		c.take(number)
 	}
@@ -71,10 +76,17 @@ func (c *Chan[T]) TrySend(seat *Seat, value T) (sent bool, err error) {
 
 // Recv receives a value. It waits until there is one. It returns [ErrDrained] if the channel is closed and empty.
 func (c *Chan[T]) Recv(seat *Seat) (value T, err error) {
+	return c.recv(seat, func() (Value, error) {
+		return seat.Recv(c.port)
+	})
+}
+
+// recv receives a value by a call that receives its number.
+func (c *Chan[T]) recv(seat *Seat, call func() (Value, error)) (value T, err error) {
 	if err := c.isFor(seat); err != nil {
 		return value, err
 	}
-	number, err := seat.Recv(c.port)
+	number, err := call()
 	if err != nil {
 		return value, err
 	}

@@ -23,13 +23,13 @@ var (
 	ErrHubClosed = errors.New("chanhub: the hub is closed")
 )
 
-// Errors that [Open] and [OpenEndless] return.
+// Errors that [Open], [OpenEndless] and [OpenWith] return.
 var (
-	ErrProcs   = errors.New("chanhub: the number of processes must be between 1 and 64")
+	ErrProcs   = errors.New("chanhub: the number of processes must be between 1 and 64, or 63 with timeouts")
 	ErrLimit   = errors.New("chanhub: the step limit must be between 1 and 1,000,000")
 	ErrKeep    = errors.New("chanhub: the number of steps to keep must be between 1 and 900,000")
 	ErrFiles   = errors.New("chanhub: the name of the files has a zero byte")
-	ErrEdition = errors.New("chanhub: the edition must be 1 or 2")
+	ErrEdition = errors.New("chanhub: the edition must be 1 or 2, and 2 with timeouts")
 	ErrMemory  = errors.New("chanhub: out of memory")
 )
 
@@ -53,7 +53,7 @@ const (
 	FaultJournalFull   Fault = C.CHANHUB_JOURNAL_FULL   // the hub has reached its step limit; an exit is still possible
 	FaultNoMemory      Fault = C.CHANHUB_NO_MEMORY      // out of memory; an exit is still possible, unless a chapter would begin with it
 	FaultNotParked     Fault = C.CHANHUB_NOT_PARKED     // the process has no waiting call to cancel
-	FaultBadCall       Fault = C.CHANHUB_BAD_CALL       // a process number outside 0 to 255, more than 16 cases, a call that needs Edition2, or a cut of a hub of Open
+	FaultBadCall       Fault = C.CHANHUB_BAD_CALL       // a process number outside 0 to 255, more than 16 cases, a call that needs Edition2 or Timeouts, or a cut of a hub of Open
 )
 
 var faultTexts = map[Fault]string{
@@ -69,7 +69,7 @@ var faultTexts = map[Fault]string{
 	FaultJournalFull:   "the hub has reached its step limit",
 	FaultNoMemory:      "out of memory",
 	FaultNotParked:     "the process has no waiting call to cancel",
-	FaultBadCall:       "a process number outside 0 to 255, more than 16 cases, a call that needs edition 2, or a cut of a hub that ends",
+	FaultBadCall:       "a process number outside 0 to 255, more than 16 cases, a call that needs edition 2 or timeouts, or a cut of a hub that ends",
 }
 
 // Error returns the number of the fault and its meaning.

@@ -55,16 +55,21 @@
 //
 // # Errors
 //
-// A call that fails returns [ErrClosed], [ErrDrained], [ErrStalled], [ErrCancelled] or [ErrHubClosed], or a [Fault] if the hub did
-// not carry it out. Use [errors.Is] to test for a particular error, and [errors.As] to get a Fault.
+// A call that fails returns [ErrClosed], [ErrDrained], [ErrStalled], [ErrCancelled] or [ErrHubClosed], the error of its context, or a
+// [Fault] if the hub did not carry it out. Use [errors.Is] to test for a particular error, and [errors.As] to get a Fault.
 //
 // # Limits
 //
 // A hub of [Open] keeps its whole journal. It makes at most 1,000,000 steps, not counting exits, so it suits tests and finite runs.
 // A hub of [OpenEndless] never ends. It keeps the newest steps, and the older ones go where its [Chapters] say.
 //
-// A hub has at most 64 ports, and a closed port still counts. No call takes a timeout or a context; the example RecvContext uses
-// [Seat.Cancel] instead. While the process that cancels is outside the hub, no deadlock is reported.
+// A hub has at most 64 ports, and a closed port still counts.
+//
+// # Contexts
+//
+// A hub of [OpenWith] with [Options].Timeouts has calls that give up once a [context.Context] is done: [Seat.RecvContext],
+// [Chan.RecvContext] and so on. They return the context's error. While one of them waits, no deadlock is reported, since something can
+// still happen.
 //
 // # Threads
 //
@@ -225,12 +230,22 @@ func (h *Hub) Close() error {
 	return h.unwritten
 }
 
-// shut lets no further call begin, and exits the processes that have no running call. The others exit when their calls leave.
-// Every process has then soon exited or is waiting, so the hub stalls the calls that wait, and none is left.
+// shut lets no further call begin, exits the processes that have no running call, and ends the waits of those that have a context. The
+// others exit when their calls leave. Every process has then soon exited or is waiting, so the hub stalls the calls that wait, and none
+// is left.
 func (h *Hub) shut() {
 	for _, pid := range h.refuse() {
 		h.exit(pid)
 	}
+	for pid := range h.calling {
+		C.chanhub_expire(h.at, C.uint(pid))
+	}
+}
+
+func (h *Hub) isClosed() bool {
+	h.lock.Lock()
+	defer h.lock.Unlock()
+	return h.closed
 }
 
 // refuse lets no further call begin, and returns the processes that have no running call.

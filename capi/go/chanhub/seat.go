@@ -77,18 +77,23 @@ func (s *Seat) TrySelect(word uint64, cases ...Case) (index int, value Value, er
 }
 
 func (s *Seat) selectOf(hasDefault bool, word uint64, cases []Case) (int, Value, error) {
+	first, count := rawCases(cases)
+	told, err := s.call(func(hub *C.chanhub, pid C.uint) C.chanhub_told {
+		return C.chanhub_select(hub, pid, first, count, C.bool(hasDefault), C.uint64_t(word))
+	})
+	return told.caseIndex(), told.value, err
+}
+
+// rawCases returns the cases as the library takes them.
+func rawCases(cases []Case) (first *C.chanhub_case, count C.size_t) {
 	raw := make([]C.chanhub_case, len(cases))
 	for i, c := range cases {
 		raw[i] = C.chanhub_case{sends: C.bool(c.sends), port: C.uint16_t(c.port), value: c.value.raw()}
 	}
-	var first *C.chanhub_case
 	if len(raw) > 0 {
 		first = &raw[0]
 	}
-	told, err := s.call(func(hub *C.chanhub, pid C.uint) C.chanhub_told {
-		return C.chanhub_select(hub, pid, first, C.size_t(len(raw)), C.bool(hasDefault), C.uint64_t(word))
-	})
-	return told.caseIndex(), told.value, err
+	return first, C.size_t(len(raw))
 }
 
 // Close closes a port. Waiting sends return [ErrClosed], and waiting receives return [ErrDrained]. Close returns
@@ -125,7 +130,7 @@ func (s *Seat) call(step func(hub *C.chanhub, pid C.uint) C.chanhub_told) (told,
 	}
 	told := toldOf(step(s.hub.at, within(s.pid)))
 	closed := s.hub.leave(s.pid)
-	if closed && told.what == C.CHANHUB_STALLED {
+	if closed && (told.what == C.CHANHUB_STALLED || told.what == C.CHANHUB_TIMED_OUT) {
 		return told, ErrHubClosed
 	}
 	return told, told.err()

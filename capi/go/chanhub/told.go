@@ -3,6 +3,8 @@ package chanhub
 // #include <chanhub.h>
 import "C"
 
+import "context"
+
 // waiting is the answer of a call that still waits. No call of this package returns it.
 const waiting = 8
 
@@ -36,6 +38,8 @@ func (t told) err() error {
 		return ErrStalled
 	case C.CHANHUB_CANCELLED:
 		return ErrCancelled
+	case C.CHANHUB_TIMED_OUT:
+		return context.DeadlineExceeded
 	case C.CHANHUB_FAULT:
 		return t.fault
 	case waiting:

@@ -66,7 +66,7 @@ func TestFaultsSayWhatTheirNumbersMean(t *testing.T) {
 		10: "the hub has reached its step limit",
 		11: "out of memory",
 		12: "the process has no waiting call to cancel",
-		13: "a process number outside 0 to 255, more than 16 cases, a call that needs edition 2, or a cut of a hub that ends",
+		13: "a process number outside 0 to 255, more than 16 cases, a call that needs edition 2 or timeouts, or a cut of a hub that ends",
 		14: "a number that chanhub.h does not define",
 	} {
 		wanted = fmt.Sprintf("chanhub: fault %d: %s", number, wanted)

@@ -39,10 +39,12 @@ REFUSED(hub_c_call,
         (h, pid, cases, number, has_default, word, told))
 REFUSED(hub_c_cancel, (struct hub *h, uint8_t pid, uint8_t other, struct told *told), (h, pid, other, told))
 
-/* A call, again while memory is refused to it, and then nothing is open. */
+/* A call, again while memory is refused to it, and then nothing is open, and no deadline is left. */
 #define GRANTED(t, pid, call) \
-    for (int tries = 0; is_short(t = call) && tries < MOST_TRIES; tries++) \
-        is_fault("nothing is open", chanhub_resume(hub, pid, 0), CHANHUB_NOT_PARKED)
+    for (int tries = 0; is_short(t = call) && tries < MOST_TRIES; tries++) { \
+        is_fault("nothing is open", chanhub_resume(hub, pid, 0), CHANHUB_NOT_PARKED); \
+        is("no deadline is left", chanhub_expire(hub, pid), 0); \
+    }
 
 static bool is_short(chanhub_told t) {
     return t.what == CHANHUB_FAULT && t.fault == CHANHUB_NO_MEMORY;

@@ -122,6 +122,47 @@ static int run_endless(long allowed) {
     return given.count != CHAPTERS || !given.are_right || given.lost > refused;
 }
 
+/* How often this stands in the journal; -1 where there is no memory for that. */
+static int in_journal(chanhub *hub, const char *wanted) {
+    size_t length, size = strlen(wanted);
+    int count = 0;
+    char *text = chanhub_journal(hub, &length);
+    if (!text) return -1;
+    for (size_t i = 0; i + size <= length; i++) count += memcmp(text + i, wanted, size) == 0;
+    chanhub_free_text(text);
+    return count;
+}
+
+/* The same of a hub whose calls have deadlines: enough of them that the journal grows within them. What is made again stands in the
+ * journal as often as it was tried. */
+static int run_timed(long allowed) {
+    enum { CALLS = 60 };
+    chanhub_options options = { .procs = 2, .clock = true };
+    chanhub *hub;
+    refused = 0;
+    left = allowed;
+    int why = chanhub_open_with(&hub, &options);
+    if (why && (why != 3 || hub || chanhub_open_with(&hub, &options))) return 1;
+    chanhub_case receive = { .port = 1 };
+    MADE(chanhub_make(hub, 0, 0), CHANHUB_MADE);
+    for (int i = 0; i < CALLS; i++) {
+        MADE(chanhub_begin_until(hub, 0, &receive, 1, false, 0, CHANHUB_NEVER - 1), CHANHUB_WAITING);
+        if (!chanhub_expire(hub, 0)) return 1;
+        chanhub_told t = chanhub_resume(hub, 0, 0);
+        if (t.what == CHANHUB_WAITING && t.fault == CHANHUB_NO_MEMORY) t = chanhub_resume(hub, 0, 0);
+        if (t.what != CHANHUB_TIMED_OUT) return 1;
+    }
+    MADE(chanhub_begin(hub, 1, &receive, 1, false, 0), CHANHUB_WAITING);
+    if (chanhub_exit(hub, 0).what != CHANHUB_DONE || chanhub_resume(hub, 1, 0).what != CHANHUB_STALLED) return 1;
+    if (chanhub_exit(hub, 1).what != CHANHUB_DONE) return 1;
+    int cancels = in_journal(hub, "\n2 cancel 0\n");
+    if (cancels < 0) cancels = in_journal(hub, "\n2 cancel 0\n");
+    int exits = in_journal(hub, "\n2 exit\n");
+    if (exits < 0) exits = in_journal(hub, "\n2 exit\n");
+    chanhub_free(hub);
+    return cancels != CALLS || exits != 1;
+}
+
 /* Runs with ever later refusals, until none comes. 0 where all went well. */
 static int refuse_each(const char *name, int (*run)(long allowed)) {
     int runs = 0, lost = 0;
@@ -139,5 +180,6 @@ static int refuse_each(const char *name, int (*run)(long allowed)) {
 
 int main(void) {
     int failed = refuse_each("a hub", run);
-    return refuse_each("a hub that never ends", run_endless) || failed;
+    failed |= refuse_each("a hub that never ends", run_endless);
+    return refuse_each("a hub with a clock", run_timed) || failed;
 }

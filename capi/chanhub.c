@@ -55,12 +55,12 @@ enum {
 #define FOR_EVER CHANHUB_NEVER
 #define EVERYBODY UINT64_MAX
 
-/* What a process that ends calls whose deadlines pass is at. */
+/* What the clock is at: the process that cancels calls whose deadlines have passed. */
 enum clock {
     NO_CLOCK, /* the hub has none */
     ASLEEP,   /* it waits on the nil port */
     AWAKE,    /* it holds up each stall */
-    GONE      /* it has exited, as have all others, or since memory was refused or the journal is full */
+    GONE      /* it has exited: after all others, or because it was refused memory or the journal is full */
 };
 
 /* Where the call of one process waits. */
@@ -78,7 +78,7 @@ struct chanhub {
     uint64_t open;              /* whose call is open: it has parked, and its answer is not picked up */
     uint64_t awaited;           /* for whose answer a thread waits now */
     uint64_t timed;             /* whose call with a deadline waits in the hub, or is about to */
-    uint64_t watched;           /* whose calls look at the clock first: its own, or while it is awake all */
+    uint64_t watched;           /* whose calls look at the clock first: all while it is awake, and its own */
     uint8_t clock;              /* the number of the clock; NOBODY where there is none */
     enum clock clock_is;
     atomic_uint sleepers;       /* how many threads sleep for the lock */
@@ -152,7 +152,7 @@ int chanhub_open_endless(chanhub **hub, unsigned edition, unsigned procs, uint32
     return opened(hub, h, hub_c_open_endless(&h->hub, edition_of(edition), procs_of(procs), keep, chapters != NULL));
 }
 
-/* The clock of a hub that has just been opened waits. Where memory is refused for that, the hub is freed. */
+/* Makes the clock of a hub that was just opened wait. If memory is refused for that, the hub is freed. */
 static int start_clock(chanhub **hub, uint8_t clock) {
     chanhub *h = *hub;
     struct told t = { 0 };
@@ -552,7 +552,7 @@ static void exit_clock(chanhub *h, struct told *t) {
     set_clock(h, GONE);
 }
 
-/* The clock waits, or exits if nobody is left for it, or no step. */
+/* The clock waits; or it exits, if no other process is left, or no step. */
 static void step_clock(chanhub *h, struct told *t) {
     if (h->exits < h->clock) {
         hub_c_recv(&h->hub, h->clock, 0, t);
@@ -562,8 +562,8 @@ static void step_clock(chanhub *h, struct told *t) {
     exit_clock(h, t);
 }
 
-/* Makes the steps that the clock is due, within a call of this process: more than one if it stalls. It is still due afterwards if
- * memory was refused. */
+/* Makes the clock's steps that are due, within a call of this process: more than one if its wait brings a stall. It is still due
+ * afterwards if it was refused memory. */
 static void settle_clock(chanhub *h, unsigned pid) {
     while (is_clock_due(h)) {
         struct told t = { 0 };
@@ -581,8 +581,8 @@ static uint64_t steps_left(chanhub *h) {
     return h->limit - (hub_c_entries(&h->hub) - h->exits) - (uint64_t)__builtin_popcountll(h->timed);
 }
 
-/* What the clock refuses a process that begins a call with, or 0. A stall can come due with any step, so the clock waits before. An exit
- * is not refused: then the clock exits before. */
+/* Why a call of this process cannot begin while the clock is awake, or 0. Each step can leave all others waiting, so a clock that is due
+ * waits before it. An exit is never refused: if the clock cannot wait, it exits before. */
 static uint8_t refusal_by_clock(chanhub *h, unsigned pid, bool exits) {
     if (pid == h->clock) return CHANHUB_NO_PROCESS;
     settle_clock(h, pid);
@@ -637,14 +637,14 @@ static chanhub_told time_out(chanhub *h, unsigned pid) {
 
 /* ---- The calls. ---- */
 
-/* Lets go of the lock where a call of this process is refused: it is open, or the clock refuses it. Returns the fault, or 0. */
+/* Whether a call of this process, or its exit, can begin: the fault if not, and then it leaves the lock. Holds the lock. */
 static uint8_t look_closer(chanhub *h, unsigned pid, bool exits) {
     uint8_t why = h->open & only(pid) ? CHANHUB_BUSY : refusal_by_clock(h, pid, exits);
     if (why) leave_lock(h);
     return why;
 }
 
-/* Takes the lock for a call in the name of this process, or for its exit. Where it is refused, leaves the lock, and returns the fault. */
+/* Takes the lock for a call in the name of this process, or for its exit. If that cannot begin, returns the fault, without the lock. */
 static inline uint8_t enter_for(chanhub *h, unsigned pid, bool exits) {
     take_lock(h);
     return (h->open | h->watched) & only(pid) ? look_closer(h, pid, exits) : 0;

@@ -394,7 +394,7 @@ static void threads(void) {
 
 /* ---- Under load. ---- */
 
-enum { THREADS = 16, PORTS = 4, NAMED = 32 };
+enum { THREADS = 16, PORTS = 4, NAMED = 32, SEED = 20260710 };
 
 struct worker {
     pthread_t thread;
@@ -494,8 +494,9 @@ static void run_threads(const char *folder, unsigned calls) {
     for (unsigned pid = 0; pid < THREADS; pid++) {
         char name[NAMED];
         snprintf(name, sizeof name, "told.%u", pid);
-        workers[pid] = (struct worker){ .pid = pid, .count = calls / THREADS, .random = 88172645463325252u + pid, .told = file_in(folder, name) };
-        if (pthread_create(&workers[pid].thread, NULL, work, &workers[pid])) exit(2);
+        struct worker *w = &workers[pid];
+        *w = (struct worker){ .pid = pid, .count = calls / THREADS, .random = SEED + pid, .told = file_in(folder, name) };
+        if (pthread_create(&w->thread, NULL, work, w)) exit(2);
     }
     for (unsigned pid = 0; pid < THREADS; pid++) {
         struct worker *w = &workers[pid];

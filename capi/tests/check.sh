@@ -197,7 +197,7 @@ for test in alone threads; do
     check "begun and resumed: $test" "$work/resume" "$test"
 done
 wrapped=
-for name in make send recv call take look present; do wrapped="$wrapped -Wl,--wrap=hub_c_$name"; done
+for name in make send recv call cancel exit entries take look present; do wrapped="$wrapped -Wl,--wrap=hub_c_$name"; done
 check 'inside builds' "$cc" $flags $wrapped chanhub.c heap.c tests/inside.c $proved -lpthread -o "$work/inside"
 check 'no two inside of a hub' "$work/inside"
 for test in alone threads; do

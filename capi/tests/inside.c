@@ -1,5 +1,5 @@
 /* No two threads are inside of a hub at once, and none reads what another was told: threads that pass bytes and numbers, look, read the
- * journal, begin and resume, with every entry into the proved library counted.
+ * journal, begin and resume, and whose deadlines pass, with every entry into the proved library counted.
  *
  * Linked with chanhub.c itself and with --wrap for each function of the library that it calls.
  */
@@ -49,7 +49,10 @@ COUNTED(hub_c_recv, (struct hub *h, uint8_t pid, uint16_t port, struct told *tol
 COUNTED(hub_c_call,
         (struct hub *h, uint8_t pid, const chanhub_case *cases, size_t count, uint8_t has_default, uint64_t word, struct told *told),
         (h, pid, cases, count, has_default, word, told))
+COUNTED(hub_c_cancel, (struct hub *h, uint8_t pid, uint8_t other, struct told *told), (h, pid, other, told))
+COUNTED(hub_c_exit, (struct hub *h, uint8_t pid, struct told *told), (h, pid, told))
 COUNTED(hub_c_take, (struct hub *h, uint8_t pid, struct told *told), (h, pid, told))
+ANSWERED(uint64_t, hub_c_entries, (struct hub *h), (h))
 ANSWERED(chanhub_counts, hub_c_look, (struct hub *h, uint16_t port), (h, port))
 ANSWERED(struct piece, hub_c_present, (struct hub *h, uint64_t number, uint8_t *place, size_t room), (h, number, place, room))
 
@@ -119,12 +122,20 @@ static void *receives_numbers(void *at) {
     return at;
 }
 
+/* Two of these wake and time out at about one time. */
+static void *times_out(void *at) {
+    unsigned pid = (unsigned)(size_t)at;
+    while (!done) mixed += chanhub_recv_until(hub, pid, 0, chanhub_in(20000)).what != CHANHUB_TIMED_OUT;
+    return at;
+}
+
 int main(void) {
     alarm(SECONDS);
-    if (chanhub_open(&hub, 2, 2 * SENDERS + 3, 1000000)) return 2;
+    chanhub_options options = { .procs = 2 * SENDERS + 6, .clock = true };
+    if (chanhub_open_with(&hub, &options)) return 2;
     is("made", chanhub_make(hub, 2 * SENDERS + 2, 1).port, 1);
     is("made", chanhub_make(hub, 2 * SENDERS + 2, 0).port, 2);
-    void *(*others[])(void *) = { sends_numbers, receives_numbers, looks, reads };
+    void *(*others[])(void *) = { sends_numbers, receives_numbers, looks, reads, times_out, times_out };
     enum { OTHERS = sizeof others / sizeof *others };
     pthread_t threads[2 * SENDERS + OTHERS];
     for (size_t i = 0; i < 2 * SENDERS + OTHERS; i++) {

@@ -52,10 +52,10 @@ def in_thread(call):
     return end
 
 
-def journal_with(hub, line):
-    """Waits until the journal has this line."""
+def journal_with(hub, line, times=1):
+    """Waits until the journal has this line so many times."""
     end = time.monotonic() + LONG
-    while line not in hub.journal().decode().splitlines():
+    while hub.journal().decode().splitlines().count(line) < times:
         if time.monotonic() > end:
             raise AssertionError(f'no {line}')
         time.sleep(0.001)
@@ -98,7 +98,7 @@ class Timeouts(unittest.TestCase):
             port = ann.make(0)
             self.took(SHORT, lambda: in_thread(lambda: bob.recv(port, timeout=SHORT))())
             got = in_thread(lambda: bob.recv(port, timeout=LONG))
-            journal_with(hub, f'1 recv {port}')
+            journal_with(hub, f'1 recv {port}', times=2)
             ann.send(port, 5, timeout=0)
             self.assertEqual(got(), 5)
             sent = in_thread(lambda: bob.send(port, 6, timeout=LONG))

@@ -193,15 +193,22 @@ class Timeouts(unittest.TestCase):
             self.assertRaises(TimedOut, waits)
 
     def test_an_interrupted_call_is_resumed(self):
+        before = signal.signal(signal.SIGINT, signal.default_int_handler)  # it may be ignored
+        self.addCleanup(signal.signal, signal.SIGINT, before)
         with Hub(procs=1, timeouts=True) as hub:
             seat = hub.seat(0)
             port = seat.make(0)
-            timer = threading.Timer(0.05, os.kill, (os.getpid(), signal.SIGINT))
-            timer.start()
-            self.assertRaises(KeyboardInterrupt, seat.recv, port, timeout=0.5)
-            timer.join()
+
+            def interrupt():
+                journal_with(hub, f'0 recv {port}')
+                os.kill(os.getpid(), signal.SIGINT)
+
+            interrupted = in_thread(interrupt)
+            self.assertRaises(KeyboardInterrupt, seat.recv, port, timeout=LONG)
+            interrupted()
             self.assertTrue(seat.waits)
-            self.took(0, seat.resume)
+            hub._expire(0)
+            self.assertRaises(TimedOut, seat.resume)
             self.assertFalse(seat.waits)
             self.assertRaises(Stalled, seat.recv, port)
 

@@ -528,13 +528,11 @@ static inline bool is_clock_due(const chanhub *h) {
     return h->clock_is == AWAKE && !h->timed;
 }
 
-/* Notes whose calls a step ended. If the clock's is among them, it is awake. Holds the lock since that step, as does the next. */
+/* Notes whose calls a step ended. If the clock's is among them, it is awake; its answer is left, until its next step. Holds the lock since
+ * that step, as does the next. */
 static void note_ended(chanhub *h, uint64_t ended) {
     h->timed &= ~ended;
-    if (!(ended & only(h->clock))) return;
-    struct told unused = { 0 };
-    hub_c_take(&h->hub, h->clock, &unused);
-    set_clock(h, AWAKE);
+    if (ended & only(h->clock)) set_clock(h, AWAKE);
 }
 
 /* Does what follows from a step that was made within a call of this process: wakes those whose calls it ended, and hands out the chapter

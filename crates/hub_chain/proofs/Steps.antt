@@ -1,5 +1,5 @@
 -- The journal that a text says, and a hub that makes its steps.
-use Rattle.std.proofs.Common.{◌≡◌, ℕ, ◌+◌, ◌≤◌, Bool, List, [], ◌∷◌, Some, refl, ap, arith, cond, length, take, zero-le, length-append}
+use Rattle.std.proofs.Common.{◌≡◌, ℕ, ◌+◌, ◌≤◌, Bool, List, [], ◌∷◌, Some, refl, ap, sym, subst, arith, cond, length, take, zero-le, length-append}
 use Rattle.std.specs.List.{flat_map, join_with_byte}
 use Rattle.std.specs.Prelude.{slice_get, decimal, Ok}
 use Rattle.hub_base.specs.Entry.{Entry, Step}
@@ -19,6 +19,7 @@ use Rattle.hub_text.proofs.Heads.{text-again}
 use Rattle.hub_text.proofs.OneReading.{found-fits}
 use Rattle.hub_laws.specs.Journals.{IsLegal}
 use Rattle.hub_core.specs.HubView.{HubView, Refuses, places_after}
+use Rattle.hub_chain.specs.Chains.{IsHubOf, MakesText}
 use Rattle.hub_chain.specs.Faults.{IsRefused, refused_at}
 
 -- What a text says
@@ -58,3 +59,14 @@ pub is_refused : (j : JournalView) (n : ℕ) (e : Entry) (f : Fault) → slice_g
 is_refused j n e fault.NoMemory there legal refused = tt
 is_refused j n e f there legal refused =
     record { place = n; entry = e; is = refl; before = legal; there = there; refused = refused (λ same. cc) }
+
+-- a hub that made the steps of the journal of a text
+pub makes_text : (text : List ℕ) (j : JournalView) (hub : HubView) → IsText text j.head j.entries → IsHubOf j hub → IsLegal hub.terms.head hub.journal
+    → MakesText text hub
+makes_text text j hub is of legal =
+    record {
+      spelled = subst (λ (h : Head). IsText text h hub.journal) (sym of.head) (subst (λ (es : List Entry). IsText text j.head es) (sym of.entries) is);
+      legal = legal;
+      few = rw of.entries (few_entries text j.head j.entries is);
+      limit = of.limit;
+    }

@@ -1,7 +1,8 @@
 -- Chains of chapters: what the texts of chapters are, and where a chain stands behind them.
-use Rattle.std.specs.Prelude.{◌≡◌, ℕ, List}
+use Rattle.std.specs.Prelude.{◌≡◌, ◌≤◌, ℕ, List, length}
 use Rattle.hub_base.specs.Entry.{Entry}
 use Rattle.hub_base.specs.declared.head.Head.{Head}
+use Rattle.hub_base.specs.declared.limits.TheConstants.{MOST_BYTES, MOST_STEPS}
 use Rattle.hub_base.specs.Journal.{JournalView}
 use Rattle.hub_base.specs.Runs.{state, events}
 use Rattle.hub_base.specs.Text.{IsText}
@@ -46,10 +47,18 @@ pub record IsRead (journal : JournalView) : Type 0 where
   pub text : List ℕ
   pub spelled : IsText text journal.head journal.entries
 
--- the hub has made the steps of this journal, and no others
+-- the hub has made the steps of this journal, and no others; its limit is the greatest
 pub record IsHubOf (given : JournalView) (hub : HubView) : Type 0 where
   pub head : hub.terms.head ≡ given.head
   pub entries : hub.journal ≡ given.entries
+  pub limit : hub.terms.limit ≡ MOST_STEPS
+
+-- the hub has made the steps of the journal whose text this is, a legal one; its limit is the greatest
+pub record MakesText (text : List ℕ) (hub : HubView) : Type 0 where
+  pub spelled : IsText text hub.terms.head hub.journal
+  pub legal : IsLegal hub.terms.head hub.journal
+  pub few : length hub.journal ≤ MOST_BYTES
+  pub limit : hub.terms.limit ≡ MOST_STEPS
 
 -- the journal is legal, and the chain has its checkpoint
 pub record EndsIn (given chain : JournalView) : Type 0 where

@@ -50,7 +50,7 @@ fn is_same_step(step: &StepRef<'_>, other: &StepRef<'_>) -> bool
 }
 
 /// Whether both are one entry.
-fn is_same(entry: &EntryRef<'_>, other: &EntryRef<'_>) -> bool
+pub fn is_same_entry(entry: &EntryRef<'_>, other: &EntryRef<'_>) -> bool
     ensures { IsTrue result ↔ (entry.now ≡ other.now) }
 {
     entry.pid.0 == other.pid.0 && is_same_step(&entry.step, &other.step)
@@ -62,7 +62,7 @@ fn stands_at(entries: &ShortEntries, place: usize, entry: &hub_base::Entry) -> b
 {
     let mut one = Case::default();
     match entries.get(place, &mut one) {
-        Some(other) => is_same(&other, &entry.by_slice()),
+        Some(other) => is_same_entry(&other, &entry.by_slice()),
         None => false,
     }
 }

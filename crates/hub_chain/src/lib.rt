@@ -10,5 +10,7 @@ mod chains;
 mod fault;
 mod replays;
 
+pub use beginnings::is_same_entry;
 pub use chains::Chain;
 pub use fault::ChainFault;
+pub use replays::read_hub;

@@ -1,13 +1,13 @@
 //! A chapter's entries, made again.
 
 ghost use Rattle.std.specs.Prelude.{◌≡◌, IfOk, IfErr};
-ghost use Rattle.hub_chain.specs.Chains.{IsRead, IsHubOf};
-ghost use Rattle.hub_chain.specs.Faults.{IsRefused};
+ghost use Rattle.hub_chain.specs.Chains.{IsRead, IsHubOf, MakesText};
+ghost use Rattle.hub_chain.specs.Faults.{IsNotLegal, IsRefused};
 
 use crate::ChainFault;
 use crate::fault::refused_at;
 use hub_base::{Case, Events, MOST_STEPS};
-use hub_core::{Hub, ShortHub, ShortJournal};
+use hub_core::{Hub, ShortHub, ShortJournal, read_short_journal};
 use std::alloc::Global;
 
 /// The hub that has made the journal's steps.
@@ -33,5 +33,17 @@ pub(crate) fn hub_of(alloc: Global, journal: &ShortJournal) -> Result<ShortHub, 
             }
         }
     }
+    Ok(hub)
+}
+
+/// The hub that has made the steps of the journal whose text this is, a legal one. It has no limit but the greatest.
+#[tactic(auto, using(crate::proofs::Steps::makes_text))]
+pub fn read_hub(alloc: Global, text: &[u8]) -> Result<ShortHub, ChainFault>
+    ensures ok { IfOk result (λ hub. MakesText text.now hub.memory.hub) }
+    ensures refused { IfErr result (IsNotLegal text.now) }
+{
+    let journal = read_short_journal(alloc, text)?;
+    let hub = hub_of(alloc, &journal)?;
+    hub.journal_is_legal();
     Ok(hub)
 }

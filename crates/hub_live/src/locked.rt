@@ -8,7 +8,7 @@
 ghost use Rattle.std.specs.Prelude.{◌≡◌, ◌≤◌, ◌<◌, ◌++◌, ◌∷◌, ◌↔◌, [], ℕ, List, IsTrue, Some, true, length, slice_get, slice_set, IfSome, IfNone};
 ghost use Rattle.hub_core.specs.Looks.{look_at};
 ghost use Rattle.hub_live.specs.Locked.{none_waits, last_told};
-ghost use Rattle.hub_live.specs.Prelude.{AreOf, is_of, IsLegal, state_of, answer_for, IsReplyTo, pids_of, ServesStep, without_answer};
+ghost use Rattle.hub_live.specs.Prelude.{AreOf, is_of, refusal, IsLegal, state_of, answer_for, IsReplyTo, pids_of, ServesStep, without_answer};
 
 use crate::answers::{Answers, Pids};
 use hub_base::{Entry, EntryRef, Event, Events, Fault, Head, Journal, Look, MOST_PROCS, Pid, Port};
@@ -65,6 +65,13 @@ impl Locked {
             Some(answer) => Ok(answer),
             None => unreachable!(),
         }
+    }
+
+    /// Why a step of this process would be refused now: `NoProcess`, `Gone`, `Busy`, or nothing.
+    pub fn refusal(&self, pid: Pid) -> Option<Fault>
+        ensures { result ≡ refusal (state_of self.now.hub) pid }
+    {
+        self.hub.refusal(pid)
     }
 
     /// Takes out the answer that waits for a process: the process's reply, and the process has no open

@@ -1,0 +1,237 @@
+-- What a hub that follows keeps, and how it makes the next step of the journal.
+use Rattle.std.proofs.Common.{◌≡◌, ◌∙◌, ◌+◌, ◌≤◌, ◌<◌, ℕ, Bool, List, [], ◌∷◌, ◌++◌, Option, Some, None, refl, ap, sym, subst, arith}
+use Rattle.std.proofs.Common.{length, take, drop, suc, cond, inl, inr, eq-eqb}
+use Rattle.std.specs.Prelude.{slice_get, IfSome, Result, Ok, Err}
+use Rattle.std.proofs.lemmas.List.{length_push}
+use Rattle.std.proofs.lemmas.Option.{slice_get_within}
+use Rattle.hub_base.specs.Entry.{Entry}
+use Rattle.hub_base.specs.declared.event.Event.{Event}
+use Rattle.hub_base.specs.declared.fault.Fault.{Fault}
+use Rattle.hub_base.specs.declared.fault.Fault.TheVariants as fault
+use Rattle.hub_base.specs.Runs.{moves, state}
+use Rattle.hub_base.specs.Steps.{refusal}
+use Rattle.hub_base.specs.Text.{one_step, steps_of}
+use Rattle.hub_laws.specs.Journals.{IsLegal}
+use Rattle.hub_laws.proofs.Journals.{begins-law}
+use Rattle.hub_laws.proofs.Totals.{take_next}
+use Rattle.hub_core.specs.HubView.{HubView, IsFullFor, Refuses, opened_hub, with_entry}
+use Rattle.hub_live.specs.Locked.{LockedView, Serves, ServesStep, none_waits}
+use Rattle.hub_chain.specs.Chains.{MakesText}
+use Rattle.hub_chain.proofs.Places.{around, steps_there}
+use Rattle.hub_follow.specs.declared.follower.AfterDivergence.{AfterDivergence}
+use Rattle.hub_follow.specs.declared.follower.AfterDivergence.TheVariants.{GoesOn, Ends}
+use Rattle.hub_follow.specs.declared.follower.Stand.TheVariants.{Early, Other}
+use Rattle.hub_follow.specs.declared.not_made.NotMade.{NotMade}
+use Rattle.hub_follow.specs.declared.not_made.NotMade.TheVariants.{Refused, NotYet, Diverged}
+use Rattle.hub_follow.specs.Follow.{AnswersNext, FollowKeeps, FollowView, FollowsStep, IsAdmitted, IsAt, IsBeginning, IsFree, IsNext, diverged_at, made}
+use Rattle.hub_follow.specs.Follow.{FollowsAnew, follow_view, number_of, turn_of, with_locked}
+use Rattle.hub_follow.specs.Stands.{Passes, Stands, is_of}
+use Rattle.hub_follow.proofs.Turns.{turn_here}
+
+-- ---- the next step of the journal
+
+-- it is admitted
+pub next_admitted : (l : FollowView) (e : Entry) → FollowKeeps l → IsNext l e → IsAdmitted l e
+next_admitted l e keeps next =
+    let head = l.locked.hub.terms.head in
+    let begins : IsBeginning l = keeps.begins next.following in
+    let whole : IsLegal head (take (made l) l.given ++ e ∷ drop (suc (made l)) l.given) =
+    subst (IsLegal head) (around (made l) l.given e next.at) keeps.legal in
+    ap (λ (es : List Entry). refusal (state head es) e.pid) begins
+    ∙ (begins-law head (take (made l) l.given) (drop (suc (made l)) l.given)).next e whole
+
+-- its hub is not full
+not_full : (l : FollowView) (e : Entry) → FollowKeeps l → IsNext l e → IsFullFor l.locked.hub e → ⊥
+not_full l e keeps next full =
+    let begins : IsBeginning l = keeps.begins next.following in
+    let one : one_step e ≡ 1 = ap (λ (b : Bool). cond b 0 1) full.0 in
+    omega (arith, one, full.1, keeps.room, ap steps_of begins, steps_there (made l) l.given e next.at)
+
+-- so memory alone refuses it
+pub next_refused : (l : FollowView) (e : Entry) (f : Fault) → FollowKeeps l → IsNext l e → Refuses l.locked.hub e f → f ≡ fault.NoMemory
+next_refused l e fault.JournalFull keeps next refuses = absurd (not_full l e keeps next refuses)
+next_refused l e fault.NoProcess keeps next refuses = absurd (let admitted = next_admitted l e keeps next in let refused = refuses.1 in cc)
+next_refused l e fault.Gone keeps next refuses = absurd (let admitted = next_admitted l e keeps next in let refused = refuses.1 in cc)
+next_refused l e fault.Busy keeps next refuses = absurd (let admitted = next_admitted l e keeps next in let refused = refuses.1 in cc)
+next_refused l e fault.NoMemory keeps next refuses = refl
+next_refused l e other keeps next refuses = absurd refuses
+
+-- with it the hub has made a beginning of the journal again
+begins_next : (l : FollowView) (e : Entry) (now : LockedView) → FollowKeeps l → IsNext l e → now.hub ≡ with_entry e l.locked.hub
+    → IsBeginning (with_locked now l)
+begins_next l e now keeps next is =
+    let begins : IsBeginning l = keeps.begins next.following in
+    let longer : now.hub.journal ≡ l.locked.hub.journal ++ e ∷ [] = ap (λ (h : HubView). h.journal) is in
+    let count : length now.hub.journal ≡ made l + 1 = ap length longer ∙ length_push l.locked.hub.journal e in
+    longer ∙ ap (λ (es : List Entry). es ++ e ∷ []) begins ∙ sym (take_next l.given (made l) e next.at) ∙ ap (λ n. take n l.given) (sym count)
+
+-- what it keeps
+pub keeps_next : (l : FollowView) (e : Entry) (now : LockedView) (answer : Event) → FollowKeeps l → IsNext l e → Serves l.locked e now answer
+    → FollowKeeps (with_locked now l)
+keeps_next l e now answer keeps next serves =
+    let terms = ap (λ (h : HubView). h.terms) serves.step.journal in
+    record {
+      legal = rw terms keeps.legal;
+      room = rw terms keeps.room;
+      few = keeps.few;
+      begins = λ none. begins_next l e now keeps next serves.step.journal;
+    }
+
+-- a step that changed nothing
+same : (l : FollowView) (now : LockedView) → now ≡ l.locked → with_locked now l ≡ l
+same l now is = ap (λ n. with_locked n l) is
+
+still : (l : FollowView) (now : LockedView) → FollowKeeps l → now ≡ l.locked → l.diverged ≡ None → IsBeginning (with_locked now l)
+still l now keeps is none = subst IsBeginning (sym (same l now is)) (keeps.begins none)
+
+-- the hub made the next step, or refused it
+pub step_next : (l : FollowView) (e : Entry) (now : LockedView) (result : Result Event NotMade) → FollowKeeps l → IsNext l e
+    → Passes l.locked e now result → FollowsStep l e (with_locked now l) result
+step_next l e now (Ok answer) keeps next passes =
+    let head = l.locked.hub.terms.head in
+    record {
+      does = (passes, inl (next, refl));
+      begins = λ none. begins_next l e now keeps next passes.ok.step.journal;
+      next = λ _. record {
+        ended = passes.ok.ended;
+        told = ap (λ (es : List Entry). (moves (state head es) e).events) (sym (keeps.begins next.following)) ∙ sym passes.ok.step.events;
+      };
+    }
+step_next l e now (Err (Refused f)) keeps next passes =
+    record {
+      does = (inr (inl next), passes.0, same l now passes.1);
+      begins = still l now keeps passes.1;
+      next = λ _. ap Refused (next_refused l e f keeps next passes.0);
+    }
+step_next l e now (Err other) keeps next passes = absurd passes
+
+-- what the hub keeps, with the step or without it
+pub keeps_passed : (l : FollowView) (e : Entry) (now : LockedView) (result : Result Event NotMade) → FollowKeeps l → IsNext l e
+    → Passes l.locked e now result → FollowKeeps (with_locked now l)
+keeps_passed l e now (Ok answer) keeps next passes = keeps_next l e now answer keeps next passes.ok
+keeps_passed l e now (Err (Refused f)) keeps next passes = subst FollowKeeps (sym (same l now passes.1)) keeps
+keeps_passed l e now (Err other) keeps next passes = absurd passes
+
+-- ---- a step that is not admitted
+
+pub refused : (l : FollowView) (e : Entry) (now : LockedView) (result : Result Event NotMade) → FollowKeeps l → ¬ IsAdmitted l e
+    → Passes l.locked e now result → FollowsStep l e (with_locked now l) result
+refused l e now (Ok answer) keeps not passes = absurd (not passes.ok.step.admitted)
+refused l e now (Err (Refused f)) keeps not passes =
+    record {
+      does = (inl not, passes.0, same l now passes.1);
+      begins = still l now keeps passes.1;
+      next = λ next. absurd (not (next_admitted l e keeps next));
+    }
+refused l e now (Err other) keeps not passes = absurd passes
+
+pub keeps_refused : (l : FollowView) (e : Entry) (now : LockedView) (result : Result Event NotMade) → FollowKeeps l → ¬ IsAdmitted l e
+    → Passes l.locked e now result → FollowKeeps (with_locked now l)
+keeps_refused l e now (Ok answer) keeps not passes = absurd (not passes.ok.step.admitted)
+keeps_refused l e now (Err (Refused f)) keeps not passes = subst FollowKeeps (sym (same l now passes.1)) keeps
+keeps_refused l e now (Err other) keeps not passes = absurd passes
+
+-- ---- a hub that follows no longer
+
+-- then no step is next
+not_free : (l : FollowView) (e : Entry) → IsNext l e → IsFree l → ⊥
+not_free l e next free = omega (arith, free next.following, slice_get_within l.given (made l) e next.at)
+
+pub goes_on : (l : FollowView) (e : Entry) (now : LockedView) (answer : Event) → IsFree l → l.after ≡ GoesOn
+    → ServesStep l.locked e now (Ok answer) → FollowsStep l e (diverged_at (number_of l) (with_locked now l)) (Ok answer)
+goes_on l e now answer free after serves =
+    record {
+      does = (serves, inr (free, after, refl));
+      begins = λ none. absurd (cc);
+      next = λ next. absurd (not_free l e next free);
+    }
+
+pub goes_not : (l : FollowView) (e : Entry) (now : LockedView) (why : NotMade) → FollowKeeps l → IsFree l → l.after ≡ GoesOn
+    → Passes l.locked e now (Err why) → FollowsStep l e (with_locked now l) (Err why)
+goes_not l e now (Refused f) keeps free after passes =
+    record {
+      does = (inr (inr (free, after)), passes.0, same l now passes.1);
+      begins = still l now keeps passes.1;
+      next = λ next. absurd (not_free l e next free);
+    }
+goes_not l e now other keeps free after passes = absurd passes
+
+pub ends : (l : FollowView) (e : Entry) → IsAdmitted l e → IsFree l → l.after ≡ Ends
+    → FollowsStep l e (diverged_at (number_of l) l) (Err (Diverged (number_of l)))
+ends l e admitted free after =
+    record {
+      does = (inr (admitted, free, after, refl), refl);
+      begins = λ none. absurd (cc);
+      next = λ next. absurd (not_free l e next free);
+    }
+
+-- what a hub keeps that has diverged
+pub keeps_diverged : (l : FollowView) (number : ℕ) → FollowKeeps l → FollowKeeps (diverged_at number l)
+keeps_diverged l number keeps =
+    record { legal = keeps.legal; room = keeps.room; few = keeps.few; begins = λ none. absurd (cc) }
+
+pub keeps_goes_on : (l : FollowView) (e : Entry) (now : LockedView) (answer : Event) → FollowKeeps l
+    → ServesStep l.locked e now (Ok answer) → FollowKeeps (diverged_at (number_of l) (with_locked now l))
+keeps_goes_on l e now answer keeps serves =
+    let terms = ap (λ (h : HubView). h.terms) serves.ok.step.journal in
+    record { legal = rw terms keeps.legal; room = rw terms keeps.room; few = keeps.few; begins = λ none. absurd (cc) }
+
+-- ---- a step that is not next
+
+-- where the next step is this, it is its process's next
+turn_next : (l : FollowView) (e : Entry) → IsNext l e → turn_of l e.pid ≡ Some (made l)
+turn_next l e next =
+    turn_here e.pid (made l) l.given (slice_get_within l.given (made l) e next.at)
+    (ap (is_of e.pid) next.at ∙ eq-eqb e.pid.0 e.pid.0 refl)
+
+pub early : (l : FollowView) (e : Entry) → FollowKeeps l → IsAdmitted l e → l.diverged ≡ None → Stands l e Early → FollowsStep l e l (Err NotYet)
+early l e keeps admitted following stands =
+    record {
+      does = (record { admitted = admitted; following = following; left = stands.0; later = stands.1 }, refl);
+      begins = keeps.begins;
+      next = λ next.
+          let later = subst (λ (o : Option ℕ). IfSome o (λ place. (made l < place) × IsAt l e place)) (turn_next l e next) stands.1 in
+          absurd (omega (arith, later.0));
+    }
+
+pub other : (l : FollowView) (e : Entry) (number : ℕ) → IsAdmitted l e → l.diverged ≡ None → Stands l e (Other number)
+    → FollowsStep l e (diverged_at number l) (Err (Diverged number))
+other l e number admitted following stands =
+    record {
+      does = (
+        inl (record {
+          admitted = admitted;
+          following = following;
+          place = stands.0;
+          turn = stands.1;
+          other = stands.2;
+          numbered = stands.3;
+        }),
+        refl,
+      );
+      begins = λ none. absurd (cc);
+      next = λ next.
+          let here : made l ≡ stands.0 = let turn = turn_next l e next in let at = stands.1 in cc in
+          absurd (stands.2 (ap (slice_get l.given) (sym here) ∙ next.at));
+    }
+
+-- ---- the opening
+
+abbrev Opens : List ℕ → FollowView → Type 0
+Opens text l = FollowKeeps l × FollowsAnew text l.after l
+
+pub opened : (text : List ℕ) (after : AfterDivergence) (given : HubView) (locked : LockedView) → MakesText text given
+    → steps_of given.journal ≤ given.terms.limit → locked ≡ none_waits (opened_hub given.terms)
+    → Opens text (follow_view locked given.journal after None)
+opened text after given locked makes room is =
+    subst (λ (l : LockedView). Opens text (follow_view l given.journal after None)) (sym is) (
+      record { legal = makes.legal; room = room; few = makes.few; begins = λ none. refl },
+      record {
+        spelled = makes.spelled;
+        legal = makes.legal;
+        limit = makes.limit;
+        nothing = refl;
+        after_is = refl;
+        none = refl;
+      },
+    )

@@ -1,0 +1,20 @@
+use Rattle.std.proofs.Common.{rules, ◌≡◌, None, subst}
+use Rattle.hub_follow.specs.Follow.{FollowKeeps, IsAdmitted}
+use Rattle.hub_follow.proofs.Keeping.{early, other}
+use Rattle.hub_follow.proofs.follower.Follower.step.Goals as goal
+
+pub returns-in-Early : goal.returns-in-Early
+returns-in-Early c =
+    let l = c.args.self.now in
+    let admitted : IsAdmitted l c.args.entry.now = search rules in
+    let following : l.diverged ≡ None = search rules in
+    record { rules = early l c.args.entry.now (subst FollowKeeps c.self.view_is c.self.invariant) admitted following c.in-Early.ensures }
+
+pub returns-in-Other : goal.returns-in-Other
+returns-in-Other c =
+    let l = c.args.self.now in
+    let admitted : IsAdmitted l c.args.entry.now = search rules in
+    let following : l.diverged ≡ None = search rules in
+    record {
+      rules = rw (c.diverge.ensures.diverged, c.diverge.ensures.told) (other l c.args.entry.now c.in-Other.number admitted following c.in-Other.ensures);
+    }

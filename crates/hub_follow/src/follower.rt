@@ -1,0 +1,266 @@
+//! A hub that follows a journal, with the answers that wait.
+//!
+//! Both hubs have the same edition, and as many processes. As long as nothing has diverged, what the one has made is a
+//! beginning of what the other has.
+
+ghost use Rattle.std.specs.Prelude.{◌≡◌, ◌<◌, ◌≤◌, ◌==◌, ◌↔◌, IfOk, IfErr, IfSome, IfNone, IsTrue, None, Some, Err, true, length, drop, slice_get};
+ghost use Rattle.std.specs.List.{position_from};
+ghost use Rattle.hub_base.specs.Head.{is_of};
+ghost use Rattle.hub_base.specs.declared.limits.TheConstants.{MOST_BYTES};
+ghost use Rattle.hub_live.specs.Locked.{IsReplyTo, answer_for, without_answer};
+ghost use Rattle.hub_chain.specs.Faults.{IsNotLegal};
+ghost use Rattle.hub_follow.specs.Follow.{FollowsAnew, FollowsStep, IsAdmitted, IsBeginning, IsFree, IsNext, diverged_at, next_of, number_of, with_locked};
+ghost use Rattle.hub_follow.specs.Stands.{Passes, Stands};
+ghost use Rattle.hub_follow.specs.Stands.{is_of as is_entry_of};
+ghost use Rattle.hub_follow.specs.declared.not_made.NotMade.TheVariants.{Diverged};
+
+use crate::NotMade;
+use hub_base::{EntryRef, Event, Pid};
+use hub_chain::{ChainFault, is_same_entry, read_hub};
+use hub_core::{Hub, ShortHub};
+use hub_live::under_lock::Locked;
+use std::alloc::Global;
+use std::marker::Model;
+
+/// What a hub does once it has diverged from the journal that it follows, and once it has made all of it.
+#[derive(Clone, Copy, Debug, PartialEq, Eq)]
+pub enum AfterDivergence {
+    /// It makes any step, as a hub that follows nothing.
+    GoesOn,
+    /// It makes none.
+    Ends,
+}
+
+/// How a step stands to the journal, where its process's steps are admitted and nothing has diverged.
+pub(crate) enum Stand {
+    /// It is next.
+    Next,
+    /// Its turn may come.
+    Early,
+    /// The process's next step is another, of this number.
+    Other(u32),
+    /// All of the journal is made.
+    Over,
+}
+
+/// Whether the entry at this place of a hub's journal is of this process.
+fn is_of(hub: &ShortHub, place: usize, pid: Pid) -> bool
+    ensures { result ≡ is_entry_of pid (slice_get hub.now.memory.hub.journal place) }
+{
+    match hub.entry(place) {
+        Some(entry) => entry.pid.0 == pid.0,
+        None => false,
+    }
+}
+
+/// Whether this entry stands at this place of a hub's journal.
+fn is_at(hub: &ShortHub, place: usize, entry: &EntryRef<'_>) -> bool
+    ensures { IsTrue result ↔ (slice_get hub.now.memory.hub.journal place ≡ Some entry.now) }
+{
+    match hub.entry(place) {
+        Some(other) => is_same_entry(&other.by_slice(), entry),
+        None => false,
+    }
+}
+
+/// The place of the first entry of this process in a hub's journal, from this place on.
+fn turn_from(hub: &ShortHub, made: usize, pid: Pid) -> Option<usize>
+    ensures turn { result ≡ position_from (λ e. e.pid.0 == pid.0) made (drop made hub.now.memory.hub.journal) }
+    ensures behind { IfSome result (λ place. made ≤ place) }
+    ensures within { IfSome result (λ place. place < length hub.now.memory.hub.journal) }
+{
+    for place in made..hub.len() {
+        if is_of(hub, place, pid) {
+            return Some(place);
+        }
+    }
+    None
+}
+
+/// The hub makes the step or refuses it.
+fn pass(hub: &mut Locked, entry: &EntryRef<'_>) -> Result<Event, NotMade>
+    requires fits { is_of hub.old.hub.terms.head.edition entry.now.step ≡ true }
+    ensures { Passes hub.old entry.now hub.new result }
+{
+    match hub.step(entry) {
+        Ok(answer) => Ok(answer),
+        Err(fault) => Err(NotMade::Refused(fault)),
+    }
+}
+
+/// A hub that follows a journal, and for each process an answer that may wait to be picked up.
+#[derive(Drop)]
+pub struct Follower {
+    /// The hub, and the answers that wait.
+    hub: Locked,
+    /// A hub that has made the steps of the journal that is followed.
+    given: ShortHub,
+    /// What comes after a divergence.
+    after: AfterDivergence,
+    /// The number of the step at which it diverged, if it did.
+    diverged: Option<u32>,
+}
+
+impl Model for Follower {
+    ghost use Rattle.hub_follow.specs.Follow.{FollowView, FollowKeeps, follow_view};
+
+    ghost Value = { FollowView };
+
+    ghost view = { λ l. follow_view l.hub l.given.memory.hub.journal l.after l.diverged };
+
+    ghost invariant = { λ l. FollowKeeps (follow_view l.hub l.given.memory.hub.journal l.after l.diverged) };
+}
+
+impl Follower {
+    /// A hub at which nothing has happened, that follows the journal of this text: its edition, number of processes and
+    /// steps. The hub has no limit but the greatest, `MOST_STEPS`.
+    ///
+    /// It is refused if the text is malformed, if one of its steps is not admitted, and if memory is refused: by `Text`,
+    /// `NotAdmitted` and `NoMemory`.
+    pub fn open(alloc: Global, text: &[u8], after: AfterDivergence) -> Result<Follower, ChainFault>
+        ensures ok { IfOk result (λ l. FollowsAnew text.now after l) }
+        ensures refused { IfErr result (IsNotLegal text.now) }
+    {
+        let given = read_hub(alloc, text)?;
+        let terms = given.terms();
+        let Ok(hub) = Hub::open(alloc, terms.head.procs, terms.limit, terms.head.edition) else {
+            return Err(ChainFault::NoMemory);
+        };
+        given.journal_is_legal();
+        Ok(Follower {
+            hub: Locked::of(hub),
+            given,
+            after,
+            diverged: None,
+        })
+    }
+
+    /// Makes a step that the hub's edition has, if it is the next of the journal, and gives its answer, as `Locked::step`
+    /// does. After a divergence, and once all of the journal is made, it makes any step, or none, as the opening said.
+    ///
+    /// A step of a process whose steps are not admitted now is refused as `Locked::step` refuses it.
+    pub fn step(&mut self, entry: &EntryRef<'_>) -> Result<Event, NotMade>
+        requires fits { is_of self.old.locked.hub.terms.head.edition entry.now.step ≡ true }
+        ensures rules { FollowsStep self.old entry.now self.new result }
+    {
+        if self.hub.refusal(entry.pid).is_some() {
+            return self.refuse(entry);
+        }
+        if self.diverged.is_some() {
+            return self.step_freely(entry);
+        }
+        match self.stand(entry) {
+            Stand::Next => self.step_next(entry),
+            Stand::Early => Err(NotMade::NotYet),
+            Stand::Other(number) => self.diverge(number),
+            Stand::Over => self.step_freely(entry),
+        }
+    }
+
+    /// How the step stands to the journal.
+    fn stand(&self, entry: &EntryRef<'_>) -> Stand
+        ensures { Stands self.now entry.now result }
+    {
+        let made = self.hub.len();
+        if made >= self.given.len() {
+            return Stand::Over;
+        }
+        match turn_from(&self.given, made, entry.pid) {
+            None => Stand::Early,
+            Some(place) if !is_at(&self.given, place, entry) => Stand::Other(place as u32 + 1),
+            Some(place) if place == made => Stand::Next,
+            Some(_) => Stand::Early,
+        }
+    }
+
+    /// The hub refuses the step.
+    fn refuse(&mut self, entry: &EntryRef<'_>) -> Result<Event, NotMade>
+        requires fits { is_of self.old.locked.hub.terms.head.edition entry.now.step ≡ true }
+        requires refused { ¬ IsAdmitted self.old entry.now }
+        ensures rules { FollowsStep self.old entry.now self.new result }
+    {
+        pass(&mut self.hub, entry)
+    }
+
+    /// Makes the next step of the journal.
+    fn step_next(&mut self, entry: &EntryRef<'_>) -> Result<Event, NotMade>
+        requires fits { is_of self.old.locked.hub.terms.head.edition entry.now.step ≡ true }
+        requires next { IsNext self.old entry.now }
+        ensures rules { FollowsStep self.old entry.now self.new result }
+    {
+        pass(&mut self.hub, entry)
+    }
+
+    /// Makes a step that is admitted, where the hub goes on freely, or else none.
+    fn step_freely(&mut self, entry: &EntryRef<'_>) -> Result<Event, NotMade>
+        requires fits { is_of self.old.locked.hub.terms.head.edition entry.now.step ≡ true }
+        requires admitted { IsAdmitted self.old entry.now }
+        requires free { IsFree self.old }
+        ensures rules { FollowsStep self.old entry.now self.new result }
+    {
+        let number = self.number();
+        match self.after {
+            AfterDivergence::Ends => self.diverge(number),
+            AfterDivergence::GoesOn => {
+                let answer = pass(&mut self.hub, entry)?;
+                self.diverged = Some(number);
+                Ok(answer)
+            }
+        }
+    }
+
+    /// The number of the step at which it diverged, or of the one behind the journal's last.
+    fn number(&self) -> u32
+        ensures { result ≡ number_of self.now }
+    {
+        match self.diverged {
+            Some(number) => number,
+            None => self.given.len() as u32 + 1,
+        }
+    }
+
+    /// It diverges at the step of this number.
+    fn diverge(&mut self, number: u32) -> Result<Event, NotMade>
+        ensures diverged { self.new ≡ diverged_at number self.old }
+        ensures told { result ≡ Err (Diverged number) }
+    {
+        self.diverged = Some(number);
+        Err(NotMade::Diverged(number))
+    }
+
+    /// Whose step is the next of the journal. None once it has diverged, and once all is made.
+    pub fn next(&self) -> Option<Pid>
+        ensures { result ≡ next_of self.now }
+    {
+        match (self.diverged, self.given.entry(self.hub.len())) {
+            (None, Some(entry)) => Some(entry.pid),
+            _ => None,
+        }
+    }
+
+    /// The number of the step at which it diverged, from 1, if it did. As long as it did not, what it has made is a
+    /// beginning of the journal that it follows.
+    pub fn diverged(&self) -> Option<u32>
+        ensures number { result ≡ self.now.diverged }
+        ensures begins { self.now.diverged ≡ None → IsBeginning self.now }
+    {
+        self.diverged
+    }
+
+    /// Takes out the answer that waits for a process, as `Locked::take` does.
+    pub fn take(&mut self, pid: Pid) -> Option<Event>
+        ensures answer { result ≡ answer_for self.old.locked.answers pid.0 }
+        ensures taken { self.new ≡ with_locked (without_answer self.old.locked pid.0) self.old }
+        ensures reply { IfSome result (IsReplyTo self.old.locked.hub.terms.head pid.0 self.old.locked.hub.journal) }
+        ensures none { IfNone result (self.new ≡ self.old) }
+    {
+        self.hub.take(pid)
+    }
+
+    /// The hub and the answers that wait, to look at.
+    pub fn locked(&self) -> &Locked
+        ensures { result.now ≡ self.now.locked }
+    {
+        &self.hub
+    }
+}

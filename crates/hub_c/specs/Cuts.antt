@@ -5,7 +5,7 @@ use Rattle.hub_core.specs.HubView.{ShortInMemory}
 use Rattle.hub_cut.specs.Recorder.{hub_in}
 use Rattle.hub_endless.specs.Endless.{CutsNow, EndlessView}
 use Rattle.hub_c.specs.declared.session.Opened.{Opened}
-use Rattle.hub_c.specs.declared.session.Opened.TheVariants.{Limited, Endless}
+use Rattle.hub_c.specs.declared.session.Opened.TheVariants.{Limited, Endless, Following}
 use Rattle.hub_c.specs.declared.session.Session.{Session}
 use Rattle.hub_c.specs.declared.structs.CutC.{CutC}
 use Rattle.hub_c.specs.Hubs.{is_there}
@@ -17,10 +17,11 @@ CutsOut hands_out was waited now waits true =
     (waited ≡ None) × CutsNow was now × (option_map hub_in waits ≡ held hands_out was.recorder.before)
 CutsOut hands_out was waited now waits false = (now ≡ was) × (waits ≡ waited)
 
--- the same of a hub as it was opened: one that ends at a limit is not cut
+-- the same of a hub as it was opened: only one that never ends is cut
 abbrev pub CutsHub : Bool → Opened → Option ShortInMemory → Opened → Option ShortInMemory → Bool → Type 0
 CutsHub hands_out (Endless was) waited (Endless now) waits cut = CutsOut hands_out was waited now waits cut
 CutsHub hands_out (Limited was) waited (Limited now) waits cut = (now ≡ was) × (waits ≡ waited) × (cut ≡ false)
+CutsHub hands_out (Following was) waited (Following now) waits cut = (now ≡ was) × (waits ≡ waited) × (cut ≡ false)
 CutsHub hands_out was waited now waits cut = ⊥
 
 -- a cut that C asked for, and whether it was made

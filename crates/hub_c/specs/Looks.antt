@@ -4,12 +4,15 @@ use Rattle.std.specs.Option.{option_map, option_map_or}
 use Rattle.hub_base.specs.Journal.{JournalView}
 use Rattle.hub_base.specs.Notation.{port}
 use Rattle.hub_cut.specs.declared.totals.Totals.{Totals}
+use Rattle.hub_follow.specs.Follow.{next_of}
+use Rattle.hub_c.specs.declared.session.Opened.{Opened}
+use Rattle.hub_c.specs.declared.session.Opened.TheVariants.{Following}
 use Rattle.hub_c.specs.declared.session.Session.{Session}
 use Rattle.hub_c.specs.declared.structs.CountsC.{CountsC}
 use Rattle.hub_c.specs.declared.structs.PieceC.{PieceC}
 use Rattle.hub_c.specs.Hubs.{IsLook, before_in, present_in, waiting_in}
 use Rattle.hub_c.specs.Pieces.{AreText, Reads, piece_in}
-use Rattle.hub_c.specs.Tells.{counts_told}
+use Rattle.hub_c.specs.Tells.{bit_of, counts_told}
 
 -- ---- a port
 -- what a look at a port shows
@@ -22,6 +25,15 @@ pub record LooksIn (s : Session) (p : ℕ) (told : CountsC) : Type 0 where
 abbrev pub Looks : Option Session → ℕ → CountsC → Type 0
 Looks None p told = told ≡ counts_told None
 Looks (Some s) p told = LooksIn s p told
+
+-- ---- whose step is next
+-- the bit of the process whose step is the next of the journal that the hub follows; 0 if there is none
+abbrev pub next_in : Opened → ℕ
+next_in (Following l) = option_map_or bit_of (next_of l) 0
+next_in other = 0
+
+abbrev pub next_bits : Option Session → ℕ
+next_bits s = option_map_or (λ s. next_in s.hub) s 0
 
 -- ---- journals
 -- the journal; of a hub that never ends, its present chapter

@@ -1,5 +1,5 @@
 -- What an opening leaves, and when it is refused.
-use Rattle.std.specs.Prelude.{◌≡◌, ◌<◌, ◌==◌, ℕ, Bool, false, [], Option, None, Some, if◌then◌else◌}
+use Rattle.std.specs.Prelude.{◌≡◌, ◌<◌, ◌==◌, ℕ, Bool, true, false, List, [], Option, None, Some, if◌then◌else◌}
 use Rattle.hub_base.specs.declared.head.Edition.{Edition}
 use Rattle.hub_base.specs.declared.head.Edition.TheVariants.{One, Two}
 use Rattle.hub_base.specs.Head.{IsHead, head_of}
@@ -10,10 +10,17 @@ use Rattle.hub_base.specs.declared.limits.TheConstants.{MOST_STEPS}
 use Rattle.hub_chapters.specs.Chapters.Chapters.{First}
 use Rattle.hub_cut.specs.Recorder.{IsKeep}
 use Rattle.hub_endless.specs.Endless.{EndlessView, Explains, NoneWaits}
+use Rattle.hub_chain.specs.declared.fault.ChainFault.{ChainFault}
+use Rattle.hub_chain.specs.Faults.{IsNotLegal}
+use Rattle.hub_follow.specs.declared.follower.AfterDivergence.{AfterDivergence}
+use Rattle.hub_follow.specs.declared.follower.AfterDivergence.TheVariants.{GoesOn, Ends}
+use Rattle.hub_follow.specs.Follow.{FollowView, FollowsAnew}
 use Rattle.hub_live.specs.Locked.{none_waits}
 use Rattle.hub_c.specs.declared.session.Opened.{Opened}
-use Rattle.hub_c.specs.declared.session.Opened.TheVariants.{Limited, Endless}
+use Rattle.hub_c.specs.declared.session.Opened.TheVariants.{Limited, Endless, Following}
 use Rattle.hub_c.specs.declared.session.Session.{Session}
+use Rattle.hub_c.specs.declared.structs.FollowC.{FollowC}
+use Rattle.hub_c.specs.Tells.{follow_refused}
 
 -- the edition of this number
 abbrev pub edition_of : ℕ → Option Edition
@@ -37,6 +44,12 @@ pub record IsOpenedEndless (edition : Edition) (procs keep : ℕ) (hands_out : B
   pub none : NoneWaits hub
   pub terms : hub.recorder.hub.terms ≡ terms_of edition procs MOST_STEPS
   pub keep_is : hub.recorder.keep ≡ keep
+
+-- a hub that follows the journal of this text, at which nothing has happened
+pub record IsOpenedFollowing (text : List ℕ) (after : AfterDivergence) (s : Session) : Type 0 where
+  pub hub : FollowView
+  pub anew : IsAnew (Following hub) false s
+  pub follows : FollowsAnew text after hub
 
 -- there is a hub of this edition, with so many processes and this limit
 pub record CanOpen (edition procs limit : ℕ) : Type 0 where
@@ -89,3 +102,23 @@ OpensSession edition procs limit (Some s) number = IsNew edition procs limit s �
 abbrev pub OpensEndless : ℕ → ℕ → ℕ → Bool → Option Session → ℕ → Type 0
 OpensEndless edition procs keep hands_out None number = IsRefusedEndless edition procs keep number
 OpensEndless edition procs keep hands_out (Some s) number = IsNewEndless edition procs keep hands_out s × (number ≡ 0)
+
+-- ---- a hub that follows a journal
+-- what comes after a divergence
+abbrev pub after_of : Bool → AfterDivergence
+after_of true = GoesOn
+after_of false = Ends
+
+-- the text is that of a legal journal, and this is a hub that follows it
+abbrev pub IsNewFollowing : List ℕ → Bool → Session → Type 0
+IsNewFollowing text goes_on s = IsOpenedFollowing text (after_of goes_on) s
+
+-- this is told of why it is not followed
+pub record NotFollowed (text : List ℕ) (told : FollowC) : Type 0 where
+  pub fault : ChainFault
+  pub why : IsNotLegal text fault
+  pub tells : told ≡ follow_refused fault
+
+abbrev pub OpensFollowing : List ℕ → Bool → Option Session → FollowC → Type 0
+OpensFollowing text goes_on None told = NotFollowed text told
+OpensFollowing text goes_on (Some s) told = IsNewFollowing text goes_on s × (told ≡ record { refusal = 0; line = 0 })

@@ -11,13 +11,15 @@ use Rattle.hub_chapters.specs.Chapters.{Chapters, history}
 use Rattle.hub_cut.specs.Recorder.{RefusesStep, begins, chapter_out, head_of_all, hub_in, out_or}
 use Rattle.hub_endless.specs.Endless.{EndlessView, Explains, ServesMade}
 use Rattle.hub_endless.specs.Endless as endless
+use Rattle.hub_follow.specs.declared.not_made.NotMade.{NotMade}
+use Rattle.hub_follow.specs.Follow.{FollowView, FollowsStep, with_locked}
 use Rattle.hub_live.specs.Locked.{IsReplyTo, ServesStep, answer_for, without_answer}
 use Rattle.hub_c.specs.declared.session.Opened.{Opened}
-use Rattle.hub_c.specs.declared.session.Opened.TheVariants.{Limited, Endless}
+use Rattle.hub_c.specs.declared.session.Opened.TheVariants.{Limited, Endless, Following}
 use Rattle.hub_c.specs.declared.session.Session.{Session}
 use Rattle.hub_c.specs.declared.structs.ToldC.{ToldC}
 use Rattle.hub_c.specs.Hubs.{ended_in, head_in, is_there}
-use Rattle.hub_c.specs.Tells.{answer_told, bad_call, bits_of, came_told}
+use Rattle.hub_c.specs.Tells.{answer_told, bad_call, bits_of, came_told, follow_told}
 
 -- chapters wait to be read where they are handed out; else they go
 abbrev pub held : {A : Type 0} → Bool → Option A → Option A
@@ -41,7 +43,7 @@ pub record ServesOut (hands_out : Bool) (was : EndlessView) (waited : Option Sho
   pub refused : IfErr came (λ f. RefusesOut was waited e f)
   pub unchanged : OnErr came ((now ≡ was) × (waits ≡ waited))
 
--- a step of a hub as it was opened
+-- a step of one of these
 abbrev pub ServesHub : Bool → Opened → Option ShortInMemory → Entry → Opened → Option ShortInMemory → Result Event Fault → Type 0
 ServesHub hands_out (Limited was) waited e (Limited now) waits came = ServesStep was e now came × (waits ≡ waited)
 ServesHub hands_out (Endless was) waited e (Endless now) waits came = ServesOut hands_out was waited e now waits came
@@ -54,9 +56,20 @@ pub record Serves (hands_out : Bool) (was : Opened) (waited : Option ShortInMemo
   pub serves : ServesHub hands_out was waited e now waits came
   pub tells : told ≡ came_told came (bits_of (ended_in now)) (is_there waits)
 
+-- a hub that follows a journal made the step or not, and that is told
+pub record ServesFollowing (was : FollowView) (e : Entry) (now : FollowView) (told : ToldC) : Type 0 where
+  pub came : Result Event NotMade
+  pub follows : FollowsStep was e now came
+  pub tells : told ≡ follow_told came (bits_of now.locked.ended)
+
+-- a step of a hub as it was opened
+abbrev pub ServesOpened : Bool → Opened → Option ShortInMemory → Entry → Opened → Option ShortInMemory → ToldC → Type 0
+ServesOpened hands_out (Following was) waited e (Following now) waits told = ServesFollowing was e now told × (waits ≡ waited)
+ServesOpened hands_out was waited e now waits told = Serves hands_out was waited e now waits told
+
 -- ---- a step of C
 pub record ServesIn (was : Session) (e : Entry) (now : Session) (told : ToldC) : Type 0 where
-  pub hub : Serves was.hands_out was.hub was.chapter e now.hub now.chapter told
+  pub hub : ServesOpened was.hands_out was.hub was.chapter e now.hub now.chapter told
   pub hands_out : now.hands_out ≡ was.hands_out
 
 -- nothing is done
@@ -92,6 +105,9 @@ TakesHub (Limited was) q (Limited now) answer =
 TakesHub (Endless was) q (Endless now) answer =
     (answer ≡ answer_for was.answers q) × (now ≡ endless.without_answer was q)
     × ((chapters : Chapters) → Explains chapters was → IfSome answer (IsReplyTo (head_of_all was.recorder) q (history chapters)))
+TakesHub (Following was) q (Following now) answer =
+    (answer ≡ answer_for was.locked.answers q) × (now ≡ with_locked (without_answer was.locked q) was)
+    × IfSome answer (IsReplyTo was.locked.hub.terms.head q was.locked.hub.journal)
 TakesHub was q now answer = ⊥
 
 -- it is told

@@ -12,7 +12,12 @@ use Rattle.hub_base.specs.declared.value.Pid.{Pid}
 use Rattle.hub_base.specs.Faults.{fault_number}
 use Rattle.hub_base.specs.Content.Content.{Num}
 use Rattle.hub_cut.specs.declared.totals.Totals.{Totals}
+use Rattle.hub_chain.specs.declared.fault.ChainFault.{ChainFault}
+use Rattle.hub_chain.specs.declared.fault.ChainFault.TheVariants as chain
+use Rattle.hub_follow.specs.declared.not_made.NotMade.{NotMade}
+use Rattle.hub_follow.specs.declared.not_made.NotMade.TheVariants.{Refused, NotYet, Diverged}
 use Rattle.hub_c.specs.declared.structs.CountsC.{CountsC}
+use Rattle.hub_c.specs.declared.structs.FollowC.{FollowC}
 use Rattle.hub_c.specs.declared.structs.ToldC.{ToldC}
 use Rattle.hub_c.specs.declared.structs.TheConstants as number
 use Rattle.hub_c.specs.Structs.{told_as, value_told}
@@ -76,10 +81,27 @@ abbrev pub came_told : Result Event faults.Fault → ℕ → Bool → ToldC
 came_told (Ok x) ended chapter = record (what_told x.what) { ended = ended; chapter = flag chapter }
 came_told (Err f) ended chapter = record (fault_told (fault_number f)) { chapter = flag chapter }
 
+-- the number of the journal's step at which the hub diverged
+abbrev pub diverged_told : ℕ → ToldC
+diverged_told step = record (fault_told number.DIVERGED) { value = told_as (Num step) }
+
+-- the same of a hub that follows a journal: 0 if the step's turn has not come
+abbrev pub follow_told : Result Event NotMade → ℕ → ToldC
+follow_told (Ok x) ended = came_told (Ok x) ended false
+follow_told (Err (Refused f)) ended = came_told (Err f) ended false
+follow_told (Err NotYet) ended = only_told 0
+follow_told (Err (Diverged step)) ended = diverged_told step
+
 -- an answer that waited, or 0
 abbrev pub answer_told : Option Event → ToldC
 answer_told None = only_told 0
 answer_told (Some x) = what_told x.what
+
+-- ---- why a journal is not followed
+abbrev pub follow_refused : ChainFault → FollowC
+follow_refused (chain.Text f) = record { refusal = number.MALFORMED; line = f.line }
+follow_refused (chain.NotAdmitted line f) = record { refusal = number.NOT_ADMITTED; line = line }
+follow_refused other = record { refusal = number.REFUSED_MEMORY; line = 0 }
 
 -- ---- what a look shows
 abbrev pub counts_told : Option Totals → CountsC

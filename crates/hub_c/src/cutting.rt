@@ -33,7 +33,7 @@ impl Session {
         ensures { CutsIn self.old self.new result }
     {
         let cut = match &mut self.hub {
-            Opened::Limited(_) => false,
+            Opened::Limited(_) | Opened::Following(_) => false,
             Opened::Endless(hub) => cut_endless(hub, &mut self.chapter, self.hands_out),
         };
         CutC {

@@ -7,6 +7,7 @@
 
 mod asking;
 mod cutting;
+mod following;
 mod hold;
 mod loose;
 mod opening;
@@ -19,18 +20,18 @@ mod telling;
 ghost use Rattle.std.specs.Prelude.{◌≡◌, None, Some};
 ghost use Rattle.hub_base.specs.Notation.{cancel, close, exit, make, recv};
 ghost use Rattle.hub_c.specs.Cuts.{Cuts, LetsGo};
-ghost use Rattle.hub_c.specs.Looks.{Looks, ReadsPiece, before_of, entries_of, present_of, waiting_of};
-ghost use Rattle.hub_c.specs.Opens.{OpensEndless, OpensSession};
+ghost use Rattle.hub_c.specs.Looks.{Looks, ReadsPiece, before_of, entries_of, next_bits, present_of, waiting_of};
+ghost use Rattle.hub_c.specs.Opens.{OpensEndless, OpensFollowing, OpensSession};
 ghost use Rattle.hub_c.specs.Steps.{Steps, Takes};
 ghost use Rattle.hub_c.specs.Structs.{call_of, is_true, send_of};
 
 use asking::is_true;
 use hold::HubC;
 use hub_base::{Pid, Port, Step};
-use opening::{open_box, open_endless_box};
+use opening::{open_box, open_endless_box, open_following_box};
 use reading::no_piece;
 use std::alloc::Global;
-use structs::{CaseC, CountsC, CutC, PieceC, ToldC, ValueC};
+use structs::{CaseC, CountsC, CutC, FollowC, PieceC, ToldC, ValueC};
 use telling::{counts_told, tell_bad_call};
 
 /// Opens a hub of this edition, 1 or 2, of 1 to `MOST_PROCS` processes, whose journal may hold 1 to `MOST_STEPS` steps, as
@@ -79,6 +80,35 @@ pub extern "C" fn hub_c_open_endless(
         Err(refusal) => {
             hub.end(alloc);
             refusal
+        }
+    }
+}
+
+/// Opens a hub that follows the journal of this text: its edition, number of processes and steps. A step is made only if it is
+/// the journal's next; if its turn may come later, `what` is 0, and the call is to be made again once a step was made. A step
+/// that is not its process's next is told by the fault `DIVERGED`, with the number of that next step, from 1, as the value.
+/// After that, and once all of the journal is made, the hub makes any step, or none, as `goes_on` says. It has no limit but
+/// `MOST_STEPS`. A hub that was held before ends.
+#[unsafe(no_mangle)]
+pub extern "C" fn hub_c_open_following(
+    alloc: Global,
+    hub: &mut HubC,
+    text: &[u8],
+    goes_on: u8,
+) -> FollowC
+    ensures { OpensFollowing text.now (is_true goes_on) hub.new.session result }
+{
+    match open_following_box(alloc, text, is_true(goes_on)) {
+        Ok(session) => {
+            hub.put_in(session);
+            FollowC {
+                refusal: 0,
+                line: 0,
+            }
+        }
+        Err(told) => {
+            hub.end(alloc);
+            told
         }
     }
 }
@@ -222,6 +252,21 @@ pub extern "C" fn hub_c_look(alloc: Global, hub: &mut HubC, port: u16) -> Counts
     let counts = session.look(port);
     hub.put_in(session);
     counts
+}
+
+/// The bit of the process whose step is the next of the journal that the hub follows. 0 once it has diverged, once all is made,
+/// and for a hub that follows none.
+#[unsafe(no_mangle)]
+pub extern "C" fn hub_c_next(alloc: Global, hub: &mut HubC) -> u64
+    ensures next { result ≡ next_bits hub.old.session }
+    ensures unchanged { hub.new.session ≡ hub.old.session }
+{
+    let Some(session) = hub.take_out(alloc) else {
+        return 0;
+    };
+    let next = session.next();
+    hub.put_in(session);
+    next
 }
 
 /// How many entries the journal has. Of a hub that never ends it is the present chapter.

@@ -2,16 +2,17 @@
 
 ghost use Rattle.std.specs.Prelude.{◌≡◌, IfOk, IfErr};
 ghost use Rattle.hub_core.specs.HubView.{open_fault_number};
-ghost use Rattle.hub_c.specs.Opens.{IsNew, IsNewEndless, IsRefusedEndless, IsRefusedSo, edition_of};
+ghost use Rattle.hub_c.specs.Opens.{IsNew, IsNewEndless, IsNewFollowing, IsRefusedEndless, IsRefusedSo, NotFollowed, after_of, edition_of};
+ghost use Rattle.hub_c.specs.Tells.{follow_refused};
 
 use crate::session::Session;
+use crate::structs::{FollowC, MALFORMED, NOT_ADMITTED, REFUSED_MEMORY};
 use hub_base::Edition;
+use hub_chain::ChainFault;
 use hub_core::OpenFault;
 use hub_cut::MOST_KEEP;
+use hub_follow::AfterDivergence;
 use std::alloc::Global;
-
-/// The number of refused memory, which `OpenFault::NoMemory` has too.
-const REFUSED_MEMORY: u8 = 3;
 
 /// A value that may be used by one thread and then by another.
 fn crossing<T: Send>(value: T) -> T
@@ -115,5 +116,65 @@ pub(crate) fn open_endless_box(
     match Box::new(alloc, session) {
         Ok(place) => Ok(crossing(place)),
         Err(_refused) => Err(REFUSED_MEMORY),
+    }
+}
+
+/// What comes after a divergence.
+fn after_of(goes_on: bool) -> AfterDivergence
+    ensures { result ≡ after_of goes_on }
+{
+    if goes_on {
+        AfterDivergence::GoesOn
+    } else {
+        AfterDivergence::Ends
+    }
+}
+
+/// What is told of a journal that is not followed.
+fn follow_refused(fault: ChainFault) -> FollowC
+    ensures { result ≡ follow_refused fault }
+{
+    match fault {
+        ChainFault::Text(fault) => FollowC {
+            refusal: MALFORMED,
+            line: fault.line,
+        },
+        ChainFault::NotAdmitted { line, fault: _ } => FollowC {
+            refusal: NOT_ADMITTED,
+            line,
+        },
+        _ => FollowC {
+            refusal: REFUSED_MEMORY,
+            line: 0,
+        },
+    }
+}
+
+/// A hub that follows the journal of this text, at which nothing has happened, or what is told of why there is none.
+#[inline(never)]
+fn open_following_session(alloc: Global, text: &[u8], goes_on: bool) -> Result<Session, FollowC>
+    ensures ok { IfOk result (λ s. IsNewFollowing text.now goes_on s) }
+    ensures err { IfErr result (λ told. NotFollowed text.now told) }
+{
+    match Session::open_following(alloc, text, after_of(goes_on)) {
+        Ok(session) => Ok(session),
+        Err(fault) => Err(follow_refused(fault)),
+    }
+}
+
+/// The same on the heap.
+#[inline(never)]
+pub(crate) fn open_following_box(
+    alloc: Global,
+    text: &[u8],
+    goes_on: bool,
+) -> Result<Box<Session>, FollowC>
+    ensures ok { IfOk result (λ b. IsNewFollowing text.now goes_on b.value) }
+    ensures err { IfErr result (λ told. NotFollowed text.now told) }
+{
+    let session = open_following_session(alloc, text, goes_on)?;
+    match Box::new(alloc, session) {
+        Ok(place) => Ok(crossing(place)),
+        Err(_refused) => Err(follow_refused(ChainFault::NoMemory)),
     }
 }

@@ -144,6 +144,7 @@ impl Opened {
         match self {
             Opened::Limited(hub) => hub.look(port).map(totals_since),
             Opened::Endless(hub) => hub.look(port),
+            Opened::Following(hub) => hub.locked().look(port).map(totals_since),
         }
     }
 
@@ -154,6 +155,7 @@ impl Opened {
         match self {
             Opened::Limited(hub) => hub.len(),
             Opened::Endless(hub) => hub.present().len(),
+            Opened::Following(hub) => hub.locked().len(),
         }
     }
 
@@ -164,6 +166,7 @@ impl Opened {
         match self {
             Opened::Limited(hub) => put_of_locked(piece, hub, number),
             Opened::Endless(hub) => put_of_chapter(piece, hub.present(), number),
+            Opened::Following(hub) => put_of_locked(piece, hub.locked(), number),
         }
     }
 
@@ -172,7 +175,7 @@ impl Opened {
         ensures { IfOk result (λ there. some_if there piece.new.items ≡ piece_in (before_in self.now) number) }
     {
         match self {
-            Opened::Limited(_) => Ok(false),
+            Opened::Limited(_) | Opened::Following(_) => Ok(false),
             Opened::Endless(hub) => put_of_any(piece, hub.before(), number),
         }
     }

@@ -5,12 +5,15 @@ ghost use Rattle.hub_base.specs.Head.{IsHead, head_of};
 ghost use Rattle.hub_base.specs.declared.limits.TheConstants.{MOST_STEPS};
 ghost use Rattle.hub_core.specs.HubView.{RefusesOpening, IsLimit, terms_of};
 ghost use Rattle.hub_cut.specs.Recorder.{IsKeep};
+ghost use Rattle.hub_chain.specs.Faults.{IsNotLegal};
 ghost use Rattle.hub_c.specs.Hubs.{head_in};
-ghost use Rattle.hub_c.specs.Opens.{IsAnew, IsOpened, IsOpenedEndless};
+ghost use Rattle.hub_c.specs.Opens.{IsAnew, IsOpened, IsOpenedEndless, IsOpenedFollowing};
 
 use hub_base::{Edition, Head};
+use hub_chain::ChainFault;
 use hub_core::{Hub, OpenFault, ShortHub};
 use hub_endless::EndlessHub;
+use hub_follow::{AfterDivergence, Follower};
 use hub_live::under_lock::Locked;
 use std::alloc::Global;
 
@@ -21,6 +24,8 @@ pub enum Opened {
     Limited(Locked),
     /// One that cuts itself.
     Endless(EndlessHub),
+    /// One that follows a journal.
+    Following(Follower),
 }
 
 impl Opened {
@@ -31,6 +36,7 @@ impl Opened {
         match self {
             Opened::Limited(locked) => locked.head(),
             Opened::Endless(endless) => endless.head(),
+            Opened::Following(follower) => follower.locked().head(),
         }
     }
 }
@@ -81,6 +87,19 @@ impl Session {
         // That there is such a number of processes is told where the head is shown.
         let _head = hub.present().head();
         Ok(Session::of(alloc, Opened::Endless(hub), hands_out))
+    }
+
+    /// A hub that follows the journal of this text, at which nothing has happened. Refused as `Follower::open` is.
+    pub(crate) fn open_following(
+        alloc: Global,
+        text: &[u8],
+        after: AfterDivergence,
+    ) -> Result<Session, ChainFault>
+        ensures ok { IfOk result (λ s. IsOpenedFollowing text.now after s) }
+        ensures err { IfErr result (λ f. IsNotLegal text.now f) }
+    {
+        let hub = Follower::open(alloc, text, after)?;
+        Ok(Session::of(alloc, Opened::Following(hub), false))
     }
 
     /// A hub, and no chapter that waits.

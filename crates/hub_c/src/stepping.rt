@@ -9,11 +9,12 @@ ghost use Rattle.hub_base.specs.declared.case.Case.TheVariants.{Send};
 ghost use Rattle.hub_cut.specs.Recorder.{head_of_all};
 ghost use Rattle.hub_c.specs.Hubs.{head_in};
 ghost use Rattle.hub_c.specs.declared.session.Opened.TheVariants.{Endless};
-ghost use Rattle.hub_c.specs.Steps.{Serves, ServesIn, StepsIn, StepsSaid, TakesHub, TakesIn, held};
+ghost use Rattle.hub_c.specs.Steps.{Serves, ServesIn, ServesOpened, StepsIn, StepsSaid, TakesHub, TakesIn, held};
 ghost use Rattle.hub_c.specs.Structs.{call_of, send_of, value_in};
 ghost use Rattle.hub_c.specs.Tells.{bits_of};
 
 use crate::asking::{are_cases, case_in, is_case, is_true, is_value, put_cases, value_in};
+use crate::following::step_following;
 use crate::session::{Opened, Session};
 use crate::structs::{CaseC, ToldC, ValueC};
 use crate::telling::{bits_of, tell_bad_call, tell_made, tell_nothing, tell_refused, tell_what};
@@ -37,7 +38,7 @@ fn entry_by(pid: u8, step: StepRef<'_>) -> EntryRef<'_>
 
 /// The bits of the processes whose calls the last step ended. Mostly it ended none, and then their list is not copied.
 #[inline(always)]
-fn bits_ended(hub: &Locked) -> u64
+pub(crate) fn bits_ended(hub: &Locked) -> u64
     ensures { result ≡ bits_of hub.now.ended }
 {
     if hub.has_ended() {
@@ -106,7 +107,7 @@ impl Opened {
         told: &mut ToldC,
     )
         requires fits { is_of (head_in self.old).edition entry.now.step ≡ true }
-        ensures { Serves hands_out self.old out.old entry.now self.new out.new told.new }
+        ensures { ServesOpened hands_out self.old out.old entry.now self.new out.new told.new }
     {
         match self {
             Opened::Limited(hub) => match hub.step(entry) {
@@ -114,6 +115,7 @@ impl Opened {
                 Err(fault) => tell_refused(fault, out.is_some(), told),
             },
             Opened::Endless(hub) => step_endless(hub, out, hands_out, entry, told),
+            Opened::Following(hub) => step_following(hub, entry, told),
         }
     }
 
@@ -124,6 +126,7 @@ impl Opened {
         match self {
             Opened::Limited(locked) => locked.take(Pid(pid)),
             Opened::Endless(hub) => hub.take(Pid(pid)),
+            Opened::Following(hub) => hub.take(Pid(pid)),
         }
     }
 }

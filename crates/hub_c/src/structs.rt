@@ -29,6 +29,15 @@ pub const CANCELLED: u8 = 11;
 
 /// The fault of what is not asked of a hub, or not of one of its edition. The numbers below it are those of `Fault`.
 pub const BAD_CALL: u8 = 13;
+/// The fault of a step that the journal that is followed has not: the hub has diverged from it.
+pub const DIVERGED: u8 = 14;
+
+/// A journal is not followed, since memory is refused. It is the number of `OpenFault::NoMemory`.
+pub const REFUSED_MEMORY: u8 = 3;
+/// A journal is not followed, since its text is malformed.
+pub const MALFORMED: u8 = 5;
+/// A journal is not followed, since one of its steps is not admitted.
+pub const NOT_ADMITTED: u8 = 6;
 
 /// There is no such piece of a text: the last one stands before it.
 pub const NO_PIECE: u8 = 0;
@@ -69,7 +78,7 @@ pub struct CaseC {
 #[repr(C)]
 #[derive(Clone, Copy)]
 pub struct ToldC {
-    /// What is told, `MADE` to `CANCELLED`; 0 where no answer waits.
+    /// What is told, `MADE` to `CANCELLED`; 0 where no answer waits, and where a step's turn has not come.
     pub what: u8,
     /// The number of the fault.
     pub fault: u8,
@@ -77,7 +86,7 @@ pub struct ToldC {
     pub index: u8,
     /// The port that was made.
     pub port: u16,
-    /// The value that was received.
+    /// The value that was received; with `DIVERGED` the number of the journal's step.
     pub value: ValueC,
     /// A bit for each process whose call the step ended, the lowest for process 0.
     pub ended: u64,
@@ -119,4 +128,14 @@ pub struct CutC {
     pub cut: bool,
     /// Whether a chapter waits to be read.
     pub chapter: bool,
+}
+
+/// What an opening of a hub that follows a journal came to.
+#[repr(C)]
+#[derive(Clone, Copy)]
+pub struct FollowC {
+    /// 0 if it was opened, else what refused it: `REFUSED_MEMORY`, `MALFORMED` or `NOT_ADMITTED`.
+    pub refusal: u8,
+    /// The journal's first line that is malformed or not admitted, from 1; else 0.
+    pub line: u32,
 }

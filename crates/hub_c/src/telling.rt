@@ -5,11 +5,11 @@ ghost use Rattle.hub_base.specs.Content.{padded};
 ghost use Rattle.hub_base.specs.Content.Content.{Num};
 ghost use Rattle.hub_base.specs.Value.{content, number_in};
 ghost use Rattle.hub_c.specs.Structs.{told_as, value_told};
-ghost use Rattle.hub_c.specs.Tells.{bad_call, bit_of, bits_of, came_told, counts_told, fault_told, only_told, outcome_told, what_told};
+ghost use Rattle.hub_c.specs.Tells.{bad_call, bit_of, bits_of, came_told, counts_told, diverged_told, fault_told, only_told, outcome_told, what_told};
 
 use crate::structs::{
-    BAD_CALL, CANCELLED, CLOSED, CountsC, DEFAULT, DONE, DRAINED, FAULT, GOT, MADE, PARKED, SENT,
-    STALLED, ToldC, ValueC,
+    BAD_CALL, CANCELLED, CLOSED, CountsC, DEFAULT, DIVERGED, DONE, DRAINED, FAULT, GOT, MADE,
+    PARKED, SENT, STALLED, ToldC, ValueC,
 };
 use hub_base::{Event, Fault, MOST_PROCS, MOST_VALUE_BYTES, Outcome, Pid, Value, What};
 use hub_cut::Totals;
@@ -88,7 +88,15 @@ pub(crate) fn tell_bad_call(told: &mut ToldC)
     tell_fault(BAD_CALL, told);
 }
 
-/// Tells that no answer waits.
+/// Tells the number of the step at which the hub diverged from the journal that it follows.
+pub(crate) fn tell_diverged(step: u32, told: &mut ToldC)
+    ensures { told.new ≡ diverged_told step }
+{
+    tell_fault(DIVERGED, told);
+    told.value.number = step.into();
+}
+
+/// Tells that no answer waits, or that a step's turn has not come.
 pub(crate) fn tell_nothing(told: &mut ToldC)
     ensures { told.new ≡ only_told 0 }
 {
@@ -145,7 +153,7 @@ pub(crate) fn tell_what(what: &What, told: &mut ToldC)
 
 /// The bit of a process.
 #[inline(always)]
-fn bit_of(pid: Pid) -> u64
+pub(crate) fn bit_of(pid: Pid) -> u64
     ensures { result ≡ bit_of pid }
 {
     if usize::from(pid.0) < MOST_PROCS {

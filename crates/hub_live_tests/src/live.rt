@@ -8,6 +8,7 @@ use std::fmt::Debug;
 use std::process::Abort;
 
 mod endless;
+mod following;
 mod locked;
 mod one_thread;
 mod refusals;

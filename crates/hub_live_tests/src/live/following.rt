@@ -1,0 +1,154 @@
+//! A hub that follows a journal: which steps wait for their turn, which are a divergence, and which journals are refused.
+
+use super::{Ask, DONE, MADE, PARKED, SENT, Told, answer, entry_of};
+use crate::compare::same;
+use hub_base::{Entry, Event, Fault, Kind, Pid, TextFault};
+use hub_chain::ChainFault;
+use hub_follow::{AfterDivergence, Follower, NotMade};
+use std::alloc::Global;
+use std::process::Abort;
+
+/// Process 1 waits for the value that process 0 sends, and then process 0 closes the port.
+const JOURNAL: &[u8] = b"chanhub journal 2\nprocs 2\n0 make 0\n1 recv 1\n0 send 1 9\n0 close 1\n";
+
+/// What happens at the hub.
+#[derive(Clone, Copy)]
+enum Row {
+    /// The process makes a step, and is told.
+    Asks(u8, Ask, Told),
+    /// The step's turn has not come.
+    Waits(u8, Ask),
+    /// The step is a divergence from the journal's step of this number.
+    Diverges(u8, Ask, u32),
+    /// This answer waits for the process, and is taken.
+    Takes(u8, Told),
+    /// Whose step is next.
+    Next(Option<Pid>),
+    /// The number of the step at which it has diverged.
+    Diverged(Option<u32>),
+}
+
+/// How the hub, whose edition must have the step, answers it.
+fn ask(rt: &impl Abort, hub: &mut Follower, entry: &Entry) -> Result<Event, NotMade> {
+    assert!(rt; entry.fits(hub.locked().head().edition));
+    hub.step(&entry.by_slice())
+}
+
+/// How a step is answered that the hub makes or refuses.
+fn told_as(pid: u8, told: Told) -> Result<Event, NotMade> {
+    match answer(Pid(pid), told) {
+        Ok(event) => Ok(event),
+        Err(fault) => Err(NotMade::Refused(fault)),
+    }
+}
+
+fn follow_row(rt: &impl Abort, hub: &mut Follower, row: Row, place: usize) {
+    match row {
+        Row::Asks(pid, asked, told) => {
+            let found = ask(rt, hub, &entry_of(pid, asked));
+            same(rt, found, told_as(pid, told), place);
+        }
+        Row::Waits(pid, asked) => {
+            let found = ask(rt, hub, &entry_of(pid, asked));
+            same(rt, found, Err(NotMade::NotYet), place);
+        }
+        Row::Diverges(pid, asked, number) => {
+            let found = ask(rt, hub, &entry_of(pid, asked));
+            same(rt, found, Err(NotMade::Diverged(number)), place);
+        }
+        Row::Takes(pid, told) => {
+            let taken = hub.take(Pid(pid)).ok_or(Fault::NotParked);
+            same(rt, taken, answer(Pid(pid), told), place);
+        }
+        Row::Next(pid) => same(rt, hub.next(), pid, place),
+        Row::Diverged(number) => same(rt, hub.diverged(), number, place),
+    }
+}
+
+/// Each step is made in its turn, until process 0 receives where it closed; then any step is made.
+const GOES_ON: &[Row] = &[
+    Row::Next(Some(Pid(0))),
+    Row::Waits(1, Ask::Recv),
+    Row::Asks(0, Ask::Make(0), MADE),
+    Row::Next(Some(Pid(1))),
+    Row::Waits(0, Ask::Send(9)),
+    Row::Asks(1, Ask::Recv, PARKED),
+    Row::Asks(1, Ask::Recv, Told::Refused(Fault::Busy)),
+    Row::Asks(0, Ask::Send(9), SENT),
+    Row::Takes(1, Told::Got(9)),
+    Row::Waits(1, Ask::Exit),
+    Row::Next(Some(Pid(0))),
+    Row::Diverged(None),
+    Row::Diverges(0, Ask::Exit, 4),
+    Row::Diverged(Some(4)),
+    Row::Next(None),
+    Row::Asks(1, Ask::Exit, DONE),
+    Row::Asks(0, Ask::Close, DONE),
+];
+
+/// The journal ends, and what follows it is a divergence. The hub then makes no step.
+const ENDS: &[Row] = &[
+    Row::Asks(0, Ask::Make(0), MADE),
+    Row::Asks(1, Ask::Recv, PARKED),
+    Row::Asks(0, Ask::Send(9), SENT),
+    Row::Asks(0, Ask::Close, DONE),
+    Row::Next(None),
+    Row::Diverged(None),
+    Row::Diverges(1, Ask::Exit, 5),
+    Row::Diverges(0, Ask::Close, 5),
+];
+
+/// The first step is another one.
+const ENDS_AT_ONCE: &[Row] = &[
+    Row::Diverges(0, Ask::Make(1), 1),
+    Row::Diverges(0, Ask::Make(0), 1),
+    Row::Diverges(1, Ask::Recv, 1),
+];
+
+/// Process 0 makes a step after its exit, in line 4.
+const GONE: &[u8] = b"chanhub journal 2\nprocs 1\n0 exit\n0 make 1\n";
+
+/// Line 3 is no step.
+const NO_STEP: &[u8] = b"chanhub journal 2\nprocs 1\n0 makes 1\n";
+
+fn tell(rt: &impl Abort, alloc: Global, after: AfterDivergence, rows: &[Row]) {
+    match Follower::open(alloc, JOURNAL, after) {
+        Ok(hub) => {
+            let mut hub = hub;
+            for (place, row) in rows.iter().enumerate() {
+                follow_row(rt, &mut hub, *row, place);
+            }
+        }
+        Err(fault) => same(rt, Some(fault), None, "opening"),
+    }
+}
+
+/// Why a journal is not followed.
+fn refusal_of(alloc: Global, text: &[u8]) -> Option<ChainFault> {
+    match Follower::open(alloc, text, AfterDivergence::Ends) {
+        Ok(_hub) => None,
+        Err(fault) => Some(fault),
+    }
+}
+
+#[test]
+fn journals_are_followed(rt: HostRuntime) {
+    tell(&rt, rt.alloc(), AfterDivergence::GoesOn, GOES_ON);
+    tell(&rt, rt.alloc(), AfterDivergence::Ends, ENDS);
+    tell(&rt, rt.alloc(), AfterDivergence::Ends, ENDS_AT_ONCE);
+    let gone = ChainFault::NotAdmitted {
+        line: 4,
+        fault: Fault::Gone,
+    };
+    same(&rt, refusal_of(rt.alloc(), GONE), Some(gone), "gone");
+    let no_step = ChainFault::Text(TextFault {
+        line: 3,
+        kind: Kind::BadStep,
+    });
+    same(
+        &rt,
+        refusal_of(rt.alloc(), NO_STEP),
+        Some(no_step),
+        "no step",
+    );
+}

@@ -8,12 +8,14 @@ use Rattle.hub_base.specs.Entry.{Entry}
 use Rattle.hub_base.specs.declared.event.Event.{Event}
 use Rattle.hub_base.specs.declared.fault.Fault.{Fault}
 use Rattle.hub_base.specs.declared.fault.Fault.TheVariants as fault
+use Rattle.hub_base.specs.declared.limits.TheConstants.{MOST_BYTES}
 use Rattle.hub_base.specs.Runs.{moves, state}
 use Rattle.hub_base.specs.Steps.{refusal}
 use Rattle.hub_base.specs.Text.{one_step, steps_of}
 use Rattle.hub_laws.specs.Journals.{IsLegal}
 use Rattle.hub_laws.proofs.Journals.{begins-law}
 use Rattle.hub_laws.proofs.Totals.{take_next}
+use Rattle.hub_core.specs.declared.terms.Terms.{Terms}
 use Rattle.hub_core.specs.HubView.{HubView, IsFullFor, Refuses, opened_hub, with_entry}
 use Rattle.hub_live.specs.Locked.{LockedView, Serves, ServesStep, none_waits}
 use Rattle.hub_chain.specs.Chains.{MakesText}
@@ -217,21 +219,24 @@ other l e number admitted following stands =
 
 -- ---- the opening
 
-abbrev Opens : List ℕ → FollowView → Type 0
-Opens text l = FollowKeeps l × FollowsAnew text l.after l
+-- what a hub keeps at which nothing has happened
+pub keeps_opened : (after : AfterDivergence) (given : HubView) (locked : LockedView) → IsLegal given.terms.head given.journal
+    → steps_of given.journal ≤ given.terms.limit → length given.journal ≤ MOST_BYTES → locked ≡ none_waits (opened_hub given.terms)
+    → FollowKeeps (follow_view locked given.journal after None)
+keeps_opened after given locked legal room few is =
+    subst (λ (l : LockedView). FollowKeeps (follow_view l given.journal after None)) (sym is)
+    (record { legal = legal; room = room; few = few; begins = λ none. refl })
 
-pub opened : (text : List ℕ) (after : AfterDivergence) (given : HubView) (locked : LockedView) → MakesText text given
-    → steps_of given.journal ≤ given.terms.limit → locked ≡ none_waits (opened_hub given.terms)
-    → Opens text (follow_view locked given.journal after None)
-opened text after given locked makes room is =
-    subst (λ (l : LockedView). Opens text (follow_view l given.journal after None)) (sym is) (
-      record { legal = makes.legal; room = room; few = makes.few; begins = λ none. refl },
-      record {
-        spelled = makes.spelled;
-        legal = makes.legal;
-        limit = makes.limit;
-        nothing = refl;
-        after_is = refl;
-        none = refl;
-      },
-    )
+-- what is told of it
+pub opened : (text : List ℕ) (after : AfterDivergence) (given : HubView) (l : FollowView) → MakesText text given
+    → l.locked ≡ none_waits (opened_hub given.terms) → l.given ≡ given.journal → l.after ≡ after → l.diverged ≡ None → FollowsAnew text after l
+opened text after given l makes is same after_is none =
+    let terms : l.locked.hub.terms ≡ given.terms = ap (λ (k : LockedView). k.hub.terms) is in
+    record {
+      spelled = rw (terms, same) makes.spelled;
+      legal = rw (terms, same) makes.legal;
+      limit = ap (λ (t : Terms). t.limit) terms ∙ makes.limit;
+      nothing = is ∙ ap (λ (t : Terms). none_waits (opened_hub t)) (sym terms);
+      after_is = after_is;
+      none = none;
+    }

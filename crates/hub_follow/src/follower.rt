@@ -7,12 +7,13 @@ ghost use Rattle.std.specs.Prelude.{◌≡◌, ◌<◌, ◌≤◌, ◌==◌, ◌
 ghost use Rattle.std.specs.List.{position_from};
 ghost use Rattle.hub_base.specs.Head.{is_of};
 ghost use Rattle.hub_base.specs.declared.limits.TheConstants.{MOST_BYTES};
-ghost use Rattle.hub_live.specs.Locked.{IsReplyTo, answer_for, without_answer};
+ghost use Rattle.hub_core.specs.HubView.{opened_hub};
+ghost use Rattle.hub_live.specs.Locked.{IsReplyTo, answer_for, none_waits, without_answer};
 ghost use Rattle.hub_chain.specs.Faults.{IsNotLegal};
 ghost use Rattle.hub_follow.specs.Follow.{FollowsAnew, FollowsStep, IsAdmitted, IsBeginning, IsFree, IsNext, diverged_at, next_of, number_of, with_locked};
 ghost use Rattle.hub_follow.specs.Stands.{Passes, Stands};
 ghost use Rattle.hub_follow.specs.Stands.{is_of as is_entry_of};
-ghost use Rattle.hub_follow.specs.declared.not_made.NotMade.TheVariants.{Diverged};
+ghost use Rattle.hub_follow.specs.declared.not_made.NotMade.TheVariants.{Diverged, NotYet};
 
 use crate::NotMade;
 use hub_base::{EntryRef, Event, Pid};
@@ -117,6 +118,7 @@ impl Follower {
     ///
     /// It is refused if the text is malformed, if one of its steps is not admitted, and if memory is refused: by `Text`,
     /// `NotAdmitted` and `NoMemory`.
+    #[tactic(auto, using(crate::proofs::Keeping::opened))]
     pub fn open(alloc: Global, text: &[u8], after: AfterDivergence) -> Result<Follower, ChainFault>
         ensures ok { IfOk result (λ l. FollowsAnew text.now after l) }
         ensures refused { IfErr result (IsNotLegal text.now) }
@@ -126,13 +128,25 @@ impl Follower {
         let Ok(hub) = Hub::open(alloc, terms.head.procs, terms.limit, terms.head.edition) else {
             return Err(ChainFault::NoMemory);
         };
+        Ok(Follower::of(hub, given, after))
+    }
+
+    /// This hub, at which nothing has happened, follows the journal of that one.
+    fn of(hub: Hub, given: ShortHub, after: AfterDivergence) -> Follower
+        requires anew { hub.hub ≡ opened_hub given.memory.hub.terms }
+        requires few { length given.memory.hub.journal ≤ MOST_BYTES }
+        ensures locked { result.locked ≡ none_waits hub.hub }
+        ensures given { result.given ≡ given.memory.hub.journal }
+        ensures after { result.after ≡ after }
+        ensures none { result.diverged ≡ None }
+    {
         given.journal_is_legal();
-        Ok(Follower {
+        Follower {
             hub: Locked::of(hub),
             given,
             after,
             diverged: None,
-        })
+        }
     }
 
     /// Makes a step that the hub's edition has, if it is the next of the journal, and gives its answer, as `Locked::step`
@@ -151,7 +165,7 @@ impl Follower {
         }
         match self.stand(entry) {
             Stand::Next => self.step_next(entry),
-            Stand::Early => Err(NotMade::NotYet),
+            Stand::Early => self.not_yet(),
             Stand::Other(number) => self.diverge(number),
             Stand::Over => self.step_freely(entry),
         }
@@ -217,6 +231,14 @@ impl Follower {
             Some(number) => number,
             None => self.given.len() as u32 + 1,
         }
+    }
+
+    /// The step's turn has not come.
+    fn not_yet(&mut self) -> Result<Event, NotMade>
+        ensures unchanged { self.new ≡ self.old }
+        ensures told { result ≡ Err NotYet }
+    {
+        Err(NotMade::NotYet)
     }
 
     /// It diverges at the step of this number.

@@ -8,7 +8,8 @@ returns-in-Early c =
     let l = c.args.self.now in
     let admitted : IsAdmitted l c.args.entry.now = search rules in
     let following : l.diverged ≡ None = search rules in
-    record { rules = early l c.args.entry.now (subst FollowKeeps c.self.view_is c.self.invariant) admitted following c.in-Early.ensures }
+    let keeps = subst FollowKeeps c.self.view_is c.self.invariant in
+    record { rules = rw (c.not_yet.ensures.unchanged, c.not_yet.ensures.told) (early l c.args.entry.now keeps admitted following c.in-Early.ensures) }
 
 pub returns-in-Other : goal.returns-in-Other
 returns-in-Other c =

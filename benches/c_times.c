@@ -12,6 +12,8 @@
 #include <string.h>
 #include <time.h>
 
+enum { PORTS = 4, CREW = 4 };
+
 static chanhub *hub;
 static unsigned long count;
 static pthread_barrier_t start;
@@ -28,36 +30,75 @@ static void want(int is_so) {
     exit(1);
 }
 
-static void send(unsigned pid, unsigned long i) { want(chanhub_send(hub, pid, 1, chanhub_number(i)).what == CHANHUB_SENT); }
+static void send(unsigned pid, unsigned port, unsigned long i) { want(chanhub_send(hub, pid, port, chanhub_number(i)).what == CHANHUB_SENT); }
 
-static void receive(unsigned pid, unsigned long i) {
-    chanhub_told told = chanhub_recv(hub, pid, 1);
-    want(told.what == CHANHUB_GOT && told.value.number == i);
+static chanhub_told receive(unsigned pid, unsigned port) {
+    chanhub_told told = chanhub_recv(hub, pid, port);
+    want(told.what == CHANHUB_GOT);
+    return told;
 }
 
-/* Process 1 receives what process 0 sends; both begin at one signal. */
-static void *receives(void *unused) {
+/* Receives from whichever port has a value, and begins to look at another each time. */
+static void receive_any(unsigned pid, unsigned long i) {
+    chanhub_case cases[PORTS] = { { .port = 1 }, { .port = 2 }, { .port = 3 }, { .port = 4 } };
+    want(chanhub_select(hub, pid, cases, PORTS, false, i).what == CHANHUB_GOT);
+}
+
+/* What the thread of one process does: so many calls on this port, or on all of them if it has none. */
+struct task {
+    unsigned pid, port;
+    bool sends;
+    unsigned long calls;
+};
+
+static void *works(void *pointer) {
+    const struct task *task = pointer;
     pthread_barrier_wait(&start);
-    for (unsigned long i = 0; i < count / 2; i++) receive(1, i);
-    return unused;
+    for (unsigned long i = 0; i < task->calls; i++) {
+        if (task->sends) send(task->pid, task->port, i);
+        else if (task->port) receive(task->pid, task->port);
+        else receive_any(task->pid, i);
+    }
+    return NULL;
 }
 
-static double two_threads(void) {
-    pthread_t thread;
-    want(pthread_barrier_init(&start, NULL, 2) == 0 && pthread_create(&thread, NULL, receives, NULL) == 0);
+/* The seconds that these tasks take, each in a thread, which begin at one signal. */
+static double crew(struct task *tasks, unsigned size) {
+    pthread_t threads[2 * CREW];
+    want(pthread_barrier_init(&start, NULL, size + 1) == 0);
+    for (unsigned i = 0; i < size; i++) want(pthread_create(&threads[i], NULL, works, &tasks[i]) == 0);
     pthread_barrier_wait(&start);
     double begun = now();
-    for (unsigned long i = 0; i < count / 2; i++) send(0, i);
-    want(pthread_join(thread, NULL) == 0);
+    for (unsigned i = 0; i < size; i++) want(pthread_join(threads[i], NULL) == 0);
     return now() - begun;
+}
+
+/* Process 1 receives what process 0 sends. */
+static double two_threads(void) {
+    struct task tasks[] = { { .pid = 0, .port = 1, .sends = true, .calls = count / 2 }, { .pid = 1, .port = 1, .calls = count / 2 } };
+    return crew(tasks, 2);
+}
+
+/* Four processes receive what four send. */
+static double four_to_four(void) {
+    struct task tasks[2 * CREW];
+    for (unsigned i = 0; i < 2 * CREW; i++) tasks[i] = (struct task){ .pid = i, .port = 1, .sends = i % 2, .calls = count / (2 * CREW) };
+    return crew(tasks, 2 * CREW);
+}
+
+/* One process receives from four ports, on each of which another sends. */
+static double select_over_four(void) {
+    struct task tasks[CREW + 1] = { { .pid = 0, .calls = count / 2 } };
+    for (unsigned i = 1; i <= CREW; i++) tasks[i] = (struct task){ .pid = i, .port = i, .sends = true, .calls = count / (2 * CREW) };
+    return crew(tasks, CREW + 1);
 }
 
 /* One thread fills a part of the buffer and empties it again. */
 static double one_thread(void) {
     double begun = now();
     for (unsigned long i = 0; i < count / 2; i += 100) {
-        for (unsigned long k = i; k < i + 100; k++) send(0, k);
-        for (unsigned long k = i; k < i + 100; k++) receive(0, k);
+        for (unsigned long k = i; k < i + 100; k++) send(0, 1, k);
+        for (unsigned long k = i; k < i + 100; k++) want(receive(0, 1).value.number == k);
     }
     return now() - begun;
 }
@@ -68,7 +109,7 @@ static double looks(void) {
     return now() - begun;
 }
 
-static const char first_lines[] = "chanhub journal 1\nprocs 2\n0 make 1024\n0 send 1 0\n";
+static const char first_lines[] = "chanhub journal 1\nprocs 8\n0 make 1024\n0 send 1 0\n";
 
 /* The seconds that a byte of the text takes, so often as there are calls. */
 static double journal(void) {
@@ -82,15 +123,23 @@ static double journal(void) {
     return taken * (double)count / (double)length;
 }
 
-static const struct { const char *name; uint32_t capacity; double (*run)(void); } workloads[] = {
-    { "hand_overs", 0, two_threads }, { "buffered", 1024, two_threads }, { "alone", 1024, one_thread },
-    { "look", 1024, looks }, { "journal", 1024, journal },
+struct workload {
+    const char *name;
+    unsigned ports;
+    uint32_t capacity;
+    double (*run)(void);
 };
 
-static double rate(uint32_t capacity, double (*run)(void)) {
-    want(chanhub_open(&hub, 1, 2, 1000000) == 0);
-    want(chanhub_make(hub, 0, capacity).what == CHANHUB_MADE);
-    double taken = run();
+static const struct workload workloads[] = {
+    { "hand_overs", 1, 0, two_threads }, { "buffered", 1, 1024, two_threads }, { "one_to_one", 1, 64, two_threads },
+    { "four_to_four", 1, 64, four_to_four }, { "select_over_four", PORTS, 16, select_over_four }, { "alone", 1, 1024, one_thread },
+    { "look", 1, 1024, looks }, { "journal", 1, 1024, journal },
+};
+
+static double rate(const struct workload *w) {
+    want(chanhub_open(&hub, 1, 2 * CREW, 1000000) == 0);
+    for (unsigned i = 0; i < w->ports; i++) want(chanhub_make(hub, 0, w->capacity).what == CHANHUB_MADE);
+    double taken = w->run();
     chanhub_free(hub);
     return (double)count / taken;
 }
@@ -108,7 +157,7 @@ int main(int argc, char **argv) {
     if (!rates || !runs || count % 200) return 2;
     for (size_t w = 0; w < sizeof workloads / sizeof *workloads; w++) {
         if (argc > 3 && strcmp(argv[3], workloads[w].name) != 0) continue;
-        for (size_t i = 0; i < runs; i++) rates[i] = rate(workloads[w].capacity, workloads[w].run);
+        for (size_t i = 0; i < runs; i++) rates[i] = rate(&workloads[w]);
         qsort(rates, runs, sizeof *rates, by_size);
         printf("%s best %.0f median %.0f\n", workloads[w].name, rates[runs - 1], (rates[(runs - 1) / 2] + rates[runs / 2]) / 2);
     }

@@ -42,7 +42,9 @@ enum {
 };
 
 enum {
-    TRIES = 40,           /* how often a thread tries to take the lock before it sleeps for it */
+    TRIES = 30,           /* how often a thread tries to take the lock before it sleeps for it */
+    FIRST_PAUSE = 2,      /* how long it pauses before the next try, in turns of the processor; twice as long each time */
+    LONGEST_PAUSE = 64,
     LOOKS = 1000,         /* how often a thread looks for its answer before it sleeps */
     LOOKS_TAKE = 10000,   /* nanoseconds, roughly */
     MOST_VAIN = 7,        /* after so many looks in vain, those left out grow no more */
@@ -84,7 +86,6 @@ struct chanhub {
     atomic_uint sleepers;       /* how many threads sleep for the lock */
     uint32_t limit;             /* the most steps that are no exits; 0 where the hub never ends */
     uint32_t exits;             /* how many processes have exited */
-    bool has_buffer;            /* whether any port may have one */
     bool waits;                 /* whether a chapter waits in the hub; the thread that claimed it hands it out */
     bool handing;               /* whether a chapter is being handed out */
     uint64_t taken;             /* how many chapters were taken out of the hub */
@@ -263,11 +264,13 @@ static chanhub_told fault(uint8_t number) {
 
 /* ---- The lock. ---- */
 
-/* Takes the lock while another thread has it. Mostly that thread lets go before this one could sleep. */
+/* Takes the lock while another thread has it. Mostly that thread lets go before this one could sleep. The pauses between the tries grow,
+ * since tries hinder the thread that has it. */
 static void wait_for_lock(chanhub *h) {
-    for (int i = 1; i < TRIES; i++) {
-        __builtin_ia32_pause();
+    for (int i = 0, pauses = FIRST_PAUSE; i < TRIES; i++) {
+        for (int k = 0; k < pauses; k++) __builtin_ia32_pause();
         if (pthread_mutex_trylock(&h->lock) == 0) return;
+        if (pauses < LONGEST_PAUSE) pauses *= 2;
     }
     h->sleepers++;
     pthread_mutex_lock(&h->lock);
@@ -323,10 +326,10 @@ static uint64_t deadline_of(const chanhub *h, unsigned pid) {
     return h->timed & only(pid) ? h->places[pid].deadline : FOR_EVER;
 }
 
-/* Whether a wait until this time begins with looks. They pay if no port has a buffer, since answers then come soon. After
- * each that was in vain twice as many waits go without. Holds the lock. */
-static bool begins_with_looks(const chanhub *h, struct place *mine, uint64_t end) {
-    if (h->has_buffer || (end != FOR_EVER && end < chanhub_in(LOOKS_TAKE))) return false;
+/* Whether a wait until this time begins with looks, since most answers come soon. After each that was in vain twice as many waits go
+ * without. Holds the lock. */
+static bool begins_with_looks(struct place *mine, uint64_t end) {
+    if (end != FOR_EVER && end < chanhub_in(LOOKS_TAKE)) return false;
     if (mine->sleeps == 0) return true;
     mine->sleeps--;
     return false;
@@ -370,7 +373,7 @@ static chanhub_told wait_until(chanhub *h, unsigned pid, uint64_t end) {
     chanhub_told t = { 0 };
     bool has_time = true;
     h->awaited |= only(pid);
-    if (begins_with_looks(h, mine, end)) {
+    if (begins_with_looks(mine, end)) {
         look_for_wake(h, mine);
         t = pick_up(h, pid);
     }
@@ -701,7 +704,6 @@ chanhub_told chanhub_make(chanhub *h, unsigned pid, uint32_t cap) {
     if (is_bad(h, pid, 0)) return fault(CHANHUB_BAD_CALL);
     uint8_t why = enter(h, pid);
     if (why) return fault(why);
-    if (cap) h->has_buffer = true;
     STEP(h, pid, &t, hub_c_make(&h->hub, (uint8_t)pid, cap, &t));
     return finish(h, (uint8_t)pid, &t, FOR_EVER);
 }

@@ -5,6 +5,7 @@ use crate::hub::{Case, LiveHub, Pid, Port, Step, What};
 use crate::value::Value as Number;
 use std::ffi::{CString, c_char, c_int, c_uint};
 use std::fmt::Write;
+use std::slice;
 
 #[repr(C)]
 #[derive(Default)]
@@ -23,6 +24,23 @@ pub struct Told {
     index: u8,
     port: u16,
     value: Value,
+}
+
+#[repr(C)]
+pub struct CaseC {
+    sends: bool,
+    port: u16,
+    value: Value,
+}
+
+impl From<&CaseC> for Case {
+    fn from(case: &CaseC) -> Case {
+        if case.sends {
+            Case::Send(case.port, Number::number(case.value.number))
+        } else {
+            Case::Recv(case.port)
+        }
+    }
 }
 
 #[repr(C)]
@@ -124,6 +142,29 @@ pub unsafe extern "C" fn chanhub_recv(hub: *const LiveHub, pid: c_uint, port: c_
     let case = Case::Recv(port as Port);
     unsafe { &*hub }
         .step(pid as Pid, Step::call(&[case], false, 0))
+        .into()
+}
+
+/// # Safety
+/// See above; there are at most 16 cases.
+#[unsafe(no_mangle)]
+pub unsafe extern "C" fn chanhub_select(
+    hub: *const LiveHub,
+    pid: c_uint,
+    cases: *const CaseC,
+    count: usize,
+    has_default: bool,
+    word: u64,
+) -> Told {
+    let mut given = [Case::Recv(0); 16];
+    for (place, case) in given
+        .iter_mut()
+        .zip(unsafe { slice::from_raw_parts(cases, count) })
+    {
+        *place = case.into();
+    }
+    unsafe { &*hub }
+        .step(pid as Pid, Step::call(&given[..count], has_default, word))
         .into()
 }
 

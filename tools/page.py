@@ -260,32 +260,37 @@ class Data:
         return "=" + json.dumps(numbers, separators=(",", ":")) + "\n</script>\n" + "".join(line + "\n" for line in self.whole(exits, waited))
 
     def whole(self, exits, waited):
-        yield '<section id="whole">'
-        yield f"<h2>The whole</h2><p>{counted(self.count, 'step')} of {self.procs} processes on {counted(len(self.ports), 'port')}. {counted(self.waits, 'call')} waited.</p>"
+        counts = f"{counted(self.count, 'step')} of {self.procs} processes on {counted(len(self.ports), 'port')}"
+        yield f'<section id="whole">\n<h2>The whole</h2><p>{counts}. {counted(self.waits, "call")} waited.</p>'
+        yield from self.deadlocks()
+        yield "<h3>The longest waits</h3>"
+        yield from list_of(wait_text(*wait) for wait in sorted(self.longest, key=lambda wait: wait[:2], reverse=True))
+        yield from self.waiters()
+        yield "<h3>Ports</h3>"
+        heads = ["shown", "room", "sent", "got", "left", "most", "full for"]
+        yield from table_of(heads, (self.port_row(number, port) for number, port in enumerate(self.ports, 1)))
+        yield f"<h3>Processes</h3>\n<p>{ORDER} {shown_as('all')}</p>"
+        rows = ([lane_name(lane, self.procs), self.asked[lane], waited[lane], link_to(exits[lane]), shown_as(lane)] for lane in range(len(exits)))
+        yield from table_of(["", "steps", "waited", "exit", "shown"], rows)
+        yield "</section>"
+
+    def deadlocks(self):
         yield f"<h3>{counted(self.stall_count, 'deadlock')}</h3>"
         if self.stall_count > 1 + MOST_STALLS:
             yield f"<p>The first one and the last {MOST_STALLS}:</p>"
-        yield from list_of(f"{link(by)} stalls {', '.join(f'P{step.pid}' for step in stalled)}" for by, stalled in [*self.first_stalls, *self.last_stalls])
-        yield "<h3>The longest waits</h3>"
-        yield from list_of(
-            f"{who(step)} waited {counted(steps, 'step')}, " + (f"until {who(by)}" if by else "to the end") for steps, _, step, by in sorted(self.longest, key=lambda wait: wait[:2], reverse=True))
-        yield from self.waiters()
-        yield "<h3>Ports</h3>"
-        yield from table_of(["shown", "room", "sent", "got", "left", "most", "full for"], (self.port_row(number, port) for number, port in enumerate(self.ports, 1)))
-        yield "<h3>Processes</h3>"
-        yield f"<p>{ORDER} {shown_as('all')}</p>"
-        yield from table_of(["", "steps", "waited", "exit", "shown"], ([lane_name(lane, self.procs), self.asked[lane], waited[lane], link_to(exits[lane]), shown_as(lane)] for lane in range(len(exits))))
-        yield "</section>"
+        for by, stalled in [*self.first_stalls, *self.last_stalls]:
+            yield f"<p>{link(by)} stalls {', '.join(f'P{step.pid}' for step in stalled)}</p>"
 
     def waiters(self):
         """Who waits to the end; folded where there are many."""
-        if not self.waiting:
-            return
-        yield f"<details{' open' if len(self.waiting) <= FEW else ''}><summary>{counted(len(self.waiting), 'call')} {'waits' if len(self.waiting) == 1 else 'wait'} to the end</summary>"
-        yield from list_of(f"{who(step)} waits{cases_text(step)}" for step in self.waiting.values())
-        yield "<h3>Who was there last</h3>"
-        yield from table_of(["port", "sent by", "received by"], ([number, *map(who, movers)] for number, *movers in self.last_movers(self.waiting.values())))
-        yield "</details>"
+        calls = list(self.waiting.values())
+        if calls:
+            are_few = " open" if len(calls) <= FEW else ""
+            yield f"<details{are_few}><summary>{counted(len(calls), 'call')} {'waits' if len(calls) == 1 else 'wait'} to the end</summary>"
+            yield from list_of(f"{who(step)} waits{cases_text(step)}" for step in calls)
+            yield "<h3>Who was there last</h3>"
+            yield from table_of(["port", "sent by", "received by"], ([number, *map(who, movers)] for number, *movers in self.last_movers(calls)))
+            yield "</details>"
 
     def port_row(self, number, port):
         name = f"{number}{'' if port.closed is None else ' closed'}"
@@ -316,13 +321,13 @@ def who(step):
     return f"P{step.pid}, {link(step)}" if step else "nobody"
 
 
+def wait_text(steps, _, step, by):
+    return f"{who(step)} waited {counted(steps, 'step')}, " + (f"until {who(by)}" if by else "to the end")
+
+
 def cases_text(step):
-    texts = [f"send {spelled(case[2])} on port {case[1]}" if case[0] == "s" else f"receive from port {case[1]}" for case in step.cases]
+    texts = [f"send {case[2]} on port {case[1]}" if case[0] == "s" else f"receive from port {case[1]}" for case in step.cases]
     return " to " + " or to ".join(texts) if texts else ""
-
-
-def spelled(value):
-    return str(value)
 
 
 def lane_name(lane, procs):

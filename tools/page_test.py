@@ -40,7 +40,6 @@ VIEWER_LINES, VIEWER_WIDTH = 600, 160
 MILLION, MOST_OPENING, MOST_VIEW = 1000000, 3, 0.25
 LONG = [(101, 3000), (102, 3000), (103, 2000)]  # seeds of longer journals, and how many steps they have
 WIDTH, HEIGHT = 1440, 860
-NAMES = {"sent": "s", "got": "r"}
 COLOURS = "paper text dim rule grey edge trouble on words link h0 h1 h2 h3 h4 h5 h6 h7".split()
 
 # keeps each call to a canvas, with the colours that it has then

@@ -834,6 +834,28 @@ def check_million(browser, count, work):
         height = browser.value("page.view.place.get(0).height") - 2
         whole = waits / ((browser.value("page.view.width") - 108) * height * 0.8)
         count.test(f"process 0 waits half of the time, in {share} of them: {whole:.3f}", abs(whole - 0.5) < 0.02)
+    check_strip(browser, count, steps)
+
+
+def check_strip(browser, count, steps):
+    """What the strip tells of a page of a million steps, in which of two processes one waits half of the time; and where calls stalled."""
+    browser.value("window.drawn = []; page.layOut()")
+    colour = browser.value("((pen) => (name) => (pen.fillStyle = page.painter.colour(name), pen.fillStyle))(document.createElement('canvas').getContext('2d'))('h1')")
+    calls = [Call(*call) for call in browser.value("window.drawn") if call[0] == "strip" and call[1] == "fillRect"]
+    waits = sum(call.words[2] * call.words[3] for call in calls if call.fill == colour) / WIDTH / 32
+    count.test(f"the strip tells that a quarter waits: {waits:.3f}", abs(waits - 0.25) < 0.01)
+    browser.value(f"page.view.show({steps} * 0.25, {steps} * 0.5); page.paint()")
+    left, width = browser.value("(({ left, width }) => [left, width])(document.getElementById('window').getBoundingClientRect())")
+    count.test("the strip tells what is in view", close((left / WIDTH, width / WIDTH), (0.25, 0.5), 0.01), (left, width))
+
+
+def check_stall_marks(browser, count, work):
+    journal = picture.Journal(WORKERS.encode())
+    open_page(browser, WORKERS, work / "workers.html")
+    browser.value("window.drawn = []; page.layOut()")
+    calls = [Call(*call) for call in browser.value("window.drawn") if call[0] == "strip" and call[1] == "fillRect" and call[2][1] == 16]
+    wanted = [(float(by * WIDTH // len(journal.lines)),) for by in sorted({by for by, _, _ in journal.stalls})]
+    count.test("the strip marks stalls", close([call.words[0] for call in calls], [at for at, in wanted]), (calls, wanted))
 
 
 def check_viewer(count):
@@ -906,6 +928,7 @@ def main():
         open_page(browser, PIPE, path)
         for check in check_follow, check_mouse, check_lanes, check_keys, check_links, check_contrasts:
             count.run(check.__name__, lambda: check(browser, count, path))
+        count.run("stalls in the strip", lambda: check_stall_marks(browser, count, work))
         count.run("bytes that HTML would take for its own", lambda: check_nasty(browser, count, work))
         count.run("bytes a step", lambda: check_bytes(count, work))
         browser.ask("Page.navigate", url="about:blank")

@@ -384,6 +384,25 @@ def open_page(browser, text, path):
     browser.open(path)
 
 
+def check_waiting(browser, journal):
+    """How many processes wait in each column of the strip."""
+    browser.value("window.drawn = []; page.layOut()")
+    colour = browser.value("((pen) => (pen.fillStyle = page.painter.colour('h1'), pen.fillStyle))(document.createElement('canvas').getContext('2d'))")
+    drawn = [Call(*call).words for call in browser.value("window.drawn") if call[0] == "strip" and call[1] == "fillRect" and call[3] == colour]
+    asked, total = journal.asked(), len(journal.lines)
+    waits = [(one.place, one.ended.by if one.ended else total) for one in asked if one.ended is None or one.ended.by > one.place]
+    wanted = []
+    for x in range(0, WIDTH, 2):
+        first, end = x * total / WIDTH, (x + 2) * total / WIDTH
+        height = 32 / journal.procs * sum(max(0, min(until, end) - max(since, first)) for since, until in waits) / (end - first)
+        wanted += [(x, 48 - height, 2, height)] if height > 0.2 else []
+    assert len(drawn) == len(wanted) and all(close(map_floats(one), map_floats(other), 0.01) for one, other in zip(drawn, wanted)), f"{drawn[:3]} and not {wanted[:3]}"
+
+
+def map_floats(numbers):
+    return [float(number) for number in numbers]
+
+
 def check_random(browser, count, work, seed):
     text = RandomJournal(seed, 0).text()
     journal = picture.Journal(text.encode())
@@ -397,6 +416,7 @@ def check_random(browser, count, work, seed):
             check_shapes(drawn, journal, *at)
 
         count.run(f"random journal {seed}, {steps} steps from {first + 1} on", test)
+    count.run(f"strip of random journal {seed}", lambda: check_waiting(browser, journal))
     count.run(f"data of random journal {seed}", lambda: check_data(text, journal))
     count.run(f"search in random journal {seed}", lambda: check_search(browser, journal))
 

@@ -74,10 +74,9 @@ class Block {
     }
     readItem(place, item) {
         const [, first, letter, second, third] = /^(\d*)(\D)(\d*)\D?(\d*)$/.exec(item), number = Number(second), call = place - first;
-        const back = (steps) => (steps > 0 ? place - steps : null);
         if (letter === ":") return this.levels.push({ port: Number(first), from: place, count: number });
         if (letter === ">") return this.stall(place).guesses.push([Number(first), number]);
-        if (letter === "L") return this.stall(place).last.push([Number(first), back(second), back(third)]);
+        if (letter === "L") return this.stall(place).last.push([Number(first), ...[second, third].map((back) => (back > 0 ? place - back : null))]);
         if (letter === "S") this.stall(place).calls.push(call);
         if (letter === "g") this.receivers.set(place - third, call);
         this.ends.set(call, { by: place, letter, number, sender: place - third });

@@ -48,8 +48,7 @@ class Page {
         byId("whole").hidden = this.chosen !== null;
         this.draw();
     }
-    // What is set: which processes and ports are shown and how, what is to be found, the light
-    change({ target: { id, dataset: { process, port }, value, checked } }) {
+    changeSetting({ target: { id, dataset: { process, port }, value, checked } }) {
         const { lanes, hidden } = this.view, { waits } = this.journal;
         if (port) hidden[checked ? "delete" : "add"](Number(port));
         if (id === "order") lanes.sort((one, other) => (value === "by number" ? 0 : waits[other.pid] - waits[one.pid]) || one.pid - other.pid);

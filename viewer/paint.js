@@ -25,9 +25,8 @@ class Painter {
             const exit = journal.exits[pid] ?? Infinity, label = pid < journal.procs ? `P${pid}` : "unknown";
             return [line(y, pid < journal.procs ? view.x(exit) : 0), name(height > FOLDED ? label : "", y, exit < view.first)];
         });
-        const strips = view.strips().map((port, row) => [port, view.floor(row)]).flatMap(([port, floor]) =>
-            [name(`port ${port}`, floor - 8), line(floor, view.width), line(floor - STRIP + 8, view.width, "full")]);
-        return [...lanes, ...strips];
+        return lanes.concat(view.strips().map((port, row) => [port, view.floor(row)]).flatMap(([port, floor]) =>
+            [name(`port ${port}`, floor - 8), line(floor, view.width), line(floor - STRIP + 8, view.width, "full")]));
     }
     shapes() {
         const { view } = this, stalls = view.stalls(), rect = ({ title, ...more }, told = title) => node("rect", more, node("title", {}, told));
@@ -137,11 +136,14 @@ class Painter {
         const { journal } = this, { procs, stalls } = journal, count = Math.max(1, journal.steps), width = canvas.parentElement.clientWidth;
         const x = (step) => Math.floor(step / scale), scale = count / width, lanes = numbers(0, procs);
         this.begin(canvas, width, 54);
-        const waiting = (first, end) => lanes.reduce((sum, lane) => sum + journal.share("waited", lane, first, end), 0) / procs;
+        const calls = count > MOST_SHAPES ? [] : journal.stepsOf(0, journal.steps).filter((call) => call.waits);
+        const overlap = (call, first, end) => Math.max(0, Math.min(call.end.by, end) - Math.max(call.place, first)) / (end - first);
+        const each = calls.length ? (first, end) => calls.map((call) => overlap(call, first, end))
+            : (first, end) => lanes.map((lane) => journal.share("waited", lane, first, end));
+        const waiting = (first, end) => each(first, end).reduce((sum, share) => sum + share, 0) / procs;
         this.fillColumns("h1", 0, width, 48, (column) => 32 * waiting(column * scale, (column + COLUMN) * scale), 1);
         for (const place of stalls) this.fill("trouble", x(place), 16, Math.max(2, x(1)), 32);
         for (const column of new Set(found.map(x))) this.fill("on", column, 48, 2, 6);
-        this.pen.fillStyle = this.colour("dim");
-        this.pen.fillText(`how many of ${procs} wait${stalls.length ? "; orange: deadlocks" : ""}`, 6, 11);
+        Object.assign(this.pen, { fillStyle: this.colour("dim") }).fillText(`how many of ${procs} wait${stalls.length ? "; orange: deadlocks" : ""}`, 6, 11);
     }
 }

@@ -669,9 +669,8 @@ static chanhub_told wait_for(chanhub *h, unsigned pid, uint64_t nanoseconds) {
  * chapter that it made fall out, sees to the clock, and where it parked, waits for so many nanoseconds. Holds the lock since the step, and
  * leaves it. */
 static chanhub_told finish_by_waking(chanhub *h, uint8_t pid, const struct told *t, uint64_t nanoseconds) {
-    chanhub_told answer = t->it;
     uint64_t ended = t->ended;
-    bool has_parked = answer.what == CHANHUB_WAITING;
+    bool has_parked = t->it.what == CHANHUB_WAITING;
     if (has_parked) h->open |= only(pid);
     note_ended(h, ended);
     bool claimed = claims_chapter(h, t->chapter);
@@ -681,7 +680,7 @@ static chanhub_told finish_by_waking(chanhub *h, uint8_t pid, const struct told 
         if (claimed) hand_out(h, pid);
         settle_clock(h, pid);
     }
-    if (has_parked) answer = wait_for(h, pid, nanoseconds);
+    chanhub_told answer = has_parked ? wait_for(h, pid, nanoseconds) : t->it;
     leave_lock(h);
     wake(h, ended);
     return answer;

@@ -16,6 +16,10 @@
  * passes first, the thread that waits for it has the clock cancel it. Once the last such call has ended, the clock is due to wait again:
  * in the next step under the same lock, unless a chapter has to be handed out before. If the clock waits later, no stall is missed, since
  * the hub looks for one at each call that parks. While the clock is awake, a call first looks whether it is due.
+ *
+ * A hub that follows a journal makes a step only in its turn. A call whose turn has not come waits at its place. After each step the
+ * thread that made it wakes the process whose step is next; once there is none, since the hub has diverged or all is made, it wakes all.
+ * If the hub ends then, each call is told so, also those that wait for an answer.
  */
 #define _POSIX_C_SOURCE 200809L /* for the monotonic clock */
 #include "chanhub.h"
@@ -86,6 +90,11 @@ struct chanhub {
     atomic_uint sleepers;       /* how many threads sleep for the lock */
     uint32_t limit;             /* the most steps that are no exits; 0 where the hub never ends */
     uint32_t exits;             /* how many processes have exited */
+    bool follows;               /* whether it follows a journal, so that a step may have to wait for its turn */
+    bool goes_on;               /* whether it goes on when it has diverged from that */
+    bool asks_again;            /* whether a call whose turn has not come is told so */
+    uint64_t turns;             /* whose calls wait for their turn */
+    atomic_uint_least64_t end;  /* the number of the step at which it ended, since it diverged there; else 0 */
     bool waits;                 /* whether a chapter waits in the hub; the thread that claimed it hands it out */
     bool handing;               /* whether a chapter is being handed out */
     uint64_t taken;             /* how many chapters were taken out of the hub */
@@ -169,10 +178,41 @@ static int start_clock(chanhub **hub, uint8_t clock) {
     return 3;
 }
 
+/* The number at a place of a text, of which at most two digits count. */
+static unsigned number_at(const char *text) {
+    unsigned first = (unsigned)(text[0] - '0');
+    return text[1] == '\n' ? first : 10 * first + (unsigned)(text[1] - '0');
+}
+
+/* Whether the head lines of a journal, which is well formed, say what the options do. Returns what differs, or 0. */
+static int differs(const chanhub_options *o) {
+    static const char edition_line[] = "chanhub journal E\n", procs_line[] = "procs ";
+    const char *edition = o->journal + sizeof edition_line - 3, *procs = edition + 2 + sizeof procs_line - 1;
+    if (o->procs && o->procs != number_at(procs)) return 1;
+    return o->edition && o->edition != number_at(edition) ? 4 : 0;
+}
+
+/* Opens a hub that follows the journal of the options. */
+static int open_following(chanhub **hub, const chanhub_options *o) {
+    if (o->limit || o->keep || o->chapters || o->clock) return 7;
+    chanhub *h = calloc(1, sizeof *h);
+    if (!h) return 3;
+    struct followed f = hub_c_open_following(&h->hub, (const uint8_t *)o->journal, o->journal_length, o->goes_on);
+    if (o->journal_line) *o->journal_line = f.line;
+    int why = f.refusal ? f.refusal : differs(o);
+    if (why) hub_c_end(&h->hub);
+    h->limit = MOST_STEPS;
+    h->follows = true;
+    h->goes_on = o->goes_on;
+    h->asks_again = o->asks_again;
+    return opened(hub, h, why);
+}
+
 int chanhub_open_with(chanhub **hub, const chanhub_options *options) {
     const chanhub_options *o = options;
     unsigned edition = o->edition ? o->edition : 2, procs = o->procs;
     *hub = NULL;
+    if (o->journal) return open_following(hub, o);
     if (o->clock && (procs < 1 || procs >= MOST_PROCS)) return 1;
     if (o->clock && edition == 1) return 4;
     if (o->keep ? o->limit != 0 : o->chapters != NULL) return 2;
@@ -180,70 +220,6 @@ int chanhub_open_with(chanhub **hub, const chanhub_options *options) {
     int why = o->keep ? chanhub_open_endless(hub, edition, procs, o->keep, o->chapters, o->pointer)
                       : chanhub_open(hub, edition, procs, o->limit ? o->limit : MOST_STEPS);
     return why || !o->clock ? why : start_clock(hub, (uint8_t)o->procs);
-}
-
-/* ---- Texts. ---- */
-
-#define TEXT_OF(number) #number
-#define VERSION_OF(major, minor) TEXT_OF(major) "." TEXT_OF(minor)
-
-const char *chanhub_version(void) {
-    return VERSION_OF(CHANHUB_VERSION_MAJOR, CHANHUB_VERSION_MINOR);
-}
-
-/* The text with this number in a table of so many. */
-static const char *text_at(const char *const *texts, size_t count, int number) {
-    bool is_there = number >= 0 && (size_t)number < count && texts[number];
-    return is_there ? texts[number] : "a number that chanhub.h does not define";
-}
-
-const char *chanhub_strerror(int error) {
-    static const char *const texts[] = {
-        "no error",
-        "the number of processes must be between 1 and 64, or 63 with a clock",
-        "the step limit must be between 1 and 1,000,000, or the number of steps to keep between 1 and 900,000",
-        "out of memory",
-        "the edition must be 1 or 2, and 2 with a clock",
-    };
-    return text_at(texts, sizeof texts / sizeof *texts, error);
-}
-
-const char *chanhub_strfault(int fault) {
-    static const char *const texts[] = {
-        "no fault",
-        [CHANHUB_NO_PROCESS] = "no such process",
-        [CHANHUB_GONE] = "the process has exited",
-        [CHANHUB_BUSY] = "a call of the process is still open",
-        [CHANHUB_TOO_MANY_CASES] = "more than 8 cases in edition 1",
-        [CHANHUB_NO_PORT] = "no such port",
-        [CHANHUB_BAD_CAP] = "the capacity is above 1,024",
-        [CHANHUB_TOO_MANY_PORTS] = "the hub already has 64 ports",
-        [CHANHUB_NIL_CLOSE] = "close of port 0",
-        [CHANHUB_ALREADY_CLOSED] = "close of a closed port",
-        [CHANHUB_JOURNAL_FULL] = "the hub has reached its step limit",
-        [CHANHUB_NO_MEMORY] = "out of memory",
-        [CHANHUB_NOT_PARKED] = "the process has no waiting call",
-        [CHANHUB_BAD_CALL] = "no hub, a number out of range, more than 16 cases or 32 bytes, or a call that needs edition 2 or a clock",
-    };
-    return text_at(texts, sizeof texts / sizeof *texts, fault);
-}
-
-const char *chanhub_what_name(int what) {
-    static const char *const names[] = {
-        [CHANHUB_MADE] = "made",
-        [CHANHUB_SENT] = "sent",
-        [CHANHUB_GOT] = "got",
-        [CHANHUB_DRAINED] = "drained",
-        [CHANHUB_CLOSED] = "closed",
-        [CHANHUB_DEFAULT] = "default",
-        [CHANHUB_DONE] = "done",
-        [CHANHUB_WAITING] = "parked",
-        [CHANHUB_STALLED] = "stalled",
-        [CHANHUB_FAULT] = "fault",
-        [CHANHUB_CANCELLED] = "cancelled",
-        [CHANHUB_TIMED_OUT] = "timed out",
-    };
-    return text_at(names, sizeof names / sizeof *names, what);
 }
 
 /* ---- Values and answers. ---- */
@@ -256,6 +232,10 @@ chanhub_value chanhub_bytes(const void *bytes, size_t length) {
     chanhub_value value = { .is_bytes = true, .length = (uint8_t)(length > MOST_BYTES ? MOST_BYTES + 1 : length) };
     if (length && length <= MOST_BYTES) memcpy(value.bytes, bytes, length);
     return value;
+}
+
+static inline bool is_bad(const chanhub *h, unsigned pid, unsigned port) {
+    return !h || pid > GREATEST_PID || port > GREATEST_PORT;
 }
 
 static chanhub_told fault(uint8_t number) {
@@ -358,10 +338,18 @@ static bool sleep_until(chanhub *h, struct place *mine, uint64_t end) {
     return why != ETIMEDOUT;
 }
 
+/* What a call is told that the hub does not carry out for this reason. */
+static chanhub_told refused(const chanhub *h, uint8_t why) {
+    chanhub_told t = fault(why);
+    if (why == CHANHUB_DIVERGED) t.value.number = h->end;
+    return t;
+}
+
 /* Picks up the answer of the open call of this process. Its kind is 0 where there is none. Holds the lock. */
 static chanhub_told pick_up(chanhub *h, unsigned pid) {
     struct told t = { 0 };
     hub_c_take(&h->hub, (uint8_t)pid, &t);
+    if (!t.it.what && h->end) t.it = refused(h, CHANHUB_DIVERGED);
     if (t.it.what) h->open &= ~only(pid);
     return t.it;
 }
@@ -464,12 +452,82 @@ static void wait_for_room(chanhub *h, unsigned pid) {
     end_pause(h, pause);
 }
 
-/* Whether the step that came to this is to be made again, since there was no room for another chapter. There may be when this returns,
- * unless another thread was faster. Holds the lock, but not while it waits. */
-static inline bool is_to_be_made_again(chanhub *h, unsigned pid, const struct told *t) {
-    if (!t->chapter || t->it.fault != CHANHUB_NO_MEMORY) return false;
+/* ---- Turns in the journal that a hub follows. Each of these holds the lock, but not while it waits. ---- */
+
+/* Waits, in a call of this process, until its turn may have come, at latest until the end: then it says no. */
+static bool wait_for_turn(chanhub *h, unsigned pid, uint64_t end) {
+    struct pause pause = begin_pause(h, pid);
+    bool has_time = true;
+    h->turns |= only(pid);
+    while (h->turns & only(pid) && has_time) has_time = sleep_until(h, &h->places[pid], end);
+    h->turns &= ~only(pid);
+    end_pause(h, pause);
+    return has_time;
+}
+
+/* Wakes the process whose step is next, or all if there is none. Then a hub that goes on no longer follows. */
+static void wake_turns(chanhub *h) {
+    uint64_t next = hub_c_next(&h->hub), woken = next ? h->turns & next : h->turns;
+    if (!next && h->goes_on) h->follows = false;
+    h->turns &= ~woken;
+    wake(h, woken);
+}
+
+/* The hub ends at the step of this number. */
+static void end_at(chanhub *h, uint64_t number) {
+    if (!h->end) h->end = number;
+    h->watched = EVERYBODY;
+    wake(h, h->turns | h->awaited);
+    h->turns = 0;
+}
+
+/* Whether a step whose turn has not come is to be made again: then waits for that. Otherwise says why not. */
+static bool waits_for_turn(chanhub *h, unsigned pid, struct told *t) {
+    if (h->end || h->asks_again) {
+        t->it = refused(h, h->end ? CHANHUB_DIVERGED : CHANHUB_NOT_YET);
+        return false;
+    }
+    wait_for_turn(h, pid, FOR_EVER);
+    return true;
+}
+
+/* Whether the step that came to this is to be made again, since its turn had not come. Otherwise sees to the others. */
+static bool follow(chanhub *h, unsigned pid, struct told *t) {
+    if (!t->it.what) return waits_for_turn(h, pid, t);
+    wake_turns(h);
+    if (t->it.fault == CHANHUB_DIVERGED && !h->goes_on) end_at(h, t->it.value.number);
+    return false;
+}
+
+bool chanhub_turn(chanhub *h, unsigned pid, uint64_t nanoseconds) {
+    if (is_bad(h, pid, 0)) return true;
+    uint64_t end = chanhub_in(nanoseconds), next;
+    bool has_time = true;
+    take_lock(h);
+    while ((next = h->follows && !h->end ? hub_c_next(&h->hub) & ~only(pid) : 0) && has_time) has_time = wait_for_turn(h, pid, end);
+    leave_lock(h);
+    return !next;
+}
+
+void chanhub_stop(chanhub *h) {
+    if (!h) return;
+    take_lock(h);
+    if (h->follows) end_at(h, hub_c_entries(&h->hub) + 1);
+    leave_lock(h);
+}
+
+/* The same of a step in a hub that follows a journal, or after which a chapter waits. */
+static bool is_for_another_try(chanhub *h, unsigned pid, struct told *t) {
+    if (h->follows) return follow(h, pid, t);
+    if (t->it.fault != CHANHUB_NO_MEMORY) return false;
     wait_for_room(h, pid);
     return true;
+}
+
+/* Whether the step that came to this is to be made again, since its turn had not come, or there was no room for another chapter. Both may
+ * be otherwise when this returns, unless another thread was faster. Holds the lock, but not while it waits. */
+static inline bool is_to_be_made_again(chanhub *h, unsigned pid, struct told *t) {
+    return (h->follows | t->chapter) && is_for_another_try(h, pid, t);
 }
 
 /* Makes a step, and again while it is to be. Holds the lock, but not while it waits. */
@@ -640,7 +698,7 @@ static chanhub_told time_out(chanhub *h, unsigned pid) {
 
 /* Whether a call of this process, or its exit, can begin: the fault if not, and then it leaves the lock. Holds the lock. */
 static uint8_t look_closer(chanhub *h, unsigned pid, bool exits) {
-    uint8_t why = h->open & only(pid) ? CHANHUB_BUSY : refusal_by_clock(h, pid, exits);
+    uint8_t why = h->open & only(pid) ? CHANHUB_BUSY : h->end ? CHANHUB_DIVERGED : refusal_by_clock(h, pid, exits);
     if (why) leave_lock(h);
     return why;
 }
@@ -694,15 +752,11 @@ static inline chanhub_told finish(chanhub *h, uint8_t pid, const struct told *t,
     return t->it;
 }
 
-static inline bool is_bad(const chanhub *h, unsigned pid, unsigned port) {
-    return !h || pid > GREATEST_PID || port > GREATEST_PORT;
-}
-
 chanhub_told chanhub_make(chanhub *h, unsigned pid, uint32_t cap) {
     struct told t = { 0 };
     if (is_bad(h, pid, 0)) return fault(CHANHUB_BAD_CALL);
     uint8_t why = enter(h, pid);
-    if (why) return fault(why);
+    if (why) return refused(h, why);
     STEP(h, pid, &t, hub_c_make(&h->hub, (uint8_t)pid, cap, &t));
     return finish(h, (uint8_t)pid, &t, FOR_EVER);
 }
@@ -711,7 +765,7 @@ chanhub_told chanhub_send(chanhub *h, unsigned pid, unsigned port, chanhub_value
     struct told t = { 0 };
     if (is_bad(h, pid, port)) return fault(CHANHUB_BAD_CALL);
     uint8_t why = enter(h, pid);
-    if (why) return fault(why);
+    if (why) return refused(h, why);
     STEP(h, pid, &t, hub_c_send(&h->hub, (uint8_t)pid, (uint16_t)port, &value, &t));
     return finish(h, (uint8_t)pid, &t, FOR_EVER);
 }
@@ -720,7 +774,7 @@ chanhub_told chanhub_recv(chanhub *h, unsigned pid, unsigned port) {
     struct told t = { 0 };
     if (is_bad(h, pid, port)) return fault(CHANHUB_BAD_CALL);
     uint8_t why = enter(h, pid);
-    if (why) return fault(why);
+    if (why) return refused(h, why);
     STEP(h, pid, &t, hub_c_recv(&h->hub, (uint8_t)pid, (uint16_t)port, &t));
     return finish(h, (uint8_t)pid, &t, FOR_EVER);
 }
@@ -729,7 +783,7 @@ chanhub_told chanhub_close(chanhub *h, unsigned pid, unsigned port) {
     struct told t = { 0 };
     if (is_bad(h, pid, port)) return fault(CHANHUB_BAD_CALL);
     uint8_t why = enter(h, pid);
-    if (why) return fault(why);
+    if (why) return refused(h, why);
     STEP(h, pid, &t, hub_c_close(&h->hub, (uint8_t)pid, (uint16_t)port, &t));
     return finish(h, (uint8_t)pid, &t, FOR_EVER);
 }
@@ -738,7 +792,7 @@ chanhub_told chanhub_exit(chanhub *h, unsigned pid) {
     struct told t = { 0 };
     if (is_bad(h, pid, 0)) return fault(CHANHUB_BAD_CALL);
     uint8_t why = enter_for(h, pid, true);
-    if (why) return fault(why);
+    if (why) return refused(h, why);
     STEP(h, pid, &t, hub_c_exit(&h->hub, (uint8_t)pid, &t));
     h->exits += t.it.what == CHANHUB_DONE;
     return finish(h, (uint8_t)pid, &t, FOR_EVER);
@@ -749,7 +803,7 @@ chanhub_told chanhub_cancel(chanhub *h, unsigned pid, unsigned other) {
     if (is_bad(h, pid, 0) || other > GREATEST_PID) return fault(CHANHUB_BAD_CALL);
     if (other == h->clock && other != NOBODY) return fault(CHANHUB_NO_PROCESS);
     uint8_t why = enter(h, pid);
-    if (why) return fault(why);
+    if (why) return refused(h, why);
     STEP(h, pid, &t, hub_c_cancel(&h->hub, (uint8_t)pid, (uint8_t)other, &t));
     return finish(h, (uint8_t)pid, &t, FOR_EVER);
 }
@@ -760,7 +814,7 @@ static chanhub_told select_for(chanhub *h, unsigned pid, const chanhub_case *cas
     struct told t = { 0 };
     if (is_bad(h, pid, 0)) return fault(CHANHUB_BAD_CALL);
     uint8_t why = enter(h, pid);
-    if (why) return fault(why);
+    if (why) return refused(h, why);
     STEP(h, pid, &t, hub_c_call(&h->hub, (uint8_t)pid, cases, count, has_default, word, &t));
     return finish(h, (uint8_t)pid, &t, nanoseconds);
 }
@@ -806,7 +860,7 @@ static chanhub_told select_until(chanhub *h, unsigned pid, const chanhub_case *c
     if (is_bad(h, pid, 0) || h->clock == NOBODY) return fault(CHANHUB_BAD_CALL);
     if (has_default || deadline == FOR_EVER) return select_for(h, pid, cases, count, has_default, word, nanoseconds);
     uint8_t why = enter(h, pid);
-    if (why) return fault(why);
+    if (why) return refused(h, why);
     STEP(h, pid, &t, hub_c_call(&h->hub, (uint8_t)pid, cases, count, true, word, &t));
     if (t.it.what == CHANHUB_DEFAULT) {
         if (!has_passed(deadline)) {

@@ -33,11 +33,18 @@ struct piece {
     uint64_t length; /* how many bytes were written; if there was no room, how many it wants */
 };
 
+/* What an opening of a hub that follows a journal came to. */
+struct followed {
+    uint8_t refusal; /* 0, 3 for memory, 5 if the text is malformed, 6 if one of its steps is not admitted */
+    uint32_t line;   /* that line, from 1; else 0 */
+};
+
 /* Reads a piece of the text of a journal. */
 typedef struct piece reader(struct hub *hub, uint64_t number, uint8_t *place, size_t room);
 
 uint8_t hub_c_open(struct hub *hub, uint8_t edition, uint8_t procs, uint32_t limit);
 uint8_t hub_c_open_endless(struct hub *hub, uint8_t edition, uint8_t procs, uint32_t keep, uint8_t hands_out);
+struct followed hub_c_open_following(struct hub *hub, const uint8_t *text, size_t length, uint8_t goes_on);
 void hub_c_end(struct hub *hub);
 void hub_c_make(struct hub *hub, uint8_t pid, uint32_t cap, struct told *told);
 void hub_c_send(struct hub *hub, uint8_t pid, uint16_t port, const chanhub_value *value, struct told *told);
@@ -48,6 +55,7 @@ void hub_c_close(struct hub *hub, uint8_t pid, uint16_t port, struct told *told)
 void hub_c_exit(struct hub *hub, uint8_t pid, struct told *told);
 void hub_c_cancel(struct hub *hub, uint8_t pid, uint8_t other, struct told *told);
 void hub_c_take(struct hub *hub, uint8_t pid, struct told *told);
+uint64_t hub_c_next(struct hub *hub); /* the process whose step is next, as a set */
 chanhub_counts hub_c_look(struct hub *hub, uint16_t port);
 uint64_t hub_c_entries(struct hub *hub);
 reader hub_c_present, hub_c_before, hub_c_waiting;
@@ -55,7 +63,7 @@ struct cut hub_c_cut(struct hub *hub);
 bool hub_c_let_go(struct hub *hub);
 
 /* The layouts that crates/hub_c has. */
-_Static_assert(sizeof(struct hub) == 16 && sizeof(struct piece) == 16 && sizeof(struct cut) == 2, "");
+_Static_assert(sizeof(struct hub) == 16 && sizeof(struct piece) == 16 && sizeof(struct cut) == 2 && sizeof(struct followed) == 8, "");
 _Static_assert(sizeof(chanhub_value) == 48 && offsetof(chanhub_value, is_bytes) == 8 && offsetof(chanhub_value, bytes) == 10, "");
 _Static_assert(sizeof(chanhub_case) == 56 && offsetof(chanhub_case, port) == 2 && offsetof(chanhub_case, value) == 8, "");
 _Static_assert(sizeof(chanhub_told) == 56 && offsetof(chanhub_told, port) == 4 && offsetof(chanhub_told, value) == 8, "");

@@ -54,6 +54,11 @@ its own. Older chapters go, or are written to files, or are given to a function:
     with Hub(procs=9, keep=10_000, chapters='pool') as hub:         # pool.0, pool.1, ..
         ...
 
+A hub can follow a journal, so that a run is repeated exactly as it was:
+
+    with Hub.follow(Path('flaky.journal').read_bytes()) as hub:
+        ...                                         # a call that the journal has not here raises Diverged
+
 Ctrl-C interrupts a wait of the main thread with KeyboardInterrupt. Nothing is lost: the call stays open, `seat.waits` is true, and
 `seat.resume()` resumes the wait. When a `with Hub` block ends, no new call begins, and each waiting call ends. A hub belongs to the
 operating-system process that opened it: in a forked child, every call on it raises RuntimeError.
@@ -68,7 +73,7 @@ import threading
 import weakref
 from collections import defaultdict, deque
 from concurrent.futures import Future, ThreadPoolExecutor
-from itertools import count, starmap
+from itertools import count, islice, repeat, starmap
 from queue import Empty, Full, SimpleQueue
 from threading import get_ident
 from time import monotonic_ns
@@ -83,16 +88,17 @@ Chapters = Union[Callable[[Optional[bytes]], object], str, bytes, 'os.PathLike[A
 
 MADE, SENT, GOT, DRAINED, CLOSED, DEFAULT, DONE, WAITING, STALLED, FAULT, CANCELLED, TIMED_OUT = range(1, 13)
 
-GONE, BUSY, NOT_PARKED = 2, 3, 12
+GONE, BUSY, NOT_PARKED, DIVERGED, NOT_YET = 2, 3, 12, 14, 15
 FAULTS = {
     1: 'no such process', 2: 'the process has exited', 3: 'a call of the process is still open', 4: 'more than 8 cases in edition 1',
     5: 'no such port', 6: 'the capacity is above 1,024', 7: 'the hub already has 64 ports', 8: 'close of port 0',
     9: 'close of a closed port', 10: 'the hub has reached its step limit', 11: 'out of memory', 12: 'the process has no waiting call',
-    13: 'more than 16 cases, or a call that needs edition 2',
+    13: 'more than 16 cases, or a call that needs edition 2', 14: 'the journal that the hub follows has another step here',
 }
 OPENING = {1: 'the number of processes must be between 1 and 64', 2: 'the step limit must be between 1 and 1,000,000',
            4: 'the edition must be 1 or 2'}
 OPENING_ENDLESS = {**OPENING, 2: 'the number of steps to keep must be between 1 and 900,000'}
+OPENING_FOLLOWING = {5: 'the journal is malformed, in line %d', 6: 'no hub admits the step of the journal in line %d'}
 OPENING_TIMED = {1: 'the number of processes must be between 1 and 63, since timeouts need one more', 4: 'timeouts need edition 2'}
 
 
@@ -156,6 +162,22 @@ class Fault(Exception):
         return f'fault {self.number}: {FAULTS.get(self.number, "unknown")}'
 
 
+class Diverged(Fault):
+    """Raised by a call where the journal that the hub follows has another step.
+
+    `step` is the number of that step, from 1, as stories and pictures number them. It is the next one of the process that called; if the
+    journal has ended, it is the one behind its last. If the hub ends then, all its calls raise this with the same number.
+    """
+
+    def __init__(self, step: int) -> None:
+        super().__init__(DIVERGED)
+        self.args = step,
+        self.step = step
+
+    def __str__(self) -> str:
+        return f'the journal that the hub follows has another step here: step {self.step}'
+
+
 class Send(NamedTuple):
     """A case of a select that sends a value on a port: a Sendable, or any object if the hub has `objects`."""
     port: int
@@ -204,7 +226,8 @@ class _Counts(ctypes.Structure):
 class _Options(ctypes.Structure):
     """chanhub_options."""
     _fields_ = [('edition', ctypes.c_uint), ('procs', ctypes.c_uint), ('limit', ctypes.c_uint32), ('keep', ctypes.c_uint32),
-                ('chapters', ctypes.c_void_p), ('pointer', ctypes.c_void_p), ('clock', ctypes.c_bool), ('reserved', ctypes.c_void_p * 8)]
+                ('chapters', ctypes.c_void_p), ('pointer', ctypes.c_void_p), ('clock', ctypes.c_bool), ('journal', ctypes.c_char_p),
+                ('journal_length', ctypes.c_size_t), ('goes_on', ctypes.c_bool), ('asks_again', ctypes.c_bool), ('journal_line', ctypes.POINTER(ctypes.c_uint32)), ('reserved', ctypes.c_void_p * 8)]
 
 
 class _Files(ctypes.Structure):
@@ -230,6 +253,8 @@ def _library() -> ctypes.CDLL:
             ('begin', _Told, [hub, number, ctypes.c_char_p, ctypes.c_size_t, ctypes.c_bool, ctypes.c_uint64]),
             ('begin_until', _Told, [hub, number, ctypes.c_char_p, ctypes.c_size_t, ctypes.c_bool, ctypes.c_uint64, ctypes.c_uint64]),
             ('expire', ctypes.c_bool, [hub, number]),
+            ('turn', ctypes.c_bool, [hub, number, ctypes.c_uint64]),
+            ('stop', None, [hub]),
             ('resume', _Told, [hub, number, ctypes.c_uint64]),
             ('close', _Told, [hub, number, number]),
             ('exit', _Told, [hub, number]),
@@ -307,6 +332,8 @@ _ENDED = {CLOSED: Closed, DRAINED: Drained, STALLED: Stalled, CANCELLED: Cancell
 def _ended(told: _Told) -> Exception:
     """Returns the exception for a call that ended without a value."""
     ended = _ENDED.get(told.what)
+    if told.fault == DIVERGED:
+        return Diverged(told.number)
     return Fault(told.fault) if ended is None else ended(told.index)
 
 
@@ -565,6 +592,30 @@ def _open_timed(edition: int, procs: int, limit: int, keep: int, chapters: Optio
     return handle
 
 
+def _open_following(journal: bytes, goes_on: bool) -> ctypes.c_void_p:
+    """Opens a hub that follows a journal."""
+    line = ctypes.c_uint32()
+    options = _Options(journal=journal, journal_length=len(journal), goes_on=goes_on, asks_again=True, journal_line=ctypes.pointer(line))
+    handle = ctypes.c_void_p()
+    cause = _LIBRARY.chanhub_open_with(ctypes.byref(handle), options)
+    if cause == 3:
+        raise MemoryError
+    if cause:
+        raise ValueError(OPENING_FOLLOWING[cause] % line.value)
+    return handle
+
+
+def _numbers_sent(journal: bytes) -> Dict[int, Iterator[int]]:
+    """Returns the numbers that each process sends in a journal, in order, also those of the cases of its selects."""
+    sent: Dict[int, List[int]] = {}
+    for line in journal.decode().splitlines()[2:]:
+        pid, step, *fields = line.split()
+        cases = [fields[1]] if step == 'send' else [field.partition(':')[2] for field in fields[1:] if field.startswith('s')]
+        if step in ('send', 'select'):
+            sent.setdefault(int(pid), []).extend(int(value) for value in cases if value.isdigit())
+    return {pid: iter(numbers) for pid, numbers in sent.items()}
+
+
 def _free(handle: ctypes.c_void_p, opener: int, chapters: Optional[_To]) -> None:
     """Frees a hub and gives the chapters that are left, except in a forked child, where a thread that does not exist may hold its
     lock."""
@@ -642,10 +693,45 @@ class Hub:
             self._chapters = None if chapters is None else _to(chapters)
             handle = (_open_timed(edition, procs, 0, keep, self._chapters) if timeouts
                       else _open_endless(edition, procs, keep, self._chapters))
+        self._set_up(handle, procs, is_endless=keep is not None, objects=objects, timeouts=timeouts)
+
+    @classmethod
+    def follow(cls, journal: bytes, *, goes_on: bool = False, objects: bool = False) -> Hub:
+        """Opens a hub that follows a journal, such as `journal` of another hub returned: its edition, its processes and its steps.
+
+        A step is made only in its turn: a call whose step is the process's next in the journal waits until it is the next of all. So each
+        call gets the answer that the journal has, whatever the schedule of the threads is. A process that makes no further step in the
+        journal waits until all of it is made.
+
+        A call with another step than the process's next one raises Diverged, and so does a call once all of the journal is made. Then the hub ends: all calls raise Diverged, also those that wait. With `goes_on` it goes on as a hub that
+        follows nothing: the call that raised Diverged was not made, and the other calls are made as they come. Once all of the journal
+        is made, it then makes any call, without an exception.
+
+        A process that never makes its next step holds up all whose turn is later. When a `with Hub` block ends, they raise Diverged.
+
+        With `objects`, which the hub of the journal must have had, a value is any object, as in such a hub. Calls take no timeouts:
+        the journal of a hub with `timeouts` cannot be followed.
+
+        Raises ValueError if the journal is malformed, or has a step that is not admitted in its turn. MemoryError if memory runs out.
+        """
+        hub = cls.__new__(cls)
+        hub._chapters = None
+        handle = _open_following(journal, goes_on)
+        hub._set_up(handle, int(journal.split(None, 5)[4]), objects=objects)
+        hub._follows = True
+        if objects:
+            hub._sent = _numbers_sent(journal)
+            hub._numbers = count(1 << 63)  # those that the journal has not
+        return hub
+
+    def _set_up(self, handle: ctypes.c_void_p, procs: int, *, is_endless: bool = False, objects: bool = False,
+                timeouts: bool = False) -> None:
+        """Sets what a new hub has."""
         self._handle = handle
         self._live: Optional[ctypes.c_void_p] = handle  # None once no new call may begin
         self._procs = procs
-        self._is_endless = keep is not None
+        self._is_endless = is_endless
+        self._follows = False
         self._has_timeouts = timeouts
         # The chapters that fell out, if they go to a function.
         self._fallen = None if self._chapters is None else self._chapters.fallen
@@ -660,6 +746,8 @@ class Hub:
         # The objects whose numbers are in the hub, if it has `objects`, and the numbers to come.
         self._things: Optional[Dict[int, Any]] = {} if objects else None
         self._numbers = count()
+        # If the hub follows a journal, the numbers that each process has there.
+        self._sent: Dict[int, Iterator[int]] = {}
         # For each process that is awaited, the thread that makes its calls.
         self._executors: Dict[int, ThreadPoolExecutor] = {}
         # For each process and port, the receives that were begun for a task that was cancelled.
@@ -679,6 +767,8 @@ class Hub:
         If the hub has `chapters`, this returns once all processes have exited and `chapters` has got all chapters."""
         if self._is_here():
             self._live = None
+            if self._follows:
+                _LIBRARY.chanhub_stop(self._handle)
             self._settle()
             for executor in self._executors.values():
                 executor.shutdown(wait=False)
@@ -689,6 +779,11 @@ class Hub:
     def _is_here(self) -> bool:
         """Whether this operating-system process opened the hub. False in a forked child."""
         return os.getpid() == self._opener
+
+    def _next_number(self, pid: int) -> int:
+        """Returns the number for the next object that this process sends."""
+        number = next(self._sent.get(pid, iter(())), None) if self._sent else None
+        return next(self._numbers) if number is None else number
 
     def _owned(self) -> ctypes.c_void_p:
         """Returns the handle, even if the hub has ended. Raises RuntimeError in a forked child."""
@@ -842,7 +937,11 @@ class Seat:
         """Exits the process, except in a forked child, or if an exception left the block while a call is open."""
         if not self.hub._is_here() or kind is not None and self.waits:
             return
-        self.exit()
+        try:
+            self.exit()
+        except Diverged:
+            if kind is None:
+                raise
 
     @property
     def waits(self) -> bool:
@@ -895,7 +994,7 @@ class Seat:
         if hub._things is None:
             self._call(_sent, _send_case(port, value), timeout=timeout)
         else:
-            number = next(hub._numbers)
+            number = hub._next_number(self.pid)
             self._call(_sent_thing(hub._things, number), _send_case(port, number), offered={number: value}, timeout=timeout)
 
     def recv(self, port: int, timeout: Optional[float] = None) -> Any:
@@ -923,7 +1022,7 @@ class Seat:
         gives: _Gives = _fired
         offered: Dict[int, Any] = {}
         if self.hub._things is not None:
-            numbers = {index: next(self.hub._numbers) for index, case in enumerate(cases) if isinstance(case, Send)}
+            numbers = {index: self.hub._next_number(self.pid) for index, case in enumerate(cases) if isinstance(case, Send)}
             offered = {number: cases[index].value for index, number in numbers.items()}
             cases = [Send(case.port, numbers[index]) if index in numbers else case for index, case in enumerate(cases)]
             gives = _fired_thing(self.hub._things, numbers)
@@ -944,6 +1043,9 @@ class Seat:
         if self.waits:
             raise Fault(BUSY)
         told = _LIBRARY.chanhub_exit(handle, self.pid)
+        while told.fault == NOT_YET:
+            self._wait_for_turn()
+            told = _LIBRARY.chanhub_exit(handle, self.pid)
         if told.fault != GONE:
             _done(told)
 
@@ -954,11 +1056,15 @@ class Seat:
         """
         self._ask(_done, _LIBRARY.chanhub_cancel, _within('process', other, 255))
 
+    def _wait_for_turn(self) -> None:
+        """Waits until the process has its turn in the journal that the hub follows. The main thread waits a short slice."""
+        _LIBRARY.chanhub_turn(self.hub._handle, self.pid, _SLICE if get_ident() == _main else _FOR_EVER)
+
     def _ask(self, gives: _Gives, call: Callable[..., _Told], number: int) -> Any:
-        """Makes a call that does not wait. Raises Fault 3 if a call of the process is open."""
+        """Makes a call that does not wait for another process. Raises Fault 3 if a call of the process is open."""
         if self.waits:
             raise Fault(BUSY)
-        return self._await(gives, starmap(call, ((self.hub.handle, self.pid, number),)))
+        return self._await(gives, starmap(call, repeat((self.hub.handle, self.pid, number))))
 
     def _give(self, gives: _Gives, told: _Told) -> Any:
         """Returns the result of a call with this answer. The hub may have ended meanwhile."""
@@ -984,9 +1090,9 @@ class Seat:
             raise Fault(BUSY)
         if offered and hub._things is not None:
             hub._things.update(offered)
-        if timeout is None and get_ident() != _main and not hub._fallen:
+        if timeout is None and get_ident() != _main and not hub._fallen and not hub._follows:
             return self._give(gives, _select(*call))
-        return self._await(gives, starmap(_begin if timeout is None else _begin_until, (call,)))
+        return self._await(gives, starmap(_begin if timeout is None else _begin_until, repeat(call)))
 
     def _deadline(self, timeout: float) -> int:
         """Returns the time on the library's clock at which this timeout passes."""
@@ -997,7 +1103,8 @@ class Seat:
         return monotonic_ns() + int(min(timeout, _LONGEST) * 10 ** 9)
 
     def _await(self, gives: _Gives, asked: Iterable[_Told]) -> Any:
-        """Waits for the final answer of a call, of which `asked` yields the first one, and returns the call's result.
+        """Waits for the final answer of a call, and returns the call's result. `asked` makes the call, and yields its first answer. If its turn
+        has not come, `asked` makes it again.
 
         An exception may occur between any two steps of the interpreter: KeyboardInterrupt, or any other that a signal handler raises.
         No answer is lost, because `told, = starmap(..)` calls the library and stores its answer within one step.
@@ -1005,7 +1112,11 @@ class Seat:
         hub, pid = self.hub, self.pid
         told: Optional[_Told] = None
         try:
-            told, = asked
+            told, = islice(asked, 1)
+            while told.fault == NOT_YET:
+                told = None
+                self._wait_for_turn()
+                told, = islice(asked, 1)
             if hub._fallen:
                 hub._give_fallen()
             while told.what == WAITING:

@@ -183,7 +183,7 @@ printf 'timed out\ngot 9\n' > "$work/times"
 printf 'stalled: 0 recv 2\nstalled: 1 recv 1\n' > "$work/stalled"
 printf 'got 5\nneither\nsent\n' > "$work/choice-lines"
 
-for test in calls conveniences crew threads memory endless handing chapters files soak steps deadlines; do
+for test in calls conveniences crew threads memory endless handing chapters files soak steps deadlines following; do
     check "$test builds" "$cc" $flags "tests/$test.c" out/libchanhub.a -lpthread -o "$work/$test"
 done
 check 'resume builds' "$cc" $flags -Wl,--wrap=clock_gettime tests/resume.c out/libchanhub.a -lpthread -o "$work/resume"
@@ -210,6 +210,9 @@ wrapped=
 for name in recv call cancel; do wrapped="$wrapped -Wl,--wrap=hub_c_$name"; done
 check 'clock builds' "$cc" $flags $wrapped chanhub.c heap.c tests/clock.c $proved -lpthread -o "$work/clock"
 check 'each step refused while deadlines pass' "$work/clock"
+for test in alone threads; do
+    check "a journal is followed: $test" "$work/following" "$test"
+done
 for cap in 0 1 7 1024; do
     check "64 threads that pass 160,000 values, capacity $cap" crew crew "$cap" 5000 "$program"
 done
@@ -265,8 +268,8 @@ fi
 
 if echo 'int main(void) { return 0; }' | "$cc" -fsanitize=thread -x c - -o "$work/empty" 2> "$work/errors" && "$work/empty"; then
     sanitize="$flags -g -fsanitize=thread"
-    for test in crew threads handing chapters soak deadlines; do
-        check "$test builds for the thread sanitizer" "$cc" $sanitize chanhub.c files.c heap.c "tests/$test.c" $proved -lpthread \
+    for test in crew threads handing chapters soak deadlines following; do
+        check "$test builds for the thread sanitizer" "$cc" $sanitize chanhub.c files.c heap.c texts.c "tests/$test.c" $proved -lpthread \
             -o "$work/sanitized-$test"
     done
     check 'resume builds for the thread sanitizer' "$cc" $sanitize -Wl,--wrap=clock_gettime chanhub.c heap.c tests/resume.c $proved \
@@ -282,13 +285,15 @@ if echo 'int main(void) { return 0; }' | "$cc" -fsanitize=thread -x c - -o "$wor
     done
     check 'deadlines under the thread sanitizer: threads' "$work/sanitized-deadlines" threads
     check 'deadlines under the thread sanitizer: chapters' deadlines sanitized-deadlines chapters
+    check 'a journal is followed under the thread sanitizer: alone' "$work/sanitized-following" alone
+    check 'a journal is followed under the thread sanitizer: threads' "$work/sanitized-following" threads 20
     for test in $handing; do
         check "chapters that are handed out under the thread sanitizer: $test" "$work/sanitized-handing" "$test"
     done
     check 'chapters of 40 random runs under the thread sanitizer' chapters sanitized-chapters 40
     check '16 threads without an end under the thread sanitizer' soaks sanitized-soak 3
     if [ -n "$by_cxx" ]; then
-        check 'the library builds for the thread sanitizer' "$cc" $sanitize -r -nostdlib chanhub.c files.c heap.c -o "$work/sanitized.o"
+        check 'the library builds for the thread sanitizer' "$cc" $sanitize -r -nostdlib chanhub.c files.c heap.c texts.c -o "$work/sanitized.o"
         check 'cpp builds for the thread sanitizer' "$cxx" $cxxflags -g -fsanitize=thread tests/cpp.cpp "$work/sanitized.o" $proved \
             -lpthread -o "$work/sanitized-cpp"
         check 'each call from C++ under the thread sanitizer' "$work/sanitized-cpp"
@@ -298,7 +303,7 @@ else
 fi
 if command -v valgrind > "$work/found"; then
     for test in calls conveniences $by_cxx "crew $work 1 20" pool 'threads cancelled' 'threads second' 'threads closed' 'resume alone' \
-        'resume threads' 'deadlines alone' 'endless short' 'handing busy' 'handing parked' 'handing woken' 'handing full' 'handing cancelled' \
+        'resume threads' 'deadlines alone' 'following alone' 'endless short' 'handing busy' 'handing parked' 'handing woken' 'handing full' 'handing cancelled' \
         "files $(mktemp -d -p "$work")"; do
         check "valgrind: $test" valgrind -q --error-exitcode=9 --leak-check=full --show-leak-kinds=all "$work"/$test
     done
@@ -310,6 +315,7 @@ fi
 check 'the Python module' env PYTHONPATH=python:tests python3 -m unittest -q test_chanhub
 check 'the Python module with any object' env PYTHONPATH=python:tests python3 -m unittest -q test_objects
 check 'the Python module with timeouts' env PYTHONPATH=python:tests python3 -m unittest -q test_timeouts
+check 'the Python module that follows journals' env PYTHONPATH=python:tests python3 -m unittest -q test_following
 check 'pool.py' prints "$work/sum" python3 python/pool.py
 check 'first.py' prints "$work/first" python3 python/first.py
 check 'deadlock.py' prints "$work/stalled" python3 python/deadlock.py
@@ -318,6 +324,7 @@ check 'choice.py' chooses python3 python/choice.py
 check 'objects.py' prints "$work/report" python3 python/objects.py
 check 'tasks.py' prints "$work/sum" python3 python/tasks.py
 check '50 random rigs' tests/rigs.py "$program" 50
+check '200 random rigs, recorded and followed' tests/following.py 200
 
 if command -v cargo > "$work/found"; then
     for test in --tests --doc; do

@@ -1,0 +1,212 @@
+"""Tests of hubs that follow a journal, and of the plugin for pytest, which is left out where there is no pytest."""
+import importlib.util
+import os
+import signal
+import subprocess
+import sys
+import tempfile
+import threading
+import unittest
+from pathlib import Path
+
+from chanhub import Closed, Diverged, Drained, Fault, Hub, Recv, Send, Stalled
+
+JOURNAL = b'chanhub journal 2\nprocs 2\n0 make 0\n1 recv 1\n0 send 1 9\n0 close 1\n'
+
+
+class Following(unittest.TestCase):
+    def in_thread(self, call):
+        """Begins a call in another thread. Returns what waits for it and gives its result, or raises its exception."""
+        came = []
+
+        def run():
+            try:
+                came.append((call(), None))
+            except Exception as error:
+                came.append((None, error))
+
+        thread = threading.Thread(target=run, daemon=True)
+        thread.start()
+
+        def ends():
+            thread.join(20)
+            self.assertFalse(thread.is_alive(), 'it hangs')
+            value, error = came[0]
+            if error:
+                raise error
+            return value
+        return ends
+
+    def diverges(self, step, call, *arguments):
+        with self.assertRaises(Diverged) as raised:
+            call(*arguments)
+        self.assertEqual(raised.exception.step, step)
+
+    def test_answers_are_the_recorded_ones(self):
+        hub = Hub.follow(JOURNAL)
+        zero, one = hub.seat(0), hub.seat(1)
+        received = self.in_thread(lambda: one.recv(1))
+        port = zero.make(0)
+        zero.send(port, 9)
+        self.assertEqual(received(), 9)
+        zero.close(port)
+        self.assertEqual(hub.journal(), JOURNAL)
+        self.diverges(5, one.recv, 1)
+        self.diverges(5, zero.exit)
+        self.assertEqual(hub.journal(), JOURNAL)
+
+    def test_divergence_ends_the_hub(self):
+        hub = Hub.follow(JOURNAL)
+        zero, one = hub.seat(0), hub.seat(1)
+        received = self.in_thread(lambda: one.recv(1))
+        zero.make(0)
+        self.diverges(3, zero.send, 1, 8)
+        self.diverges(3, received)
+        self.diverges(3, zero.send, 1, 9)
+        self.diverges(3, one.exit)
+        with self.assertRaises(Fault) as raised:
+            one.recv(1)
+        self.assertEqual(raised.exception.number, 14)
+        self.assertEqual(str(raised.exception), 'the journal that the hub follows has another step here: step 3')
+
+    def test_hub_that_goes_on(self):
+        with Hub.follow(JOURNAL, goes_on=True) as hub:
+            zero, one = hub.seat(0), hub.seat(1)
+            port = zero.make(0)
+            self.diverges(3, zero.close, port)
+            zero.close(port)
+            with self.assertRaises(Drained):
+                one.recv(port)
+            with self.assertRaises(Closed):
+                zero.send(port, 9)
+        with Hub.follow(b'chanhub journal 2\nprocs 1\n0 make 1\n', goes_on=True) as hub, hub.seat(0) as seat:
+            port = seat.make(1)
+            seat.send(port, b'more')
+            self.assertEqual(seat.recv(port), b'more')
+
+    def test_journals_that_are_not_followed(self):
+        for journal, words in ((b'', 'the journal is malformed, in line 1'), (JOURNAL + b'0 sends\n', 'the journal is malformed, in line 7'),
+                               (b'chanhub journal 1\nprocs 1\n0 exit\n0 exit\n', 'no hub admits the step of the journal in line 4')):
+            with self.assertRaises(ValueError) as raised:
+                Hub.follow(journal)
+            self.assertEqual(str(raised.exception), words)
+
+    def test_stalls_are_recorded(self):
+        journal = b'chanhub journal 2\nprocs 2\n0 make 0\n1 recv 1\n0 recv 1\n1 exit\n0 exit\n'
+        with Hub.follow(journal) as hub:
+            def stalls():
+                with hub.seat(1) as seat, self.assertRaises(Stalled):
+                    seat.recv(1)
+            ends = self.in_thread(stalls)
+            with hub.seat(0) as seat:
+                port = seat.make(0)
+                with self.assertRaises(Stalled):
+                    seat.recv(port)
+            ends()
+        self.assertEqual(hub.journal(), journal)
+
+    def objects(self, opens):
+        """Two threads that send objects, and a third process that receives them."""
+        with opens() as hub:
+            zero, one, two = map(hub.seat, range(3))
+            port = zero.make(3)
+
+            def second():
+                one.select([Send(port, 'unsent'), Recv(0)], default=True)
+                one.send(port, 'second')
+            ends = self.in_thread(second)
+            zero.send(port, 'first')
+            got = [two.recv(port) for _ in range(3)]
+            ends()
+            for seat in (zero, one, two):
+                seat.exit()
+            return got, hub.journal()
+
+    def test_objects(self):
+        for _ in range(20):
+            got, journal = self.objects(lambda: Hub(3, objects=True))
+            self.assertEqual(self.objects(lambda: Hub.follow(journal, objects=True)), (got, journal))
+
+    def test_end_of_the_block(self):
+        with Hub.follow(JOURNAL) as hub:
+            waits = self.in_thread(lambda: hub.seat(1).recv(1))
+            self.assertEqual(hub.look(1), None)
+        self.diverges(1, waits)
+
+    def test_interrupt_of_a_turn(self):
+        hub = Hub.follow(JOURNAL)
+
+        class Interrupted(Exception):
+            pass
+
+        def interrupts(*_):
+            raise Interrupted
+        before = signal.signal(signal.SIGALRM, interrupts)
+        try:
+            signal.setitimer(signal.ITIMER_REAL, 0.2)
+            with self.assertRaises(Interrupted):
+                hub.seat(1).recv(1)
+        finally:
+            signal.setitimer(signal.ITIMER_REAL, 0)
+            signal.signal(signal.SIGALRM, before)
+        # Nothing is open.
+        received = self.in_thread(lambda: hub.seat(1).recv(1))
+        port = hub.seat(0).make(0)
+        hub.seat(0).send(port, 9)
+        self.assertEqual(received(), 9)
+
+
+TEST = '''
+import os, threading
+
+def test_first(open_hub):
+    with open_hub(procs=2, objects=True) as hub:
+        zero, one = hub.seat(0), hub.seat(1)
+        port = zero.make(2)
+        threads = [threading.Thread(target=seat.send, args=(port, name)) for seat, name in ((zero, 'zero'), (one, 'one'))]
+        if os.environ['ORDER'] == 'one':
+            threads.reverse()
+        for thread in threads:
+            thread.start()
+        if os.environ['ORDER'] != 'race':
+            threads[0].join()
+        for thread in threads:
+            thread.join()
+        first = hub.look(port) and zero.recv(port)
+        assert first == 'zero'
+
+def test_passes(open_hub):
+    open_hub(1).seat(0).make(1)
+'''
+
+
+@unittest.skipUnless(importlib.util.find_spec('pytest'), 'no pytest')
+class Plugin(unittest.TestCase):
+    def pytest(self, folder, order, *words):
+        here = Path(__file__).resolve().parent.parent / 'python'
+        path = os.pathsep.join([str(here), *filter(None, [os.environ.get('PYTHONPATH')])])
+        # The one that sends second is delayed by the order in which the threads are joined.
+        return subprocess.run([sys.executable, '-m', 'pytest', '-p', 'chanhub_pytest', '-p', 'no:cacheprovider', *words], cwd=folder,
+                              env={**os.environ, 'PYTHONPATH': path, 'ORDER': order}, stdout=subprocess.PIPE, text=True, timeout=60)
+
+    def test_journal_of_a_failing_test(self):
+        with tempfile.TemporaryDirectory() as folder:
+            Path(folder, 'test_it.py').write_text(TEST)
+            ran = self.pytest(folder, 'zero')
+            self.assertEqual(ran.returncode, 0, ran.stdout)
+            self.assertFalse(Path(folder, 'chanhub-journals').exists())
+            ran = self.pytest(folder, 'one')
+            self.assertEqual(ran.returncode, 1, ran.stdout)
+            kept = Path(folder, 'chanhub-journals', 'test_it.py_test_first.0.journal')
+            self.assertIn('wrote chanhub-journals/test_it.py_test_first.0.journal', ran.stdout)
+            self.assertEqual([it.name for it in kept.parent.iterdir()], [kept.name])
+            # The threads race, and the one sends first again.
+            for _ in range(3):
+                ran = self.pytest(folder, 'race', '--chanhub-follow')
+                self.assertEqual(ran.returncode, 1, ran.stdout)
+                self.assertIn("assert 'one' == 'zero'", ran.stdout)
+                self.assertIn('followed chanhub-journals/test_it.py_test_first.0.journal', ran.stdout)
+
+
+if __name__ == '__main__':
+    unittest.main()

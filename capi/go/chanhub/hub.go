@@ -55,8 +55,8 @@
 //
 // # Errors
 //
-// A call that fails returns [ErrClosed], [ErrDrained], [ErrStalled], [ErrCancelled] or [ErrHubClosed], the error of its context, or a
-// [Fault] if the hub did not carry it out. Use [errors.Is] to test for a particular error, and [errors.As] to get a Fault.
+// A call that fails returns [ErrClosed], [ErrDrained], [ErrStalled], [ErrCancelled] or [ErrHubClosed], the error of its context, a
+// [DivergedError], or a [Fault] if the hub did not carry it out. Use [errors.Is] to test for a particular error, and [errors.As] to get a Fault.
 //
 // # Limits
 //
@@ -230,11 +230,13 @@ func (h *Hub) Close() error {
 	return h.unwritten
 }
 
-// shut lets no further call begin, exits the processes that have no running call, and ends the waits of those that have a context. The
+// shut lets no further call begin, ends a hub that follows a journal, exits the processes that have no running call, and ends the waits of those that have a context. The
 // others exit when their calls leave. Every process has then soon exited or is waiting, so the hub stalls the calls that wait, and none
 // is left.
 func (h *Hub) shut() {
-	for _, pid := range h.refuse() {
+	idle := h.refuse()
+	C.chanhub_stop(h.at)
+	for _, pid := range idle {
 		h.exit(pid)
 	}
 	for pid := range h.calling {

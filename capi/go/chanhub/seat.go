@@ -130,7 +130,7 @@ func (s *Seat) call(step func(hub *C.chanhub, pid C.uint) C.chanhub_told) (told,
 	}
 	told := toldOf(step(s.hub.at, within(s.pid)))
 	closed := s.hub.leave(s.pid)
-	if closed && (told.what == C.CHANHUB_STALLED || told.what == C.CHANHUB_TIMED_OUT) {
+	if closed && (told.what == C.CHANHUB_STALLED || told.what == C.CHANHUB_TIMED_OUT || told.fault == C.CHANHUB_DIVERGED) {
 		return told, ErrHubClosed
 	}
 	return told, told.err()

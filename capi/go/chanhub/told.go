@@ -41,6 +41,9 @@ func (t told) err() error {
 	case C.CHANHUB_TIMED_OUT:
 		return context.DeadlineExceeded
 	case C.CHANHUB_FAULT:
+		if t.fault == C.CHANHUB_DIVERGED {
+			return DivergedError{Step: t.value.number}
+		}
 		return t.fault
 	case waiting:
 		return FaultBusy

@@ -4,7 +4,6 @@ use crate::chapters::Chapters;
 use crate::error::OpenError;
 use crate::hub::{Edition, Hub, Seat};
 use crate::sys;
-use std::ptr;
 
 /// The most steps that a hub makes, which is its limit unless another is chosen.
 const MOST_STEPS: u32 = 1_000_000;
@@ -107,10 +106,8 @@ impl Builder {
             procs: self.procs.into(),
             limit,
             keep,
-            chapters: None,
-            pointer: ptr::null_mut(),
             clock: self.has_timeouts,
-            reserved: [ptr::null_mut(); 8],
+            ..sys::Options::new()
         };
         Hub::open_with(options, handler, refusal)
     }

@@ -3,8 +3,8 @@
 use std::error::Error;
 use std::fmt;
 
-/// Why [`Hub::open`](crate::Hub::open), [`Hub::open_endless`](crate::Hub::open_endless) or [`Builder::open`](crate::Builder::open)
-/// failed.
+/// Why [`Hub::open`](crate::Hub::open), [`Hub::open_endless`](crate::Hub::open_endless), [`Hub::follow`](crate::Hub::follow) or
+/// [`Builder::open`](crate::Builder::open) failed.
 #[derive(Clone, Copy, Debug, PartialEq, Eq)]
 #[non_exhaustive]
 pub enum OpenError {
@@ -18,6 +18,10 @@ pub enum OpenError {
     Memory,
     /// [Timeouts](crate::Builder::timeouts) need [`Edition::Two`](crate::Edition::Two).
     Edition,
+    /// The journal to follow is malformed, first in this line, from 1.
+    Malformed(u32),
+    /// No hub admits the step of the journal in this line.
+    NotAdmitted(u32),
 }
 
 /// Why a call failed.
@@ -42,6 +46,10 @@ pub enum Ended {
     Cancelled,
     /// The timeout of the call passed before it was answered. The call had no effect.
     TimedOut,
+    /// The journal that the hub [follows](crate::Hub::follow) has another step here. The call was not made.
+    ///
+    /// The number is that of the step, from 1.
+    Diverged(u64),
     /// The hub did not carry out the call; the [`Fault`] says why.
     Fault(Fault),
 }
@@ -82,6 +90,9 @@ impl Fault {
     /// The call used a channel of another hub, had more than 16 cases, requires edition 2 or [timeouts](crate::Builder::timeouts), or
     /// would have cut a hub of [`Hub::open`](crate::Hub::open).
     pub const BAD_CALL: Fault = Fault(13);
+    /// The journal that the hub [follows](crate::Hub::follow) has another step here. Sends, receives and selects return
+    /// [`Ended::Diverged`] instead.
+    pub const DIVERGED: Fault = Fault(14);
 
     fn text(self) -> &'static str {
         match self {
@@ -100,6 +111,7 @@ impl Fault {
             Fault::BAD_CALL => {
                 "a channel of another hub, more than 16 cases, a call that needs edition 2 or timeouts, or a cut of a hub that ends"
             }
+            Fault::DIVERGED => "the journal that the hub follows has another step here",
             _ => "a number that chanhub.h does not define",
         }
     }
@@ -108,6 +120,12 @@ impl Fault {
 impl fmt::Display for OpenError {
     fn fmt(&self, f: &mut fmt::Formatter<'_>) -> fmt::Result {
         f.write_str(match self {
+            OpenError::Malformed(line) => {
+                return write!(f, "the journal is malformed, in line {line}")
+            }
+            OpenError::NotAdmitted(line) => {
+                return write!(f, "no hub admits the step of the journal in line {line}")
+            }
             OpenError::Procs => {
                 "the number of processes must be between 1 and 64, or 63 with timeouts"
             }
@@ -127,6 +145,10 @@ impl fmt::Display for Ended {
             Ended::Stalled => f.write_str("every process was waiting"),
             Ended::Cancelled => f.write_str("another process cancelled the call"),
             Ended::TimedOut => f.write_str("the timeout passed"),
+            Ended::Diverged(step) => write!(
+                f,
+                "the journal that the hub follows has another step here: step {step}"
+            ),
             Ended::Fault(fault) => fault.fmt(f),
         }
     }

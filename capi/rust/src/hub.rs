@@ -379,6 +379,59 @@ impl Hub {
         Ok(Hub::seated(at, procs, true, handler))
     }
 
+    /// Opens a hub that follows a journal, such as [`journal`](Hub::journal) of another hub returned: its edition, its processes and
+    /// its steps. Returns it and a seat for each process, in order.
+    ///
+    /// A step is made only in its turn: a call whose step is its process's next in the journal waits until it is the next of all. So
+    /// each call has the answer that the journal has, whatever the schedule of the threads is. A process that makes no further step in
+    /// the journal waits until all of it is made.
+    ///
+    /// A call with another step than the process's next one returns [`Ended::Diverged`], and so does a call once all of the journal is
+    /// made. Then the hub ends: all calls return the same, also those that wait. If `goes_on` is true, it goes on as a hub that follows
+    /// nothing instead; once all of the journal is made, it then makes any call.
+    ///
+    /// A process that never makes its next step holds up all whose turn is later. A seat that is dropped exits its process, which is a
+    /// step too. The journals of hubs with timeouts, and chapters, cannot be followed.
+    ///
+    /// # Examples
+    ///
+    /// ```
+    /// use chanhub::{Ended, Hub};
+    ///
+    /// let journal = "chanhub journal 2\nprocs 1\n0 make 1\n0 send 1 7\n0 exit\n";
+    /// let (hub, mut seats) = Hub::follow(journal, false)?;
+    /// let mut seat = seats.remove(0);
+    /// let (sender, receiver) = seat.channel(1).unwrap();
+    /// assert_eq!(sender.send(&mut seat, 7), Ok(()));
+    /// assert_eq!(receiver.recv(&mut seat), Err(Ended::Diverged(3)));
+    /// # Ok::<(), chanhub::OpenError>(())
+    /// ```
+    ///
+    /// # Errors
+    ///
+    /// Returns [`OpenError::Malformed`] or [`OpenError::NotAdmitted`] if the journal cannot be followed, and [`OpenError::Memory`] if
+    /// memory runs out.
+    pub fn follow(journal: &str, goes_on: bool) -> Result<(Hub, Vec<Seat>), OpenError> {
+        let mut at = ptr::null_mut();
+        let mut line = 0;
+        let options = sys::Options {
+            journal: journal.as_ptr().cast(),
+            journal_length: journal.len(),
+            goes_on,
+            journal_line: &mut line,
+            ..sys::Options::new()
+        };
+        // SAFETY: the text is only read during the call, and so is `line` written.
+        match unsafe { sys::chanhub_open_with(&mut at, &options) } {
+            5 => return Err(OpenError::Malformed(line)),
+            6 => return Err(OpenError::NotAdmitted(line)),
+            refusal => opened(refusal, OpenError::Limit)?,
+        }
+        let procs = journal.split_whitespace().nth(4).map(str::parse);
+        let procs = procs.expect("the second head line").expect("a number");
+        Ok(Hub::seated(at, procs, false, None))
+    }
+
     /// Opens a hub as these options say, except for who gets the chapters: that is the handler.
     pub(crate) fn open_with(
         mut options: sys::Options,
@@ -521,6 +574,7 @@ fn selected(told: sys::Told) -> Result<Selected, Ended> {
         sys::STALLED => Err(Ended::Stalled),
         sys::CANCELLED => Err(Ended::Cancelled),
         sys::TIMED_OUT => Err(Ended::TimedOut),
+        sys::FAULT if told.fault == sys::DIVERGED => Err(Ended::Diverged(told.value.number)),
         sys::FAULT => Err(Ended::Fault(Fault(told.fault))),
         sys::WAITING => Err(Ended::Fault(Fault::BUSY)),
         what => unreachable!("chanhub.h has no answer {what} to a send, a receive or a select"),

@@ -3,6 +3,7 @@
 use std::borrow::Cow;
 use std::ffi::c_void;
 use std::os::raw::{c_char, c_int, c_uint};
+use std::ptr;
 use std::slice;
 
 /// The kinds of result.
@@ -17,6 +18,8 @@ pub const STALLED: u8 = 9;
 pub const FAULT: u8 = 10;
 pub const CANCELLED: u8 = 11;
 pub const TIMED_OUT: u8 = 12;
+/// The fault of a call that the journal has not, with the number of its step as the value.
+pub const DIVERGED: u8 = 14;
 
 #[repr(C)]
 pub struct Chanhub {
@@ -72,7 +75,33 @@ pub struct Options {
     pub chapters: Option<Chapters>,
     pub pointer: *mut c_void,
     pub clock: bool,
-    pub reserved: [*mut c_void; 8],
+    pub journal: *const c_char,
+    pub journal_length: usize,
+    pub goes_on: bool,
+    pub asks_again: bool,
+    pub journal_line: *mut u32,
+    pub reserved: [*mut c_void; 4],
+}
+
+impl Options {
+    /// All members are 0.
+    pub fn new() -> Options {
+        Options {
+            edition: 0,
+            procs: 0,
+            limit: 0,
+            keep: 0,
+            chapters: None,
+            pointer: ptr::null_mut(),
+            clock: false,
+            journal: ptr::null(),
+            journal_length: 0,
+            goes_on: false,
+            asks_again: false,
+            journal_line: ptr::null_mut(),
+            reserved: [ptr::null_mut(); 4],
+        }
+    }
 }
 
 #[repr(C)]

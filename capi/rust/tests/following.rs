@@ -1,0 +1,87 @@
+//! Hubs that follow a journal.
+
+use chanhub::{Edition, Ended, Fault, Hub, OpenError, Seat};
+use std::thread;
+
+const JOURNAL: &str =
+    "chanhub journal 2\nprocs 2\n0 make 0\n1 recv 1\n0 send 1 9\n0 close 1\n0 exit\n1 exit\n";
+
+/// Three threads that send, and one that receives all. Returns what it got, in order.
+fn race(seats: Vec<Seat>) -> Vec<u64> {
+    let mut seats = seats.into_iter();
+    let mut receives = seats.next().unwrap();
+    let (sender, receiver) = receives.channel(2).unwrap();
+    let threads: Vec<_> = seats
+        .zip(0..)
+        .map(|(mut seat, first)| {
+            thread::spawn(move || {
+                for number in 0..20u64 {
+                    sender.send(&mut seat, 100 * first + number).unwrap();
+                }
+            })
+        })
+        .collect();
+    let got = (0..60)
+        .map(|_| receiver.recv(&mut receives).unwrap().number().unwrap())
+        .collect();
+    for thread in threads {
+        thread.join().unwrap();
+    }
+    got
+}
+
+#[test]
+fn a_race_is_repeated() {
+    for _ in 0..20 {
+        let (hub, seats) = Hub::open(Edition::Two, 4, 1000).unwrap();
+        let got = race(seats);
+        let journal = hub.journal().unwrap();
+        let (hub, seats) = Hub::follow(&journal, false).unwrap();
+        assert_eq!(race(seats), got);
+        assert_eq!(hub.journal().unwrap(), journal);
+    }
+}
+
+#[test]
+fn a_divergence_ends_the_hub() {
+    let (hub, mut seats) = Hub::follow(JOURNAL, false).unwrap();
+    let (mut one, mut zero) = (seats.pop().unwrap(), seats.pop().unwrap());
+    let (sender, receiver) = zero.channel(0).unwrap();
+    let thread = thread::spawn(move || receiver.recv(&mut one));
+    assert_eq!(sender.send(&mut zero, 8), Err(Ended::Diverged(3)));
+    assert_eq!(thread.join().unwrap(), Err(Ended::Diverged(3)));
+    assert_eq!(zero.channel(1), Err(Fault::DIVERGED));
+    assert_eq!(sender.close(&mut zero), Err(Ended::Fault(Fault::DIVERGED)));
+    assert!(JOURNAL.starts_with(&hub.journal().unwrap()));
+    assert_eq!(
+        Ended::Diverged(3).to_string(),
+        "the journal that the hub follows has another step here: step 3"
+    );
+}
+
+#[test]
+fn a_hub_goes_on() {
+    let (_hub, mut seats) = Hub::follow("chanhub journal 1\nprocs 1\n0 make 1\n", true).unwrap();
+    let mut seat = seats.remove(0);
+    let (sender, receiver) = seat.channel(1).unwrap();
+    assert_eq!(sender.send(&mut seat, 5), Ok(()));
+    assert_eq!(receiver.recv(&mut seat).unwrap().number(), Some(5));
+}
+
+#[test]
+fn some_journals_are_not_followed() {
+    let refused = |journal| Hub::follow(journal, true).unwrap_err();
+    assert_eq!(refused(""), OpenError::Malformed(1));
+    assert_eq!(
+        refused("chanhub journal 2\nprocs 1\n0 exits\n"),
+        OpenError::Malformed(3)
+    );
+    assert_eq!(
+        refused("chanhub journal 2\nprocs 1\n0 exit\n0 exit\n"),
+        OpenError::NotAdmitted(4)
+    );
+    assert_eq!(
+        OpenError::NotAdmitted(4).to_string(),
+        "no hub admits the step of the journal in line 4"
+    );
+}

@@ -227,7 +227,8 @@ class _Options(ctypes.Structure):
     """chanhub_options."""
     _fields_ = [('edition', ctypes.c_uint), ('procs', ctypes.c_uint), ('limit', ctypes.c_uint32), ('keep', ctypes.c_uint32),
                 ('chapters', ctypes.c_void_p), ('pointer', ctypes.c_void_p), ('clock', ctypes.c_bool), ('journal', ctypes.c_char_p),
-                ('journal_length', ctypes.c_size_t), ('goes_on', ctypes.c_bool), ('asks_again', ctypes.c_bool), ('journal_line', ctypes.POINTER(ctypes.c_uint32)), ('reserved', ctypes.c_void_p * 4)]
+                ('journal_length', ctypes.c_size_t), ('goes_on', ctypes.c_bool), ('asks_again', ctypes.c_bool),
+                ('journal_line', ctypes.POINTER(ctypes.c_uint32)), ('reserved', ctypes.c_void_p * 4)]
 
 
 class _Files(ctypes.Structure):

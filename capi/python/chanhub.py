@@ -1104,8 +1104,8 @@ class Seat:
         return monotonic_ns() + int(min(timeout, _LONGEST) * 10 ** 9)
 
     def _await(self, gives: _Gives, asked: Iterable[_Told]) -> Any:
-        """Waits for the final answer of a call, and returns the call's result. `asked` makes the call, and yields its first answer. If its turn
-        has not come, `asked` makes it again.
+        """Waits for the final answer of a call, and returns the call's result. `asked` makes the call, and yields its first answer. If the
+        call's turn has not come, `asked` makes it again.
 
         An exception may occur between any two steps of the interpreter: KeyboardInterrupt, or any other that a signal handler raises.
         No answer is lost, because `told, = starmap(..)` calls the library and stores its answer within one step.

@@ -85,7 +85,8 @@ class Following(unittest.TestCase):
             self.assertEqual(seat.recv(port), b'more')
 
     def test_journals_that_are_not_followed(self):
-        for journal, words in ((b'', 'the journal is malformed, in line 1'), (JOURNAL + b'0 sends\n', 'the journal is malformed, in line 7'),
+        for journal, words in ((b'', 'the journal is malformed, in line 1'),
+                               (JOURNAL + b'0 sends\n', 'the journal is malformed, in line 7'),
                                (b'chanhub journal 1\nprocs 1\n0 exit\n0 exit\n', 'no hub admits the step of the journal in line 4')):
             with self.assertRaises(ValueError) as raised:
                 Hub.follow(journal)

@@ -35,13 +35,13 @@ static bool is_short(chanhub_told t) { return t.what == CHANHUB_FAULT && t.fault
 /* A call, again where it was refused. */
 #define MADE(call, name) do { chanhub_told t = call; if (is_short(t)) t = call; if (t.what != (name)) return 1; } while (0)
 
-/* The same calls, with one allocation refused; 0 where all went well. */
-static int run(long allowed) {
+/* The same calls on a hub that is opened so, with one allocation refused; 0 where all went well. */
+static int run_with(const chanhub_options *options, long allowed) {
     chanhub *hub;
     refused = 0;
     left = allowed;
-    int why = chanhub_open(&hub, 2, 2, 100);
-    if (why && (why != 3 || hub || chanhub_open(&hub, 2, 2, 100))) return 1;
+    int why = chanhub_open_with(&hub, options);
+    if (why && (why != 3 || hub || chanhub_open_with(&hub, options))) return 1;
     MADE(chanhub_make(hub, 0, 3), CHANHUB_MADE);
     MADE(chanhub_send(hub, 0, 1, chanhub_number(7)), CHANHUB_SENT);
     MADE(chanhub_make(hub, 0, 0), CHANHUB_MADE);
@@ -56,6 +56,16 @@ static int run(long allowed) {
     chanhub_free_text(text);
     chanhub_free(hub);
     return 0;
+}
+
+static int run(long allowed) {
+    chanhub_options options = { .procs = 2, .limit = 100 };
+    return run_with(&options, allowed);
+}
+
+static int run_following(long allowed) {
+    chanhub_options options = { .journal = wanted, .journal_length = sizeof wanted - 1 };
+    return run_with(&options, allowed);
 }
 
 /* The chapters that were handed out. Nothing is allocated for them. */
@@ -180,6 +190,7 @@ static int refuse_each(const char *name, int (*run)(long allowed)) {
 
 int main(void) {
     int failed = refuse_each("a hub", run);
+    failed |= refuse_each("a hub that follows a journal", run_following);
     failed |= refuse_each("a hub that never ends", run_endless);
     return refuse_each("a hub with a clock", run_timed) || failed;
 }

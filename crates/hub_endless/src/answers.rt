@@ -28,7 +28,7 @@ fn put(waiting: &mut [Option<Event>], pid: Pid, answer: Option<Event>)
 }
 
 /// Puts each event into the place of its process, in order.
-#[tactic(auto, using(hub_live::proofs::Locks::put_next))]
+#[tactic(auto, using(crate::proofs::Putting::put_next))]
 fn put_all(waiting: &mut [Option<Event>], events: &[Event])
     ensures { (q : ℕ) → q < length waiting.old →
         answer_for waiting.new q ≡ last_told q (answer_for waiting.old q) events.now }

@@ -1,4 +1,4 @@
-use Rattle.hub_live.proofs.Locks.{PutSoFar}
+use Rattle.hub_endless.proofs.Putting.{PutSoFar}
 use Rattle.hub_endless.proofs.answers.put_all.Given as goal
 
 abbrev pub invariant-loop-event : goal.invariant-loop-event

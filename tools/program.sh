@@ -5,8 +5,8 @@
 # tests and the live hub's, which `./test` has built, with theirs refused; compares model.py, CLAIMS, CHANGING, the links of pages and the quotations of
 # README with what they speak of; looks for limits that are written as numbers, and for definitions and proofs that are too
 # wide; counts the instructions of replays, where valgrind is there; tries a close by an end that receives; has each program
-# refuse bad arguments; tries the words of the built chanhub_tool, converses with it, and compares its stories and pictures
-# with second readings, and pages that browsers show; sees that who waits sleeps, by sleeps.py; tries the scripts that build, by builds_test.py, and those
+# refuse bad arguments; tries the words of the built chanhub_tool, converses with it, and compares its stories, pictures, diagrams
+# and traces with second readings, and pages that browsers show; sees that who waits sleeps, by sleeps.py; tries the scripts that build, by builds_test.py, and those
 # that look at scenarios, by scenarios_test.py; compares replays with Go's own channels; and builds and tries the C library.
 # The last line counts: 'N passed, M failed', and how many were skipped, if any, for what the machine lacks. Before it stands
 # once more what failed.
@@ -231,6 +231,8 @@ CHANHUB=$program TOOL=$tool OPENER=cat TMPDIR=$work "$root/tools/explain.sh" "$r
 count $? "a scenario explained"
 "$root/tools/picture.py" "$tool" > "$work/pictures" 2>&1
 count $? "pictures: $(cat "$work/pictures")"
+"$root/tools/viewers.py" "$tool" > "$work/viewers" 2>&1
+count $? "diagrams and traces: $(cat "$work/viewers")"
 grep '^skipped: ' "$work/pictures"
 "$root/tools/page_test.py" > "$work/pages" 2>&1
 count_or_skip $? "pages: $(cat "$work/pages")"

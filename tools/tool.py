@@ -74,6 +74,18 @@ def pictures(program, work):
     yield "a picture to a file", (status, errors) == (0, b"") and done == (0, b"", b"") and folder.left() == picture
 
 
+def viewers(program, work):
+    """A diagram and a trace of a file, and to a file, are those of standard input to standard output; to a trace a word of digits is a
+    file as well."""
+    for command, files in (("mermaid", ["journal", "-", "./7"]), ("trace", ["journal", "-", "7"])):
+        folder = Folder(program, work)
+        status, text, errors = folder.run([command])
+        for name in files:
+            yield f"{command} {name}", (status, errors) == (0, b"") and folder.run([command, name]) == (0, text, b"")
+        done = folder.run([command, "journal", "-o", "out"], b"")
+        yield f"{command} to a file", done == (0, b"", b"") and folder.left() == text
+
+
 def not_written(program, work):
     """Where it fails, nothing is printed, and a file `out` stays as it was."""
     wants = [(refused(fault), words) for fault, several in ROWS["refused"].items() for words in several]
@@ -88,7 +100,7 @@ def not_written(program, work):
 def faulty_journals(program, work):
     folder = Folder(program, work, b"kept")
     (folder.path / "journal").write_bytes(b"chanhub journal 1\nprocs 0\n")
-    for words in (["story", "journal"], ["picture", "journal"], ["story", "journal", "-o", "out"], ["picture", "3", "journal", "-o", "out"]):
+    for words in (["story", "journal"], ["picture", "journal"], ["mermaid", "1", "journal"], ["trace", "journal"], ["story", "journal", "-o", "out"], ["picture", "3", "journal", "-o", "out"]):
         yield " ".join(words), folder.run(words) == refused("line 2: bad procs") and folder.left() == b"kept"
 
 
@@ -167,13 +179,13 @@ def versions(program, work):
 
 def refused_allocations(program, work):
     refuse = build_refuse(work)
-    for words in (["story", "1", "-"], ["picture", "1"], ["serve"], ["--help"], ["story", "--help"], ["--version"]):
+    for words in (["story", "1", "-"], ["picture", "1"], ["mermaid", "1"], ["trace"], ["serve"], ["--help"], ["story", "--help"], ["--version"]):
         yield " ".join(words), survives_refusals(program, words, JOURNAL, refuse)
     yield "bad arguments", survives_refusals(program, ["story", "--bad"], JOURNAL, refuse)
 
 
 def main():
-    parts = told, written, pictures, not_written, faulty_journals, chains, explorations, help_texts, versions, refused_allocations
+    parts = told, written, pictures, viewers, not_written, faulty_journals, chains, explorations, help_texts, versions, refused_allocations
     return count(Program(sys.argv[1]), *parts)
 
 

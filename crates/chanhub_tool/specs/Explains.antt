@@ -14,6 +14,8 @@ use Rattle.hub_story_text.specs.StoryText.{story_text}
 use Rattle.hub_picture.specs.declared.drawing.Drawing.{Drawing}
 use Rattle.hub_picture.specs.Drawings.{IsDrawingOf}
 use Rattle.hub_picture.specs.Svg.Page.{svg_text}
+use Rattle.hub_trace.specs.Diagram.{mermaid_text}
+use Rattle.hub_trace.specs.Trace.{trace_text}
 use Rattle.chanhub_tool.specs.declared.asked.Asked.{Asked}
 use Rattle.chanhub_tool.specs.declared.asked.Form.{Form}
 use Rattle.chanhub_tool.specs.declared.asked.Form.TheVariants as form
@@ -33,6 +35,8 @@ pub record IsPicture (w : Window) (given : JournalView) (text : List ℕ) : Type
 abbrev pub IsIn : Form → Window → JournalView → List ℕ → Type 0
 IsIn form.Text w given text = text ≡ story_text w given.entries (told given.head given.entries)
 IsIn form.Picture w given text = IsPicture w given text
+IsIn form.Mermaid w given text = text ≡ mermaid_text w given.head.procs given.entries (told given.head given.entries)
+IsIn form.Trace w given text = text ≡ trace_text given.head.procs given.entries (told given.head given.entries)
 
 -- the first bytes are a journal's text, and the others what is asked of it
 pub record IsExplanation (asked : Asked) (bytes text : List ℕ) : Type 0 where
@@ -55,6 +59,7 @@ abbrev pub HasNone : Asked → List ℕ → StoryFault → Type 0
 HasNone asked bytes fault.Backward = HasNoSteps asked bytes fault.Backward
 HasNone asked bytes fault.Outside = HasNoSteps asked bytes fault.Outside
 HasNone asked bytes fault.TooLong = HasNoSteps asked bytes fault.TooLong
+HasNone asked bytes fault.TooMany = HasNoSteps asked bytes fault.TooMany
 HasNone asked bytes (fault.Replay (replay.Text text)) = IsFaulty bytes text.line text.kind
 HasNone asked bytes (fault.Replay replay.Read) = ⊥
 HasNone asked bytes (fault.Replay replay.Write) = ⊥

@@ -14,6 +14,7 @@ abbrev pub HasRefused : Asked → (unread left : Option (List ℕ)) → (Unwritt
 HasRefused asked unread left Unwritten FailedRead FailedWrite Begun fault.Backward = ReadsNone asked unread left fault.Backward × Unwritten
 HasRefused asked unread left Unwritten FailedRead FailedWrite Begun fault.Outside = ReadsNone asked unread left fault.Outside × Unwritten
 HasRefused asked unread left Unwritten FailedRead FailedWrite Begun fault.TooLong = ReadsNone asked unread left fault.TooLong × Unwritten
+HasRefused asked unread left Unwritten FailedRead FailedWrite Begun fault.TooMany = ReadsNone asked unread left fault.TooMany × Unwritten
 HasRefused asked unread left Unwritten FailedRead FailedWrite Begun (fault.Replay (replay.Text text)) =
     ReadsNone asked unread left (fault.Replay (replay.Text text)) × Unwritten
 HasRefused asked unread left Unwritten FailedRead FailedWrite Begun (fault.Replay replay.Read) = FailedRead × Unwritten

@@ -1,7 +1,7 @@
 //! What is asked of a journal.
 
 ghost use Rattle.std.specs.Prelude.{◌≡◌, ◌<◌, ◌^◌};
-ghost use Rattle.chanhub_tool.specs.Windows.{too_long, window_of};
+ghost use Rattle.chanhub_tool.specs.Windows.{fitting, shown_of, too_long, too_many, window_of};
 
 use crate::fault::StoryFault;
 use hub_story::Window;
@@ -13,6 +13,10 @@ pub enum Form {
     Text,
     /// As a picture.
     Picture,
+    /// As a sequence diagram for Mermaid.
+    Mermaid,
+    /// As a trace in Chrome's format.
+    Trace,
 }
 
 /// Which of its steps.
@@ -41,20 +45,44 @@ pub struct Asked {
 /// The most steps that a picture shows without being asked for so many.
 pub(crate) const MOST_DRAWN: usize = 10_000;
 
+/// The most steps that a sequence diagram shows. It has no scale, and Mermaid draws no longer text.
+pub(crate) const MOST_IN_DIAGRAM: u32 = 200;
+
 /// Whether a journal of so many steps is too long to be shown whole.
 fn too_long(form: Form, count: usize) -> bool
     ensures { result ≡ too_long form count }
 {
     match form {
-        Form::Text => false,
         Form::Picture => count > MOST_DRAWN,
+        Form::Text | Form::Mermaid | Form::Trace => false,
     }
 }
 
-/// The places of the steps that are asked for, in a journal of so many.
-pub(crate) fn window_of(asked: Asked, count: usize) -> Result<Window, StoryFault>
+/// Whether so many steps are more than the form ever shows.
+fn too_many(form: Form, count: u32) -> bool
+    ensures { result ≡ too_many form count }
+{
+    match form {
+        Form::Mermaid => count > MOST_IN_DIAGRAM,
+        Form::Text | Form::Picture | Form::Trace => false,
+    }
+}
+
+/// These steps, where they are not too many.
+fn fitting(form: Form, window: Window) -> Result<Window, StoryFault>
+    ensures { result ≡ fitting form window }
+{
+    if too_many(form, window.end.saturating_sub(window.first)) {
+        Err(StoryFault::TooMany)
+    } else {
+        Ok(window)
+    }
+}
+
+/// The places of the steps that are asked for, in a journal of so many, however many they are.
+fn shown_of(asked: Asked, count: usize) -> Result<Window, StoryFault>
     requires few { count < 2 ^ 32 }
-    ensures { result ≡ window_of asked count }
+    ensures { result ≡ shown_of asked.form asked.shown count }
 {
     match asked.shown {
         Shown::All if too_long(asked.form, count) => Err(StoryFault::TooLong),
@@ -68,5 +96,16 @@ pub(crate) fn window_of(asked: Asked, count: usize) -> Result<Window, StoryFault
             first: from - 1,
             end: to,
         }),
+    }
+}
+
+/// The places of the steps that are asked for, in a journal of so many.
+pub(crate) fn window_of(asked: Asked, count: usize) -> Result<Window, StoryFault>
+    requires few { count < 2 ^ 32 }
+    ensures { result ≡ window_of asked count }
+{
+    match shown_of(asked, count) {
+        Ok(window) => fitting(asked.form, window),
+        Err(fault) => Err(fault),
     }
 }

@@ -2,9 +2,11 @@
 
 mod chain;
 mod explore;
+mod mermaid;
 mod picture;
 mod serve;
 mod story;
+mod trace;
 
 use crate::asked::Form;
 use crate::explain::explain_given;
@@ -13,10 +15,13 @@ use chain::{check_files, read_files};
 use clap::ArgMatches;
 use explore::{Exploring, explore_given, read_exploring};
 use hub_replay::Sink;
+pub(crate) use mermaid::diagram_of;
 pub(crate) use picture::picture_of;
 use serve::serve_streams;
 use std::alloc::{AllocError, Global};
 pub(crate) use story::story_of_steps;
+pub(crate) use trace::trace_of;
+use trace::read_whole;
 
 /// What the program is asked to do.
 #[derive(Drop)]
@@ -25,6 +30,10 @@ pub(crate) enum Command<'a> {
     Story(Given<'a>),
     /// `picture`: to draw it.
     Picture(Given<'a>),
+    /// `mermaid`: to write it as a sequence diagram.
+    Mermaid(Given<'a>),
+    /// `trace`: to write it as a trace.
+    Trace(Given<'a>),
     /// `serve`: to answer a journal's lines as they come.
     Serve,
     /// `chain`: to check that these files are the chapters of one journal.
@@ -57,6 +66,8 @@ pub(crate) fn grammar<'a>(alloc: Global) -> Result<clap::Command<'a>, AllocError
         .subcommand_required(true)
         .subcommand(story::grammar(alloc)?)?
         .subcommand(picture::grammar(alloc)?)?
+        .subcommand(mermaid::grammar(alloc)?)?
+        .subcommand(trace::grammar(alloc)?)?
         .subcommand(serve::grammar(alloc))?
         .subcommand(chain::grammar(alloc)?)?
         .subcommand(explore::grammar(alloc)?)
@@ -73,6 +84,8 @@ pub(crate) fn command_of<'a>(
     match name {
         "story" => Ok(read_given(found).map(Command::Story)),
         "picture" => Ok(read_given(found).map(Command::Picture)),
+        "mermaid" => Ok(read_given(found).map(Command::Mermaid)),
+        "trace" => Ok(Some(Command::Trace(read_whole(found)))),
         "serve" => Ok(Some(Command::Serve)),
         "chain" => Ok(Some(Command::Chain(read_files(alloc, found)?))),
         "explore" => Ok(read_exploring(found).map(Command::Explore)),
@@ -85,6 +98,8 @@ pub(crate) fn carry_out<X: Sink>(rt: &HostRuntime, command: Command<'_>, errors:
     match command {
         Command::Story(given) => explain_given(rt, Form::Text, given, errors),
         Command::Picture(given) => explain_given(rt, Form::Picture, given, errors),
+        Command::Mermaid(given) => explain_given(rt, Form::Mermaid, given, errors),
+        Command::Trace(given) => explain_given(rt, Form::Trace, given, errors),
         Command::Serve => serve_streams(rt, errors),
         Command::Chain(files) => check_files(rt, &files, errors),
         Command::Explore(given) => explore_given(rt, given, errors),

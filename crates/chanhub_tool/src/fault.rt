@@ -17,6 +17,8 @@ pub enum StoryFault {
     Outside,
     /// A picture of the whole journal is too long; one of a part of it is not.
     TooLong,
+    /// A sequence diagram of so many steps is too long.
+    TooMany,
     /// As a replay tells it: a malformed journal, a device or memory.
     Replay(ReplayFault),
 }
@@ -29,7 +31,10 @@ impl ProgramFault for StoryFault {
     /// 1 for a device or memory, 2 for a malformed journal or steps that it does not have.
     fn status(self) -> u8 {
         match self {
-            StoryFault::Backward | StoryFault::Outside | StoryFault::TooLong => 2,
+            StoryFault::Backward
+            | StoryFault::Outside
+            | StoryFault::TooLong
+            | StoryFault::TooMany => 2,
             StoryFault::Replay(fault) => fault.status(),
         }
     }
@@ -41,6 +46,10 @@ impl ProgramFault for StoryFault {
             StoryFault::TooLong => write_pieces(
                 errors,
                 &["chanhub: too long for a picture, which shows FROM to TO\n"],
+            ),
+            StoryFault::TooMany => write_pieces(
+                errors,
+                &["chanhub: too long for a diagram, which shows 200 steps at most\n"],
             ),
             StoryFault::Replay(fault) => fault.write_line(errors),
         }

@@ -25,6 +25,40 @@ pub(crate) fn optional<'a>(alloc: Global, id: &'a str, name: &'a str, help: &'a 
         .help(help)
 }
 
+/// The argument that is a file with a journal.
+fn file_argument<'a>(alloc: Global, help: &'a str) -> Arg<'a> {
+    optional(alloc, "file", "FILE", help)
+}
+
+/// The option that is a file to write.
+fn output_option<'a>(alloc: Global) -> Arg<'a> {
+    optional(
+        alloc,
+        "output",
+        "OUT",
+        "The file that is written, once all is known; without it, or as -, standard output",
+    )
+    .short('o')
+    .long("output")
+}
+
+/// A command over a whole journal, in `clap`'s words.
+pub(crate) fn whole_journal_command<'a>(
+    alloc: Global,
+    name: &'a str,
+    about: &'a str,
+    usage: &'a str,
+) -> Result<Command<'a>, AllocError> {
+    Command::new(alloc, name)
+        .about(about)
+        .override_usage(usage)
+        .arg(file_argument(
+            alloc,
+            "The journal; without it, or as -, standard input",
+        ))?
+        .arg(output_option(alloc))
+}
+
 /// A command over a journal, in `clap`'s words.
 pub(crate) fn journal_command<'a>(
     alloc: Global,
@@ -44,17 +78,9 @@ pub(crate) fn journal_command<'a>(
         "TO",
         "The last step shown; without it FROM alone is shown",
     );
-    let file = optional(
+    let file = file_argument(
         alloc,
-        "file",
-        "FILE",
         "The journal; without it, or as -, standard input. A word of digits alone is a step: ./7 is a file",
-    );
-    let output = optional(
-        alloc,
-        "output",
-        "OUT",
-        "The file that is written, once all is known; without it, or as -, standard output",
     );
     Command::new(alloc, name)
         .about(about)
@@ -62,7 +88,7 @@ pub(crate) fn journal_command<'a>(
         .arg(from)?
         .arg(to)?
         .arg(file)?
-        .arg(output.short('o').long("output"))
+        .arg(output_option(alloc))
 }
 
 /// Whether a word can only be a step: it has digits, and nothing else.

@@ -1,0 +1,2 @@
+mod Words
+mod PortMoves

@@ -20,8 +20,8 @@ pub(crate) use picture::picture_of;
 use serve::serve_streams;
 use std::alloc::{AllocError, Global};
 pub(crate) use story::story_of_steps;
-pub(crate) use trace::trace_of;
 use trace::read_whole;
+pub(crate) use trace::trace_of;
 
 /// What the program is asked to do.
 #[derive(Drop)]

@@ -52,10 +52,7 @@ pub(crate) fn whole_journal_command<'a>(
     Command::new(alloc, name)
         .about(about)
         .override_usage(usage)
-        .arg(file_argument(
-            alloc,
-            "The journal; without it, or as -, standard input",
-        ))?
+        .arg(file_argument(alloc, "The journal; without it, or as -, standard input"))?
         .arg(output_option(alloc))
 }
 

@@ -19,5 +19,11 @@ returns-clause-ok c =
       window = c.in_ok-window.window;
       spelled = c.in_ok-journal.ensures.found;
       shown = sym (rw (c.len.ensures, c.entries.ensures) at c.in_ok-window.ensures);
-      is = rw c.in-Picture.is c.in_ok-picture_of-in-Picture.ensures;
+      is = rw c.in-Trace.is c.in_ok-trace_of-in-Trace.ensures;
     }
+
+pub diagram_of-requires-clause-few : goal.diagram_of-requires-clause-few
+diagram_of-requires-clause-few c = few-entries _ _ _ c.in_ok-journal.ensures.found
+
+pub trace_of-requires-clause-few : goal.trace_of-requires-clause-few
+trace_of-requires-clause-few c = few-entries _ _ _ c.in_ok-journal.ensures.found

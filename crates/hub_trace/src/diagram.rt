@@ -243,7 +243,7 @@ fn put_escaped(out: &mut Vec<u8>, text: &[u8]) -> Result<(), AllocError>
 }
 
 /// A text whose bytes are escaped.
-#[derive(Clone, Copy)]
+#[derive(Drop)]
 struct Escaped<P>(P);
 
 impl<T, P: Pen<T>> Pen<T> for Escaped<P> {

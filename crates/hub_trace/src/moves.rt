@@ -8,7 +8,7 @@ use hub_core::ShortEntries;
 use hub_story::Told;
 
 /// In which direction a value moved.
-#[derive(Clone, Copy, Debug, PartialEq, Eq)]
+#[derive(Clone, Copy)]
 pub(crate) enum Way {
     /// It was sent.
     Into,

@@ -17,7 +17,7 @@ use hub_story_text::PackedText;
 use std::alloc::{AllocError, Global};
 
 /// A value that moved through a port.
-#[derive(Clone, Copy, Debug, PartialEq, Eq)]
+#[derive(Clone, Copy)]
 pub(crate) struct Moved {
     /// Who sent or received it.
     pub(crate) pid: Pid,

@@ -1,5 +1,5 @@
 -- Which values moved, by what is told.
-use Rattle.std.specs.Prelude.{ℕ, List, Option, None, Some, slice_get}
+use Rattle.std.specs.Prelude.{List, Option, None, Some, slice_get}
 use Rattle.std.specs.Option.{option_and_then}
 use Rattle.hub_base.specs.declared.case.Case.{Case}
 use Rattle.hub_base.specs.declared.case.Case.TheVariants.{Send, Recv}

@@ -1,7 +1,7 @@
 //! The ports that have room for values.
 
 ghost use Rattle.std.specs.Prelude.{◌≡◌, IfOk};
-ghost use Rattle.std.specs.List.{filter_map, list_any};
+ghost use Rattle.std.specs.List.{filter_map};
 ghost use Rattle.hub_trace.specs.Ports.{has_room, made_with_room, room_at, room_of, with_room};
 
 use hub_base::{Case, Port, Step, StepRef, What};

@@ -1,6 +1,6 @@
 //! A trace in Chrome's format.
 
-ghost use Rattle.std.specs.Prelude.{◌≡◌, ◌<◌, ◌-◌, ◌^◌, ◌++◌, length, IfOk, OnOk};
+ghost use Rattle.std.specs.Prelude.{◌≡◌, ◌++◌, IfOk, OnOk};
 ghost use Rattle.hub_story.specs.Stories.{IsShortStoryOf};
 ghost use Rattle.hub_trace.specs.Trace.{event_text, ended_text, is_marked, kind_of, mark_text, marked_text, name_text, slice_text, still_text};
 ghost use Rattle.hub_trace.specs.Trace.{told_text, trace_text};

@@ -45,7 +45,7 @@ pub struct Asked {
 /// The most steps that a picture shows without being asked for so many.
 pub(crate) const MOST_DRAWN: usize = 10_000;
 
-/// The most steps that a sequence diagram shows. It has no scale, and Mermaid draws no longer text.
+/// The most steps that a sequence diagram shows: of more it could not be read, and Mermaid refuses texts that are too long.
 pub(crate) const MOST_IN_DIAGRAM: u32 = 200;
 
 /// Whether a journal of so many steps is too long to be shown whole.

@@ -43,9 +43,9 @@ const char *chanhub_strfault(int fault) {
         [CHANHUB_JOURNAL_FULL] = "the hub has reached its step limit",
         [CHANHUB_NO_MEMORY] = "out of memory",
         [CHANHUB_NOT_PARKED] = "the process has no waiting call",
-        [CHANHUB_NOT_YET] = "other steps come first in the journal that the hub follows",
-        [CHANHUB_DIVERGED] = "the journal that the hub follows has another step here",
         [CHANHUB_BAD_CALL] = "no hub, a number out of range, more than 16 cases or 32 bytes, or a call that needs edition 2 or a clock",
+        [CHANHUB_DIVERGED] = "the journal that the hub follows has another step here",
+        [CHANHUB_NOT_YET] = "other steps come first in the journal that the hub follows",
     };
     return text_at(texts, sizeof texts / sizeof *texts, fault);
 }

@@ -93,6 +93,8 @@ impl Fault {
     /// The journal that the hub [follows](crate::Hub::follow) has another step here. Sends, receives and selects return
     /// [`Ended::Diverged`] instead.
     pub const DIVERGED: Fault = Fault(14);
+    /// The turn of the call has not come. No hub of this crate is opened so that it reports this.
+    pub const NOT_YET: Fault = Fault(15);
 
     fn text(self) -> &'static str {
         match self {
@@ -112,6 +114,7 @@ impl Fault {
                 "a channel of another hub, more than 16 cases, a call that needs edition 2 or timeouts, or a cut of a hub that ends"
             }
             Fault::DIVERGED => "the journal that the hub follows has another step here",
+            Fault::NOT_YET => "other steps come first in the journal that the hub follows",
             _ => "a number that chanhub.h does not define",
         }
     }

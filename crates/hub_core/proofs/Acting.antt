@@ -10,7 +10,7 @@ use Rattle.hub_base.specs.declared.fault.Fault.{Fault}
 use Rattle.hub_base.specs.Steps.{tells}
 use Rattle.hub_core.specs.Hearing.{Heard}
 use Rattle.hub_core.specs.Records.{MachineLists}
-use Rattle.hub_core.specs.Follows.{IsMake, Acts}
+use Rattle.hub_core.specs.Follows.{IsMake, Acts, MayAct, MayTakeEffect}
 use Rattle.hub_core.specs.ListSteps.{ListChange, fault_on, effect_on, told_fault, acts_by, acts_on, all_wait_on, all_stalled, stalls_on, refusal_of}
 use Rattle.hub_core.specs.ListSteps.{answers_on, counted, turn_on}
 use Rattle.hub_core.proofs.Reached.{awake}
@@ -19,6 +19,12 @@ use Rattle.hub_core.proofs.Reached.{awake}
 pub fault_is : {m n : MachineLists} {r o : Option Fault} (step : Step) → n ≡ m → r ≡ fault_on n.edition n.board step → r ≡ o
     → fault_on m.edition m.board step ≡ o
 fault_is step same says is = ap (λ (k : MachineLists). fault_on k.edition k.board step) (sym same) ∙ sym says ∙ is
+
+-- a step without a fault may take effect
+pub may_take_effect : {m n : MachineLists} {r : Option Fault} {pid : Pid} (step : Step) → MayAct m pid → n ≡ m → r ≡ fault_on n.edition n.board step
+    → r ≡ None → MayTakeEffect m pid step
+may_take_effect step may same says fine =
+    record { reached = may.reached; admitted = may.admitted; fault = fault_is step same says fine; steps = may.steps }
 
 on_ok : {E : Type 0} {P Q : Type 0} (r : Result (Unit {0}) E) → (P → Q) → OnOk r P → OnOk r Q
 on_ok (Ok done) turns holds = turns holds

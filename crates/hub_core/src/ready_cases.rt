@@ -27,7 +27,9 @@ pub(crate) fn can_proceed(board: &Board, case: &Case) -> bool
 }
 
 /// Puts the numbers of the cases that can proceed, in order, and tells how many they are. Each case's number is put,
-/// and counted only where the case can proceed: so there is no branch on it, which the processor would often miss.
+/// and counted only where the case can proceed: so there is no branch on it, which the processor would often miss. It stands
+/// alone: where it is compiled into a step, its loop has too few registers.
+#[inline(never)]
 pub(crate) fn find_ready(board: &Board, cases: &[Case], ready: &mut [u8; CASE_PLACES]) -> usize
     requires few { length cases.now ≤ CASE_PLACES }
     requires named { AllMade (length board.now.ports) cases.now }

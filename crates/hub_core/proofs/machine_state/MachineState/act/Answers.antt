@@ -1,17 +1,13 @@
 use Rattle.std.proofs.Common.{ap, ◌∙◌}
 use Rattle.hub_base.specs.declared.entry.Step.TheVariants.{Make, Call, Close, Cancel}
 use Rattle.hub_core.specs.ListSteps.{call_fault_on}
-use Rattle.hub_core.proofs.Acting.{fault_is, takes_effect, tells_fault, makes_or_not}
+use Rattle.hub_core.proofs.Acting.{fault_is, may_take_effect, takes_effect, tells_fault, makes_or_not}
 use Rattle.hub_core.proofs.Reached.{call_named, ports_keep}
 use Rattle.hub_core.proofs.machine_state.MachineState.act.Goals as goal
 
 pub make-requires-clause-may : goal.make-requires-clause-may
-make-requires-clause-may g c = record {
-  reached = c.requires.may.reached;
-  admitted = c.requires.may.admitted;
-  fault = fault_is (Make c.in-Make.cap) c.self.view_is (c.make_fault.ensures c.self.inside.head.edition) c.in-None.is;
-  steps = c.requires.may.steps;
-}
+make-requires-clause-may g c =
+    may_take_effect (Make c.in-Make.cap) c.requires.may c.self.view_is (c.make_fault.ensures c.self.inside.head.edition) c.in-None.is
 
 pub returns-in-None-clause-acts : goal.returns-in-None-clause-acts
 returns-in-None-clause-acts g c =
@@ -34,12 +30,8 @@ pub call-requires-clause-keep : goal.call-requires-clause-keep
 call-requires-clause-keep g c = ports_keep c.args.self.now c.requires.may.reached c.requires.may.steps
 
 pub close-requires-clause-may : goal.close-requires-clause-may
-close-requires-clause-may g c = record {
-  reached = c.requires.may.reached;
-  admitted = c.requires.may.admitted;
-  fault = fault_is (Close c.in-Close.port) c.self.view_is (c.close_fault.ensures c.self.inside.head.edition) c.in-None-close_fault.is;
-  steps = c.requires.may.steps;
-}
+close-requires-clause-may g c =
+    may_take_effect (Close c.in-Close.port) c.requires.may c.self.view_is (c.close_fault.ensures c.self.inside.head.edition) c.in-None-close_fault.is
 
 pub returns-in-None-close_fault-clause-acts : goal.returns-in-None-close_fault-clause-acts
 returns-in-None-close_fault-clause-acts g c =
@@ -54,12 +46,8 @@ returns-in-Some-close_fault-clause-acts g c =
     c.tell_fault-in-Some-close_fault.ensures)
 
 pub cancel-requires-clause-may : goal.cancel-requires-clause-may
-cancel-requires-clause-may g c = record {
-  reached = c.requires.may.reached;
-  admitted = c.requires.may.admitted;
-  fault = fault_is (Cancel c.in-Cancel.other) c.self.view_is (c.cancel_fault.ensures c.self.inside.head.edition) c.in-None-cancel_fault.is;
-  steps = c.requires.may.steps;
-}
+cancel-requires-clause-may g c =
+    may_take_effect (Cancel c.in-Cancel.other) c.requires.may c.self.view_is (c.cancel_fault.ensures c.self.inside.head.edition) c.in-None-cancel_fault.is
 
 pub returns-in-None-cancel_fault-clause-acts : goal.returns-in-None-cancel_fault-clause-acts
 returns-in-None-cancel_fault-clause-acts g c =

@@ -47,6 +47,12 @@ pub record CutsAndSteps (old : HubView) (e : Entry) (new : HubView) (told : List
   pub journal : new.journal ≡ checkpoint (state_of old) ++ e ∷ []
   pub terms : new.terms ≡ old.terms
 
+-- it has heard some events, of which this holds
+pub record HasHeard {S : Type 0} (Heard : List Event → S → Type 0) (now : S) (Holds : List Event → Type 0) : Type 0 where
+  pub told : List Event
+  pub heard : Heard told now
+  pub holds : Holds told
+
 -- why a step is refused in this state, where memory may be asked for or not
 abbrev pub Refused : State → Type 0 → Entry → Fault → Type 0
 Refused s wants e fault.NoProcess = refusal s e.pid ≡ Some fault.NoProcess

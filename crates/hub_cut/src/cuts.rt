@@ -3,16 +3,17 @@
 ghost use Rattle.std.specs.Prelude.{◌≡◌, ◌≤◌, ◌<◌, ◌+◌, length, IfOk, IfErr, OnOk, OnErr, None};
 ghost use Rattle.std.specs.List.{flat_map};
 ghost use Rattle.hub_base.specs.Lines.{line};
+ghost use Rattle.hub_base.specs.declared.limits.TheConstants.{MOST_EVENTS};
 ghost use Rattle.hub_base.specs.Text.{Fits};
 ghost use Rattle.hub_base.specs.Steps.{refusal};
 ghost use Rattle.hub_core.specs.HubView.{state_of};
 ghost use Rattle.hub_chapters.specs.Checkpoint.{checkpoint, most_steps};
 ghost use Rattle.hub_cut.specs.ChapterText.{most_line};
-ghost use Rattle.hub_cut.specs.Cut.{CutsAndSteps, IsCut, Refused};
+ghost use Rattle.hub_cut.specs.Cut.{CutsAndSteps, HasHeard, IsCut, Refused};
 
 use crate::limits::CHECKPOINT_BYTES;
-use crate::renewals::{make_step, renewed};
-use hub_base::{EntryRef, Events, Fault, Journal, NoMemory};
+use crate::renewals::{make_step_heard, renewed};
+use hub_base::{EntryRef, Fault, Hears, Journal, NoMemory};
 use hub_core::ShortHub;
 use std::alloc::Global;
 use std::mem;
@@ -50,41 +51,48 @@ pub fn cut_journal(alloc: Global, hub: &mut ShortHub) -> Result<Journal, NoMemor
     Ok(whole.into_journal())
 }
 
-/// The hub that a cut leaves, after a step of a process that is admitted. It is refused only if an allocation fails.
-fn renewed_after(
+/// The hub that a cut leaves, after a step of a process that is admitted, whose events are heard. It is refused only if an
+/// allocation fails, and then none was.
+fn renewed_after<E: Hears>(
     alloc: Global,
     hub: &ShortHub,
     entry: &EntryRef<'_>,
-    events: &mut Events,
+    events: &mut E,
 ) -> Result<ShortHub, NoMemory>
     requires fits { Fits hub.now.memory.hub.terms.head.edition entry.now }
     requires room { most_steps hub.now.memory.hub.terms.head < hub.now.memory.hub.terms.limit }
     requires admitted { refusal (state_of hub.now.memory.hub) entry.now.pid ≡ None }
-    ensures ok { IfOk result (λ h. CutsAndSteps hub.now.memory.hub entry.now h.memory.hub events.new.items) }
+    requires hears { MOST_EVENTS ≤ E.room events.old }
+    ensures ok { IfOk result (λ h.
+        HasHeard (E.heard events.old) events.new (CutsAndSteps hub.now.memory.hub entry.now h.memory.hub)) }
     ensures lines { IfOk result (λ h.
         length (flat_map line h.memory.hub.journal) ≤ CHECKPOINT_BYTES + most_line entry.now) }
+    ensures silent { OnErr result (events.new ≡ events.old) }
 {
     let mut next = renewed(alloc, hub)?;
-    make_step(&mut next, entry, events)?;
+    make_step_heard(&mut next, entry, events)?;
     Ok(next)
 }
 
-/// Cuts the hub, makes a step behind the checkpoint, and returns the hub as it was before. If the process is admitted, the
-/// step is refused only if an allocation fails. After a refusal nothing has changed.
-pub(crate) fn cut_and_step(
+/// Cuts the hub, makes a step behind the checkpoint, whose events are heard, and returns the hub as it was before. If the
+/// process is admitted, the step is refused only if an allocation fails. After a refusal nothing has changed.
+pub(crate) fn cut_and_step<E: Hears>(
     alloc: Global,
     hub: &mut ShortHub,
     entry: &EntryRef<'_>,
-    events: &mut Events,
+    events: &mut E,
 ) -> Result<ShortHub, Fault>
     requires fits { Fits hub.old.memory.hub.terms.head.edition entry.now }
     requires room { most_steps hub.old.memory.hub.terms.head < hub.old.memory.hub.terms.limit }
+    requires hears { MOST_EVENTS ≤ E.room events.old }
     ensures whole { IfOk result (λ h. h ≡ hub.old) }
-    ensures ok { OnOk result (CutsAndSteps hub.old.memory.hub entry.now hub.new.memory.hub events.new.items) }
+    ensures ok { OnOk result (
+        HasHeard (E.heard events.old) events.new (CutsAndSteps hub.old.memory.hub entry.now hub.new.memory.hub)) }
     ensures lines { OnOk result (
         length (flat_map line hub.new.memory.hub.journal) ≤ CHECKPOINT_BYTES + most_line entry.now) }
     ensures refused { IfErr result (λ f. Refused (state_of hub.old.memory.hub) (Unit {0}) entry.now f) }
     ensures unchanged { OnErr result (hub.new ≡ hub.old) }
+    ensures silent { OnErr result (events.new ≡ events.old) }
 {
     if let Some(fault) = hub.refusal(entry.pid) {
         return Err(fault);

@@ -5,15 +5,16 @@
 //! present chapter and in the one before it. Each of these is a journal of its own. Older chapters are handed out. A
 //! checkpoint and `keep` steps stay below the limit of a hub, so no step is refused because the journal is full.
 
-ghost use Rattle.std.specs.Prelude.{◌≡◌, [], IfOk, IfErr, IfSome, OnOk, OnErr, None, true, false};
+ghost use Rattle.std.specs.Prelude.{◌≡◌, ◌≤◌, [], IfOk, IfErr, IfSome, OnOk, OnErr, None, true, false};
 ghost use Rattle.std.specs.Option.{option_map};
 ghost use Rattle.hub_base.specs.Head.{is_of};
 ghost use Rattle.hub_base.specs.Runs.{state};
-ghost use Rattle.hub_base.specs.declared.limits.TheConstants.{MOST_STEPS};
+ghost use Rattle.hub_base.specs.declared.limits.TheConstants.{MOST_EVENTS, MOST_STEPS};
 ghost use Rattle.hub_core.specs.HubView.{RefusesOpening, terms_of};
 ghost use Rattle.hub_chapters.specs.Chapters.{Chapters, history};
 ghost use Rattle.hub_chapters.specs.Chapters.Chapters.{First};
 ghost use Rattle.hub_cut.specs.ChapterText.{FitsText};
+ghost use Rattle.hub_cut.specs.Cut.{HasHeard};
 ghost use Rattle.hub_cut.specs.Recorder.{FitTexts, IsKeep, IsRecorder, IsShort, Records, RecordsCut, RecordsStep, RefusesStep, chapter_out, head_of_all, begins, hub_in, is_full, out_or};
 ghost use Rattle.hub_cut.specs.Totals.{totals_at};
 
@@ -22,7 +23,7 @@ use crate::cuts::{cut_and_step, cut_short};
 use crate::limits::CHAPTER_BYTES;
 use crate::texts::{most_line, share_of};
 use crate::totals::{PORT_PLACES, add_received, base_of, no_bases, with_base};
-use hub_base::{Edition, EntryRef, Events, Fault, MOST_STEPS, NoMemory, Port, StepRef};
+use hub_base::{Edition, EntryRef, Fault, Hears, MOST_STEPS, NoMemory, Port, StepRef};
 use hub_core::{Hub, OpenFault, ShortHub};
 use std::alloc::Global;
 use std::marker::Model;
@@ -99,26 +100,28 @@ impl Recorder {
         })
     }
 
-    /// Makes a step that the hub's edition has. Its events replace those that were there; after a refusal they may be any.
-    /// If the present chapter is full, it is cut first, and the chapter before it is handed out into `out`, if there is
-    /// one, which must be empty then. So each chapter is handed out once, in order. The cases of a call stay where they
+    /// Makes a step that the hub's edition has. Its events are heard by whoever has room for those of any step; after a
+    /// refusal none was. If the present chapter is full, it is cut first, and the chapter before it is handed out into `out`,
+    /// if there is one, which must be empty then. So each chapter is handed out once, in order. The cases of a call stay where they
     /// are, until they are written into the journal.
     ///
     /// The only refusals are `NoProcess`, `Gone`, `Busy` and `NoMemory`, tested in this order; an exit is never refused by
     /// `NoMemory`. After a refusal nothing has changed.
-    pub fn step_into(
+    pub fn step_heard<E: Hears>(
         &mut self,
         entry: &EntryRef<'_>,
-        events: &mut Events,
+        events: &mut E,
         out: &mut Option<ShortHub>,
     ) -> Result<(), Fault>
         requires fits { is_of (head_of_all self.old).edition entry.now.step ≡ true }
+        requires hears { MOST_EVENTS ≤ E.room events.old }
         requires empty { begins self.old entry.now.step ≡ true → out.old ≡ None }
-        ensures ok { OnOk result (RecordsStep self.old entry.now self.new events.new.items) }
+        ensures ok { OnOk result (HasHeard (E.heard events.old) events.new (RecordsStep self.old entry.now self.new)) }
         ensures handed_out { OnOk result (option_map hub_in out.new ≡ out_or (chapter_out self.old entry.now.step) (option_map hub_in out.old)) }
         ensures text { OnOk result (IfSome (chapter_out self.old entry.now.step) FitsText) }
         ensures refused { IfErr result (λ f. RefusesStep self.old entry.now f) }
         ensures unchanged { OnErr result (self.new ≡ self.old) }
+        ensures silent { OnErr result (events.new ≡ events.old) }
         ensures kept { OnErr result (out.new ≡ out.old) }
     {
         if self.begins(&entry.step) {
@@ -142,15 +145,17 @@ impl Recorder {
     }
 
     /// Makes a step in the present chapter, which is not full unless it is an exit.
-    fn go_on(&mut self, entry: &EntryRef<'_>, events: &mut Events) -> Result<(), Fault>
+    fn go_on<E: Hears>(&mut self, entry: &EntryRef<'_>, events: &mut E) -> Result<(), Fault>
         requires fits { is_of (head_of_all self.old).edition entry.now.step ≡ true }
+        requires hears { MOST_EVENTS ≤ E.room events.old }
         requires room { begins self.old entry.now.step ≡ false }
-        ensures ok { OnOk result (RecordsStep self.old entry.now self.new events.new.items) }
+        ensures ok { OnOk result (HasHeard (E.heard events.old) events.new (RecordsStep self.old entry.now self.new)) }
         ensures refused { IfErr result (λ f. RefusesStep self.old entry.now f) }
         ensures unchanged { OnErr result (self.new ≡ self.old) }
+        ensures silent { OnErr result (events.new ≡ events.old) }
     {
         let share = share_of(self.hub.head().edition, entry);
-        self.hub.step_into(entry, events)?;
+        self.hub.step_heard(entry, events)?;
         self.fresh += share.steps;
         self.bytes += share.bytes;
         Ok(())
@@ -159,20 +164,22 @@ impl Recorder {
     /// Cuts the present chapter, which is full, and makes a step that is no exit behind its checkpoint. Hands out the
     /// chapter before it. It stands alone, so that a step that cuts nothing keeps no place for a hub on its stack.
     #[inline(never)]
-    fn begin_chapter(
+    fn begin_chapter<E: Hears>(
         &mut self,
         entry: &EntryRef<'_>,
-        events: &mut Events,
+        events: &mut E,
         out: &mut Option<ShortHub>,
     ) -> Result<(), Fault>
         requires fits { is_of (head_of_all self.old).edition entry.now.step ≡ true }
+        requires hears { MOST_EVENTS ≤ E.room events.old }
         requires full { begins self.old entry.now.step ≡ true }
         requires empty { out.old ≡ None }
-        ensures ok { OnOk result (RecordsStep self.old entry.now self.new events.new.items) }
+        ensures ok { OnOk result (HasHeard (E.heard events.old) events.new (RecordsStep self.old entry.now self.new)) }
         ensures handed_out { OnOk result (option_map hub_in out.new ≡ self.old.before) }
         ensures text { OnOk result (IfSome self.old.before FitsText) }
         ensures refused { IfErr result (λ f. RefusesStep self.old entry.now f) }
         ensures unchanged { OnErr result (self.new ≡ self.old) }
+        ensures silent { OnErr result (events.new ≡ events.old) }
         ensures kept { OnErr result (out.new ≡ out.old) }
     {
         let bytes = most_line(self.hub.head().edition, entry);

@@ -11,14 +11,15 @@ ghost use Rattle.hub_base.specs.Steps.{refusal};
 ghost use Rattle.hub_base.specs.Text.{Fits, steps_of};
 ghost use Rattle.hub_laws.specs.Journals.{IsLegal};
 ghost use Rattle.hub_core.specs.Follows.{IsMake};
-ghost use Rattle.hub_core.specs.HubView.{Grows, HasRoom, HasSpare, IsLimit, StepRules, Steps, opened_hub, state_of};
+ghost use Rattle.hub_base.specs.declared.limits.TheConstants.{MOST_EVENTS};
+ghost use Rattle.hub_core.specs.HubView.{Grows, HasRoom, HasSpare, IsLimit, StepRules, Steps, StepsHeard, opened_hub, state_of};
 ghost use Rattle.hub_chapters.specs.Checkpoint.{call_again, checkpoint, exited, ports_again};
 ghost use Rattle.hub_cut.specs.Cut.{CanMake, hub_with, renewed_hub, with_entries};
 
 use crate::checkpoints::{write_calls, write_exits, write_port};
 use crate::limits::CHECKPOINT_BYTES;
 use crate::texts::all_fit;
-use hub_base::{Entry, EntryRef, Events, Fault, MOST_PORTS, NoMemory, Port};
+use hub_base::{Entry, EntryRef, Events, Fault, Hears, MOST_PORTS, NoMemory, Port};
 use hub_core::{Hub, OpenFault, ShortHub, Terms};
 use std::alloc::Global;
 
@@ -35,7 +36,8 @@ fn opened(alloc: Global, terms: Terms) -> Result<ShortHub, NoMemory>
     }
 }
 
-/// Makes a step of a process that is admitted, in a journal that has room. It is refused only if an allocation fails.
+/// Makes a step of a process that is admitted, in a journal that has room. Its events replace those that were there; after a
+/// refusal there are none. It is refused only if an allocation fails.
 pub fn make_step(
     hub: &mut ShortHub,
     entry: &EntryRef<'_>,
@@ -49,7 +51,28 @@ pub fn make_step(
     ensures make { OnErr result (HasSpare hub.old.memory → IsMake entry.now.step) }
     ensures unchanged { OnErr result (hub.new.memory.hub ≡ hub.old.memory.hub) }
 {
-    match hub.step_into(entry, events) {
+    events.clear();
+    make_step_heard(hub, entry, events)
+}
+
+/// The same, and its events are heard by whoever has room for those of any step. After a refusal none was.
+pub(crate) fn make_step_heard<E: Hears>(
+    hub: &mut ShortHub,
+    entry: &EntryRef<'_>,
+    events: &mut E,
+) -> Result<(), NoMemory>
+    requires fits { is_of hub.old.memory.hub.terms.head.edition entry.now.step ≡ true }
+    requires room { HasRoom hub.old.memory.hub entry.now }
+    requires admitted { refusal (state_of hub.old.memory.hub) entry.now.pid ≡ None }
+    requires hears { MOST_EVENTS ≤ E.room events.old }
+    ensures ok { OnOk result (
+        StepsHeard hub.old.memory.hub entry.now hub.new.memory.hub (E.heard events.old) events.new) }
+    ensures grows { OnErr result (Grows entry.now.step hub.old.memory.hub.places) }
+    ensures make { OnErr result (HasSpare hub.old.memory → IsMake entry.now.step) }
+    ensures unchanged { OnErr result (hub.new.memory.hub ≡ hub.old.memory.hub) }
+    ensures silent { OnErr result (events.new ≡ events.old) }
+{
+    match hub.step_heard(entry, events) {
         Ok(()) => Ok(()),
         Err(Fault::NoMemory) => Err(NoMemory),
         Err(_) => unreachable!(),

@@ -1,17 +1,19 @@
 -- A step of a hub that never ends, as a step of one hub that was never cut.
-use Rattle.std.proofs.Common.{◌≡◌, ◌+◌, ◌<◌, ℕ, List, [], ◌∷◌, length, refl, arith}
+use Rattle.std.proofs.Common.{◌≡◌, ◌∙◌, ◌+◌, ◌<◌, ℕ, List, [], ◌∷◌, length, refl, ap, subst, arith}
 use Rattle.hub_base.specs.Entry.{Entry}
 use Rattle.hub_base.specs.declared.event.Event.{Event}
 use Rattle.hub_base.specs.declared.limits.TheConstants.{MOST_PROCS}
+use Rattle.hub_base.specs.declared.value.Pid.{Pid}
 use Rattle.hub_base.specs.Text.{steps_of}
 use Rattle.hub_core.specs.HubView.{HubView, Steps, with_entry}
 use Rattle.hub_chapters.specs.Chapters.{Chapters, history}
 use Rattle.hub_chapters.specs.Chapters.Chapters.{First}
 use Rattle.hub_chapters.proofs.Chapters.{chapters-law}
 use Rattle.hub_cut.specs.Recorder.{GoesOn, RecordsStep, RecorderView, Records, head_of_all}
+use Rattle.hub_live.specs.Answers.{AnswersView, Keeps}
 use Rattle.hub_live.specs.Locked.{IsLawful, LockedView, answer_after, answer_for, pids_of}
-use Rattle.hub_live.proofs.Locks.{answer_replies, lawful_none, lawful_served, told_some}
-use Rattle.hub_endless.specs.Endless.{EndlessView, Explains, NoneWaits, ServesNext}
+use Rattle.hub_live.proofs.Locks.{answer_replies, lawful_none, lawful_served, told_caller, told_some}
+use Rattle.hub_endless.specs.Endless.{EndlessKeeps, EndlessView, Explains, NoneWaits, ServesMade, ServesNext, endless_view}
 
 -- a hub that was never cut, with the whole history as its journal
 abbrev uncut : Chapters → RecorderView → HubView
@@ -55,6 +57,17 @@ opened l records none = record {
   replies = λ q. rw none ((lawful_none (uncut (First []) l.recorder) records.legal).replies q);
 }
 
+-- what waits for each process once the events were heard
+pub answers_for : (chapters : Chapters) (old : EndlessView) (e : Entry) (new : RecorderView) (told : List Event) (b : AnswersView) (answer : Event)
+    → GoesOn old.recorder chapters e new told → (k : Keeps old.answers told b answer) → (q : ℕ) → q < length old.answers
+    → answer_for b.waiting q ≡ answer_after old.answers e.pid k.ended q
+answers_for chapters old e new told b answer goes k q lt =
+    let steps = uncut_steps chapters old.recorder e new told goes in
+    k.answers q lt
+    ∙ ap (λ (p : Pid). answer_after old.answers p k.ended q)
+    (told_caller (uncut chapters old.recorder) (with_entry e (uncut chapters old.recorder)) e answer k.ended
+    (subst (Steps (uncut chapters old.recorder) e (with_entry e (uncut chapters old.recorder))) k.told steps))
+
 -- what a step leaves and tells
 pub serves_next : (chapters : Chapters) (old : EndlessView) (e : Entry) (new : EndlessView) (answer : Event) (ended : List Event) →
     length old.answers ≡ MOST_PROCS → length new.answers ≡ MOST_PROCS → Explains chapters old →
@@ -78,4 +91,22 @@ serves_next chapters old e new answer ended places room so s answers pids =
         records = goes.records;
         replies = λ q. rw (s.terms, goes.history) (next.replies q);
       };
+    }
+
+-- and once its events were heard
+pub serves_made : (old : EndlessView) (e : Entry) (new : RecorderView) (told : List Event) (b : AnswersView) (answer : Event) → EndlessKeeps old
+    → RecordsStep old.recorder e new told → Keeps old.answers told b answer → ServesMade old e (endless_view new b.waiting b.ended) answer
+serves_made old e new told b answer keeps s k =
+    let (chapters, so) = keeps.explained in
+    let answers : (q : ℕ) → q < MOST_PROCS → answer_for b.waiting q ≡ answer_after old.answers e.pid k.ended q =
+    λ q lt. answers_for chapters old e new told b answer (s.goes_on chapters so.records) k q (omega (arith, keeps.places, lt)) in
+    record {
+      ended = k.ended;
+      next = λ chapters so. serves_next chapters old e (endless_view new b.waiting b.ended) answer k.ended keeps.places (k.places ∙ keeps.places) so
+          (subst (RecordsStep old.recorder e new) k.told s) answers k.pids;
+      answers = answers;
+      pids = k.pids;
+      terms = s.terms;
+      keep = s.keep;
+      early = s.early;
     }

@@ -14,11 +14,10 @@ ghost use Rattle.hub_cut.specs.Totals.{totals_at};
 ghost use Rattle.hub_live.specs.Locked.{IsReplyTo, answer_for};
 ghost use Rattle.hub_endless.specs.Endless.{CutsNow, Explains, NoneWaits, ServesOn, without_answer};
 
-use crate::answers::Answers;
-use hub_base::{Edition, EntryRef, Event, Events, Fault, Head, NoMemory, Pid, Port, StepRef};
+use hub_base::{Edition, EntryRef, Event, Fault, Head, NoMemory, Pid, Port, StepRef};
 use hub_core::{OpenFault, ShortHub};
 use hub_cut::{Recorder, Totals};
-use hub_live::under_lock::Pids;
+use hub_live::under_lock::{Answers, Pids};
 use std::alloc::Global;
 use std::marker::Model;
 
@@ -27,10 +26,8 @@ use std::marker::Model;
 pub struct EndlessHub {
     /// The hub, which keeps its last two chapters.
     recorder: Recorder,
-    /// What waits between its steps.
+    /// The answers that wait, and whose calls the last step that was made ended.
     answers: Answers,
-    /// Where the hub leaves the events of a step. Contracts do not see them.
-    events: Events,
 }
 
 impl Model for EndlessHub {
@@ -38,9 +35,9 @@ impl Model for EndlessHub {
 
     ghost Value = { EndlessView };
 
-    ghost view = { λ l. endless_view l.recorder l.answers.waiting l.answers.ended.items };
+    ghost view = { λ l. endless_view l.recorder l.answers.waiting l.answers.ended };
 
-    ghost invariant = { λ l. EndlessKeeps (endless_view l.recorder l.answers.waiting l.answers.ended.items) };
+    ghost invariant = { λ l. EndlessKeeps (endless_view l.recorder l.answers.waiting l.answers.ended) };
 }
 
 impl EndlessHub {
@@ -65,8 +62,7 @@ impl EndlessHub {
         let recorder = Recorder::open(alloc, procs, keep, edition)?;
         Ok(EndlessHub {
             recorder,
-            answers: Answers::none(),
-            events: Events::new(),
+            answers: Answers::new(),
         })
     }
 
@@ -88,13 +84,12 @@ impl EndlessHub {
         ensures text { OnOk result (IfSome (chapter_out self.old.recorder entry.now.step) FitsText) }
         ensures kept { OnErr result (out.new ≡ out.old) }
     {
-        self.recorder.step_into(entry, &mut self.events, out)?;
-        let Some((first, ended)) = self.events.as_slice().split_first() else {
-            unreachable!()
-        };
-        let answer = *first;
-        self.answers.keep(entry.pid, ended);
-        Ok(answer)
+        self.answers.begin();
+        self.recorder.step_heard(entry, &mut self.answers, out)?;
+        match self.answers.own() {
+            Some(answer) => Ok(*answer),
+            None => unreachable!(),
+        }
     }
 
     /// Takes out the answer that waits for a process: the process's reply in the whole history, and the process has no open

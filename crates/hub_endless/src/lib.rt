@@ -4,7 +4,6 @@
 //! the one that the whole history gives.
 #![tactic(auto)]
 
-mod answers;
 mod endless_hub;
 
 pub use endless_hub::EndlessHub;

@@ -3,10 +3,10 @@ use Rattle.std.proofs.Common.{◌≡◌, ◌<◌, ◌==◌, ◌++◌, ◌∷◌,
 use Rattle.std.specs.Prelude.{slice_set}
 use Rattle.std.proofs.lemmas.List.{append-nil, length-set}
 use Rattle.hub_base.specs.declared.limits.TheConstants.{MOST_PROCS}
-use Rattle.hub_live.specs.Answers.{AnswersView, begun, hears, hears_all}
-use Rattle.hub_live.specs.Locked.{answer_for, last_told}
+use Rattle.hub_live.specs.Answers.{AnswersView, Keeps, begun, hears_all}
+use Rattle.hub_live.specs.Locked.{answer_after, answer_for, last_told}
 use Rattle.hub_live.specs.Prelude.{Entry, Event, Pid, HubView, Steps, LockedView, pids_of, Serves}
-use Rattle.hub_live.proofs.Locks.{answer_for-set, last_told-cons, told_some, told_caller, serves}
+use Rattle.hub_live.proofs.Locks.{answer_for-set, last_told-cons, told_caller}
 
 -- behind the answer to the step
 abbrev behind : Event → List (Option Event) → List Pid → AnswersView
@@ -36,30 +36,50 @@ rest-waits own ws ended (x ∷ xs) q lt =
     ∙ ap (λ (o : Option Event). last_told q o xs) (answer_for-set ws x.pid.0 q (Some x) lt)
     ∙ sym (last_told-cons q (answer_for ws q) x xs)
 
--- a step that was heard was answered
-pub answered : (old new : HubView) (e : Entry) (a b : AnswersView) (told : List Event) → Steps old e new told → b ≡ hears_all (begun a) told
-    → b.own ≡ None → ⊥
-answered old new e a b [] s heard none = told_some old new e [] s refl
-answered old new e a b (x ∷ xs) s heard none =
-    let own : Some x ≡ None = sym (rest-own x (slice_set a.waiting x.pid.0 None) [] xs) ∙ sym (ap (λ (k : AnswersView). k.own) heard) ∙ none in
-    let g : ⊥ = cc in g
-
 some_same : (x y : Event) → Some x ≡ Some y → x ≡ y
 some_same x y is = cc
 
--- and its events lie in their places
-pub serves_heard : (old : LockedView) (e : Entry) (hub : HubView) (a b : AnswersView) (told : List Event) (answer : Event)
-    → a.waiting ≡ old.answers → length old.answers ≡ MOST_PROCS → Steps old.hub e hub told → b ≡ hears_all (begun a) told → b.own ≡ Some answer
-    → Serves old e (record { hub = hub; answers = b.waiting; ended = b.ended }) answer
-serves_heard old e hub a b [] answer same places s heard own = absurd (told_some old.hub hub e [] s refl)
-serves_heard old e hub a b (x ∷ xs) answer same places s heard own =
+-- where the first of some events was heard, it is the answer
+pub kept : (a b : AnswersView) (told : List Event) (answer : Event) → b ≡ hears_all (begun a) told → b.own ≡ Some answer
+    → Keeps a.waiting told b answer
+kept a b [] answer heard own =
+    let none : None ≡ Some answer = sym (ap (λ (k : AnswersView). k.own) heard) ∙ own in
+    absurd (let g : ⊥ = cc in g)
+kept a b (x ∷ xs) answer heard own =
     let cleared = slice_set a.waiting x.pid.0 None in
-    let after = hears_all (behind x cleared []) xs in
+    let places : length cleared ≡ length a.waiting = length-set a.waiting x.pid.0 None in
     let is : x ≡ answer =
     some_same x answer (sym (rest-own x cleared [] xs) ∙ sym (ap (λ (k : AnswersView). k.own) heard) ∙ own) in
-    subst (λ (k : AnswersView). Serves old e (record { hub = hub; answers = k.waiting; ended = k.ended }) answer) (sym heard)
-    (subst (λ (y : Event). Serves old e (record { hub = hub; answers = after.waiting; ended = after.ended }) y) is
-    (serves old e hub (x ∷ xs) x xs cleared after.waiting after.ended places s refl
-    (ap (λ (ws : List (Option Event)). slice_set ws x.pid.0 None) same
-    ∙ ap (λ (p : Pid). slice_set old.answers p.0 None) (told_caller old.hub hub e x xs s))
-    (rest-places x cleared [] xs) (λ q lt. rest-waits x cleared [] xs q lt) (rest-ended x cleared [] xs)))
+    subst (Keeps a.waiting (x ∷ xs) b) is (subst (λ (k : AnswersView). Keeps a.waiting (x ∷ xs) k x) (sym heard) (record {
+      ended = xs;
+      told = refl;
+      places = rest-places x cleared [] xs ∙ places;
+      answers = λ q lt.
+          rest-waits x cleared [] xs q (omega (arith, places, lt))
+          ∙ ap (λ (o : Option Event). last_told q o xs) (answer_for-set a.waiting x.pid.0 q None lt);
+      pids = rest-ended x cleared [] xs;
+    }))
+
+-- and there is one
+pub answered : (a b : AnswersView) (told : List Event) → b ≡ hears_all (begun a) told → b.own ≡ None → length told ≡ 0
+answered a b [] heard none = refl
+answered a b (x ∷ xs) heard none =
+    let own : Some x ≡ None =
+    sym (rest-own x (slice_set a.waiting x.pid.0 None) [] xs) ∙ sym (ap (λ (k : AnswersView). k.own) heard) ∙ none in
+    absurd (let g : ⊥ = cc in g)
+
+-- the events of a step of a locked hub lie in their places
+pub serves_heard : (old : LockedView) (e : Entry) (hub : HubView) (told : List Event) (b : AnswersView) (answer : Event)
+    → length old.answers ≡ MOST_PROCS → Steps old.hub e hub told → Keeps old.answers told b answer
+    → Serves old e (record { hub = hub; answers = b.waiting; ended = b.ended }) answer
+serves_heard old e hub told b answer places s k =
+    let steps : Steps old.hub e hub (answer ∷ k.ended) = subst (Steps old.hub e hub) k.told s in
+    record {
+      ended = k.ended;
+      step = steps;
+      places = k.places ∙ places;
+      answers = λ q lt.
+          k.answers q (omega (arith, places, lt))
+          ∙ ap (λ (p : Pid). answer_after old.answers p k.ended q) (told_caller old.hub hub e answer k.ended steps);
+      pids = k.pids;
+    }

@@ -1,10 +1,10 @@
 -- What waits for a process stays its reply.
 use Rattle.std.proofs.Common.{◌≡◌, ◌<◌, ◌==◌, ◌||◌, ◌+◌, ℕ, zero, suc, inl, inr, replicate, Bool, true, false, cond, List, []}
-use Rattle.std.proofs.Common.{◌∷◌, ◌++◌, length, take, filter, get_or, refl, ap, ◌∙◌, sym, subst, Option, Some, None, arith}
+use Rattle.std.proofs.Common.{◌∷◌, ◌++◌, length, filter, refl, ap, ◌∙◌, sym, subst, Option, Some, None, arith}
 use Rattle.std.specs.Prelude.{IfSome, slice_set}
 use Rattle.std.specs.List.{AllByRecursion}
 use Rattle.std.proofs.lemmas.Bool.{eqb-true, eqb-false, cases_lt}
-use Rattle.std.proofs.lemmas.List.{get_or-set_same, get_or-set_other, get_or_past, length-set, take_more, length-replicate}
+use Rattle.std.proofs.lemmas.List.{get_or-set_same, get_or-set_other, get_or_past, length-replicate}
 use Rattle.hub_base.specs.declared.event.What.{What}
 use Rattle.hub_base.specs.declared.event.What.TheVariants as what
 use Rattle.hub_base.specs.declared.limits.TheConstants.{MOST_PROCS}
@@ -17,7 +17,7 @@ use Rattle.hub_laws.proofs.Journals.{begins-law}
 use Rattle.hub_live.specs.Locked.{answer_for, IsLawful, last_told}
 use Rattle.hub_live.specs.Calls.{Answers, AnswersNoCall}
 use Rattle.hub_live.specs.Prelude.{Entry, Event, Pid, is_waiting, Step, Make, Call, Close, Exit, Cancel, IsLegal, reply, last_from, is_parked, HubView, Steps}
-use Rattle.hub_live.specs.Prelude.{state_of, LockedView, IsReplyTo, pids_of, Serves}
+use Rattle.hub_live.specs.Prelude.{state_of, LockedView, IsReplyTo, Serves}
 
 -- ---- places
 
@@ -108,25 +108,6 @@ waits_after hub e answer ended q o r h = last_replies (grown hub e) q (cond (e.p
         left_replies hub e q o (r.others q (ap (λ (p : Pid). (p.0 == q) || is_told q ended) r.caller ∙ ap (λ (b : Bool). b || is_told q ended) is ∙ untold)) h
 
 -- ---- a step of the locked hub
-
--- the events were put into the places
-pub serves : (old : LockedView) (e : Entry) (hub : HubView) (told : List Event) (answer : Event) (ended : List Event)
-    (cleared answers : List (Option Event)) (of_them : List Pid) → length old.answers ≡ MOST_PROCS → Steps old.hub e hub told
-    → told ≡ answer ∷ ended → cleared ≡ slice_set old.answers e.pid.0 None → length answers ≡ length cleared
-    → ((q : ℕ) → q < length cleared → answer_for answers q ≡ last_told q (answer_for cleared q) ended) → of_them ≡ pids_of ended
-    → Serves old e (record { hub = hub; answers = answers; ended = of_them }) answer
-serves old e hub told answer ended cleared answers of_them places s first clear same each pids =
-    let room : length cleared ≡ MOST_PROCS = ap length clear ∙ length-set old.answers e.pid.0 None ∙ places in
-    record {
-      ended = ended;
-      step = subst (Steps old.hub e hub) first s;
-      places = same ∙ room;
-      answers = λ q lt.
-          each q (omega (arith, room))
-          ∙ ap (λ (o : Option Event). last_told q o ended)
-          (ap (λ (ws : List (Option Event)). answer_for ws q) clear ∙ answer_for-set old.answers e.pid.0 q None (omega (arith, places)));
-      pids = pids;
-    }
 
 pub lawful_served : (old new : LockedView) (e : Entry) (answer : Event) → IsLawful old.hub old.answers → Serves old e new answer → IsLawful new.hub new.answers
 lawful_served old new e answer h s =

@@ -1,9 +1,10 @@
 -- The answers that wait for processes, which hear the events of a step.
-use Rattle.std.specs.Prelude.{◌-◌, ◌++◌, ◌∷◌, ℕ, List, [], length, replicate, Option, None, Some, slice_set}
+use Rattle.std.specs.Prelude.{◌≡◌, ◌<◌, ◌-◌, ◌++◌, ◌∷◌, ℕ, List, [], length, replicate, Option, None, Some, slice_set}
 use Rattle.std.specs.List.{fold}
 use Rattle.hub_base.specs.declared.value.Pid.{Pid}
 use Rattle.hub_base.specs.declared.event.Event.{Event}
 use Rattle.hub_base.specs.declared.limits.TheConstants.{MOST_EVENTS, MOST_PROCS}
+use Rattle.hub_live.specs.Locked.{answer_after, answer_for, pids_of}
 
 -- what waits for each process, the answer to the step that is being made, and whose calls it has ended
 pub record AnswersView : Type 0 where
@@ -42,3 +43,12 @@ hears_all a xs = fold hears a xs
 abbrev pub room_by : List Pid → Option Event → ℕ
 room_by ended None = MOST_EVENTS
 room_by ended (Some own) = MOST_PROCS - length ended
+
+-- after the events of a step: the first is the answer; each place has the last event of its process behind that, or else
+-- what waited there before, but for the process that was answered nothing
+pub record Keeps (old : List (Option Event)) (events : List Event) (now : AnswersView) (answer : Event) : Type 0 where
+  pub ended : List Event
+  pub told : events ≡ answer ∷ ended
+  pub places : length now.waiting ≡ length old
+  pub answers : (q : ℕ) → q < length old → answer_for now.waiting q ≡ answer_after old answer.pid ended q
+  pub pids : now.ended ≡ pids_of ended

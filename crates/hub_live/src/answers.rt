@@ -3,9 +3,10 @@
 //! They hear the events of a step. The first is the answer to the step, and whatever waited for its caller is dropped. Each that
 //! follows ends the call of a process, and waits in that process's place until it is picked up.
 
-ghost use Rattle.std.specs.Prelude.{◌≡◌, ◌-◌, ◌<◌, ◌↔◌, IsTrue, None, Some, length, slice_set};
+ghost use Rattle.std.specs.Prelude.{◌≡◌, ◌<◌, ◌↔◌, IsTrue, length, slice_set};
+ghost use Rattle.std.specs.Option.{option_map};
 ghost use Rattle.hub_live.specs.Locked.{answer_for};
-ghost use Rattle.hub_live.specs.Answers.{AnswersView, begun, no_answers, without_answer_for};
+ghost use Rattle.hub_live.specs.Answers.{begun, no_answers, without_answer_for};
 
 use arrayvec::ArrayVec;
 use hub_base::{Event, Hears, MOST_PROCS, Pid};
@@ -16,7 +17,7 @@ pub type Pids = ArrayVec<Pid, MOST_PROCS>;
 
 /// The answers that wait, and what the last step told.
 #[derive(Drop)]
-pub(crate) struct Answers {
+pub struct Answers {
     /// The answer that waits for each process, by its number.
     waiting: [Option<Event>; MOST_PROCS],
     /// The answer to the step that is being made, once it was heard.
@@ -50,7 +51,7 @@ fn put(waiting: &mut [Option<Event>], pid: Pid, answer: Option<Event>)
 
 impl Answers {
     /// None waits.
-    pub(crate) fn new() -> Answers
+    pub fn new() -> Answers
         ensures { result ≡ no_answers }
     {
         Answers {
@@ -62,7 +63,7 @@ impl Answers {
 
     /// Before a step.
     #[inline(always)]
-    pub(crate) fn begin(&mut self)
+    pub fn begin(&mut self)
         ensures { self.new ≡ begun self.old }
     {
         self.own = None;
@@ -70,14 +71,14 @@ impl Answers {
 
     /// The answer to the last step, if one was heard.
     #[inline(always)]
-    pub(crate) fn own(&self) -> Option<Event>
-        ensures { result ≡ self.now.own }
+    pub fn own(&self) -> Option<&Event>
+        ensures { option_map (λ x. x.now) result ≡ self.now.own }
     {
-        self.own
+        self.own.as_ref()
     }
 
     /// Takes out the answer that waits for a process. `None` where none does, and where there is no such process.
-    pub(crate) fn take(&mut self, pid: Pid) -> Option<Event>
+    pub fn take(&mut self, pid: Pid) -> Option<Event>
         ensures answer { result ≡ answer_for self.old.waiting pid.0 }
         ensures taken { self.new ≡ without_answer_for self.old pid.0 }
     {
@@ -90,14 +91,14 @@ impl Answers {
     }
 
     /// Whether the last step that was made ended any call. Mostly none did.
-    pub(crate) fn has_ended(&self) -> bool
+    pub fn has_ended(&self) -> bool
         ensures { IsTrue result ↔ 0 < length self.now.ended }
     {
         !self.ended.is_empty()
     }
 
     /// Whose calls the last step that was made ended.
-    pub(crate) fn ended(&self) -> Pids
+    pub fn ended(&self) -> Pids
         ensures { result.items ≡ self.now.ended }
     {
         let mut pids = Pids::new();

@@ -5,13 +5,13 @@
 //! no answer waiting, and an answer that waits is its process's reply. That the hub is what its journal
 //! leads to is kept by the hub's own type.
 
-ghost use Rattle.std.specs.Prelude.{◌≡◌, ◌≤◌, ◌<◌, ◌++◌, ◌∷◌, ◌↔◌, [], ℕ, List, IsTrue, Some, true, length, slice_get, slice_set, IfSome, IfNone};
+ghost use Rattle.std.specs.Prelude.{◌≡◌, ◌<◌, ◌↔◌, IsTrue, true, length, slice_get, IfSome, IfNone};
 ghost use Rattle.hub_core.specs.Looks.{look_at};
-ghost use Rattle.hub_live.specs.Locked.{none_waits, last_told};
-ghost use Rattle.hub_live.specs.Prelude.{AreOf, is_of, refusal, IsLegal, state_of, answer_for, IsReplyTo, pids_of, ServesStep, without_answer};
+ghost use Rattle.hub_live.specs.Locked.{none_waits};
+ghost use Rattle.hub_live.specs.Prelude.{AreOf, is_of, refusal, IsLegal, state_of, answer_for, IsReplyTo, ServesStep, without_answer};
 
 use crate::answers::{Answers, Pids};
-use hub_base::{Entry, EntryRef, Event, Events, Fault, Head, Journal, Look, MOST_PROCS, Pid, Port};
+use hub_base::{Entry, EntryRef, Event, Fault, Head, Journal, Look, Pid, Port};
 use hub_core::{Hub, ShortHub};
 use std::marker::Model;
 
@@ -62,7 +62,7 @@ impl Locked {
         self.answers.begin();
         self.hub.step_heard(entry, &mut self.answers)?;
         match self.answers.own() {
-            Some(answer) => Ok(answer),
+            Some(answer) => Ok(*answer),
             None => unreachable!(),
         }
     }

@@ -137,7 +137,8 @@ fn step_on(
 ) -> (Result<(), Fault>, Option<usize>) {
     assert!(rt; entry.fits(recorder.present().head().edition));
     let mut out = None;
-    let recorded = recorder.step_into(&entry.by_slice(), events, &mut out);
+    events.clear();
+    let recorded = recorder.step_heard(&entry.by_slice(), events, &mut out);
     (recorded, len_of(out))
 }
 

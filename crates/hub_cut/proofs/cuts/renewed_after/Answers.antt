@@ -10,28 +10,34 @@ use Rattle.hub_cut.proofs.Cutting.{few_behind, steps_behind, admitted_behind}
 use Rattle.hub_cut.proofs.ChapterTexts.{longer_by}
 use Rattle.hub_cut.proofs.cuts.renewed_after.Goals as goal
 
-pub make_step-requires : goal.make_step-requires
-make_step-requires c =
+pub make_step_heard-requires : goal.make_step_heard-requires
+make_step_heard-requires g c =
     let old = c.args.hub.now.memory.hub in
     let cut = subst (IsCut old) (sym c.in_ok-next.ensures.hub) (cut_law old) in
     record {
       fits = ap (λ (h : HubView). is_of h.terms.head.edition c.args.entry.now.step) c.in_ok-next.ensures.hub ∙ c.requires.fits.of_edition;
       room = λ step. few_behind old c.in_ok-next.next.memory.hub cut c.requires.room;
       admitted = admitted_behind old c.in_ok-next.next.memory.hub c.args.entry.now cut c.requires.admitted;
+      hears = c.requires.hears;
     }
 
 pub returns-clause-ok : goal.returns-clause-ok
-returns-clause-ok c =
+returns-clause-ok g c =
     let old = c.args.hub.now.memory.hub in
     let cut = subst (IsCut old) (sym c.in_ok-next.ensures.hub) (cut_law old) in
-    steps_behind old c.in_ok-next.next.memory.hub c.make_step.new.hub.memory.hub c.args.entry.now c.make_step.new.events.items cut c.in_ok-make_step.ensures.ok
+    let next = c.in_ok-make_step_heard.ensures.ok in
+    record {
+      told = next.told;
+      heard = next.heard;
+      holds = steps_behind old c.in_ok-next.next.memory.hub c.make_step_heard.new.hub.memory.hub c.args.entry.now next.told cut next.steps;
+    }
 
 pub returns-clause-lines : goal.returns-clause-lines
-returns-clause-lines c =
+returns-clause-lines g c =
     let old = c.args.hub.now.memory.hub in
     let cut = subst (IsCut old) (sym c.in_ok-next.ensures.hub) (cut_law old) in
-    let steps = steps_behind old c.in_ok-next.next.memory.hub c.make_step.new.hub.memory.hub c.args.entry.now c.make_step.new.events.items cut
-    c.in_ok-make_step.ensures.ok in
+    let next = c.in_ok-make_step_heard.ensures.ok in
+    let steps = steps_behind old c.in_ok-next.next.memory.hub c.make_step_heard.new.hub.memory.hub c.args.entry.now next.told cut next.steps in
     omega (
       arith,
       ap (λ j. length (flat_map line j)) steps.journal,

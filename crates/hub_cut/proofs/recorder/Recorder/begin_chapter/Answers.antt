@@ -13,7 +13,7 @@ use Rattle.hub_cut.proofs.Recording.{goes_cut, refuses_cut, records_cut, recorde
 use Rattle.hub_cut.proofs.recorder.Recorder.begin_chapter.Goals as goal
 
 pub returns-in_err-whole-clause-refused : goal.returns-in_err-whole-clause-refused
-returns-in_err-whole-clause-refused c =
+returns-in_err-whole-clause-refused g c =
     let p = err_from_is_err_and c.from_residual.result c.from_residual.ensures.1 in
     let old = shown c.self.inside in
     let e = c.args.entry.now in
@@ -21,8 +21,8 @@ returns-in_err-whole-clause-refused c =
     rw (p.1, p.2, ← c.self.view_is) (refuses_cut old e c.in_err-whole.field-0.0 full c.in_err-whole.ensures.refused)
 
 pub invariant_of-self-2 : goal.invariant_of-self-2
-invariant_of-self-2 c =
-    let steps = c.in_ok-whole.ensures.ok in
+invariant_of-self-2 g c =
+    let steps = c.in_ok-whole.ensures.ok.holds in
     let old = shown c.self.inside in
     let e = c.args.entry.now in
     let full : begins old e.step ≡ true = subst (λ (r : RecorderView). begins r e.step ≡ true) (sym c.self.view_is) c.requires.full in
@@ -36,7 +36,7 @@ invariant_of-self-2 c =
       recorder = (
         Cut c.self.invariant.recorder.0 (e ∷ []),
         rw (handed, c.most_line-bytes.ensures.most)
-            (records_cut c.self.invariant.recorder.0 old e c.cut_and_step.new.hub.memory.hub c.cut_and_step.new.events.items
+            (records_cut c.self.invariant.recorder.0 old e c.cut_and_step.new.hub.memory.hub c.in_ok-whole.ensures.ok.told
             c.add_received.new.bases c.self.invariant.recorder.1 full c.self.invariant.keep.0 steps
             (λ p few. c.add_received.ensures p.0 (omega (arith, c.self.told, few))
             ∙ ap (λ (h : ShortInMemory). in_64_bits (slice_index old.bases p.0 + received_count (state_of h.memory.hub) p)) whole)),
@@ -53,22 +53,26 @@ invariant_of-self-2 c =
     }
 
 pub returns-clause-ok : goal.returns-clause-ok
-returns-clause-ok c =
-    let steps = c.in_ok-whole.ensures.ok in
+returns-clause-ok g c =
+    let steps = c.in_ok-whole.ensures.ok.holds in
     let old = shown c.self.inside in
     let e = c.args.entry.now in
     let full : begins old e.step ≡ true = subst (λ (r : RecorderView). begins r e.step ≡ true) (sym c.self.view_is) c.requires.full in
     let whole = c.in_ok-whole.ensures.whole in
     let kept : option_map hub_in c.keep_last.new.before ≡ Some old.hub =
     ap (option_map hub_in) c.keep_last.ensures.kept ∙ ap (λ (h : ShortInMemory). Some (hub_in h)) whole in
-    rw (← c.self.view_is, kept, c.most_line-bytes.ensures.most)
-    (goes_cut old e c.cut_and_step.new.hub.memory.hub c.cut_and_step.new.events.items
-    c.add_received.new.bases full c.self.invariant.keep.0 steps
-    (λ p few. c.add_received.ensures p.0 (omega (arith, c.self.told, few))
-    ∙ ap (λ (h : ShortInMemory). in_64_bits (slice_index old.bases p.0 + received_count (state_of h.memory.hub) p)) whole))
+    record {
+      told = c.in_ok-whole.ensures.ok.told;
+      heard = c.in_ok-whole.ensures.ok.heard;
+      holds = rw (← c.self.view_is, kept, c.most_line-bytes.ensures.most)
+          (goes_cut old e c.cut_and_step.new.hub.memory.hub c.in_ok-whole.ensures.ok.told
+          c.add_received.new.bases full c.self.invariant.keep.0 steps
+          (λ p few. c.add_received.ensures p.0 (omega (arith, c.self.told, few))
+          ∙ ap (λ (h : ShortInMemory). in_64_bits (slice_index old.bases p.0 + received_count (state_of h.memory.hub) p)) whole));
+    }
 
 pub returns-clause-handed_out : goal.returns-clause-handed_out
-returns-clause-handed_out c = rw (← c.self.view_is) (ap (option_map hub_in) c.keep_last.ensures.handed_out)
+returns-clause-handed_out g c = rw (← c.self.view_is) (ap (option_map hub_in) c.keep_last.ensures.handed_out)
 
 pub returns-clause-text : goal.returns-clause-text
-returns-clause-text c = rw (← c.self.view_is) c.self.invariant.text_before
+returns-clause-text g c = rw (← c.self.view_is) c.self.invariant.text_before

@@ -8,19 +8,19 @@ use Rattle.hub_cut.proofs.ChapterTexts.{counts_longer}
 use Rattle.hub_cut.proofs.Recording.{bytes_below, goes_next, refuses_next, records_next}
 use Rattle.hub_cut.proofs.recorder.Recorder.go_on.Goals as goal
 
-pub returns-in_err-step_into-clause-refused : goal.returns-in_err-step_into-clause-refused
-returns-in_err-step_into-clause-refused c =
+pub returns-in_err-step_heard-clause-refused : goal.returns-in_err-step_heard-clause-refused
+returns-in_err-step_heard-clause-refused g c =
     let p = err_from_is_err_and c.from_residual.result c.from_residual.ensures.1 in
     let old = shown c.self.inside in
     let e = c.args.entry.now in
     let room : begins old e.step ≡ false = subst (λ (r : RecorderView). begins r e.step ≡ false) (sym c.self.view_is) c.requires.room in
     rw (p.1, p.2, ← c.self.view_is)
-    (refuses_next old e c.in_err-step_into.field-0.0 c.self.invariant.head c.self.invariant.limit c.self.invariant.keep
-    room c.in_err-step_into.ensures.rules.refused)
+    (refuses_next old e c.in_err-step_heard.field-0.0 c.self.invariant.head c.self.invariant.limit c.self.invariant.keep
+    room c.in_err-step_heard.ensures.rules.refused)
 
 pub invariant_of-self-2 : goal.invariant_of-self-2
-invariant_of-self-2 c =
-    let steps = c.in_ok-step_into.ensures.ok in
+invariant_of-self-2 g c =
+    let steps = c.in_ok-step_heard.ensures.ok.steps in
     let old = shown c.self.inside in
     let e = c.args.entry.now in
     let room : begins old e.step ≡ false = subst (λ (r : RecorderView). begins r e.step ≡ false) (sym c.self.view_is) c.requires.room in
@@ -42,9 +42,14 @@ invariant_of-self-2 c =
     }
 
 pub returns-clause-ok : goal.returns-clause-ok
-returns-clause-ok c =
+returns-clause-ok g c =
     let old = shown c.self.inside in
     let e = c.args.entry.now in
     let room : begins old e.step ≡ false = subst (λ (r : RecorderView). begins r e.step ≡ false) (sym c.self.view_is) c.requires.room in
-    rw (← c.self.view_is, c.share_of-share.ensures.steps, c.share_of-share.ensures.bytes)
-    (goes_next old e c.step_into.new.events.items c.step_into.new.self.memory.hub room c.in_ok-step_into.ensures.ok)
+    let next = c.in_ok-step_heard.ensures.ok in
+    record {
+      told = next.told;
+      heard = next.heard;
+      holds = rw (← c.self.view_is, c.share_of-share.ensures.steps, c.share_of-share.ensures.bytes)
+          (goes_next old e next.told c.step_heard.new.self.memory.hub room next.steps);
+    }

@@ -1,54 +1,47 @@
-use Rattle.std.proofs.Common.{◌≡◌, ◌∙◌, ◌∷◌, ap, length, sym, subst}
-use Rattle.hub_chapters.specs.Chapters.{Chapters}
-use Rattle.hub_cut.specs.Recorder.{RecordsStep, begins, with_next}
-use Rattle.hub_endless.specs.Endless.{EndlessView, Explains, ServesNext, endless_view}
-use Rattle.hub_endless.proofs.Serving.{serves_next, told_one}
+use Rattle.std.proofs.Common.{◌≡◌, ◌∙◌, List, ap, sym}
+use Rattle.std.specs.Option.{option_map}
+use Rattle.hub_base.specs.declared.event.Event.{Event}
+use Rattle.hub_cut.specs.Recorder.{begins, with_next}
+use Rattle.hub_live.specs.Answers.{AnswersView, Keeps, begun, hears_all}
+use Rattle.hub_live.proofs.Hearing.{answered, kept}
+use Rattle.hub_endless.specs.Endless.{EndlessView, ServesMade, endless_view}
+use Rattle.hub_endless.proofs.Serving.{serves_made, told_one}
 use Rattle.hub_endless.proofs.endless_hub.EndlessHub.step.Goals as goal
-use Rattle.hub_endless.proofs.endless_hub.EndlessHub.step.Goals.{After-keep}
+use Rattle.hub_endless.proofs.endless_hub.EndlessHub.step.Goals.{After-result-1}
 
 pub unreachable-requires : goal.unreachable-requires
 unreachable-requires c =
     let chapters = c.self.invariant.explained.0 in
-    told_one chapters c.self.inside.recorder c.args.entry.now c.step_into.new.self c.step_into.new.events.items
-    (c.in_ok-step_into.ensures.ok.goes_on chapters c.self.invariant.explained.1.records)
-    (ap length (sym c.as_slice.ensures.value) ∙ c.in_default.ensures.cases)
+    let made = c.in_ok-step_heard.ensures.ok in
+    told_one chapters c.self.inside.recorder c.args.entry.now c.step_heard.new.self made.told
+    (made.holds.goes_on chapters c.self.invariant.explained.1.records)
+    (answered c.self.inside.answers c.step_heard.new.events made.told
+    (made.heard ∙ ap (λ (k : AnswersView). hears_all k made.told) c.begin.ensures) (sym c.own.ensures ∙ ap (option_map (λ x. x.now)) c.in-None.is))
 
-abbrev before : After-keep → EndlessView
-before c = endless_view c.self.inside.recorder c.self.inside.answers.waiting c.self.inside.answers.ended.items
+abbrev before : After-result-1 → EndlessView
+before c = endless_view c.self.inside.recorder c.self.inside.answers.waiting c.self.inside.answers.ended
 
-abbrev after : After-keep → EndlessView
-after c = endless_view c.step_into.new.self c.keep.new.self.waiting c.keep.new.self.ended.items
+abbrev after : After-result-1 → EndlessView
+after c = endless_view c.step_heard.new.self c.step_heard.new.events.waiting c.step_heard.new.events.ended
 
-next : (c : After-keep) (chapters : Chapters) → Explains chapters (before c) →
-    ServesNext chapters (before c) c.args.entry.now (after c) c.in-Some.first.now c.in-Some.ended.now
-next c chapters so =
-    let told : c.step_into.new.events.items ≡ c.in-Some.first.now ∷ c.in-Some.ended.now = sym c.as_slice.ensures.value ∙ c.in-Some.ensures.cases.0 in
-    serves_next chapters (before c) c.args.entry.now (after c) c.in-Some.first.now c.in-Some.ended.now c.self.invariant.places c.keep.ensures.places so
-    (subst (RecordsStep c.self.inside.recorder c.args.entry.now c.step_into.new.self) told c.in_ok-step_into.ensures.ok)
-    c.keep.ensures.answers c.keep.ensures.pids
+keeps : (c : After-result-1) → Keeps c.self.inside.answers.waiting c.in_ok-step_heard.ensures.ok.told c.step_heard.new.events c.in-Some.answer.now
+keeps c =
+    let made = c.in_ok-step_heard.ensures.ok in
+    kept c.self.inside.answers c.step_heard.new.events made.told c.in-Some.answer.now
+    (made.heard ∙ ap (λ (k : AnswersView). hears_all k made.told) c.begin.ensures) (sym c.own.ensures ∙ ap (option_map (λ x. x.now)) c.in-Some.is)
+
+serves : (c : After-result-1) → ServesMade (before c) c.args.entry.now (after c) c.in-Some.answer.now
+serves c =
+    serves_made (before c) c.args.entry.now c.step_heard.new.self c.in_ok-step_heard.ensures.ok.told c.step_heard.new.events c.in-Some.answer.now
+    c.self.invariant c.in_ok-step_heard.ensures.ok.holds (keeps c)
 
 pub invariant_of-self-2 : goal.invariant_of-self-2
 invariant_of-self-2 c =
-    let chapters = c.self.invariant.explained.0 in
+    let (chapters, so) = c.self.invariant.explained in
     record {
-      explained = (
-        with_next (begins c.self.inside.recorder c.args.entry.now.step) chapters c.args.entry.now,
-        (next c chapters c.self.invariant.explained.1).explains,
-      );
-      places = c.keep.ensures.places;
+      explained = (with_next (begins c.self.inside.recorder c.args.entry.now.step) chapters c.args.entry.now, ((serves c).next chapters so).explains);
+      places = (keeps c).places ∙ c.self.invariant.places;
     }
 
 pub returns-clause-rules : goal.returns-clause-rules
-returns-clause-rules c = rw (← c.self.view_is) (record {
-  ok = record {
-    ended = c.in-Some.ended.now;
-    next = next c;
-    answers = c.keep.ensures.answers;
-    pids = c.keep.ensures.pids;
-    terms = c.in_ok-step_into.ensures.ok.terms;
-    keep = c.in_ok-step_into.ensures.ok.keep;
-    early = c.in_ok-step_into.ensures.ok.early;
-  };
-  refused = tt;
-  unchanged = tt;
-})
+returns-clause-rules c = rw (← c.self.view_is) (record { ok = serves c; refused = tt; unchanged = tt })

@@ -154,8 +154,8 @@ impl Recorder {
         ensures unchanged { OnErr result (self.new ≡ self.old) }
         ensures silent { OnErr result (events.new ≡ events.old) }
     {
-        let share = share_of(self.hub.head().edition, entry);
         self.hub.step_heard(entry, events)?;
+        let share = share_of(self.hub.head().edition, entry);
         self.fresh += share.steps;
         self.bytes += share.bytes;
         Ok(())

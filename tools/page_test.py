@@ -127,7 +127,9 @@ class Browser:
         return told["result"].get("value")
 
     def open(self, path, hash=""):
-        self.ask("Page.navigate", url="about:blank")
+        # of the page that is open, another hash alone would load nothing
+        if hash:
+            self.ask("Page.navigate", url="about:blank")
         self.ask("Page.navigate", url=path.as_uri() + hash)
         while self.value("document.readyState") != "complete":
             pass
@@ -364,7 +366,9 @@ def check_canvas(drawn, journal, first, end):
     asked, rects = journal.asked(), [call for call in drawn.calls if call.name == "fillRect"]
     bottom, width = max(drawn.lanes.values()) + 8, max(1, drawn.dots * 0.9)
     lanes = [call.words for call in rects if call.words[1] < bottom]
-    boxes = [words for words in lanes if abs(words[2] - width) < 0.01 and words[3] >= 4 and words[3] == max(one[3] for one in lanes if abs(one[2] - width) < 0.01)]
+    as_wide = [words for words in lanes if abs(words[2] - width) < 0.01]
+    height = max((words[3] for words in as_wide), default=0)
+    boxes = [words for words in as_wide if words[3] >= 4 and words[3] == height]
     agree("box", [(x + w / 2, drawn.lane(y + h / 2)) for x, y, w, h in boxes], [(drawn.x(one.place), drawn.pid(one.line)) for one in asked[first:end]])
     thin = min((words[3] for words in lanes), default=0)
     bars = [words for words in lanes if words[3] == thin and words not in boxes]
@@ -567,9 +571,16 @@ def check_bytes(count, work):
 # ---- search, following, links, mouse and keys
 
 
-def found(browser, words):
-    browser.value(f"page.find({json.dumps(words)})")
-    return browser.value("page.found")
+def found(browser, *several):
+    """What each of these words finds, one after the other."""
+    return browser.value(f"""(async () => {{
+        const told = [];
+        for (const words of {json.dumps(several)}) {{
+            await page.find(words);
+            told.push(page.found);
+        }}
+        return told;
+    }})()""")
 
 
 def check_search(browser, journal):
@@ -589,10 +600,9 @@ def check_search(browser, journal):
         "P0 port 1": lambda one: int(one.line.split()[0]) == 0 and 1 in port_of(one),
         "select": lambda one: one.line.split()[1] == "select",
     }
-    for words, test in queries.items():
-        told, wanted = found(browser, words), [one.place for one in asked if test(one)]
+    for (words, test), told in zip(queries.items(), found(browser, *queries, "")):
+        wanted = [one.place for one in asked if test(one)]
         assert told == wanted, f"{words}: {told[:9]} and not {wanted[:9]}"
-    browser.value("page.find('')")
 
 
 PIPE = "chanhub journal 2\nprocs 4\n0 make 0\n0 make 2\n0 make 0\n" + "".join(
@@ -786,9 +796,9 @@ def check_nasty(browser, count, work):
             count.test(f"value {value} at step {step + 1}", told == readable(value), told)
             line = browser.value("document.querySelector('#step code').textContent")
             count.test(f"line of step {step + 1}", line == text.splitlines()[2 + step], line)
-        count.test(f"search for {value}", found(browser, "=" + value) == [1 + 2 * place, 2 + 2 * place])
+        count.test(f"search for {value}", found(browser, "=" + value) == [[1 + 2 * place, 2 + 2 * place]])
     count.test("nothing of a value is taken for HTML", browser.value("document.querySelectorAll('#step img, #step script, h1 b').length") == 0)
-    count.test("a part of bytes is found", found(browser, "=</script>") == [1, 2])
+    count.test("a part of bytes is found", found(browser, "=</script>") == [[1, 2]])
 
 
 CONTRASTS = """(() => {

@@ -167,13 +167,17 @@ def step(fields):
     sys.exit(f'there is no step {word}')
 
 
-def main():
-    lines = sys.stdin.read().splitlines()
+def events_of(journal):
+    lines = journal.splitlines()
     hub = Hub(int(lines[0].split()[2]), int(lines[1].split()[1]))
     for line in lines[2:]:
         fields = line.split()
         hub.step(int(fields[0]), *step(fields[1:]))
-    sys.stdout.write(''.join(event + '\n' for event in hub.events))
+    return hub.events
+
+
+def main():
+    sys.stdout.write(''.join(event + '\n' for event in events_of(sys.stdin.read())))
 
 
 if __name__ == '__main__':

@@ -23,6 +23,8 @@ import tempfile
 import xml.etree.ElementTree as xml
 
 sys.dont_write_bytecode = True
+import model
+import random_journal
 from counting import Count
 
 ROOT = pathlib.Path(__file__).resolve().parent.parent
@@ -75,7 +77,7 @@ class Journal:
         self.room = {}
         self.stalls = []
         self.moved = {"s": collections.defaultdict(list), "r": collections.defaultdict(list)}
-        events = output_of([sys.executable, str(TOOLS / "model.py")], text).decode().splitlines()
+        events = model.events_of(text.decode())
         waiting = {}
         for place, line in enumerate(self.lines):
             pid = line.split()[0]
@@ -743,7 +745,7 @@ def main():
     for path in examples:
         check_journal(count, program, path.name, path.read_bytes())
     for seed in range(1, RANDOM + 1):
-        text = output_of([sys.executable, str(TOOLS / "random_journal.py"), str(seed)])
+        text = random_journal.Journal(seed, 0).text().encode()
         check_journal(count, program, f"random journal {seed}", text, seed <= WINDOWED)
     for path in documents:
         check_document(count, program, path)

@@ -643,10 +643,8 @@ def limit_time():
     resource.setrlimit(resource.RLIMIT_CPU, (MOST_SECONDS, MOST_SECONDS))
 
 
-def is_soon(program, first_of):
-    """Whether the picture of the longest journal, with all who wait at its end, is soon there: of 1,000 steps, from this one on."""
-    journal, steps = busy_journal(MOST_ENTRIES, 63, 1)
-    first = first_of(steps)
+def is_soon(program, journal, steps, first):
+    """Whether the picture of this journal, with all who wait at its end, is soon there: of 1,000 steps, from this one on."""
     words = [program, "picture", str(first), str(first + 999)]
     picture = subprocess.run(words, input=journal, capture_output=True, timeout=LONG, check=True, preexec_fn=limit_time).stdout
     assert picture.count(b'<tspan class="waits"') == (63 * 16 if first + 999 == steps else 0), "those who wait at the end are others"
@@ -708,8 +706,9 @@ def check_growth(count, program):
 
 
 def check_times(count, program):
-    for where, first_of in (("its beginning", lambda steps: 1), ("its middle", lambda steps: steps // 2), ("its end", lambda steps: steps - 999)):
-        count.run(f"{where} of the longest journal, of 63 who wait", lambda: is_soon(program, first_of))
+    journal, steps = busy_journal(MOST_ENTRIES, 63, 1)
+    for where, first in (("its beginning", 1), ("its middle", steps // 2), ("its end", steps - 999)):
+        count.run(f"{where} of the longest journal, of 63 who wait", lambda: is_soon(program, journal, steps, first))
 
 
 # ---- all of it

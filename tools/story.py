@@ -3,6 +3,7 @@
 windows, and compares each text with the one that story_model.py writes. Runs the rows of tests/stories.toml and
 tests/faulty_journals.toml too, and stories with each allocation refused, which needs a C compiler. The last line counts:
 'N passed, M failed'."""
+import gc
 import os
 import pathlib
 import random
@@ -190,6 +191,8 @@ def most_entries(program, _):
 
 def count(program, *parts):
     """Makes the checks of each part, prints those that fail and how many there were, and answers the status."""
+    # Nothing here holds itself, and to look through millions of entries for what does takes a third of the time.
+    gc.disable()
     count = Count()
     with tempfile.TemporaryDirectory() as work:
         for checks in parts:

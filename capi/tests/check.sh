@@ -11,6 +11,8 @@ library=$PWD/out
 . ../tools/checks.sh
 skipped=0
 export CHANHUB_LIBRARY="$library/libchanhub.so" CHANHUB_LIB="$library" CARGO_TARGET_DIR="$work/target" PYTHONDONTWRITEBYTECODE=1
+# Each crate is built for one run, so nothing is kept for a debugger or for the next build.
+export CARGO_PROFILE_DEV_DEBUG=0 CARGO_INCREMENTAL=0
 cc=${CC:-cc}
 cxx=${CXX:-c++}
 cxxflags='-std=c++17 -O2 -Wall -Wextra -Werror -I.'
@@ -268,12 +270,13 @@ fi
 
 if echo 'int main(void) { return 0; }' | "$cc" -fsanitize=thread -x c - -o "$work/empty" 2> "$work/errors" && "$work/empty"; then
     sanitize="$flags -g -fsanitize=thread"
+    # The library once, for all of them.
+    sanitized="$work/sanitized.o $proved -lpthread"
+    check 'the library builds for the thread sanitizer' "$cc" $sanitize -r -nostdlib chanhub.c files.c heap.c texts.c -o "$work/sanitized.o"
     for test in crew threads handing chapters soak deadlines following; do
-        check "$test builds for the thread sanitizer" "$cc" $sanitize chanhub.c files.c heap.c texts.c "tests/$test.c" $proved -lpthread \
-            -o "$work/sanitized-$test"
+        check "$test builds for the thread sanitizer" "$cc" $sanitize "tests/$test.c" $sanitized -o "$work/sanitized-$test"
     done
-    check 'resume builds for the thread sanitizer' "$cc" $sanitize -Wl,--wrap=clock_gettime chanhub.c heap.c tests/resume.c $proved \
-        -lpthread -o "$work/sanitized-resume"
+    check 'resume builds for the thread sanitizer' "$cc" $sanitize -Wl,--wrap=clock_gettime tests/resume.c $sanitized -o "$work/sanitized-resume"
     for cap in 0 7; do
         check "64 threads under the thread sanitizer, capacity $cap" crew sanitized-crew "$cap" 200
     done
@@ -293,9 +296,7 @@ if echo 'int main(void) { return 0; }' | "$cc" -fsanitize=thread -x c - -o "$wor
     check 'chapters of 40 random runs under the thread sanitizer' chapters sanitized-chapters 40
     check '16 threads without an end under the thread sanitizer' soaks sanitized-soak 3
     if [ -n "$by_cxx" ]; then
-        check 'the library builds for the thread sanitizer' "$cc" $sanitize -r -nostdlib chanhub.c files.c heap.c texts.c -o "$work/sanitized.o"
-        check 'cpp builds for the thread sanitizer' "$cxx" $cxxflags -g -fsanitize=thread tests/cpp.cpp "$work/sanitized.o" $proved \
-            -lpthread -o "$work/sanitized-cpp"
+        check 'cpp builds for the thread sanitizer' "$cxx" $cxxflags -g -fsanitize=thread tests/cpp.cpp $sanitized -o "$work/sanitized-cpp"
         check 'each call from C++ under the thread sanitizer' "$work/sanitized-cpp"
     fi
 else

@@ -96,8 +96,8 @@ has_static_c() {
 # uses_cmake LIBRARIES: whether the example is built over both targets.
 uses_cmake() {
     has cmake || return 0
-    rm -rf "$work/cmake"
-    mkdir "$work/cmake"
+    # What CMake knows of the compiler stays.
+    mkdir -p "$work/cmake"
     cp "$work/example.c" "$work/cmake/"
     cat > "$work/cmake/CMakeLists.txt" <<END
 cmake_minimum_required(VERSION 3.10)
@@ -117,7 +117,7 @@ add_executable(static example.c)
 target_link_libraries(static PRIVATE chanhub::static)
 END
     quietly cmake -S "$work/cmake" -B "$work/cmake/build" -DCMAKE_C_COMPILER="$cc" -Dchanhub_DIR="$1/cmake/chanhub"
-    quietly cmake --build "$work/cmake/build"
+    quietly cmake --build "$work/cmake/build" --clean-first
     for target in shared static; do
         prints_first "$work/cmake/build/$target"
     done

@@ -20,6 +20,10 @@
  * A hub that follows a journal makes a step only in its turn. A call whose turn has not come waits at its place. After each step the
  * thread that made it wakes the process whose step is next; once there is none, since the hub has diverged or all is made, it wakes all.
  * If the hub ends then, each call is told so, also those that wait for an answer.
+ *
+ * A look takes no lock, but for the first at each port. From then on, whoever makes a step that may change the port's counts asks the hub
+ * for them before it lets go of the lock, and shows them in one atomic word. So a look gives the counts that the hub told after one
+ * step, and no two steps are mixed. Each step changes the counts of one port at most: that of the case that fires, or the one closed.
  */
 #define _POSIX_C_SOURCE 200809L /* for the monotonic clock */
 #include "chanhub.h"
@@ -38,6 +42,7 @@
 enum {
     MOST_PROCS = 64,
     NOBODY = MOST_PROCS, /* the number of no process */
+    MOST_PORTS = 64,
     MOST_BYTES = 32,
     MOST_STEPS = 1000000,
     GREATEST_EDITION = 255,
@@ -55,6 +60,15 @@ enum {
     SLICE = 256,          /* how many pieces of a chapter are read before others are let in */
     YIELDS = 100,         /* how often a thread yields to let others in */
     BILLION = 1000000000
+};
+
+/* The bits of a word that shows a port's counts, from the lowest: that it does, whether the port is closed, how many values it buffers (at
+ * most 1,024), and how many were received. */
+enum {
+    SHOWN = 1,
+    SHOWN_CLOSED = 2,
+    SHOWN_BUFFERED_AT = 2,
+    SHOWN_RECEIVED_AT = 13
 };
 
 /* A wait that has no end but the answer, and the set of all processes. */
@@ -78,7 +92,13 @@ struct place {
     uint8_t sleeps;   /* how many times it sleeps at once before it looks again */
 };
 
-/* A set of processes is a number with a bit for each, the lowest for process 0. */
+/* What looks at one port see without the lock. */
+struct shown {
+    atomic_uint_least64_t counts; /* 0 where a look has to take the lock */
+    uint32_t cap;                 /* written before the counts are first shown, and then only read */
+};
+
+/* A set of processes is a number with a bit for each, the lowest for process 0. One of ports has the lowest for port 1. */
 struct chanhub {
     pthread_mutex_t lock;
     uint64_t open;              /* whose call is open: it has parked, and its answer is not picked up */
@@ -90,6 +110,7 @@ struct chanhub {
     atomic_uint sleepers;       /* how many threads sleep for the lock */
     uint32_t limit;             /* the most steps that are no exits; 0 where the hub never ends */
     uint32_t exits;             /* how many processes have exited */
+    uint64_t looked;            /* the ports whose counts are shown */
     bool follows;               /* whether it follows a journal, so that a step may have to wait for its turn */
     bool goes_on;               /* whether it goes on when it has diverged from that */
     bool asks_again;            /* whether a call whose turn has not come is told so */
@@ -102,12 +123,18 @@ struct chanhub {
     void *pointer;              /* what it gets with them */
     pthread_cond_t handed;      /* a chapter was taken, or was handed out */
     struct place places[MOST_PROCS];
+    struct shown shown[MOST_PORTS]; /* from port 1 on */
     struct hub hub;
 };
 
 /* The set of this process alone; the empty one for a number that no hub has. */
 static inline uint64_t only(unsigned pid) {
     return pid < MOST_PROCS ? (uint64_t)1 << pid : 0;
+}
+
+/* The set of this port alone; the empty one for a number that no port has. */
+static inline uint64_t only_port(unsigned port) {
+    return port - 1 < MOST_PORTS ? (uint64_t)1 << (port - 1) : 0;
 }
 
 /* Notes what the clock is at. Holds the lock. */
@@ -271,6 +298,56 @@ static void let_others_in(chanhub *h) {
     leave_lock(h);
     for (int i = 0; i < YIELDS && h->sleepers; i++) sched_yield();
     take_lock(h);
+}
+
+/* ---- What looks see. ---- */
+
+/* These counts in a word; 0 where more were received than it has room for. */
+static uint64_t word_of(const chanhub_counts *c) {
+    if (c->received >> (64 - SHOWN_RECEIVED_AT)) return 0;
+    return c->received << SHOWN_RECEIVED_AT | (c->sent - c->received) << SHOWN_BUFFERED_AT | (c->closed ? SHOWN_CLOSED : 0) | SHOWN;
+}
+
+/* The counts that a word shows. */
+static inline chanhub_counts counts_in(uint64_t word, uint32_t cap) {
+    uint64_t received = word >> SHOWN_RECEIVED_AT;
+    uint64_t buffered = word >> SHOWN_BUFFERED_AT & ((1 << (SHOWN_RECEIVED_AT - SHOWN_BUFFERED_AT)) - 1);
+    return (chanhub_counts){ .made = true, .closed = word & SHOWN_CLOSED, .cap = cap, .sent = received + buffered, .received = received };
+}
+
+/* Shows the counts that the hub has just told of a port. Holds the lock since then. */
+static void show_counts(chanhub *h, unsigned port, const chanhub_counts *counts) {
+    atomic_store_explicit(&h->shown[port - 1].counts, word_of(counts), memory_order_release);
+}
+
+/* Shows the counts of a port that was looked at, which a step may have changed. Holds the lock since that step. */
+static void show(chanhub *h, unsigned port) {
+    if (!(h->looked & only_port(port))) return;
+    chanhub_counts counts = hub_c_look(&h->hub, (uint16_t)port);
+    show_counts(h, port, &counts);
+}
+
+/* The same of the port of a call; in most hubs nobody looks. */
+static inline void show_port(chanhub *h, unsigned port) {
+    if (h->looked) show(h, port);
+}
+
+/* The same of the port of the case that fired, if one did. */
+static inline void show_fired(chanhub *h, const chanhub_case *cases, size_t count, const struct told *t) {
+    if (h->looked && t->it.index < count) show(h, cases[t->it.index].port);
+}
+
+/* Looks with the lock, and shows the counts from now on, if the port is made. Apart from the look that needs none of its registers. */
+__attribute__((noinline)) static chanhub_counts look_under_lock(chanhub *h, unsigned port) {
+    take_lock(h);
+    chanhub_counts counts = hub_c_look(&h->hub, (uint16_t)port);
+    if (counts.made && !(h->looked & only_port(port))) {
+        h->looked |= only_port(port);
+        h->shown[port - 1].cap = counts.cap;
+        show_counts(h, port, &counts);
+    }
+    leave_lock(h);
+    return counts;
 }
 
 /* ---- Wakes and waits. ---- */
@@ -767,6 +844,7 @@ chanhub_told chanhub_send(chanhub *h, unsigned pid, unsigned port, chanhub_value
     uint8_t why = enter(h, pid);
     if (why) return refused(h, why);
     STEP(h, pid, &t, hub_c_send(&h->hub, (uint8_t)pid, (uint16_t)port, &value, &t));
+    show_port(h, port);
     return finish(h, (uint8_t)pid, &t, FOR_EVER);
 }
 
@@ -776,6 +854,7 @@ chanhub_told chanhub_recv(chanhub *h, unsigned pid, unsigned port) {
     uint8_t why = enter(h, pid);
     if (why) return refused(h, why);
     STEP(h, pid, &t, hub_c_recv(&h->hub, (uint8_t)pid, (uint16_t)port, &t));
+    show_port(h, port);
     return finish(h, (uint8_t)pid, &t, FOR_EVER);
 }
 
@@ -785,6 +864,7 @@ chanhub_told chanhub_close(chanhub *h, unsigned pid, unsigned port) {
     uint8_t why = enter(h, pid);
     if (why) return refused(h, why);
     STEP(h, pid, &t, hub_c_close(&h->hub, (uint8_t)pid, (uint16_t)port, &t));
+    show_port(h, port);
     return finish(h, (uint8_t)pid, &t, FOR_EVER);
 }
 
@@ -816,6 +896,7 @@ static chanhub_told select_for(chanhub *h, unsigned pid, const chanhub_case *cas
     uint8_t why = enter(h, pid);
     if (why) return refused(h, why);
     STEP(h, pid, &t, hub_c_call(&h->hub, (uint8_t)pid, cases, count, has_default, word, &t));
+    show_fired(h, cases, count, &t);
     return finish(h, (uint8_t)pid, &t, nanoseconds);
 }
 
@@ -849,6 +930,7 @@ static chanhub_told wait_with_deadline(chanhub *h, unsigned pid, const chanhub_c
     uint8_t why = begin_deadline(h, pid, deadline);
     if (why) t.it = fault(why);
     else STEP(h, pid, &t, hub_c_call(&h->hub, (uint8_t)pid, cases, count, false, word, &t));
+    show_fired(h, cases, count, &t);
     if (t.it.what != CHANHUB_WAITING) h->timed &= ~only(pid);
     return finish_by_waking(h, (uint8_t)pid, &t, nanoseconds);
 }
@@ -862,6 +944,7 @@ static chanhub_told select_until(chanhub *h, unsigned pid, const chanhub_case *c
     uint8_t why = enter(h, pid);
     if (why) return refused(h, why);
     STEP(h, pid, &t, hub_c_call(&h->hub, (uint8_t)pid, cases, count, true, word, &t));
+    show_fired(h, cases, count, &t);
     if (t.it.what == CHANHUB_DEFAULT) {
         if (!has_passed(deadline)) {
             follow_up(h, pid, &t);
@@ -932,11 +1015,10 @@ bool chanhub_cut(chanhub *h) {
 /* ---- Looks, and journals. ---- */
 
 chanhub_counts chanhub_look(chanhub *h, unsigned port) {
-    if (is_bad(h, 0, port)) return (chanhub_counts){ 0 };
-    take_lock(h);
-    chanhub_counts counts = hub_c_look(&h->hub, (uint16_t)port);
-    leave_lock(h);
-    return counts;
+    if (!h || !only_port(port)) return (chanhub_counts){ 0 };
+    const struct shown *shown = &h->shown[port - 1];
+    uint64_t word = atomic_load_explicit(&shown->counts, memory_order_acquire);
+    return word ? counts_in(word, shown->cap) : look_under_lock(h, port);
 }
 
 uint64_t chanhub_steps_left(chanhub *h) {

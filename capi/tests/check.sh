@@ -40,6 +40,11 @@ crew() {
     mkdir -p "$work/$1-$2" && "$work/$1" "$work/$1-$2" "$2" "$3" && tests/compare.py "$work/$1-$2" ${4+"$4"}
 }
 
+# looks NAME: whether each look that threads take beside others is of one moment of the run.
+looks() {
+    mkdir -p "$work/$1-looks" && "$work/$1" threads "$work/$1-looks" && tests/looks.py "$work/$1-looks"
+}
+
 # is_whole NAME: whether NAME.0, NAME.1, .. are the chapters of one history, where the tool is there.
 is_whole() {
     [ ! -e "$tool" ] || "$tool" chain $(ls -v "$1".*)
@@ -202,6 +207,12 @@ wrapped=
 for name in make send recv call cancel exit entries take look present; do wrapped="$wrapped -Wl,--wrap=hub_c_$name"; done
 check 'inside builds' "$cc" $flags $wrapped chanhub.c heap.c tests/inside.c $proved -lpthread -o "$work/inside"
 check 'no two inside of a hub' "$work/inside"
+wraps_looks=-Wl,--wrap=hub_c_look,--wrap=hub_c_recv
+check 'looks builds' "$cc" $flags $wraps_looks chanhub.c heap.c tests/looks.c $proved -lpthread -o "$work/looks"
+for test in alone inside; do
+    check "looks: $test" "$work/looks" "$test"
+done
+check 'looks: threads' looks looks
 for test in alone threads; do
     check "deadlines: $test" "$work/deadlines" "$test"
 done
@@ -277,6 +288,9 @@ if echo 'int main(void) { return 0; }' | "$cc" -fsanitize=thread -x c - -o "$wor
         check "$test builds for the thread sanitizer" "$cc" $sanitize "tests/$test.c" $sanitized -o "$work/sanitized-$test"
     done
     check 'resume builds for the thread sanitizer' "$cc" $sanitize -Wl,--wrap=clock_gettime tests/resume.c $sanitized -o "$work/sanitized-resume"
+    check 'looks builds for the thread sanitizer' "$cc" $sanitize $wraps_looks tests/looks.c $sanitized -o "$work/sanitized-looks"
+    check 'looks under the thread sanitizer: inside' "$work/sanitized-looks" inside
+    check 'looks under the thread sanitizer: threads' looks sanitized-looks
     for cap in 0 7; do
         check "64 threads under the thread sanitizer, capacity $cap" crew sanitized-crew "$cap" 200
     done

@@ -52,11 +52,11 @@ enum {
 
 enum {
     TRIES = 30,           /* how often a thread tries to take the lock before it sleeps for it */
-    FIRST_PAUSE = 2,      /* how long it pauses before the next try, in turns of the processor; twice as long each time */
-    LONGEST_PAUSE = 64,
-    LOOKS = 1000,         /* how often a thread looks for its answer before it sleeps */
-    LOOKS_TAKE = 10000,   /* nanoseconds, roughly */
-    MOST_VAIN = 7,        /* after so many looks in vain, those left out grow no more */
+    FIRST_PAUSE = 128,    /* how long it pauses before the next try, in ticks; twice as long each time */
+    LONGEST_PAUSE = 4096,
+    LOOK_TICKS = 25000,   /* how long a thread looks for its answer before it sleeps */
+    LOOKS_TAKE = 10000,   /* the same in nanoseconds, roughly */
+    MOST_LATE = 7,        /* after so many late answers, the looks left out grow no more */
     SLICE = 256,          /* how many pieces of a chapter are read before others are let in */
     YIELDS = 100,         /* how often a thread yields to let others in */
     BILLION = 1000000000
@@ -87,9 +87,9 @@ enum clock {
 struct place {
     pthread_cond_t answered;
     uint64_t deadline; /* of the call, if it is in `timed` */
-    atomic_bool told; /* whether it was woken since it was cleared; read without the lock */
-    uint8_t vain;     /* how many times running it looked in vain */
-    uint8_t sleeps;   /* how many times it sleeps at once before it looks again */
+    atomic_uint_least64_t told; /* when it was woken since it was cleared, in ticks; 0 if it was not; read without the lock */
+    uint8_t late;               /* how many times running its answer came later than a look would have seen */
+    uint8_t sleeps;             /* how many times it sleeps at once before it looks again */
 };
 
 /* What looks at one port see without the lock. */
@@ -271,13 +271,24 @@ static chanhub_told fault(uint8_t number) {
 
 /* ---- The lock. ---- */
 
-/* Takes the lock while another thread has it. Mostly that thread lets go before this one could sleep. The pauses between the tries grow,
- * since tries hinder the thread that has it. */
+/* The time in ticks of the processor, some 2 to 4 in a nanosecond. It is for waits that are short, and are guesses. */
+static inline uint64_t ticks(void) {
+    return __builtin_ia32_rdtsc();
+}
+
+static void pause_for(uint64_t length) {
+    uint64_t begun = ticks();
+    do __builtin_ia32_pause();
+    while (ticks() - begun < length);
+}
+
+/* Takes the lock while another thread has it. Mostly that thread lets go before this one could sleep, and a thread that sleeps for the
+ * lock costs whoever lets go a system call. The pauses between the tries grow, since tries hinder the thread that has it. */
 static void wait_for_lock(chanhub *h) {
-    for (int i = 0, pauses = FIRST_PAUSE; i < TRIES; i++) {
-        for (int k = 0; k < pauses; k++) __builtin_ia32_pause();
+    for (int i = 0, length = FIRST_PAUSE; i < TRIES; i++) {
+        pause_for((uint64_t)length);
         if (pthread_mutex_trylock(&h->lock) == 0) return;
-        if (pauses < LONGEST_PAUSE) pauses *= 2;
+        if (length < LONGEST_PAUSE) length *= 2;
     }
     h->sleepers++;
     pthread_mutex_lock(&h->lock);
@@ -356,7 +367,7 @@ __attribute__((noinline)) static chanhub_counts look_under_lock(chanhub *h, unsi
 static void wake(chanhub *h, uint64_t pids) {
     for (; pids; pids &= pids - 1) {
         struct place *place = &h->places[__builtin_ctzll(pids)];
-        atomic_store(&place->told, true);
+        atomic_store(&place->told, ticks() | 1);
         pthread_cond_signal(&place->answered);
     }
 }
@@ -383,7 +394,7 @@ static uint64_t deadline_of(const chanhub *h, unsigned pid) {
     return h->timed & only(pid) ? h->places[pid].deadline : FOR_EVER;
 }
 
-/* Whether a wait until this time begins with looks, since most answers come soon. After each that was in vain twice as many waits go
+/* Whether a wait until this time begins with looks, since most answers come soon. After each that came late twice as many waits go
  * without. Holds the lock. */
 static bool begins_with_looks(struct place *mine, uint64_t end) {
     if (end != FOR_EVER && end < chanhub_in(LOOKS_TAKE)) return false;
@@ -394,14 +405,20 @@ static bool begins_with_looks(struct place *mine, uint64_t end) {
 
 /* Looks for a while whether the process is woken. Holds the lock, but not meanwhile. */
 static void look_for_wake(chanhub *h, struct place *mine) {
-    atomic_store(&mine->told, false);
+    uint64_t begun = ticks();
     leave_lock(h);
-    for (int i = 0; i < LOOKS && !atomic_load(&mine->told); i++) __builtin_ia32_pause();
-    bool was_told = atomic_load(&mine->told);
+    while (!atomic_load(&mine->told) && ticks() - begun < LOOK_TICKS) __builtin_ia32_pause();
     take_lock(h);
-    if (was_told) mine->vain = 0;
-    else if (mine->vain < MOST_VAIN) mine->vain++;
-    mine->sleeps = (uint8_t)((1 << mine->vain) - 1);
+}
+
+/* Notes how soon the process was woken that began to wait then: looks may have been of use, or in vain; or they would have been of use,
+ * though a sleep and its wake took longer. Holds the lock. */
+static void note_wake(struct place *mine, uint64_t begun, bool has_looked) {
+    uint64_t told = atomic_load(&mine->told);
+    bool is_soon = told && told - begun < LOOK_TICKS;
+    if (is_soon) mine->late = 0;
+    else if (has_looked && mine->late < MOST_LATE) mine->late++;
+    if (is_soon || has_looked) mine->sleeps = (uint8_t)((1 << mine->late) - 1);
 }
 
 /* Sleeps until the process is woken, at latest until the end: then it says no. Holds the lock, but not meanwhile. A thread that is
@@ -438,7 +455,10 @@ static chanhub_told wait_until(chanhub *h, unsigned pid, uint64_t end) {
     chanhub_told t = { 0 };
     bool has_time = true;
     h->awaited |= only(pid);
-    if (begins_with_looks(mine, end)) {
+    uint64_t begun = ticks();
+    bool looks = begins_with_looks(mine, end);
+    atomic_store(&mine->told, 0);
+    if (looks) {
         look_for_wake(h, mine);
         t = pick_up(h, pid);
     }
@@ -448,6 +468,7 @@ static chanhub_told wait_until(chanhub *h, unsigned pid, uint64_t end) {
         t = pick_up(h, pid);
     }
     h->awaited &= ~only(pid);
+    note_wake(mine, begun, looks);
     return t;
 }
 

@@ -1,12 +1,13 @@
 //! What C asks for: the values and the cases that structs say.
 
-ghost use Rattle.std.specs.Prelude.{◌≡◌, ◌≤◌, [], length, map, take};
+ghost use Rattle.std.specs.Prelude.{◌≡◌, ◌≤◌, ◌<◌, ◌++◌, ◌∷◌, [], length, map, take};
 ghost use Rattle.std.specs.List.{list_all};
 ghost use Rattle.hub_base.specs.declared.limits.TheConstants.{CASE_PLACES};
 ghost use Rattle.hub_c.specs.Structs.{are_cases, case_in, is_case, is_true, is_value, value_in};
 
 use crate::structs::{CaseC, ValueC};
-use hub_base::{CASE_PLACES, Case, Cases, MOST_VALUE_BYTES, Port, Value};
+use arrayvec::ArrayVec;
+use hub_base::{CASE_PLACES, Case, MOST_VALUE_BYTES, Port, Value};
 
 /// Whether a number that comes from C is true.
 #[inline(always)]
@@ -79,13 +80,29 @@ pub(crate) fn are_cases(cases: &[CaseC]) -> bool
     cases.len() <= CASE_PLACES && all_cases(cases)
 }
 
-/// Puts the cases that these structs say into an empty list.
-pub(crate) fn put_cases(cases: &[CaseC], list: &mut Cases)
-    requires few { length cases.now ≤ CASE_PLACES }
+/// Puts the case that a struct says behind those of a list with room for it. A receive is short: nothing stands in the place
+/// of a value, so none is copied.
+#[inline(always)]
+fn put_case<const PLACES: usize>(case: &CaseC, list: &mut ArrayVec<Case, PLACES>)
+    requires { length list.old.items < PLACES }
+    ensures { list.new.items ≡ list.old.items ++ case_in case.now ∷ [] }
+{
+    let port = Port(case.port);
+    if is_true(case.sends) {
+        list.push(Case::Send(port, value_in(&case.value)));
+    } else {
+        list.push(Case::Recv(port));
+    }
+}
+
+/// Puts the cases that these structs say into an empty list with room for them.
+#[inline(always)]
+pub(crate) fn put_cases<const PLACES: usize>(cases: &[CaseC], list: &mut ArrayVec<Case, PLACES>)
+    requires few { length cases.now ≤ PLACES }
     requires empty { list.old.items ≡ [] }
     ensures { list.new.items ≡ map case_in cases.now }
 {
     for case in cases {
-        list.push(case_in(case));
+        put_case(case, list);
     }
 }

@@ -1,7 +1,7 @@
 //! The steps, and the answers that wait. Each step stands in a function of its own that is not inlined: a function pays
 //! at entry for the size of its locals, and a call of many cases has room for them.
 
-ghost use Rattle.std.specs.Prelude.{◌≡◌, ◌∷◌, [], Some, false, true};
+ghost use Rattle.std.specs.Prelude.{◌≡◌, ◌≤◌, ◌∷◌, [], Some, false, length, true};
 ghost use Rattle.hub_base.specs.Head.{has_case, is_of};
 ghost use Rattle.hub_base.specs.Lines.{by};
 ghost use Rattle.hub_base.specs.Notation.{recv, select, send};
@@ -10,7 +10,7 @@ ghost use Rattle.hub_cut.specs.Recorder.{head_of_all};
 ghost use Rattle.hub_c.specs.Hubs.{head_in};
 ghost use Rattle.hub_c.specs.declared.session.Opened.TheVariants.{Endless};
 ghost use Rattle.hub_c.specs.Steps.{Serves, ServesIn, ServesOpened, StepsIn, StepsSaid, TakesHub, TakesIn, held};
-ghost use Rattle.hub_c.specs.Structs.{call_of, send_of, value_in};
+ghost use Rattle.hub_c.specs.Structs.{call_of, is_true, send_of, value_in};
 ghost use Rattle.hub_c.specs.Tells.{bits_of};
 
 use crate::asking::{are_cases, case_in, is_case, is_true, is_value, put_cases, value_in};
@@ -18,12 +18,16 @@ use crate::following::step_following;
 use crate::session::{Opened, Session};
 use crate::structs::{CaseC, ToldC, ValueC};
 use crate::telling::{bits_of, tell_bad_call, tell_made, tell_nothing, tell_refused, tell_what};
+use arrayvec::ArrayVec;
 use hub_base::{
     Case, CaseSlice, Cases, Entry, EntryRef, Event, Fault, Pid, Port, Step, StepRef, Value,
 };
 use hub_core::ShortHub;
 use hub_endless::EndlessHub;
 use hub_live::under_lock::Locked;
+
+/// How many cases a short list has room for.
+const FEW_CASES: usize = 4;
 
 /// The entry of a process that makes this step.
 #[inline(always)]
@@ -192,7 +196,42 @@ impl Session {
         }
     }
 
-    /// Makes a call of several cases, or of none.
+    /// Makes a call of these cases, which stand in a list.
+    #[inline(always)]
+    fn call_listed(
+        &mut self,
+        pid: u8,
+        cases: CaseSlice<'_>,
+        default: u8,
+        word: u64,
+        told: &mut ToldC,
+    )
+        ensures { StepsIn self.old (select pid word cases.entry.items (is_true default)) self.new told.new }
+    {
+        let step = Step::Call {
+            cases,
+            default: is_true(default),
+            word,
+        };
+        self.step(&entry_by(pid, step), told);
+    }
+
+    /// Makes a call of so few cases that a short list has room for them: a list is filled when it is made.
+    #[inline(never)]
+    fn call_few(&mut self, pid: u8, cases: &[CaseC], default: u8, word: u64, told: &mut ToldC)
+        requires few { length cases.now ≤ FEW_CASES }
+        ensures { StepsSaid self.old (call_of pid cases.now default word) self.new told.new }
+    {
+        if !are_cases(cases) {
+            tell_bad_call(told);
+            return;
+        }
+        let mut list = ArrayVec::<Case, FEW_CASES>::new();
+        put_cases(cases, &mut list);
+        self.call_listed(pid, CaseSlice::few(list.as_slice()), default, word, told);
+    }
+
+    /// Makes a call of many cases.
     #[inline(never)]
     fn call_many(&mut self, pid: u8, cases: &[CaseC], default: u8, word: u64, told: &mut ToldC)
         ensures { StepsSaid self.old (call_of pid cases.now default word) self.new told.new }
@@ -203,12 +242,7 @@ impl Session {
         }
         let mut list = Cases::new();
         put_cases(cases, &mut list);
-        let step = Step::Call {
-            cases: CaseSlice::of(&list),
-            default: is_true(default),
-            word,
-        };
-        self.step(&entry_by(pid, step), told);
+        self.call_listed(pid, CaseSlice::of(&list), default, word, told);
     }
 
     /// Makes a call. No list is made for one case.
@@ -224,6 +258,7 @@ impl Session {
     {
         match cases {
             [case] => self.call_one(pid, case, default, word, told),
+            _ if cases.len() <= FEW_CASES => self.call_few(pid, cases, default, word, told),
             _ => self.call_many(pid, cases, default, word, told),
         }
     }

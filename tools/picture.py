@@ -655,9 +655,9 @@ def instructions(program, words, journal):
         path = pathlib.Path(work) / "journal"
         path.write_bytes(journal)
         with open(path, "rb") as file:
-            counted = ["valgrind", "--tool=callgrind", "--callgrind-out-file=/dev/null", program, *words]
+            counted = ["valgrind", "--tool=cachegrind", "--cache-sim=no", "--cachegrind-out-file=/dev/null", program, *words]
             done = subprocess.run(counted, stdin=file, stdout=subprocess.DEVNULL, stderr=subprocess.PIPE, text=True, check=True)
-    return int(re.search(r"Collected : (\d+)", done.stderr)[1])
+    return int(re.search(r"I *refs: *([\d,]+)", done.stderr)[1].replace(",", ""))
 
 
 def step_cost(program, waiting, ports):

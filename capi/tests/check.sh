@@ -92,7 +92,7 @@ is_interrupted() {
 
 # instructions WORD..: how many the steps of this hub take.
 instructions() {
-    valgrind --tool=callgrind --callgrind-out-file=/dev/null "$work/steps" "$@" 2>&1 | sed -n 's/.*Collected : //p'
+    valgrind --tool=cachegrind --cache-sim=no --cachegrind-out-file=/dev/null "$work/steps" "$@" 2>&1 | sed -n '/I *refs:/{ s/.*: *//; s/,//g; p; }'
 }
 
 # costs_little: whether a hub that never ends takes at most a tenth more of them than another hub, with its cuts.

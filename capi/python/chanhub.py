@@ -73,6 +73,8 @@ import threading
 import weakref
 from collections import defaultdict, deque
 from concurrent.futures import Future, ThreadPoolExecutor
+from importlib.machinery import ExtensionFileLoader
+from importlib.util import module_from_spec, spec_from_loader
 from itertools import count, islice, repeat, starmap
 from queue import Empty, Full, SimpleQueue
 from threading import get_ident
@@ -271,9 +273,30 @@ def _library() -> ctypes.CDLL:
     return library
 
 
+def _quick_type() -> Any:
+    """Loads chanhub_calls.c, by which a send or a receive that need not wait takes a third of the time, and returns its type. Returns None
+    if it was not built, if this Python cannot load it, or if CHANHUB_CALLS says `ctypes`."""
+    here = os.path.dirname(os.path.abspath(__file__))
+    places = [os.path.join(folder, 'chanhub_calls.abi3.so') for folder in (here, os.path.join(here, '..', 'out'))]
+    path = next(filter(os.path.exists, places), None)
+    if path is None or os.environ.get('CHANHUB_CALLS') == 'ctypes':
+        return None
+    try:
+        loader = ExtensionFileLoader('chanhub_calls', path)
+        module = module_from_spec(spec_from_loader('chanhub_calls', loader))  # type: ignore[arg-type]
+        loader.exec_module(module)
+        return module.Quick
+    except ImportError:
+        return None
+
+
 _LIBRARY = _library()
+_Quick = _quick_type()
 _select, _begin, _resume = _LIBRARY.chanhub_select, _LIBRARY.chanhub_begin, _LIBRARY.chanhub_resume
 _begin_until = _LIBRARY.chanhub_begin_until
+_BEGIN = ctypes.cast(_begin, ctypes.c_void_p).value
+# What stands where there is no answer yet.
+_NOTHING: Any = object()
 # How many nanoseconds the main thread waits before it checks for signals, and how many the others do.
 _SLICE, _FOR_EVER = 50_000_000, 2 ** 64 - 1
 # The longest timeout in seconds, some 30 years. A longer one is this one.
@@ -292,7 +315,7 @@ def _after_fork() -> None:
     global _main
     _main = get_ident()
     for hub in list(_hubs):
-        hub._live = None
+        hub._live = hub._quick = None
 
 
 os.register_at_fork(after_in_child=_after_fork)
@@ -351,6 +374,13 @@ def _got(told: _Told) -> Value:
     if told.what != GOT:
         raise _ended(told)
     return told.value() if told.is_bytes else told.number
+
+
+def _told_of(got: Union[None, int, bytearray]) -> _Told:
+    """Returns the answer that `_Quick` gives so."""
+    if isinstance(got, bytearray):
+        return _Told.from_buffer(got)
+    return _Told(what=SENT) if got is None else _Told(what=GOT, number=got)
 
 
 def _fired(told: _Told) -> Optional[Fired]:
@@ -720,6 +750,7 @@ class Hub:
         handle = _open_following(journal, goes_on)
         hub._set_up(handle, int(journal.split(None, 5)[4]), objects=objects)
         hub._follows = True
+        hub._quick = None  # its calls wait for their turn
         if objects:
             hub._sent = _numbers_sent(journal)
             hub._numbers = count(1 << 63)  # those that the journal has not
@@ -753,6 +784,8 @@ class Hub:
         self._executors: Dict[int, ThreadPoolExecutor] = {}
         # For each process and port, the receives that were begun for a task that was cancelled.
         self._unclaimed: DefaultDict[Tuple[int, int], Deque[Future[Any]]] = defaultdict(deque)
+        # Begins sends and receives, where that can be quick: None once no new call may begin.
+        self._quick = _Quick and self._fallen is None and _Quick(handle.value, _BEGIN) or None
         self._free = weakref.finalize(self, _free, handle, self._opener, self._chapters)
         # When the interpreter exits, other threads may still call on the hub.
         self._free.atexit = False
@@ -767,7 +800,7 @@ class Hub:
 
         If the hub has `chapters`, this returns once all processes have exited and `chapters` has got all chapters."""
         if self._is_here():
-            self._live = None
+            self._live = self._quick = None
             if self._follows:
                 _LIBRARY.chanhub_stop(self._handle)
             self._settle()
@@ -992,16 +1025,30 @@ class Seat:
         64 bits or 32 bytes.
         """
         hub = self.hub
+        quick = None if hub._left or timeout is not None else hub._quick
         if hub._things is None:
-            self._call(_sent, _send_case(port, value), timeout=timeout)
-        else:
+            if quick is None or self._begin(_sent, quick, (self.pid, port, value)) is NotImplemented:
+                self._call(_sent, _send_case(port, value), timeout=timeout)
+        elif quick is None:
             number = hub._next_number(self.pid)
             self._call(_sent_thing(hub._things, number), _send_case(port, number), offered={number: value}, timeout=timeout)
+        else:
+            number = next(hub._numbers)
+            hub._things[number] = value
+            if self._begin(None, quick, (self.pid, port, number), hub._things) is NotImplemented:
+                del hub._things[number]
+                _send_case(port, number)  # says what is wrong
 
     def recv(self, port: int, timeout: Optional[float] = None) -> Any:
         """Receives a value and returns it. Waits until there is one. With a timeout, as `send`."""
-        things = self.hub._things
-        return self._call(_got if things is None else _got_thing(things), _recv_case(port), timeout=timeout)
+        hub = self.hub
+        things = hub._things
+        gives = _got if things is None else _got_thing(things)
+        if hub._quick is not None and timeout is None and not hub._left:
+            got = self._begin(gives, hub._quick, (self.pid, port), things)
+            if got is not NotImplemented:
+                return got
+        return self._call(gives, _recv_case(port), timeout=timeout)
 
     def drain(self, port: int) -> Iterator[Any]:
         """Receives values and yields them, until the port is closed and empty."""
@@ -1094,6 +1141,35 @@ class Seat:
         if timeout is None and get_ident() != _main and not hub._fallen and not hub._follows:
             return self._give(gives, _select(*call))
         return self._await(gives, starmap(_begin if timeout is None else _begin_until, repeat(call)))
+
+    def _begin(self, gives: Optional[_Gives], quick: Any, asked: Tuple[int, ...], things: Any = None) -> Any:
+        """Makes a send or a receive. Returns NotImplemented, and has made none, if `quick` does not take it. If it has to wait or ends
+        otherwise, it goes on as any call. If there are things, a number stands for one of them; `gives` is None for a send of one.
+
+        No answer is lost here either: a subscript, unlike a call, and its store are one step of the interpreter.
+        """
+        hub = self.hub
+        got = thing = told = _NOTHING
+        try:
+            got = quick[asked]
+            if got is NotImplemented or got.__class__ is not bytearray and hub._live is not None:
+                if things is None or got is None or got is NotImplemented:
+                    return got
+                thing = things[got]
+                del things[got]
+                return thing
+            gives = gives or _sent_thing(things, asked[-1])
+            told = map(_told_of, (got,))
+            return self._await(gives, told)
+        except BaseException:
+            if got is not _NOTHING and got is not NotImplemented:
+                # `_await` keeps what it has taken itself.
+                for left in map(_told_of, (got,)) if told is _NOTHING else told:
+                    if thing is not _NOTHING:
+                        left.thing = thing
+                        things.pop(got, None)
+                    hub._left[self.pid] = gives or _sent_thing(things, asked[-1]), left
+            raise
 
     def _deadline(self, timeout: float) -> int:
         """Returns the time on the library's clock at which this timeout passes."""

@@ -1,12 +1,12 @@
 """Packs chanhub.py with the built library. pyproject.toml has all that is not said here.
 
 In the sources chanhub is one module, which finds the library in ../out. Installed, it is a package: the module as __init__.py, and
-beside it the library and py.typed.
+beside it the library, py.typed and, where a C compiler and Python's headers are there to build it, chanhub_calls.c.
 """
 import os
 import shutil
 
-from setuptools import Distribution, setup
+from setuptools import Distribution, Extension, setup
 from setuptools.command.build_py import build_py
 
 try:
@@ -15,9 +15,15 @@ except ImportError:  # setuptools before 70.1, with the package wheel
     from wheel.bdist_wheel import bdist_wheel
 
 
+HERE = os.path.dirname(os.path.abspath(__file__))
+# Without it the module makes all calls by ctypes.
+CALLS = Extension('chanhub.chanhub_calls', ['chanhub_calls.c'], include_dirs=[os.path.join(HERE, os.pardir)],
+                  extra_compile_args=['-std=c11'], py_limited_api=True, optional=True)
+
+
 def built_library():
     """The file of the library: the one that CHANHUB_LIBRARY names, or the one that make builds."""
-    built = os.path.join(os.path.dirname(os.path.abspath(__file__)), '..', 'out', 'libchanhub.so')
+    built = os.path.join(HERE, '..', 'out', 'libchanhub.so')
     path = os.path.abspath(os.environ.get('CHANHUB_LIBRARY') or built)
     if not os.path.isfile(path):
         raise SystemExit('There is no %s.\nEither build it, by `make -C capi` at the top of chanhub\'s repository,\n'
@@ -51,4 +57,4 @@ class OfOnePlatform(Distribution):
         return True
 
 
-setup(distclass=OfOnePlatform, cmdclass={'build_py': BuildPackage, 'bdist_wheel': BuildWheel})
+setup(ext_modules=[CALLS], distclass=OfOnePlatform, cmdclass={'build_py': BuildPackage, 'bdist_wheel': BuildWheel})

@@ -327,10 +327,18 @@ else
     skip 'valgrind' 'not there'
 fi
 
-check 'the Python module' env PYTHONPATH=python:tests python3 -m unittest -q test_chanhub
-check 'the Python module with any object' env PYTHONPATH=python:tests python3 -m unittest -q test_objects
-check 'the Python module with timeouts' env PYTHONPATH=python:tests python3 -m unittest -q test_timeouts
-check 'the Python module that follows journals' env PYTHONPATH=python:tests python3 -m unittest -q test_following
+if [ -e out/chanhub_calls.abi3.so ]; then
+    ways='extension ctypes'
+    check 'the extension of the Python module' env PYTHONPATH=python python3 -c 'import chanhub, sys; sys.exit(chanhub._Quick is None)'
+else
+    ways=ctypes
+    skip 'the extension of the Python module' "python3 has no headers"
+fi
+for way in $ways; do
+    for test in chanhub objects timeouts following; do
+        check "the Python module by $way: $test" env CHANHUB_CALLS="$way" PYTHONPATH=python:tests python3 -m unittest -q "test_$test"
+    done
+done
 check 'pool.py' prints "$work/sum" python3 python/pool.py
 check 'first.py' prints "$work/first" python3 python/first.py
 check 'deadlock.py' prints "$work/stalled" python3 python/deadlock.py

@@ -180,10 +180,12 @@ else
     cp -RL python "$work/source/python"
     rm -rf "$work/source/python/build" "$work/source/python"/*.egg-info
     cp out/libchanhub.so "$work/source/out/"
+    cp chanhub.h "$work/source/"
     quietly "$python" -m pip wheel -q --no-index --no-deps --no-build-isolation -w "$work/wheels" "$work/source/python"
     [ "$(cd "$work/wheels" && ls)" = "chanhub-$version-py3-none-linux_x86_64.whl" ] || fail "the wheel: $(ls "$work/wheels")"
     quietly "$python" -m pip install -q --no-index --no-deps --target "$work/site" "$work/wheels"/*.whl
     [ -e "$work/site/chanhub/py.typed" ] || fail 'py.typed'
+    [ ! -e out/chanhub_calls.abi3.so ] || [ -e "$work/site/chanhub/chanhub_calls.abi3.so" ] || fail 'chanhub_calls.abi3.so'
     rm -rf "$work/source"
     cp python/first.py "$work/elsewhere/"
     prints_first env -C "$work/elsewhere" PYTHONPATH="$work/site" "$python" -B first.py

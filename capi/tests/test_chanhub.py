@@ -738,7 +738,7 @@ print('ends')
 FORKS = """
 import gc, os, sys, threading, time
 from chanhub import Hub
-hub = Hub(procs=3)
+hub = Hub(procs=3, keep=100_000)
 seat = hub.seat(0)
 seat.make(0), seat.make(1)
 def busy():

@@ -44,8 +44,8 @@ JOURNALS = ('hand_overs', 'bursts', 'selects', 'bytes')
 GROWTH = ('open_calls', 'dead_entries', 'stalls', 'one_busy', 'worst_close', 'faults')
 WORKLOADS = ('alone', 'ping_pong', 'one_to_one', 'four_to_four', 'select_over_four', 'looks_1', 'looks_2', 'looks_4')
 # of c_times.c: what is timed, and of what one thread does also the instructions of a call
-C_WORKLOADS = ('hand_overs', 'buffered', 'one_to_one', 'four_to_four', 'select_over_four', 'alone', 'look', 'journal')
-C_COUNTED = ('alone', 'look')
+C_WORKLOADS = ('hand_overs', 'buffered', 'one_to_one', 'four_to_four', 'select_over_four', 'alone', 'alone_select', 'look', 'journal')
+C_COUNTED = ('alone', 'alone_select', 'look')
 C_CALLS = 200000
 # the calls and closes of each scenario
 SCENARIOS = {'pool': 99994, 'pipeline': 69994}

@@ -103,6 +103,19 @@ static double one_thread(void) {
     return now() - begun;
 }
 
+/* The same, but it sends by selects of four cases, of which the others cannot proceed. */
+static double one_thread_selects(void) {
+    double begun = now();
+    for (unsigned long i = 0; i < count / 2; i += 100) {
+        for (unsigned long k = i; k < i + 100; k++) {
+            chanhub_case cases[PORTS] = { { true, 1, chanhub_number(k) }, { .port = 2 }, { .port = 3 }, { .port = 4 } };
+            want(chanhub_select(hub, 0, cases, PORTS, false, k).what == CHANHUB_SENT);
+        }
+        for (unsigned long k = i; k < i + 100; k++) want(receive(0, 1).value.number == k);
+    }
+    return now() - begun;
+}
+
 static double looks(void) {
     double begun = now();
     for (unsigned long i = 0; i < count; i++) want(chanhub_look(hub, 1).sent == 0);
@@ -133,7 +146,7 @@ struct workload {
 static const struct workload workloads[] = {
     { "hand_overs", 1, 0, two_threads }, { "buffered", 1, 1024, two_threads }, { "one_to_one", 1, 64, two_threads },
     { "four_to_four", 1, 64, four_to_four }, { "select_over_four", PORTS, 16, select_over_four }, { "alone", 1, 1024, one_thread },
-    { "look", 1, 1024, looks }, { "journal", 1, 1024, journal },
+    { "alone_select", PORTS, 1024, one_thread_selects }, { "look", 1, 1024, looks }, { "journal", 1, 1024, journal },
 };
 
 static double rate(const struct workload *w) {

@@ -88,10 +88,10 @@ fn put_case<const PLACES: usize>(case: &CaseC, list: &mut ArrayVec<Case, PLACES>
     ensures { list.new.items ≡ list.old.items ++ case_in case.now ∷ [] }
 {
     let port = Port(case.port);
-    if is_true(case.sends) {
-        list.push(Case::Send(port, value_in(&case.value)));
-    } else {
+    if !is_true(case.sends) {
         list.push(Case::Recv(port));
+    } else {
+        list.push(Case::Send(port, value_in(&case.value)));
     }
 }
 

@@ -52,8 +52,9 @@ enum {
 
 enum {
     TRIES = 30,           /* how often a thread tries to take the lock before it sleeps for it */
-    FIRST_PAUSE = 128,    /* how long it pauses before the next try, in ticks; twice as long each time */
+    FIRST_PAUSE = 32,     /* how long it pauses before the next try, in ticks; twice as long each time */
     LONGEST_PAUSE = 4096,
+    LOOKS = 8,            /* how often a thread looks for its answer before it asks what time it is, which takes longer than a look */
     LOOK_TICKS = 25000,   /* how long a thread looks for its answer before it sleeps */
     LOOKS_TAKE = 10000,   /* the same in nanoseconds, roughly */
     MOST_LATE = 7,        /* after so many late answers, the looks left out grow no more */
@@ -407,7 +408,7 @@ static bool begins_with_looks(struct place *mine, uint64_t end) {
 static void look_for_wake(chanhub *h, struct place *mine) {
     uint64_t begun = ticks();
     leave_lock(h);
-    while (!atomic_load(&mine->told) && ticks() - begun < LOOK_TICKS) __builtin_ia32_pause();
+    for (unsigned i = 1; !atomic_load(&mine->told) && (i % LOOKS || ticks() - begun < LOOK_TICKS); i++) __builtin_ia32_pause();
     take_lock(h);
 }
 

@@ -412,14 +412,12 @@ static void look_for_wake(chanhub *h, struct place *mine) {
     take_lock(h);
 }
 
-/* Notes how soon the process was woken that began to wait then: looks may have been of use, or in vain; or they would have been of use,
- * though a sleep and its wake took longer. Holds the lock. */
-static void note_wake(struct place *mine, uint64_t begun, bool has_looked) {
+/* Notes whether the looks of a wait that began then saw the wake, or were in vain. Holds the lock. */
+static void note_looks(struct place *mine, uint64_t begun) {
     uint64_t told = atomic_load(&mine->told);
-    bool is_soon = told && told - begun < LOOK_TICKS;
-    if (is_soon) mine->late = 0;
-    else if (has_looked && mine->late < MOST_LATE) mine->late++;
-    if (is_soon || has_looked) mine->sleeps = (uint8_t)((1 << mine->late) - 1);
+    if (told && told - begun < LOOK_TICKS) mine->late = 0;
+    else if (mine->late < MOST_LATE) mine->late++;
+    mine->sleeps = (uint8_t)((1 << mine->late) - 1);
 }
 
 /* Sleeps until the process is woken, at latest until the end: then it says no. Holds the lock, but not meanwhile. A thread that is
@@ -469,7 +467,7 @@ static chanhub_told wait_until(chanhub *h, unsigned pid, uint64_t end) {
         t = pick_up(h, pid);
     }
     h->awaited &= ~only(pid);
-    note_wake(mine, begun, looks);
+    if (looks) note_looks(mine, begun);
     return t;
 }
 

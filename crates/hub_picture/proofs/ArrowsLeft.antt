@@ -1,6 +1,6 @@
 -- The arrows of a port, one receive after the other.
 use Rattle.std.proofs.Common.{◌≡◌, ◌≤◌, ◌<◌, ◌+◌, ◌∙◌, ℕ, Bool, true, false, cond, List, [], ◌∷◌, ◌++◌, length, drop, get_or, map, filter}
-use Rattle.std.proofs.Common.{refl, ap, sym, add-one, append-nil, append_assoc, Option, Some, None}
+use Rattle.std.proofs.Common.{refl, ap, sym, add-one, append-nil, append_assoc, Option}
 use Rattle.std.specs.List.{cons_option, filter_map}
 use Rattle.std.proofs.Math.Seq.{drop-cons}
 use Rattle.std.proofs.lemmas.List.{drop_all}
@@ -9,12 +9,11 @@ use Rattle.hub_base.specs.declared.value.Value.{Value}
 use Rattle.hub_base.specs.declared.case.Case.{Case}
 use Rattle.hub_base.specs.declared.event.Outcome.{Outcome}
 use Rattle.hub_base.specs.Entry.{Entry}
-use Rattle.hub_base.specs.Values.{got_on}
 use Rattle.hub_story.specs.declared.moved.Moved.{Moved}
 use Rattle.hub_story.specs.declared.moved.Passage.{Passage}
 use Rattle.hub_story.specs.declared.told.Told.{Told}
 use Rattle.hub_story.specs.declared.window.Window.{Window}
-use Rattle.hub_story.specs.Passing.{beside, moved_by, receives}
+use Rattle.hub_story.specs.Passing.{beside, moved_by}
 use Rattle.hub_picture.specs.declared.arrows.Arrow.{Arrow}
 use Rattle.hub_picture.specs.Drawings.{arrow_on, arrows_on, crosses}
 

@@ -1,6 +1,6 @@
 -- The entries that are shown, one after the other.
 use Rattle.std.proofs.Common.{◌≡◌, ◌≤◌, ◌<◌, ◌+◌, ◌∙◌, ℕ, Bool, true, false, cond, List, [], ◌∷◌, ◌++◌, length, drop, get_or, filter}
-use Rattle.std.proofs.Common.{refl, ap, sym, add-one, append-nil, append_assoc, arith, Option, Some, None, slice_get}
+use Rattle.std.proofs.Common.{ap, sym, add-one, append-nil, append_assoc, Option, Some, None, slice_get}
 use Rattle.std.specs.Prelude.{slice_index_or}
 use Rattle.std.proofs.Math.Seq.{drop-cons}
 use Rattle.std.proofs.lemmas.List.{drop_all}

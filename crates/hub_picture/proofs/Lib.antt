@@ -9,3 +9,4 @@ mod OtherPorts
 mod Ports
 pub mod Titles
 mod Signs
+mod Kept

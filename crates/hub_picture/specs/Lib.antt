@@ -5,6 +5,7 @@ pub mod Moves
 pub mod Waiters
 pub mod Lasts
 pub mod Drawings
+pub mod Shapes
 pub mod Labels
 pub mod Pieces
 pub mod Frames

@@ -13,7 +13,7 @@ use hub_story::{Moved, Passage, Told};
 use std::alloc::{AllocError, Global};
 
 /// The passage of a value through a port.
-#[derive(Clone, Copy, Debug, PartialEq, Eq)]
+#[derive(Clone, Copy)]
 pub struct Arrow {
     /// The port.
     pub port: Port,

@@ -3,14 +3,7 @@
 ghost use Rattle.std.specs.Prelude.{◌<◌, ◌-◌, ◌^◌, IfOk, length};
 ghost use Rattle.hub_picture.specs.Drawings.{IsDrawingOf};
 
-use crate::arrows::arrows_in;
-use crate::asked::{Shown, asked_in};
-use crate::lanes::lanes_of;
-use crate::levels::{levels_in, shown_strips};
-use crate::moves::Moves;
-use crate::stalls::all_stalled;
-use crate::strips::strips_of;
-use crate::waiters::waiters_in;
+use crate::shapes::put_shapes;
 use crate::{Arrow, Asked, Held, Lane, Strip, Waiter, Window};
 use hub_base::NoMemory;
 use hub_core::ShortJournal;
@@ -52,28 +45,19 @@ pub fn drawing_of(
     requires few { length journal.now.entries < 2 ^ 32 - 1 }
     ensures { IfOk result (λ drawing. IsDrawingOf journal.now story.now window drawing) }
 {
-    let procs = journal.head().procs;
     let entries = journal.entries();
-    let lanes = lanes_of(alloc, procs, entries, &story.told)?;
-    let made = strips_of(alloc, entries, &story.told)?;
-    let boxes = asked_in(alloc, Shown::Boxes, window, entries, story)?;
-    let bars = asked_in(alloc, Shown::Bars, window, entries, story)?;
-    let moves = Moves::new(alloc, entries, &story.told)?;
-    let strips = shown_strips(alloc, window, &moves, &made)?;
-    let arrows = arrows_in(alloc, window, &moves)?;
-    let levels = levels_in(alloc, window, &moves, &strips)?;
-    let stalls = all_stalled(alloc, window, &story.told)?;
-    let waiters = waiters_in(alloc, window, &moves, &stalls, &story.waiting)?;
-    Ok(Drawing {
-        procs,
+    let mut drawing = Drawing {
+        procs: journal.head().procs,
         window: window.within(entries.len() as u32),
-        lanes,
-        strips,
-        boxes,
-        bars,
-        arrows,
-        levels,
-        stalls,
-        waiters,
-    })
+        lanes: Vec::new(alloc),
+        strips: Vec::new(alloc),
+        boxes: Vec::new(alloc),
+        bars: Vec::new(alloc),
+        arrows: Vec::new(alloc),
+        levels: Vec::new(alloc),
+        stalls: Vec::new(alloc),
+        waiters: Vec::new(alloc),
+    };
+    put_shapes(&mut drawing, alloc, window, journal, story)?;
+    Ok(drawing)
 }

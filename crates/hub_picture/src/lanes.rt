@@ -10,7 +10,7 @@ use hub_story::Told;
 use std::alloc::{AllocError, Global};
 
 /// A process, until it exits.
-#[derive(Clone, Copy, Debug, PartialEq, Eq)]
+#[derive(Clone, Copy)]
 pub struct Lane {
     /// The process.
     pub pid: u8,

@@ -12,7 +12,7 @@ use hub_story::{Level, Told};
 use std::alloc::{AllocError, Global};
 
 /// How full a port was from one step until another.
-#[derive(Clone, Copy, Debug, PartialEq, Eq)]
+#[derive(Clone, Copy)]
 pub struct Held {
     /// The port.
     pub strip: Strip,

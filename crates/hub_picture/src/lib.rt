@@ -15,6 +15,7 @@ mod levels;
 mod moves;
 mod pen;
 mod piece;
+mod shapes;
 mod stalls;
 mod strips;
 mod svg;

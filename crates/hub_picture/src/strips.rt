@@ -9,7 +9,7 @@ use hub_story::Told;
 use std::alloc::{AllocError, Global};
 
 /// A port that has room for values.
-#[derive(Clone, Copy, Debug, PartialEq, Eq)]
+#[derive(Clone, Copy)]
 pub struct Strip {
     /// In which row its strip stands, counted from 0.
     pub row: usize,

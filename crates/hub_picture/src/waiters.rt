@@ -15,7 +15,7 @@ use hub_story::{Level, Told};
 use std::alloc::{AllocError, Global};
 
 /// A call that waits, one of its cases, and who was the last at its port.
-#[derive(Clone, Copy, Debug, PartialEq, Eq)]
+#[derive(Clone, Copy)]
 pub struct Waiter {
     /// The call: that it was stalled, or that it waits.
     pub told: Told,

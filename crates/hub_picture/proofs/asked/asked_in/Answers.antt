@@ -1,6 +1,6 @@
 use Rattle.std.proofs.Common.{◌<◌, ◌∙◌, ◌++◌, ◌∷◌, [], ap, sym, arith, length}
 use Rattle.hub_picture.specs.Drawings.{shows}
-use Rattle.hub_picture.proofs.Askings.{ended_at, hidden-next, shown-next}
+use Rattle.hub_picture.proofs.Askings.{hidden-next, shown-next}
 use Rattle.hub_picture.proofs.asked.asked_in.Goals.{then-shows+in_ok-push, else-shows}
 use Rattle.hub_picture.proofs.asked.asked_in.Goals as goal
 

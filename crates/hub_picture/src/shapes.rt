@@ -1,0 +1,86 @@
+//! The shapes of a drawing, put in kind by kind. What is put in belongs to the drawing at once, so that a function that
+//! is refused has nothing of it to drop.
+
+ghost use Rattle.std.specs.Prelude.{◌≡◌, ◌<◌, ◌-◌, ◌^◌, IfOk, OnOk, length};
+ghost use Rattle.hub_picture.specs.Drawings.{IsDrawingOf};
+ghost use Rattle.hub_picture.specs.Levels.{shown_strips};
+ghost use Rattle.hub_picture.specs.Shapes.{HasAsked, HasMoved};
+ghost use Rattle.hub_story.specs.Windows.{within};
+
+use crate::arrows::arrows_in;
+use crate::asked::{Shown, asked_in};
+use crate::drawing::Drawing;
+use crate::lanes::lanes_of;
+use crate::levels::{levels_in, shown_strips};
+use crate::moves::Moves;
+use crate::stalls::all_stalled;
+use crate::strips::strips_of;
+use crate::waiters::waiters_in;
+use crate::{Strip, Window};
+use hub_core::ShortJournal;
+use hub_story::{Story, Told};
+use std::alloc::{AllocError, Global};
+
+/// The strips that are shown.
+fn strips_in(alloc: Global, window: Window, moves: &Moves<'_>) -> Result<Vec<Strip>, AllocError>
+    ensures { IfOk result (λ all. all.items ≡ shown_strips window moves.now.entries.now moves.now.told.now) }
+{
+    let made = strips_of(alloc, moves.entries, moves.told)?;
+    shown_strips(alloc, window, moves, &made)
+}
+
+/// Puts in what processes ask, and whom a step stalled.
+fn put_asked(
+    drawing: &mut Drawing,
+    alloc: Global,
+    window: Window,
+    journal: &ShortJournal,
+    story: &Story,
+) -> Result<(), AllocError>
+    requires few { length journal.now.entries < 2 ^ 32 - 1 }
+    ensures { OnOk result (HasAsked journal.now story.now window drawing.old drawing.new) }
+{
+    let entries = journal.entries();
+    drawing.lanes = lanes_of(alloc, journal.head().procs, entries, &story.told)?;
+    drawing.boxes = asked_in(alloc, Shown::Boxes, window, entries, story)?;
+    drawing.bars = asked_in(alloc, Shown::Bars, window, entries, story)?;
+    drawing.stalls = all_stalled(alloc, window, &story.told)?;
+    Ok(())
+}
+
+/// Puts in what passes the ports, and who waits there in vain; whom a step stalled is in it.
+fn put_moved(
+    drawing: &mut Drawing,
+    alloc: Global,
+    window: Window,
+    moves: &Moves<'_>,
+    waiting: &[Told],
+) -> Result<(), AllocError>
+    requires few { length moves.now.entries.now < 2 ^ 32 - 1 }
+    ensures { OnOk result (
+        HasMoved moves.now.entries.now moves.now.told.now waiting.now window drawing.old drawing.new) }
+{
+    drawing.strips = strips_in(alloc, window, moves)?;
+    drawing.arrows = arrows_in(alloc, window, moves)?;
+    drawing.levels = levels_in(alloc, window, moves, &drawing.strips)?;
+    drawing.waiters = waiters_in(alloc, window, moves, &drawing.stalls, waiting)?;
+    Ok(())
+}
+
+/// Puts in all shapes, in place of those that are in it.
+pub(crate) fn put_shapes(
+    drawing: &mut Drawing,
+    alloc: Global,
+    window: Window,
+    journal: &ShortJournal,
+    story: &Story,
+) -> Result<(), AllocError>
+    requires few { length journal.now.entries < 2 ^ 32 - 1 }
+    requires procs { drawing.old.procs ≡ journal.now.head.procs }
+    requires window { drawing.old.window ≡ within window (length journal.now.entries) }
+    ensures { OnOk result (IsDrawingOf journal.now story.now window drawing.new) }
+{
+    put_asked(drawing, alloc, window, journal, story)?;
+    let moves = Moves::new(alloc, journal.entries(), &story.told)?;
+    put_moved(drawing, alloc, window, &moves, &story.waiting)
+}

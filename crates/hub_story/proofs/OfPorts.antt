@@ -4,7 +4,7 @@ use Rattle.std.proofs.Common.{refl, ap, ◌∙◌, sym, subst, arith, append-nil
 use Rattle.std.specs.Prelude.{slice_index_or, slice_set}
 use Rattle.std.specs.Global.{Vec}
 use Rattle.std.proofs.lemmas.Bool.{eqb-true, eqb-false}
-use Rattle.std.proofs.lemmas.List.{get_or-map, get_or-set_same, get_or-set_other, length-map, map-set}
+use Rattle.std.proofs.lemmas.List.{get_or-map, get_or-set_same, get_or-set_other, length-map, map-append, map-set}
 use Rattle.hub_base.specs.declared.value.Port.{Port}
 use Rattle.hub_story.specs.OfPorts.{one_of, things_on}
 
@@ -14,6 +14,13 @@ none-more [] none zero = refl
 none-more [] none (suc k) = refl
 none-more (l ∷ ls) none zero = none zero
 none-more (l ∷ ls) none (suc k) = none-more ls (λ j. none (suc j)) k
+
+pub none-pushed : {T : Type 0} (old new : List (Vec T)) (v : Vec T) → ((k : ℕ) → slice_index_or (map (λ (v : Vec T). v.items) old) k [] ≡ []) →
+    v.items ≡ [] → new ≡ old ++ v ∷ [] → (k : ℕ) → slice_index_or (map (λ (v : Vec T). v.items) new) k [] ≡ []
+none-pushed {T} old new v none empty is k =
+    let items : Vec T → List T = λ v. v.items in
+    ap (λ l. slice_index_or l k []) (ap (map items) is ∙ map-append items old (v ∷ []) ∙ ap (λ l. map items old ++ l ∷ []) empty)
+    ∙ none-more (map items old) none k
 
 -- a thing more of one port
 things-more : {T : Type 0} (lists : List (List T)) (p q : Port) (x : T) → p.0 < length lists →

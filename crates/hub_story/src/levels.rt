@@ -9,7 +9,7 @@ use crate::passing::{Side, moved_by};
 use hub_base::{Entry, Port};
 
 /// How many values were sent on a port, and how many of them were received.
-#[derive(Clone, Copy, Debug, PartialEq, Eq)]
+#[derive(Clone, Copy)]
 pub struct Level {
     /// How many values were sent.
     pub sent: usize,

@@ -4,7 +4,7 @@ use crate::Told;
 use hub_base::Value;
 
 /// A value that was sent or received, with what tells so.
-#[derive(Clone, Copy, Debug, PartialEq, Eq)]
+#[derive(Clone, Copy)]
 pub struct Moved {
     /// The end of the call that sent or received it.
     pub told: Told,
@@ -13,7 +13,7 @@ pub struct Moved {
 }
 
 /// The passage of one value through a port.
-#[derive(Clone, Copy, Debug, PartialEq, Eq)]
+#[derive(Clone, Copy)]
 pub struct Passage {
     /// The send.
     pub sent: Moved,

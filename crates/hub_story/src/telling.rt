@@ -6,10 +6,13 @@ ghost use Rattle.hub_base.specs.Head.{IsHead};
 ghost use Rattle.hub_story.specs.Told.{told};
 ghost use Rattle.hub_story.specs.LastCalls.{tells_of};
 
+mod steps;
+
+use self::steps::tell_journal;
 use crate::Told;
-use crate::last_calls::{LastCalls, asked_of, no_calls, note_call};
-use hub_base::{Case, Event, Events, NoMemory};
-use hub_core::{Machine, ShortJournal};
+use crate::last_calls::{LastCalls, asked_of};
+use hub_base::{Event, NoMemory};
+use hub_core::ShortJournal;
 use std::alloc::{AllocError, Global};
 
 /// Tells the events of the entry at this place.
@@ -40,18 +43,8 @@ pub(crate) fn tell_all(alloc: Global, journal: &ShortJournal) -> Result<Vec<Told
     requires few { length journal.now.entries < 2 ^ 32 - 1 }
     ensures { IfOk result (λ all. all.items ≡ told journal.now.head journal.now.entries) }
 {
-    let mut machine = Machine::new(alloc, journal.head())?;
-    let mut calls = no_calls();
-    let entries = journal.entries();
     // Most steps have one event.
-    let mut told = Vec::with_capacity(alloc, entries.len())?;
-    let mut events = Events::new();
-    let mut one = Case::default();
-    for place in 0..entries.len() {
-        let entry = entries.entry(place, &mut one);
-        machine.answer(&entry, &mut events)?;
-        note_call(&mut calls, place as u32, &entry, &events);
-        tell(&mut told, &calls, place as u32, &events)?;
-    }
+    let mut told = Vec::with_capacity(alloc, journal.entries().len())?;
+    tell_journal(&mut told, alloc, journal)?;
     Ok(told)
 }

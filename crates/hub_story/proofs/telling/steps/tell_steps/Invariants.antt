@@ -1,7 +1,7 @@
 use Rattle.std.proofs.Common.{◌≤◌, take}
 use Rattle.hub_core.specs.Follows.{Follows}
 use Rattle.hub_story.proofs.Tellings.{HasTold}
-use Rattle.hub_story.proofs.telling.tell_all.Given as goal
+use Rattle.hub_story.proofs.telling.steps.tell_steps.Given as goal
 
 abbrev pub invariant-loop-place : goal.invariant-loop-place
 invariant-loop-place l = record {

@@ -1,16 +1,14 @@
 use Rattle.std.proofs.Common.{◌≡◌, ◌<◌, ◌∙◌, sym, arith, ap, length, take, slice_get, Some}
 use Rattle.std.proofs.lemmas.Option.{get_or_from_slice_get}
 use Rattle.hub_story.proofs.Tellings.{has-none, has-next}
-use Rattle.hub_story.proofs.telling.tell_all.Goals as goal
+use Rattle.hub_story.proofs.telling.steps.tell_steps.Goals as goal
 
 pub loop-place-init : goal.loop-place-init
-loop-place-init c =
-    let follows = rw c.head.ensures at c.in_ok-machine.ensures in
-    record {
-      follows = follows;
-      steps = omega (arith, follows.steps);
-      has = rw c.in_ok-told.ensures.items (has-none c.args.journal.now.head c.no_calls-calls.result c.no_calls-calls.ensures);
-    }
+loop-place-init c = record {
+  follows = c.requires.new;
+  steps = omega (arith, c.requires.new.steps);
+  has = rw c.requires.none (has-none c.args.journal.now.head c.no_calls-calls.result c.no_calls-calls.ensures);
+}
 
 pub loop-place-preserved : goal.loop-place-preserved
 loop-place-preserved c =
